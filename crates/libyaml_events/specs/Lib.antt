@@ -1,0 +1,4 @@
+pub mod Errors
+pub mod Fault
+pub mod Source
+pub mod ListLaws

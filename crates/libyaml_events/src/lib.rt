@@ -1,0 +1,10 @@
+//! From a source of tokens to events.
+#![tactic(auto)]
+
+mod fault;
+mod list_source;
+mod source;
+
+pub use fault::{NO_FAULT, yaml_parser_t_prefix, yaml_source_fault_t};
+pub use list_source::yaml_list_source_t;
+pub use source::yaml_token_source_t;

@@ -1,0 +1,62 @@
+//! A source over a list.
+ghost use Rattle.std.specs.Prelude.{◌≡◌, ℕ, List, length, Some};
+ghost use Rattle.libyaml_events.specs.Fault.{source_fault};
+ghost use Rattle.libyaml_events.specs.Source.{coming, list_answer, rest};
+ghost use Rattle.libyaml_events.specs.ListLaws.{list_falls, list_follows, list_repeats};
+
+use crate::fault::yaml_source_fault_t;
+use crate::source::yaml_token_source_t;
+use libyaml_types::yaml_token_t;
+use std::marker::Model;
+use std::vec::IntoIter;
+
+/// The tokens of a list, and then a fault for good.
+#[derive(Drop)]
+pub struct yaml_list_source_t {
+    tokens: IntoIter<yaml_token_t>,
+    fault: yaml_source_fault_t,
+}
+
+impl Model for yaml_list_source_t {
+    ghost use Rattle.std.specs.Vec.Iter.{into_iter_items};
+    ghost use Rattle.libyaml_events.specs.Fault.{source_fault};
+    ghost use Rattle.libyaml_events.specs.Source.{Coming};
+
+    ghost Value = { Coming };
+
+    ghost view = { λ s. record { tokens = into_iter_items s.tokens; fault = source_fault s.fault } };
+}
+
+impl yaml_list_source_t {
+    pub fn new(tokens: Vec<yaml_token_t>, fault: yaml_source_fault_t) -> Self
+        ensures { result ≡ coming tokens.items (source_fault fault) }
+    {
+        yaml_list_source_t {
+            tokens: tokens.into_iter(),
+            fault,
+        }
+    }
+}
+
+impl yaml_token_source_t for yaml_list_source_t {
+    ghost bound = { λ s. length s.tokens };
+
+    ghost gives = { λ s answer t. (answer ≡ list_answer s.tokens s.fault) × (t ≡ coming (rest s.tokens) s.fault) };
+
+    ghost known = { λ s. Some s };
+
+    ghost may_break = { λ _. ⊥ };
+
+    ghost falls = { list_falls };
+
+    ghost follows = { λ s t answer h. list_follows (λ _. ⊥) s t answer h };
+
+    ghost repeats = { list_repeats };
+
+    fn next_token(&mut self) -> Result<yaml_token_t, yaml_source_fault_t> {
+        match self.tokens.next() {
+            Some(token) => Ok(token),
+            None => Err(self.fault),
+        }
+    }
+}

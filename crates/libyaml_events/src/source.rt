@@ -1,0 +1,32 @@
+//! Where a parser's tokens come from.
+ghost use Rattle.std.specs.Prelude.{◌≡◌, ℕ, ◌+◌, Option, Ok, Err, OnOk, None, Some};
+ghost use Rattle.libyaml_types.specs.declared.token.yaml_token_t.{yaml_token_t};
+ghost use Rattle.libyaml_events.specs.Fault.{Fault, Answer, answer_of};
+ghost use Rattle.libyaml_events.specs.Source.{Coming, Follows};
+
+use crate::fault::yaml_source_fault_t;
+use libyaml_types::yaml_token_t;
+
+/// A source of tokens, which ends in a fault.
+pub trait yaml_token_source_t {
+    /// How many tokens it may still give.
+    ghost bound: { Self → ℕ };
+
+    /// From the first, the source may give this answer and go on to the second.
+    ghost gives: { Self → Answer → Self → Type 0 };
+
+    /// The tokens to come and the fault that ends them, where they are known.
+    ghost known: { Self → Option Coming };
+
+    /// The faults by which it may break off.
+    ghost may_break: { Fault → Type 0 };
+
+    fn next_token(&mut self) -> Result<yaml_token_t, yaml_source_fault_t>
+        ensures { gives self.old (answer_of result) self.new };
+
+    ghost falls: { (s t : Self) (token : yaml_token_t) → gives s (Ok token) t → bound s ≡ bound t + 1 };
+
+    ghost follows: { (s t : Self) (answer : Answer) → gives s answer t → Follows may_break (known s) answer (known t) };
+
+    ghost repeats: { (s t u : Self) (fault : Fault) (answer : Answer) → gives s (Err fault) t → gives t answer u → answer ≡ Err fault };
+}

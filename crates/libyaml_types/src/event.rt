@@ -1,0 +1,136 @@
+//! Events, as a parser gives them.
+
+ghost use Rattle.std.specs.Prelude.{◌≡◌};
+
+use crate::directive::{TagDirectives, yaml_version_directive_t};
+use crate::enums::{
+    yaml_encoding_t, yaml_event_type_t, yaml_mapping_style_t, yaml_scalar_style_t,
+    yaml_sequence_style_t,
+};
+use crate::mark::yaml_mark_t;
+use crate::text::Text;
+
+/// The start of a stream, in an encoding.
+///
+/// libyaml: `unnamed_yaml_event_t_data_stream_start`.
+#[derive(Drop)]
+pub struct unnamed_yaml_event_t_data_stream_start {
+    pub encoding: yaml_encoding_t,
+}
+
+/// The start of a document: its directives, and whether no DOCUMENT-START stands there.
+///
+/// libyaml: `unnamed_yaml_event_t_data_document_start`.
+#[derive(Drop)]
+pub struct unnamed_yaml_event_t_data_document_start {
+    pub version_directive: Option<yaml_version_directive_t>,
+    pub tag_directives: TagDirectives,
+    pub implicit: bool,
+}
+
+/// The end of a document: whether no DOCUMENT-END stands there.
+///
+/// libyaml: `unnamed_yaml_event_t_data_document_end`.
+#[derive(Drop)]
+pub struct unnamed_yaml_event_t_data_document_end {
+    pub implicit: bool,
+}
+
+/// An alias of the node with this anchor.
+///
+/// libyaml: `unnamed_yaml_event_t_data_alias`.
+#[derive(Drop)]
+pub struct unnamed_yaml_event_t_data_alias {
+    pub anchor: Text,
+}
+
+/// A scalar: `plain_implicit` where its tag may be left out if it is written plain, `quoted_implicit` if it is written otherwise.
+///
+/// libyaml: `unnamed_yaml_event_t_data_scalar`.
+#[derive(Drop)]
+pub struct unnamed_yaml_event_t_data_scalar {
+    pub anchor: Option<Text>,
+    pub tag: Option<Text>,
+    pub value: Text,
+    pub plain_implicit: bool,
+    pub quoted_implicit: bool,
+    pub style: yaml_scalar_style_t,
+}
+
+/// The start of a sequence: `implicit` where its tag may be left out.
+///
+/// libyaml: `unnamed_yaml_event_t_data_sequence_start`.
+#[derive(Drop)]
+pub struct unnamed_yaml_event_t_data_sequence_start {
+    pub anchor: Option<Text>,
+    pub tag: Option<Text>,
+    pub implicit: bool,
+    pub style: yaml_sequence_style_t,
+}
+
+/// The start of a mapping: `implicit` where its tag may be left out.
+///
+/// libyaml: `unnamed_yaml_event_t_data_mapping_start`.
+#[derive(Drop)]
+pub struct unnamed_yaml_event_t_data_mapping_start {
+    pub anchor: Option<Text>,
+    pub tag: Option<Text>,
+    pub implicit: bool,
+    pub style: yaml_mapping_style_t,
+}
+
+/// What an event is, with its payload.
+///
+/// libyaml: the union `unnamed_yaml_event_t_data`.
+#[derive(Drop)]
+pub enum unnamed_yaml_event_t_data {
+    NoEvent,
+    StreamStart(unnamed_yaml_event_t_data_stream_start),
+    StreamEnd,
+    DocumentStart(unnamed_yaml_event_t_data_document_start),
+    DocumentEnd(unnamed_yaml_event_t_data_document_end),
+    Alias(unnamed_yaml_event_t_data_alias),
+    Scalar(unnamed_yaml_event_t_data_scalar),
+    SequenceStart(unnamed_yaml_event_t_data_sequence_start),
+    SequenceEnd,
+    MappingStart(unnamed_yaml_event_t_data_mapping_start),
+    MappingEnd,
+}
+
+/// An event with the places at which it begins and ends.
+///
+/// libyaml: `yaml_event_t`.
+#[derive(Drop)]
+pub struct yaml_event_t {
+    pub content: unnamed_yaml_event_t_data,
+    pub start_mark: yaml_mark_t,
+    pub end_mark: yaml_mark_t,
+}
+
+impl yaml_event_t {
+    ghost use Rattle.libyaml_types.specs.Types.{event_type};
+
+    /// The type of the event.
+    ///
+    /// libyaml: the field `type`.
+    pub fn type_(&self) -> yaml_event_type_t
+        ensures { result ≡ event_type self.now.content }
+    {
+        match &self.content {
+            unnamed_yaml_event_t_data::NoEvent => yaml_event_type_t::YAML_NO_EVENT,
+            unnamed_yaml_event_t_data::StreamStart(_) => yaml_event_type_t::YAML_STREAM_START_EVENT,
+            unnamed_yaml_event_t_data::StreamEnd => yaml_event_type_t::YAML_STREAM_END_EVENT,
+            unnamed_yaml_event_t_data::DocumentStart(_) =>
+                yaml_event_type_t::YAML_DOCUMENT_START_EVENT,
+            unnamed_yaml_event_t_data::DocumentEnd(_) => yaml_event_type_t::YAML_DOCUMENT_END_EVENT,
+            unnamed_yaml_event_t_data::Alias(_) => yaml_event_type_t::YAML_ALIAS_EVENT,
+            unnamed_yaml_event_t_data::Scalar(_) => yaml_event_type_t::YAML_SCALAR_EVENT,
+            unnamed_yaml_event_t_data::SequenceStart(_) =>
+                yaml_event_type_t::YAML_SEQUENCE_START_EVENT,
+            unnamed_yaml_event_t_data::SequenceEnd => yaml_event_type_t::YAML_SEQUENCE_END_EVENT,
+            unnamed_yaml_event_t_data::MappingStart(_) =>
+                yaml_event_type_t::YAML_MAPPING_START_EVENT,
+            unnamed_yaml_event_t_data::MappingEnd => yaml_event_type_t::YAML_MAPPING_END_EVENT,
+        }
+    }
+}

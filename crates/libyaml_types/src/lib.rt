@@ -1,0 +1,30 @@
+//! The data types of libyaml's event parser: marks, directives, tokens and events.
+#![tactic(auto)]
+
+pub mod directive;
+pub mod enums;
+pub mod event;
+pub mod mark;
+pub mod text;
+pub mod token;
+
+pub use directive::{TagDirectives, yaml_tag_directive_t, yaml_version_directive_t};
+pub use enums::{
+    yaml_break_t, yaml_encoding_t, yaml_error_type_t, yaml_event_type_t, yaml_mapping_style_t,
+    yaml_node_type_t, yaml_parser_state_t, yaml_scalar_style_t, yaml_sequence_style_t,
+    yaml_token_type_t,
+};
+pub use event::{
+    unnamed_yaml_event_t_data, unnamed_yaml_event_t_data_alias,
+    unnamed_yaml_event_t_data_document_end, unnamed_yaml_event_t_data_document_start,
+    unnamed_yaml_event_t_data_mapping_start, unnamed_yaml_event_t_data_scalar,
+    unnamed_yaml_event_t_data_sequence_start, unnamed_yaml_event_t_data_stream_start, yaml_event_t,
+};
+pub use mark::{ZERO_MARK, yaml_mark_t};
+pub use text::Text;
+pub use token::{
+    unnamed_yaml_token_t_data, unnamed_yaml_token_t_data_alias, unnamed_yaml_token_t_data_anchor,
+    unnamed_yaml_token_t_data_scalar, unnamed_yaml_token_t_data_stream_start,
+    unnamed_yaml_token_t_data_tag, unnamed_yaml_token_t_data_tag_directive,
+    unnamed_yaml_token_t_data_version_directive, yaml_token_t,
+};

@@ -1,0 +1,166 @@
+//! Tokens, as a scanner gives them.
+
+ghost use Rattle.std.specs.Prelude.{◌≡◌};
+
+use crate::enums::{yaml_encoding_t, yaml_scalar_style_t, yaml_token_type_t};
+use crate::mark::yaml_mark_t;
+use crate::text::Text;
+
+/// STREAM-START: the encoding of the stream.
+///
+/// libyaml: `unnamed_yaml_token_t_data_stream_start`.
+#[derive(PartialEq, Eq, Debug, Drop)]
+pub struct unnamed_yaml_token_t_data_stream_start {
+    pub encoding: yaml_encoding_t,
+}
+
+/// VERSION-DIRECTIVE: `%YAML`, with its version.
+///
+/// libyaml: `unnamed_yaml_token_t_data_version_directive`.
+#[derive(PartialEq, Eq, Debug, Drop)]
+pub struct unnamed_yaml_token_t_data_version_directive {
+    pub major: i32,
+    pub minor: i32,
+}
+
+/// TAG-DIRECTIVE: `%TAG`, with its handle and prefix.
+///
+/// libyaml: `unnamed_yaml_token_t_data_tag_directive`.
+#[derive(PartialEq, Eq, Debug, Drop)]
+pub struct unnamed_yaml_token_t_data_tag_directive {
+    pub handle: Text,
+    pub prefix: Text,
+}
+
+/// ALIAS: `*`, with the anchor that it names.
+///
+/// libyaml: `unnamed_yaml_token_t_data_alias`.
+#[derive(PartialEq, Eq, Debug, Drop)]
+pub struct unnamed_yaml_token_t_data_alias {
+    pub value: Text,
+}
+
+/// ANCHOR: `&`, with its name.
+///
+/// libyaml: `unnamed_yaml_token_t_data_anchor`.
+#[derive(PartialEq, Eq, Debug, Drop)]
+pub struct unnamed_yaml_token_t_data_anchor {
+    pub value: Text,
+}
+
+/// TAG: `!`, with its handle, which may be empty, and its suffix.
+///
+/// libyaml: `unnamed_yaml_token_t_data_tag`.
+#[derive(PartialEq, Eq, Debug, Drop)]
+pub struct unnamed_yaml_token_t_data_tag {
+    pub handle: Text,
+    pub suffix: Text,
+}
+
+/// SCALAR: a text and its style.
+///
+/// libyaml: `unnamed_yaml_token_t_data_scalar`.
+#[derive(PartialEq, Eq, Debug, Drop)]
+pub struct unnamed_yaml_token_t_data_scalar {
+    pub value: Text,
+    pub style: yaml_scalar_style_t,
+}
+
+/// What a token is, with its payload.
+///
+/// libyaml: the union `unnamed_yaml_token_t_data`.
+#[derive(PartialEq, Eq, Debug, Drop)]
+pub enum unnamed_yaml_token_t_data {
+    NoToken,
+    StreamStart(unnamed_yaml_token_t_data_stream_start),
+    StreamEnd,
+    VersionDirective(unnamed_yaml_token_t_data_version_directive),
+    TagDirective(unnamed_yaml_token_t_data_tag_directive),
+    DocumentStart,
+    DocumentEnd,
+    BlockSequenceStart,
+    BlockMappingStart,
+    BlockEnd,
+    FlowSequenceStart,
+    FlowSequenceEnd,
+    FlowMappingStart,
+    FlowMappingEnd,
+    BlockEntry,
+    FlowEntry,
+    Key,
+    Value,
+    Alias(unnamed_yaml_token_t_data_alias),
+    Anchor(unnamed_yaml_token_t_data_anchor),
+    Tag(unnamed_yaml_token_t_data_tag),
+    Scalar(unnamed_yaml_token_t_data_scalar),
+}
+
+/// A token with the places at which it begins and ends.
+///
+/// libyaml: `yaml_token_t`.
+#[derive(PartialEq, Eq, Debug, Drop)]
+pub struct yaml_token_t {
+    pub content: unnamed_yaml_token_t_data,
+    pub start_mark: yaml_mark_t,
+    pub end_mark: yaml_mark_t,
+}
+
+impl yaml_token_t {
+    ghost use Rattle.libyaml_types.specs.Types.{token_type};
+
+    /// The token of this content and these marks. Takes no memory.
+    pub fn new(
+        content: unnamed_yaml_token_t_data,
+        start_mark: yaml_mark_t,
+        end_mark: yaml_mark_t,
+    ) -> Self
+        ensures { result ≡ record { content = content; start_mark = start_mark; end_mark = end_mark } }
+    {
+        yaml_token_t {
+            content,
+            start_mark,
+            end_mark,
+        }
+    }
+
+    /// The type of the token.
+    ///
+    /// libyaml: the field `type`.
+    pub fn type_(&self) -> yaml_token_type_t
+        ensures { result ≡ token_type self.now.content }
+    {
+        match &self.content {
+            unnamed_yaml_token_t_data::NoToken => yaml_token_type_t::YAML_NO_TOKEN,
+            unnamed_yaml_token_t_data::StreamStart(_) => yaml_token_type_t::YAML_STREAM_START_TOKEN,
+            unnamed_yaml_token_t_data::StreamEnd => yaml_token_type_t::YAML_STREAM_END_TOKEN,
+            unnamed_yaml_token_t_data::VersionDirective(_) =>
+                yaml_token_type_t::YAML_VERSION_DIRECTIVE_TOKEN,
+            unnamed_yaml_token_t_data::TagDirective(_) =>
+                yaml_token_type_t::YAML_TAG_DIRECTIVE_TOKEN,
+            unnamed_yaml_token_t_data::DocumentStart =>
+                yaml_token_type_t::YAML_DOCUMENT_START_TOKEN,
+            unnamed_yaml_token_t_data::DocumentEnd => yaml_token_type_t::YAML_DOCUMENT_END_TOKEN,
+            unnamed_yaml_token_t_data::BlockSequenceStart =>
+                yaml_token_type_t::YAML_BLOCK_SEQUENCE_START_TOKEN,
+            unnamed_yaml_token_t_data::BlockMappingStart =>
+                yaml_token_type_t::YAML_BLOCK_MAPPING_START_TOKEN,
+            unnamed_yaml_token_t_data::BlockEnd => yaml_token_type_t::YAML_BLOCK_END_TOKEN,
+            unnamed_yaml_token_t_data::FlowSequenceStart =>
+                yaml_token_type_t::YAML_FLOW_SEQUENCE_START_TOKEN,
+            unnamed_yaml_token_t_data::FlowSequenceEnd =>
+                yaml_token_type_t::YAML_FLOW_SEQUENCE_END_TOKEN,
+            unnamed_yaml_token_t_data::FlowMappingStart =>
+                yaml_token_type_t::YAML_FLOW_MAPPING_START_TOKEN,
+            unnamed_yaml_token_t_data::FlowMappingEnd =>
+                yaml_token_type_t::YAML_FLOW_MAPPING_END_TOKEN,
+            unnamed_yaml_token_t_data::BlockEntry => yaml_token_type_t::YAML_BLOCK_ENTRY_TOKEN,
+            unnamed_yaml_token_t_data::FlowEntry => yaml_token_type_t::YAML_FLOW_ENTRY_TOKEN,
+            unnamed_yaml_token_t_data::Key => yaml_token_type_t::YAML_KEY_TOKEN,
+            unnamed_yaml_token_t_data::Value => yaml_token_type_t::YAML_VALUE_TOKEN,
+            unnamed_yaml_token_t_data::Alias(_) => yaml_token_type_t::YAML_ALIAS_TOKEN,
+            unnamed_yaml_token_t_data::Anchor(_) => yaml_token_type_t::YAML_ANCHOR_TOKEN,
+            unnamed_yaml_token_t_data::Tag(_) => yaml_token_type_t::YAML_TAG_TOKEN,
+            unnamed_yaml_token_t_data::Scalar(_) => yaml_token_type_t::YAML_SCALAR_TOKEN,
+        }
+    }
+}
