@@ -1,0 +1,19 @@
+use Rattle.std.specs.Prelude.{ℕ, List, [], ◌∷◌, drop, length}
+use Rattle.token_lines.specs.declared.line.Part.{Part}
+use Rattle.token_lines.specs.declared.line.Part.TheVariants.{More, LineFeed, End}
+use Rattle.token_lines.specs.declared.line.LineEnd.{LineEnd}
+use Rattle.token_lines.specs.declared.line.LineEnd.TheVariants as end
+
+-- what new has behind old
+abbrev pub appended : List ℕ → List ℕ → List ℕ
+appended old new = drop (length old) new
+
+abbrev pub ended_by : Part → List ℕ
+ended_by More = []
+ended_by LineFeed = 10 ∷ []
+ended_by End = []
+
+abbrev pub line_feed : LineEnd → List ℕ
+line_feed end.LineFeed = 10 ∷ []
+line_feed end.End = []
+line_feed end.TooLong = []
