@@ -20,6 +20,8 @@ use Rattle.libyaml_types.specs.declared.enums.yaml_node_type_t.{yaml_node_type_t
 use Rattle.libyaml_types.specs.declared.enums.yaml_node_type_t.TheVariants.{YAML_NO_NODE, YAML_SCALAR_NODE, YAML_SEQUENCE_NODE, YAML_MAPPING_NODE}
 use Rattle.libyaml_types.specs.declared.enums.yaml_parser_state_t.{yaml_parser_state_t}
 use Rattle.libyaml_types.specs.declared.enums.yaml_parser_state_t.TheVariants.{YAML_PARSE_STREAM_START_STATE, YAML_PARSE_IMPLICIT_DOCUMENT_START_STATE, YAML_PARSE_DOCUMENT_START_STATE, YAML_PARSE_DOCUMENT_CONTENT_STATE, YAML_PARSE_DOCUMENT_END_STATE, YAML_PARSE_BLOCK_NODE_STATE, YAML_PARSE_BLOCK_NODE_OR_INDENTLESS_SEQUENCE_STATE, YAML_PARSE_FLOW_NODE_STATE, YAML_PARSE_BLOCK_SEQUENCE_FIRST_ENTRY_STATE, YAML_PARSE_BLOCK_SEQUENCE_ENTRY_STATE, YAML_PARSE_INDENTLESS_SEQUENCE_ENTRY_STATE, YAML_PARSE_BLOCK_MAPPING_FIRST_KEY_STATE, YAML_PARSE_BLOCK_MAPPING_KEY_STATE, YAML_PARSE_BLOCK_MAPPING_VALUE_STATE, YAML_PARSE_FLOW_SEQUENCE_FIRST_ENTRY_STATE, YAML_PARSE_FLOW_SEQUENCE_ENTRY_STATE, YAML_PARSE_FLOW_SEQUENCE_ENTRY_MAPPING_KEY_STATE, YAML_PARSE_FLOW_SEQUENCE_ENTRY_MAPPING_VALUE_STATE, YAML_PARSE_FLOW_SEQUENCE_ENTRY_MAPPING_END_STATE, YAML_PARSE_FLOW_MAPPING_FIRST_KEY_STATE, YAML_PARSE_FLOW_MAPPING_KEY_STATE, YAML_PARSE_FLOW_MAPPING_VALUE_STATE, YAML_PARSE_FLOW_MAPPING_EMPTY_VALUE_STATE, YAML_PARSE_END_STATE}
+use Rattle.libyaml_types.specs.declared.refusal.yaml_refusal_t.{yaml_refusal_t}
+use Rattle.libyaml_types.specs.declared.refusal.yaml_refusal_t.TheVariants.{NotUtf8, Memory, TooManyNodes}
 
 -- yaml_encoding_t
 abbrev pub encoding_number : yaml_encoding_t → ℕ
@@ -139,3 +141,9 @@ parser_state_number YAML_PARSE_FLOW_MAPPING_KEY_STATE = 20
 parser_state_number YAML_PARSE_FLOW_MAPPING_VALUE_STATE = 21
 parser_state_number YAML_PARSE_FLOW_MAPPING_EMPTY_VALUE_STATE = 22
 parser_state_number YAML_PARSE_END_STATE = 23
+
+-- yaml_refusal_t: the causes are numbered from 1
+abbrev pub refusal_number : yaml_refusal_t → ℕ
+refusal_number NotUtf8 = 1
+refusal_number Memory = 2
+refusal_number TooManyNodes = 3

@@ -1,9 +1,12 @@
 //! The directives of a document.
 
-ghost use Rattle.std.specs.Prelude.{◌≡◌, [], length, ◌↔◌, IsTrue};
+ghost use Rattle.std.specs.Prelude.{◌≡◌, [], ◌∷◌, ◌++◌, length, ◌↔◌, IsTrue, OnOk, OnErr};
+ghost use Rattle.std.proofs.Common.{rules};
 
 use crate::text::Text;
-use std::alloc::Global;
+use std::alloc::{AllocError, Global};
+use std::convert::AsSlice;
+use std::fmt;
 use std::marker::Model;
 
 /// The version that a document asks for, as `1.1`.
@@ -25,6 +28,8 @@ pub struct yaml_tag_directive_t {
 }
 
 /// A `Vec` of tag directives, which contracts see as a list.
+///
+/// libyaml: the pointers `start` and `end` of a document's tag directives.
 #[derive(Drop)]
 pub struct TagDirectives {
     inner: Vec<yaml_tag_directive_t>,
@@ -49,14 +54,14 @@ impl TagDirectives {
         }
     }
 
-    /// Takes no memory.
+    /// The list of these directives. Takes no memory.
     pub fn from_vec(list: Vec<yaml_tag_directive_t>) -> Self
         ensures { result ≡ list.items }
     {
         TagDirectives { inner: list }
     }
 
-    /// Takes no memory.
+    /// The directives of this list. Takes no memory.
     pub fn into_vec(self) -> Vec<yaml_tag_directive_t>
         ensures { result.items ≡ self }
     {
@@ -69,5 +74,90 @@ impl TagDirectives {
         ensures { result.now ≡ self.now }
     {
         self.inner.as_slice()
+    }
+
+    /// How many directives there are.
+    pub fn len(&self) -> usize
+        ensures { result ≡ length self.now }
+    {
+        self.inner.len()
+    }
+
+    /// Whether there is no directive.
+    pub fn is_empty(&self) -> bool
+        ensures { IsTrue result ↔ (self.now ≡ []) }
+    {
+        self.inner.is_empty()
+    }
+
+    /// Puts a directive behind the others, in constant time but where the list grows.
+    ///
+    /// Answers `AllocError` where a growth is refused; the list is then as it was.
+    pub fn push(&mut self, directive: yaml_tag_directive_t) -> Result<(), AllocError>
+        ensures ok { OnOk result (self.new ≡ self.old ++ directive ∷ []) }
+        ensures unchanged { OnErr result (self.new ≡ self.old) }
+    {
+        self.inner.push(directive)?;
+        Ok(())
+    }
+
+    /// Takes all directives out, and leaves the empty list. Takes no memory, and no copy is made.
+    pub fn take(&mut self) -> Self
+        ensures taken { result ≡ self.old }
+        ensures emptied { self.new ≡ [] }
+    {
+        let alloc = *self.inner.allocator();
+        std::mem::replace(self, TagDirectives::new(alloc))
+    }
+}
+
+impl From<Vec<yaml_tag_directive_t>> for TagDirectives {
+    ghost from_gives = { λ list result. result ≡ list.items };
+
+    fn from(list: Vec<yaml_tag_directive_t>) -> Self {
+        TagDirectives::from_vec(list)
+    }
+}
+
+impl From<TagDirectives> for Vec<yaml_tag_directive_t> {
+    ghost from_gives = { λ list result. result.items ≡ list };
+
+    fn from(list: TagDirectives) -> Self {
+        list.into_vec()
+    }
+}
+
+impl AsSlice<yaml_tag_directive_t> for TagDirectives {
+    ghost items = { λ t. t };
+
+    fn as_slice(&self) -> &[yaml_tag_directive_t] {
+        self.as_slice()
+    }
+}
+
+impl PartialEq for TagDirectives {
+    ghost use Rattle.std.specs.Cmp.Lexicographic.{pointwise, lists_per};
+    ghost use Rattle.libyaml_types.specs.Equal.{directive_eq, directives_equiv};
+    ghost use Rattle.std.specs.Cmp.{partial_equiv_from_equiv};
+
+    ghost eq = { pointwise directive_eq };
+
+    ghost laws = { partial_equiv_from_equiv directives_equiv };
+
+    fn eq(&self, other: &Self) -> bool {
+        self.as_slice() == other.as_slice()
+    }
+}
+
+impl Eq for TagDirectives {
+    ghost use Rattle.libyaml_types.specs.Equal.{directives_equiv};
+
+    ghost laws = { directives_equiv };
+}
+
+impl fmt::Debug for TagDirectives {
+    fn fmt<W: fmt::Write>(&self, f: &mut fmt::Formatter<W>) -> fmt::Result {
+        let list = self.as_slice();
+        write!(f, "{list:?}")
     }
 }

@@ -13,7 +13,7 @@ use crate::text::Text;
 /// The start of a stream, in an encoding.
 ///
 /// libyaml: `unnamed_yaml_event_t_data_stream_start`.
-#[derive(Drop)]
+#[derive(PartialEq, Eq, Debug, Drop)]
 pub struct unnamed_yaml_event_t_data_stream_start {
     pub encoding: yaml_encoding_t,
 }
@@ -21,7 +21,7 @@ pub struct unnamed_yaml_event_t_data_stream_start {
 /// The start of a document: its directives, and whether no DOCUMENT-START stands there.
 ///
 /// libyaml: `unnamed_yaml_event_t_data_document_start`.
-#[derive(Drop)]
+#[derive(PartialEq, Eq, Debug, Drop)]
 pub struct unnamed_yaml_event_t_data_document_start {
     pub version_directive: Option<yaml_version_directive_t>,
     pub tag_directives: TagDirectives,
@@ -31,7 +31,7 @@ pub struct unnamed_yaml_event_t_data_document_start {
 /// The end of a document: whether no DOCUMENT-END stands there.
 ///
 /// libyaml: `unnamed_yaml_event_t_data_document_end`.
-#[derive(Drop)]
+#[derive(PartialEq, Eq, Debug, Drop)]
 pub struct unnamed_yaml_event_t_data_document_end {
     pub implicit: bool,
 }
@@ -39,7 +39,7 @@ pub struct unnamed_yaml_event_t_data_document_end {
 /// An alias of the node with this anchor.
 ///
 /// libyaml: `unnamed_yaml_event_t_data_alias`.
-#[derive(Drop)]
+#[derive(PartialEq, Eq, Debug, Drop)]
 pub struct unnamed_yaml_event_t_data_alias {
     pub anchor: Text,
 }
@@ -47,7 +47,7 @@ pub struct unnamed_yaml_event_t_data_alias {
 /// A scalar: `plain_implicit` where its tag may be left out if it is written plain, `quoted_implicit` if it is written otherwise.
 ///
 /// libyaml: `unnamed_yaml_event_t_data_scalar`.
-#[derive(Drop)]
+#[derive(PartialEq, Eq, Debug, Drop)]
 pub struct unnamed_yaml_event_t_data_scalar {
     pub anchor: Option<Text>,
     pub tag: Option<Text>,
@@ -60,7 +60,7 @@ pub struct unnamed_yaml_event_t_data_scalar {
 /// The start of a sequence: `implicit` where its tag may be left out.
 ///
 /// libyaml: `unnamed_yaml_event_t_data_sequence_start`.
-#[derive(Drop)]
+#[derive(PartialEq, Eq, Debug, Drop)]
 pub struct unnamed_yaml_event_t_data_sequence_start {
     pub anchor: Option<Text>,
     pub tag: Option<Text>,
@@ -71,7 +71,7 @@ pub struct unnamed_yaml_event_t_data_sequence_start {
 /// The start of a mapping: `implicit` where its tag may be left out.
 ///
 /// libyaml: `unnamed_yaml_event_t_data_mapping_start`.
-#[derive(Drop)]
+#[derive(PartialEq, Eq, Debug, Drop)]
 pub struct unnamed_yaml_event_t_data_mapping_start {
     pub anchor: Option<Text>,
     pub tag: Option<Text>,
@@ -82,7 +82,7 @@ pub struct unnamed_yaml_event_t_data_mapping_start {
 /// What an event is, with its payload.
 ///
 /// libyaml: the union `unnamed_yaml_event_t_data`.
-#[derive(Drop)]
+#[derive(PartialEq, Eq, Debug, Drop)]
 pub enum unnamed_yaml_event_t_data {
     NoEvent,
     StreamStart(unnamed_yaml_event_t_data_stream_start),
@@ -100,7 +100,7 @@ pub enum unnamed_yaml_event_t_data {
 /// An event with the places at which it begins and ends.
 ///
 /// libyaml: `yaml_event_t`.
-#[derive(Drop)]
+#[derive(PartialEq, Eq, Debug, Drop)]
 pub struct yaml_event_t {
     pub content: unnamed_yaml_event_t_data,
     pub start_mark: yaml_mark_t,

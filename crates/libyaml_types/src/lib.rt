@@ -5,6 +5,7 @@ pub mod directive;
 pub mod enums;
 pub mod event;
 pub mod mark;
+pub mod refusal;
 pub mod text;
 pub mod token;
 
@@ -21,6 +22,7 @@ pub use event::{
     unnamed_yaml_event_t_data_sequence_start, unnamed_yaml_event_t_data_stream_start, yaml_event_t,
 };
 pub use mark::{ZERO_MARK, yaml_mark_t};
+pub use refusal::yaml_refusal_t;
 pub use text::Text;
 pub use token::{
     unnamed_yaml_token_t_data, unnamed_yaml_token_t_data_alias, unnamed_yaml_token_t_data_anchor,

@@ -1,0 +1,35 @@
+//! Why a call refuses its arguments.
+
+ghost use Rattle.std.specs.Prelude.{◌≡◌};
+ghost use Rattle.libyaml_types.specs.Numbers.{refusal_number};
+
+use thiserror::Error;
+
+/// Why a constructor or a call on a document gives nothing.
+///
+/// libyaml: none; its calls answer `FAIL`, or an id of 0, without a cause.
+#[derive(PartialEq, Eq, Debug, Drop, Error)]
+pub enum yaml_refusal_t {
+    /// A text that isn't UTF-8.
+    #[error("text is not UTF-8")]
+    NotUtf8,
+    /// A growth that was refused.
+    #[error("out of memory")]
+    Memory,
+    /// A document with as many nodes as an `i32` can number.
+    #[error("too many nodes")]
+    TooManyNodes,
+}
+
+impl yaml_refusal_t {
+    /// The number of this cause, from 1.
+    pub fn number(&self) -> u32
+        ensures { result ≡ refusal_number self.now }
+    {
+        match self {
+            yaml_refusal_t::NotUtf8 => 1,
+            yaml_refusal_t::Memory => 2,
+            yaml_refusal_t::TooManyNodes => 3,
+        }
+    }
+}
