@@ -3,3 +3,8 @@ pub mod Fault
 pub mod Source
 pub mod ListLaws
 pub mod FaultTexts
+pub mod State
+pub mod Config
+pub mod Machine
+pub mod Steps
+pub mod Calls

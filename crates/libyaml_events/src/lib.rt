@@ -3,8 +3,11 @@
 
 mod fault;
 mod list_source;
+mod parser;
+mod progress;
 mod source;
 
 pub use fault::{NO_FAULT, yaml_parser_t_prefix, yaml_source_fault_t};
 pub use list_source::yaml_list_source_t;
+pub use parser::{yaml_parser_delete, yaml_parser_initialize, yaml_parser_t};
 pub use source::yaml_token_source_t;

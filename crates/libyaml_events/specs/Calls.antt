@@ -1,0 +1,103 @@
+-- One call of the parser, and the run of all calls so far (docs/DEFINITIONS.md, "Calls and runs").
+use Rattle.std.specs.Prelude.{◌≡◌, ◌++◌, ◌∷◌, ◌⊎◌, List, [], true, false, Bool, Option, Some, None, Result, Ok, Err}
+use Rattle.libyaml_types.specs.declared.token.yaml_token_t.{yaml_token_t}
+use Rattle.libyaml_types.specs.declared.event.yaml_event_t.{yaml_event_t}
+use Rattle.libyaml_types.specs.declared.event.unnamed_yaml_event_t_data.TheVariants.{NoEvent}
+use Rattle.libyaml_types.specs.declared.enums.yaml_error_type_t.{yaml_error_type_t}
+use Rattle.libyaml_events.specs.Fault.{Fault, Answer}
+use Rattle.libyaml_events.specs.FaultTexts.{zero_mark, memory_fault}
+use Rattle.libyaml_events.specs.Source.{Coming, coming}
+use Rattle.libyaml_events.specs.Config.{Config, Parser, with_config, with_fault, taken, start, is_over}
+use Rattle.libyaml_events.specs.Machine.{Outcome, step, event}
+use Rattle.libyaml_events.specs.declared.progress.Want.{Want}
+use Rattle.libyaml_events.specs.declared.progress.Want.TheVariants.{AtState}
+use Rattle.libyaml_events.specs.declared.progress.Progress.TheVariants.{Given, Wants}
+
+-- what a call of the parser answers
+abbrev pub EventOrError : Type 0
+EventOrError = Result yaml_event_t yaml_error_type_t
+
+-- the source gave these answers, one after another
+abbrev pub Gave : {S : Type 0} → (S → Answer → S → Type 0) → S → List Answer → S → Type 0
+Gave gives s [] t = t ≡ s
+Gave {S} gives s (a ∷ rest) t = (mid : S) × gives s a mid × Gave gives mid rest t
+
+-- the lookahead, as an answer
+abbrev pub held_token : Option yaml_token_t → List Answer
+held_token None = []
+held_token (Some t) = Ok t ∷ []
+
+abbrev pub held : Config → List Answer
+held c = held_token c.lookahead
+
+abbrev pub FetchesFrom : {S : Type 0} → (S → Answer → S → Type 0) → Option yaml_token_t → Parser S → Result yaml_token_t yaml_error_type_t → Parser S → Type 0
+FetchesFrom gives (Some t) old r new = (r ≡ Ok t) × (new ≡ with_config old (taken old.config))
+FetchesFrom gives None old (Ok t) new = gives old.source (Ok t) new.source × (new.config ≡ taken old.config) × (new.max_entries ≡ old.max_entries)
+FetchesFrom gives None old (Err e) new = gives old.source (Err new.config.fault) new.source × (new.config ≡ with_fault (taken old.config) new.config.fault) × (e ≡ new.config.fault.error) × (new.max_entries ≡ old.max_entries)
+
+-- the lookahead, or else the source's answer; a fault is kept
+abbrev pub Fetches : {S : Type 0} → (S → Answer → S → Type 0) → Parser S → Result yaml_token_t yaml_error_type_t → Parser S → Type 0
+Fetches gives old r new = FetchesFrom gives old.config.lookahead old r new
+
+-- the rest of a call behind a step
+abbrev pub Then : Outcome → (Want → Config → Type 0) → List Answer → EventOrError → Config → Type 0
+Then (Err f) More rest r new = (rest ≡ []) × (r ≡ Err f.error) × (new.fault ≡ f)
+Then (Ok (Given e, c)) More rest r new = (rest ≡ []) × (r ≡ Ok e) × (new ≡ c)
+Then (Ok (Wants w, c)) More rest r new = More w c
+
+-- a call that looks at exactly these answers gives this result, and leaves this
+abbrev pub Calls : Want → Config → List Answer → EventOrError → Config → Type 0
+Calls w c [] r new = ⊥
+Calls w c (Err f ∷ rest) r new = (rest ≡ []) × (r ≡ Err f.error) × (new ≡ with_fault c f)
+Calls w c (Ok t ∷ rest) r new = Then (step w c t) (λ w' c'. Calls w' c' rest r new) rest r new
+
+abbrev pub empty_event : yaml_event_t
+empty_event = event NoEvent zero_mark zero_mark
+
+abbrev pub ParsesIf : (over : Bool) → Config → List Answer → EventOrError → Config → Type 0
+ParsesIf true old asked r new = (asked ≡ []) × (r ≡ Ok empty_event) × (new ≡ old)
+ParsesIf false old asked r new = Calls AtState (taken old) (held old ++ asked) r new
+
+-- A call that asks for these answers. Behind the stream's end or a fault it asks for none, gives the empty event and
+-- changes nothing.
+abbrev pub Parses : Config → List Answer → EventOrError → Config → Type 0
+Parses old asked r new = ParsesIf (is_over old) old asked r new
+
+-- an event is the machine's; an error is, or else a growth was refused
+abbrev pub UnlessRefused : EventOrError → Fault → Type 0 → Type 0
+UnlessRefused (Ok e) kept Does = Does
+UnlessRefused (Err x) kept Does = (kept ≡ memory_fault) ⊎ Does
+
+-- what one call asked the source for, and did
+pub record Call {S : Type 0} (gives : S → Answer → S → Type 0) (old : Parser S) (r : EventOrError) (new : Parser S) : Type 0 where
+  pub asked : List Answer
+  pub gave : Gave gives old.source asked new.source
+  pub does : UnlessRefused r new.config.fault (Parses old.config asked r new.config)
+
+-- Calls of a parser that began empty led here, by these answers of the source and with these events. Empty events are
+-- left out.
+pub data Ran : Config → List Answer → List yaml_event_t → Type 0 where
+  begins : Ran start [] []
+  goes : (c : Config) (given asked : List Answer) (events : List yaml_event_t) (e : yaml_event_t) {d : Config} {given' : List Answer} {events' : List yaml_event_t} → Ran c given events → is_over c ≡ false → Parses c asked (Ok e) d → given' ≡ given ++ asked → events' ≡ events ++ e ∷ [] → Ran d given' events'
+
+-- the source gave some answers, by which the run goes on by an event
+pub record CarriesOn {S : Type 0} (gives : S → Answer → S → Type 0) (old : Parser S) (e : yaml_event_t) (new : Parser S) (given : List Answer) (events : List yaml_event_t) : Type 0 where
+  pub asked : List Answer
+  pub gave : Gave gives old.source asked new.source
+  pub ran : Ran new.config (given ++ asked) (events ++ e ∷ [])
+
+-- the answers are the front of these tokens and then, again and again, the fault; these tokens are left
+abbrev pub Reads : List Answer → List yaml_token_t → Fault → List yaml_token_t → Type 0
+Reads [] tokens f left = left ≡ tokens
+Reads (Ok t ∷ rest) [] f left = ⊥
+Reads (Ok t ∷ rest) (u ∷ tokens) f left = (t ≡ u) × Reads rest tokens f left
+Reads (Err e ∷ rest) [] f left = (e ≡ f) × Reads rest [] f left
+Reads (Err e ∷ rest) (u ∷ tokens) f left = ⊥
+
+-- a call over a source that knows its tokens and its fault
+pub record KnownCall (old : Config) (tokens : List yaml_token_t) (f : Fault) (r : EventOrError) (new : Config) (known : Option Coming) : Type 0 where
+  pub asked : List Answer
+  pub left : List yaml_token_t
+  pub reads : Reads asked tokens f left
+  pub left_is : known ≡ Some (coming left f)
+  pub does : UnlessRefused r new.fault (Parses old asked r new)
