@@ -8,3 +8,16 @@ pub mod Config
 pub mod Machine
 pub mod Steps
 pub mod Calls
+pub mod Tokens
+pub mod Trees
+pub mod Events
+pub mod Order
+pub mod CutTrees
+pub mod CutEvents
+pub mod CutFaults
+pub mod Rest
+pub mod Sentences
+pub mod Fits
+pub mod Positions
+pub mod Reading
+pub mod Given
