@@ -1,7 +1,14 @@
 //! Tokens and events as lines of text.
 #![tactic(auto)]
 
+mod escape;
+mod event_line;
+mod field_text;
 mod line;
+mod refusal;
+
+pub use event_line::write_event;
+pub use refusal::line_refusal_t;
 
 /// A token line has at most this many bytes, its LF not counted.
 pub const MAX_LINE: usize = 1_048_576;
