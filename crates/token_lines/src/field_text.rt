@@ -11,7 +11,7 @@ use libyaml_types::{
 use std::alloc::AllocError;
 
 /// What stands for a field that is absent.
-const ABSENT: &str = "-";
+pub(crate) const ABSENT: &str = "-";
 
 /// Appends a field that needs no escapes.
 pub(crate) fn append_field(line: &mut String, field: &str) -> Result<(), AllocError>

@@ -3,11 +3,13 @@
 
 mod escape;
 mod event_line;
+mod fault_text;
 mod field_text;
 mod line;
 mod refusal;
 
 pub use event_line::write_event;
+pub use fault_text::write_fault;
 pub use refusal::line_refusal_t;
 
 /// A token line has at most this many bytes, its LF not counted.
