@@ -1,3 +1,5 @@
 pub mod Equal
+pub mod Events
 pub mod Numbers
+pub mod Texts
 pub mod Types

@@ -1,9 +1,11 @@
 //! The directives of a document.
 
-ghost use Rattle.std.specs.Prelude.{◌≡◌, [], ◌∷◌, ◌++◌, length, ◌↔◌, IsTrue, OnOk, OnErr};
-ghost use Rattle.std.proofs.Common.{rules};
+ghost use Rattle.std.specs.Prelude.{◌≡◌, [], ◌∷◌, ◌++◌, length, map, ◌↔◌, ◌⊎◌, IsTrue, Err, IfOk, OnOk, OnErr, IsErrOf};
+ghost use Rattle.libyaml_types.specs.Texts.{PairIsUtf8, PairsAreUtf8, directive_of};
 
+use crate::refusal::yaml_refusal_t;
 use crate::text::Text;
+use crate::utf8::{are_utf8_pairs, checked};
 use std::alloc::{AllocError, Global};
 use std::convert::AsSlice;
 use std::fmt;
@@ -61,6 +63,22 @@ impl TagDirectives {
         TagDirectives { inner: list }
     }
 
+    /// The list of these handles and prefixes.
+    ///
+    /// Refuses a handle or prefix that isn't UTF-8 as `NotUtf8`, before memory is asked for, and
+    /// answers `Memory` where memory is refused.
+    pub fn from_pairs(alloc: Global, pairs: &[(&[u8], &[u8])]) -> Result<Self, yaml_refusal_t>
+        ensures ok { IfOk result (λ list. list ≡ map directive_of pairs.now) }
+        ensures utf8 { OnOk result (PairsAreUtf8 pairs.now) }
+        ensures not_utf8 { IsErrOf result yaml_refusal_t.NotUtf8 ↔ ¬ PairsAreUtf8 pairs.now }
+        ensures errors { OnErr result ((result ≡ Err yaml_refusal_t.NotUtf8) ⊎ (result ≡ Err yaml_refusal_t.Memory)) }
+    {
+        if !are_utf8_pairs(pairs) {
+            return Err(yaml_refusal_t::NotUtf8);
+        }
+        Ok(copied_pairs(alloc, pairs)?)
+    }
+
     /// The directives of this list. Takes no memory.
     pub fn into_vec(self) -> Vec<yaml_tag_directive_t>
         ensures { result.items ≡ self }
@@ -109,6 +127,29 @@ impl TagDirectives {
         let alloc = *self.inner.allocator();
         std::mem::replace(self, TagDirectives::new(alloc))
     }
+}
+
+/// The list of these handles and prefixes.
+fn copied_pairs(alloc: Global, pairs: &[(&[u8], &[u8])]) -> Result<TagDirectives, AllocError>
+    requires { PairsAreUtf8 pairs.now }
+    ensures { IfOk result (λ list. list ≡ map directive_of pairs.now) }
+{
+    let mut list = Vec::with_capacity(alloc, pairs.len())?;
+    for pair in pairs {
+        list.push(copied_pair(alloc, pair)?)?;
+    }
+    Ok(TagDirectives { inner: list })
+}
+
+/// The directive of this handle and prefix.
+fn copied_pair(alloc: Global, pair: &(&[u8], &[u8])) -> Result<yaml_tag_directive_t, AllocError>
+    requires { PairIsUtf8 pair.now }
+    ensures { IfOk result (λ directive. directive ≡ directive_of pair.now) }
+{
+    Ok(yaml_tag_directive_t {
+        handle: Text::from_str(alloc, checked(pair.0).unwrap())?,
+        prefix: Text::from_str(alloc, checked(pair.1).unwrap())?,
+    })
 }
 
 impl From<Vec<yaml_tag_directive_t>> for TagDirectives {

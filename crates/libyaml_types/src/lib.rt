@@ -1,6 +1,7 @@
 //! The data types of libyaml's event parser: marks, directives, tokens and events.
 #![tactic(auto)]
 
+pub mod constructors;
 pub mod directive;
 pub mod enums;
 pub mod event;
@@ -8,7 +9,15 @@ pub mod mark;
 pub mod refusal;
 pub mod text;
 pub mod token;
+pub mod utf8;
 
+pub use constructors::{
+    yaml_alias_event_initialize, yaml_document_end_event_initialize,
+    yaml_document_start_event_initialize, yaml_event_delete, yaml_mapping_end_event_initialize,
+    yaml_mapping_start_event_initialize, yaml_scalar_event_initialize,
+    yaml_sequence_end_event_initialize, yaml_sequence_start_event_initialize,
+    yaml_stream_end_event_initialize, yaml_stream_start_event_initialize, yaml_token_delete,
+};
 pub use directive::{TagDirectives, yaml_tag_directive_t, yaml_version_directive_t};
 pub use enums::{
     yaml_break_t, yaml_encoding_t, yaml_error_type_t, yaml_event_type_t, yaml_mapping_style_t,

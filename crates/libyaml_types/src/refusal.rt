@@ -2,7 +2,9 @@
 
 ghost use Rattle.std.specs.Prelude.{◌≡◌};
 ghost use Rattle.libyaml_types.specs.Numbers.{refusal_number};
+ghost use Rattle.libyaml_types.specs.declared.refusal.yaml_refusal_t.TheVariants.{Memory};
 
+use std::alloc::AllocError;
 use thiserror::Error;
 
 /// Why a constructor or a call on a document gives nothing.
@@ -31,5 +33,13 @@ impl yaml_refusal_t {
             yaml_refusal_t::Memory => 2,
             yaml_refusal_t::TooManyNodes => 3,
         }
+    }
+}
+
+impl From<AllocError> for yaml_refusal_t {
+    ghost from_gives = { λ _ refusal. refusal ≡ Memory };
+
+    fn from(_: AllocError) -> Self {
+        yaml_refusal_t::Memory
     }
 }

@@ -1,0 +1,56 @@
+//! Which bytes are texts, and their copies.
+
+ghost use Rattle.std.specs.Prelude.{◌≡◌, Err, IfOk, IfSome, IsErrOf, IsTrue, IsUtf8, OnErr, OnOk, ◌↔◌};
+ghost use Rattle.std.specs.Option.{option_copied};
+ghost use Rattle.libyaml_types.specs.Texts.{PairIsUtf8, PairsAreUtf8};
+
+use crate::refusal::yaml_refusal_t;
+use crate::text::Text;
+use std::alloc::{AllocError, Global};
+
+/// The text of these bytes. Takes no memory.
+///
+/// Refuses bytes that aren't UTF-8 as `NotUtf8`.
+pub fn checked(bytes: &[u8]) -> Result<&str, yaml_refusal_t>
+    ensures ok { IfOk result (λ text. text.now ≡ bytes.now) }
+    ensures utf8 { OnOk result (IsUtf8 bytes.now) }
+    ensures not_utf8 { OnErr result (¬ IsUtf8 bytes.now) }
+    ensures error { OnErr result (result ≡ Err yaml_refusal_t.NotUtf8) }
+{
+    simdutf8::compat::from_utf8(bytes).map_err(|_| yaml_refusal_t::NotUtf8)
+}
+
+/// The text of these bytes, where they are given. Takes no memory.
+///
+/// Refuses bytes that aren't UTF-8 as `NotUtf8`.
+pub fn checked_option(bytes: Option<&[u8]>) -> Result<Option<&str>, yaml_refusal_t>
+    ensures ok { IfOk result (λ text. option_copied text ≡ option_copied bytes.entry) }
+    ensures utf8 { OnOk result (IfSome (option_copied bytes.entry) IsUtf8) }
+    ensures not_utf8 { OnErr result (¬ IfSome (option_copied bytes.entry) IsUtf8) }
+    ensures error { OnErr result (result ≡ Err yaml_refusal_t.NotUtf8) }
+{
+    bytes.map(checked).transpose()
+}
+
+/// Whether all handles and prefixes are UTF-8. Takes no memory.
+pub fn are_utf8_pairs(pairs: &[(&[u8], &[u8])]) -> bool
+    ensures { IsTrue result ↔ PairsAreUtf8 pairs.now }
+{
+    pairs.iter().all(is_utf8_pair)
+}
+
+/// Whether a handle and its prefix are both UTF-8.
+fn is_utf8_pair(pair: &(&[u8], &[u8])) -> bool
+    ensures { IsTrue result ↔ PairIsUtf8 pair.now }
+{
+    checked(pair.0).is_ok() && checked(pair.1).is_ok()
+}
+
+/// A copy of this text, where it is given.
+///
+/// Answers `AllocError` where the memory for it is refused.
+pub fn copied_option(alloc: Global, text: Option<&str>) -> Result<Option<Text>, AllocError>
+    ensures { IfOk result (λ copy. copy ≡ option_copied text.entry) }
+{
+    text.map(|text| Text::from_str(alloc, text)).transpose()
+}
