@@ -1,10 +1,10 @@
 -- Documents: a list of nodes beside the fields (docs/DEFINITIONS.md, "Documents").
-use Rattle.std.specs.Prelude.{ℕ, ◌≤◌, ◌<◌, List, [], Option, Bool, length}
+use Rattle.std.specs.Prelude.{ℕ, ℤ, ◌≤◌, List, [], ◌∷◌, ◌++◌, Option, Some, None, IsUtf8, Bool, length}
 use Rattle.libyaml_types.specs.declared.directive.yaml_tag_directive_t.{yaml_tag_directive_t}
 use Rattle.libyaml_types.specs.declared.directive.yaml_version_directive_t.{yaml_version_directive_t}
 use Rattle.libyaml_types.specs.declared.mark.yaml_mark_t.{yaml_mark_t}
 use Rattle.unsafe_libyaml.specs.declared.node.yaml_node_t.{yaml_node_t}
-use Rattle.unsafe_libyaml.specs.Nodes.{EveryIdNamesANode}
+use Rattle.unsafe_libyaml.specs.Nodes.{EveryIdNamesANode, with_changed}
 
 pub record Document : Type 0 where
   pub nodes : List yaml_node_t
@@ -23,3 +23,16 @@ most_nodes = 2147483647
 pub record AreNodes (nodes : List yaml_node_t) : Type 0 where
   pub ids : EveryIdNamesANode nodes
   pub count : length nodes ≤ most_nodes
+
+-- one more node behind the others
+abbrev pub with_node : Document → yaml_node_t → Document
+with_node d node = record d { nodes = d.nodes ++ node ∷ [] }
+
+-- the node of an id changed, and nothing else
+abbrev pub with_changed_node : Document → ℤ → (yaml_node_t → yaml_node_t) → Document
+with_changed_node d id f = record d { nodes = with_changed id f d.nodes }
+
+-- a text, if one is given, is UTF-8
+abbrev pub IsUtf8Option : Option (List ℕ) → Type 0
+IsUtf8Option None = Unit {0}
+IsUtf8Option (Some text) = IsUtf8 text

@@ -1,5 +1,5 @@
 -- Nodes, their ids, and the nodes that the calls make (docs/DEFINITIONS.md, "Documents").
-use Rattle.std.specs.Prelude.{◌≡◌, ℕ, suc, zero, ℤ, pos, negsuc, ◌≤ℤ◌, List, [], ◌∷◌, ◌++◌, Option, Some, None, length, slice_get, codes}
+use Rattle.std.specs.Prelude.{◌≡◌, ℕ, suc, zero, ℤ, pos, negsuc, ◌≤ℤ◌, List, [], ◌∷◌, ◌++◌, Option, Some, None, length, slice_get, codes, IsSomeAnd}
 use Rattle.libyaml_types.specs.declared.enums.yaml_node_type_t.{yaml_node_type_t}
 use Rattle.libyaml_types.specs.declared.enums.yaml_node_type_t.TheVariants.{YAML_SCALAR_NODE, YAML_SEQUENCE_NODE, YAML_MAPPING_NODE}
 use Rattle.libyaml_types.specs.declared.enums.yaml_scalar_style_t.{yaml_scalar_style_t}
@@ -49,3 +49,67 @@ AllIdsOf n (node ∷ nodes) = AllIds n (ids_of node.content) × AllIdsOf n nodes
 -- every id in items and pairs names one of the nodes
 abbrev pub EveryIdNamesANode : List yaml_node_t → Type 0
 EveryIdNamesANode nodes = AllIdsOf (length nodes) nodes
+
+-- the tag of a new node: the given one, or its kind's
+abbrev pub tag_or : List ℕ → Option (List ℕ) → List ℕ
+tag_or default None = default
+tag_or default (Some tag) = tag
+
+abbrev pub zero_mark : yaml_mark_t
+zero_mark = record { index = 0; line = 0; column = 0 }
+
+-- a new node: its marks are zero
+abbrev pub node_of : List ℕ → unnamed_yaml_node_t_data → yaml_node_t
+node_of tag content = record { tag = tag; content = content; start_mark = zero_mark; end_mark = zero_mark }
+
+-- the nodes that the adding calls make: zero marks, no children
+abbrev pub scalar_node : Option (List ℕ) → List ℕ → yaml_scalar_style_t → yaml_node_t
+scalar_node tag value style = node_of (tag_or (codes "tag:yaml.org,2002:str") tag) (Scalar (record { value = value; style = style }))
+
+abbrev pub sequence_node : Option (List ℕ) → yaml_sequence_style_t → yaml_node_t
+sequence_node tag style = node_of (tag_or (codes "tag:yaml.org,2002:seq") tag) (Sequence (record { items = []; style = style }))
+
+abbrev pub mapping_node : Option (List ℕ) → yaml_mapping_style_t → yaml_node_t
+mapping_node tag style = node_of (tag_or (codes "tag:yaml.org,2002:map") tag) (Mapping (record { pairs = []; style = style }))
+
+-- one more item behind those of a sequence
+abbrev pub item_behind : ℤ → unnamed_yaml_node_t_data → unnamed_yaml_node_t_data
+item_behind id (Scalar s) = Scalar s
+item_behind id (Sequence s) = Sequence (record s { items = s.items ++ id ∷ [] })
+item_behind id (Mapping m) = Mapping m
+
+abbrev pub with_item : ℤ → yaml_node_t → yaml_node_t
+with_item id node = record node { content = item_behind id node.content }
+
+-- one more pair behind those of a mapping
+abbrev pub pair_behind : yaml_node_pair_t → unnamed_yaml_node_t_data → unnamed_yaml_node_t_data
+pair_behind p (Scalar s) = Scalar s
+pair_behind p (Sequence s) = Sequence s
+pair_behind p (Mapping m) = Mapping (record m { pairs = m.pairs ++ p ∷ [] })
+
+abbrev pub with_pair : ℤ → ℤ → yaml_node_t → yaml_node_t
+with_pair key value node = record node { content = pair_behind (record { key = key; value = value }) node.content }
+
+-- the nodes with the one of an id changed, and all others as they are
+abbrev pub changed_at : ℕ → (yaml_node_t → yaml_node_t) → List yaml_node_t → List yaml_node_t
+changed_at n f [] = []
+changed_at zero f (node ∷ nodes) = f node ∷ nodes
+changed_at (suc n) f (node ∷ nodes) = node ∷ changed_at n f nodes
+
+abbrev pub with_changed : ℤ → (yaml_node_t → yaml_node_t) → List yaml_node_t → List yaml_node_t
+with_changed (negsuc n) f nodes = nodes
+with_changed (pos zero) f nodes = nodes
+with_changed (pos (suc n)) f nodes = changed_at n f nodes
+
+abbrev pub IsSequence : yaml_node_t → Type 0
+IsSequence node = node_type node.content ≡ YAML_SEQUENCE_NODE
+
+abbrev pub IsMapping : yaml_node_t → Type 0
+IsMapping node = node_type node.content ≡ YAML_MAPPING_NODE
+
+-- the id of a sequence, and of a mapping
+abbrev pub IsSequenceAt : List yaml_node_t → ℤ → Type 0
+IsSequenceAt nodes id = IsSomeAnd (node_at nodes id) IsSequence
+
+abbrev pub IsMappingAt : List yaml_node_t → ℤ → Type 0
+IsMappingAt nodes id = IsSomeAnd (node_at nodes id) IsMapping

@@ -1,11 +1,16 @@
 //! Documents, and the calls that read them.
 
-ghost use Rattle.std.specs.Prelude.{◌≡◌, ◌≤◌, ◌≤ℤ◌, pos, ◌↔◌, IsSome, length};
+ghost use Rattle.std.specs.Prelude.{◌≡◌, suc, ◌≤◌, ◌≤ℤ◌, ◌<◌, pos, ◌↔◌, IsSome, length};
 ghost use Rattle.std.specs.Option.{option_copied};
 ghost use Rattle.unsafe_libyaml.specs.Documents.{most_nodes};
 ghost use Rattle.unsafe_libyaml.specs.Nodes.{EveryIdNamesANode, node_at, IsIdBelow};
 
+mod add;
+mod append;
+
 use crate::node::yaml_node_t;
+pub use add::{yaml_document_add_mapping, yaml_document_add_scalar, yaml_document_add_sequence};
+pub use append::{yaml_document_append_mapping_pair, yaml_document_append_sequence_item};
 use libyaml_types::{TagDirectives, yaml_mark_t, yaml_tag_directive_t, yaml_version_directive_t};
 use std::marker::Model;
 
@@ -31,13 +36,13 @@ impl Model for yaml_document_t {
     ghost Value = { Document };
 
     ghost view = { λ d. record {
-        nodes = d.nodes.items;
-        version_directive = d.version_directive;
-        tag_directives = d.tag_directives;
-        start_implicit = d.start_implicit;
-        end_implicit = d.end_implicit;
-        start_mark = d.start_mark;
-        end_mark = d.end_mark;
+      nodes = d.nodes.items;
+      version_directive = d.version_directive;
+      tag_directives = d.tag_directives;
+      start_implicit = d.start_implicit;
+      end_implicit = d.end_implicit;
+      start_mark = d.start_mark;
+      end_mark = d.end_mark;
     } };
 
     ghost invariant = { λ d. AreNodes d.nodes.items };
@@ -98,6 +103,14 @@ impl yaml_document_t {
     }
 }
 
+/// The place of the node of this id: ids count from 1, places from 0.
+fn place_of(id: i32) -> usize
+    requires { pos 1 ≤ℤ id }
+    ensures { id ≡ pos (suc result) }
+{
+    id as usize - 1
+}
+
 /// Gives the document's memory back.
 ///
 /// libyaml: `yaml_document_delete`.
@@ -117,7 +130,7 @@ pub fn yaml_document_get_node(document: &yaml_document_t, index: i32) -> Option<
     if index < 1 {
         return None;
     }
-    document.nodes.get(index as usize - 1)
+    document.nodes.get(place_of(index))
 }
 
 /// The node of id 1, or `None` where the document has no nodes.
@@ -126,7 +139,7 @@ pub fn yaml_document_get_node(document: &yaml_document_t, index: i32) -> Option<
 ///
 /// libyaml: `yaml_document_get_root_node`.
 pub fn yaml_document_get_root_node(document: &yaml_document_t) -> Option<&yaml_node_t>
-    ensures found { IsSome result ↔ (pos 1 ≤ℤ pos (length document.now.nodes)) }
+    ensures found { IsSome result ↔ (0 < length document.now.nodes) }
     ensures node { option_copied result ≡ node_at document.now.nodes (pos 1) }
 {
     document.nodes.first()

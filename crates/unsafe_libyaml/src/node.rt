@@ -1,12 +1,13 @@
 //! Nodes of a document.
 
-ghost use Rattle.std.specs.Prelude.{◌≡◌};
+ghost use Rattle.std.specs.Prelude.{◌≡◌, OnOk, OnErr};
 
-use crate::children::{NodeItems, NodePairs};
+use crate::children::{NodeItems, NodePairs, yaml_node_item_t, yaml_node_pair_t};
 use libyaml_types::{
     Text, yaml_mapping_style_t, yaml_mark_t, yaml_node_type_t, yaml_scalar_style_t,
     yaml_sequence_style_t,
 };
+use std::alloc::AllocError;
 
 /// The value of a scalar node, and how it is written.
 ///
@@ -57,7 +58,7 @@ pub struct yaml_node_t {
 }
 
 impl yaml_node_t {
-    ghost use Rattle.unsafe_libyaml.specs.Nodes.{node_type};
+    ghost use Rattle.unsafe_libyaml.specs.Nodes.{node_type, IsSequence, IsMapping, with_item, with_pair};
 
     /// The type of the node, which is never `YAML_NO_NODE`.
     ///
@@ -69,6 +70,30 @@ impl yaml_node_t {
             unnamed_yaml_node_t_data::Scalar(_) => yaml_node_type_t::YAML_SCALAR_NODE,
             unnamed_yaml_node_t_data::Sequence(_) => yaml_node_type_t::YAML_SEQUENCE_NODE,
             unnamed_yaml_node_t_data::Mapping(_) => yaml_node_type_t::YAML_MAPPING_NODE,
+        }
+    }
+
+    /// Puts an item behind the others of this sequence.
+    pub(crate) fn push_item(&mut self, item: yaml_node_item_t) -> Result<(), AllocError>
+        requires { IsSequence self.old }
+        ensures ok { OnOk result (self.new ≡ with_item item self.old) }
+        ensures err { OnErr result (self.new ≡ self.old) }
+    {
+        match &mut self.content {
+            unnamed_yaml_node_t_data::Sequence(sequence) => sequence.items.push(item),
+            _ => unreachable!(),
+        }
+    }
+
+    /// Puts a pair behind the others of this mapping.
+    pub(crate) fn push_pair(&mut self, pair: yaml_node_pair_t) -> Result<(), AllocError>
+        requires { IsMapping self.old }
+        ensures ok { OnOk result (self.new ≡ with_pair pair.key pair.value self.old) }
+        ensures err { OnErr result (self.new ≡ self.old) }
+    {
+        match &mut self.content {
+            unnamed_yaml_node_t_data::Mapping(mapping) => mapping.pairs.push(pair),
+            _ => unreachable!(),
         }
     }
 }

@@ -1,0 +1,121 @@
+-- Ids stay ids of nodes where nodes and children are put behind others.
+use Rattle.std.proofs.Common.{◌≡◌, ℕ, zero, suc, ◌+◌, ◌<◌, ◌≤◌, ℤ, pos, negsuc, ◌≤ℤ◌, List, [], ◌∷◌, ◌++◌, length, set, get_or, refl, ap, sym, subst, arith, length-append, ◌∙◌}
+use Rattle.std.proofs.lemmas.Int.{ints}
+use Rattle.unsafe_libyaml.specs.declared.node.yaml_node_t.{yaml_node_t}
+use Rattle.unsafe_libyaml.specs.declared.children.yaml_node_pair_t.{yaml_node_pair_t}
+use Rattle.unsafe_libyaml.specs.declared.node.unnamed_yaml_node_t_data.{unnamed_yaml_node_t_data}
+use Rattle.unsafe_libyaml.specs.declared.node.unnamed_yaml_node_t_data.TheVariants.{Scalar, Sequence, Mapping}
+use Rattle.unsafe_libyaml.specs.Nodes.{ids_of, ids_of_pairs, IsIdBelow, AllIds, AllIdsOf, EveryIdNamesANode, node_at, changed_at, item_behind, pair_behind}
+use Rattle.unsafe_libyaml.specs.Documents.{Document, AreNodes, most_nodes, with_changed_node}
+use Rattle.std.specs.Prelude.{Bool, true, false, cond, IsSomeAnd, slice_get, Result, Ok, Err, OnOk, OnErr}
+
+pub IsIdBelow-more : (n m : ℕ) (id : ℤ) → n ≤ m → IsIdBelow n id → IsIdBelow m id
+IsIdBelow-more n m id le h = (h.0, omega (arith, ints))
+
+pub AllIds-more : (n m : ℕ) (ids : List ℤ) → n ≤ m → AllIds n ids → AllIds m ids
+AllIds-more n m [] le h = tt
+AllIds-more n m (id ∷ ids) le h = (IsIdBelow-more n m id le h.0, AllIds-more n m ids le h.1)
+
+pub AllIdsOf-more : (n m : ℕ) (nodes : List yaml_node_t) → n ≤ m → AllIdsOf n nodes → AllIdsOf m nodes
+AllIdsOf-more n m [] le h = tt
+AllIdsOf-more n m (node ∷ nodes) le h = (AllIds-more n m (ids_of node.content) le h.0, AllIdsOf-more n m nodes le h.1)
+
+pub AllIdsOf-push : (n : ℕ) (nodes : List yaml_node_t) (node : yaml_node_t) → AllIdsOf n nodes → AllIds n (ids_of node.content) → AllIdsOf n (nodes ++ node ∷ [])
+AllIdsOf-push n [] node h k = (k, tt)
+AllIdsOf-push n (first ∷ nodes) node h k = (h.0, AllIdsOf-push n nodes node h.1 k)
+
+-- a node without children behind the others
+pub EveryIdNamesANode-push : (nodes : List yaml_node_t) (node : yaml_node_t) → ids_of node.content ≡ [] → EveryIdNamesANode nodes → EveryIdNamesANode (nodes ++ node ∷ [])
+EveryIdNamesANode-push nodes node none h =
+    AllIdsOf-push (length (nodes ++ node ∷ [])) nodes node
+    (AllIdsOf-more (length nodes) (length (nodes ++ node ∷ [])) nodes (grind (arith, length-append)) h)
+    (subst (AllIds (length (nodes ++ node ∷ []))) (sym none) tt)
+
+-- what holds of the nodes of a document, where its list grew or stayed
+pub AreNodes-push : (grown : Bool) (nodes new : List yaml_node_t) (node : yaml_node_t) → new ≡ cond grown (nodes ++ node ∷ []) nodes → length nodes < most_nodes → ids_of node.content ≡ [] → AreNodes nodes → AreNodes new
+AreNodes-push false nodes new node is room none h = subst AreNodes (sym is) h
+AreNodes-push true nodes new node is room none h =
+    subst AreNodes (sym is) (record {
+      ids = EveryIdNamesANode-push nodes node none h.ids;
+      count = grind (arith, length-append);
+    })
+
+-- the place of the node of an id, and what holds of that node
+pub record Place (nodes : List yaml_node_t) (id : ℤ) (P : yaml_node_t → Type 0) : Type 0 where
+  pub place : ℕ
+  pub id_is : id ≡ pos (suc place)
+  pub inside : place < length nodes
+  pub holds : (d : yaml_node_t) → P (get_or nodes place d)
+
+pub place-inside : (nodes : List yaml_node_t) (n : ℕ) (P : yaml_node_t → Type 0) → IsSomeAnd (slice_get nodes n) P → n < length nodes
+place-inside [] n P h = absurd h
+place-inside (node ∷ nodes) zero P h = omega arith
+place-inside (node ∷ nodes) (suc n) P h = let e = place-inside nodes n P h in omega (arith, e)
+
+pub place-holds : (nodes : List yaml_node_t) (n : ℕ) (P : yaml_node_t → Type 0) (d : yaml_node_t) → IsSomeAnd (slice_get nodes n) P → P (get_or nodes n d)
+place-holds [] n P d h = absurd h
+place-holds (node ∷ nodes) zero P d h = h
+place-holds (node ∷ nodes) (suc n) P d h = place-holds nodes n P d h
+
+pub place_of_id : (nodes : List yaml_node_t) (id : ℤ) (P : yaml_node_t → Type 0) → IsSomeAnd (node_at nodes id) P → Place nodes id P
+place_of_id nodes (negsuc n) P h = absurd h
+place_of_id nodes (pos zero) P h = absurd h
+place_of_id nodes (pos (suc n)) P h = record { place = n; id_is = refl; inside = place-inside nodes n P h; holds = λ d. place-holds nodes n P d h }
+
+-- a node changed at its place
+pub changed_at-set : (n : ℕ) (f : yaml_node_t → yaml_node_t) (nodes : List yaml_node_t) (d : yaml_node_t) → changed_at n f nodes ≡ set nodes n (f (get_or nodes n d))
+changed_at-set n f [] d = refl
+changed_at-set zero f (node ∷ nodes) d = refl
+changed_at-set (suc n) f (node ∷ nodes) d = ap (λ r. node ∷ r) (changed_at-set n f nodes d)
+
+pub length-changed_at : (n : ℕ) (f : yaml_node_t → yaml_node_t) (nodes : List yaml_node_t) → length (changed_at n f nodes) ≡ length nodes
+length-changed_at n f [] = refl
+length-changed_at zero f (node ∷ nodes) = refl
+length-changed_at (suc n) f (node ∷ nodes) = ap suc (length-changed_at n f nodes)
+
+pub AllIdsOf-changed_at : (m n : ℕ) (f : yaml_node_t → yaml_node_t) (nodes : List yaml_node_t) → ((node : yaml_node_t) → AllIds m (ids_of node.content) → AllIds m (ids_of (f node).content)) → AllIdsOf m nodes → AllIdsOf m (changed_at n f nodes)
+AllIdsOf-changed_at m n f [] keeps h = tt
+AllIdsOf-changed_at m zero f (node ∷ nodes) keeps h = (keeps node h.0, h.1)
+AllIdsOf-changed_at m (suc n) f (node ∷ nodes) keeps h = (h.0, AllIdsOf-changed_at m n f nodes keeps h.1)
+
+-- one more id behind others
+pub AllIds-push : (n : ℕ) (ids : List ℤ) (id : ℤ) → AllIds n ids → IsIdBelow n id → AllIds n (ids ++ id ∷ [])
+AllIds-push n [] id h k = (k, tt)
+AllIds-push n (first ∷ ids) id h k = (h.0, AllIds-push n ids id h.1 k)
+
+pub AllIds-push_pair : (n : ℕ) (pairs : List yaml_node_pair_t) (p : yaml_node_pair_t) → AllIds n (ids_of_pairs pairs) → IsIdBelow n p.key → IsIdBelow n p.value → AllIds n (ids_of_pairs (pairs ++ p ∷ []))
+AllIds-push_pair n [] p h k v = (k, (v, tt))
+AllIds-push_pair n (first ∷ pairs) p h k v = (h.0, (h.1.0, AllIds-push_pair n pairs p h.1.1 k v))
+
+pub with_item-keeps : (n : ℕ) (id : ℤ) (content : unnamed_yaml_node_t_data) → IsIdBelow n id → AllIds n (ids_of content) → AllIds n (ids_of (item_behind id content))
+with_item-keeps n id (Scalar s) k h = h
+with_item-keeps n id (Sequence s) k h = AllIds-push n s.items id h k
+with_item-keeps n id (Mapping m) k h = h
+
+pub with_pair-keeps : (n : ℕ) (p : yaml_node_pair_t) (content : unnamed_yaml_node_t_data) → IsIdBelow n p.key → IsIdBelow n p.value → AllIds n (ids_of content) → AllIds n (ids_of (pair_behind p content))
+with_pair-keeps n p (Scalar s) k v h = h
+with_pair-keeps n p (Sequence s) k v h = h
+with_pair-keeps n p (Mapping m) k v h = AllIds-push_pair n m.pairs p h k v
+
+-- what holds of the nodes of a document, where one of them was changed
+pub AreNodes-changed : (n : ℕ) (f : yaml_node_t → yaml_node_t) (nodes : List yaml_node_t) → ((node : yaml_node_t) → AllIds (length nodes) (ids_of node.content) → AllIds (length nodes) (ids_of (f node).content)) → AreNodes nodes → AreNodes (changed_at n f nodes)
+AreNodes-changed n f nodes keeps h = record {
+  ids = subst (λ (m : ℕ). AllIdsOf m (changed_at n f nodes)) (sym (length-changed_at n f nodes)) (AllIdsOf-changed_at (length nodes) n f nodes keeps h.ids);
+  count = subst (λ (m : ℕ). m ≤ most_nodes) (sym (length-changed_at n f nodes)) h.count;
+}
+
+-- the same of the list in which the node at a place was written again, changed or as it was
+pub AreNodes-set : (n : ℕ) (f : yaml_node_t → yaml_node_t) (nodes : List yaml_node_t) (old new : yaml_node_t) → old ≡ get_or nodes n old → new ≡ f old → ((node : yaml_node_t) → AllIds (length nodes) (ids_of node.content) → AllIds (length nodes) (ids_of (f node).content)) → AreNodes nodes → AreNodes (set nodes n new)
+AreNodes-set n f nodes old new old_is new_is keeps h =
+    subst AreNodes (changed_at-set n f nodes old ∙ ap (λ (node : yaml_node_t). set nodes n node) (ap f (sym old_is) ∙ sym new_is)) (AreNodes-changed n f nodes keeps h)
+
+pub AreNodes-result : {T E : Type 0} (r : Result T E) (n : ℕ) (f : yaml_node_t → yaml_node_t) (nodes : List yaml_node_t) (old new : yaml_node_t) → old ≡ get_or nodes n old → OnOk r (new ≡ f old) → OnErr r (new ≡ old) → ((node : yaml_node_t) → AllIds (length nodes) (ids_of node.content) → AllIds (length nodes) (ids_of (f node).content)) → AreNodes nodes → AreNodes (set nodes n new)
+AreNodes-result (Ok x) n f nodes old new old_is ok err keeps h = AreNodes-set n f nodes old new old_is ok keeps h
+AreNodes-result (Err e) n f nodes old new old_is ok err keeps h = AreNodes-set n (λ node. node) nodes old new old_is err (λ node k. k) h
+
+-- a document in which a node was changed at its place
+pub with_changed_node-set : (d now : Document) (id : ℤ) (n : ℕ) (f : yaml_node_t → yaml_node_t) (old new : yaml_node_t) → d ≡ now → id ≡ pos (suc n) → old ≡ get_or d.nodes n old → new ≡ f old → record d { nodes = set d.nodes n new } ≡ with_changed_node now id f
+with_changed_node-set d now id n f old new now_is id_is old_is new_is =
+    ap (λ (nodes : List yaml_node_t). record d { nodes = nodes }) (ap (λ (node : yaml_node_t). set d.nodes n node) (new_is ∙ ap f old_is) ∙ sym (changed_at-set n f d.nodes old))
+    ∙ ap (λ (i : ℤ). with_changed_node d i f) (sym id_is)
+    ∙ ap (λ (e : Document). with_changed_node e id f) now_is

@@ -1,0 +1,163 @@
+//! The calls that add a node to a document.
+
+ghost use Rattle.std.specs.Prelude.{◌≡◌, ◌+◌, ◌<◌, ◌↔◌, pos, [], IfOk, OnOk, OnErr, IsErrOf, IsUtf8, length};
+ghost use Rattle.std.specs.Option.{option_copied};
+ghost use Rattle.unsafe_libyaml.specs.Documents.{most_nodes, with_node, IsUtf8Option};
+ghost use Rattle.unsafe_libyaml.specs.Nodes.{ids_of, node_of, scalar_node, sequence_node, mapping_node};
+
+use super::yaml_document_t;
+use crate::children::{NodeItems, NodePairs};
+use crate::node::{
+    unnamed_yaml_node_t_data, unnamed_yaml_node_t_data_mapping, unnamed_yaml_node_t_data_scalar,
+    unnamed_yaml_node_t_data_sequence, yaml_node_t,
+};
+use crate::texts::{checked, checked_tag, copied};
+use libyaml_types::{
+    ZERO_MARK, yaml_mapping_style_t, yaml_refusal_t, yaml_scalar_style_t, yaml_sequence_style_t,
+};
+use std::alloc::Global;
+
+const MOST_NODES: usize = 2147483647;
+
+/// Whether an id is left for one more node.
+fn has_room(document: &yaml_document_t) -> Result<(), yaml_refusal_t>
+    ensures ok { OnOk result (length document.now.nodes < most_nodes) }
+    ensures err { OnErr result ((result ≡ Err yaml_refusal_t.TooManyNodes) × (length document.now.nodes ≡ most_nodes)) }
+{
+    if document.nodes.len() < MOST_NODES {
+        Ok(())
+    } else {
+        Err(yaml_refusal_t::TooManyNodes)
+    }
+}
+
+/// A node of this content, with a copy of the tag and zero marks.
+fn new_node(
+    alloc: Global,
+    tag: &str,
+    content: unnamed_yaml_node_t_data,
+) -> Result<yaml_node_t, yaml_refusal_t>
+    ensures ok { IfOk result (λ node. node ≡ node_of tag.now content) }
+    ensures err { OnErr result (result ≡ Err yaml_refusal_t.Memory) }
+{
+    Ok(yaml_node_t {
+        tag: copied(alloc, tag)?,
+        content,
+        start_mark: ZERO_MARK,
+        end_mark: ZERO_MARK,
+    })
+}
+
+/// Puts a node without children behind the others, and gives its id.
+fn push_node(document: &mut yaml_document_t, node: yaml_node_t) -> Result<i32, yaml_refusal_t>
+    requires room { length document.old.nodes < most_nodes }
+    requires childless { ids_of node.content ≡ [] }
+    ensures ok { IfOk result (λ id. id ≡ pos (length document.old.nodes + 1)) }
+    ensures added { OnOk result (document.new ≡ with_node document.old node) }
+    ensures refused { OnErr result (result ≡ Err yaml_refusal_t.Memory) }
+    ensures unchanged { OnErr result (document.new ≡ document.old) }
+{
+    match document.nodes.push(node) {
+        Ok(()) => Ok(document.nodes.len() as i32),
+        Err(_) => Err(yaml_refusal_t::Memory),
+    }
+}
+
+/// Adds a scalar, and answers its id: the count of nodes with it. Its marks are zero, and without
+/// a tag its tag is `tag:yaml.org,2002:str`.
+///
+/// Answers `TooManyNodes` where 2147483647 nodes stand, else `NotUtf8` where the tag or the value
+/// isn't UTF-8, else `Memory` where a growth is refused; the document is then as it was.
+///
+/// libyaml: `yaml_document_add_scalar`.
+pub fn yaml_document_add_scalar(
+    document: &mut yaml_document_t,
+    tag: Option<&[u8]>,
+    value: &[u8],
+    style: yaml_scalar_style_t,
+) -> Result<i32, yaml_refusal_t>
+    ensures id { IfOk result (λ id. id ≡ pos (length document.old.nodes + 1)) }
+    ensures added { OnOk result (document.new ≡ with_node document.old (scalar_node (option_copied tag.entry) value.now style)) }
+    ensures room { OnOk result (length document.old.nodes < most_nodes) }
+    ensures utf8_tag { OnOk result (IsUtf8Option (option_copied tag.entry)) }
+    ensures utf8_value { OnOk result (IsUtf8 value.now) }
+    ensures too_many { IsErrOf result yaml_refusal_t.TooManyNodes ↔ (length document.old.nodes ≡ most_nodes) }
+    ensures not_utf8 { IsErrOf result yaml_refusal_t.NotUtf8 ↔ ((length document.old.nodes < most_nodes) × ¬ (IsUtf8Option (option_copied tag.entry) × IsUtf8 value.now)) }
+    ensures memory { IsErrOf result yaml_refusal_t.Memory → (length document.old.nodes < most_nodes) × IsUtf8Option (option_copied tag.entry) × IsUtf8 value.now }
+    ensures unchanged { OnErr result (document.new ≡ document.old) }
+{
+    has_room(document)?;
+    let tag = checked_tag(tag, "tag:yaml.org,2002:str")?;
+    let value = checked(value)?;
+    let alloc = *document.nodes.allocator();
+    let scalar = unnamed_yaml_node_t_data_scalar {
+        value: copied(alloc, value)?,
+        style,
+    };
+    let node = new_node(alloc, tag, unnamed_yaml_node_t_data::Scalar(scalar))?;
+    push_node(document, node)
+}
+
+/// Adds a sequence without items, and answers its id: the count of nodes with it. Its marks are
+/// zero, and without a tag its tag is `tag:yaml.org,2002:seq`.
+///
+/// Answers `TooManyNodes` where 2147483647 nodes stand, else `NotUtf8` where the tag isn't UTF-8,
+/// else `Memory` where a growth is refused; the document is then as it was.
+///
+/// libyaml: `yaml_document_add_sequence`.
+pub fn yaml_document_add_sequence(
+    document: &mut yaml_document_t,
+    tag: Option<&[u8]>,
+    style: yaml_sequence_style_t,
+) -> Result<i32, yaml_refusal_t>
+    ensures id { IfOk result (λ id. id ≡ pos (length document.old.nodes + 1)) }
+    ensures added { OnOk result (document.new ≡ with_node document.old (sequence_node (option_copied tag.entry) style)) }
+    ensures room { OnOk result (length document.old.nodes < most_nodes) }
+    ensures utf8_tag { OnOk result (IsUtf8Option (option_copied tag.entry)) }
+    ensures too_many { IsErrOf result yaml_refusal_t.TooManyNodes ↔ (length document.old.nodes ≡ most_nodes) }
+    ensures not_utf8 { IsErrOf result yaml_refusal_t.NotUtf8 ↔ ((length document.old.nodes < most_nodes) × ¬ IsUtf8Option (option_copied tag.entry)) }
+    ensures memory { IsErrOf result yaml_refusal_t.Memory → (length document.old.nodes < most_nodes) × IsUtf8Option (option_copied tag.entry) }
+    ensures unchanged { OnErr result (document.new ≡ document.old) }
+{
+    has_room(document)?;
+    let tag = checked_tag(tag, "tag:yaml.org,2002:seq")?;
+    let alloc = *document.nodes.allocator();
+    let sequence = unnamed_yaml_node_t_data_sequence {
+        items: NodeItems::new(alloc),
+        style,
+    };
+    let node = new_node(alloc, tag, unnamed_yaml_node_t_data::Sequence(sequence))?;
+    push_node(document, node)
+}
+
+/// Adds a mapping without pairs, and answers its id: the count of nodes with it. Its marks are
+/// zero, and without a tag its tag is `tag:yaml.org,2002:map`.
+///
+/// Answers `TooManyNodes` where 2147483647 nodes stand, else `NotUtf8` where the tag isn't UTF-8,
+/// else `Memory` where a growth is refused; the document is then as it was.
+///
+/// libyaml: `yaml_document_add_mapping`.
+pub fn yaml_document_add_mapping(
+    document: &mut yaml_document_t,
+    tag: Option<&[u8]>,
+    style: yaml_mapping_style_t,
+) -> Result<i32, yaml_refusal_t>
+    ensures id { IfOk result (λ id. id ≡ pos (length document.old.nodes + 1)) }
+    ensures added { OnOk result (document.new ≡ with_node document.old (mapping_node (option_copied tag.entry) style)) }
+    ensures room { OnOk result (length document.old.nodes < most_nodes) }
+    ensures utf8_tag { OnOk result (IsUtf8Option (option_copied tag.entry)) }
+    ensures too_many { IsErrOf result yaml_refusal_t.TooManyNodes ↔ (length document.old.nodes ≡ most_nodes) }
+    ensures not_utf8 { IsErrOf result yaml_refusal_t.NotUtf8 ↔ ((length document.old.nodes < most_nodes) × ¬ IsUtf8Option (option_copied tag.entry)) }
+    ensures memory { IsErrOf result yaml_refusal_t.Memory → (length document.old.nodes < most_nodes) × IsUtf8Option (option_copied tag.entry) }
+    ensures unchanged { OnErr result (document.new ≡ document.old) }
+{
+    has_room(document)?;
+    let tag = checked_tag(tag, "tag:yaml.org,2002:map")?;
+    let alloc = *document.nodes.allocator();
+    let mapping = unnamed_yaml_node_t_data_mapping {
+        pairs: NodePairs::new(alloc),
+        style,
+    };
+    let node = new_node(alloc, tag, unnamed_yaml_node_t_data::Mapping(mapping))?;
+    push_node(document, node)
+}
