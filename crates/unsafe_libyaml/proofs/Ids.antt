@@ -1,13 +1,13 @@
 -- Ids stay ids of nodes where nodes and children are put behind others.
-use Rattle.std.proofs.Common.{◌≡◌, ℕ, zero, suc, ◌+◌, ◌<◌, ◌≤◌, ℤ, pos, negsuc, ◌≤ℤ◌, List, [], ◌∷◌, ◌++◌, length, set, get_or, refl, ap, sym, subst, arith, length-append, ◌∙◌}
+use Rattle.std.proofs.Common.{◌≡◌, ℕ, zero, suc, ◌<◌, ◌≤◌, ℤ, pos, List, [], ◌∷◌, ◌++◌, length, set, get_or, refl, ap, sym, subst, arith, length-append, ◌∙◌}
 use Rattle.std.proofs.lemmas.Int.{ints}
 use Rattle.unsafe_libyaml.specs.declared.node.yaml_node_t.{yaml_node_t}
 use Rattle.unsafe_libyaml.specs.declared.children.yaml_node_pair_t.{yaml_node_pair_t}
 use Rattle.unsafe_libyaml.specs.declared.node.unnamed_yaml_node_t_data.{unnamed_yaml_node_t_data}
 use Rattle.unsafe_libyaml.specs.declared.node.unnamed_yaml_node_t_data.TheVariants.{Scalar, Sequence, Mapping}
-use Rattle.unsafe_libyaml.specs.Nodes.{ids_of, ids_of_pairs, IsIdBelow, AllIds, AllIdsOf, EveryIdNamesANode, node_at, changed_at, item_behind, pair_behind}
+use Rattle.unsafe_libyaml.specs.Nodes.{ids_of, ids_of_pairs, IsIdBelow, AllIds, AllIdsOf, EveryIdNamesANode, changed_at, item_behind, pair_behind}
 use Rattle.unsafe_libyaml.specs.Documents.{Document, AreNodes, most_nodes, with_changed_node}
-use Rattle.std.specs.Prelude.{Bool, true, false, cond, IsSomeAnd, slice_get, Result, Ok, Err, OnOk, OnErr}
+use Rattle.std.specs.Prelude.{Bool, true, false, cond}
 
 pub IsIdBelow-more : (n m : ℕ) (id : ℤ) → n ≤ m → IsIdBelow n id → IsIdBelow m id
 IsIdBelow-more n m id le h = (h.0, omega (arith, ints))
@@ -39,28 +39,6 @@ AreNodes-push true nodes new node is room none h =
       ids = EveryIdNamesANode-push nodes node none h.ids;
       count = grind (arith, length-append);
     })
-
--- the place of the node of an id, and what holds of that node
-pub record Place (nodes : List yaml_node_t) (id : ℤ) (P : yaml_node_t → Type 0) : Type 0 where
-  pub place : ℕ
-  pub id_is : id ≡ pos (suc place)
-  pub inside : place < length nodes
-  pub holds : (d : yaml_node_t) → P (get_or nodes place d)
-
-pub place-inside : (nodes : List yaml_node_t) (n : ℕ) (P : yaml_node_t → Type 0) → IsSomeAnd (slice_get nodes n) P → n < length nodes
-place-inside [] n P h = absurd h
-place-inside (node ∷ nodes) zero P h = omega arith
-place-inside (node ∷ nodes) (suc n) P h = let e = place-inside nodes n P h in omega (arith, e)
-
-pub place-holds : (nodes : List yaml_node_t) (n : ℕ) (P : yaml_node_t → Type 0) (d : yaml_node_t) → IsSomeAnd (slice_get nodes n) P → P (get_or nodes n d)
-place-holds [] n P d h = absurd h
-place-holds (node ∷ nodes) zero P d h = h
-place-holds (node ∷ nodes) (suc n) P d h = place-holds nodes n P d h
-
-pub place_of_id : (nodes : List yaml_node_t) (id : ℤ) (P : yaml_node_t → Type 0) → IsSomeAnd (node_at nodes id) P → Place nodes id P
-place_of_id nodes (negsuc n) P h = absurd h
-place_of_id nodes (pos zero) P h = absurd h
-place_of_id nodes (pos (suc n)) P h = record { place = n; id_is = refl; inside = place-inside nodes n P h; holds = λ d. place-holds nodes n P d h }
 
 -- a node changed at its place
 pub changed_at-set : (n : ℕ) (f : yaml_node_t → yaml_node_t) (nodes : List yaml_node_t) (d : yaml_node_t) → changed_at n f nodes ≡ set nodes n (f (get_or nodes n d))
@@ -104,14 +82,10 @@ AreNodes-changed n f nodes keeps h = record {
   count = subst (λ (m : ℕ). m ≤ most_nodes) (sym (length-changed_at n f nodes)) h.count;
 }
 
--- the same of the list in which the node at a place was written again, changed or as it was
+-- the same, where the changed node was written at its place
 pub AreNodes-set : (n : ℕ) (f : yaml_node_t → yaml_node_t) (nodes : List yaml_node_t) (old new : yaml_node_t) → old ≡ get_or nodes n old → new ≡ f old → ((node : yaml_node_t) → AllIds (length nodes) (ids_of node.content) → AllIds (length nodes) (ids_of (f node).content)) → AreNodes nodes → AreNodes (set nodes n new)
 AreNodes-set n f nodes old new old_is new_is keeps h =
     subst AreNodes (changed_at-set n f nodes old ∙ ap (λ (node : yaml_node_t). set nodes n node) (ap f (sym old_is) ∙ sym new_is)) (AreNodes-changed n f nodes keeps h)
-
-pub AreNodes-result : {T E : Type 0} (r : Result T E) (n : ℕ) (f : yaml_node_t → yaml_node_t) (nodes : List yaml_node_t) (old new : yaml_node_t) → old ≡ get_or nodes n old → OnOk r (new ≡ f old) → OnErr r (new ≡ old) → ((node : yaml_node_t) → AllIds (length nodes) (ids_of node.content) → AllIds (length nodes) (ids_of (f node).content)) → AreNodes nodes → AreNodes (set nodes n new)
-AreNodes-result (Ok x) n f nodes old new old_is ok err keeps h = AreNodes-set n f nodes old new old_is ok keeps h
-AreNodes-result (Err e) n f nodes old new old_is ok err keeps h = AreNodes-set n (λ node. node) nodes old new old_is err (λ node k. k) h
 
 -- a document in which a node was changed at its place
 pub with_changed_node-set : (d now : Document) (id : ℤ) (n : ℕ) (f : yaml_node_t → yaml_node_t) (old new : yaml_node_t) → d ≡ now → id ≡ pos (suc n) → old ≡ get_or d.nodes n old → new ≡ f old → record d { nodes = set d.nodes n new } ≡ with_changed_node now id f

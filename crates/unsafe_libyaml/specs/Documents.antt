@@ -1,8 +1,9 @@
 -- Documents: a list of nodes beside the fields (docs/DEFINITIONS.md, "Documents").
-use Rattle.std.specs.Prelude.{ℕ, ℤ, ◌≤◌, List, [], ◌∷◌, ◌++◌, Option, Some, None, IsUtf8, Bool, length}
+use Rattle.std.specs.Prelude.{ℕ, ℤ, ◌≤◌, List, [], ◌∷◌, ◌++◌, Option, Bool, length}
 use Rattle.libyaml_types.specs.declared.directive.yaml_tag_directive_t.{yaml_tag_directive_t}
 use Rattle.libyaml_types.specs.declared.directive.yaml_version_directive_t.{yaml_version_directive_t}
 use Rattle.libyaml_types.specs.declared.mark.yaml_mark_t.{yaml_mark_t}
+use Rattle.libyaml_types.specs.Events.{zero_mark}
 use Rattle.unsafe_libyaml.specs.declared.node.yaml_node_t.{yaml_node_t}
 use Rattle.unsafe_libyaml.specs.Nodes.{EveryIdNamesANode, with_changed}
 
@@ -32,7 +33,14 @@ with_node d node = record d { nodes = d.nodes ++ node ∷ [] }
 abbrev pub with_changed_node : Document → ℤ → (yaml_node_t → yaml_node_t) → Document
 with_changed_node d id f = record d { nodes = with_changed id f d.nodes }
 
--- a text, if one is given, is UTF-8
-abbrev pub IsUtf8Option : Option (List ℕ) → Type 0
-IsUtf8Option None = Unit {0}
-IsUtf8Option (Some text) = IsUtf8 text
+-- the document that yaml_document_initialize makes: no nodes, and zero marks
+abbrev pub empty_document : Option yaml_version_directive_t → List yaml_tag_directive_t → Bool → Bool → Document
+empty_document version directives start_implicit end_implicit = record {
+  nodes = [];
+  version_directive = version;
+  tag_directives = directives;
+  start_implicit = start_implicit;
+  end_implicit = end_implicit;
+  start_mark = zero_mark;
+  end_mark = zero_mark;
+}

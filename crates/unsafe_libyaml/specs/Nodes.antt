@@ -5,7 +5,7 @@ use Rattle.libyaml_types.specs.declared.enums.yaml_node_type_t.TheVariants.{YAML
 use Rattle.libyaml_types.specs.declared.enums.yaml_scalar_style_t.{yaml_scalar_style_t}
 use Rattle.libyaml_types.specs.declared.enums.yaml_sequence_style_t.{yaml_sequence_style_t}
 use Rattle.libyaml_types.specs.declared.enums.yaml_mapping_style_t.{yaml_mapping_style_t}
-use Rattle.libyaml_types.specs.declared.mark.yaml_mark_t.{yaml_mark_t}
+use Rattle.libyaml_types.specs.Events.{zero_mark}
 use Rattle.unsafe_libyaml.specs.declared.children.yaml_node_pair_t.{yaml_node_pair_t}
 use Rattle.unsafe_libyaml.specs.declared.node.yaml_node_t.{yaml_node_t}
 use Rattle.unsafe_libyaml.specs.declared.node.unnamed_yaml_node_t_data.{unnamed_yaml_node_t_data}
@@ -54,9 +54,6 @@ EveryIdNamesANode nodes = AllIdsOf (length nodes) nodes
 abbrev pub tag_or : List ℕ → Option (List ℕ) → List ℕ
 tag_or default None = default
 tag_or default (Some tag) = tag
-
-abbrev pub zero_mark : yaml_mark_t
-zero_mark = record { index = 0; line = 0; column = 0 }
 
 -- a new node: its marks are zero
 abbrev pub node_of : List ℕ → unnamed_yaml_node_t_data → yaml_node_t

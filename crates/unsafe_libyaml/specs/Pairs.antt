@@ -1,5 +1,5 @@
 -- When two pairs of ids are the same (docs/DEFINITIONS.md, "Documents").
-use Rattle.std.specs.Prelude.{ℤ, Bool, ◌&&◌}
+use Rattle.std.specs.Prelude.{Bool, ◌&&◌}
 use Rattle.std.specs.Ordering.{int_eq}
 use Rattle.std.specs.Cmp.{IsEquivalence, int_eq_equiv, and_equiv, on_equiv}
 use Rattle.unsafe_libyaml.specs.declared.children.yaml_node_pair_t.{yaml_node_pair_t}

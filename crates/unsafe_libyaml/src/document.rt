@@ -7,10 +7,12 @@ ghost use Rattle.unsafe_libyaml.specs.Nodes.{EveryIdNamesANode, node_at, IsIdBel
 
 mod add;
 mod append;
+mod initialize;
 
 use crate::node::yaml_node_t;
 pub use add::{yaml_document_add_mapping, yaml_document_add_scalar, yaml_document_add_sequence};
 pub use append::{yaml_document_append_mapping_pair, yaml_document_append_sequence_item};
+pub use initialize::yaml_document_initialize;
 use libyaml_types::{TagDirectives, yaml_mark_t, yaml_tag_directive_t, yaml_version_directive_t};
 use std::marker::Model;
 

@@ -4,13 +4,12 @@
 mod children;
 mod document;
 mod node;
-mod texts;
 
 pub use children::{NodeItems, NodePairs, yaml_node_item_t, yaml_node_pair_t};
 pub use document::{
     yaml_document_add_mapping, yaml_document_add_scalar, yaml_document_add_sequence,
     yaml_document_append_mapping_pair, yaml_document_append_sequence_item, yaml_document_delete,
-    yaml_document_get_node, yaml_document_get_root_node, yaml_document_t,
+    yaml_document_get_node, yaml_document_get_root_node, yaml_document_initialize, yaml_document_t,
 };
 pub use libyaml_events::{
     NO_FAULT, yaml_list_source_t, yaml_parser_t_prefix, yaml_source_fault_t, yaml_token_source_t,

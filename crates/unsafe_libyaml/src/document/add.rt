@@ -1,9 +1,9 @@
 //! The calls that add a node to a document.
 
-ghost use Rattle.std.specs.Prelude.{◌≡◌, ◌+◌, ◌<◌, ◌↔◌, pos, [], IfOk, OnOk, OnErr, IsErrOf, IsUtf8, length};
+ghost use Rattle.std.specs.Prelude.{◌≡◌, ◌+◌, ◌<◌, ◌↔◌, pos, [], Err, IfOk, IfSome, OnOk, OnErr, IsErrOf, IsUtf8, length};
 ghost use Rattle.std.specs.Option.{option_copied};
-ghost use Rattle.unsafe_libyaml.specs.Documents.{most_nodes, with_node, IsUtf8Option};
-ghost use Rattle.unsafe_libyaml.specs.Nodes.{ids_of, node_of, scalar_node, sequence_node, mapping_node};
+ghost use Rattle.unsafe_libyaml.specs.Documents.{most_nodes, with_node};
+ghost use Rattle.unsafe_libyaml.specs.Nodes.{ids_of, node_of, tag_or, scalar_node, sequence_node, mapping_node};
 
 use super::yaml_document_t;
 use crate::children::{NodeItems, NodePairs};
@@ -11,11 +11,12 @@ use crate::node::{
     unnamed_yaml_node_t_data, unnamed_yaml_node_t_data_mapping, unnamed_yaml_node_t_data_scalar,
     unnamed_yaml_node_t_data_sequence, yaml_node_t,
 };
-use crate::texts::{checked, checked_tag, copied};
+use libyaml_types::utf8::checked;
 use libyaml_types::{
-    ZERO_MARK, yaml_mapping_style_t, yaml_refusal_t, yaml_scalar_style_t, yaml_sequence_style_t,
+    Text, ZERO_MARK, yaml_mapping_style_t, yaml_refusal_t, yaml_scalar_style_t,
+    yaml_sequence_style_t,
 };
-use std::alloc::Global;
+use std::alloc::{AllocError, Global};
 
 const MOST_NODES: usize = 2147483647;
 
@@ -31,6 +32,19 @@ fn has_room(document: &yaml_document_t) -> Result<(), yaml_refusal_t>
     }
 }
 
+/// The text of a given tag, or the tag of its kind where none is given. Takes no memory.
+fn checked_tag<'a>(tag: Option<&'a [u8]>, default: &'a str) -> Result<&'a str, yaml_refusal_t>
+    ensures ok { IfOk result (λ text. text.now ≡ tag_or default.now (option_copied tag.entry)) }
+    ensures utf8 { OnOk result (IfSome (option_copied tag.entry) IsUtf8) }
+    ensures not_utf8 { OnErr result (¬ IfSome (option_copied tag.entry) IsUtf8) }
+    ensures error { OnErr result (result ≡ Err yaml_refusal_t.NotUtf8) }
+{
+    match tag {
+        None => Ok(default),
+        Some(bytes) => checked(bytes),
+    }
+}
+
 /// A node of this content, with a copy of the tag and zero marks.
 fn new_node(
     alloc: Global,
@@ -41,7 +55,7 @@ fn new_node(
     ensures err { OnErr result (result ≡ Err yaml_refusal_t.Memory) }
 {
     Ok(yaml_node_t {
-        tag: copied(alloc, tag)?,
+        tag: Text::from_str(alloc, tag)?,
         content,
         start_mark: ZERO_MARK,
         end_mark: ZERO_MARK,
@@ -57,10 +71,8 @@ fn push_node(document: &mut yaml_document_t, node: yaml_node_t) -> Result<i32, y
     ensures refused { OnErr result (result ≡ Err yaml_refusal_t.Memory) }
     ensures unchanged { OnErr result (document.new ≡ document.old) }
 {
-    match document.nodes.push(node) {
-        Ok(()) => Ok(document.nodes.len() as i32),
-        Err(_) => Err(yaml_refusal_t::Memory),
-    }
+    document.nodes.push(node).map_err(AllocError::from)?;
+    Ok(document.nodes.len() as i32)
 }
 
 /// Adds a scalar, and answers its id: the count of nodes with it. Its marks are zero, and without
@@ -79,11 +91,11 @@ pub fn yaml_document_add_scalar(
     ensures id { IfOk result (λ id. id ≡ pos (length document.old.nodes + 1)) }
     ensures added { OnOk result (document.new ≡ with_node document.old (scalar_node (option_copied tag.entry) value.now style)) }
     ensures room { OnOk result (length document.old.nodes < most_nodes) }
-    ensures utf8_tag { OnOk result (IsUtf8Option (option_copied tag.entry)) }
+    ensures utf8_tag { OnOk result (IfSome (option_copied tag.entry) IsUtf8) }
     ensures utf8_value { OnOk result (IsUtf8 value.now) }
     ensures too_many { IsErrOf result yaml_refusal_t.TooManyNodes ↔ (length document.old.nodes ≡ most_nodes) }
-    ensures not_utf8 { IsErrOf result yaml_refusal_t.NotUtf8 ↔ ((length document.old.nodes < most_nodes) × ¬ (IsUtf8Option (option_copied tag.entry) × IsUtf8 value.now)) }
-    ensures memory { IsErrOf result yaml_refusal_t.Memory → (length document.old.nodes < most_nodes) × IsUtf8Option (option_copied tag.entry) × IsUtf8 value.now }
+    ensures not_utf8 { IsErrOf result yaml_refusal_t.NotUtf8 ↔ ((length document.old.nodes < most_nodes) × ¬ (IfSome (option_copied tag.entry) IsUtf8 × IsUtf8 value.now)) }
+    ensures memory { IsErrOf result yaml_refusal_t.Memory → (length document.old.nodes < most_nodes) × IfSome (option_copied tag.entry) IsUtf8 × IsUtf8 value.now }
     ensures unchanged { OnErr result (document.new ≡ document.old) }
 {
     has_room(document)?;
@@ -91,7 +103,7 @@ pub fn yaml_document_add_scalar(
     let value = checked(value)?;
     let alloc = *document.nodes.allocator();
     let scalar = unnamed_yaml_node_t_data_scalar {
-        value: copied(alloc, value)?,
+        value: Text::from_str(alloc, value)?,
         style,
     };
     let node = new_node(alloc, tag, unnamed_yaml_node_t_data::Scalar(scalar))?;
@@ -113,10 +125,10 @@ pub fn yaml_document_add_sequence(
     ensures id { IfOk result (λ id. id ≡ pos (length document.old.nodes + 1)) }
     ensures added { OnOk result (document.new ≡ with_node document.old (sequence_node (option_copied tag.entry) style)) }
     ensures room { OnOk result (length document.old.nodes < most_nodes) }
-    ensures utf8_tag { OnOk result (IsUtf8Option (option_copied tag.entry)) }
+    ensures utf8_tag { OnOk result (IfSome (option_copied tag.entry) IsUtf8) }
     ensures too_many { IsErrOf result yaml_refusal_t.TooManyNodes ↔ (length document.old.nodes ≡ most_nodes) }
-    ensures not_utf8 { IsErrOf result yaml_refusal_t.NotUtf8 ↔ ((length document.old.nodes < most_nodes) × ¬ IsUtf8Option (option_copied tag.entry)) }
-    ensures memory { IsErrOf result yaml_refusal_t.Memory → (length document.old.nodes < most_nodes) × IsUtf8Option (option_copied tag.entry) }
+    ensures not_utf8 { IsErrOf result yaml_refusal_t.NotUtf8 ↔ ((length document.old.nodes < most_nodes) × ¬ IfSome (option_copied tag.entry) IsUtf8) }
+    ensures memory { IsErrOf result yaml_refusal_t.Memory → (length document.old.nodes < most_nodes) × IfSome (option_copied tag.entry) IsUtf8 }
     ensures unchanged { OnErr result (document.new ≡ document.old) }
 {
     has_room(document)?;
@@ -145,10 +157,10 @@ pub fn yaml_document_add_mapping(
     ensures id { IfOk result (λ id. id ≡ pos (length document.old.nodes + 1)) }
     ensures added { OnOk result (document.new ≡ with_node document.old (mapping_node (option_copied tag.entry) style)) }
     ensures room { OnOk result (length document.old.nodes < most_nodes) }
-    ensures utf8_tag { OnOk result (IsUtf8Option (option_copied tag.entry)) }
+    ensures utf8_tag { OnOk result (IfSome (option_copied tag.entry) IsUtf8) }
     ensures too_many { IsErrOf result yaml_refusal_t.TooManyNodes ↔ (length document.old.nodes ≡ most_nodes) }
-    ensures not_utf8 { IsErrOf result yaml_refusal_t.NotUtf8 ↔ ((length document.old.nodes < most_nodes) × ¬ IsUtf8Option (option_copied tag.entry)) }
-    ensures memory { IsErrOf result yaml_refusal_t.Memory → (length document.old.nodes < most_nodes) × IsUtf8Option (option_copied tag.entry) }
+    ensures not_utf8 { IsErrOf result yaml_refusal_t.NotUtf8 ↔ ((length document.old.nodes < most_nodes) × ¬ IfSome (option_copied tag.entry) IsUtf8) }
+    ensures memory { IsErrOf result yaml_refusal_t.Memory → (length document.old.nodes < most_nodes) × IfSome (option_copied tag.entry) IsUtf8 }
     ensures unchanged { OnErr result (document.new ≡ document.old) }
 {
     has_room(document)?;

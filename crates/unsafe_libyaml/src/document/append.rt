@@ -26,10 +26,8 @@ pub fn yaml_document_append_sequence_item(
     ensures unchanged { OnErr result (document.new ≡ document.old) }
 {
     let node = &mut document.nodes[place_of(sequence)];
-    match node.push_item(item) {
-        Ok(()) => Ok(()),
-        Err(_) => Err(yaml_refusal_t::Memory),
-    }
+    node.push_item(item)?;
+    Ok(())
 }
 
 /// Puts a pair behind the others of a mapping.
@@ -52,8 +50,6 @@ pub fn yaml_document_append_mapping_pair(
     ensures unchanged { OnErr result (document.new ≡ document.old) }
 {
     let node = &mut document.nodes[place_of(mapping)];
-    match node.push_pair(yaml_node_pair_t { key, value }) {
-        Ok(()) => Ok(()),
-        Err(_) => Err(yaml_refusal_t::Memory),
-    }
+    node.push_pair(yaml_node_pair_t { key, value })?;
+    Ok(())
 }

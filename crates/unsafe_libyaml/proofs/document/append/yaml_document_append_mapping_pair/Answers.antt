@@ -3,32 +3,25 @@ use Rattle.std.proofs.lemmas.Int.{to_z-of_z}
 use mir.Val.{SFits}
 use Rattle.unsafe_libyaml.specs.Nodes.{IsIdBelow, with_pair}
 use Rattle.unsafe_libyaml.specs.Documents.{Document}
-use Rattle.unsafe_libyaml.proofs.Ids.{AreNodes-result, with_pair-keeps, with_changed_node-set}
+use Rattle.unsafe_libyaml.proofs.Ids.{AreNodes-set, with_pair-keeps, with_changed_node-set}
 use Rattle.unsafe_libyaml.proofs.document.append.yaml_document_append_mapping_pair.Goals as goal
-use Rattle.unsafe_libyaml.proofs.document.append.yaml_document_append_mapping_pair.Goals.{in-Ok, in-Err}
 
-pub invariant_of-document : goal.invariant_of-document
-invariant_of-document c =
+pub invariant_of-document-2 : goal.invariant_of-document-2
+invariant_of-document-2 c =
     let key_fits : SFits w32 c.args.key = c.ranges.key in
     let value_fits : SFits w32 c.args.value = c.ranges.value in
-    let pushed = simp to_z-of_z at c.push_pair.ensures.ok in
+    let pushed = simp to_z-of_z at c.in_ok-push_pair.ensures.ok in
     let key_below : IsIdBelow (length c.document.inside.nodes.items) c.args.key = subst (λ (d : Document). IsIdBelow (length d.nodes) c.args.key) (sym c.document.view_is) c.requires.key in
     let value_below : IsIdBelow (length c.document.inside.nodes.items) c.args.value = subst (λ (d : Document). IsIdBelow (length d.nodes) c.args.value) (sym c.document.view_is) c.requires.value in
-    AreNodes-result c.push_pair.result c.place_of.result (with_pair c.args.key c.args.value) c.document.inside.nodes.items c.index_mut-node.result.now c.push_pair.new.self
-    c.index_mut-node.ensures.value pushed c.push_pair.ensures.err
+    AreNodes-set c.place_of.result (with_pair c.args.key c.args.value) c.document.inside.nodes.items c.index_mut-node.result.now c.push_pair.new.self
+    c.index_mut-node.ensures.value pushed
     (λ node h. with_pair-keeps _ (record { key = c.args.key; value = c.args.value }) node.content key_below value_below h)
     c.document.invariant
 
 pub returns-clause-ok : goal.returns-clause-ok
 returns-clause-ok c =
-    elim c.match-push_pair.branch [
-      in-Ok w ↦
-          let key_fits : SFits w32 c.args.key = c.ranges.key in
-          let value_fits : SFits w32 c.args.value = c.ranges.value in
-          let pushed = simp to_z-of_z at w.in-Ok.ensures.ok in
-          rw w.result-is (
-            with_changed_node-set _ c.args.document.now c.args.mapping c.place_of.result (with_pair c.args.key c.args.value) c.index_mut-node.result.now c.push_pair.new.self
-            c.document.view_is (sym (to_z-of_z w32 c.args.mapping c.ranges.mapping) ∙ c.place_of.ensures) c.index_mut-node.ensures.value pushed
-          )
-      | in-Err w ↦ rw w.result-is tt
-    ]
+    let key_fits : SFits w32 c.args.key = c.ranges.key in
+    let value_fits : SFits w32 c.args.value = c.ranges.value in
+    let pushed = simp to_z-of_z at c.in_ok-push_pair.ensures.ok in
+    with_changed_node-set _ c.args.document.now c.args.mapping c.place_of.result (with_pair c.args.key c.args.value) c.index_mut-node.result.now c.push_pair.new.self
+    c.document.view_is (sym (to_z-of_z w32 c.args.mapping c.ranges.mapping) ∙ c.place_of.ensures) c.index_mut-node.ensures.value pushed

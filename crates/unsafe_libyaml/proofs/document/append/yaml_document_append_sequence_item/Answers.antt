@@ -3,29 +3,22 @@ use Rattle.std.proofs.lemmas.Int.{to_z-of_z}
 use mir.Val.{SFits}
 use Rattle.unsafe_libyaml.specs.Nodes.{IsIdBelow, with_item}
 use Rattle.unsafe_libyaml.specs.Documents.{Document}
-use Rattle.unsafe_libyaml.proofs.Ids.{AreNodes-result, with_item-keeps, with_changed_node-set}
+use Rattle.unsafe_libyaml.proofs.Ids.{AreNodes-set, with_item-keeps, with_changed_node-set}
 use Rattle.unsafe_libyaml.proofs.document.append.yaml_document_append_sequence_item.Goals as goal
-use Rattle.unsafe_libyaml.proofs.document.append.yaml_document_append_sequence_item.Goals.{in-Ok, in-Err}
 
-pub invariant_of-document : goal.invariant_of-document
-invariant_of-document c =
+pub invariant_of-document-2 : goal.invariant_of-document-2
+invariant_of-document-2 c =
     let fits : SFits w32 c.args.item = c.ranges.item in
-    let pushed = simp to_z-of_z at c.push_item.ensures.ok in
+    let pushed = simp to_z-of_z at c.in_ok-push_item.ensures.ok in
     let below : IsIdBelow (length c.document.inside.nodes.items) c.args.item = subst (λ (d : Document). IsIdBelow (length d.nodes) c.args.item) (sym c.document.view_is) c.requires.item in
-    AreNodes-result c.push_item.result c.place_of.result (with_item c.args.item) c.document.inside.nodes.items c.index_mut-node.result.now c.push_item.new.self
-    c.index_mut-node.ensures.value pushed c.push_item.ensures.err
+    AreNodes-set c.place_of.result (with_item c.args.item) c.document.inside.nodes.items c.index_mut-node.result.now c.push_item.new.self
+    c.index_mut-node.ensures.value pushed
     (λ node h. with_item-keeps _ c.args.item node.content below h)
     c.document.invariant
 
 pub returns-clause-ok : goal.returns-clause-ok
 returns-clause-ok c =
-    elim c.match-push_item.branch [
-      in-Ok w ↦
-          let fits : SFits w32 c.args.item = c.ranges.item in
-          let pushed = simp to_z-of_z at w.in-Ok.ensures.ok in
-          rw w.result-is (
-            with_changed_node-set _ c.args.document.now c.args.sequence c.place_of.result (with_item c.args.item) c.index_mut-node.result.now c.push_item.new.self
-            c.document.view_is (sym (to_z-of_z w32 c.args.sequence c.ranges.sequence) ∙ c.place_of.ensures) c.index_mut-node.ensures.value pushed
-          )
-      | in-Err w ↦ rw w.result-is tt
-    ]
+    let fits : SFits w32 c.args.item = c.ranges.item in
+    let pushed = simp to_z-of_z at c.in_ok-push_item.ensures.ok in
+    with_changed_node-set _ c.args.document.now c.args.sequence c.place_of.result (with_item c.args.item) c.index_mut-node.result.now c.push_item.new.self
+    c.document.view_is (sym (to_z-of_z w32 c.args.sequence c.ranges.sequence) ∙ c.place_of.ensures) c.index_mut-node.ensures.value pushed
