@@ -5,6 +5,7 @@ mod escape;
 mod event_line;
 mod fault_text;
 mod field_text;
+pub mod laws;
 mod line;
 mod refusal;
 
@@ -17,3 +18,6 @@ pub const MAX_LINE: usize = 1_048_576;
 
 /// A run reads at most this many tokens.
 pub const MAX_TOKENS: u64 = 1_000_000;
+
+#[cfg(test)]
+mod writing_tests;

@@ -1,0 +1,7 @@
+//! Laws of the texts of lines. Each is a function that does nothing, and whose contract is the law.
+ghost use Rattle.token_lines.specs.ReadsBack.{ReadsBack};
+
+/// Reading a string from a line undoes writing it, for every string.
+pub fn reading_undoes_writing()
+    ensures { ReadsBack }
+{}
