@@ -4,10 +4,17 @@
 mod escape;
 mod event_line;
 mod fault_text;
+mod field;
 mod field_text;
 pub mod laws;
 mod line;
+mod number;
+mod parts;
 mod refusal;
+mod search;
+mod token_error;
+mod token_line;
+mod token_name;
 
 pub use event_line::write_event;
 pub use fault_text::write_fault;
