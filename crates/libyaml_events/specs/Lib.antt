@@ -21,3 +21,6 @@ pub mod Fits
 pub mod Positions
 pub mod Reading
 pub mod Given
+pub mod StreamEnds
+pub mod Settled
+pub mod Runs

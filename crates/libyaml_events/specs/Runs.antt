@@ -1,0 +1,43 @@
+-- The run over a list of tokens and a source's fault: all events, and how it ends (docs/DEFINITIONS.md, "Runs").
+use Rattle.std.specs.Prelude.{◌≡◌, List, [], ◌∷◌, ◌++◌, Bool, true, false}
+use Rattle.libyaml_events.specs.CutEvents.{cut_events}
+use Rattle.libyaml_events.specs.CutFaults.{fault}
+use Rattle.libyaml_events.specs.CutTrees.{Cut, at_tag, at_tag_behind}
+use Rattle.libyaml_events.specs.Events.{Event, events}
+use Rattle.libyaml_events.specs.Fault.{Fault}
+use Rattle.libyaml_events.specs.Fits.{Fits}
+use Rattle.libyaml_events.specs.Order.{in_order}
+use Rattle.libyaml_events.specs.Sentences.{IsBeginning}
+use Rattle.libyaml_events.specs.Settled.{IsSettled}
+use Rattle.libyaml_events.specs.StreamEnds.{has_end, up_to_end}
+use Rattle.libyaml_events.specs.Tokens.{Anchor, Content, Token}
+use Rattle.libyaml_events.specs.Trees.{Stream, tokens}
+
+-- a run ends with the stream, or fails
+pub data Ending : Type 0 where
+  Ends : Ending
+  Fails : Fault → Ending
+
+-- Whether a token stands behind the properties of the node at whose TAG a tree is cut, where l is what stands behind that
+-- TAG. The properties are the TAG, and an ANCHOR directly before it or else directly behind it.
+abbrev pub has_token : List Token → Bool
+has_token [] = false
+has_token (t ∷ l) = true
+
+abbrev pub is_behind : Content → List Token → Bool
+is_behind (Anchor a) l = has_token l
+is_behind k l = true
+
+abbrev pub is_behind_properties : Cut → List Token → Bool
+is_behind_properties (at_tag p) [] = false
+is_behind_properties (at_tag p) (t ∷ l) = is_behind t.content l
+is_behind_properties (at_tag_behind p a m) l = has_token l
+is_behind_properties c l = true
+
+-- The four cases: a sentence, which ends; a cut tree that fits, with its fault; a cut tree at a TAG behind whose node's
+-- properties no token stands, with the source's fault f; a beginning without STREAM-END, with f.
+pub data IsRun (l : List Token) (f : Fault) (e : List Event) (x : Ending) : Type 0 where
+  of_sentence : (t : Stream) → up_to_end l ≡ tokens t → in_order t ≡ true → e ≡ events t → x ≡ Ends → IsRun l f e x
+  of_cut_tree : (before : List Token) (token : Token) (behind : List Token) (c : Cut) → up_to_end l ≡ before ++ token ∷ behind → Fits before token c → is_behind_properties c behind ≡ true → e ≡ cut_events c token → x ≡ Fails (fault c token.content token.start_mark) → IsRun l f e x
+  amid_properties : (before : List Token) (token : Token) (behind : List Token) (c : Cut) → up_to_end l ≡ before ++ token ∷ behind → Fits before token c → is_behind_properties c behind ≡ false → e ≡ cut_events c token → x ≡ Fails f → IsRun l f e x
+  of_beginning : IsBeginning (up_to_end l) → has_end (up_to_end l) ≡ false → IsSettled (up_to_end l) e → x ≡ Fails f → IsRun l f e x
