@@ -1,5 +1,5 @@
 -- What a parser is, whatever keeps it (docs/DEFINITIONS.md, "The parser as a machine").
-use Rattle.std.specs.Prelude.{◌∷◌, ◌||◌, ℕ, ℤ, pos, List, [], Option, None, Some, Bool, true, false}
+use Rattle.std.specs.Prelude.{◌∷◌, ◌||◌, ℕ, ℤ, List, [], Option, None, Some, Bool, true, false}
 use Rattle.std.specs.FinMap.{FinMap, from_entries, code, insert}
 use Rattle.std.specs.Coded.{Coded, coded_ℕ, coded_list}
 use Rattle.std.specs.Cmp.Lexicographic.{slice_cmp}

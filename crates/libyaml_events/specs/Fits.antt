@@ -133,3 +133,12 @@ pub record Fits (l : List Token) (b : Token) (c : Cut) : Type 0 where
   pub wants_content : WantsContent c b.content
   pub directive : FitsDirective c b.content
   pub tag : FitsTag l c b.content
+
+-- a cut tree that fits a front of the list with the token behind it
+pub record HasCut (l : List Token) : Type 0 where
+  pub before : List Token
+  pub token : Token
+  pub after : List Token
+  pub cut : Cut
+  pub all : l ≡ before ++ token ∷ after
+  pub fits : Fits before token cut

@@ -1,0 +1,16 @@
+pub mod Keeps
+pub mod Complete
+pub mod Shows
+pub mod Orders
+pub mod StepsMeet
+pub mod Cases
+pub mod Completion
+pub mod Run
+pub mod Prompt
+pub mod Edge
+pub mod OneCut
+pub mod Existence
+pub mod Fitting
+pub mod Ending
+pub mod TreeOrCut
+pub mod Append
