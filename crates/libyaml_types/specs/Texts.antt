@@ -8,6 +8,11 @@ pub record PropertiesAreUtf8 (anchor tag : Option (List ℕ)) : Type 0 where
   pub anchor_is : IfSome anchor IsUtf8
   pub tag_is : IfSome tag IsUtf8
 
+-- a scalar's anchor and tag, each where it is given, and its value
+pub record ScalarIsUtf8 (anchor tag : Option (List ℕ)) (value : List ℕ) : Type 0 where
+  pub properties_are : PropertiesAreUtf8 anchor tag
+  pub value_is : IsUtf8 value
+
 -- the bytes of a tag directive: its handle and its prefix
 abbrev pub HandleAndPrefix : Type 0
 HandleAndPrefix = Bor (List ℕ) × Bor (List ℕ)

@@ -1,9 +1,9 @@
 //! Calls that make events, and calls that empty tokens and events.
 
-ghost use Rattle.std.specs.Prelude.{◌≡◌, Err, IfOk, IsErrOf, IsUtf8, OnErr, OnOk, map, ◌↔◌, ◌⊎◌};
+ghost use Rattle.std.specs.Prelude.{◌≡◌, IfErr, IfOk, IsErrOf, IsUtf8, OnOk, map, ◌↔◌, ◌⊎◌};
 ghost use Rattle.std.specs.Option.{option_copied};
 ghost use Rattle.libyaml_types.specs.Events.{empty_token, empty_event, stream_start_event, stream_end_event, document_start_event, document_end_event, alias_event, scalar_event, sequence_start_event, sequence_end_event, mapping_start_event, mapping_end_event, unmarked};
-ghost use Rattle.libyaml_types.specs.Texts.{PropertiesAreUtf8, PairsAreUtf8, directive_of};
+ghost use Rattle.libyaml_types.specs.Texts.{PropertiesAreUtf8, PairsAreUtf8, ScalarIsUtf8, directive_of};
 
 use crate::directive::{TagDirectives, yaml_version_directive_t};
 use crate::enums::{
@@ -67,10 +67,12 @@ pub fn yaml_document_start_event_initialize(
     tag_directives: &[(&[u8], &[u8])],
     implicit: bool,
 ) -> Result<yaml_event_t, yaml_refusal_t>
-    ensures ok { IfOk result (λ event. event ≡ document_start_event version_directive (map directive_of tag_directives.now) implicit) }
+    ensures ok { IfOk result (λ event. event ≡
+        document_start_event version_directive (map directive_of tag_directives.now) implicit) }
     ensures utf8 { OnOk result (PairsAreUtf8 tag_directives.now) }
+    ensures memory { IsErrOf result yaml_refusal_t.Memory → PairsAreUtf8 tag_directives.now }
     ensures not_utf8 { IsErrOf result yaml_refusal_t.NotUtf8 ↔ ¬ PairsAreUtf8 tag_directives.now }
-    ensures errors { OnErr result ((result ≡ Err yaml_refusal_t.NotUtf8) ⊎ (result ≡ Err yaml_refusal_t.Memory)) }
+    ensures errors { IfErr result (λ e. (e ≡ yaml_refusal_t.NotUtf8) ⊎ (e ≡ yaml_refusal_t.Memory)) }
 {
     let start = unnamed_yaml_event_t_data_document_start {
         version_directive,
@@ -103,8 +105,9 @@ pub fn yaml_alias_event_initialize(
 ) -> Result<yaml_event_t, yaml_refusal_t>
     ensures ok { IfOk result (λ event. event ≡ alias_event anchor.now) }
     ensures utf8 { OnOk result (IsUtf8 anchor.now) }
+    ensures memory { IsErrOf result yaml_refusal_t.Memory → IsUtf8 anchor.now }
     ensures not_utf8 { IsErrOf result yaml_refusal_t.NotUtf8 ↔ ¬ IsUtf8 anchor.now }
-    ensures errors { OnErr result ((result ≡ Err yaml_refusal_t.NotUtf8) ⊎ (result ≡ Err yaml_refusal_t.Memory)) }
+    ensures errors { IfErr result (λ e. (e ≡ yaml_refusal_t.NotUtf8) ⊎ (e ≡ yaml_refusal_t.Memory)) }
 {
     let alias = unnamed_yaml_event_t_data_alias {
         anchor: Text::from_utf8(alloc, anchor)?,
@@ -128,10 +131,16 @@ pub fn yaml_scalar_event_initialize(
     quoted_implicit: bool,
     style: yaml_scalar_style_t,
 ) -> Result<yaml_event_t, yaml_refusal_t>
-    ensures ok { IfOk result (λ event. event ≡ scalar_event (option_copied anchor.entry) (option_copied tag.entry) value.now plain_implicit quoted_implicit style) }
-    ensures utf8 { OnOk result (PropertiesAreUtf8 (option_copied anchor.entry) (option_copied tag.entry) × IsUtf8 value.now) }
-    ensures not_utf8 { IsErrOf result yaml_refusal_t.NotUtf8 ↔ ¬ (PropertiesAreUtf8 (option_copied anchor.entry) (option_copied tag.entry) × IsUtf8 value.now) }
-    ensures errors { OnErr result ((result ≡ Err yaml_refusal_t.NotUtf8) ⊎ (result ≡ Err yaml_refusal_t.Memory)) }
+    ensures ok { IfOk result (λ event. event ≡
+        scalar_event (option_copied anchor.entry) (option_copied tag.entry) value.now
+        plain_implicit quoted_implicit style) }
+    ensures utf8 { OnOk result
+        (ScalarIsUtf8 (option_copied anchor.entry) (option_copied tag.entry) value.now) }
+    ensures memory { IsErrOf result yaml_refusal_t.Memory →
+        ScalarIsUtf8 (option_copied anchor.entry) (option_copied tag.entry) value.now }
+    ensures not_utf8 { IsErrOf result yaml_refusal_t.NotUtf8 ↔
+        ¬ ScalarIsUtf8 (option_copied anchor.entry) (option_copied tag.entry) value.now }
+    ensures errors { IfErr result (λ e. (e ≡ yaml_refusal_t.NotUtf8) ⊎ (e ≡ yaml_refusal_t.Memory)) }
 {
     let anchor = checked_option(anchor)?;
     let tag = checked_option(tag)?;
@@ -160,10 +169,15 @@ pub fn yaml_sequence_start_event_initialize(
     implicit: bool,
     style: yaml_sequence_style_t,
 ) -> Result<yaml_event_t, yaml_refusal_t>
-    ensures ok { IfOk result (λ event. event ≡ sequence_start_event (option_copied anchor.entry) (option_copied tag.entry) implicit style) }
-    ensures utf8 { OnOk result (PropertiesAreUtf8 (option_copied anchor.entry) (option_copied tag.entry)) }
-    ensures not_utf8 { IsErrOf result yaml_refusal_t.NotUtf8 ↔ ¬ PropertiesAreUtf8 (option_copied anchor.entry) (option_copied tag.entry) }
-    ensures errors { OnErr result ((result ≡ Err yaml_refusal_t.NotUtf8) ⊎ (result ≡ Err yaml_refusal_t.Memory)) }
+    ensures ok { IfOk result (λ event. event ≡
+        sequence_start_event (option_copied anchor.entry) (option_copied tag.entry) implicit style) }
+    ensures utf8 { OnOk result
+        (PropertiesAreUtf8 (option_copied anchor.entry) (option_copied tag.entry)) }
+    ensures memory { IsErrOf result yaml_refusal_t.Memory →
+        PropertiesAreUtf8 (option_copied anchor.entry) (option_copied tag.entry) }
+    ensures not_utf8 { IsErrOf result yaml_refusal_t.NotUtf8 ↔
+        ¬ PropertiesAreUtf8 (option_copied anchor.entry) (option_copied tag.entry) }
+    ensures errors { IfErr result (λ e. (e ≡ yaml_refusal_t.NotUtf8) ⊎ (e ≡ yaml_refusal_t.Memory)) }
 {
     let anchor = checked_option(anchor)?;
     let tag = checked_option(tag)?;
@@ -198,10 +212,15 @@ pub fn yaml_mapping_start_event_initialize(
     implicit: bool,
     style: yaml_mapping_style_t,
 ) -> Result<yaml_event_t, yaml_refusal_t>
-    ensures ok { IfOk result (λ event. event ≡ mapping_start_event (option_copied anchor.entry) (option_copied tag.entry) implicit style) }
-    ensures utf8 { OnOk result (PropertiesAreUtf8 (option_copied anchor.entry) (option_copied tag.entry)) }
-    ensures not_utf8 { IsErrOf result yaml_refusal_t.NotUtf8 ↔ ¬ PropertiesAreUtf8 (option_copied anchor.entry) (option_copied tag.entry) }
-    ensures errors { OnErr result ((result ≡ Err yaml_refusal_t.NotUtf8) ⊎ (result ≡ Err yaml_refusal_t.Memory)) }
+    ensures ok { IfOk result (λ event. event ≡
+        mapping_start_event (option_copied anchor.entry) (option_copied tag.entry) implicit style) }
+    ensures utf8 { OnOk result
+        (PropertiesAreUtf8 (option_copied anchor.entry) (option_copied tag.entry)) }
+    ensures memory { IsErrOf result yaml_refusal_t.Memory →
+        PropertiesAreUtf8 (option_copied anchor.entry) (option_copied tag.entry) }
+    ensures not_utf8 { IsErrOf result yaml_refusal_t.NotUtf8 ↔
+        ¬ PropertiesAreUtf8 (option_copied anchor.entry) (option_copied tag.entry) }
+    ensures errors { IfErr result (λ e. (e ≡ yaml_refusal_t.NotUtf8) ⊎ (e ≡ yaml_refusal_t.Memory)) }
 {
     let anchor = checked_option(anchor)?;
     let tag = checked_option(tag)?;

@@ -1,6 +1,6 @@
 //! The directives of a document.
 
-ghost use Rattle.std.specs.Prelude.{◌≡◌, [], ◌∷◌, ◌++◌, length, map, ◌↔◌, ◌⊎◌, IsTrue, Err, IfOk, OnOk, OnErr, IsErrOf};
+ghost use Rattle.std.specs.Prelude.{◌≡◌, [], ◌∷◌, ◌++◌, length, map, ◌↔◌, ◌⊎◌, IsTrue, IfErr, IfOk, OnOk, OnErr, IsErrOf};
 ghost use Rattle.libyaml_types.specs.Texts.{PairIsUtf8, PairsAreUtf8, directive_of};
 
 use crate::refusal::yaml_refusal_t;
@@ -70,8 +70,9 @@ impl TagDirectives {
     pub fn from_pairs(alloc: Global, pairs: &[(&[u8], &[u8])]) -> Result<Self, yaml_refusal_t>
         ensures ok { IfOk result (λ list. list ≡ map directive_of pairs.now) }
         ensures utf8 { OnOk result (PairsAreUtf8 pairs.now) }
+        ensures memory { IsErrOf result yaml_refusal_t.Memory → PairsAreUtf8 pairs.now }
         ensures not_utf8 { IsErrOf result yaml_refusal_t.NotUtf8 ↔ ¬ PairsAreUtf8 pairs.now }
-        ensures errors { OnErr result ((result ≡ Err yaml_refusal_t.NotUtf8) ⊎ (result ≡ Err yaml_refusal_t.Memory)) }
+        ensures errors { IfErr result (λ e. (e ≡ yaml_refusal_t.NotUtf8) ⊎ (e ≡ yaml_refusal_t.Memory)) }
     {
         if !are_utf8_pairs(pairs) {
             return Err(yaml_refusal_t::NotUtf8);
@@ -177,7 +178,7 @@ impl AsSlice<yaml_tag_directive_t> for TagDirectives {
 }
 
 impl PartialEq for TagDirectives {
-    ghost use Rattle.std.specs.Cmp.Lexicographic.{pointwise, lists_per};
+    ghost use Rattle.std.specs.Cmp.Lexicographic.{pointwise};
     ghost use Rattle.libyaml_types.specs.Equal.{directive_eq, directives_equiv};
     ghost use Rattle.std.specs.Cmp.{partial_equiv_from_equiv};
 

@@ -1,5 +1,5 @@
 //! The enums without payload, and their numbers.
-ghost use Rattle.std.specs.Prelude.{◌≡◌, ℕ};
+ghost use Rattle.std.specs.Prelude.{◌≡◌};
 ghost use Rattle.libyaml_types.specs.Numbers.{encoding_number, break_number, error_type_number, scalar_style_number, sequence_style_number, mapping_style_number, token_type_number, event_type_number, node_type_number, parser_state_number};
 
 /// The encoding of a stream.

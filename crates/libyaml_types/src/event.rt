@@ -44,7 +44,8 @@ pub struct unnamed_yaml_event_t_data_alias {
     pub anchor: Text,
 }
 
-/// A scalar: `plain_implicit` where its tag may be left out if it is written plain, `quoted_implicit` if it is written otherwise.
+/// A scalar: `plain_implicit` where its tag may be left out if it is written plain,
+/// `quoted_implicit` if it is written otherwise.
 ///
 /// libyaml: `unnamed_yaml_event_t_data_scalar`.
 #[derive(PartialEq, Eq, Debug, Drop)]

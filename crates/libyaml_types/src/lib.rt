@@ -7,6 +7,8 @@ pub mod enums;
 pub mod event;
 pub mod mark;
 pub mod refusal;
+#[cfg(test)]
+mod tests;
 pub mod text;
 pub mod token;
 pub mod utf8;

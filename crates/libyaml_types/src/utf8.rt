@@ -1,6 +1,6 @@
 //! Which bytes are texts, and their copies.
 
-ghost use Rattle.std.specs.Prelude.{◌≡◌, Err, IfOk, IfSome, IsErrOf, IsTrue, IsUtf8, OnErr, OnOk, ◌↔◌};
+ghost use Rattle.std.specs.Prelude.{◌≡◌, Err, IfOk, IfSome, IsTrue, IsUtf8, OnErr, OnOk, ◌↔◌};
 ghost use Rattle.std.specs.Option.{option_copied};
 ghost use Rattle.libyaml_types.specs.Texts.{PairIsUtf8, PairsAreUtf8};
 
