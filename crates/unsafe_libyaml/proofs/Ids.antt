@@ -1,13 +1,13 @@
 -- Ids stay ids of nodes where nodes and children are put behind others.
-use Rattle.std.proofs.Common.{◌≡◌, ℕ, zero, suc, ◌<◌, ◌≤◌, ℤ, pos, List, [], ◌∷◌, ◌++◌, length, set, get_or, refl, ap, sym, subst, arith, length-append, ◌∙◌}
+use Rattle.std.proofs.Common.{◌≡◌, ℕ, zero, suc, ◌+◌, ◌<◌, ◌≤◌, ℤ, pos, negsuc, add-one, List, [], ◌∷◌, ◌++◌, length, set, get_or, refl, ap, sym, subst, arith, length-append, ◌∙◌}
 use Rattle.std.proofs.lemmas.Int.{ints}
 use Rattle.unsafe_libyaml.specs.declared.node.yaml_node_t.{yaml_node_t}
 use Rattle.unsafe_libyaml.specs.declared.children.yaml_node_pair_t.{yaml_node_pair_t}
 use Rattle.unsafe_libyaml.specs.declared.node.unnamed_yaml_node_t_data.{unnamed_yaml_node_t_data}
 use Rattle.unsafe_libyaml.specs.declared.node.unnamed_yaml_node_t_data.TheVariants.{Scalar, Sequence, Mapping}
-use Rattle.unsafe_libyaml.specs.Nodes.{ids_of, ids_of_pairs, IsIdBelow, AllIds, AllIdsOf, EveryIdNamesANode, changed_at, item_behind, pair_behind}
+use Rattle.unsafe_libyaml.specs.Nodes.{ids_of, ids_of_pairs, IsIdBelow, AllIds, AllIdsOf, EveryIdNamesANode, node_type, type_of, type_at, KeepsTypes, changed_at, item_behind, pair_behind}
 use Rattle.unsafe_libyaml.specs.Documents.{Document, AreNodes, most_nodes, with_changed_node}
-use Rattle.std.specs.Prelude.{Bool, true, false, cond}
+use Rattle.std.specs.Prelude.{Bool, true, false, cond, slice_get, Some}
 
 pub IsIdBelow-more : (n m : ℕ) (id : ℤ) → n ≤ m → IsIdBelow n id → IsIdBelow m id
 IsIdBelow-more n m id le h = (h.0, omega (arith, ints))
@@ -93,3 +93,48 @@ with_changed_node-set d now id n f old new now_is id_is old_is new_is =
     ap (λ (nodes : List yaml_node_t). record d { nodes = nodes }) (ap (λ (node : yaml_node_t). set d.nodes n node) (new_is ∙ ap f old_is) ∙ sym (changed_at-set n f d.nodes old))
     ∙ ap (λ (i : ℤ). with_changed_node d i f) (sym id_is)
     ∙ ap (λ (e : Document). with_changed_node e id f) now_is
+
+-- the types of nodes, where one more node stands behind the others
+pub slice_get-push_old : (nodes : List yaml_node_t) (node : yaml_node_t) (n : ℕ) → n < length nodes → slice_get (nodes ++ node ∷ []) n ≡ slice_get nodes n
+slice_get-push_old [] node n h = absurd (omega arith)
+slice_get-push_old (first ∷ nodes) node zero h = refl
+slice_get-push_old (first ∷ nodes) node (suc n) h = slice_get-push_old nodes node n (omega arith)
+
+pub slice_get-push_new : (nodes : List yaml_node_t) (node : yaml_node_t) → slice_get (nodes ++ node ∷ []) (length nodes) ≡ Some node
+slice_get-push_new [] node = refl
+slice_get-push_new (first ∷ nodes) node = slice_get-push_new nodes node
+
+pub KeepsTypes-push : (nodes : List yaml_node_t) (node : yaml_node_t) → KeepsTypes nodes (nodes ++ node ∷ [])
+KeepsTypes-push nodes node (negsuc n) h = refl
+KeepsTypes-push nodes node (pos zero) h = refl
+KeepsTypes-push nodes node (pos (suc n)) h = ap type_of (slice_get-push_old nodes node n (omega (arith, ints)))
+
+pub type_at-push : (nodes : List yaml_node_t) (node : yaml_node_t) → type_at (nodes ++ node ∷ []) (pos (length nodes + 1)) ≡ node_type node.content
+type_at-push nodes node = rw add-one (ap type_of (slice_get-push_new nodes node))
+
+-- the same, where one node was changed and keeps its type
+pub type-changed_at : (n k : ℕ) (f : yaml_node_t → yaml_node_t) (nodes : List yaml_node_t) → ((node : yaml_node_t) → node_type (f node).content ≡ node_type node.content) → type_of (slice_get (changed_at n f nodes) k) ≡ type_of (slice_get nodes k)
+type-changed_at n k f [] keeps = refl
+type-changed_at zero zero f (node ∷ nodes) keeps = keeps node
+type-changed_at zero (suc k) f (node ∷ nodes) keeps = refl
+type-changed_at (suc n) zero f (node ∷ nodes) keeps = refl
+type-changed_at (suc n) (suc k) f (node ∷ nodes) keeps = type-changed_at n k f nodes keeps
+
+pub KeepsTypes-changed_at : (n : ℕ) (f : yaml_node_t → yaml_node_t) (nodes : List yaml_node_t) → ((node : yaml_node_t) → node_type (f node).content ≡ node_type node.content) → KeepsTypes nodes (changed_at n f nodes)
+KeepsTypes-changed_at n f nodes keeps (negsuc k) h = refl
+KeepsTypes-changed_at n f nodes keeps (pos zero) h = refl
+KeepsTypes-changed_at n f nodes keeps (pos (suc k)) h = type-changed_at n k f nodes keeps
+
+pub KeepsTypes-set : (n : ℕ) (f : yaml_node_t → yaml_node_t) (nodes : List yaml_node_t) (old new : yaml_node_t) → old ≡ get_or nodes n old → new ≡ f old → ((node : yaml_node_t) → node_type (f node).content ≡ node_type node.content) → KeepsTypes nodes (set nodes n new)
+KeepsTypes-set n f nodes old new old_is new_is keeps =
+    subst (KeepsTypes nodes) (changed_at-set n f nodes old ∙ ap (λ (node : yaml_node_t). set nodes n node) (ap f (sym old_is) ∙ sym new_is)) (KeepsTypes-changed_at n f nodes keeps)
+
+pub item_behind-type : (id : ℤ) (content : unnamed_yaml_node_t_data) → node_type (item_behind id content) ≡ node_type content
+item_behind-type id (Scalar s) = refl
+item_behind-type id (Sequence s) = refl
+item_behind-type id (Mapping m) = refl
+
+pub pair_behind-type : (p : yaml_node_pair_t) (content : unnamed_yaml_node_t_data) → node_type (pair_behind p content) ≡ node_type content
+pair_behind-type p (Scalar s) = refl
+pair_behind-type p (Sequence s) = refl
+pair_behind-type p (Mapping m) = refl

@@ -1,7 +1,7 @@
 -- Nodes, their ids, and the nodes that the calls make (docs/DEFINITIONS.md, "Documents").
-use Rattle.std.specs.Prelude.{◌≡◌, ℕ, suc, zero, ℤ, pos, negsuc, ◌≤ℤ◌, List, [], ◌∷◌, ◌++◌, Option, Some, None, length, slice_get, codes, IsSomeAnd}
+use Rattle.std.specs.Prelude.{◌≡◌, ℕ, suc, zero, ℤ, pos, negsuc, ◌≤ℤ◌, List, [], ◌∷◌, ◌++◌, Option, Some, None, length, slice_get, codes}
 use Rattle.libyaml_types.specs.declared.enums.yaml_node_type_t.{yaml_node_type_t}
-use Rattle.libyaml_types.specs.declared.enums.yaml_node_type_t.TheVariants.{YAML_SCALAR_NODE, YAML_SEQUENCE_NODE, YAML_MAPPING_NODE}
+use Rattle.libyaml_types.specs.declared.enums.yaml_node_type_t.TheVariants.{YAML_NO_NODE, YAML_SCALAR_NODE, YAML_SEQUENCE_NODE, YAML_MAPPING_NODE}
 use Rattle.libyaml_types.specs.declared.enums.yaml_scalar_style_t.{yaml_scalar_style_t}
 use Rattle.libyaml_types.specs.declared.enums.yaml_sequence_style_t.{yaml_sequence_style_t}
 use Rattle.libyaml_types.specs.declared.enums.yaml_mapping_style_t.{yaml_mapping_style_t}
@@ -104,9 +104,14 @@ IsSequence node = node_type node.content ≡ YAML_SEQUENCE_NODE
 abbrev pub IsMapping : yaml_node_t → Type 0
 IsMapping node = node_type node.content ≡ YAML_MAPPING_NODE
 
--- the id of a sequence, and of a mapping
-abbrev pub IsSequenceAt : List yaml_node_t → ℤ → Type 0
-IsSequenceAt nodes id = IsSomeAnd (node_at nodes id) IsSequence
+-- the type of the node of an id; no node is YAML_NO_NODE
+abbrev pub type_of : Option yaml_node_t → yaml_node_type_t
+type_of None = YAML_NO_NODE
+type_of (Some node) = node_type node.content
 
-abbrev pub IsMappingAt : List yaml_node_t → ℤ → Type 0
-IsMappingAt nodes id = IsSomeAnd (node_at nodes id) IsMapping
+abbrev pub type_at : List yaml_node_t → ℤ → yaml_node_type_t
+type_at nodes id = type_of (node_at nodes id)
+
+-- each id of a node names a node of its type also in the new list
+abbrev pub KeepsTypes : List yaml_node_t → List yaml_node_t → Type 0
+KeepsTypes old new = (id : ℤ) → IsIdBelow (length old) id → type_at new id ≡ type_at old id

@@ -1,4 +1,6 @@
 //! Documents of YAML: nodes named by ids, built by calls or loaded from events.
+//!
+//! A user names this crate alone: the two crates below it are passed on.
 #![tactic(auto)]
 
 mod children;
@@ -12,12 +14,84 @@ pub use document::{
     yaml_document_get_node, yaml_document_get_root_node, yaml_document_initialize, yaml_document_t,
 };
 pub use libyaml_events::{
-    NO_FAULT, yaml_list_source_t, yaml_parser_t_prefix, yaml_source_fault_t, yaml_token_source_t,
+    NO_FAULT, yaml_list_source_t, yaml_parser_delete, yaml_parser_initialize, yaml_parser_t,
+    yaml_parser_t_prefix, yaml_source_fault_t, yaml_token_source_t,
 };
-pub use libyaml_types::enums::yaml_encoding_t::{
-    YAML_ANY_ENCODING, YAML_UTF8_ENCODING, YAML_UTF16BE_ENCODING, YAML_UTF16LE_ENCODING,
+pub use libyaml_types::{
+    TagDirectives, Text, ZERO_MARK, unnamed_yaml_event_t_data, unnamed_yaml_event_t_data_alias,
+    unnamed_yaml_event_t_data_document_end, unnamed_yaml_event_t_data_document_start,
+    unnamed_yaml_event_t_data_mapping_start, unnamed_yaml_event_t_data_scalar,
+    unnamed_yaml_event_t_data_sequence_start, unnamed_yaml_event_t_data_stream_start,
+    unnamed_yaml_token_t_data, unnamed_yaml_token_t_data_alias, unnamed_yaml_token_t_data_anchor,
+    unnamed_yaml_token_t_data_scalar, unnamed_yaml_token_t_data_stream_start,
+    unnamed_yaml_token_t_data_tag, unnamed_yaml_token_t_data_tag_directive,
+    unnamed_yaml_token_t_data_version_directive, yaml_alias_event_initialize, yaml_break_t,
+    yaml_document_end_event_initialize, yaml_document_start_event_initialize, yaml_encoding_t,
+    yaml_error_type_t, yaml_event_delete, yaml_event_t, yaml_event_type_t,
+    yaml_mapping_end_event_initialize, yaml_mapping_start_event_initialize, yaml_mapping_style_t,
+    yaml_mark_t, yaml_node_type_t, yaml_parser_state_t, yaml_refusal_t,
+    yaml_scalar_event_initialize, yaml_scalar_style_t, yaml_sequence_end_event_initialize,
+    yaml_sequence_start_event_initialize, yaml_sequence_style_t, yaml_stream_end_event_initialize,
+    yaml_stream_start_event_initialize, yaml_tag_directive_t, yaml_token_delete, yaml_token_t,
+    yaml_token_type_t, yaml_version_directive_t,
 };
 pub use node::{
     unnamed_yaml_node_t_data, unnamed_yaml_node_t_data_mapping, unnamed_yaml_node_t_data_scalar,
     unnamed_yaml_node_t_data_sequence, yaml_alias_data_t, yaml_node_t,
 };
+
+// The variants of the enums, by their bare names.
+pub use libyaml_types::enums::yaml_break_t::{
+    YAML_ANY_BREAK, YAML_CR_BREAK, YAML_CRLN_BREAK, YAML_LN_BREAK,
+};
+pub use libyaml_types::enums::yaml_encoding_t::{
+    YAML_ANY_ENCODING, YAML_UTF8_ENCODING, YAML_UTF16BE_ENCODING, YAML_UTF16LE_ENCODING,
+};
+pub use libyaml_types::enums::yaml_error_type_t::{
+    YAML_COMPOSER_ERROR, YAML_EMITTER_ERROR, YAML_MEMORY_ERROR, YAML_NO_ERROR, YAML_PARSER_ERROR,
+    YAML_READER_ERROR, YAML_SCANNER_ERROR, YAML_WRITER_ERROR,
+};
+pub use libyaml_types::enums::yaml_event_type_t::{
+    YAML_ALIAS_EVENT, YAML_DOCUMENT_END_EVENT, YAML_DOCUMENT_START_EVENT, YAML_MAPPING_END_EVENT,
+    YAML_MAPPING_START_EVENT, YAML_NO_EVENT, YAML_SCALAR_EVENT, YAML_SEQUENCE_END_EVENT,
+    YAML_SEQUENCE_START_EVENT, YAML_STREAM_END_EVENT, YAML_STREAM_START_EVENT,
+};
+pub use libyaml_types::enums::yaml_mapping_style_t::{
+    YAML_ANY_MAPPING_STYLE, YAML_BLOCK_MAPPING_STYLE, YAML_FLOW_MAPPING_STYLE,
+};
+pub use libyaml_types::enums::yaml_node_type_t::{
+    YAML_MAPPING_NODE, YAML_NO_NODE, YAML_SCALAR_NODE, YAML_SEQUENCE_NODE,
+};
+pub use libyaml_types::enums::yaml_parser_state_t::{
+    YAML_PARSE_BLOCK_MAPPING_FIRST_KEY_STATE, YAML_PARSE_BLOCK_MAPPING_KEY_STATE,
+    YAML_PARSE_BLOCK_MAPPING_VALUE_STATE, YAML_PARSE_BLOCK_NODE_OR_INDENTLESS_SEQUENCE_STATE,
+    YAML_PARSE_BLOCK_NODE_STATE, YAML_PARSE_BLOCK_SEQUENCE_ENTRY_STATE,
+    YAML_PARSE_BLOCK_SEQUENCE_FIRST_ENTRY_STATE, YAML_PARSE_DOCUMENT_CONTENT_STATE,
+    YAML_PARSE_DOCUMENT_END_STATE, YAML_PARSE_DOCUMENT_START_STATE, YAML_PARSE_END_STATE,
+    YAML_PARSE_FLOW_MAPPING_EMPTY_VALUE_STATE, YAML_PARSE_FLOW_MAPPING_FIRST_KEY_STATE,
+    YAML_PARSE_FLOW_MAPPING_KEY_STATE, YAML_PARSE_FLOW_MAPPING_VALUE_STATE,
+    YAML_PARSE_FLOW_NODE_STATE, YAML_PARSE_FLOW_SEQUENCE_ENTRY_MAPPING_END_STATE,
+    YAML_PARSE_FLOW_SEQUENCE_ENTRY_MAPPING_KEY_STATE,
+    YAML_PARSE_FLOW_SEQUENCE_ENTRY_MAPPING_VALUE_STATE, YAML_PARSE_FLOW_SEQUENCE_ENTRY_STATE,
+    YAML_PARSE_FLOW_SEQUENCE_FIRST_ENTRY_STATE, YAML_PARSE_IMPLICIT_DOCUMENT_START_STATE,
+    YAML_PARSE_INDENTLESS_SEQUENCE_ENTRY_STATE, YAML_PARSE_STREAM_START_STATE,
+};
+pub use libyaml_types::enums::yaml_scalar_style_t::{
+    YAML_ANY_SCALAR_STYLE, YAML_DOUBLE_QUOTED_SCALAR_STYLE, YAML_FOLDED_SCALAR_STYLE,
+    YAML_LITERAL_SCALAR_STYLE, YAML_PLAIN_SCALAR_STYLE, YAML_SINGLE_QUOTED_SCALAR_STYLE,
+};
+pub use libyaml_types::enums::yaml_sequence_style_t::{
+    YAML_ANY_SEQUENCE_STYLE, YAML_BLOCK_SEQUENCE_STYLE, YAML_FLOW_SEQUENCE_STYLE,
+};
+pub use libyaml_types::enums::yaml_token_type_t::{
+    YAML_ALIAS_TOKEN, YAML_ANCHOR_TOKEN, YAML_BLOCK_END_TOKEN, YAML_BLOCK_ENTRY_TOKEN,
+    YAML_BLOCK_MAPPING_START_TOKEN, YAML_BLOCK_SEQUENCE_START_TOKEN, YAML_DOCUMENT_END_TOKEN,
+    YAML_DOCUMENT_START_TOKEN, YAML_FLOW_ENTRY_TOKEN, YAML_FLOW_MAPPING_END_TOKEN,
+    YAML_FLOW_MAPPING_START_TOKEN, YAML_FLOW_SEQUENCE_END_TOKEN, YAML_FLOW_SEQUENCE_START_TOKEN,
+    YAML_KEY_TOKEN, YAML_NO_TOKEN, YAML_SCALAR_TOKEN, YAML_STREAM_END_TOKEN,
+    YAML_STREAM_START_TOKEN, YAML_TAG_DIRECTIVE_TOKEN, YAML_TAG_TOKEN, YAML_VALUE_TOKEN,
+    YAML_VERSION_DIRECTIVE_TOKEN,
+};
+
+#[cfg(test)]
+mod tests;

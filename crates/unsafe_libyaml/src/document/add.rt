@@ -3,7 +3,7 @@
 ghost use Rattle.std.specs.Prelude.{◌≡◌, ◌+◌, ◌<◌, ◌↔◌, pos, [], Err, IfOk, IfSome, OnOk, OnErr, IsErrOf, IsUtf8, length};
 ghost use Rattle.std.specs.Option.{option_copied};
 ghost use Rattle.unsafe_libyaml.specs.Documents.{most_nodes, with_node};
-ghost use Rattle.unsafe_libyaml.specs.Nodes.{ids_of, node_of, tag_or, scalar_node, sequence_node, mapping_node};
+ghost use Rattle.unsafe_libyaml.specs.Nodes.{ids_of, node_of, node_type, tag_or, type_at, KeepsTypes, scalar_node, sequence_node, mapping_node};
 
 use super::yaml_document_t;
 use crate::children::{NodeItems, NodePairs};
@@ -13,7 +13,7 @@ use crate::node::{
 };
 use libyaml_types::utf8::checked;
 use libyaml_types::{
-    Text, ZERO_MARK, yaml_mapping_style_t, yaml_refusal_t, yaml_scalar_style_t,
+    Text, ZERO_MARK, yaml_mapping_style_t, yaml_node_type_t, yaml_refusal_t, yaml_scalar_style_t,
     yaml_sequence_style_t,
 };
 use std::alloc::{AllocError, Global};
@@ -70,6 +70,9 @@ fn push_node(document: &mut yaml_document_t, node: yaml_node_t) -> Result<i32, y
     ensures added { OnOk result (document.new ≡ with_node document.old node) }
     ensures refused { OnErr result (result ≡ Err yaml_refusal_t.Memory) }
     ensures unchanged { OnErr result (document.new ≡ document.old) }
+    ensures count { OnOk result (length document.new.nodes ≡ length document.old.nodes + 1) }
+    ensures type_is { IfOk result (λ id. type_at document.new.nodes id ≡ node_type node.content) }
+    ensures types_kept { KeepsTypes document.old.nodes document.new.nodes }
 {
     document.nodes.push(node).map_err(AllocError::from)?;
     Ok(document.nodes.len() as i32)
@@ -97,6 +100,11 @@ pub fn yaml_document_add_scalar(
     ensures not_utf8 { IsErrOf result yaml_refusal_t.NotUtf8 ↔ ((length document.old.nodes < most_nodes) × ¬ (IfSome (option_copied tag.entry) IsUtf8 × IsUtf8 value.now)) }
     ensures memory { IsErrOf result yaml_refusal_t.Memory → (length document.old.nodes < most_nodes) × IfSome (option_copied tag.entry) IsUtf8 × IsUtf8 value.now }
     ensures unchanged { OnErr result (document.new ≡ document.old) }
+
+    // What a caller of the next call wants: the new id's type, and that the others stay.
+    ensures count { OnOk result (length document.new.nodes ≡ length document.old.nodes + 1) }
+    ensures type_is { IfOk result (λ id. type_at document.new.nodes id ≡ yaml_node_type_t.YAML_SCALAR_NODE) }
+    ensures types_kept { KeepsTypes document.old.nodes document.new.nodes }
 {
     has_room(document)?;
     let tag = checked_tag(tag, "tag:yaml.org,2002:str")?;
@@ -130,6 +138,11 @@ pub fn yaml_document_add_sequence(
     ensures not_utf8 { IsErrOf result yaml_refusal_t.NotUtf8 ↔ ((length document.old.nodes < most_nodes) × ¬ IfSome (option_copied tag.entry) IsUtf8) }
     ensures memory { IsErrOf result yaml_refusal_t.Memory → (length document.old.nodes < most_nodes) × IfSome (option_copied tag.entry) IsUtf8 }
     ensures unchanged { OnErr result (document.new ≡ document.old) }
+
+    // What a caller of the next call wants: the new id's type, and that the others stay.
+    ensures count { OnOk result (length document.new.nodes ≡ length document.old.nodes + 1) }
+    ensures type_is { IfOk result (λ id. type_at document.new.nodes id ≡ yaml_node_type_t.YAML_SEQUENCE_NODE) }
+    ensures types_kept { KeepsTypes document.old.nodes document.new.nodes }
 {
     has_room(document)?;
     let tag = checked_tag(tag, "tag:yaml.org,2002:seq")?;
@@ -162,6 +175,11 @@ pub fn yaml_document_add_mapping(
     ensures not_utf8 { IsErrOf result yaml_refusal_t.NotUtf8 ↔ ((length document.old.nodes < most_nodes) × ¬ IfSome (option_copied tag.entry) IsUtf8) }
     ensures memory { IsErrOf result yaml_refusal_t.Memory → (length document.old.nodes < most_nodes) × IfSome (option_copied tag.entry) IsUtf8 }
     ensures unchanged { OnErr result (document.new ≡ document.old) }
+
+    // What a caller of the next call wants: the new id's type, and that the others stay.
+    ensures count { OnOk result (length document.new.nodes ≡ length document.old.nodes + 1) }
+    ensures type_is { IfOk result (λ id. type_at document.new.nodes id ≡ yaml_node_type_t.YAML_MAPPING_NODE) }
+    ensures types_kept { KeepsTypes document.old.nodes document.new.nodes }
 {
     has_room(document)?;
     let tag = checked_tag(tag, "tag:yaml.org,2002:map")?;

@@ -2,11 +2,11 @@
 
 ghost use Rattle.std.specs.Prelude.{◌≡◌, OnOk, OnErr, length};
 ghost use Rattle.unsafe_libyaml.specs.Documents.{with_changed_node};
-ghost use Rattle.unsafe_libyaml.specs.Nodes.{IsIdBelow, IsSequenceAt, IsMappingAt, with_item, with_pair};
+ghost use Rattle.unsafe_libyaml.specs.Nodes.{IsIdBelow, type_at, KeepsTypes, with_item, with_pair};
 
 use super::{place_of, yaml_document_t};
 use crate::children::{yaml_node_item_t, yaml_node_pair_t};
-use libyaml_types::yaml_refusal_t;
+use libyaml_types::{yaml_node_type_t, yaml_refusal_t};
 
 /// Puts an item behind the others of a sequence.
 ///
@@ -19,11 +19,15 @@ pub fn yaml_document_append_sequence_item(
     sequence: i32,
     item: yaml_node_item_t,
 ) -> Result<(), yaml_refusal_t>
-    requires target { IsSequenceAt document.old.nodes sequence }
+    requires target { type_at document.old.nodes sequence ≡ yaml_node_type_t.YAML_SEQUENCE_NODE }
     requires item { IsIdBelow (length document.old.nodes) item }
     ensures ok { OnOk result (document.new ≡ with_changed_node document.old sequence (with_item item)) }
     ensures refused { OnErr result (result ≡ Err yaml_refusal_t.Memory) }
     ensures unchanged { OnErr result (document.new ≡ document.old) }
+
+    // What a caller of the next call wants: the ids stay what they are.
+    ensures count { length document.new.nodes ≡ length document.old.nodes }
+    ensures types_kept { KeepsTypes document.old.nodes document.new.nodes }
 {
     let node = &mut document.nodes[place_of(sequence)];
     node.push_item(item)?;
@@ -42,12 +46,16 @@ pub fn yaml_document_append_mapping_pair(
     key: i32,
     value: i32,
 ) -> Result<(), yaml_refusal_t>
-    requires target { IsMappingAt document.old.nodes mapping }
+    requires target { type_at document.old.nodes mapping ≡ yaml_node_type_t.YAML_MAPPING_NODE }
     requires key { IsIdBelow (length document.old.nodes) key }
     requires value { IsIdBelow (length document.old.nodes) value }
     ensures ok { OnOk result (document.new ≡ with_changed_node document.old mapping (with_pair key value)) }
     ensures refused { OnErr result (result ≡ Err yaml_refusal_t.Memory) }
     ensures unchanged { OnErr result (document.new ≡ document.old) }
+
+    // What a caller of the next call wants: the ids stay what they are.
+    ensures count { length document.new.nodes ≡ length document.old.nodes }
+    ensures types_kept { KeepsTypes document.old.nodes document.new.nodes }
 {
     let node = &mut document.nodes[place_of(mapping)];
     node.push_pair(yaml_node_pair_t { key, value })?;

@@ -1,9 +1,9 @@
-use Rattle.std.proofs.Common.{length, subst, sym, w32, ◌∙◌}
+use Rattle.std.proofs.Common.{length, set, subst, sym, w32, ◌∙◌}
 use Rattle.std.proofs.lemmas.Int.{to_z-of_z}
 use mir.Val.{SFits}
-use Rattle.unsafe_libyaml.specs.Nodes.{IsIdBelow, with_pair}
+use Rattle.unsafe_libyaml.specs.Nodes.{IsIdBelow, KeepsTypes, with_pair}
 use Rattle.unsafe_libyaml.specs.Documents.{Document}
-use Rattle.unsafe_libyaml.proofs.Ids.{AreNodes-set, with_pair-keeps, with_changed_node-set}
+use Rattle.unsafe_libyaml.proofs.Ids.{AreNodes-set, KeepsTypes-set, pair_behind-type, with_pair-keeps, with_changed_node-set}
 use Rattle.unsafe_libyaml.proofs.document.append.yaml_document_append_mapping_pair.Goals as goal
 
 pub invariant_of-document-2 : goal.invariant_of-document-2
@@ -25,3 +25,12 @@ returns-clause-ok c =
     let pushed = simp to_z-of_z at c.in_ok-push_pair.ensures.ok in
     with_changed_node-set _ c.args.document.now c.args.mapping c.place_of.result (with_pair c.args.key c.args.value) c.index_mut-node.result.now c.push_pair.new.self
     c.document.view_is (sym (to_z-of_z w32 c.args.mapping c.ranges.mapping) ∙ c.place_of.ensures) c.index_mut-node.ensures.value pushed
+
+pub returns-clause-types_kept : goal.returns-clause-types_kept
+returns-clause-types_kept c =
+    let key_fits : SFits w32 c.args.key = c.ranges.key in
+    let value_fits : SFits w32 c.args.value = c.ranges.value in
+    let pushed = simp to_z-of_z at c.in_ok-push_pair.ensures.ok in
+    subst (λ (d : Document). KeepsTypes d.nodes (set c.document.inside.nodes.items c.place_of.result c.push_pair.new.self)) c.document.view_is
+    (KeepsTypes-set c.place_of.result (with_pair c.args.key c.args.value) c.document.inside.nodes.items c.index_mut-node.result.now c.push_pair.new.self
+    c.index_mut-node.ensures.value pushed (λ node. pair_behind-type (record { key = c.args.key; value = c.args.value }) node.content))

@@ -1,9 +1,9 @@
-use Rattle.std.proofs.Common.{length, subst, sym, w32, ◌∙◌}
+use Rattle.std.proofs.Common.{length, set, subst, sym, w32, ◌∙◌}
 use Rattle.std.proofs.lemmas.Int.{to_z-of_z}
 use mir.Val.{SFits}
-use Rattle.unsafe_libyaml.specs.Nodes.{IsIdBelow, with_item}
+use Rattle.unsafe_libyaml.specs.Nodes.{IsIdBelow, KeepsTypes, with_item}
 use Rattle.unsafe_libyaml.specs.Documents.{Document}
-use Rattle.unsafe_libyaml.proofs.Ids.{AreNodes-set, with_item-keeps, with_changed_node-set}
+use Rattle.unsafe_libyaml.proofs.Ids.{AreNodes-set, KeepsTypes-set, item_behind-type, with_item-keeps, with_changed_node-set}
 use Rattle.unsafe_libyaml.proofs.document.append.yaml_document_append_sequence_item.Goals as goal
 
 pub invariant_of-document-2 : goal.invariant_of-document-2
@@ -22,3 +22,11 @@ returns-clause-ok c =
     let pushed = simp to_z-of_z at c.in_ok-push_item.ensures.ok in
     with_changed_node-set _ c.args.document.now c.args.sequence c.place_of.result (with_item c.args.item) c.index_mut-node.result.now c.push_item.new.self
     c.document.view_is (sym (to_z-of_z w32 c.args.sequence c.ranges.sequence) ∙ c.place_of.ensures) c.index_mut-node.ensures.value pushed
+
+pub returns-clause-types_kept : goal.returns-clause-types_kept
+returns-clause-types_kept c =
+    let fits : SFits w32 c.args.item = c.ranges.item in
+    let pushed = simp to_z-of_z at c.in_ok-push_item.ensures.ok in
+    subst (λ (d : Document). KeepsTypes d.nodes (set c.document.inside.nodes.items c.place_of.result c.push_item.new.self)) c.document.view_is
+    (KeepsTypes-set c.place_of.result (with_item c.args.item) c.document.inside.nodes.items c.index_mut-node.result.now c.push_item.new.self
+    c.index_mut-node.ensures.value pushed (λ node. item_behind-type c.args.item node.content))
