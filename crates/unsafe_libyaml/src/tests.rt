@@ -1,43 +1,44 @@
 //! What no clause says: that calls succeed, and what they answer where a growth is refused.
 
-use crate::{
-    YAML_ANY_MAPPING_STYLE, YAML_ANY_SEQUENCE_STYLE, YAML_FLOW_MAPPING_STYLE,
-    YAML_FLOW_SEQUENCE_STYLE, YAML_MAPPING_NODE, YAML_PLAIN_SCALAR_STYLE, YAML_SCALAR_NODE,
-    YAML_SEQUENCE_NODE, ZERO_MARK, unnamed_yaml_node_t_data, yaml_document_add_mapping,
-    yaml_document_add_scalar, yaml_document_add_sequence, yaml_document_append_mapping_pair,
-    yaml_document_append_sequence_item, yaml_document_delete, yaml_document_get_node,
-    yaml_document_get_root_node, yaml_document_initialize, yaml_document_t, yaml_node_pair_t,
-    yaml_node_t, yaml_refusal_t, yaml_version_directive_t,
-};
+ghost use Rattle.std.specs.Prelude.{◌≡◌, [], IfOk};
+
+use super::*;
 use std::alloc::Global;
-use std::process::Abort;
 use std::test::Fail;
 
 /// A document without nodes or directives.
-fn empty(alloc: Global) -> Result<yaml_document_t, yaml_refusal_t> {
+fn empty(alloc: Global) -> Result<yaml_document_t, yaml_refusal_t>
+    ensures { IfOk result (λ document. document.nodes ≡ []) }
+{
     yaml_document_initialize(alloc, None, &[], true, true)
 }
 
-/// Whether a document has this node.
-fn is_node(document: &yaml_document_t, id: i32) -> bool {
-    yaml_document_get_node(document, id).is_some()
-}
+#[test]
+fn a_small_document_is_built_and_read_back(rt: HostRuntime) -> Result<(), Fail> {
+    let mut document = yaml_document_initialize(rt.alloc(), None, &[], true, true)?;
+    let root = yaml_document_add_mapping(&mut document, None, YAML_FLOW_MAPPING_STYLE)?;
+    let key = yaml_document_add_scalar(&mut document, None, b"list", YAML_PLAIN_SCALAR_STYLE)?;
+    let list = yaml_document_add_sequence(&mut document, None, YAML_FLOW_SEQUENCE_STYLE)?;
+    let one = yaml_document_add_scalar(&mut document, Some(b"!n"), b"1", YAML_PLAIN_SCALAR_STYLE)?;
+    yaml_document_append_mapping_pair(&mut document, root, key, list)?;
+    yaml_document_append_sequence_item(&mut document, list, one)?;
+    yaml_document_append_sequence_item(&mut document, list, one)?;
 
-/// Puts an item behind the others where both ids allow it, and answers whether they do.
-fn put_item(
-    document: &mut yaml_document_t,
-    sequence: i32,
-    item: i32,
-) -> Result<bool, yaml_refusal_t> {
-    let is_sequence = match yaml_document_get_node(document, sequence) {
-        Some(node) => node.type_() == YAML_SEQUENCE_NODE,
-        None => false,
+    let node = yaml_document_get_node(&document, list).ok_or("no list")?;
+    let unnamed_yaml_node_t_data::Sequence(sequence) = &node.content else {
+        return Err("no sequence")?;
     };
-    if !is_sequence || yaml_document_get_node(document, item).is_none() {
-        return Ok(false);
+    assert_eq!(rt; sequence.items.as_slice(), [4, 4].as_slice());
+    for item in sequence.items.as_slice() {
+        let node = yaml_document_get_node(&document, *item).ok_or("no item")?;
+        assert_eq!(rt; node.tag.as_str(), "!n");
+        let unnamed_yaml_node_t_data::Scalar(scalar) = &node.content else {
+            return Err("no scalar")?;
+        };
+        assert_eq!(rt; scalar.value.as_str(), "1");
     }
-    yaml_document_append_sequence_item(document, sequence, item)?;
-    Ok(true)
+    yaml_document_delete(document);
+    Ok(())
 }
 
 #[test]
@@ -47,7 +48,10 @@ fn get_node_knows_ids_from_one(rt: HostRuntime) -> Result<(), Fail> {
     yaml_document_add_scalar(&mut document, None, b"a", YAML_PLAIN_SCALAR_STYLE)?;
     assert!(rt; yaml_document_get_node(&document, -1).is_none());
     assert!(rt; yaml_document_get_node(&document, 0).is_none());
-    assert!(rt; yaml_document_get_node(&document, 1) == yaml_document_get_root_node(&document));
+    let node = yaml_document_get_node(&document, 1).ok_or("no node")?;
+    let root = yaml_document_get_root_node(&document).ok_or("no root")?;
+    assert!(rt; node == root);
+    assert_eq!(rt; node.type_(), YAML_SCALAR_NODE);
     assert!(rt; yaml_document_get_node(&document, 2).is_none());
     Ok(())
 }
@@ -59,7 +63,86 @@ fn items_stand_in_the_order_of_their_calls(rt: HostRuntime) -> Result<(), Fail> 
     let word = yaml_document_add_scalar(&mut document, None, b"a", YAML_PLAIN_SCALAR_STYLE)?;
     yaml_document_append_sequence_item(&mut document, list, word)?;
     yaml_document_append_sequence_item(&mut document, list, list)?;
-    assert_eq!(rt; list, 1);
-    assert_eq!(rt; word, 2);
+    assert_eq!(rt; (list, word), (1, 2));
+    let nodes = document.nodes();
+    assert_eq!(rt; nodes.len(), 2);
+    assert_eq!(rt; nodes[0].tag.as_str(), "tag:yaml.org,2002:seq");
+    assert_eq!(rt; nodes[1].tag.as_str(), "tag:yaml.org,2002:str");
+    assert_eq!(rt; nodes[0].end_mark, ZERO_MARK);
+    let unnamed_yaml_node_t_data::Sequence(sequence) = &nodes[0].content else {
+        return Err("no sequence")?;
+    };
+    assert_eq!(rt; sequence.items.as_slice(), [2, 1].as_slice());
+    Ok(())
+}
+
+#[test]
+fn a_given_tag_stays(rt: HostRuntime) -> Result<(), Fail> {
+    let mut document = empty(rt.alloc())?;
+    yaml_document_add_scalar(&mut document, Some(b"!"), b"", YAML_PLAIN_SCALAR_STYLE)?;
+    yaml_document_add_sequence(&mut document, Some(b""), YAML_ANY_SEQUENCE_STYLE)?;
+    yaml_document_add_mapping(&mut document, None, YAML_ANY_MAPPING_STYLE)?;
+    let tags = ["!", "", "tag:yaml.org,2002:map"];
+    assert_eq!(rt; document.nodes().len(), tags.len());
+    for (node, tag) in document.nodes().iter().zip(&tags) {
+        assert_eq!(rt; node.tag.as_str(), *tag);
+    }
+    Ok(())
+}
+
+#[test]
+fn a_tag_that_is_not_utf8_adds_no_node(rt: HostRuntime) -> Result<(), Fail> {
+    let mut document = empty(rt.alloc())?;
+    let added = yaml_document_add_mapping(&mut document, Some(&[0xff]), YAML_ANY_MAPPING_STYLE);
+    assert!(rt; added == Err(yaml_refusal_t::NotUtf8));
+    assert!(rt; document.nodes().is_empty());
+    Ok(())
+}
+
+#[test]
+fn a_pair_is_a_key_and_its_value(rt: HostRuntime) -> Result<(), Fail> {
+    let mut document = empty(rt.alloc())?;
+    let map = yaml_document_add_mapping(&mut document, None, YAML_ANY_MAPPING_STYLE)?;
+    let word = yaml_document_add_scalar(&mut document, None, b"a", YAML_PLAIN_SCALAR_STYLE)?;
+    yaml_document_append_mapping_pair(&mut document, map, word, map)?;
+    let root = yaml_document_get_root_node(&document).ok_or("no root")?;
+    assert_eq!(rt; root.type_(), YAML_MAPPING_NODE);
+    let unnamed_yaml_node_t_data::Mapping(mapping) = &root.content else {
+        return Err("no mapping")?;
+    };
+    let pairs = [yaml_node_pair_t { key: 2, value: 1 }];
+    assert!(rt; mapping.pairs.as_slice() == pairs.as_slice());
+    Ok(())
+}
+
+#[test]
+fn a_new_document_shows_its_directives(rt: HostRuntime) -> Result<(), Fail> {
+    let version = yaml_version_directive_t {
+        major: 1,
+        minor: -1,
+    };
+    let directives: [(&[u8], &[u8]); 1] = [(b"!e!", b"tag:e,2000:")];
+    let document = yaml_document_initialize(
+        rt.alloc(),
+        Some(version),
+        directives.as_slice(),
+        false,
+        true,
+    )?;
+    assert_eq!(rt; document.version_directive(), Some(version));
+    assert_eq!(rt; document.tag_directives().len(), 1);
+    assert_eq!(rt; document.tag_directives()[0].handle.as_str(), "!e!");
+    assert_eq!(rt; document.tag_directives()[0].prefix.as_str(), "tag:e,2000:");
+    assert_eq!(rt;
+        (document.start_implicit(), document.end_implicit()),
+        (false, true)
+    );
+    assert_eq!(rt;
+        (document.start_mark(), document.end_mark()),
+        (ZERO_MARK, ZERO_MARK)
+    );
+    let hostile: [(&[u8], &[u8]); 1] = [(b"!e!", &[0xed, 0xa0, 0x80])];
+    let refused = yaml_document_initialize(rt.alloc(), None, hostile.as_slice(), true, true).err();
+    assert!(rt; refused == Some(yaml_refusal_t::NotUtf8));
     Ok(())
 }
