@@ -14,3 +14,10 @@ pub mod Fitting
 pub mod Ending
 pub mod TreeOrCut
 pub mod Append
+pub mod Nesting
+pub mod Splits
+pub mod Fronts
+pub mod StreamEnds
+pub mod Settling
+pub mod Running
+pub mod OwnDirectives

@@ -555,7 +555,7 @@ eo_documents : (d : Documents) (r : Bool) → position_in_order (edge_documents 
 eo_documents (implicit f x) r = eo_block (root (implicit_root f)) x r
 eo_documents (explicit b ds m x) r = eo_slot (root (explicit_root b ds m)) x r
 
-edge_order : (c : Cut) (r : Bool) → position_in_order (reached c) r ≡ cut_in_order c r
+pub edge_order : (c : Cut) (r : Bool) → position_in_order (reached c) r ≡ cut_in_order c r
 edge_order before_stream r = refl
 edge_order (document_due d) r = eo_documents d r
 edge_order (start_due b ds d) r = refl
@@ -575,12 +575,12 @@ edge_order (separator_due c (pair e x no_value)) r = eo_flow_slot (flow_key c e)
 edge_order (separator_due c (pair e x (with_value v y))) r = eo_flow_slot (flow_value c e x v) y r
 
 -- a cut tree that fits is where the reading stops
-fits_reach : (l : List Token) (b : Token) (c : Cut) → Fits l b c → reads_all l unopened ≡ goes (reached c)
+pub fits_reach : (l : List Token) (b : Token) (c : Cut) → Fits l b c → reads_all l unopened ≡ goes (reached c)
 fits_reach l b c f =
     let e : feeds l unopened ≡ goes (reached c) = subst (λ (x : List Token). feeds x unopened ≡ goes (reached c)) f.tokens (cut_reads c []) in
     reads_from l unopened (reached c) e (sym (feeds_order l unopened (reached c) e true) ∙ (edge_order c true ∙ f.order))
 
-fits_stop : (l : List Token) (b : Token) (c : Cut) → Fits l b c → reads (reached c) b ≡ bad c
+pub fits_stop : (l : List Token) (b : Token) (c : Cut) → Fits l b c → reads (reached c) b ≡ bad c
 fits_stop l b c f = cut_stops l c b.content (marks_of b) f.tokens f.order f.empty_end f.wants_content f.directive f.tag (λ q e. f.bad_token (reached_begins (l ++ b ∷ []) q (reads_append l (b ∷ []) unopened ∙ (ap (λ (s : Step). then_all s (reads_all (b ∷ []))) (fits_reach l b c f) ∙ ap (λ (s : Step). then_all s goes) e))))
 
 pub goes_same : (p q : Position) → goes p ≡ goes q → p ≡ q

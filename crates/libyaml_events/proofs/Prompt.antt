@@ -1,15 +1,11 @@
-use Rattle.std.proofs.Common.{◌≡◌, List, [], ◌∷◌, Option, Some, None, refl, ap}
+use Rattle.std.proofs.Common.{◌≡◌, [], Some, refl, ap}
 use Rattle.libyaml_events.specs.Tokens.{Marks}
 use Rattle.libyaml_events.specs.Trees.{Stream, behind, free, key, mapping, no_parts, no_value, pair, part, sequence, single, value, with_value}
 use Rattle.libyaml_events.specs.Events.{Event}
 use Rattle.libyaml_events.specs.CutTrees.{open_collection, part_place}
 use Rattle.libyaml_events.specs.Positions.{Position, between, done, due, flow_behind, flow_due, flow_keyed, headed, in_indentless, in_mapping, in_sequence, position_rest, unopened}
 use Rattle.libyaml_events.specs.Given.{given}
-
--- the next event of a list
-abbrev pub next_event : List Event → Option Event
-next_event [] = None
-next_event (e ∷ r) = Some e
+use Rattle.libyaml_events.specs.Settled.{next_event}
 
 same_start : (x y : Event) → Some x ≡ Some y → x.start_mark ≡ y.start_mark
 same_start x y h = ap (λ (e : Event). e.start_mark) (inside x y h)

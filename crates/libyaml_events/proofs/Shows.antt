@@ -14,14 +14,14 @@ Shows (goes p) q m g = (n : Mark) (r : List Event) → shown p n r ≡ shown q m
 Shows (bad c) q m g = (r : List Event) → shown_cut c m.start r ≡ shown q m.start (g r)
 Shows over q m g = Unit {0}
 
-block_shows : (c : BlockPlace) (x : BlockNode) (m : Mark) (r : List Event) → shown (fill c x) m r ≡ shown_block c (first_block x) (block_node_events (declared_block c) x r)
+pub block_shows : (c : BlockPlace) (x : BlockNode) (m : Mark) (r : List Event) → shown (fill c x) m r ≡ shown_block c (first_block x) (block_node_events (declared_block c) x r)
 block_shows (root (implicit_root f)) x m r = refl
 block_shows (root (explicit_root b ds s)) x m r = refl
 block_shows (entry c o s is e) x m r = refl
 block_shows (slot (part_place c o s ps k v)) x m r = refl
 block_shows (indentless_entry c o is e) x m r = refl
 
-node_shows : (p : Place) (x : FlowNode) (m : Mark) (r : List Event) → shown (fill_flow p x) m r ≡ shown_place p (first_flow x) (flow_node_events (declared p) x r)
+pub node_shows : (p : Place) (x : FlowNode) (m : Mark) (r : List Event) → shown (fill_flow p x) m r ≡ shown_place p (first_flow x) (flow_node_events (declared p) x r)
 node_shows (block c) x m r = block_shows c (flow x) m r
 node_shows (flow_entry c) x m r = refl
 node_shows (flow_key c k) x m r = refl

@@ -24,3 +24,4 @@ pub mod Given
 pub mod StreamEnds
 pub mod Settled
 pub mod Runs
+pub mod Nesting

@@ -7,9 +7,9 @@ use Rattle.libyaml_events.specs.Events.{Event, events}
 use Rattle.libyaml_events.specs.Fault.{Fault}
 use Rattle.libyaml_events.specs.Fits.{Fits}
 use Rattle.libyaml_events.specs.Order.{in_order}
-use Rattle.libyaml_events.specs.Sentences.{IsBeginning}
+use Rattle.libyaml_events.specs.Sentences.{IsBeginning, has_end}
 use Rattle.libyaml_events.specs.Settled.{IsSettled}
-use Rattle.libyaml_events.specs.StreamEnds.{has_end, up_to_end}
+use Rattle.libyaml_events.specs.StreamEnds.{up_to_end}
 use Rattle.libyaml_events.specs.Tokens.{Anchor, Content, Token}
 use Rattle.libyaml_events.specs.Trees.{Stream, tokens}
 

@@ -1,16 +1,7 @@
--- STREAM-END in a list of tokens.
-use Rattle.std.specs.Prelude.{List, [], ◌∷◌, Bool, true, false}
-use Rattle.libyaml_events.specs.Events.{either}
-use Rattle.libyaml_events.specs.Tokens.{Content, StreamEnd, Token}
-
-abbrev pub is_end : Content → Bool
-is_end StreamEnd = true
-is_end _ = false
-
--- whether a STREAM-END is among the tokens
-abbrev pub has_end : List Token → Bool
-has_end [] = false
-has_end (t ∷ l) = either (is_end t.content) (has_end l)
+-- The front of a list up to its first STREAM-END (docs/DEFINITIONS.md, "Runs").
+use Rattle.std.specs.Prelude.{List, [], ◌∷◌, true, false}
+use Rattle.libyaml_events.specs.Sentences.{is_end}
+use Rattle.libyaml_events.specs.Tokens.{Token}
 
 -- the tokens up to and with the first STREAM-END, or all
 abbrev pub up_to_end : List Token → List Token

@@ -1,13 +1,21 @@
 //! The laws of the grammar, over its definitions alone. Each function does nothing when it runs: its
 //! contract is the law.
 
-ghost use Rattle.std.specs.Prelude.{◌≡◌, ◌++◌, List, [], ◌∷◌, true, false};
+ghost use Rattle.std.specs.Prelude.{◌≡◌, ◌++◌, ◌↔◌, ℕ, List, [], ◌∷◌, true, false};
+ghost use Rattle.libyaml_events.specs.CutEvents.{cut_events};
+ghost use Rattle.libyaml_events.specs.CutFaults.{fault};
 ghost use Rattle.libyaml_events.specs.CutTrees.{Cut, cut_tokens, cut_in_order};
+ghost use Rattle.libyaml_events.specs.Events.{Event, before_events, block_slot_events, document_start_event, documents_events, events, first_block, first_directive, free_events, prefix_of};
+ghost use Rattle.libyaml_events.specs.Fault.{Fault};
 ghost use Rattle.libyaml_events.specs.Fits.{Fits, HasCut};
+ghost use Rattle.libyaml_events.specs.Nesting.{IsNested};
+ghost use Rattle.libyaml_events.specs.Order.{in_order};
 ghost use Rattle.libyaml_events.specs.Rest.{rest};
+ghost use Rattle.libyaml_events.specs.Runs.{Ending, Ends, Fails, IsRun, is_behind_properties};
 ghost use Rattle.libyaml_events.specs.Sentences.{IsSentence, IsBeginning, IsBadToken, EitherNotBoth, has_end};
-ghost use Rattle.libyaml_events.specs.Tokens.{Token, Marks, StreamEnd, tok, zero_marks};
-ghost use Rattle.libyaml_events.specs.Trees.{Stream, tokens};
+ghost use Rattle.libyaml_events.specs.Settled.{IsFront, IsOpen, IsSettled, sure};
+ghost use Rattle.libyaml_events.specs.Tokens.{Mark, Marks, Token, StreamEnd, tok, zero_marks};
+ghost use Rattle.libyaml_events.specs.Trees.{Before, BlockNode, BlockSlot, Directives, Free, Stream, explicit, implicit, no_directives, tokens};
 
 /// Two stream trees with equal tokens are equal.
 pub fn one_tree()
@@ -31,4 +39,54 @@ pub fn tree_or_cut()
 pub fn cut_begins()
     ensures completed { (c : Cut) → cut_in_order c true ≡ true → IsSentence (cut_tokens c [] ++ rest zero_marks c) }
     ensures bad_token { (l : List Token) (b : Token) (c : Cut) → Fits l b c → IsBadToken l b }
+{}
+
+/// Each beginning without STREAM-END has one front tree, and only beginnings without STREAM-END have one.
+pub fn one_front()
+    ensures some { (l : List Token) → IsBeginning l → has_end l ≡ false → (c : Cut) × IsFront l c }
+    ensures one { (l : List Token) (c d : Cut) → IsFront l c → IsFront l d → c ≡ d }
+    ensures begins { (l : List Token) (c : Cut) → IsFront l c → IsBeginning l × (has_end l ≡ false) }
+{}
+
+/// What a beginning settles is what its front tree shows. A sentence settles all events of its tree, and no
+/// tokens settle nothing.
+pub fn settled()
+    ensures of_front { (l : List Token) (c : Cut) (e : List Event) → IsFront l c → (IsSettled l e ↔ (e ≡ sure c)) }
+    ensures of_sentence { (t : Stream) (e : List Event) → in_order t ≡ true → (IsSettled (tokens t) e ↔ (e ≡ events t)) }
+    ensures of_nothing { (e : List Event) → IsSettled [] e ↔ (e ≡ []) }
+{}
+
+/// Behind a beginning without STREAM-END the next event hangs on tokens still to come: two sentences begin
+/// with it whose events begin with those that it settles and differ in the next.
+pub fn prompt()
+    ensures { (l : List Token) (e : List Event) → IsBeginning l → has_end l ≡ false → IsSettled l e → IsOpen l e }
+{}
+
+/// Each list of tokens has one run for each fault behind it.
+pub fn one_run()
+    ensures some { (l : List Token) (f : Fault) → (e : List Event) × (x : Ending) × IsRun l f e x }
+    ensures one { (l : List Token) (f : Fault) (d e : List Event) (x y : Ending) → IsRun l f d x → IsRun l f e y → (d ≡ e) × (x ≡ y) }
+{}
+
+/// The run over a list that begins with a known tree's tokens: a sentence's with anything behind it, a cut
+/// tree's that fits with the token behind it and anything behind that, or a beginning's with nothing behind it.
+pub fn run_of_tree()
+    ensures sentence { (t : Stream) (r : List Token) (f : Fault) → in_order t ≡ true → IsRun (tokens t ++ r) f (events t) Ends }
+    ensures cut_tree { (l : List Token) (b : Token) (r : List Token) (c : Cut) (f : Fault) → Fits l b c → is_behind_properties c r ≡ true → IsRun (l ++ b ∷ r) f (cut_events c b) (Fails (fault c b.content b.start_mark)) }
+    ensures amid_properties { (l : List Token) (b : Token) (r : List Token) (c : Cut) (f : Fault) → Fits l b c → is_behind_properties c r ≡ false → IsRun (l ++ b ∷ r) f (cut_events c b) (Fails f) }
+    ensures beginning { (l : List Token) (e : List Event) (f : Fault) → IsBeginning l → has_end l ≡ false → IsSettled l e → IsRun l f e (Fails f) }
+{}
+
+/// The events of a tree nest: the starts and ends of documents and collections match, and each mapping has an
+/// even number of nodes between its start and its end.
+pub fn events_nest()
+    ensures { (t : Stream) → IsNested (events t) }
+{}
+
+/// The events of a document's content hang on its own directives alone, whatever stands before it, and on
+/// these only by the prefixes that they give.
+pub fn own_directives()
+    ensures explicit { (ds : Directives) (s : Marks) (x : BlockSlot) (m : Mark) → (e : List Event) × ((b : Before) (r : List Event) → documents_events (explicit b ds s x) m r ≡ before_events b (first_directive ds s.start) (document_start_event ds false (first_directive ds s.start) s.end ∷ (e ++ r))) }
+    ensures implicit { (n : BlockNode) → (e : List Event) × ((f : Free) (m : Mark) (r : List Event) → documents_events (implicit f n) m r ≡ free_events f (document_start_event no_directives true (first_block n) (first_block n) ∷ (e ++ r))) }
+    ensures by_prefixes { (ds es : Directives) → ((h : List ℕ) → prefix_of ds h ≡ prefix_of es h) → (x : BlockSlot) (m : Mark) (r : List Event) → block_slot_events ds x m r ≡ block_slot_events es x m r }
 {}
