@@ -1,5 +1,5 @@
 //! Strings in lines.
-ghost use Rattle.std.specs.Prelude.{◌≡◌, ◌++◌, OnOk, OnErr, string_bytes};
+ghost use Rattle.std.specs.Prelude.{◌≡◌, ◌++◌, OnOk, string_bytes};
 ghost use Rattle.token_lines.specs.Escape.{escaped};
 
 use percent_encoding::{AsciiSet, CONTROLS, ascii_set, utf8_percent_encode};
@@ -10,8 +10,7 @@ pub(crate) const ESCAPED: AsciiSet = ascii_set!(CONTROLS.add(b' ').add(b'%'));
 
 /// Appends the text, escaped.
 pub(crate) fn append_escaped(line: &mut String, text: &str) -> Result<(), AllocError>
-    ensures ok { OnOk result (string_bytes line.new ≡ string_bytes line.old ++ escaped text.now) }
-    ensures err { OnErr result (string_bytes line.new ≡ string_bytes line.old) }
+    ensures { OnOk result (string_bytes line.new ≡ string_bytes line.old ++ escaped text.now) }
 {
     utf8_percent_encode(text, ESCAPED).append_to(line)
 }

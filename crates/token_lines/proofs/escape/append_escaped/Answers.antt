@@ -4,7 +4,7 @@ use Rattle.percent_encoding.proofs.PercentLemmas.{IsByte}
 use Rattle.token_lines.proofs.EscapeLemmas.{percent_encode-escaped}
 use Rattle.token_lines.proofs.escape.append_escaped.Goals as goal
 
-pub returns-clause-ok : goal.returns-clause-ok
-returns-clause-ok c =
+pub returns : goal.returns
+returns c =
     let small = All-from_get_or IsByte c.args.text.now 0 (λ i within. omega (arith, c.type_inv.text i)) in
     rw (← percent_encode-escaped c.args.text.now small, ← c.utf8_percent_encode.ensures.text) c.append_to.ensures.ok
