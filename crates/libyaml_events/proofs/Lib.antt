@@ -21,3 +21,6 @@ pub mod StreamEnds
 pub mod Settling
 pub mod Running
 pub mod OwnDirectives
+pub mod Worked
+pub mod TreeRows
+pub mod CutRows

@@ -1,0 +1,585 @@
+-- Worked rows: sentences with their events, each by computation.
+use Rattle.std.proofs.Common.{◌≡◌, [], ◌∷◌, Some, None, refl, true, false}
+use Rattle.std.specs.Prelude.{pos, codes}
+use Rattle.libyaml_types.specs.declared.enums.yaml_scalar_style_t.TheVariants.{YAML_ANY_SCALAR_STYLE, YAML_PLAIN_SCALAR_STYLE, YAML_SINGLE_QUOTED_SCALAR_STYLE, YAML_DOUBLE_QUOTED_SCALAR_STYLE, YAML_LITERAL_SCALAR_STYLE, YAML_FOLDED_SCALAR_STYLE}
+use Rattle.libyaml_events.specs.Tokens.{BlockEnd, BlockEntry, BlockMappingStart, BlockSequenceStart, DocumentEnd, DocumentStart, FlowEntry, FlowMappingEnd, FlowMappingStart, FlowSequenceEnd, FlowSequenceStart, Key, StreamEnd, StreamStart, Value}
+use Rattle.libyaml_events.specs.Trees.{mapping, sequence}
+use Rattle.libyaml_events.specs.Events.{alias_event, block_layout, document_end_event, end_event, flow_layout, scalar_event, start_event, stream_end_event, stream_start_event}
+use Rattle.libyaml_events.proofs.Worked.{alias_to, asks, declaring, document_start, ends_with, mk, named, outcome, plain, tagged, text, utf8}
+
+-- An implicit document begins at its first token and ends at the token behind it.
+a_plain_scalar : outcome (StreamStart utf8 ∷ plain (codes "a") ∷ StreamEnd ∷ [])
+    ≡ ends_with (stream_start_event utf8 (mk 0) (mk 0)
+    ∷ document_start None [] true (mk 2) (mk 2)
+    ∷ scalar_event None None (codes "a") true false YAML_PLAIN_SCALAR_STYLE (mk 2) (mk 3)
+    ∷ document_end_event true (mk 4) (mk 4)
+    ∷ stream_end_event (mk 4) (mk 5)
+    ∷ [])
+a_plain_scalar = refl
+
+-- An explicit document with nothing has its empty scalar at the token behind; the first DOCUMENT-END is its end.
+an_empty_document : outcome (StreamStart utf8 ∷ DocumentStart ∷ DocumentEnd ∷ DocumentEnd ∷ StreamEnd ∷ [])
+    ≡ ends_with (stream_start_event utf8 (mk 0) (mk 0)
+    ∷ document_start None [] false (mk 2) (mk 3)
+    ∷ scalar_event None None [] true false YAML_PLAIN_SCALAR_STYLE (mk 4) (mk 4)
+    ∷ document_end_event false (mk 4) (mk 5)
+    ∷ stream_end_event (mk 8) (mk 9)
+    ∷ [])
+an_empty_document = refl
+
+-- An explicit document begins at its first directive, and its start carries the version and the tag directives in order.
+directives : outcome (StreamStart utf8 ∷ asks 1 1 ∷ declaring (codes "!e!") (codes "tag:e,2000:") ∷ declaring (codes "!f!") (codes "f") ∷ DocumentStart ∷ FlowSequenceStart ∷ tagged (codes "!e!") (codes "x") ∷ plain (codes "a") ∷ FlowEntry ∷ tagged (codes "!f!") (codes "y") ∷ FlowSequenceEnd ∷ DocumentEnd ∷ StreamEnd ∷ [])
+    ≡ ends_with (stream_start_event utf8 (mk 0) (mk 0)
+    ∷ document_start (Some (record { major = pos 1; minor = pos 1 })) (record { handle = (codes "!e!"); prefix = (codes "tag:e,2000:") } ∷ record { handle = (codes "!f!"); prefix = (codes "f") } ∷ []) false (mk 2) (mk 9)
+    ∷ start_event sequence None None true flow_layout (mk 10) (mk 11)
+    ∷ scalar_event None (Some (codes "tag:e,2000:x")) (codes "a") false false YAML_PLAIN_SCALAR_STYLE (mk 12) (mk 15)
+    ∷ scalar_event None (Some (codes "fy")) [] false false YAML_PLAIN_SCALAR_STYLE (mk 18) (mk 19)
+    ∷ end_event sequence (mk 20) (mk 21)
+    ∷ document_end_event false (mk 22) (mk 23)
+    ∷ stream_end_event (mk 24) (mk 25)
+    ∷ [])
+directives = refl
+
+-- Behind DOCUMENT-END an implicit document may follow, and further DOCUMENT-ENDs are skipped.
+an_implicit_document_behind_an_end : outcome (StreamStart utf8 ∷ DocumentStart ∷ DocumentEnd ∷ DocumentEnd ∷ plain (codes "b") ∷ StreamEnd ∷ [])
+    ≡ ends_with (stream_start_event utf8 (mk 0) (mk 0)
+    ∷ document_start None [] false (mk 2) (mk 3)
+    ∷ scalar_event None None [] true false YAML_PLAIN_SCALAR_STYLE (mk 4) (mk 4)
+    ∷ document_end_event false (mk 4) (mk 5)
+    ∷ document_start None [] true (mk 8) (mk 8)
+    ∷ scalar_event None None (codes "b") true false YAML_PLAIN_SCALAR_STYLE (mk 8) (mk 9)
+    ∷ document_end_event true (mk 10) (mk 10)
+    ∷ stream_end_event (mk 10) (mk 11)
+    ∷ [])
+an_implicit_document_behind_an_end = refl
+
+-- Behind DOCUMENT-END a document may have its DOCUMENT-START.
+an_explicit_document_behind_an_end : outcome (StreamStart utf8 ∷ plain (codes "a") ∷ DocumentEnd ∷ asks 1 2 ∷ DocumentStart ∷ plain (codes "b") ∷ DocumentStart ∷ StreamEnd ∷ [])
+    ≡ ends_with (stream_start_event utf8 (mk 0) (mk 0)
+    ∷ document_start None [] true (mk 2) (mk 2)
+    ∷ scalar_event None None (codes "a") true false YAML_PLAIN_SCALAR_STYLE (mk 2) (mk 3)
+    ∷ document_end_event false (mk 4) (mk 5)
+    ∷ document_start (Some (record { major = pos 1; minor = pos 2 })) [] false (mk 6) (mk 9)
+    ∷ scalar_event None None (codes "b") true false YAML_PLAIN_SCALAR_STYLE (mk 10) (mk 11)
+    ∷ document_end_event true (mk 12) (mk 12)
+    ∷ document_start None [] false (mk 12) (mk 13)
+    ∷ scalar_event None None [] true false YAML_PLAIN_SCALAR_STYLE (mk 14) (mk 14)
+    ∷ document_end_event true (mk 14) (mk 14)
+    ∷ stream_end_event (mk 14) (mk 15)
+    ∷ [])
+an_explicit_document_behind_an_end = refl
+
+-- A scalar begins at its first property.
+anchor_and_tag : outcome (StreamStart utf8 ∷ named (codes "a") ∷ tagged (codes "!!") (codes "x") ∷ text (codes "b") YAML_DOUBLE_QUOTED_SCALAR_STYLE ∷ StreamEnd ∷ [])
+    ≡ ends_with (stream_start_event utf8 (mk 0) (mk 0)
+    ∷ document_start None [] true (mk 2) (mk 2)
+    ∷ scalar_event (Some (codes "a")) (Some (codes "tag:yaml.org,2002:x")) (codes "b") false false YAML_DOUBLE_QUOTED_SCALAR_STYLE (mk 2) (mk 7)
+    ∷ document_end_event true (mk 8) (mk 8)
+    ∷ stream_end_event (mk 8) (mk 9)
+    ∷ [])
+anchor_and_tag = refl
+
+-- A tag may stand before an anchor.
+tag_and_anchor : outcome (StreamStart utf8 ∷ tagged (codes "!") (codes "x") ∷ named (codes "a") ∷ text (codes "b") YAML_SINGLE_QUOTED_SCALAR_STYLE ∷ StreamEnd ∷ [])
+    ≡ ends_with (stream_start_event utf8 (mk 0) (mk 0)
+    ∷ document_start None [] true (mk 2) (mk 2)
+    ∷ scalar_event (Some (codes "a")) (Some (codes "!x")) (codes "b") false false YAML_SINGLE_QUOTED_SCALAR_STYLE (mk 2) (mk 7)
+    ∷ document_end_event true (mk 8) (mk 8)
+    ∷ stream_end_event (mk 8) (mk 9)
+    ∷ [])
+tag_and_anchor = refl
+
+-- Properties alone are an empty scalar from the first to the last.
+properties_alone : outcome (StreamStart utf8 ∷ BlockSequenceStart ∷ BlockEntry ∷ named (codes "a") ∷ BlockEntry ∷ tagged (codes "!!") (codes "x") ∷ BlockEntry ∷ named (codes "a") ∷ tagged [] [] ∷ BlockEnd ∷ StreamEnd ∷ [])
+    ≡ ends_with (stream_start_event utf8 (mk 0) (mk 0)
+    ∷ document_start None [] true (mk 2) (mk 2)
+    ∷ start_event sequence None None true block_layout (mk 2) (mk 3)
+    ∷ scalar_event (Some (codes "a")) None [] true false YAML_PLAIN_SCALAR_STYLE (mk 6) (mk 7)
+    ∷ scalar_event None (Some (codes "tag:yaml.org,2002:x")) [] false false YAML_PLAIN_SCALAR_STYLE (mk 10) (mk 11)
+    ∷ scalar_event (Some (codes "a")) (Some []) [] true false YAML_PLAIN_SCALAR_STYLE (mk 14) (mk 17)
+    ∷ end_event sequence (mk 18) (mk 19)
+    ∷ document_end_event true (mk 20) (mk 20)
+    ∷ stream_end_event (mk 20) (mk 21)
+    ∷ [])
+properties_alone = refl
+
+-- An alias has its token's marks.
+an_alias : outcome (StreamStart utf8 ∷ FlowSequenceStart ∷ alias_to (codes "a") ∷ FlowSequenceEnd ∷ StreamEnd ∷ [])
+    ≡ ends_with (stream_start_event utf8 (mk 0) (mk 0)
+    ∷ document_start None [] true (mk 2) (mk 2)
+    ∷ start_event sequence None None true flow_layout (mk 2) (mk 3)
+    ∷ alias_event (record { value = (codes "a") }) (mk 4) (mk 5)
+    ∷ end_event sequence (mk 6) (mk 7)
+    ∷ document_end_event true (mk 8) (mk 8)
+    ∷ stream_end_event (mk 8) (mk 9)
+    ∷ [])
+an_alias = refl
+
+-- Without a tag a plain scalar is plain_implicit, and any other is quoted_implicit.
+flags_by_style : outcome (StreamStart utf8 ∷ FlowSequenceStart ∷ plain (codes "a") ∷ FlowEntry ∷ text (codes "b") YAML_SINGLE_QUOTED_SCALAR_STYLE ∷ FlowEntry ∷ text (codes "c") YAML_DOUBLE_QUOTED_SCALAR_STYLE ∷ FlowEntry ∷ text (codes "d") YAML_LITERAL_SCALAR_STYLE ∷ FlowEntry ∷ text (codes "e") YAML_FOLDED_SCALAR_STYLE ∷ FlowEntry ∷ text (codes "f") YAML_ANY_SCALAR_STYLE ∷ FlowSequenceEnd ∷ StreamEnd ∷ [])
+    ≡ ends_with (stream_start_event utf8 (mk 0) (mk 0)
+    ∷ document_start None [] true (mk 2) (mk 2)
+    ∷ start_event sequence None None true flow_layout (mk 2) (mk 3)
+    ∷ scalar_event None None (codes "a") true false YAML_PLAIN_SCALAR_STYLE (mk 4) (mk 5)
+    ∷ scalar_event None None (codes "b") false true YAML_SINGLE_QUOTED_SCALAR_STYLE (mk 8) (mk 9)
+    ∷ scalar_event None None (codes "c") false true YAML_DOUBLE_QUOTED_SCALAR_STYLE (mk 12) (mk 13)
+    ∷ scalar_event None None (codes "d") false true YAML_LITERAL_SCALAR_STYLE (mk 16) (mk 17)
+    ∷ scalar_event None None (codes "e") false true YAML_FOLDED_SCALAR_STYLE (mk 20) (mk 21)
+    ∷ scalar_event None None (codes "f") false true YAML_ANY_SCALAR_STYLE (mk 24) (mk 25)
+    ∷ end_event sequence (mk 26) (mk 27)
+    ∷ document_end_event true (mk 28) (mk 28)
+    ∷ stream_end_event (mk 28) (mk 29)
+    ∷ [])
+flags_by_style = refl
+
+-- The tag ! leaves a scalar plain_implicit; an empty tag and any other leave neither flag.
+flags_by_tag : outcome (StreamStart utf8 ∷ FlowSequenceStart ∷ tagged (codes "!") [] ∷ plain (codes "a") ∷ FlowEntry ∷ tagged (codes "!") [] ∷ text (codes "a") YAML_DOUBLE_QUOTED_SCALAR_STYLE ∷ FlowEntry ∷ tagged [] [] ∷ plain (codes "a") ∷ FlowEntry ∷ tagged [] [] ∷ text (codes "a") YAML_DOUBLE_QUOTED_SCALAR_STYLE ∷ FlowEntry ∷ tagged [] (codes "t") ∷ plain (codes "a") ∷ FlowSequenceEnd ∷ StreamEnd ∷ [])
+    ≡ ends_with (stream_start_event utf8 (mk 0) (mk 0)
+    ∷ document_start None [] true (mk 2) (mk 2)
+    ∷ start_event sequence None None true flow_layout (mk 2) (mk 3)
+    ∷ scalar_event None (Some (codes "!")) (codes "a") true false YAML_PLAIN_SCALAR_STYLE (mk 4) (mk 7)
+    ∷ scalar_event None (Some (codes "!")) (codes "a") true false YAML_DOUBLE_QUOTED_SCALAR_STYLE (mk 10) (mk 13)
+    ∷ scalar_event None (Some []) (codes "a") false false YAML_PLAIN_SCALAR_STYLE (mk 16) (mk 19)
+    ∷ scalar_event None (Some []) (codes "a") false false YAML_DOUBLE_QUOTED_SCALAR_STYLE (mk 22) (mk 25)
+    ∷ scalar_event None (Some (codes "t")) (codes "a") false false YAML_PLAIN_SCALAR_STYLE (mk 28) (mk 31)
+    ∷ end_event sequence (mk 32) (mk 33)
+    ∷ document_end_event true (mk 34) (mk 34)
+    ∷ stream_end_event (mk 34) (mk 35)
+    ∷ [])
+flags_by_tag = refl
+
+-- A collection is implicit without a tag or with an empty one.
+flags_of_collections : outcome (StreamStart utf8 ∷ FlowSequenceStart ∷ tagged [] [] ∷ FlowSequenceStart ∷ FlowSequenceEnd ∷ FlowEntry ∷ tagged (codes "!") [] ∷ FlowMappingStart ∷ FlowMappingEnd ∷ FlowEntry ∷ tagged (codes "!!") (codes "seq") ∷ FlowSequenceStart ∷ FlowSequenceEnd ∷ FlowSequenceEnd ∷ StreamEnd ∷ [])
+    ≡ ends_with (stream_start_event utf8 (mk 0) (mk 0)
+    ∷ document_start None [] true (mk 2) (mk 2)
+    ∷ start_event sequence None None true flow_layout (mk 2) (mk 3)
+    ∷ start_event sequence None (Some []) true flow_layout (mk 4) (mk 7)
+    ∷ end_event sequence (mk 8) (mk 9)
+    ∷ start_event mapping None (Some (codes "!")) false flow_layout (mk 12) (mk 15)
+    ∷ end_event mapping (mk 16) (mk 17)
+    ∷ start_event sequence None (Some (codes "tag:yaml.org,2002:seq")) false flow_layout (mk 20) (mk 23)
+    ∷ end_event sequence (mk 24) (mk 25)
+    ∷ end_event sequence (mk 26) (mk 27)
+    ∷ document_end_event true (mk 28) (mk 28)
+    ∷ stream_end_event (mk 28) (mk 29)
+    ∷ [])
+flags_of_collections = refl
+
+-- Properties alone are plain_implicit without a tag or with an empty one.
+flags_of_properties_alone : outcome (StreamStart utf8 ∷ FlowSequenceStart ∷ named (codes "a") ∷ FlowEntry ∷ tagged [] [] ∷ FlowEntry ∷ tagged (codes "!") [] ∷ FlowSequenceEnd ∷ StreamEnd ∷ [])
+    ≡ ends_with (stream_start_event utf8 (mk 0) (mk 0)
+    ∷ document_start None [] true (mk 2) (mk 2)
+    ∷ start_event sequence None None true flow_layout (mk 2) (mk 3)
+    ∷ scalar_event (Some (codes "a")) None [] true false YAML_PLAIN_SCALAR_STYLE (mk 4) (mk 5)
+    ∷ scalar_event None (Some []) [] true false YAML_PLAIN_SCALAR_STYLE (mk 8) (mk 9)
+    ∷ scalar_event None (Some (codes "!")) [] false false YAML_PLAIN_SCALAR_STYLE (mk 12) (mk 13)
+    ∷ end_event sequence (mk 14) (mk 15)
+    ∷ document_end_event true (mk 16) (mk 16)
+    ∷ stream_end_event (mk 16) (mk 17)
+    ∷ [])
+flags_of_properties_alone = refl
+
+-- Without a directive ! stands for itself and !! for the tags of YAML.
+default_handles : outcome (StreamStart utf8 ∷ FlowSequenceStart ∷ tagged (codes "!") (codes "x") ∷ plain (codes "a") ∷ FlowEntry ∷ tagged (codes "!!") (codes "str") ∷ plain (codes "a") ∷ FlowSequenceEnd ∷ StreamEnd ∷ [])
+    ≡ ends_with (stream_start_event utf8 (mk 0) (mk 0)
+    ∷ document_start None [] true (mk 2) (mk 2)
+    ∷ start_event sequence None None true flow_layout (mk 2) (mk 3)
+    ∷ scalar_event None (Some (codes "!x")) (codes "a") false false YAML_PLAIN_SCALAR_STYLE (mk 4) (mk 7)
+    ∷ scalar_event None (Some (codes "tag:yaml.org,2002:str")) (codes "a") false false YAML_PLAIN_SCALAR_STYLE (mk 10) (mk 13)
+    ∷ end_event sequence (mk 14) (mk 15)
+    ∷ document_end_event true (mk 16) (mk 16)
+    ∷ stream_end_event (mk 16) (mk 17)
+    ∷ [])
+default_handles = refl
+
+-- A document's own directive for !! comes first, and does not carry over to the next document.
+a_redeclared_handle : outcome (StreamStart utf8 ∷ declaring (codes "!!") (codes "p:") ∷ DocumentStart ∷ tagged (codes "!!") (codes "x") ∷ plain (codes "a") ∷ DocumentStart ∷ tagged (codes "!!") (codes "y") ∷ plain (codes "b") ∷ StreamEnd ∷ [])
+    ≡ ends_with (stream_start_event utf8 (mk 0) (mk 0)
+    ∷ document_start None (record { handle = (codes "!!"); prefix = (codes "p:") } ∷ []) false (mk 2) (mk 5)
+    ∷ scalar_event None (Some (codes "p:x")) (codes "a") false false YAML_PLAIN_SCALAR_STYLE (mk 6) (mk 9)
+    ∷ document_end_event true (mk 10) (mk 10)
+    ∷ document_start None [] false (mk 10) (mk 11)
+    ∷ scalar_event None (Some (codes "tag:yaml.org,2002:y")) (codes "b") false false YAML_PLAIN_SCALAR_STYLE (mk 12) (mk 15)
+    ∷ document_end_event true (mk 16) (mk 16)
+    ∷ stream_end_event (mk 16) (mk 17)
+    ∷ [])
+a_redeclared_handle = refl
+
+-- So for !.
+a_redeclared_primary_handle : outcome (StreamStart utf8 ∷ declaring (codes "!") (codes "p:") ∷ DocumentStart ∷ tagged (codes "!") (codes "x") ∷ plain (codes "a") ∷ StreamEnd ∷ [])
+    ≡ ends_with (stream_start_event utf8 (mk 0) (mk 0)
+    ∷ document_start None (record { handle = (codes "!"); prefix = (codes "p:") } ∷ []) false (mk 2) (mk 5)
+    ∷ scalar_event None (Some (codes "p:x")) (codes "a") false false YAML_PLAIN_SCALAR_STYLE (mk 6) (mk 9)
+    ∷ document_end_event true (mk 10) (mk 10)
+    ∷ stream_end_event (mk 10) (mk 11)
+    ∷ [])
+a_redeclared_primary_handle = refl
+
+-- A tag with an empty handle is its suffix.
+an_empty_handle : outcome (StreamStart utf8 ∷ tagged [] (codes "x:y") ∷ plain (codes "a") ∷ StreamEnd ∷ [])
+    ≡ ends_with (stream_start_event utf8 (mk 0) (mk 0)
+    ∷ document_start None [] true (mk 2) (mk 2)
+    ∷ scalar_event None (Some (codes "x:y")) (codes "a") false false YAML_PLAIN_SCALAR_STYLE (mk 2) (mk 5)
+    ∷ document_end_event true (mk 6) (mk 6)
+    ∷ stream_end_event (mk 6) (mk 7)
+    ∷ [])
+an_empty_handle = refl
+
+-- A block sequence; nothing in an entry is an empty scalar at the end of its BLOCK-ENTRY, before the next entry and before the end.
+block_sequence : outcome (StreamStart utf8 ∷ named (codes "s") ∷ BlockSequenceStart ∷ BlockEntry ∷ plain (codes "a") ∷ BlockEntry ∷ BlockEntry ∷ BlockSequenceStart ∷ BlockEntry ∷ BlockEnd ∷ BlockEnd ∷ StreamEnd ∷ [])
+    ≡ ends_with (stream_start_event utf8 (mk 0) (mk 0)
+    ∷ document_start None [] true (mk 2) (mk 2)
+    ∷ start_event sequence (Some (codes "s")) None true block_layout (mk 2) (mk 5)
+    ∷ scalar_event None None (codes "a") true false YAML_PLAIN_SCALAR_STYLE (mk 8) (mk 9)
+    ∷ scalar_event None None [] true false YAML_PLAIN_SCALAR_STYLE (mk 11) (mk 11)
+    ∷ start_event sequence None None true block_layout (mk 14) (mk 15)
+    ∷ scalar_event None None [] true false YAML_PLAIN_SCALAR_STYLE (mk 17) (mk 17)
+    ∷ end_event sequence (mk 18) (mk 19)
+    ∷ end_event sequence (mk 20) (mk 21)
+    ∷ document_end_event true (mk 22) (mk 22)
+    ∷ stream_end_event (mk 22) (mk 23)
+    ∷ [])
+block_sequence = refl
+
+-- A sequence without tokens of its own ends at the next token, with two equal marks.
+indentless_sequence : outcome (StreamStart utf8 ∷ BlockMappingStart ∷ Key ∷ plain (codes "a") ∷ Value ∷ BlockEntry ∷ plain (codes "b") ∷ BlockEntry ∷ BlockEnd ∷ StreamEnd ∷ [])
+    ≡ ends_with (stream_start_event utf8 (mk 0) (mk 0)
+    ∷ document_start None [] true (mk 2) (mk 2)
+    ∷ start_event mapping None None true block_layout (mk 2) (mk 3)
+    ∷ scalar_event None None (codes "a") true false YAML_PLAIN_SCALAR_STYLE (mk 6) (mk 7)
+    ∷ start_event sequence None None true block_layout (mk 10) (mk 11)
+    ∷ scalar_event None None (codes "b") true false YAML_PLAIN_SCALAR_STYLE (mk 12) (mk 13)
+    ∷ scalar_event None None [] true false YAML_PLAIN_SCALAR_STYLE (mk 15) (mk 15)
+    ∷ end_event sequence (mk 16) (mk 16)
+    ∷ end_event mapping (mk 16) (mk 17)
+    ∷ document_end_event true (mk 18) (mk 18)
+    ∷ stream_end_event (mk 18) (mk 19)
+    ∷ [])
+indentless_sequence = refl
+
+-- It ends before KEY and before VALUE too.
+indentless_sequence_before_parts : outcome (StreamStart utf8 ∷ BlockMappingStart ∷ Key ∷ BlockEntry ∷ Value ∷ BlockEntry ∷ Key ∷ BlockEntry ∷ Key ∷ BlockEntry ∷ BlockEntry ∷ Value ∷ plain (codes "x") ∷ BlockEnd ∷ StreamEnd ∷ [])
+    ≡ ends_with (stream_start_event utf8 (mk 0) (mk 0)
+    ∷ document_start None [] true (mk 2) (mk 2)
+    ∷ start_event mapping None None true block_layout (mk 2) (mk 3)
+    ∷ start_event sequence None None true block_layout (mk 6) (mk 7)
+    ∷ scalar_event None None [] true false YAML_PLAIN_SCALAR_STYLE (mk 7) (mk 7)
+    ∷ end_event sequence (mk 8) (mk 8)
+    ∷ start_event sequence None None true block_layout (mk 10) (mk 11)
+    ∷ scalar_event None None [] true false YAML_PLAIN_SCALAR_STYLE (mk 11) (mk 11)
+    ∷ end_event sequence (mk 12) (mk 12)
+    ∷ start_event sequence None None true block_layout (mk 14) (mk 15)
+    ∷ scalar_event None None [] true false YAML_PLAIN_SCALAR_STYLE (mk 15) (mk 15)
+    ∷ end_event sequence (mk 16) (mk 16)
+    ∷ scalar_event None None [] true false YAML_PLAIN_SCALAR_STYLE (mk 16) (mk 16)
+    ∷ start_event sequence None None true block_layout (mk 18) (mk 19)
+    ∷ scalar_event None None [] true false YAML_PLAIN_SCALAR_STYLE (mk 19) (mk 19)
+    ∷ scalar_event None None [] true false YAML_PLAIN_SCALAR_STYLE (mk 21) (mk 21)
+    ∷ end_event sequence (mk 22) (mk 22)
+    ∷ scalar_event None None (codes "x") true false YAML_PLAIN_SCALAR_STYLE (mk 24) (mk 25)
+    ∷ end_event mapping (mk 26) (mk 27)
+    ∷ document_end_event true (mk 28) (mk 28)
+    ∷ stream_end_event (mk 28) (mk 29)
+    ∷ [])
+indentless_sequence_before_parts = refl
+
+-- It begins at its first property, and its start ends with its first BLOCK-ENTRY.
+indentless_sequence_with_anchor : outcome (StreamStart utf8 ∷ BlockMappingStart ∷ Key ∷ plain (codes "k") ∷ Value ∷ named (codes "a") ∷ BlockEntry ∷ plain (codes "x") ∷ BlockEnd ∷ StreamEnd ∷ [])
+    ≡ ends_with (stream_start_event utf8 (mk 0) (mk 0)
+    ∷ document_start None [] true (mk 2) (mk 2)
+    ∷ start_event mapping None None true block_layout (mk 2) (mk 3)
+    ∷ scalar_event None None (codes "k") true false YAML_PLAIN_SCALAR_STYLE (mk 6) (mk 7)
+    ∷ start_event sequence (Some (codes "a")) None true block_layout (mk 10) (mk 13)
+    ∷ scalar_event None None (codes "x") true false YAML_PLAIN_SCALAR_STYLE (mk 14) (mk 15)
+    ∷ end_event sequence (mk 16) (mk 16)
+    ∷ end_event mapping (mk 16) (mk 17)
+    ∷ document_end_event true (mk 18) (mk 18)
+    ∷ stream_end_event (mk 18) (mk 19)
+    ∷ [])
+indentless_sequence_with_anchor = refl
+
+-- Nothing as a key or value is an empty scalar at the end of its KEY or VALUE; a missing value stands at the next token.
+block_mapping : outcome (StreamStart utf8 ∷ BlockMappingStart ∷ Key ∷ plain (codes "a") ∷ Value ∷ plain (codes "b") ∷ Key ∷ Value ∷ Key ∷ plain (codes "c") ∷ Key ∷ Value ∷ plain (codes "d") ∷ BlockEnd ∷ StreamEnd ∷ [])
+    ≡ ends_with (stream_start_event utf8 (mk 0) (mk 0)
+    ∷ document_start None [] true (mk 2) (mk 2)
+    ∷ start_event mapping None None true block_layout (mk 2) (mk 3)
+    ∷ scalar_event None None (codes "a") true false YAML_PLAIN_SCALAR_STYLE (mk 6) (mk 7)
+    ∷ scalar_event None None (codes "b") true false YAML_PLAIN_SCALAR_STYLE (mk 10) (mk 11)
+    ∷ scalar_event None None [] true false YAML_PLAIN_SCALAR_STYLE (mk 13) (mk 13)
+    ∷ scalar_event None None [] true false YAML_PLAIN_SCALAR_STYLE (mk 15) (mk 15)
+    ∷ scalar_event None None (codes "c") true false YAML_PLAIN_SCALAR_STYLE (mk 18) (mk 19)
+    ∷ scalar_event None None [] true false YAML_PLAIN_SCALAR_STYLE (mk 20) (mk 20)
+    ∷ scalar_event None None [] true false YAML_PLAIN_SCALAR_STYLE (mk 21) (mk 21)
+    ∷ scalar_event None None (codes "d") true false YAML_PLAIN_SCALAR_STYLE (mk 24) (mk 25)
+    ∷ end_event mapping (mk 26) (mk 27)
+    ∷ document_end_event true (mk 28) (mk 28)
+    ∷ stream_end_event (mk 28) (mk 29)
+    ∷ [])
+block_mapping = refl
+
+-- An empty key, and an empty value, before BLOCK-END.
+empty_parts_at_the_end : outcome (StreamStart utf8 ∷ BlockMappingStart ∷ Key ∷ Value ∷ BlockMappingStart ∷ Key ∷ BlockEnd ∷ BlockEnd ∷ StreamEnd ∷ [])
+    ≡ ends_with (stream_start_event utf8 (mk 0) (mk 0)
+    ∷ document_start None [] true (mk 2) (mk 2)
+    ∷ start_event mapping None None true block_layout (mk 2) (mk 3)
+    ∷ scalar_event None None [] true false YAML_PLAIN_SCALAR_STYLE (mk 5) (mk 5)
+    ∷ start_event mapping None None true block_layout (mk 8) (mk 9)
+    ∷ scalar_event None None [] true false YAML_PLAIN_SCALAR_STYLE (mk 11) (mk 11)
+    ∷ scalar_event None None [] true false YAML_PLAIN_SCALAR_STYLE (mk 12) (mk 12)
+    ∷ end_event mapping (mk 12) (mk 13)
+    ∷ end_event mapping (mk 14) (mk 15)
+    ∷ document_end_event true (mk 16) (mk 16)
+    ∷ stream_end_event (mk 16) (mk 17)
+    ∷ [])
+empty_parts_at_the_end = refl
+
+-- An empty value before KEY.
+an_empty_value_before_a_key : outcome (StreamStart utf8 ∷ BlockMappingStart ∷ Key ∷ plain (codes "a") ∷ Value ∷ Key ∷ plain (codes "b") ∷ Value ∷ plain (codes "c") ∷ BlockEnd ∷ StreamEnd ∷ [])
+    ≡ ends_with (stream_start_event utf8 (mk 0) (mk 0)
+    ∷ document_start None [] true (mk 2) (mk 2)
+    ∷ start_event mapping None None true block_layout (mk 2) (mk 3)
+    ∷ scalar_event None None (codes "a") true false YAML_PLAIN_SCALAR_STYLE (mk 6) (mk 7)
+    ∷ scalar_event None None [] true false YAML_PLAIN_SCALAR_STYLE (mk 9) (mk 9)
+    ∷ scalar_event None None (codes "b") true false YAML_PLAIN_SCALAR_STYLE (mk 12) (mk 13)
+    ∷ scalar_event None None (codes "c") true false YAML_PLAIN_SCALAR_STYLE (mk 16) (mk 17)
+    ∷ end_event mapping (mk 18) (mk 19)
+    ∷ document_end_event true (mk 20) (mk 20)
+    ∷ stream_end_event (mk 20) (mk 21)
+    ∷ [])
+an_empty_value_before_a_key = refl
+
+-- A first entry may begin with VALUE: its empty key stands at the start of the VALUE.
+an_entry_that_begins_with_value : outcome (StreamStart utf8 ∷ BlockMappingStart ∷ Value ∷ plain (codes "x") ∷ BlockEnd ∷ StreamEnd ∷ [])
+    ≡ ends_with (stream_start_event utf8 (mk 0) (mk 0)
+    ∷ document_start None [] true (mk 2) (mk 2)
+    ∷ start_event mapping None None true block_layout (mk 2) (mk 3)
+    ∷ scalar_event None None [] true false YAML_PLAIN_SCALAR_STYLE (mk 4) (mk 4)
+    ∷ scalar_event None None (codes "x") true false YAML_PLAIN_SCALAR_STYLE (mk 6) (mk 7)
+    ∷ end_event mapping (mk 8) (mk 9)
+    ∷ document_end_event true (mk 10) (mk 10)
+    ∷ stream_end_event (mk 10) (mk 11)
+    ∷ [])
+an_entry_that_begins_with_value = refl
+
+-- An entry may begin with VALUE behind a value.
+an_entry_that_begins_with_value_behind_a_value : outcome (StreamStart utf8 ∷ BlockMappingStart ∷ Key ∷ plain (codes "k") ∷ Value ∷ Value ∷ BlockEnd ∷ StreamEnd ∷ [])
+    ≡ ends_with (stream_start_event utf8 (mk 0) (mk 0)
+    ∷ document_start None [] true (mk 2) (mk 2)
+    ∷ start_event mapping None None true block_layout (mk 2) (mk 3)
+    ∷ scalar_event None None (codes "k") true false YAML_PLAIN_SCALAR_STYLE (mk 6) (mk 7)
+    ∷ scalar_event None None [] true false YAML_PLAIN_SCALAR_STYLE (mk 9) (mk 9)
+    ∷ scalar_event None None [] true false YAML_PLAIN_SCALAR_STYLE (mk 10) (mk 10)
+    ∷ scalar_event None None [] true false YAML_PLAIN_SCALAR_STYLE (mk 11) (mk 11)
+    ∷ end_event mapping (mk 12) (mk 13)
+    ∷ document_end_event true (mk 14) (mk 14)
+    ∷ stream_end_event (mk 14) (mk 15)
+    ∷ [])
+an_entry_that_begins_with_value_behind_a_value = refl
+
+-- A sequence without tokens of its own as a value, then an entry that begins with VALUE.
+an_indentless_sequence_before_a_value : outcome (StreamStart utf8 ∷ BlockMappingStart ∷ Key ∷ plain (codes "k") ∷ Value ∷ BlockEntry ∷ Value ∷ plain (codes "x") ∷ BlockEnd ∷ StreamEnd ∷ [])
+    ≡ ends_with (stream_start_event utf8 (mk 0) (mk 0)
+    ∷ document_start None [] true (mk 2) (mk 2)
+    ∷ start_event mapping None None true block_layout (mk 2) (mk 3)
+    ∷ scalar_event None None (codes "k") true false YAML_PLAIN_SCALAR_STYLE (mk 6) (mk 7)
+    ∷ start_event sequence None None true block_layout (mk 10) (mk 11)
+    ∷ scalar_event None None [] true false YAML_PLAIN_SCALAR_STYLE (mk 11) (mk 11)
+    ∷ end_event sequence (mk 12) (mk 12)
+    ∷ scalar_event None None [] true false YAML_PLAIN_SCALAR_STYLE (mk 12) (mk 12)
+    ∷ scalar_event None None (codes "x") true false YAML_PLAIN_SCALAR_STYLE (mk 14) (mk 15)
+    ∷ end_event mapping (mk 16) (mk 17)
+    ∷ document_end_event true (mk 18) (mk 18)
+    ∷ stream_end_event (mk 18) (mk 19)
+    ∷ [])
+an_indentless_sequence_before_a_value = refl
+
+-- Block collections within one another.
+block_mapping_in_block_sequence : outcome (StreamStart utf8 ∷ BlockSequenceStart ∷ BlockEntry ∷ BlockMappingStart ∷ Key ∷ plain (codes "a") ∷ Value ∷ BlockSequenceStart ∷ BlockEntry ∷ plain (codes "b") ∷ BlockEnd ∷ BlockEnd ∷ BlockEntry ∷ FlowMappingStart ∷ FlowMappingEnd ∷ BlockEnd ∷ StreamEnd ∷ [])
+    ≡ ends_with (stream_start_event utf8 (mk 0) (mk 0)
+    ∷ document_start None [] true (mk 2) (mk 2)
+    ∷ start_event sequence None None true block_layout (mk 2) (mk 3)
+    ∷ start_event mapping None None true block_layout (mk 6) (mk 7)
+    ∷ scalar_event None None (codes "a") true false YAML_PLAIN_SCALAR_STYLE (mk 10) (mk 11)
+    ∷ start_event sequence None None true block_layout (mk 14) (mk 15)
+    ∷ scalar_event None None (codes "b") true false YAML_PLAIN_SCALAR_STYLE (mk 18) (mk 19)
+    ∷ end_event sequence (mk 20) (mk 21)
+    ∷ end_event mapping (mk 22) (mk 23)
+    ∷ start_event mapping None None true flow_layout (mk 26) (mk 27)
+    ∷ end_event mapping (mk 28) (mk 29)
+    ∷ end_event sequence (mk 30) (mk 31)
+    ∷ document_end_event true (mk 32) (mk 32)
+    ∷ stream_end_event (mk 32) (mk 33)
+    ∷ [])
+block_mapping_in_block_sequence = refl
+
+-- A flow sequence may end with FLOW-ENTRY.
+flow_sequence : outcome (StreamStart utf8 ∷ FlowSequenceStart ∷ plain (codes "a") ∷ FlowEntry ∷ plain (codes "b") ∷ FlowEntry ∷ FlowSequenceEnd ∷ StreamEnd ∷ [])
+    ≡ ends_with (stream_start_event utf8 (mk 0) (mk 0)
+    ∷ document_start None [] true (mk 2) (mk 2)
+    ∷ start_event sequence None None true flow_layout (mk 2) (mk 3)
+    ∷ scalar_event None None (codes "a") true false YAML_PLAIN_SCALAR_STYLE (mk 4) (mk 5)
+    ∷ scalar_event None None (codes "b") true false YAML_PLAIN_SCALAR_STYLE (mk 8) (mk 9)
+    ∷ end_event sequence (mk 12) (mk 13)
+    ∷ document_end_event true (mk 14) (mk 14)
+    ∷ stream_end_event (mk 14) (mk 15)
+    ∷ [])
+flow_sequence = refl
+
+-- A pair in a flow sequence is a mapping of its own from its KEY; its end stands at the next token.
+flow_pairs : outcome (StreamStart utf8 ∷ FlowSequenceStart ∷ Key ∷ plain (codes "a") ∷ Value ∷ plain (codes "b") ∷ FlowEntry ∷ Key ∷ plain (codes "c") ∷ Value ∷ FlowEntry ∷ Key ∷ plain (codes "d") ∷ FlowEntry ∷ Key ∷ Value ∷ plain (codes "e") ∷ FlowEntry ∷ Key ∷ Value ∷ FlowSequenceEnd ∷ StreamEnd ∷ [])
+    ≡ ends_with (stream_start_event utf8 (mk 0) (mk 0)
+    ∷ document_start None [] true (mk 2) (mk 2)
+    ∷ start_event sequence None None true flow_layout (mk 2) (mk 3)
+    ∷ start_event mapping None None true flow_layout (mk 4) (mk 5)
+    ∷ scalar_event None None (codes "a") true false YAML_PLAIN_SCALAR_STYLE (mk 6) (mk 7)
+    ∷ scalar_event None None (codes "b") true false YAML_PLAIN_SCALAR_STYLE (mk 10) (mk 11)
+    ∷ end_event mapping (mk 12) (mk 12)
+    ∷ start_event mapping None None true flow_layout (mk 14) (mk 15)
+    ∷ scalar_event None None (codes "c") true false YAML_PLAIN_SCALAR_STYLE (mk 16) (mk 17)
+    ∷ scalar_event None None [] true false YAML_PLAIN_SCALAR_STYLE (mk 20) (mk 20)
+    ∷ end_event mapping (mk 20) (mk 20)
+    ∷ start_event mapping None None true flow_layout (mk 22) (mk 23)
+    ∷ scalar_event None None (codes "d") true false YAML_PLAIN_SCALAR_STYLE (mk 24) (mk 25)
+    ∷ scalar_event None None [] true false YAML_PLAIN_SCALAR_STYLE (mk 26) (mk 26)
+    ∷ end_event mapping (mk 26) (mk 26)
+    ∷ start_event mapping None None true flow_layout (mk 28) (mk 29)
+    ∷ scalar_event None None [] true false YAML_PLAIN_SCALAR_STYLE (mk 30) (mk 30)
+    ∷ scalar_event None None (codes "e") true false YAML_PLAIN_SCALAR_STYLE (mk 32) (mk 33)
+    ∷ end_event mapping (mk 34) (mk 34)
+    ∷ start_event mapping None None true flow_layout (mk 36) (mk 37)
+    ∷ scalar_event None None [] true false YAML_PLAIN_SCALAR_STYLE (mk 38) (mk 38)
+    ∷ scalar_event None None [] true false YAML_PLAIN_SCALAR_STYLE (mk 40) (mk 40)
+    ∷ end_event mapping (mk 40) (mk 40)
+    ∷ end_event sequence (mk 40) (mk 41)
+    ∷ document_end_event true (mk 42) (mk 42)
+    ∷ stream_end_event (mk 42) (mk 43)
+    ∷ [])
+flow_pairs = refl
+
+-- An empty key without value, and an empty value, before the end.
+flow_pairs_at_the_end : outcome (StreamStart utf8 ∷ FlowSequenceStart ∷ FlowSequenceStart ∷ Key ∷ FlowSequenceEnd ∷ FlowEntry ∷ FlowSequenceStart ∷ Key ∷ plain (codes "a") ∷ Value ∷ FlowSequenceEnd ∷ FlowEntry ∷ Key ∷ FlowEntry ∷ Key ∷ plain (codes "a") ∷ FlowSequenceEnd ∷ StreamEnd ∷ [])
+    ≡ ends_with (stream_start_event utf8 (mk 0) (mk 0)
+    ∷ document_start None [] true (mk 2) (mk 2)
+    ∷ start_event sequence None None true flow_layout (mk 2) (mk 3)
+    ∷ start_event sequence None None true flow_layout (mk 4) (mk 5)
+    ∷ start_event mapping None None true flow_layout (mk 6) (mk 7)
+    ∷ scalar_event None None [] true false YAML_PLAIN_SCALAR_STYLE (mk 8) (mk 8)
+    ∷ scalar_event None None [] true false YAML_PLAIN_SCALAR_STYLE (mk 8) (mk 8)
+    ∷ end_event mapping (mk 8) (mk 8)
+    ∷ end_event sequence (mk 8) (mk 9)
+    ∷ start_event sequence None None true flow_layout (mk 12) (mk 13)
+    ∷ start_event mapping None None true flow_layout (mk 14) (mk 15)
+    ∷ scalar_event None None (codes "a") true false YAML_PLAIN_SCALAR_STYLE (mk 16) (mk 17)
+    ∷ scalar_event None None [] true false YAML_PLAIN_SCALAR_STYLE (mk 20) (mk 20)
+    ∷ end_event mapping (mk 20) (mk 20)
+    ∷ end_event sequence (mk 20) (mk 21)
+    ∷ start_event mapping None None true flow_layout (mk 24) (mk 25)
+    ∷ scalar_event None None [] true false YAML_PLAIN_SCALAR_STYLE (mk 26) (mk 26)
+    ∷ scalar_event None None [] true false YAML_PLAIN_SCALAR_STYLE (mk 26) (mk 26)
+    ∷ end_event mapping (mk 26) (mk 26)
+    ∷ start_event mapping None None true flow_layout (mk 28) (mk 29)
+    ∷ scalar_event None None (codes "a") true false YAML_PLAIN_SCALAR_STYLE (mk 30) (mk 31)
+    ∷ scalar_event None None [] true false YAML_PLAIN_SCALAR_STYLE (mk 32) (mk 32)
+    ∷ end_event mapping (mk 32) (mk 32)
+    ∷ end_event sequence (mk 32) (mk 33)
+    ∷ document_end_event true (mk 34) (mk 34)
+    ∷ stream_end_event (mk 34) (mk 35)
+    ∷ [])
+flow_pairs_at_the_end = refl
+
+-- A flow sequence as a key.
+nested_flow_pairs : outcome (StreamStart utf8 ∷ FlowSequenceStart ∷ Key ∷ FlowSequenceStart ∷ Key ∷ Value ∷ FlowSequenceEnd ∷ FlowSequenceEnd ∷ StreamEnd ∷ [])
+    ≡ ends_with (stream_start_event utf8 (mk 0) (mk 0)
+    ∷ document_start None [] true (mk 2) (mk 2)
+    ∷ start_event sequence None None true flow_layout (mk 2) (mk 3)
+    ∷ start_event mapping None None true flow_layout (mk 4) (mk 5)
+    ∷ start_event sequence None None true flow_layout (mk 6) (mk 7)
+    ∷ start_event mapping None None true flow_layout (mk 8) (mk 9)
+    ∷ scalar_event None None [] true false YAML_PLAIN_SCALAR_STYLE (mk 10) (mk 10)
+    ∷ scalar_event None None [] true false YAML_PLAIN_SCALAR_STYLE (mk 12) (mk 12)
+    ∷ end_event mapping (mk 12) (mk 12)
+    ∷ end_event sequence (mk 12) (mk 13)
+    ∷ scalar_event None None [] true false YAML_PLAIN_SCALAR_STYLE (mk 14) (mk 14)
+    ∷ end_event mapping (mk 14) (mk 14)
+    ∷ end_event sequence (mk 14) (mk 15)
+    ∷ document_end_event true (mk 16) (mk 16)
+    ∷ stream_end_event (mk 16) (mk 17)
+    ∷ [])
+nested_flow_pairs = refl
+
+-- In a flow mapping a node alone lacks its value.
+flow_mapping : outcome (StreamStart utf8 ∷ FlowMappingStart ∷ Key ∷ plain (codes "a") ∷ Value ∷ plain (codes "b") ∷ FlowEntry ∷ plain (codes "c") ∷ FlowEntry ∷ Key ∷ plain (codes "d") ∷ FlowEntry ∷ Key ∷ Value ∷ plain (codes "e") ∷ FlowEntry ∷ Key ∷ plain (codes "f") ∷ Value ∷ FlowMappingEnd ∷ StreamEnd ∷ [])
+    ≡ ends_with (stream_start_event utf8 (mk 0) (mk 0)
+    ∷ document_start None [] true (mk 2) (mk 2)
+    ∷ start_event mapping None None true flow_layout (mk 2) (mk 3)
+    ∷ scalar_event None None (codes "a") true false YAML_PLAIN_SCALAR_STYLE (mk 6) (mk 7)
+    ∷ scalar_event None None (codes "b") true false YAML_PLAIN_SCALAR_STYLE (mk 10) (mk 11)
+    ∷ scalar_event None None (codes "c") true false YAML_PLAIN_SCALAR_STYLE (mk 14) (mk 15)
+    ∷ scalar_event None None [] true false YAML_PLAIN_SCALAR_STYLE (mk 16) (mk 16)
+    ∷ scalar_event None None (codes "d") true false YAML_PLAIN_SCALAR_STYLE (mk 20) (mk 21)
+    ∷ scalar_event None None [] true false YAML_PLAIN_SCALAR_STYLE (mk 22) (mk 22)
+    ∷ scalar_event None None [] true false YAML_PLAIN_SCALAR_STYLE (mk 26) (mk 26)
+    ∷ scalar_event None None (codes "e") true false YAML_PLAIN_SCALAR_STYLE (mk 28) (mk 29)
+    ∷ scalar_event None None (codes "f") true false YAML_PLAIN_SCALAR_STYLE (mk 34) (mk 35)
+    ∷ scalar_event None None [] true false YAML_PLAIN_SCALAR_STYLE (mk 38) (mk 38)
+    ∷ end_event mapping (mk 38) (mk 39)
+    ∷ document_end_event true (mk 40) (mk 40)
+    ∷ stream_end_event (mk 40) (mk 41)
+    ∷ [])
+flow_mapping = refl
+
+-- Empty keys and values in a flow mapping.
+flow_mapping_empty : outcome (StreamStart utf8 ∷ FlowMappingStart ∷ Key ∷ FlowEntry ∷ Key ∷ Value ∷ FlowEntry ∷ FlowMappingStart ∷ Key ∷ FlowMappingEnd ∷ FlowEntry ∷ Key ∷ Value ∷ FlowMappingEnd ∷ StreamEnd ∷ [])
+    ≡ ends_with (stream_start_event utf8 (mk 0) (mk 0)
+    ∷ document_start None [] true (mk 2) (mk 2)
+    ∷ start_event mapping None None true flow_layout (mk 2) (mk 3)
+    ∷ scalar_event None None [] true false YAML_PLAIN_SCALAR_STYLE (mk 6) (mk 6)
+    ∷ scalar_event None None [] true false YAML_PLAIN_SCALAR_STYLE (mk 6) (mk 6)
+    ∷ scalar_event None None [] true false YAML_PLAIN_SCALAR_STYLE (mk 10) (mk 10)
+    ∷ scalar_event None None [] true false YAML_PLAIN_SCALAR_STYLE (mk 12) (mk 12)
+    ∷ start_event mapping None None true flow_layout (mk 14) (mk 15)
+    ∷ scalar_event None None [] true false YAML_PLAIN_SCALAR_STYLE (mk 18) (mk 18)
+    ∷ scalar_event None None [] true false YAML_PLAIN_SCALAR_STYLE (mk 18) (mk 18)
+    ∷ end_event mapping (mk 18) (mk 19)
+    ∷ scalar_event None None [] true false YAML_PLAIN_SCALAR_STYLE (mk 20) (mk 20)
+    ∷ scalar_event None None [] true false YAML_PLAIN_SCALAR_STYLE (mk 24) (mk 24)
+    ∷ scalar_event None None [] true false YAML_PLAIN_SCALAR_STYLE (mk 26) (mk 26)
+    ∷ end_event mapping (mk 26) (mk 27)
+    ∷ document_end_event true (mk 28) (mk 28)
+    ∷ stream_end_event (mk 28) (mk 29)
+    ∷ [])
+flow_mapping_empty = refl
+
+-- A flow mapping may end with FLOW-ENTRY.
+flow_mapping_trailing : outcome (StreamStart utf8 ∷ FlowMappingStart ∷ Key ∷ FlowMappingStart ∷ FlowMappingEnd ∷ Value ∷ FlowSequenceStart ∷ FlowSequenceEnd ∷ FlowEntry ∷ FlowMappingEnd ∷ StreamEnd ∷ [])
+    ≡ ends_with (stream_start_event utf8 (mk 0) (mk 0)
+    ∷ document_start None [] true (mk 2) (mk 2)
+    ∷ start_event mapping None None true flow_layout (mk 2) (mk 3)
+    ∷ start_event mapping None None true flow_layout (mk 6) (mk 7)
+    ∷ end_event mapping (mk 8) (mk 9)
+    ∷ start_event sequence None None true flow_layout (mk 12) (mk 13)
+    ∷ end_event sequence (mk 14) (mk 15)
+    ∷ end_event mapping (mk 18) (mk 19)
+    ∷ document_end_event true (mk 20) (mk 20)
+    ∷ stream_end_event (mk 20) (mk 21)
+    ∷ [])
+flow_mapping_trailing = refl
+
+-- A document's content is nothing before a directive and before the next DOCUMENT-START.
+directives_behind_an_empty_document : outcome (StreamStart utf8 ∷ DocumentStart ∷ asks 1 1 ∷ DocumentStart ∷ declaring (codes "!") (codes "!") ∷ DocumentStart ∷ DocumentStart ∷ StreamEnd ∷ [])
+    ≡ ends_with (stream_start_event utf8 (mk 0) (mk 0)
+    ∷ document_start None [] false (mk 2) (mk 3)
+    ∷ scalar_event None None [] true false YAML_PLAIN_SCALAR_STYLE (mk 4) (mk 4)
+    ∷ document_end_event true (mk 4) (mk 4)
+    ∷ document_start (Some (record { major = pos 1; minor = pos 1 })) [] false (mk 4) (mk 7)
+    ∷ scalar_event None None [] true false YAML_PLAIN_SCALAR_STYLE (mk 8) (mk 8)
+    ∷ document_end_event true (mk 8) (mk 8)
+    ∷ document_start None (record { handle = (codes "!"); prefix = (codes "!") } ∷ []) false (mk 8) (mk 11)
+    ∷ scalar_event None None [] true false YAML_PLAIN_SCALAR_STYLE (mk 12) (mk 12)
+    ∷ document_end_event true (mk 12) (mk 12)
+    ∷ document_start None [] false (mk 12) (mk 13)
+    ∷ scalar_event None None [] true false YAML_PLAIN_SCALAR_STYLE (mk 14) (mk 14)
+    ∷ document_end_event true (mk 14) (mk 14)
+    ∷ stream_end_event (mk 14) (mk 15)
+    ∷ [])
+directives_behind_an_empty_document = refl
