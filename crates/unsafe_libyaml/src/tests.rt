@@ -1,6 +1,7 @@
 //! What no clause says: that calls succeed, and what they answer where a growth is refused.
 
-ghost use Rattle.std.specs.Prelude.{◌≡◌, [], IfOk};
+ghost use Rattle.std.specs.Prelude.{◌≡◌, [], IfOk, IsTrue};
+ghost use Rattle.unsafe_libyaml.specs.Nodes.{type_at};
 
 use super::*;
 use std::alloc::Global;
@@ -144,5 +145,121 @@ fn a_new_document_shows_its_directives(rt: HostRuntime) -> Result<(), Fail> {
     let hostile: [(&[u8], &[u8]); 1] = [(b"!e!", &[0xed, 0xa0, 0x80])];
     let refused = yaml_document_initialize(rt.alloc(), None, hostile.as_slice(), true, true).err();
     assert!(rt; refused == Some(yaml_refusal_t::NotUtf8));
+    Ok(())
+}
+
+/// A call on a document, by its kind. The ids are those that earlier calls answered.
+#[derive(Copy, Clone)]
+enum Call {
+    Scalar,
+    Sequence,
+    Mapping,
+    Item(i32, i32),
+    Pair(i32, i32, i32),
+}
+
+/// Each kind of call where the list that it adds to has to grow, and where it needn't.
+const CALLS: [Call; 17] = [
+    Call::Sequence,
+    Call::Item(1, 1),
+    Call::Scalar,
+    Call::Mapping,
+    Call::Pair(3, 2, 1),
+    Call::Scalar,
+    Call::Mapping,
+    Call::Item(1, 5),
+    Call::Item(1, 4),
+    Call::Item(1, 3),
+    Call::Item(1, 2),
+    Call::Pair(3, 2, 5),
+    Call::Pair(3, 1, 4),
+    Call::Sequence,
+    Call::Mapping,
+    Call::Sequence,
+    Call::Scalar,
+];
+
+/// Whether a node of this type has this id.
+fn is_at(document: &yaml_document_t, id: i32, wanted: yaml_node_type_t) -> bool
+    ensures { IsTrue result → type_at document.now.nodes id ≡ wanted }
+{
+    match yaml_document_get_node(document, id) {
+        Some(node) => node.type_() == wanted,
+        None => false,
+    }
+}
+
+/// Makes a call, where its ids allow it.
+fn make(document: &mut yaml_document_t, call: Call) -> Result<(), yaml_refusal_t> {
+    match call {
+        Call::Scalar => {
+            let style = YAML_DOUBLE_QUOTED_SCALAR_STYLE;
+            yaml_document_add_scalar(document, Some(b"!t"), b"text", style)?;
+        }
+        Call::Sequence => {
+            yaml_document_add_sequence(document, None, YAML_FLOW_SEQUENCE_STYLE)?;
+        }
+        Call::Mapping => {
+            yaml_document_add_mapping(document, None, YAML_FLOW_MAPPING_STYLE)?;
+        }
+        Call::Item(sequence, item) => if is_at(document, sequence, YAML_SEQUENCE_NODE)
+            && yaml_document_get_node(document, item).is_some()
+        {
+            yaml_document_append_sequence_item(document, sequence, item)?;
+        },
+        Call::Pair(mapping, key, value) => if is_at(document, mapping, YAML_MAPPING_NODE)
+            && yaml_document_get_node(document, key).is_some()
+            && yaml_document_get_node(document, value).is_some()
+        {
+            yaml_document_append_mapping_pair(document, mapping, key, value)?;
+        },
+    }
+    Ok(())
+}
+
+/// A document with a directive, and no nodes.
+fn with_directive(alloc: Global) -> Result<yaml_document_t, yaml_refusal_t> {
+    let directives: [(&[u8], &[u8]); 1] = [(b"!e!", b"tag:e,2000:")];
+    yaml_document_initialize(alloc, None, directives.as_slice(), true, false)
+}
+
+/// Whether two documents show the same.
+fn are_same(one: &yaml_document_t, other: &yaml_document_t) -> bool {
+    one.nodes() == other.nodes()
+        && one.version_directive() == other.version_directive()
+        && one.tag_directives() == other.tag_directives()
+        && one.start_implicit() == other.start_implicit()
+        && one.end_implicit() == other.end_implicit()
+        && one.start_mark() == other.start_mark()
+        && one.end_mark() == other.end_mark()
+}
+
+// Passes whichever growth is refused: a call is made again after a refusal.
+#[test]
+fn a_refused_growth_leaves_the_document_as_it_was(rt: HostRuntime) -> Result<(), Fail> {
+    let mut twin = match with_directive(rt.alloc()) {
+        Ok(document) => document,
+        Err(refusal) => {
+            assert!(rt; refusal == yaml_refusal_t::Memory);
+            with_directive(rt.alloc())?
+        }
+    };
+    let mut document = match with_directive(rt.alloc()) {
+        Ok(document) => document,
+        Err(_) => with_directive(rt.alloc())?,
+    };
+    for call in CALLS {
+        if let Err(refusal) = make(&mut document, call) {
+            assert!(rt; refusal == yaml_refusal_t::Memory);
+            assert!(rt; are_same(&document, &twin));
+            make(&mut document, call)?;
+        }
+        assert!(rt; !are_same(&document, &twin));
+        if make(&mut twin, call).is_err() {
+            make(&mut twin, call)?;
+        }
+        assert!(rt; are_same(&document, &twin));
+    }
+    assert_eq!(rt; document.nodes().len(), 9);
     Ok(())
 }
