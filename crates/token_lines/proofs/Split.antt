@@ -6,7 +6,7 @@ use Rattle.std.proofs.lemmas.List.Splits.{slice_split_at, slice_split_none}
 use Rattle.std.specs.List.{slice_split}
 use Rattle.std.proofs.Math.Seq.{drop-cons}
 
-no_separator : (c : ℕ) (bs : List ℕ) → All (λ x. x ≢ c) bs → All (λ x. (x == c) ≡ false) bs
+pub no_separator : (c : ℕ) (bs : List ℕ) → All (λ x. x ≢ c) bs → All (λ x. (x == c) ≡ false) bs
 no_separator c bs h = All-weaker (λ x. x ≢ c) (λ x. (x == c) ≡ false) (λ x ne. ne_eqb x c ne) bs h
 
 parted : (c : ℕ) (bs : List ℕ) (n : ℕ) → n < length bs → get_or bs n 0 ≡ c → bs ≡ take n bs ++ c ∷ drop (n + 1) bs

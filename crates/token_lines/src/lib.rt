@@ -8,6 +8,7 @@ mod field;
 mod field_text;
 pub mod laws;
 mod line;
+mod line_problem;
 mod number;
 mod parts;
 mod refusal;

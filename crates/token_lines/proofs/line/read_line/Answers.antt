@@ -1,11 +1,21 @@
-use Rattle.std.proofs.Common.{arith}
-use Rattle.token_lines.proofs.Appended.{moved, kept_clean}
-use Rattle.std.proofs.lemmas.Grind.{common_steps}
+use Rattle.std.proofs.Common.{◌<◌, length, sym, arith}
+use Rattle.std.proofs.lemmas.Bool.{eqb-false}
+use Rattle.token_lines.proofs.LinesLemmas.{takes_line, takes_last, takes_too_long}
 use Rattle.token_lines.proofs.line.read_line.Goals as goal
 
-pub loop-line-preserved : goal.loop-line-preserved
-loop-line-preserved g c = record {
-  taken = moved _ _ _ c.loop-line.line.items c.read_part.new.line.items c.read_part.ensures.appends c.loop-line.invariant.taken (rw c.in-More.is at c.in_ok-read_part.ensures.consumes);
-  clean = kept_clean c.loop-line.line.items c.read_part.new.line.items c.read_part.ensures.appends c.loop-line.invariant.clean c.read_part.ensures.clean;
-  fits = grind (arith, common_steps);
-}
+pub returns-in-TooLong-clause-none : goal.returns-in-TooLong-clause-none
+returns-in-TooLong-clause-none g c =
+    let h = rw c.in-TooLong.is at c.in_ok-take_line.ensures.consumes in
+    takes_too_long _ (g.R.Read.remaining c.take_line.new.reader) c.take_line.new.line.items c.take_line.ensures.clean (c.in_ok-take_line.ensures.too_long.0 (rw c.in-TooLong.is)).0 h
+
+pub returns-in-End-2-clause-whole : goal.returns-in-End-2-clause-whole
+returns-in-End-2-clause-whole g c =
+    let h = rw c.in-End-2.is at c.in_ok-take_line.ensures.consumes in
+    let none = eqb-false _ _ (sym c.if-is_empty.ensures) in
+    let some : 0 < length c.take_line.new.line.items = omega (arith, none, c.take_line.new.line.ok.0) in
+    takes_last _ (g.R.Read.remaining c.take_line.new.reader) c.take_line.new.line.items c.take_line.ensures.clean some h (c.in_ok-take_line.ensures.end (rw c.in-End-2.is))
+
+pub returns-in-LineFeed-clause-whole : goal.returns-in-LineFeed-clause-whole
+returns-in-LineFeed-clause-whole g c =
+    let h = rw c.in-LineFeed.is at c.in_ok-take_line.ensures.consumes in
+    takes_line _ (g.R.Read.remaining c.take_line.new.reader) c.take_line.new.line.items c.take_line.ensures.clean h

@@ -1,6 +1,6 @@
 use Rattle.std.proofs.Common.{◌≢◌, ◌≤◌, ◌-◌, All, length}
 use Rattle.std.specs.Io.KnownBytes.{Consumes}
-use Rattle.token_lines.proofs.line.read_line.Given as goal
+use Rattle.token_lines.proofs.line.take_line.Given as goal
 
 abbrev pub invariant-loop-line : goal.invariant-loop-line
 invariant-loop-line g l = record {
