@@ -1,38 +1,16 @@
 -- what a part of an input says of its lines
-use Rattle.std.proofs.Common.{◌≡◌, ◌≢◌, ℕ, ◌+◌, ◌<◌, ◌≤◌, ◌==◌, All, true, false, Bool, cond, List, [], ◌∷◌, ◌++◌, length, Option, Some, None, refl, ap, sym, ◌∙◌, arith, ne_eqb, append_assoc, OnSome}
+use Rattle.std.proofs.Common.{◌≡◌, ◌≢◌, ℕ, ◌+◌, ◌<◌, ◌≤◌, ◌==◌, All, List, [], ◌∷◌, ◌++◌, length, Option, Some, None, refl, ap, sym, ◌∙◌, arith, ne_eqb, append_assoc, OnSome}
 use Rattle.std.proofs.lemmas.List.{append-nil}
 use Rattle.std.proofs.lemmas.List.Elements.{All-head, All-tail}
 use Rattle.std.proofs.lemmas.List.Splits.{slice_split_at, slice_split_none}
-use Rattle.std.specs.List.{slice_split, onto_first}
+use Rattle.std.specs.List.{slice_split}
 use Rattle.std.specs.Io.KnownBytes.{Consumes, IsAtEnd}
 use Rattle.token_lines.specs.declared.TheConstants.{MAX_LINE}
 use Rattle.token_lines.specs.ReadLines.{last_line, lines_of_parts, lines, behind_line}
 use Rattle.token_lines.specs.NextLine.{TakesLine, TakesNoLine, BeginsTooLong}
 use Rattle.token_lines.specs.declared.line_problem.LineProblem.TheVariants.{LineTooLong, NoMoreTokens}
+use Rattle.token_lines.specs.LineLaws.{has_parts, lines_of_more}
 use Rattle.token_lines.proofs.Split.{no_separator}
-
--- the parts of an input are one at least
-HasParts : List (List ℕ) → Type 0
-HasParts parts = (f : List ℕ) × ((r : List (List ℕ)) × (parts ≡ f ∷ r))
-
-unfoldable parts_onto : (b : ℕ) (parts : List (List ℕ)) → HasParts (onto_first b parts)
-unfolding HasParts
-parts_onto b [] = (b ∷ [], ([], refl))
-parts_onto b (f ∷ r) = (b ∷ f, (r, refl))
-
-parts_cond : (t : Bool) (b : ℕ) (parts : List (List ℕ)) → HasParts (cond t ([] ∷ parts) (onto_first b parts))
-unfolding HasParts
-parts_cond true b parts = ([], (parts, refl))
-parts_cond false b parts = parts_onto b parts
-
-has_parts : (bs : List ℕ) → HasParts (slice_split (λ b. b == 10) bs)
-unfolding HasParts
-has_parts [] = ([], ([], refl))
-has_parts (b ∷ bs) = parts_cond (b == 10) b (slice_split (λ b. b == 10) bs)
-
-lines_of_more : (l : List ℕ) (parts : List (List ℕ)) → HasParts parts → lines_of_parts (l ∷ parts) ≡ l ∷ lines_of_parts parts
-unfolding HasParts
-lines_of_more l parts h = rw h.1.1 refl
 
 -- a line and its LF
 lines-line : (l rest : List ℕ) → All (λ x. x ≢ 10) l → lines (l ++ 10 ∷ rest) ≡ l ∷ lines rest
@@ -61,7 +39,7 @@ LongPart : ℕ → List (List ℕ) → Type 0
 LongPart n parts = (f : List ℕ) × ((r : List (List ℕ)) × ((parts ≡ f ∷ r) × (n ≤ length f)))
 
 long_part : (l rest : List ℕ) → All (λ x. x ≢ 10) l → LongPart (length l) (slice_split (λ b. b == 10) (l ++ rest))
-unfolding LongPart HasParts
+unfolding LongPart
 long_part [] rest clean = let h = has_parts rest in (h.0, (h.1.0, (h.1.1, omega arith)))
 long_part (b ∷ l) rest clean =
     let h = long_part l rest (All-tail (λ x. x ≢ 10) b l clean) in

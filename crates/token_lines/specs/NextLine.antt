@@ -1,6 +1,7 @@
 -- What one line of a reader gives, where its bytes are known.
-use Rattle.std.specs.Prelude.{◌≡◌, ◌<◌, ◌≤◌, ◌⊎◌, ℕ, List, [], ◌∷◌, length, Option, Some, None, Ok, Err}
+use Rattle.std.specs.Prelude.{◌≡◌, ◌<◌, ◌≤◌, ◌⊎◌, ℕ, List, [], ◌∷◌, length, Option, Some, None, Result, Ok, Err}
 use Rattle.std.specs.Io.KnownBytes.{Consumes}
+use Rattle.libyaml_types.specs.declared.token.yaml_token_t.{yaml_token_t}
 use Rattle.libyaml_events.specs.Fault.{Fault, Answer}
 use Rattle.token_lines.specs.declared.line_problem.LineProblem.{LineProblem}
 use Rattle.token_lines.specs.declared.line_problem.LineProblem.TheVariants.{Memory, ReadFailed, LineTooLong, BadTokenLine, TooManyTokens, NoMoreTokens}
@@ -11,6 +12,11 @@ use Rattle.token_lines.specs.ReadLines.{lines, behind_line, line_answer}
 -- the reader has lost some bytes, n at most
 abbrev pub TakesAtMost : ℕ → Option (List ℕ) → Option (List ℕ) → Type 0
 TakesAtMost n before after = (taken : List ℕ) × (length taken ≤ n) × Consumes before after taken
+
+-- the reader is left behind its first line and the LF of it
+abbrev pub IsBehindLine : Option (List ℕ) → Option (List ℕ) → Type 0
+IsBehindLine None after = Unit {0}
+IsBehindLine (Some bytes) after = after ≡ Some (behind_line bytes)
 
 -- the line is the reader's first, and the reader is left behind it and its LF
 abbrev pub TakesLine : Option (List ℕ) → List ℕ → Option (List ℕ) → Type 0
@@ -65,3 +71,8 @@ LineAnswer (Some bytes) n answer after = KnownAnswer bytes n answer after
 -- the problems of reading itself
 abbrev pub IsReadProblem : LineProblem → Type 0
 IsReadProblem problem = (problem ≡ Memory) ⊎ (problem ≡ ReadFailed)
+
+-- a token, or the fault of a problem where n tokens were given
+abbrev pub answer_by : ℕ → Result yaml_token_t LineProblem → Answer
+answer_by n (Ok token) = Ok token
+answer_by n (Err problem) = Err (line_fault problem n)

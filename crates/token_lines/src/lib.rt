@@ -9,6 +9,7 @@ mod field_text;
 pub mod laws;
 mod line;
 mod line_problem;
+mod line_source;
 mod number;
 mod parts;
 mod refusal;
@@ -19,6 +20,7 @@ mod token_name;
 
 pub use event_line::write_event;
 pub use fault_text::write_fault;
+pub use line_source::yaml_line_source_t;
 pub use refusal::line_refusal_t;
 
 /// A token line has at most this many bytes, its LF not counted.
