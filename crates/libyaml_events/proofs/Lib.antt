@@ -24,3 +24,9 @@ pub mod OwnDirectives
 pub mod Worked
 pub mod TreeRows
 pub mod CutRows
+pub mod Stacks
+pub mod HandleLemmas
+pub mod SourceErrors
+pub mod PropertyLemmas
+pub mod CallLemmas
+pub mod KnownLemmas

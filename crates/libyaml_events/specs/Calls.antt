@@ -4,6 +4,8 @@ use Rattle.libyaml_types.specs.declared.token.yaml_token_t.{yaml_token_t}
 use Rattle.libyaml_types.specs.declared.event.yaml_event_t.{yaml_event_t}
 use Rattle.libyaml_types.specs.declared.event.unnamed_yaml_event_t_data.TheVariants.{NoEvent}
 use Rattle.libyaml_types.specs.declared.enums.yaml_error_type_t.{yaml_error_type_t}
+use Rattle.libyaml_types.specs.declared.enums.yaml_parser_state_t.{yaml_parser_state_t}
+use Rattle.libyaml_types.specs.declared.enums.yaml_parser_state_t.TheVariants.{YAML_PARSE_STREAM_START_STATE, YAML_PARSE_DOCUMENT_END_STATE}
 use Rattle.libyaml_events.specs.Fault.{Fault, Answer}
 use Rattle.libyaml_events.specs.FaultTexts.{zero_mark, memory_fault}
 use Rattle.libyaml_events.specs.Source.{Coming, coming}
@@ -51,28 +53,50 @@ Calls w c [] r new = ⊥
 Calls w c (Err f ∷ rest) r new = (rest ≡ []) × (r ≡ Err f.error) × (new ≡ with_fault c f)
 Calls w c (Ok t ∷ rest) r new = Then (step w c t) (λ w' c'. Calls w' c' rest r new) rest r new
 
+-- the parser's own growth: none at the stream's start and at a document's end
+abbrev pub may_grow_at : yaml_parser_state_t → Bool
+may_grow_at YAML_PARSE_STREAM_START_STATE = false
+may_grow_at YAML_PARSE_DOCUMENT_END_STATE = false
+may_grow_at _ = true
+
+abbrev pub may_grow : Want → Config → Bool
+may_grow AtState c = may_grow_at c.state
+may_grow _ c = true
+
+abbrev pub RefusedAt : (grows : Bool) → Outcome → (Want → Config → Type 0) → List Answer → Type 0
+RefusedAt grows out More [] = grows ≡ true
+RefusedAt grows (Err f) More (a ∷ rest) = ⊥
+RefusedAt grows (Ok (Given e, c)) More (a ∷ rest) = ⊥
+RefusedAt grows (Ok (Wants w, c)) More (a ∷ rest) = More w c
+
+-- a call that looks at exactly these answers and meets a refused growth at the last
+abbrev pub Refused : Want → Config → List Answer → Type 0
+Refused w c [] = ⊥
+Refused w c (Err f ∷ rest) = ⊥
+Refused w c (Ok t ∷ rest) = RefusedAt (may_grow w c) (step w c t) (λ w' c'. Refused w' c' rest) rest
+
+-- an event is the machine's; an error is, or else a growth was refused
+abbrev pub CallsUnlessRefused : Want → Config → List Answer → EventOrError → Config → Type 0
+CallsUnlessRefused w c answers (Ok e) new = Calls w c answers (Ok e) new
+CallsUnlessRefused w c answers (Err x) new = Calls w c answers (Err x) new ⊎ (Refused w c answers × (new.fault ≡ memory_fault))
+
 abbrev pub empty_event : yaml_event_t
 empty_event = event NoEvent zero_mark zero_mark
 
 abbrev pub ParsesIf : (over : Bool) → Config → List Answer → EventOrError → Config → Type 0
 ParsesIf true old asked r new = (asked ≡ []) × (r ≡ Ok empty_event) × (new ≡ old)
-ParsesIf false old asked r new = Calls AtState (taken old) (held old ++ asked) r new
+ParsesIf false old asked r new = CallsUnlessRefused AtState (taken old) (held old ++ asked) r new
 
 -- A call that asks for these answers. Behind the stream's end or a fault it asks for none, gives the empty event and
 -- changes nothing.
 abbrev pub Parses : Config → List Answer → EventOrError → Config → Type 0
 Parses old asked r new = ParsesIf (is_over old) old asked r new
 
--- an event is the machine's; an error is, or else a growth was refused
-abbrev pub UnlessRefused : EventOrError → Fault → Type 0 → Type 0
-UnlessRefused (Ok e) kept Does = Does
-UnlessRefused (Err x) kept Does = (kept ≡ memory_fault) ⊎ Does
-
 -- what one call asked the source for, and did
 pub record Call {S : Type 0} (gives : S → Answer → S → Type 0) (old : Parser S) (r : EventOrError) (new : Parser S) : Type 0 where
   pub asked : List Answer
   pub gave : Gave gives old.source asked new.source
-  pub does : UnlessRefused r new.config.fault (Parses old.config asked r new.config)
+  pub does : Parses old.config asked r new.config
 
 -- Calls of a parser that began empty led here, by these answers of the source and with these events. Empty events are
 -- left out.
@@ -100,4 +124,4 @@ pub record KnownCall (old : Config) (tokens : List yaml_token_t) (f : Fault) (r 
   pub left : List yaml_token_t
   pub reads : Reads asked tokens f left
   pub left_is : known ≡ Some (coming left f)
-  pub does : UnlessRefused r new.fault (Parses old asked r new)
+  pub does : Parses old asked r new

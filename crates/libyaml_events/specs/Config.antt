@@ -85,6 +85,12 @@ popped_mark c = record c { marks = below c.marks }
 abbrev pub declared : List ℕ → List ℕ → Config → Config
 declared handle prefix c = record c { handles = insert c.handles handle prefix }
 
+abbrev pub without_handles : Config → Config
+without_handles c = record c { handles = no_handles }
+
+abbrev pub marked_ended : Bool → Config → Config
+marked_ended has_ended c = record c { has_ended = has_ended }
+
 abbrev pub is_fault : yaml_error_type_t → Bool
 is_fault YAML_NO_ERROR = false
 is_fault YAML_MEMORY_ERROR = true

@@ -10,6 +10,7 @@ use Rattle.libyaml_types.specs.declared.directive.yaml_tag_directive_t.{yaml_tag
 use Rattle.libyaml_types.specs.declared.token.yaml_token_t.{yaml_token_t}
 use Rattle.libyaml_types.specs.declared.token.unnamed_yaml_token_t_data.{unnamed_yaml_token_t_data}
 use Rattle.libyaml_types.specs.declared.token.unnamed_yaml_token_t_data.TheVariants as tok
+use Rattle.libyaml_types.specs.declared.token.unnamed_yaml_token_t_data_scalar.{unnamed_yaml_token_t_data_scalar}
 use Rattle.libyaml_types.specs.declared.event.yaml_event_t.{yaml_event_t}
 use Rattle.libyaml_types.specs.declared.event.unnamed_yaml_event_t_data.{unnamed_yaml_event_t_data}
 use Rattle.libyaml_types.specs.declared.event.unnamed_yaml_event_t_data.TheVariants as ev
@@ -124,28 +125,28 @@ implicit_document c t = give (document_start None [] true) t.start_mark t.start_
 abbrev pub is_version : ℤ → ℤ → Bool
 is_version major minor = int_eq major (pos 1) && (int_eq minor (pos 1) || int_eq minor (pos 2))
 
-abbrev pub first_version : Bool → DirectivesRead → Config → yaml_token_t → yaml_version_directive_t → Outcome
-first_version true d c t v = want (BehindDirective (record d { version = Some v })) c
-first_version false d c t v = Err (version_fault t.start_mark)
+abbrev pub first_version : Bool → DirectivesRead → Config → yaml_mark_t → yaml_version_directive_t → Outcome
+first_version true d c m v = want (BehindDirective (record d { version = Some v })) c
+first_version false d c m v = Err (version_fault m)
 
--- a second one is a duplicate, whatever its version
-abbrev pub version_directive : Option yaml_version_directive_t → DirectivesRead → Config → yaml_token_t → yaml_version_directive_t → Outcome
-version_directive (Some earlier) d c t v = Err (duplicate_version_fault t.start_mark)
-version_directive None d c t v = first_version (is_version v.major v.minor) d c t v
+-- a second one is a duplicate, whatever its version; m is where it starts
+abbrev pub version_directive : Option yaml_version_directive_t → DirectivesRead → Config → yaml_mark_t → yaml_version_directive_t → Outcome
+version_directive (Some earlier) d c m v = Err (duplicate_version_fault m)
+version_directive None d c m v = first_version (is_version v.major v.minor) d c m v
 
-abbrev pub tag_directive : (declared_prefix : Option (List ℕ)) → DirectivesRead → Config → yaml_token_t → (handle prefix : List ℕ) → Outcome
-tag_directive (Some earlier) d c t handle prefix = Err (duplicate_tag_fault t.start_mark)
-tag_directive None d c t handle prefix = want (BehindDirective (record d { tag_directives = d.tag_directives ++ record { handle = handle; prefix = prefix } ∷ [] })) (declared handle prefix c)
+abbrev pub tag_directive : (declared_prefix : Option (List ℕ)) → DirectivesRead → Config → yaml_mark_t → yaml_tag_directive_t → Outcome
+tag_directive (Some earlier) d c m g = Err (duplicate_tag_fault m)
+tag_directive None d c m g = want (BehindDirective (record d { tag_directives = d.tag_directives ++ g ∷ [] })) (declared g.handle g.prefix c)
 
 -- a directive or DOCUMENT-START, behind the directives d
 abbrev pub explicit_document : DirectivesRead → Config → yaml_token_t → unnamed_yaml_token_t_data → Outcome
-explicit_document d c t (tok.VersionDirective v) = version_directive d.version d c t (record { major = v.major; minor = v.minor })
-explicit_document d c t (tok.TagDirective g) = tag_directive (get c.handles g.handle) d c t g.handle g.prefix
+explicit_document d c t (tok.VersionDirective v) = version_directive d.version d c t.start_mark (record { major = v.major; minor = v.minor })
+explicit_document d c t (tok.TagDirective g) = tag_directive (get c.handles g.handle) d c t.start_mark (record { handle = g.handle; prefix = g.prefix })
 explicit_document d c t tok.DocumentStart = give (document_start d.version d.tag_directives false) d.start_mark t.end_mark (begin_document YAML_PARSE_DOCUMENT_CONTENT_STATE c)
 explicit_document d c t _ = Err (document_start_fault t.start_mark)
 
-abbrev pub no_directives : yaml_token_t → DirectivesRead
-no_directives t = record { start_mark = t.start_mark; version = None; tag_directives = [] }
+abbrev pub no_directives : yaml_mark_t → DirectivesRead
+no_directives m = record { start_mark = m; version = None; tag_directives = [] }
 
 abbrev pub end_stream : Config → yaml_token_t → Outcome
 end_stream c t = give_at ev.StreamEnd t (at YAML_PARSE_END_STATE c)
@@ -158,16 +159,16 @@ further_document_end false c t = implicit_document c t
 -- where a document may be implicit
 abbrev pub parse_implicit_document_start : Config → yaml_token_t → unnamed_yaml_token_t_data → Outcome
 parse_implicit_document_start c t tok.StreamEnd = end_stream c t
-parse_implicit_document_start c t (tok.VersionDirective v) = explicit_document (no_directives t) c t (tok.VersionDirective v)
-parse_implicit_document_start c t (tok.TagDirective g) = explicit_document (no_directives t) c t (tok.TagDirective g)
-parse_implicit_document_start c t tok.DocumentStart = explicit_document (no_directives t) c t tok.DocumentStart
+parse_implicit_document_start c t (tok.VersionDirective v) = explicit_document (no_directives t.start_mark) c t (tok.VersionDirective v)
+parse_implicit_document_start c t (tok.TagDirective g) = explicit_document (no_directives t.start_mark) c t (tok.TagDirective g)
+parse_implicit_document_start c t tok.DocumentStart = explicit_document (no_directives t.start_mark) c t tok.DocumentStart
 parse_implicit_document_start c t tok.DocumentEnd = further_document_end c.has_ended c t
 parse_implicit_document_start c t _ = implicit_document c t
 
 -- where it may not
 abbrev pub parse_document_start : Config → yaml_token_t → unnamed_yaml_token_t_data → Outcome
 parse_document_start c t tok.StreamEnd = end_stream c t
-parse_document_start c t k = explicit_document (no_directives t) c t k
+parse_document_start c t k = explicit_document (no_directives t.start_mark) c t k
 
 abbrev pub end_document : yaml_parser_state_t → (has_ended : Bool) → Config → Config
 end_document state has_ended c = record c { state = state; handles = no_handles; has_ended = has_ended }
@@ -207,8 +208,11 @@ abbrev pub may_open : Bool → unnamed_yaml_event_t_data → yaml_parser_state_t
 may_open true content state p h c t = open_collection content state h c t
 may_open false content state p h c t = no_content p h.anchor h.tag h c t
 
+abbrev pub scalar_content : NodeHead → Config → unnamed_yaml_token_t_data_scalar → yaml_mark_t → Outcome
+scalar_content h c s end = give (scalar h.anchor h.tag s.value (plain_flag h.tag s.style) (quoted_flag h.tag s.style) s.style) h.start_mark end (popped c)
+
 abbrev pub node_content : NodePlace → NodeHead → Config → yaml_token_t → unnamed_yaml_token_t_data → Outcome
-node_content p h c t (tok.Scalar s) = give (scalar h.anchor h.tag s.value (plain_flag h.tag s.style) (quoted_flag h.tag s.style) s.style) h.start_mark t.end_mark (popped c)
+node_content p h c t (tok.Scalar s) = scalar_content h c s t.end_mark
 node_content p h c t tok.FlowSequenceStart = open_collection (sequence_start h.anchor h.tag YAML_FLOW_SEQUENCE_STYLE) YAML_PARSE_FLOW_SEQUENCE_FIRST_ENTRY_STATE h c t
 node_content p h c t tok.FlowMappingStart = open_collection (mapping_start h.anchor h.tag YAML_FLOW_MAPPING_STYLE) YAML_PARSE_FLOW_MAPPING_FIRST_KEY_STATE h c t
 node_content p h c t tok.BlockSequenceStart = may_open (is_block p) (sequence_start h.anchor h.tag YAML_BLOCK_SEQUENCE_STYLE) YAML_PARSE_BLOCK_SEQUENCE_FIRST_ENTRY_STATE p h c t

@@ -1,11 +1,16 @@
 //! The parser.
-ghost use Rattle.std.specs.Prelude.{◌≡◌, []};
-ghost use Rattle.libyaml_events.specs.Config.{start};
+ghost use Rattle.std.specs.Prelude.{◌≡◌, ◌⊎◌, [], pos, ◌≤ℤ◌, true, false};
+ghost use Rattle.libyaml_events.specs.Fault.{fault_of};
+ghost use Rattle.libyaml_events.specs.Config.{start, with_config, with_fault, marked_ended, is_fault, is_over, between_documents};
 ghost use Rattle.libyaml_events.specs.Calls.{Ran};
-ghost use Rattle.std.specs.Prelude.{pos};
+
+mod faults;
+mod handles;
+mod stacks;
+mod tokens;
 
 use crate::fault::{NO_FAULT, yaml_parser_t_prefix};
-use libyaml_types::{Text, yaml_mark_t, yaml_parser_state_t, yaml_token_t};
+use libyaml_types::{Text, yaml_error_type_t, yaml_mark_t, yaml_parser_state_t, yaml_token_t};
 use std::alloc::Global;
 use std::collections::BTreeMap;
 use std::marker::Model;
@@ -85,4 +90,86 @@ pub fn yaml_parser_delete<S>(parser: yaml_parser_t<S>) -> S
 {
     let yaml_parser_t { source, .. } = parser;
     source
+}
+
+/// Whether the parser stands between documents: not from a document's start event until its end event, but once a fault
+/// is kept.
+pub fn yaml_parser_between_documents<S>(parser: &yaml_parser_t<S>) -> bool
+    ensures { result ≡ between_documents parser.now.config }
+{
+    parser.has_failed()
+        || matches!(
+            parser.state,
+            yaml_parser_state_t::YAML_PARSE_STREAM_START_STATE
+                | yaml_parser_state_t::YAML_PARSE_IMPLICIT_DOCUMENT_START_STATE
+                | yaml_parser_state_t::YAML_PARSE_DOCUMENT_START_STATE
+                | yaml_parser_state_t::YAML_PARSE_END_STATE
+        )
+}
+
+/// Sets how many entries each list of a loaded document may have, between documents.
+pub fn yaml_parser_set_max_entries<S>(parser: &mut yaml_parser_t<S>, n: i32)
+    requires at_least_one { pos 1 ≤ℤ n }
+    requires between { between_documents parser.old.config ≡ true }
+    ensures { parser.new ≡ record parser.old { max_entries = n } }
+{
+    parser.max_entries = n;
+}
+
+impl<S> yaml_parser_t<S> {
+    /// The fault that is kept, or that of no fault.
+    ///
+    /// libyaml: the fields `error` to `context_mark`.
+    pub fn prefix(&self) -> &yaml_parser_t_prefix
+        ensures { fault_of result.now ≡ self.now.config.fault }
+    {
+        &self.prefix
+    }
+
+    /// How many entries each list of a loaded document may have: 2147483647 unless set.
+    pub fn max_entries(&self) -> i32
+        ensures { result ≡ self.now.max_entries }
+    {
+        self.max_entries
+    }
+
+    /// Keeps a fault of the loader for good: want of memory, or a fault of the composer, where no fault is kept.
+    pub fn keep_fault(&mut self, fault: yaml_parser_t_prefix)
+        requires first { is_fault self.old.config.fault.error ≡ false }
+        requires of_loader { (fault.error ≡ yaml_error_type_t.YAML_MEMORY_ERROR) ⊎ (fault.error ≡ yaml_error_type_t.YAML_COMPOSER_ERROR) }
+        ensures { self.new ≡ with_config self.old (with_fault self.old.config (fault_of fault)) }
+    {
+        self.prefix = fault;
+    }
+
+    /// Where the parser takes its memory from.
+    pub fn allocator(&self) -> Global {
+        self.alloc
+    }
+
+    fn has_failed(&self) -> bool
+        ensures { result ≡ is_fault self.now.config.fault.error }
+    {
+        !matches!(self.prefix.error, yaml_error_type_t::YAML_NO_ERROR)
+    }
+
+    /// Whether nothing more comes: behind the stream's end or a fault.
+    pub(crate) fn is_over(&self) -> bool
+        ensures { result ≡ is_over self.now.config }
+    {
+        self.has_failed() || matches!(self.state, yaml_parser_state_t::YAML_PARSE_END_STATE)
+    }
+
+    pub(crate) fn has_ended(&self) -> bool
+        ensures { result ≡ self.now.config.has_ended }
+    {
+        self.has_ended
+    }
+
+    /// Whether a document's explicit end came last.
+    pub(crate) fn set_has_ended(&mut self, has_ended: bool)
+        ensures { self.new ≡ with_config self.old (marked_ended has_ended self.old.config) }
+    {
+        self.has_ended = has_ended;
+    }
 }

@@ -1,6 +1,11 @@
 //! What the parser has of a document or node amid a call, and what it wants the next token for.
 
-use libyaml_types::{TagDirectives, Text, yaml_event_t, yaml_mark_t, yaml_version_directive_t};
+ghost use Rattle.std.specs.Prelude.{◌≡◌};
+
+use libyaml_types::{
+    TagDirectives, Text, unnamed_yaml_event_t_data, yaml_event_t, yaml_mark_t,
+    yaml_version_directive_t,
+};
 
 /// The directives of a document, read so far.
 #[derive(Drop)]
@@ -21,6 +26,30 @@ pub enum NodePlace {
     BlockOrIndentlessSequence,
     /// A scalar or a flow collection.
     Flow,
+}
+
+impl NodePlace {
+    ghost use Rattle.libyaml_events.specs.Machine.{is_block, may_be_indentless};
+
+    /// Whether a block collection may stand here.
+    pub fn is_block(self) -> bool
+        ensures { result ≡ is_block self }
+    {
+        match self {
+            NodePlace::Block | NodePlace::BlockOrIndentlessSequence => true,
+            NodePlace::Flow => false,
+        }
+    }
+
+    /// Whether a sequence may stand here without its own start and end tokens.
+    pub fn may_be_indentless(self) -> bool
+        ensures { result ≡ may_be_indentless self }
+    {
+        match self {
+            NodePlace::BlockOrIndentlessSequence => true,
+            NodePlace::Block | NodePlace::Flow => false,
+        }
+    }
 }
 
 /// A tag as it is written.
@@ -81,4 +110,24 @@ pub enum Progress {
     Given(yaml_event_t),
     /// Nothing yet: a further token is wanted.
     Wants(Want),
+}
+
+impl Progress {
+    ghost use Rattle.libyaml_events.specs.Machine.{event};
+    ghost use Rattle.libyaml_events.specs.declared.progress.Progress.TheVariants.{Given};
+
+    /// An event with these marks.
+    pub fn given(
+        content: unnamed_yaml_event_t_data,
+        start_mark: yaml_mark_t,
+        end_mark: yaml_mark_t,
+    ) -> Self
+        ensures { result ≡ Given (event content start_mark end_mark) }
+    {
+        Progress::Given(yaml_event_t {
+            content,
+            start_mark,
+            end_mark,
+        })
+    }
 }

@@ -1,0 +1,7 @@
+use Rattle.libyaml_events.proofs.HandleLemmas.{one_declared}
+use Rattle.libyaml_events.proofs.parser.yaml_parser_t.declare.Goals as goal
+
+pub returns-in-Ok-insert-clause-ok : goal.returns-in-Ok-insert-clause-ok
+returns-in-Ok-insert-clause-ok g c =
+    let made = one_declared c.self.inside.handles.entries c.insert.new.self.entries _ _ c.in-Ok-insert.ensures.updates.0 in
+    rw (← c.self.view_is, made, c.in-Ok.ensures.cases, c.in-Ok-clone.ensures.cases)

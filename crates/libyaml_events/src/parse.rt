@@ -1,0 +1,58 @@
+//! One call of the parser.
+ghost use Rattle.std.specs.Prelude.{◌≡◌, [], List, Ok, true, false, IfOk, IfErr, Some};
+ghost use Rattle.libyaml_types.specs.declared.token.yaml_token_t.{yaml_token_t};
+ghost use Rattle.libyaml_types.specs.declared.event.yaml_event_t.{yaml_event_t};
+ghost use Rattle.libyaml_events.specs.Fault.{Answer, Fault};
+ghost use Rattle.libyaml_events.specs.Source.{coming};
+ghost use Rattle.libyaml_events.specs.Config.{is_over};
+ghost use Rattle.libyaml_events.specs.Calls.{Call, KnownCall, CarriesOn, Ran, empty_event};
+
+use crate::parser::yaml_parser_t;
+use crate::progress::{Progress, Want};
+use crate::source::yaml_token_source_t;
+use libyaml_types::{ZERO_MARK, unnamed_yaml_event_t_data, yaml_error_type_t, yaml_event_t};
+
+impl<S: yaml_token_source_t> yaml_parser_t<S> {
+    /// The next event, as the machine gives it.
+    fn next_event(&mut self) -> Result<yaml_event_t, yaml_error_type_t>
+        ensures kept { IfErr result (λ e. (e ≡ self.new.config.fault.error) × (is_over self.new.config ≡ true)) }
+        ensures bound { self.new.max_entries ≡ self.old.max_entries }
+        ensures call { Call S.gives self.old result self.new }
+    {
+        if self.is_over() {
+            return Ok(yaml_event_t {
+                content: unnamed_yaml_event_t_data::NoEvent,
+                start_mark: ZERO_MARK,
+                end_mark: ZERO_MARK,
+            });
+        }
+        let mut want = Want::AtState;
+        loop {
+            let token = self.next_token()?;
+            match self.step(want, token)? {
+                Progress::Given(event) => return Ok(event),
+                Progress::Wants(next) => want = next,
+            }
+        }
+    }
+}
+
+/// The next event of the stream. Behind the stream's end or a fault it is the empty event: nothing changes, and the
+/// source is asked for nothing.
+///
+/// Answers the error of a fault, which the parser keeps for good: want of memory, a fault of the source, or a fault of
+/// the grammar.
+///
+/// libyaml: `yaml_parser_parse`.
+pub fn yaml_parser_parse<S: yaml_token_source_t>(
+    parser: &mut yaml_parser_t<S>,
+) -> Result<yaml_event_t, yaml_error_type_t>
+    ensures over { is_over parser.old.config ≡ true → (result ≡ Ok empty_event) × (parser.new ≡ parser.old) }
+    ensures kept { IfErr result (λ e. (e ≡ parser.new.config.fault.error) × (is_over parser.new.config ≡ true)) }
+    ensures bound { parser.new.max_entries ≡ parser.old.max_entries }
+    ensures runs { is_over parser.old.config ≡ false → IfOk result (λ e. (given : List Answer) (events : List yaml_event_t) → Ran parser.old.config given events → CarriesOn S.gives parser.old e parser.new given events) }
+    ensures known { ((f : Fault) → ¬ S.may_break f) → (tokens : List yaml_token_t) (f : Fault) → S.known parser.old.source ≡ Some (coming tokens f) → KnownCall parser.old.config tokens f result parser.new.config (S.known parser.new.source) }
+    ensures call { Call S.gives parser.old result parser.new }
+{
+    parser.next_event()
+}

@@ -1,0 +1,110 @@
+//! The tag handles of a document.
+ghost use Rattle.std.specs.Prelude.{◌≡◌, ◌++◌, Err, OnOk, OnErr, IfOk, is_some};
+ghost use Rattle.std.specs.Option.{option_copied};
+ghost use Rattle.std.specs.FinMap as map;
+ghost use Rattle.libyaml_events.specs.FaultTexts.{memory_fault};
+ghost use Rattle.libyaml_events.specs.Config.{with_config, with_fault, declared, without_handles};
+ghost use Rattle.libyaml_events.specs.Machine.{default_prefix, or_default};
+ghost use Rattle.libyaml_events.specs.Steps.{Resolves};
+
+use crate::parser::yaml_parser_t;
+use crate::progress::TagRead;
+use libyaml_types::{Text, yaml_error_type_t, yaml_mark_t};
+use std::alloc::{AllocError, Global};
+use std::collections::BTreeMap;
+
+/// The prefix of a handle that no document has to declare.
+fn default_prefix_of(handle: &str) -> Option<&'static str>
+    ensures { option_copied result ≡ default_prefix handle.now }
+{
+    if handle == "!" {
+        Some("!")
+    } else if handle == "!!" {
+        Some("tag:yaml.org,2002:")
+    } else {
+        None
+    }
+}
+
+/// Both texts in one, by one allocation.
+fn joined(alloc: Global, prefix: &str, suffix: &str) -> Result<Text, AllocError>
+    ensures { IfOk result (λ text. text ≡ prefix.now ++ suffix.now) }
+{
+    let mut text = String::with_capacity(alloc, prefix.len().saturating_add(suffix.len()))?;
+    text.push_str(prefix)?;
+    text.push_str(suffix)?;
+    Ok(Text::from_string(text))
+}
+
+impl<S> yaml_parser_t<S> {
+    #[tactic(auto, using(crate::proofs::HandleLemmas::get_handle))]
+    /// Whether the document has declared a handle so far.
+    pub(crate) fn is_declared(&self, handle: &Text) -> bool
+        ensures { result ≡ is_some (map.get self.now.config.handles handle.now) }
+    {
+        self.handles.contains_key(handle)
+    }
+
+    #[tactic(auto, using(crate::proofs::HandleLemmas::get_handle))]
+    /// The prefix that the document declares for a handle, or else its default one.
+    pub(crate) fn prefix_of(&self, handle: &Text) -> Option<&str>
+        ensures { option_copied result ≡ or_default (map.get self.now.config.handles handle.now) handle.now }
+    {
+        match self.handles.get(handle) {
+            Some(prefix) => Some(prefix.as_str()),
+            None => default_prefix_of(handle.as_str()),
+        }
+    }
+
+    /// Declares a handle, which was not declared. Keeps want of memory where it is refused.
+    pub(crate) fn declare(&mut self, handle: &Text, prefix: &Text) -> Result<(), yaml_error_type_t>
+        ensures ok { OnOk result (self.new ≡ with_config self.old (declared handle.now prefix.now self.old.config)) }
+        ensures err { OnErr result ((result ≡ Err yaml_error_type_t.YAML_MEMORY_ERROR) × (self.new ≡ with_config self.old (with_fault self.old.config memory_fault))) }
+    {
+        let Ok(handle) = handle.clone() else {
+            return Err(self.out_of_memory());
+        };
+        let Ok(prefix) = prefix.clone() else {
+            return Err(self.out_of_memory());
+        };
+        match self.handles.insert(handle, prefix) {
+            Ok(_) => Ok(()),
+            Err(_) => Err(self.out_of_memory()),
+        }
+    }
+
+    /// Forgets the document's handles. Takes no memory.
+    pub(crate) fn forget_handles(&mut self)
+        ensures { self.new ≡ with_config self.old (without_handles self.old.config) }
+    {
+        self.handles = BTreeMap::new(self.alloc);
+    }
+
+    /// The tag in full: its suffix alone where its handle is empty, else behind the handle's prefix. Keeps the fault of
+    /// a handle that is not defined, in a node that begins at `start_mark`.
+    pub(crate) fn resolve_tag(
+        &mut self,
+        tag: TagRead,
+        start_mark: yaml_mark_t,
+    ) -> Result<Text, yaml_error_type_t>
+        ensures { Resolves tag start_mark self.old result self.new }
+    {
+        if tag.handle.is_empty() {
+            return Ok(tag.suffix);
+        }
+        let made = match self.prefix_of(&tag.handle) {
+            Some(prefix) => Some(joined(self.alloc, prefix, tag.suffix.as_str())),
+            None => None,
+        };
+        match made {
+            Some(Ok(text)) => Ok(text),
+            Some(Err(_)) => Err(self.out_of_memory()),
+            None => Err(self.set_parser_error_context(
+                "while parsing a node",
+                start_mark,
+                "found undefined tag handle",
+                tag.mark,
+            )),
+        }
+    }
+}

@@ -1,0 +1,274 @@
+//! Flow collections.
+ghost use Rattle.std.specs.Prelude.{◌≡◌, Ok};
+ghost use Rattle.libyaml_events.specs.Machine.{first_flow_sequence_entry, parse_flow_sequence_entry, behind_flow_sequence_entry, parse_flow_sequence_entry_mapping_key, parse_flow_sequence_entry_mapping_value, behind_flow_sequence_value, parse_flow_sequence_entry_mapping_end, first_flow_mapping_key, parse_flow_mapping_key, behind_flow_mapping_entry, behind_flow_mapping_key, parse_flow_mapping_value, behind_flow_mapping_value, parse_flow_mapping_empty_value};
+ghost use Rattle.libyaml_events.specs.Steps.{Steps};
+
+use crate::parser::yaml_parser_t;
+use crate::progress::{NodePlace, Progress, Want};
+use crate::states::nodes::mapping_start;
+use libyaml_types::{
+    unnamed_yaml_event_t_data, unnamed_yaml_token_t_data, yaml_error_type_t, yaml_mapping_style_t,
+    yaml_parser_state_t, yaml_token_t,
+};
+
+impl<S> yaml_parser_t<S> {
+    /// At FLOW-SEQUENCE-START, whose start is kept.
+    pub(super) fn parse_first_flow_sequence_entry(
+        &mut self,
+        token: &yaml_token_t,
+    ) -> Result<Progress, yaml_error_type_t>
+        ensures { Steps (first_flow_sequence_entry self.old.config token.now) self.old result self.new }
+    {
+        self.push_mark(token.start_mark)?;
+        self.set_state(yaml_parser_state_t::YAML_PARSE_FLOW_SEQUENCE_ENTRY_STATE);
+        Ok(Progress::Wants(Want::BehindFlowSequenceEntry))
+    }
+
+    pub(super) fn parse_flow_sequence_entry(
+        &mut self,
+        token: yaml_token_t,
+    ) -> Result<Progress, yaml_error_type_t>
+        ensures { Steps (parse_flow_sequence_entry self.old.config token token.content) self.old result self.new }
+    {
+        match token.content {
+            unnamed_yaml_token_t_data::FlowEntry => {
+                Ok(Progress::Wants(Want::BehindFlowSequenceEntry))
+            }
+            unnamed_yaml_token_t_data::FlowSequenceEnd => {
+                Ok(self.close(unnamed_yaml_event_t_data::SequenceEnd, &token))
+            }
+            _ => {
+                let opened = self.pop_mark();
+                Err(self.set_parser_error_context(
+                    "while parsing a flow sequence",
+                    opened,
+                    "did not find expected ',' or ']'",
+                    token.start_mark,
+                ))
+            }
+        }
+    }
+
+    /// Behind FLOW-SEQUENCE-START or FLOW-ENTRY: an entry, which with KEY is a mapping of one pair, or the end.
+    pub(super) fn parse_behind_flow_sequence_entry(
+        &mut self,
+        token: yaml_token_t,
+    ) -> Result<Progress, yaml_error_type_t>
+        ensures { Steps (behind_flow_sequence_entry self.old.config token token.content) self.old result self.new }
+    {
+        match token.content {
+            unnamed_yaml_token_t_data::FlowSequenceEnd => {
+                Ok(self.close(unnamed_yaml_event_t_data::SequenceEnd, &token))
+            }
+            unnamed_yaml_token_t_data::Key => {
+                self.set_state(
+                    yaml_parser_state_t::YAML_PARSE_FLOW_SEQUENCE_ENTRY_MAPPING_KEY_STATE,
+                );
+                let event = mapping_start(
+                    None,
+                    None,
+                    yaml_mapping_style_t::YAML_FLOW_MAPPING_STYLE,
+                );
+                Ok(Progress::given(event, token.start_mark, token.end_mark))
+            }
+            _ => {
+                self.push_state(yaml_parser_state_t::YAML_PARSE_FLOW_SEQUENCE_ENTRY_STATE)?;
+                self.parse_node(NodePlace::Flow, token)
+            }
+        }
+    }
+
+    pub(super) fn parse_flow_sequence_entry_mapping_key(
+        &mut self,
+        token: yaml_token_t,
+    ) -> Result<Progress, yaml_error_type_t>
+        ensures { Steps (parse_flow_sequence_entry_mapping_key self.old.config token token.content) self.old result self.new }
+    {
+        match token.content {
+            unnamed_yaml_token_t_data::Value
+            | unnamed_yaml_token_t_data::FlowEntry
+            | unnamed_yaml_token_t_data::FlowSequenceEnd => {
+                self.set_state(
+                    yaml_parser_state_t::YAML_PARSE_FLOW_SEQUENCE_ENTRY_MAPPING_VALUE_STATE,
+                );
+                Ok(self.process_empty_scalar(token.start_mark, token))
+            }
+            _ => {
+                self.push_state(
+                    yaml_parser_state_t::YAML_PARSE_FLOW_SEQUENCE_ENTRY_MAPPING_VALUE_STATE,
+                )?;
+                self.parse_node(NodePlace::Flow, token)
+            }
+        }
+    }
+
+    pub(super) fn parse_flow_sequence_entry_mapping_value(
+        &mut self,
+        token: yaml_token_t,
+    ) -> Result<Progress, yaml_error_type_t>
+        ensures { Steps (parse_flow_sequence_entry_mapping_value self.old.config token token.content) self.old result self.new }
+    {
+        match token.content {
+            unnamed_yaml_token_t_data::Value => Ok(Progress::Wants(Want::BehindFlowSequenceValue)),
+            _ => {
+                self.set_state(
+                    yaml_parser_state_t::YAML_PARSE_FLOW_SEQUENCE_ENTRY_MAPPING_END_STATE,
+                );
+                Ok(self.process_empty_scalar(token.start_mark, token))
+            }
+        }
+    }
+
+    /// Behind the VALUE of a pair: a node, or an empty one.
+    pub(super) fn parse_behind_flow_sequence_value(
+        &mut self,
+        token: yaml_token_t,
+    ) -> Result<Progress, yaml_error_type_t>
+        ensures { Steps (behind_flow_sequence_value self.old.config token token.content) self.old result self.new }
+    {
+        match token.content {
+            unnamed_yaml_token_t_data::FlowEntry | unnamed_yaml_token_t_data::FlowSequenceEnd => {
+                self.set_state(
+                    yaml_parser_state_t::YAML_PARSE_FLOW_SEQUENCE_ENTRY_MAPPING_END_STATE,
+                );
+                Ok(self.process_empty_scalar(token.start_mark, token))
+            }
+            _ => {
+                self.push_state(
+                    yaml_parser_state_t::YAML_PARSE_FLOW_SEQUENCE_ENTRY_MAPPING_END_STATE,
+                )?;
+                self.parse_node(NodePlace::Flow, token)
+            }
+        }
+    }
+
+    /// Behind a pair.
+    pub(super) fn parse_flow_sequence_entry_mapping_end(&mut self, token: yaml_token_t) -> Progress
+        ensures { Steps (parse_flow_sequence_entry_mapping_end self.old.config token) self.old (Ok result) self.new }
+    {
+        self.set_state(yaml_parser_state_t::YAML_PARSE_FLOW_SEQUENCE_ENTRY_STATE);
+        let mark = token.start_mark;
+        self.keep(token);
+        Progress::given(unnamed_yaml_event_t_data::MappingEnd, mark, mark)
+    }
+
+    /// At FLOW-MAPPING-START, whose start is kept.
+    pub(super) fn parse_first_flow_mapping_key(
+        &mut self,
+        token: &yaml_token_t,
+    ) -> Result<Progress, yaml_error_type_t>
+        ensures { Steps (first_flow_mapping_key self.old.config token.now) self.old result self.new }
+    {
+        self.push_mark(token.start_mark)?;
+        self.set_state(yaml_parser_state_t::YAML_PARSE_FLOW_MAPPING_KEY_STATE);
+        Ok(Progress::Wants(Want::BehindFlowMappingEntry))
+    }
+
+    pub(super) fn parse_flow_mapping_key(
+        &mut self,
+        token: yaml_token_t,
+    ) -> Result<Progress, yaml_error_type_t>
+        ensures { Steps (parse_flow_mapping_key self.old.config token token.content) self.old result self.new }
+    {
+        match token.content {
+            unnamed_yaml_token_t_data::FlowEntry => {
+                Ok(Progress::Wants(Want::BehindFlowMappingEntry))
+            }
+            unnamed_yaml_token_t_data::FlowMappingEnd => {
+                Ok(self.close(unnamed_yaml_event_t_data::MappingEnd, &token))
+            }
+            _ => {
+                let opened = self.pop_mark();
+                Err(self.set_parser_error_context(
+                    "while parsing a flow mapping",
+                    opened,
+                    "did not find expected ',' or '}'",
+                    token.start_mark,
+                ))
+            }
+        }
+    }
+
+    /// Behind FLOW-MAPPING-START or FLOW-ENTRY: an entry, or the end.
+    pub(super) fn parse_behind_flow_mapping_entry(
+        &mut self,
+        token: yaml_token_t,
+    ) -> Result<Progress, yaml_error_type_t>
+        ensures { Steps (behind_flow_mapping_entry self.old.config token token.content) self.old result self.new }
+    {
+        match token.content {
+            unnamed_yaml_token_t_data::FlowMappingEnd => {
+                Ok(self.close(unnamed_yaml_event_t_data::MappingEnd, &token))
+            }
+            unnamed_yaml_token_t_data::Key => Ok(Progress::Wants(Want::BehindFlowMappingKey)),
+            _ => {
+                self.push_state(yaml_parser_state_t::YAML_PARSE_FLOW_MAPPING_EMPTY_VALUE_STATE)?;
+                self.parse_node(NodePlace::Flow, token)
+            }
+        }
+    }
+
+    /// Behind KEY: a node, or an empty one.
+    pub(super) fn parse_behind_flow_mapping_key(
+        &mut self,
+        token: yaml_token_t,
+    ) -> Result<Progress, yaml_error_type_t>
+        ensures { Steps (behind_flow_mapping_key self.old.config token token.content) self.old result self.new }
+    {
+        match token.content {
+            unnamed_yaml_token_t_data::Value
+            | unnamed_yaml_token_t_data::FlowEntry
+            | unnamed_yaml_token_t_data::FlowMappingEnd => {
+                self.set_state(yaml_parser_state_t::YAML_PARSE_FLOW_MAPPING_VALUE_STATE);
+                Ok(self.process_empty_scalar(token.start_mark, token))
+            }
+            _ => {
+                self.push_state(yaml_parser_state_t::YAML_PARSE_FLOW_MAPPING_VALUE_STATE)?;
+                self.parse_node(NodePlace::Flow, token)
+            }
+        }
+    }
+
+    /// Where no VALUE comes, the value is empty.
+    pub(super) fn parse_flow_mapping_value(
+        &mut self,
+        token: yaml_token_t,
+    ) -> Result<Progress, yaml_error_type_t>
+        ensures { Steps (parse_flow_mapping_value self.old.config token token.content) self.old result self.new }
+    {
+        match token.content {
+            unnamed_yaml_token_t_data::Value => Ok(Progress::Wants(Want::BehindFlowMappingValue)),
+            _ => {
+                self.set_state(yaml_parser_state_t::YAML_PARSE_FLOW_MAPPING_KEY_STATE);
+                Ok(self.process_empty_scalar(token.start_mark, token))
+            }
+        }
+    }
+
+    /// Behind VALUE: a node, or an empty one.
+    pub(super) fn parse_behind_flow_mapping_value(
+        &mut self,
+        token: yaml_token_t,
+    ) -> Result<Progress, yaml_error_type_t>
+        ensures { Steps (behind_flow_mapping_value self.old.config token token.content) self.old result self.new }
+    {
+        match token.content {
+            unnamed_yaml_token_t_data::FlowEntry | unnamed_yaml_token_t_data::FlowMappingEnd => {
+                self.set_state(yaml_parser_state_t::YAML_PARSE_FLOW_MAPPING_KEY_STATE);
+                Ok(self.process_empty_scalar(token.start_mark, token))
+            }
+            _ => {
+                self.push_state(yaml_parser_state_t::YAML_PARSE_FLOW_MAPPING_KEY_STATE)?;
+                self.parse_node(NodePlace::Flow, token)
+            }
+        }
+    }
+
+    /// Behind an entry without KEY: its value is empty.
+    pub(super) fn parse_flow_mapping_empty_value(&mut self, token: yaml_token_t) -> Progress
+        ensures { Steps (parse_flow_mapping_empty_value self.old.config token) self.old (Ok result) self.new }
+    {
+        self.set_state(yaml_parser_state_t::YAML_PARSE_FLOW_MAPPING_KEY_STATE);
+        self.process_empty_scalar(token.start_mark, token)
+    }
+}

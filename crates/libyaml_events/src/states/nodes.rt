@@ -1,0 +1,385 @@
+//! Nodes: properties and content.
+ghost use Rattle.std.specs.Prelude.{◌≡◌, Ok, false};
+ghost use Rattle.libyaml_types.specs.declared.event.unnamed_yaml_event_t_data_scalar.{unnamed_yaml_event_t_data_scalar};
+ghost use Rattle.libyaml_types.specs.declared.enums.yaml_scalar_style_t.TheVariants.{YAML_PLAIN_SCALAR_STYLE};
+ghost use Rattle.libyaml_events.specs.Machine.{is_plain, plain_flag, quoted_flag, is_missing, scalar, sequence_start, mapping_start, only_properties, no_content, open_collection, scalar_content, is_block, node_content, content_behind, behind_properties, parse_node};
+ghost use Rattle.libyaml_events.specs.Steps.{Steps};
+ghost use Rattle.libyaml_events.specs.Config.{with_config, with_fault};
+ghost use Rattle.libyaml_events.specs.FaultTexts.{content_fault};
+
+use crate::parser::yaml_parser_t;
+use crate::progress::{NodeHead, NodePlace, Progress, PropertiesRead, TagRead, Want};
+use libyaml_types::{
+    Text, unnamed_yaml_event_t_data, unnamed_yaml_event_t_data_alias,
+    unnamed_yaml_event_t_data_mapping_start, unnamed_yaml_event_t_data_scalar,
+    unnamed_yaml_event_t_data_sequence_start, unnamed_yaml_token_t_data,
+    unnamed_yaml_token_t_data_scalar, yaml_error_type_t, yaml_mapping_style_t, yaml_mark_t,
+    yaml_parser_state_t, yaml_scalar_style_t, yaml_sequence_style_t, yaml_token_t,
+};
+
+fn is_plain(style: yaml_scalar_style_t) -> bool
+    ensures { result ≡ is_plain style }
+{
+    match style {
+        yaml_scalar_style_t::YAML_PLAIN_SCALAR_STYLE => true,
+        yaml_scalar_style_t::YAML_ANY_SCALAR_STYLE
+        | yaml_scalar_style_t::YAML_SINGLE_QUOTED_SCALAR_STYLE
+        | yaml_scalar_style_t::YAML_DOUBLE_QUOTED_SCALAR_STYLE
+        | yaml_scalar_style_t::YAML_LITERAL_SCALAR_STYLE
+        | yaml_scalar_style_t::YAML_FOLDED_SCALAR_STYLE => false,
+    }
+}
+
+/// Whether a scalar's tag may be left out where it is written plain.
+fn is_plain_implicit(tag: &Option<Text>, style: yaml_scalar_style_t) -> bool
+    ensures { result ≡ plain_flag tag.now style }
+{
+    match tag {
+        None => is_plain(style),
+        Some(tag) => tag.as_str() == "!",
+    }
+}
+
+/// Whether a scalar's tag may be left out where it is not written plain.
+fn is_quoted_implicit(tag: &Option<Text>, style: yaml_scalar_style_t) -> bool
+    ensures { result ≡ quoted_flag tag.now style }
+{
+    match tag {
+        None => !is_plain(style),
+        Some(_) => false,
+    }
+}
+
+/// Whether there is no tag, or an empty one.
+fn is_missing(tag: &Option<Text>) -> bool
+    ensures { result ≡ is_missing tag.now }
+{
+    match tag {
+        None => true,
+        Some(tag) => tag.is_empty(),
+    }
+}
+
+/// A plain scalar whose tag may be left out only where it is written plain.
+pub(super) fn plain_scalar(
+    anchor: Option<Text>,
+    tag: Option<Text>,
+    value: Text,
+    plain_implicit: bool,
+) -> unnamed_yaml_event_t_data
+    ensures { result ≡ scalar anchor tag value plain_implicit false YAML_PLAIN_SCALAR_STYLE }
+{
+    unnamed_yaml_event_t_data::Scalar(unnamed_yaml_event_t_data_scalar {
+        anchor,
+        tag,
+        value,
+        plain_implicit,
+        quoted_implicit: false,
+        style: yaml_scalar_style_t::YAML_PLAIN_SCALAR_STYLE,
+    })
+}
+
+fn sequence_start(
+    anchor: Option<Text>,
+    tag: Option<Text>,
+    style: yaml_sequence_style_t,
+) -> unnamed_yaml_event_t_data
+    ensures { result ≡ sequence_start anchor tag style }
+{
+    let implicit = is_missing(&tag);
+    unnamed_yaml_event_t_data::SequenceStart(unnamed_yaml_event_t_data_sequence_start {
+        anchor,
+        tag,
+        implicit,
+        style,
+    })
+}
+
+pub(super) fn mapping_start(
+    anchor: Option<Text>,
+    tag: Option<Text>,
+    style: yaml_mapping_style_t,
+) -> unnamed_yaml_event_t_data
+    ensures { result ≡ mapping_start anchor tag style }
+{
+    let implicit = is_missing(&tag);
+    unnamed_yaml_event_t_data::MappingStart(unnamed_yaml_event_t_data_mapping_start {
+        anchor,
+        tag,
+        implicit,
+        style,
+    })
+}
+
+impl<S> yaml_parser_t<S> {
+    /// A node at its first token, where it may not be empty.
+    pub(super) fn parse_node(
+        &mut self,
+        place: NodePlace,
+        token: yaml_token_t,
+    ) -> Result<Progress, yaml_error_type_t>
+        ensures { Steps (parse_node place self.old.config token token.content) self.old result self.new }
+    {
+        let start_mark = token.start_mark;
+        let end_mark = token.end_mark;
+        match token.content {
+            unnamed_yaml_token_t_data::Alias(alias) => {
+                self.pop_state();
+                let event = unnamed_yaml_event_t_data_alias {
+                    anchor: alias.value,
+                };
+                Ok(Progress::given(
+                    unnamed_yaml_event_t_data::Alias(event),
+                    start_mark,
+                    end_mark,
+                ))
+            }
+            unnamed_yaml_token_t_data::Anchor(anchor) => Ok(Progress::Wants(
+                Want::BehindProperties(
+                    place,
+                    PropertiesRead {
+                        anchor: Some(anchor.value),
+                        tag: None,
+                        start_mark,
+                        end_mark,
+                    },
+                ),
+            )),
+            unnamed_yaml_token_t_data::Tag(tag) => Ok(Progress::Wants(Want::BehindProperties(
+                place,
+                PropertiesRead {
+                    anchor: None,
+                    tag: Some(TagRead {
+                        handle: tag.handle,
+                        suffix: tag.suffix,
+                        mark: start_mark,
+                    }),
+                    start_mark,
+                    end_mark,
+                },
+            ))),
+            _ => {
+                let head = NodeHead {
+                    anchor: None,
+                    tag: None,
+                    start_mark,
+                    end_mark,
+                };
+                self.parse_node_content(place, head, token)
+            }
+        }
+    }
+
+    /// Behind properties: the other one, or what the node is.
+    pub(super) fn parse_behind_properties(
+        &mut self,
+        place: NodePlace,
+        properties: PropertiesRead,
+        token: yaml_token_t,
+    ) -> Result<Progress, yaml_error_type_t>
+        ensures { Steps (behind_properties place properties self.old.config token token.content) self.old result self.new }
+    {
+        let start_mark = token.start_mark;
+        let end_mark = token.end_mark;
+        match token.content {
+            unnamed_yaml_token_t_data::Anchor(anchor) if properties.anchor.is_none() => {
+                Ok(Progress::Wants(Want::BehindProperties(
+                    place,
+                    PropertiesRead {
+                        anchor: Some(anchor.value),
+                        end_mark,
+                        ..properties
+                    },
+                )))
+            }
+            unnamed_yaml_token_t_data::Tag(tag) if properties.tag.is_none() => {
+                let tag = TagRead {
+                    handle: tag.handle,
+                    suffix: tag.suffix,
+                    mark: start_mark,
+                };
+                Ok(Progress::Wants(Want::BehindProperties(
+                    place,
+                    PropertiesRead {
+                        tag: Some(tag),
+                        end_mark,
+                        ..properties
+                    },
+                )))
+            }
+            _ => self.parse_content_behind(place, properties, token),
+        }
+    }
+
+    /// What the node is, behind its properties. A handle that is not defined is found here.
+    fn parse_content_behind(
+        &mut self,
+        place: NodePlace,
+        properties: PropertiesRead,
+        token: yaml_token_t,
+    ) -> Result<Progress, yaml_error_type_t>
+        ensures { Steps (content_behind place properties properties.tag self.old.config token token.content) self.old result self.new }
+    {
+        let PropertiesRead {
+            anchor,
+            tag,
+            start_mark,
+            end_mark,
+        } = properties;
+        let tag = match tag {
+            None => None,
+            Some(tag) => Some(self.resolve_tag(tag, start_mark)?),
+        };
+        let head = NodeHead {
+            anchor,
+            tag,
+            start_mark,
+            end_mark,
+        };
+        self.parse_node_content(place, head, token)
+    }
+
+    fn parse_node_content(
+        &mut self,
+        place: NodePlace,
+        head: NodeHead,
+        token: yaml_token_t,
+    ) -> Result<Progress, yaml_error_type_t>
+        ensures { Steps (node_content place head self.old.config token token.content) self.old result self.new }
+    {
+        let end_mark = token.end_mark;
+        match token.content {
+            unnamed_yaml_token_t_data::Scalar(scalar) => {
+                Ok(self.scalar_content(head, scalar, end_mark))
+            }
+            unnamed_yaml_token_t_data::FlowSequenceStart => Ok(self.open_sequence(
+                yaml_sequence_style_t::YAML_FLOW_SEQUENCE_STYLE,
+                yaml_parser_state_t::YAML_PARSE_FLOW_SEQUENCE_FIRST_ENTRY_STATE,
+                head,
+                token,
+            )),
+            unnamed_yaml_token_t_data::FlowMappingStart => Ok(self.open_mapping(
+                yaml_mapping_style_t::YAML_FLOW_MAPPING_STYLE,
+                yaml_parser_state_t::YAML_PARSE_FLOW_MAPPING_FIRST_KEY_STATE,
+                head,
+                token,
+            )),
+            unnamed_yaml_token_t_data::BlockSequenceStart if place.is_block() => {
+                Ok(self.open_sequence(
+                    yaml_sequence_style_t::YAML_BLOCK_SEQUENCE_STYLE,
+                    yaml_parser_state_t::YAML_PARSE_BLOCK_SEQUENCE_FIRST_ENTRY_STATE,
+                    head,
+                    token,
+                ))
+            }
+            unnamed_yaml_token_t_data::BlockMappingStart if place.is_block() => {
+                Ok(self.open_mapping(
+                    yaml_mapping_style_t::YAML_BLOCK_MAPPING_STYLE,
+                    yaml_parser_state_t::YAML_PARSE_BLOCK_MAPPING_FIRST_KEY_STATE,
+                    head,
+                    token,
+                ))
+            }
+            unnamed_yaml_token_t_data::BlockEntry if place.may_be_indentless() => {
+                Ok(self.open_sequence(
+                    yaml_sequence_style_t::YAML_BLOCK_SEQUENCE_STYLE,
+                    yaml_parser_state_t::YAML_PARSE_INDENTLESS_SEQUENCE_ENTRY_STATE,
+                    head,
+                    token,
+                ))
+            }
+            _ => self.parse_no_content(place, head, token),
+        }
+    }
+
+    fn scalar_content(
+        &mut self,
+        head: NodeHead,
+        content: unnamed_yaml_token_t_data_scalar,
+        end_mark: yaml_mark_t,
+    ) -> Progress
+        ensures { Steps (scalar_content head self.old.config content end_mark) self.old (Ok result) self.new }
+    {
+        self.pop_state();
+        let event = unnamed_yaml_event_t_data_scalar {
+            plain_implicit: is_plain_implicit(&head.tag, content.style),
+            quoted_implicit: is_quoted_implicit(&head.tag, content.style),
+            anchor: head.anchor,
+            tag: head.tag,
+            value: content.value,
+            style: content.style,
+        };
+        Progress::given(
+            unnamed_yaml_event_t_data::Scalar(event),
+            head.start_mark,
+            end_mark,
+        )
+    }
+
+    /// The start of a sequence, at the token that opens it, which stays for `state`.
+    fn open_sequence(
+        &mut self,
+        style: yaml_sequence_style_t,
+        state: yaml_parser_state_t,
+        head: NodeHead,
+        token: yaml_token_t,
+    ) -> Progress
+        ensures { Steps (open_collection (sequence_start head.anchor head.tag style) state head self.old.config token) self.old (Ok result) self.new }
+    {
+        let end_mark = token.end_mark;
+        self.set_state(state);
+        self.keep(token);
+        let event = sequence_start(head.anchor, head.tag, style);
+        Progress::given(event, head.start_mark, end_mark)
+    }
+
+    /// The start of a mapping, at the token that opens it, which stays for `state`.
+    fn open_mapping(
+        &mut self,
+        style: yaml_mapping_style_t,
+        state: yaml_parser_state_t,
+        head: NodeHead,
+        token: yaml_token_t,
+    ) -> Progress
+        ensures { Steps (open_collection (mapping_start head.anchor head.tag style) state head self.old.config token) self.old (Ok result) self.new }
+    {
+        let end_mark = token.end_mark;
+        self.set_state(state);
+        self.keep(token);
+        let event = mapping_start(head.anchor, head.tag, style);
+        Progress::given(event, head.start_mark, end_mark)
+    }
+
+    /// No content comes: properties alone are an empty scalar, and without these a fault is kept.
+    fn parse_no_content(
+        &mut self,
+        place: NodePlace,
+        head: NodeHead,
+        token: yaml_token_t,
+    ) -> Result<Progress, yaml_error_type_t>
+        ensures { Steps (no_content place head.anchor head.tag head self.old.config token) self.old result self.new }
+    {
+        if head.anchor.is_none() && head.tag.is_none() {
+            return Err(self.set_content_error(place, token.start_mark));
+        }
+        self.pop_state();
+        self.keep(token);
+        let implicit = is_missing(&head.tag);
+        let text = Text::new(self.allocator());
+        let event = plain_scalar(head.anchor, head.tag, text, implicit);
+        Ok(Progress::given(event, head.start_mark, head.end_mark))
+    }
+
+    /// Keeps the fault of a token that begins no node.
+    fn set_content_error(&mut self, place: NodePlace, mark: yaml_mark_t) -> yaml_error_type_t
+        ensures error { result ≡ yaml_error_type_t.YAML_PARSER_ERROR }
+        ensures kept { self.new ≡ with_config self.old (with_fault self.old.config (content_fault (is_block place) mark)) }
+    {
+        let context = if place.is_block() {
+            "while parsing a block node"
+        } else {
+            "while parsing a flow node"
+        };
+        self.set_parser_error_context(context, mark, "did not find expected node content", mark)
+    }
+}
