@@ -6,7 +6,7 @@ use Rattle.libyaml_types.specs.declared.enums.yaml_scalar_style_t.{yaml_scalar_s
 use Rattle.libyaml_types.specs.declared.enums.yaml_sequence_style_t.{yaml_sequence_style_t}
 use Rattle.libyaml_types.specs.declared.enums.yaml_mapping_style_t.{yaml_mapping_style_t}
 use Rattle.libyaml_types.specs.Events.{zero_mark}
-use Rattle.unsafe_libyaml.specs.declared.children.yaml_node_pair_t.{yaml_node_pair_t}
+use Rattle.unsafe_libyaml.specs.declared.pairs.yaml_node_pair_t.{yaml_node_pair_t}
 use Rattle.unsafe_libyaml.specs.declared.node.yaml_node_t.{yaml_node_t}
 use Rattle.unsafe_libyaml.specs.declared.node.unnamed_yaml_node_t_data.{unnamed_yaml_node_t_data}
 use Rattle.unsafe_libyaml.specs.declared.node.unnamed_yaml_node_t_data.TheVariants.{Scalar, Sequence, Mapping}

@@ -2,7 +2,7 @@
 use Rattle.std.specs.Prelude.{Bool, ◌&&◌}
 use Rattle.std.specs.Ordering.{int_eq}
 use Rattle.std.specs.Cmp.{IsEquivalence, int_eq_equiv, and_equiv, on_equiv}
-use Rattle.unsafe_libyaml.specs.declared.children.yaml_node_pair_t.{yaml_node_pair_t}
+use Rattle.unsafe_libyaml.specs.declared.pairs.yaml_node_pair_t.{yaml_node_pair_t}
 
 -- both ids are equal
 abbrev pub same_pair : yaml_node_pair_t → yaml_node_pair_t → Bool

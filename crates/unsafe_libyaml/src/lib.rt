@@ -3,16 +3,17 @@
 //! A user names this crate alone: the two crates below it are passed on.
 #![tactic(auto)]
 
-mod children;
 mod document;
+mod items;
 mod node;
+mod pairs;
 
-pub use children::{NodeItems, NodePairs, yaml_node_item_t, yaml_node_pair_t};
 pub use document::{
     yaml_document_add_mapping, yaml_document_add_scalar, yaml_document_add_sequence,
     yaml_document_append_mapping_pair, yaml_document_append_sequence_item, yaml_document_delete,
     yaml_document_get_node, yaml_document_get_root_node, yaml_document_initialize, yaml_document_t,
 };
+pub use items::{NodeItems, yaml_node_item_t};
 pub use libyaml_events::{
     NO_FAULT, yaml_list_source_t, yaml_parser_delete, yaml_parser_initialize, yaml_parser_t,
     yaml_parser_t_prefix, yaml_source_fault_t, yaml_token_source_t,
@@ -39,6 +40,7 @@ pub use node::{
     unnamed_yaml_node_t_data, unnamed_yaml_node_t_data_mapping, unnamed_yaml_node_t_data_scalar,
     unnamed_yaml_node_t_data_sequence, yaml_alias_data_t, yaml_node_t,
 };
+pub use pairs::{NodePairs, yaml_node_pair_t};
 
 // The variants of the enums, by their bare names.
 pub use libyaml_types::enums::yaml_break_t::{

@@ -2,7 +2,8 @@
 
 ghost use Rattle.std.specs.Prelude.{◌≡◌, OnOk, OnErr};
 
-use crate::children::{NodeItems, NodePairs, yaml_node_item_t, yaml_node_pair_t};
+use crate::items::{NodeItems, yaml_node_item_t};
+use crate::pairs::{NodePairs, yaml_node_pair_t};
 use libyaml_types::{
     Text, yaml_mapping_style_t, yaml_mark_t, yaml_node_type_t, yaml_scalar_style_t,
     yaml_sequence_style_t,

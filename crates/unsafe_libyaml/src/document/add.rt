@@ -6,11 +6,12 @@ ghost use Rattle.unsafe_libyaml.specs.Documents.{most_nodes, with_node};
 ghost use Rattle.unsafe_libyaml.specs.Nodes.{ids_of, node_of, node_type, tag_or, type_at, KeepsTypes, scalar_node, sequence_node, mapping_node};
 
 use super::yaml_document_t;
-use crate::children::{NodeItems, NodePairs};
+use crate::items::NodeItems;
 use crate::node::{
     unnamed_yaml_node_t_data, unnamed_yaml_node_t_data_mapping, unnamed_yaml_node_t_data_scalar,
     unnamed_yaml_node_t_data_sequence, yaml_node_t,
 };
+use crate::pairs::NodePairs;
 use libyaml_types::utf8::checked;
 use libyaml_types::{
     Text, ZERO_MARK, yaml_mapping_style_t, yaml_node_type_t, yaml_refusal_t, yaml_scalar_style_t,

@@ -5,7 +5,8 @@ ghost use Rattle.unsafe_libyaml.specs.Documents.{with_changed_node};
 ghost use Rattle.unsafe_libyaml.specs.Nodes.{IsIdBelow, type_at, KeepsTypes, with_item, with_pair};
 
 use super::{place_of, yaml_document_t};
-use crate::children::{yaml_node_item_t, yaml_node_pair_t};
+use crate::items::yaml_node_item_t;
+use crate::pairs::yaml_node_pair_t;
 use libyaml_types::{yaml_node_type_t, yaml_refusal_t};
 
 /// Puts an item behind the others of a sequence.
