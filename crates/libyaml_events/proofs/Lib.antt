@@ -30,3 +30,5 @@ pub mod SourceErrors
 pub mod PropertyLemmas
 pub mod CallLemmas
 pub mod KnownLemmas
+pub mod RowKinds
+pub mod Rows

@@ -25,3 +25,6 @@ pub mod StreamEnds
 pub mod Settled
 pub mod Runs
 pub mod Nesting
+pub mod RowNotation
+pub mod Rows
+pub mod EmptyRows

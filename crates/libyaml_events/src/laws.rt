@@ -1,6 +1,8 @@
 //! The laws of the grammar, over its definitions alone. Each function does nothing when it runs: its
 //! contract is the law.
 
+pub mod rows;
+
 ghost use Rattle.std.specs.Prelude.{◌≡◌, ◌++◌, ◌↔◌, ℕ, List, [], ◌∷◌, true, false};
 ghost use Rattle.libyaml_events.specs.CutEvents.{cut_events};
 ghost use Rattle.libyaml_events.specs.CutFaults.{fault};

@@ -1,0 +1,156 @@
+//! Worked rows of the definitions: lists of tokens with their events and how each run ends. Each function does
+//! nothing when it runs: its contract is the rows.
+
+ghost use Rattle.libyaml_events.specs.EmptyRows.{NeverEmptyFlowEntry, NeverEmptyRoot, RowEmptyDocument, RowEmptyEntry, RowEmptyFlowKey, RowEmptyFlowValue, RowEmptyIndentlessEntry, RowEmptyPairKey, RowEmptyPairValue, RowEmptyPart};
+ghost use Rattle.libyaml_events.specs.Rows.{RowAliasBehindAnchor, RowAliasCome, RowAmidProperties, RowAmidTag, RowAmidTagAndAnchor, RowAnchorBegun, RowAnchoredIndentless, RowAnchoredIndentlessBegun, RowAnchoredKeyBegun, RowAnchoredPairBegun, RowBehindStreamEnd, RowBlockCollectionBehindTagInFlow, RowBlockContentInFlow, RowBlockEntryCome, RowBlockSequence, RowCollectionBegun, RowCollectionFlags, RowCollectionsEnded, RowCollectionsInMapping, RowDefaultDeclaredTwice, RowDefaultHandles, RowDirectiveBegun, RowDirectiveWithoutDocument, RowDirectives, RowDocumentBegun, RowDocumentEndFirst, RowDocumentEnded, RowDocumentEnds, RowEmptyCollections, RowEmptyDocumentEnded, RowEmptyDocuments, RowEmptyFlowKeys, RowEmptyFlowValues, RowEmptyIndentlessEntries, RowEmptyKeys, RowEmptyPairKeys, RowEmptyPairValues, RowEmptySequenceEntries, RowEmptyStream, RowEmptyTag, RowEmptyValues, RowEntryThatBeginsWithValue, RowExplicitBehindDocumentEnd, RowExplicitDocuments, RowFlowKeyCome, RowFlowKeyWithoutValue, RowFlowMapping, RowFlowSequence, RowHandleDeclaredTwice, RowHandleOfDocumentBefore, RowHandlesWithZeroBytes, RowImplicitBehindDocumentEnd, RowImplicitBehindImplicit, RowImplicitDocument, RowIndentlessBegun, RowIndentlessSequence, RowKeyCome, RowKeysWithoutValues, RowNestedPairs, RowNoBlockEntry, RowNoBlockEntryBehindEntry, RowNoContentBehindDocumentEnd, RowNoContentBehindSeparator, RowNoContentBehindValue, RowNoContentInBlockMapping, RowNoContentInBlockSequence, RowNoContentInDocument, RowNoContentInFlowMapping, RowNoContentInFlowSequence, RowNoContentInIndentlessSequence, RowNoContentInPair, RowNoContentInPairValue, RowNoKey, RowNoKeyBehindIndentless, RowNoKeyBehindKey, RowNoSeparatorInFlowMapping, RowNoSeparatorInFlowSequence, RowNoStreamStart, RowNoToken, RowNoTokens, RowNodeAloneSeparated, RowNodesAloneInMapping, RowOtherTag, RowPair, RowPairBegun, RowPairSeparated, RowPairValueCome, RowPairWithEmptyKey, RowPairWithoutValue, RowPropertiesAlone, RowPropertiesBeforeContent, RowPropertiesBegun, RowRedeclaredHandles, RowScalarCome, RowScalarStyles, RowSecondStreamStart, RowSecondVersion, RowStreamBegun, RowTagThatIsAnExclamationMark, RowTagWhereNoneMayStand, RowTwoRoots, RowUnknownHandle, RowUnknownHandleAtStreamEnd, RowUnknownHandleBeforeAnchor, RowUnknownHandleFirst, RowValueBehindIndentless, RowValueBehindValue, RowValueComeFirst, RowVersionOfEarlierMinor, RowVersionOfLaterMajor, RowVersionOfLaterMinor, RowWrongEndOfFlowMapping, RowWrongEndOfFlowSequence};
+
+/// A stream and its documents, and what ends them.
+pub fn streams()
+    ensures empty_stream { RowEmptyStream }
+    ensures implicit_document { RowImplicitDocument }
+    ensures explicit_documents { RowExplicitDocuments }
+    ensures empty_documents { RowEmptyDocuments }
+    ensures document_ends { RowDocumentEnds }
+    ensures implicit_behind_document_end { RowImplicitBehindDocumentEnd }
+    ensures implicit_behind_implicit { RowImplicitBehindImplicit }
+    ensures explicit_behind_document_end { RowExplicitBehindDocumentEnd }
+    ensures directives { RowDirectives }
+    ensures behind_stream_end { RowBehindStreamEnd }
+{}
+
+/// Block sequences and mappings, and sequences without tokens of their own.
+pub fn block_collections()
+    ensures block_sequence { RowBlockSequence }
+    ensures empty_sequence_entries { RowEmptySequenceEntries }
+    ensures empty_collections { RowEmptyCollections }
+    ensures indentless_sequence { RowIndentlessSequence }
+    ensures empty_indentless_entries { RowEmptyIndentlessEntries }
+    ensures anchored_indentless { RowAnchoredIndentless }
+    ensures empty_keys { RowEmptyKeys }
+    ensures empty_values { RowEmptyValues }
+    ensures keys_without_values { RowKeysWithoutValues }
+    ensures entry_that_begins_with_value { RowEntryThatBeginsWithValue }
+    ensures value_behind_value { RowValueBehindValue }
+    ensures collections_in_mapping { RowCollectionsInMapping }
+{}
+
+/// Flow sequences and mappings, and pairs.
+pub fn flow_collections()
+    ensures flow_sequence { RowFlowSequence }
+    ensures flow_mapping { RowFlowMapping }
+    ensures nodes_alone_in_mapping { RowNodesAloneInMapping }
+    ensures pair { RowPair }
+    ensures pair_with_empty_key { RowPairWithEmptyKey }
+    ensures empty_pair_keys { RowEmptyPairKeys }
+    ensures empty_pair_values { RowEmptyPairValues }
+    ensures pair_without_value { RowPairWithoutValue }
+    ensures nested_pairs { RowNestedPairs }
+    ensures empty_flow_keys { RowEmptyFlowKeys }
+    ensures empty_flow_values { RowEmptyFlowValues }
+    ensures flow_key_without_value { RowFlowKeyWithoutValue }
+{}
+
+/// Anchors and tags, and the flags that hang on them.
+pub fn properties()
+    ensures scalar_styles { RowScalarStyles }
+    ensures tag_that_is_an_exclamation_mark { RowTagThatIsAnExclamationMark }
+    ensures empty_tag { RowEmptyTag }
+    ensures other_tag { RowOtherTag }
+    ensures properties_alone { RowPropertiesAlone }
+    ensures properties_before_content { RowPropertiesBeforeContent }
+    ensures collection_flags { RowCollectionFlags }
+    ensures default_handles { RowDefaultHandles }
+    ensures redeclared_handles { RowRedeclaredHandles }
+    ensures handles_with_zero_bytes { RowHandlesWithZeroBytes }
+{}
+
+/// Each fault, and the events before it.
+pub fn faults()
+    ensures no_stream_start { RowNoStreamStart }
+    ensures no_token { RowNoToken }
+    ensures second_stream_start { RowSecondStreamStart }
+    ensures two_roots { RowTwoRoots }
+    ensures alias_behind_anchor { RowAliasBehindAnchor }
+    ensures block_collection_behind_tag_in_flow { RowBlockCollectionBehindTagInFlow }
+    ensures directive_without_document { RowDirectiveWithoutDocument }
+    ensures second_version { RowSecondVersion }
+    ensures version_of_later_minor { RowVersionOfLaterMinor }
+    ensures version_of_earlier_minor { RowVersionOfEarlierMinor }
+    ensures version_of_later_major { RowVersionOfLaterMajor }
+    ensures handle_declared_twice { RowHandleDeclaredTwice }
+    ensures default_declared_twice { RowDefaultDeclaredTwice }
+    ensures document_end_first { RowDocumentEndFirst }
+    ensures no_content_behind_document_end { RowNoContentBehindDocumentEnd }
+    ensures no_content_in_document { RowNoContentInDocument }
+    ensures no_content_in_block_sequence { RowNoContentInBlockSequence }
+    ensures no_content_in_indentless_sequence { RowNoContentInIndentlessSequence }
+    ensures no_content_in_block_mapping { RowNoContentInBlockMapping }
+    ensures no_content_behind_value { RowNoContentBehindValue }
+    ensures no_content_in_flow_sequence { RowNoContentInFlowSequence }
+    ensures no_content_behind_separator { RowNoContentBehindSeparator }
+    ensures no_content_in_flow_mapping { RowNoContentInFlowMapping }
+    ensures no_content_in_pair { RowNoContentInPair }
+    ensures no_content_in_pair_value { RowNoContentInPairValue }
+    ensures block_content_in_flow { RowBlockContentInFlow }
+    ensures unknown_handle { RowUnknownHandle }
+    ensures unknown_handle_first { RowUnknownHandleFirst }
+    ensures unknown_handle_before_anchor { RowUnknownHandleBeforeAnchor }
+    ensures unknown_handle_at_stream_end { RowUnknownHandleAtStreamEnd }
+    ensures handle_of_document_before { RowHandleOfDocumentBefore }
+    ensures tag_where_none_may_stand { RowTagWhereNoneMayStand }
+    ensures no_block_entry { RowNoBlockEntry }
+    ensures no_block_entry_behind_entry { RowNoBlockEntryBehindEntry }
+    ensures no_key { RowNoKey }
+    ensures no_key_behind_indentless { RowNoKeyBehindIndentless }
+    ensures no_key_behind_key { RowNoKeyBehindKey }
+    ensures no_separator_in_flow_sequence { RowNoSeparatorInFlowSequence }
+    ensures no_separator_in_flow_mapping { RowNoSeparatorInFlowMapping }
+    ensures wrong_end_of_flow_sequence { RowWrongEndOfFlowSequence }
+    ensures wrong_end_of_flow_mapping { RowWrongEndOfFlowMapping }
+{}
+
+/// What a beginning settles where the source fails behind it.
+pub fn beginnings()
+    ensures no_tokens { RowNoTokens }
+    ensures stream_begun { RowStreamBegun }
+    ensures directive_begun { RowDirectiveBegun }
+    ensures document_ended { RowDocumentEnded }
+    ensures empty_document_ended { RowEmptyDocumentEnded }
+    ensures document_begun { RowDocumentBegun }
+    ensures anchor_begun { RowAnchorBegun }
+    ensures properties_begun { RowPropertiesBegun }
+    ensures anchored_key_begun { RowAnchoredKeyBegun }
+    ensures anchored_indentless_begun { RowAnchoredIndentlessBegun }
+    ensures anchored_pair_begun { RowAnchoredPairBegun }
+    ensures scalar_come { RowScalarCome }
+    ensures collection_begun { RowCollectionBegun }
+    ensures alias_come { RowAliasCome }
+    ensures block_entry_come { RowBlockEntryCome }
+    ensures indentless_begun { RowIndentlessBegun }
+    ensures key_come { RowKeyCome }
+    ensures value_behind_indentless { RowValueBehindIndentless }
+    ensures value_come_first { RowValueComeFirst }
+    ensures flow_key_come { RowFlowKeyCome }
+    ensures pair_begun { RowPairBegun }
+    ensures pair_separated { RowPairSeparated }
+    ensures node_alone_separated { RowNodeAloneSeparated }
+    ensures pair_value_come { RowPairValueCome }
+    ensures collections_ended { RowCollectionsEnded }
+    ensures amid_properties { RowAmidProperties }
+    ensures amid_tag { RowAmidTag }
+    ensures amid_tag_and_anchor { RowAmidTagAndAnchor }
+{}
+
+/// Which tokens may stand behind a node that is nothing, at each place.
+pub fn empty_places()
+    ensures entry { RowEmptyEntry }
+    ensures indentless_entry { RowEmptyIndentlessEntry }
+    ensures key_or_value { RowEmptyPart }
+    ensures document { RowEmptyDocument }
+    ensures pair_key { RowEmptyPairKey }
+    ensures pair_value { RowEmptyPairValue }
+    ensures flow_key { RowEmptyFlowKey }
+    ensures flow_value { RowEmptyFlowValue }
+    ensures implicit_document { NeverEmptyRoot }
+    ensures flow_entry { NeverEmptyFlowEntry }
+{}
