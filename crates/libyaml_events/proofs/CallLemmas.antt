@@ -1,13 +1,13 @@
 -- how the steps of a call make the call
-use Rattle.std.proofs.Common.{◌≡◌, ◌++◌, ◌∷◌, List, [], Option, Some, None, Result, Ok, Err, IfOk, Bool, true, false, refl, ap, sym, ◌∙◌, subst, inl, inr, append_assoc}
+use Rattle.std.proofs.Common.{◌≡◌, ◌++◌, ◌∷◌, List, [], Option, Some, None, Ok, Err, IfOk, Bool, true, false, refl, ap, sym, ◌∙◌, subst, inl, inr, append_assoc}
 use Rattle.std.proofs.lemmas.List.{append-nil}
 use Rattle.libyaml_types.specs.declared.token.yaml_token_t.{yaml_token_t}
 use Rattle.libyaml_types.specs.declared.event.yaml_event_t.{yaml_event_t}
 use Rattle.libyaml_types.specs.declared.enums.yaml_error_type_t.{yaml_error_type_t}
-use Rattle.libyaml_types.specs.declared.enums.yaml_error_type_t.TheVariants.{YAML_NO_ERROR, YAML_MEMORY_ERROR, YAML_READER_ERROR, YAML_SCANNER_ERROR, YAML_PARSER_ERROR, YAML_COMPOSER_ERROR, YAML_WRITER_ERROR, YAML_EMITTER_ERROR}
+use Rattle.libyaml_types.specs.declared.enums.yaml_error_type_t.TheVariants.{YAML_MEMORY_ERROR, YAML_PARSER_ERROR}
 use Rattle.libyaml_events.specs.Fault.{Answer}
 use Rattle.libyaml_events.specs.Config.{Config, Parser, taken, is_over}
-use Rattle.libyaml_events.specs.Machine.{Outcome, step}
+use Rattle.libyaml_events.specs.Machine.{step}
 use Rattle.libyaml_events.specs.Steps.{Steps}
 use Rattle.libyaml_events.specs.Calls.{EventOrError, Gave, held, Fetches, FetchesFrom, Then, Calls, may_grow, RefusedAt, Refused, Parses, ParsesIf, Call, Ran, goes, CarriesOn}
 use Rattle.libyaml_events.specs.declared.progress.Want.{Want}

@@ -1,5 +1,5 @@
 -- a source that knows its tokens gives them in order
-use Rattle.std.proofs.Common.{◌≡◌, ◌∷◌, List, [], Option, Some, Result, Ok, Err, refl, ap, ◌∙◌, inl, inr}
+use Rattle.std.proofs.Common.{◌≡◌, ◌∷◌, List, [], Option, Some, Ok, Err, refl, ap, ◌∙◌, inl, inr}
 use Rattle.libyaml_types.specs.declared.token.yaml_token_t.{yaml_token_t}
 use Rattle.libyaml_events.specs.Fault.{Fault, Answer}
 use Rattle.libyaml_events.specs.Source.{Coming, coming, Follows, FollowsList}
