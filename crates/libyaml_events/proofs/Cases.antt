@@ -17,7 +17,7 @@ IsTagHeld (due p (Some (tag h n))) b m = (is_known (declared p) h.handle ≡ b) 
 IsTagHeld (due p (Some (anchor_tag a x h n))) b m = (is_known (declared p) h.handle ≡ b) × (n ≡ m)
 IsTagHeld _ b m = ⊥
 
-abbrev TagGoes : Step → Bool → Marks → Type 0
+abbrev pub TagGoes : Step → Bool → Marks → Type 0
 TagGoes (goes q) b m = IsTagHeld q b m
 TagGoes (bad c) b m = Unit {0}
 TagGoes over b m = Unit {0}

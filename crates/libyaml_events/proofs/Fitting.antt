@@ -15,17 +15,17 @@ use Rattle.libyaml_events.proofs.OneCut.{goes_same}
 use Rattle.libyaml_events.proofs.Orders.{Orders, fill_flow_orders, leave_orders, reads_to, step_orders}
 
 -- no token is bad at a tag for grammar alone
-abbrev NotTagCut : Cut → Type 0
+abbrev pub NotTagCut : Cut → Type 0
 NotTagCut (at_tag p) = ⊥
 NotTagCut (at_tag_behind p a m) = ⊥
 NotTagCut _ = Unit {0}
 
-abbrev NotTag : Step → Type 0
+abbrev pub NotTag : Step → Type 0
 NotTag (goes q) = Unit {0}
 NotTag (bad c) = NotTagCut c
 NotTag over = ⊥
 
-abbrev IsOpen : Position → Type 0
+abbrev pub IsOpen : Position → Type 0
 IsOpen (done t) = ⊥
 IsOpen _ = Unit {0}
 
@@ -154,7 +154,7 @@ nt_flow c FlowSequenceEnd m = nt_close c no_last sequence m (content_due (flow_e
 nt_flow c FlowMappingEnd m = nt_close c no_last mapping m (content_due (flow_entry c)) tt
 nt_flow c k m = nt_due (flow_entry c) None k m
 
-not_tag : (q : Position) (k : Content) (m : Marks) → IsOpen q → NotTag (step q k m)
+pub not_tag : (q : Position) (k : Content) (m : Marks) → IsOpen q → NotTag (step q k m)
 not_tag unopened k m w = nt_unopened k m
 not_tag (between (free f)) k m w = nt_free f k m
 not_tag (between (behind d)) k m w = nt_documents d k m
@@ -168,7 +168,7 @@ not_tag (flow_keyed c e x) k m w = nt_key c e x k m
 not_tag (flow_behind c e) k m w = nt_member c e k m
 not_tag (done t) k m w = absurd w
 
-open_or_done : (q : Position) → IsOpen q ⊎ ((t : Stream) × (q ≡ done t))
+pub open_or_done : (q : Position) → IsOpen q ⊎ ((t : Stream) × (q ≡ done t))
 open_or_done (done t) = inr (t, refl)
 open_or_done unopened = inl tt
 open_or_done _ = inl tt

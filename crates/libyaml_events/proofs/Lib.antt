@@ -32,3 +32,14 @@ pub mod CallLemmas
 pub mod KnownLemmas
 pub mod RowKinds
 pub mod Rows
+pub mod Lists
+pub mod Link
+pub mod Declared
+pub mod Follow
+pub mod Outcomes
+pub mod NotOver
+pub mod Giving
+pub mod Waiting
+pub mod Stand
+pub mod Calling
+pub mod Needed

@@ -24,6 +24,8 @@ pub mod Given
 pub mod StreamEnds
 pub mod Settled
 pub mod Runs
+pub mod History
+pub mod Needs
 pub mod Nesting
 pub mod RowNotation
 pub mod Rows
