@@ -13,6 +13,7 @@ mod line_source;
 mod number;
 mod parts;
 mod refusal;
+mod run;
 mod search;
 mod token_error;
 mod token_line;
@@ -22,12 +23,16 @@ pub use event_line::write_event;
 pub use fault_text::write_fault;
 pub use line_source::yaml_line_source_t;
 pub use refusal::line_refusal_t;
+pub use run::{Outcome, run_events};
 
 /// A token line has at most this many bytes, its LF not counted.
 pub const MAX_LINE: usize = 1_048_576;
 
 /// A run reads at most this many tokens.
 pub const MAX_TOKENS: u64 = 1_000_000;
+
+/// A run gives at most four events for a token.
+const MAX_EVENTS: u64 = 4 * MAX_TOKENS;
 
 #[cfg(test)]
 mod writing_tests;

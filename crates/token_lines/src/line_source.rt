@@ -24,14 +24,14 @@ pub struct yaml_line_source_t<R> {
     reader: R,
     given: u64,
     max_tokens: u64,
-    fault: Option<yaml_source_fault_t>,
+    problem: Option<LineProblem>,
     line: Vec<u8>,
     alloc: Global,
 }
 
 impl<R> Model for yaml_line_source_t<R> {
     ghost use Rattle.std.specs.Prelude.{option_map};
-    ghost use Rattle.libyaml_events.specs.Fault.{source_fault};
+    ghost use Rattle.token_lines.specs.LineFault.{line_fault};
     ghost use Rattle.token_lines.specs.LineSource.{LineSource};
 
     ghost Value = { LineSource R };
@@ -40,7 +40,7 @@ impl<R> Model for yaml_line_source_t<R> {
       reader = s.reader;
       given = s.given;
       max_tokens = s.max_tokens;
-      fault = option_map source_fault s.fault;
+      fault = option_map (λ problem. line_fault problem s.given) s.problem;
     } };
 }
 
@@ -54,7 +54,7 @@ impl<R: BufRead> yaml_line_source_t<R> {
             reader,
             given: 0,
             max_tokens,
-            fault: None,
+            problem: None,
             line: Vec::new(alloc),
             alloc,
         }
@@ -90,13 +90,12 @@ impl<R: BufRead> yaml_token_source_t for yaml_line_source_t<R> {
         ensures leaves { IfOk result (λ _. IsBehindLine (R.remaining self.old.reader) (R.remaining self.new.reader)) }
         ensures takes { TakesAtMost (MAX_LINE + 1) (R.remaining self.old.reader) (R.remaining self.new.reader) }
     {
-        if let Some(fault) = self.fault {
-            return Err(fault);
+        if let Some(problem) = self.problem {
+            return Err(problem.fault(self.given));
         }
         if self.given >= self.max_tokens {
-            let fault = LineProblem::TooManyTokens.fault(self.given);
-            self.fault = Some(fault);
-            return Err(fault);
+            self.problem = Some(LineProblem::TooManyTokens);
+            return Err(LineProblem::TooManyTokens.fault(self.given));
         }
         match next_in(self.alloc, &mut self.reader, &mut self.line) {
             Ok(token) => {
@@ -104,9 +103,8 @@ impl<R: BufRead> yaml_token_source_t for yaml_line_source_t<R> {
                 Ok(token)
             }
             Err(problem) => {
-                let fault = problem.fault(self.given);
-                self.fault = Some(fault);
-                Err(fault)
+                self.problem = Some(problem);
+                Err(problem.fault(self.given))
             }
         }
     }
