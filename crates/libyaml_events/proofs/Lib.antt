@@ -21,9 +21,6 @@ pub mod StreamEnds
 pub mod Settling
 pub mod Running
 pub mod OwnDirectives
-pub mod Worked
-pub mod TreeRows
-pub mod CutRows
 pub mod Stacks
 pub mod HandleLemmas
 pub mod SourceErrors
@@ -43,3 +40,5 @@ pub mod Waiting
 pub mod Stand
 pub mod Calling
 pub mod Needed
+pub mod Productions
+pub mod WholeParts

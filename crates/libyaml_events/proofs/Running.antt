@@ -79,7 +79,7 @@ one_done : (x : Token) (q p : Position) → is_end x.content ≡ true → reads 
 one_done x q p e f = end_is_done (x ∷ []) q p (ap (λ (s : Step). then_all s goes) f) (ap (λ (b : Bool). either b false) e)
 
 -- a list that is read to its STREAM-END is its own front
-up_to_read : (l : List Token) (q p : Position) (r : List Token) → reads_all l q ≡ goes p → has_end l ≡ true → up_to_end (l ++ r) ≡ l
+pub up_to_read : (l : List Token) (q p : Position) (r : List Token) → reads_all l q ≡ goes p → has_end l ≡ true → up_to_end (l ++ r) ≡ l
 up_to_read [] q p r e h = absurd cc
 up_to_read (x ∷ l) q p r e h = go (λ (y : Position) (f : reads_all l y ≡ goes p) (g : has_end l ≡ true). up_to_read l y p r f g) (is_end x.content) refl (reads q x) refl e h
   where

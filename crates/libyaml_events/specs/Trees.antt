@@ -80,6 +80,13 @@ mutual
     no_parts : Parts
     part : Parts → Role → Marks → Slot → Parts
 
+-- a collection with an opening and a closing token
+abbrev pub IsCollection : BlockNode → Type 0
+IsCollection (flow (collection o k m is l n)) = Unit {0}
+IsCollection (flow _) = ⊥
+IsCollection (block_sequence o m is n) = Unit {0}
+IsCollection (block_mapping o m ps n) = Unit {0}
+
 -- a directive (YAML 1.1, 7.1)
 pub data Directive : Type 0 where
   version : VersionAsked → Marks → Directive

@@ -19,6 +19,8 @@ ghost use Rattle.libyaml_events.specs.Settled.{IsFront, IsOpen, IsSettled, sure}
 ghost use Rattle.libyaml_events.specs.Tokens.{Mark, Marks, Token, StreamEnd, tok, zero_marks};
 ghost use Rattle.libyaml_events.specs.Trees.{Before, BlockNode, BlockSlot, Directives, Free, Stream, explicit, implicit, no_directives, tokens};
 
+pub mod productions;
+
 /// Two stream trees with equal tokens are equal.
 pub fn one_tree()
     ensures { (s t : Stream) → tokens s ≡ tokens t → s ≡ t }
