@@ -1,3 +1,4 @@
+-- All that one token may do at a position that is met.
 use Rattle.std.proofs.Common.{◌≡◌, List, Some, None, refl, sym, ap, ◌∙◌, subst, Bool, true, false}
 use Rattle.libyaml_events.specs.Tokens.{Content, HandleDeclared, Mark, Marks, Tag, TagDirective, TagName, VersionAsked, VersionDirective, tok}
 use Rattle.libyaml_events.specs.Trees.{Directive, Directives, alone, anchor, anchor_tag, behind, free, no_directives, tag, tag_anchor, tag_directive, version}

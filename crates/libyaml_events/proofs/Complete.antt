@@ -1,3 +1,5 @@
+-- Reading is complete: fed with the tokens of a tree, a position leads to its place filled with that tree, wherever the
+-- token behind is taken there. So a stream's tokens lead to the stream.
 use Rattle.std.proofs.Common.{◌≡◌, List, [], ◌∷◌, Option, Some, None, refl, sym, ap, ◌∙◌, subst}
 use Rattle.libyaml_events.specs.Tokens.{Alias, Anchor, BlockEnd, BlockEntry, BlockMappingStart, BlockSequenceStart, Content, DocumentEnd, DocumentStart, FlowEntry, FlowMappingEnd, FlowMappingStart, FlowSequenceEnd, FlowSequenceStart, Key, Marks, Scalar, StreamEnd, Tag, Token, Value, marks_of, tok}
 use Rattle.libyaml_events.specs.Trees.{Before, BlockItems, BlockNode, BlockSlot, Directive, Directives, Documents, Ended, FlowItems, FlowLast, FlowMember, FlowNode, FlowSlot, Free, Parts, Properties, Role, Slot, Sort, Stream, again, alias, alone, anchor, anchor_tag, before_tokens, behind, block_mapping, block_node_tokens, block_sequence, block_slot_tokens, closing, collection, directive, directive_token, directives_tokens, documents_tokens, empty, ended, ended_tokens, explicit, flow, flow_items_tokens, flow_last_tokens, flow_member_tokens, flow_node, flow_node_tokens, flow_nothing, flow_slot_tokens, free, free_tokens, implicit, indentless, item, items_tokens, key, last, mapping, more_items, no_directives, no_items, no_last, no_parts, no_value, node, nothing, once, opened, option_tokens, pair, part, parts_tokens, properties_tokens, scalar, sequence, single, slot_of, slot_tokens, tag, tag_anchor, tag_directive, tokens, value, version, whole, with_value}

@@ -1,3 +1,5 @@
+-- Each position can be completed to a stream, so reading goes on exactly through beginnings; and one list of tokens has one
+-- stream tree.
 use Rattle.std.proofs.Common.{◌≡◌, List, [], ◌∷◌, ◌++◌, refl, sym, ap, ◌∙◌, subst, ◌⊎◌, inl, inr, Bool, true}
 use Rattle.libyaml_events.specs.Tokens.{Marks, Token, empty_plain, zero_marks}
 use Rattle.libyaml_events.specs.Trees.{BlockNode, FlowNode, Stream, behind, block_mapping, block_sequence, collection, directive, explicit, flow, flow_node, free, implicit, indentless, item, last, mapping, no_directives, no_last, no_value, node, nothing, opened, pair, part, scalar, sequence, single, slot_of, tokens, whole, with_value}

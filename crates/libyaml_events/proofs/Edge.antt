@@ -1,3 +1,4 @@
+-- The position that a cut tree's tokens lead to: its right edge, with all that is open around it.
 use Rattle.std.proofs.Common.{◌≡◌, List, ◌∷◌, Option, Some, None, refl, ◌∙◌}
 use Rattle.libyaml_events.specs.Tokens.{BlockEnd, BlockEntry, BlockMappingStart, BlockSequenceStart, Key, Marks, Scalar, Token, Value, tok}
 use Rattle.libyaml_events.specs.Trees.{Before, BlockItems, BlockNode, BlockSlot, Directive, Directives, Documents, FlowMember, FlowNode, FlowSlot, Parts, Properties, Sort, alias, alone, anchor, before_tokens, behind, block_mapping, block_node_tokens, block_sequence, block_slot_tokens, collection, directive, directive_token, directives_tokens, documents_tokens, empty, explicit, flow, flow_node, flow_node_tokens, flow_nothing, flow_slot_tokens, free, implicit, indentless, item, key, mapping, no_directives, no_items, no_parts, no_value, node, nothing, opening, option_tokens, pair, part, properties_tokens, scalar, sequence, single, slot_of, value, with_value}

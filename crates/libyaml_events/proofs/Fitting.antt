@@ -1,3 +1,4 @@
+-- Where reading stops with a cut tree, it has the tokens read, and fits.
 use Rattle.std.proofs.Common.{◌≡◌, List, [], ◌∷◌, ◌++◌, Option, Some, None, refl, sym, ap, ◌∙◌, subst, ◌⊎◌, inl, inr, Bool, true, false}
 use Rattle.libyaml_events.specs.Tokens.{Alias, AliasName, Anchor, AnchorName, BlockEntry, BlockMappingStart, BlockSequenceStart, Content, DocumentEnd, DocumentStart, FlowEntry, FlowMappingEnd, FlowMappingStart, FlowSequenceEnd, FlowSequenceStart, HandleDeclared, Key, Marks, Scalar, StreamEnd, StreamStart, Tag, TagDirective, TagName, Token, Value, VersionAsked, VersionDirective, marks_of, tok}
 use Rattle.libyaml_events.specs.Trees.{Before, BlockItems, BlockSlot, Directive, Directives, Documents, FlowLast, FlowMember, FlowSlot, Free, Parts, Properties, Sort, Stream, alone, anchor, anchor_tag, behind, directive, ended, free, indentless, last, mapping, no_directives, no_last, no_value, opened, pair, part, sequence, tag, tag_anchor, tag_directive, version}
@@ -8,7 +9,7 @@ use Rattle.libyaml_events.specs.Positions.{Position, between, done, due, flow_be
 use Rattle.libyaml_events.specs.Reading.{Step, at_flow, at_free, at_headed, at_unopened, bad, behind_documents, behind_indentless, behind_item, behind_key, behind_member, behind_part, behind_whole, broken, checked, close, feeds, fill_flow, goes, is_legal, leave, on_alias, on_anchor, on_block_entry, on_block_mapping, on_block_sequence, on_due, on_tag, or_bad, over, pending, reads, reads_all, step, then_all, without}
 use Rattle.libyaml_events.proofs.Cases.{HeadGoes, IsHeaded, step_handle, step_version}
 use Rattle.libyaml_events.proofs.Edge.{cut_reads, reached}
-use Rattle.libyaml_events.proofs.Existence.{IsTagCut, StopsAt, gives_content, gives_directive, gives_row, gives_tag}
+use Rattle.libyaml_events.proofs.Existence.{IsTagCut, StopsAt, gives_content, gives_directive, gives_empty_end, gives_tag}
 use Rattle.libyaml_events.proofs.Keeps.{Keeps, feeds_keep, fill_flow_keeps, leave_keeps, step_keeps}
 use Rattle.libyaml_events.proofs.Completion.{append_nil, not_done, read_order, reads_append}
 use Rattle.libyaml_events.proofs.OneCut.{goes_same}
@@ -29,143 +30,143 @@ abbrev pub IsOpen : Position → Type 0
 IsOpen (done t) = ⊥
 IsOpen _ = Unit {0}
 
-nt_close : (c : Open) (l : FlowLast) (k : Sort) (m : Marks) (x : Cut) → NotTagCut x → NotTag (close c l k m x)
-nt_close (open_collection p o sequence s is) l sequence m x h = tt
-nt_close (open_collection p o sequence s is) l mapping m x h = h
-nt_close (open_collection p o mapping s is) l sequence m x h = h
-nt_close (open_collection p o mapping s is) l mapping m x h = tt
+no_tag_close : (c : Open) (l : FlowLast) (k : Sort) (m : Marks) (x : Cut) → NotTagCut x → NotTag (close c l k m x)
+no_tag_close (open_collection p o sequence s is) l sequence m x h = tt
+no_tag_close (open_collection p o sequence s is) l mapping m x h = h
+no_tag_close (open_collection p o mapping s is) l sequence m x h = h
+no_tag_close (open_collection p o mapping s is) l mapping m x h = tt
 
-nt_documents : (d : Documents) (k : Content) (m : Marks) → NotTag (behind_documents d k m)
-nt_documents d (StreamStart e) m = tt
-nt_documents d _ m = tt
+no_tag_documents : (d : Documents) (k : Content) (m : Marks) → NotTag (behind_documents d k m)
+no_tag_documents d (StreamStart e) m = tt
+no_tag_documents d _ m = tt
 
-nt_item : (c : BlockPlace) (o : Option Properties) (s : Marks) (is : BlockItems) (k : Content) (m : Marks) → NotTag (behind_item c o s is k m)
-nt_item c o s is BlockEntry m = tt
-nt_item c o s is _ m = tt
+no_tag_item : (c : BlockPlace) (o : Option Properties) (s : Marks) (is : BlockItems) (k : Content) (m : Marks) → NotTag (behind_item c o s is k m)
+no_tag_item c o s is BlockEntry m = tt
+no_tag_item c o s is _ m = tt
 
-nt_part : (c : BlockPlace) (o : Option Properties) (s : Marks) (ps : Parts) (k : Content) (m : Marks) → NotTag (behind_part c o s ps k m)
-nt_part c o s ps Key m = tt
-nt_part c o s ps _ m = tt
+no_tag_part : (c : BlockPlace) (o : Option Properties) (s : Marks) (ps : Parts) (k : Content) (m : Marks) → NotTag (behind_part c o s ps k m)
+no_tag_part c o s ps Key m = tt
+no_tag_part c o s ps _ m = tt
 
-nt_indentless : (c : PartPlace) (o : Option Properties) (is : BlockItems) (e : Marks) (x : BlockSlot) (k : Content) (m : Marks) → NotTag (behind_indentless c o is e x k m)
-nt_indentless (part_place c o s ps t v) y is e x BlockEntry m = tt
-nt_indentless (part_place c o s ps t v) y is e x k m = nt_part c o s (part ps t v (indentless y is e x)) k m
+no_tag_indentless : (c : PartPlace) (o : Option Properties) (is : BlockItems) (e : Marks) (x : BlockSlot) (k : Content) (m : Marks) → NotTag (behind_indentless c o is e x k m)
+no_tag_indentless (part_place c o s ps t v) y is e x BlockEntry m = tt
+no_tag_indentless (part_place c o s ps t v) y is e x k m = no_tag_part c o s (part ps t v (indentless y is e x)) k m
 
-nt_member : (c : Open) (e : FlowMember) (k : Content) (m : Marks) → NotTag (behind_member c e k m)
-nt_member c e FlowEntry m = tt
-nt_member c e FlowSequenceEnd m = nt_close c (last e) sequence m (separator_due c e) tt
-nt_member c e FlowMappingEnd m = nt_close c (last e) mapping m (separator_due c e) tt
-nt_member c e _ m = tt
+no_tag_member : (c : Open) (e : FlowMember) (k : Content) (m : Marks) → NotTag (behind_member c e k m)
+no_tag_member c e FlowEntry m = tt
+no_tag_member c e FlowSequenceEnd m = no_tag_close c (last e) sequence m (separator_due c e) tt
+no_tag_member c e FlowMappingEnd m = no_tag_close c (last e) mapping m (separator_due c e) tt
+no_tag_member c e _ m = tt
 
-nt_key : (c : Open) (e : Marks) (x : FlowSlot) (k : Content) (m : Marks) → NotTag (behind_key c e x k m)
-nt_key c e x Value m = tt
-nt_key c e x k m = nt_member c (pair e x no_value) k m
+no_tag_key : (c : Open) (e : Marks) (x : FlowSlot) (k : Content) (m : Marks) → NotTag (behind_key c e x k m)
+no_tag_key c e x Value m = tt
+no_tag_key c e x k m = no_tag_member c (pair e x no_value) k m
 
-nt_whole : (q : Position) (k : Content) (m : Marks) → NotTag (behind_whole q k m)
-nt_whole (between (behind d)) k m = nt_documents d k m
-nt_whole (between (free f)) k m = tt
-nt_whole (in_sequence c o s is) k m = nt_item c o s is k m
-nt_whole (in_mapping c o s ps) k m = nt_part c o s ps k m
-nt_whole (in_indentless c o is e x) k m = nt_indentless c o is e x k m
-nt_whole (flow_keyed c e x) k m = nt_key c e x k m
-nt_whole (flow_behind c e) k m = nt_member c e k m
-nt_whole _ k m = tt
+no_tag_whole : (q : Position) (k : Content) (m : Marks) → NotTag (behind_whole q k m)
+no_tag_whole (between (behind d)) k m = no_tag_documents d k m
+no_tag_whole (between (free f)) k m = tt
+no_tag_whole (in_sequence c o s is) k m = no_tag_item c o s is k m
+no_tag_whole (in_mapping c o s ps) k m = no_tag_part c o s ps k m
+no_tag_whole (in_indentless c o is e x) k m = no_tag_indentless c o is e x k m
+no_tag_whole (flow_keyed c e x) k m = no_tag_key c e x k m
+no_tag_whole (flow_behind c e) k m = no_tag_member c e k m
+no_tag_whole _ k m = tt
 
-nt_or_bad : (s : Step) (p : Place) → NotTag (or_bad s (content_due p))
-nt_or_bad (goes q) p = tt
-nt_or_bad (bad x) p = tt
-nt_or_bad over p = tt
+no_tag_or_bad : (s : Step) (p : Place) → NotTag (or_bad s (content_due p))
+no_tag_or_bad (goes q) p = tt
+no_tag_or_bad (bad x) p = tt
+no_tag_or_bad over p = tt
 
-nt_without : (p : Place) (o : Option Properties) (k : Content) (m : Marks) → NotTag (without p o k m)
-nt_without p None k m = nt_or_bad (behind_whole (leave p) k m) p
-nt_without p (Some ps) k m = nt_whole (fill_flow p (alone ps)) k m
+no_tag_without : (p : Place) (o : Option Properties) (k : Content) (m : Marks) → NotTag (without p o k m)
+no_tag_without p None k m = no_tag_or_bad (behind_whole (leave p) k m) p
+no_tag_without p (Some ps) k m = no_tag_whole (fill_flow p (alone ps)) k m
 
-nt_anchor : (p : Place) (o : Option Properties) (a : AnchorName) (m : Marks) → NotTag (on_anchor p o a m)
-nt_anchor p None a m = tt
-nt_anchor p (Some (tag g n)) a m = tt
-nt_anchor p (Some (anchor x n)) a m = nt_without p (Some (anchor x n)) (Anchor a) m
-nt_anchor p (Some (anchor_tag x n g y)) a m = nt_without p (Some (anchor_tag x n g y)) (Anchor a) m
-nt_anchor p (Some (tag_anchor g n x y)) a m = nt_without p (Some (tag_anchor g n x y)) (Anchor a) m
+no_tag_anchor : (p : Place) (o : Option Properties) (a : AnchorName) (m : Marks) → NotTag (on_anchor p o a m)
+no_tag_anchor p None a m = tt
+no_tag_anchor p (Some (tag g n)) a m = tt
+no_tag_anchor p (Some (anchor x n)) a m = no_tag_without p (Some (anchor x n)) (Anchor a) m
+no_tag_anchor p (Some (anchor_tag x n g y)) a m = no_tag_without p (Some (anchor_tag x n g y)) (Anchor a) m
+no_tag_anchor p (Some (tag_anchor g n x y)) a m = no_tag_without p (Some (tag_anchor g n x y)) (Anchor a) m
 
-nt_tag : (p : Place) (o : Option Properties) (g : TagName) (m : Marks) → NotTag (on_tag p o g m)
-nt_tag p None g m = tt
-nt_tag p (Some (anchor a n)) g m = tt
-nt_tag p (Some (tag x n)) g m = nt_without p (Some (tag x n)) (Tag g) m
-nt_tag p (Some (anchor_tag a n x z)) g m = nt_without p (Some (anchor_tag a n x z)) (Tag g) m
-nt_tag p (Some (tag_anchor x z a n)) g m = nt_without p (Some (tag_anchor x z a n)) (Tag g) m
+no_tag_tag : (p : Place) (o : Option Properties) (g : TagName) (m : Marks) → NotTag (on_tag p o g m)
+no_tag_tag p None g m = tt
+no_tag_tag p (Some (anchor a n)) g m = tt
+no_tag_tag p (Some (tag x n)) g m = no_tag_without p (Some (tag x n)) (Tag g) m
+no_tag_tag p (Some (anchor_tag a n x z)) g m = no_tag_without p (Some (anchor_tag a n x z)) (Tag g) m
+no_tag_tag p (Some (tag_anchor x z a n)) g m = no_tag_without p (Some (tag_anchor x z a n)) (Tag g) m
 
-nt_alias : (p : Place) (o : Option Properties) (a : AliasName) (m : Marks) → NotTag (on_alias p o a m)
-nt_alias p None a m = tt
-nt_alias p (Some ps) a m = nt_without p (Some ps) (Alias a) m
+no_tag_alias : (p : Place) (o : Option Properties) (a : AliasName) (m : Marks) → NotTag (on_alias p o a m)
+no_tag_alias p None a m = tt
+no_tag_alias p (Some ps) a m = no_tag_without p (Some ps) (Alias a) m
 
-nt_sequence : (p : Place) (o : Option Properties) (m : Marks) → NotTag (on_block_sequence p o m)
-nt_sequence (block c) o m = tt
-nt_sequence (flow_entry c) o m = nt_without (flow_entry c) o BlockSequenceStart m
-nt_sequence (flow_key c x) o m = nt_without (flow_key c x) o BlockSequenceStart m
-nt_sequence (flow_value c x y v) o m = nt_without (flow_value c x y v) o BlockSequenceStart m
+no_tag_sequence : (p : Place) (o : Option Properties) (m : Marks) → NotTag (on_block_sequence p o m)
+no_tag_sequence (block c) o m = tt
+no_tag_sequence (flow_entry c) o m = no_tag_without (flow_entry c) o BlockSequenceStart m
+no_tag_sequence (flow_key c x) o m = no_tag_without (flow_key c x) o BlockSequenceStart m
+no_tag_sequence (flow_value c x y v) o m = no_tag_without (flow_value c x y v) o BlockSequenceStart m
 
-nt_mapping : (p : Place) (o : Option Properties) (m : Marks) → NotTag (on_block_mapping p o m)
-nt_mapping (block c) o m = tt
-nt_mapping (flow_entry c) o m = nt_without (flow_entry c) o BlockMappingStart m
-nt_mapping (flow_key c x) o m = nt_without (flow_key c x) o BlockMappingStart m
-nt_mapping (flow_value c x y v) o m = nt_without (flow_value c x y v) o BlockMappingStart m
+no_tag_mapping : (p : Place) (o : Option Properties) (m : Marks) → NotTag (on_block_mapping p o m)
+no_tag_mapping (block c) o m = tt
+no_tag_mapping (flow_entry c) o m = no_tag_without (flow_entry c) o BlockMappingStart m
+no_tag_mapping (flow_key c x) o m = no_tag_without (flow_key c x) o BlockMappingStart m
+no_tag_mapping (flow_value c x y v) o m = no_tag_without (flow_value c x y v) o BlockMappingStart m
 
-nt_entry : (p : Place) (o : Option Properties) (m : Marks) → NotTag (on_block_entry p o m)
-nt_entry (block (slot c)) o m = tt
-nt_entry (block (root t)) o m = nt_without (block (root t)) o BlockEntry m
-nt_entry (block (entry c x s is e)) o m = nt_without (block (entry c x s is e)) o BlockEntry m
-nt_entry (block (indentless_entry c x is e)) o m = nt_without (block (indentless_entry c x is e)) o BlockEntry m
-nt_entry (flow_entry c) o m = nt_without (flow_entry c) o BlockEntry m
-nt_entry (flow_key c x) o m = nt_without (flow_key c x) o BlockEntry m
-nt_entry (flow_value c x y v) o m = nt_without (flow_value c x y v) o BlockEntry m
+no_tag_entry : (p : Place) (o : Option Properties) (m : Marks) → NotTag (on_block_entry p o m)
+no_tag_entry (block (slot c)) o m = tt
+no_tag_entry (block (root t)) o m = no_tag_without (block (root t)) o BlockEntry m
+no_tag_entry (block (entry c x s is e)) o m = no_tag_without (block (entry c x s is e)) o BlockEntry m
+no_tag_entry (block (indentless_entry c x is e)) o m = no_tag_without (block (indentless_entry c x is e)) o BlockEntry m
+no_tag_entry (flow_entry c) o m = no_tag_without (flow_entry c) o BlockEntry m
+no_tag_entry (flow_key c x) o m = no_tag_without (flow_key c x) o BlockEntry m
+no_tag_entry (flow_value c x y v) o m = no_tag_without (flow_value c x y v) o BlockEntry m
 
-nt_due : (p : Place) (o : Option Properties) (k : Content) (m : Marks) → NotTag (on_due p o k m)
-nt_due p o (Alias a) m = nt_alias p o a m
-nt_due p o (Anchor a) m = nt_anchor p o a m
-nt_due p o (Tag g) m = nt_tag p o g m
-nt_due p o (Scalar v) m = tt
-nt_due p o FlowSequenceStart m = tt
-nt_due p o FlowMappingStart m = tt
-nt_due p o BlockSequenceStart m = nt_sequence p o m
-nt_due p o BlockMappingStart m = nt_mapping p o m
-nt_due p o BlockEntry m = nt_entry p o m
-nt_due p o k m = nt_without p o k m
+no_tag_due : (p : Place) (o : Option Properties) (k : Content) (m : Marks) → NotTag (on_due p o k m)
+no_tag_due p o (Alias a) m = no_tag_alias p o a m
+no_tag_due p o (Anchor a) m = no_tag_anchor p o a m
+no_tag_due p o (Tag g) m = no_tag_tag p o g m
+no_tag_due p o (Scalar v) m = tt
+no_tag_due p o FlowSequenceStart m = tt
+no_tag_due p o FlowMappingStart m = tt
+no_tag_due p o BlockSequenceStart m = no_tag_sequence p o m
+no_tag_due p o BlockMappingStart m = no_tag_mapping p o m
+no_tag_due p o BlockEntry m = no_tag_entry p o m
+no_tag_due p o k m = no_tag_without p o k m
 
-nt_free : (f : Free) (k : Content) (m : Marks) → NotTag (at_free f k m)
-nt_free f (VersionDirective a) m = tt
-nt_free f (TagDirective g) m = tt
-nt_free f DocumentStart m = tt
-nt_free (opened e s) DocumentEnd m = tt
-nt_free (ended e) DocumentEnd m = tt
-nt_free f StreamEnd m = tt
-nt_free f k m = nt_due (block (root (implicit_root f))) None k m
+no_tag_free : (f : Free) (k : Content) (m : Marks) → NotTag (at_free f k m)
+no_tag_free f (VersionDirective a) m = tt
+no_tag_free f (TagDirective g) m = tt
+no_tag_free f DocumentStart m = tt
+no_tag_free (opened e s) DocumentEnd m = tt
+no_tag_free (ended e) DocumentEnd m = tt
+no_tag_free f StreamEnd m = tt
+no_tag_free f k m = no_tag_due (block (root (implicit_root f))) None k m
 
-nt_headed : (b : Before) (ds : Directives) (d : Directive) (k : Content) (m : Marks) → NotTag (at_headed b ds d k m)
-nt_headed b ds d (StreamStart y) m = tt
-nt_headed b ds d _ m = tt
+no_tag_headed : (b : Before) (ds : Directives) (d : Directive) (k : Content) (m : Marks) → NotTag (at_headed b ds d k m)
+no_tag_headed b ds d (StreamStart y) m = tt
+no_tag_headed b ds d _ m = tt
 
-nt_unopened : (k : Content) (m : Marks) → NotTag (at_unopened k m)
-nt_unopened (StreamStart e) m = tt
-nt_unopened _ m = tt
+no_tag_unopened : (k : Content) (m : Marks) → NotTag (at_unopened k m)
+no_tag_unopened (StreamStart e) m = tt
+no_tag_unopened _ m = tt
 
-nt_flow : (c : Open) (k : Content) (m : Marks) → NotTag (at_flow c k m)
-nt_flow c Key m = tt
-nt_flow c FlowSequenceEnd m = nt_close c no_last sequence m (content_due (flow_entry c)) tt
-nt_flow c FlowMappingEnd m = nt_close c no_last mapping m (content_due (flow_entry c)) tt
-nt_flow c k m = nt_due (flow_entry c) None k m
+no_tag_flow : (c : Open) (k : Content) (m : Marks) → NotTag (at_flow c k m)
+no_tag_flow c Key m = tt
+no_tag_flow c FlowSequenceEnd m = no_tag_close c no_last sequence m (content_due (flow_entry c)) tt
+no_tag_flow c FlowMappingEnd m = no_tag_close c no_last mapping m (content_due (flow_entry c)) tt
+no_tag_flow c k m = no_tag_due (flow_entry c) None k m
 
 pub not_tag : (q : Position) (k : Content) (m : Marks) → IsOpen q → NotTag (step q k m)
-not_tag unopened k m w = nt_unopened k m
-not_tag (between (free f)) k m w = nt_free f k m
-not_tag (between (behind d)) k m w = nt_documents d k m
-not_tag (headed b ds d) k m w = nt_headed b ds d k m
-not_tag (due p o) k m w = nt_due p o k m
-not_tag (in_sequence c o s is) k m w = nt_item c o s is k m
-not_tag (in_mapping c o s ps) k m w = nt_part c o s ps k m
-not_tag (in_indentless c o is e x) k m w = nt_indentless c o is e x k m
-not_tag (flow_due c) k m w = nt_flow c k m
-not_tag (flow_keyed c e x) k m w = nt_key c e x k m
-not_tag (flow_behind c e) k m w = nt_member c e k m
+not_tag unopened k m w = no_tag_unopened k m
+not_tag (between (free f)) k m w = no_tag_free f k m
+not_tag (between (behind d)) k m w = no_tag_documents d k m
+not_tag (headed b ds d) k m w = no_tag_headed b ds d k m
+not_tag (due p o) k m w = no_tag_due p o k m
+not_tag (in_sequence c o s is) k m w = no_tag_item c o s is k m
+not_tag (in_mapping c o s ps) k m w = no_tag_part c o s ps k m
+not_tag (in_indentless c o is e x) k m w = no_tag_indentless c o is e x k m
+not_tag (flow_due c) k m w = no_tag_flow c k m
+not_tag (flow_keyed c e x) k m w = no_tag_key c e x k m
+not_tag (flow_behind c e) k m w = no_tag_member c e k m
 not_tag (done t) k m w = absurd w
 
 pub open_or_done : (q : Position) → IsOpen q ⊎ ((t : Stream) × (q ≡ done t))
@@ -348,7 +349,7 @@ stops_fits l b q c e f =
       tokens = u;
       order = h.order true ∙ read_order l q e;
       bad_token = not_done (l ++ b ∷ []) (bad c) (λ x g. cc) (reads_append l (b ∷ []) unopened ∙ (ap (λ (s : Step). then_all s (reads_all (b ∷ []))) e ∙ ap (λ (s : Step). then_all s goes) f));
-      empty_end = gives_row c b.content (marks_of b) d w;
+      empty_end = gives_empty_end c b.content (marks_of b) d w;
       wants_content = gives_content c b.content (marks_of b) w;
       directive = d;
       tag = fits_tag l c b.content h.unknown (gives_tag l c b.content (marks_of b) (e ∙ ap goes (sym v)) w);

@@ -1,3 +1,5 @@
+-- A step keeps the tokens: those of the next position are those before it and the token, and a bad token's place has the
+-- tokens before it.
 use Rattle.std.proofs.Common.{◌≡◌, List, [], ◌∷◌, ◌++◌, Option, Some, None, refl, sym, ap, ◌∙◌, subst, ◌⊎◌, inl, inr}
 use Rattle.libyaml_events.specs.Tokens.{Alias, AliasName, Anchor, AnchorName, BlockEnd, BlockEntry, BlockMappingStart, BlockSequenceStart, Content, DocumentEnd, DocumentStart, FlowEntry, FlowMappingEnd, FlowMappingStart, FlowSequenceEnd, FlowSequenceStart, Key, Marks, Scalar, StreamEnd, StreamStart, Tag, TagDirective, TagName, Token, Value, VersionDirective, marks_of, tok}
 use Rattle.libyaml_events.specs.Trees.{Before, BlockItems, BlockNode, BlockSlot, Directive, Directives, Documents, FlowLast, FlowMember, FlowNode, FlowSlot, Free, Parts, Properties, Slot, Sort, alone, anchor, behind, block_node_tokens, block_slot_tokens, closing, ended, flow, flow_last_tokens, flow_member_tokens, flow_node, flow_node_tokens, flow_nothing, flow_slot_tokens, free, indentless, last, mapping, no_last, no_value, node, nothing, opened, pair, part, sequence, slot_tokens, tag}

@@ -1,3 +1,5 @@
+-- A step keeps the order: what stands up to the next position is in order where what stands before it is and the token is
+-- legal there. So reading goes on exactly through lists in order.
 use Rattle.std.proofs.Common.{◌≡◌, List, [], ◌∷◌, Option, Some, None, refl, sym, ap, ◌∙◌, subst, ◌⊎◌, inl, inr, Bool, true, false}
 use Rattle.libyaml_events.specs.Tokens.{Alias, AliasName, Anchor, AnchorName, BlockEnd, BlockEntry, BlockMappingStart, BlockSequenceStart, Content, DocumentEnd, DocumentStart, FlowEntry, FlowMappingEnd, FlowMappingStart, FlowSequenceEnd, FlowSequenceStart, Key, Marks, Scalar, StreamEnd, StreamStart, Tag, TagDirective, TagName, Token, Value, VersionDirective, marks_of}
 use Rattle.libyaml_events.specs.Trees.{Before, BlockItems, BlockNode, BlockSlot, Directive, Directives, Documents, FlowLast, FlowMember, FlowNode, FlowSlot, Free, Parts, Properties, Slot, Sort, alone, anchor, behind, directive, ended, flow, flow_node, flow_nothing, free, indentless, last, mapping, no_directives, no_last, no_value, node, nothing, opened, pair, part, sequence, tag}

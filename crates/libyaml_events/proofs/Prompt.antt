@@ -1,3 +1,4 @@
+-- Two completions of one position with different marks differ in their first event.
 use Rattle.std.proofs.Common.{◌≡◌, [], Some, refl, ap}
 use Rattle.libyaml_events.specs.Tokens.{Marks}
 use Rattle.libyaml_events.specs.Trees.{Stream, behind, free, key, mapping, no_parts, no_value, pair, part, sequence, single, value, with_value}

@@ -1,3 +1,5 @@
+-- What the tokens of a list give, one after the other, are the events of the position that they lead to, and of a whole
+-- tree the tree's.
 use Rattle.std.proofs.Common.{◌≡◌, List, [], ◌∷◌, ◌++◌, sym, ap, ◌∙◌, subst}
 use Rattle.libyaml_events.specs.Tokens.{Mark, Token, marks_of}
 use Rattle.libyaml_events.specs.Trees.{Stream, tokens}

@@ -1,3 +1,5 @@
+-- A step gives the events: those up to the next position, or to a bad token's place, are those before it and what the
+-- token gives.
 use Rattle.std.proofs.Common.{◌≡◌, List, ◌∷◌, Option, Some, None, refl, ◌∙◌, true}
 use Rattle.libyaml_events.specs.Tokens.{Alias, AliasName, Anchor, AnchorName, BlockEnd, BlockEntry, BlockMappingStart, BlockSequenceStart, Content, DocumentEnd, DocumentStart, FlowEntry, FlowMappingEnd, FlowMappingStart, FlowSequenceEnd, FlowSequenceStart, Key, Mark, Marks, Scalar, StreamEnd, StreamStart, Tag, TagDirective, TagName, Value, VersionDirective}
 use Rattle.libyaml_events.specs.Trees.{Before, BlockItems, BlockNode, BlockSlot, Directive, Directives, Documents, FlowMember, FlowNode, FlowSlot, Free, Parts, Properties, Sort, alone, anchor, behind, directive, ended, explicit, flow, flow_nothing, free, indentless, item, last, mapping, no_directives, no_last, no_value, nothing, opened, pair, part, sequence, slot_of, tag, with_value}

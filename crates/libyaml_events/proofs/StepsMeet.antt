@@ -1,3 +1,4 @@
+-- What holds of each position that is reached from before the stream.
 use Rattle.std.proofs.Common.{◌≡◌, Option, Some, None, refl, Bool, true, false}
 use Rattle.libyaml_events.specs.Tokens.{Alias, Anchor, AnchorName, BlockEnd, BlockEntry, BlockMappingStart, BlockSequenceStart, Content, DocumentEnd, DocumentStart, FlowEntry, FlowMappingEnd, FlowMappingStart, FlowSequenceEnd, FlowSequenceStart, Key, Marks, Scalar, StreamEnd, StreamStart, Tag, TagDirective, TagName, Value, VersionDirective}
 use Rattle.libyaml_events.specs.Trees.{Before, BlockItems, BlockNode, BlockSlot, Directive, Directives, Documents, FlowLast, FlowMember, FlowNode, FlowSlot, Free, Parts, Properties, Sort, alone, anchor, anchor_tag, behind, ended, flow, free, indentless, last, mapping, no_directives, no_last, no_value, opened, pair, part, sequence, single, tag, tag_anchor, with_value}

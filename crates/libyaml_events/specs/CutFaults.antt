@@ -1,4 +1,4 @@
--- The fault of a cut tree (docs/DEFINITIONS.md, "Faults"): which problem its place names, at the start m of the bad token.
+-- The fault of a cut tree (docs/DEFINITIONS.md, "Cut trees"): which problem its place names, at the start m of the bad token.
 use Rattle.std.specs.Prelude.{Bool, true, false}
 use Rattle.libyaml_events.specs.Fault.{Fault}
 use Rattle.libyaml_events.specs.FaultTexts.{stream_start_fault, document_start_fault, duplicate_version_fault, version_fault, duplicate_tag_fault, content_fault, tag_fault, item_fault, part_fault, sequence_fault, mapping_fault}

@@ -86,7 +86,7 @@ end_content mapping = ev.MappingEnd
 abbrev pub end_event : Sort → Mark → Mark → Event
 end_event k m n = event (end_content k) m n
 
--- The tag of a handle and a suffix (YAML 1.1, 7.1.2 and 8.2).
+-- The tag of a handle and a suffix (YAML 1.1, 7.1.2 and 8.2; docs/DEFINITIONS.md, "Tags").
 abbrev pub same_text : List ℕ → List ℕ → Bool
 same_text [] [] = true
 same_text [] (y ∷ ys) = false
@@ -146,7 +146,7 @@ abbrev pub first_of : Option Properties → Mark → Mark
 first_of None m = m
 first_of (Some p) m = first_of_properties p
 
--- The flags: when a tag may be left out.
+-- The flags: when a tag may be left out (docs/DEFINITIONS.md, "Flags").
 abbrev pub is_missing : Option (List ℕ) → Bool
 is_missing None = true
 is_missing (Some []) = true

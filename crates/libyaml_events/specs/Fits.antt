@@ -11,8 +11,8 @@ is_directive (VersionDirective a) = true
 is_directive (TagDirective h) = true
 is_directive _ = false
 
--- Where a node may be nothing, and the tokens behind which it is: a document's content before a directive or the next
--- boundary of a document, an entry before the next entry or the end of its sequence, and so on.
+-- Where a node may be nothing, and before which tokens it is (docs/DEFINITIONS.md, "Where a node may be nothing"): a
+-- document's content before a directive or a document's boundary, an entry before the next one or its sequence's end.
 abbrev pub ends_empty_document : Content → Bool
 ends_empty_document DocumentStart = true
 ends_empty_document DocumentEnd = true

@@ -1,4 +1,4 @@
--- Documents in order (YAML 1.1, 7.1 and 8.2; docs/DEFINITIONS.md, "Order"): directives that agree with one another, and
+-- Documents in order (YAML 1.1, 7.1 and 8.2; docs/DEFINITIONS.md, "Documents in order"): directives that agree with one another, and
 -- tags whose handles are known. Each test answers what holds of its part and, as b, of what stands behind it.
 use Rattle.std.specs.Prelude.{ℕ, pos, List, [], ◌∷◌, Option, Some, None, Bool, true, false, codes}
 use Rattle.std.specs.Ordering.{int_eq}

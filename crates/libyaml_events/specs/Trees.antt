@@ -1,4 +1,4 @@
--- Derivation trees and their tokens (YAML 1.1, chapters 7, 8 and 10; docs/DEFINITIONS.md, "Trees").
+-- Derivation trees and their tokens (YAML 1.1, chapters 7, 8 and 10; docs/DEFINITIONS.md, "Derivation trees").
 -- Trees are typed by what may stand where, so each value of these types is a tree of the grammar.
 -- Lists grow to the right, as "the items so far, and one more".
 use Rattle.std.specs.Prelude.{List, [], ◌∷◌, Option, Some, None}
