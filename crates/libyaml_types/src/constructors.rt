@@ -39,9 +39,8 @@ fn unmarked_event(content: unnamed_yaml_event_t_data) -> yaml_event_t
 pub fn yaml_stream_start_event_initialize(encoding: yaml_encoding_t) -> yaml_event_t
     ensures { result ≡ stream_start_event encoding }
 {
-    unmarked_event(unnamed_yaml_event_t_data::StreamStart(unnamed_yaml_event_t_data_stream_start {
-        encoding,
-    }))
+    let start = unnamed_yaml_event_t_data_stream_start { encoding };
+    unmarked_event(unnamed_yaml_event_t_data::StreamStart(start))
 }
 
 /// The end of a stream, with zero marks. Takes no memory.
@@ -88,9 +87,8 @@ pub fn yaml_document_start_event_initialize(
 pub fn yaml_document_end_event_initialize(implicit: bool) -> yaml_event_t
     ensures { result ≡ document_end_event implicit }
 {
-    unmarked_event(unnamed_yaml_event_t_data::DocumentEnd(unnamed_yaml_event_t_data_document_end {
-        implicit,
-    }))
+    let end = unnamed_yaml_event_t_data_document_end { implicit };
+    unmarked_event(unnamed_yaml_event_t_data::DocumentEnd(end))
 }
 
 /// An alias of the node with this anchor, with zero marks.

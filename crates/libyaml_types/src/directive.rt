@@ -173,7 +173,7 @@ impl AsSlice<yaml_tag_directive_t> for TagDirectives {
     ghost items = { λ t. t };
 
     fn as_slice(&self) -> &[yaml_tag_directive_t] {
-        self.as_slice()
+        TagDirectives::as_slice(self)
     }
 }
 
