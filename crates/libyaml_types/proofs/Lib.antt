@@ -1,1 +1,2 @@
+mod Directives
 mod Pairs

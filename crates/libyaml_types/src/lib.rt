@@ -5,6 +5,7 @@ pub mod constructors;
 pub mod directive;
 pub mod enums;
 pub mod event;
+pub mod laws;
 pub mod mark;
 pub mod refusal;
 #[cfg(test)]

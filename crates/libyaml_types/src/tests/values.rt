@@ -6,6 +6,7 @@ use crate::enums::{
     yaml_token_type_t,
 };
 use crate::event::{unnamed_yaml_event_t_data, unnamed_yaml_event_t_data_alias, yaml_event_t};
+use crate::laws::{equality_of_scalar_styles, order_of_scalar_styles};
 use crate::mark::{ZERO_MARK, yaml_mark_t};
 use crate::refusal::yaml_refusal_t;
 use crate::text::Text;
@@ -14,6 +15,7 @@ use crate::token::{
     unnamed_yaml_token_t_data_version_directive, yaml_token_t,
 };
 use std::alloc::Global;
+use std::cmp::Ordering;
 use std::test::Fail;
 
 #[test]
@@ -34,8 +36,14 @@ fn last_numbers_of_enums(rt: HostRuntime) {
 fn order_is_that_of_numbers(rt: HostRuntime) {
     let plain = yaml_scalar_style_t::YAML_PLAIN_SCALAR_STYLE;
     let folded = yaml_scalar_style_t::YAML_FOLDED_SCALAR_STYLE;
-    assert!(rt; plain < folded);
-    assert!(rt; plain != folded);
+    assert_eq!(rt; order_of_scalar_styles(plain, folded), Ordering::Less);
+    assert!(rt; !equality_of_scalar_styles(plain, folded));
+    let key = yaml_token_type_t::YAML_KEY_TOKEN;
+    let value = yaml_token_type_t::YAML_VALUE_TOKEN;
+    assert_eq!(rt; value.cmp(&key), Ordering::Greater);
+    let first = yaml_parser_state_t::YAML_PARSE_STREAM_START_STATE;
+    let last = yaml_parser_state_t::YAML_PARSE_END_STATE;
+    assert_eq!(rt; first.cmp(&last), Ordering::Less);
 }
 
 #[test]
