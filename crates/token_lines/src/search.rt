@@ -1,14 +1,13 @@
 //! The place of a byte.
 ghost use Rattle.std.specs.Prelude.{◌≡◌, ◌≢◌, ◌<◌, ◌≤◌, All, take, slice_index, length};
 
+use memchr::memchr;
+
 /// How many bytes stand before the first `byte`: all, where there is none.
 pub fn len_before(bytes: &[u8], byte: u8) -> usize
     ensures bound { result ≤ length bytes.now }
     ensures before { All (λ x. x ≢ byte) (take result bytes.now) }
     ensures found { result < length bytes.now → slice_index bytes.now result ≡ byte }
 {
-    bytes
-        .iter()
-        .position(|&found| found == byte)
-        .unwrap_or(bytes.len())
+    memchr(byte, bytes).unwrap_or(bytes.len())
 }
