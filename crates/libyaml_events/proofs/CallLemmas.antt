@@ -5,11 +5,12 @@ use Rattle.libyaml_types.specs.declared.token.yaml_token_t.{yaml_token_t}
 use Rattle.libyaml_types.specs.declared.event.yaml_event_t.{yaml_event_t}
 use Rattle.libyaml_types.specs.declared.enums.yaml_error_type_t.{yaml_error_type_t}
 use Rattle.libyaml_types.specs.declared.enums.yaml_error_type_t.TheVariants.{YAML_MEMORY_ERROR, YAML_PARSER_ERROR}
+use Rattle.libyaml_events.specs.Errors.{IsSourceError}
 use Rattle.libyaml_events.specs.Fault.{Answer}
 use Rattle.libyaml_events.specs.Config.{Config, Parser, taken, is_over}
 use Rattle.libyaml_events.specs.Machine.{step}
 use Rattle.libyaml_events.specs.Steps.{Steps}
-use Rattle.libyaml_events.specs.Calls.{EventOrError, Gave, held, Fetches, FetchesFrom, Then, Calls, may_grow, RefusedAt, Refused, Parses, ParsesIf, Call, Ran, goes, CarriesOn}
+use Rattle.libyaml_events.specs.Calls.{EventOrError, Gave, held, Fetches, FetchesFrom, Then, Calls, may_grow, RefusedAt, Refused, Parses, ParsesIf, AreOfSource, Call}
 use Rattle.libyaml_events.specs.declared.progress.Want.{Want}
 use Rattle.libyaml_events.specs.declared.progress.Want.TheVariants.{AtState}
 use Rattle.libyaml_events.specs.declared.progress.Progress.TheVariants.{Given, Wants}
@@ -17,6 +18,11 @@ use Rattle.libyaml_events.specs.declared.progress.Progress.TheVariants.{Given, W
 Gave-snoc : {S : Type 0} (gives : S → Answer → S → Type 0) (s : S) (asked : List Answer) (m : S) (a : Answer) (t : S) → Gave gives s asked m → gives m a t → Gave gives s (asked ++ a ∷ []) t
 Gave-snoc gives s [] m a t e h = (t, subst (λ x. gives x a t) e h, refl)
 Gave-snoc gives s (b ∷ asked) m a t g h = (g.0, g.1, Gave-snoc gives g.0 asked m a t g.2 h)
+
+of_source-snoc : (asked : List Answer) (a : Answer) → AreOfSource asked → AreOfSource (a ∷ []) → AreOfSource (asked ++ a ∷ [])
+of_source-snoc [] a h i = i
+of_source-snoc (Ok t ∷ rest) a h i = of_source-snoc rest a h i
+of_source-snoc (Err f ∷ rest) a h i = (h.0, of_source-snoc rest a h.1 i)
 
 taken_same : (c : Config) → c.lookahead ≡ None → taken c ≡ c
 taken_same c e = ap (λ (l : Option yaml_token_t). let d : Config = record c { lookahead = l } in d) (sym e)
@@ -27,6 +33,7 @@ pub record Reading {S : Type 0} (gives : S → Answer → S → Type 0) (first n
   pub bound : now.max_entries ≡ first.max_entries
   pub asked : List Answer
   pub gave : Gave gives first.source asked now.source
+  pub of_source : AreOfSource asked
   pub goes_on : (rest : List Answer) (r : EventOrError) (new : Config) → Calls w (taken now.config) (held now.config ++ rest) r new → Calls AtState (taken first.config) (held first.config ++ (asked ++ rest)) r new
   pub refuses_on : (rest : List Answer) → Refused w (taken now.config) (held now.config ++ rest) → Refused AtState (taken first.config) (held first.config ++ (asked ++ rest))
 
@@ -37,6 +44,7 @@ pub record InHand {S : Type 0} (gives : S → Answer → S → Type 0) (first no
   pub asked : List Answer
   pub taken_is : now.config.lookahead ≡ None
   pub gave : Gave gives first.source asked now.source
+  pub of_source : AreOfSource asked
   pub goes_on : (rest : List Answer) (r : EventOrError) (new : Config) → Then (step w now.config t) (λ w' c'. Calls w' c' rest r new) rest r new → Calls AtState (taken first.config) (held first.config ++ (asked ++ rest)) r new
   pub refuses_on : (rest : List Answer) → RefusedAt (may_grow w now.config) (step w now.config t) (λ w' c'. Refused w' c' rest) rest → Refused AtState (taken first.config) (held first.config ++ (asked ++ rest))
 
@@ -59,6 +67,7 @@ module _ {S : Type 0} (gives : S → Answer → S → Type 0) (first old : Parse
         asked = reading.asked;
         taken_is = ap (λ (p : Parser S). p.config.lookahead) h.1;
         gave = rw h.1 reading.gave;
+        of_source = reading.of_source;
         goes_on = λ rest r new k. reading.goes_on rest r new (rw (e, ← same) (rw h.1 at k));
         refuses_on = λ rest k. reading.refuses_on rest (rw (e, ← same) (rw h.1 at k));
       }
@@ -68,6 +77,7 @@ module _ {S : Type 0} (gives : S → Answer → S → Type 0) (first old : Parse
     asked = reading.asked ++ Ok t ∷ [];
     taken_is = ap (λ (c : Config). c.lookahead) h.1;
     gave = Gave-snoc gives first.source reading.asked old.source (Ok t) now.source reading.gave h.0;
+    of_source = of_source-snoc reading.asked (Ok t) reading.of_source tt;
     goes_on = λ rest r new k. rw append_assoc (reading.goes_on (Ok t ∷ rest) r new (rw e (rw h.1 at k)));
     refuses_on = λ rest k. rw append_assoc (reading.refuses_on (Ok t ∷ rest) (rw e (rw h.1 at k)));
   }
@@ -81,6 +91,7 @@ module _ {S : Type 0} (gives : S → Answer → S → Type 0) (first old : Parse
   faulted_at x now None e h = record {
     asked = reading.asked ++ Err now.config.fault ∷ [];
     gave = Gave-snoc gives first.source reading.asked old.source (Err now.config.fault) now.source reading.gave h.0;
+    of_source = of_source-snoc reading.asked (Err now.config.fault) reading.of_source (subst IsSourceError h.2 h.4, tt);
     does = not_over first.config (reading.asked ++ Err now.config.fault ∷ []) (Err x) now.config reading.begun (inl (reading.goes_on (Err now.config.fault ∷ []) (Err x) now.config (rw e (refl, ap Err h.2, h.1))));
   }
 
@@ -93,6 +104,7 @@ module _ {S : Type 0} (gives : S → Answer → S → Type 0) (first now : Parse
   gave_event e new h = record {
     asked = hand.asked;
     gave = rw h.1 hand.gave;
+    of_source = hand.of_source;
     does = not_over first.config hand.asked (Ok e) new.config hand.begun (rw append-nil at (hand.goes_on [] (Ok e) new.config (rw h.0 (refl, refl, refl))));
   }
 
@@ -101,11 +113,13 @@ module _ {S : Type 0} (gives : S → Answer → S → Type 0) (first now : Parse
   gave_fault YAML_MEMORY_ERROR new h grows = record {
     asked = hand.asked;
     gave = rw h.1 hand.gave;
+    of_source = hand.of_source;
     does = not_over first.config hand.asked (Err YAML_MEMORY_ERROR) new.config hand.begun (inr (rw append-nil at (hand.refuses_on [] (grows refl)), h.0));
   }
   gave_fault YAML_PARSER_ERROR new h grows = record {
     asked = hand.asked;
     gave = rw h.1 hand.gave;
+    of_source = hand.of_source;
     does = not_over first.config hand.asked (Err YAML_PARSER_ERROR) new.config hand.begun (inl (rw append-nil at (hand.goes_on [] (Err YAML_PARSER_ERROR) new.config (rw h.0.0 (refl, ap Err (sym h.0.1), refl)))));
   }
   gave_fault _ new h grows = absurd h.0
@@ -119,11 +133,7 @@ module _ {S : Type 0} (gives : S → Answer → S → Type 0) (first now : Parse
         bound = h.2 ∙ hand.bound;
         asked = hand.asked;
         gave = rw h.1 hand.gave;
+        of_source = hand.of_source;
         goes_on = λ rest r end k. hand.goes_on rest r end (rw h.0 (subst (λ c. Calls w' c rest r end) (taken_same new.config none) (rw none at k)));
         refuses_on = λ rest k. hand.refuses_on rest (rw h.0 (refused_later (may_grow w now.config) w' new.config rest (subst (λ c. Refused w' c rest) (taken_same new.config none) (rw none at k))));
       }
-
--- a call that gives an event carries the run on
-pub carried : {S : Type 0} (gives : S → Answer → S → Type 0) (old new : Parser S) (r : EventOrError) → Call gives old r new → is_over old.config ≡ false → IfOk r (λ e. (given : List Answer) (events : List yaml_event_t) → Ran old.config given events → CarriesOn gives old e new given events)
-carried gives old new (Ok e) call begun = λ given events ran. record { asked = call.asked; gave = call.gave; ran = goes old.config given call.asked events e ran begun call.does refl refl }
-carried gives old new (Err x) call begun = tt

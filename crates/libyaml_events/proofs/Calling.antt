@@ -12,7 +12,8 @@ use Rattle.libyaml_events.specs.Positions.{Position, between, done, due, headed,
 use Rattle.libyaml_events.specs.Given.{given}
 use Rattle.libyaml_events.specs.Config.{Config, start, taken, is_fault, is_end, is_over, with_fault}
 use Rattle.libyaml_events.specs.Calls.{Calls, EventOrError, Then, held, held_token}
-use Rattle.libyaml_events.specs.History.{Asks, AsksOn, answers}
+use Rattle.libyaml_events.specs.History.{answers}
+use Rattle.libyaml_events.proofs.Asking.{Asks, AsksOn}
 use Rattle.libyaml_events.proofs.Follow.{more}
 use Rattle.libyaml_events.proofs.Link.{config_of}
 use Rattle.libyaml_events.proofs.Stand.{Leads, Links, Stands, amid_leads, amid_token, at_place, at_position, stand_leads, Fails}

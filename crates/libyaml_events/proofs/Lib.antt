@@ -26,10 +26,10 @@ pub mod HandleLemmas
 pub mod SourceErrors
 pub mod PropertyLemmas
 pub mod CallLemmas
-pub mod KnownLemmas
 pub mod RowKinds
 pub mod Rows
 pub mod Lists
+pub mod Asking
 pub mod Link
 pub mod Declared
 pub mod Follow
@@ -42,3 +42,4 @@ pub mod Calling
 pub mod Needed
 pub mod Productions
 pub mod WholeParts
+pub mod Parsed

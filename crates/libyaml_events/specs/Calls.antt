@@ -1,4 +1,4 @@
--- One call of the parser, and the run of all calls so far (docs/DEFINITIONS.md, "Calls and runs").
+-- One call of the parser, by the steps of the machine (docs/DEFINITIONS.md, "Calls").
 use Rattle.std.specs.Prelude.{◌≡◌, ◌++◌, ◌∷◌, ◌⊎◌, List, [], true, false, Bool, Option, Some, None, Result, Ok, Err}
 use Rattle.libyaml_types.specs.declared.token.yaml_token_t.{yaml_token_t}
 use Rattle.libyaml_types.specs.declared.event.yaml_event_t.{yaml_event_t}
@@ -8,8 +8,8 @@ use Rattle.libyaml_types.specs.declared.enums.yaml_parser_state_t.{yaml_parser_s
 use Rattle.libyaml_types.specs.declared.enums.yaml_parser_state_t.TheVariants.{YAML_PARSE_STREAM_START_STATE, YAML_PARSE_DOCUMENT_END_STATE}
 use Rattle.libyaml_events.specs.Fault.{Fault, Answer}
 use Rattle.libyaml_events.specs.FaultTexts.{zero_mark, memory_fault}
-use Rattle.libyaml_events.specs.Source.{Coming, coming}
-use Rattle.libyaml_events.specs.Config.{Config, Parser, with_config, with_fault, taken, start, is_over}
+use Rattle.libyaml_events.specs.Errors.{IsSourceError}
+use Rattle.libyaml_events.specs.Config.{Config, Parser, with_config, with_fault, taken, is_over}
 use Rattle.libyaml_events.specs.Machine.{Outcome, step, event}
 use Rattle.libyaml_events.specs.declared.progress.Want.{Want}
 use Rattle.libyaml_events.specs.declared.progress.Want.TheVariants.{AtState}
@@ -35,7 +35,7 @@ held c = held_token c.lookahead
 abbrev pub FetchesFrom : {S : Type 0} → (S → Answer → S → Type 0) → Option yaml_token_t → Parser S → Result yaml_token_t yaml_error_type_t → Parser S → Type 0
 FetchesFrom gives (Some t) old r new = (r ≡ Ok t) × (new ≡ with_config old (taken old.config))
 FetchesFrom gives None old (Ok t) new = gives old.source (Ok t) new.source × (new.config ≡ taken old.config) × (new.max_entries ≡ old.max_entries)
-FetchesFrom gives None old (Err e) new = gives old.source (Err new.config.fault) new.source × (new.config ≡ with_fault (taken old.config) new.config.fault) × (e ≡ new.config.fault.error) × (new.max_entries ≡ old.max_entries)
+FetchesFrom gives None old (Err e) new = gives old.source (Err new.config.fault) new.source × (new.config ≡ with_fault (taken old.config) new.config.fault) × (e ≡ new.config.fault.error) × (new.max_entries ≡ old.max_entries) × IsSourceError e
 
 -- the lookahead, or else the source's answer; a fault is kept
 abbrev pub Fetches : {S : Type 0} → (S → Answer → S → Type 0) → Parser S → Result yaml_token_t yaml_error_type_t → Parser S → Type 0
@@ -92,36 +92,15 @@ ParsesIf false old asked r new = CallsUnlessRefused AtState (taken old) (held ol
 abbrev pub Parses : Config → List Answer → EventOrError → Config → Type 0
 Parses old asked r new = ParsesIf (is_over old) old asked r new
 
+-- a fault among these answers has an error that a source may have
+abbrev pub AreOfSource : List Answer → Type 0
+AreOfSource [] = Unit {0}
+AreOfSource (Ok t ∷ rest) = AreOfSource rest
+AreOfSource (Err f ∷ rest) = IsSourceError f.error × AreOfSource rest
+
 -- what one call asked the source for, and did
 pub record Call {S : Type 0} (gives : S → Answer → S → Type 0) (old : Parser S) (r : EventOrError) (new : Parser S) : Type 0 where
   pub asked : List Answer
   pub gave : Gave gives old.source asked new.source
+  pub of_source : AreOfSource asked
   pub does : Parses old.config asked r new.config
-
--- Calls of a parser that began empty led here, by these answers of the source and with these events. Empty events are
--- left out.
-pub data Ran : Config → List Answer → List yaml_event_t → Type 0 where
-  begins : Ran start [] []
-  goes : (c : Config) (given asked : List Answer) (events : List yaml_event_t) (e : yaml_event_t) {d : Config} {given' : List Answer} {events' : List yaml_event_t} → Ran c given events → is_over c ≡ false → Parses c asked (Ok e) d → given' ≡ given ++ asked → events' ≡ events ++ e ∷ [] → Ran d given' events'
-
--- the source gave some answers, by which the run goes on by an event
-pub record CarriesOn {S : Type 0} (gives : S → Answer → S → Type 0) (old : Parser S) (e : yaml_event_t) (new : Parser S) (given : List Answer) (events : List yaml_event_t) : Type 0 where
-  pub asked : List Answer
-  pub gave : Gave gives old.source asked new.source
-  pub ran : Ran new.config (given ++ asked) (events ++ e ∷ [])
-
--- the answers are the front of these tokens and then, again and again, the fault; these tokens are left
-abbrev pub Reads : List Answer → List yaml_token_t → Fault → List yaml_token_t → Type 0
-Reads [] tokens f left = left ≡ tokens
-Reads (Ok t ∷ rest) [] f left = ⊥
-Reads (Ok t ∷ rest) (u ∷ tokens) f left = (t ≡ u) × Reads rest tokens f left
-Reads (Err e ∷ rest) [] f left = (e ≡ f) × Reads rest [] f left
-Reads (Err e ∷ rest) (u ∷ tokens) f left = ⊥
-
--- a call over a source that knows its tokens and its fault
-pub record KnownCall (old : Config) (tokens : List yaml_token_t) (f : Fault) (r : EventOrError) (new : Config) (known : Option Coming) : Type 0 where
-  pub asked : List Answer
-  pub left : List yaml_token_t
-  pub reads : Reads asked tokens f left
-  pub left_is : known ≡ Some (coming left f)
-  pub does : Parses old asked r new

@@ -26,6 +26,8 @@ pub mod Settled
 pub mod Runs
 pub mod History
 pub mod Needs
+pub mod Parsing
+pub mod RunToCome
 pub mod Nesting
 pub mod RowNotation
 pub mod Rows

@@ -8,6 +8,7 @@ use Rattle.libyaml_events.specs.CutEvents.{cut_events}
 use Rattle.libyaml_events.specs.Fits.{Fits}
 use Rattle.libyaml_events.specs.Settled.{IsOpen}
 use Rattle.libyaml_events.specs.Runs.{is_behind_properties}
+use Rattle.libyaml_events.specs.Sentences.{has_end}
 use Rattle.libyaml_events.specs.History.{answers}
 
 -- These tokens behind a TAG with an undefined handle are those that are waited for: as many as it takes to stand behind
@@ -22,6 +23,7 @@ pub data NeedsMore (asked : List Token) (given : List Event) : Type 0 where
   for_next_event : IsOpen asked given → NeedsMore asked given
   amid_properties : (before : List Token) (token : Token) (behind : List Token) (c : Cut) → asked ≡ before ++ token ∷ behind → Fits before token c → is_behind_properties c behind ≡ false → given ≡ cut_events c token → NeedsMore asked given
 
--- each of these answers, which were asked for one by one behind these tokens, was needed
+-- Each of these answers, which were asked for one by one behind these tokens, was needed. None was asked for behind a
+-- STREAM-END.
 abbrev pub EachNeeded : List Token → List Answer → List Event → Type 0
-EachNeeded asked more given = (front : List Token) (x : Answer) (behind : List Answer) → more ≡ answers front (x ∷ behind) → NeedsMore (asked ++ front) given
+EachNeeded asked more given = (front : List Token) (x : Answer) (behind : List Answer) → more ≡ answers front (x ∷ behind) → (has_end (asked ++ front) ≡ false) × NeedsMore (asked ++ front) given

@@ -1,11 +1,11 @@
 //! One call of the parser.
-ghost use Rattle.std.specs.Prelude.{◌≡◌, [], List, Ok, true, false, IfOk, IfErr, Some};
+ghost use Rattle.std.specs.Prelude.{◌≡◌, List, Ok, true, false, IfOk, IfErr};
 ghost use Rattle.libyaml_types.specs.declared.token.yaml_token_t.{yaml_token_t};
 ghost use Rattle.libyaml_types.specs.declared.event.yaml_event_t.{yaml_event_t};
-ghost use Rattle.libyaml_events.specs.Fault.{Answer, Fault};
-ghost use Rattle.libyaml_events.specs.Source.{coming};
 ghost use Rattle.libyaml_events.specs.Config.{is_over};
-ghost use Rattle.libyaml_events.specs.Calls.{Call, KnownCall, CarriesOn, Ran, empty_event};
+ghost use Rattle.libyaml_events.specs.Calls.{Call, empty_event};
+ghost use Rattle.libyaml_events.specs.History.{History, has_ended, kept_fault};
+ghost use Rattle.libyaml_events.specs.Parsing.{CarriesOn, FailsBy};
 
 use crate::parser::yaml_parser_t;
 use crate::progress::{Progress, Want};
@@ -47,12 +47,14 @@ impl<S: yaml_token_source_t> yaml_parser_t<S> {
 pub fn yaml_parser_parse<S: yaml_token_source_t>(
     parser: &mut yaml_parser_t<S>,
 ) -> Result<yaml_event_t, yaml_error_type_t>
-    ensures over { is_over parser.old.config ≡ true → (result ≡ Ok empty_event) × (parser.new ≡ parser.old) }
-    ensures kept { IfErr result (λ e. (e ≡ parser.new.config.fault.error) × (is_over parser.new.config ≡ true)) }
+    // behind the stream end event or a fault
+    ensures ended { has_ended parser.old ≡ true → (result ≡ Ok empty_event) × (parser.new ≡ parser.old) }
+    // a fault is kept for good
+    ensures kept { IfErr result (λ x. (x ≡ (kept_fault parser.new).error) × (has_ended parser.new ≡ true)) }
     ensures bound { parser.new.max_entries ≡ parser.old.max_entries }
-    ensures runs { is_over parser.old.config ≡ false → IfOk result (λ e. (given : List Answer) (events : List yaml_event_t) → Ran parser.old.config given events → CarriesOn S.gives parser.old e parser.new given events) }
-    ensures known { ((f : Fault) → ¬ S.may_break f) → (tokens : List yaml_token_t) (f : Fault) → S.known parser.old.source ≡ Some (coming tokens f) → KnownCall parser.old.config tokens f result parser.new.config (S.known parser.new.source) }
-    ensures call { Call S.gives parser.old result parser.new }
+    // over every source
+    ensures carries_on { has_ended parser.old ≡ false → IfOk result (λ e. (asked : List yaml_token_t) (given : List yaml_event_t) → History parser.old asked given → CarriesOn S.gives parser.old e parser.new asked given) }
+    ensures fails { IfErr result (λ _. (asked : List yaml_token_t) (given : List yaml_event_t) → History parser.old asked given → FailsBy S.gives parser.old parser.new asked given) }
 {
     parser.next_event()
 }

@@ -1,8 +1,13 @@
 //! The parser.
-ghost use Rattle.std.specs.Prelude.{◌≡◌, ◌⊎◌, [], pos, ◌≤ℤ◌, true, false};
-ghost use Rattle.libyaml_events.specs.Fault.{fault_of};
+ghost use Rattle.std.specs.Prelude.{◌≡◌, ◌⊎◌, [], pos, ◌≤ℤ◌, true, false, List, Option, Some};
+ghost use Rattle.libyaml_events.specs.Fault.{Fault, fault_of};
 ghost use Rattle.libyaml_events.specs.Config.{start, with_config, with_fault, marked_ended, is_fault, is_over, between_documents};
-ghost use Rattle.libyaml_events.specs.Calls.{Ran};
+ghost use Rattle.libyaml_events.specs.Source.{Coming, coming};
+ghost use Rattle.libyaml_events.specs.Runs.{Ending, IsRun};
+ghost use Rattle.libyaml_events.specs.History.{History, has_ended};
+ghost use Rattle.libyaml_events.specs.RunToCome.{RunToCome};
+ghost use Rattle.libyaml_types.specs.declared.token.yaml_token_t.{yaml_token_t};
+ghost use Rattle.libyaml_types.specs.declared.event.yaml_event_t.{yaml_event_t};
 
 mod faults;
 mod handles;
@@ -66,7 +71,10 @@ impl<S> Model for yaml_parser_t<S> {
 /// libyaml: `yaml_parser_initialize` and `yaml_parser_set_input`.
 pub fn yaml_parser_initialize<S>(alloc: Global, source: S) -> yaml_parser_t<S>
     ensures value { result ≡ record { source = source; config = start; max_entries = pos 2147483647 } }
-    ensures runs { Ran result.config [] [] }
+    ensures begins { History result [] [] }
+    ensures running { has_ended result ≡ false }
+    // over a source that knows its tokens and the fault behind them, their whole run is to come
+    ensures run_to_come { (known : S → Option Coming) (tokens : List yaml_token_t) (f : Fault) → known source ≡ Some (coming tokens f) → (events : List yaml_event_t) (ending : Ending) → IsRun tokens f events ending → RunToCome known result events ending }
 {
     yaml_parser_t {
         source,

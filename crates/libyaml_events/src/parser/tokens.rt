@@ -1,6 +1,7 @@
 //! The next token: one that stayed, or else the source's.
 ghost use Rattle.std.specs.Prelude.{◌≡◌, Ok, Err, MatchResult, IfErr, true};
 ghost use Rattle.libyaml_events.specs.Config.{with_config, with_fault, keep, taken, is_fault};
+ghost use Rattle.libyaml_events.specs.Errors.{IsSourceError};
 ghost use Rattle.libyaml_events.specs.Calls.{Fetches};
 
 use crate::parser::yaml_parser_t;
@@ -24,10 +25,9 @@ impl<S> yaml_parser_t<S> {
 }
 
 impl<S: yaml_token_source_t> yaml_parser_t<S> {
-    #[tactic(auto, using(crate::proofs::SourceErrors::source_error_is_fault))]
     /// Asks the source for a token, and keeps its fault for good.
     fn ask(&mut self) -> Result<yaml_token_t, yaml_error_type_t>
-        ensures error { IfErr result (λ e. is_fault e ≡ true) }
+        ensures error { IfErr result IsSourceError }
         ensures gives { MatchResult result
             (λ t. S.gives self.old.source (Ok t) self.new.source × (self.new.config ≡ self.old.config))
             (λ e. S.gives self.old.source (Err self.new.config.fault) self.new.source × (self.new.config ≡ with_fault self.old.config self.new.config.fault) × (e ≡ self.new.config.fault.error)) }
@@ -42,6 +42,7 @@ impl<S: yaml_token_source_t> yaml_parser_t<S> {
         }
     }
 
+    #[tactic(auto, using(crate::proofs::SourceErrors::source_error_is_fault))]
     /// The token that stayed, or else the source's next one, whose fault is kept for good.
     pub(crate) fn next_token(&mut self) -> Result<yaml_token_t, yaml_error_type_t>
         ensures fetches { Fetches S.gives self.old result self.new }

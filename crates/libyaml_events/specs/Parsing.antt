@@ -1,0 +1,68 @@
+-- What a call of the parser asked for, gave and kept (docs/DEFINITIONS.md, "Calls").
+use Rattle.std.specs.Prelude.{◌≡◌, ◌++◌, ◌∷◌, List, [], Err, true, false}
+use Rattle.libyaml_events.specs.Errors.{IsSourceError}
+use Rattle.libyaml_events.specs.Fault.{Fault, Answer}
+use Rattle.libyaml_events.specs.FaultTexts.{memory_fault}
+use Rattle.libyaml_events.specs.Tokens.{Token}
+use Rattle.libyaml_events.specs.Trees.{Stream, tokens}
+use Rattle.libyaml_events.specs.Events.{Event, events}
+use Rattle.libyaml_events.specs.Order.{in_order}
+use Rattle.libyaml_events.specs.CutTrees.{Cut}
+use Rattle.libyaml_events.specs.CutEvents.{cut_events}
+use Rattle.libyaml_events.specs.CutFaults.{fault}
+use Rattle.libyaml_events.specs.Sentences.{IsBeginning, has_end}
+use Rattle.libyaml_events.specs.Fits.{Fits}
+use Rattle.libyaml_events.specs.Settled.{IsSettled}
+use Rattle.libyaml_events.specs.Runs.{is_behind_properties}
+use Rattle.libyaml_events.specs.Config.{Parser}
+use Rattle.libyaml_events.specs.Calls.{Gave}
+use Rattle.libyaml_events.specs.History.{History, answers, kept_fault}
+use Rattle.libyaml_events.specs.Needs.{EachNeeded, HasWaited}
+
+-- A call that gave an event: the source gave some tokens more, each of which was needed, and the history goes on by them
+-- and the event.
+pub record CarriesOn {S : Type 0} (gives : S → Answer → S → Type 0) (old : Parser S) (e : Event) (new : Parser S) (asked : List Token) (given : List Event) : Type 0 where
+  pub more : List Token
+  pub gave : Gave gives old.source (answers more []) new.source
+  pub needed : EachNeeded asked (answers more []) given
+  pub history : History new (asked ++ more) (given ++ e ∷ [])
+
+-- the tokens are those of a tree in order, and the events are its events
+pub record IsWhole (asked : List Token) (given : List Event) : Type 0 where
+  pub tree : Stream
+  pub order : in_order tree ≡ true
+  pub all_tokens : asked ≡ tokens tree
+  pub all_events : given ≡ events tree
+
+-- A fault of the grammar: a cut tree fits the tokens before one of these with that one, the events are the cut tree's, and
+-- the fault is. Behind an undefined handle the tokens that are waited for have come.
+pub record HasFailed (asked : List Token) (given : List Event) (f : Fault) : Type 0 where
+  pub before : List Token
+  pub token : Token
+  pub behind : List Token
+  pub cut : Cut
+  pub all_tokens : asked ≡ before ++ token ∷ behind
+  pub fits : Fits before token cut
+  pub waited : HasWaited cut behind
+  pub all_events : given ≡ cut_events cut token
+  pub fault_is : f ≡ fault cut token.content token.start_mark
+
+-- The tokens end too soon: behind a beginning, all of whose settled events were given, or amid the properties of a node
+-- whose handle is undefined.
+pub data StopsShort (asked : List Token) (given : List Event) : Type 0 where
+  behind_beginning : IsBeginning asked → has_end asked ≡ false → IsSettled asked given → StopsShort asked given
+  amid_properties : (before : List Token) (token : Token) (behind : List Token) (c : Cut) → asked ≡ before ++ token ∷ behind → Fits before token c → is_behind_properties c behind ≡ false → given ≡ cut_events c token → StopsShort asked given
+
+-- Why a call failed, which asked for these answers behind these tokens: a growth was refused; or the tokens have a fault of
+-- the grammar; or the source's own fault came, which is kept with all its fields.
+pub data Cause (asked : List Token) (given : List Event) (more : List Answer) (f : Fault) : Type 0 where
+  of_memory : (l : List Token) → more ≡ answers l [] → f ≡ memory_fault → Cause asked given more f
+  of_grammar : (l : List Token) → more ≡ answers l [] → HasFailed (asked ++ l) given f → Cause asked given more f
+  of_source : (l : List Token) → more ≡ answers l (Err f ∷ []) → IsSourceError f.error → StopsShort (asked ++ l) given → Cause asked given more f
+
+-- a call that failed: the source gave some answers more, each of which was needed, and the fault is kept
+pub record FailsBy {S : Type 0} (gives : S → Answer → S → Type 0) (old new : Parser S) (asked : List Token) (given : List Event) : Type 0 where
+  pub more : List Answer
+  pub gave : Gave gives old.source more new.source
+  pub needed : EachNeeded asked more given
+  pub cause : Cause asked given more (kept_fault new)
