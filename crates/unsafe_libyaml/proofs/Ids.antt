@@ -5,16 +5,16 @@ use Rattle.unsafe_libyaml.specs.declared.node.yaml_node_t.{yaml_node_t}
 use Rattle.unsafe_libyaml.specs.declared.pairs.yaml_node_pair_t.{yaml_node_pair_t}
 use Rattle.unsafe_libyaml.specs.declared.node.unnamed_yaml_node_t_data.{unnamed_yaml_node_t_data}
 use Rattle.unsafe_libyaml.specs.declared.node.unnamed_yaml_node_t_data.TheVariants.{Scalar, Sequence, Mapping}
-use Rattle.unsafe_libyaml.specs.Nodes.{ids_of, ids_of_pairs, IsIdBelow, AllIds, AllIdsOf, EveryIdNamesANode, node_type, type_of, type_at, KeepsTypes, changed_at, item_behind, pair_behind}
+use Rattle.unsafe_libyaml.specs.Nodes.{ids_of, ids_of_pairs, IsIdUpTo, AllIds, AllIdsOf, EveryIdNamesANode, node_type, type_of, type_at, KeepsTypes, changed_at, item_behind, pair_behind}
 use Rattle.unsafe_libyaml.specs.Documents.{Document, AreNodes, most_nodes, with_changed_node}
 use Rattle.std.specs.Prelude.{Bool, true, false, cond, slice_get, Some}
 
-pub IsIdBelow-more : (n m : ℕ) (id : ℤ) → n ≤ m → IsIdBelow n id → IsIdBelow m id
-IsIdBelow-more n m id le h = (h.0, omega (arith, ints))
+pub IsIdUpTo-more : (n m : ℕ) (id : ℤ) → n ≤ m → IsIdUpTo n id → IsIdUpTo m id
+IsIdUpTo-more n m id le h = (h.0, omega (arith, ints))
 
 pub AllIds-more : (n m : ℕ) (ids : List ℤ) → n ≤ m → AllIds n ids → AllIds m ids
 AllIds-more n m [] le h = tt
-AllIds-more n m (id ∷ ids) le h = (IsIdBelow-more n m id le h.0, AllIds-more n m ids le h.1)
+AllIds-more n m (id ∷ ids) le h = (IsIdUpTo-more n m id le h.0, AllIds-more n m ids le h.1)
 
 pub AllIdsOf-more : (n m : ℕ) (nodes : List yaml_node_t) → n ≤ m → AllIdsOf n nodes → AllIdsOf m nodes
 AllIdsOf-more n m [] le h = tt
@@ -57,20 +57,20 @@ AllIdsOf-changed_at m zero f (node ∷ nodes) keeps h = (keeps node h.0, h.1)
 AllIdsOf-changed_at m (suc n) f (node ∷ nodes) keeps h = (h.0, AllIdsOf-changed_at m n f nodes keeps h.1)
 
 -- one more id behind others
-pub AllIds-push : (n : ℕ) (ids : List ℤ) (id : ℤ) → AllIds n ids → IsIdBelow n id → AllIds n (ids ++ id ∷ [])
+pub AllIds-push : (n : ℕ) (ids : List ℤ) (id : ℤ) → AllIds n ids → IsIdUpTo n id → AllIds n (ids ++ id ∷ [])
 AllIds-push n [] id h k = (k, tt)
 AllIds-push n (first ∷ ids) id h k = (h.0, AllIds-push n ids id h.1 k)
 
-pub AllIds-push_pair : (n : ℕ) (pairs : List yaml_node_pair_t) (p : yaml_node_pair_t) → AllIds n (ids_of_pairs pairs) → IsIdBelow n p.key → IsIdBelow n p.value → AllIds n (ids_of_pairs (pairs ++ p ∷ []))
+pub AllIds-push_pair : (n : ℕ) (pairs : List yaml_node_pair_t) (p : yaml_node_pair_t) → AllIds n (ids_of_pairs pairs) → IsIdUpTo n p.key → IsIdUpTo n p.value → AllIds n (ids_of_pairs (pairs ++ p ∷ []))
 AllIds-push_pair n [] p h k v = (k, (v, tt))
 AllIds-push_pair n (first ∷ pairs) p h k v = (h.0, (h.1.0, AllIds-push_pair n pairs p h.1.1 k v))
 
-pub with_item-keeps : (n : ℕ) (id : ℤ) (content : unnamed_yaml_node_t_data) → IsIdBelow n id → AllIds n (ids_of content) → AllIds n (ids_of (item_behind id content))
+pub with_item-keeps : (n : ℕ) (id : ℤ) (content : unnamed_yaml_node_t_data) → IsIdUpTo n id → AllIds n (ids_of content) → AllIds n (ids_of (item_behind id content))
 with_item-keeps n id (Scalar s) k h = h
 with_item-keeps n id (Sequence s) k h = AllIds-push n s.items id h k
 with_item-keeps n id (Mapping m) k h = h
 
-pub with_pair-keeps : (n : ℕ) (p : yaml_node_pair_t) (content : unnamed_yaml_node_t_data) → IsIdBelow n p.key → IsIdBelow n p.value → AllIds n (ids_of content) → AllIds n (ids_of (pair_behind p content))
+pub with_pair-keeps : (n : ℕ) (p : yaml_node_pair_t) (content : unnamed_yaml_node_t_data) → IsIdUpTo n p.key → IsIdUpTo n p.value → AllIds n (ids_of content) → AllIds n (ids_of (pair_behind p content))
 with_pair-keeps n p (Scalar s) k v h = h
 with_pair-keeps n p (Sequence s) k v h = h
 with_pair-keeps n p (Mapping m) k v h = AllIds-push_pair n m.pairs p h k v

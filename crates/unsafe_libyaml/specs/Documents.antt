@@ -1,4 +1,4 @@
--- Documents: a list of nodes beside the fields (docs/DEFINITIONS.md, "Documents").
+-- Documents: a list of nodes beside the fields (docs/DEFINITIONS.md, "Documents by calls").
 use Rattle.std.specs.Prelude.{ℕ, ℤ, ◌≤◌, List, [], ◌∷◌, ◌++◌, Option, Bool, length}
 use Rattle.libyaml_types.specs.declared.directive.yaml_tag_directive_t.{yaml_tag_directive_t}
 use Rattle.libyaml_types.specs.declared.directive.yaml_version_directive_t.{yaml_version_directive_t}

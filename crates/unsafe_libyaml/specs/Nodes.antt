@@ -1,4 +1,4 @@
--- Nodes, their ids, and the nodes that the calls make (docs/DEFINITIONS.md, "Documents").
+-- Nodes, their ids, and the nodes that the calls make (docs/DEFINITIONS.md, "Documents by calls").
 use Rattle.std.specs.Prelude.{◌≡◌, ℕ, suc, zero, ℤ, pos, negsuc, ◌≤ℤ◌, List, [], ◌∷◌, ◌++◌, Option, Some, None, length, slice_get, codes}
 use Rattle.libyaml_types.specs.declared.enums.yaml_node_type_t.{yaml_node_type_t}
 use Rattle.libyaml_types.specs.declared.enums.yaml_node_type_t.TheVariants.{YAML_NO_NODE, YAML_SCALAR_NODE, YAML_SEQUENCE_NODE, YAML_MAPPING_NODE}
@@ -34,13 +34,13 @@ node_at nodes (pos zero) = None
 node_at nodes (pos (suc n)) = slice_get nodes n
 
 -- an id of one of n nodes
-abbrev pub IsIdBelow : ℕ → ℤ → Type 0
-IsIdBelow n id = (pos 1 ≤ℤ id) × (id ≤ℤ pos n)
+abbrev pub IsIdUpTo : ℕ → ℤ → Type 0
+IsIdUpTo n id = (pos 1 ≤ℤ id) × (id ≤ℤ pos n)
 
 -- each id names one of n nodes
 abbrev pub AllIds : ℕ → List ℤ → Type 0
 AllIds n [] = Unit {0}
-AllIds n (id ∷ ids) = IsIdBelow n id × AllIds n ids
+AllIds n (id ∷ ids) = IsIdUpTo n id × AllIds n ids
 
 abbrev pub AllIdsOf : ℕ → List yaml_node_t → Type 0
 AllIdsOf n [] = Unit {0}
@@ -114,4 +114,4 @@ type_at nodes id = type_of (node_at nodes id)
 
 -- each id of a node names a node of its type also in the new list
 abbrev pub KeepsTypes : List yaml_node_t → List yaml_node_t → Type 0
-KeepsTypes old new = (id : ℤ) → IsIdBelow (length old) id → type_at new id ≡ type_at old id
+KeepsTypes old new = (id : ℤ) → IsIdUpTo (length old) id → type_at new id ≡ type_at old id

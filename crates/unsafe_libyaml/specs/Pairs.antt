@@ -1,4 +1,4 @@
--- When two pairs of ids are the same (docs/DEFINITIONS.md, "Documents").
+-- When two pairs of ids are the same (docs/DEFINITIONS.md, "Documents by calls").
 use Rattle.std.specs.Prelude.{Bool, ◌&&◌}
 use Rattle.std.specs.Ordering.{int_eq}
 use Rattle.std.specs.Cmp.{IsEquivalence, int_eq_equiv, and_equiv, on_equiv}

@@ -3,7 +3,7 @@
 ghost use Rattle.std.specs.Prelude.{◌≡◌, suc, ◌≤◌, ◌≤ℤ◌, ◌<◌, pos, ◌↔◌, IsSome, IfSome, length};
 ghost use Rattle.std.specs.Option.{option_copied};
 ghost use Rattle.unsafe_libyaml.specs.Documents.{most_nodes};
-ghost use Rattle.unsafe_libyaml.specs.Nodes.{EveryIdNamesANode, node_at, node_type, type_at, IsIdBelow};
+ghost use Rattle.unsafe_libyaml.specs.Nodes.{EveryIdNamesANode, node_at, node_type, type_at, IsIdUpTo};
 
 mod add;
 mod append;
@@ -126,7 +126,7 @@ pub fn yaml_document_delete(document: yaml_document_t) {
 ///
 /// libyaml: `yaml_document_get_node`.
 pub fn yaml_document_get_node(document: &yaml_document_t, index: i32) -> Option<&yaml_node_t>
-    ensures found { IsSome result ↔ IsIdBelow (length document.now.nodes) index }
+    ensures found { IsSome result ↔ IsIdUpTo (length document.now.nodes) index }
     ensures node { option_copied result ≡ node_at document.now.nodes index }
     ensures type_is { IfSome result (λ node. node_type node.now.content ≡ type_at document.now.nodes index) }
 {

@@ -15,6 +15,8 @@ use std::marker::Model;
 pub type yaml_node_item_t = i32;
 
 /// A `Vec` of items, which contracts see as a list.
+///
+/// libyaml: the pointers `start` and `top` of a node's items.
 #[derive(Drop)]
 pub struct NodeItems {
     inner: Vec<yaml_node_item_t>,
@@ -38,14 +40,14 @@ impl NodeItems {
         }
     }
 
-    /// Takes no memory.
+    /// The list of these items. Takes no memory.
     pub fn from_vec(list: Vec<yaml_node_item_t>) -> Self
         ensures { result ≡ list.items }
     {
         NodeItems { inner: list }
     }
 
-    /// Takes no memory.
+    /// The items of this list. Takes no memory.
     pub fn into_vec(self) -> Vec<yaml_node_item_t>
         ensures { result.items ≡ self }
     {
@@ -74,7 +76,7 @@ impl NodeItems {
         self.inner.as_slice()
     }
 
-    /// Puts an item behind the others.
+    /// Puts an item behind the others, in constant time but where the list grows.
     pub(crate) fn push(&mut self, item: yaml_node_item_t) -> Result<(), AllocError>
         ensures ok { OnOk result (self.new ≡ self.old ++ item ∷ []) }
         ensures err { OnErr result (self.new ≡ self.old) }

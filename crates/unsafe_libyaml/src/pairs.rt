@@ -19,6 +19,8 @@ pub struct yaml_node_pair_t {
 }
 
 /// A `Vec` of pairs, which contracts see as a list.
+///
+/// libyaml: the pointers `start` and `top` of a node's pairs.
 #[derive(Drop)]
 pub struct NodePairs {
     inner: Vec<yaml_node_pair_t>,
@@ -43,14 +45,14 @@ impl NodePairs {
         }
     }
 
-    /// Takes no memory.
+    /// The list of these pairs. Takes no memory.
     pub fn from_vec(list: Vec<yaml_node_pair_t>) -> Self
         ensures { result ≡ list.items }
     {
         NodePairs { inner: list }
     }
 
-    /// Takes no memory.
+    /// The pairs of this list. Takes no memory.
     pub fn into_vec(self) -> Vec<yaml_node_pair_t>
         ensures { result.items ≡ self }
     {
@@ -79,7 +81,7 @@ impl NodePairs {
         self.inner.as_slice()
     }
 
-    /// Puts a pair behind the others.
+    /// Puts a pair behind the others, in constant time but where the list grows.
     pub(crate) fn push(&mut self, pair: yaml_node_pair_t) -> Result<(), AllocError>
         ensures ok { OnOk result (self.new ≡ self.old ++ pair ∷ []) }
         ensures err { OnErr result (self.new ≡ self.old) }

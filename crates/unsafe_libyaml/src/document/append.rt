@@ -2,7 +2,7 @@
 
 ghost use Rattle.std.specs.Prelude.{◌≡◌, OnOk, OnErr, length};
 ghost use Rattle.unsafe_libyaml.specs.Documents.{with_changed_node};
-ghost use Rattle.unsafe_libyaml.specs.Nodes.{IsIdBelow, type_at, KeepsTypes, with_item, with_pair};
+ghost use Rattle.unsafe_libyaml.specs.Nodes.{IsIdUpTo, type_at, KeepsTypes, with_item, with_pair};
 
 use super::{place_of, yaml_document_t};
 use crate::items::yaml_node_item_t;
@@ -21,7 +21,7 @@ pub fn yaml_document_append_sequence_item(
     item: yaml_node_item_t,
 ) -> Result<(), yaml_refusal_t>
     requires target { type_at document.old.nodes sequence ≡ yaml_node_type_t.YAML_SEQUENCE_NODE }
-    requires item { IsIdBelow (length document.old.nodes) item }
+    requires item { IsIdUpTo (length document.old.nodes) item }
     ensures ok { OnOk result (document.new ≡ with_changed_node document.old sequence (with_item item)) }
     ensures refused { OnErr result (result ≡ Err yaml_refusal_t.Memory) }
     ensures unchanged { OnErr result (document.new ≡ document.old) }
@@ -48,8 +48,8 @@ pub fn yaml_document_append_mapping_pair(
     value: i32,
 ) -> Result<(), yaml_refusal_t>
     requires target { type_at document.old.nodes mapping ≡ yaml_node_type_t.YAML_MAPPING_NODE }
-    requires key { IsIdBelow (length document.old.nodes) key }
-    requires value { IsIdBelow (length document.old.nodes) value }
+    requires key { IsIdUpTo (length document.old.nodes) key }
+    requires value { IsIdUpTo (length document.old.nodes) value }
     ensures ok { OnOk result (document.new ≡ with_changed_node document.old mapping (with_pair key value)) }
     ensures refused { OnErr result (result ≡ Err yaml_refusal_t.Memory) }
     ensures unchanged { OnErr result (document.new ≡ document.old) }

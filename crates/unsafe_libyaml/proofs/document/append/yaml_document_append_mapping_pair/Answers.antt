@@ -1,7 +1,7 @@
 use Rattle.std.proofs.Common.{length, set, subst, sym, w32, ◌∙◌}
 use Rattle.std.proofs.lemmas.Int.{to_z-of_z}
 use mir.Val.{SFits}
-use Rattle.unsafe_libyaml.specs.Nodes.{IsIdBelow, KeepsTypes, with_pair}
+use Rattle.unsafe_libyaml.specs.Nodes.{IsIdUpTo, KeepsTypes, with_pair}
 use Rattle.unsafe_libyaml.specs.Documents.{Document}
 use Rattle.unsafe_libyaml.proofs.Ids.{AreNodes-set, KeepsTypes-set, pair_behind-type, with_pair-keeps, with_changed_node-set}
 use Rattle.unsafe_libyaml.proofs.document.append.yaml_document_append_mapping_pair.Goals as goal
@@ -11,8 +11,8 @@ invariant_of-document-2 c =
     let key_fits : SFits w32 c.args.key = c.ranges.key in
     let value_fits : SFits w32 c.args.value = c.ranges.value in
     let pushed = simp to_z-of_z at c.in_ok-push_pair.ensures.ok in
-    let key_below : IsIdBelow (length c.document.inside.nodes.items) c.args.key = subst (λ (d : Document). IsIdBelow (length d.nodes) c.args.key) (sym c.document.view_is) c.requires.key in
-    let value_below : IsIdBelow (length c.document.inside.nodes.items) c.args.value = subst (λ (d : Document). IsIdBelow (length d.nodes) c.args.value) (sym c.document.view_is) c.requires.value in
+    let key_below : IsIdUpTo (length c.document.inside.nodes.items) c.args.key = subst (λ (d : Document). IsIdUpTo (length d.nodes) c.args.key) (sym c.document.view_is) c.requires.key in
+    let value_below : IsIdUpTo (length c.document.inside.nodes.items) c.args.value = subst (λ (d : Document). IsIdUpTo (length d.nodes) c.args.value) (sym c.document.view_is) c.requires.value in
     AreNodes-set c.place_of.result (with_pair c.args.key c.args.value) c.document.inside.nodes.items c.index_mut-node.result.now c.push_pair.new.self
     c.index_mut-node.ensures.value pushed
     (λ node h. with_pair-keeps _ (record { key = c.args.key; value = c.args.value }) node.content key_below value_below h)
