@@ -35,4 +35,8 @@ pub const MAX_TOKENS: u64 = 1_000_000;
 const MAX_EVENTS: u64 = 4 * MAX_TOKENS;
 
 #[cfg(test)]
+mod failing;
+#[cfg(test)]
+mod run_tests;
+#[cfg(test)]
 mod writing_tests;

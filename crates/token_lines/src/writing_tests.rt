@@ -1,3 +1,4 @@
+use crate::failing::FailingWriter;
 use crate::{line_refusal_t, write_event, write_fault};
 use libyaml_events::{NO_FAULT, yaml_parser_t_prefix};
 use libyaml_types::{
@@ -9,30 +10,7 @@ use libyaml_types::{
     yaml_scalar_style_t, yaml_sequence_style_t, yaml_tag_directive_t, yaml_version_directive_t,
 };
 use std::alloc::{AllocError, Global};
-use std::io;
-use std::io::{ErrorKind, Write};
 use std::test::Fail;
-
-/// A writer that takes one byte a call and fails at a call and from then on.
-#[derive(Drop)]
-struct FailingWriter {
-    written: Vec<u8>,
-    calls_left: usize,
-}
-
-impl Write for FailingWriter {
-    fn write(&mut self, buf: &[u8]) -> io::Result<usize> {
-        let Some(left) = self.calls_left.checked_sub(1) else {
-            return Err(io::Error::from(ErrorKind::Other));
-        };
-        self.calls_left = left;
-        self.written.write(&buf[..buf.len().min(1)])
-    }
-
-    fn flush(&mut self) -> io::Result<()> {
-        Ok(())
-    }
-}
 
 fn place(index: u64) -> yaml_mark_t {
     yaml_mark_t {
@@ -429,21 +407,15 @@ fn each_write_failing_in_turn(rt: HostRuntime) -> Result<(), Fail> {
     let alloc = rt.alloc();
     let mut whole = Vec::new(alloc);
     write_fault(&content_fault(), &mut whole)?;
-    for calls_left in 0..whole.len() {
-        let mut writer = FailingWriter {
-            written: Vec::new(alloc),
-            calls_left,
-        };
+    for calls in 0..whole.len() {
+        let mut writer = FailingWriter::new(alloc, 1, calls);
         let refused = write_fault(&content_fault(), &mut writer);
         assert_eq!(rt; refused, Err(line_refusal_t::Output));
-        assert_eq!(rt; writer.written.as_slice(), &whole[..calls_left]);
+        assert_eq!(rt; writer.written.as_slice(), &whole[..calls]);
     }
     let end = event(unnamed_yaml_event_t_data::StreamEnd, 4, 5);
-    for calls_left in 0..23usize {
-        let mut writer = FailingWriter {
-            written: Vec::new(alloc),
-            calls_left,
-        };
+    for calls in 0..23usize {
+        let mut writer = FailingWriter::new(alloc, 1, calls);
         let refused = write_event(alloc, &end, &mut writer);
         assert_eq!(rt; refused, Err(line_refusal_t::Output));
     }

@@ -59,3 +59,90 @@ fn refuse<E: Write>(status: u8, line: &str, errors: &mut E) -> u8
     let _ = errors.write_all(line.as_bytes());
     status
 }
+
+#[cfg(test)]
+mod tests {
+    use super::run_words;
+    use std::io;
+    use std::io::{ErrorKind, Write};
+    use std::test::Fail;
+
+    const ONE_SCALAR: &[u8] = b"STREAM-START 0:0:0 1:0:1 utf8\n\
+        SCALAR 2:0:2 3:0:3 =a plain\n\
+        STREAM-END 4:0:4 5:0:5\n";
+
+    /// A writer that takes nothing.
+    #[derive(Drop)]
+    struct Full;
+
+    impl Write for Full {
+        fn write(&mut self, _buf: &[u8]) -> io::Result<usize> {
+            Err(io::Error::from(ErrorKind::Other))
+        }
+
+        fn flush(&mut self) -> io::Result<()> {
+            Ok(())
+        }
+    }
+
+    #[test]
+    fn words_that_are_not_one_known_command(rt: HostRuntime) -> Result<(), Fail> {
+        let alloc = rt.alloc();
+        let cases: [&[&str]; 5] = [
+            &[],
+            &["events", "events"],
+            &["Events"],
+            &["nodes"],
+            &["events "],
+        ];
+        for case in cases {
+            let mut words = Vec::new(alloc);
+            for word in case {
+                words.push(String::from_str(alloc, word)?)?;
+            }
+            let mut output = Vec::new(alloc);
+            let mut errors = Vec::new(alloc);
+            let status = run_words(
+                alloc,
+                words.as_slice(),
+                ONE_SCALAR,
+                &mut output,
+                &mut errors,
+            );
+            assert_eq!(rt; status, 2);
+            assert_eq!(rt; output.as_slice(), b"".as_slice());
+            assert_eq!(rt;
+                errors.as_slice(),
+                b"usage: yamltokens events|nodes\n".as_slice()
+            );
+            let status = run_words(alloc, words.as_slice(), ONE_SCALAR, &mut output, &mut Full);
+            assert_eq!(rt; status, 2);
+        }
+        Ok(())
+    }
+
+    #[test]
+    fn statuses_of_a_run(rt: HostRuntime) -> Result<(), Fail> {
+        let alloc = rt.alloc();
+        let words = [String::from_str(alloc, "events")?];
+        let mut output = Vec::new(alloc);
+        let mut errors = Vec::new(alloc);
+        let status = run_words(alloc, &words, b"".as_slice(), &mut output, &mut errors);
+        assert_eq!(rt; status, 1);
+        assert_eq!(rt;
+            output.as_slice(),
+            b"FAULT reader 0:0:0 no more tokens\n".as_slice()
+        );
+        assert_eq!(rt; errors.as_slice(), b"".as_slice());
+        let status = run_words(alloc, &words, ONE_SCALAR, &mut output, &mut errors);
+        assert_eq!(rt; status, 0);
+        assert_eq!(rt; errors.as_slice(), b"".as_slice());
+        let status = run_words(alloc, &words, ONE_SCALAR, &mut Full, &mut errors);
+        assert_eq!(rt; status, 3);
+        assert_eq!(rt;
+            errors.as_slice(),
+            b"yamltokens: output failed\n".as_slice()
+        );
+        Ok(())
+    }
+}
