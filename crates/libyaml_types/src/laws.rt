@@ -7,8 +7,7 @@ ghost use Rattle.libyaml_types.specs.Numbers.{encoding_number, break_number, err
 use crate::directive::{TagDirectives, yaml_version_directive_t};
 use crate::enums::{
     yaml_break_t, yaml_encoding_t, yaml_error_type_t, yaml_event_type_t, yaml_mapping_style_t,
-    yaml_node_type_t, yaml_parser_state_t, yaml_scalar_style_t, yaml_sequence_style_t,
-    yaml_token_type_t,
+    yaml_node_type_t, yaml_scalar_style_t, yaml_sequence_style_t,
 };
 use crate::mark::yaml_mark_t;
 use crate::text::Text;
@@ -21,13 +20,6 @@ pub fn order_of_encodings(encoding: yaml_encoding_t, other: yaml_encoding_t) -> 
     encoding.cmp(&other)
 }
 
-/// Two of `yaml_encoding_t` are equal exactly where they are the same variant.
-pub fn equality_of_encodings(encoding: yaml_encoding_t, other: yaml_encoding_t) -> bool
-    ensures { IsTrue result ↔ (encoding ≡ other) }
-{
-    encoding == other
-}
-
 /// `yaml_break_t` is ordered as its numbers are.
 pub fn order_of_breaks(line_break: yaml_break_t, other: yaml_break_t) -> Ordering
     ensures { result ≡ nat_cmp (break_number line_break) (break_number other) }
@@ -35,25 +27,11 @@ pub fn order_of_breaks(line_break: yaml_break_t, other: yaml_break_t) -> Orderin
     line_break.cmp(&other)
 }
 
-/// Two of `yaml_break_t` are equal exactly where they are the same variant.
-pub fn equality_of_breaks(line_break: yaml_break_t, other: yaml_break_t) -> bool
-    ensures { IsTrue result ↔ (line_break ≡ other) }
-{
-    line_break == other
-}
-
 /// `yaml_error_type_t` is ordered as its numbers are.
 pub fn order_of_error_types(error_type: yaml_error_type_t, other: yaml_error_type_t) -> Ordering
     ensures { result ≡ nat_cmp (error_type_number error_type) (error_type_number other) }
 {
     error_type.cmp(&other)
-}
-
-/// Two of `yaml_error_type_t` are equal exactly where they are the same variant.
-pub fn equality_of_error_types(error_type: yaml_error_type_t, other: yaml_error_type_t) -> bool
-    ensures { IsTrue result ↔ (error_type ≡ other) }
-{
-    error_type == other
 }
 
 /// `yaml_scalar_style_t` is ordered as its numbers are.
@@ -66,16 +44,6 @@ pub fn order_of_scalar_styles(
     scalar_style.cmp(&other)
 }
 
-/// Two of `yaml_scalar_style_t` are equal exactly where they are the same variant.
-pub fn equality_of_scalar_styles(
-    scalar_style: yaml_scalar_style_t,
-    other: yaml_scalar_style_t,
-) -> bool
-    ensures { IsTrue result ↔ (scalar_style ≡ other) }
-{
-    scalar_style == other
-}
-
 /// `yaml_sequence_style_t` is ordered as its numbers are.
 pub fn order_of_sequence_styles(
     sequence_style: yaml_sequence_style_t,
@@ -84,16 +52,6 @@ pub fn order_of_sequence_styles(
     ensures { result ≡ nat_cmp (sequence_style_number sequence_style) (sequence_style_number other) }
 {
     sequence_style.cmp(&other)
-}
-
-/// Two of `yaml_sequence_style_t` are equal exactly where they are the same variant.
-pub fn equality_of_sequence_styles(
-    sequence_style: yaml_sequence_style_t,
-    other: yaml_sequence_style_t,
-) -> bool
-    ensures { IsTrue result ↔ (sequence_style ≡ other) }
-{
-    sequence_style == other
 }
 
 /// `yaml_mapping_style_t` is ordered as its numbers are.
@@ -106,23 +64,6 @@ pub fn order_of_mapping_styles(
     mapping_style.cmp(&other)
 }
 
-/// Two of `yaml_mapping_style_t` are equal exactly where they are the same variant.
-pub fn equality_of_mapping_styles(
-    mapping_style: yaml_mapping_style_t,
-    other: yaml_mapping_style_t,
-) -> bool
-    ensures { IsTrue result ↔ (mapping_style ≡ other) }
-{
-    mapping_style == other
-}
-
-/// Two of `yaml_token_type_t` are equal exactly where they are the same variant.
-pub fn equality_of_token_types(token_type: yaml_token_type_t, other: yaml_token_type_t) -> bool
-    ensures { IsTrue result ↔ (token_type ≡ other) }
-{
-    token_type == other
-}
-
 /// `yaml_event_type_t` is ordered as its numbers are.
 pub fn order_of_event_types(event_type: yaml_event_type_t, other: yaml_event_type_t) -> Ordering
     ensures { result ≡ nat_cmp (event_type_number event_type) (event_type_number other) }
@@ -130,35 +71,11 @@ pub fn order_of_event_types(event_type: yaml_event_type_t, other: yaml_event_typ
     event_type.cmp(&other)
 }
 
-/// Two of `yaml_event_type_t` are equal exactly where they are the same variant.
-pub fn equality_of_event_types(event_type: yaml_event_type_t, other: yaml_event_type_t) -> bool
-    ensures { IsTrue result ↔ (event_type ≡ other) }
-{
-    event_type == other
-}
-
 /// `yaml_node_type_t` is ordered as its numbers are.
 pub fn order_of_node_types(node_type: yaml_node_type_t, other: yaml_node_type_t) -> Ordering
     ensures { result ≡ nat_cmp (node_type_number node_type) (node_type_number other) }
 {
     node_type.cmp(&other)
-}
-
-/// Two of `yaml_node_type_t` are equal exactly where they are the same variant.
-pub fn equality_of_node_types(node_type: yaml_node_type_t, other: yaml_node_type_t) -> bool
-    ensures { IsTrue result ↔ (node_type ≡ other) }
-{
-    node_type == other
-}
-
-/// Two of `yaml_parser_state_t` are equal exactly where they are the same variant.
-pub fn equality_of_parser_states(
-    parser_state: yaml_parser_state_t,
-    other: yaml_parser_state_t,
-) -> bool
-    ensures { IsTrue result ↔ (parser_state ≡ other) }
-{
-    parser_state == other
 }
 
 /// Two of `yaml_mark_t` are equal exactly where all their fields are.

@@ -188,6 +188,68 @@ fn a_document_start(rt: HostRuntime) -> Result<(), Fail> {
 }
 
 #[test]
+fn a_zero_byte_counts_in_each_text(rt: HostRuntime) -> Result<(), Fail> {
+    let alloc = rt.alloc();
+    let zero: &[u8] = b"a\0b";
+    let style = yaml_scalar_style_t::YAML_DOUBLE_QUOTED_SCALAR_STYLE;
+    let wanted = unnamed_yaml_event_t_data_scalar {
+        anchor: Some(zero_inside(alloc)?),
+        tag: Some(zero_inside(alloc)?),
+        value: zero_inside(alloc)?,
+        plain_implicit: false,
+        quoted_implicit: true,
+        style,
+    };
+    let event = yaml_scalar_event_initialize(
+        alloc,
+        Some(zero),
+        Some(zero),
+        zero,
+        false,
+        true,
+        style,
+    );
+    assert_eq!(rt;
+        event,
+        Ok(unmarked(unnamed_yaml_event_t_data::Scalar(wanted)))
+    );
+
+    let style = yaml_mapping_style_t::YAML_FLOW_MAPPING_STYLE;
+    let wanted = unnamed_yaml_event_t_data_mapping_start {
+        anchor: Some(zero_inside(alloc)?),
+        tag: Some(zero_inside(alloc)?),
+        implicit: false,
+        style,
+    };
+    let event = yaml_mapping_start_event_initialize(alloc, Some(zero), Some(zero), false, style);
+    assert_eq!(rt;
+        event,
+        Ok(unmarked(unnamed_yaml_event_t_data::MappingStart(wanted)))
+    );
+
+    let style = yaml_sequence_style_t::YAML_BLOCK_SEQUENCE_STYLE;
+    let wanted = unnamed_yaml_event_t_data_sequence_start {
+        anchor: Some(zero_inside(alloc)?),
+        tag: Some(zero_inside(alloc)?),
+        implicit: true,
+        style,
+    };
+    let event = yaml_sequence_start_event_initialize(alloc, Some(zero), Some(zero), true, style);
+    assert_eq!(rt;
+        event,
+        Ok(unmarked(unnamed_yaml_event_t_data::SequenceStart(wanted)))
+    );
+
+    let wanted = yaml_tag_directive_t {
+        handle: zero_inside(alloc)?,
+        prefix: zero_inside(alloc)?,
+    };
+    let directives = TagDirectives::from_pairs(alloc, &[(zero, zero)])?;
+    assert_eq!(rt; directives.into_vec().pop(), Some(wanted));
+    Ok(())
+}
+
+#[test]
 fn only_utf8_is_taken(rt: HostRuntime) -> Result<(), Fail> {
     let alloc = rt.alloc();
     let taken: [&[u8]; 4] = [b"", b"\xed\x9f\xbf", b"\xee\x80\x80", b"\xf4\x8f\xbf\xbf"];

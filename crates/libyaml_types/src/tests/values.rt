@@ -6,7 +6,7 @@ use crate::enums::{
     yaml_token_type_t,
 };
 use crate::event::{unnamed_yaml_event_t_data, unnamed_yaml_event_t_data_alias, yaml_event_t};
-use crate::laws::{equality_of_scalar_styles, order_of_scalar_styles};
+use crate::laws::order_of_scalar_styles;
 use crate::mark::{ZERO_MARK, yaml_mark_t};
 use crate::refusal::yaml_refusal_t;
 use crate::text::Text;
@@ -37,7 +37,7 @@ fn order_is_that_of_numbers(rt: HostRuntime) {
     let plain = yaml_scalar_style_t::YAML_PLAIN_SCALAR_STYLE;
     let folded = yaml_scalar_style_t::YAML_FOLDED_SCALAR_STYLE;
     assert_eq!(rt; order_of_scalar_styles(plain, folded), Ordering::Less);
-    assert!(rt; !equality_of_scalar_styles(plain, folded));
+    assert!(rt; plain != folded);
     let key = yaml_token_type_t::YAML_KEY_TOKEN;
     let value = yaml_token_type_t::YAML_VALUE_TOKEN;
     assert_eq!(rt; value.cmp(&key), Ordering::Greater);
