@@ -201,7 +201,7 @@ IsTagCut _ = ⊥
 
 -- which places a bad tag has: where a node is due, an unknown tag is at the tag
 pub gives_tag : (l : List Token) (c : Cut) (k : Content) (m : Marks) → reads_all l unopened ≡ goes (reached c) → StopsAt c k m → IsUnknownTag l k → IsTagCut c
-gives_tag l c k m r e u = at (u.here)
+gives_tag l c k m r e u = at (u.begins.1)
   where
     home_is : (p : Place) → place_tokens p [] ≡ l → home p ≡ reached c
     home_is p f = goes_same (home p) (reached c) (sym (subst (λ (x : List Token). feeds x unopened ≡ goes (home p)) f (place_reads p [])) ∙ (reads_to l unopened (reached c) r).0)
@@ -220,10 +220,6 @@ gives_tag l c k m r e u = at (u.here)
         let h = stops_at_tag_behind u.place a x k m u.unknown in
         let same : at_tag_behind u.place a x ≡ c = bad_same (at_tag_behind u.place a x) c (sym h ∙ (g ∙ e)) in
         subst IsTagCut same tt
-
-not_legal : (q : Position) (b : Bool) (c : Cut) → checked (goes q) b ≡ bad c → b ≡ false
-not_legal q true c e = cc
-not_legal q false c e = refl
 
 -- no cut at a directive without a directive
 no_directive_documents : (d : Documents) (k : Content) (m : Marks) (es : Directives) (b : Before) (ds : Directives) → is_directive k ≡ false → checked (behind_documents d k m) (keeps_order no_directives es k) ≡ bad (at_directive b ds) → ⊥

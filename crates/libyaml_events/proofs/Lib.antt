@@ -43,3 +43,4 @@ pub mod Needed
 pub mod Productions
 pub mod WholeParts
 pub mod Parsed
+pub mod TagPlaces

@@ -31,11 +31,6 @@ stops_documents d DocumentEnd m es e n = absurd (n _ refl)
 stops_documents d StreamEnd m es e n = absurd (n _ refl)
 stops_documents d _ m es e n = refl
 
-stops_directive : (d : Documents) (k : Content) (m : Marks) (es : Directives) → is_directive k ≡ true → Stops (checked (behind_documents d k m) (keeps_order no_directives es k)) (at_directive (behind d) no_directives)
-stops_directive d (VersionDirective x) m es e n = stops_order (headed (behind d) no_directives (version x m)) (both (no_version no_directives) (is_version x)) n
-stops_directive d (TagDirective x) m es e n = stops_order (headed (behind d) no_directives (tag_directive x m)) (negated (declares no_directives x.handle)) n
-stops_directive d _ m es e n = cc
-
 stops_item : (c : BlockPlace) (o : Option Properties) (s : Marks) (is : BlockItems) (k : Content) (m : Marks) (es : Directives) → Stops (checked (behind_item c o s is k m) (keeps_order no_directives es k)) (entry_due c o s is)
 stops_item c o s is BlockEntry m es n = absurd (n _ refl)
 stops_item c o s is BlockEnd m es n = absurd (n _ refl)
@@ -398,8 +393,7 @@ record Given (l : List Token) (c : Cut) (k : Content) : Type 0 where
 no_tag : (p : Place) (ps : Properties) (k : Content) (l : List Token) → Given l (filled p (alone ps)) k → NoTag p ps k
 no_tag p (anchor a m) (Tag h) l g = λ e. g.none (record {
   place = p;
-  order = sym (filled_order p (alone (anchor a m)) true) ∙ g.good;
-  here = inr (a, m, sym (filled_tokens p (alone (anchor a m)) []) ∙ g.same);
+  begins = (sym (filled_order p (alone (anchor a m)) true) ∙ g.good, inr (a, m, sym (filled_tokens p (alone (anchor a m)) []) ∙ g.same));
   unknown = e;
 })
 no_tag p (anchor a m) _ l g = tt
@@ -505,7 +499,7 @@ cut_stops l (start_due b ds x) k m t o r w d u n = stops_headed b ds x k m d n
 cut_stops l (at_directive (free f) no_directives) k m t o r w d u n = stops_first f k m d n
 cut_stops l (at_directive (behind x) no_directives) k m t o r w d u n = stops_behind x k m d n
 cut_stops l (at_directive b (directive ds x)) k m t o r w d u n = stops_next b ds x k m d n
-cut_stops l (content_due p) k m t o r w d u n = stops_content p k m (w, d, λ e. u (record { place = p; order = o; here = inl t; unknown = e })) n
+cut_stops l (content_due p) k m t o r w d u n = stops_content p k m (w, d, λ e. u (record { place = p; begins = (o, inl t); unknown = e })) n
 cut_stops l (at_tag p) k m t o r w d u n = stops_at_tag p k m u
 cut_stops l (at_tag_behind p a x) k m t o r w d u n = stops_at_tag_behind p a x k m u
 cut_stops l (entry_due c y s empty) k m t o r w d u n = stops_item c y s empty k m no_directives n

@@ -110,11 +110,14 @@ abbrev pub IsUnknown : Directives → Content → Type 0
 IsUnknown ds (Tag t) = is_known ds t.handle ≡ false
 IsUnknown ds _ = ⊥
 
--- Directly behind the list, or behind the ANCHOR that ends it, a node may begin, and the tag's handle is unknown there.
+-- A node may begin at the place directly behind the list, or behind the ANCHOR that ends the list and begins the node.
+abbrev pub NodeBegins : List Token → Place → Type 0
+NodeBegins l p = (place_in_order p true ≡ true) × ((place_tokens p [] ≡ l) ⊎ ((a : AnchorName) × (m : Marks) × (place_tokens p (tok (Anchor a) m ∷ []) ≡ l)))
+
+-- a node may begin so, and the tag's handle is unknown there
 pub record IsUnknownTag (l : List Token) (k : Content) : Type 0 where
   pub place : Place
-  pub order : place_in_order place true ≡ true
-  pub here : (place_tokens place [] ≡ l) ⊎ ((a : AnchorName) × (m : Marks) × (place_tokens place (tok (Anchor a) m ∷ []) ≡ l))
+  pub begins : NodeBegins l place
   pub unknown : IsUnknown (declared place) k
 
 -- the place is at a TAG exactly where that is so

@@ -6,17 +6,17 @@ pub mod rows;
 ghost use Rattle.std.specs.Prelude.{◌≡◌, ◌++◌, ◌↔◌, ℕ, List, [], ◌∷◌, true, false};
 ghost use Rattle.libyaml_events.specs.CutEvents.{cut_events};
 ghost use Rattle.libyaml_events.specs.CutFaults.{fault};
-ghost use Rattle.libyaml_events.specs.CutTrees.{Cut, cut_tokens, cut_in_order};
+ghost use Rattle.libyaml_events.specs.CutTrees.{Cut, Place, cut_tokens, cut_in_order};
 ghost use Rattle.libyaml_events.specs.Events.{Event, before_events, block_slot_events, document_start_event, documents_events, events, first_block, first_directive, free_events, prefix_of};
 ghost use Rattle.libyaml_events.specs.Fault.{Fault};
-ghost use Rattle.libyaml_events.specs.Fits.{Fits, HasCut};
+ghost use Rattle.libyaml_events.specs.Fits.{Fits, HasCut, NodeBegins};
 ghost use Rattle.libyaml_events.specs.Nesting.{IsNested};
 ghost use Rattle.libyaml_events.specs.Order.{in_order};
 ghost use Rattle.libyaml_events.specs.Rest.{rest};
 ghost use Rattle.libyaml_events.specs.Runs.{Ending, Ends, Fails, IsRun, is_behind_properties};
 ghost use Rattle.libyaml_events.specs.Sentences.{IsSentence, IsBeginning, IsBadToken, EitherNotBoth, has_end};
 ghost use Rattle.libyaml_events.specs.Settled.{IsFront, IsOpen, IsSettled, sure};
-ghost use Rattle.libyaml_events.specs.Tokens.{Mark, Marks, Token, StreamEnd, tok, zero_marks};
+ghost use Rattle.libyaml_events.specs.Tokens.{Mark, Marks, Token, StreamEnd, Tag, tok, zero_marks};
 ghost use Rattle.libyaml_events.specs.Trees.{Before, BlockNode, BlockSlot, Directives, Free, Stream, explicit, implicit, no_directives, tokens};
 
 pub mod productions;
@@ -93,4 +93,10 @@ pub fn own_directives()
     ensures explicit { (ds : Directives) (s : Marks) (x : BlockSlot) (m : Mark) → (e : List Event) × ((b : Before) (r : List Event) → documents_events (explicit b ds s x) m r ≡ before_events b (first_directive ds s.start) (document_start_event ds false (first_directive ds s.start) s.end ∷ (e ++ r))) }
     ensures implicit { (n : BlockNode) → (e : List Event) × ((f : Free) (m : Mark) (r : List Event) → documents_events (implicit f n) m r ≡ free_events f (document_start_event no_directives true (first_block n) (first_block n) ∷ (e ++ r))) }
     ensures by_prefixes { (ds es : Directives) → ((h : List ℕ) → prefix_of ds h ≡ prefix_of es h) → (x : BlockSlot) (m : Mark) (r : List Event) → block_slot_events ds x m r ≡ block_slot_events es x m r }
+{}
+
+/// A TAG that needs no handle goes on from a list exactly where a node may begin behind it, or behind the
+/// ANCHOR that ends it: there a TAG is bad for its handle alone.
+pub fn tag_places()
+    ensures { (l : List Token) (m : Marks) (s : List ℕ) → IsBeginning (l ++ tok (Tag (record { handle = []; suffix = s })) m ∷ []) ↔ ((p : Place) × NodeBegins l p) }
 {}
