@@ -1,0 +1,138 @@
+//! Runs from bytes to bytes: however the reader cuts its bytes, and where it or the writer fails.
+
+use crate::pieces::{PieceReader, PieceWriter};
+use std::alloc::Global;
+use std::test::Fail;
+use token_lines::{Outcome, run_events};
+
+/// Lines of tokens and the lines of their events: a run that ends, a fault with a context, escapes in
+/// either case, and directives.
+const RUNS: [(&str, &str, Outcome); 4] = [
+    (
+        "STREAM-START 0:0:0 1:0:1 utf8\nSCALAR 2:0:2 3:0:3 =a plain\nSTREAM-END 4:0:4 5:0:5\n",
+        "STREAM-START 0:0:0 0:0:0 utf8\nDOCUMENT-START 2:0:2 2:0:2 1 - 0\nSCALAR 2:0:2 3:0:3 - - =a 1 0 plain\nDOCUMENT-END 4:0:4 4:0:4 1\nSTREAM-END 4:0:4 5:0:5\n",
+        Outcome::Ended,
+    ),
+    (
+        "STREAM-START 0:0:0 1:0:1 utf8\nDOCUMENT-END 2:0:2 3:0:3\nSTREAM-END 4:0:4 5:0:5\n",
+        "STREAM-START 0:0:0 0:0:0 utf8\nDOCUMENT-START 2:0:2 2:0:2 1 - 0\nFAULT parser 2:0:2 did not find expected node content\nCONTEXT 2:0:2 while parsing a block node\n",
+        Outcome::Faulted,
+    ),
+    (
+        "STREAM-START 0:0:0 1:0:1 utf8\nSCALAR 2:0:2 3:0:3 =%c3%A9%20%25 double\nSTREAM-END 4:0:4 5:0:5",
+        "STREAM-START 0:0:0 0:0:0 utf8\nDOCUMENT-START 2:0:2 2:0:2 1 - 0\nSCALAR 2:0:2 3:0:3 - - =%C3%A9%20%25 0 1 double\nDOCUMENT-END 4:0:4 4:0:4 1\nSTREAM-END 4:0:4 5:0:5\n",
+        Outcome::Ended,
+    ),
+    (
+        "STREAM-START 0:0:0 1:0:1 utf8\nVERSION-DIRECTIVE 2:0:2 3:0:3 1.2\nTAG-DIRECTIVE 4:0:4 5:0:5 =!e! =p:\nDOCUMENT-START 6:0:6 7:0:7\nTAG 8:0:8 9:0:9 =!e! =x\nSCALAR 10:0:10 11:0:11 =a plain\nSTREAM-END 12:0:12 13:0:13\n",
+        "STREAM-START 0:0:0 0:0:0 utf8\nDOCUMENT-START 2:0:2 7:0:7 0 1.2 1 =!e! =p:\nSCALAR 8:0:8 11:0:11 - =p:x =a 0 0 plain\nDOCUMENT-END 12:0:12 12:0:12 1\nSTREAM-END 12:0:12 13:0:13\n",
+        Outcome::Ended,
+    ),
+];
+
+/// More calls than any of these runs makes.
+const ENOUGH: u64 = 100_000;
+
+fn reader(tokens: &str, piece: usize, calls_left: u64) -> PieceReader<'_> {
+    PieceReader {
+        bytes: tokens.as_bytes(),
+        piece,
+        calls_left,
+    }
+}
+
+fn writer(alloc: Global, piece: usize, calls_left: u64) -> PieceWriter {
+    PieceWriter {
+        written: Vec::new(alloc),
+        piece,
+        calls_left,
+    }
+}
+
+#[test]
+fn however_the_bytes_are_cut(rt: HostRuntime) -> Result<(), Fail> {
+    for (tokens, events, outcome) in RUNS {
+        for piece in [1usize, 2, 7, 4096] {
+            let mut output = writer(rt.alloc(), piece, ENOUGH);
+            let ended = run_events(rt.alloc(), reader(tokens, piece, ENOUGH), &mut output);
+            assert_eq!(rt; ended, outcome, "in pieces of {piece}");
+            assert_eq!(rt;
+                output.written.as_slice(),
+                events.as_bytes(),
+                "in pieces of {piece}"
+            );
+        }
+    }
+    Ok(())
+}
+
+#[test]
+fn bytes_behind_the_stream_end_stay(rt: HostRuntime) -> Result<(), Fail> {
+    let (tokens, events, _) = RUNS[0];
+    let mut input = String::from_str(rt.alloc(), tokens)?;
+    input.push_str("junk")?;
+    let mut bytes = input.as_bytes();
+    let mut written = Vec::new(rt.alloc());
+    let ended = run_events(rt.alloc(), &mut bytes, &mut written);
+    assert_eq!(rt; ended, Outcome::Ended);
+    assert_eq!(rt; written.as_slice(), events.as_bytes());
+    assert_eq!(rt; bytes, b"junk".as_slice());
+    Ok(())
+}
+
+/// The lines of `events` that stand whole in `written`, and whether nothing but `last` is behind them.
+fn is_front_and(written: &str, events: &str, last: &str) -> bool {
+    match written.strip_suffix(last) {
+        Some(front) => events.starts_with(front) && (front.is_empty() || front.ends_with('\n')),
+        None => false,
+    }
+}
+
+#[test]
+fn each_read_failing_in_turn(rt: HostRuntime) -> Result<(), Fail> {
+    for (tokens, events, outcome) in RUNS {
+        let mut came_through = false;
+        for calls in 0..ENOUGH {
+            let mut output = writer(rt.alloc(), 4096, ENOUGH);
+            let ended = run_events(rt.alloc(), reader(tokens, 7, calls), &mut output);
+            let written = str::from_utf8(output.written.as_slice())?;
+            if written == events {
+                assert_eq!(rt; ended, outcome);
+                came_through = true;
+                break;
+            }
+            assert_eq!(rt; ended, Outcome::Faulted, "the call {calls}");
+            let fault = written.lines().last().unwrap_or("");
+            assert!(rt; fault.starts_with("FAULT reader "), "the call {calls}");
+            assert!(rt; fault.ends_with(":0 read failed"), "the call {calls}");
+            let mut last = String::from_str(rt.alloc(), fault)?;
+            last.push_str("\n")?;
+            assert!(rt;
+                is_front_and(written, events, last.as_str()),
+                "the call {calls}"
+            );
+        }
+        assert!(rt; came_through);
+    }
+    Ok(())
+}
+
+#[test]
+fn each_write_and_flush_failing_in_turn(rt: HostRuntime) -> Result<(), Fail> {
+    for (tokens, events, outcome) in RUNS {
+        let mut came_through = false;
+        for calls in 0..ENOUGH {
+            let mut output = writer(rt.alloc(), 7, calls);
+            let ended = run_events(rt.alloc(), tokens.as_bytes(), &mut output);
+            if ended == outcome {
+                assert_eq!(rt; output.written.as_slice(), events.as_bytes());
+                came_through = true;
+                break;
+            }
+            assert_eq!(rt; ended, Outcome::OutputFailed, "the call {calls}");
+            assert!(rt; events.as_bytes().starts_with(output.written.as_slice()));
+        }
+        assert!(rt; came_through);
+    }
+    Ok(())
+}
