@@ -1,35 +1,32 @@
 -- Ids stay ids of nodes where nodes and children are put behind others.
 use Rattle.std.proofs.Common.{◌≡◌, ℕ, zero, suc, ◌+◌, ◌<◌, ◌≤◌, ℤ, pos, negsuc, add-one, List, [], ◌∷◌, ◌++◌, length, set, get_or, refl, ap, sym, subst, arith, length-append, ◌∙◌}
 use Rattle.std.proofs.lemmas.Int.{ints}
+use Rattle.std.proofs.lemmas.List.Elements.{All-nil, All-push, All-weaker, All-get_or, All-set}
+use Rattle.std.proofs.lemmas.List.{length-set}
+use Rattle.libyaml_types.specs.declared.enums.yaml_node_type_t.{yaml_node_type_t}
+use Rattle.libyaml_types.specs.declared.enums.yaml_node_type_t.TheVariants.{YAML_NO_NODE}
 use Rattle.unsafe_libyaml.specs.declared.node.yaml_node_t.{yaml_node_t}
 use Rattle.unsafe_libyaml.specs.declared.pairs.yaml_node_pair_t.{yaml_node_pair_t}
 use Rattle.unsafe_libyaml.specs.declared.node.unnamed_yaml_node_t_data.{unnamed_yaml_node_t_data}
 use Rattle.unsafe_libyaml.specs.declared.node.unnamed_yaml_node_t_data.TheVariants.{Scalar, Sequence, Mapping}
-use Rattle.unsafe_libyaml.specs.Nodes.{ids_of, ids_of_pairs, IsIdUpTo, AllIds, AllIdsOf, EveryIdNamesANode, node_type, type_of, type_at, KeepsTypes, changed_at, item_behind, pair_behind}
+use Rattle.unsafe_libyaml.specs.Nodes.{ids_of, ids_of_pairs, IsIdUpTo, EveryIdNamesANode, node_type, type_of, type_at, KeepsTypes, changed_at, item_behind, pair_behind}
 use Rattle.unsafe_libyaml.specs.Documents.{Document, AreNodes, most_nodes, with_changed_node}
-use Rattle.std.specs.Prelude.{Bool, true, false, cond, slice_get, Some}
+use Rattle.std.specs.Prelude.{Bool, true, false, cond, slice_get, Some, All}
 
-pub IsIdUpTo-more : (n m : ℕ) (id : ℤ) → n ≤ m → IsIdUpTo n id → IsIdUpTo m id
-IsIdUpTo-more n m id le h = (h.0, omega (arith, ints))
+-- the ids of a node name one of n nodes
+abbrev pub AllIds : ℕ → yaml_node_t → Type 0
+AllIds n node = All (IsIdUpTo n) (ids_of node.content)
 
-pub AllIds-more : (n m : ℕ) (ids : List ℤ) → n ≤ m → AllIds n ids → AllIds m ids
-AllIds-more n m [] le h = tt
-AllIds-more n m (id ∷ ids) le h = (IsIdUpTo-more n m id le h.0, AllIds-more n m ids le h.1)
-
-pub AllIdsOf-more : (n m : ℕ) (nodes : List yaml_node_t) → n ≤ m → AllIdsOf n nodes → AllIdsOf m nodes
-AllIdsOf-more n m [] le h = tt
-AllIdsOf-more n m (node ∷ nodes) le h = (AllIds-more n m (ids_of node.content) le h.0, AllIdsOf-more n m nodes le h.1)
-
-pub AllIdsOf-push : (n : ℕ) (nodes : List yaml_node_t) (node : yaml_node_t) → AllIdsOf n nodes → AllIds n (ids_of node.content) → AllIdsOf n (nodes ++ node ∷ [])
-AllIdsOf-push n [] node h k = (k, tt)
-AllIdsOf-push n (first ∷ nodes) node h k = (h.0, AllIdsOf-push n nodes node h.1 k)
+pub AllIds-more : (n m : ℕ) (node : yaml_node_t) → n ≤ m → AllIds n node → AllIds m node
+AllIds-more n m node le h = All-weaker (IsIdUpTo n) (IsIdUpTo m) (λ id k. (k.0, omega (arith, ints))) (ids_of node.content) h
 
 -- a node without children behind the others
 pub EveryIdNamesANode-push : (nodes : List yaml_node_t) (node : yaml_node_t) → ids_of node.content ≡ [] → EveryIdNamesANode nodes → EveryIdNamesANode (nodes ++ node ∷ [])
 EveryIdNamesANode-push nodes node none h =
-    AllIdsOf-push (length (nodes ++ node ∷ [])) nodes node
-    (AllIdsOf-more (length nodes) (length (nodes ++ node ∷ [])) nodes (grind (arith, length-append)) h)
-    (subst (AllIds (length (nodes ++ node ∷ []))) (sym none) tt)
+    let more : length nodes ≤ length (nodes ++ node ∷ []) = grind (arith, length-append) in
+    All-push (AllIds (length (nodes ++ node ∷ []))) nodes node
+    (All-weaker (AllIds (length nodes)) (AllIds (length (nodes ++ node ∷ []))) (λ old k. AllIds-more (length nodes) (length (nodes ++ node ∷ [])) old more k) nodes h)
+    (subst (All (IsIdUpTo (length (nodes ++ node ∷ [])))) (sym none) (All-nil (IsIdUpTo (length (nodes ++ node ∷ [])))))
 
 -- what holds of the nodes of a document, where its list grew or stayed
 pub AreNodes-push : (grown : Bool) (nodes new : List yaml_node_t) (node : yaml_node_t) → new ≡ cond grown (nodes ++ node ∷ []) nodes → length nodes < most_nodes → ids_of node.content ≡ [] → AreNodes nodes → AreNodes new
@@ -46,46 +43,32 @@ changed_at-set n f [] d = refl
 changed_at-set zero f (node ∷ nodes) d = refl
 changed_at-set (suc n) f (node ∷ nodes) d = ap (λ r. node ∷ r) (changed_at-set n f nodes d)
 
-pub length-changed_at : (n : ℕ) (f : yaml_node_t → yaml_node_t) (nodes : List yaml_node_t) → length (changed_at n f nodes) ≡ length nodes
-length-changed_at n f [] = refl
-length-changed_at zero f (node ∷ nodes) = refl
-length-changed_at (suc n) f (node ∷ nodes) = ap suc (length-changed_at n f nodes)
-
-pub AllIdsOf-changed_at : (m n : ℕ) (f : yaml_node_t → yaml_node_t) (nodes : List yaml_node_t) → ((node : yaml_node_t) → AllIds m (ids_of node.content) → AllIds m (ids_of (f node).content)) → AllIdsOf m nodes → AllIdsOf m (changed_at n f nodes)
-AllIdsOf-changed_at m n f [] keeps h = tt
-AllIdsOf-changed_at m zero f (node ∷ nodes) keeps h = (keeps node h.0, h.1)
-AllIdsOf-changed_at m (suc n) f (node ∷ nodes) keeps h = (h.0, AllIdsOf-changed_at m n f nodes keeps h.1)
-
--- one more id behind others
-pub AllIds-push : (n : ℕ) (ids : List ℤ) (id : ℤ) → AllIds n ids → IsIdUpTo n id → AllIds n (ids ++ id ∷ [])
-AllIds-push n [] id h k = (k, tt)
-AllIds-push n (first ∷ ids) id h k = (h.0, AllIds-push n ids id h.1 k)
-
-pub AllIds-push_pair : (n : ℕ) (pairs : List yaml_node_pair_t) (p : yaml_node_pair_t) → AllIds n (ids_of_pairs pairs) → IsIdUpTo n p.key → IsIdUpTo n p.value → AllIds n (ids_of_pairs (pairs ++ p ∷ []))
-AllIds-push_pair n [] p h k v = (k, (v, tt))
-AllIds-push_pair n (first ∷ pairs) p h k v = (h.0, (h.1.0, AllIds-push_pair n pairs p h.1.1 k v))
-
-pub with_item-keeps : (n : ℕ) (id : ℤ) (content : unnamed_yaml_node_t_data) → IsIdUpTo n id → AllIds n (ids_of content) → AllIds n (ids_of (item_behind id content))
+-- one more child keeps the ids in range
+pub with_item-keeps : (n : ℕ) (id : ℤ) (content : unnamed_yaml_node_t_data) → IsIdUpTo n id → All (IsIdUpTo n) (ids_of content) → All (IsIdUpTo n) (ids_of (item_behind id content))
 with_item-keeps n id (Scalar s) k h = h
-with_item-keeps n id (Sequence s) k h = AllIds-push n s.items id h k
+with_item-keeps n id (Sequence s) k h = All-push (IsIdUpTo n) s.items id h k
 with_item-keeps n id (Mapping m) k h = h
 
-pub with_pair-keeps : (n : ℕ) (p : yaml_node_pair_t) (content : unnamed_yaml_node_t_data) → IsIdUpTo n p.key → IsIdUpTo n p.value → AllIds n (ids_of content) → AllIds n (ids_of (pair_behind p content))
+pub ids_of_pairs-push : (pairs : List yaml_node_pair_t) (p : yaml_node_pair_t) → ids_of_pairs (pairs ++ p ∷ []) ≡ (ids_of_pairs pairs ++ p.key ∷ []) ++ p.value ∷ []
+ids_of_pairs-push [] p = refl
+ids_of_pairs-push (first ∷ pairs) p = ap (λ (ids : List ℤ). first.key ∷ first.value ∷ ids) (ids_of_pairs-push pairs p)
+
+pub with_pair-keeps : (n : ℕ) (p : yaml_node_pair_t) (content : unnamed_yaml_node_t_data) → IsIdUpTo n p.key → IsIdUpTo n p.value → All (IsIdUpTo n) (ids_of content) → All (IsIdUpTo n) (ids_of (pair_behind p content))
 with_pair-keeps n p (Scalar s) k v h = h
 with_pair-keeps n p (Sequence s) k v h = h
-with_pair-keeps n p (Mapping m) k v h = AllIds-push_pair n m.pairs p h k v
+with_pair-keeps n p (Mapping m) k v h =
+    subst (All (IsIdUpTo n)) (sym (ids_of_pairs-push m.pairs p))
+    (All-push (IsIdUpTo n) (ids_of_pairs m.pairs ++ p.key ∷ []) p.value (All-push (IsIdUpTo n) (ids_of_pairs m.pairs) p.key h k) v)
 
--- what holds of the nodes of a document, where one of them was changed
-pub AreNodes-changed : (n : ℕ) (f : yaml_node_t → yaml_node_t) (nodes : List yaml_node_t) → ((node : yaml_node_t) → AllIds (length nodes) (ids_of node.content) → AllIds (length nodes) (ids_of (f node).content)) → AreNodes nodes → AreNodes (changed_at n f nodes)
-AreNodes-changed n f nodes keeps h = record {
-  ids = subst (λ (m : ℕ). AllIdsOf m (changed_at n f nodes)) (sym (length-changed_at n f nodes)) (AllIdsOf-changed_at (length nodes) n f nodes keeps h.ids);
-  count = subst (λ (m : ℕ). m ≤ most_nodes) (sym (length-changed_at n f nodes)) h.count;
-}
-
--- the same, where the changed node was written at its place
-pub AreNodes-set : (n : ℕ) (f : yaml_node_t → yaml_node_t) (nodes : List yaml_node_t) (old new : yaml_node_t) → old ≡ get_or nodes n old → new ≡ f old → ((node : yaml_node_t) → AllIds (length nodes) (ids_of node.content) → AllIds (length nodes) (ids_of (f node).content)) → AreNodes nodes → AreNodes (set nodes n new)
-AreNodes-set n f nodes old new old_is new_is keeps h =
-    subst AreNodes (changed_at-set n f nodes old ∙ ap (λ (node : yaml_node_t). set nodes n node) (ap f (sym old_is) ∙ sym new_is)) (AreNodes-changed n f nodes keeps h)
+-- what holds of the nodes of a document, where the changed node was written at its place
+pub AreNodes-set : (n : ℕ) (f : yaml_node_t → yaml_node_t) (nodes : List yaml_node_t) (old new : yaml_node_t) → n < length nodes → old ≡ get_or nodes n old → new ≡ f old → ((node : yaml_node_t) → AllIds (length nodes) node → AllIds (length nodes) (f node)) → AreNodes nodes → AreNodes (set nodes n new)
+AreNodes-set n f nodes old new inside old_is new_is keeps h =
+    let old_ids : AllIds (length nodes) old = subst (AllIds (length nodes)) (sym old_is) (All-get_or (AllIds (length nodes)) nodes n old inside h.ids) in
+    let new_ids : AllIds (length nodes) new = subst (AllIds (length nodes)) (sym new_is) (keeps old old_ids) in
+    record {
+      ids = subst (λ (m : ℕ). All (AllIds m) (set nodes n new)) (sym (length-set nodes n new)) (All-set (AllIds (length nodes)) nodes n new new_ids h.ids);
+      count = subst (λ (m : ℕ). m ≤ most_nodes) (sym (length-set nodes n new)) h.count;
+    }
 
 -- a document in which a node was changed at its place
 pub with_changed_node-set : (d now : Document) (id : ℤ) (n : ℕ) (f : yaml_node_t → yaml_node_t) (old new : yaml_node_t) → d ≡ now → id ≡ pos (suc n) → old ≡ get_or d.nodes n old → new ≡ f old → record d { nodes = set d.nodes n new } ≡ with_changed_node now id f
@@ -138,3 +121,13 @@ pub pair_behind-type : (p : yaml_node_pair_t) (content : unnamed_yaml_node_t_dat
 pair_behind-type p (Scalar s) = refl
 pair_behind-type p (Sequence s) = refl
 pair_behind-type p (Mapping m) = refl
+
+-- the place of a node that has a type
+pub inside-type : (nodes : List yaml_node_t) (n : ℕ) (t : yaml_node_type_t) → (YAML_NO_NODE ≡ t → ⊥) → type_of (slice_get nodes n) ≡ t → n < length nodes
+inside-type [] n t some h = absurd (some h)
+inside-type (node ∷ nodes) zero t some h = omega arith
+inside-type (node ∷ nodes) (suc n) t some h = let e = inside-type nodes n t some h in omega (arith, e)
+
+pub inside-type_at : (d now : Document) (id : ℤ) (n : ℕ) (t : yaml_node_type_t) → d ≡ now → id ≡ pos (suc n) → (YAML_NO_NODE ≡ t → ⊥) → type_at now.nodes id ≡ t → n < length d.nodes
+inside-type_at d now id n t now_is id_is some h =
+    inside-type d.nodes n t some (subst (λ (e : Document). type_of (slice_get e.nodes n) ≡ t) (sym now_is) (subst (λ (i : ℤ). type_at now.nodes i ≡ t) id_is h))

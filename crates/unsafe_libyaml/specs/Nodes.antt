@@ -1,5 +1,5 @@
 -- Nodes, their ids, and the nodes that the calls make (docs/DEFINITIONS.md, "Documents by calls").
-use Rattle.std.specs.Prelude.{◌≡◌, ℕ, suc, zero, ℤ, pos, negsuc, ◌≤ℤ◌, List, [], ◌∷◌, ◌++◌, Option, Some, None, length, slice_get, codes}
+use Rattle.std.specs.Prelude.{◌≡◌, ℕ, suc, zero, ℤ, pos, negsuc, ◌≤ℤ◌, List, [], ◌∷◌, ◌++◌, Option, Some, None, length, slice_get, All, codes}
 use Rattle.libyaml_types.specs.declared.enums.yaml_node_type_t.{yaml_node_type_t}
 use Rattle.libyaml_types.specs.declared.enums.yaml_node_type_t.TheVariants.{YAML_NO_NODE, YAML_SCALAR_NODE, YAML_SEQUENCE_NODE, YAML_MAPPING_NODE}
 use Rattle.libyaml_types.specs.declared.enums.yaml_scalar_style_t.{yaml_scalar_style_t}
@@ -37,18 +37,9 @@ node_at nodes (pos (suc n)) = slice_get nodes n
 abbrev pub IsIdUpTo : ℕ → ℤ → Type 0
 IsIdUpTo n id = (pos 1 ≤ℤ id) × (id ≤ℤ pos n)
 
--- each id names one of n nodes
-abbrev pub AllIds : ℕ → List ℤ → Type 0
-AllIds n [] = Unit {0}
-AllIds n (id ∷ ids) = IsIdUpTo n id × AllIds n ids
-
-abbrev pub AllIdsOf : ℕ → List yaml_node_t → Type 0
-AllIdsOf n [] = Unit {0}
-AllIdsOf n (node ∷ nodes) = AllIds n (ids_of node.content) × AllIdsOf n nodes
-
 -- every id in items and pairs names one of the nodes
 abbrev pub EveryIdNamesANode : List yaml_node_t → Type 0
-EveryIdNamesANode nodes = AllIdsOf (length nodes) nodes
+EveryIdNamesANode nodes = All (λ node. All (IsIdUpTo (length nodes)) (ids_of node.content)) nodes
 
 -- the tag of a new node: the given one, or its kind's
 abbrev pub tag_or : List ℕ → Option (List ℕ) → List ℕ

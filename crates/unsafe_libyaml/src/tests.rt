@@ -14,29 +14,49 @@ fn empty(alloc: Global) -> Result<yaml_document_t, yaml_refusal_t>
     yaml_document_initialize(alloc, None, &[], true, true)
 }
 
+/// { greeting: [hello, hello] }, built by calls.
+fn small_document(alloc: Global) -> Result<yaml_document_t, yaml_refusal_t> {
+    let mut document = yaml_document_initialize(alloc, None, &[], true, true)?;
+    let root = yaml_document_add_mapping(&mut document, None, YAML_FLOW_MAPPING_STYLE)?;
+    let key = yaml_document_add_scalar(&mut document, None, b"greeting", YAML_PLAIN_SCALAR_STYLE)?;
+    let list = yaml_document_add_sequence(&mut document, None, YAML_FLOW_SEQUENCE_STYLE)?;
+    let word = yaml_document_add_scalar(&mut document, None, b"hello", YAML_PLAIN_SCALAR_STYLE)?;
+    yaml_document_append_mapping_pair(&mut document, root, key, list)?;
+    yaml_document_append_sequence_item(&mut document, list, word)?;
+    yaml_document_append_sequence_item(&mut document, list, word)?;
+    Ok(document)
+}
+
+/// The text of a scalar.
+fn text_of(document: &yaml_document_t, id: i32) -> Option<&str> {
+    match &yaml_document_get_node(document, id)?.content {
+        unnamed_yaml_node_t_data::Scalar(scalar) => Some(scalar.value.as_str()),
+        _ => None,
+    }
+}
+
+/// The ids in a sequence.
+fn items_of(document: &yaml_document_t, id: i32) -> Option<&[i32]> {
+    match &yaml_document_get_node(document, id)?.content {
+        unnamed_yaml_node_t_data::Sequence(sequence) => Some(sequence.items.as_slice()),
+        _ => None,
+    }
+}
+
 #[test]
 fn a_small_document_is_built_and_read_back(rt: HostRuntime) -> Result<(), Fail> {
-    let mut document = yaml_document_initialize(rt.alloc(), None, &[], true, true)?;
-    let root = yaml_document_add_mapping(&mut document, None, YAML_FLOW_MAPPING_STYLE)?;
-    let key = yaml_document_add_scalar(&mut document, None, b"list", YAML_PLAIN_SCALAR_STYLE)?;
-    let list = yaml_document_add_sequence(&mut document, None, YAML_FLOW_SEQUENCE_STYLE)?;
-    let one = yaml_document_add_scalar(&mut document, Some(b"!n"), b"1", YAML_PLAIN_SCALAR_STYLE)?;
-    yaml_document_append_mapping_pair(&mut document, root, key, list)?;
-    yaml_document_append_sequence_item(&mut document, list, one)?;
-    yaml_document_append_sequence_item(&mut document, list, one)?;
-
-    let node = yaml_document_get_node(&document, list).ok_or("no list")?;
-    let unnamed_yaml_node_t_data::Sequence(sequence) = &node.content else {
-        return Err("no sequence")?;
+    let document = small_document(rt.alloc())?;
+    let root = yaml_document_get_root_node(&document).ok_or("no root")?;
+    let unnamed_yaml_node_t_data::Mapping(mapping) = &root.content else {
+        return Err("no mapping")?;
     };
-    assert_eq!(rt; sequence.items.as_slice(), [4, 4].as_slice());
-    for item in sequence.items.as_slice() {
-        let node = yaml_document_get_node(&document, *item).ok_or("no item")?;
-        assert_eq!(rt; node.tag.as_str(), "!n");
-        let unnamed_yaml_node_t_data::Scalar(scalar) = &node.content else {
-            return Err("no scalar")?;
-        };
-        assert_eq!(rt; scalar.value.as_str(), "1");
+    assert_eq!(rt; mapping.pairs.len(), 1);
+    let yaml_node_pair_t { key, value } = mapping.pairs.as_slice()[0];
+    assert_eq!(rt; text_of(&document, key).ok_or("no key")?, "greeting");
+    let items = items_of(&document, value).ok_or("no value")?;
+    assert_eq!(rt; items.len(), 2);
+    for item in items {
+        assert_eq!(rt; text_of(&document, *item).ok_or("no item")?, "hello");
     }
     yaml_document_delete(document);
     Ok(())

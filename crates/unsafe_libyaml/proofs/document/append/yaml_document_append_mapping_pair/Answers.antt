@@ -1,9 +1,10 @@
-use Rattle.std.proofs.Common.{length, set, subst, sym, w32, ◌∙◌}
+use Rattle.std.proofs.Common.{◌≡◌, length, set, subst, sym, w32, ◌∙◌}
 use Rattle.std.proofs.lemmas.Int.{to_z-of_z}
 use mir.Val.{SFits}
+use Rattle.libyaml_types.specs.declared.enums.yaml_node_type_t.TheVariants.{YAML_NO_NODE, YAML_MAPPING_NODE}
 use Rattle.unsafe_libyaml.specs.Nodes.{IsIdUpTo, KeepsTypes, with_pair}
 use Rattle.unsafe_libyaml.specs.Documents.{Document}
-use Rattle.unsafe_libyaml.proofs.Ids.{AreNodes-set, KeepsTypes-set, pair_behind-type, with_pair-keeps, with_changed_node-set}
+use Rattle.unsafe_libyaml.proofs.Ids.{AreNodes-set, inside-type_at, KeepsTypes-set, pair_behind-type, with_pair-keeps, with_changed_node-set}
 use Rattle.unsafe_libyaml.proofs.document.append.yaml_document_append_mapping_pair.Goals as goal
 
 pub invariant_of-document-2 : goal.invariant_of-document-2
@@ -14,6 +15,7 @@ invariant_of-document-2 c =
     let key_below : IsIdUpTo (length c.document.inside.nodes.items) c.args.key = subst (λ (d : Document). IsIdUpTo (length d.nodes) c.args.key) (sym c.document.view_is) c.requires.key in
     let value_below : IsIdUpTo (length c.document.inside.nodes.items) c.args.value = subst (λ (d : Document). IsIdUpTo (length d.nodes) c.args.value) (sym c.document.view_is) c.requires.value in
     AreNodes-set c.place_of.result (with_pair c.args.key c.args.value) c.document.inside.nodes.items c.index_mut-node.result.now c.push_pair.new.self
+    (inside-type_at _ c.args.document.now c.args.mapping c.place_of.result YAML_MAPPING_NODE c.document.view_is (sym (to_z-of_z w32 c.args.mapping c.ranges.mapping) ∙ c.place_of.ensures) (λ (e : YAML_NO_NODE ≡ YAML_MAPPING_NODE). cc) c.requires.target)
     c.index_mut-node.ensures.value pushed
     (λ node h. with_pair-keeps _ (record { key = c.args.key; value = c.args.value }) node.content key_below value_below h)
     c.document.invariant

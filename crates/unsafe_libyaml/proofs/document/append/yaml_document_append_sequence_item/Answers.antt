@@ -1,9 +1,10 @@
-use Rattle.std.proofs.Common.{length, set, subst, sym, w32, ◌∙◌}
+use Rattle.std.proofs.Common.{◌≡◌, length, set, subst, sym, w32, ◌∙◌}
 use Rattle.std.proofs.lemmas.Int.{to_z-of_z}
 use mir.Val.{SFits}
+use Rattle.libyaml_types.specs.declared.enums.yaml_node_type_t.TheVariants.{YAML_NO_NODE, YAML_SEQUENCE_NODE}
 use Rattle.unsafe_libyaml.specs.Nodes.{IsIdUpTo, KeepsTypes, with_item}
 use Rattle.unsafe_libyaml.specs.Documents.{Document}
-use Rattle.unsafe_libyaml.proofs.Ids.{AreNodes-set, KeepsTypes-set, item_behind-type, with_item-keeps, with_changed_node-set}
+use Rattle.unsafe_libyaml.proofs.Ids.{AreNodes-set, inside-type_at, KeepsTypes-set, item_behind-type, with_item-keeps, with_changed_node-set}
 use Rattle.unsafe_libyaml.proofs.document.append.yaml_document_append_sequence_item.Goals as goal
 
 pub invariant_of-document-2 : goal.invariant_of-document-2
@@ -12,6 +13,7 @@ invariant_of-document-2 c =
     let pushed = simp to_z-of_z at c.in_ok-push_item.ensures.ok in
     let below : IsIdUpTo (length c.document.inside.nodes.items) c.args.item = subst (λ (d : Document). IsIdUpTo (length d.nodes) c.args.item) (sym c.document.view_is) c.requires.item in
     AreNodes-set c.place_of.result (with_item c.args.item) c.document.inside.nodes.items c.index_mut-node.result.now c.push_item.new.self
+    (inside-type_at _ c.args.document.now c.args.sequence c.place_of.result YAML_SEQUENCE_NODE c.document.view_is (sym (to_z-of_z w32 c.args.sequence c.ranges.sequence) ∙ c.place_of.ensures) (λ (e : YAML_NO_NODE ≡ YAML_SEQUENCE_NODE). cc) c.requires.target)
     c.index_mut-node.ensures.value pushed
     (λ node h. with_item-keeps _ c.args.item node.content below h)
     c.document.invariant
