@@ -1,6 +1,6 @@
 -- Each worked row is read token by token; all else is computed.
 use Rattle.std.proofs.Common.{refl}
-use Rattle.libyaml_events.specs.Rows.{RowAliasBehindAnchor, RowAliasCome, RowAmidProperties, RowAmidTag, RowAmidTagAndAnchor, RowAnchorBegun, RowAnchoredIndentless, RowAnchoredIndentlessBegun, RowAnchoredKeyBegun, RowAnchoredPairBegun, RowBehindStreamEnd, RowBlockCollectionBehindTagInFlow, RowBlockContentInFlow, RowBlockEntryCome, RowBlockSequence, RowCollectionBegun, RowCollectionFlags, RowCollectionsEnded, RowCollectionsInMapping, RowDefaultDeclaredTwice, RowDefaultHandles, RowDirectiveBegun, RowDirectiveWithoutDocument, RowDirectives, RowDocumentBegun, RowDocumentEndFirst, RowDocumentEnded, RowDocumentEnds, RowEmptyCollections, RowEmptyDocumentEnded, RowEmptyDocuments, RowEmptyFlowKeys, RowEmptyFlowValues, RowEmptyIndentlessEntries, RowEmptyKeys, RowEmptyPairKeys, RowEmptyPairValues, RowEmptySequenceEntries, RowEmptyStream, RowEmptyTag, RowEmptyValues, RowEntryThatBeginsWithValue, RowExplicitBehindDocumentEnd, RowExplicitDocuments, RowFlowKeyCome, RowFlowKeyWithoutValue, RowFlowMapping, RowFlowSequence, RowHandleDeclaredTwice, RowHandleOfDocumentBefore, RowHandlesWithZeroBytes, RowImplicitBehindDocumentEnd, RowImplicitBehindImplicit, RowImplicitDocument, RowIndentlessBegun, RowIndentlessSequence, RowKeyCome, RowKeysWithoutValues, RowNestedPairs, RowNoBlockEntry, RowNoBlockEntryBehindEntry, RowNoContentBehindDocumentEnd, RowNoContentBehindSeparator, RowNoContentBehindValue, RowNoContentInBlockMapping, RowNoContentInBlockSequence, RowNoContentInDocument, RowNoContentInFlowMapping, RowNoContentInFlowSequence, RowNoContentInIndentlessSequence, RowNoContentInPair, RowNoContentInPairValue, RowNoKey, RowNoKeyBehindIndentless, RowNoKeyBehindKey, RowNoSeparatorInFlowMapping, RowNoSeparatorInFlowSequence, RowNoStreamStart, RowNoToken, RowNoTokens, RowNodeAloneSeparated, RowNodesAloneInMapping, RowOtherTag, RowPair, RowPairBegun, RowPairSeparated, RowPairValueCome, RowPairWithEmptyKey, RowPairWithoutValue, RowPropertiesAlone, RowPropertiesBeforeContent, RowPropertiesBegun, RowRedeclaredHandles, RowScalarCome, RowScalarStyles, RowSecondStreamStart, RowSecondVersion, RowStreamBegun, RowTagThatIsAnExclamationMark, RowTagWhereNoneMayStand, RowTwoRoots, RowUnknownHandle, RowUnknownHandleAtStreamEnd, RowUnknownHandleBeforeAnchor, RowUnknownHandleFirst, RowValueBehindIndentless, RowValueBehindValue, RowValueComeFirst, RowVersionOfEarlierMinor, RowVersionOfLaterMajor, RowVersionOfLaterMinor, RowWrongEndOfFlowMapping, RowWrongEndOfFlowSequence}
+use Rattle.libyaml_events.specs.Rows.{RowAliasBehindAnchor, RowAliasCome, RowAmidProperties, RowAmidTag, RowAmidTagAndAnchor, RowAnchorBegun, RowAnchoredIndentless, RowAnchoredIndentlessBegun, RowAnchoredKeyBegun, RowAnchoredPairBegun, RowBehindStreamEnd, RowBlockCollectionBehindTagInFlow, RowBlockContentInFlow, RowBlockEntryCome, RowBlockSequence, RowCollectionBegun, RowCollectionFlags, RowCollectionsEnded, RowCollectionsInMapping, RowDefaultDeclaredTwice, RowDefaultHandles, RowDirectiveBegun, RowDirectiveWithoutDocument, RowDirectives, RowDocumentAndAnchorBegun, RowDocumentBegun, RowDocumentEndFirst, RowDocumentEnded, RowDocumentEnds, RowEmptyCollections, RowEmptyDocumentEnded, RowEmptyDocuments, RowEmptyFlowKeys, RowEmptyFlowValues, RowEmptyIndentlessEntries, RowEmptyKeys, RowEmptyPairKeys, RowEmptyPairValues, RowEmptySequenceEntries, RowEmptyStream, RowEmptyTag, RowEmptyValues, RowEntryCome, RowEntryThatBeginsWithValue, RowExplicitBehindDocumentEnd, RowExplicitDocuments, RowFlowKeyCome, RowFlowKeyWithoutValue, RowFlowMapping, RowFlowSequence, RowHandleDeclaredTwice, RowHandleOfDocumentBefore, RowHandlesWithZeroBytes, RowImplicitBehindDocumentEnd, RowImplicitBehindImplicit, RowImplicitDocument, RowIndentlessBegun, RowIndentlessSequence, RowKeyCome, RowKeysWithoutValues, RowNestedPairs, RowNoBlockEntry, RowNoBlockEntryBehindEntry, RowNoBlockEntryInAnchoredSequence, RowNoContentBehindDocumentEnd, RowNoContentBehindSeparator, RowNoContentBehindValue, RowNoContentInAnchoredSequence, RowNoContentInBlockMapping, RowNoContentInBlockSequence, RowNoContentInDocument, RowNoContentInFlowMapping, RowNoContentInFlowSequence, RowNoContentInIndentlessSequence, RowNoContentInPair, RowNoContentInPairValue, RowNoContentInTaggedMapping, RowNoKey, RowNoKeyBehindIndentless, RowNoKeyBehindKey, RowNoKeyInAnchoredMapping, RowNoSeparatorInAnchoredSequence, RowNoSeparatorInFlowMapping, RowNoSeparatorInFlowSequence, RowNoStreamStart, RowNoToken, RowNoTokens, RowNodeAloneSeparated, RowNodesAloneInMapping, RowOtherTag, RowPair, RowPairBegun, RowPairSeparated, RowPairValueCome, RowPairValueScalarCome, RowPairWithEmptyKey, RowPairWithoutValue, RowPropertiesAlone, RowPropertiesBeforeContent, RowPropertiesBegun, RowRedeclaredHandles, RowScalarCome, RowScalarStyles, RowSecondStreamStart, RowSecondVersion, RowStreamBegun, RowTagThatIsAnExclamationMark, RowTagWhereNoneMayStand, RowTwoRoots, RowUnknownHandle, RowUnknownHandleAtStreamEnd, RowUnknownHandleBeforeAnchor, RowUnknownHandleFirst, RowValueBehindIndentless, RowValueBehindIndentlessCome, RowValueBehindValue, RowValueComeFirst, RowVersionOfEarlierMinor, RowVersionOfLaterMajor, RowVersionOfLaterMinor, RowWrongEndOfFlowMapping, RowWrongEndOfFlowSequence}
 use Rattle.libyaml_events.proofs.RowKinds.{sentence_row, cut_row, amid_row, begin_row}
 
 pub empty_stream : RowEmptyStream
@@ -252,6 +252,21 @@ no_separator_in_flow_sequence = cut_row 6 _ _ _ _ _ _ _ refl refl refl refl refl
 pub no_separator_in_flow_mapping : RowNoSeparatorInFlowMapping
 no_separator_in_flow_mapping = cut_row 3 _ _ _ _ _ _ _ refl refl refl refl refl refl
 
+pub no_separator_in_anchored_sequence : RowNoSeparatorInAnchoredSequence
+no_separator_in_anchored_sequence = cut_row 4 _ _ _ _ _ _ _ refl refl refl refl refl refl
+
+pub no_content_in_tagged_mapping : RowNoContentInTaggedMapping
+no_content_in_tagged_mapping = cut_row 6 _ _ _ _ _ _ _ refl refl refl refl refl refl
+
+pub no_content_in_anchored_sequence : RowNoContentInAnchoredSequence
+no_content_in_anchored_sequence = cut_row 4 _ _ _ _ _ _ _ refl refl refl refl refl refl
+
+pub no_block_entry_in_anchored_sequence : RowNoBlockEntryInAnchoredSequence
+no_block_entry_in_anchored_sequence = cut_row 3 _ _ _ _ _ _ _ refl refl refl refl refl refl
+
+pub no_key_in_anchored_mapping : RowNoKeyInAnchoredMapping
+no_key_in_anchored_mapping = cut_row 3 _ _ _ _ _ _ _ refl refl refl refl refl refl
+
 pub wrong_end_of_flow_sequence : RowWrongEndOfFlowSequence
 wrong_end_of_flow_sequence = cut_row 4 _ _ _ _ _ _ _ refl refl refl refl refl refl
 
@@ -275,6 +290,18 @@ empty_document_ended = begin_row _ _ _ _ refl refl refl
 
 pub document_begun : RowDocumentBegun
 document_begun = begin_row _ _ _ _ refl refl refl
+
+pub document_and_anchor_begun : RowDocumentAndAnchorBegun
+document_and_anchor_begun = begin_row _ _ _ _ refl refl refl
+
+pub value_behind_indentless_come : RowValueBehindIndentlessCome
+value_behind_indentless_come = begin_row _ _ _ _ refl refl refl
+
+pub entry_come : RowEntryCome
+entry_come = begin_row _ _ _ _ refl refl refl
+
+pub pair_value_scalar_come : RowPairValueScalarCome
+pair_value_scalar_come = begin_row _ _ _ _ refl refl refl
 
 pub anchor_begun : RowAnchorBegun
 anchor_begun = begin_row _ _ _ _ refl refl refl

@@ -1,5 +1,7 @@
 -- Each list has one run for each fault of its source.
 use Rattle.std.proofs.Common.{◌≡◌, ◌⊎◌, inl, inr, List, [], ◌∷◌, ◌++◌, Bool, true, false, refl, sym, ap, ◌∙◌, subst}
+use Rattle.libyaml_types.specs.declared.enums.yaml_error_type_t.TheVariants.{YAML_PARSER_ERROR}
+use Rattle.libyaml_events.specs.Errors.{IsSourceError}
 use Rattle.libyaml_events.specs.CutEvents.{shown_cut}
 use Rattle.libyaml_events.specs.CutFaults.{fault}
 use Rattle.libyaml_events.specs.CutTrees.{Cut, at_tag, at_tag_behind, cut_tokens, declared}
@@ -9,7 +11,7 @@ use Rattle.libyaml_events.specs.Fits.{Fits, FitsTag, IsUnknown}
 use Rattle.libyaml_events.specs.Order.{in_order}
 use Rattle.libyaml_events.specs.Positions.{Position, done, unopened}
 use Rattle.libyaml_events.specs.Reading.{Step, bad, checked, feed, goes, is_legal, over, reads, reads_all, then_all}
-use Rattle.libyaml_events.specs.Runs.{Ending, Ends, Fails, IsRun, amid_properties, has_token, is_behind, is_behind_properties, of_beginning, of_cut_tree, of_sentence}
+use Rattle.libyaml_events.specs.Runs.{HasFault, Ending, Ends, Fails, IsRun, amid_properties, has_token, is_behind, is_behind_properties, of_beginning, of_cut_tree, of_sentence}
 use Rattle.libyaml_events.specs.Sentences.{IsBeginning, IsSentence, has_end, is_end}
 use Rattle.libyaml_events.specs.Settled.{IsSettled, sure}
 use Rattle.libyaml_events.specs.StreamEnds.{up_to_end}
@@ -260,3 +262,22 @@ pub begin_run : (l : List Token) (e : List Event) (f : Fault) → IsBeginning l 
 begin_run l e f b h s =
     let g : up_to_end l ≡ l = all_of_it l h in
     of_beginning (subst IsBeginning (sym g) b) (ap has_end g ∙ h) (subst (λ (x : List Token). IsSettled x e) (sym g) s) refl
+
+-- what an ending says
+pub ended_run : (l : List Token) (f : Fault) (e : List Event) → IsRun l f e Ends → (t : Stream) × (in_order t ≡ true) × (up_to_end l ≡ tokens t) × (e ≡ events t)
+ended_run l f e (of_sentence t a o g h) = (t, o, a, g)
+ended_run l f e (of_cut_tree before token behind c a i o g h) = absurd cc
+ended_run l f e (amid_properties before token behind c a i o g h) = absurd cc
+ended_run l f e (of_beginning b n s h) = absurd cc
+
+same_fault : (f g : Fault) → Fails f ≡ Fails g → f ≡ g
+same_fault f g e = cc
+
+no_source : (f g : Fault) → IsSourceError f.error → g.error ≡ YAML_PARSER_ERROR → g ≡ f → ⊥
+no_source f g s e h = let x : IsSourceError YAML_PARSER_ERROR = subst IsSourceError (sym (ap (λ (x : Fault). x.error) h) ∙ e) s in cc
+
+pub parser_fault_run : (l : List Token) (f : Fault) (e : List Event) (g : Fault) → IsSourceError f.error → g.error ≡ YAML_PARSER_ERROR → IsRun l f e (Fails g) → HasFault (up_to_end l) e g
+parser_fault_run l f e g s p (of_sentence t a o d h) = absurd cc
+parser_fault_run l f e g s p (of_cut_tree before token behind c a i o d h) = record { before = before; token = token; behind = behind; cut = c; all = a; fits = i; given = d; fails = same_fault g (fault c token.content token.start_mark) h }
+parser_fault_run l f e g s p (amid_properties before token behind c a i o d h) = absurd (no_source f g s p (same_fault g f h))
+parser_fault_run l f e g s p (of_beginning b n d h) = absurd (no_source f g s p (same_fault g f h))

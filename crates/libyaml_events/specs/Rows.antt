@@ -590,6 +590,32 @@ RowNoSeparatorInFlowMapping = IsRun (list (
     STREAM ∷ FlowMappingStart ∷ SCALAR (codes "a") ∷ SCALAR (codes "b") ∷ FlowMappingEnd ∷ StreamEnd ∷ [])) no_more (
     at 0 0 stream ∷ at 2 2 document ∷ at 2 3 flow_mapping ∷ at 4 5 (text (codes "a")) ∷ at 6 6 nothing ∷ []) (Fails (says_while (codes "while parsing a flow mapping") 2 (codes "did not find expected ',' or '}'") 6))
 
+abbrev pub RowNoSeparatorInAnchoredSequence : Type 0
+RowNoSeparatorInAnchoredSequence = IsRun (list (
+    STREAM ∷ ANCHOR (codes "a") ∷ FlowSequenceStart ∷ SCALAR (codes "x") ∷ SCALAR (codes "y") ∷ [])) no_more (
+    at 0 0 stream ∷ at 2 2 document ∷ at 2 5 (flow_sequence_of (Some (codes "a")) None true) ∷
+    at 6 7 (text (codes "x")) ∷ []) (Fails (says_while (codes "while parsing a flow sequence") 4 (codes "did not find expected ',' or ']'") 8))
+
+abbrev pub RowNoContentInTaggedMapping : Type 0
+RowNoContentInTaggedMapping = IsRun (list (
+    STREAM ∷ TAG [] (codes "t") ∷ BlockMappingStart ∷ Key ∷ SCALAR (codes "a") ∷ Value ∷ FlowEntry ∷ [])) no_more (
+    at 0 0 stream ∷ at 2 2 document ∷ at 2 5 (mapping_of None (Some (codes "t")) false) ∷ at 8 9 (text (codes "a")) ∷ []) (Fails (says_while (codes "while parsing a block node") 12 (codes "did not find expected node content") 12))
+
+abbrev pub RowNoContentInAnchoredSequence : Type 0
+RowNoContentInAnchoredSequence = IsRun (list (
+    STREAM ∷ ANCHOR (codes "a") ∷ BlockSequenceStart ∷ BlockEntry ∷ FlowEntry ∷ [])) no_more (
+    at 0 0 stream ∷ at 2 2 document ∷ at 2 5 (sequence_of (Some (codes "a")) None true) ∷ []) (Fails (says_while (codes "while parsing a block node") 8 (codes "did not find expected node content") 8))
+
+abbrev pub RowNoBlockEntryInAnchoredSequence : Type 0
+RowNoBlockEntryInAnchoredSequence = IsRun (list (
+    STREAM ∷ ANCHOR (codes "a") ∷ BlockSequenceStart ∷ SCALAR (codes "x") ∷ [])) no_more (
+    at 0 0 stream ∷ at 2 2 document ∷ at 2 5 (sequence_of (Some (codes "a")) None true) ∷ []) (Fails (says_while (codes "while parsing a block collection") 4 (codes "did not find expected '-' indicator") 6))
+
+abbrev pub RowNoKeyInAnchoredMapping : Type 0
+RowNoKeyInAnchoredMapping = IsRun (list (
+    STREAM ∷ ANCHOR (codes "a") ∷ BlockMappingStart ∷ SCALAR (codes "x") ∷ [])) no_more (
+    at 0 0 stream ∷ at 2 2 document ∷ at 2 5 (mapping_of (Some (codes "a")) None true) ∷ []) (Fails (says_while (codes "while parsing a block mapping") 4 (codes "did not find expected key") 6))
+
 abbrev pub RowWrongEndOfFlowSequence : Type 0
 RowWrongEndOfFlowSequence = IsRun (list (
     STREAM ∷ FlowSequenceStart ∷ Key ∷ SCALAR (codes "a") ∷ FlowMappingEnd ∷ [])) no_more (
@@ -631,6 +657,29 @@ abbrev pub RowDocumentBegun : Type 0
 RowDocumentBegun = IsRun (list (
     STREAM ∷ VERSION 1 1 ∷ DocumentStart ∷ [])) no_more (
     at 0 0 stream ∷ at 2 5 (headed_document (asks_version 1 1) []) ∷ []) (Fails no_more)
+
+abbrev pub RowDocumentAndAnchorBegun : Type 0
+RowDocumentAndAnchorBegun = IsRun (list (
+    STREAM ∷ SCALAR (codes "a") ∷ DocumentStart ∷ TAG [] (codes "t") ∷ ANCHOR (codes "b") ∷ [])) no_more (
+    at 0 0 stream ∷ at 2 2 document ∷ at 2 3 (text (codes "a")) ∷ at 4 4 no_document_end ∷
+    at 4 5 (headed_document None []) ∷ []) (Fails no_more)
+
+abbrev pub RowValueBehindIndentlessCome : Type 0
+RowValueBehindIndentlessCome = IsRun (list (
+    STREAM ∷ ANCHOR (codes "a") ∷ BlockMappingStart ∷ Key ∷ BlockEntry ∷ Value ∷ SCALAR (codes "a") ∷ [])) no_more (
+    at 0 0 stream ∷ at 2 2 document ∷ at 2 5 (mapping_of (Some (codes "a")) None true) ∷ at 8 9 sequence ∷
+    at 9 9 nothing ∷ at 10 10 ev.SequenceEnd ∷ at 12 13 (text (codes "a")) ∷ []) (Fails no_more)
+
+abbrev pub RowEntryCome : Type 0
+RowEntryCome = IsRun (list (
+    STREAM ∷ ANCHOR (codes "a") ∷ BlockSequenceStart ∷ BlockEntry ∷ SCALAR (codes "b") ∷ [])) no_more (
+    at 0 0 stream ∷ at 2 2 document ∷ at 2 5 (sequence_of (Some (codes "a")) None true) ∷ at 8 9 (text (codes "b")) ∷ []) (Fails no_more)
+
+abbrev pub RowPairValueScalarCome : Type 0
+RowPairValueScalarCome = IsRun (list (
+    STREAM ∷ FlowSequenceStart ∷ Key ∷ Value ∷ SCALAR (codes "a") ∷ [])) no_more (
+    at 0 0 stream ∷ at 2 2 document ∷ at 2 3 flow_sequence ∷ at 4 5 flow_mapping ∷ at 6 6 nothing ∷
+    at 8 9 (text (codes "a")) ∷ []) (Fails no_more)
 
 abbrev pub RowAnchorBegun : Type 0
 RowAnchorBegun = IsRun (list (

@@ -41,3 +41,14 @@ pub data IsRun (l : List Token) (f : Fault) (e : List Event) (x : Ending) : Type
   of_cut_tree : (before : List Token) (token : Token) (behind : List Token) (c : Cut) → up_to_end l ≡ before ++ token ∷ behind → Fits before token c → is_behind_properties c behind ≡ true → e ≡ cut_events c token → x ≡ Fails (fault c token.content token.start_mark) → IsRun l f e x
   amid_properties : (before : List Token) (token : Token) (behind : List Token) (c : Cut) → up_to_end l ≡ before ++ token ∷ behind → Fits before token c → is_behind_properties c behind ≡ false → e ≡ cut_events c token → x ≡ Fails f → IsRun l f e x
   of_beginning : IsBeginning (up_to_end l) → has_end (up_to_end l) ≡ false → IsSettled (up_to_end l) e → x ≡ Fails f → IsRun l f e x
+
+-- a cut tree fits, with these events and this fault
+pub record HasFault (l : List Token) (e : List Event) (g : Fault) : Type 0 where
+  pub before : List Token
+  pub token : Token
+  pub behind : List Token
+  pub cut : Cut
+  pub all : l ≡ before ++ token ∷ behind
+  pub fits : Fits before token cut
+  pub given : e ≡ cut_events cut token
+  pub fails : g ≡ fault cut token.content token.start_mark

@@ -4,18 +4,21 @@
 pub mod rows;
 
 ghost use Rattle.std.specs.Prelude.{◌≡◌, ◌++◌, ◌↔◌, ℕ, List, [], ◌∷◌, true, false};
+ghost use Rattle.libyaml_types.specs.declared.enums.yaml_error_type_t.TheVariants.{YAML_PARSER_ERROR};
 ghost use Rattle.libyaml_events.specs.CutEvents.{cut_events};
 ghost use Rattle.libyaml_events.specs.CutFaults.{fault};
 ghost use Rattle.libyaml_events.specs.CutTrees.{Cut, Place, cut_tokens, cut_in_order};
+ghost use Rattle.libyaml_events.specs.Errors.{IsSourceError};
 ghost use Rattle.libyaml_events.specs.Events.{Event, before_events, block_slot_events, document_start_event, documents_events, events, first_block, first_directive, free_events, prefix_of};
 ghost use Rattle.libyaml_events.specs.Fault.{Fault};
 ghost use Rattle.libyaml_events.specs.Fits.{Fits, HasCut, NodeBegins};
 ghost use Rattle.libyaml_events.specs.Nesting.{IsNested};
 ghost use Rattle.libyaml_events.specs.Order.{in_order};
 ghost use Rattle.libyaml_events.specs.Rest.{rest};
-ghost use Rattle.libyaml_events.specs.Runs.{Ending, Ends, Fails, IsRun, is_behind_properties};
+ghost use Rattle.libyaml_events.specs.Runs.{Ending, Ends, Fails, HasFault, IsRun, is_behind_properties};
 ghost use Rattle.libyaml_events.specs.Sentences.{IsSentence, IsBeginning, IsBadToken, EitherNotBoth, has_end};
 ghost use Rattle.libyaml_events.specs.Settled.{IsFront, IsOpen, IsSettled, sure};
+ghost use Rattle.libyaml_events.specs.StreamEnds.{up_to_end};
 ghost use Rattle.libyaml_events.specs.Tokens.{Mark, Marks, Token, StreamEnd, Tag, tok, zero_marks};
 ghost use Rattle.libyaml_events.specs.Trees.{Before, BlockNode, BlockSlot, Directives, Free, Stream, explicit, implicit, no_directives, tokens};
 
@@ -79,6 +82,13 @@ pub fn run_of_tree()
     ensures cut_tree { (l : List Token) (b : Token) (r : List Token) (c : Cut) (f : Fault) → Fits l b c → is_behind_properties c r ≡ true → IsRun (l ++ b ∷ r) f (cut_events c b) (Fails (fault c b.content b.start_mark)) }
     ensures amid_properties { (l : List Token) (b : Token) (r : List Token) (c : Cut) (f : Fault) → Fits l b c → is_behind_properties c r ≡ false → IsRun (l ++ b ∷ r) f (cut_events c b) (Fails f) }
     ensures beginning { (l : List Token) (e : List Event) (f : Fault) → IsBeginning l → has_end l ≡ false → IsSettled l e → IsRun l f e (Fails f) }
+{}
+
+/// A run ends only over a sentence, with its tree's events. Where the fault behind the list is a source's, a
+/// run fails with a parser's error only where a cut tree fits, with its events and its fault.
+pub fn run_ends()
+    ensures ended { (l : List Token) (f : Fault) (e : List Event) → IsRun l f e Ends → (t : Stream) × (in_order t ≡ true) × (up_to_end l ≡ tokens t) × (e ≡ events t) }
+    ensures parser_fault { (l : List Token) (f : Fault) (e : List Event) (g : Fault) → IsSourceError f.error → g.error ≡ YAML_PARSER_ERROR → IsRun l f e (Fails g) → HasFault (up_to_end l) e g }
 {}
 
 /// The events of a tree nest: the starts and ends of documents and collections match, and each mapping has an

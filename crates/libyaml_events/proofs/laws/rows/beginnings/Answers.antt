@@ -1,4 +1,4 @@
-use Rattle.libyaml_events.proofs.Rows.{alias_come, amid_properties, amid_tag, amid_tag_and_anchor, anchor_begun, anchored_indentless_begun, anchored_key_begun, anchored_pair_begun, block_entry_come, collection_begun, collections_ended, directive_begun, document_begun, document_ended, empty_document_ended, flow_key_come, indentless_begun, key_come, no_tokens, node_alone_separated, pair_begun, pair_separated, pair_value_come, properties_begun, scalar_come, stream_begun, value_behind_indentless, value_come_first}
+use Rattle.libyaml_events.proofs.Rows.{alias_come, amid_properties, amid_tag, amid_tag_and_anchor, anchor_begun, anchored_indentless_begun, anchored_key_begun, anchored_pair_begun, block_entry_come, collection_begun, collections_ended, directive_begun, document_and_anchor_begun, document_begun, document_ended, empty_document_ended, entry_come, flow_key_come, indentless_begun, key_come, no_tokens, node_alone_separated, pair_begun, pair_separated, pair_value_come, pair_value_scalar_come, properties_begun, scalar_come, stream_begun, value_behind_indentless, value_behind_indentless_come, value_come_first}
 use Rattle.libyaml_events.proofs.laws.rows.beginnings.Goals as goal
 
 pub returns-clause-no_tokens : goal.returns-clause-no_tokens
@@ -18,6 +18,18 @@ returns-clause-empty_document_ended c = empty_document_ended
 
 pub returns-clause-document_begun : goal.returns-clause-document_begun
 returns-clause-document_begun c = document_begun
+
+pub returns-clause-document_and_anchor_begun : goal.returns-clause-document_and_anchor_begun
+returns-clause-document_and_anchor_begun c = document_and_anchor_begun
+
+pub returns-clause-value_behind_indentless_come : goal.returns-clause-value_behind_indentless_come
+returns-clause-value_behind_indentless_come c = value_behind_indentless_come
+
+pub returns-clause-entry_come : goal.returns-clause-entry_come
+returns-clause-entry_come c = entry_come
+
+pub returns-clause-pair_value_scalar_come : goal.returns-clause-pair_value_scalar_come
+returns-clause-pair_value_scalar_come c = pair_value_scalar_come
 
 pub returns-clause-anchor_begun : goal.returns-clause-anchor_begun
 returns-clause-anchor_begun c = anchor_begun

@@ -1,4 +1,4 @@
-use Rattle.libyaml_events.proofs.Rows.{alias_behind_anchor, block_collection_behind_tag_in_flow, block_content_in_flow, default_declared_twice, directive_without_document, document_end_first, handle_declared_twice, handle_of_document_before, no_block_entry, no_block_entry_behind_entry, no_content_behind_document_end, no_content_behind_separator, no_content_behind_value, no_content_in_block_mapping, no_content_in_block_sequence, no_content_in_document, no_content_in_flow_mapping, no_content_in_flow_sequence, no_content_in_indentless_sequence, no_content_in_pair, no_content_in_pair_value, no_key, no_key_behind_indentless, no_key_behind_key, no_separator_in_flow_mapping, no_separator_in_flow_sequence, no_stream_start, no_token, second_stream_start, second_version, tag_where_none_may_stand, two_roots, unknown_handle, unknown_handle_at_stream_end, unknown_handle_before_anchor, unknown_handle_first, version_of_earlier_minor, version_of_later_major, version_of_later_minor, wrong_end_of_flow_mapping, wrong_end_of_flow_sequence}
+use Rattle.libyaml_events.proofs.Rows.{alias_behind_anchor, block_collection_behind_tag_in_flow, block_content_in_flow, default_declared_twice, directive_without_document, document_end_first, handle_declared_twice, handle_of_document_before, no_block_entry, no_block_entry_behind_entry, no_block_entry_in_anchored_sequence, no_content_behind_document_end, no_content_behind_separator, no_content_behind_value, no_content_in_anchored_sequence, no_content_in_block_mapping, no_content_in_block_sequence, no_content_in_document, no_content_in_flow_mapping, no_content_in_flow_sequence, no_content_in_indentless_sequence, no_content_in_pair, no_content_in_pair_value, no_content_in_tagged_mapping, no_key, no_key_behind_indentless, no_key_behind_key, no_key_in_anchored_mapping, no_separator_in_anchored_sequence, no_separator_in_flow_mapping, no_separator_in_flow_sequence, no_stream_start, no_token, second_stream_start, second_version, tag_where_none_may_stand, two_roots, unknown_handle, unknown_handle_at_stream_end, unknown_handle_before_anchor, unknown_handle_first, version_of_earlier_minor, version_of_later_major, version_of_later_minor, wrong_end_of_flow_mapping, wrong_end_of_flow_sequence}
 use Rattle.libyaml_events.proofs.laws.rows.faults.Goals as goal
 
 pub returns-clause-no_stream_start : goal.returns-clause-no_stream_start
@@ -117,6 +117,21 @@ returns-clause-no_separator_in_flow_sequence c = no_separator_in_flow_sequence
 
 pub returns-clause-no_separator_in_flow_mapping : goal.returns-clause-no_separator_in_flow_mapping
 returns-clause-no_separator_in_flow_mapping c = no_separator_in_flow_mapping
+
+pub returns-clause-no_separator_in_anchored_sequence : goal.returns-clause-no_separator_in_anchored_sequence
+returns-clause-no_separator_in_anchored_sequence c = no_separator_in_anchored_sequence
+
+pub returns-clause-no_content_in_tagged_mapping : goal.returns-clause-no_content_in_tagged_mapping
+returns-clause-no_content_in_tagged_mapping c = no_content_in_tagged_mapping
+
+pub returns-clause-no_content_in_anchored_sequence : goal.returns-clause-no_content_in_anchored_sequence
+returns-clause-no_content_in_anchored_sequence c = no_content_in_anchored_sequence
+
+pub returns-clause-no_block_entry_in_anchored_sequence : goal.returns-clause-no_block_entry_in_anchored_sequence
+returns-clause-no_block_entry_in_anchored_sequence c = no_block_entry_in_anchored_sequence
+
+pub returns-clause-no_key_in_anchored_mapping : goal.returns-clause-no_key_in_anchored_mapping
+returns-clause-no_key_in_anchored_mapping c = no_key_in_anchored_mapping
 
 pub returns-clause-wrong_end_of_flow_sequence : goal.returns-clause-wrong_end_of_flow_sequence
 returns-clause-wrong_end_of_flow_sequence c = wrong_end_of_flow_sequence
