@@ -31,4 +31,5 @@ pub mod RunToCome
 pub mod Nesting
 pub mod RowNotation
 pub mod Rows
+pub mod CutRows
 pub mod EmptyRows

@@ -65,7 +65,7 @@ pub fn settled()
 
 /// Behind a beginning without STREAM-END the next event hangs on tokens still to come: two sentences begin
 /// with it whose events begin with those that it settles and differ in the next.
-pub fn prompt()
+pub fn next_is_open()
     ensures { (l : List Token) (e : List Event) → IsBeginning l → has_end l ≡ false → IsSettled l e → IsOpen l e }
 {}
 
