@@ -21,7 +21,6 @@ use Rattle.libyaml_events.specs.CutFaults.{fault}
 use Rattle.libyaml_events.specs.Positions.{Position, done, due, headed, unopened}
 use Rattle.libyaml_events.specs.Reading.{Step, bad, broken, checked, goes, is_legal, over, pending, reads, reads_all}
 use Rattle.libyaml_events.specs.Given.{given, gives}
-
 use Rattle.libyaml_events.specs.Runs.{is_behind_properties}
 use Rattle.libyaml_events.specs.Config.{Config, taken}
 use Rattle.libyaml_events.proofs.Fitting.{NotTag, NotTagCut, not_tag, open_or_done, over_done}

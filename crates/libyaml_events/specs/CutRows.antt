@@ -249,7 +249,6 @@ RowWrongEndOfFlowMapping = IsRun (list (
     STREAM ∷ FlowMappingStart ∷ Key ∷ SCALAR (codes "a") ∷ Value ∷ SCALAR (codes "b") ∷ FlowSequenceEnd ∷ [])) no_more (
     at 0 0 stream ∷ at 2 2 document ∷ at 2 3 flow_mapping ∷ at 6 7 (text (codes "a")) ∷ at 10 11 (text (codes "b")) ∷ []) (Fails (says_while (codes "while parsing a flow mapping") 2 (codes "did not find expected ',' or '}'") 12))
 
-
 -- What a beginning settles where the source fails behind it.
 abbrev pub RowNoTokens : Type 0
 RowNoTokens = IsRun (list (

@@ -73,7 +73,6 @@ RowBehindStreamEnd = IsRun (list (
     STREAM ∷ SCALAR (codes "a") ∷ StreamEnd ∷ BlockEnd ∷ STREAM ∷ StreamEnd ∷ [])) no_more (
     at 0 0 stream ∷ at 2 2 document ∷ at 2 3 (text (codes "a")) ∷ at 4 4 no_document_end ∷ at 4 5 ev.StreamEnd ∷ []) Ends
 
-
 -- Block sequences and mappings, and sequences without tokens of their own.
 abbrev pub RowBlockSequence : Type 0
 RowBlockSequence = IsRun (list (
@@ -167,7 +166,6 @@ RowCollectionsInMapping = IsRun (list (
     at 10 11 ev.MappingEnd ∷ at 14 15 sequence ∷ at 18 19 (alias (codes "a")) ∷ at 20 21 ev.SequenceEnd ∷
     at 24 25 flow_sequence ∷ at 26 27 ev.SequenceEnd ∷ at 30 31 flow_mapping ∷ at 32 33 ev.MappingEnd ∷
     at 34 35 ev.MappingEnd ∷ at 36 36 no_document_end ∷ at 36 37 ev.StreamEnd ∷ []) Ends
-
 
 -- Flow sequences and mappings, and pairs.
 abbrev pub RowFlowSequence : Type 0
@@ -266,7 +264,6 @@ RowFlowKeyWithoutValue = IsRun (list (
     at 0 0 stream ∷ at 2 2 document ∷ at 2 3 flow_mapping ∷ at 6 7 (text (codes "a")) ∷ at 8 8 nothing ∷
     at 12 13 (text (codes "b")) ∷ at 14 14 nothing ∷ at 14 15 ev.MappingEnd ∷ at 16 16 no_document_end ∷
     at 16 17 ev.StreamEnd ∷ []) Ends
-
 
 -- Anchors and tags, and the flags that hang on them.
 abbrev pub RowScalarStyles : Type 0

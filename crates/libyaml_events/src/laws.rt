@@ -1,6 +1,7 @@
 //! The laws of the grammar, over its definitions alone. Each function does nothing when it runs: its
 //! contract is the law.
 
+pub mod productions;
 pub mod rows;
 
 ghost use Rattle.std.specs.Prelude.{◌≡◌, ◌++◌, ◌↔◌, ℕ, List, [], ◌∷◌, true, false};
@@ -21,8 +22,6 @@ ghost use Rattle.libyaml_events.specs.Settled.{IsFront, IsOpen, IsSettled, sure}
 ghost use Rattle.libyaml_events.specs.StreamEnds.{up_to_end};
 ghost use Rattle.libyaml_events.specs.Tokens.{Mark, Marks, Token, StreamEnd, Tag, tok, zero_marks};
 ghost use Rattle.libyaml_events.specs.Trees.{Before, BlockNode, BlockSlot, Directives, Free, Stream, explicit, implicit, no_directives, tokens};
-
-pub mod productions;
 
 /// Two stream trees with equal tokens are equal.
 pub fn one_tree()
