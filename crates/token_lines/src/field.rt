@@ -1,37 +1,19 @@
 //! The fields of a token line.
 ghost use Rattle.std.specs.Prelude.{◌≡◌};
-ghost use Rattle.token_lines.specs.Field.{mark_of, version_of, utf8_text, text_of, encoding_of, scalar_style_of};
+ghost use Rattle.token_lines.specs.Field.{version_of, utf8_text, text_of, encoding_of, scalar_style_of};
 ghost use Rattle.percent_encoding.specs.Percent as percent;
 ghost use Rattle.token_lines.specs.Reading.{IsReadAs};
 
-use crate::number::{read_number, read_signed};
+use crate::number::read_signed;
 use crate::parts::Parts;
 use crate::search::len_before;
 use crate::token_error::TokenLineError;
 use libyaml_types::{
-    Text, unnamed_yaml_token_t_data_version_directive, yaml_encoding_t, yaml_mark_t,
+    Text, unnamed_yaml_token_t_data_version_directive, yaml_encoding_t,
     yaml_scalar_style_t,
 };
 use percent_encoding::percent_decode;
 use std::alloc::Global;
-
-/// Three numbers between colons.
-pub fn read_mark(field: &[u8]) -> Option<yaml_mark_t>
-    ensures { result ≡ mark_of field.now }
-{
-    let mut parts = Parts::new(field, b':');
-    let index = parts.next()?;
-    let line = parts.next()?;
-    let column = parts.next()?;
-    if parts.next().is_some() {
-        return None;
-    }
-    Some(yaml_mark_t {
-        index: read_number(index)?,
-        line: read_number(line)?,
-        column: read_number(column)?,
-    })
-}
 
 /// Two signed numbers with a point between them.
 pub fn read_version(field: &[u8]) -> Option<unnamed_yaml_token_t_data_version_directive>

@@ -6,6 +6,7 @@ mod event_line;
 mod fault_text;
 mod field;
 mod field_text;
+mod front;
 pub mod laws;
 mod line;
 mod line_problem;

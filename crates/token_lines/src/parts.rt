@@ -1,6 +1,7 @@
 //! A text cut at a byte.
 ghost use Rattle.std.specs.Prelude.{◌≡◌, ◌==◌, [], ◌∷◌, MatchOption, option_copied};
 ghost use Rattle.std.specs.List.{slice_split};
+ghost use Rattle.token_lines.specs.Front.{before_byte, behind_byte};
 ghost use Rattle.token_lines.specs.Parts.{parts_of};
 
 use crate::search::len_before;
@@ -33,6 +34,13 @@ impl<'a> Parts<'a> {
         }
     }
 
+    /// The parts of what stands behind a part, if it goes on there.
+    pub fn behind(rest: Option<&'a [u8]>, separator: u8) -> Self
+        ensures { result ≡ parts_of separator (option_copied rest.entry) }
+    {
+        Parts { rest, separator }
+    }
+
     /// Takes the next part.
     pub fn next(&mut self) -> Option<&'a [u8]>
         ensures { MatchOption result ((self.old ≡ []) × (self.new ≡ [])) (λ part. self.old ≡ part.now ∷ self.new) }
@@ -43,9 +51,10 @@ impl<'a> Parts<'a> {
     }
 }
 
-/// What stands before the first `separator`, and what stands behind it, if there is one.
-fn cut(text: &[u8], separator: u8) -> (&[u8], Option<&[u8]>)
-    ensures { slice_split (λ b. b == separator) text.now ≡ result.0.now ∷ parts_of separator (option_copied result.1) }
+/// What stands before the first `separator`, and what stands behind it, if it is there.
+pub fn cut(text: &[u8], separator: u8) -> (&[u8], Option<&[u8]>)
+    ensures before { result.0.now ≡ before_byte separator text.now }
+    ensures behind { option_copied result.1 ≡ behind_byte separator text.now }
 {
     let len = len_before(text, separator);
     if len < text.len() {

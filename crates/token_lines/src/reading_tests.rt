@@ -549,11 +549,9 @@ const TEXTS: &[u8] =
 fn a_refused_growth_is_kept(rt: HostRuntime) {
     let alloc = rt.alloc();
     let mut source = yaml_line_source_t::new(alloc, TEXTS, MAX_TOKENS);
-    let mut given = 0u64;
+    let mut gives_all = true;
     for _ in 0..5 {
-        if source.next_token().is_ok() {
-            given += 1;
-        }
+        gives_all &= source.next_token().is_ok();
     }
     let fault = source.next_token().err().expect(&rt, "a fault");
     if fault.error() == yaml_error_type_t::YAML_MEMORY_ERROR {
@@ -568,7 +566,7 @@ fn a_refused_growth_is_kept(rt: HostRuntime) {
             assert_eq!(rt; fault.context_mark(), ZERO_MARK);
         }
     } else {
-        assert_eq!(rt; given, 5);
+        assert!(rt; gives_all);
         assert_fault(
             &rt,
             fault,

@@ -1,10 +1,12 @@
 //! Token lines.
 ghost use Rattle.std.specs.Prelude.{◌≡◌};
+ghost use Rattle.token_lines.specs.Front.{token_at};
 ghost use Rattle.token_lines.specs.TokenLine.{bare_content, content_of_one, content_of_two, content_of, token_of_line};
 ghost use Rattle.token_lines.specs.Reading.{IsReadAs};
 
-use crate::field::{read_encoding, read_mark, read_scalar_style, read_text, read_version};
-use crate::parts::Parts;
+use crate::field::{read_encoding, read_scalar_style, read_text, read_version};
+use crate::front::take_mark;
+use crate::parts::{Parts, cut};
 use crate::token_error::TokenLineError;
 use crate::token_name::read_token_type;
 use libyaml_types::{
@@ -19,14 +21,20 @@ use std::alloc::Global;
 pub fn read_token_line(alloc: Global, line: &[u8]) -> Result<yaml_token_t, TokenLineError>
     ensures { IsReadAs result (token_of_line line.now) }
 {
-    let mut fields = Parts::new(line, b' ');
-    let (Some(name), Some(start), Some(end)) = (fields.next(), fields.next(), fields.next()) else {
-        return Err(TokenLineError::BadLine);
-    };
+    take_token(alloc, line)
+}
+
+/// The same, from the front of the line.
+fn take_token(alloc: Global, line: &[u8]) -> Result<yaml_token_t, TokenLineError>
+    ensures { IsReadAs result (token_at line.now) }
+{
+    let (name, marks) = cut(line, b' ');
+    let marks = marks.ok_or(TokenLineError::BadLine)?;
     let type_ = read_token_type(name).ok_or(TokenLineError::BadLine)?;
-    let start_mark = read_mark(start).ok_or(TokenLineError::BadLine)?;
-    let end_mark = read_mark(end).ok_or(TokenLineError::BadLine)?;
-    let content = read_content(alloc, type_, fields)?;
+    let (start_mark, rest) = take_mark(marks).ok_or(TokenLineError::BadLine)?;
+    let rest = rest.ok_or(TokenLineError::BadLine)?;
+    let (end_mark, rest) = take_mark(rest).ok_or(TokenLineError::BadLine)?;
+    let content = read_content(alloc, type_, Parts::behind(rest, b' '))?;
     Ok(yaml_token_t::new(content, start_mark, end_mark))
 }
 
