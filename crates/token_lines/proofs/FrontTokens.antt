@@ -1,17 +1,16 @@
 -- a line read from its front is read by its description
-use Rattle.std.proofs.Common.{◌≡◌, ◌≢◌, ℕ, ◌==◌, ◌&&◌, All, Bool, true, false, cond, List, [], ◌∷◌, ◌++◌, Option, Some, None, option_map, refl, ap, sym, ◌∙◌, subst, ◌⊎◌, inl, inr}
+use Rattle.std.proofs.Common.{◌≡◌, ◌≢◌, ℕ, ◌==◌, All, Bool, true, false, cond, List, [], ◌∷◌, ◌++◌, Option, Some, None, option_map, refl, ap, sym, ◌∙◌, subst, inl, inr}
 use Rattle.std.proofs.lemmas.Bool.{cases_Bool, and_left, and_right, eqb-true}
 use Rattle.std.proofs.lemmas.List.{append-nil}
 use Rattle.std.proofs.lemmas.List.Elements.{All-nil, All-cons, All-head, All-tail}
 use Rattle.std.proofs.lemmas.List.Splits.{slice_split_at, slice_split_none}
-use Rattle.std.specs.List.{slice_split, onto_first}
+use Rattle.std.specs.List.{slice_split}
 use Rattle.std.specs.Char.{is_ascii_digit}
 use Rattle.std.specs.Str.{all_ascii_digits}
 use Rattle.libyaml_types.specs.declared.mark.yaml_mark_t.{yaml_mark_t}
 use Rattle.libyaml_types.specs.declared.token.yaml_token_t.{yaml_token_t}
-use Rattle.libyaml_types.specs.declared.token.unnamed_yaml_token_t_data.{unnamed_yaml_token_t_data}
 use Rattle.libyaml_types.specs.declared.enums.yaml_token_type_t.{yaml_token_type_t}
-use Rattle.token_lines.specs.Number.{value_of, number_of}
+use Rattle.token_lines.specs.Number.{number_of}
 use Rattle.token_lines.specs.Field.{◌>>=◌, mark_of, mark_of_numbers}
 use Rattle.token_lines.specs.Parts.{parts_of}
 use Rattle.token_lines.specs.TokenName.{token_type_of}
@@ -145,10 +144,10 @@ shape_at : (d t : List ℕ) → All (λ x. x ≢ 32) d → All (λ x. x ≢ 58) 
 shape_at d [] c32 c58 h = shape_end d c32 c58
 shape_at d (x ∷ r) c32 c58 h =
     elim (cases_Bool (x == 32)) [
-      inl e ↦ subst (λ y. Shape (d ++ y ∷ r) d (y ∷ r)) (sym (eqb-true x 32 e)) (shape_space d r c32 c58)
-    | inr e32 ↦ elim (cases_Bool (x == 58)) [
-        inl e ↦ subst (λ y. Shape (d ++ y ∷ r) d (y ∷ r)) (sym (eqb-true x 58 e)) (shape_colon d r c32 c58)
-      | inr e58 ↦ shape_other d x r c32 c58 h e32 e58
+      | inl e ↦ subst (λ y. Shape (d ++ y ∷ r) d (y ∷ r)) (sym (eqb-true x 32 e)) (shape_space d r c32 c58)
+      | inr e32 ↦ elim (cases_Bool (x == 58)) [
+        | inl e ↦ subst (λ y. Shape (d ++ y ∷ r) d (y ∷ r)) (sym (eqb-true x 58 e)) (shape_colon d r c32 c58)
+        | inr e58 ↦ shape_other d x r c32 c58 h e32 e58
       ]
     ]
 

@@ -1,7 +1,7 @@
 -- a number at the front of some bytes
-use Rattle.std.proofs.Common.{◌≡◌, ◌==◌, ℕ, ◌+◌, ◌-◌, ◌*◌, ◌<◌, ◌≤◌, ◌^◌, true, false, List, [], ◌∷◌, ◌++◌, length, take, drop, get_or, Option, Some, None, refl, ap, sym, ◌∙◌, subst, arith, add-one}
+use Rattle.std.proofs.Common.{◌≡◌, ◌==◌, ℕ, ◌+◌, ◌-◌, ◌*◌, ◌<◌, ◌≤◌, ◌^◌, true, false, List, [], ◌∷◌, ◌++◌, length, take, drop, get_or, Some, None, refl, ap, sym, ◌∙◌, arith}
 use Rattle.std.proofs.lemmas.Bool.{cond_both}
-use Rattle.std.proofs.lemmas.List.{at_drop_more, at_drop_all, take_all, take_more, append-nil}
+use Rattle.std.proofs.lemmas.List.{at_drop_more, at_drop_all, take_more, append-nil}
 use Rattle.std.proofs.Common.{append_assoc}
 use Rattle.std.specs.Char.{is_ascii_digit}
 use Rattle.token_lines.specs.Number.{value_after, value_of, number_of}
@@ -36,8 +36,8 @@ read_more bytes i n h small d fits =
     let r = drop (i + 1) bytes in
     record {
       front = h.front ∙ ap (λ x. take i bytes ++ x) (at_drop_more digits_of bytes i 0 small ∙ digits-yes b r d)
-        ∙ sym (append_assoc (take i bytes) (b ∷ []) (digits_of r))
-        ∙ ap (λ x. x ++ digits_of r) (sym (take_more bytes i 0 small));
+          ∙ sym (append_assoc (take i bytes) (b ∷ []) (digits_of r))
+          ∙ ap (λ x. x ++ digits_of r) (sym (take_more bytes i 0 small));
       behind = h.behind ∙ at_drop_more behind_digits bytes i 0 small ∙ behind-yes b r d;
       value = h.value ∙ ap (value_after n) (at_drop_more digits_of bytes i 0 small ∙ digits-yes b r d) ∙ value_after-digit n b (digits_of r) d;
       fits = fits;

@@ -9,8 +9,7 @@ use crate::parts::Parts;
 use crate::search::len_before;
 use crate::token_error::TokenLineError;
 use libyaml_types::{
-    Text, unnamed_yaml_token_t_data_version_directive, yaml_encoding_t,
-    yaml_scalar_style_t,
+    Text, unnamed_yaml_token_t_data_version_directive, yaml_encoding_t, yaml_scalar_style_t,
 };
 use percent_encoding::percent_decode;
 use std::alloc::Global;
