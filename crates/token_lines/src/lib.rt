@@ -36,12 +36,10 @@ pub const MAX_TOKENS: u64 = 1_000_000;
 const MAX_EVENTS: u64 = 4 * MAX_TOKENS;
 
 #[cfg(test)]
-<<<<<<< HEAD
 mod failing;
 #[cfg(test)]
-mod run_tests;
-=======
 mod reading_tests;
->>>>>>> f19b3c9 (Tests of reading lines)
+#[cfg(test)]
+mod run_tests;
 #[cfg(test)]
 mod writing_tests;
