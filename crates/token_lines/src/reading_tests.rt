@@ -1,3 +1,4 @@
+use crate::failing::FailingReader;
 use crate::{MAX_LINE, MAX_TOKENS, yaml_line_source_t};
 use libyaml_events::{yaml_source_fault_t, yaml_token_source_t};
 use libyaml_types::{
@@ -9,38 +10,9 @@ use libyaml_types::{
     yaml_token_type_t,
 };
 use std::alloc::{AllocError, Global};
-use std::io;
-use std::io::{BufRead, ErrorKind, Read};
+use std::io::BufRead;
 use std::process::Abort;
 use std::test::Fail;
-
-/// A reader that shows `step` bytes at a time, and fails at a look and from then on.
-#[derive(Drop)]
-struct Pieces<'a> {
-    rest: &'a [u8],
-    step: usize,
-    looks_left: usize,
-}
-
-impl<'a> Read for Pieces<'a> {
-    fn read(&mut self, buf: &mut [u8]) -> io::Result<usize> {
-        self.rest.read(buf)
-    }
-}
-
-impl<'a> BufRead for Pieces<'a> {
-    fn fill_buf(&mut self) -> io::Result<&[u8]> {
-        let Some(left) = self.looks_left.checked_sub(1) else {
-            return Err(io::Error::from(ErrorKind::Other));
-        };
-        self.looks_left = left;
-        Ok(&self.rest[..self.rest.len().min(self.step)])
-    }
-
-    fn consume(&mut self, amount: usize) {
-        self.rest = &self.rest[amount.min(self.rest.len())..];
-    }
-}
 
 /// The lines of a stream with one scalar.
 const STREAM: &[u8] =
@@ -451,11 +423,7 @@ fn what_follows_stays_in_the_reader(rt: HostRuntime) -> Result<(), Fail> {
 fn a_line_in_pieces(rt: HostRuntime) {
     let alloc = rt.alloc();
     for step in [1, 2, 7] {
-        let reader = Pieces {
-            rest: STREAM,
-            step,
-            looks_left: usize::MAX,
-        };
+        let reader = FailingReader::new(STREAM, step, usize::MAX);
         let mut source = yaml_line_source_t::new(alloc, reader, MAX_TOKENS);
         assert_stream(&rt, &mut source);
         let fault = source.next_token().err().expect(&rt, "the end");
@@ -485,11 +453,7 @@ fn a_read_that_fails(rt: HostRuntime) {
         (8, 2),
         (9, 3),
     ] {
-        let reader = Pieces {
-            rest: STREAM,
-            step: 10,
-            looks_left,
-        };
+        let reader = FailingReader::new(STREAM, 10, looks_left);
         let mut source = yaml_line_source_t::new(alloc, reader, MAX_TOKENS);
         for _ in 0..given {
             assert!(rt; source.next_token().is_ok(), "after {looks_left} looks");
