@@ -44,3 +44,7 @@ pub mod Productions
 pub mod WholeParts
 pub mod Parsed
 pub mod TagPlaces
+pub mod KnownRuns
+pub mod Staging
+pub mod Staged
+pub mod Counting

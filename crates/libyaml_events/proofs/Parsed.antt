@@ -36,6 +36,9 @@ use Rattle.libyaml_events.proofs.Stand as stand
 use Rattle.libyaml_events.proofs.Asking.{Asks, calls_ask, refused_ask, AreTokens, refused_tokens}
 use Rattle.libyaml_events.proofs.Calling.{Answered, gave, failed, faulted, call_answers, call_gives, ran_links, Standing, asks_stand, Starts, ready, holding, starts}
 use Rattle.libyaml_events.proofs.Needed.{open_there, standing_needs}
+use Rattle.libyaml_events.proofs.Staged.{Staged, call_staged, ran_staged, stage_snoc, staged_over, staged_whole, leads_to_end, refused_stage}
+use Rattle.libyaml_events.specs.Stages.{at_start, is_event, is_at_end, stage_of}
+use Rattle.libyaml_events.specs.History.{is_stream_end}
 
 -- a call of a parser that has not ended
 pub running_does : (c : Config) (asked : List Answer) (r : EventOrError) (d : Config) → is_over c ≡ false → Parses c asked r d → CallsUnlessRefused AtState (taken c) (held c ++ asked) r d
@@ -148,8 +151,23 @@ module _ {S : Type 0} (gives : S → Answer → S → Type 0) (old new : Parser 
         more = more;
         gave = subst (λ (y : List Answer). Gave gives old.source y new.source) i call.gave;
         needed = subst (λ (y : List Answer). EachNeeded asked y g) i (each_needed old.config asked g call.asked (Ok e) new.config links begun does);
-        history = goes_on old.config asked g more e ran begun (subst (λ (y : List Answer). Calls AtState (taken old.config) (held old.config ++ y) (Ok e) new.config) i does) refl refl;
+        history = goes_on old.config asked g more e ran begun calls refl refl;
+        an_event = staged.1;
+        ends = ends;
+        whole = λ h. staged_whole new.config (asked ++ more) (g ++ e ∷ []) (call_gives old.config asked g links begun more e new.config calls) staged.0 (at_the_end ∙ h);
       }
+        where
+          calls : Calls AtState (taken old.config) (held old.config ++ answers more []) (Ok e) new.config
+          calls = subst (λ (y : List Answer). Calls AtState (taken old.config) (held old.config ++ y) (Ok e) new.config) i does
+
+          staged : Staged new.config (g ++ e ∷ []) × (is_event e.content ≡ true)
+          staged = call_staged old.config g (ran_staged ran) (held old.config ++ answers more []) e new.config calls
+
+          at_the_end : is_at_end (stage_of (g ++ e ∷ [])) ≡ is_stream_end e
+          at_the_end = ap is_at_end (stage_snoc at_start g e) ∙ leads_to_end (stage_of g) e (sym (staged_over old.config g (ran_staged ran)) ∙ begun)
+
+          ends : is_over new.config ≡ is_stream_end e
+          ends = staged_over new.config (g ++ e ∷ []) staged.0 ∙ at_the_end
       go (failed more i j k) = absurd (not_err e new.config.fault.error j)
       go (faulted more w c i j k) = absurd (not_err e new.config.fault.error j)
 
@@ -165,23 +183,23 @@ module _ {S : Type 0} (gives : S → Answer → S → Type 0) (old new : Parser 
       go true k = absurd (not_ok empty_event x k.1)
       go false k = refl
 
-  cause_of : (x : yaml_error_type_t) (asked : List Token) (g : List Event) (a : List Answer) → AreOfSource a → Links old.config asked g → is_over old.config ≡ false → CallsUnlessRefused AtState (taken old.config) (held old.config ++ a) (Err x) new.config → Cause asked g a new.config.fault
-  cause_of x asked g a s links begun (inr (h, m)) = by_tokens (refused_rest (starts old.config asked g links begun) h)
+  cause_of : (x : yaml_error_type_t) (asked : List Token) (g : List Event) (a : List Answer) → AreOfSource a → Staged old.config g → Links old.config asked g → is_over old.config ≡ false → CallsUnlessRefused AtState (taken old.config) (held old.config ++ a) (Err x) new.config → Cause asked g a new.config.fault
+  cause_of x asked g a s staged links begun (inr (h, m)) = by_tokens (refused_rest (starts old.config asked g links begun) h)
     where
       by_tokens : AreTokens a → Cause asked g a new.config.fault
-      by_tokens t = of_memory t.tokens t.are m
+      by_tokens t = of_memory t.tokens t.are (refused_stage old.config g staged (held old.config ++ a) h) m
 
       refused_rest : Starts old.config asked g → Refused AtState (taken old.config) (held old.config ++ a) → AreTokens a
       refused_rest (ready e k) z = refused_tokens a AtState (taken old.config) (subst (λ (y : List Answer). Refused AtState (taken old.config) (y ++ a)) e z)
       refused_rest (holding u e k) z = tokens_behind u a (refused_tokens (Ok u ∷ a) AtState (taken old.config) (subst (λ (y : List Answer). Refused AtState (taken old.config) (y ++ a)) e z))
-  cause_of x asked g a s links begun (inl h) = go (call_answers old.config asked g links begun a (Err x) new.config h)
+  cause_of x asked g a s staged links begun (inl h) = go (call_answers old.config asked g links begun a (Err x) new.config h)
     where
       go : Answered (Err x) new.config asked a g → Cause asked g a new.config.fault
       go (gave more e i j k) = absurd (not_ok e x j)
       go (failed more i j k) = of_grammar more i (has_failed (asked ++ more) g new.config.fault k)
       go (faulted more w c i j k) = of_source more i (source_error more new.config.fault (subst AreOfSource i s)) (stops_short (asked ++ more) g w c k)
 
-  fails : (x : yaml_error_type_t) → Call gives old (Err x) new → (asked : List Token) (g : List Event) → History old asked g → FailsBy gives old new asked g
+  pub fails : (x : yaml_error_type_t) → Call gives old (Err x) new → (asked : List Token) (g : List Event) → History old asked g → FailsBy gives old new asked g
   fails x call asked g ran =
       let begun = begun_by x call.asked call.does in
       let does = running_does old.config call.asked (Err x) new.config begun call.does in
@@ -189,7 +207,7 @@ module _ {S : Type 0} (gives : S → Answer → S → Type 0) (old new : Parser 
         more = call.asked;
         gave = call.gave;
         needed = each_needed old.config asked g call.asked (Err x) new.config (ran_links ran) begun does;
-        cause = cause_of x asked g call.asked call.of_source (ran_links ran) begun does;
+        cause = cause_of x asked g call.asked call.of_source (ran_staged ran) (ran_links ran) begun does;
       }
 
   pub failed_by : (r : EventOrError) → Call gives old r new → IfErr r (λ x. (asked : List Token) (g : List Event) → History old asked g → FailsBy gives old new asked g)

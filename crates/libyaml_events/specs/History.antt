@@ -1,5 +1,5 @@
 -- What a parser asked its source for and what it gave since it was initialized (docs/DEFINITIONS.md, "Histories").
-use Rattle.std.specs.Prelude.{◌≡◌, ◌++◌, ◌∷◌, List, [], Ok, Bool, true, false}
+use Rattle.std.specs.Prelude.{◌≡◌, ◌++◌, ◌∷◌, ℕ, List, [], length, Ok, Bool, true, false}
 use Rattle.libyaml_types.specs.declared.event.unnamed_yaml_event_t_data.TheVariants as ev
 use Rattle.libyaml_events.specs.Fault.{Fault, Answer}
 use Rattle.libyaml_events.specs.Tokens.{Token}
@@ -29,6 +29,10 @@ has_ended p = is_over p.config
 
 abbrev pub kept_fault : {S : Type 0} → Parser S → Fault
 kept_fault p = p.config.fault
+
+-- how many states stand on the parser's stack
+abbrev pub stack_depth : {S : Type 0} → Parser S → ℕ
+stack_depth p = length p.config.states
 
 abbrev pub is_stream_end : Event → Bool
 is_stream_end e = elim e.content [

@@ -16,16 +16,9 @@ use Rattle.libyaml_events.specs.Settled.{IsSettled}
 use Rattle.libyaml_events.specs.Runs.{is_behind_properties}
 use Rattle.libyaml_events.specs.Config.{Parser}
 use Rattle.libyaml_events.specs.Calls.{Gave}
-use Rattle.libyaml_events.specs.History.{History, answers, kept_fault}
+use Rattle.libyaml_events.specs.Stages.{is_event, stage_of, takes_no_memory}
+use Rattle.libyaml_events.specs.History.{History, answers, has_ended, is_stream_end, kept_fault}
 use Rattle.libyaml_events.specs.Needs.{EachNeeded, HasWaited}
-
--- A call that gave an event: the source gave some tokens more, each of which was needed, and the history goes on by them
--- and the event.
-pub record CarriesOn {S : Type 0} (gives : S → Answer → S → Type 0) (old : Parser S) (e : Event) (new : Parser S) (asked : List Token) (given : List Event) : Type 0 where
-  pub more : List Token
-  pub gave : Gave gives old.source (answers more []) new.source
-  pub needed : EachNeeded asked (answers more []) given
-  pub history : History new (asked ++ more) (given ++ e ∷ [])
 
 -- the tokens are those of a tree in order, and the events are its events
 pub record IsWhole (asked : List Token) (given : List Event) : Type 0 where
@@ -33,6 +26,18 @@ pub record IsWhole (asked : List Token) (given : List Event) : Type 0 where
   pub order : in_order tree ≡ true
   pub all_tokens : asked ≡ tokens tree
   pub all_events : given ≡ events tree
+
+-- A call that gave an event, which is not the empty one: the source gave some tokens more, each of which was needed, and
+-- the history goes on by them and the event. The stream end event comes only behind a whole tree's tokens and events, and
+-- the parser has then ended.
+pub record CarriesOn {S : Type 0} (gives : S → Answer → S → Type 0) (old : Parser S) (e : Event) (new : Parser S) (asked : List Token) (given : List Event) : Type 0 where
+  pub more : List Token
+  pub gave : Gave gives old.source (answers more []) new.source
+  pub needed : EachNeeded asked (answers more []) given
+  pub history : History new (asked ++ more) (given ++ e ∷ [])
+  pub an_event : is_event e.content ≡ true
+  pub ends : has_ended new ≡ is_stream_end e
+  pub whole : is_stream_end e ≡ true → IsWhole (asked ++ more) (given ++ e ∷ [])
 
 -- A fault of the grammar: a cut tree fits the tokens before one of these with that one, the events are the cut tree's, and
 -- the fault is. Behind an undefined handle the tokens that are waited for have come.
@@ -53,10 +58,11 @@ pub data StopsShort (asked : List Token) (given : List Event) : Type 0 where
   behind_beginning : IsBeginning asked → has_end asked ≡ false → IsSettled asked given → StopsShort asked given
   amid_properties : (before : List Token) (token : Token) (behind : List Token) (c : Cut) → asked ≡ before ++ token ∷ behind → Fits before token c → is_behind_properties c behind ≡ false → given ≡ cut_events c token → StopsShort asked given
 
--- Why a call failed, which asked for these answers behind these tokens: a growth was refused; or the tokens have a fault of
+-- Why a call failed, which asked for these answers behind these tokens: a growth was refused, but not at the stream's
+-- start or a document's end; or the tokens have a fault of
 -- the grammar; or the source's own fault came, which is kept with all its fields.
 pub data Cause (asked : List Token) (given : List Event) (more : List Answer) (f : Fault) : Type 0 where
-  of_memory : (l : List Token) → more ≡ answers l [] → f ≡ memory_fault → Cause asked given more f
+  of_memory : (l : List Token) → more ≡ answers l [] → takes_no_memory (stage_of given) ≡ false → f ≡ memory_fault → Cause asked given more f
   of_grammar : (l : List Token) → more ≡ answers l [] → HasFailed (asked ++ l) given f → Cause asked given more f
   of_source : (l : List Token) → more ≡ answers l (Err f ∷ []) → IsSourceError f.error → StopsShort (asked ++ l) given → Cause asked given more f
 

@@ -1,11 +1,16 @@
 //! One call of the parser.
-ghost use Rattle.std.specs.Prelude.{◌≡◌, List, Ok, true, false, IfOk, IfErr};
+ghost use Rattle.std.specs.Prelude.{◌≡◌, ◌≤◌, ◌+◌, ◌*◌, ◌∷◌, List, [], length, Ok, Err, true, false, IfOk, IfErr};
 ghost use Rattle.libyaml_types.specs.declared.token.yaml_token_t.{yaml_token_t};
 ghost use Rattle.libyaml_types.specs.declared.event.yaml_event_t.{yaml_event_t};
 ghost use Rattle.libyaml_events.specs.Config.{is_over};
 ghost use Rattle.libyaml_events.specs.Calls.{Call, empty_event};
-ghost use Rattle.libyaml_events.specs.History.{History, has_ended, kept_fault};
+ghost use Rattle.libyaml_events.specs.Fault.{Fault};
+ghost use Rattle.libyaml_events.specs.Settled.{BeginsEach};
+ghost use Rattle.libyaml_events.specs.Runs.{Ending, Ends, Fails};
+ghost use Rattle.libyaml_events.specs.Stages.{stage_of, open_collections};
+ghost use Rattle.libyaml_events.specs.History.{History, has_ended, kept_fault, stack_depth};
 ghost use Rattle.libyaml_events.specs.Parsing.{CarriesOn, FailsBy};
+ghost use Rattle.libyaml_events.specs.RunToCome.{RunToCome, UnlessBroken};
 
 use crate::parser::yaml_parser_t;
 use crate::progress::{Progress, Want};
@@ -52,9 +57,16 @@ pub fn yaml_parser_parse<S: yaml_token_source_t>(
     // a fault is kept for good
     ensures kept { IfErr result (λ x. (x ≡ (kept_fault parser.new).error) × (has_ended parser.new ≡ true)) }
     ensures bound { parser.new.max_entries ≡ parser.old.max_entries }
-    // over every source
+    // over every source, by the tokens that were asked for and the events that were given
     ensures carries_on { has_ended parser.old ≡ false → IfOk result (λ e. (asked : List yaml_token_t) (given : List yaml_event_t) → History parser.old asked given → CarriesOn S.gives parser.old e parser.new asked given) }
     ensures fails { IfErr result (λ _. (asked : List yaml_token_t) (given : List yaml_event_t) → History parser.old asked given → FailsBy S.gives parser.old parser.new asked given) }
+    ensures begins { (asked : List yaml_token_t) (given : List yaml_event_t) → History parser.new asked given → BeginsEach asked given }
+    ensures at_most_four { (asked : List yaml_token_t) (given : List yaml_event_t) → History parser.new asked given → length given ≤ 4 * length asked }
+    ensures depth { (asked : List yaml_token_t) (given : List yaml_event_t) → History parser.new asked given → stack_depth parser.new ≤ open_collections (stage_of given) + 1 }
+    // over a source that knows its tokens, by the run that is to come
+    ensures next_of_run { (e : yaml_event_t) (later : List yaml_event_t) (ending : Ending) → RunToCome S.known parser.old (e ∷ later) ending → UnlessBroken S.may_break result parser.new ((result ≡ Ok e) × RunToCome S.known parser.new later ending) }
+    ensures end_of_run { RunToCome S.known parser.old [] Ends → (result ≡ Ok empty_event) × (parser.new ≡ parser.old) }
+    ensures fault_of_run { (f : Fault) → RunToCome S.known parser.old [] (Fails f) → UnlessBroken S.may_break result parser.new ((result ≡ Err f.error) × (kept_fault parser.new ≡ f)) }
 {
     parser.next_event()
 }

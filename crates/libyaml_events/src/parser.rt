@@ -4,7 +4,8 @@ ghost use Rattle.libyaml_events.specs.Fault.{Fault, fault_of};
 ghost use Rattle.libyaml_events.specs.Config.{start, with_config, with_fault, marked_ended, is_fault, is_over, between_documents};
 ghost use Rattle.libyaml_events.specs.Source.{Coming, coming};
 ghost use Rattle.libyaml_events.specs.Runs.{Ending, IsRun};
-ghost use Rattle.libyaml_events.specs.History.{History, has_ended};
+ghost use Rattle.libyaml_events.specs.Stages.{is_outside, stage_of};
+ghost use Rattle.libyaml_events.specs.History.{History, has_ended, kept_fault};
 ghost use Rattle.libyaml_events.specs.RunToCome.{RunToCome};
 ghost use Rattle.libyaml_types.specs.declared.token.yaml_token_t.{yaml_token_t};
 ghost use Rattle.libyaml_types.specs.declared.event.yaml_event_t.{yaml_event_t};
@@ -103,23 +104,21 @@ pub fn yaml_parser_delete<S>(parser: yaml_parser_t<S>) -> S
 /// Whether the parser stands between documents: not from a document's start event until its end event, but once a fault
 /// is kept.
 pub fn yaml_parser_between_documents<S>(parser: &yaml_parser_t<S>) -> bool
-    ensures { result ≡ between_documents parser.now.config }
+    ensures value { result ≡ between_documents parser.now.config }
+    ensures failed { is_fault (kept_fault parser.now).error ≡ true → result ≡ true }
+    ensures by_events { (asked : List yaml_token_t) (given : List yaml_event_t) → History parser.now asked given → result ≡ is_outside (stage_of given) }
 {
-    parser.has_failed()
-        || matches!(
-            parser.state,
-            yaml_parser_state_t::YAML_PARSE_STREAM_START_STATE
-                | yaml_parser_state_t::YAML_PARSE_IMPLICIT_DOCUMENT_START_STATE
-                | yaml_parser_state_t::YAML_PARSE_DOCUMENT_START_STATE
-                | yaml_parser_state_t::YAML_PARSE_END_STATE
-        )
+    parser.stands_between_documents()
 }
 
 /// Sets how many entries each list of a loaded document may have, between documents.
 pub fn yaml_parser_set_max_entries<S>(parser: &mut yaml_parser_t<S>, n: i32)
     requires at_least_one { pos 1 ≤ℤ n }
     requires between { between_documents parser.old.config ≡ true }
-    ensures { parser.new ≡ record parser.old { max_entries = n } }
+    ensures bound { parser.new ≡ record parser.old { max_entries = n } }
+    // the history and the run stay
+    ensures history { (asked : List yaml_token_t) (given : List yaml_event_t) → History parser.old asked given → History parser.new asked given }
+    ensures run_to_come { (known : S → Option Coming) (events : List yaml_event_t) (ending : Ending) → RunToCome known parser.old events ending → RunToCome known parser.new events ending }
 {
     parser.max_entries = n;
 }
@@ -159,6 +158,19 @@ impl<S> yaml_parser_t<S> {
         ensures { result ≡ is_fault self.now.config.fault.error }
     {
         !matches!(self.prefix.error, yaml_error_type_t::YAML_NO_ERROR)
+    }
+
+    fn stands_between_documents(&self) -> bool
+        ensures { result ≡ between_documents self.now.config }
+    {
+        self.has_failed()
+            || matches!(
+                self.state,
+                yaml_parser_state_t::YAML_PARSE_STREAM_START_STATE
+                    | yaml_parser_state_t::YAML_PARSE_IMPLICIT_DOCUMENT_START_STATE
+                    | yaml_parser_state_t::YAML_PARSE_DOCUMENT_START_STATE
+                    | yaml_parser_state_t::YAML_PARSE_END_STATE
+            )
     }
 
     /// Whether nothing more comes: behind the stream's end or a fault.

@@ -1,4 +1,9 @@
+use Rattle.std.proofs.Common.{arith}
+use Rattle.libyaml_events.proofs.Calling.{ran_links}
+use Rattle.libyaml_events.proofs.Counting.{linked_begins_each, linked_count}
+use Rattle.libyaml_events.proofs.KnownRuns.{next_of_run, fault_of_run, end_of_run, over_call}
 use Rattle.libyaml_events.proofs.Parsed.{carried_on, failed_by}
+use Rattle.libyaml_events.proofs.Staged.{ran_staged, staged_depth}
 use Rattle.libyaml_events.proofs.parse.yaml_parser_parse.Goals as goal
 
 pub returns-clause-carries_on : goal.returns-clause-carries_on
@@ -6,3 +11,21 @@ returns-clause-carries_on g c = carried_on g.S.yaml_token_source_t.gives _ _ _ c
 
 pub returns-clause-fails : goal.returns-clause-fails
 returns-clause-fails g c = failed_by g.S.yaml_token_source_t.gives _ _ _ c.next_event.ensures.call
+
+pub returns-clause-begins : goal.returns-clause-begins
+returns-clause-begins g c asked given h = linked_begins_each _ asked given (ran_links h)
+
+pub returns-clause-at_most_four : goal.returns-clause-at_most_four
+returns-clause-at_most_four g c asked given h = linked_count _ asked given (ran_links h)
+
+pub returns-clause-depth : goal.returns-clause-depth
+returns-clause-depth g c asked given h = let d = staged_depth _ given (ran_staged h) in omega arith
+
+pub returns-clause-next_of_run : goal.returns-clause-next_of_run
+returns-clause-next_of_run g c = let t = g.S.yaml_token_source_t in next_of_run t.gives t.known t.may_break g.met.S.yaml_token_source_t.follows _ _ _ c.next_event.ensures.call c.next_event.ensures.kept
+
+pub returns-clause-end_of_run : goal.returns-clause-end_of_run
+returns-clause-end_of_run g c h = let t = g.S.yaml_token_source_t in over_call t.gives t.known t.may_break g.met.S.yaml_token_source_t.follows _ _ _ c.next_event.ensures.call c.next_event.ensures.bound h
+
+pub returns-clause-fault_of_run : goal.returns-clause-fault_of_run
+returns-clause-fault_of_run g c = let t = g.S.yaml_token_source_t in fault_of_run t.gives t.known t.may_break g.met.S.yaml_token_source_t.follows _ _ _ c.next_event.ensures.call c.next_event.ensures.kept
