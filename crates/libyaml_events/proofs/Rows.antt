@@ -1,7 +1,7 @@
 -- Each worked row is read token by token; all else is computed.
 use Rattle.std.proofs.Common.{refl}
 use Rattle.libyaml_events.specs.CutRows.{RowAliasBehindAnchor, RowAliasCome, RowAmidProperties, RowAmidTag, RowAmidTagAndAnchor, RowAnchorBegun, RowAnchoredIndentlessBegun, RowAnchoredKeyBegun, RowAnchoredPairBegun, RowBlockCollectionBehindTagInFlow, RowBlockContentInFlow, RowBlockEntryCome, RowCollectionBegun, RowCollectionsEnded, RowDefaultDeclaredTwice, RowDirectiveBegun, RowDirectiveWithoutDocument, RowDocumentAndAnchorBegun, RowDocumentBegun, RowDocumentEndFirst, RowDocumentEnded, RowEmptyDocumentEnded, RowEntryCome, RowFlowKeyCome, RowHandleDeclaredTwice, RowHandleOfDocumentBefore, RowIndentlessBegun, RowKeyCome, RowNoBlockEntry, RowNoBlockEntryBehindEntry, RowNoBlockEntryInAnchoredSequence, RowNoContentBehindDocumentEnd, RowNoContentBehindSeparator, RowNoContentBehindValue, RowNoContentInAnchoredSequence, RowNoContentInBlockMapping, RowNoContentInBlockSequence, RowNoContentInDocument, RowNoContentInFlowMapping, RowNoContentInFlowSequence, RowNoContentInIndentlessSequence, RowNoContentInPair, RowNoContentInPairValue, RowNoContentInTaggedMapping, RowNoKey, RowNoKeyBehindIndentless, RowNoKeyBehindKey, RowNoKeyInAnchoredMapping, RowNoSeparatorInAnchoredSequence, RowNoSeparatorInFlowMapping, RowNoSeparatorInFlowSequence, RowNoStreamStart, RowNoToken, RowNoTokens, RowNodeAloneSeparated, RowPairBegun, RowPairSeparated, RowPairValueCome, RowPairValueScalarCome, RowPropertiesBegun, RowScalarCome, RowSecondStreamStart, RowSecondVersion, RowStreamBegun, RowTagWhereNoneMayStand, RowTwoRoots, RowUnknownHandle, RowUnknownHandleAtStreamEnd, RowUnknownHandleBeforeAnchor, RowUnknownHandleFirst, RowValueBehindIndentless, RowValueBehindIndentlessCome, RowValueComeFirst, RowVersionOfEarlierMinor, RowVersionOfLaterMajor, RowVersionOfLaterMinor, RowWrongEndOfFlowMapping, RowWrongEndOfFlowSequence}
-use Rattle.libyaml_events.specs.Rows.{RowAnchoredIndentless, RowBehindStreamEnd, RowBlockSequence, RowCollectionFlags, RowCollectionsInMapping, RowDefaultHandles, RowDirectives, RowDocumentEnds, RowEmptyCollections, RowEmptyDocuments, RowEmptyFlowKeys, RowEmptyFlowValues, RowEmptyIndentlessEntries, RowEmptyKeys, RowEmptyPairKeys, RowEmptyPairValues, RowEmptySequenceEntries, RowEmptyStream, RowEmptyTag, RowEmptyValues, RowEntryThatBeginsWithValue, RowExplicitBehindDocumentEnd, RowExplicitDocuments, RowFlowKeyWithoutValue, RowFlowMapping, RowFlowSequence, RowHandlesWithZeroBytes, RowImplicitBehindDocumentEnd, RowImplicitBehindImplicit, RowImplicitDocument, RowIndentlessSequence, RowKeysWithoutValues, RowNestedPairs, RowNodesAloneInMapping, RowOtherTag, RowPair, RowPairWithEmptyKey, RowPairWithoutValue, RowPropertiesAlone, RowPropertiesBeforeContent, RowPropertiesOfRoots, RowRedeclaredHandles, RowScalarStyles, RowTagThatIsAnExclamationMark, RowValueBehindValue}
+use Rattle.libyaml_events.specs.Rows.{RowAnchoredIndentless, RowBehindStreamEnd, RowBlockSequence, RowCollectionFlags, RowCollectionsInMapping, RowDefaultHandles, RowDirectives, RowDocumentEnds, RowEmptyCollections, RowEmptyDocuments, RowEmptyFlowKeys, RowEmptyFlowValues, RowEmptyIndentlessEntries, RowEmptyKeys, RowEmptyPairKeys, RowEmptyPairValues, RowEmptySequenceEntries, RowEmptyStream, RowEmptyTag, RowEmptyValues, RowEntryThatBeginsWithValue, RowExplicitBehindDocumentEnd, RowExplicitDocuments, RowFlowKeyWithoutValue, RowFlowMapping, RowFlowSequence, RowHandlesWithZeroBytes, RowImplicitBehindDocumentEnd, RowImplicitBehindImplicit, RowImplicitDocument, RowIndentlessSequence, RowKeysWithoutValues, RowNestedPairs, RowNodesAloneInMapping, RowOtherTag, RowPair, RowPairWithEmptyKey, RowPairWithoutValue, RowPropertiesAlone, RowPropertiesBeforeContent, RowRedeclaredHandles, RowRootsWithoutDocumentStart, RowScalarStyles, RowTagThatIsAnExclamationMark, RowValueBehindValue}
 use Rattle.libyaml_events.proofs.RowKinds.{sentence_row, cut_row, amid_row, begin_row}
 
 pub empty_stream : RowEmptyStream
@@ -124,8 +124,8 @@ properties_alone = sentence_row 17 _ _ _ _ refl refl refl
 pub properties_before_content : RowPropertiesBeforeContent
 properties_before_content = sentence_row 29 _ _ _ _ refl refl refl
 
-pub properties_of_roots : RowPropertiesOfRoots
-properties_of_roots = cut_row 15 _ _ _ _ _ _ _ refl refl refl refl refl refl
+pub roots_without_document_start : RowRootsWithoutDocumentStart
+roots_without_document_start = sentence_row 20 _ _ _ _ refl refl refl
 
 pub collection_flags : RowCollectionFlags
 collection_flags = sentence_row 25 _ _ _ _ refl refl refl

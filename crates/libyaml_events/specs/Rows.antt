@@ -4,8 +4,8 @@ use Rattle.std.specs.Prelude.{◌∷◌, [], None, Some, true, false, codes}
 use Rattle.libyaml_types.specs.declared.enums.yaml_scalar_style_t.TheVariants.{YAML_PLAIN_SCALAR_STYLE, YAML_SINGLE_QUOTED_SCALAR_STYLE, YAML_DOUBLE_QUOTED_SCALAR_STYLE, YAML_LITERAL_SCALAR_STYLE, YAML_FOLDED_SCALAR_STYLE}
 use Rattle.libyaml_types.specs.declared.event.unnamed_yaml_event_t_data.TheVariants as ev
 use Rattle.libyaml_types.specs.declared.token.unnamed_yaml_token_t_data.TheVariants.{StreamEnd, DocumentStart, DocumentEnd, BlockSequenceStart, BlockMappingStart, BlockEnd, FlowSequenceStart, FlowSequenceEnd, FlowMappingStart, FlowMappingEnd, BlockEntry, FlowEntry, Key, Value}
-use Rattle.libyaml_events.specs.RowNotation.{ALIAS, ANCHOR, HANDLE, SCALAR, STREAM, STREAM_LE, STYLED, TAG, VERSION, alias, asks_version, at, declares, document, document_end, flow_mapping, flow_mapping_of, flow_sequence, flow_sequence_of, headed_document, list, mapping, mapping_of, no_document_end, no_more, nothing, says, scalar, sequence, sequence_of, stream, stream_le, text}
-use Rattle.libyaml_events.specs.Runs.{Ends, Fails, IsRun}
+use Rattle.libyaml_events.specs.RowNotation.{ALIAS, ANCHOR, HANDLE, SCALAR, STREAM, STREAM_LE, STYLED, TAG, VERSION, alias, asks_version, at, declares, document, document_end, flow_mapping, flow_mapping_of, flow_sequence, flow_sequence_of, headed_document, list, mapping, mapping_of, no_document_end, no_more, nothing, scalar, sequence, sequence_of, stream, stream_le, text}
+use Rattle.libyaml_events.specs.Runs.{Ends, IsRun}
 
 -- A stream and its documents, and what ends them.
 abbrev pub RowEmptyStream : Type 0
@@ -336,18 +336,21 @@ RowPropertiesBeforeContent = IsRun (list (
     at 48 51 (flow_mapping_of None (Some (codes "v")) false) ∷ at 52 53 ev.MappingEnd ∷ at 54 55 ev.SequenceEnd ∷
     at 56 56 no_document_end ∷ at 56 57 ev.StreamEnd ∷ []) Ends
 
-abbrev pub RowPropertiesOfRoots : Type 0
-RowPropertiesOfRoots = IsRun (list (
+abbrev pub RowRootsWithoutDocumentStart : Type 0
+RowRootsWithoutDocumentStart = IsRun (list (
     STREAM ∷ ANCHOR (codes "a") ∷ FlowSequenceStart ∷ FlowSequenceEnd ∷ DocumentEnd ∷ TAG [] (codes "t") ∷
     BlockMappingStart ∷ BlockEnd ∷ DocumentEnd ∷ ANCHOR (codes "b") ∷ BlockSequenceStart ∷ BlockEnd ∷ DocumentEnd ∷
-    TAG [] (codes "u") ∷ ANCHOR (codes "c") ∷ ALIAS (codes "d") ∷ StreamEnd ∷ [])) no_more (
+    ANCHOR (codes "c") ∷ SCALAR (codes "x") ∷ DocumentEnd ∷ ALIAS (codes "d") ∷ DocumentEnd ∷ TAG [] (codes "u") ∷
+    StreamEnd ∷ [])) no_more (
     at 0 0 stream ∷ at 2 2 document ∷ at 2 5 (flow_sequence_of (Some (codes "a")) None true) ∷
     at 6 7 ev.SequenceEnd ∷ at 8 9 document_end ∷ at 10 10 document ∷
     at 10 13 (mapping_of None (Some (codes "t")) false) ∷ at 14 15 ev.MappingEnd ∷ at 16 17 document_end ∷
     at 18 18 document ∷ at 18 21 (sequence_of (Some (codes "b")) None true) ∷ at 22 23 ev.SequenceEnd ∷
     at 24 25 document_end ∷ at 26 26 document ∷
-    at 26 29 (scalar (Some (codes "c")) (Some (codes "u")) [] false false YAML_PLAIN_SCALAR_STYLE) ∷
-    at 30 30 no_document_end ∷ []) (Fails (says (codes "did not find expected <document start>") 30))
+    at 26 29 (scalar (Some (codes "c")) None (codes "x") true false YAML_PLAIN_SCALAR_STYLE) ∷
+    at 30 31 document_end ∷ at 32 32 document ∷ at 32 33 (alias (codes "d")) ∷ at 34 35 document_end ∷
+    at 36 36 document ∷ at 36 37 (scalar None (Some (codes "u")) [] false false YAML_PLAIN_SCALAR_STYLE) ∷
+    at 38 38 no_document_end ∷ at 38 39 ev.StreamEnd ∷ []) Ends
 
 abbrev pub RowCollectionFlags : Type 0
 RowCollectionFlags = IsRun (list (

@@ -1,4 +1,4 @@
-use Rattle.libyaml_events.proofs.Rows.{collection_flags, default_handles, empty_tag, handles_with_zero_bytes, other_tag, properties_alone, properties_before_content, properties_of_roots, redeclared_handles, scalar_styles, tag_that_is_an_exclamation_mark}
+use Rattle.libyaml_events.proofs.Rows.{collection_flags, default_handles, empty_tag, handles_with_zero_bytes, other_tag, properties_alone, properties_before_content, redeclared_handles, roots_without_document_start, scalar_styles, tag_that_is_an_exclamation_mark}
 use Rattle.libyaml_events.proofs.laws.rows.properties.Goals as goal
 
 pub returns-clause-scalar_styles : goal.returns-clause-scalar_styles
@@ -19,8 +19,8 @@ returns-clause-properties_alone c = properties_alone
 pub returns-clause-properties_before_content : goal.returns-clause-properties_before_content
 returns-clause-properties_before_content c = properties_before_content
 
-pub returns-clause-properties_of_roots : goal.returns-clause-properties_of_roots
-returns-clause-properties_of_roots c = properties_of_roots
+pub returns-clause-roots_without_document_start : goal.returns-clause-roots_without_document_start
+returns-clause-roots_without_document_start c = roots_without_document_start
 
 pub returns-clause-collection_flags : goal.returns-clause-collection_flags
 returns-clause-collection_flags c = collection_flags
