@@ -48,3 +48,4 @@ pub mod KnownRuns
 pub mod Staging
 pub mod Staged
 pub mod Counting
+pub mod Falling

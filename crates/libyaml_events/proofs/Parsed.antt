@@ -119,7 +119,7 @@ source_error [] f h = h.0
 source_error (t ∷ l) f h = source_error l f h
 
 -- tokens behind a token
-tokens_behind : (u : Token) (a : List Answer) → AreTokens (Ok u ∷ a) → AreTokens a
+pub tokens_behind : (u : Token) (a : List Answer) → AreTokens (Ok u ∷ a) → AreTokens a
 tokens_behind u a h = go h.tokens h.are
   where
     go : (l : List Token) → Ok u ∷ a ≡ answers l [] → AreTokens a

@@ -29,6 +29,7 @@ pub mod Stages
 pub mod Needs
 pub mod Parsing
 pub mod RunToCome
+pub mod EventsLeft
 pub mod Nesting
 pub mod RowNotation
 pub mod Rows

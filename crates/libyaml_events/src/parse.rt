@@ -1,5 +1,5 @@
 //! One call of the parser.
-ghost use Rattle.std.specs.Prelude.{◌≡◌, ◌≤◌, ◌+◌, ◌*◌, ◌∷◌, List, [], length, Ok, Err, true, false, IfOk, IfErr};
+ghost use Rattle.std.specs.Prelude.{◌≡◌, ◌≤◌, ◌<◌, ◌+◌, ◌*◌, ◌∷◌, List, [], length, Ok, Err, true, false, IfOk, IfErr};
 ghost use Rattle.libyaml_types.specs.declared.token.yaml_token_t.{yaml_token_t};
 ghost use Rattle.libyaml_types.specs.declared.event.yaml_event_t.{yaml_event_t};
 ghost use Rattle.libyaml_events.specs.Config.{is_over};
@@ -9,6 +9,7 @@ ghost use Rattle.libyaml_events.specs.Settled.{BeginsEach};
 ghost use Rattle.libyaml_events.specs.Runs.{Ending, Ends, Fails};
 ghost use Rattle.libyaml_events.specs.Stages.{stage_of, open_collections};
 ghost use Rattle.libyaml_events.specs.History.{History, has_ended, kept_fault, stack_depth};
+ghost use Rattle.libyaml_events.specs.EventsLeft.{events_left};
 ghost use Rattle.libyaml_events.specs.Parsing.{CarriesOn, FailsBy};
 ghost use Rattle.libyaml_events.specs.RunToCome.{RunToCome, UnlessBroken};
 
@@ -63,6 +64,8 @@ pub fn yaml_parser_parse<S: yaml_token_source_t>(
     ensures begins { (asked : List yaml_token_t) (given : List yaml_event_t) → History parser.new asked given → BeginsEach asked given }
     ensures at_most_four { (asked : List yaml_token_t) (given : List yaml_event_t) → History parser.new asked given → length given ≤ 4 * length asked }
     ensures depth { (asked : List yaml_token_t) (given : List yaml_event_t) → History parser.new asked given → stack_depth parser.new ≤ open_collections (stage_of given) + 1 }
+    // so a loop over the events ends
+    ensures falls { has_ended parser.old ≡ false → IfOk result (λ _. events_left S.bound parser.new < events_left S.bound parser.old) }
     // over a source that knows its tokens, by the run that is to come
     ensures next_of_run { (e : yaml_event_t) (later : List yaml_event_t) (ending : Ending) → RunToCome S.known parser.old (e ∷ later) ending → UnlessBroken S.may_break result parser.new ((result ≡ Ok e) × RunToCome S.known parser.new later ending) }
     ensures end_of_run { RunToCome S.known parser.old [] Ends → (result ≡ Ok empty_event) × (parser.new ≡ parser.old) }

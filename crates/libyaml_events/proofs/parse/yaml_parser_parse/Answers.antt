@@ -1,6 +1,7 @@
 use Rattle.std.proofs.Common.{arith}
 use Rattle.libyaml_events.proofs.Calling.{ran_links}
 use Rattle.libyaml_events.proofs.Counting.{linked_begins_each, linked_count}
+use Rattle.libyaml_events.proofs.Falling.{parse_falls}
 use Rattle.libyaml_events.proofs.KnownRuns.{next_of_run, fault_of_run, end_of_run, over_call}
 use Rattle.libyaml_events.proofs.Parsed.{carried_on, failed_by}
 use Rattle.libyaml_events.proofs.Staged.{ran_staged, staged_depth}
@@ -29,3 +30,6 @@ returns-clause-end_of_run g c h = let t = g.S.yaml_token_source_t in over_call t
 
 pub returns-clause-fault_of_run : goal.returns-clause-fault_of_run
 returns-clause-fault_of_run g c = let t = g.S.yaml_token_source_t in fault_of_run t.gives t.known t.may_break g.met.S.yaml_token_source_t.follows _ _ _ c.next_event.ensures.call c.next_event.ensures.kept
+
+pub returns-clause-falls : goal.returns-clause-falls
+returns-clause-falls g c = let t = g.S.yaml_token_source_t in parse_falls t.gives t.bound g.met.S.yaml_token_source_t.falls _ _ _ c.next_event.ensures.call
