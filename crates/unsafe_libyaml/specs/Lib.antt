@@ -6,6 +6,8 @@ pub use Rattle.libyaml_types.specs.Numbers
 pub use Rattle.libyaml_types.specs.Texts
 pub use Rattle.libyaml_types.specs.Types
 pub use Rattle.libyaml_types.specs.Events as MadeEvents
+pub use Rattle.libyaml_events.specs.Calls
+pub use Rattle.libyaml_events.specs.Config
 pub use Rattle.libyaml_events.specs.CutEvents
 pub use Rattle.libyaml_events.specs.CutFaults
 pub use Rattle.libyaml_events.specs.CutTrees
@@ -13,11 +15,17 @@ pub use Rattle.libyaml_events.specs.Errors
 pub use Rattle.libyaml_events.specs.Events
 pub use Rattle.libyaml_events.specs.Fault
 pub use Rattle.libyaml_events.specs.Fits
+pub use Rattle.libyaml_events.specs.History
+pub use Rattle.libyaml_events.specs.Nesting
 pub use Rattle.libyaml_events.specs.Order
+pub use Rattle.libyaml_events.specs.Parsing
 pub use Rattle.libyaml_events.specs.Rest
+pub use Rattle.libyaml_events.specs.RunToCome
 pub use Rattle.libyaml_events.specs.Runs
 pub use Rattle.libyaml_events.specs.Sentences
 pub use Rattle.libyaml_events.specs.Settled
 pub use Rattle.libyaml_events.specs.Source
+pub use Rattle.libyaml_events.specs.Stages
+pub use Rattle.libyaml_events.specs.StreamEnds
 pub use Rattle.libyaml_events.specs.Tokens
 pub use Rattle.libyaml_events.specs.Trees
