@@ -6,7 +6,7 @@ ghost use Rattle.token_lines.specs.NextLine.{TakesAtMost, TakesLine, TakesNoLine
 
 use crate::MAX_LINE;
 use crate::line_problem::LineProblem;
-use crate::search::long_len_before;
+use crate::search::len_before;
 use std::io::BufRead;
 
 /// Reads one line: what stands before an LF, or before the end where a byte stands there. Takes the line and its LF, and no byte behind them.
@@ -89,7 +89,7 @@ fn take_part<R: BufRead>(
         return Ok(Part::End);
     }
     let front = &available[..available.len().min(room)];
-    let len = long_len_before(front, b'\n');
+    let len = len_before(front, b'\n');
     append(line, &front[..len])?;
     if len < front.len() {
         reader.consume(len + 1);

@@ -9,17 +9,5 @@ pub fn len_before(bytes: &[u8], byte: u8) -> usize
     ensures before { All (λ x. x ≢ byte) (take result bytes.now) }
     ensures found { result < length bytes.now → slice_index bytes.now result ≡ byte }
 {
-    bytes
-        .iter()
-        .position(|&found| found == byte)
-        .unwrap_or(bytes.len())
-}
-
-/// The same, for bytes that are many.
-pub fn long_len_before(bytes: &[u8], byte: u8) -> usize
-    ensures bound { result ≤ length bytes.now }
-    ensures before { All (λ x. x ≢ byte) (take result bytes.now) }
-    ensures found { result < length bytes.now → slice_index bytes.now result ≡ byte }
-{
     memchr(byte, bytes).unwrap_or(bytes.len())
 }
