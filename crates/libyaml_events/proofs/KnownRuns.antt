@@ -27,7 +27,7 @@ use Rattle.libyaml_events.specs.Runs.{Ending, Ends, Fails, IsRun, of_sentence, o
 use Rattle.libyaml_events.specs.Config.{Config, Parser, taken, is_over}
 use Rattle.libyaml_events.specs.Calls.{EventOrError, Gave, held, CallsUnlessRefused, Calls, Refused, Call, ParsesIf, empty_event}
 use Rattle.libyaml_events.specs.Needs.{HasWaited, at_once, by_last}
-use Rattle.libyaml_events.specs.History.{goes_on, History, answers, kept_fault}
+use Rattle.libyaml_events.specs.History.{goes_on, has_ended, History, answers, kept_fault}
 use Rattle.libyaml_events.specs.RunToCome.{RunToCome, UnlessBroken, does, no_memory, breaks}
 use Rattle.libyaml_events.specs.declared.progress.Want.TheVariants.{AtState}
 use Rattle.libyaml_events.proofs.Lists.{nil_right, assoc}
@@ -357,3 +357,12 @@ module _ {S : Type 0} (gives_to : S → Answer → S → Type 0) (known : S → 
         go : (b : Bool) → b ≡ true → ParsesIf b old.config call.asked r new.config → (r ≡ Ok empty_event) × (new ≡ old)
         go false e k = absurd cc
         go true e (i, j, k) = (j, ap (λ (x : S). let y : Parser S = record { source = x; config = new.config; max_entries = new.max_entries } in y) (subst (λ (y : List Answer). Gave gives_to old.source y new.source) i call.gave) ∙ (ap (λ (x : Config). let y : Parser S = record { source = old.source; config = x; max_entries = new.max_entries } in y) k ∙ ap (λ (x : ℤ). let y : Parser S = record { source = old.source; config = old.config; max_entries = x } in y) bound))
+
+-- a parser that has given the stream end event has nothing more of its run before it
+pub nothing_behind_end : {S : Type 0} (known : S → Option Coming) (p : Parser S) → has_ended p ≡ true → (later : List Event) (ending : Ending) → RunToCome known p later ending → (later ≡ []) × (ending ≡ Ends)
+nothing_behind_end known p ended later ending r =
+    let staged = ran_staged r.history in
+    let whole = staged_whole p.config r.asked r.given (ran_links r.history) staged (sym (staged_over p.config r.given staged) ∙ ended) in
+    let sentence = subst (λ (l : List Token). IsRun (l ++ r.rest) r.fault (events whole.tree) Ends) (sym whole.all_tokens) (sentence_run whole.tree r.rest r.fault whole.order) in
+    let same = one_run_proof (r.asked ++ r.rest) r.fault (r.given ++ later) (events whole.tree) ending Ends r.run sentence in
+    (behind_same r.given later [] (same.0 ∙ (sym whole.all_events ∙ sym (nil_right r.given))), same.1)

@@ -70,6 +70,7 @@ pub fn yaml_parser_parse<S: yaml_token_source_t>(
     ensures next_of_run { (e : yaml_event_t) (later : List yaml_event_t) (ending : Ending) → RunToCome S.known parser.old (e ∷ later) ending → UnlessBroken S.may_break result parser.new ((result ≡ Ok e) × RunToCome S.known parser.new later ending) }
     ensures end_of_run { RunToCome S.known parser.old [] Ends → (result ≡ Ok empty_event) × (parser.new ≡ parser.old) }
     ensures fault_of_run { (f : Fault) → RunToCome S.known parser.old [] (Fails f) → UnlessBroken S.may_break result parser.new ((result ≡ Err f.error) × (kept_fault parser.new ≡ f)) }
+    ensures nothing_behind_end { has_ended parser.new ≡ true → (later : List yaml_event_t) (ending : Ending) → RunToCome S.known parser.new later ending → (later ≡ []) × (ending ≡ Ends) }
 {
     parser.next_event()
 }

@@ -32,8 +32,8 @@ pub const MAX_LINE: usize = 1_048_576;
 /// A run reads at most this many tokens.
 pub const MAX_TOKENS: u64 = 1_000_000;
 
-/// A run gives at most four events for a token.
-const MAX_EVENTS: u64 = 4 * MAX_TOKENS;
+/// A run gives fewer events than this: at most four for a token.
+const MAX_EVENTS: u64 = 4 * MAX_TOKENS + 1;
 
 #[cfg(test)]
 mod failing;

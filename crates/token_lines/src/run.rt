@@ -1,4 +1,15 @@
 //! A run: from token lines to event lines.
+ghost use Rattle.std.specs.Prelude.{◌≡◌, ◌≢◌, ◌⊎◌, ℕ, ◌+◌, List, IfSome, true, false};
+ghost use Rattle.std.specs.Io.KnownBytes.{Appends, Keeps};
+ghost use Rattle.libyaml_types.specs.declared.event.yaml_event_t.{yaml_event_t};
+ghost use Rattle.libyaml_events.specs.Fault.{fault_of};
+ghost use Rattle.libyaml_events.specs.History.{has_ended, is_stream_end};
+ghost use Rattle.libyaml_events.specs.RunToCome.{RunToCome};
+ghost use Rattle.libyaml_events.specs.Runs.{Ending};
+ghost use Rattle.token_lines.specs.EventRun.{IsRunOf, Writes};
+ghost use Rattle.token_lines.specs.EventStep.{IsAfter, Steps};
+ghost use Rattle.token_lines.specs.FaultText.{fault_text};
+ghost use Rattle.token_lines.specs.LineSource.{BreaksOff};
 
 use crate::event_line::{append_event, write_line};
 use crate::fault_text::write_fault;
@@ -8,7 +19,7 @@ use libyaml_events::{
     NO_FAULT, yaml_parser_initialize, yaml_parser_parse, yaml_parser_t, yaml_parser_t_prefix,
     yaml_token_source_t,
 };
-use libyaml_types::{yaml_error_type_t, yaml_event_type_t};
+use libyaml_types::{unnamed_yaml_event_t_data, yaml_error_type_t, yaml_event_t};
 use std::alloc::Global;
 use std::io::{BufRead, Write};
 
@@ -29,48 +40,95 @@ const MEMORY_FAULT: yaml_parser_t_prefix = yaml_parser_t_prefix {
     ..NO_FAULT
 };
 
+/// What came of the next event.
+#[derive(Copy, Clone)]
+enum Step {
+    /// Its line was written, and more is to come.
+    Written,
+    /// The line of the stream end event was written.
+    Ended,
+    /// A fault came in its place, and nothing was written.
+    Failed(yaml_parser_t_prefix),
+    /// A write failed.
+    OutputFailed,
+}
+
 /// Writes the line of each event of the token lines, before the next event is parsed, and then the
 /// text of the fault, if there is one. Reads at most `MAX_TOKENS` tokens.
 ///
 /// Want of memory for a line is written as the fault of a refused growth. The writer is flushed
 /// before `Ended` and `Faulted`; after `OutputFailed` nothing is said of it.
-pub fn run_events<R: BufRead + Drop, W: Write>(
-    alloc: Global,
-    reader: R,
-    writer: &mut W,
-) -> Outcome {
+pub fn run_events<R: BufRead + Drop, W: Write>(alloc: Global, reader: R, writer: &mut W) -> Outcome
+    ensures { IfSome (R.remaining reader) (λ bytes. (events : List yaml_event_t) (ending : Ending) → IsRunOf bytes events ending
+        → Writes BreaksOff result (W.contents writer.old) (W.contents writer.new) events ending) }
+{
     let source = yaml_line_source_t::new(alloc, reader, MAX_TOKENS);
     let mut parser = yaml_parser_initialize(alloc, source);
     write_events(alloc, &mut parser, writer)
 }
 
-/// Writes the parser's events and its fault.
+/// Writes the events and the fault that are to come.
 fn write_events<S: yaml_token_source_t, W: Write>(
     alloc: Global,
     parser: &mut yaml_parser_t<S>,
     writer: &mut W,
-) -> Outcome {
+) -> Outcome
+    requires { IsAfter S.bound parser.old 0 MAX_TOKENS }
+    ensures { (events : List yaml_event_t) (ending : Ending) → RunToCome S.known parser.old events ending
+        → Writes S.may_break result (W.contents writer.old) (W.contents writer.new) events ending }
+{
     let mut line = String::new(alloc);
     for _ in 0..MAX_EVENTS {
-        let Ok(event) = yaml_parser_parse(parser) else {
-            return faulted(parser.prefix(), writer);
-        };
-        line.clear();
-        if append_event(&mut line, &event).is_err() {
-            return faulted(&MEMORY_FAULT, writer);
-        }
-        if write_line(&line, writer).is_err() {
-            return Outcome::OutputFailed;
-        }
-        if event.type_() == yaml_event_type_t::YAML_STREAM_END_EVENT {
-            return flushed(Outcome::Ended, writer);
+        match write_next(parser, &mut line, writer) {
+            Step::Written => {}
+            Step::Ended => return flushed(Outcome::Ended, writer),
+            Step::Failed(fault) => return faulted(&fault, writer),
+            Step::OutputFailed => return Outcome::OutputFailed,
         }
     }
-    faulted(parser.prefix(), writer)
+    unreachable!()
+}
+
+/// Writes the line of the next event, whose text is made in `line`.
+fn write_next<S: yaml_token_source_t, W: Write>(
+    parser: &mut yaml_parser_t<S>,
+    line: &mut String,
+    writer: &mut W,
+) -> Step
+    requires { has_ended parser.old ≡ false }
+    ensures counts { (count tokens : ℕ) → IsAfter S.bound parser.old count tokens → result ≡ Step.Written → IsAfter S.bound parser.new (count + 1) tokens }
+    ensures step { (events : List yaml_event_t) (ending : Ending) → RunToCome S.known parser.old events ending
+        → Steps S.known S.may_break result parser.new (W.contents writer.old) (W.contents writer.new) events ending }
+{
+    let Ok(event) = yaml_parser_parse(parser) else {
+        return Step::Failed(*parser.prefix());
+    };
+    line.clear();
+    let Ok(()) = append_event(line, &event) else {
+        return Step::Failed(MEMORY_FAULT);
+    };
+    let Ok(()) = write_line(line, writer) else {
+        return Step::OutputFailed;
+    };
+    if is_stream_end(&event) {
+        Step::Ended
+    } else {
+        Step::Written
+    }
+}
+
+/// Whether a stream ends with this event.
+fn is_stream_end(event: &yaml_event_t) -> bool
+    ensures { result ≡ is_stream_end event.now }
+{
+    matches!(event.content, unnamed_yaml_event_t_data::StreamEnd)
 }
 
 /// Writes the text of a fault.
-fn faulted<W: Write>(prefix: &yaml_parser_t_prefix, writer: &mut W) -> Outcome {
+fn faulted<W: Write>(prefix: &yaml_parser_t_prefix, writer: &mut W) -> Outcome
+    ensures not_ended { result ≢ Outcome.Ended }
+    ensures writes { result ≡ Outcome.Faulted → Appends (W.contents writer.old) (W.contents writer.new) (fault_text (fault_of prefix.now)) }
+{
     match write_fault(prefix, writer) {
         Ok(()) => flushed(Outcome::Faulted, writer),
         Err(_) => Outcome::OutputFailed,
@@ -78,7 +136,10 @@ fn faulted<W: Write>(prefix: &yaml_parser_t_prefix, writer: &mut W) -> Outcome {
 }
 
 /// Flushes the writer behind all that a run has written.
-fn flushed<W: Write>(outcome: Outcome, writer: &mut W) -> Outcome {
+fn flushed<W: Write>(outcome: Outcome, writer: &mut W) -> Outcome
+    ensures outcome { (result ≡ outcome) ⊎ (result ≡ Outcome.OutputFailed) }
+    ensures keeps { Keeps (W.contents writer.old) (W.contents writer.new) }
+{
     match writer.flush() {
         Ok(()) => outcome,
         Err(_) => Outcome::OutputFailed,

@@ -2,7 +2,7 @@ use Rattle.std.proofs.Common.{arith}
 use Rattle.libyaml_events.proofs.Calling.{ran_links}
 use Rattle.libyaml_events.proofs.Counting.{linked_begins_each, linked_count}
 use Rattle.libyaml_events.proofs.Falling.{parse_falls}
-use Rattle.libyaml_events.proofs.KnownRuns.{next_of_run, fault_of_run, end_of_run, over_call}
+use Rattle.libyaml_events.proofs.KnownRuns.{next_of_run, fault_of_run, end_of_run, over_call, nothing_behind_end}
 use Rattle.libyaml_events.proofs.Parsed.{carried_on, failed_by}
 use Rattle.libyaml_events.proofs.Staged.{ran_staged, staged_depth}
 use Rattle.libyaml_events.proofs.parse.yaml_parser_parse.Goals as goal
@@ -33,3 +33,6 @@ returns-clause-fault_of_run g c = let t = g.S.yaml_token_source_t in fault_of_ru
 
 pub returns-clause-falls : goal.returns-clause-falls
 returns-clause-falls g c = let t = g.S.yaml_token_source_t in parse_falls t.gives t.bound g.met.S.yaml_token_source_t.falls _ _ _ c.next_event.ensures.call
+
+pub returns-clause-nothing_behind_end : goal.returns-clause-nothing_behind_end
+returns-clause-nothing_behind_end g c = nothing_behind_end g.S.yaml_token_source_t.known _
