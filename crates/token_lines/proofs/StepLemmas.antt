@@ -14,35 +14,14 @@ use Rattle.libyaml_events.specs.Runs.{Ending, Ends, Fails}
 use Rattle.libyaml_events.specs.Source.{Coming}
 use Rattle.libyaml_events.specs.Stages.{is_event}
 use Rattle.token_lines.specs.EventText.{event_line}
-use Rattle.token_lines.specs.EventStep.{IsAfter, TakesFirst, TakesLast, FailsHere}
-
--- each token that a source gives is one less that it may give
-gave_bound : {S : Type 0} (bound : S → ℕ) (gives : S → Answer → S → Type 0) → ((s t : S) (token : yaml_token_t) → gives s (Ok token) t → bound s ≡ bound t + 1) → (more : List yaml_token_t) (s t : S) → Gave gives s (answers more []) t → bound s ≡ length more + bound t
-gave_bound bound gives falls [] s t g = let same : bound s ≡ bound t = ap bound (sym g) in omega arith
-gave_bound bound gives falls (x ∷ more) s t g =
-    let first = falls s g.0 x g.1 in
-    let behind : bound g.0 ≡ length more + bound t = gave_bound bound gives falls more g.0 t g.2 in omega arith
+use Rattle.token_lines.specs.EventStep.{IsRunning, TakesFirst, TakesLast, FailsHere}
 
 -- an event more, which is not the last
-pub one_after : {S : Type 0} (bound : S → ℕ) (gives : S → Answer → S → Type 0) (old new : Parser S) (e : yaml_event_t) (count max_tokens : ℕ) → ((s t : S) (token : yaml_token_t) → gives s (Ok token) t → bound s ≡ bound t + 1)
-    → ((asked : List yaml_token_t) (given : List yaml_event_t) → History old asked given → CarriesOn gives old e new asked given) → ((asked : List yaml_token_t) (given : List yaml_event_t) → History new asked given → length given ≤ 4 * length asked)
-    → is_stream_end e ≡ false → IsAfter bound old count max_tokens → IsAfter bound new (count + 1) max_tokens
-one_after bound gives old new e count max_tokens falls carries few not_last after =
-    let on = carries after.asked after.given after.history in
-    let spent : bound old.source ≡ length on.more + bound new.source = gave_bound bound gives falls on.more old.source new.source on.gave in
-    let asked = length-append after.asked on.more in
-    let given = length-append after.given (e ∷ []) in
-    let counted = after.counted in
-    let within = after.within in
-    record {
-      asked = after.asked ++ on.more;
-      given = after.given ++ e ∷ [];
-      history = on.history;
-      running = on.ends ∙ not_last;
-      counted = omega arith;
-      at_most_four = few _ _ on.history;
-      within = omega arith;
-    }
+pub still_running : {S : Type 0} (gives : S → Answer → S → Type 0) (old new : Parser S) (e : yaml_event_t) → ((asked : List yaml_token_t) (given : List yaml_event_t) → History old asked given → CarriesOn gives old e new asked given)
+    → is_stream_end e ≡ false → IsRunning old → IsRunning new
+still_running gives old new e carries not_last r =
+    let on = carries r.asked r.given r.history in
+    record { asked = r.asked ++ on.more; given = r.given ++ e ∷ []; history = on.history; running = on.ends ∙ not_last }
 
 module _ {S : Type 0} (known : S → Option Coming) (MayBreak : Fault → Type 0) (old new : Parser S) where
   -- what the three clauses of a call say of the run that is to come

@@ -1,5 +1,5 @@
 -- What one step of a run writes.
-use Rattle.std.specs.Prelude.{◌≡◌, ◌≤◌, ◌+◌, ◌*◌, ◌⊎◌, ℕ, List, [], ◌∷◌, length, false, Option}
+use Rattle.std.specs.Prelude.{◌≡◌, ◌⊎◌, ℕ, List, [], ◌∷◌, false, Option}
 use Rattle.std.specs.Io.KnownBytes.{Appends, Keeps}
 use Rattle.libyaml_types.specs.declared.event.yaml_event_t.{yaml_event_t}
 use Rattle.libyaml_events.specs.Config.{Parser}
@@ -14,16 +14,12 @@ use Rattle.token_lines.specs.declared.run.Step.{Step}
 use Rattle.token_lines.specs.declared.run.Step.TheVariants.{Written, Ended, Failed, OutputFailed}
 use Rattle.token_lines.specs.EventText.{event_line}
 
--- A parser that has given this many events and has not ended, and whose source gives at most these tokens, those that it
--- gave among them.
-pub record IsAfter {S : Type 0} (bound : S → ℕ) (p : Parser S) (count max_tokens : ℕ) : Type 0 where
+-- A parser that met no fault and has not given the stream end event.
+pub record IsRunning {S : Type 0} (p : Parser S) : Type 0 where
   pub asked : List yaml_token_t
   pub given : List yaml_event_t
   pub history : History p asked given
   pub running : has_ended p ≡ false
-  pub counted : length given ≡ count
-  pub at_most_four : length given ≤ 4 * length asked
-  pub within : length asked + bound p.source ≤ max_tokens
 
 -- the first of the events was written, and the others are to come
 pub record TakesFirst {S : Type 0} (known : S → Option Coming) (new : Parser S) (before after : Option (List ℕ)) (events : List yaml_event_t) (ending : Ending) : Type 0 where

@@ -32,9 +32,6 @@ pub const MAX_LINE: usize = 1_048_576;
 /// A run reads at most this many tokens.
 pub const MAX_TOKENS: u64 = 1_000_000;
 
-/// A run gives fewer events than this: at most four for a token.
-const MAX_EVENTS: u64 = 4 * MAX_TOKENS + 1;
-
 #[cfg(test)]
 mod failing;
 #[cfg(test)]

@@ -1,20 +1,21 @@
 //! A run: from token lines to event lines.
-ghost use Rattle.std.specs.Prelude.{◌≡◌, ◌≢◌, ◌⊎◌, ℕ, ◌+◌, List, IfSome, true, false};
+ghost use Rattle.std.specs.Prelude.{◌≡◌, ◌≢◌, ◌⊎◌, ◌<◌, List, IfSome};
 ghost use Rattle.std.specs.Io.KnownBytes.{Appends, Keeps};
 ghost use Rattle.libyaml_types.specs.declared.event.yaml_event_t.{yaml_event_t};
 ghost use Rattle.libyaml_events.specs.Fault.{fault_of};
-ghost use Rattle.libyaml_events.specs.History.{has_ended, is_stream_end};
+ghost use Rattle.libyaml_events.specs.EventsLeft.{events_left};
+ghost use Rattle.libyaml_events.specs.History.{is_stream_end};
 ghost use Rattle.libyaml_events.specs.RunToCome.{RunToCome};
 ghost use Rattle.libyaml_events.specs.Runs.{Ending};
 ghost use Rattle.token_lines.specs.EventRun.{IsRunOf, Writes};
-ghost use Rattle.token_lines.specs.EventStep.{IsAfter, Steps};
+ghost use Rattle.token_lines.specs.EventStep.{IsRunning, Steps};
 ghost use Rattle.token_lines.specs.FaultText.{fault_text};
 ghost use Rattle.token_lines.specs.LineSource.{BreaksOff};
 
+use crate::MAX_TOKENS;
 use crate::event_line::{append_event, write_line};
 use crate::fault_text::write_fault;
 use crate::line_source::yaml_line_source_t;
-use crate::{MAX_EVENTS, MAX_TOKENS};
 use libyaml_events::{
     NO_FAULT, yaml_parser_initialize, yaml_parser_parse, yaml_parser_t, yaml_parser_t_prefix,
     yaml_token_source_t,
@@ -73,12 +74,12 @@ fn write_events<S: yaml_token_source_t, W: Write>(
     parser: &mut yaml_parser_t<S>,
     writer: &mut W,
 ) -> Outcome
-    requires { IsAfter S.bound parser.old 0 MAX_TOKENS }
+    requires { IsRunning parser.old }
     ensures { (events : List yaml_event_t) (ending : Ending) → RunToCome S.known parser.old events ending
         → Writes S.may_break result (W.contents writer.old) (W.contents writer.new) events ending }
 {
     let mut line = String::new(alloc);
-    for _ in 0..MAX_EVENTS {
+    loop {
         match write_next(parser, &mut line, writer) {
             Step::Written => {}
             Step::Ended => return flushed(Outcome::Ended, writer),
@@ -86,7 +87,6 @@ fn write_events<S: yaml_token_source_t, W: Write>(
             Step::OutputFailed => return Outcome::OutputFailed,
         }
     }
-    unreachable!()
 }
 
 /// Writes the line of the next event, whose text is made in `line`.
@@ -95,8 +95,9 @@ fn write_next<S: yaml_token_source_t, W: Write>(
     line: &mut String,
     writer: &mut W,
 ) -> Step
-    requires { has_ended parser.old ≡ false }
-    ensures counts { (count tokens : ℕ) → IsAfter S.bound parser.old count tokens → result ≡ Step.Written → IsAfter S.bound parser.new (count + 1) tokens }
+    requires { IsRunning parser.old }
+    ensures running { result ≡ Step.Written → IsRunning parser.new }
+    ensures falls { result ≡ Step.Written → events_left S.bound parser.new < events_left S.bound parser.old }
     ensures step { (events : List yaml_event_t) (ending : Ending) → RunToCome S.known parser.old events ending
         → Steps S.known S.may_break result parser.new (W.contents writer.old) (W.contents writer.new) events ending }
 {

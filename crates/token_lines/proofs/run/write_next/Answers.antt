@@ -6,7 +6,7 @@ use Rattle.libyaml_events.specs.Fault.{Fault}
 use Rattle.token_lines.specs.EventText.{event_line}
 use Rattle.token_lines.specs.EventStep.{FailsHere}
 use Rattle.token_lines.proofs.RunLemmas.{Keeps-same}
-use Rattle.token_lines.proofs.StepLemmas.{Says, fails_here, first_event, takes_first, takes_last, one_after}
+use Rattle.token_lines.proofs.StepLemmas.{Says, fails_here, first_event, takes_first, takes_last, still_running}
 use Rattle.token_lines.proofs.run.write_next.Goals as goal
 
 pub returns-in_default-clause-step : goal.returns-in_default-clause-step
@@ -22,24 +22,26 @@ returns-then-is_stream_end-clause-step g c events ending run =
     let t = g.S.yaml_token_source_t in
     let call = c.yaml_parser_parse in
     let says : Says t.known t.may_break c.args.parser.now call.new.parser call.result = record { next = call.ensures.next_of_run; end = call.ensures.end_of_run; fault = call.ensures.fault_of_run } in
-    let on = c.in-Ok.ensures.carries_on c.requires run.asked run.given run.history in
+    let on = c.in-Ok.ensures.carries_on c.requires.running run.asked run.given run.history in
     let first = first_event t.known t.may_break c.args.parser.now call.new.parser call.result c.in-Ok.event c.in-Ok.is on.an_event says events ending run in
     let line = c.in-Ok-append_event.ensures ∙ ap (λ l. l ++ event_line c.in-Ok.event) c.clear.ensures.bytes in
     let ended = on.ends ∙ sym c.is_stream_end.ensures ∙ c.if-is_stream_end.true in
     takes_last t.known t.may_break c.args.parser.now call.new.parser _ _ c.in-Ok.event events ending first (call.ensures.nothing_behind_end ended) (subst (Appends _ _) line c.in-Ok-write_line.ensures.ok)
 
-pub returns-clause-counts : goal.returns-clause-counts
-returns-clause-counts g c count max_tokens after written =
-    let t = g.S.yaml_token_source_t in
+pub returns-clause-running : goal.returns-clause-running
+returns-clause-running g c written =
     let last = sym c.is_stream_end.ensures ∙ c.if-is_stream_end.false in
-    one_after t.bound t.gives c.args.parser.now c.yaml_parser_parse.new.parser c.in-Ok.event count max_tokens g.met.S.yaml_token_source_t.falls (c.in-Ok.ensures.carries_on c.requires) c.yaml_parser_parse.ensures.at_most_four last after
+    still_running g.S.yaml_token_source_t.gives c.args.parser.now c.yaml_parser_parse.new.parser c.in-Ok.event (c.in-Ok.ensures.carries_on c.requires.running) last c.requires
+
+pub returns-clause-falls : goal.returns-clause-falls
+returns-clause-falls g c written = c.in-Ok.ensures.falls c.requires.running
 
 pub returns-clause-step : goal.returns-clause-step
 returns-clause-step g c events ending run =
     let t = g.S.yaml_token_source_t in
     let call = c.yaml_parser_parse in
     let says : Says t.known t.may_break c.args.parser.now call.new.parser call.result = record { next = call.ensures.next_of_run; end = call.ensures.end_of_run; fault = call.ensures.fault_of_run } in
-    let on = c.in-Ok.ensures.carries_on c.requires run.asked run.given run.history in
+    let on = c.in-Ok.ensures.carries_on c.requires.running run.asked run.given run.history in
     let first = first_event t.known t.may_break c.args.parser.now call.new.parser call.result c.in-Ok.event c.in-Ok.is on.an_event says events ending run in
     let line = c.in-Ok-append_event.ensures ∙ ap (λ l. l ++ event_line c.in-Ok.event) c.clear.ensures.bytes in
     takes_first t.known t.may_break c.args.parser.now call.new.parser _ _ c.in-Ok.event events ending first (subst (Appends _ _) line c.in-Ok-write_line.ensures.ok)
