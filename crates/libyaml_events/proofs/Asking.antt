@@ -1,6 +1,6 @@
 -- A call asks for a further token only where the machine wants one.
-use Rattle.std.proofs.Common.{◌≡◌, List, [], ◌∷◌, Result, Ok, Err, Bool, true, false, refl, ap}
-use Rattle.libyaml_events.specs.Fault.{Fault, Answer}
+use Rattle.std.proofs.Common.{◌≡◌, List, [], ◌∷◌, Ok, Err, Bool, refl, ap}
+use Rattle.libyaml_events.specs.Fault.{Answer}
 use Rattle.libyaml_events.specs.Tokens.{Token}
 use Rattle.libyaml_events.specs.Config.{Config}
 use Rattle.libyaml_events.specs.Machine.{Outcome, step}

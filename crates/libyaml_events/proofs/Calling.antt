@@ -1,5 +1,5 @@
 -- What a call's answers lead to.
-use Rattle.std.proofs.Common.{◌≡◌, List, [], ◌∷◌, ◌++◌, ◌||◌, Option, Some, None, refl, sym, ap, ◌∙◌, subst, Bool, true, false, Result, Ok, Err}
+use Rattle.std.proofs.Common.{◌≡◌, List, [], ◌∷◌, ◌++◌, ◌||◌, Some, None, refl, sym, ap, ◌∙◌, subst, Bool, true, false, Ok, Err}
 use Rattle.libyaml_events.specs.Machine.{Outcome, step}
 use Rattle.libyaml_events.specs.Trees.{behind, whole}
 use Rattle.libyaml_events.specs.History.{Ran, begins, goes_on}
@@ -9,8 +9,7 @@ use Rattle.libyaml_events.specs.Tokens.{Token}
 use Rattle.libyaml_events.specs.Trees.{free}
 use Rattle.libyaml_events.specs.Events.{Event, events}
 use Rattle.libyaml_events.specs.Positions.{Position, between, done, due, headed, position_rest, unopened}
-use Rattle.libyaml_events.specs.Given.{given}
-use Rattle.libyaml_events.specs.Config.{Config, start, taken, is_fault, is_end, is_over, with_fault}
+use Rattle.libyaml_events.specs.Config.{Config, taken, is_fault, is_end, is_over}
 use Rattle.libyaml_events.specs.Calls.{Calls, EventOrError, Then, held, held_token}
 use Rattle.libyaml_events.specs.History.{answers}
 use Rattle.libyaml_events.proofs.Asking.{Asks, AsksOn}

@@ -1,8 +1,7 @@
 -- A token gives at most four events, and what was given begins each sentence's events.
 use Rattle.std.proofs.Common.{◌≡◌, ◌≤◌, ◌+◌, ◌*◌, arith, ℕ, zero, suc, List, [], ◌∷◌, ◌++◌, length, Option, Some, None, refl, sym, ap, ◌∙◌, subst, Bool, true, false, Ok, Err}
 use Rattle.libyaml_events.specs.Machine.{Outcome}
-use Rattle.libyaml_events.specs.History.{Ran}
-use Rattle.libyaml_events.specs.Settled.{Begins, BeginsEach}
+use Rattle.libyaml_events.specs.Settled.{BeginsEach}
 use Rattle.libyaml_events.specs.FaultTexts.{no_fault}
 use Rattle.libyaml_events.specs.Tokens.{Content, Marks, Token, marks_of, tok}
 use Rattle.libyaml_events.specs.Trees.{tokens}

@@ -1,12 +1,12 @@
 -- What the machine makes of directives and handles is what the grammar says of them.
-use Rattle.std.proofs.Common.{◌≡◌, ℕ, ◌&&◌, ◌||◌, ◌++◌, pos, List, [], ◌∷◌, Option, Some, None, Ok, Err, refl, sym, ap, ◌∙◌, subst, Bool, true, false, cond, nat_eq, nat_cmp, codes}
+use Rattle.std.proofs.Common.{◌≡◌, ℕ, ◌&&◌, ◌||◌, ◌++◌, pos, List, [], ◌∷◌, Option, Some, None, refl, sym, ap, ◌∙◌, subst, Bool, true, false, cond, nat_eq, nat_cmp, codes}
 use Rattle.std.specs.Ordering.{int_eq, eq_by_cmp}
 use Rattle.std.specs.Cmp.Lexicographic.{pointwise, slice_cmp, texts_ties, nat_list_eq_equiv, nat_list_cmp_total}
 use Rattle.std.specs.FinMap.{get, insert, get-insert, get-from_entries}
 use Rattle.libyaml_events.specs.Machine as mach
 use Rattle.libyaml_events.specs.FaultTexts.{duplicate_version_fault, version_fault}
 use Rattle.libyaml_events.specs.Tokens.{HandleDeclared, Mark, Marks, TagDirective, TagName, Token, VersionAsked, VersionDirective, tok}
-use Rattle.libyaml_events.specs.Trees.{Directives, directive, no_directives, tag, tag_directive, version}
+use Rattle.libyaml_events.specs.Trees.{Directives, directive, no_directives, tag_directive, version}
 use Rattle.libyaml_events.specs.Events.{Event, declaration, either, plain_flag, prefix_of, quoted_flag, resolved, same_text, tag_directives_of, tag_directives_then, tag_from, version_of}
 use Rattle.libyaml_events.specs.Order.{both, declares, is_known, is_version, negated, no_version}
 use Rattle.libyaml_events.specs.Reading.{keeps_order}

@@ -1,21 +1,19 @@
 -- With each event a number of the parser falls.
-use Rattle.std.proofs.Common.{◌≡◌, ◌≤◌, ◌<◌, ◌+◌, ◌*◌, ◌-◌, arith, ℕ, zero, suc, List, [], ◌∷◌, ◌++◌, length, Option, Some, None, Bool, true, false, Ok, Err, IfOk, refl, sym, ap, ◌∙◌, subst}
+use Rattle.std.proofs.Common.{◌≡◌, ◌≤◌, ◌<◌, ◌+◌, ◌*◌, arith, ℕ, List, [], ◌∷◌, ◌++◌, length, Option, Some, None, Bool, true, false, Ok, Err, IfOk, refl, sym, ap, subst}
 use Rattle.std.specs.FinMap.{get}
 use Rattle.libyaml_types.specs.declared.event.unnamed_yaml_event_t_data.{unnamed_yaml_event_t_data}
 use Rattle.libyaml_events.specs.Machine as mach
 use Rattle.libyaml_events.specs.Machine.{Outcome, step, may_open, first_version, version_directive, further_document_end, anchor_behind, tag_behind, content_behind, content_resolved, node_content, no_content, parse_node, explicit_document, parse_implicit_document_start, parse_document_start, behind_properties, at_state, machine, resolve}
-use Rattle.libyaml_events.specs.EventsLeft.{rank, held_rank, indentless_rank, key_rank, value_rank, events_left}
-use Rattle.libyaml_events.specs.Config.{Config, Parser, taken, below, top, pushed, is_over}
+use Rattle.libyaml_events.specs.EventsLeft.{rank, held_rank, events_left}
+use Rattle.libyaml_events.specs.Config.{Config, Parser, taken, below, top, is_over}
 use Rattle.libyaml_events.specs.Calls.{EventOrError, Gave, Then, Calls, Call, held, held_token}
 use Rattle.libyaml_events.proofs.Asking.{AreTokens}
 use Rattle.libyaml_events.proofs.Parsed.{running_does, tokens_behind}
 use Rattle.libyaml_events.specs.History.{answers}
 use Rattle.libyaml_events.specs.Fault.{Answer}
 use Rattle.libyaml_events.specs.Tokens.{Alias, Anchor, AnchorName, BlockEnd, BlockEntry, BlockMappingStart, BlockSequenceStart, Content, DocumentEnd, DocumentStart, FlowEntry, FlowMappingEnd, FlowMappingStart, FlowSequenceEnd, FlowSequenceStart, Key, Mark, Marks, Scalar, StreamEnd, StreamStart, Tag, TagDirective, TagName, Token, Value, VersionDirective, marks_of, tok}
-use Rattle.libyaml_events.specs.Trees.{tokens}
 use Rattle.libyaml_events.specs.Events.{Event}
 use Rattle.libyaml_events.specs.Rest.{rest}
-use Rattle.libyaml_events.specs.Given.{gives}
 use Rattle.libyaml_events.proofs.Follow.{more}
 use Rattle.libyaml_events.specs.declared.progress.Want.{Want}
 use Rattle.libyaml_events.specs.declared.progress.NodePlace.{NodePlace}

@@ -1,5 +1,5 @@
 -- The machine follows the grammar: all that one token makes it do at a position is what the grammar says of it.
-use Rattle.std.proofs.Common.{◌≡◌, ℕ, suc, List, [], ◌∷◌, Option, Some, None, refl, ap, ◌∙◌, Bool, true, false, Ok, Err}
+use Rattle.std.proofs.Common.{◌≡◌, ℕ, suc, List, [], ◌∷◌, Option, Some, None, refl, ap, ◌∙◌, Bool, true, false, Ok}
 use Rattle.libyaml_events.specs.Machine as mach
 use Rattle.libyaml_events.specs.Machine.{Outcome, parse_node, node_content, no_content, content_behind, content_resolved, implicit_document}
 use Rattle.libyaml_events.specs.CutTrees.{declared, open_collection}

@@ -1,5 +1,5 @@
 -- What a list of tokens gives, piece by piece.
-use Rattle.std.proofs.Common.{◌≡◌, ℕ, zero, suc, List, [], ◌∷◌, ◌++◌, Option, Some, None, refl, sym, ap, ◌∙◌, subst, Bool, true, false, Ok, Err}
+use Rattle.std.proofs.Common.{◌≡◌, ℕ, zero, suc, List, [], ◌∷◌, ◌++◌, Option, Some, None, refl, sym, ap, ◌∙◌, Bool, true, false, Ok, Err}
 use Rattle.libyaml_events.specs.Machine.{Outcome}
 use Rattle.libyaml_events.specs.Tokens.{Content, Mark, Marks, Token, marks_of, tok}
 use Rattle.libyaml_events.specs.Events.{Event}

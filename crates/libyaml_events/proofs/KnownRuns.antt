@@ -1,38 +1,36 @@
 -- A parser over a known source gives its run.
-use Rattle.std.proofs.Common.{◌≡◌, ◌⊎◌, inl, inr, ℤ, zero, suc, List, [], ◌∷◌, ◌++◌, Option, Some, None, refl, sym, ap, ◌∙◌, subst, Bool, true, false, Result, Ok, Err, IfErr}
+use Rattle.std.proofs.Common.{◌≡◌, ◌⊎◌, inl, inr, ℤ, List, [], ◌∷◌, ◌++◌, Option, Some, refl, sym, ap, ◌∙◌, subst, Bool, true, false, Ok, Err, IfErr}
 use Rattle.libyaml_events.specs.Parsing as pars
 use Rattle.libyaml_events.specs.Parsing.{HasFailed, StopsShort, behind_beginning, Cause, of_memory, of_grammar, of_source, FailsBy}
 use Rattle.libyaml_events.proofs.Parsed.{running_does, fails}
 use Rattle.libyaml_events.proofs.Staged.{ran_staged, staged_over, staged_whole, tree_ends}
 use Rattle.libyaml_events.specs.Stages.{is_at_end, stage_of}
 use Rattle.libyaml_types.specs.declared.enums.yaml_error_type_t.{yaml_error_type_t}
-use Rattle.libyaml_types.specs.declared.enums.yaml_error_type_t.TheVariants.{YAML_MEMORY_ERROR}
 use Rattle.libyaml_events.specs.Fault.{Fault, Answer}
-use Rattle.libyaml_events.specs.FaultTexts.{zero_mark, memory_fault}
+use Rattle.libyaml_events.specs.FaultTexts.{zero_mark}
 use Rattle.libyaml_events.specs.Source.{Coming, coming, Follows, FollowsList}
-use Rattle.libyaml_events.specs.Tokens.{Anchor, Content, Token, marks_of, tok}
-use Rattle.libyaml_events.specs.Trees.{Stream, tokens}
+use Rattle.libyaml_events.specs.Tokens.{Anchor, Content, Token, marks_of}
+use Rattle.libyaml_events.specs.Trees.{Stream}
 use Rattle.libyaml_events.specs.Events.{Event, events, either}
 use Rattle.libyaml_events.specs.CutTrees.{Cut, at_tag, at_tag_behind}
 use Rattle.libyaml_events.specs.CutEvents.{shown_cut, cut_events}
 use Rattle.libyaml_events.specs.CutFaults.{fault}
-use Rattle.libyaml_events.specs.Sentences.{IsBeginning, is_end, has_end}
+use Rattle.libyaml_events.specs.Sentences.{is_end, has_end}
 use Rattle.libyaml_events.specs.StreamEnds.{up_to_end}
-use Rattle.libyaml_events.specs.Fits.{Fits}
-use Rattle.libyaml_events.specs.Settled.{IsSettled, sure}
+use Rattle.libyaml_events.specs.Settled.{sure}
 use Rattle.libyaml_events.specs.Positions.{Position, unopened, done}
 use Rattle.libyaml_events.specs.Reading.{Step, feed, reads, reads_all, then_all, checked, is_legal, broken, goes, bad, over}
 use Rattle.libyaml_events.specs.Given.{gives, given, if_all}
 use Rattle.libyaml_events.specs.Runs.{Ending, Ends, Fails, IsRun, of_sentence, of_cut_tree, amid_properties, of_beginning, is_behind, is_behind_properties, has_token}
 use Rattle.libyaml_events.specs.Config.{Config, Parser, taken, is_over}
-use Rattle.libyaml_events.specs.Calls.{EventOrError, Gave, held, CallsUnlessRefused, Calls, Refused, Call, ParsesIf, empty_event}
+use Rattle.libyaml_events.specs.Calls.{EventOrError, Gave, held, Calls, Call, ParsesIf, empty_event}
 use Rattle.libyaml_events.specs.Needs.{HasWaited, at_once, by_last}
-use Rattle.libyaml_events.specs.History.{goes_on, has_ended, History, answers, kept_fault}
+use Rattle.libyaml_events.specs.History.{goes_on, has_ended, answers, kept_fault}
 use Rattle.libyaml_events.specs.RunToCome.{RunToCome, UnlessBroken, does, no_memory, breaks}
 use Rattle.libyaml_events.specs.declared.progress.Want.TheVariants.{AtState}
 use Rattle.libyaml_events.proofs.Lists.{nil_right, assoc}
-use Rattle.libyaml_events.proofs.Completion.{reached_begins, sentence_reads}
-use Rattle.libyaml_events.proofs.Fronts.{IsNotDone, front, front_of, begin_reads}
+use Rattle.libyaml_events.proofs.Completion.{sentence_reads}
+use Rattle.libyaml_events.proofs.Fronts.{front, front_of, begin_reads}
 use Rattle.libyaml_events.proofs.Link.{spends}
 use Rattle.libyaml_events.proofs.OneCut.{fits_reach, fits_stop, goes_same, bad_same}
 use Rattle.libyaml_events.proofs.Outcomes.{Does, is_good, is_bad, is_doomed, is_over as is_over_there}
@@ -43,8 +41,8 @@ use Rattle.libyaml_events.proofs.Shows.{Shows, step_shows}
 use Rattle.libyaml_events.proofs.StepsMeet.{IsMet, Meets, step_met}
 use Rattle.libyaml_events.proofs.StreamEnds.{not_end_not_done}
 use Rattle.libyaml_events.proofs.Giving.{given_split, gives_split, shown_given}
-use Rattle.libyaml_events.proofs.Waiting.{doomed_shown, still_waits}
-use Rattle.libyaml_events.proofs.Stand.{Stood, Stands, Links, Amid, at_position, amid_token, at_place, amid_node, not_done}
+use Rattle.libyaml_events.proofs.Waiting.{doomed_shown}
+use Rattle.libyaml_events.proofs.Stand.{Links, at_position, amid_token}
 use Rattle.libyaml_events.proofs.Calling.{Answered, gave, failed, faulted, call_answers, ran_links}
 
 -- the events of a list, up to its first bad token, or its stream's end
@@ -230,16 +228,19 @@ module _ {S : Type 0} (gives_to : S → Answer → S → Type 0) (known : S → 
             let links : Links new.config (h.asked ++ more) (h.given ++ e ∷ []) = subst (λ (y : Event). Links new.config (h.asked ++ more) (h.given ++ y ∷ [])) (ok_same x j) k in
             let b = linked_begins new.config (h.asked ++ more) (h.given ++ e ∷ []) front.rest links in
             let run : IsRun ((h.asked ++ more) ++ front.rest) h.fault (h.given ++ to_come) ending = subst (λ (y : List Token). IsRun y h.fault (h.given ++ to_come) ending) same h.run in
-            let f : to_come ≡ e ∷ b.0 = behind_same h.given to_come (e ∷ b.0) (run_given ((h.asked ++ more) ++ front.rest) h.fault (h.given ++ to_come) ending run ∙ (b.1 ∙ assoc h.given (e ∷ []) b.0)) in
-            (b.0, f, record {
-              asked = h.asked ++ more;
-              given = h.given ++ e ∷ [];
-              rest = front.rest;
-              fault = h.fault;
-              history = goes_on old.config h.asked h.given more e h.history begun (subst (λ (y : List Answer). Calls AtState (taken old.config) (held old.config ++ y) (Ok e) new.config) i calls) refl refl;
-              knows = front.knows;
-              run = subst (λ (y : List Event). IsRun ((h.asked ++ more) ++ front.rest) h.fault y ending) (ap (λ (y : List Event). h.given ++ y) f ∙ sym (assoc h.given (e ∷ []) b.0)) run;
-            })
+            let f : to_come ≡ e ∷ b.0 = behind_same h.given to_come (e ∷ b.0) (run_given ((h.asked ++ more) ++ front.rest) h.fault (h.given ++ to_come) ending run ∙ (b.1 ∙ assoc h.given (e ∷ []) b.0)) in (
+              b.0,
+              f,
+              record {
+                asked = h.asked ++ more;
+                given = h.given ++ e ∷ [];
+                rest = front.rest;
+                fault = h.fault;
+                history = goes_on old.config h.asked h.given more e h.history begun (subst (λ (y : List Answer). Calls AtState (taken old.config) (held old.config ++ y) (Ok e) new.config) i calls) refl refl;
+                knows = front.knows;
+                run = subst (λ (y : List Event). IsRun ((h.asked ++ more) ++ front.rest) h.fault y ending) (ap (λ (y : List Event). h.given ++ y) f ∙ sym (assoc h.given (e ∷ []) b.0)) run;
+              },
+            )
         go (failed more i j k) = absurd (not_err new.config.fault.error j)
         go (faulted more w c i j k) = absurd (not_err new.config.fault.error j)
 

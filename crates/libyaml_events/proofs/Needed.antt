@@ -1,5 +1,5 @@
 -- Where the parser stands amid a call, a token more is needed.
-use Rattle.std.proofs.Common.{◌≡◌, arith, List, [], ◌∷◌, ◌++◌, refl, sym, ap, ◌∙◌, subst, ◌⊎◌, inl, inr, ℕ, true, false}
+use Rattle.std.proofs.Common.{◌≡◌, List, [], refl, sym, ◌∙◌, subst}
 use Rattle.libyaml_events.specs.Settled.{IsOpen}
 use Rattle.libyaml_events.specs.Needs.{NeedsMore, for_next_event, amid_properties}
 use Rattle.libyaml_events.proofs.Stand.{not_done}

@@ -5,7 +5,6 @@ use Rattle.libyaml_events.specs.Machine as mach
 use Rattle.libyaml_events.specs.Machine.{Outcome, may_open, first_version, version_directive, further_document_end, anchor_behind, tag_behind, content_behind, content_resolved, node_content, no_content, parse_node, explicit_document, parse_implicit_document_start, parse_document_start, behind_properties, at_state, machine, resolve}
 use Rattle.libyaml_types.specs.declared.event.unnamed_yaml_event_t_data.{unnamed_yaml_event_t_data}
 use Rattle.libyaml_events.specs.Tokens.{Alias, Anchor, BlockEnd, BlockEntry, BlockMappingStart, BlockSequenceStart, Content, DocumentEnd, DocumentStart, FlowEntry, FlowMappingEnd, FlowMappingStart, FlowSequenceEnd, FlowSequenceStart, Key, Mark, Scalar, StreamEnd, StreamStart, Tag, TagDirective, Token, Value, VersionDirective}
-use Rattle.libyaml_events.specs.Trees.{value}
 use Rattle.libyaml_events.specs.Config.{Config, pushed}
 use Rattle.libyaml_events.specs.declared.progress.Want.{Want}
 use Rattle.libyaml_events.specs.declared.progress.NodePlace.{NodePlace}

@@ -1,5 +1,5 @@
 -- What a token does at a position, to the grammar and to the machine.
-use Rattle.std.proofs.Common.{◌≡◌, ℕ, List, Some, None, refl, sym, ap, ◌∙◌, subst, Bool, true, false}
+use Rattle.std.proofs.Common.{◌≡◌, List, refl, sym, ap, ◌∙◌, subst, Bool, true, false}
 use Rattle.libyaml_events.proofs.Cases.{IsTagHeld, IsHeaded, HeadGoes, TagGoes, step_tag, step_version, step_handle}
 use Rattle.libyaml_events.specs.Tokens.{Content, HandleDeclared, Mark, Marks, Tag, TagDirective, VersionAsked, VersionDirective, tok}
 use Rattle.libyaml_events.specs.Trees.{Directive, Directives, tag_directive, version}

@@ -1,40 +1,35 @@
 -- What a call of the parser did, by its history.
-use Rattle.std.proofs.Common.{◌≡◌, ◌⊎◌, inl, inr, List, [], ◌∷◌, ◌++◌, Option, Some, None, refl, sym, ap, ◌∙◌, subst, Bool, true, false, Result, Ok, Err, IfOk, IfErr}
+use Rattle.std.proofs.Common.{◌≡◌, inl, inr, List, [], ◌∷◌, ◌++◌, refl, sym, ap, ◌∙◌, subst, Bool, true, false, Ok, Err, IfOk, IfErr}
 use Rattle.libyaml_types.specs.declared.enums.yaml_error_type_t.{yaml_error_type_t}
 use Rattle.libyaml_events.specs.Errors.{IsSourceError}
 use Rattle.libyaml_events.specs.Fault.{Fault, Answer}
-use Rattle.libyaml_events.specs.FaultTexts.{memory_fault}
-use Rattle.libyaml_events.specs.Tokens.{Anchor, Content, Tag, Token, marks_of}
-use Rattle.libyaml_events.specs.Trees.{Directives, Stream, tokens}
-use Rattle.libyaml_events.specs.Events.{Event, events, either}
-use Rattle.libyaml_events.specs.CutTrees.{Cut, at_tag, at_tag_behind, declared}
-use Rattle.libyaml_events.specs.CutEvents.{cut_events}
-use Rattle.libyaml_events.specs.Sentences.{IsBeginning, is_end, has_end}
-use Rattle.libyaml_events.specs.Fits.{Fits, FitsTag, IsUnknown}
-use Rattle.libyaml_events.specs.Settled.{Begins, BeginsEach, IsSettled, sure}
+use Rattle.libyaml_events.specs.Tokens.{Content, Tag, Token}
+use Rattle.libyaml_events.specs.Trees.{Directives, Stream}
+use Rattle.libyaml_events.specs.Events.{Event, either}
+use Rattle.libyaml_events.specs.CutTrees.{Cut, declared}
+use Rattle.libyaml_events.specs.Sentences.{is_end, has_end}
+use Rattle.libyaml_events.specs.Fits.{FitsTag, IsUnknown}
+use Rattle.libyaml_events.specs.Settled.{IsSettled}
 use Rattle.libyaml_events.specs.Positions.{Position, unopened, done}
 use Rattle.libyaml_events.specs.Reading.{reads, reads_all, goes, bad, over}
-use Rattle.libyaml_events.specs.Given.{given}
-use Rattle.libyaml_events.specs.Runs.{is_behind_properties}
 use Rattle.libyaml_events.specs.Config.{Config, Parser, taken, is_over}
 use Rattle.libyaml_events.specs.Calls.{EventOrError, Gave, held, Calls, CallsUnlessRefused, ParsesIf, Parses, AreOfSource, Call, Refused, empty_event}
-use Rattle.libyaml_events.specs.History.{Ran, goes_on, History, answers, kept_fault}
-use Rattle.libyaml_events.specs.Needs.{NeedsMore, EachNeeded}
+use Rattle.libyaml_events.specs.History.{goes_on, History, answers}
+use Rattle.libyaml_events.specs.Needs.{EachNeeded}
 use Rattle.libyaml_events.specs.Parsing as pub_
 use Rattle.libyaml_events.specs.Parsing.{CarriesOn, HasFailed, StopsShort, behind_beginning, Cause, of_memory, of_grammar, of_source, FailsBy}
 use Rattle.libyaml_events.specs.declared.progress.Want.{Want}
 use Rattle.libyaml_events.specs.declared.progress.Want.TheVariants.{AtState}
-use Rattle.libyaml_events.proofs.Lists.{nil_right, assoc}
 use Rattle.libyaml_events.proofs.Completion.{reached_begins}
 use Rattle.libyaml_events.proofs.Fitting.{stops_fits}
-use Rattle.libyaml_events.proofs.Fronts.{IsNotDone, front}
+use Rattle.libyaml_events.proofs.Fronts.{front}
 use Rattle.libyaml_events.proofs.Settling.{front_settles}
 use Rattle.libyaml_events.proofs.StreamEnds.{IsDone, end_is_done}
 use Rattle.libyaml_events.proofs.Waiting.{Waits, behind_tag, behind_anchor, behind_both, still_waits}
 use Rattle.libyaml_events.proofs.Stand.{Stood, Stands, Links, at_place, amid_node, not_done}
 use Rattle.libyaml_events.proofs.Stand as stand
 use Rattle.libyaml_events.proofs.Asking.{Asks, calls_ask, refused_ask, AreTokens, refused_tokens}
-use Rattle.libyaml_events.proofs.Calling.{Answered, gave, failed, faulted, call_answers, call_gives, ran_links, Standing, asks_stand, Starts, ready, holding, starts}
+use Rattle.libyaml_events.proofs.Calling.{Answered, gave, failed, faulted, call_answers, call_gives, ran_links, asks_stand, Starts, ready, holding, starts}
 use Rattle.libyaml_events.proofs.Needed.{open_there, standing_needs}
 use Rattle.libyaml_events.proofs.Staged.{Staged, call_staged, ran_staged, stage_snoc, staged_over, staged_whole, leads_to_end, refused_stage}
 use Rattle.libyaml_events.specs.Stages.{at_start, is_event, is_at_end, stage_of}

@@ -1,5 +1,5 @@
 -- What the stage of a parser's events says of it.
-use Rattle.std.proofs.Common.{◌≡◌, ◌≤◌, ◌+◌, ◌||◌, ℕ, zero, suc, arith, List, [], ◌∷◌, ◌++◌, length, Option, Some, None, Bool, true, false, Ok, Err, refl, sym, ap, ◌∙◌, subst}
+use Rattle.std.proofs.Common.{◌≡◌, ◌≤◌, ◌||◌, ℕ, zero, suc, arith, List, [], ◌∷◌, ◌++◌, length, Option, Some, None, true, false, Ok, Err, refl, sym, ap, ◌∙◌, subst}
 use Rattle.libyaml_types.specs.declared.event.unnamed_yaml_event_t_data.{unnamed_yaml_event_t_data}
 use Rattle.libyaml_types.specs.declared.event.unnamed_yaml_event_t_data.TheVariants as ev
 use Rattle.libyaml_events.specs.Machine.{Outcome, step, parse_stream_start, parse_document_end, at_state}
@@ -13,7 +13,7 @@ use Rattle.libyaml_events.specs.CutTrees.{open_collection}
 use Rattle.libyaml_events.specs.Calls.{held}
 use Rattle.libyaml_events.proofs.Lists.{nil_right}
 use Rattle.libyaml_events.specs.Reading.{reads_all, goes}
-use Rattle.libyaml_events.specs.Stages.{Stage, at_start, outside, before_root, within, behind_root, at_end, after, is_event, is_outside, is_at_end, stage_from, stage_of, open_collections, takes_no_memory}
+use Rattle.libyaml_events.specs.Stages.{Stage, at_start, before_root, within, after, is_event, is_outside, is_at_end, stage_from, stage_of, open_collections, takes_no_memory}
 use Rattle.libyaml_events.specs.Events.{events}
 use Rattle.libyaml_events.specs.Fault.{Answer, Fault}
 use Rattle.libyaml_events.specs.Tokens.{Content, DocumentEnd, StreamStart, Token}
@@ -22,7 +22,6 @@ use Rattle.libyaml_events.specs.Events.{Event, document_end_event, stream_end_ev
 use Rattle.libyaml_events.specs.CutTrees.{Open, Place, block, entry, explicit_root, flow_entry, flow_key, flow_value, implicit_root, indentless_entry, part_place, root, slot}
 use Rattle.libyaml_events.specs.Rest.{rest}
 use Rattle.libyaml_events.specs.Positions.{Position, between, done, due, flow_behind, flow_due, flow_keyed, headed, in_indentless, in_mapping, in_sequence, shown, unopened}
-use Rattle.libyaml_events.specs.Given.{given}
 use Rattle.libyaml_events.specs.Calls.{Calls, EventOrError, Refused, RefusedAt, Then, may_grow_at}
 use Rattle.libyaml_events.proofs.Completion.{read_order}
 use Rattle.libyaml_events.proofs.Follow.{more}

@@ -1,10 +1,9 @@
 -- A TAG goes on exactly where a node may begin, or behind an ANCHOR that begins one.
-use Rattle.std.proofs.Common.{◌≡◌, ℕ, List, [], ◌∷◌, ◌++◌, Option, Some, None, refl, sym, ap, ◌∙◌, subst, Bool, true, false, ◌⊎◌, inl, inr, ◌↔◌}
+use Rattle.std.proofs.Common.{◌≡◌, ℕ, List, [], ◌∷◌, ◌++◌, Some, refl, sym, ap, ◌∙◌, subst, Bool, true, false, inl, inr, ◌↔◌}
 use Rattle.libyaml_events.specs.Tokens.{Anchor, Marks, Tag, TagName, Token, tok, zero_marks}
 use Rattle.libyaml_events.specs.Trees.{anchor_tag, tag}
 use Rattle.libyaml_events.specs.Order.{both, is_known}
 use Rattle.libyaml_events.specs.CutTrees.{Place, declared, place_in_order, place_tokens}
-use Rattle.libyaml_events.specs.Rest.{rest}
 use Rattle.libyaml_events.specs.Sentences.{IsBeginning, IsSentence}
 use Rattle.libyaml_events.specs.Fits.{NodeBegins}
 use Rattle.libyaml_events.specs.Positions.{Position, done, due, position_in_order, position_rest, position_tokens, unopened}

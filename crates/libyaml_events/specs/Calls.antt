@@ -6,7 +6,7 @@ use Rattle.libyaml_types.specs.declared.event.unnamed_yaml_event_t_data.TheVaria
 use Rattle.libyaml_types.specs.declared.enums.yaml_error_type_t.{yaml_error_type_t}
 use Rattle.libyaml_types.specs.declared.enums.yaml_parser_state_t.{yaml_parser_state_t}
 use Rattle.libyaml_types.specs.declared.enums.yaml_parser_state_t.TheVariants.{YAML_PARSE_STREAM_START_STATE, YAML_PARSE_DOCUMENT_END_STATE}
-use Rattle.libyaml_events.specs.Fault.{Fault, Answer}
+use Rattle.libyaml_events.specs.Fault.{Answer}
 use Rattle.libyaml_events.specs.FaultTexts.{zero_mark, memory_fault}
 use Rattle.libyaml_events.specs.Errors.{IsSourceError}
 use Rattle.libyaml_events.specs.Config.{Config, Parser, with_config, with_fault, taken, is_over}

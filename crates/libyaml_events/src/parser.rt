@@ -144,7 +144,8 @@ impl<S> yaml_parser_t<S> {
     pub fn keep_fault(&mut self, fault: yaml_parser_t_prefix)
         requires first { is_fault self.old.config.fault.error ≡ false }
         requires of_loader { (fault.error ≡ yaml_error_type_t.YAML_MEMORY_ERROR) ⊎ (fault.error ≡ yaml_error_type_t.YAML_COMPOSER_ERROR) }
-        ensures { self.new ≡ with_config self.old (with_fault self.old.config (fault_of fault)) }
+        ensures kept { self.new ≡ with_config self.old (with_fault self.old.config (fault_of fault)) }
+        ensures ended { has_ended self.new ≡ true }
     {
         self.prefix = fault;
     }

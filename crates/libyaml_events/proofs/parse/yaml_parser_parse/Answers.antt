@@ -2,7 +2,7 @@ use Rattle.std.proofs.Common.{arith}
 use Rattle.libyaml_events.proofs.Calling.{ran_links}
 use Rattle.libyaml_events.proofs.Counting.{linked_begins_each, linked_count}
 use Rattle.libyaml_events.proofs.Falling.{parse_falls}
-use Rattle.libyaml_events.proofs.KnownRuns.{next_of_run, fault_of_run, end_of_run, over_call, nothing_behind_end}
+use Rattle.libyaml_events.proofs.KnownRuns.{next_of_run, fault_of_run, over_call, nothing_behind_end}
 use Rattle.libyaml_events.proofs.Parsed.{carried_on, failed_by}
 use Rattle.libyaml_events.proofs.Staged.{ran_staged, staged_depth}
 use Rattle.libyaml_events.proofs.parse.yaml_parser_parse.Goals as goal
