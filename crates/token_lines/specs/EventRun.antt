@@ -1,5 +1,5 @@
 -- What a run writes (docs/DEFINITIONS.md, "Runs over lines").
-use Rattle.std.specs.Prelude.{◌≡◌, ◌++◌, ◌⊎◌, ℕ, List, [], Option, flat_map}
+use Rattle.std.specs.Prelude.{◌≡◌, ◌++◌, ◌⊎◌, ℕ, List, [], Option, flat_map, IfSome}
 use Rattle.std.specs.Io.KnownBytes.{Appends}
 use Rattle.libyaml_types.specs.declared.event.yaml_event_t.{yaml_event_t}
 use Rattle.libyaml_events.specs.Fault.{Fault}
@@ -9,6 +9,7 @@ use Rattle.token_lines.specs.declared.run.Outcome.{Outcome}
 use Rattle.token_lines.specs.declared.run.Outcome.TheVariants.{Ended, Faulted, OutputFailed}
 use Rattle.token_lines.specs.EventText.{event_line}
 use Rattle.token_lines.specs.FaultText.{fault_text}
+use Rattle.token_lines.specs.LineSource.{BreaksOff}
 use Rattle.token_lines.specs.ReadLines.{read_lines}
 use Rattle.token_lines.specs.declared.TheConstants.{MAX_TOKENS}
 
@@ -32,3 +33,8 @@ abbrev pub Writes : (MayBreak : Fault → Type 0) → Outcome → (old new : Opt
 Writes MayBreak Ended old new events ending = (ending ≡ Ends) × Appends old new (event_lines events)
 Writes MayBreak Faulted old new events ending = WritesFault MayBreak old new events ending
 Writes MayBreak OutputFailed old new events ending = Unit {0}
+
+-- what a run writes of an input, where its bytes are known
+abbrev pub WritesRunOf : (bytes : Option (List ℕ)) → Outcome → (old new : Option (List ℕ)) → Type 0
+WritesRunOf bytes outcome old new =
+    IfSome bytes (λ known. (events : List yaml_event_t) (ending : Ending) → IsRunOf known events ending → Writes BreaksOff outcome old new events ending)

@@ -1,5 +1,5 @@
 //! A run: from token lines to event lines.
-ghost use Rattle.std.specs.Prelude.{◌≡◌, ◌≢◌, ◌⊎◌, ◌<◌, List, IfSome};
+ghost use Rattle.std.specs.Prelude.{◌≡◌, ◌≢◌, ◌⊎◌, ◌<◌, List};
 ghost use Rattle.std.specs.Io.KnownBytes.{Appends, Keeps};
 ghost use Rattle.libyaml_types.specs.declared.event.yaml_event_t.{yaml_event_t};
 ghost use Rattle.libyaml_events.specs.Fault.{fault_of};
@@ -7,10 +7,9 @@ ghost use Rattle.libyaml_events.specs.EventsLeft.{events_left};
 ghost use Rattle.libyaml_events.specs.History.{is_stream_end};
 ghost use Rattle.libyaml_events.specs.RunToCome.{RunToCome};
 ghost use Rattle.libyaml_events.specs.Runs.{Ending};
-ghost use Rattle.token_lines.specs.EventRun.{IsRunOf, Writes};
+ghost use Rattle.token_lines.specs.EventRun.{Writes, WritesRunOf};
 ghost use Rattle.token_lines.specs.EventStep.{IsRunning, Steps};
 ghost use Rattle.token_lines.specs.FaultText.{fault_text};
-ghost use Rattle.token_lines.specs.LineSource.{BreaksOff};
 
 use crate::MAX_TOKENS;
 use crate::event_line::{append_event, write_line};
@@ -60,8 +59,7 @@ enum Step {
 /// Want of memory for a line is written as the fault of a refused growth. The writer is flushed
 /// before `Ended` and `Faulted`; after `OutputFailed` nothing is said of it.
 pub fn run_events<R: BufRead + Drop, W: Write>(alloc: Global, reader: R, writer: &mut W) -> Outcome
-    ensures { IfSome (R.remaining reader) (λ bytes. (events : List yaml_event_t) (ending : Ending) → IsRunOf bytes events ending
-        → Writes BreaksOff result (W.contents writer.old) (W.contents writer.new) events ending) }
+    ensures { WritesRunOf (R.remaining reader) result (W.contents writer.old) (W.contents writer.new) }
 {
     let source = yaml_line_source_t::new(alloc, reader, MAX_TOKENS);
     let mut parser = yaml_parser_initialize(alloc, source);

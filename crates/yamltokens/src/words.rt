@@ -1,20 +1,15 @@
 //! What the words of the command line ask for.
-ghost use Rattle.std.specs.Prelude.{◌≡◌};
+ghost use Rattle.std.specs.Prelude.{◌≡◌, ◌<◌, ◌↔◌, IsTrue, map, string_bytes};
+ghost use Rattle.yamltokens.specs.Words.{AskForEvents, RunsWith};
 
 use std::alloc::Global;
 use std::io::{BufRead, Write};
 use token_lines::{Outcome, run_events};
 
-/// Exit status: the stream has ended.
-pub const ENDED: u8 = 0;
-
-/// Exit status: the text of a fault was written.
-pub const FAULTED: u8 = 1;
-
-/// Exit status: the words are not those of the usage line, or can't be read.
+/// The exit status of words that ask for nothing, or that can't be read.
 pub const WRONG_WORDS: u8 = 2;
 
-/// Exit status: a write or a flush failed, or no memory was found for a buffer.
+/// The exit status where a write or a flush failed, or where no memory was found for a buffer.
 pub const OUTPUT_FAILED: u8 = 3;
 
 /// Runs what the words behind the program's name ask for, from `reader` to `output`, and answers the
@@ -27,14 +22,29 @@ pub fn run_words<R: BufRead + Drop, W: Write, E: Write>(
     reader: R,
     output: &mut W,
     errors: &mut E,
-) -> u8 {
+) -> u8
+    ensures runs { AskForEvents (map string_bytes words.now) → RunsWith (R.remaining reader) result (W.contents output.old) (W.contents output.new) }
+    ensures refused { ¬ AskForEvents (map string_bytes words.now) → (result ≡ WRONG_WORDS) × (output.new ≡ output.old) }
+    ensures quiet { result < WRONG_WORDS → errors.new ≡ errors.old }
+{
+    if !ask_for_events(words) {
+        return refuse_words(errors);
+    }
+    let outcome = run_events(alloc, reader, output);
+    match outcome {
+        Outcome::Ended => 0,
+        Outcome::Faulted => 1,
+        Outcome::OutputFailed => refuse(OUTPUT_FAILED, "yamltokens: output failed\n", errors),
+    }
+}
+
+/// Whether the one word is `events`.
+fn ask_for_events(words: &[String]) -> bool
+    ensures { IsTrue result ↔ AskForEvents (map string_bytes words.now) }
+{
     match words {
-        [word] if word.as_str() == "events" => match run_events(alloc, reader, output) {
-            Outcome::Ended => ENDED,
-            Outcome::Faulted => FAULTED,
-            Outcome::OutputFailed => refuse(OUTPUT_FAILED, "yamltokens: output failed\n", errors),
-        },
-        _ => refuse_words(errors),
+        [word] => word.as_str() == "events",
+        _ => false,
     }
 }
 
