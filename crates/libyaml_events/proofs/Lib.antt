@@ -49,3 +49,4 @@ pub mod Staging
 pub mod Staged
 pub mod Counting
 pub mod Falling
+pub mod Held

@@ -25,6 +25,7 @@ pub mod StreamEnds
 pub mod Settled
 pub mod Runs
 pub mod History
+pub mod Lookahead
 pub mod Stages
 pub mod Needs
 pub mod Parsing

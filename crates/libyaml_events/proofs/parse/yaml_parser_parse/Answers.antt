@@ -2,6 +2,7 @@ use Rattle.std.proofs.Common.{arith}
 use Rattle.libyaml_events.proofs.Calling.{ran_links}
 use Rattle.libyaml_events.proofs.Counting.{linked_begins_each, linked_count}
 use Rattle.libyaml_events.proofs.Falling.{parse_falls}
+use Rattle.libyaml_events.proofs.Held.{ran_holds}
 use Rattle.libyaml_events.proofs.KnownRuns.{next_of_run, fault_of_run, over_call, nothing_behind_end}
 use Rattle.libyaml_events.proofs.Parsed.{carried_on, failed_by}
 use Rattle.libyaml_events.proofs.Staged.{ran_staged, staged_depth}
@@ -21,6 +22,9 @@ returns-clause-at_most_four g c asked given h = linked_count _ asked given (ran_
 
 pub returns-clause-depth : goal.returns-clause-depth
 returns-clause-depth g c asked given h = let d = staged_depth _ given (ran_staged h) in omega arith
+
+pub returns-clause-one_ahead : goal.returns-clause-one_ahead
+returns-clause-one_ahead g c asked given h = ran_holds _ asked given h
 
 pub returns-clause-next_of_run : goal.returns-clause-next_of_run
 returns-clause-next_of_run g c = let t = g.S.yaml_token_source_t in next_of_run t.gives t.known t.may_break g.met.S.yaml_token_source_t.follows _ _ _ c.next_event.ensures.call c.next_event.ensures.kept
