@@ -50,3 +50,5 @@ pub mod Staged
 pub mod Counting
 pub mod Falling
 pub mod Held
+pub mod Marked
+pub mod Raised

@@ -38,7 +38,7 @@ use Rattle.libyaml_types.specs.declared.enums.yaml_parser_state_t.TheVariants.{Y
 use Rattle.libyaml_types.specs.declared.enums.yaml_parser_state_t.{yaml_parser_state_t}
 
 -- the lookahead matters at the end alone
-retake : (s : yaml_parser_state_t) (ss : List yaml_parser_state_t) (l : Option Token) (st : Stage) → GoodAt s ss l st → GoodAt s ss None st
+pub retake : (s : yaml_parser_state_t) (ss : List yaml_parser_state_t) (l : Option Token) (st : Stage) → GoodAt s ss l st → GoodAt s ss None st
 retake YAML_PARSE_END_STATE ss l st h = (h.0, h.1, refl)
 retake YAML_PARSE_STREAM_START_STATE ss l st h = h
 retake _ ss l st h = h

@@ -26,6 +26,7 @@ pub mod Settled
 pub mod Runs
 pub mod History
 pub mod Lookahead
+pub mod Pops
 pub mod Stages
 pub mod Needs
 pub mod Parsing

@@ -10,6 +10,7 @@ ghost use Rattle.libyaml_events.specs.Runs.{Ending, Ends, Fails};
 ghost use Rattle.libyaml_events.specs.Stages.{stage_of, open_collections};
 ghost use Rattle.libyaml_events.specs.History.{History, has_ended, kept_fault, stack_depth};
 ghost use Rattle.libyaml_events.specs.Lookahead.{HoldsLast};
+ghost use Rattle.libyaml_events.specs.Pops.{PopsNothingBelow};
 ghost use Rattle.libyaml_events.specs.EventsLeft.{events_left};
 ghost use Rattle.libyaml_events.specs.Parsing.{CarriesOn, FailsBy};
 ghost use Rattle.libyaml_events.specs.RunToCome.{RunToCome, UnlessBroken};
@@ -65,6 +66,7 @@ pub fn yaml_parser_parse<S: yaml_token_source_t>(
     ensures begins { (asked : List yaml_token_t) (given : List yaml_event_t) → History parser.new asked given → BeginsEach asked given }
     ensures at_most_four { (asked : List yaml_token_t) (given : List yaml_event_t) → History parser.new asked given → length given ≤ 4 * length asked }
     ensures depth { (asked : List yaml_token_t) (given : List yaml_event_t) → History parser.new asked given → stack_depth parser.new ≤ open_collections (stage_of given) + 1 }
+    ensures pops { (asked : List yaml_token_t) (given : List yaml_event_t) → History parser.old asked given → PopsNothingBelow S.gives parser.old result parser.new }
     ensures one_ahead { (asked : List yaml_token_t) (given : List yaml_event_t) → History parser.new asked given → HoldsLast parser.new asked }
     // so a loop over the events ends
     ensures falls { has_ended parser.old ≡ false → IfOk result (λ _. events_left S.bound parser.new < events_left S.bound parser.old) }

@@ -5,6 +5,7 @@ use Rattle.libyaml_events.proofs.Falling.{parse_falls}
 use Rattle.libyaml_events.proofs.Held.{ran_holds}
 use Rattle.libyaml_events.proofs.KnownRuns.{next_of_run, fault_of_run, over_call, nothing_behind_end}
 use Rattle.libyaml_events.proofs.Parsed.{carried_on, failed_by}
+use Rattle.libyaml_events.proofs.Raised.{pops_nothing_below}
 use Rattle.libyaml_events.proofs.Staged.{ran_staged, staged_depth}
 use Rattle.libyaml_events.proofs.parse.yaml_parser_parse.Goals as goal
 
@@ -22,6 +23,9 @@ returns-clause-at_most_four g c asked given h = linked_count _ asked given (ran_
 
 pub returns-clause-depth : goal.returns-clause-depth
 returns-clause-depth g c asked given h = let d = staged_depth _ given (ran_staged h) in omega arith
+
+pub returns-clause-pops : goal.returns-clause-pops
+returns-clause-pops g c asked given h = pops_nothing_below g.S.yaml_token_source_t.gives _ _ _ c.next_event.ensures.call asked given h
 
 pub returns-clause-one_ahead : goal.returns-clause-one_ahead
 returns-clause-one_ahead g c asked given h = ran_holds _ asked given h
