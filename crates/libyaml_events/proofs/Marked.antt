@@ -12,7 +12,7 @@ use Rattle.libyaml_events.specs.Tokens.{Alias, Anchor, BlockEnd, BlockEntry, Blo
 use Rattle.libyaml_events.specs.Events.{Event}
 use Rattle.libyaml_events.specs.Config.{Config, below, pushed, taken, top}
 use Rattle.libyaml_events.specs.Machine as mach
-use Rattle.libyaml_events.specs.Machine.{Outcome, step, close, give, give_at, may_open, first_version, version_directive, further_document_end, anchor_behind, tag_behind, content_behind, content_resolved, node_content, no_content, parse_node, explicit_document, parse_implicit_document_start, parse_document_start, behind_properties, at_state, machine, resolve}
+use Rattle.libyaml_events.specs.Machine.{Outcome, step, may_open, first_version, version_directive, further_document_end, anchor_behind, tag_behind, content_behind, content_resolved, node_content, no_content, parse_node, explicit_document, parse_implicit_document_start, parse_document_start, behind_properties, at_state, machine, resolve}
 use Rattle.libyaml_events.specs.Calls.{EventOrError, Calls, Then}
 use Rattle.libyaml_events.specs.History.{Ran, begins, goes_on}
 use Rattle.libyaml_events.specs.declared.progress.DirectivesRead.{DirectivesRead}

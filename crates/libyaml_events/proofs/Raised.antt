@@ -294,4 +294,4 @@ module _ (ss : List yaml_parser_state_t) (ms : List Mark) where
 
 -- each call of a parser with a history
 pub pops_nothing_below : {S : Type 0} (gives : S → Answer → S → Type 0) (old : Parser S) (r : EventOrError) (new : Parser S) → Call gives old r new → (l : List Token) (events : List Event) → History old l events → PopsNothingBelow gives old r new
-pops_nothing_below gives old r new call l events h = record { asked = call.asked; gave = call.gave; same = λ ss ms. same_parses ss ms old.config call.asked r new.config l events h call.does }
+pops_nothing_below gives old r new call l events h = record { asked = call.asked; gave = call.gave; keeps = λ ss ms. same_parses ss ms old.config call.asked r new.config l events h call.does }

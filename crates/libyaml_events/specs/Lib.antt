@@ -37,3 +37,4 @@ pub mod RowNotation
 pub mod Rows
 pub mod CutRows
 pub mod EmptyRows
+pub mod StackRows

@@ -1,4 +1,4 @@
--- What a parser holds of the tokens that it asked for (docs/DEFINITIONS.md, "Stacks and the token held").
+-- What a parser holds of the tokens that it asked for (docs/DEFINITIONS.md, "Stacks").
 use Rattle.std.specs.Prelude.{◌≡◌, ◌≤◌, ◌++◌, ◌∷◌, List, [], Option, Some, None, length}
 use Rattle.libyaml_events.specs.Tokens.{Token}
 use Rattle.libyaml_events.specs.Config.{Parser}

@@ -21,10 +21,14 @@ use Rattle.libyaml_events.specs.Fault.{Fault}
 abbrev pub place : ℕ → yaml_mark_t
 place n = record { index = n; line = 0; column = n }
 
+-- token k
+abbrev pub token : ℕ → unnamed_yaml_token_t_data → yaml_token_t
+token k c = record { content = c; start_mark = place (2 * k); end_mark = place (2 * k + 1) }
+
 -- tokens: the contents of a list from token k on, with their marks
 abbrev pub tokens_from : ℕ → List unnamed_yaml_token_t_data → List yaml_token_t
 tokens_from k [] = []
-tokens_from k (c ∷ l) = record { content = c; start_mark = place (2 * k); end_mark = place (2 * k + 1) } ∷ tokens_from (k + 1) l
+tokens_from k (c ∷ l) = token k c ∷ tokens_from (k + 1) l
 
 abbrev pub list : List unnamed_yaml_token_t_data → List yaml_token_t
 list l = tokens_from 0 l

@@ -16,9 +16,11 @@ pub use Rattle.libyaml_events.specs.Events
 pub use Rattle.libyaml_events.specs.Fault
 pub use Rattle.libyaml_events.specs.Fits
 pub use Rattle.libyaml_events.specs.History
+pub use Rattle.libyaml_events.specs.Lookahead
 pub use Rattle.libyaml_events.specs.Nesting
 pub use Rattle.libyaml_events.specs.Order
 pub use Rattle.libyaml_events.specs.Parsing
+pub use Rattle.libyaml_events.specs.Pops
 pub use Rattle.libyaml_events.specs.Rest
 pub use Rattle.libyaml_events.specs.RunToCome
 pub use Rattle.libyaml_events.specs.Runs

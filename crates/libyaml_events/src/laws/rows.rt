@@ -3,6 +3,7 @@
 
 ghost use Rattle.libyaml_events.specs.EmptyRows.{NeverEmptyFlowEntry, NeverEmptyRoot, RowEmptyDocument, RowEmptyEntry, RowEmptyFlowKey, RowEmptyFlowValue, RowEmptyIndentlessEntry, RowEmptyPairKey, RowEmptyPairValue, RowEmptyPart};
 ghost use Rattle.libyaml_events.specs.CutRows.{RowAliasBehindAnchor, RowAliasCome, RowAmidProperties, RowAmidTag, RowAmidTagAndAnchor, RowAnchorBegun, RowAnchoredIndentlessBegun, RowAnchoredKeyBegun, RowAnchoredPairBegun, RowBlockCollectionBehindTagInFlow, RowBlockContentInFlow, RowBlockEntryCome, RowCollectionBegun, RowCollectionsEnded, RowDefaultDeclaredTwice, RowDirectiveBegun, RowDirectiveWithoutDocument, RowDocumentAndAnchorBegun, RowDocumentBegun, RowDocumentEndFirst, RowDocumentEnded, RowEmptyDocumentEnded, RowEntryCome, RowFlowKeyCome, RowHandleDeclaredTwice, RowHandleOfDocumentBefore, RowIndentlessBegun, RowKeyCome, RowNoBlockEntry, RowNoBlockEntryBehindEntry, RowNoBlockEntryInAnchoredSequence, RowNoContentBehindDocumentEnd, RowNoContentBehindSeparator, RowNoContentBehindValue, RowNoContentInAnchoredSequence, RowNoContentInBlockMapping, RowNoContentInBlockSequence, RowNoContentInDocument, RowNoContentInFlowMapping, RowNoContentInFlowSequence, RowNoContentInIndentlessSequence, RowNoContentInPair, RowNoContentInPairValue, RowNoContentInTaggedMapping, RowNoKey, RowNoKeyBehindIndentless, RowNoKeyBehindKey, RowNoKeyInAnchoredMapping, RowNoSeparatorInAnchoredSequence, RowNoSeparatorInFlowMapping, RowNoSeparatorInFlowSequence, RowNoStreamStart, RowNoToken, RowNoTokens, RowNodeAloneSeparated, RowPairBegun, RowPairSeparated, RowPairValueCome, RowPairValueScalarCome, RowPropertiesBegun, RowScalarCome, RowSecondStreamStart, RowSecondVersion, RowStreamBegun, RowTagWhereNoneMayStand, RowTwoRoots, RowUnknownHandle, RowUnknownHandleAtStreamEnd, RowUnknownHandleBeforeAnchor, RowUnknownHandleFirst, RowValueBehindIndentless, RowValueBehindIndentlessCome, RowValueComeFirst, RowVersionOfEarlierMinor, RowVersionOfLaterMajor, RowVersionOfLaterMinor, RowWrongEndOfFlowMapping, RowWrongEndOfFlowSequence};
+ghost use Rattle.libyaml_events.specs.StackRows.{NeverByNoMark, NeverHoldsFirst, NeverWithoutMark, NeverWithoutState, RowEntryMissing, RowHoldsNone, RowHoldsSecond, RowSequenceEnds};
 ghost use Rattle.libyaml_events.specs.Rows.{RowAnchoredIndentless, RowBehindStreamEnd, RowBlockSequence, RowCollectionFlags, RowCollectionsInMapping, RowDefaultHandles, RowDirectives, RowDocumentEnds, RowEmptyCollections, RowEmptyDocuments, RowEmptyFlowKeys, RowEmptyFlowValues, RowEmptyIndentlessEntries, RowEmptyKeys, RowEmptyPairKeys, RowEmptyPairValues, RowEmptySequenceEntries, RowEmptyStream, RowEmptyTag, RowEmptyValues, RowEntryThatBeginsWithValue, RowExplicitBehindDocumentEnd, RowExplicitDocuments, RowFlowKeyWithoutValue, RowFlowMapping, RowFlowSequence, RowHandlesWithZeroBytes, RowImplicitBehindDocumentEnd, RowImplicitBehindImplicit, RowImplicitDocument, RowIndentlessSequence, RowKeysWithoutValues, RowNestedPairs, RowNodesAloneInMapping, RowOtherTag, RowPair, RowPairWithEmptyKey, RowPairWithoutValue, RowPropertiesAlone, RowPropertiesBeforeContent, RowRedeclaredHandles, RowRootsWithoutDocumentStart, RowScalarStyles, RowTagThatIsAnExclamationMark, RowValueBehindValue};
 
 /// A stream and its documents, and what ends them.
@@ -164,4 +165,16 @@ pub fn empty_places()
     ensures flow_value { RowEmptyFlowValue }
     ensures implicit_document { NeverEmptyRoot }
     ensures flow_entry { NeverEmptyFlowEntry }
+{}
+
+/// What a call pops, and which token is held.
+pub fn stacks()
+    ensures sequence_ends { RowSequenceEnds }
+    ensures without_state { NeverWithoutState }
+    ensures without_mark { NeverWithoutMark }
+    ensures entry_missing { RowEntryMissing }
+    ensures by_no_mark { NeverByNoMark }
+    ensures holds_none { RowHoldsNone }
+    ensures holds_second { RowHoldsSecond }
+    ensures holds_first { NeverHoldsFirst }
 {}
