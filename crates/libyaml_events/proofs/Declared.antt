@@ -1,13 +1,13 @@
 -- What the machine makes of directives and handles is what the grammar says of them.
-use Rattle.std.proofs.Common.{◌≡◌, ℕ, ◌&&◌, ◌||◌, ◌++◌, pos, List, [], ◌∷◌, Option, Some, None, refl, sym, ap, ◌∙◌, subst, Bool, true, false, cond, nat_eq, nat_cmp, codes}
-use Rattle.std.specs.Ordering.{int_eq, eq_by_cmp}
-use Rattle.std.specs.Cmp.Lexicographic.{pointwise, slice_cmp, texts_ties, nat_list_eq_equiv, nat_list_cmp_total}
+use Rattle.std.proofs.Common.{◌≡◌, ℕ, ◌++◌, List, [], ◌∷◌, Option, Some, None, refl, sym, ap, ◌∙◌, subst, Bool, true, false, cond, nat_cmp, codes}
+use Rattle.std.specs.Ordering.{eq_by_cmp}
+use Rattle.std.specs.Cmp.Lexicographic.{slice_cmp, texts_ties, nat_list_eq_equiv, nat_list_cmp_total}
 use Rattle.std.specs.FinMap.{get, insert, get-insert, get-from_entries}
 use Rattle.libyaml_events.specs.Machine as mach
 use Rattle.libyaml_events.specs.FaultTexts.{duplicate_version_fault, version_fault}
 use Rattle.libyaml_events.specs.Tokens.{HandleDeclared, Mark, Marks, TagDirective, TagName, Token, VersionAsked, VersionDirective, tok}
 use Rattle.libyaml_events.specs.Trees.{Directives, directive, no_directives, tag_directive, version}
-use Rattle.libyaml_events.specs.Events.{Event, declaration, either, plain_flag, prefix_of, quoted_flag, resolved, same_text, tag_directives_of, tag_directives_then, tag_from, version_of}
+use Rattle.libyaml_events.specs.Events.{Event, declaration, either, prefix_of, resolved, same_text, tag_directives_of, tag_directives_then, tag_from, version_of}
 use Rattle.libyaml_events.specs.Order.{both, declares, is_known, is_version, negated, no_version}
 use Rattle.libyaml_events.specs.Reading.{keeps_order}
 use Rattle.libyaml_events.specs.Config.{Config, Handles}
@@ -18,46 +18,20 @@ use Rattle.libyaml_events.specs.declared.progress.DirectivesRead.{DirectivesRead
 use Rattle.libyaml_events.specs.declared.progress.Want.TheVariants.{BehindDirective}
 use Rattle.libyaml_types.specs.declared.directive.yaml_tag_directive_t.{yaml_tag_directive_t}
 use Rattle.libyaml_types.specs.declared.directive.yaml_version_directive_t.{yaml_version_directive_t}
-use Rattle.libyaml_types.specs.declared.enums.yaml_scalar_style_t.{yaml_scalar_style_t}
-use Rattle.libyaml_types.specs.declared.enums.yaml_scalar_style_t.TheVariants.{YAML_ANY_SCALAR_STYLE, YAML_DOUBLE_QUOTED_SCALAR_STYLE, YAML_FOLDED_SCALAR_STYLE, YAML_LITERAL_SCALAR_STYLE, YAML_PLAIN_SCALAR_STYLE, YAML_SINGLE_QUOTED_SCALAR_STYLE}
 
 -- comparing texts
-same_is : (a b : List ℕ) → same_text a b ≡ pointwise nat_eq a b
-same_is [] [] = refl
-same_is [] (y ∷ ys) = refl
-same_is (x ∷ xs) [] = refl
-same_is (x ∷ xs) (y ∷ ys) = go (nat_eq x y) (same_is xs ys)
-  where
-    go : (u : Bool) → same_text xs ys ≡ pointwise nat_eq xs ys → elim u [ true ↦ same_text xs ys | false ↦ false ] ≡ u && pointwise nat_eq xs ys
-    go true e = e
-    go false e = refl
-
-same_swapped : (a b : List ℕ) → pointwise nat_eq a b ≡ same_text b a
-same_swapped a b = nat_list_eq_equiv.symm a b ∙ sym (same_is b a)
+same_swapped : (a b : List ℕ) → same_text a b ≡ same_text b a
+same_swapped a b = nat_list_eq_equiv.symm a b
 
 same_keys : (q g : List ℕ) → eq_by_cmp (slice_cmp nat_cmp) q g ≡ same_text g q
 same_keys q g = sym (texts_ties q g) ∙ same_swapped q g
-
--- the machine's flags are those of the events
-pub plain_same : (t : Option (List ℕ)) (y : yaml_scalar_style_t) → mach.plain_flag t y ≡ plain_flag t y
-plain_same None y = refl
-plain_same (Some t) y = sym (same_is t (codes "!"))
-
-pub quoted_same : (t : Option (List ℕ)) (y : yaml_scalar_style_t) → mach.quoted_flag t y ≡ quoted_flag t y
-quoted_same None YAML_ANY_SCALAR_STYLE = refl
-quoted_same None YAML_PLAIN_SCALAR_STYLE = refl
-quoted_same None YAML_SINGLE_QUOTED_SCALAR_STYLE = refl
-quoted_same None YAML_DOUBLE_QUOTED_SCALAR_STYLE = refl
-quoted_same None YAML_LITERAL_SCALAR_STYLE = refl
-quoted_same None YAML_FOLDED_SCALAR_STYLE = refl
-quoted_same (Some t) y = refl
 
 -- a handle in the map of handles
 abbrev text_or : Bool → List ℕ → List ℕ → List ℕ
 text_or u x y = elim u [ true ↦ x | false ↦ y ]
 
 default_same : (h : List ℕ) → mach.default_prefix h ≡ cond (same_text (codes "!") h) (Some (codes "!")) (cond (same_text (codes "!!") h) (Some (codes "tag:yaml.org,2002:")) None)
-default_same h = ap (λ (u : Bool). cond u (Some (codes "!")) (cond (mach.same_text h (codes "!!")) (Some (codes "tag:yaml.org,2002:")) None)) (same_swapped h (codes "!")) ∙ ap (λ (u : Bool). cond (same_text (codes "!") h) (Some (codes "!")) (cond u (Some (codes "tag:yaml.org,2002:")) None)) (same_swapped h (codes "!!"))
+default_same h = ap (λ (u : Bool). cond u (Some (codes "!")) (cond (same_text h (codes "!!")) (Some (codes "tag:yaml.org,2002:")) None)) (same_swapped h (codes "!")) ∙ ap (λ (u : Bool). cond (same_text (codes "!") h) (Some (codes "!")) (cond u (Some (codes "tag:yaml.org,2002:")) None)) (same_swapped h (codes "!!"))
 
 inserted : (hs : Handles) (g p h : List ℕ) → get (insert hs g p) h ≡ cond (same_text g h) (Some p) (get hs h)
 inserted hs g p h = get-insert nat_list_cmp_total hs g p h ∙ ap (λ (u : Bool). cond u (Some p) (get hs h)) (same_keys h g)
@@ -142,21 +116,13 @@ version_there no_directives e = absurd cc
 version_there (directive ds (version v m)) e = (record { major = v.major; minor = v.minor }, refl)
 version_there (directive ds (tag_directive d m)) e = version_there ds e
 
-is_version_same : (v : VersionAsked) → mach.is_version v.major v.minor ≡ is_version v
-is_version_same v = go (int_eq v.major (pos 1)) (int_eq v.minor (pos 1)) (int_eq v.minor (pos 2))
-  where
-    go : (a b c : Bool) → a && (b || c) ≡ both a (either b c)
-    go true true c = refl
-    go true false c = refl
-    go false b c = refl
-
 pub version_after : (s : Mark) (ds : Directives) (c : Config) (v : VersionAsked) (m : Marks) (f : Config → Token → List Event × End) (r : List Event) → after (explicit_document (read_so_far s ds) c (tok (VersionDirective v) m) (VersionDirective v)) f r ≡ (r, directive_ends (keeps_order ds no_directives (VersionDirective v)) ds (VersionDirective v) m (waits (BehindDirective (read_so_far s (directive ds (version v m)))) c))
 version_after s ds c v m f r = go (no_version ds) refl
   where
     asked : yaml_version_directive_t
     asked = record { major = v.major; minor = v.minor }
 
-    first : (o : Option yaml_version_directive_t) → o ≡ None → (u : Bool) → mach.is_version v.major v.minor ≡ u → after (mach.version_directive o (record { start_mark = s; version = o; tag_directives = tag_directives_of ds }) c m.start asked) f r ≡ (r, elim u [ true ↦ waits (BehindDirective (read_so_far s (directive ds (version v m)))) c | false ↦ fails (version_fault m.start) ])
+    first : (o : Option yaml_version_directive_t) → o ≡ None → (u : Bool) → is_version v.major v.minor ≡ u → after (mach.version_directive o (record { start_mark = s; version = o; tag_directives = tag_directives_of ds }) c m.start asked) f r ≡ (r, elim u [ true ↦ waits (BehindDirective (read_so_far s (directive ds (version v m)))) c | false ↦ fails (version_fault m.start) ])
     first (Some x) e u g = absurd (no x e)
       where
         no : (x : yaml_version_directive_t) → ◌≡◌ {A = Option yaml_version_directive_t} (Some x) None → ⊥
@@ -170,8 +136,8 @@ version_after s ds c v m f r = go (no_version ds) refl
     second : (o : Option yaml_version_directive_t) (x : yaml_version_directive_t) → o ≡ Some x → after (mach.version_directive o (record { start_mark = s; version = o; tag_directives = tag_directives_of ds }) c m.start asked) f r ≡ (r, fails (duplicate_version_fault m.start))
     second o x e = subst (λ (y : Option yaml_version_directive_t). after (mach.version_directive y (record { start_mark = s; version = y; tag_directives = tag_directives_of ds }) c m.start asked) f r ≡ (r, fails (duplicate_version_fault m.start))) (sym e) refl
 
-    says : (n w : Bool) → no_version ds ≡ n → is_version v ≡ w → directive_ends (keeps_order ds no_directives (VersionDirective v)) ds (VersionDirective v) m (waits (BehindDirective (read_so_far s (directive ds (version v m)))) c) ≡ elim n [ true ↦ elim w [ true ↦ waits (BehindDirective (read_so_far s (directive ds (version v m)))) c | false ↦ fails (version_fault m.start) ] | false ↦ fails (duplicate_version_fault m.start) ]
-    says n w e g = ap (λ (x : Bool). directive_ends (both x (is_version v)) ds (VersionDirective v) m (waits (BehindDirective (read_so_far s (directive ds (version v m)))) c)) e ∙ (ap (λ (x : Bool). directive_ends (both n x) ds (VersionDirective v) m (waits (BehindDirective (read_so_far s (directive ds (version v m)))) c)) g ∙ by n w e)
+    says : (n w : Bool) → no_version ds ≡ n → is_version v.major v.minor ≡ w → directive_ends (keeps_order ds no_directives (VersionDirective v)) ds (VersionDirective v) m (waits (BehindDirective (read_so_far s (directive ds (version v m)))) c) ≡ elim n [ true ↦ elim w [ true ↦ waits (BehindDirective (read_so_far s (directive ds (version v m)))) c | false ↦ fails (version_fault m.start) ] | false ↦ fails (duplicate_version_fault m.start) ]
+    says n w e g = ap (λ (x : Bool). directive_ends (both x (is_version v.major v.minor)) ds (VersionDirective v) m (waits (BehindDirective (read_so_far s (directive ds (version v m)))) c)) e ∙ (ap (λ (x : Bool). directive_ends (both n x) ds (VersionDirective v) m (waits (BehindDirective (read_so_far s (directive ds (version v m)))) c)) g ∙ by n w e)
       where
         by : (n w : Bool) → no_version ds ≡ n → directive_ends (both n w) ds (VersionDirective v) m (waits (BehindDirective (read_so_far s (directive ds (version v m)))) c) ≡ elim n [ true ↦ elim w [ true ↦ waits (BehindDirective (read_so_far s (directive ds (version v m)))) c | false ↦ fails (version_fault m.start) ] | false ↦ fails (duplicate_version_fault m.start) ]
         by true true e = refl
@@ -179,8 +145,8 @@ version_after s ds c v m f r = go (no_version ds) refl
         by false w e = ap (λ (x : Bool). fails (elim x [ true ↦ version_fault m.start | false ↦ duplicate_version_fault m.start ])) e
 
     go : (n : Bool) → no_version ds ≡ n → after (explicit_document (read_so_far s ds) c (tok (VersionDirective v) m) (VersionDirective v)) f r ≡ (r, directive_ends (keeps_order ds no_directives (VersionDirective v)) ds (VersionDirective v) m (waits (BehindDirective (read_so_far s (directive ds (version v m)))) c))
-    go true e = first (version_of ds) (version_found ds e) (is_version v) (is_version_same v) ∙ ap (λ (x : End). (r, x)) (sym (says true (is_version v) e refl))
-    go false e = let t = version_there ds e in second (version_of ds) t.0 t.1 ∙ ap (λ (x : End). (r, x)) (sym (says false (is_version v) e refl))
+    go true e = first (version_of ds) (version_found ds e) (is_version v.major v.minor) refl ∙ ap (λ (x : End). (r, x)) (sym (says true (is_version v.major v.minor) e refl))
+    go false e = let t = version_there ds e in second (version_of ds) t.0 t.1 ∙ ap (λ (x : End). (r, x)) (sym (says false (is_version v.major v.minor) e refl))
 
 directives_then : (ds : Directives) (r : List yaml_tag_directive_t) → tag_directives_then ds r ≡ tag_directives_then ds [] ++ r
 directives_then no_directives r = refl

@@ -23,7 +23,7 @@ ends_nothing_root : (b : Before) (ds : Directives) (s : Marks) (k : Content) (m 
 ends_nothing_root b ds s DocumentStart m e = cc
 ends_nothing_root b ds s DocumentEnd m e = cc
 ends_nothing_root b ds s StreamEnd m e = cc
-ends_nothing_root b ds s (VersionDirective x) m e = let h = order_or_goes (headed (behind (explicit b ds s nothing)) no_directives (version x m)) (both (no_version no_directives) (is_version x)) (content_due (block (root (explicit_root b ds s)))) e in cc
+ends_nothing_root b ds s (VersionDirective x) m e = let h = order_or_goes (headed (behind (explicit b ds s nothing)) no_directives (version x m)) (both (no_version no_directives) (is_version x.major x.minor)) (content_due (block (root (explicit_root b ds s)))) e in cc
 ends_nothing_root b ds s (TagDirective x) m e = let h = order_or_goes (headed (behind (explicit b ds s nothing)) no_directives (tag_directive x m)) (negated (declares no_directives x.handle)) (content_due (block (root (explicit_root b ds s)))) e in cc
 ends_nothing_root b ds s k m e = refl
 
@@ -320,7 +320,7 @@ no_next b ds d (TagDirective x) m e = let h = stops_next b ds d (TagDirective x)
 no_next b ds d _ m e = refl
 
 no_root : (f : Free) (k : Content) (m : Marks) → reads (between (free f)) (tok k m) ≡ bad (content_due (block (root (implicit_root f)))) → is_directive k ≡ false
-no_root f (VersionDirective x) m e = let h = order_or_goes (headed (free f) no_directives (version x m)) (both (no_version no_directives) (is_version x)) (content_due (block (root (implicit_root f)))) e in cc
+no_root f (VersionDirective x) m e = let h = order_or_goes (headed (free f) no_directives (version x m)) (both (no_version no_directives) (is_version x.major x.minor)) (content_due (block (root (implicit_root f)))) e in cc
 no_root f (TagDirective x) m e = let h = order_or_goes (headed (free f) no_directives (tag_directive x m)) (negated (declares no_directives x.handle)) (content_due (block (root (implicit_root f)))) e in cc
 no_root f _ m e = refl
 

@@ -2,6 +2,7 @@
 use Rattle.std.proofs.Common.{◌≡◌, ◌≤◌, ◌<◌, ◌+◌, ◌*◌, arith, ℕ, List, [], ◌∷◌, ◌++◌, length, Option, Some, None, Bool, true, false, Ok, Err, IfOk, refl, sym, ap, subst}
 use Rattle.std.specs.FinMap.{get}
 use Rattle.libyaml_types.specs.declared.event.unnamed_yaml_event_t_data.{unnamed_yaml_event_t_data}
+use Rattle.libyaml_events.specs.Order.{is_version}
 use Rattle.libyaml_events.specs.Machine as mach
 use Rattle.libyaml_events.specs.Machine.{Outcome, step, may_open, first_version, version_directive, further_document_end, anchor_behind, tag_behind, content_behind, content_resolved, node_content, no_content, parse_node, explicit_document, parse_implicit_document_start, parse_document_start, behind_properties, at_state, machine, resolve}
 use Rattle.libyaml_events.specs.EventsLeft.{rank, held_rank, events_left}
@@ -144,7 +145,7 @@ module _ (c : Config) where
 
   version_read : (o : Option yaml_version_directive_t) (d : DirectivesRead) (m : Mark) (v : yaml_version_directive_t) (n : ℕ) → length c.states < n → FallsBelow (version_directive o d (taken c) m v) n
   version_read (Some x) d m v n l = tt
-  version_read None d m v n l = versioned (mach.is_version v.major v.minor) d m v n l
+  version_read None d m v n l = versioned (is_version v.major v.minor) d m v n l
 
   handle_read : (o : Option (List ℕ)) (d : DirectivesRead) (m : Mark) (g : yaml_tag_directive_t) (n : ℕ) → length c.states < n → FallsBelow (mach.tag_directive o d (taken c) m g) n
   handle_read (Some x) d m g n l = tt

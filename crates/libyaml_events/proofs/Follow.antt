@@ -1,11 +1,10 @@
 -- The machine follows the grammar: all that one token makes it do at a position is what the grammar says of it.
 use Rattle.std.proofs.Common.{◌≡◌, ℕ, suc, List, [], ◌∷◌, Option, Some, None, refl, ap, ◌∙◌, Bool, true, false, Ok}
-use Rattle.libyaml_events.specs.Machine as mach
 use Rattle.libyaml_events.specs.Machine.{Outcome, parse_node, node_content, no_content, content_behind, content_resolved, implicit_document}
 use Rattle.libyaml_events.specs.CutTrees.{declared, open_collection}
 use Rattle.libyaml_events.specs.Tokens.{Alias, Anchor, BlockEnd, BlockEntry, BlockMappingStart, BlockSequenceStart, Content, DocumentEnd, DocumentStart, FlowEntry, FlowMappingEnd, FlowMappingStart, FlowSequenceEnd, FlowSequenceStart, Key, Mark, Marks, Scalar, ScalarText, StreamEnd, StreamStart, Tag, TagDirective, Token, Value, VersionDirective, marks_of, tok}
 use Rattle.libyaml_events.specs.Trees.{Before, BlockItems, BlockNode, BlockSlot, Directive, Directives, Documents, FlowMember, FlowNode, FlowSlot, Free, Parts, Properties, alone, anchor, anchor_tag, behind, block_mapping, block_sequence, collection, directive, ended, explicit, flow, flow_node, flow_nothing, free, implicit, indentless, item, key, last, mapping, no_directives, no_last, no_parts, no_value, node, nothing, opened, pair, part, scalar, sequence, single, slot_of, tag, tag_anchor, value, whole, with_value}
-use Rattle.libyaml_events.specs.Events.{Event, alone_of, anchor_of, directive_start, document_end_event, document_start_event, empty_at, end_event, end_of, first_directive, first_of, first_of_properties, last_of_properties, plain_flag, scalar_event, scalar_of, tag_of}
+use Rattle.libyaml_events.specs.Events.{Event, alone_of, anchor_of, directive_start, document_end_event, document_start_event, empty_at, end_event, end_of, first_directive, first_of_properties, last_of_properties, scalar_of, tag_of}
 use Rattle.libyaml_events.specs.Order.{both, is_known, properties_in_order}
 use Rattle.libyaml_events.specs.CutTrees.{BlockPlace, Open, PartPlace, Place, block, declared_block, entry, explicit_root, flow_entry, flow_key, flow_value, implicit_root, indentless_entry, part_place, root, slot}
 use Rattle.libyaml_events.specs.Fits.{ends_empty}
@@ -13,7 +12,7 @@ use Rattle.libyaml_events.specs.Positions.{Position, between, done, due, flow_be
 use Rattle.libyaml_events.specs.Reading.{Step, at_flow, at_free, at_headed, at_unopened, behind_documents, behind_indentless, behind_item, behind_key, behind_member, behind_part, behind_whole, fill, fill_flow, on_block_entry, on_block_mapping, on_block_sequence, on_due, without}
 use Rattle.libyaml_events.specs.Given.{given_at_flow, given_at_free, given_at_headed, given_at_unopened, given_behind_documents, given_behind_indentless, given_behind_item, given_behind_key, given_behind_member, given_behind_part, given_behind_whole, given_on_block_entry, given_on_block_mapping, given_on_block_sequence, given_on_due, given_without, gives}
 use Rattle.libyaml_events.specs.Config.{Config, keep, no_handles, popped, popped_mark, taken}
-use Rattle.libyaml_events.proofs.Declared.{plain_same, quoted_same, resolve_is, tag_after, version_after}
+use Rattle.libyaml_events.proofs.Declared.{resolve_is, tag_after, version_after}
 use Rattle.libyaml_events.proofs.Link.{End, after, config, config_of, emit, ends, free_config, handles_of, headed_config, kind, marks_block, marks_place, node_config, read_of, spends, states_block, states_place, step_ends, tag_read, waits, want_of}
 use Rattle.libyaml_events.proofs.StepsMeet.{IsDue, IsEntry, IsMet}
 use Rattle.libyaml_events.specs.declared.progress.NodeHead.{NodeHead}
@@ -128,12 +127,9 @@ whole_follows n (flow_entry c) x k m r = member_follows (suc n) c (single x) k m
 whole_follows n (flow_key c e) x k m r = key_follows n c e (flow_node x) k m r
 whole_follows n (flow_value c e y v) x k m r = member_follows (suc n) c (pair e y (with_value v (flow_node x))) k m r tt
 
--- a scalar's flags
-scalar_same : (ds : Directives) (o : Option Properties) (v : ScalarText) (m : Marks) → scalar_event (anchor_of o) (tag_of ds o) v.value (mach.plain_flag (tag_of ds o) v.style) (mach.quoted_flag (tag_of ds o) v.style) v.style (first_of o m.start) m.end ≡ scalar_of ds o v m
-scalar_same ds o v m = ap (λ (b : Bool). scalar_event (anchor_of o) (tag_of ds o) v.value b (mach.quoted_flag (tag_of ds o) v.style) v.style (first_of o m.start) m.end) (plain_same (tag_of ds o) v.style) ∙ ap (λ (b : Bool). scalar_event (anchor_of o) (tag_of ds o) v.value (plain_flag (tag_of ds o) v.style) b v.style (first_of o m.start) m.end) (quoted_same (tag_of ds o) v.style)
-
-scalar_follows : (p : Place) (o : Option Properties) (v : ScalarText) (m : Marks) (r : List Event) → ◌≡◌ {A = List Event × End} (scalar_event (anchor_of o) (tag_of (declared p) o) v.value (mach.plain_flag (tag_of (declared p) o) v.style) (mach.quoted_flag (tag_of (declared p) o) v.style) v.style (first_of o m.start) m.end ∷ r, waits AtState (popped (node_config p))) (scalar_of (declared p) o v m ∷ r, waits (want_of (fill_flow p (scalar o v m))) (config_of (fill_flow p (scalar o v m))))
-scalar_follows p o v m r = ap (λ (e : Event). (e ∷ r, waits AtState (popped (node_config p)))) (scalar_same (declared p) o v m) ∙ ap (λ (x : End). (scalar_of (declared p) o v m ∷ r, x)) (popped_waits p (scalar o v m))
+-- a scalar
+scalar_follows : (p : Place) (o : Option Properties) (v : ScalarText) (m : Marks) (r : List Event) → ◌≡◌ {A = List Event × End} (scalar_of (declared p) o v m ∷ r, waits AtState (popped (node_config p))) (scalar_of (declared p) o v m ∷ r, waits (want_of (fill_flow p (scalar o v m))) (config_of (fill_flow p (scalar o v m))))
+scalar_follows p o v m r = ap (λ (x : End). (scalar_of (declared p) o v m ∷ r, x)) (popped_waits p (scalar o v m))
 
 -- a node with nothing in hand
 abbrev Node : ℕ → Place → Content → Marks → List Event → Type 0

@@ -11,6 +11,7 @@ use Rattle.libyaml_events.specs.Fault.{Answer}
 use Rattle.libyaml_events.specs.Tokens.{Alias, Anchor, BlockEnd, BlockEntry, BlockMappingStart, BlockSequenceStart, Content, DocumentEnd, DocumentStart, FlowEntry, FlowMappingEnd, FlowMappingStart, FlowSequenceEnd, FlowSequenceStart, Key, Mark, Scalar, StreamEnd, StreamStart, Tag, TagDirective, Token, Value, VersionDirective}
 use Rattle.libyaml_events.specs.Events.{Event}
 use Rattle.libyaml_events.specs.Config.{Config, below, pushed, taken, top}
+use Rattle.libyaml_events.specs.Order.{is_version}
 use Rattle.libyaml_events.specs.Machine as mach
 use Rattle.libyaml_events.specs.Machine.{Outcome, step, may_open, first_version, version_directive, further_document_end, anchor_behind, tag_behind, content_behind, content_resolved, node_content, no_content, parse_node, explicit_document, parse_implicit_document_start, parse_document_start, behind_properties, at_state, machine, resolve}
 use Rattle.libyaml_events.specs.Calls.{EventOrError, Calls, Then}
@@ -125,7 +126,7 @@ module _ (c : Config) where
 
   version_read : (o : Option yaml_version_directive_t) (d : DirectivesRead) (m : Mark) (v : yaml_version_directive_t) → MarksFit c.states c.marks → MarkedOn (version_directive o d c m v)
   version_read (Some x) d m v w = tt
-  version_read None d m v w = versioned (mach.is_version v.major v.minor) d m v w
+  version_read None d m v w = versioned (is_version v.major v.minor) d m v w
 
   handle_read : (o : Option (List ℕ)) (d : DirectivesRead) (m : Mark) (g : yaml_tag_directive_t) → MarksFit c.states c.marks → MarkedOn (mach.tag_directive o d c m g)
   handle_read (Some x) d m g w = tt

@@ -1,6 +1,7 @@
 -- A step that wants a further token does not lead to the end.
 use Rattle.std.proofs.Common.{◌≡◌, Option, Some, None, Bool, true, false, Ok, Err, List, ℕ}
 use Rattle.std.specs.FinMap.{get}
+use Rattle.libyaml_events.specs.Order.{is_version}
 use Rattle.libyaml_events.specs.Machine as mach
 use Rattle.libyaml_events.specs.Machine.{Outcome, may_open, first_version, version_directive, further_document_end, anchor_behind, tag_behind, content_behind, content_resolved, node_content, no_content, parse_node, explicit_document, parse_implicit_document_start, parse_document_start, behind_properties, at_state, machine, resolve}
 use Rattle.libyaml_types.specs.declared.event.unnamed_yaml_event_t_data.{unnamed_yaml_event_t_data}
@@ -76,7 +77,7 @@ versioned false d c m v h = tt
 
 version_read : (o : Option yaml_version_directive_t) (d : DirectivesRead) (c : Config) (m : Mark) (v : yaml_version_directive_t) → (c.state ≡ YAML_PARSE_END_STATE → ⊥) → NotOver (version_directive o d c m v)
 version_read (Some x) d c m v h = tt
-version_read None d c m v h = versioned (mach.is_version v.major v.minor) d c m v h
+version_read None d c m v h = versioned (is_version v.major v.minor) d c m v h
 
 tag_read : (o : Option (List ℕ)) (d : DirectivesRead) (c : Config) (m : Mark) (g : yaml_tag_directive_t) → (c.state ≡ YAML_PARSE_END_STATE → ⊥) → NotOver (mach.tag_directive o d c m g)
 tag_read (Some x) d c m g h = tt

@@ -11,6 +11,7 @@ use Rattle.libyaml_events.specs.FaultTexts.{item_fault, part_fault, sequence_fau
 use Rattle.libyaml_events.specs.Tokens.{Alias, Anchor, BlockEnd, BlockEntry, BlockMappingStart, BlockSequenceStart, Content, DocumentEnd, DocumentStart, FlowEntry, FlowMappingEnd, FlowMappingStart, FlowSequenceEnd, FlowSequenceStart, Key, Mark, Scalar, StreamEnd, StreamStart, Tag, TagDirective, Token, Value, VersionDirective}
 use Rattle.libyaml_events.specs.Events.{Event}
 use Rattle.libyaml_events.specs.Config.{Config, Parser, below, is_over, keep, popped, popped_mark, pushed, taken, top, top_mark}
+use Rattle.libyaml_events.specs.Order.{is_version}
 use Rattle.libyaml_events.specs.Machine as mach
 use Rattle.libyaml_events.specs.Machine.{Outcome, step, close, give, give_at, may_open, first_version, version_directive, further_document_end, anchor_behind, tag_behind, content_behind, content_resolved, node_content, no_content, parse_node, explicit_document, parse_implicit_document_start, parse_document_start, behind_properties, at_state, machine, resolve}
 use Rattle.libyaml_events.specs.Calls.{EventOrError, Calls, CallsUnlessRefused, Call, Parses, ParsesIf, Refused, RefusedAt, Then, held, may_grow}
@@ -133,7 +134,7 @@ module _ (ss : List yaml_parser_state_t) (ms : List Mark) where
 
   version_read : (c : Config) (o : Option yaml_version_directive_t) (d : DirectivesRead) (m : Mark) (v : yaml_version_directive_t) → version_directive o d (raised ss ms c) m v ≡ lifted (version_directive o d c m v)
   version_read c (Some x) d m v = refl
-  version_read c None d m v = versioned c (mach.is_version v.major v.minor) d m v
+  version_read c None d m v = versioned c (is_version v.major v.minor) d m v
 
   handle_read : (c : Config) (o : Option (List ℕ)) (d : DirectivesRead) (m : Mark) (g : yaml_tag_directive_t) → mach.tag_directive o d (raised ss ms c) m g ≡ lifted (mach.tag_directive o d c m g)
   handle_read c (Some x) d m g = refl

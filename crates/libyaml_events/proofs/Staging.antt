@@ -2,6 +2,7 @@
 use Rattle.std.proofs.Common.{◌≡◌, ℕ, zero, suc, List, [], ◌∷◌, Option, Some, None, Bool, true, false, Ok, Err, refl, sym, ap, subst}
 use Rattle.std.specs.FinMap.{get}
 use Rattle.libyaml_types.specs.declared.event.unnamed_yaml_event_t_data.{unnamed_yaml_event_t_data}
+use Rattle.libyaml_events.specs.Order.{is_version}
 use Rattle.libyaml_events.specs.Machine as mach
 use Rattle.libyaml_events.specs.Machine.{Outcome, may_open, first_version, version_directive, further_document_end, anchor_behind, tag_behind, content_behind, content_resolved, node_content, no_content, parse_node, explicit_document, parse_implicit_document_start, parse_document_start, behind_properties, at_state, machine, resolve, give}
 use Rattle.libyaml_events.specs.Stages.{Stage, at_start, outside, before_root, within, behind_root, at_end, leaf, opened, closed, after, is_event}
@@ -196,7 +197,7 @@ module _ (st : Stage) (c : Config) (n : c.lookahead ≡ None) where
 
   version_read : (o : Option yaml_version_directive_t) (d : DirectivesRead) (m : Mark) (v : yaml_version_directive_t) → (c.states ≡ []) × (st ≡ outside) → GoodOn (version_directive o d c m v) c st
   version_read (Some x) d m v w = tt
-  version_read None d m v w = versioned (mach.is_version v.major v.minor) d m v w
+  version_read None d m v w = versioned (is_version v.major v.minor) d m v w
 
   handle_read : (o : Option (List ℕ)) (d : DirectivesRead) (m : Mark) (g : yaml_tag_directive_t) → (c.states ≡ []) × (st ≡ outside) → GoodOn (mach.tag_directive o d c m g) c st
   handle_read (Some x) d m g w = tt

@@ -1,6 +1,7 @@
 -- The events of a tree (docs/DEFINITIONS.md, "Events"). A mark m is the start of the first token behind the part,
 -- and r are the events behind it.
-use Rattle.std.specs.Prelude.{ℕ, List, [], ◌∷◌, ◌++◌, Option, Some, None, Bool, true, false, nat_eq, codes}
+use Rattle.std.specs.Prelude.{ℕ, List, [], ◌∷◌, ◌++◌, Option, Some, None, Bool, true, false, nat_eq, cond, codes}
+use Rattle.std.specs.Cmp.Lexicographic.{pointwise}
 use Rattle.libyaml_types.specs.declared.event.yaml_event_t.{yaml_event_t}
 use Rattle.libyaml_types.specs.declared.event.unnamed_yaml_event_t_data.{unnamed_yaml_event_t_data}
 use Rattle.libyaml_types.specs.declared.event.unnamed_yaml_event_t_data.TheVariants as ev
@@ -88,10 +89,7 @@ end_event k m n = event (end_content k) m n
 
 -- The tag of a handle and a suffix (YAML 1.1, 7.1.2 and 8.2; docs/DEFINITIONS.md, "Tags").
 abbrev pub same_text : List ℕ → List ℕ → Bool
-same_text [] [] = true
-same_text [] (y ∷ ys) = false
-same_text (x ∷ xs) [] = false
-same_text (x ∷ xs) (y ∷ ys) = elim (nat_eq x y) [ true ↦ same_text xs ys | false ↦ false ]
+same_text a b = pointwise nat_eq a b
 
 abbrev pub either : Bool → Bool → Bool
 either true b = true
@@ -161,8 +159,7 @@ plain_flag None s = is_plain s
 plain_flag (Some t) s = same_text t (codes "!")
 
 abbrev pub quoted_flag : Option (List ℕ) → yaml_scalar_style_t → Bool
-quoted_flag None YAML_PLAIN_SCALAR_STYLE = false
-quoted_flag None _ = true
+quoted_flag None s = cond (is_plain s) false true
 quoted_flag (Some t) s = false
 
 -- The event of a scalar, from its first property or its own start to its end.

@@ -1,8 +1,6 @@
 -- The parser as a machine that is fed one token at a time (docs/DEFINITIONS.md, "The parser as a machine"). In each
 -- function k is the content of the token t.
-use Rattle.std.specs.Prelude.{◌&&◌, ◌||◌, ◌∷◌, ◌++◌, ℕ, ℤ, pos, List, [], Option, None, Some, Bool, true, false, Result, Ok, Err, codes, nat_eq, cond}
-use Rattle.std.specs.Cmp.Lexicographic.{pointwise}
-use Rattle.std.specs.Ordering.{int_eq}
+use Rattle.std.specs.Prelude.{◌∷◌, ◌++◌, ℕ, List, [], Option, None, Some, Bool, true, false, Result, Ok, Err, codes, cond}
 use Rattle.std.specs.FinMap.{get}
 use Rattle.libyaml_types.specs.declared.mark.yaml_mark_t.{yaml_mark_t}
 use Rattle.libyaml_types.specs.declared.directive.yaml_version_directive_t.{yaml_version_directive_t}
@@ -15,7 +13,7 @@ use Rattle.libyaml_types.specs.declared.event.yaml_event_t.{yaml_event_t}
 use Rattle.libyaml_types.specs.declared.event.unnamed_yaml_event_t_data.{unnamed_yaml_event_t_data}
 use Rattle.libyaml_types.specs.declared.event.unnamed_yaml_event_t_data.TheVariants as ev
 use Rattle.libyaml_types.specs.declared.enums.yaml_scalar_style_t.{yaml_scalar_style_t}
-use Rattle.libyaml_types.specs.declared.enums.yaml_scalar_style_t.TheVariants.{YAML_ANY_SCALAR_STYLE, YAML_PLAIN_SCALAR_STYLE, YAML_SINGLE_QUOTED_SCALAR_STYLE, YAML_DOUBLE_QUOTED_SCALAR_STYLE, YAML_LITERAL_SCALAR_STYLE, YAML_FOLDED_SCALAR_STYLE}
+use Rattle.libyaml_types.specs.declared.enums.yaml_scalar_style_t.TheVariants.{YAML_PLAIN_SCALAR_STYLE}
 use Rattle.libyaml_types.specs.declared.enums.yaml_sequence_style_t.{yaml_sequence_style_t}
 use Rattle.libyaml_types.specs.declared.enums.yaml_sequence_style_t.TheVariants.{YAML_BLOCK_SEQUENCE_STYLE, YAML_FLOW_SEQUENCE_STYLE}
 use Rattle.libyaml_types.specs.declared.enums.yaml_mapping_style_t.{yaml_mapping_style_t}
@@ -24,6 +22,8 @@ use Rattle.libyaml_types.specs.declared.enums.yaml_parser_state_t.{yaml_parser_s
 use Rattle.libyaml_types.specs.declared.enums.yaml_parser_state_t.TheVariants.{YAML_PARSE_STREAM_START_STATE, YAML_PARSE_IMPLICIT_DOCUMENT_START_STATE, YAML_PARSE_DOCUMENT_START_STATE, YAML_PARSE_DOCUMENT_CONTENT_STATE, YAML_PARSE_DOCUMENT_END_STATE, YAML_PARSE_BLOCK_NODE_STATE, YAML_PARSE_BLOCK_NODE_OR_INDENTLESS_SEQUENCE_STATE, YAML_PARSE_FLOW_NODE_STATE, YAML_PARSE_BLOCK_SEQUENCE_FIRST_ENTRY_STATE, YAML_PARSE_BLOCK_SEQUENCE_ENTRY_STATE, YAML_PARSE_INDENTLESS_SEQUENCE_ENTRY_STATE, YAML_PARSE_BLOCK_MAPPING_FIRST_KEY_STATE, YAML_PARSE_BLOCK_MAPPING_KEY_STATE, YAML_PARSE_BLOCK_MAPPING_VALUE_STATE, YAML_PARSE_FLOW_SEQUENCE_FIRST_ENTRY_STATE, YAML_PARSE_FLOW_SEQUENCE_ENTRY_STATE, YAML_PARSE_FLOW_SEQUENCE_ENTRY_MAPPING_KEY_STATE, YAML_PARSE_FLOW_SEQUENCE_ENTRY_MAPPING_VALUE_STATE, YAML_PARSE_FLOW_SEQUENCE_ENTRY_MAPPING_END_STATE, YAML_PARSE_FLOW_MAPPING_FIRST_KEY_STATE, YAML_PARSE_FLOW_MAPPING_KEY_STATE, YAML_PARSE_FLOW_MAPPING_VALUE_STATE, YAML_PARSE_FLOW_MAPPING_EMPTY_VALUE_STATE, YAML_PARSE_END_STATE}
 use Rattle.libyaml_events.specs.Fault.{Fault}
 use Rattle.libyaml_events.specs.FaultTexts.{stream_start_fault, document_start_fault, duplicate_version_fault, version_fault, duplicate_tag_fault, content_fault, tag_fault, item_fault, part_fault, sequence_fault, mapping_fault}
+use Rattle.libyaml_events.specs.Events.{is_missing, plain_flag, quoted_flag, same_text}
+use Rattle.libyaml_events.specs.Order.{is_version}
 use Rattle.libyaml_events.specs.Config.{Config, Handles, no_handles, at, keep, pushed, popped, pushed_mark, top_mark, popped_mark, declared}
 use Rattle.libyaml_events.specs.declared.progress.DirectivesRead.{DirectivesRead}
 use Rattle.libyaml_events.specs.declared.progress.NodePlace.{NodePlace}
@@ -54,33 +54,6 @@ give content start end c = Ok (Given (event content start end), c)
 -- an event with the marks of its token
 abbrev pub give_at : unnamed_yaml_event_t_data → yaml_token_t → Config → Outcome
 give_at content t c = give content t.start_mark t.end_mark c
-
-abbrev pub same_text : List ℕ → List ℕ → Bool
-same_text a b = pointwise nat_eq a b
-
-abbrev pub is_plain : yaml_scalar_style_t → Bool
-is_plain YAML_ANY_SCALAR_STYLE = false
-is_plain YAML_PLAIN_SCALAR_STYLE = true
-is_plain YAML_SINGLE_QUOTED_SCALAR_STYLE = false
-is_plain YAML_DOUBLE_QUOTED_SCALAR_STYLE = false
-is_plain YAML_LITERAL_SCALAR_STYLE = false
-is_plain YAML_FOLDED_SCALAR_STYLE = false
-
--- no tag and plain, or the tag `!`
-abbrev pub plain_flag : Option (List ℕ) → yaml_scalar_style_t → Bool
-plain_flag None style = is_plain style
-plain_flag (Some tag) style = same_text tag (codes "!")
-
--- no tag and not plain
-abbrev pub quoted_flag : Option (List ℕ) → yaml_scalar_style_t → Bool
-quoted_flag None style = cond (is_plain style) false true
-quoted_flag (Some tag) style = false
-
--- no tag, or an empty one
-abbrev pub is_missing : Option (List ℕ) → Bool
-is_missing None = true
-is_missing (Some []) = true
-is_missing (Some (x ∷ xs)) = false
 
 abbrev pub scalar : (anchor tag : Option (List ℕ)) (value : List ℕ) (plain_implicit quoted_implicit : Bool) → yaml_scalar_style_t → unnamed_yaml_event_t_data
 scalar anchor tag value plain_implicit quoted_implicit style = ev.Scalar (record { anchor = anchor; tag = tag; value = value; plain_implicit = plain_implicit; quoted_implicit = quoted_implicit; style = style })
@@ -121,9 +94,6 @@ begin_document state c = record c { state = state; states = YAML_PARSE_DOCUMENT_
 
 abbrev pub implicit_document : Config → yaml_token_t → Outcome
 implicit_document c t = give (document_start None [] true) t.start_mark t.start_mark (keep t (begin_document YAML_PARSE_BLOCK_NODE_STATE c))
-
-abbrev pub is_version : ℤ → ℤ → Bool
-is_version major minor = int_eq major (pos 1) && (int_eq minor (pos 1) || int_eq minor (pos 2))
 
 abbrev pub first_version : Bool → DirectivesRead → Config → yaml_mark_t → yaml_version_directive_t → Outcome
 first_version true d c m v = want (BehindDirective (record d { version = Some v })) c

@@ -1,8 +1,7 @@
 -- Documents in order (YAML 1.1, 7.1 and 8.2; docs/DEFINITIONS.md, "Documents in order"): directives that agree with one another, and
 -- tags whose handles are known. Each test answers what holds of its part and, as b, of what stands behind it.
-use Rattle.std.specs.Prelude.{ℕ, pos, List, [], ◌∷◌, Option, Some, None, Bool, true, false, codes}
+use Rattle.std.specs.Prelude.{ℕ, ℤ, pos, List, [], ◌∷◌, Option, Some, None, Bool, true, false, codes}
 use Rattle.std.specs.Ordering.{int_eq}
-use Rattle.libyaml_events.specs.Tokens.{VersionAsked}
 use Rattle.libyaml_events.specs.Trees.{Before, BlockItems, BlockNode, BlockSlot, Directive, Directives, Documents, Ended, FlowItems, FlowLast, FlowMember, FlowNode, FlowSlot, FlowValue, Free, Parts, Properties, Slot, Stream, again, alias, alone, anchor, anchor_tag, behind, block_mapping, block_sequence, collection, directive, empty, ended, explicit, flow, flow_node, flow_nothing, free, implicit, indentless, item, last, more_items, no_directives, no_items, no_last, no_parts, no_value, node, nothing, once, opened, pair, part, scalar, single, slot_of, tag, tag_anchor, tag_directive, version, whole, with_value}
 use Rattle.libyaml_events.specs.Events.{either, same_text}
 
@@ -20,8 +19,8 @@ no_version no_directives = true
 no_version (directive ds (version v m)) = false
 no_version (directive ds (tag_directive h m)) = no_version ds
 
-abbrev pub is_version : VersionAsked → Bool
-is_version v = both (int_eq v.major (pos 1)) (either (int_eq v.minor (pos 1)) (int_eq v.minor (pos 2)))
+abbrev pub is_version : (major minor : ℤ) → Bool
+is_version major minor = both (int_eq major (pos 1)) (either (int_eq minor (pos 1)) (int_eq minor (pos 2)))
 
 -- A document declares a handle at most once.
 abbrev pub declares : Directives → List ℕ → Bool
@@ -30,7 +29,7 @@ declares (directive ds (version v m)) h = declares ds h
 declares (directive ds (tag_directive d m)) h = either (same_text d.handle h) (declares ds h)
 
 abbrev pub admits : Directives → Directive → Bool
-admits ds (version v m) = both (no_version ds) (is_version v)
+admits ds (version v m) = both (no_version ds) (is_version v.major v.minor)
 admits ds (tag_directive d m) = negated (declares ds d.handle)
 
 -- A handle is known if it is empty, declared in its document, `!` or `!!`.

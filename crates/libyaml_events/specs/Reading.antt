@@ -217,7 +217,7 @@ feeds (t ∷ r) q = then_all (feed q t) (feeds r)
 
 -- whether a token that the grammar takes keeps the order; ds are the directives that wait for their DOCUMENT-START, es those in force
 abbrev pub keeps_order : Directives → Directives → Content → Bool
-keeps_order ds es (VersionDirective v) = both (no_version ds) (is_version v)
+keeps_order ds es (VersionDirective v) = both (no_version ds) (is_version v.major v.minor)
 keeps_order ds es (TagDirective d) = negated (declares ds d.handle)
 keeps_order ds es (Tag t) = is_known es t.handle
 keeps_order ds es _ = true

@@ -2,7 +2,8 @@
 ghost use Rattle.std.specs.Prelude.{◌≡◌, Ok, false};
 ghost use Rattle.libyaml_types.specs.declared.event.unnamed_yaml_event_t_data_scalar.{unnamed_yaml_event_t_data_scalar};
 ghost use Rattle.libyaml_types.specs.declared.enums.yaml_scalar_style_t.TheVariants.{YAML_PLAIN_SCALAR_STYLE};
-ghost use Rattle.libyaml_events.specs.Machine.{is_plain, plain_flag, quoted_flag, is_missing, scalar, sequence_start, mapping_start, only_properties, no_content, open_collection, scalar_content, is_block, node_content, content_behind, behind_properties, parse_node};
+ghost use Rattle.libyaml_events.specs.Events.{is_plain, plain_flag, quoted_flag, is_missing};
+ghost use Rattle.libyaml_events.specs.Machine.{scalar, sequence_start, mapping_start, only_properties, no_content, open_collection, scalar_content, is_block, node_content, content_behind, behind_properties, parse_node};
 ghost use Rattle.libyaml_events.specs.Steps.{Steps};
 ghost use Rattle.libyaml_events.specs.Config.{with_config, with_fault};
 ghost use Rattle.libyaml_events.specs.FaultTexts.{content_fault};
