@@ -10,7 +10,8 @@ use Rattle.libyaml_events.specs.Fault.{Answer}
 use Rattle.libyaml_events.specs.FaultTexts.{zero_mark, memory_fault}
 use Rattle.libyaml_events.specs.Errors.{IsSourceError}
 use Rattle.libyaml_events.specs.Config.{Config, Parser, with_config, with_fault, taken, is_over}
-use Rattle.libyaml_events.specs.Machine.{Outcome, step, event}
+use Rattle.libyaml_events.specs.Events.{event}
+use Rattle.libyaml_events.specs.Machine.{Outcome, step}
 use Rattle.libyaml_events.specs.declared.progress.Want.{Want}
 use Rattle.libyaml_events.specs.declared.progress.Want.TheVariants.{AtState}
 use Rattle.libyaml_events.specs.declared.progress.Progress.TheVariants.{Given, Wants}

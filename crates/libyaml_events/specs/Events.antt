@@ -144,7 +144,7 @@ abbrev pub first_of : Option Properties → Mark → Mark
 first_of None m = m
 first_of (Some p) m = first_of_properties p
 
--- The flags: when a tag may be left out (docs/DEFINITIONS.md, "Flags").
+-- The flags: when a tag may be left out (docs/DEFINITIONS.md, "Flags"). No tag, or an empty one:
 abbrev pub is_missing : Option (List ℕ) → Bool
 is_missing None = true
 is_missing (Some []) = true
@@ -154,10 +154,12 @@ abbrev pub is_plain : yaml_scalar_style_t → Bool
 is_plain YAML_PLAIN_SCALAR_STYLE = true
 is_plain _ = false
 
+-- no tag and plain, or the tag `!`
 abbrev pub plain_flag : Option (List ℕ) → yaml_scalar_style_t → Bool
 plain_flag None s = is_plain s
 plain_flag (Some t) s = same_text t (codes "!")
 
+-- no tag and not plain
 abbrev pub quoted_flag : Option (List ℕ) → yaml_scalar_style_t → Bool
 quoted_flag None s = cond (is_plain s) false true
 quoted_flag (Some t) s = false

@@ -9,7 +9,6 @@ use Rattle.libyaml_types.specs.declared.token.yaml_token_t.{yaml_token_t}
 use Rattle.libyaml_types.specs.declared.token.unnamed_yaml_token_t_data.{unnamed_yaml_token_t_data}
 use Rattle.libyaml_types.specs.declared.token.unnamed_yaml_token_t_data.TheVariants as tok
 use Rattle.libyaml_types.specs.declared.token.unnamed_yaml_token_t_data_scalar.{unnamed_yaml_token_t_data_scalar}
-use Rattle.libyaml_types.specs.declared.event.yaml_event_t.{yaml_event_t}
 use Rattle.libyaml_types.specs.declared.event.unnamed_yaml_event_t_data.{unnamed_yaml_event_t_data}
 use Rattle.libyaml_types.specs.declared.event.unnamed_yaml_event_t_data.TheVariants as ev
 use Rattle.libyaml_types.specs.declared.enums.yaml_scalar_style_t.{yaml_scalar_style_t}
@@ -22,7 +21,7 @@ use Rattle.libyaml_types.specs.declared.enums.yaml_parser_state_t.{yaml_parser_s
 use Rattle.libyaml_types.specs.declared.enums.yaml_parser_state_t.TheVariants.{YAML_PARSE_STREAM_START_STATE, YAML_PARSE_IMPLICIT_DOCUMENT_START_STATE, YAML_PARSE_DOCUMENT_START_STATE, YAML_PARSE_DOCUMENT_CONTENT_STATE, YAML_PARSE_DOCUMENT_END_STATE, YAML_PARSE_BLOCK_NODE_STATE, YAML_PARSE_BLOCK_NODE_OR_INDENTLESS_SEQUENCE_STATE, YAML_PARSE_FLOW_NODE_STATE, YAML_PARSE_BLOCK_SEQUENCE_FIRST_ENTRY_STATE, YAML_PARSE_BLOCK_SEQUENCE_ENTRY_STATE, YAML_PARSE_INDENTLESS_SEQUENCE_ENTRY_STATE, YAML_PARSE_BLOCK_MAPPING_FIRST_KEY_STATE, YAML_PARSE_BLOCK_MAPPING_KEY_STATE, YAML_PARSE_BLOCK_MAPPING_VALUE_STATE, YAML_PARSE_FLOW_SEQUENCE_FIRST_ENTRY_STATE, YAML_PARSE_FLOW_SEQUENCE_ENTRY_STATE, YAML_PARSE_FLOW_SEQUENCE_ENTRY_MAPPING_KEY_STATE, YAML_PARSE_FLOW_SEQUENCE_ENTRY_MAPPING_VALUE_STATE, YAML_PARSE_FLOW_SEQUENCE_ENTRY_MAPPING_END_STATE, YAML_PARSE_FLOW_MAPPING_FIRST_KEY_STATE, YAML_PARSE_FLOW_MAPPING_KEY_STATE, YAML_PARSE_FLOW_MAPPING_VALUE_STATE, YAML_PARSE_FLOW_MAPPING_EMPTY_VALUE_STATE, YAML_PARSE_END_STATE}
 use Rattle.libyaml_events.specs.Fault.{Fault}
 use Rattle.libyaml_events.specs.FaultTexts.{stream_start_fault, document_start_fault, duplicate_version_fault, version_fault, duplicate_tag_fault, content_fault, tag_fault, item_fault, part_fault, sequence_fault, mapping_fault}
-use Rattle.libyaml_events.specs.Events.{is_missing, plain_flag, quoted_flag, same_text}
+use Rattle.libyaml_events.specs.Events.{event, is_missing, plain_flag, quoted_flag, same_text}
 use Rattle.libyaml_events.specs.Order.{is_version}
 use Rattle.libyaml_events.specs.Config.{Config, Handles, no_handles, at, keep, pushed, popped, pushed_mark, top_mark, popped_mark, declared}
 use Rattle.libyaml_events.specs.declared.progress.DirectivesRead.{DirectivesRead}
@@ -44,9 +43,6 @@ abbrev pub want : Want → Config → Outcome
 want w c = Ok (Wants w, c)
 
 -- events
-
-abbrev pub event : unnamed_yaml_event_t_data → yaml_mark_t → yaml_mark_t → yaml_event_t
-event content start end = record { content = content; start_mark = start; end_mark = end }
 
 abbrev pub give : unnamed_yaml_event_t_data → yaml_mark_t → yaml_mark_t → Config → Outcome
 give content start end c = Ok (Given (event content start end), c)

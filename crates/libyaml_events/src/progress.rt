@@ -113,7 +113,7 @@ pub enum Progress {
 }
 
 impl Progress {
-    ghost use Rattle.libyaml_events.specs.Machine.{event};
+    ghost use Rattle.libyaml_events.specs.Events.{event};
     ghost use Rattle.libyaml_events.specs.declared.progress.Progress.TheVariants.{Given};
 
     /// An event with these marks.
