@@ -1,8 +1,12 @@
 -- a number at the front of some bytes
-use Rattle.std.proofs.Common.{◌≡◌, ◌==◌, ℕ, ◌+◌, ◌-◌, ◌*◌, ◌<◌, ◌≤◌, ◌^◌, true, false, List, [], ◌∷◌, ◌++◌, length, take, drop, get_or, Some, None, refl, ap, sym, ◌∙◌, arith}
+use Rattle.std.proofs.Common.{◌≡◌, leb, ◌==◌, ℕ, ◌+◌, ◌-◌, ◌*◌, ◌<◌, ◌≤◌, ◌^◌, true, false, List, [], ◌∷◌, ◌++◌, length, take, drop, get_or, Some, None, refl, ap, sym, ◌∙◌, arith}
 use Rattle.std.proofs.lemmas.Bool.{cond_both}
 use Rattle.std.proofs.lemmas.List.{at_drop_more, at_drop_all, take_more, append-nil}
-use Rattle.std.proofs.Common.{append_assoc}
+use Rattle.std.proofs.Common.{append_assoc, min}
+use Rattle.std.proofs.lemmas.List.{get_or-take, length-take}
+use Rattle.std.proofs.lemmas.Bool.{leb-true, and_parts}
+use Rattle.std.proofs.Math.Nat.{pow-suc, pow-le-pow_right}
+use Rattle.std.proofs.Math.Numerals.{add-one}
 use Rattle.std.specs.Char.{is_ascii_digit}
 use Rattle.token_lines.specs.Number.{value_after, value_of, number_of}
 use Rattle.token_lines.specs.Front.{digits_of, behind_digits, number_at}
@@ -81,3 +85,49 @@ pub ends_at_end : (bytes : List ℕ) (i n : ℕ) → HasRead bytes i n → lengt
 ends_at_end bytes i n h large =
     let none : drop i bytes ≡ [] = at_drop_all (λ x. x) bytes i large in
     ends bytes i n h (ap digits_of none) (ap behind_digits none ∙ sym none)
+
+-- the same of 19 digits at most, whose value is within 64 bits
+pub record HasReadFew (bytes : List ℕ) (i n : ℕ) : Type 0 where
+  pub read : HasRead bytes i n
+  pub below : n < 10 ^ i
+
+pub none_read_few : (bytes : List ℕ) → HasReadFew bytes 0 0
+none_read_few bytes = record { read = none_read bytes; below = omega arith }
+
+-- so one more digit fits
+pub few_fit : (i n : ℕ) → n < 10 ^ i → i < 19 → n * 10 + 57 < 2 ^ 64
+few_fit i n h small =
+    let most : 10 ^ i ≤ 10 ^ 18 = pow-le-pow_right {n = 10} (omega arith) {i = i} {j = 18} (omega arith) in
+    omega (arith, most, h)
+
+digit_within : (b : ℕ) → is_ascii_digit b ≡ true → (48 ≤ b) × (b ≤ 57)
+digit_within b d =
+    let k = and_parts (leb 48 b) (leb b 57) d in
+    (leb-true 48 b k.0, leb-true b 57 k.1)
+
+few_below : (i n b : ℕ) → n < 10 ^ i → b ≤ 57 → 48 ≤ b → n * 10 + (b - 48) < 10 ^ (i + 1)
+few_below i n b h high low =
+    let more : 10 ^ (i + 1) ≡ 10 ^ i * 10 = ap (λ x. 10 ^ x) (add-one i) ∙ pow-suc 10 i in
+    rw more (omega (arith, h, high, low))
+
+pub read_few_more : (bytes : List ℕ) (k i n : ℕ) → k ≤ 19 → HasReadFew bytes i n → i < length (take k bytes) → is_ascii_digit (get_or (take k bytes) i 0) ≡ true → HasReadFew bytes (i + 1) (n * 10 + get_or (take k bytes) i 0 - 48)
+read_few_more bytes k i n short few small d =
+    let within : i < min k (length bytes) = rw (sym (length-take k bytes)) small in
+    let i_short : i < k = omega (arith, within) in
+    let i_small : i < length bytes = omega (arith, within) in
+    let same : get_or (take k bytes) i 0 ≡ get_or bytes i 0 = get_or-take k bytes i 0 i_short in
+    let b = get_or bytes i 0 in
+    let digit : is_ascii_digit b ≡ true = rw (sym same) d in
+    let bounds : (48 ≤ b) × (b ≤ 57) = digit_within b digit in
+    let fit : n * 10 + 57 < 2 ^ 64 = few_fit i n few.below (omega (arith, i_short, short)) in
+    let more : n * 10 + b - 48 ≡ n * 10 + (b - 48) = omega (arith, bounds.0) in
+    rw same (rw more (record {
+      read = read_more bytes i n few.read i_small digit (omega (arith, fit, bounds.1));
+      below = few_below i n b few.below bounds.1 bounds.0;
+    }))
+
+pub few_room : (bytes : List ℕ) (k i n : ℕ) → k ≤ 19 → HasReadFew bytes i n → i < length (take k bytes) → is_ascii_digit (get_or (take k bytes) i 0) ≡ true → n * 10 + get_or (take k bytes) i 0 < 2 ^ 64
+few_room bytes k i n short few small d =
+    let within : i < min k (length bytes) = rw (sym (length-take k bytes)) small in
+    let bounds : (48 ≤ get_or (take k bytes) i 0) × (get_or (take k bytes) i 0 ≤ 57) = digit_within (get_or (take k bytes) i 0) d in
+    omega (arith, few_fit i n few.below (omega (arith, within, short)), bounds.1)

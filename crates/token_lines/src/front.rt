@@ -42,8 +42,31 @@ fn behind(bytes: &[u8], byte: u8) -> Option<&[u8]>
     }
 }
 
+/// So many digits have a value within 64 bits, whatever they are.
+const SHORT: usize = 19;
+
 /// The number at the front, and what stands behind it.
+#[inline]
 fn take_number(bytes: &[u8]) -> Option<(u64, &[u8])>
+    ensures { MatchOption result (number_at bytes.now ≡ None) (λ taken. number_at bytes.now ≡ Some (taken.0, taken.1.now)) }
+{
+    let mut value = 0u64;
+    for (len, digit) in bytes[..bytes.len().min(SHORT)].iter().enumerate() {
+        if !digit.is_ascii_digit() {
+            return ended_number(bytes, len, value);
+        }
+        value = value * 10 + u64::from(*digit) - u64::from(b'0');
+    }
+    if bytes.len() <= SHORT {
+        ended_number(bytes, bytes.len(), value)
+    } else {
+        take_long_number(bytes)
+    }
+}
+
+/// The same, of any length.
+#[cold]
+fn take_long_number(bytes: &[u8]) -> Option<(u64, &[u8])>
     ensures { MatchOption result (number_at bytes.now ≡ None) (λ taken. number_at bytes.now ≡ Some (taken.0, taken.1.now)) }
 {
     let mut value = 0u64;

@@ -1,11 +1,12 @@
 use Rattle.std.proofs.Common.{sym, arith}
-use Rattle.token_lines.proofs.Fronts.{read_too_much}
+use Rattle.token_lines.proofs.Fronts.{few_room, read_few_more}
 use Rattle.token_lines.proofs.front.take_number.Goals as goal
 
-pub returns-in_err-checked_mul : goal.returns-in_err-checked_mul
-returns-in_err-checked_mul c =
-    rw (c.from_residual.ensures) (read_too_much _ c.loop-len.len c.loop-len.value c.loop-len.invariant c.loop-len-test.true (sym c.if-not-is_ascii_digit.ensures.value) (omega (arith, c.in_err-checked_mul.ensures)))
+pub overflow_mul-value : goal.overflow_mul-value
+overflow_mul-value c = omega (arith, few_room _ c.min.result c.loop-len.len c.loop-len.value (omega (arith, c.min.ensures)) c.loop-len.invariant c.loop-len-test.true (sym c.if-not-is_ascii_digit.ensures.value))
 
-pub returns-in_err-value : goal.returns-in_err-value
-returns-in_err-value c =
-    rw (c.from_residual-in_err-value.ensures) (read_too_much _ c.loop-len.len c.loop-len.value c.loop-len.invariant c.loop-len-test.true (sym c.if-not-is_ascii_digit.ensures.value) (omega (arith, c.in_err-value.ensures, c.in_ok-checked_mul.ensures)))
+pub overflow_add-value : goal.overflow_add-value
+overflow_add-value c = omega (arith, c.from.ensures, few_room _ c.min.result c.loop-len.len c.loop-len.value (omega (arith, c.min.ensures)) c.loop-len.invariant c.loop-len-test.true (sym c.if-not-is_ascii_digit.ensures.value))
+
+pub loop-len-preserved : goal.loop-len-preserved
+loop-len-preserved c = rw (c.from-in-loop-len.ensures, c.from.ensures) (read_few_more _ c.min.result c.loop-len.len c.loop-len.value (omega (arith, c.min.ensures)) c.loop-len.invariant c.loop-len-test.true (sym c.if-not-is_ascii_digit.ensures.value))
