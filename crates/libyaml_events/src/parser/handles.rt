@@ -38,14 +38,6 @@ fn joined(alloc: Global, prefix: &str, suffix: &str) -> Result<Text, AllocError>
 
 impl<S> yaml_parser_t<S> {
     #[tactic(auto, using(crate::proofs::HandleLemmas::get_handle))]
-    /// Whether the document has declared a handle so far.
-    pub(crate) fn is_declared(&self, handle: &Text) -> bool
-        ensures { result ≡ is_some (map.get self.now.config.handles handle.now) }
-    {
-        self.handles.contains_key(handle)
-    }
-
-    #[tactic(auto, using(crate::proofs::HandleLemmas::get_handle))]
     /// The prefix that the document declares for a handle, or else its default one.
     pub(crate) fn prefix_of(&self, handle: &Text) -> Option<&str>
         ensures { option_copied result ≡ or_default (map.get self.now.config.handles handle.now) handle.now }
@@ -56,8 +48,13 @@ impl<S> yaml_parser_t<S> {
         }
     }
 
-    /// Declares a handle, which was not declared. Keeps want of memory where it is refused.
-    pub(crate) fn declare(&mut self, handle: &Text, prefix: &Text) -> Result<(), yaml_error_type_t>
+    /// Declares a handle, and answers whether it was declared before. Keeps want of memory where it is refused.
+    pub(crate) fn declare(
+        &mut self,
+        handle: &Text,
+        prefix: &Text,
+    ) -> Result<bool, yaml_error_type_t>
+        ensures before { IfOk result (λ was_declared. was_declared ≡ is_some (map.get self.old.config.handles handle.now)) }
         ensures ok { OnOk result (self.new ≡ with_config self.old (declared handle.now prefix.now self.old.config)) }
         ensures err { OnErr result ((result ≡ Err yaml_error_type_t.YAML_MEMORY_ERROR) × (self.new ≡ with_config self.old (with_fault self.old.config memory_fault))) }
     {
@@ -68,7 +65,7 @@ impl<S> yaml_parser_t<S> {
             return Err(self.out_of_memory());
         };
         match self.handles.insert(handle, prefix) {
-            Ok(_) => Ok(()),
+            Ok(earlier) => Ok(earlier.is_some()),
             Err(_) => Err(self.out_of_memory()),
         }
     }

@@ -95,10 +95,10 @@ impl<S> yaml_parser_t<S> {
     ) -> Result<Progress, yaml_error_type_t>
         ensures { Steps (tag_directive (get self.old.config.handles directive.handle) directives self.old.config mark directive) self.old result self.new }
     {
-        if self.is_declared(&directive.handle) {
+        let was_declared = self.declare(&directive.handle, &directive.prefix)?;
+        if was_declared {
             return Err(self.set_parser_error("found duplicate %TAG directive", mark));
         }
-        self.declare(&directive.handle, &directive.prefix)?;
         if directives.tag_directives.push(directive).is_err() {
             return Err(self.out_of_memory());
         }
