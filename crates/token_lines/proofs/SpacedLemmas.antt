@@ -29,17 +29,17 @@ directive_texts-more ds i d within =
     ∙ ap behind_spaces (directive_texts-append (take i ds) (get_or ds i d ∷ []))
     ∙ behind_spaces-append (directive_texts (take i ds)) (string_text (get_or ds i d).handle ∷ string_text (get_or ds i d).prefix ∷ [])
 
-regroup : (old name s1 s2 s3 end : List ℕ) → ((((old ++ name) ++ s1) ++ s2) ++ s3) ++ end ≡ old ++ (name ++ ((s1 ++ (s2 ++ s3)) ++ end))
-regroup old name s1 s2 s3 end = simp append_assoc
+regroup : (old name marks fields end : List ℕ) → (((old ++ name) ++ marks) ++ fields) ++ end ≡ old ++ (name ++ ((marks ++ fields) ++ end))
+regroup old name marks fields end = simp append_assoc
 
 -- a name, two marks, the other fields and a line feed, one behind the other
-pub line_appended : {X E : Type 0} (old l1 l2 l3 l4 l5 named name m1 m2 : List ℕ) (fields : List (List ℕ)) (r : Result X E) → named ≡ name → l1 ≡ old ++ named
-    → l2 ≡ l1 ++ behind_spaces (m1 ∷ []) → l3 ≡ l2 ++ behind_spaces (m2 ∷ []) → l4 ≡ l3 ++ behind_spaces fields → l5 ≡ (if is_ok r then l4 ++ codes "\n" else l4)
-    → OnOk r (l5 ≡ old ++ line_text (name ∷ m1 ∷ m2 ∷ fields))
-line_appended old l1 l2 l3 l4 l5 named name m1 m2 fields (Err e) n e1 e2 e3 e4 e5 = tt
-line_appended old l1 l2 l3 l4 l5 named name m1 m2 fields (Ok x) n e1 e2 e3 e4 e5 =
-    e5
-    ∙ ap (λ l. l ++ codes "\n") (e4 ∙ ap (λ l. l ++ behind_spaces fields) (e3 ∙ ap (λ l. l ++ behind_spaces (m2 ∷ [])) (e2 ∙ ap (λ l. l ++ behind_spaces (m1 ∷ [])) (e1 ∙ ap (λ l. old ++ l) n))))
-    ∙ regroup old name (behind_spaces (m1 ∷ [])) (behind_spaces (m2 ∷ [])) (behind_spaces fields) (codes "\n")
-    ∙ ap (λ l. old ++ (name ++ (l ++ codes "\n"))) (ap (λ l. behind_spaces (m1 ∷ []) ++ l) (sym (behind_spaces-append (m2 ∷ []) fields)) ∙ sym (behind_spaces-append (m1 ∷ []) (m2 ∷ fields)))
+pub line_appended : {X E : Type 0} (old l1 l2 l3 l4 named name m1 m2 : List ℕ) (fields : List (List ℕ)) (r : Result X E) → named ≡ name → l1 ≡ old ++ named
+    → l2 ≡ l1 ++ behind_spaces (m1 ∷ m2 ∷ []) → l3 ≡ l2 ++ behind_spaces fields → l4 ≡ (if is_ok r then l3 ++ codes "\n" else l3)
+    → OnOk r (l4 ≡ old ++ line_text (name ∷ m1 ∷ m2 ∷ fields))
+line_appended old l1 l2 l3 l4 named name m1 m2 fields (Err e) n e1 e2 e3 e4 = tt
+line_appended old l1 l2 l3 l4 named name m1 m2 fields (Ok x) n e1 e2 e3 e4 =
+    e4
+    ∙ ap (λ l. l ++ codes "\n") (e3 ∙ ap (λ l. l ++ behind_spaces fields) (e2 ∙ ap (λ l. l ++ behind_spaces (m1 ∷ m2 ∷ [])) (e1 ∙ ap (λ l. old ++ l) n)))
+    ∙ regroup old name (behind_spaces (m1 ∷ m2 ∷ [])) (behind_spaces fields) (codes "\n")
+    ∙ ap (λ l. old ++ (name ++ (l ++ codes "\n"))) (sym (behind_spaces-append (m1 ∷ m2 ∷ []) fields))
     ∙ ap (λ l. old ++ l) (sym (line_text-spaced name (m1 ∷ m2 ∷ fields)))

@@ -5,10 +5,11 @@ ghost use Rattle.token_lines.specs.EventText.{event_name, event_fields, event_li
 ghost use Rattle.token_lines.specs.FieldTexts.{behind_spaces, directive_texts, optional_version_text, flag_text};
 
 use crate::field_text::{
-    append_directives, append_field, append_flag, append_mark, append_number,
-    append_optional_string, append_string, append_version, encoding_name, mapping_style_name,
-    scalar_style_name, sequence_style_name,
+    append_directives, append_field, append_flag, append_number, append_optional_string,
+    append_string, append_version, encoding_name, mapping_style_name, scalar_style_name,
+    sequence_style_name,
 };
+use crate::marks::append_marks;
 use crate::refusal::line_refusal_t;
 use libyaml_types::{
     unnamed_yaml_event_t_data, unnamed_yaml_event_t_data_document_start,
@@ -49,8 +50,7 @@ pub(crate) fn append_event(line: &mut String, event: &yaml_event_t) -> Result<()
     ensures { OnOk result (string_bytes line.new ≡ string_bytes line.old ++ event_line event.now) }
 {
     line.push_str(name(&event.content))?;
-    append_mark(line, event.start_mark)?;
-    append_mark(line, event.end_mark)?;
+    append_marks(line, &event.start_mark, &event.end_mark)?;
     append_fields(line, &event.content)?;
     line.push_str("\n")
 }

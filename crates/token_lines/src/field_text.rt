@@ -1,12 +1,12 @@
 //! The fields of a line as they are written, each behind a space.
 ghost use Rattle.std.specs.Prelude.{◌≡◌, ◌++◌, [], ◌∷◌, OnOk, string_bytes, decimal};
-ghost use Rattle.token_lines.specs.FieldTexts.{behind_spaces, mark_text, optional_version_text, flag_text, string_text, optional_string_text, directive_texts, encoding_text, scalar_style_text, sequence_style_text, mapping_style_text};
+ghost use Rattle.token_lines.specs.FieldTexts.{behind_spaces, optional_version_text, flag_text, string_text, optional_string_text, directive_texts, encoding_text, scalar_style_text, sequence_style_text, mapping_style_text};
 
 use crate::escape::append_escaped;
 use itoa::Buffer;
 use libyaml_types::{
-    Text, yaml_encoding_t, yaml_mapping_style_t, yaml_mark_t, yaml_scalar_style_t,
-    yaml_sequence_style_t, yaml_tag_directive_t, yaml_version_directive_t,
+    Text, yaml_encoding_t, yaml_mapping_style_t, yaml_scalar_style_t, yaml_sequence_style_t,
+    yaml_tag_directive_t, yaml_version_directive_t,
 };
 use std::alloc::AllocError;
 
@@ -25,17 +25,6 @@ pub(crate) fn append_number(line: &mut String, number: usize) -> Result<(), Allo
     ensures { OnOk result (string_bytes line.new ≡ string_bytes line.old ++ behind_spaces (decimal number ∷ [])) }
 {
     append_field(line, Buffer::new().format(number))
-}
-
-pub(crate) fn append_mark(line: &mut String, mark: yaml_mark_t) -> Result<(), AllocError>
-    ensures { OnOk result (string_bytes line.new ≡ string_bytes line.old ++ behind_spaces (mark_text mark ∷ [])) }
-{
-    let mut digits = Buffer::new();
-    append_field(line, digits.format(mark.index))?;
-    line.push_str(":")?;
-    line.push_str(digits.format(mark.line))?;
-    line.push_str(":")?;
-    line.push_str(digits.format(mark.column))
 }
 
 pub(crate) fn append_version(

@@ -11,6 +11,7 @@ pub mod laws;
 mod line;
 mod line_problem;
 mod line_source;
+mod marks;
 mod number;
 mod parts;
 mod refusal;
