@@ -33,13 +33,13 @@ regroup : (old name marks fields end : List ℕ) → (((old ++ name) ++ marks) +
 regroup old name marks fields end = simp append_assoc
 
 -- a name, two marks, the other fields and a line feed, one behind the other
-pub line_appended : {X E : Type 0} (old l1 l2 l3 l4 named name m1 m2 : List ℕ) (fields : List (List ℕ)) (r : Result X E) → named ≡ name → l1 ≡ old ++ named
+pub line_appended : {X E : Type 0} (old l1 l2 l3 l4 name m1 m2 : List ℕ) (fields : List (List ℕ)) (r : Result X E) → l1 ≡ old ++ name
     → l2 ≡ l1 ++ behind_spaces (m1 ∷ m2 ∷ []) → l3 ≡ l2 ++ behind_spaces fields → l4 ≡ (if is_ok r then l3 ++ codes "\n" else l3)
     → OnOk r (l4 ≡ old ++ line_text (name ∷ m1 ∷ m2 ∷ fields))
-line_appended old l1 l2 l3 l4 named name m1 m2 fields (Err e) n e1 e2 e3 e4 = tt
-line_appended old l1 l2 l3 l4 named name m1 m2 fields (Ok x) n e1 e2 e3 e4 =
+line_appended old l1 l2 l3 l4 name m1 m2 fields (Err e) e1 e2 e3 e4 = tt
+line_appended old l1 l2 l3 l4 name m1 m2 fields (Ok x) e1 e2 e3 e4 =
     e4
-    ∙ ap (λ l. l ++ codes "\n") (e3 ∙ ap (λ l. l ++ behind_spaces fields) (e2 ∙ ap (λ l. l ++ behind_spaces (m1 ∷ m2 ∷ [])) (e1 ∙ ap (λ l. old ++ l) n)))
+    ∙ ap (λ l. l ++ codes "\n") (e3 ∙ ap (λ l. l ++ behind_spaces fields) (e2 ∙ ap (λ l. l ++ behind_spaces (m1 ∷ m2 ∷ [])) e1))
     ∙ regroup old name (behind_spaces (m1 ∷ m2 ∷ [])) (behind_spaces fields) (codes "\n")
     ∙ ap (λ l. old ++ (name ++ (l ++ codes "\n"))) (sym (behind_spaces-append (m1 ∷ m2 ∷ []) fields))
     ∙ ap (λ l. old ++ l) (sym (line_text-spaced name (m1 ∷ m2 ∷ fields)))

@@ -5,9 +5,9 @@ ghost use Rattle.token_lines.specs.EventText.{event_name, event_fields, event_li
 ghost use Rattle.token_lines.specs.FieldTexts.{behind_spaces, directive_texts, optional_version_text, flag_text};
 
 use crate::field_text::{
-    append_directives, append_field, append_flag, append_number, append_optional_string,
-    append_string, append_version, encoding_name, mapping_style_name, scalar_style_name,
-    sequence_style_name,
+    append_directives, append_encoding, append_flag, append_mapping_style, append_number,
+    append_properties, append_scalar_style, append_sequence_style, append_string, append_two_flags,
+    append_version,
 };
 use crate::marks::append_marks;
 use crate::refusal::line_refusal_t;
@@ -46,30 +46,31 @@ pub(crate) fn write_line<W: Write>(line: &String, writer: &mut W) -> Result<(), 
 }
 
 /// Appends the event's line. After an error `line` holds some front of it.
+#[inline(never)]
 pub(crate) fn append_event(line: &mut String, event: &yaml_event_t) -> Result<(), AllocError>
     ensures { OnOk result (string_bytes line.new ≡ string_bytes line.old ++ event_line event.now) }
 {
-    line.push_str(name(&event.content))?;
+    append_name(line, &event.content)?;
     append_marks(line, &event.start_mark, &event.end_mark)?;
     append_fields(line, &event.content)?;
     line.push_str("\n")
 }
 
-fn name(content: &unnamed_yaml_event_t_data) -> &'static str
-    ensures { result.now ≡ event_name content.now }
+fn append_name(line: &mut String, content: &unnamed_yaml_event_t_data) -> Result<(), AllocError>
+    ensures { OnOk result (string_bytes line.new ≡ string_bytes line.old ++ event_name content.now) }
 {
     match content {
-        unnamed_yaml_event_t_data::NoEvent => "NO-EVENT",
-        unnamed_yaml_event_t_data::StreamStart(_) => "STREAM-START",
-        unnamed_yaml_event_t_data::StreamEnd => "STREAM-END",
-        unnamed_yaml_event_t_data::DocumentStart(_) => "DOCUMENT-START",
-        unnamed_yaml_event_t_data::DocumentEnd(_) => "DOCUMENT-END",
-        unnamed_yaml_event_t_data::Alias(_) => "ALIAS",
-        unnamed_yaml_event_t_data::Scalar(_) => "SCALAR",
-        unnamed_yaml_event_t_data::SequenceStart(_) => "SEQUENCE-START",
-        unnamed_yaml_event_t_data::SequenceEnd => "SEQUENCE-END",
-        unnamed_yaml_event_t_data::MappingStart(_) => "MAPPING-START",
-        unnamed_yaml_event_t_data::MappingEnd => "MAPPING-END",
+        unnamed_yaml_event_t_data::NoEvent => line.push_str("NO-EVENT"),
+        unnamed_yaml_event_t_data::StreamStart(_) => line.push_str("STREAM-START"),
+        unnamed_yaml_event_t_data::StreamEnd => line.push_str("STREAM-END"),
+        unnamed_yaml_event_t_data::DocumentStart(_) => line.push_str("DOCUMENT-START"),
+        unnamed_yaml_event_t_data::DocumentEnd(_) => line.push_str("DOCUMENT-END"),
+        unnamed_yaml_event_t_data::Alias(_) => line.push_str("ALIAS"),
+        unnamed_yaml_event_t_data::Scalar(_) => line.push_str("SCALAR"),
+        unnamed_yaml_event_t_data::SequenceStart(_) => line.push_str("SEQUENCE-START"),
+        unnamed_yaml_event_t_data::SequenceEnd => line.push_str("SEQUENCE-END"),
+        unnamed_yaml_event_t_data::MappingStart(_) => line.push_str("MAPPING-START"),
+        unnamed_yaml_event_t_data::MappingEnd => line.push_str("MAPPING-END"),
     }
 }
 
@@ -78,10 +79,7 @@ fn append_fields(line: &mut String, content: &unnamed_yaml_event_t_data) -> Resu
     ensures { OnOk result (string_bytes line.new ≡ string_bytes line.old ++ behind_spaces (event_fields content.now)) }
 {
     match content {
-        unnamed_yaml_event_t_data::StreamStart(start) => append_field(
-            line,
-            encoding_name(start.encoding),
-        ),
+        unnamed_yaml_event_t_data::StreamStart(start) => append_encoding(line, start.encoding),
         unnamed_yaml_event_t_data::DocumentStart(start) => append_document_start(line, start),
         unnamed_yaml_event_t_data::DocumentEnd(end) => append_flag(line, end.implicit),
         unnamed_yaml_event_t_data::Alias(alias) => append_string(line, &alias.anchor),
@@ -114,12 +112,10 @@ fn append_scalar(
 ) -> Result<(), AllocError>
     ensures { OnOk result (string_bytes line.new ≡ string_bytes line.old ++ behind_spaces (event_fields (unnamed_yaml_event_t_data.Scalar scalar.now))) }
 {
-    append_optional_string(line, &scalar.anchor)?;
-    append_optional_string(line, &scalar.tag)?;
+    append_properties(line, &scalar.anchor, &scalar.tag)?;
     append_string(line, &scalar.value)?;
-    append_flag(line, scalar.plain_implicit)?;
-    append_flag(line, scalar.quoted_implicit)?;
-    append_field(line, scalar_style_name(scalar.style))
+    append_two_flags(line, scalar.plain_implicit, scalar.quoted_implicit)?;
+    append_scalar_style(line, scalar.style)
 }
 
 fn append_sequence_start(
@@ -128,10 +124,9 @@ fn append_sequence_start(
 ) -> Result<(), AllocError>
     ensures { OnOk result (string_bytes line.new ≡ string_bytes line.old ++ behind_spaces (event_fields (unnamed_yaml_event_t_data.SequenceStart start.now))) }
 {
-    append_optional_string(line, &start.anchor)?;
-    append_optional_string(line, &start.tag)?;
+    append_properties(line, &start.anchor, &start.tag)?;
     append_flag(line, start.implicit)?;
-    append_field(line, sequence_style_name(start.style))
+    append_sequence_style(line, start.style)
 }
 
 fn append_mapping_start(
@@ -140,8 +135,7 @@ fn append_mapping_start(
 ) -> Result<(), AllocError>
     ensures { OnOk result (string_bytes line.new ≡ string_bytes line.old ++ behind_spaces (event_fields (unnamed_yaml_event_t_data.MappingStart start.now))) }
 {
-    append_optional_string(line, &start.anchor)?;
-    append_optional_string(line, &start.tag)?;
+    append_properties(line, &start.anchor, &start.tag)?;
     append_flag(line, start.implicit)?;
-    append_field(line, mapping_style_name(start.style))
+    append_mapping_style(line, start.style)
 }

@@ -45,7 +45,23 @@ pub(crate) fn append_version(
 pub(crate) fn append_flag(line: &mut String, flag: bool) -> Result<(), AllocError>
     ensures { OnOk result (string_bytes line.new ≡ string_bytes line.old ++ behind_spaces (flag_text flag ∷ [])) }
 {
-    append_field(line, if flag { "1" } else { "0" })
+    line.push_str(if flag { " 1" } else { " 0" })
+}
+
+/// Appends two flags by one constant.
+pub(crate) fn append_two_flags(
+    line: &mut String,
+    first: bool,
+    second: bool,
+) -> Result<(), AllocError>
+    ensures { OnOk result (string_bytes line.new ≡ string_bytes line.old ++ behind_spaces (flag_text first ∷ flag_text second ∷ [])) }
+{
+    line.push_str(match (first, second) {
+        (false, false) => " 0 0",
+        (false, true) => " 0 1",
+        (true, false) => " 1 0",
+        (true, true) => " 1 1",
+    })
 }
 
 pub(crate) fn append_string(line: &mut String, text: &Text) -> Result<(), AllocError>
@@ -63,8 +79,23 @@ pub(crate) fn append_optional_string(
 {
     match text {
         Some(text) => append_string(line, text),
-        None => append_field(line, ABSENT),
+        None => line.push_str(" -"),
     }
+}
+
+/// Appends the anchor and the tag of a node. Most nodes have neither.
+pub(crate) fn append_properties(
+    line: &mut String,
+    anchor: &Option<Text>,
+    tag: &Option<Text>,
+) -> Result<(), AllocError>
+    ensures { OnOk result (string_bytes line.new ≡ string_bytes line.old ++ behind_spaces (optional_string_text anchor.now ∷ optional_string_text tag.now ∷ [])) }
+{
+    if anchor.is_none() && tag.is_none() {
+        return line.push_str(" - -");
+    }
+    append_optional_string(line, anchor)?;
+    append_optional_string(line, tag)
 }
 
 /// Appends the handle and the prefix of each directive.
@@ -81,46 +112,58 @@ pub(crate) fn append_directives(
     Ok(())
 }
 
-pub(crate) fn encoding_name(encoding: yaml_encoding_t) -> &'static str
-    ensures { result.now ≡ encoding_text encoding }
+pub(crate) fn append_encoding(
+    line: &mut String,
+    encoding: yaml_encoding_t,
+) -> Result<(), AllocError>
+    ensures { OnOk result (string_bytes line.new ≡ string_bytes line.old ++ behind_spaces (encoding_text encoding ∷ [])) }
 {
     match encoding {
-        yaml_encoding_t::YAML_ANY_ENCODING => "any",
-        yaml_encoding_t::YAML_UTF8_ENCODING => "utf8",
-        yaml_encoding_t::YAML_UTF16LE_ENCODING => "utf16le",
-        yaml_encoding_t::YAML_UTF16BE_ENCODING => "utf16be",
+        yaml_encoding_t::YAML_ANY_ENCODING => line.push_str(" any"),
+        yaml_encoding_t::YAML_UTF8_ENCODING => line.push_str(" utf8"),
+        yaml_encoding_t::YAML_UTF16LE_ENCODING => line.push_str(" utf16le"),
+        yaml_encoding_t::YAML_UTF16BE_ENCODING => line.push_str(" utf16be"),
     }
 }
 
-pub(crate) fn scalar_style_name(style: yaml_scalar_style_t) -> &'static str
-    ensures { result.now ≡ scalar_style_text style }
+pub(crate) fn append_scalar_style(
+    line: &mut String,
+    style: yaml_scalar_style_t,
+) -> Result<(), AllocError>
+    ensures { OnOk result (string_bytes line.new ≡ string_bytes line.old ++ behind_spaces (scalar_style_text style ∷ [])) }
 {
     match style {
-        yaml_scalar_style_t::YAML_ANY_SCALAR_STYLE => "any",
-        yaml_scalar_style_t::YAML_PLAIN_SCALAR_STYLE => "plain",
-        yaml_scalar_style_t::YAML_SINGLE_QUOTED_SCALAR_STYLE => "single",
-        yaml_scalar_style_t::YAML_DOUBLE_QUOTED_SCALAR_STYLE => "double",
-        yaml_scalar_style_t::YAML_LITERAL_SCALAR_STYLE => "literal",
-        yaml_scalar_style_t::YAML_FOLDED_SCALAR_STYLE => "folded",
+        yaml_scalar_style_t::YAML_ANY_SCALAR_STYLE => line.push_str(" any"),
+        yaml_scalar_style_t::YAML_PLAIN_SCALAR_STYLE => line.push_str(" plain"),
+        yaml_scalar_style_t::YAML_SINGLE_QUOTED_SCALAR_STYLE => line.push_str(" single"),
+        yaml_scalar_style_t::YAML_DOUBLE_QUOTED_SCALAR_STYLE => line.push_str(" double"),
+        yaml_scalar_style_t::YAML_LITERAL_SCALAR_STYLE => line.push_str(" literal"),
+        yaml_scalar_style_t::YAML_FOLDED_SCALAR_STYLE => line.push_str(" folded"),
     }
 }
 
-pub(crate) fn sequence_style_name(style: yaml_sequence_style_t) -> &'static str
-    ensures { result.now ≡ sequence_style_text style }
+pub(crate) fn append_sequence_style(
+    line: &mut String,
+    style: yaml_sequence_style_t,
+) -> Result<(), AllocError>
+    ensures { OnOk result (string_bytes line.new ≡ string_bytes line.old ++ behind_spaces (sequence_style_text style ∷ [])) }
 {
     match style {
-        yaml_sequence_style_t::YAML_ANY_SEQUENCE_STYLE => "any",
-        yaml_sequence_style_t::YAML_BLOCK_SEQUENCE_STYLE => "block",
-        yaml_sequence_style_t::YAML_FLOW_SEQUENCE_STYLE => "flow",
+        yaml_sequence_style_t::YAML_ANY_SEQUENCE_STYLE => line.push_str(" any"),
+        yaml_sequence_style_t::YAML_BLOCK_SEQUENCE_STYLE => line.push_str(" block"),
+        yaml_sequence_style_t::YAML_FLOW_SEQUENCE_STYLE => line.push_str(" flow"),
     }
 }
 
-pub(crate) fn mapping_style_name(style: yaml_mapping_style_t) -> &'static str
-    ensures { result.now ≡ mapping_style_text style }
+pub(crate) fn append_mapping_style(
+    line: &mut String,
+    style: yaml_mapping_style_t,
+) -> Result<(), AllocError>
+    ensures { OnOk result (string_bytes line.new ≡ string_bytes line.old ++ behind_spaces (mapping_style_text style ∷ [])) }
 {
     match style {
-        yaml_mapping_style_t::YAML_ANY_MAPPING_STYLE => "any",
-        yaml_mapping_style_t::YAML_BLOCK_MAPPING_STYLE => "block",
-        yaml_mapping_style_t::YAML_FLOW_MAPPING_STYLE => "flow",
+        yaml_mapping_style_t::YAML_ANY_MAPPING_STYLE => line.push_str(" any"),
+        yaml_mapping_style_t::YAML_BLOCK_MAPPING_STYLE => line.push_str(" block"),
+        yaml_mapping_style_t::YAML_FLOW_MAPPING_STYLE => line.push_str(" flow"),
     }
 }
