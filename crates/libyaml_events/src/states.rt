@@ -21,6 +21,7 @@ impl<S> yaml_parser_t<S> {
     /// One token, and what it is wanted for.
     ///
     /// libyaml: `yaml_parser_state_machine`.
+    #[inline(always)]
     pub(crate) fn step(
         &mut self,
         want: Want,

@@ -6,6 +6,7 @@ ghost use Rattle.token_lines.specs.Number.{value_of, number_of};
 use libyaml_types::yaml_mark_t;
 
 /// The mark that is the first field, and the further fields, if there are some.
+#[inline(always)]
 pub fn take_mark(bytes: &[u8]) -> Option<(yaml_mark_t, Option<&[u8]>)>
     ensures { MatchOption result (mark_at bytes.now ≡ None) (λ taken. mark_at bytes.now ≡ Some (taken.0, option_copied taken.1)) }
 {
@@ -46,7 +47,7 @@ fn behind(bytes: &[u8], byte: u8) -> Option<&[u8]>
 const SHORT: usize = 19;
 
 /// The number at the front, and what stands behind it.
-#[inline]
+#[inline(always)]
 fn take_number(bytes: &[u8]) -> Option<(u64, &[u8])>
     ensures { MatchOption result (number_at bytes.now ≡ None) (λ taken. number_at bytes.now ≡ Some (taken.0, taken.1.now)) }
 {

@@ -114,6 +114,7 @@ pub(super) fn mapping_start(
 
 impl<S> yaml_parser_t<S> {
     /// A node at its first token, where it may not be empty.
+    #[inline(always)]
     pub(super) fn parse_node(
         &mut self,
         place: NodePlace,
@@ -240,6 +241,7 @@ impl<S> yaml_parser_t<S> {
         self.parse_node_content(place, head, token)
     }
 
+    #[inline(always)]
     fn parse_node_content(
         &mut self,
         place: NodePlace,
