@@ -47,7 +47,7 @@ fn read_content(
     ensures { IsReadAs result (content_of type_ fields.entry) }
 {
     let Some(first) = fields.next() else {
-        return read_bare_content(type_).ok_or(TokenLineError::BadLine);
+        return read_bare_content(type_);
     };
     let Some(second) = fields.next() else {
         return read_content_of_one(alloc, type_, first);
@@ -58,40 +58,42 @@ fn read_content(
     read_content_of_two(alloc, type_, first, second)
 }
 
-fn read_bare_content(type_: yaml_token_type_t) -> Option<unnamed_yaml_token_t_data>
-    ensures { result ≡ bare_content type_ }
+fn read_bare_content(
+    type_: yaml_token_type_t,
+) -> Result<unnamed_yaml_token_t_data, TokenLineError>
+    ensures { IsReadAs result (bare_content type_) }
 {
     match type_ {
-        yaml_token_type_t::YAML_NO_TOKEN => Some(unnamed_yaml_token_t_data::NoToken),
-        yaml_token_type_t::YAML_STREAM_END_TOKEN => Some(unnamed_yaml_token_t_data::StreamEnd),
-        yaml_token_type_t::YAML_DOCUMENT_START_TOKEN => Some(
+        yaml_token_type_t::YAML_NO_TOKEN => Ok(unnamed_yaml_token_t_data::NoToken),
+        yaml_token_type_t::YAML_STREAM_END_TOKEN => Ok(unnamed_yaml_token_t_data::StreamEnd),
+        yaml_token_type_t::YAML_DOCUMENT_START_TOKEN => Ok(
             unnamed_yaml_token_t_data::DocumentStart,
         ),
-        yaml_token_type_t::YAML_DOCUMENT_END_TOKEN => Some(unnamed_yaml_token_t_data::DocumentEnd),
-        yaml_token_type_t::YAML_BLOCK_SEQUENCE_START_TOKEN => Some(
+        yaml_token_type_t::YAML_DOCUMENT_END_TOKEN => Ok(unnamed_yaml_token_t_data::DocumentEnd),
+        yaml_token_type_t::YAML_BLOCK_SEQUENCE_START_TOKEN => Ok(
             unnamed_yaml_token_t_data::BlockSequenceStart,
         ),
-        yaml_token_type_t::YAML_BLOCK_MAPPING_START_TOKEN => Some(
+        yaml_token_type_t::YAML_BLOCK_MAPPING_START_TOKEN => Ok(
             unnamed_yaml_token_t_data::BlockMappingStart,
         ),
-        yaml_token_type_t::YAML_BLOCK_END_TOKEN => Some(unnamed_yaml_token_t_data::BlockEnd),
-        yaml_token_type_t::YAML_FLOW_SEQUENCE_START_TOKEN => Some(
+        yaml_token_type_t::YAML_BLOCK_END_TOKEN => Ok(unnamed_yaml_token_t_data::BlockEnd),
+        yaml_token_type_t::YAML_FLOW_SEQUENCE_START_TOKEN => Ok(
             unnamed_yaml_token_t_data::FlowSequenceStart,
         ),
-        yaml_token_type_t::YAML_FLOW_SEQUENCE_END_TOKEN => Some(
+        yaml_token_type_t::YAML_FLOW_SEQUENCE_END_TOKEN => Ok(
             unnamed_yaml_token_t_data::FlowSequenceEnd,
         ),
-        yaml_token_type_t::YAML_FLOW_MAPPING_START_TOKEN => Some(
+        yaml_token_type_t::YAML_FLOW_MAPPING_START_TOKEN => Ok(
             unnamed_yaml_token_t_data::FlowMappingStart,
         ),
-        yaml_token_type_t::YAML_FLOW_MAPPING_END_TOKEN => Some(
+        yaml_token_type_t::YAML_FLOW_MAPPING_END_TOKEN => Ok(
             unnamed_yaml_token_t_data::FlowMappingEnd,
         ),
-        yaml_token_type_t::YAML_BLOCK_ENTRY_TOKEN => Some(unnamed_yaml_token_t_data::BlockEntry),
-        yaml_token_type_t::YAML_FLOW_ENTRY_TOKEN => Some(unnamed_yaml_token_t_data::FlowEntry),
-        yaml_token_type_t::YAML_KEY_TOKEN => Some(unnamed_yaml_token_t_data::Key),
-        yaml_token_type_t::YAML_VALUE_TOKEN => Some(unnamed_yaml_token_t_data::Value),
-        _ => None,
+        yaml_token_type_t::YAML_BLOCK_ENTRY_TOKEN => Ok(unnamed_yaml_token_t_data::BlockEntry),
+        yaml_token_type_t::YAML_FLOW_ENTRY_TOKEN => Ok(unnamed_yaml_token_t_data::FlowEntry),
+        yaml_token_type_t::YAML_KEY_TOKEN => Ok(unnamed_yaml_token_t_data::Key),
+        yaml_token_type_t::YAML_VALUE_TOKEN => Ok(unnamed_yaml_token_t_data::Value),
+        _ => Err(TokenLineError::BadLine),
     }
 }
 
