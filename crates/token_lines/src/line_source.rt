@@ -1,10 +1,11 @@
 //! A source of tokens over the lines of a reader.
 ghost use Rattle.std.specs.Prelude.{◌≡◌, ℕ, ◌+◌, ◌-◌, Option, Ok, Err, IfOk, IfSome, Some, None};
-ghost use Rattle.libyaml_events.specs.Fault.{answer_of};
+ghost use Rattle.libyaml_events.specs.Fault.{answer_of, source_fault};
+ghost use Rattle.token_lines.specs.LineFault.{line_fault};
 ghost use Rattle.token_lines.specs.LineSource.{Gives, known_of, BreaksOff};
 ghost use Rattle.token_lines.specs.LineSourceLaws.{source_falls, source_follows, source_repeats};
 ghost use Rattle.token_lines.specs.ReadLines.{read_lines};
-ghost use Rattle.token_lines.specs.NextLine.{LineAnswer, TakesAtMost, IsBehindLine, answer_by};
+ghost use Rattle.token_lines.specs.NextLine.{TakesAtMost, IsBehindLine};
 
 use crate::MAX_LINE;
 use crate::line::read_line;
@@ -94,31 +95,28 @@ impl<R: BufRead> yaml_token_source_t for yaml_line_source_t<R> {
             return Err(problem.fault(self.given));
         }
         if self.given >= self.max_tokens {
-            self.problem = Some(LineProblem::TooManyTokens);
-            return Err(LineProblem::TooManyTokens.fault(self.given));
+            return Err(self.keep(LineProblem::TooManyTokens));
         }
-        match next_in(self.alloc, &mut self.reader, &mut self.line) {
+        if let Err(problem) = read_line(&mut self.reader, &mut self.line) {
+            return Err(self.keep(problem));
+        }
+        match read_token_line(self.alloc, &self.line) {
             Ok(token) => {
                 self.given += 1;
                 Ok(token)
             }
-            Err(problem) => {
-                self.problem = Some(problem);
-                Err(problem.fault(self.given))
-            }
+            Err(error) => Err(self.keep(LineProblem::from(error))),
         }
     }
 }
 
-/// The token of the next line, which is left in `line`.
-fn next_in<R: BufRead>(
-    alloc: Global,
-    reader: &mut R,
-    line: &mut Vec<u8>,
-) -> Result<yaml_token_t, LineProblem>
-    ensures answer { (given : ℕ) → LineAnswer (R.remaining reader.old) given (answer_by given result) (R.remaining reader.new) }
-    ensures takes { TakesAtMost (MAX_LINE + 1) (R.remaining reader.old) (R.remaining reader.new) }
-{
-    read_line(reader, line)?;
-    Ok(read_token_line(alloc, line)?)
+impl<R> yaml_line_source_t<R> {
+    /// Keeps a problem for good, as a fault.
+    fn keep(&mut self, problem: LineProblem) -> yaml_source_fault_t
+        ensures fault { source_fault result ≡ line_fault problem self.old.given }
+        ensures kept { self.new ≡ record self.old { fault = Some (line_fault problem self.old.given) } }
+    {
+        self.problem = Some(problem);
+        problem.fault(self.given)
+    }
 }

@@ -58,9 +58,7 @@ fn read_content(
     read_content_of_two(alloc, type_, first, second)
 }
 
-fn read_bare_content(
-    type_: yaml_token_type_t,
-) -> Result<unnamed_yaml_token_t_data, TokenLineError>
+fn read_bare_content(type_: yaml_token_type_t) -> Result<unnamed_yaml_token_t_data, TokenLineError>
     ensures { IsReadAs result (bare_content type_) }
 {
     match type_ {
