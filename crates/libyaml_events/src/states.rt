@@ -56,6 +56,7 @@ impl<S> yaml_parser_t<S> {
         }
     }
 
+    #[inline(always)]
     fn parse_at_state(&mut self, token: yaml_token_t) -> Result<Progress, yaml_error_type_t>
         ensures steps { Steps (at_state self.old.config.state self.old.config token token.content) self.old result self.new }
         ensures grows { result ≡ Err yaml_error_type_t.YAML_MEMORY_ERROR → may_grow_at self.old.config.state ≡ true }

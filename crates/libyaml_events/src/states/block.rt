@@ -51,6 +51,7 @@ impl<S> yaml_parser_t<S> {
     }
 
     /// Behind BLOCK-ENTRY, which ends at `end`: a node, or an empty one.
+    #[inline(always)]
     pub(super) fn parse_behind_block_entry(
         &mut self,
         end: yaml_mark_t,
@@ -173,6 +174,7 @@ impl<S> yaml_parser_t<S> {
     }
 
     /// Behind KEY or VALUE, which ends at `end`: a node, or an empty one. `state` comes next.
+    #[inline(always)]
     pub(super) fn parse_behind_block_indicator(
         &mut self,
         state: yaml_parser_state_t,
