@@ -1,5 +1,5 @@
 //! Marks as they are written. Their digits are gathered first, from the last to the first.
-ghost use Rattle.std.specs.Prelude.{ℕ, ◌≡◌, ◌≤◌, ◌<◌, ◌+◌, ◌++◌, [], ◌∷◌, length, drop, OnOk, string_bytes, decimal, IsAscii};
+ghost use Rattle.std.specs.Prelude.{◌≡◌, ◌≤◌, ◌<◌, ◌+◌, ◌++◌, [], ◌∷◌, length, drop, OnOk, string_bytes, decimal, IsAscii};
 ghost use Rattle.token_lines.specs.FieldTexts.{behind_spaces, mark_text};
 
 use itoa::write_digits;
