@@ -1,13 +1,13 @@
 -- What a call of the parser says of one step of a run.
-use Rattle.std.proofs.Common.{◌≡◌, ◌≢◌, ◌⊎◌, ◌++◌, ◌+◌, ◌*◌, ◌≤◌, ℕ, List, [], ◌∷◌, length, Option, Ok, Err, true, false, refl, sym, ap, ◌∙◌, subst, inl, inr, arith, length-append}
+use Rattle.std.proofs.Common.{◌≡◌, ◌++◌, ℕ, List, [], ◌∷◌, Option, Ok, Err, true, false, refl, sym, ap, ◌∙◌, subst, inl, inr}
 use Rattle.std.specs.Io.KnownBytes.{Appends}
 use Rattle.libyaml_types.specs.declared.event.yaml_event_t.{yaml_event_t}
 use Rattle.libyaml_types.specs.declared.token.yaml_token_t.{yaml_token_t}
 use Rattle.libyaml_types.specs.declared.enums.yaml_error_type_t.{yaml_error_type_t}
-use Rattle.libyaml_events.specs.Calls.{EventOrError, Gave, empty_event}
+use Rattle.libyaml_events.specs.Calls.{EventOrError, empty_event}
 use Rattle.libyaml_events.specs.Config.{Parser}
 use Rattle.libyaml_events.specs.Fault.{Fault, Answer}
-use Rattle.libyaml_events.specs.History.{History, answers, has_ended, is_stream_end, kept_fault}
+use Rattle.libyaml_events.specs.History.{History, is_stream_end, kept_fault}
 use Rattle.libyaml_events.specs.Parsing.{CarriesOn}
 use Rattle.libyaml_events.specs.RunToCome.{RunToCome, UnlessBroken, does, no_memory, breaks}
 use Rattle.libyaml_events.specs.Runs.{Ending, Ends, Fails}

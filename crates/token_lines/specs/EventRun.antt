@@ -1,5 +1,5 @@
 -- What a run writes (docs/DEFINITIONS.md, "Runs over lines").
-use Rattle.std.specs.Prelude.{◌≡◌, ◌++◌, ◌⊎◌, ℕ, List, [], Option, flat_map, IfSome}
+use Rattle.std.specs.Prelude.{◌≡◌, ◌++◌, ◌⊎◌, ℕ, List, Option, flat_map, IfSome}
 use Rattle.std.specs.Io.KnownBytes.{Appends}
 use Rattle.libyaml_types.specs.declared.event.yaml_event_t.{yaml_event_t}
 use Rattle.libyaml_events.specs.Fault.{Fault}

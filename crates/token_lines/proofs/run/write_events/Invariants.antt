@@ -1,4 +1,4 @@
-use Rattle.std.proofs.Common.{◌≡◌, List, false}
+use Rattle.std.proofs.Common.{List}
 use Rattle.libyaml_types.specs.declared.event.yaml_event_t.{yaml_event_t}
 use Rattle.token_lines.specs.EventStep.{IsRunning}
 use Rattle.libyaml_events.specs.EventsLeft.{events_left}

@@ -1,8 +1,5 @@
-use Rattle.std.proofs.Common.{◌≡◌, ◌++◌, ap, ◌∙◌, subst, sym, string_bytes}
+use Rattle.std.proofs.Common.{◌++◌, ap, ◌∙◌, subst, sym}
 use Rattle.std.specs.Io.KnownBytes.{Appends}
-use Rattle.libyaml_types.specs.declared.event.yaml_event_t.{yaml_event_t}
-use Rattle.libyaml_events.specs.Calls.{EventOrError}
-use Rattle.libyaml_events.specs.Fault.{Fault}
 use Rattle.token_lines.specs.EventText.{event_line}
 use Rattle.token_lines.specs.EventStep.{FailsHere}
 use Rattle.token_lines.proofs.RunLemmas.{Keeps-same}
