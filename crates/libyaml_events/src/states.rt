@@ -1,5 +1,7 @@
 //! The states: each takes a token, and gives an event, wants a further token, or faults.
-ghost use Rattle.std.specs.Prelude.{◌≡◌, Ok, Err, true};
+ghost use Rattle.std.specs.Prelude.{◌≡◌, Ok, Err, OnOk, OnErr, true};
+ghost use Rattle.libyaml_events.specs.FaultTexts.{memory_fault};
+ghost use Rattle.libyaml_events.specs.Config.{with_config, with_fault, at, pushed_mark};
 ghost use Rattle.libyaml_events.specs.Machine.{step, at_state, process_empty_scalar, close};
 ghost use Rattle.libyaml_events.specs.Steps.{Steps};
 ghost use Rattle.libyaml_events.specs.Calls.{may_grow, may_grow_at};
@@ -145,6 +147,20 @@ impl<S> yaml_parser_t<S> {
         self.keep(token);
         let text = Text::new(self.allocator());
         Progress::given(plain_scalar(None, None, text, true), mark, mark)
+    }
+
+    /// The start of a collection is kept, and `state` comes next.
+    fn open(
+        &mut self,
+        start: yaml_mark_t,
+        state: yaml_parser_state_t,
+    ) -> Result<(), yaml_error_type_t>
+        ensures ok { OnOk result (self.new ≡ with_config self.old (at state (pushed_mark start self.old.config))) }
+        ensures err { OnErr result ((result ≡ Err yaml_error_type_t.YAML_MEMORY_ERROR) × (self.new ≡ with_config self.old (with_fault self.old.config memory_fault))) }
+    {
+        self.push_mark(start)?;
+        self.set_state(state);
+        Ok(())
     }
 
     /// The end of the innermost collection, at the token that closes it.

@@ -213,6 +213,8 @@ impl yaml_node_type_t {
 
 /// Where a parser stands in the grammar.
 ///
+/// No run enters `YAML_PARSE_BLOCK_NODE_OR_INDENTLESS_SEQUENCE_STATE` or `YAML_PARSE_FLOW_NODE_STATE`.
+///
 /// libyaml: `yaml_parser_state_t`.
 #[derive(Copy, Clone, PartialEq, Eq, PartialOrd, Ord, Hash, Debug)]
 pub enum yaml_parser_state_t {

@@ -20,8 +20,8 @@ impl<S> yaml_parser_t<S> {
     ) -> Result<Progress, yaml_error_type_t>
         ensures { Steps (first_block_sequence_entry self.old.config token.now) self.old result self.new }
     {
-        self.push_mark(token.start_mark)?;
-        self.set_state(yaml_parser_state_t::YAML_PARSE_BLOCK_SEQUENCE_ENTRY_STATE);
+        let state = yaml_parser_state_t::YAML_PARSE_BLOCK_SEQUENCE_ENTRY_STATE;
+        self.open(token.start_mark, state)?;
         Ok(Progress::Wants(Want::AtState))
     }
 
@@ -120,8 +120,8 @@ impl<S> yaml_parser_t<S> {
     ) -> Result<Progress, yaml_error_type_t>
         ensures { Steps (first_block_mapping_key self.old.config token.now) self.old result self.new }
     {
-        self.push_mark(token.start_mark)?;
-        self.set_state(yaml_parser_state_t::YAML_PARSE_BLOCK_MAPPING_KEY_STATE);
+        let state = yaml_parser_state_t::YAML_PARSE_BLOCK_MAPPING_KEY_STATE;
+        self.open(token.start_mark, state)?;
         Ok(Progress::Wants(Want::AtState))
     }
 

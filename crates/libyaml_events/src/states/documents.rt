@@ -156,6 +156,17 @@ impl<S> yaml_parser_t<S> {
         }
     }
 
+    /// A document with DOCUMENT-START, at its first token.
+    fn begin_explicit_document(
+        &mut self,
+        token: yaml_token_t,
+    ) -> Result<Progress, yaml_error_type_t>
+        ensures { Steps (explicit_document (no_directives token.start_mark) self.old.config token token.content) self.old result self.new }
+    {
+        let directives = self.no_directives(token.start_mark);
+        self.parse_explicit_document(directives, token)
+    }
+
     fn end_stream(&mut self, token: &yaml_token_t) -> Progress
         ensures { Steps (end_stream self.old.config token.now) self.old (Ok result) self.new }
     {
@@ -179,10 +190,7 @@ impl<S> yaml_parser_t<S> {
             unnamed_yaml_token_t_data::StreamEnd => Ok(self.end_stream(&token)),
             unnamed_yaml_token_t_data::VersionDirective(_)
             | unnamed_yaml_token_t_data::TagDirective(_)
-            | unnamed_yaml_token_t_data::DocumentStart => {
-                let directives = self.no_directives(token.start_mark);
-                self.parse_explicit_document(directives, token)
-            }
+            | unnamed_yaml_token_t_data::DocumentStart => self.begin_explicit_document(token),
             unnamed_yaml_token_t_data::DocumentEnd => {
                 if self.has_ended() {
                     Ok(Progress::Wants(Want::AtState))
@@ -203,10 +211,7 @@ impl<S> yaml_parser_t<S> {
     {
         match token.content {
             unnamed_yaml_token_t_data::StreamEnd => Ok(self.end_stream(&token)),
-            _ => {
-                let directives = self.no_directives(token.start_mark);
-                self.parse_explicit_document(directives, token)
-            }
+            _ => self.begin_explicit_document(token),
         }
     }
 

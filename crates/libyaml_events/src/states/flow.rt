@@ -19,8 +19,8 @@ impl<S> yaml_parser_t<S> {
     ) -> Result<Progress, yaml_error_type_t>
         ensures { Steps (first_flow_sequence_entry self.old.config token.now) self.old result self.new }
     {
-        self.push_mark(token.start_mark)?;
-        self.set_state(yaml_parser_state_t::YAML_PARSE_FLOW_SEQUENCE_ENTRY_STATE);
+        let state = yaml_parser_state_t::YAML_PARSE_FLOW_SEQUENCE_ENTRY_STATE;
+        self.open(token.start_mark, state)?;
         Ok(Progress::Wants(Want::BehindFlowSequenceEntry))
     }
 
@@ -159,8 +159,8 @@ impl<S> yaml_parser_t<S> {
     ) -> Result<Progress, yaml_error_type_t>
         ensures { Steps (first_flow_mapping_key self.old.config token.now) self.old result self.new }
     {
-        self.push_mark(token.start_mark)?;
-        self.set_state(yaml_parser_state_t::YAML_PARSE_FLOW_MAPPING_KEY_STATE);
+        let state = yaml_parser_state_t::YAML_PARSE_FLOW_MAPPING_KEY_STATE;
+        self.open(token.start_mark, state)?;
         Ok(Progress::Wants(Want::BehindFlowMappingEntry))
     }
 
