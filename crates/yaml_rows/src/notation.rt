@@ -28,7 +28,7 @@ use std::fmt::Write;
 use std::test::Fail;
 
 /// A mark on line 0.
-pub fn mark(index: u64) -> yaml_mark_t {
+pub(crate) fn mark(index: u64) -> yaml_mark_t {
     yaml_mark_t {
         index,
         line: 0,
@@ -123,7 +123,7 @@ fn content_of(alloc: Global, word: &str) -> Result<unnamed_yaml_token_t_data, Fa
 }
 
 /// The tokens of a row.
-pub fn tokens_of(alloc: Global, row: &str) -> Result<Vec<yaml_token_t>, Fail> {
+pub(crate) fn tokens_of(alloc: Global, row: &str) -> Result<Vec<yaml_token_t>, Fail> {
     let mut tokens = Vec::new(alloc);
     let mut at = 0u64;
     for word in row.split(' ') {
@@ -135,7 +135,7 @@ pub fn tokens_of(alloc: Global, row: &str) -> Result<Vec<yaml_token_t>, Fail> {
 }
 
 /// The fault that ends a row's tokens. Its fields tell it from every other fault.
-pub fn end_of_row() -> yaml_source_fault_t {
+pub(crate) fn end_of_row() -> yaml_source_fault_t {
     yaml_source_fault_t::new(
         yaml_error_type_t::YAML_READER_ERROR,
         Some("no more tokens"),
@@ -266,7 +266,7 @@ fn show_content(shown: &mut String, content: &unnamed_yaml_event_t_data) -> Resu
 }
 
 /// An event behind the others.
-pub fn show_event(shown: &mut String, event: &yaml_event_t) -> Result<(), Fail> {
+pub(crate) fn show_event(shown: &mut String, event: &yaml_event_t) -> Result<(), Fail> {
     if !shown.is_empty() {
         shown.push_str(" ")?;
     }
@@ -278,7 +278,7 @@ pub fn show_event(shown: &mut String, event: &yaml_event_t) -> Result<(), Fail> 
 }
 
 /// A fault behind the events before it, with all its fields.
-pub fn show_fault(shown: &mut String, fault: &yaml_parser_t_prefix) -> Result<(), Fail> {
+pub(crate) fn show_fault(shown: &mut String, fault: &yaml_parser_t_prefix) -> Result<(), Fail> {
     let error = fault.error.number();
     let problem = fault.problem.unwrap_or("-");
     let at = fault.problem_mark.index;
@@ -296,7 +296,7 @@ pub fn show_fault(shown: &mut String, fault: &yaml_parser_t_prefix) -> Result<()
 }
 
 /// The events of a parser, up to the first that is empty, and the fault that it keeps.
-pub fn show_run<S: yaml_token_source_t>(
+pub(crate) fn show_run<S: yaml_token_source_t>(
     alloc: Global,
     parser: &mut yaml_parser_t<S>,
 ) -> Result<String, Fail> {
@@ -316,7 +316,7 @@ pub fn show_run<S: yaml_token_source_t>(
 }
 
 /// What parsing a row gives.
-pub fn parsed(alloc: Global, row: &str) -> Result<String, Fail> {
+pub(crate) fn parsed(alloc: Global, row: &str) -> Result<String, Fail> {
     let source = yaml_list_source_t::new(tokens_of(alloc, row)?, end_of_row());
     let mut parser = yaml_parser_initialize(alloc, source);
     show_run(alloc, &mut parser)
