@@ -99,17 +99,18 @@ fn write_next<S: yaml_token_source_t, W: Write>(
     ensures step { (events : List yaml_event_t) (ending : Ending) → RunToCome S.known parser.old events ending
         → Steps S.known S.may_break result parser.new (W.contents writer.old) (W.contents writer.new) events ending }
 {
-    let Ok(event) = yaml_parser_parse(parser) else {
+    let parsed = yaml_parser_parse(parser);
+    let Ok(event) = &parsed else {
         return Step::Failed(*parser.prefix());
     };
     line.clear();
-    let Ok(()) = append_event(line, &event) else {
+    let Ok(()) = append_event(line, event) else {
         return Step::Failed(MEMORY_FAULT);
     };
     let Ok(()) = write_line(line, writer) else {
         return Step::OutputFailed;
     };
-    if is_stream_end(&event) {
+    if is_stream_end(event) {
         Step::Ended
     } else {
         Step::Written
