@@ -39,6 +39,7 @@ fn take_token(alloc: Global, line: &[u8]) -> Result<yaml_token_t, TokenLineError
 }
 
 /// The content of a token of this type, from the fields behind its marks.
+#[inline(always)]
 fn read_content(
     alloc: Global,
     type_: yaml_token_type_t,
