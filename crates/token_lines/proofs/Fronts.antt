@@ -86,7 +86,7 @@ ends_at_end bytes i n h large =
     let none : drop i bytes ≡ [] = at_drop_all (λ x. x) bytes i large in
     ends bytes i n h (ap digits_of none) (ap behind_digits none ∙ sym none)
 
--- the same of 19 digits at most, whose value is within 64 bits
+-- the same, with a value that i digits can have
 pub record HasReadFew (bytes : List ℕ) (i n : ℕ) : Type 0 where
   pub read : HasRead bytes i n
   pub below : n < 10 ^ i
@@ -94,7 +94,7 @@ pub record HasReadFew (bytes : List ℕ) (i n : ℕ) : Type 0 where
 pub none_read_few : (bytes : List ℕ) → HasReadFew bytes 0 0
 none_read_few bytes = record { read = none_read bytes; below = omega arith }
 
--- so one more digit fits
+-- so behind fewer than 19 digits one more fits into 64 bits
 pub few_fit : (i n : ℕ) → n < 10 ^ i → i < 19 → n * 10 + 57 < 2 ^ 64
 few_fit i n h small =
     let most : 10 ^ i ≤ 10 ^ 18 = pow-le-pow_right {n = 10} (omega arith) {i = i} {j = 18} (omega arith) in
