@@ -33,7 +33,7 @@ came_none known a p events ending run = record { done = []; later = events; all 
 lines_more : (done : List yaml_event_t) (e : yaml_event_t) → event_lines done ++ event_line e ≡ event_lines (done ++ e ∷ [])
 lines_more done e = ap (λ l. event_lines done ++ l) (sym (append-nil (event_line e))) ∙ sym (flat_map-append event_line done (e ∷ []))
 
-appends_more : (a b c : Option (List ℕ)) (done : List yaml_event_t) (e : yaml_event_t) → Appends a b (event_lines done) → Appends b c (event_line e) → Appends a c (event_lines (done ++ e ∷ []))
+pub appends_more : (a b c : Option (List ℕ)) (done : List yaml_event_t) (e : yaml_event_t) → Appends a b (event_lines done) → Appends b c (event_line e) → Appends a c (event_lines (done ++ e ∷ []))
 appends_more a b c done e h k = subst (Appends a c) (lines_more done e) (Appends-trans a b c (event_lines done) (event_line e) h k)
 
 pub came_more : {S : Type 0} (known : S → Option Coming) (a b c : Option (List ℕ)) (p q : Parser S) (events : List yaml_event_t) (ending : Ending) → Came known a b p events ending

@@ -5,8 +5,9 @@ use Rattle.libyaml_types.specs.declared.event.yaml_event_t.{yaml_event_t}
 use Rattle.libyaml_events.specs.Config.{Parser}
 use Rattle.libyaml_types.specs.declared.token.yaml_token_t.{yaml_token_t}
 use Rattle.libyaml_events.specs.History.{History, has_ended}
-use Rattle.libyaml_events.specs.Fault.{Fault, fault_of}
+use Rattle.libyaml_events.specs.Fault.{Fault, Answer, fault_of}
 use Rattle.libyaml_events.specs.FaultTexts.{memory_fault}
+use Rattle.libyaml_events.specs.Parsing.{CarriesOn}
 use Rattle.libyaml_events.specs.RunToCome.{RunToCome}
 use Rattle.libyaml_events.specs.Runs.{Ending, Ends, Fails}
 use Rattle.libyaml_events.specs.Source.{Coming}
@@ -46,3 +47,9 @@ Steps known MayBreak Written new before after events ending = TakesFirst known n
 Steps known MayBreak Ended new before after events ending = TakesLast before after events ending
 Steps known MayBreak (Failed f) new before after events ending = FailsHere MayBreak (fault_of f) events ending × Keeps before after
 Steps known MayBreak OutputFailed new before after events ending = Unit {0}
+
+-- the parser gave one event more, and its line was written
+pub record WritesNext {S : Type 0} (gives : S → Answer → S → Type 0) (old new : Parser S) (before after : Option (List ℕ)) (asked : List yaml_token_t) (given : List yaml_event_t) : Type 0 where
+  pub event : yaml_event_t
+  pub carried : CarriesOn gives old event new asked given
+  pub wrote : Appends before after (event_line event)

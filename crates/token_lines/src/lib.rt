@@ -25,7 +25,7 @@ pub use event_line::write_event;
 pub use fault_text::write_fault;
 pub use line_source::yaml_line_source_t;
 pub use refusal::line_refusal_t;
-pub use run::{Outcome, run_events};
+pub use run::{Outcome, run_events, write_events};
 
 /// A token line has at most this many bytes, its LF not counted.
 pub const MAX_LINE: usize = 1_048_576;

@@ -2,14 +2,16 @@
 ghost use Rattle.std.specs.Prelude.{◌≡◌, ◌≢◌, ◌⊎◌, ◌<◌, List};
 ghost use Rattle.std.specs.Io.KnownBytes.{Appends, Keeps};
 ghost use Rattle.libyaml_types.specs.declared.event.yaml_event_t.{yaml_event_t};
+ghost use Rattle.libyaml_types.specs.declared.token.yaml_token_t.{yaml_token_t};
 ghost use Rattle.libyaml_events.specs.Fault.{fault_of};
 ghost use Rattle.libyaml_events.specs.EventsLeft.{events_left};
-ghost use Rattle.libyaml_events.specs.History.{is_stream_end};
+ghost use Rattle.libyaml_events.specs.History.{History, is_stream_end};
 ghost use Rattle.libyaml_events.specs.RunToCome.{RunToCome};
 ghost use Rattle.libyaml_events.specs.Runs.{Ending};
 ghost use Rattle.token_lines.specs.EventRun.{Writes, WritesRunOf};
-ghost use Rattle.token_lines.specs.EventStep.{IsRunning, Steps};
+ghost use Rattle.token_lines.specs.EventStep.{IsRunning, Steps, WritesNext};
 ghost use Rattle.token_lines.specs.FaultText.{fault_text};
+ghost use Rattle.token_lines.specs.LastCall.{CallsOnce, LastCall};
 
 use crate::MAX_TOKENS;
 use crate::event_line::{append_event, write_line};
@@ -66,15 +68,24 @@ pub fn run_events<R: BufRead + Drop, W: Write>(alloc: Global, reader: R, writer:
     write_events(alloc, &mut parser, writer)
 }
 
-/// Writes the events and the fault that are to come.
-fn write_events<S: yaml_token_source_t, W: Write>(
+/// Writes the line of each event that is to come, before the next event is parsed, and then the text
+/// of the fault, if there is one. The parser may have given events before, but neither the stream end
+/// event nor a fault.
+///
+/// Want of memory for a line is written as the fault of a refused growth. The writer is flushed
+/// before `Ended` and `Faulted`. After `OutputFailed` the parser stands behind the last event whose
+/// line was to be written.
+pub fn write_events<S: yaml_token_source_t, W: Write>(
     alloc: Global,
     parser: &mut yaml_parser_t<S>,
     writer: &mut W,
 ) -> Outcome
     requires { IsRunning parser.old }
-    ensures { (events : List yaml_event_t) (ending : Ending) → RunToCome S.known parser.old events ending
+    ensures writes { (events : List yaml_event_t) (ending : Ending) → RunToCome S.known parser.old events ending
         → Writes S.may_break result (W.contents writer.old) (W.contents writer.new) events ending }
+    // at the parser's last call each event's line had been written
+    ensures in_turn { (asked : List yaml_token_t) (given : List yaml_event_t) → History parser.old asked given
+        → LastCall S.gives W.contents parser.old parser.new (W.contents writer.old) asked given }
 {
     let mut line = String::new(alloc);
     loop {
@@ -96,6 +107,9 @@ fn write_next<S: yaml_token_source_t, W: Write>(
     requires { IsRunning parser.old }
     ensures running { result ≡ Step.Written → IsRunning parser.new }
     ensures falls { result ≡ Step.Written → events_left S.bound parser.new < events_left S.bound parser.old }
+    ensures call { (asked : List yaml_token_t) (given : List yaml_event_t) → History parser.old asked given → CallsOnce S.gives parser.old parser.new asked given }
+    ensures wrote { result ≡ Step.Written → (asked : List yaml_token_t) (given : List yaml_event_t) → History parser.old asked given
+        → WritesNext S.gives parser.old parser.new (W.contents writer.old) (W.contents writer.new) asked given }
     ensures step { (events : List yaml_event_t) (ending : Ending) → RunToCome S.known parser.old events ending
         → Steps S.known S.may_break result parser.new (W.contents writer.old) (W.contents writer.new) events ending }
 {

@@ -1,5 +1,7 @@
 use crate::failing::{FailingReader, FailingWriter};
-use crate::{Outcome, run_events};
+use crate::{MAX_TOKENS, Outcome, run_events, write_events, yaml_line_source_t};
+use libyaml_events::{yaml_parser_initialize, yaml_parser_parse};
+use libyaml_types::yaml_event_type_t;
 use std::test::Fail;
 
 const ONE_SCALAR: &[u8] = b"STREAM-START 0:0:0 1:0:1 utf8\n\
@@ -153,5 +155,48 @@ fn each_write_and_flush_failing_in_turn(rt: HostRuntime) -> Result<(), Fail> {
         let mut writer = FailingWriter::new(alloc, 1, want.len() + 1);
         assert_eq!(rt; run_events(alloc, reader, &mut writer), outcome);
     }
+    Ok(())
+}
+
+/// The events of `ONE_SCALAR`, and what comes behind them.
+const ONE_SCALAR_TYPES: [yaml_event_type_t; 6] = [
+    yaml_event_type_t::YAML_STREAM_START_EVENT,
+    yaml_event_type_t::YAML_DOCUMENT_START_EVENT,
+    yaml_event_type_t::YAML_SCALAR_EVENT,
+    yaml_event_type_t::YAML_DOCUMENT_END_EVENT,
+    yaml_event_type_t::YAML_STREAM_END_EVENT,
+    yaml_event_type_t::YAML_NO_EVENT,
+];
+
+#[test]
+fn no_event_is_parsed_behind_a_failed_write(rt: HostRuntime) -> Result<(), Fail> {
+    let alloc = rt.alloc();
+    for lines in 0..ONE_SCALAR_TYPES.len() {
+        let source = yaml_line_source_t::new(alloc, ONE_SCALAR, MAX_TOKENS);
+        let mut parser = yaml_parser_initialize(alloc, source);
+        let mut writer = FailingWriter::new(alloc, 4096, lines);
+        let outcome = write_events(alloc, &mut parser, &mut writer);
+        assert_eq!(rt; outcome, Outcome::OutputFailed);
+        let written = writer.written.iter().filter(|byte| **byte == b'\n').count();
+        assert_eq!(rt; written, lines);
+        let Ok(next) = yaml_parser_parse(&mut parser) else {
+            panic!(rt; "no event behind line {lines}");
+        };
+        assert_eq!(rt; next.type_(), ONE_SCALAR_TYPES[(lines + 1).min(5)]);
+    }
+    Ok(())
+}
+
+#[test]
+fn writes_the_events_of_a_parser_that_has_begun(rt: HostRuntime) -> Result<(), Fail> {
+    let alloc = rt.alloc();
+    let source = yaml_line_source_t::new(alloc, ONE_SCALAR, MAX_TOKENS);
+    let mut parser = yaml_parser_initialize(alloc, source);
+    let mut written = Vec::new(alloc);
+    assert!(rt; yaml_parser_parse(&mut parser).is_ok());
+    let outcome = write_events(alloc, &mut parser, &mut written);
+    assert_eq!(rt; outcome, Outcome::Ended);
+    let first = b"STREAM-START 0:0:0 0:0:0 utf8\n";
+    assert_eq!(rt; written.as_slice(), &ONE_SCALAR_EVENTS[first.len()..]);
     Ok(())
 }
