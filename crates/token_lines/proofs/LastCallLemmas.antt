@@ -1,16 +1,17 @@
 -- How a run's steps write each line in its turn.
-use Rattle.std.proofs.Common.{◌≡◌, ◌++◌, ℕ, List, [], ◌∷◌, Option, refl, sym, ◌∙◌, subst, append_assoc}
+use Rattle.std.proofs.Common.{◌≡◌, ◌++◌, ℕ, List, [], ◌∷◌, Option, Ok, IfOk, refl, sym, ◌∙◌, subst, append_assoc}
 use Rattle.std.proofs.KnownBytes.{Appends-nil}
 use Rattle.std.proofs.lemmas.List.{append-nil}
 use Rattle.std.specs.Io.KnownBytes.{Appends}
 use Rattle.libyaml_types.specs.declared.event.yaml_event_t.{yaml_event_t}
 use Rattle.libyaml_types.specs.declared.token.yaml_token_t.{yaml_token_t}
-use Rattle.libyaml_events.specs.Calls.{Gave}
+use Rattle.libyaml_events.specs.Calls.{EventOrError, Gave}
 use Rattle.libyaml_events.specs.Config.{Parser}
 use Rattle.libyaml_events.specs.Fault.{Answer}
 use Rattle.libyaml_events.specs.History.{History, answers}
+use Rattle.libyaml_events.specs.Parsing.{CarriesOn}
 use Rattle.token_lines.specs.EventStep.{WritesNext}
-use Rattle.token_lines.specs.LastCall.{AllWritten, CallsOnce, LastCall}
+use Rattle.token_lines.specs.LastCall.{AllWritten, CallsOnce, LastCall, gave_event}
 use Rattle.token_lines.proofs.RunLemmas.{appends_more}
 
 module _ {S : Type 0} (gives : S → Answer → S → Type 0) where
@@ -38,6 +39,10 @@ module _ {S : Type 0} (gives : S → Answer → S → Type 0) where
         history = subst (λ l. History q l (given ++ (w.events ++ n.event ∷ []))) (append_assoc asked w.more n.carried.more) (subst (λ l. History q ((asked ++ w.more) ++ n.carried.more) l) (append_assoc given w.events (n.event ∷ [])) n.carried.history);
         wrote = appends_more a b c w.events n.event w.wrote n.wrote;
       }
+
+  -- a call that answered an event
+  pub gave_one : (p q : Parser S) (r : EventOrError) (e : yaml_event_t) → r ≡ Ok e → IfOk r (λ x. (asked : List yaml_token_t) (given : List yaml_event_t) → History p asked given → CarriesOn gives p x q asked given) → (asked : List yaml_token_t) (given : List yaml_event_t) → History p asked given → CallsOnce gives p q asked given
+  gave_one p q r e is carries asked given h = gave_event e ((rw is at carries) asked given h)
 
   pub last_call : {W : Type 0} (contents : W → Option (List ℕ)) (first p q : Parser S) (writer : W) (a : Option (List ℕ)) (asked : List yaml_token_t) (given : List yaml_event_t) → AllWritten gives first p a (contents writer) asked given
       → ((asked' : List yaml_token_t) (given' : List yaml_event_t) → History p asked' given' → CallsOnce gives p q asked' given') → LastCall gives contents first q a asked given

@@ -2,7 +2,7 @@ use Rattle.std.proofs.Common.{◌++◌, ap, ◌∙◌, subst, sym}
 use Rattle.std.specs.Io.KnownBytes.{Appends}
 use Rattle.token_lines.specs.EventText.{event_line}
 use Rattle.token_lines.specs.EventStep.{FailsHere}
-use Rattle.token_lines.specs.LastCall.{gave_event}
+use Rattle.token_lines.proofs.LastCallLemmas.{gave_one}
 use Rattle.token_lines.proofs.RunLemmas.{Keeps-same}
 use Rattle.token_lines.proofs.StepLemmas.{Says, fails_here, first_event, takes_first, takes_last, still_running}
 use Rattle.token_lines.proofs.run.write_next.Goals as goal
@@ -45,16 +45,16 @@ returns-clause-step g c events ending run =
     takes_first t.known t.may_break c.args.parser.now call.new.parser _ _ c.in-Ok.event events ending first (subst (Appends _ _) line c.in-Ok-write_line.ensures.ok)
 
 pub returns-in_default-append_event-clause-call : goal.returns-in_default-append_event-clause-call
-returns-in_default-append_event-clause-call g c asked given h = gave_event c.in-Ok.event ((rw c.in-Ok.is at (c.yaml_parser_parse-parsed.ensures.carries_on c.requires.running)) asked given h)
+returns-in_default-append_event-clause-call g c asked given h = gave_one g.S.yaml_token_source_t.gives _ _ _ c.in-Ok.event c.in-Ok.is (c.yaml_parser_parse-parsed.ensures.carries_on c.requires.running) asked given h
 
 pub returns-in_default-write_line-clause-call : goal.returns-in_default-write_line-clause-call
-returns-in_default-write_line-clause-call g c asked given h = gave_event c.in-Ok.event ((rw c.in-Ok.is at (c.yaml_parser_parse-parsed.ensures.carries_on c.requires.running)) asked given h)
+returns-in_default-write_line-clause-call g c asked given h = gave_one g.S.yaml_token_source_t.gives _ _ _ c.in-Ok.event c.in-Ok.is (c.yaml_parser_parse-parsed.ensures.carries_on c.requires.running) asked given h
 
 pub returns-then-is_stream_end-clause-call : goal.returns-then-is_stream_end-clause-call
-returns-then-is_stream_end-clause-call g c asked given h = gave_event c.in-Ok.event ((rw c.in-Ok.is at (c.yaml_parser_parse-parsed.ensures.carries_on c.requires.running)) asked given h)
+returns-then-is_stream_end-clause-call g c asked given h = gave_one g.S.yaml_token_source_t.gives _ _ _ c.in-Ok.event c.in-Ok.is (c.yaml_parser_parse-parsed.ensures.carries_on c.requires.running) asked given h
 
 pub returns-clause-call : goal.returns-clause-call
-returns-clause-call g c asked given h = gave_event c.in-Ok.event ((rw c.in-Ok.is at (c.yaml_parser_parse-parsed.ensures.carries_on c.requires.running)) asked given h)
+returns-clause-call g c asked given h = gave_one g.S.yaml_token_source_t.gives _ _ _ c.in-Ok.event c.in-Ok.is (c.yaml_parser_parse-parsed.ensures.carries_on c.requires.running) asked given h
 
 pub returns-clause-wrote : goal.returns-clause-wrote
 returns-clause-wrote g c written asked given h =
