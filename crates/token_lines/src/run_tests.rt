@@ -188,15 +188,13 @@ fn no_event_is_parsed_behind_a_failed_write(rt: HostRuntime) -> Result<(), Fail>
 }
 
 #[test]
-fn writes_the_events_of_a_parser_that_has_begun(rt: HostRuntime) -> Result<(), Fail> {
+fn writes_the_events_of_a_parser(rt: HostRuntime) -> Result<(), Fail> {
     let alloc = rt.alloc();
     let source = yaml_line_source_t::new(alloc, ONE_SCALAR, MAX_TOKENS);
     let mut parser = yaml_parser_initialize(alloc, source);
     let mut written = Vec::new(alloc);
-    assert!(rt; yaml_parser_parse(&mut parser).is_ok());
     let outcome = write_events(alloc, &mut parser, &mut written);
     assert_eq!(rt; outcome, Outcome::Ended);
-    let first = b"STREAM-START 0:0:0 0:0:0 utf8\n";
-    assert_eq!(rt; written.as_slice(), &ONE_SCALAR_EVENTS[first.len()..]);
+    assert_eq!(rt; written.as_slice(), ONE_SCALAR_EVENTS);
     Ok(())
 }
