@@ -1,9 +1,11 @@
 //! Runs from bytes to bytes: however the reader cuts its bytes, and where it or the writer fails.
 
 use crate::pieces::{PieceReader, PieceWriter};
-use std::alloc::Global;
+use libyaml_events::{yaml_parser_delete, yaml_parser_initialize, yaml_parser_parse};
+use libyaml_types::yaml_event_type_t;
+use std::alloc::{AllocError, Global};
 use std::test::Fail;
-use token_lines::{Outcome, run_events};
+use token_lines::{MAX_LINE, MAX_TOKENS, Outcome, run_events, yaml_line_source_t};
 
 /// Lines of tokens and the lines of their events: a run that ends, a fault with a context, escapes in
 /// either case, and directives.
@@ -134,5 +136,119 @@ fn each_write_and_flush_failing_in_turn(rt: HostRuntime) -> Result<(), Fail> {
         }
         assert!(rt; came_through);
     }
+    Ok(())
+}
+
+/// Lines that are alone in a run, and what it writes of each.
+const LINES: [(&str, &str); 8] = [
+    ("\n", "FAULT scanner 0:0:0 bad token line\n"),
+    ("KEY  0:0:0 0:0:0\n", "FAULT scanner 0:0:0 bad token line\n"),
+    (
+        "KEY 0:0:18446744073709551616 1:0:1\n",
+        "FAULT scanner 0:0:0 bad token line\n",
+    ),
+    (
+        "VERSION-DIRECTIVE 0:0:0 1:0:1 1.-0\n",
+        "FAULT scanner 0:0:0 bad token line\n",
+    ),
+    (
+        "SCALAR 0:0:0 1:0:1 =%ED%A0%80 plain\n",
+        "FAULT scanner 0:0:0 bad token line\n",
+    ),
+    (
+        "VERSION-DIRECTIVE 0:0:0 1:0:1 -1.1\n",
+        "FAULT parser 0:0:0 did not find expected <stream-start>\n",
+    ),
+    (
+        "KEY 0:0:18446744073709551615 0:0:0\n",
+        "FAULT parser 0:0:18446744073709551615 did not find expected <stream-start>\n",
+    ),
+    (
+        "NO-TOKEN 0:0:0 0:0:0\n",
+        "FAULT parser 0:0:0 did not find expected <stream-start>\n",
+    ),
+];
+
+#[test]
+fn lines_that_are_alone(rt: HostRuntime) -> Result<(), Fail> {
+    for (line, fault) in LINES {
+        let mut written = Vec::new(rt.alloc());
+        let ended = run_events(rt.alloc(), line.as_bytes(), &mut written);
+        assert_eq!(rt; ended, Outcome::Faulted, "{line}");
+        assert_eq!(rt; written.as_slice(), fault.as_bytes(), "{line}");
+    }
+    Ok(())
+}
+
+#[test]
+fn ends_of_lines(rt: HostRuntime) -> Result<(), Fail> {
+    let (tokens, events, _) = RUNS[0];
+    let mut written = Vec::new(rt.alloc());
+    let ended = run_events(rt.alloc(), tokens.trim_end().as_bytes(), &mut written);
+    assert_eq!(rt; ended, Outcome::Ended);
+    assert_eq!(rt; written.as_slice(), events.as_bytes());
+
+    let mut returns = String::new(rt.alloc());
+    for line in tokens.lines() {
+        returns.push_str(line)?;
+        returns.push_str("\r\n")?;
+    }
+    let mut written = Vec::new(rt.alloc());
+    let ended = run_events(rt.alloc(), returns.as_bytes(), &mut written);
+    assert_eq!(rt; ended, Outcome::Faulted);
+    let fault = "FAULT scanner 0:0:0 bad token line\n";
+    assert_eq!(rt; written.as_slice(), fault.as_bytes());
+    Ok(())
+}
+
+/// A stream of one plain scalar of so many `x`.
+fn long_scalar(alloc: Global, len: usize) -> Result<String, AllocError> {
+    let mut tokens = String::from_str(alloc, "STREAM-START 0:0:0 1:0:1 utf8\n")?;
+    tokens.push_str("SCALAR 2:0:2 3:0:3 =")?;
+    for _ in 0..len {
+        tokens.push_str("x")?;
+    }
+    tokens.push_str(" plain\nSTREAM-END 4:0:4 5:0:5\n")?;
+    Ok(tokens)
+}
+
+/// How many bytes of a scalar the longest line has.
+const LONGEST_SCALAR: usize = MAX_LINE - 26;
+
+#[test]
+fn the_longest_line(rt: HostRuntime) -> Result<(), Fail> {
+    let tokens = long_scalar(rt.alloc(), LONGEST_SCALAR)?;
+    let mut written = Vec::new(rt.alloc());
+    let ended = run_events(rt.alloc(), tokens.as_bytes(), &mut written);
+    assert_eq!(rt; ended, Outcome::Ended);
+    let (_, events, _) = RUNS[0];
+    assert_eq!(rt; written.len(), events.len() + LONGEST_SCALAR - 1);
+
+    let tokens = long_scalar(rt.alloc(), LONGEST_SCALAR + 1)?;
+    let mut written = Vec::new(rt.alloc());
+    let ended = run_events(rt.alloc(), tokens.as_bytes(), &mut written);
+    assert_eq!(rt; ended, Outcome::Faulted);
+    let front = "STREAM-START 0:0:0 0:0:0 utf8\nFAULT reader 1:1:0 line too long\n";
+    assert_eq!(rt; written.as_slice(), front.as_bytes());
+    Ok(())
+}
+
+#[test]
+fn the_reader_of_a_deleted_parser_holds_what_follows(rt: HostRuntime) -> Result<(), Fail> {
+    let (tokens, _, _) = RUNS[0];
+    let mut input = String::from_str(rt.alloc(), tokens)?;
+    input.push_str("junk")?;
+    let source = yaml_line_source_t::new(rt.alloc(), input.as_bytes(), MAX_TOKENS);
+    let mut parser = yaml_parser_initialize(rt.alloc(), source);
+    let mut last = yaml_event_type_t::YAML_NO_EVENT;
+    for _ in 0..5 {
+        let Ok(event) = yaml_parser_parse(&mut parser) else {
+            panic!(rt; "a fault behind {last:?}");
+        };
+        last = event.type_();
+    }
+    assert_eq!(rt; last, yaml_event_type_t::YAML_STREAM_END_EVENT);
+    let reader = yaml_parser_delete(parser).into_reader();
+    assert_eq!(rt; reader, b"junk".as_slice());
     Ok(())
 }
