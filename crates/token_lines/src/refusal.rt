@@ -1,6 +1,6 @@
 //! Why a line was not written.
-ghost use Rattle.std.specs.Prelude.{◌≡◌};
-ghost use Rattle.token_lines.specs.Refusal.{refusal_number};
+ghost use Rattle.std.specs.Prelude.{◌≡◌, Some};
+ghost use Rattle.token_lines.specs.Refusal.{refusal_number, refusal_text};
 
 use std::alloc::AllocError;
 use std::error::Error;
@@ -28,6 +28,8 @@ impl line_refusal_t {
 }
 
 impl fmt::Display for line_refusal_t {
+    ghost output = { λ refusal. Some (refusal_text refusal) };
+
     fn fmt<W: fmt::Write>(&self, f: &mut fmt::Formatter<W>) -> fmt::Result {
         f.write_str(match self {
             line_refusal_t::Memory => "out of memory",
