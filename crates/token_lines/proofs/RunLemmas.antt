@@ -55,7 +55,7 @@ came_last known a b c d p events ending came takes kept =
     let all : came.done ++ t.event ∷ [] ≡ events = ap (λ l. came.done ++ l) (sym t.only) ∙ sym came.all in
     (t.ends, Appends-kept a c d (event_lines events) (subst (λ l. Appends a c (event_lines l)) all (appends_more a b c came.done t.event came.wrote t.wrote)) kept)
 
-keeps_then : (b c d : Option (List ℕ)) (bs : List ℕ) → Keeps b c → Appends c d bs → Appends b d bs
+pub keeps_then : (b c d : Option (List ℕ)) (bs : List ℕ) → Keeps b c → Appends c d bs → Appends b d bs
 keeps_then None c d bs k h = tt
 keeps_then (Some x) None d bs k h = absurd k
 keeps_then (Some x) (Some y) None bs k h = absurd h

@@ -1,13 +1,13 @@
 -- What one step of a run writes.
-use Rattle.std.specs.Prelude.{◌≡◌, ◌⊎◌, ℕ, List, [], ◌∷◌, false, Option}
+use Rattle.std.specs.Prelude.{◌≡◌, ◌⊎◌, ℕ, List, [], ◌∷◌, true, false, Option}
 use Rattle.std.specs.Io.KnownBytes.{Appends, Keeps}
 use Rattle.libyaml_types.specs.declared.event.yaml_event_t.{yaml_event_t}
 use Rattle.libyaml_events.specs.Config.{Parser}
 use Rattle.libyaml_types.specs.declared.token.yaml_token_t.{yaml_token_t}
-use Rattle.libyaml_events.specs.History.{History, has_ended}
+use Rattle.libyaml_events.specs.History.{History, has_ended, is_stream_end, kept_fault}
 use Rattle.libyaml_events.specs.Fault.{Fault, Answer, fault_of}
 use Rattle.libyaml_events.specs.FaultTexts.{memory_fault}
-use Rattle.libyaml_events.specs.Parsing.{CarriesOn}
+use Rattle.libyaml_events.specs.Parsing.{CarriesOn, FailsBy}
 use Rattle.libyaml_events.specs.RunToCome.{RunToCome}
 use Rattle.libyaml_events.specs.Runs.{Ending, Ends, Fails}
 use Rattle.libyaml_events.specs.Source.{Coming}
@@ -48,8 +48,19 @@ Steps known MayBreak Ended new before after events ending = TakesLast before aft
 Steps known MayBreak (Failed f) new before after events ending = FailsHere MayBreak (fault_of f) events ending × Keeps before after
 Steps known MayBreak OutputFailed new before after events ending = Unit {0}
 
--- the parser gave one event more, and its line was written
-pub record WritesNext {S : Type 0} (gives : S → Answer → S → Type 0) (old new : Parser S) (before after : Option (List ℕ)) (asked : List yaml_token_t) (given : List yaml_event_t) : Type 0 where
-  pub event : yaml_event_t
-  pub carried : CarriesOn gives old event new asked given
-  pub wrote : Appends before after (event_line event)
+-- what a step wrote behind a call that gave this event
+abbrev pub StepForEvent : Step → yaml_event_t → (before after : Option (List ℕ)) → Type 0
+StepForEvent Written e before after = Appends before after (event_line e)
+StepForEvent Ended e before after = (is_stream_end e ≡ true) × Appends before after (event_line e)
+StepForEvent (Failed f) e before after = (fault_of f ≡ memory_fault) × Keeps before after
+StepForEvent OutputFailed e before after = Unit {0}
+
+-- what a step wrote behind a call that failed by this fault
+abbrev pub StepForFault : Step → Fault → (before after : Option (List ℕ)) → Type 0
+StepForFault (Failed f) kept before after = (fault_of f ≡ kept) × Keeps before after
+StepForFault _ kept before after = ⊥
+
+-- one step: its call of the parser, which gave an event or failed, and what was written behind it
+pub data Turn {S : Type 0} (gives : S → Answer → S → Type 0) (step : Step) (old new : Parser S) (before after : Option (List ℕ)) (asked : List yaml_token_t) (given : List yaml_event_t) : Type 0 where
+  gave_event : (e : yaml_event_t) → CarriesOn gives old e new asked given → StepForEvent step e before after → Turn gives step old new before after asked given
+  failed : FailsBy gives old new asked given → StepForFault step (kept_fault new) before after → Turn gives step old new before after asked given

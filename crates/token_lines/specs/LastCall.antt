@@ -1,19 +1,39 @@
 -- That no line is held back: each is written before the next event is parsed (docs/DEFINITIONS.md, "Runs over lines").
-use Rattle.std.specs.Prelude.{◌++◌, ℕ, List, [], Option}
+use Rattle.std.specs.Prelude.{◌≡◌, ◌++◌, ℕ, List, [], true, Option, None}
 use Rattle.std.specs.Io.KnownBytes.{Appends}
 use Rattle.libyaml_types.specs.declared.event.yaml_event_t.{yaml_event_t}
 use Rattle.libyaml_types.specs.declared.token.yaml_token_t.{yaml_token_t}
 use Rattle.libyaml_events.specs.Calls.{Gave}
 use Rattle.libyaml_events.specs.Config.{Parser}
-use Rattle.libyaml_events.specs.Fault.{Answer}
-use Rattle.libyaml_events.specs.History.{History, answers}
+use Rattle.libyaml_events.specs.Fault.{Answer, Fault}
+use Rattle.libyaml_events.specs.FaultTexts.{memory_fault}
+use Rattle.libyaml_events.specs.History.{History, answers, is_stream_end, kept_fault}
 use Rattle.libyaml_events.specs.Parsing.{CarriesOn, FailsBy}
+use Rattle.token_lines.specs.declared.TheConstants.{MAX_TOKENS}
+use Rattle.token_lines.specs.declared.run.Outcome.{Outcome}
+use Rattle.token_lines.specs.declared.run.Outcome.TheVariants.{Ended, Faulted, OutputFailed}
 use Rattle.token_lines.specs.EventRun.{event_lines}
+use Rattle.token_lines.specs.EventText.{event_line}
+use Rattle.token_lines.specs.FaultText.{fault_text}
+use Rattle.token_lines.specs.LineSource.{LineSource, Gives}
 
--- one call of the parser, which gave an event or failed
-pub data CallsOnce {S : Type 0} (gives : S → Answer → S → Type 0) (old new : Parser S) (asked : List yaml_token_t) (given : List yaml_event_t) : Type 0 where
-  gave_event : (e : yaml_event_t) → CarriesOn gives old e new asked given → CallsOnce gives old new asked given
-  failed : FailsBy gives old new asked given → CallsOnce gives old new asked given
+-- What a run wrote behind a last call that gave this event: its line, which is the stream end's, where the run ended; or
+-- else the text of a refused growth, for want of memory for that line. Where the output failed, nothing is said.
+abbrev pub WroteForEvent : Outcome → yaml_event_t → (before after : Option (List ℕ)) → Type 0
+WroteForEvent Ended e before after = (is_stream_end e ≡ true) × Appends before after (event_line e)
+WroteForEvent Faulted e before after = Appends before after (fault_text memory_fault)
+WroteForEvent OutputFailed e before after = Unit {0}
+
+-- what a run wrote behind a last call that failed: the text of the fault
+abbrev pub WroteForFault : Outcome → Fault → (before after : Option (List ℕ)) → Type 0
+WroteForFault Ended f before after = ⊥
+WroteForFault Faulted f before after = Appends before after (fault_text f)
+WroteForFault OutputFailed f before after = Unit {0}
+
+-- the last call of the parser, which gave an event or failed, and what was written behind it
+pub data Closes {S : Type 0} (gives : S → Answer → S → Type 0) (outcome : Outcome) (old new : Parser S) (before after : Option (List ℕ)) (asked : List yaml_token_t) (given : List yaml_event_t) : Type 0 where
+  closed_by_event : (e : yaml_event_t) → CarriesOn gives old e new asked given → WroteForEvent outcome e before after → Closes gives outcome old new before after asked given
+  closed_by_fault : FailsBy gives old new asked given → WroteForFault outcome (kept_fault new) before after → Closes gives outcome old new before after asked given
 
 -- From the first parser to this one the source gave these tokens more and the parser these events, and the line of each
 -- event was written.
@@ -24,9 +44,22 @@ pub record AllWritten {S : Type 0} (gives : S → Answer → S → Type 0) (firs
   pub history : History parser (asked ++ more) (given ++ events)
   pub wrote : Appends before after (event_lines events)
 
--- The last call of the parser, and what the writer held then: the line of each event that was given before.
-pub record LastCall {S W : Type 0} (gives : S → Answer → S → Type 0) (contents : W → Option (List ℕ)) (first last : Parser S) (before : Option (List ℕ)) (asked : List yaml_token_t) (given : List yaml_event_t) : Type 0 where
+-- The last call of the parser: the writer held the line of each event that was given before, and what was written since
+-- is of this call.
+pub record LastCall {S W : Type 0} (gives : S → Answer → S → Type 0) (contents : W → Option (List ℕ)) (outcome : Outcome) (first last : Parser S) (before after : Option (List ℕ)) (asked : List yaml_token_t) (given : List yaml_event_t) : Type 0 where
   pub parser : Parser S
   pub writer : W
   pub earlier : AllWritten gives first parser before (contents writer) asked given
-  pub call : CallsOnce gives parser last (asked ++ earlier.more) (given ++ earlier.events)
+  pub call : Closes gives outcome parser last (contents writer) after (asked ++ earlier.more) (given ++ earlier.events)
+
+-- a parser at the start of a reader's lines
+pub record StartsAt {R : Type 0} (reader : R) (p : Parser (LineSource R)) : Type 0 where
+  pub source : p.source ≡ record { reader = reader; given = 0; max_tokens = MAX_TOKENS; fault = None }
+  pub begins : History p [] []
+
+-- a run over a reader's lines, by a parser that started there and made its last call
+pub record RunInTurn {R W : Type 0} (remaining : R → Option (List ℕ)) (contents : W → Option (List ℕ)) (reader : R) (outcome : Outcome) (before after : Option (List ℕ)) : Type 0 where
+  pub first : Parser (LineSource R)
+  pub last : Parser (LineSource R)
+  pub starts : StartsAt reader first
+  pub last_call : LastCall (Gives remaining) contents outcome first last before after [] []

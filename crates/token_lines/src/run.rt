@@ -9,9 +9,9 @@ ghost use Rattle.libyaml_events.specs.History.{History, is_stream_end};
 ghost use Rattle.libyaml_events.specs.RunToCome.{RunToCome};
 ghost use Rattle.libyaml_events.specs.Runs.{Ending};
 ghost use Rattle.token_lines.specs.EventRun.{Writes, WritesRunOf};
-ghost use Rattle.token_lines.specs.EventStep.{IsRunning, Steps, WritesNext};
+ghost use Rattle.token_lines.specs.EventStep.{IsRunning, Steps, Turn};
 ghost use Rattle.token_lines.specs.FaultText.{fault_text};
-ghost use Rattle.token_lines.specs.LastCall.{CallsOnce, LastCall};
+ghost use Rattle.token_lines.specs.LastCall.{LastCall, RunInTurn};
 
 use crate::MAX_TOKENS;
 use crate::event_line::{append_event, write_line};
@@ -61,7 +61,9 @@ enum Step {
 /// Want of memory for a line is written as the fault of a refused growth. The writer is flushed
 /// before `Ended` and `Faulted`; after `OutputFailed` nothing is said of it.
 pub fn run_events<R: BufRead + Drop, W: Write>(alloc: Global, reader: R, writer: &mut W) -> Outcome
-    ensures { WritesRunOf (R.remaining reader) result (W.contents writer.old) (W.contents writer.new) }
+    ensures writes { WritesRunOf (R.remaining reader) result (W.contents writer.old) (W.contents writer.new) }
+    // at the parser's last call each event's line had been written
+    ensures in_turn { RunInTurn R.remaining W.contents reader result (W.contents writer.old) (W.contents writer.new) }
 {
     let source = yaml_line_source_t::new(alloc, reader, MAX_TOKENS);
     let mut parser = yaml_parser_initialize(alloc, source);
@@ -85,7 +87,7 @@ pub fn write_events<S: yaml_token_source_t, W: Write>(
         → Writes S.may_break result (W.contents writer.old) (W.contents writer.new) events ending }
     // at the parser's last call each event's line had been written
     ensures in_turn { (asked : List yaml_token_t) (given : List yaml_event_t) → History parser.old asked given
-        → LastCall S.gives W.contents parser.old parser.new (W.contents writer.old) asked given }
+        → LastCall S.gives W.contents result parser.old parser.new (W.contents writer.old) (W.contents writer.new) asked given }
 {
     let mut line = String::new(alloc);
     loop {
@@ -107,9 +109,8 @@ fn write_next<S: yaml_token_source_t, W: Write>(
     requires { IsRunning parser.old }
     ensures running { result ≡ Step.Written → IsRunning parser.new }
     ensures falls { result ≡ Step.Written → events_left S.bound parser.new < events_left S.bound parser.old }
-    ensures call { (asked : List yaml_token_t) (given : List yaml_event_t) → History parser.old asked given → CallsOnce S.gives parser.old parser.new asked given }
-    ensures wrote { result ≡ Step.Written → (asked : List yaml_token_t) (given : List yaml_event_t) → History parser.old asked given
-        → WritesNext S.gives parser.old parser.new (W.contents writer.old) (W.contents writer.new) asked given }
+    ensures turn { (asked : List yaml_token_t) (given : List yaml_event_t) → History parser.old asked given
+        → Turn S.gives result parser.old parser.new (W.contents writer.old) (W.contents writer.new) asked given }
     ensures step { (events : List yaml_event_t) (ending : Ending) → RunToCome S.known parser.old events ending
         → Steps S.known S.may_break result parser.new (W.contents writer.old) (W.contents writer.new) events ending }
 {

@@ -1,6 +1,6 @@
 use Rattle.std.proofs.Common.{refl}
 use Rattle.libyaml_events.specs.Fault.{fault_of}
-use Rattle.token_lines.proofs.LastCallLemmas.{one_more, last_call}
+use Rattle.token_lines.proofs.LastCallLemmas.{one_more, last_call, ends_by, fails_by, output_fails}
 use Rattle.token_lines.proofs.RunLemmas.{came_more, came_last, came_fails, writes_ended, writes_faulted}
 use Rattle.token_lines.proofs.run.write_events.Goals as goal
 
@@ -20,7 +20,7 @@ returns-in-Failed-clause-writes g c events ending run =
 pub loop-writer-preserved : goal.loop-writer-preserved
 loop-writer-preserved g c = record {
   running = c.in-Written.ensures.running refl;
-  in_turn = λ asked given history. one_more g.S.yaml_token_source_t.gives _ c.loop-writer.parser c.write_next.new.parser _ _ _ asked given (c.loop-writer.invariant.in_turn asked given history) (c.in-Written.ensures.wrote refl);
+  in_turn = λ asked given history. one_more g.S.yaml_token_source_t.gives _ c.loop-writer.parser c.write_next.new.parser _ _ _ asked given (c.loop-writer.invariant.in_turn asked given history) c.in-Written.ensures.turn;
   came = λ events ending run. came_more g.S.yaml_token_source_t.known _ _ _ c.loop-writer.parser c.write_next.new.parser events ending (c.loop-writer.invariant.came events ending run) c.in-Written.ensures.step;
 }
 
@@ -30,14 +30,17 @@ loop-writer-smaller g c = c.in-Written.ensures.falls refl
 pub returns-in-Ended-clause-in_turn : goal.returns-in-Ended-clause-in_turn
 returns-in-Ended-clause-in_turn g c asked given history =
     let gives = g.S.yaml_token_source_t.gives in
-    last_call gives g.W.Write.contents c.args.parser.now c.loop-writer.parser c.write_next.new.parser c.loop-writer.writer _ asked given (c.loop-writer.invariant.in_turn asked given history) c.write_next.ensures.call
+    last_call gives g.W.Write.contents _ _ c.loop-writer.parser c.write_next.new.parser c.loop-writer.writer (g.W.Write.contents c.args.writer.now) _ asked given (c.loop-writer.invariant.in_turn asked given history)
+    (λ asked' given' h. ends_by gives c.flushed.result _ _ _ _ _ asked' given' c.flushed.ensures.outcome (c.in-Ended.ensures.turn asked' given' h) c.flushed.ensures.keeps)
 
 pub returns-in-Failed-clause-in_turn : goal.returns-in-Failed-clause-in_turn
 returns-in-Failed-clause-in_turn g c asked given history =
     let gives = g.S.yaml_token_source_t.gives in
-    last_call gives g.W.Write.contents c.args.parser.now c.loop-writer.parser c.write_next.new.parser c.loop-writer.writer _ asked given (c.loop-writer.invariant.in_turn asked given history) c.write_next.ensures.call
+    last_call gives g.W.Write.contents _ _ c.loop-writer.parser c.write_next.new.parser c.loop-writer.writer (g.W.Write.contents c.args.writer.now) _ asked given (c.loop-writer.invariant.in_turn asked given history)
+    (λ asked' given' h. fails_by gives c.faulted.result c.in-Failed.fault _ _ _ _ _ asked' given' c.faulted.ensures.not_ended (c.in-Failed.ensures.turn asked' given' h) c.faulted.ensures.writes)
 
 pub returns-in-OutputFailed-clause-in_turn : goal.returns-in-OutputFailed-clause-in_turn
 returns-in-OutputFailed-clause-in_turn g c asked given history =
     let gives = g.S.yaml_token_source_t.gives in
-    last_call gives g.W.Write.contents c.args.parser.now c.loop-writer.parser c.write_next.new.parser c.loop-writer.writer _ asked given (c.loop-writer.invariant.in_turn asked given history) c.write_next.ensures.call
+    last_call gives g.W.Write.contents _ _ c.loop-writer.parser c.write_next.new.parser c.loop-writer.writer (g.W.Write.contents c.args.writer.now) (g.W.Write.contents c.write_next.new.writer) asked given (c.loop-writer.invariant.in_turn asked given history)
+    (λ asked' given' h. output_fails gives _ _ _ _ _ asked' given' (c.in-OutputFailed.ensures.turn asked' given' h))

@@ -1,8 +1,9 @@
-use Rattle.std.proofs.Common.{◌++◌, ap, ◌∙◌, subst, sym}
+use Rattle.std.proofs.Common.{◌++◌, refl, ap, ◌∙◌, subst, sym}
 use Rattle.std.specs.Io.KnownBytes.{Appends}
+use Rattle.token_lines.specs.declared.run.Step.TheVariants.{Written, Ended, OutputFailed}
 use Rattle.token_lines.specs.EventText.{event_line}
 use Rattle.token_lines.specs.EventStep.{FailsHere}
-use Rattle.token_lines.proofs.LastCallLemmas.{gave_one}
+use Rattle.token_lines.proofs.LastCallLemmas.{gave_one, failed_once}
 use Rattle.token_lines.proofs.RunLemmas.{Keeps-same}
 use Rattle.token_lines.proofs.StepLemmas.{Says, fails_here, first_event, takes_first, takes_last, still_running}
 use Rattle.token_lines.proofs.run.write_next.Goals as goal
@@ -44,23 +45,25 @@ returns-clause-step g c events ending run =
     let line = c.in-Ok-append_event.ensures ∙ ap (λ l. l ++ event_line c.in-Ok.event) c.clear.ensures.bytes in
     takes_first t.known t.may_break c.args.parser.now call.new.parser _ _ c.in-Ok.event events ending first (subst (Appends _ _) line c.in-Ok-write_line.ensures.ok)
 
-pub returns-in_default-append_event-clause-call : goal.returns-in_default-append_event-clause-call
-returns-in_default-append_event-clause-call g c asked given h = gave_one g.S.yaml_token_source_t.gives _ _ _ c.in-Ok.event c.in-Ok.is (c.yaml_parser_parse-parsed.ensures.carries_on c.requires.running) asked given h
+pub returns-in_default-clause-turn : goal.returns-in_default-clause-turn
+returns-in_default-clause-turn g c asked given h =
+    let t = g.S.yaml_token_source_t in
+    let call = c.yaml_parser_parse-parsed in
+    failed_once t.gives _ _ _ _ _ call.result c.in_default.field-0 c.in_default.is call.ensures.fails (c.prefix.ensures, Keeps-same _) asked given h
 
-pub returns-in_default-write_line-clause-call : goal.returns-in_default-write_line-clause-call
-returns-in_default-write_line-clause-call g c asked given h = gave_one g.S.yaml_token_source_t.gives _ _ _ c.in-Ok.event c.in-Ok.is (c.yaml_parser_parse-parsed.ensures.carries_on c.requires.running) asked given h
+pub returns-in_default-append_event-clause-turn : goal.returns-in_default-append_event-clause-turn
+returns-in_default-append_event-clause-turn g c asked given h = gave_one g.S.yaml_token_source_t.gives _ _ _ _ _ _ c.in-Ok.event c.in-Ok.is (c.yaml_parser_parse-parsed.ensures.carries_on c.requires.running) (refl, Keeps-same _) asked given h
 
-pub returns-then-is_stream_end-clause-call : goal.returns-then-is_stream_end-clause-call
-returns-then-is_stream_end-clause-call g c asked given h = gave_one g.S.yaml_token_source_t.gives _ _ _ c.in-Ok.event c.in-Ok.is (c.yaml_parser_parse-parsed.ensures.carries_on c.requires.running) asked given h
+pub returns-in_default-write_line-clause-turn : goal.returns-in_default-write_line-clause-turn
+returns-in_default-write_line-clause-turn g c asked given h = gave_one g.S.yaml_token_source_t.gives OutputFailed _ _ _ _ _ c.in-Ok.event c.in-Ok.is (c.yaml_parser_parse-parsed.ensures.carries_on c.requires.running) tt asked given h
 
-pub returns-clause-call : goal.returns-clause-call
-returns-clause-call g c asked given h = gave_one g.S.yaml_token_source_t.gives _ _ _ c.in-Ok.event c.in-Ok.is (c.yaml_parser_parse-parsed.ensures.carries_on c.requires.running) asked given h
-
-pub returns-clause-wrote : goal.returns-clause-wrote
-returns-clause-wrote g c written asked given h =
+pub returns-then-is_stream_end-clause-turn : goal.returns-then-is_stream_end-clause-turn
+returns-then-is_stream_end-clause-turn g c asked given h =
     let line = c.in-Ok-append_event.ensures ∙ ap (λ l. l ++ event_line c.in-Ok.event) c.clear.ensures.bytes in
-    record {
-      event = c.in-Ok.event;
-      carried = (rw c.in-Ok.is at (c.yaml_parser_parse-parsed.ensures.carries_on c.requires.running)) asked given h;
-      wrote = subst (Appends _ _) line c.in-Ok-write_line.ensures.ok;
-    }
+    let ended = sym c.is_stream_end.ensures ∙ c.if-is_stream_end.true in
+    gave_one g.S.yaml_token_source_t.gives Ended _ _ _ _ _ c.in-Ok.event c.in-Ok.is (c.yaml_parser_parse-parsed.ensures.carries_on c.requires.running) (ended, subst (Appends _ _) line c.in-Ok-write_line.ensures.ok) asked given h
+
+pub returns-clause-turn : goal.returns-clause-turn
+returns-clause-turn g c asked given h =
+    let line = c.in-Ok-append_event.ensures ∙ ap (λ l. l ++ event_line c.in-Ok.event) c.clear.ensures.bytes in
+    gave_one g.S.yaml_token_source_t.gives Written _ _ _ _ _ c.in-Ok.event c.in-Ok.is (c.yaml_parser_parse-parsed.ensures.carries_on c.requires.running) (subst (Appends _ _) line c.in-Ok-write_line.ensures.ok) asked given h
