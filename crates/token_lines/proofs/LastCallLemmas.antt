@@ -1,5 +1,5 @@
 -- How a run's steps write each line in its turn.
-use Rattle.std.proofs.Common.{◌≡◌, ◌≢◌, ◌⊎◌, ◌++◌, ℕ, List, [], ◌∷◌, Option, Ok, Err, IfOk, IfErr, refl, sym, subst, inl, inr, append_assoc}
+use Rattle.std.proofs.Common.{◌≡◌, ◌≢◌, ◌⊎◌, ◌++◌, ℕ, List, [], ◌∷◌, Option, Ok, Err, IfOk, IfErr, false, refl, sym, ◌∙◌, subst, inl, inr, append_assoc}
 use Rattle.std.proofs.KnownBytes.{Appends-nil, Appends-kept}
 use Rattle.std.proofs.lemmas.List.{append-nil}
 use Rattle.std.specs.Io.KnownBytes.{Appends, Keeps}
@@ -10,7 +10,7 @@ use Rattle.libyaml_events.specs.Calls.{EventOrError, Gave}
 use Rattle.libyaml_events.specs.Config.{Parser}
 use Rattle.libyaml_events.specs.declared.fault.yaml_parser_t_prefix.{yaml_parser_t_prefix}
 use Rattle.libyaml_events.specs.Fault.{Answer, fault_of}
-use Rattle.libyaml_events.specs.History.{History, answers, kept_fault}
+use Rattle.libyaml_events.specs.History.{History, answers, has_ended, kept_fault}
 use Rattle.libyaml_events.specs.Parsing.{CarriesOn, FailsBy}
 use Rattle.token_lines.specs.declared.run.Outcome.{Outcome}
 use Rattle.token_lines.specs.declared.run.Outcome.TheVariants.{Ended, Faulted, OutputFailed}
@@ -22,23 +22,34 @@ use Rattle.token_lines.specs.FaultText.{fault_text}
 use Rattle.token_lines.specs.LastCall.{AllWritten, Closes, LastCall, closed_by_event, closed_by_fault}
 use Rattle.token_lines.proofs.RunLemmas.{appends_more, keeps_then}
 
+-- a parser that had ended ends the run by its first step
+pub written_no_end : step.Written ≡ step.Ended → ⊥
+written_no_end h = cc
+
+pub failed_no_end : (f : yaml_parser_t_prefix) → step.Failed f ≡ step.Ended → ⊥
+failed_no_end f h = cc
+
+pub output_no_end : step.OutputFailed ≡ step.Ended → ⊥
+output_no_end h = cc
+
 module _ {S : Type 0} (gives : S → Answer → S → Type 0) where
   gave_then : (l m : List yaml_token_t) (a b c : S) → Gave gives a (answers l []) b → Gave gives b (answers m []) c → Gave gives a (answers (l ++ m) []) c
   gave_then [] m a b c h k = subst (λ x. Gave gives x (answers m []) c) h k
   gave_then (t ∷ l) m a b c (mid, g, h) k = (mid, g, gave_then l m mid b c h k)
 
-  pub none_yet : (p : Parser S) (x : Option (List ℕ)) (asked : List yaml_token_t) (given : List yaml_event_t) → History p asked given → AllWritten gives p p x x asked given
-  none_yet p x asked given h = record {
+  pub none_yet : (p : Parser S) (x : Option (List ℕ)) (asked : List yaml_token_t) (given : List yaml_event_t) → History p asked given → has_ended p ≡ false → AllWritten gives p p x x asked given
+  none_yet p x asked given h running = record {
     more = [];
     events = [];
     gave = refl;
     history = subst (λ l. History p l (given ++ [])) (sym (append-nil asked)) (subst (λ l. History p asked l) (sym (append-nil given)) h);
+    running = running;
     wrote = Appends-nil x;
   }
 
   pub one_more : (first p q : Parser S) (a b c : Option (List ℕ)) (asked : List yaml_token_t) (given : List yaml_event_t) → AllWritten gives first p a b asked given
-      → ((asked' : List yaml_token_t) (given' : List yaml_event_t) → History p asked' given' → Turn gives step.Written p q b c asked' given') → AllWritten gives first q a c asked given
-  one_more first p q a b c asked given w turns = go (turns (asked ++ w.more) (given ++ w.events) w.history)
+      → (has_ended p ≡ false → (asked' : List yaml_token_t) (given' : List yaml_event_t) → History p asked' given' → Turn gives step.Written p q b c asked' given') → AllWritten gives first q a c asked given
+  one_more first p q a b c asked given w turns = go (turns w.running (asked ++ w.more) (given ++ w.events) w.history)
     where
       go : Turn gives step.Written p q b c (asked ++ w.more) (given ++ w.events) → AllWritten gives first q a c asked given
       go (gave_event e on wrote) = record {
@@ -46,7 +57,8 @@ module _ {S : Type 0} (gives : S → Answer → S → Type 0) where
         events = w.events ++ e ∷ [];
         gave = gave_then w.more on.more first.source p.source q.source w.gave on.gave;
         history = subst (λ l. History q l (given ++ (w.events ++ e ∷ []))) (append_assoc asked w.more on.more) (subst (λ l. History q ((asked ++ w.more) ++ on.more) l) (append_assoc given w.events (e ∷ [])) on.history);
-        wrote = appends_more a b c w.events e w.wrote wrote;
+        running = on.ends ∙ wrote.0;
+        wrote = appends_more a b c w.events e w.wrote wrote.1;
       }
       go (failed by wrote) = absurd wrote
 
@@ -61,8 +73,8 @@ module _ {S : Type 0} (gives : S → Answer → S → Type 0) where
   failed_once s p q b c r x is fails wrote asked given h = failed ((rw is at fails) asked given h) wrote
 
   pub last_call : {W : Type 0} (contents : W → Option (List ℕ)) (outcome : Outcome) (first p q : Parser S) (writer : W) (a d : Option (List ℕ)) (asked : List yaml_token_t) (given : List yaml_event_t) → AllWritten gives first p a (contents writer) asked given
-      → ((asked' : List yaml_token_t) (given' : List yaml_event_t) → History p asked' given' → Closes gives outcome p q (contents writer) d asked' given') → LastCall gives contents outcome first q a d asked given
-  last_call contents outcome first p q writer a d asked given w closes = record { parser = p; writer = writer; earlier = w; call = closes (asked ++ w.more) (given ++ w.events) w.history }
+      → (has_ended p ≡ false → (asked' : List yaml_token_t) (given' : List yaml_event_t) → History p asked' given' → Closes gives outcome p q (contents writer) d asked' given') → LastCall gives contents outcome first q a d asked given
+  last_call contents outcome first p q writer a d asked given w closes = record { parser = p; writer = writer; earlier = w; call = closes w.running (asked ++ w.more) (given ++ w.events) w.history }
 
   -- the last line was written
   pub ends_by : (outcome : Outcome) (p q : Parser S) (b c d : Option (List ℕ)) (asked : List yaml_token_t) (given : List yaml_event_t) → (outcome ≡ Ended) ⊎ (outcome ≡ OutputFailed) → Turn gives step.Ended p q b c asked given → Keeps c d → Closes gives outcome p q b d asked given

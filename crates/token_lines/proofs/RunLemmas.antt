@@ -15,7 +15,7 @@ use Rattle.token_lines.specs.declared.run.Outcome.{Outcome}
 use Rattle.token_lines.specs.declared.run.Outcome.TheVariants.{Ended, Faulted, OutputFailed}
 use Rattle.token_lines.specs.EventText.{event_line}
 use Rattle.token_lines.specs.EventRun.{event_lines, Writes, WritesFault, whole, broken_off}
-use Rattle.token_lines.specs.EventStep.{TakesFirst, TakesLast, FailsHere}
+use Rattle.token_lines.specs.EventStep.{TakesFirst, FailsHere}
 use Rattle.token_lines.specs.FaultText.{fault_text}
 
 -- some of the events were written, and the others are to come
@@ -49,11 +49,11 @@ came_more known a b c p q events ending came takes =
     }
 
 pub came_last : {S : Type 0} (known : S → Option Coming) (a b c d : Option (List ℕ)) (p : Parser S) (events : List yaml_event_t) (ending : Ending) → Came known a b p events ending
-    → ((later : List yaml_event_t) (x : Ending) → RunToCome known p later x → TakesLast b c later x) → Keeps c d → (ending ≡ Ends) × Appends a d (event_lines events)
-came_last known a b c d p events ending came takes kept =
-    let t = takes came.later ending came.run in
-    let all : came.done ++ t.event ∷ [] ≡ events = ap (λ l. came.done ++ l) (sym t.only) ∙ sym came.all in
-    (t.ends, Appends-kept a c d (event_lines events) (subst (λ l. Appends a c (event_lines l)) all (appends_more a b c came.done t.event came.wrote t.wrote)) kept)
+    → ((later : List yaml_event_t) (x : Ending) → RunToCome known p later x → (x ≡ Ends) × Appends b c (event_lines later)) → Keeps c d → (ending ≡ Ends) × Appends a d (event_lines events)
+came_last known a b c d p events ending came ends kept =
+    let last = ends came.later ending came.run in
+    let all : event_lines came.done ++ event_lines came.later ≡ event_lines events = sym (flat_map-append event_line came.done came.later) ∙ ap event_lines (sym came.all) in
+    (last.0, Appends-kept a c d (event_lines events) (subst (Appends a c) all (Appends-trans a b c (event_lines came.done) (event_lines came.later) came.wrote last.1)) kept)
 
 pub keeps_then : (b c d : Option (List ℕ)) (bs : List ℕ) → Keeps b c → Appends c d bs → Appends b d bs
 keeps_then None c d bs k h = tt

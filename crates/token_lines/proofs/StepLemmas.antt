@@ -1,5 +1,7 @@
 -- What a call of the parser says of one step of a run.
-use Rattle.std.proofs.Common.{◌≡◌, ◌++◌, ℕ, List, [], ◌∷◌, Option, Ok, Err, true, false, refl, sym, ap, ◌∙◌, subst, inl, inr}
+use Rattle.std.proofs.Common.{◌≡◌, ℕ, List, [], ◌∷◌, Option, Bool, Ok, Err, IfOk, true, false, refl, sym, ap, ◌∙◌, subst, inl, inr}
+use Rattle.std.proofs.KnownBytes.{Appends-nil}
+use Rattle.std.proofs.lemmas.List.{append-nil}
 use Rattle.std.specs.Io.KnownBytes.{Appends}
 use Rattle.libyaml_types.specs.declared.event.yaml_event_t.{yaml_event_t}
 use Rattle.libyaml_types.specs.declared.token.yaml_token_t.{yaml_token_t}
@@ -7,21 +9,38 @@ use Rattle.libyaml_types.specs.declared.enums.yaml_error_type_t.{yaml_error_type
 use Rattle.libyaml_events.specs.Calls.{EventOrError, empty_event}
 use Rattle.libyaml_events.specs.Config.{Parser}
 use Rattle.libyaml_events.specs.Fault.{Fault, Answer}
-use Rattle.libyaml_events.specs.History.{History, is_stream_end, kept_fault}
+use Rattle.libyaml_events.specs.History.{History, has_ended, kept_fault}
 use Rattle.libyaml_events.specs.Parsing.{CarriesOn}
 use Rattle.libyaml_events.specs.RunToCome.{RunToCome, UnlessBroken, does, no_memory, breaks}
 use Rattle.libyaml_events.specs.Runs.{Ending, Ends, Fails}
 use Rattle.libyaml_events.specs.Source.{Coming}
 use Rattle.libyaml_events.specs.Stages.{is_event}
+use Rattle.token_lines.specs.EventRun.{event_lines}
 use Rattle.token_lines.specs.EventText.{event_line}
-use Rattle.token_lines.specs.EventStep.{IsRunning, TakesFirst, TakesLast, FailsHere}
+use Rattle.token_lines.specs.EventStep.{TakesFirst, FailsHere}
 
--- an event more, which is not the last
-pub still_running : {S : Type 0} (gives : S → Answer → S → Type 0) (old new : Parser S) (e : yaml_event_t) → ((asked : List yaml_token_t) (given : List yaml_event_t) → History old asked given → CarriesOn gives old e new asked given)
-    → is_stream_end e ≡ false → IsRunning old → IsRunning new
-still_running gives old new e carries not_last r =
-    let on = carries r.asked r.given r.history in
-    record { asked = r.asked ++ on.more; given = r.given ++ e ∷ []; history = on.history; running = on.ends ∙ not_last }
+-- Whether a parser had ended, by the event that it answered.
+module _ {S : Type 0} (old new : Parser S) (r : EventOrError) (e : yaml_event_t) where
+  gives_empty : r ≡ Ok e → (r ≡ Ok empty_event) × (new ≡ old) → is_event e.content ≡ true → ⊥
+  gives_empty is ended an_event = no (sym an_event ∙ ap (λ x. is_event x.content) (same is ended.0))
+    where
+      same : r ≡ Ok e → r ≡ Ok empty_event → e ≡ empty_event
+      same h k = cc
+
+      no : true ≡ false → ⊥
+      no h = cc
+
+  pub running_by : (b : Bool) → has_ended old ≡ b → r ≡ Ok e → is_event e.content ≡ true → (has_ended old ≡ true → (r ≡ Ok empty_event) × (new ≡ old)) → has_ended old ≡ false
+  running_by true h is an_event ended = absurd (gives_empty is (ended h) an_event)
+  running_by false h is an_event ended = h
+
+  pub ended_by : (gives : S → Answer → S → Type 0) (b : Bool) → has_ended old ≡ b → r ≡ Ok e → is_event e.content ≡ false
+      → (has_ended old ≡ false → IfOk r (λ x. (asked : List yaml_token_t) (given : List yaml_event_t) → History old asked given → CarriesOn gives old x new asked given)) → (asked : List yaml_token_t) (given : List yaml_event_t) → History old asked given → has_ended old ≡ true
+  ended_by gives true h is empty carries asked given history = h
+  ended_by gives false h is empty carries asked given history = absurd (no (sym (((rw is at (carries h)) asked given history).an_event) ∙ empty))
+    where
+      no : true ≡ false → ⊥
+      no k = cc
 
 module _ {S : Type 0} (known : S → Option Coming) (MayBreak : Fault → Type 0) (old new : Parser S) where
   -- what the three clauses of a call say of the run that is to come
@@ -79,5 +98,14 @@ module _ {S : Type 0} (known : S → Option Coming) (MayBreak : Fault → Type 0
   pub takes_first : (a b : Option (List ℕ)) (e : yaml_event_t) (events : List yaml_event_t) (ending : Ending) → First e events ending → Appends a b (event_line e) → TakesFirst known new a b events ending
   takes_first a b e events ending f wrote = record { event = e; later = f.later; first = f.first; run = f.run; wrote = wrote }
 
-  pub takes_last : (a b : Option (List ℕ)) (e : yaml_event_t) (events : List yaml_event_t) (ending : Ending) → First e events ending → ((later : List yaml_event_t) (x : Ending) → RunToCome known new later x → (later ≡ []) × (x ≡ Ends)) → Appends a b (event_line e) → TakesLast a b events ending
-  takes_last a b e events ending f nothing wrote = let last = nothing f.later ending f.run in record { event = e; only = f.first ∙ ap (λ l. e ∷ l) last.0; ends = last.1; wrote = wrote }
+  pub takes_last : (a b : Option (List ℕ)) (e : yaml_event_t) (events : List yaml_event_t) (ending : Ending) → First e events ending → ((later : List yaml_event_t) (x : Ending) → RunToCome known new later x → (later ≡ []) × (x ≡ Ends)) → Appends a b (event_line e) → (ending ≡ Ends) × Appends a b (event_lines events)
+  takes_last a b e events ending f nothing wrote =
+      let last = nothing f.later ending f.run in
+      let all : event_line e ≡ event_lines events = sym (append-nil (event_line e)) ∙ ap event_lines (sym (f.first ∙ ap (λ l. e ∷ l) last.0)) in
+      (last.1, subst (Appends a b) all wrote)
+
+  -- a call that gave the empty event
+  pub nothing_left : (a : Option (List ℕ)) (events : List yaml_event_t) (ending : Ending) → RunToCome known old events ending → new ≡ old → ((later : List yaml_event_t) (x : Ending) → RunToCome known new later x → (later ≡ []) × (x ≡ Ends)) → (ending ≡ Ends) × Appends a a (event_lines events)
+  nothing_left a events ending run same nothing =
+      let last = nothing events ending (subst (λ p. RunToCome known p events ending) (sym same) run) in
+      (last.1, subst (λ l. Appends a a (event_lines l)) (sym last.0) (Appends-nil a))

@@ -4,7 +4,7 @@ use Rattle.std.specs.Io.KnownBytes.{Appends, Keeps}
 use Rattle.libyaml_types.specs.declared.event.yaml_event_t.{yaml_event_t}
 use Rattle.libyaml_events.specs.Config.{Parser}
 use Rattle.libyaml_types.specs.declared.token.yaml_token_t.{yaml_token_t}
-use Rattle.libyaml_events.specs.History.{History, has_ended, is_stream_end, kept_fault}
+use Rattle.libyaml_events.specs.History.{is_stream_end, kept_fault}
 use Rattle.libyaml_events.specs.Fault.{Fault, Answer, fault_of}
 use Rattle.libyaml_events.specs.FaultTexts.{memory_fault}
 use Rattle.libyaml_events.specs.Parsing.{CarriesOn, FailsBy}
@@ -13,14 +13,8 @@ use Rattle.libyaml_events.specs.Runs.{Ending, Ends, Fails}
 use Rattle.libyaml_events.specs.Source.{Coming}
 use Rattle.token_lines.specs.declared.run.Step.{Step}
 use Rattle.token_lines.specs.declared.run.Step.TheVariants.{Written, Ended, Failed, OutputFailed}
+use Rattle.token_lines.specs.EventRun.{event_lines}
 use Rattle.token_lines.specs.EventText.{event_line}
-
--- A parser that met no fault and has not given the stream end event.
-pub record IsRunning {S : Type 0} (p : Parser S) : Type 0 where
-  pub asked : List yaml_token_t
-  pub given : List yaml_event_t
-  pub history : History p asked given
-  pub running : has_ended p ≡ false
 
 -- the first of the events was written, and the others are to come
 pub record TakesFirst {S : Type 0} (known : S → Option Coming) (new : Parser S) (before after : Option (List ℕ)) (events : List yaml_event_t) (ending : Ending) : Type 0 where
@@ -30,13 +24,6 @@ pub record TakesFirst {S : Type 0} (known : S → Option Coming) (new : Parser S
   pub run : RunToCome known new later ending
   pub wrote : Appends before after (event_line event)
 
--- the last of the events was written, with which the run ends
-pub record TakesLast (before after : Option (List ℕ)) (events : List yaml_event_t) (ending : Ending) : Type 0 where
-  pub event : yaml_event_t
-  pub only : events ≡ event ∷ []
-  pub ends : ending ≡ Ends
-  pub wrote : Appends before after (event_line event)
-
 -- the run fails by this fault, or it was broken off
 abbrev pub FailsHere : (MayBreak : Fault → Type 0) → Fault → List yaml_event_t → Ending → Type 0
 FailsHere MayBreak f events ending = ((events ≡ []) × (ending ≡ Fails f)) ⊎ ((f ≡ memory_fault) ⊎ MayBreak f)
@@ -44,13 +31,13 @@ FailsHere MayBreak f events ending = ((events ≡ []) × (ending ≡ Fails f)) �
 -- what a step did where this run was to come
 abbrev pub Steps : {S : Type 0} → (known : S → Option Coming) → (MayBreak : Fault → Type 0) → Step → Parser S → (before after : Option (List ℕ)) → List yaml_event_t → Ending → Type 0
 Steps known MayBreak Written new before after events ending = TakesFirst known new before after events ending
-Steps known MayBreak Ended new before after events ending = TakesLast before after events ending
+Steps known MayBreak Ended new before after events ending = (ending ≡ Ends) × Appends before after (event_lines events)
 Steps known MayBreak (Failed f) new before after events ending = FailsHere MayBreak (fault_of f) events ending × Keeps before after
 Steps known MayBreak OutputFailed new before after events ending = Unit {0}
 
 -- what a step wrote behind a call that gave this event
 abbrev pub StepForEvent : Step → yaml_event_t → (before after : Option (List ℕ)) → Type 0
-StepForEvent Written e before after = Appends before after (event_line e)
+StepForEvent Written e before after = (is_stream_end e ≡ false) × Appends before after (event_line e)
 StepForEvent Ended e before after = (is_stream_end e ≡ true) × Appends before after (event_line e)
 StepForEvent (Failed f) e before after = (fault_of f ≡ memory_fault) × Keeps before after
 StepForEvent OutputFailed e before after = Unit {0}

@@ -1,13 +1,13 @@
 -- That no line is held back: each is written before the next event is parsed (docs/DEFINITIONS.md, "Runs over lines").
-use Rattle.std.specs.Prelude.{◌≡◌, ◌++◌, ℕ, List, [], true, Option, None}
-use Rattle.std.specs.Io.KnownBytes.{Appends}
+use Rattle.std.specs.Prelude.{◌≡◌, ◌++◌, ◌⊎◌, ℕ, List, [], true, false, Option, None}
+use Rattle.std.specs.Io.KnownBytes.{Appends, Keeps}
 use Rattle.libyaml_types.specs.declared.event.yaml_event_t.{yaml_event_t}
 use Rattle.libyaml_types.specs.declared.token.yaml_token_t.{yaml_token_t}
 use Rattle.libyaml_events.specs.Calls.{Gave}
 use Rattle.libyaml_events.specs.Config.{Parser}
 use Rattle.libyaml_events.specs.Fault.{Answer, Fault}
 use Rattle.libyaml_events.specs.FaultTexts.{memory_fault}
-use Rattle.libyaml_events.specs.History.{History, answers, is_stream_end, kept_fault}
+use Rattle.libyaml_events.specs.History.{History, answers, has_ended, is_stream_end, kept_fault}
 use Rattle.libyaml_events.specs.Parsing.{CarriesOn, FailsBy}
 use Rattle.token_lines.specs.declared.TheConstants.{MAX_TOKENS}
 use Rattle.token_lines.specs.declared.run.Outcome.{Outcome}
@@ -35,13 +35,14 @@ pub data Closes {S : Type 0} (gives : S → Answer → S → Type 0) (outcome : 
   closed_by_event : (e : yaml_event_t) → CarriesOn gives old e new asked given → WroteForEvent outcome e before after → Closes gives outcome old new before after asked given
   closed_by_fault : FailsBy gives old new asked given → WroteForFault outcome (kept_fault new) before after → Closes gives outcome old new before after asked given
 
--- From the first parser to this one the source gave these tokens more and the parser these events, and the line of each
--- event was written.
+-- From the first parser to this one, which has not ended, the source gave these tokens more and the parser these events,
+-- and the line of each event was written.
 pub record AllWritten {S : Type 0} (gives : S → Answer → S → Type 0) (first parser : Parser S) (before after : Option (List ℕ)) (asked : List yaml_token_t) (given : List yaml_event_t) : Type 0 where
   pub more : List yaml_token_t
   pub events : List yaml_event_t
   pub gave : Gave gives first.source (answers more []) parser.source
   pub history : History parser (asked ++ more) (given ++ events)
+  pub running : has_ended parser ≡ false
   pub wrote : Appends before after (event_lines events)
 
 -- The last call of the parser: the writer held the line of each event that was given before, and what was written since
@@ -51,6 +52,12 @@ pub record LastCall {S W : Type 0} (gives : S → Answer → S → Type 0) (cont
   pub writer : W
   pub earlier : AllWritten gives first parser before (contents writer) asked given
   pub call : Closes gives outcome parser last (contents writer) after (asked ++ earlier.more) (given ++ earlier.events)
+
+-- nothing was left to write: the parser and the writer's bytes are as they were
+pub record NothingLeft {S : Type 0} (outcome : Outcome) (old new : Parser S) (before after : Option (List ℕ)) : Type 0 where
+  pub answer : (outcome ≡ Ended) ⊎ (outcome ≡ OutputFailed)
+  pub parser : new ≡ old
+  pub keeps : Keeps before after
 
 -- a parser at the start of a reader's lines
 pub record StartsAt {R : Type 0} (reader : R) (p : Parser (LineSource R)) : Type 0 where

@@ -1,17 +1,18 @@
 //! A run: from token lines to event lines.
-ghost use Rattle.std.specs.Prelude.{◌≡◌, ◌≢◌, ◌⊎◌, ◌<◌, List};
+ghost use Rattle.std.specs.Prelude.{◌≡◌, ◌≢◌, ◌⊎◌, ◌<◌, List, true, false};
 ghost use Rattle.std.specs.Io.KnownBytes.{Appends, Keeps};
 ghost use Rattle.libyaml_types.specs.declared.event.yaml_event_t.{yaml_event_t};
 ghost use Rattle.libyaml_types.specs.declared.token.yaml_token_t.{yaml_token_t};
 ghost use Rattle.libyaml_events.specs.Fault.{fault_of};
 ghost use Rattle.libyaml_events.specs.EventsLeft.{events_left};
-ghost use Rattle.libyaml_events.specs.History.{History, is_stream_end};
+ghost use Rattle.libyaml_events.specs.History.{History, has_ended, is_stream_end};
 ghost use Rattle.libyaml_events.specs.RunToCome.{RunToCome};
 ghost use Rattle.libyaml_events.specs.Runs.{Ending};
+ghost use Rattle.libyaml_events.specs.Stages.{is_event};
 ghost use Rattle.token_lines.specs.EventRun.{Writes, WritesRunOf};
-ghost use Rattle.token_lines.specs.EventStep.{IsRunning, Steps, Turn};
+ghost use Rattle.token_lines.specs.EventStep.{Steps, Turn};
 ghost use Rattle.token_lines.specs.FaultText.{fault_text};
-ghost use Rattle.token_lines.specs.LastCall.{LastCall, RunInTurn};
+ghost use Rattle.token_lines.specs.LastCall.{LastCall, NothingLeft, RunInTurn};
 
 use crate::MAX_TOKENS;
 use crate::event_line::{append_event, write_line};
@@ -28,7 +29,7 @@ use std::io::{BufRead, Write};
 /// How a run came to its end.
 #[derive(Copy, Clone, PartialEq, Eq, Debug)]
 pub enum Outcome {
-    /// The line of the stream end event was written.
+    /// The line of the stream end event was written, or nothing was left to write.
     Ended,
     /// The text of a fault was written.
     Faulted,
@@ -47,7 +48,7 @@ const MEMORY_FAULT: yaml_parser_t_prefix = yaml_parser_t_prefix {
 enum Step {
     /// Its line was written, and more is to come.
     Written,
-    /// The line of the stream end event was written.
+    /// The line of the stream end event was written, or none was left.
     Ended,
     /// A fault came in its place, and nothing was written.
     Failed(yaml_parser_t_prefix),
@@ -71,8 +72,8 @@ pub fn run_events<R: BufRead + Drop, W: Write>(alloc: Global, reader: R, writer:
 }
 
 /// Writes the line of each event that is to come, before the next event is parsed, and then the text
-/// of the fault, if there is one. The parser may have given events before, but neither the stream end
-/// event nor a fault.
+/// of the fault, if there is one. The parser may have given events before; behind the stream end event
+/// or a fault nothing is left to write, and `Ended` is answered.
 ///
 /// Want of memory for a line is written as the fault of a refused growth. The writer is flushed
 /// before `Ended` and `Faulted`. After `OutputFailed` the parser stands behind the last event whose
@@ -82,11 +83,11 @@ pub fn write_events<S: yaml_token_source_t, W: Write>(
     parser: &mut yaml_parser_t<S>,
     writer: &mut W,
 ) -> Outcome
-    requires { IsRunning parser.old }
+    ensures ended { has_ended parser.old ≡ true → NothingLeft result parser.old parser.new (W.contents writer.old) (W.contents writer.new) }
     ensures writes { (events : List yaml_event_t) (ending : Ending) → RunToCome S.known parser.old events ending
         → Writes S.may_break result (W.contents writer.old) (W.contents writer.new) events ending }
     // at the parser's last call each event's line had been written
-    ensures in_turn { (asked : List yaml_token_t) (given : List yaml_event_t) → History parser.old asked given
+    ensures in_turn { has_ended parser.old ≡ false → (asked : List yaml_token_t) (given : List yaml_event_t) → History parser.old asked given
         → LastCall S.gives W.contents result parser.old parser.new (W.contents writer.old) (W.contents writer.new) asked given }
 {
     let mut line = String::new(alloc);
@@ -106,10 +107,9 @@ fn write_next<S: yaml_token_source_t, W: Write>(
     line: &mut String,
     writer: &mut W,
 ) -> Step
-    requires { IsRunning parser.old }
-    ensures running { result ≡ Step.Written → IsRunning parser.new }
     ensures falls { result ≡ Step.Written → events_left S.bound parser.new < events_left S.bound parser.old }
-    ensures turn { (asked : List yaml_token_t) (given : List yaml_event_t) → History parser.old asked given
+    ensures ended { has_ended parser.old ≡ true → (result ≡ Step.Ended) × (parser.new ≡ parser.old) × (writer.new ≡ writer.old) }
+    ensures turn { has_ended parser.old ≡ false → (asked : List yaml_token_t) (given : List yaml_event_t) → History parser.old asked given
         → Turn S.gives result parser.old parser.new (W.contents writer.old) (W.contents writer.new) asked given }
     ensures step { (events : List yaml_event_t) (ending : Ending) → RunToCome S.known parser.old events ending
         → Steps S.known S.may_break result parser.new (W.contents writer.old) (W.contents writer.new) events ending }
@@ -118,6 +118,9 @@ fn write_next<S: yaml_token_source_t, W: Write>(
     let Ok(event) = &parsed else {
         return Step::Failed(*parser.prefix());
     };
+    if !is_event(event) {
+        return Step::Ended;
+    }
     line.clear();
     let Ok(()) = append_event(line, event) else {
         return Step::Failed(MEMORY_FAULT);
@@ -130,6 +133,13 @@ fn write_next<S: yaml_token_source_t, W: Write>(
     } else {
         Step::Written
     }
+}
+
+/// Whether this is an event, and not the empty one.
+fn is_event(event: &yaml_event_t) -> bool
+    ensures { result ≡ is_event event.now.content }
+{
+    !matches!(event.content, unnamed_yaml_event_t_data::NoEvent)
 }
 
 /// Whether a stream ends with this event.

@@ -193,8 +193,11 @@ fn writes_the_events_of_a_parser(rt: HostRuntime) -> Result<(), Fail> {
     let source = yaml_line_source_t::new(alloc, ONE_SCALAR, MAX_TOKENS);
     let mut parser = yaml_parser_initialize(alloc, source);
     let mut written = Vec::new(alloc);
-    let outcome = write_events(alloc, &mut parser, &mut written);
-    assert_eq!(rt; outcome, Outcome::Ended);
-    assert_eq!(rt; written.as_slice(), ONE_SCALAR_EVENTS);
+    // the second time nothing is left
+    for _ in 0..2 {
+        let outcome = write_events(alloc, &mut parser, &mut written);
+        assert_eq!(rt; outcome, Outcome::Ended);
+        assert_eq!(rt; written.as_slice(), ONE_SCALAR_EVENTS);
+    }
     Ok(())
 }

@@ -8,5 +8,5 @@ returns-clause-in_turn g c =
       first = parser.result;
       last = c.write_events.new.parser;
       starts = record { source = ap (λ p. p.source) parser.ensures.value ∙ c.new-source.ensures.value; begins = parser.ensures.begins };
-      last_call = c.write_events.ensures.in_turn [] [] parser.ensures.begins;
+      last_call = c.write_events.ensures.in_turn parser.ensures.running [] [] parser.ensures.begins;
     }
