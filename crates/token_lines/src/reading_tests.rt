@@ -392,7 +392,9 @@ fn the_end_of_the_input(rt: HostRuntime) {
 fn at_most_as_many_tokens_as_are_allowed(rt: HostRuntime) {
     let alloc = rt.alloc();
     let mut source = yaml_line_source_t::new(alloc, STREAM, 1);
-    assert!(rt; source.next_token().is_ok());
+    let token = source.next_token().ok().expect(&rt, "the only token");
+    let content = stream_start(yaml_encoding_t::YAML_UTF8_ENCODING);
+    assert_eq!(rt; token, yaml_token_t::new(content, place(0), place(1)));
     for _ in 0..3 {
         let fault = source.next_token().err().expect(&rt, "the bound");
         assert_fault(

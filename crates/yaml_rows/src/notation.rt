@@ -8,7 +8,7 @@
 //! alias, `+Q` `-Q` block sequence or end, `+M` `-M` block mapping or end, `+[` and `+{` flow. Behind
 //! a scalar's value or a collection's start stand `&anchor` and `<tag>`, where there are any, `/` and
 //! the flags where they are not those of an untagged plain node, and the style of a scalar that isn't
-//! plain. Then come the indices of both marks in parentheses.
+//! plain. Then come the indices of both marks in parentheses; a mark off line 0 has all its numbers.
 
 use libyaml_events::{
     yaml_list_source_t, yaml_parser_initialize, yaml_parser_parse, yaml_parser_t,
@@ -265,27 +265,55 @@ fn show_content(shown: &mut String, content: &unnamed_yaml_event_t_data) -> Resu
     Ok(())
 }
 
+/// A mark on line 0, where all marks of a row are, by its index, and any other by all its numbers.
+fn show_mark(shown: &mut String, at: yaml_mark_t) -> Result<(), Fail> {
+    let yaml_mark_t {
+        index,
+        line,
+        column,
+    } = at;
+    if at == mark(index) {
+        write!(shown, "{index}")?;
+    } else {
+        write!(shown, "{index}:{line}:{column}")?;
+    }
+    Ok(())
+}
+
 /// An event behind the others.
 pub(crate) fn show_event(shown: &mut String, event: &yaml_event_t) -> Result<(), Fail> {
     if !shown.is_empty() {
         shown.push_str(" ")?;
     }
     show_content(shown, &event.content)?;
-    let start = event.start_mark.index;
-    let end = event.end_mark.index;
-    write!(shown, "({start},{end})")?;
+    shown.push_str("(")?;
+    show_mark(shown, event.start_mark)?;
+    shown.push_str(",")?;
+    show_mark(shown, event.end_mark)?;
+    shown.push_str(")")?;
     Ok(())
 }
 
-/// A fault behind the events before it, with all its fields.
-pub(crate) fn show_fault(shown: &mut String, fault: &yaml_parser_t_prefix) -> Result<(), Fail> {
-    let error = fault.error.number();
+/// The error that a call answered, and the fault that the parser keeps, with all its fields, behind the
+/// events before it.
+fn show_fault(
+    shown: &mut String,
+    answered: yaml_error_type_t,
+    fault: &yaml_parser_t_prefix,
+) -> Result<(), Fail> {
+    let error = answered.number();
+    write!(shown, " fault {error}")?;
+    if fault.error != answered {
+        let kept = fault.error.number();
+        write!(shown, " but {kept}")?;
+    }
     let problem = fault.problem.unwrap_or("-");
-    let at = fault.problem_mark.index;
-    write!(shown, " fault {error}: {problem} at {at}")?;
-    if let Some(context) = fault.context {
-        let at = fault.context_mark.index;
-        write!(shown, ", {context} at {at}")?;
+    write!(shown, ": {problem} at ")?;
+    show_mark(shown, fault.problem_mark)?;
+    if fault.context.is_some() || fault.context_mark != ZERO_MARK {
+        let context = fault.context.unwrap_or("-");
+        write!(shown, ", {context} at ")?;
+        show_mark(shown, fault.context_mark)?;
     }
     let offset = fault.problem_offset;
     let value = fault.problem_value;
@@ -293,6 +321,13 @@ pub(crate) fn show_fault(shown: &mut String, fault: &yaml_parser_t_prefix) -> Re
         write!(shown, " ({offset},{value})")?;
     }
     Ok(())
+}
+
+/// Whether this is the empty event, without marks.
+fn is_empty(event: &yaml_event_t) -> bool {
+    matches!(event.content, unnamed_yaml_event_t_data::NoEvent)
+        && event.start_mark == ZERO_MARK
+        && event.end_mark == ZERO_MARK
 }
 
 /// The events of a parser, up to the first that is empty, and the fault that it keeps.
@@ -303,13 +338,9 @@ pub(crate) fn show_run<S: yaml_token_source_t>(
     let mut shown = String::new(alloc);
     for _ in 0..10_000u32 {
         match yaml_parser_parse(parser) {
-            Ok(event) => {
-                if matches!(event.content, unnamed_yaml_event_t_data::NoEvent) {
-                    break;
-                }
-                show_event(&mut shown, &event)?;
-            }
-            Err(_) => show_fault(&mut shown, parser.prefix())?,
+            Ok(event) if is_empty(&event) => break,
+            Ok(event) => show_event(&mut shown, &event)?,
+            Err(error) => show_fault(&mut shown, error, parser.prefix())?,
         }
     }
     Ok(shown)

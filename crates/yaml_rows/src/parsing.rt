@@ -4,7 +4,7 @@ use crate::notation::parsed;
 use std::test::Fail;
 
 /// A name, the tokens, and what parsing gives.
-const ROWS: [(&str, &str, &str); 46] = [
+const ROWS: [(&str, &str, &str); 47] = [
     ("empty_stream", "STREAM-START STREAM-END", "+S(0,0) -S(2,3)"),
     (
         "one_scalar",
@@ -75,6 +75,11 @@ const ROWS: [(&str, &str, &str); 46] = [
         "incompatible_version",
         "STREAM-START DOCUMENT-START VERSION-DIRECTIVE(1,3) DOCUMENT-START STREAM-END",
         "+S(0,0) +De(2,3) =(4,4) -Di(4,4) fault 4: found incompatible YAML document at 4",
+    ),
+    (
+        "undefined_alias",
+        "STREAM-START FLOW-SEQUENCE-START ALIAS(b) FLOW-SEQUENCE-END STREAM-END",
+        "+S(0,0) +Di(2,2) +[(2,3) *b(4,5) -Q(6,7) -Di(8,8) -S(8,9)",
     ),
     (
         "alias_in_its_own_sequence",

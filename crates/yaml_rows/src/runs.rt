@@ -5,11 +5,11 @@ use libyaml_events::{yaml_parser_delete, yaml_parser_initialize, yaml_parser_par
 use libyaml_types::yaml_event_type_t;
 use std::alloc::{AllocError, Global};
 use std::test::Fail;
-use token_lines::{MAX_LINE, MAX_TOKENS, Outcome, run_events, yaml_line_source_t};
+use token_lines::{MAX_TOKENS, Outcome, run_events, yaml_line_source_t};
 
 /// Lines of tokens and the lines of their events: a run that ends, a fault with a context, escapes in
-/// either case, and directives.
-const RUNS: [(&str, &str, Outcome); 4] = [
+/// either case, directives, and an alias in the sequence that it names.
+const RUNS: [(&str, &str, Outcome); 5] = [
     (
         "STREAM-START 0:0:0 1:0:1 utf8\nSCALAR 2:0:2 3:0:3 =a plain\nSTREAM-END 4:0:4 5:0:5\n",
         "STREAM-START 0:0:0 0:0:0 utf8\nDOCUMENT-START 2:0:2 2:0:2 1 - 0\nSCALAR 2:0:2 3:0:3 - - =a 1 0 plain\nDOCUMENT-END 4:0:4 4:0:4 1\nSTREAM-END 4:0:4 5:0:5\n",
@@ -28,6 +28,11 @@ const RUNS: [(&str, &str, Outcome); 4] = [
     (
         "STREAM-START 0:0:0 1:0:1 utf8\nVERSION-DIRECTIVE 2:0:2 3:0:3 1.2\nTAG-DIRECTIVE 4:0:4 5:0:5 =!e! =p:\nDOCUMENT-START 6:0:6 7:0:7\nTAG 8:0:8 9:0:9 =!e! =x\nSCALAR 10:0:10 11:0:11 =a plain\nSTREAM-END 12:0:12 13:0:13\n",
         "STREAM-START 0:0:0 0:0:0 utf8\nDOCUMENT-START 2:0:2 7:0:7 0 1.2 1 =!e! =p:\nSCALAR 8:0:8 11:0:11 - =p:x =a 0 0 plain\nDOCUMENT-END 12:0:12 12:0:12 1\nSTREAM-END 12:0:12 13:0:13\n",
+        Outcome::Ended,
+    ),
+    (
+        "STREAM-START 0:0:0 1:0:1 utf8\nANCHOR 2:0:2 3:0:3 =a\nFLOW-SEQUENCE-START 4:0:4 5:0:5\nALIAS 6:0:6 7:0:7 =a\nFLOW-SEQUENCE-END 8:0:8 9:0:9\nSTREAM-END 10:0:10 11:0:11\n",
+        "STREAM-START 0:0:0 0:0:0 utf8\nDOCUMENT-START 2:0:2 2:0:2 1 - 0\nSEQUENCE-START 2:0:2 5:0:5 =a - 1 flow\nALIAS 6:0:6 7:0:7 =a\nSEQUENCE-END 8:0:8 9:0:9\nDOCUMENT-END 10:0:10 10:0:10 1\nSTREAM-END 10:0:10 11:0:11\n",
         Outcome::Ended,
     ),
 ];
@@ -212,8 +217,8 @@ fn long_scalar(alloc: Global, len: usize) -> Result<String, AllocError> {
     Ok(tokens)
 }
 
-/// How many bytes of a scalar the longest line has.
-const LONGEST_SCALAR: usize = MAX_LINE - 26;
+/// How many bytes of a scalar the longest line has, which is of 1,048,576 bytes.
+const LONGEST_SCALAR: usize = 1_048_550;
 
 #[test]
 fn the_longest_line(rt: HostRuntime) -> Result<(), Fail> {
