@@ -63,7 +63,7 @@ enum Step {
 /// before `Ended` and `Faulted`; after `OutputFailed` nothing is said of it.
 pub fn run_events<R: BufRead + Drop, W: Write>(alloc: Global, reader: R, writer: &mut W) -> Outcome
     ensures writes { WritesRunOf (R.remaining reader) result (W.contents writer.old) (W.contents writer.new) }
-    // at the parser's last call each event's line had been written
+    // there was a parser at whose last call each event's line had been written
     ensures in_turn { RunInTurn R.remaining W.contents reader result (W.contents writer.old) (W.contents writer.new) }
 {
     let source = yaml_line_source_t::new(alloc, reader, MAX_TOKENS);

@@ -1,5 +1,11 @@
-use Rattle.token_lines.proofs.EscapeLemmas.{percent_decode-escaped}
+use Rattle.token_lines.proofs.EscapeLemmas.{percent_decode-escaped, string_reads_back, string_is_field}
 use Rattle.token_lines.proofs.laws.reading_undoes_writing.Goals as goal
 
-pub returns : goal.returns
-returns c = percent_decode-escaped
+pub returns-clause-bytes : goal.returns-clause-bytes
+returns-clause-bytes c = percent_decode-escaped
+
+pub returns-clause-strings : goal.returns-clause-strings
+returns-clause-strings c = string_reads_back
+
+pub returns-clause-fields : goal.returns-clause-fields
+returns-clause-fields c = string_is_field
