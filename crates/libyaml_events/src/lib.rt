@@ -9,8 +9,6 @@ mod parser;
 mod progress;
 mod source;
 mod states;
-#[cfg(test)]
-mod tests;
 
 pub use fault::{NO_FAULT, yaml_parser_t_prefix, yaml_source_fault_t};
 pub use list_source::yaml_list_source_t;

@@ -8,8 +8,6 @@ pub mod event;
 pub mod laws;
 pub mod mark;
 pub mod refusal;
-#[cfg(test)]
-mod tests;
 pub mod text;
 pub mod token;
 pub mod utf8;

@@ -5,6 +5,8 @@
 #![tactic(auto)]
 
 #[cfg(test)]
+mod calls;
+#[cfg(test)]
 mod completed;
 #[cfg(test)]
 mod counted;
@@ -16,6 +18,8 @@ mod parsing;
 mod pieces;
 #[cfg(test)]
 mod runs;
+#[cfg(test)]
+mod types;
 
 use anyhow::Result;
 use std::alloc::Global;

@@ -1,6 +1,6 @@
 //! What no clause says: that calls succeed where memory is found, and what is kept where it is refused.
 
-use crate::{
+use libyaml_events::{
     NO_FAULT, yaml_list_source_t, yaml_parser_between_documents, yaml_parser_delete,
     yaml_parser_initialize, yaml_parser_parse, yaml_parser_set_max_entries, yaml_parser_t,
     yaml_parser_t_prefix, yaml_source_fault_t, yaml_token_source_t,

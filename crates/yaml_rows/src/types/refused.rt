@@ -1,17 +1,17 @@
-// Each growth that a call asks for may be refused: run with the Nth allocation failing, for each N.
-// None of these tests takes memory beside the call that it is about.
-use crate::constructors::{
+//! Each growth that a call asks for may be refused: run with the Nth allocation failing, for each N.
+//! None of these tests takes memory beside the call that it is about.
+use libyaml_types::constructors::{
     yaml_alias_event_initialize, yaml_document_start_event_initialize,
     yaml_mapping_start_event_initialize, yaml_scalar_event_initialize,
     yaml_sequence_start_event_initialize,
 };
-use crate::directive::{TagDirectives, yaml_tag_directive_t};
-use crate::enums::{
+use libyaml_types::directive::{TagDirectives, yaml_tag_directive_t};
+use libyaml_types::enums::{
     yaml_event_type_t, yaml_mapping_style_t, yaml_scalar_style_t, yaml_sequence_style_t,
 };
-use crate::event::yaml_event_t;
-use crate::refusal::yaml_refusal_t;
-use crate::text::Text;
+use libyaml_types::event::yaml_event_t;
+use libyaml_types::refusal::yaml_refusal_t;
+use libyaml_types::text::Text;
 use std::process::Abort;
 
 const PAIRS: [(&[u8], &[u8]); 2] = [(b"!a!", b"p:"), (b"!b!", b"q:")];

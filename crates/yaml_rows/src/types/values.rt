@@ -1,16 +1,18 @@
-// Numbers, texts and comparisons.
-use crate::directive::{TagDirectives, yaml_tag_directive_t};
-use crate::enums::{
+//! Numbers, texts and comparisons.
+use libyaml_types::directive::{TagDirectives, yaml_tag_directive_t};
+use libyaml_types::enums::{
     yaml_break_t, yaml_encoding_t, yaml_error_type_t, yaml_event_type_t, yaml_mapping_style_t,
     yaml_node_type_t, yaml_parser_state_t, yaml_scalar_style_t, yaml_sequence_style_t,
     yaml_token_type_t,
 };
-use crate::event::{unnamed_yaml_event_t_data, unnamed_yaml_event_t_data_alias, yaml_event_t};
-use crate::laws::order_of_scalar_styles;
-use crate::mark::{ZERO_MARK, yaml_mark_t};
-use crate::refusal::yaml_refusal_t;
-use crate::text::Text;
-use crate::token::{
+use libyaml_types::event::{
+    unnamed_yaml_event_t_data, unnamed_yaml_event_t_data_alias, yaml_event_t,
+};
+use libyaml_types::laws::order_of_scalar_styles;
+use libyaml_types::mark::{ZERO_MARK, yaml_mark_t};
+use libyaml_types::refusal::yaml_refusal_t;
+use libyaml_types::text::Text;
+use libyaml_types::token::{
     unnamed_yaml_token_t_data, unnamed_yaml_token_t_data_scalar,
     unnamed_yaml_token_t_data_version_directive, yaml_token_t,
 };

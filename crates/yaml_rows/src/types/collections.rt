@@ -1,7 +1,7 @@
-// What a `Text` and `TagDirectives` can do.
-use crate::directive::{TagDirectives, yaml_tag_directive_t};
-use crate::refusal::yaml_refusal_t;
-use crate::text::Text;
+//! What a `Text` and `TagDirectives` can do.
+use libyaml_types::directive::{TagDirectives, yaml_tag_directive_t};
+use libyaml_types::refusal::yaml_refusal_t;
+use libyaml_types::text::Text;
 use std::alloc::Global;
 use std::cmp::Ordering;
 use std::test::Fail;
