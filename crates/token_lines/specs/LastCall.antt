@@ -64,9 +64,10 @@ pub record StartsAt {R : Type 0} (reader : R) (p : Parser (LineSource R)) : Type
   pub source : p.source ≡ record { reader = reader; given = 0; max_tokens = MAX_TOKENS; fault = None }
   pub begins : History p [] []
 
--- a run over a reader's lines, by a parser that started there and made its last call
-pub record RunInTurn {R W : Type 0} (remaining : R → Option (List ℕ)) (contents : W → Option (List ℕ)) (reader : R) (outcome : Outcome) (before after : Option (List ℕ)) : Type 0 where
+-- a run over a reader's lines, by a parser that started there: the reader is left as the parser's last call left it
+pub record RunInTurn {R W : Type 0} (remaining : R → Option (List ℕ)) (contents : W → Option (List ℕ)) (old new : R) (outcome : Outcome) (before after : Option (List ℕ)) : Type 0 where
   pub first : Parser (LineSource R)
   pub last : Parser (LineSource R)
-  pub starts : StartsAt reader first
+  pub starts : StartsAt old first
   pub last_call : LastCall (Gives remaining) contents outcome first last before after [] []
+  pub left : new ≡ last.source.reader

@@ -1,7 +1,8 @@
 -- A source of token lines (docs/DEFINITIONS.md, "Lines").
-use Rattle.std.specs.Prelude.{◌≡◌, ◌<◌, ◌≤◌, ◌⊎◌, ℕ, ◌+◌, List, [], Option, Some, None, Ok, Err}
+use Rattle.std.specs.Prelude.{◌≡◌, ◌<◌, ◌≤◌, ◌⊎◌, ℕ, ◌+◌, List, [], Option, Some, None, Ok, Err, option_map}
 use Rattle.libyaml_events.specs.Fault.{Fault, Answer}
 use Rattle.libyaml_events.specs.Source.{Coming, coming}
+use Rattle.token_lines.specs.declared.token_reader.TokenReader.{TokenReader}
 use Rattle.token_lines.specs.declared.line_problem.LineProblem.TheVariants.{Memory, ReadFailed, TooManyTokens}
 use Rattle.token_lines.specs.LineFault.{line_fault}
 use Rattle.token_lines.specs.ReadLines.{lines, coming_from}
@@ -13,6 +14,15 @@ pub record LineSource (R : Type 0) : Type 0 where
   pub given : ℕ
   pub max_tokens : ℕ
   pub fault : Option Fault
+
+-- the source that reads its tokens off this reader's lines
+abbrev pub source_over : {R : Type 0} → R → TokenReader → LineSource R
+source_over reader tokens = record {
+  reader = reader;
+  given = tokens.given;
+  max_tokens = tokens.max_tokens;
+  fault = option_map (λ problem. line_fault problem tokens.given) tokens.problem;
+}
 
 -- how many tokens, and which fault, an answer is
 abbrev pub tokens_in : Answer → ℕ

@@ -8,6 +8,7 @@ mod field;
 mod field_text;
 mod front;
 pub mod laws;
+mod lent_lines;
 mod line;
 mod line_problem;
 mod line_source;
@@ -20,6 +21,7 @@ mod search;
 mod token_error;
 mod token_line;
 mod token_name;
+mod token_reader;
 
 pub use event_line::write_event;
 pub use fault_text::write_fault;

@@ -17,10 +17,10 @@ ghost use Rattle.token_lines.specs.LastCall.{LastCall, NothingLeft, RunInTurn};
 use crate::MAX_TOKENS;
 use crate::event_line::{append_event, write_line};
 use crate::fault_text::write_fault;
-use crate::line_source::yaml_line_source_t;
+use crate::lent_lines::LentLines;
 use libyaml_events::{
-    NO_FAULT, yaml_parser_initialize, yaml_parser_parse, yaml_parser_t, yaml_parser_t_prefix,
-    yaml_token_source_t,
+    NO_FAULT, yaml_parser_delete, yaml_parser_initialize, yaml_parser_parse, yaml_parser_t,
+    yaml_parser_t_prefix, yaml_token_source_t,
 };
 use libyaml_types::{unnamed_yaml_event_t_data, yaml_error_type_t, yaml_event_t};
 use std::alloc::Global;
@@ -57,18 +57,26 @@ enum Step {
 }
 
 /// Writes the line of each event of the token lines, before the next event is parsed, and then the
-/// text of the fault, if there is one. Reads at most `MAX_TOKENS` tokens.
+/// text of the fault, if there is one. Reads at most `MAX_TOKENS` tokens, and leaves in the reader
+/// what follows the last line that it read.
 ///
 /// Want of memory for a line is written as the fault of a refused growth. The writer is flushed
 /// before `Ended` and `Faulted`; after `OutputFailed` nothing is said of it.
-pub fn run_events<R: BufRead + Drop, W: Write>(alloc: Global, reader: R, writer: &mut W) -> Outcome
-    ensures writes { WritesRunOf (R.remaining reader) result (W.contents writer.old) (W.contents writer.new) }
-    // there was a parser at whose last call each event's line had been written
-    ensures in_turn { RunInTurn R.remaining W.contents reader result (W.contents writer.old) (W.contents writer.new) }
+pub fn run_events<R: BufRead, W: Write>(alloc: Global, reader: &mut R, writer: &mut W) -> Outcome
+    ensures writes { WritesRunOf (R.remaining reader.old) result (W.contents writer.old) (W.contents writer.new) }
+    // at the parser's last call, which left the reader so, each event's line had been written
+    ensures in_turn { RunInTurn R.remaining W.contents reader.old reader.new result (W.contents writer.old) (W.contents writer.new) }
 {
-    let source = yaml_line_source_t::new(alloc, reader, MAX_TOKENS);
+    let mut line = Vec::new(alloc);
+    let source = LentLines::new(alloc, reader, &mut line, MAX_TOKENS);
     let mut parser = yaml_parser_initialize(alloc, source);
-    write_events(alloc, &mut parser, writer)
+    let outcome = write_events(alloc, &mut parser, writer);
+    // The loan of the reader ends here.
+    let LentLines {
+        reader: _reader,
+        ..
+    } = yaml_parser_delete(parser);
+    outcome
 }
 
 /// Writes the line of each event that is to come, before the next event is parsed, and then the text

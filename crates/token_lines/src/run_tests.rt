@@ -89,10 +89,10 @@ fn runs_from_readers_that_cut_their_bytes(rt: HostRuntime) -> Result<(), Fail> {
     let alloc = rt.alloc();
     for (input, want, outcome) in RUNS {
         for size in [1usize, 2, 7, 4096] {
-            let reader = FailingReader::new(input, size, usize::MAX);
+            let mut reader = FailingReader::new(input, size, usize::MAX);
             let mut written = Vec::new(alloc);
             assert_eq!(rt;
-                run_events(alloc, reader, &mut written),
+                run_events(alloc, &mut reader, &mut written),
                 outcome,
                 "at {size}"
             );
@@ -125,9 +125,12 @@ fn each_read_failing_in_turn(rt: HostRuntime) -> Result<(), Fail> {
             .iter()
             .filter(|byte| **byte == b'\n')
             .count();
-        let reader = FailingReader::new(ONE_SCALAR, 1, calls);
+        let mut reader = FailingReader::new(ONE_SCALAR, 1, calls);
         let mut written = Vec::new(alloc);
-        assert_eq!(rt; run_events(alloc, reader, &mut written), Outcome::Faulted);
+        assert_eq!(rt;
+            run_events(alloc, &mut reader, &mut written),
+            Outcome::Faulted
+        );
         for (count, want) in fronts {
             if count == lines {
                 assert_eq!(rt; written.as_slice(), want, "after {calls} reads");
@@ -143,17 +146,17 @@ fn each_write_and_flush_failing_in_turn(rt: HostRuntime) -> Result<(), Fail> {
     for (input, want, outcome) in RUNS {
         // A write for each byte, and a flush.
         for calls in 0..want.len() + 1 {
-            let reader = FailingReader::new(input, 4096, usize::MAX);
+            let mut reader = FailingReader::new(input, 4096, usize::MAX);
             let mut writer = FailingWriter::new(alloc, 1, calls);
             assert_eq!(rt;
-                run_events(alloc, reader, &mut writer),
+                run_events(alloc, &mut reader, &mut writer),
                 Outcome::OutputFailed
             );
             assert_eq!(rt; writer.written.as_slice(), &want[..calls]);
         }
-        let reader = FailingReader::new(input, 4096, usize::MAX);
+        let mut reader = FailingReader::new(input, 4096, usize::MAX);
         let mut writer = FailingWriter::new(alloc, 1, want.len() + 1);
-        assert_eq!(rt; run_events(alloc, reader, &mut writer), outcome);
+        assert_eq!(rt; run_events(alloc, &mut reader, &mut writer), outcome);
     }
     Ok(())
 }

@@ -33,7 +33,8 @@ fn gives_its_events(rt: &(impl Files + AllocGlobal), name: &str) -> Result<bool>
     let tokens = fs::read_to_string(rt, format!(in alloc; "{name}.tokens")?)?;
     let events = fs::read_to_string(rt, format!(in alloc; "{name}.events")?)?;
     let mut written = Vec::new(alloc);
-    let _ = run_events(alloc, tokens.as_bytes(), &mut written);
+    let mut input = tokens.as_bytes();
+    let _ = run_events(alloc, &mut input, &mut written);
     Ok(written.as_slice() == events.as_bytes())
 }
 

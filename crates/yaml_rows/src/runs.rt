@@ -61,7 +61,8 @@ fn however_the_bytes_are_cut(rt: HostRuntime) -> Result<(), Fail> {
     for (tokens, events, outcome) in RUNS {
         for piece in [1usize, 2, 7, 4096] {
             let mut output = writer(rt.alloc(), piece, ENOUGH);
-            let ended = run_events(rt.alloc(), reader(tokens, piece, ENOUGH), &mut output);
+            let mut input = reader(tokens, piece, ENOUGH);
+            let ended = run_events(rt.alloc(), &mut input, &mut output);
             assert_eq!(rt; ended, outcome, "in pieces of {piece}");
             assert_eq!(rt;
                 output.written.as_slice(),
@@ -101,7 +102,8 @@ fn each_read_failing_in_turn(rt: HostRuntime) -> Result<(), Fail> {
         let mut came_through = false;
         for calls in 0..ENOUGH {
             let mut output = writer(rt.alloc(), 4096, ENOUGH);
-            let ended = run_events(rt.alloc(), reader(tokens, 7, calls), &mut output);
+            let mut input = reader(tokens, 7, calls);
+            let ended = run_events(rt.alloc(), &mut input, &mut output);
             let written = str::from_utf8(output.written.as_slice())?;
             if written == events {
                 assert_eq!(rt; ended, outcome);
@@ -130,7 +132,8 @@ fn each_write_and_flush_failing_in_turn(rt: HostRuntime) -> Result<(), Fail> {
         let mut came_through = false;
         for calls in 0..ENOUGH {
             let mut output = writer(rt.alloc(), 7, calls);
-            let ended = run_events(rt.alloc(), tokens.as_bytes(), &mut output);
+            let mut input = tokens.as_bytes();
+            let ended = run_events(rt.alloc(), &mut input, &mut output);
             if ended == outcome {
                 assert_eq!(rt; output.written.as_slice(), events.as_bytes());
                 came_through = true;
@@ -178,7 +181,8 @@ const LINES: [(&str, &str); 8] = [
 fn lines_that_are_alone(rt: HostRuntime) -> Result<(), Fail> {
     for (line, fault) in LINES {
         let mut written = Vec::new(rt.alloc());
-        let ended = run_events(rt.alloc(), line.as_bytes(), &mut written);
+        let mut input = line.as_bytes();
+        let ended = run_events(rt.alloc(), &mut input, &mut written);
         assert_eq!(rt; ended, Outcome::Faulted, "{line}");
         assert_eq!(rt; written.as_slice(), fault.as_bytes(), "{line}");
     }
@@ -189,7 +193,8 @@ fn lines_that_are_alone(rt: HostRuntime) -> Result<(), Fail> {
 fn ends_of_lines(rt: HostRuntime) -> Result<(), Fail> {
     let (tokens, events, _) = RUNS[0];
     let mut written = Vec::new(rt.alloc());
-    let ended = run_events(rt.alloc(), tokens.trim_end().as_bytes(), &mut written);
+    let mut input = tokens.trim_end().as_bytes();
+    let ended = run_events(rt.alloc(), &mut input, &mut written);
     assert_eq!(rt; ended, Outcome::Ended);
     assert_eq!(rt; written.as_slice(), events.as_bytes());
 
@@ -199,7 +204,8 @@ fn ends_of_lines(rt: HostRuntime) -> Result<(), Fail> {
         returns.push_str("\r\n")?;
     }
     let mut written = Vec::new(rt.alloc());
-    let ended = run_events(rt.alloc(), returns.as_bytes(), &mut written);
+    let mut input = returns.as_bytes();
+    let ended = run_events(rt.alloc(), &mut input, &mut written);
     assert_eq!(rt; ended, Outcome::Faulted);
     let fault = "FAULT scanner 0:0:0 bad token line\n";
     assert_eq!(rt; written.as_slice(), fault.as_bytes());
@@ -224,14 +230,16 @@ const LONGEST_SCALAR: usize = 1_048_550;
 fn the_longest_line(rt: HostRuntime) -> Result<(), Fail> {
     let tokens = long_scalar(rt.alloc(), LONGEST_SCALAR)?;
     let mut written = Vec::new(rt.alloc());
-    let ended = run_events(rt.alloc(), tokens.as_bytes(), &mut written);
+    let mut input = tokens.as_bytes();
+    let ended = run_events(rt.alloc(), &mut input, &mut written);
     assert_eq!(rt; ended, Outcome::Ended);
     let (_, events, _) = RUNS[0];
     assert_eq!(rt; written.len(), events.len() + LONGEST_SCALAR - 1);
 
     let tokens = long_scalar(rt.alloc(), LONGEST_SCALAR + 1)?;
     let mut written = Vec::new(rt.alloc());
-    let ended = run_events(rt.alloc(), tokens.as_bytes(), &mut written);
+    let mut input = tokens.as_bytes();
+    let ended = run_events(rt.alloc(), &mut input, &mut written);
     assert_eq!(rt; ended, Outcome::Faulted);
     let front = "STREAM-START 0:0:0 0:0:0 utf8\nFAULT reader 1:1:0 line too long\n";
     assert_eq!(rt; written.as_slice(), front.as_bytes());

@@ -16,15 +16,15 @@ pub const OUTPUT_FAILED: u8 = 3;
 /// exit status. The words are looked at before anything is read.
 ///
 /// A line for the user goes to `errors`; if it can't be written, the status stays.
-pub fn run_words<R: BufRead + Drop, W: Write, E: Write>(
+pub fn run_words<R: BufRead, W: Write, E: Write>(
     alloc: Global,
     words: &[String],
-    reader: R,
+    reader: &mut R,
     output: &mut W,
     errors: &mut E,
 ) -> u8
-    ensures runs { AskForEvents (map string_bytes words.now) → RunsWith (R.remaining reader) result (W.contents output.old) (W.contents output.new) }
-    ensures refused { ¬ AskForEvents (map string_bytes words.now) → (result ≡ WRONG_WORDS) × (output.new ≡ output.old) }
+    ensures runs { AskForEvents (map string_bytes words.now) → RunsWith R.remaining W.contents reader.old reader.new result (W.contents output.old) (W.contents output.new) }
+    ensures refused { ¬ AskForEvents (map string_bytes words.now) → (result ≡ WRONG_WORDS) × (output.new ≡ output.old) × (reader.new ≡ reader.old) }
     ensures quiet { result < WRONG_WORDS → errors.new ≡ errors.old }
 {
     if !ask_for_events(words) {
@@ -112,10 +112,11 @@ mod tests {
             }
             let mut output = Vec::new(alloc);
             let mut errors = Vec::new(alloc);
+            let mut reader = ONE_SCALAR;
             let status = run_words(
                 alloc,
                 words.as_slice(),
-                ONE_SCALAR,
+                &mut reader,
                 &mut output,
                 &mut errors,
             );
@@ -125,7 +126,7 @@ mod tests {
                 errors.as_slice(),
                 b"usage: yamltokens events|nodes\n".as_slice()
             );
-            let status = run_words(alloc, words.as_slice(), ONE_SCALAR, &mut output, &mut Full);
+            let status = run_words(alloc, words.as_slice(), &mut reader, &mut output, &mut Full);
             assert_eq!(rt; status, 2);
         }
         Ok(())
@@ -137,17 +138,20 @@ mod tests {
         let words = [String::from_str(alloc, "events")?];
         let mut output = Vec::new(alloc);
         let mut errors = Vec::new(alloc);
-        let status = run_words(alloc, &words, b"".as_slice(), &mut output, &mut errors);
+        let mut nothing = b"".as_slice();
+        let status = run_words(alloc, &words, &mut nothing, &mut output, &mut errors);
         assert_eq!(rt; status, 1);
         assert_eq!(rt;
             output.as_slice(),
             b"FAULT reader 0:0:0 no more tokens\n".as_slice()
         );
         assert_eq!(rt; errors.as_slice(), b"".as_slice());
-        let status = run_words(alloc, &words, ONE_SCALAR, &mut output, &mut errors);
+        let mut reader = ONE_SCALAR;
+        let status = run_words(alloc, &words, &mut reader, &mut output, &mut errors);
         assert_eq!(rt; status, 0);
         assert_eq!(rt; errors.as_slice(), b"".as_slice());
-        let status = run_words(alloc, &words, ONE_SCALAR, &mut Full, &mut errors);
+        let mut reader = ONE_SCALAR;
+        let status = run_words(alloc, &words, &mut reader, &mut Full, &mut errors);
         assert_eq!(rt; status, 3);
         assert_eq!(rt;
             errors.as_slice(),

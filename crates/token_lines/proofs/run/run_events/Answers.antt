@@ -1,12 +1,21 @@
-use Rattle.std.proofs.Common.{[], ap, ◌∙◌}
+use Rattle.std.proofs.Common.{rules, [], ap, ◌∙◌}
+use Rattle.token_lines.specs.LentLines.{GivesLent, lines_of}
+use Rattle.token_lines.specs.LineSource.{Gives}
+use Rattle.token_lines.proofs.LentRun.{last_seen, over, same_loan}
 use Rattle.token_lines.proofs.run.run_events.Goals as goal
 
 pub returns-clause-in_turn : goal.returns-clause-in_turn
 returns-clause-in_turn g c =
     let parser = c.yaml_parser_initialize-parser in
+    let run = c.write_events-outcome in
+    let remaining = g.R.Read.remaining in
+    let contents = g.W.Write.contents in
+    let call = run.ensures.in_turn parser.ensures.running [] [] parser.ensures.begins in
+    let loan = same_loan remaining contents run.result parser.result run.new.parser _ _ [] [] call in
     record {
-      first = parser.result;
-      last = c.write_events.new.parser;
-      starts = record { source = ap (λ p. p.source) parser.ensures.value ∙ c.new-source.ensures.value; begins = parser.ensures.begins };
-      last_call = c.write_events.ensures.in_turn parser.ensures.running [] [] parser.ensures.begins;
+      first = over lines_of parser.result;
+      last = over lines_of run.new.parser;
+      starts = record { source = ap (λ p. lines_of p.source) parser.ensures.value ∙ c.new-source.ensures.lines; begins = parser.ensures.begins };
+      last_call = last_seen (GivesLent remaining) (Gives remaining) lines_of (λ s a t h. h.0) contents run.result parser.result run.new.parser _ _ [] [] call;
+      left = search rules;
     }
