@@ -14,15 +14,20 @@ use std::io::BufRead;
 /// The tokens of a lent reader's lines, and then a fault for good: `yaml_line_source_t`, but the reader
 /// and the buffer for a line stay the caller's.
 #[derive(Drop)]
-pub struct LentLines<'a, R> {
-    pub reader: &'a mut R,
+pub(crate) struct LentLines<'a, R> {
+    pub(crate) reader: &'a mut R,
     tokens: TokenReader,
     line: &'a mut Vec<u8>,
 }
 
 impl<'a, R: BufRead> LentLines<'a, R> {
     /// A source that gives `max_tokens` tokens at most. Takes no memory.
-    pub fn new(alloc: Global, reader: &'a mut R, line: &'a mut Vec<u8>, max_tokens: u64) -> Self
+    pub(crate) fn new(
+        alloc: Global,
+        reader: &'a mut R,
+        line: &'a mut Vec<u8>,
+        max_tokens: u64,
+    ) -> Self
         ensures reader { result.reader ≡ reader.entry }
         ensures lines { lines_of result ≡ record { reader = reader.old; given = 0; max_tokens = max_tokens; fault = None } }
     {

@@ -16,7 +16,7 @@ use std::io::BufRead;
 
 /// Reads tokens off lines: counts them, up to a bound, and keeps the first problem for good.
 #[derive(Drop)]
-pub struct TokenReader {
+pub(crate) struct TokenReader {
     given: u64,
     max_tokens: u64,
     problem: Option<LineProblem>,
@@ -25,7 +25,7 @@ pub struct TokenReader {
 
 impl TokenReader {
     /// One that gives `max_tokens` tokens at most.
-    pub fn new(alloc: Global, max_tokens: u64) -> TokenReader
+    pub(crate) fn new(alloc: Global, max_tokens: u64) -> TokenReader
         ensures given { result.given ≡ 0 }
         ensures max_tokens { result.max_tokens ≡ max_tokens }
         ensures problem { result.problem ≡ None }
@@ -39,7 +39,7 @@ impl TokenReader {
     }
 
     /// The token of the reader's next line, or why there is none. A kept problem is given again; then `too many tokens` comes before a line is read.
-    pub fn next_token<R: BufRead>(
+    pub(crate) fn next_token<R: BufRead>(
         &mut self,
         reader: &mut R,
         line: &mut Vec<u8>,
