@@ -52,3 +52,6 @@ pub mod Falling
 pub mod Held
 pub mod Marked
 pub mod Raised
+pub mod SlotRows
+pub mod SlotCalls
+pub mod Headline

@@ -6,6 +6,8 @@ pub mod FaultTexts
 pub mod State
 pub mod Config
 pub mod Machine
+pub mod Slots
+pub mod Answers
 pub mod Steps
 pub mod Calls
 pub mod Tokens

@@ -52,3 +52,9 @@ pub record HasFault (l : List Token) (e : List Event) (g : Fault) : Type 0 where
   pub fits : Fits before token cut
   pub given : e ≡ cut_events cut token
   pub fails : g ≡ fault cut token.content token.start_mark
+
+-- The run of a list whose only STREAM-END is its last token: the events of its one tree, and the end; or the events of the
+-- one cut tree that fits, and its fault. The fault behind the list never shows.
+pub data RunsWhole (l : List Token) (f : Fault) : Type 0 where
+  to_its_end : (t : Stream) → in_order t ≡ true → l ≡ tokens t → IsRun l f (events t) Ends → RunsWhole l f
+  to_its_fault : (before : List Token) (token : Token) (behind : List Token) (c : Cut) → l ≡ before ++ token ∷ behind → Fits before token c → IsRun l f (cut_events c token) (Fails (fault c token.content token.start_mark)) → RunsWhole l f

@@ -16,7 +16,7 @@ ghost use Rattle.libyaml_events.specs.Fits.{Fits, HasCut, NodeBegins};
 ghost use Rattle.libyaml_events.specs.Nesting.{IsNested};
 ghost use Rattle.libyaml_events.specs.Order.{in_order};
 ghost use Rattle.libyaml_events.specs.Rest.{rest};
-ghost use Rattle.libyaml_events.specs.Runs.{Ending, Ends, Fails, HasFault, IsRun, is_behind_properties};
+ghost use Rattle.libyaml_events.specs.Runs.{Ending, Ends, Fails, HasFault, IsRun, RunsWhole, is_behind_properties};
 ghost use Rattle.libyaml_events.specs.Sentences.{IsSentence, IsBeginning, IsBadToken, EitherNotBoth, has_end};
 ghost use Rattle.libyaml_events.specs.Settled.{IsFront, IsOpen, IsSettled, sure};
 ghost use Rattle.libyaml_events.specs.StreamEnds.{up_to_end};
@@ -108,4 +108,10 @@ pub fn own_directives()
 /// ANCHOR that ends it: there a TAG is bad for its handle alone.
 pub fn tag_places()
     ensures { (l : List Token) (m : Marks) (s : List ℕ) → IsBeginning (l ++ tok (Tag (record { handle = []; suffix = s })) m ∷ []) ↔ ((p : Place) × NodeBegins l p) }
+{}
+
+/// The headline: a list whose only STREAM-END is its last token runs to the events of its one tree, or to the events and
+/// the fault of the one cut tree that fits.
+pub fn headline()
+    ensures { (l : List Token) (m : Marks) (f : Fault) → has_end l ≡ false → RunsWhole (l ++ tok StreamEnd m ∷ []) f }
 {}

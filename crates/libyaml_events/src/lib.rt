@@ -7,6 +7,7 @@ mod list_source;
 mod parse;
 mod parser;
 mod progress;
+mod slot;
 mod source;
 mod states;
 

@@ -1,13 +1,13 @@
 //! One call of the parser.
-ghost use Rattle.std.specs.Prelude.{◌≡◌, ◌≤◌, ◌<◌, ◌+◌, ◌*◌, ◌∷◌, List, [], length, Ok, Err, true, false, IfOk, IfErr};
+ghost use Rattle.std.specs.Prelude.{◌≡◌, ◌≤◌, ◌<◌, ◌+◌, ◌++◌, ◌*◌, ◌∷◌, List, [], length, Ok, Err, true, false, IfOk, IfErr};
 ghost use Rattle.libyaml_types.specs.declared.token.yaml_token_t.{yaml_token_t};
 ghost use Rattle.libyaml_types.specs.declared.event.yaml_event_t.{yaml_event_t};
-ghost use Rattle.libyaml_events.specs.Config.{is_over};
+ghost use Rattle.libyaml_events.specs.Config.{is_over, between_documents};
 ghost use Rattle.libyaml_events.specs.Calls.{Call, empty_event};
 ghost use Rattle.libyaml_events.specs.Fault.{Fault};
-ghost use Rattle.libyaml_events.specs.Settled.{BeginsEach};
-ghost use Rattle.libyaml_events.specs.Runs.{Ending, Ends, Fails};
-ghost use Rattle.libyaml_events.specs.Stages.{stage_of, open_collections};
+ghost use Rattle.libyaml_events.specs.Settled.{Begins, BeginsEach};
+ghost use Rattle.libyaml_events.specs.Runs.{Ending, Ends, Fails, IsRun};
+ghost use Rattle.libyaml_events.specs.Stages.{stage_of, open_collections, is_outside};
 ghost use Rattle.libyaml_events.specs.History.{History, has_ended, kept_fault, stack_depth};
 ghost use Rattle.libyaml_events.specs.Lookahead.{HoldsLast};
 ghost use Rattle.libyaml_events.specs.Pops.{PopsNothingBelow};
@@ -16,7 +16,7 @@ ghost use Rattle.libyaml_events.specs.Parsing.{CarriesOn, FailsBy};
 ghost use Rattle.libyaml_events.specs.RunToCome.{RunToCome, UnlessBroken};
 
 use crate::parser::yaml_parser_t;
-use crate::progress::{Progress, Want};
+use crate::progress::{Next, Pending};
 use crate::source::yaml_token_source_t;
 use libyaml_types::{ZERO_MARK, unnamed_yaml_event_t_data, yaml_error_type_t, yaml_event_t};
 
@@ -34,12 +34,18 @@ impl<S: yaml_token_source_t> yaml_parser_t<S> {
                 end_mark: ZERO_MARK,
             });
         }
-        let mut want = Want::AtState;
+        let mut pending = Pending::new(self.allocator());
+        let mut event = yaml_event_t {
+            content: unnamed_yaml_event_t_data::NoEvent,
+            start_mark: ZERO_MARK,
+            end_mark: ZERO_MARK,
+        };
+        let mut next = Next::AtState;
         loop {
             let token = self.next_token()?;
-            match self.step(want, token)? {
-                Progress::Given(event) => return Ok(event),
-                Progress::Wants(next) => want = next,
+            match self.step(next, token, &mut pending, &mut event)? {
+                Next::Given => return Ok(event),
+                wanted => next = wanted,
             }
         }
     }
@@ -64,6 +70,8 @@ pub fn yaml_parser_parse<S: yaml_token_source_t>(
     ensures carries_on { has_ended parser.old ≡ false → IfOk result (λ e. (asked : List yaml_token_t) (given : List yaml_event_t) → History parser.old asked given → CarriesOn S.gives parser.old e parser.new asked given) }
     ensures fails { IfErr result (λ _. (asked : List yaml_token_t) (given : List yaml_event_t) → History parser.old asked given → FailsBy S.gives parser.old parser.new asked given) }
     ensures begins { (asked : List yaml_token_t) (given : List yaml_event_t) → History parser.new asked given → BeginsEach asked given }
+    ensures begins_run { (asked : List yaml_token_t) (given : List yaml_event_t) → History parser.new asked given → (rest : List yaml_token_t) (f : Fault) (e : List yaml_event_t) (x : Ending) → IsRun (asked ++ rest) f e x → Begins given e }
+    ensures between { (asked : List yaml_token_t) (given : List yaml_event_t) → History parser.new asked given → between_documents parser.new.config ≡ is_outside (stage_of given) }
     ensures at_most_four { (asked : List yaml_token_t) (given : List yaml_event_t) → History parser.new asked given → length given ≤ 4 * length asked }
     ensures depth { (asked : List yaml_token_t) (given : List yaml_event_t) → History parser.new asked given → stack_depth parser.new ≤ open_collections (stage_of given) + 1 }
     ensures pops { (asked : List yaml_token_t) (given : List yaml_event_t) → History parser.old asked given → PopsNothingBelow S.gives parser.old result parser.new }

@@ -1,6 +1,7 @@
 //! The parser.
 ghost use Rattle.std.specs.Prelude.{◌≡◌, ◌⊎◌, [], pos, ◌≤ℤ◌, true, false, List, Option, Some};
 ghost use Rattle.libyaml_events.specs.Fault.{Fault, fault_of};
+ghost use Rattle.libyaml_events.specs.FaultTexts.{no_fault};
 ghost use Rattle.libyaml_events.specs.Config.{start, with_config, with_fault, marked_ended, is_fault, is_over, between_documents};
 ghost use Rattle.libyaml_events.specs.Source.{Coming, coming};
 ghost use Rattle.libyaml_events.specs.Runs.{Ending, IsRun};
@@ -128,7 +129,9 @@ impl<S> yaml_parser_t<S> {
     ///
     /// libyaml: the fields `error` to `context_mark`.
     pub fn prefix(&self) -> &yaml_parser_t_prefix
-        ensures { fault_of result.now ≡ self.now.config.fault }
+        ensures kept { fault_of result.now ≡ self.now.config.fault }
+        // before a fault it is that of no fault
+        ensures before_fault { (asked : List yaml_token_t) (given : List yaml_event_t) → History self.now asked given → fault_of result.now ≡ no_fault }
     {
         &self.prefix
     }

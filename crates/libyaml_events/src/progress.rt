@@ -3,9 +3,10 @@
 ghost use Rattle.std.specs.Prelude.{◌≡◌};
 
 use libyaml_types::{
-    TagDirectives, Text, unnamed_yaml_event_t_data, yaml_event_t, yaml_mark_t,
+    TagDirectives, Text, ZERO_MARK, unnamed_yaml_event_t_data, yaml_event_t, yaml_mark_t,
     yaml_version_directive_t,
 };
+use std::alloc::Global;
 
 /// The directives of a document, read so far.
 #[derive(Drop)]
@@ -112,22 +113,72 @@ pub enum Progress {
     Wants(Want),
 }
 
-impl Progress {
-    ghost use Rattle.libyaml_events.specs.Events.{event};
-    ghost use Rattle.libyaml_events.specs.declared.progress.Progress.TheVariants.{Given};
+/// What a step of the parser led to: its event stands in the slot for it, or a further token is wanted.
+#[derive(Copy, Clone)]
+pub enum Next {
+    Given,
+    AtState,
+    BehindDirective,
+    BehindProperties,
+    BehindBlockEntry,
+    BehindIndentlessEntry,
+    BehindKey,
+    BehindValue,
+    BehindFlowSequenceEntry,
+    BehindFlowSequenceValue,
+    BehindFlowMappingEntry,
+    BehindFlowMappingKey,
+    BehindFlowMappingValue,
+}
 
-    /// An event with these marks.
-    pub fn given(
-        content: unnamed_yaml_event_t_data,
-        start_mark: yaml_mark_t,
-        end_mark: yaml_mark_t,
-    ) -> Self
-        ensures { result ≡ Given (event content start_mark end_mark) }
-    {
-        Progress::Given(yaml_event_t {
-            content,
-            start_mark,
-            end_mark,
-        })
+/// What the parser has of a document or node, where a further token is wanted.
+#[derive(Drop)]
+pub struct Pending {
+    /// The end of the token behind which it is wanted.
+    pub mark: yaml_mark_t,
+    /// Where the node stands whose properties were read.
+    pub place: NodePlace,
+    pub properties: PropertiesRead,
+    pub directives: DirectivesRead,
+}
+
+impl Pending {
+    /// Nothing read.
+    #[inline(always)]
+    pub fn new(alloc: Global) -> Self {
+        Pending {
+            mark: ZERO_MARK,
+            place: NodePlace::Block,
+            properties: PropertiesRead {
+                anchor: None,
+                tag: None,
+                start_mark: ZERO_MARK,
+                end_mark: ZERO_MARK,
+            },
+            directives: DirectivesRead {
+                start_mark: ZERO_MARK,
+                version: None,
+                tag_directives: TagDirectives::new(alloc),
+            },
+        }
     }
+}
+
+ghost use Rattle.libyaml_events.specs.Events.{event};
+
+/// Puts an event with these marks into the slot.
+#[inline(always)]
+pub fn give(
+    out: &mut yaml_event_t,
+    content: unnamed_yaml_event_t_data,
+    start_mark: yaml_mark_t,
+    end_mark: yaml_mark_t,
+)
+    ensures { out.new ≡ event content start_mark end_mark }
+{
+    *out = yaml_event_t {
+        content,
+        start_mark,
+        end_mark,
+    };
 }

@@ -4,6 +4,9 @@ ghost use Rattle.libyaml_events.specs.FaultTexts.{memory_fault};
 ghost use Rattle.libyaml_events.specs.Config.{with_config, with_fault, at, pushed_mark};
 ghost use Rattle.libyaml_events.specs.Machine.{step, at_state, process_empty_scalar, close};
 ghost use Rattle.libyaml_events.specs.Steps.{Steps};
+ghost use Rattle.libyaml_events.specs.Slots.{at_slot, state_behind, entered};
+ghost use Rattle.libyaml_events.specs.Answers.{answer, wanted};
+ghost use Rattle.libyaml_events.specs.declared.progress.Progress.TheVariants.{Given};
 ghost use Rattle.libyaml_events.specs.Calls.{may_grow, may_grow_at};
 
 mod block;
@@ -12,11 +15,12 @@ mod flow;
 mod nodes;
 
 use crate::parser::yaml_parser_t;
-use crate::progress::{NodePlace, Progress, Want};
+use crate::progress::{Next, NodePlace, Pending, give};
+use crate::slot::Slot;
 use crate::states::nodes::plain_scalar;
 use libyaml_types::{
-    Text, unnamed_yaml_event_t_data, yaml_error_type_t, yaml_mark_t, yaml_parser_state_t,
-    yaml_token_t,
+    Text, unnamed_yaml_event_t_data, yaml_error_type_t, yaml_event_t, yaml_mark_t,
+    yaml_parser_state_t, yaml_token_t,
 };
 
 impl<S> yaml_parser_t<S> {
@@ -26,110 +30,118 @@ impl<S> yaml_parser_t<S> {
     #[inline(always)]
     pub(crate) fn step(
         &mut self,
-        want: Want,
+        next: Next,
         token: yaml_token_t,
-    ) -> Result<Progress, yaml_error_type_t>
-        ensures steps { Steps (step want self.old.config token) self.old result self.new }
-        ensures grows { result ≡ Err yaml_error_type_t.YAML_MEMORY_ERROR → may_grow want self.old.config ≡ true }
+        pending: &mut Pending,
+        out: &mut yaml_event_t,
+    ) -> Result<Next, yaml_error_type_t>
+        ensures steps { Steps (step (wanted next pending.old) self.old.config token) self.old (answer result pending.new out.new) self.new }
+        ensures grows { result ≡ Err yaml_error_type_t.YAML_MEMORY_ERROR → may_grow (wanted next pending.old) self.old.config ≡ true }
     {
-        match want {
-            Want::AtState => self.parse_at_state(token),
-            Want::BehindDirective(directives) => self.parse_explicit_document(directives, token),
-            Want::BehindProperties(place, properties) => {
-                self.parse_behind_properties(place, properties, token)
+        match next {
+            Next::Given | Next::AtState => self.parse_at_state(token, pending, out),
+            Next::BehindDirective => self.parse_explicit_document(token, pending, out),
+            Next::BehindProperties => self.parse_behind_properties(token, pending, out),
+            Next::BehindBlockEntry => self.parse_slot(Slot::BlockEntry, token, pending, out),
+            Next::BehindIndentlessEntry => {
+                self.parse_slot(Slot::IndentlessEntry, token, pending, out)
             }
-            Want::BehindBlockEntry(end) => self.parse_behind_block_entry(end, token),
-            Want::BehindIndentlessEntry(end) => self.parse_behind_indentless_entry(end, token),
-            Want::BehindKey(end) => self.parse_behind_block_indicator(
-                yaml_parser_state_t::YAML_PARSE_BLOCK_MAPPING_VALUE_STATE,
-                end,
-                token,
-            ),
-            Want::BehindValue(end) => self.parse_behind_block_indicator(
-                yaml_parser_state_t::YAML_PARSE_BLOCK_MAPPING_KEY_STATE,
-                end,
-                token,
-            ),
-            Want::BehindFlowSequenceEntry => self.parse_behind_flow_sequence_entry(token),
-            Want::BehindFlowSequenceValue => self.parse_behind_flow_sequence_value(token),
-            Want::BehindFlowMappingEntry => self.parse_behind_flow_mapping_entry(token),
-            Want::BehindFlowMappingKey => self.parse_behind_flow_mapping_key(token),
-            Want::BehindFlowMappingValue => self.parse_behind_flow_mapping_value(token),
+            Next::BehindKey => self.parse_slot(Slot::BlockKey, token, pending, out),
+            Next::BehindValue => self.parse_slot(Slot::BlockValue, token, pending, out),
+            Next::BehindFlowSequenceEntry => {
+                self.parse_behind_flow_sequence_entry(token, pending, out)
+            }
+            Next::BehindFlowSequenceValue => self.parse_slot(Slot::PairValue, token, pending, out),
+            Next::BehindFlowMappingEntry => {
+                self.parse_behind_flow_mapping_entry(token, pending, out)
+            }
+            Next::BehindFlowMappingKey => self.parse_slot(Slot::FlowKey, token, pending, out),
+            Next::BehindFlowMappingValue => self.parse_slot(Slot::FlowValue, token, pending, out),
         }
     }
 
     #[inline(always)]
-    fn parse_at_state(&mut self, token: yaml_token_t) -> Result<Progress, yaml_error_type_t>
-        ensures steps { Steps (at_state self.old.config.state self.old.config token token.content) self.old result self.new }
+    fn parse_at_state(
+        &mut self,
+        token: yaml_token_t,
+        pending: &mut Pending,
+        out: &mut yaml_event_t,
+    ) -> Result<Next, yaml_error_type_t>
+        ensures steps { Steps (at_state self.old.config.state self.old.config token token.content) self.old (answer result pending.new out.new) self.new }
         ensures grows { result ≡ Err yaml_error_type_t.YAML_MEMORY_ERROR → may_grow_at self.old.config.state ≡ true }
     {
         match self.state() {
-            yaml_parser_state_t::YAML_PARSE_STREAM_START_STATE => self.parse_stream_start(token),
+            yaml_parser_state_t::YAML_PARSE_STREAM_START_STATE => self.parse_stream_start(
+                token, pending, out,
+            ),
             yaml_parser_state_t::YAML_PARSE_IMPLICIT_DOCUMENT_START_STATE => {
-                self.parse_implicit_document_start(token)
+                self.parse_implicit_document_start(token, pending, out)
             }
             yaml_parser_state_t::YAML_PARSE_DOCUMENT_START_STATE => {
-                self.parse_document_start(token)
+                self.parse_document_start(token, pending, out)
             }
             yaml_parser_state_t::YAML_PARSE_DOCUMENT_CONTENT_STATE => {
-                self.parse_document_content(token)
+                self.parse_slot(Slot::Document, token, pending, out)
             }
             yaml_parser_state_t::YAML_PARSE_DOCUMENT_END_STATE => {
-                Ok(self.parse_document_end(token))
+                self.parse_document_end(token, out);
+                Ok(Next::Given)
             }
             yaml_parser_state_t::YAML_PARSE_BLOCK_NODE_STATE => {
-                self.parse_node(NodePlace::Block, token)
+                self.parse_node(NodePlace::Block, token, pending, out)
             }
             yaml_parser_state_t::YAML_PARSE_BLOCK_NODE_OR_INDENTLESS_SEQUENCE_STATE => {
-                self.parse_node(NodePlace::BlockOrIndentlessSequence, token)
+                self.parse_node(NodePlace::BlockOrIndentlessSequence, token, pending, out)
             }
             yaml_parser_state_t::YAML_PARSE_FLOW_NODE_STATE => {
-                self.parse_node(NodePlace::Flow, token)
+                self.parse_node(NodePlace::Flow, token, pending, out)
             }
             yaml_parser_state_t::YAML_PARSE_BLOCK_SEQUENCE_FIRST_ENTRY_STATE => {
-                self.parse_first_block_sequence_entry(&token)
+                self.parse_first_block_sequence_entry(&token, pending, out)
             }
             yaml_parser_state_t::YAML_PARSE_BLOCK_SEQUENCE_ENTRY_STATE => {
-                self.parse_block_sequence_entry(token)
+                self.parse_block_sequence_entry(token, pending, out)
             }
             yaml_parser_state_t::YAML_PARSE_INDENTLESS_SEQUENCE_ENTRY_STATE => {
-                self.parse_indentless_sequence_entry(token)
+                self.parse_indentless_sequence_entry(token, pending, out)
             }
             yaml_parser_state_t::YAML_PARSE_BLOCK_MAPPING_FIRST_KEY_STATE => {
-                self.parse_first_block_mapping_key(&token)
+                self.parse_first_block_mapping_key(&token, pending, out)
             }
             yaml_parser_state_t::YAML_PARSE_BLOCK_MAPPING_KEY_STATE => {
-                self.parse_block_mapping_key(token)
+                self.parse_block_mapping_key(token, pending, out)
             }
             yaml_parser_state_t::YAML_PARSE_BLOCK_MAPPING_VALUE_STATE => {
-                self.parse_block_mapping_value(token)
+                self.parse_block_mapping_value(token, pending, out)
             }
             yaml_parser_state_t::YAML_PARSE_FLOW_SEQUENCE_FIRST_ENTRY_STATE => {
-                self.parse_first_flow_sequence_entry(&token)
+                self.parse_first_flow_sequence_entry(&token, pending, out)
             }
             yaml_parser_state_t::YAML_PARSE_FLOW_SEQUENCE_ENTRY_STATE => {
-                self.parse_flow_sequence_entry(token)
+                self.parse_flow_sequence_entry(token, pending, out)
             }
             yaml_parser_state_t::YAML_PARSE_FLOW_SEQUENCE_ENTRY_MAPPING_KEY_STATE => {
-                self.parse_flow_sequence_entry_mapping_key(token)
+                self.parse_slot(Slot::PairKey, token, pending, out)
             }
             yaml_parser_state_t::YAML_PARSE_FLOW_SEQUENCE_ENTRY_MAPPING_VALUE_STATE => {
-                self.parse_flow_sequence_entry_mapping_value(token)
+                self.parse_flow_sequence_entry_mapping_value(token, pending, out)
             }
             yaml_parser_state_t::YAML_PARSE_FLOW_SEQUENCE_ENTRY_MAPPING_END_STATE => {
-                Ok(self.parse_flow_sequence_entry_mapping_end(token))
+                self.parse_flow_sequence_entry_mapping_end(token, out);
+                Ok(Next::Given)
             }
             yaml_parser_state_t::YAML_PARSE_FLOW_MAPPING_FIRST_KEY_STATE => {
-                self.parse_first_flow_mapping_key(&token)
+                self.parse_first_flow_mapping_key(&token, pending, out)
             }
             yaml_parser_state_t::YAML_PARSE_FLOW_MAPPING_KEY_STATE => {
-                self.parse_flow_mapping_key(token)
+                self.parse_flow_mapping_key(token, pending, out)
             }
             yaml_parser_state_t::YAML_PARSE_FLOW_MAPPING_VALUE_STATE => {
-                self.parse_flow_mapping_value(token)
+                self.parse_flow_mapping_value(token, pending, out)
             }
             yaml_parser_state_t::YAML_PARSE_FLOW_MAPPING_EMPTY_VALUE_STATE => {
-                Ok(self.parse_flow_mapping_empty_value(token))
+                self.parse_flow_mapping_empty_value(token, out);
+                Ok(Next::Given)
             }
             yaml_parser_state_t::YAML_PARSE_END_STATE => Err(self.set_parser_error(
                 "did not find expected <document start>",
@@ -138,15 +150,55 @@ impl<S> yaml_parser_t<S> {
         }
     }
 
+    /// A node, or nothing before a token that the place's row names.
+    #[inline(always)]
+    fn parse_slot(
+        &mut self,
+        slot: Slot,
+        token: yaml_token_t,
+        pending: &mut Pending,
+        out: &mut yaml_event_t,
+    ) -> Result<Next, yaml_error_type_t>
+        ensures { Steps (at_slot slot pending.old.mark self.old.config token token.content) self.old (answer result pending.new out.new) self.new }
+    {
+        if slot.is_nothing_before(&token.content) {
+            match slot.state_behind() {
+                Some(state) => self.set_state(state),
+                None => self.pop_state(),
+            }
+            self.process_empty_scalar(slot.empty_mark(pending, &token), token, out);
+            return Ok(Next::Given);
+        }
+        self.push_state_behind(slot)?;
+        self.parse_node(slot.place(), token, pending, out)
+    }
+
+    /// The state behind the place's node goes on the stack. A document's is there already.
+    #[inline(always)]
+    fn push_state_behind(&mut self, slot: Slot) -> Result<(), yaml_error_type_t>
+        ensures ok { OnOk result (self.new ≡ with_config self.old (entered (state_behind slot) self.old.config)) }
+        ensures err { OnErr result ((result ≡ Err yaml_error_type_t.YAML_MEMORY_ERROR) × (self.new ≡ with_config self.old (with_fault self.old.config memory_fault))) }
+    {
+        match slot.state_behind() {
+            Some(state) => self.push_state(state),
+            None => Ok(()),
+        }
+    }
+
     /// An empty node at `mark`; the token stays.
     ///
     /// libyaml: `yaml_parser_process_empty_scalar`.
-    fn process_empty_scalar(&mut self, mark: yaml_mark_t, token: yaml_token_t) -> Progress
-        ensures { Steps (process_empty_scalar mark token self.old.config) self.old (Ok result) self.new }
+    fn process_empty_scalar(
+        &mut self,
+        mark: yaml_mark_t,
+        token: yaml_token_t,
+        out: &mut yaml_event_t,
+    )
+        ensures { Steps (process_empty_scalar mark token self.old.config) self.old (Ok (Given out.new)) self.new }
     {
         self.keep(token);
         let text = Text::new(self.allocator());
-        Progress::given(plain_scalar(None, None, text, true), mark, mark)
+        give(out, plain_scalar(None, None, text, true), mark, mark);
     }
 
     /// The start of a collection is kept, and `state` comes next.
@@ -164,11 +216,16 @@ impl<S> yaml_parser_t<S> {
     }
 
     /// The end of the innermost collection, at the token that closes it.
-    fn close(&mut self, content: unnamed_yaml_event_t_data, token: &yaml_token_t) -> Progress
-        ensures { Steps (close content token.now self.old.config) self.old (Ok result) self.new }
+    fn close(
+        &mut self,
+        content: unnamed_yaml_event_t_data,
+        token: &yaml_token_t,
+        out: &mut yaml_event_t,
+    )
+        ensures { Steps (close content token.now self.old.config) self.old (Ok (Given out.new)) self.new }
     {
         let _ = self.pop_mark();
         self.pop_state();
-        Progress::given(content, token.start_mark, token.end_mark)
+        give(out, content, token.start_mark, token.end_mark);
     }
 }

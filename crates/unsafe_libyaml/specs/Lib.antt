@@ -1,6 +1,3 @@
-pub mod Documents
-pub mod Nodes
-pub mod Pairs
 -- what the clauses of the crates below cite, so that a user names this crate alone
 pub use Rattle.libyaml_types.specs.Numbers
 pub use Rattle.libyaml_types.specs.Texts
@@ -31,3 +28,6 @@ pub use Rattle.libyaml_events.specs.Stages
 pub use Rattle.libyaml_events.specs.StreamEnds
 pub use Rattle.libyaml_events.specs.Tokens
 pub use Rattle.libyaml_events.specs.Trees
+pub use Rattle.libyaml_documents.specs.Documents
+pub use Rattle.libyaml_documents.specs.Nodes
+pub use Rattle.libyaml_documents.specs.Pairs

@@ -1,19 +1,16 @@
-//! Documents of YAML: nodes named by ids, built by calls or loaded from events.
+//! YAML's parser and documents, under the names of `unsafe-libyaml`.
 //!
-//! A user names this crate alone: the two crates below it are passed on.
+//! A user names this crate alone: the crates below it are passed on.
 #![tactic(auto)]
 
-mod document;
-mod items;
-mod node;
-mod pairs;
-
-pub use document::{
+pub use libyaml_documents::{
+    NodeItems, NodePairs, unnamed_yaml_node_t_data, unnamed_yaml_node_t_data_mapping,
+    unnamed_yaml_node_t_data_scalar, unnamed_yaml_node_t_data_sequence, yaml_alias_data_t,
     yaml_document_add_mapping, yaml_document_add_scalar, yaml_document_add_sequence,
     yaml_document_append_mapping_pair, yaml_document_append_sequence_item, yaml_document_delete,
     yaml_document_get_node, yaml_document_get_root_node, yaml_document_initialize, yaml_document_t,
+    yaml_node_item_t, yaml_node_pair_t, yaml_node_t,
 };
-pub use items::{NodeItems, yaml_node_item_t};
 pub use libyaml_events::{
     NO_FAULT, laws, yaml_list_source_t, yaml_parser_between_documents, yaml_parser_delete,
     yaml_parser_initialize, yaml_parser_parse, yaml_parser_set_max_entries, yaml_parser_t,
@@ -37,12 +34,6 @@ pub use libyaml_types::{
     yaml_stream_start_event_initialize, yaml_tag_directive_t, yaml_token_delete, yaml_token_t,
     yaml_token_type_t, yaml_version_directive_t,
 };
-pub use node::{
-    unnamed_yaml_node_t_data, unnamed_yaml_node_t_data_mapping, unnamed_yaml_node_t_data_scalar,
-    unnamed_yaml_node_t_data_sequence, yaml_alias_data_t, yaml_node_t,
-};
-pub use pairs::{NodePairs, yaml_node_pair_t};
-
 // The variants of the enums, by their bare names.
 pub use libyaml_types::enums::yaml_break_t::{
     YAML_ANY_BREAK, YAML_CR_BREAK, YAML_CRLN_BREAK, YAML_LN_BREAK,
@@ -95,6 +86,3 @@ pub use libyaml_types::enums::yaml_token_type_t::{
     YAML_STREAM_START_TOKEN, YAML_TAG_DIRECTIVE_TOKEN, YAML_TAG_TOKEN, YAML_VALUE_TOKEN,
     YAML_VERSION_DIRECTIVE_TOKEN,
 };
-
-#[cfg(test)]
-mod tests;

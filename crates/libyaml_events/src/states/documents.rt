@@ -2,25 +2,31 @@
 ghost use Rattle.std.specs.Prelude.{◌≡◌, Ok, Err, OnOk, OnErr, IfErr};
 ghost use Rattle.libyaml_events.specs.FaultTexts.{memory_fault};
 ghost use Rattle.libyaml_events.specs.Config.{with_config, with_fault};
-ghost use Rattle.libyaml_events.specs.Machine.{parse_stream_start, begin_document, implicit_document, version_directive, tag_directive, explicit_document, no_directives, end_stream, parse_implicit_document_start, parse_document_start, end_document, parse_document_end, parse_document_content};
+ghost use Rattle.libyaml_events.specs.Machine.{parse_stream_start, begin_document, implicit_document, version_directive, tag_directive, explicit_document, no_directives, end_stream, parse_implicit_document_start, parse_document_start, end_document, parse_document_end};
 ghost use Rattle.libyaml_events.specs.Steps.{Steps};
+ghost use Rattle.libyaml_events.specs.Answers.{answer};
+ghost use Rattle.libyaml_events.specs.declared.progress.Progress.TheVariants.{Given};
 ghost use Rattle.std.specs.FinMap.{get};
 
 use crate::parser::yaml_parser_t;
-use crate::progress::{DirectivesRead, NodePlace, Progress, Want};
+use crate::progress::{DirectivesRead, Next, Pending, give};
 use libyaml_types::{
     TagDirectives, unnamed_yaml_event_t_data, unnamed_yaml_event_t_data_document_end,
     unnamed_yaml_event_t_data_document_start, unnamed_yaml_event_t_data_stream_start,
     unnamed_yaml_token_t_data, unnamed_yaml_token_t_data_tag_directive, yaml_error_type_t,
-    yaml_mark_t, yaml_parser_state_t, yaml_tag_directive_t, yaml_token_t, yaml_version_directive_t,
+    yaml_event_t, yaml_mark_t, yaml_parser_state_t, yaml_tag_directive_t, yaml_token_t,
+    yaml_version_directive_t,
 };
+use std::mem;
 
 impl<S> yaml_parser_t<S> {
     pub(super) fn parse_stream_start(
         &mut self,
         token: yaml_token_t,
-    ) -> Result<Progress, yaml_error_type_t>
-        ensures steps { Steps (parse_stream_start self.old.config token token.content) self.old result self.new }
+        pending: &mut Pending,
+        out: &mut yaml_event_t,
+    ) -> Result<Next, yaml_error_type_t>
+        ensures steps { Steps (parse_stream_start self.old.config token token.content) self.old (answer result pending.new out.new) self.new }
         ensures error { IfErr result (λ e. e ≡ yaml_error_type_t.YAML_PARSER_ERROR) }
     {
         let mark = token.start_mark;
@@ -30,7 +36,13 @@ impl<S> yaml_parser_t<S> {
                 let event = unnamed_yaml_event_t_data_stream_start {
                     encoding: start.encoding,
                 };
-                Ok(Progress::given(unnamed_yaml_event_t_data::StreamStart(event), mark, mark))
+                give(
+                    out,
+                    unnamed_yaml_event_t_data::StreamStart(event),
+                    mark,
+                    mark,
+                );
+                Ok(Next::Given)
             }
             _ => Err(self.set_parser_error("did not find expected <stream-start>", mark)),
         }
@@ -51,8 +63,10 @@ impl<S> yaml_parser_t<S> {
     fn begin_implicit_document(
         &mut self,
         token: yaml_token_t,
-    ) -> Result<Progress, yaml_error_type_t>
-        ensures { Steps (implicit_document self.old.config token) self.old result self.new }
+        pending: &mut Pending,
+        out: &mut yaml_event_t,
+    ) -> Result<Next, yaml_error_type_t>
+        ensures { Steps (implicit_document self.old.config token) self.old (answer result pending.new out.new) self.new }
     {
         self.begin_document(yaml_parser_state_t::YAML_PARSE_BLOCK_NODE_STATE)?;
         let mark = token.start_mark;
@@ -62,47 +76,53 @@ impl<S> yaml_parser_t<S> {
             tag_directives: TagDirectives::new(self.allocator()),
             implicit: true,
         };
-        Ok(Progress::given(unnamed_yaml_event_t_data::DocumentStart(event), mark, mark))
+        give(
+            out,
+            unnamed_yaml_event_t_data::DocumentStart(event),
+            mark,
+            mark,
+        );
+        Ok(Next::Given)
     }
 
     /// VERSION-DIRECTIVE: a second one is a duplicate, whatever its version.
     fn process_version_directive(
         &mut self,
-        directives: DirectivesRead,
         version: yaml_version_directive_t,
         mark: yaml_mark_t,
-    ) -> Result<Progress, yaml_error_type_t>
-        ensures { Steps (version_directive directives.version directives self.old.config mark version) self.old result self.new }
+        pending: &mut Pending,
+        out: &mut yaml_event_t,
+    ) -> Result<Next, yaml_error_type_t>
+        ensures { Steps (version_directive pending.old.directives.version pending.old.directives self.old.config mark version) self.old (answer result pending.new out.new) self.new }
     {
-        if directives.version.is_some() {
+        if pending.directives.version.is_some() {
             return Err(self.set_parser_error("found duplicate %YAML directive", mark));
         }
         if version.major != 1 || (version.minor != 1 && version.minor != 2) {
             return Err(self.set_parser_error("found incompatible YAML document", mark));
         }
-        Ok(Progress::Wants(Want::BehindDirective(DirectivesRead {
-            version: Some(version),
-            ..directives
-        })))
+        pending.directives.version = Some(version);
+        Ok(Next::BehindDirective)
     }
 
     /// TAG-DIRECTIVE: its handle may be declared once.
     fn process_tag_directive(
         &mut self,
-        mut directives: DirectivesRead,
         directive: yaml_tag_directive_t,
         mark: yaml_mark_t,
-    ) -> Result<Progress, yaml_error_type_t>
-        ensures { Steps (tag_directive (get self.old.config.handles directive.handle) directives self.old.config mark directive) self.old result self.new }
+        pending: &mut Pending,
+        out: &mut yaml_event_t,
+    ) -> Result<Next, yaml_error_type_t>
+        ensures { Steps (tag_directive (get self.old.config.handles directive.handle) pending.old.directives self.old.config mark directive) self.old (answer result pending.new out.new) self.new }
     {
         let was_declared = self.declare(&directive.handle, &directive.prefix)?;
         if was_declared {
             return Err(self.set_parser_error("found duplicate %TAG directive", mark));
         }
-        if directives.tag_directives.push(directive).is_err() {
+        if pending.directives.tag_directives.push(directive).is_err() {
             return Err(self.out_of_memory());
         }
-        Ok(Progress::Wants(Want::BehindDirective(directives)))
+        Ok(Next::BehindDirective)
     }
 
     /// A directive or DOCUMENT-START, behind these directives.
@@ -110,10 +130,11 @@ impl<S> yaml_parser_t<S> {
     /// libyaml: `yaml_parser_process_directives`.
     pub(super) fn parse_explicit_document(
         &mut self,
-        directives: DirectivesRead,
         token: yaml_token_t,
-    ) -> Result<Progress, yaml_error_type_t>
-        ensures { Steps (explicit_document directives self.old.config token token.content) self.old result self.new }
+        pending: &mut Pending,
+        out: &mut yaml_event_t,
+    ) -> Result<Next, yaml_error_type_t>
+        ensures { Steps (explicit_document pending.old.directives self.old.config token token.content) self.old (answer result pending.new out.new) self.new }
     {
         let mark = token.start_mark;
         match token.content {
@@ -122,25 +143,29 @@ impl<S> yaml_parser_t<S> {
                     major: version.major,
                     minor: version.minor,
                 };
-                self.process_version_directive(directives, version, mark)
+                self.process_version_directive(version, mark, pending, out)
             }
             unnamed_yaml_token_t_data::TagDirective(directive) => {
                 let unnamed_yaml_token_t_data_tag_directive { handle, prefix } = directive;
                 let directive = yaml_tag_directive_t { handle, prefix };
-                self.process_tag_directive(directives, directive, mark)
+                self.process_tag_directive(directive, mark, pending, out)
             }
             unnamed_yaml_token_t_data::DocumentStart => {
                 self.begin_document(yaml_parser_state_t::YAML_PARSE_DOCUMENT_CONTENT_STATE)?;
+                let none = TagDirectives::new(self.allocator());
                 let event = unnamed_yaml_event_t_data_document_start {
-                    version_directive: directives.version,
-                    tag_directives: directives.tag_directives,
+                    version_directive: pending.directives.version.take(),
+                    tag_directives: mem::replace(&mut pending.directives.tag_directives, none),
                     implicit: false,
                 };
-                Ok(Progress::given(
+                let start = pending.directives.start_mark;
+                give(
+                    out,
                     unnamed_yaml_event_t_data::DocumentStart(event),
-                    directives.start_mark,
+                    start,
                     token.end_mark,
-                ))
+                );
+                Ok(Next::Given)
             }
             _ => Err(self.set_parser_error("did not find expected <document start>", mark)),
         }
@@ -160,22 +185,25 @@ impl<S> yaml_parser_t<S> {
     fn begin_explicit_document(
         &mut self,
         token: yaml_token_t,
-    ) -> Result<Progress, yaml_error_type_t>
-        ensures { Steps (explicit_document (no_directives token.start_mark) self.old.config token token.content) self.old result self.new }
+        pending: &mut Pending,
+        out: &mut yaml_event_t,
+    ) -> Result<Next, yaml_error_type_t>
+        ensures { Steps (explicit_document (no_directives token.start_mark) self.old.config token token.content) self.old (answer result pending.new out.new) self.new }
     {
-        let directives = self.no_directives(token.start_mark);
-        self.parse_explicit_document(directives, token)
+        pending.directives = self.no_directives(token.start_mark);
+        self.parse_explicit_document(token, pending, out)
     }
 
-    fn end_stream(&mut self, token: &yaml_token_t) -> Progress
-        ensures { Steps (end_stream self.old.config token.now) self.old (Ok result) self.new }
+    fn end_stream(&mut self, token: &yaml_token_t, out: &mut yaml_event_t)
+        ensures { Steps (end_stream self.old.config token.now) self.old (Ok (Given out.new)) self.new }
     {
         self.set_state(yaml_parser_state_t::YAML_PARSE_END_STATE);
-        Progress::given(
+        give(
+            out,
             unnamed_yaml_event_t_data::StreamEnd,
             token.start_mark,
             token.end_mark,
-        )
+        );
     }
 
     /// Where a document may be implicit: at the stream's start and behind DOCUMENT-END. A further DOCUMENT-END is
@@ -183,22 +211,29 @@ impl<S> yaml_parser_t<S> {
     pub(super) fn parse_implicit_document_start(
         &mut self,
         token: yaml_token_t,
-    ) -> Result<Progress, yaml_error_type_t>
-        ensures { Steps (parse_implicit_document_start self.old.config token token.content) self.old result self.new }
+        pending: &mut Pending,
+        out: &mut yaml_event_t,
+    ) -> Result<Next, yaml_error_type_t>
+        ensures { Steps (parse_implicit_document_start self.old.config token token.content) self.old (answer result pending.new out.new) self.new }
     {
         match token.content {
-            unnamed_yaml_token_t_data::StreamEnd => Ok(self.end_stream(&token)),
+            unnamed_yaml_token_t_data::StreamEnd => {
+                self.end_stream(&token, out);
+                Ok(Next::Given)
+            }
             unnamed_yaml_token_t_data::VersionDirective(_)
             | unnamed_yaml_token_t_data::TagDirective(_)
-            | unnamed_yaml_token_t_data::DocumentStart => self.begin_explicit_document(token),
+            | unnamed_yaml_token_t_data::DocumentStart => self.begin_explicit_document(
+                token, pending, out,
+            ),
             unnamed_yaml_token_t_data::DocumentEnd => {
                 if self.has_ended() {
-                    Ok(Progress::Wants(Want::AtState))
+                    Ok(Next::AtState)
                 } else {
-                    self.begin_implicit_document(token)
+                    self.begin_implicit_document(token, pending, out)
                 }
             }
-            _ => self.begin_implicit_document(token),
+            _ => self.begin_implicit_document(token, pending, out),
         }
     }
 
@@ -206,32 +241,17 @@ impl<S> yaml_parser_t<S> {
     pub(super) fn parse_document_start(
         &mut self,
         token: yaml_token_t,
-    ) -> Result<Progress, yaml_error_type_t>
-        ensures { Steps (parse_document_start self.old.config token token.content) self.old result self.new }
+        pending: &mut Pending,
+        out: &mut yaml_event_t,
+    ) -> Result<Next, yaml_error_type_t>
+        ensures { Steps (parse_document_start self.old.config token token.content) self.old (answer result pending.new out.new) self.new }
     {
         match token.content {
-            unnamed_yaml_token_t_data::StreamEnd => Ok(self.end_stream(&token)),
-            _ => self.begin_explicit_document(token),
-        }
-    }
-
-    /// Behind DOCUMENT-START: the root, which may be empty.
-    pub(super) fn parse_document_content(
-        &mut self,
-        token: yaml_token_t,
-    ) -> Result<Progress, yaml_error_type_t>
-        ensures { Steps (parse_document_content self.old.config token token.content) self.old result self.new }
-    {
-        match token.content {
-            unnamed_yaml_token_t_data::VersionDirective(_)
-            | unnamed_yaml_token_t_data::TagDirective(_)
-            | unnamed_yaml_token_t_data::DocumentStart
-            | unnamed_yaml_token_t_data::DocumentEnd
-            | unnamed_yaml_token_t_data::StreamEnd => {
-                self.pop_state();
-                Ok(self.process_empty_scalar(token.start_mark, token))
+            unnamed_yaml_token_t_data::StreamEnd => {
+                self.end_stream(&token, out);
+                Ok(Next::Given)
             }
-            _ => self.parse_node(NodePlace::Block, token),
+            _ => self.begin_explicit_document(token, pending, out),
         }
     }
 
@@ -244,8 +264,8 @@ impl<S> yaml_parser_t<S> {
         self.set_has_ended(has_ended);
     }
 
-    pub(super) fn parse_document_end(&mut self, token: yaml_token_t) -> Progress
-        ensures { Steps (parse_document_end self.old.config token token.content) self.old (Ok result) self.new }
+    pub(super) fn parse_document_end(&mut self, token: yaml_token_t, out: &mut yaml_event_t)
+        ensures { Steps (parse_document_end self.old.config token token.content) self.old (Ok (Given out.new)) self.new }
     {
         match token.content {
             unnamed_yaml_token_t_data::DocumentEnd => {
@@ -254,18 +274,24 @@ impl<S> yaml_parser_t<S> {
                     true,
                 );
                 let event = unnamed_yaml_event_t_data_document_end { implicit: false };
-                Progress::given(
+                give(
+                    out,
                     unnamed_yaml_event_t_data::DocumentEnd(event),
                     token.start_mark,
                     token.end_mark,
-                )
+                );
             }
             _ => {
                 self.end_document(yaml_parser_state_t::YAML_PARSE_DOCUMENT_START_STATE, false);
                 let mark = token.start_mark;
                 self.keep(token);
                 let event = unnamed_yaml_event_t_data_document_end { implicit: true };
-                Progress::given(unnamed_yaml_event_t_data::DocumentEnd(event), mark, mark)
+                give(
+                    out,
+                    unnamed_yaml_event_t_data::DocumentEnd(event),
+                    mark,
+                    mark,
+                );
             }
         }
     }

@@ -2,13 +2,15 @@
 ghost use Rattle.std.specs.Prelude.{◌≡◌, Ok};
 ghost use Rattle.libyaml_events.specs.Machine.{first_flow_sequence_entry, parse_flow_sequence_entry, behind_flow_sequence_entry, parse_flow_sequence_entry_mapping_key, parse_flow_sequence_entry_mapping_value, behind_flow_sequence_value, parse_flow_sequence_entry_mapping_end, first_flow_mapping_key, parse_flow_mapping_key, behind_flow_mapping_entry, behind_flow_mapping_key, parse_flow_mapping_value, behind_flow_mapping_value, parse_flow_mapping_empty_value};
 ghost use Rattle.libyaml_events.specs.Steps.{Steps};
+ghost use Rattle.libyaml_events.specs.Answers.{answer};
+ghost use Rattle.libyaml_events.specs.declared.progress.Progress.TheVariants.{Given};
 
 use crate::parser::yaml_parser_t;
-use crate::progress::{NodePlace, Progress, Want};
+use crate::progress::{Next, NodePlace, Pending, give};
 use crate::states::nodes::mapping_start;
 use libyaml_types::{
-    unnamed_yaml_event_t_data, unnamed_yaml_token_t_data, yaml_error_type_t, yaml_mapping_style_t,
-    yaml_parser_state_t, yaml_token_t,
+    unnamed_yaml_event_t_data, unnamed_yaml_token_t_data, yaml_error_type_t, yaml_event_t,
+    yaml_mapping_style_t, yaml_parser_state_t, yaml_token_t,
 };
 
 impl<S> yaml_parser_t<S> {
@@ -16,26 +18,29 @@ impl<S> yaml_parser_t<S> {
     pub(super) fn parse_first_flow_sequence_entry(
         &mut self,
         token: &yaml_token_t,
-    ) -> Result<Progress, yaml_error_type_t>
-        ensures { Steps (first_flow_sequence_entry self.old.config token.now) self.old result self.new }
+        pending: &mut Pending,
+        out: &mut yaml_event_t,
+    ) -> Result<Next, yaml_error_type_t>
+        ensures { Steps (first_flow_sequence_entry self.old.config token.now) self.old (answer result pending.new out.new) self.new }
     {
         let state = yaml_parser_state_t::YAML_PARSE_FLOW_SEQUENCE_ENTRY_STATE;
         self.open(token.start_mark, state)?;
-        Ok(Progress::Wants(Want::BehindFlowSequenceEntry))
+        Ok(Next::BehindFlowSequenceEntry)
     }
 
     pub(super) fn parse_flow_sequence_entry(
         &mut self,
         token: yaml_token_t,
-    ) -> Result<Progress, yaml_error_type_t>
-        ensures { Steps (parse_flow_sequence_entry self.old.config token token.content) self.old result self.new }
+        pending: &mut Pending,
+        out: &mut yaml_event_t,
+    ) -> Result<Next, yaml_error_type_t>
+        ensures { Steps (parse_flow_sequence_entry self.old.config token token.content) self.old (answer result pending.new out.new) self.new }
     {
         match token.content {
-            unnamed_yaml_token_t_data::FlowEntry => {
-                Ok(Progress::Wants(Want::BehindFlowSequenceEntry))
-            }
+            unnamed_yaml_token_t_data::FlowEntry => { Ok(Next::BehindFlowSequenceEntry) }
             unnamed_yaml_token_t_data::FlowSequenceEnd => {
-                Ok(self.close(unnamed_yaml_event_t_data::SequenceEnd, &token))
+                self.close(unnamed_yaml_event_t_data::SequenceEnd, &token, out);
+                Ok(Next::Given)
             }
             _ => {
                 let opened = self.pop_mark();
@@ -53,12 +58,15 @@ impl<S> yaml_parser_t<S> {
     pub(super) fn parse_behind_flow_sequence_entry(
         &mut self,
         token: yaml_token_t,
-    ) -> Result<Progress, yaml_error_type_t>
-        ensures { Steps (behind_flow_sequence_entry self.old.config token token.content) self.old result self.new }
+        pending: &mut Pending,
+        out: &mut yaml_event_t,
+    ) -> Result<Next, yaml_error_type_t>
+        ensures { Steps (behind_flow_sequence_entry self.old.config token token.content) self.old (answer result pending.new out.new) self.new }
     {
         match token.content {
             unnamed_yaml_token_t_data::FlowSequenceEnd => {
-                Ok(self.close(unnamed_yaml_event_t_data::SequenceEnd, &token))
+                self.close(unnamed_yaml_event_t_data::SequenceEnd, &token, out);
+                Ok(Next::Given)
             }
             unnamed_yaml_token_t_data::Key => {
                 self.set_state(
@@ -69,35 +77,12 @@ impl<S> yaml_parser_t<S> {
                     None,
                     yaml_mapping_style_t::YAML_FLOW_MAPPING_STYLE,
                 );
-                Ok(Progress::given(event, token.start_mark, token.end_mark))
+                give(out, event, token.start_mark, token.end_mark);
+                Ok(Next::Given)
             }
             _ => {
                 self.push_state(yaml_parser_state_t::YAML_PARSE_FLOW_SEQUENCE_ENTRY_STATE)?;
-                self.parse_node(NodePlace::Flow, token)
-            }
-        }
-    }
-
-    pub(super) fn parse_flow_sequence_entry_mapping_key(
-        &mut self,
-        token: yaml_token_t,
-    ) -> Result<Progress, yaml_error_type_t>
-        ensures { Steps (parse_flow_sequence_entry_mapping_key self.old.config token token.content) self.old result self.new }
-    {
-        match token.content {
-            unnamed_yaml_token_t_data::Value
-            | unnamed_yaml_token_t_data::FlowEntry
-            | unnamed_yaml_token_t_data::FlowSequenceEnd => {
-                self.set_state(
-                    yaml_parser_state_t::YAML_PARSE_FLOW_SEQUENCE_ENTRY_MAPPING_VALUE_STATE,
-                );
-                Ok(self.process_empty_scalar(token.start_mark, token))
-            }
-            _ => {
-                self.push_state(
-                    yaml_parser_state_t::YAML_PARSE_FLOW_SEQUENCE_ENTRY_MAPPING_VALUE_STATE,
-                )?;
-                self.parse_node(NodePlace::Flow, token)
+                self.parse_node(NodePlace::Flow, token, pending, out)
             }
         }
     }
@@ -105,77 +90,64 @@ impl<S> yaml_parser_t<S> {
     pub(super) fn parse_flow_sequence_entry_mapping_value(
         &mut self,
         token: yaml_token_t,
-    ) -> Result<Progress, yaml_error_type_t>
-        ensures { Steps (parse_flow_sequence_entry_mapping_value self.old.config token token.content) self.old result self.new }
+        pending: &mut Pending,
+        out: &mut yaml_event_t,
+    ) -> Result<Next, yaml_error_type_t>
+        ensures { Steps (parse_flow_sequence_entry_mapping_value self.old.config token token.content) self.old (answer result pending.new out.new) self.new }
     {
         match token.content {
-            unnamed_yaml_token_t_data::Value => Ok(Progress::Wants(Want::BehindFlowSequenceValue)),
+            unnamed_yaml_token_t_data::Value => Ok(Next::BehindFlowSequenceValue),
             _ => {
                 self.set_state(
                     yaml_parser_state_t::YAML_PARSE_FLOW_SEQUENCE_ENTRY_MAPPING_END_STATE,
                 );
-                Ok(self.process_empty_scalar(token.start_mark, token))
-            }
-        }
-    }
-
-    /// Behind the VALUE of a pair: a node, or an empty one.
-    pub(super) fn parse_behind_flow_sequence_value(
-        &mut self,
-        token: yaml_token_t,
-    ) -> Result<Progress, yaml_error_type_t>
-        ensures { Steps (behind_flow_sequence_value self.old.config token token.content) self.old result self.new }
-    {
-        match token.content {
-            unnamed_yaml_token_t_data::FlowEntry | unnamed_yaml_token_t_data::FlowSequenceEnd => {
-                self.set_state(
-                    yaml_parser_state_t::YAML_PARSE_FLOW_SEQUENCE_ENTRY_MAPPING_END_STATE,
-                );
-                Ok(self.process_empty_scalar(token.start_mark, token))
-            }
-            _ => {
-                self.push_state(
-                    yaml_parser_state_t::YAML_PARSE_FLOW_SEQUENCE_ENTRY_MAPPING_END_STATE,
-                )?;
-                self.parse_node(NodePlace::Flow, token)
+                self.process_empty_scalar(token.start_mark, token, out);
+                Ok(Next::Given)
             }
         }
     }
 
     /// Behind a pair.
-    pub(super) fn parse_flow_sequence_entry_mapping_end(&mut self, token: yaml_token_t) -> Progress
-        ensures { Steps (parse_flow_sequence_entry_mapping_end self.old.config token) self.old (Ok result) self.new }
+    pub(super) fn parse_flow_sequence_entry_mapping_end(
+        &mut self,
+        token: yaml_token_t,
+        out: &mut yaml_event_t,
+    )
+        ensures { Steps (parse_flow_sequence_entry_mapping_end self.old.config token) self.old (Ok (Given out.new)) self.new }
     {
         self.set_state(yaml_parser_state_t::YAML_PARSE_FLOW_SEQUENCE_ENTRY_STATE);
         let mark = token.start_mark;
         self.keep(token);
-        Progress::given(unnamed_yaml_event_t_data::MappingEnd, mark, mark)
+        give(out, unnamed_yaml_event_t_data::MappingEnd, mark, mark);
     }
 
     /// At FLOW-MAPPING-START, whose start is kept.
     pub(super) fn parse_first_flow_mapping_key(
         &mut self,
         token: &yaml_token_t,
-    ) -> Result<Progress, yaml_error_type_t>
-        ensures { Steps (first_flow_mapping_key self.old.config token.now) self.old result self.new }
+        pending: &mut Pending,
+        out: &mut yaml_event_t,
+    ) -> Result<Next, yaml_error_type_t>
+        ensures { Steps (first_flow_mapping_key self.old.config token.now) self.old (answer result pending.new out.new) self.new }
     {
         let state = yaml_parser_state_t::YAML_PARSE_FLOW_MAPPING_KEY_STATE;
         self.open(token.start_mark, state)?;
-        Ok(Progress::Wants(Want::BehindFlowMappingEntry))
+        Ok(Next::BehindFlowMappingEntry)
     }
 
     pub(super) fn parse_flow_mapping_key(
         &mut self,
         token: yaml_token_t,
-    ) -> Result<Progress, yaml_error_type_t>
-        ensures { Steps (parse_flow_mapping_key self.old.config token token.content) self.old result self.new }
+        pending: &mut Pending,
+        out: &mut yaml_event_t,
+    ) -> Result<Next, yaml_error_type_t>
+        ensures { Steps (parse_flow_mapping_key self.old.config token token.content) self.old (answer result pending.new out.new) self.new }
     {
         match token.content {
-            unnamed_yaml_token_t_data::FlowEntry => {
-                Ok(Progress::Wants(Want::BehindFlowMappingEntry))
-            }
+            unnamed_yaml_token_t_data::FlowEntry => { Ok(Next::BehindFlowMappingEntry) }
             unnamed_yaml_token_t_data::FlowMappingEnd => {
-                Ok(self.close(unnamed_yaml_event_t_data::MappingEnd, &token))
+                self.close(unnamed_yaml_event_t_data::MappingEnd, &token, out);
+                Ok(Next::Given)
             }
             _ => {
                 let opened = self.pop_mark();
@@ -193,38 +165,20 @@ impl<S> yaml_parser_t<S> {
     pub(super) fn parse_behind_flow_mapping_entry(
         &mut self,
         token: yaml_token_t,
-    ) -> Result<Progress, yaml_error_type_t>
-        ensures { Steps (behind_flow_mapping_entry self.old.config token token.content) self.old result self.new }
+        pending: &mut Pending,
+        out: &mut yaml_event_t,
+    ) -> Result<Next, yaml_error_type_t>
+        ensures { Steps (behind_flow_mapping_entry self.old.config token token.content) self.old (answer result pending.new out.new) self.new }
     {
         match token.content {
             unnamed_yaml_token_t_data::FlowMappingEnd => {
-                Ok(self.close(unnamed_yaml_event_t_data::MappingEnd, &token))
+                self.close(unnamed_yaml_event_t_data::MappingEnd, &token, out);
+                Ok(Next::Given)
             }
-            unnamed_yaml_token_t_data::Key => Ok(Progress::Wants(Want::BehindFlowMappingKey)),
+            unnamed_yaml_token_t_data::Key => Ok(Next::BehindFlowMappingKey),
             _ => {
                 self.push_state(yaml_parser_state_t::YAML_PARSE_FLOW_MAPPING_EMPTY_VALUE_STATE)?;
-                self.parse_node(NodePlace::Flow, token)
-            }
-        }
-    }
-
-    /// Behind KEY: a node, or an empty one.
-    pub(super) fn parse_behind_flow_mapping_key(
-        &mut self,
-        token: yaml_token_t,
-    ) -> Result<Progress, yaml_error_type_t>
-        ensures { Steps (behind_flow_mapping_key self.old.config token token.content) self.old result self.new }
-    {
-        match token.content {
-            unnamed_yaml_token_t_data::Value
-            | unnamed_yaml_token_t_data::FlowEntry
-            | unnamed_yaml_token_t_data::FlowMappingEnd => {
-                self.set_state(yaml_parser_state_t::YAML_PARSE_FLOW_MAPPING_VALUE_STATE);
-                Ok(self.process_empty_scalar(token.start_mark, token))
-            }
-            _ => {
-                self.push_state(yaml_parser_state_t::YAML_PARSE_FLOW_MAPPING_VALUE_STATE)?;
-                self.parse_node(NodePlace::Flow, token)
+                self.parse_node(NodePlace::Flow, token, pending, out)
             }
         }
     }
@@ -233,42 +187,30 @@ impl<S> yaml_parser_t<S> {
     pub(super) fn parse_flow_mapping_value(
         &mut self,
         token: yaml_token_t,
-    ) -> Result<Progress, yaml_error_type_t>
-        ensures { Steps (parse_flow_mapping_value self.old.config token token.content) self.old result self.new }
+        pending: &mut Pending,
+        out: &mut yaml_event_t,
+    ) -> Result<Next, yaml_error_type_t>
+        ensures { Steps (parse_flow_mapping_value self.old.config token token.content) self.old (answer result pending.new out.new) self.new }
     {
         match token.content {
-            unnamed_yaml_token_t_data::Value => Ok(Progress::Wants(Want::BehindFlowMappingValue)),
+            unnamed_yaml_token_t_data::Value => Ok(Next::BehindFlowMappingValue),
             _ => {
                 self.set_state(yaml_parser_state_t::YAML_PARSE_FLOW_MAPPING_KEY_STATE);
-                Ok(self.process_empty_scalar(token.start_mark, token))
-            }
-        }
-    }
-
-    /// Behind VALUE: a node, or an empty one.
-    pub(super) fn parse_behind_flow_mapping_value(
-        &mut self,
-        token: yaml_token_t,
-    ) -> Result<Progress, yaml_error_type_t>
-        ensures { Steps (behind_flow_mapping_value self.old.config token token.content) self.old result self.new }
-    {
-        match token.content {
-            unnamed_yaml_token_t_data::FlowEntry | unnamed_yaml_token_t_data::FlowMappingEnd => {
-                self.set_state(yaml_parser_state_t::YAML_PARSE_FLOW_MAPPING_KEY_STATE);
-                Ok(self.process_empty_scalar(token.start_mark, token))
-            }
-            _ => {
-                self.push_state(yaml_parser_state_t::YAML_PARSE_FLOW_MAPPING_KEY_STATE)?;
-                self.parse_node(NodePlace::Flow, token)
+                self.process_empty_scalar(token.start_mark, token, out);
+                Ok(Next::Given)
             }
         }
     }
 
     /// Behind an entry without KEY: its value is empty.
-    pub(super) fn parse_flow_mapping_empty_value(&mut self, token: yaml_token_t) -> Progress
-        ensures { Steps (parse_flow_mapping_empty_value self.old.config token) self.old (Ok result) self.new }
+    pub(super) fn parse_flow_mapping_empty_value(
+        &mut self,
+        token: yaml_token_t,
+        out: &mut yaml_event_t,
+    )
+        ensures { Steps (parse_flow_mapping_empty_value self.old.config token) self.old (Ok (Given out.new)) self.new }
     {
         self.set_state(yaml_parser_state_t::YAML_PARSE_FLOW_MAPPING_KEY_STATE);
-        self.process_empty_scalar(token.start_mark, token)
+        self.process_empty_scalar(token.start_mark, token, out);
     }
 }

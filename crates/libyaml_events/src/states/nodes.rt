@@ -5,17 +5,19 @@ ghost use Rattle.libyaml_types.specs.declared.enums.yaml_scalar_style_t.TheVaria
 ghost use Rattle.libyaml_events.specs.Events.{is_plain, plain_flag, quoted_flag, is_missing};
 ghost use Rattle.libyaml_events.specs.Machine.{scalar, sequence_start, mapping_start, only_properties, no_content, open_collection, scalar_content, is_block, node_content, content_behind, behind_properties, parse_node};
 ghost use Rattle.libyaml_events.specs.Steps.{Steps};
+ghost use Rattle.libyaml_events.specs.Answers.{answer, given};
+ghost use Rattle.libyaml_events.specs.declared.progress.Progress.TheVariants.{Given};
 ghost use Rattle.libyaml_events.specs.Config.{with_config, with_fault};
 ghost use Rattle.libyaml_events.specs.FaultTexts.{content_fault};
 
 use crate::parser::yaml_parser_t;
-use crate::progress::{NodeHead, NodePlace, Progress, PropertiesRead, TagRead, Want};
+use crate::progress::{Next, NodeHead, NodePlace, Pending, PropertiesRead, TagRead, give};
 use libyaml_types::{
     Text, unnamed_yaml_event_t_data, unnamed_yaml_event_t_data_alias,
     unnamed_yaml_event_t_data_mapping_start, unnamed_yaml_event_t_data_scalar,
     unnamed_yaml_event_t_data_sequence_start, unnamed_yaml_token_t_data,
-    unnamed_yaml_token_t_data_scalar, yaml_error_type_t, yaml_mapping_style_t, yaml_mark_t,
-    yaml_parser_state_t, yaml_scalar_style_t, yaml_sequence_style_t, yaml_token_t,
+    unnamed_yaml_token_t_data_scalar, yaml_error_type_t, yaml_event_t, yaml_mapping_style_t,
+    yaml_mark_t, yaml_parser_state_t, yaml_scalar_style_t, yaml_sequence_style_t, yaml_token_t,
 };
 
 fn is_plain(style: yaml_scalar_style_t) -> bool
@@ -119,8 +121,10 @@ impl<S> yaml_parser_t<S> {
         &mut self,
         place: NodePlace,
         token: yaml_token_t,
-    ) -> Result<Progress, yaml_error_type_t>
-        ensures { Steps (parse_node place self.old.config token token.content) self.old result self.new }
+        pending: &mut Pending,
+        out: &mut yaml_event_t,
+    ) -> Result<Next, yaml_error_type_t>
+        ensures { Steps (parse_node place self.old.config token token.content) self.old (answer result pending.new out.new) self.new }
     {
         let start_mark = token.start_mark;
         let end_mark = token.end_mark;
@@ -130,26 +134,27 @@ impl<S> yaml_parser_t<S> {
                 let event = unnamed_yaml_event_t_data_alias {
                     anchor: alias.value,
                 };
-                Ok(Progress::given(
+                give(
+                    out,
                     unnamed_yaml_event_t_data::Alias(event),
                     start_mark,
                     end_mark,
-                ))
+                );
+                Ok(Next::Given)
             }
-            unnamed_yaml_token_t_data::Anchor(anchor) => Ok(Progress::Wants(
-                Want::BehindProperties(
-                    place,
-                    PropertiesRead {
-                        anchor: Some(anchor.value),
-                        tag: None,
-                        start_mark,
-                        end_mark,
-                    },
-                ),
-            )),
-            unnamed_yaml_token_t_data::Tag(tag) => Ok(Progress::Wants(Want::BehindProperties(
-                place,
-                PropertiesRead {
+            unnamed_yaml_token_t_data::Anchor(anchor) => {
+                pending.place = place;
+                pending.properties = PropertiesRead {
+                    anchor: Some(anchor.value),
+                    tag: None,
+                    start_mark,
+                    end_mark,
+                };
+                Ok(Next::BehindProperties)
+            }
+            unnamed_yaml_token_t_data::Tag(tag) => {
+                pending.place = place;
+                pending.properties = PropertiesRead {
                     anchor: None,
                     tag: Some(TagRead {
                         handle: tag.handle,
@@ -158,8 +163,9 @@ impl<S> yaml_parser_t<S> {
                     }),
                     start_mark,
                     end_mark,
-                },
-            ))),
+                };
+                Ok(Next::BehindProperties)
+            }
             _ => {
                 let head = NodeHead {
                     anchor: None,
@@ -167,7 +173,8 @@ impl<S> yaml_parser_t<S> {
                     start_mark,
                     end_mark,
                 };
-                self.parse_node_content(place, head, token)
+                self.parse_node_content(place, head, token, out)?;
+                Ok(Next::Given)
             }
         }
     }
@@ -175,70 +182,58 @@ impl<S> yaml_parser_t<S> {
     /// Behind properties: the other one, or what the node is.
     pub(super) fn parse_behind_properties(
         &mut self,
-        place: NodePlace,
-        properties: PropertiesRead,
         token: yaml_token_t,
-    ) -> Result<Progress, yaml_error_type_t>
-        ensures { Steps (behind_properties place properties self.old.config token token.content) self.old result self.new }
+        pending: &mut Pending,
+        out: &mut yaml_event_t,
+    ) -> Result<Next, yaml_error_type_t>
+        ensures { Steps (behind_properties pending.old.place pending.old.properties self.old.config token token.content) self.old (answer result pending.new out.new) self.new }
     {
         let start_mark = token.start_mark;
         let end_mark = token.end_mark;
         match token.content {
-            unnamed_yaml_token_t_data::Anchor(anchor) if properties.anchor.is_none() => {
-                Ok(Progress::Wants(Want::BehindProperties(
-                    place,
-                    PropertiesRead {
-                        anchor: Some(anchor.value),
-                        end_mark,
-                        ..properties
-                    },
-                )))
+            unnamed_yaml_token_t_data::Anchor(anchor) if pending.properties.anchor.is_none() => {
+                pending.properties.anchor = Some(anchor.value);
+                pending.properties.end_mark = end_mark;
+                Ok(Next::BehindProperties)
             }
-            unnamed_yaml_token_t_data::Tag(tag) if properties.tag.is_none() => {
-                let tag = TagRead {
+            unnamed_yaml_token_t_data::Tag(tag) if pending.properties.tag.is_none() => {
+                pending.properties.tag = Some(TagRead {
                     handle: tag.handle,
                     suffix: tag.suffix,
                     mark: start_mark,
-                };
-                Ok(Progress::Wants(Want::BehindProperties(
-                    place,
-                    PropertiesRead {
-                        tag: Some(tag),
-                        end_mark,
-                        ..properties
-                    },
-                )))
+                });
+                pending.properties.end_mark = end_mark;
+                Ok(Next::BehindProperties)
             }
-            _ => self.parse_content_behind(place, properties, token),
+            _ => {
+                self.parse_content_behind(token, pending, out)?;
+                Ok(Next::Given)
+            }
         }
     }
 
     /// What the node is, behind its properties. A handle that is not defined is found here.
     fn parse_content_behind(
         &mut self,
-        place: NodePlace,
-        properties: PropertiesRead,
         token: yaml_token_t,
-    ) -> Result<Progress, yaml_error_type_t>
-        ensures { Steps (content_behind place properties properties.tag self.old.config token token.content) self.old result self.new }
+        pending: &mut Pending,
+        out: &mut yaml_event_t,
+    ) -> Result<(), yaml_error_type_t>
+        ensures { Steps (content_behind pending.old.place pending.old.properties pending.old.properties.tag self.old.config token token.content) self.old (given result out.new) self.new }
     {
-        let PropertiesRead {
-            anchor,
-            tag,
-            start_mark,
-            end_mark,
-        } = properties;
-        let tag = match tag {
+        let start_mark = pending.properties.start_mark;
+        let end_mark = pending.properties.end_mark;
+        let tag = match pending.properties.tag.take() {
             None => None,
             Some(tag) => Some(self.resolve_tag(tag, start_mark)?),
         };
         let head = NodeHead {
-            anchor,
+            anchor: pending.properties.anchor.take(),
             tag,
             start_mark,
             end_mark,
         };
-        self.parse_node_content(place, head, token)
+        self.parse_node_content(pending.place, head, token, out)
     }
 
     #[inline(always)]
@@ -247,52 +242,59 @@ impl<S> yaml_parser_t<S> {
         place: NodePlace,
         head: NodeHead,
         token: yaml_token_t,
-    ) -> Result<Progress, yaml_error_type_t>
-        ensures { Steps (node_content place head self.old.config token token.content) self.old result self.new }
+        out: &mut yaml_event_t,
+    ) -> Result<(), yaml_error_type_t>
+        ensures { Steps (node_content place head self.old.config token token.content) self.old (given result out.new) self.new }
     {
         let end_mark = token.end_mark;
         match token.content {
             unnamed_yaml_token_t_data::Scalar(scalar) => {
-                Ok(self.scalar_content(head, scalar, end_mark))
+                self.scalar_content(head, scalar, end_mark, out)
             }
-            unnamed_yaml_token_t_data::FlowSequenceStart => Ok(self.open_sequence(
+            unnamed_yaml_token_t_data::FlowSequenceStart => self.open_sequence(
                 yaml_sequence_style_t::YAML_FLOW_SEQUENCE_STYLE,
                 yaml_parser_state_t::YAML_PARSE_FLOW_SEQUENCE_FIRST_ENTRY_STATE,
                 head,
                 token,
-            )),
-            unnamed_yaml_token_t_data::FlowMappingStart => Ok(self.open_mapping(
+                out,
+            ),
+            unnamed_yaml_token_t_data::FlowMappingStart => self.open_mapping(
                 yaml_mapping_style_t::YAML_FLOW_MAPPING_STYLE,
                 yaml_parser_state_t::YAML_PARSE_FLOW_MAPPING_FIRST_KEY_STATE,
                 head,
                 token,
-            )),
+                out,
+            ),
             unnamed_yaml_token_t_data::BlockSequenceStart if place.is_block() => {
-                Ok(self.open_sequence(
+                self.open_sequence(
                     yaml_sequence_style_t::YAML_BLOCK_SEQUENCE_STYLE,
                     yaml_parser_state_t::YAML_PARSE_BLOCK_SEQUENCE_FIRST_ENTRY_STATE,
                     head,
                     token,
-                ))
+                    out,
+                )
             }
             unnamed_yaml_token_t_data::BlockMappingStart if place.is_block() => {
-                Ok(self.open_mapping(
+                self.open_mapping(
                     yaml_mapping_style_t::YAML_BLOCK_MAPPING_STYLE,
                     yaml_parser_state_t::YAML_PARSE_BLOCK_MAPPING_FIRST_KEY_STATE,
                     head,
                     token,
-                ))
+                    out,
+                )
             }
             unnamed_yaml_token_t_data::BlockEntry if place.may_be_indentless() => {
-                Ok(self.open_sequence(
+                self.open_sequence(
                     yaml_sequence_style_t::YAML_BLOCK_SEQUENCE_STYLE,
                     yaml_parser_state_t::YAML_PARSE_INDENTLESS_SEQUENCE_ENTRY_STATE,
                     head,
                     token,
-                ))
+                    out,
+                )
             }
-            _ => self.parse_no_content(place, head, token),
+            _ => return self.parse_no_content(place, head, token, out),
         }
+        Ok(())
     }
 
     fn scalar_content(
@@ -300,8 +302,9 @@ impl<S> yaml_parser_t<S> {
         head: NodeHead,
         content: unnamed_yaml_token_t_data_scalar,
         end_mark: yaml_mark_t,
-    ) -> Progress
-        ensures { Steps (scalar_content head self.old.config content end_mark) self.old (Ok result) self.new }
+        out: &mut yaml_event_t,
+    )
+        ensures { Steps (scalar_content head self.old.config content end_mark) self.old (Ok (Given out.new)) self.new }
     {
         self.pop_state();
         let event = unnamed_yaml_event_t_data_scalar {
@@ -312,11 +315,12 @@ impl<S> yaml_parser_t<S> {
             value: content.value,
             style: content.style,
         };
-        Progress::given(
+        give(
+            out,
             unnamed_yaml_event_t_data::Scalar(event),
             head.start_mark,
             end_mark,
-        )
+        );
     }
 
     /// The start of a sequence, at the token that opens it, which stays for `state`.
@@ -326,14 +330,15 @@ impl<S> yaml_parser_t<S> {
         state: yaml_parser_state_t,
         head: NodeHead,
         token: yaml_token_t,
-    ) -> Progress
-        ensures { Steps (open_collection (sequence_start head.anchor head.tag style) state head self.old.config token) self.old (Ok result) self.new }
+        out: &mut yaml_event_t,
+    )
+        ensures { Steps (open_collection (sequence_start head.anchor head.tag style) state head self.old.config token) self.old (Ok (Given out.new)) self.new }
     {
         let end_mark = token.end_mark;
         self.set_state(state);
         self.keep(token);
         let event = sequence_start(head.anchor, head.tag, style);
-        Progress::given(event, head.start_mark, end_mark)
+        give(out, event, head.start_mark, end_mark);
     }
 
     /// The start of a mapping, at the token that opens it, which stays for `state`.
@@ -343,14 +348,15 @@ impl<S> yaml_parser_t<S> {
         state: yaml_parser_state_t,
         head: NodeHead,
         token: yaml_token_t,
-    ) -> Progress
-        ensures { Steps (open_collection (mapping_start head.anchor head.tag style) state head self.old.config token) self.old (Ok result) self.new }
+        out: &mut yaml_event_t,
+    )
+        ensures { Steps (open_collection (mapping_start head.anchor head.tag style) state head self.old.config token) self.old (Ok (Given out.new)) self.new }
     {
         let end_mark = token.end_mark;
         self.set_state(state);
         self.keep(token);
         let event = mapping_start(head.anchor, head.tag, style);
-        Progress::given(event, head.start_mark, end_mark)
+        give(out, event, head.start_mark, end_mark);
     }
 
     /// No content comes: properties alone are an empty scalar, and without these a fault is kept.
@@ -359,8 +365,9 @@ impl<S> yaml_parser_t<S> {
         place: NodePlace,
         head: NodeHead,
         token: yaml_token_t,
-    ) -> Result<Progress, yaml_error_type_t>
-        ensures { Steps (no_content place head.anchor head.tag head self.old.config token) self.old result self.new }
+        out: &mut yaml_event_t,
+    ) -> Result<(), yaml_error_type_t>
+        ensures { Steps (no_content place head.anchor head.tag head self.old.config token) self.old (given result out.new) self.new }
     {
         if head.anchor.is_none() && head.tag.is_none() {
             return Err(self.set_content_error(place, token.start_mark));
@@ -370,7 +377,8 @@ impl<S> yaml_parser_t<S> {
         let implicit = is_missing(&head.tag);
         let text = Text::new(self.allocator());
         let event = plain_scalar(head.anchor, head.tag, text, implicit);
-        Ok(Progress::given(event, head.start_mark, head.end_mark))
+        give(out, event, head.start_mark, head.end_mark);
+        Ok(())
     }
 
     /// Keeps the fault of a token that begins no node.

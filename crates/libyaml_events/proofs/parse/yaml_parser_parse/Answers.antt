@@ -1,12 +1,12 @@
-use Rattle.std.proofs.Common.{arith}
+use Rattle.std.proofs.Common.{arith, ◌++◌, ◌∙◌}
 use Rattle.libyaml_events.proofs.Calling.{ran_links}
 use Rattle.libyaml_events.proofs.Counting.{linked_begins_each, linked_count}
 use Rattle.libyaml_events.proofs.Falling.{parse_falls}
 use Rattle.libyaml_events.proofs.Held.{ran_holds}
-use Rattle.libyaml_events.proofs.KnownRuns.{next_of_run, fault_of_run, over_call, nothing_behind_end}
+use Rattle.libyaml_events.proofs.KnownRuns.{next_of_run, fault_of_run, over_call, nothing_behind_end, linked_begins, run_given}
 use Rattle.libyaml_events.proofs.Parsed.{carried_on, failed_by}
 use Rattle.libyaml_events.proofs.Raised.{pops_nothing_below}
-use Rattle.libyaml_events.proofs.Staged.{ran_staged, staged_depth}
+use Rattle.libyaml_events.proofs.Staged.{ran_staged, staged_depth, staged_between}
 use Rattle.libyaml_events.proofs.parse.yaml_parser_parse.Goals as goal
 
 pub returns-clause-carries_on : goal.returns-clause-carries_on
@@ -44,3 +44,9 @@ returns-clause-falls g c = let t = g.S.yaml_token_source_t in parse_falls t.give
 
 pub returns-clause-nothing_behind_end : goal.returns-clause-nothing_behind_end
 returns-clause-nothing_behind_end g c = nothing_behind_end g.S.yaml_token_source_t.known _
+
+pub returns-clause-begins_run : goal.returns-clause-begins_run
+returns-clause-begins_run g c asked given h rest f e x run = let b = linked_begins _ asked given rest (ran_links h) in (b.0, run_given (asked ++ rest) f e x run ∙ b.1)
+
+pub returns-clause-between : goal.returns-clause-between
+returns-clause-between g c asked given h = staged_between _ given (ran_staged h)

@@ -15,7 +15,7 @@ returns-in_default-clause-step g c events ending run =
     let call = c.yaml_parser_parse-parsed in
     let says : Says t.known t.may_break c.args.parser.now call.new.parser call.result = record { next = call.ensures.next_of_run; end = call.ensures.end_of_run; fault = call.ensures.fault_of_run } in
     let failed = fails_here t.known t.may_break c.args.parser.now call.new.parser call.result c.in_default.field-0 c.in_default.is says events ending run in
-    (subst (λ f. FailsHere t.may_break f events ending) (sym c.prefix.ensures) failed, Keeps-same _)
+    (subst (λ f. FailsHere t.may_break f events ending) (sym c.prefix.ensures.kept) failed, Keeps-same _)
 
 pub returns-then-not-is_event-clause-step : goal.returns-then-not-is_event-clause-step
 returns-then-not-is_event-clause-step g c events ending run =
@@ -60,7 +60,7 @@ pub returns-in_default-clause-turn : goal.returns-in_default-clause-turn
 returns-in_default-clause-turn g c running asked given h =
     let t = g.S.yaml_token_source_t in
     let call = c.yaml_parser_parse-parsed in
-    failed_once t.gives _ _ _ _ _ call.result c.in_default.field-0 c.in_default.is call.ensures.fails (c.prefix.ensures, Keeps-same _) asked given h
+    failed_once t.gives _ _ _ _ _ call.result c.in_default.field-0 c.in_default.is call.ensures.fails (c.prefix.ensures.kept, Keeps-same _) asked given h
 
 pub returns-in_default-append_event-clause-turn : goal.returns-in_default-append_event-clause-turn
 returns-in_default-append_event-clause-turn g c running asked given h = gave_one g.S.yaml_token_source_t.gives _ _ _ _ _ _ c.in-Ok.event c.in-Ok.is (c.yaml_parser_parse-parsed.ensures.carries_on running) (refl, Keeps-same _) asked given h

@@ -1,0 +1,11 @@
+use Rattle.std.proofs.Common.{◌<◌, length, subst, sym, is_ok}
+use Rattle.libyaml_documents.proofs.Ids.{AreNodes-push}
+use Rattle.libyaml_documents.specs.Documents.{Document, most_nodes}
+use Rattle.libyaml_documents.proofs.document.add.push_node.Goals as goal
+
+pub invariant_of-document-2 : goal.invariant_of-document-2
+invariant_of-document-2 c =
+    AreNodes-push (is_ok c.push.result) c.document.inside.nodes.items c.push.new.self.items c.args.node
+    c.push.ensures.items
+    (subst (λ (d : Document). length d.nodes < most_nodes) (sym c.document.view_is) c.requires.room)
+    c.requires.childless c.document.invariant

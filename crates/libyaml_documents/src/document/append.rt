@@ -1,0 +1,64 @@
+//! The calls that put a child behind those of a collection.
+
+ghost use Rattle.std.specs.Prelude.{◌≡◌, OnOk, OnErr, length};
+ghost use Rattle.libyaml_documents.specs.Documents.{with_changed_node};
+ghost use Rattle.libyaml_documents.specs.Nodes.{IsIdUpTo, type_at, KeepsTypes, with_item, with_pair};
+
+use super::{place_of, yaml_document_t};
+use crate::items::yaml_node_item_t;
+use crate::pairs::yaml_node_pair_t;
+use libyaml_types::{yaml_node_type_t, yaml_refusal_t};
+
+/// Puts an item behind the others of a sequence.
+///
+/// Both ids are of this document, and `sequence` is that of a sequence: `yaml_document_get_node`
+/// tells. Answers `Memory` where a growth is refused; the document is then as it was.
+///
+/// libyaml: `yaml_document_append_sequence_item`.
+pub fn yaml_document_append_sequence_item(
+    document: &mut yaml_document_t,
+    sequence: i32,
+    item: yaml_node_item_t,
+) -> Result<(), yaml_refusal_t>
+    requires target { type_at document.old.nodes sequence ≡ yaml_node_type_t.YAML_SEQUENCE_NODE }
+    requires item { IsIdUpTo (length document.old.nodes) item }
+    ensures ok { OnOk result (document.new ≡ with_changed_node document.old sequence (with_item item)) }
+    ensures refused { OnErr result (result ≡ Err yaml_refusal_t.Memory) }
+    ensures unchanged { OnErr result (document.new ≡ document.old) }
+
+    // What a caller of the next call wants: the ids stay what they are.
+    ensures count { length document.new.nodes ≡ length document.old.nodes }
+    ensures types_kept { KeepsTypes document.old.nodes document.new.nodes }
+{
+    let node = &mut document.nodes[place_of(sequence)];
+    node.push_item(item)?;
+    Ok(())
+}
+
+/// Puts a pair behind the others of a mapping.
+///
+/// All ids are of this document, and `mapping` is that of a mapping: `yaml_document_get_node`
+/// tells. Answers `Memory` where a growth is refused; the document is then as it was.
+///
+/// libyaml: `yaml_document_append_mapping_pair`.
+pub fn yaml_document_append_mapping_pair(
+    document: &mut yaml_document_t,
+    mapping: i32,
+    key: i32,
+    value: i32,
+) -> Result<(), yaml_refusal_t>
+    requires target { type_at document.old.nodes mapping ≡ yaml_node_type_t.YAML_MAPPING_NODE }
+    requires key { IsIdUpTo (length document.old.nodes) key }
+    requires value { IsIdUpTo (length document.old.nodes) value }
+    ensures ok { OnOk result (document.new ≡ with_changed_node document.old mapping (with_pair key value)) }
+    ensures refused { OnErr result (result ≡ Err yaml_refusal_t.Memory) }
+    ensures unchanged { OnErr result (document.new ≡ document.old) }
+
+    // What a caller of the next call wants: the ids stay what they are.
+    ensures count { length document.new.nodes ≡ length document.old.nodes }
+    ensures types_kept { KeepsTypes document.old.nodes document.new.nodes }
+{
+    let node = &mut document.nodes[place_of(mapping)];
+    node.push_pair(yaml_node_pair_t { key, value })?;
+    Ok(())
+}
