@@ -1,6 +1,7 @@
 //! The laws of the grammar, over its definitions alone. Each function does nothing when it runs: its
 //! contract is the law.
 
+pub mod calls;
 pub mod productions;
 pub mod rows;
 
