@@ -1,8 +1,11 @@
 //! Documents of YAML: nodes named by ids, built by calls.
 #![tactic(auto)]
 
+pub mod building;
 mod document;
 mod items;
+pub mod laws;
+mod loaded;
 mod node;
 mod pairs;
 
