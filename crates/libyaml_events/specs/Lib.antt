@@ -8,6 +8,7 @@ pub mod State
 pub mod Config
 pub mod Machine
 pub mod Slots
+pub mod Growth
 pub mod Answers
 pub mod Steps
 pub mod Calls

@@ -58,11 +58,11 @@ pub data StopsShort (asked : List Token) (given : List Event) : Type 0 where
   behind_beginning : IsBeginning asked → has_end asked ≡ false → IsSettled asked given → StopsShort asked given
   amid_properties : (before : List Token) (token : Token) (behind : List Token) (c : Cut) → asked ≡ before ++ token ∷ behind → Fits before token c → is_behind_properties c behind ≡ false → given ≡ cut_events c token → StopsShort asked given
 
--- Why a call failed, which asked for these answers behind these tokens: a growth was refused, but not at the stream's
--- start or a document's end; or the tokens have a fault of
+-- Why a call failed, which asked for these answers behind these tokens: a growth was refused, at a token where memory
+-- may be taken; or the tokens have a fault of
 -- the grammar; or the source's own fault came, which is kept with all its fields.
 pub data Cause (asked : List Token) (given : List Event) (more : List Answer) (f : Fault) : Type 0 where
-  of_memory : (l : List Token) → more ≡ answers l [] → takes_no_memory (stage_of given) ≡ false → f ≡ memory_fault → Cause asked given more f
+  of_memory : (l : List Token) → more ≡ answers l [] → takes_no_memory (stage_of given) (asked ++ l) ≡ false → f ≡ memory_fault → Cause asked given more f
   of_grammar : (l : List Token) → more ≡ answers l [] → HasFailed (asked ++ l) given f → Cause asked given more f
   of_source : (l : List Token) → more ≡ answers l (Err f ∷ []) → IsSourceError f.error → StopsShort (asked ++ l) given → Cause asked given more f
 
