@@ -65,6 +65,10 @@ Refused w c [] = ⊥
 Refused w c (Err f ∷ rest) = ⊥
 Refused w c (Ok t ∷ rest) = RefusedAt (may_grow w c t.content) (step w c t) (λ w' c'. Refused w' c' rest) rest
 
+-- a call of a parser that stands so looks at exactly these answers, and at the last of them a growth was refused
+abbrev pub MeetsRefusal : Config → List Answer → Type 0
+MeetsRefusal c asked = Refused AtState (taken c) (held c ++ asked)
+
 -- an event is the machine's; an error is, or else a growth was refused
 abbrev pub CallsUnlessRefused : Want → Config → List Answer → EventOrError → Config → Type 0
 CallsUnlessRefused w c answers (Ok e) new = Calls w c answers (Ok e) new
