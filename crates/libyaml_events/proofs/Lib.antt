@@ -55,3 +55,6 @@ pub mod Raised
 pub mod SlotRows
 pub mod SlotCalls
 pub mod Headline
+pub mod NextEvents
+pub mod CallsInTurn
+pub mod NestingSoFar
