@@ -10,3 +10,4 @@ pub mod Ids
 pub mod OneLoad
 pub mod Room
 pub mod RunLoads
+pub mod LoadRows

@@ -5,3 +5,4 @@ pub mod Loads
 pub mod Bounds
 pub mod Loader
 pub mod GraphLaws
+pub mod LoadRows

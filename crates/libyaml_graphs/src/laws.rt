@@ -2,6 +2,7 @@
 //! contract is the law.
 
 pub mod machine;
+pub mod rows;
 
 ghost use Rattle.std.specs.Prelude.{◌≡◌, ◌++◌, ℕ, suc, List, [], ◌∷◌, Option, None, true, false};
 ghost use Rattle.libyaml_events.specs.CutEvents.{cut_events};
