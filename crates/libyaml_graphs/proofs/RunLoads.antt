@@ -1,5 +1,5 @@
 -- The loads over a list of tokens: there is one list of them, and those of known trees are known.
-use Rattle.std.proofs.Common.{◌≡◌, ◌+◌, List, [], ◌∷◌, ◌++◌, Option, Some, None, Bool, true, false, refl, sym, ap₂, ◌∙◌, subst}
+use Rattle.std.proofs.Common.{◌≡◌, List, [], ◌∷◌, ◌++◌, Option, Some, None, true, false, refl, sym, ap₂, ◌∙◌, subst}
 use Rattle.std.proofs.lemmas.List.Elements.{All-nil}
 use Rattle.libyaml_events.specs.CutEvents.{cut_events}
 use Rattle.libyaml_events.specs.CutFaults.{fault}

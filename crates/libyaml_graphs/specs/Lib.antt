@@ -1,3 +1,4 @@
+-- graphs, loads, and the loader as a machine
 pub mod Graphs
 pub mod Parts
 pub mod ComposerFaults

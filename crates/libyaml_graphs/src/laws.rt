@@ -26,9 +26,10 @@ ghost use Rattle.libyaml_graphs.specs.Graphs.{Start, nodes_of, starts_behind};
 ghost use Rattle.libyaml_graphs.specs.Loads.{IsLoads, Load, last_load, left_over, loads, loads_of, next_load};
 ghost use Rattle.libyaml_graphs.specs.Parts.{Part, graph, parts};
 
-/// The headline of loads: over a list whose only STREAM-END is its last token, the loads are the graphs of its one
-/// tree's documents, up to the first composer fault, and then the document without root; or those of the one cut
-/// tree that fits, and then the composer fault of the document that is open in it, or the cut tree's own fault.
+/// The headline of loads: over a list whose only STREAM-END is its last token, the loads are the graphs of
+/// its one tree's documents, up to the first composer fault, and then the document without root; or those
+/// of the one cut tree that fits, and then the composer fault of the document that is open in it, or the
+/// cut tree's own fault.
 pub fn headline()
     ensures { (l : List Token) (m : Marks) (f : Fault) → has_end l ≡ false → LoadsWhole (l ++ tok StreamEnd m ∷ []) f }
 {}
@@ -39,15 +40,17 @@ pub fn one_loads()
     ensures one { (l : List Token) (f : Fault) (a b : List Load) → IsLoads l f a → IsLoads l f b → a ≡ b }
 {}
 
-/// The loads of a run, whatever cuts it off: the graphs of its whole documents, up to the first composer fault, and
-/// then the composer fault of the document that is open, if it has one, and else how the run ends.
+/// The loads of a run, whatever cuts it off: the graphs of its whole documents, up to the first composer
+/// fault, and then the composer fault of the document that is open, if it has one, and else how the run
+/// ends.
 pub fn loads_of_run()
     ensures of_run { (l : List Token) (f : Fault) (a : List Load) (h : IsLoads l f a) → NestedLoads h.events h.ending a }
     ensures of_events { (l : List Event) (x : Ending) → NestsSoFar l → NestedLoads l x (loads l x) }
 {}
 
-/// The loads over a list that begins with a known tree's tokens: a sentence's with anything behind it, a cut
-/// tree's that fits with the token behind it and anything behind that, or a beginning's with nothing behind it.
+/// The loads over a list that begins with a known tree's tokens: a sentence's with anything behind it, a
+/// cut tree's that fits with the token behind it and anything behind that, or a beginning's with nothing
+/// behind it.
 pub fn loads_of_tree()
     ensures sentence { (t : Stream) (r : List Token) (f : Fault) → in_order t ≡ true → (n : IsNested (events t)) × IsLoads (tokens t ++ r) f (loads_of n.texts (last_load Ends ∷ [])) }
     ensures cut_tree { (l : List Token) (b : Token) (r : List Token) (c : Cut) (f : Fault) → Fits l b c → is_behind_properties c r ≡ true → (a : List Load) × IsLoads (l ++ b ∷ r) f a × NestedLoads (cut_events c b) (Fails (fault c b.content b.start_mark)) a }
@@ -71,8 +74,8 @@ pub fn every_id()
     ensures of_run { (l : List Token) (f : Fault) (a : List Load) → IsLoads l f a → EachIdNames a }
 {}
 
-/// Where each mapping has an even number of values, as in every run, each node holds the ids of all its children in
-/// their order: no pair lacks its value.
+/// Where each mapping has an even number of values, as in every run, each node holds the ids of all its
+/// children in their order: no pair lacks its value.
 pub fn no_value_lacks()
     ensures { (v : Value) (es : List Start) → HasPairs v → HoldsItsChildren v es }
 {}
@@ -83,8 +86,8 @@ pub fn children_later()
     ensures { (v : Value) (es : List Start) → ChildrenAreLater v es }
 {}
 
-/// The first load is the next load's answer, and those behind it are its fault again and again, or the loads of the
-/// events that it leaves; the same holds within a bound.
+/// The first load is the next load's answer, and those behind it are its fault again and again, or the
+/// loads of the events that it leaves; the same holds within a bound.
 pub fn load_by_load()
     ensures first { (r : List Event) (x : Ending) (z : Load) → load_at z 0 (loads r x) ≡ next_load r x }
     ensures later { (r : List Event) (x : Ending) (z : Load) (n : ℕ) → load_at z (suc n) (loads r x) ≡ unless_fault (next_load r x) (load_at (next_load r x) n (loads (left_over r) x)) }

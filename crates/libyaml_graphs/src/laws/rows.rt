@@ -1,5 +1,5 @@
-//! Worked rows of loads: lists of tokens with the answers of the loads over them. Each function does nothing
-//! when it runs: its contract is the rows.
+//! Worked rows of loads: lists of tokens with the answers of the loads over them. Each function does
+//! nothing when it runs: its contract is the rows.
 
 ghost use Rattle.libyaml_graphs.specs.LoadRows.{RowAliasBeforeBound, RowAnchorOfDocumentBefore, RowBoundBeforeAnchor, RowBoundOfEachDocument, RowCollectionsInPairs, RowDirectives, RowEmptyDocuments, RowEmptyStream, RowEmptyTag, RowExclamationMarksOfCollections, RowExplicitEnd, RowHoldsItself, RowItemTwice, RowItemsBeyondBound, RowKeyBeyondBound, RowNestedHoldsItself, RowNodesBeyondBound, RowNodesInBound, RowPairInBound, RowPairs, RowParserFault, RowSecondAliasUndefined, RowSecondAnchor, RowSourceEnds, RowTagThatIsAnExclamationMark, RowUndefinedAlias, RowUndefinedAliasBeforeSourceEnds, RowUndefinedAliasBehindKey};
 
