@@ -1,12 +1,12 @@
 -- Where the lists of each document that a load begins have room, the bound changes nothing.
-use Rattle.std.proofs.Common.{◌≡◌, ◌≤◌, ◌+◌, ℕ, zero, suc, List, [], ◌∷◌, ◌++◌, length, nat_lt, All, Option, Some, None, Bool, false, refl, sym, ap, ◌∙◌, subst, append_assoc, arith, zero-add, le_refl, le_trans, le_of_lt, lt-suc_self, suc-le-suc, zero-le, le-ltb, ltb-false}
-use Rattle.std.proofs.lemmas.List.Elements.{All-head, All-tail}
+use Rattle.std.proofs.Common.{◌≡◌, ◌≤◌, ◌+◌, ◌↔◌, ℕ, zero, suc, List, [], ◌∷◌, ◌++◌, length, nat_lt, All, Option, Some, None, Bool, true, false, refl, sym, ap, ◌∙◌, subst, append_assoc, append-nil, arith, zero-add, le_refl, le_trans, le_of_lt, lt-suc_self, suc-le-suc, zero-le, le-ltb, ltb-false}
+use Rattle.std.proofs.lemmas.List.Elements.{All-cons, All-head, All-nil, All-tail}
 use Rattle.libyaml_events.specs.Events.{Event}
 use Rattle.libyaml_events.specs.Fault.{Fault}
 use Rattle.libyaml_events.specs.Runs.{Ending}
 use Rattle.libyaml_documents.specs.declared.node.unnamed_yaml_node_t_data.{unnamed_yaml_node_t_data}
 use Rattle.libyaml_documents.specs.declared.node.unnamed_yaml_node_t_data.TheVariants.{Scalar, Sequence, Mapping}
-use Rattle.libyaml_graphs.specs.Bounds.{Fits, HasRoom, HasRoomBehind, bounded_loads, bounded_loads_behind, entries, first_stop, if_above, if_wrong, list_sizes, next_bounded, one_above, pairs_begun}
+use Rattle.libyaml_graphs.specs.Bounds.{StaysWithin, HasRoom, HasRoomBehind, bounded_loads, bounded_loads_behind, entries, first_stop, if_above, if_wrong, list_sizes, next_bounded, one_above, pairs_begun}
 use Rattle.libyaml_graphs.specs.ComposerFaults.{composer_fault, or_else, part_fault}
 use Rattle.libyaml_graphs.specs.Graphs.{Start, carrier, id_or}
 use Rattle.libyaml_graphs.specs.Loads.{Load, answer, document_end, last_load, load_then, loads, loads_behind, next_load}
@@ -101,11 +101,11 @@ none_above : (n : ℕ) (ks : List ℕ) → All (λ k. k ≤ n) ks → one_above 
 none_above n [] h = refl
 none_above n (k ∷ ks) h = either_none _ _ (le-ltb n k (All-head (λ i. i ≤ n) k ks h)) ∙ none_above n ks (All-tail (λ i. i ≤ n) k ks h)
 
-fits_stop : (r : List Part) (n : ℕ) → Fits n r → first_stop n [] [] r ≡ composer_fault [] r
+fits_stop : (r : List Part) (n : ℕ) → StaysWithin n r → first_stop n [] [] r ≡ composer_fault [] r
 fits_stop r n h = room r [] [] n (ap (nat_lt n) (graph_count r [] ∙ zero-add _) ∙ le-ltb n (length (graph [] r)) h.0) (none_above n (list_sizes [] r) h.1)
 
 -- of a document
-text_room : (n : ℕ) (r : List Event) (x : Ending) (o : Opening) → Fits n (parts r) → (composer_fault [] (parts r) ≡ None → bounded_loads_behind n r x ≡ loads_behind r x)
+text_room : (n : ℕ) (r : List Event) (x : Ending) (o : Opening) → StaysWithin n (parts r) → (composer_fault [] (parts r) ≡ None → bounded_loads_behind n r x ≡ loads_behind r x)
     → load_then (first_stop n [] [] (parts r)) (document_end r) o (graph [] (parts r)) (last_load x) (bounded_loads_behind n r x)
     ≡ load_then (composer_fault [] (parts r)) (document_end r) o (graph [] (parts r)) (last_load x) (loads_behind r x)
 text_room n r x o f h =
@@ -119,7 +119,7 @@ text_room n r x o f h =
 
 -- what HasRoom says of an event, by the document that it opens or ends
 abbrev RoomAt : ℕ → List Event → Option Opening → Type 0
-RoomAt n r c = elim c [ None ↦ HasRoom n r | Some o ↦ Fits n (parts r) × (composer_fault [] (parts r) ≡ None → HasRoomBehind n r) ]
+RoomAt n r c = elim c [ None ↦ HasRoom n r | Some o ↦ StaysWithin n (parts r) × (composer_fault [] (parts r) ≡ None → HasRoomBehind n r) ]
 
 abbrev RoomEndedAt : ℕ → List Event → Option Closing → Type 0
 RoomEndedAt n r c = elim c [ Some d ↦ HasRoom n r | None ↦ HasRoomBehind n r ]
@@ -161,3 +161,36 @@ room_next (e ∷ r) x n h = go (opening_of e) h (λ (k : HasRoom n r). room_next
         (elim c [ None ↦ next_load r x | Some o ↦ answer (composer_fault [] (parts r)) (document_end r) o (graph [] (parts r)) (last_load x) ])
     go None k next = next k
     go (Some o) k next = ap (λ (g : Option Fault). answer g (document_end r) o (graph [] (parts r)) (last_load x)) (fits_stop (parts r) n k.0)
+
+-- a document that nothing stops has no composer fault, and its lists have room
+abbrev Unstopped : ℕ → List Start → List Part → List Part → Type 0
+Unstopped n es F P = (composer_fault es P ≡ None) × (nat_lt n (length (all_behind es P)) ≡ false) × (one_above n (list_sizes [] (F ++ P)) ≡ false)
+
+passed : (n : ℕ) (a b : Bool) (w o : Option Fault) → if_above a (if_wrong w (if_above b o)) ≡ None → (a ≡ false) × (w ≡ None) × (b ≡ false) × (o ≡ None)
+passed n true b w o e = cc
+passed n false b (Some f) o e = cc
+passed n false true None o e = cc
+passed n false false None o e = (refl, refl, refl, e)
+
+unstopped : (P : List Part) (es : List Start) (F : List Part) (n : ℕ) → nat_lt n (length es) ≡ false → one_above n (list_sizes [] F) ≡ false → first_stop n es F P ≡ None → Unstopped n es F P
+unstopped [] es F n a b e = (refl, a, ap (λ (l : List Part). one_above n (list_sizes [] l)) (append-nil F) ∙ b)
+unstopped (p ∷ P) es F n a b e =
+    let h = passed n (nat_lt n (length (behind p es))) (one_above n (list_sizes [] (F ++ p ∷ []))) (part_fault es p) (first_stop n (behind p es) (F ++ p ∷ []) P) e in
+    let k : Unstopped n (behind p es) (F ++ p ∷ []) P = unstopped P (behind p es) (F ++ p ∷ []) n h.0 h.2 h.3 in
+    (ap (λ (w : Option Fault). or_else w (composer_fault (behind p es) P)) h.1 ∙ k.0, k.1, ap (λ (l : List Part). one_above n (list_sizes [] l)) (sym (append_assoc F (p ∷ []) P)) ∙ k.2)
+
+all_within : (n : ℕ) (ks : List ℕ) → one_above n ks ≡ false → All (λ k. k ≤ n) ks
+all_within n [] h = All-nil (λ k. k ≤ n)
+all_within n (k ∷ ks) h = let e : (nat_lt n k ≡ false) × (one_above n ks ≡ false) = either_false _ _ h in All-cons (λ i. i ≤ n) k ks (ltb-false n k e.0) (all_within n ks e.1)
+
+-- the bound is exact
+pub bound_exact : (P : List Part) (n : ℕ) → (first_stop n [] [] P ≡ None) ↔ ((composer_fault [] P ≡ None) × StaysWithin n P)
+bound_exact P n = (to, from)
+  where
+    to : first_stop n [] [] P ≡ None → (composer_fault [] P ≡ None) × StaysWithin n P
+    to e =
+        let h : Unstopped n [] [] P = unstopped P [] [] n (le-ltb n 0 zero-le) refl e in
+        (h.0, (ltb-false n (length (graph [] P)) (ap (nat_lt n) (sym (graph_count P [] ∙ zero-add _)) ∙ h.1), all_within n (list_sizes [] P) h.2))
+
+    from : (composer_fault [] P ≡ None) × StaysWithin n P → first_stop n [] [] P ≡ None
+    from h = fits_stop P n h.1 ∙ h.0

@@ -4,7 +4,7 @@
 pub mod machine;
 pub mod rows;
 
-ghost use Rattle.std.specs.Prelude.{◌≡◌, ◌++◌, ℕ, suc, List, [], ◌∷◌, Option, None, true, false};
+ghost use Rattle.std.specs.Prelude.{◌≡◌, ◌++◌, ◌↔◌, ℕ, suc, List, [], ◌∷◌, Option, None, true, false};
 ghost use Rattle.libyaml_events.specs.CutEvents.{cut_events};
 ghost use Rattle.libyaml_events.specs.CutFaults.{fault};
 ghost use Rattle.libyaml_events.specs.CutTrees.{Cut};
@@ -19,7 +19,7 @@ ghost use Rattle.libyaml_events.specs.Settled.{IsSettled};
 ghost use Rattle.libyaml_events.specs.Tokens.{Marks, StreamEnd, Token, tok};
 ghost use Rattle.libyaml_events.specs.Trees.{Stream, tokens};
 ghost use Rattle.libyaml_documents.specs.Nodes.{EveryIdNamesANode};
-ghost use Rattle.libyaml_graphs.specs.Bounds.{HasRoom, bounded_loads, next_bounded};
+ghost use Rattle.libyaml_graphs.specs.Bounds.{HasRoom, StaysWithin, bounded_loads, first_stop, next_bounded};
 ghost use Rattle.libyaml_graphs.specs.ComposerFaults.{composer_fault, heads};
 ghost use Rattle.libyaml_graphs.specs.GraphLaws.{ChildrenAreLater, EachIdNames, HoldsItsChildren, LoadsWhole, NestedLoads, load_at, unless_fault};
 ghost use Rattle.libyaml_graphs.specs.Graphs.{Start, nodes_of, starts_behind};
@@ -99,4 +99,10 @@ pub fn load_by_load()
 pub fn enough_room()
     ensures all { (r : List Event) (x : Ending) (n : ℕ) → HasRoom n r → bounded_loads n r x ≡ loads r x }
     ensures next { (r : List Event) (x : Ending) (n : ℕ) → HasRoom n r → next_bounded n r x ≡ next_load r x }
+{}
+
+/// The bound is exact: nothing stops a load within the bound n exactly where its document has no composer
+/// fault and none of its lists needs more than n entries.
+pub fn bound_is_exact()
+    ensures { (l : List Part) (n : ℕ) → (first_stop n [] [] l ≡ None) ↔ ((composer_fault [] l ≡ None) × StaysWithin n l) }
 {}
