@@ -6,10 +6,10 @@ use Rattle.libyaml_events.specs.Calls.{Gave}
 use Rattle.libyaml_events.specs.Config.{Parser}
 use Rattle.libyaml_events.specs.Fault.{Answer}
 use Rattle.libyaml_events.specs.Parsing.{CarriesOn, FailsBy}
-use Rattle.token_lines.specs.declared.lent_lines.LentLines.{LentLines}
+use Rattle.line_reading.specs.declared.lent_lines.LentLines.{LentLines}
 use Rattle.token_lines.specs.declared.run.Outcome.{Outcome}
 use Rattle.token_lines.specs.LastCall.{Closes, LastCall, closed_by_event, closed_by_fault}
-use Rattle.token_lines.specs.LentLines.{GivesLent}
+use Rattle.line_reading.specs.LentLines.{GivesLent}
 
 -- a parser whose source is seen as another
 abbrev pub over : {S T : Type 0} → (S → T) → Parser S → Parser T

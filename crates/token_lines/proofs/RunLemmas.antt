@@ -11,12 +11,13 @@ use Rattle.libyaml_events.specs.FaultTexts.{memory_fault}
 use Rattle.libyaml_events.specs.RunToCome.{RunToCome}
 use Rattle.libyaml_events.specs.Runs.{Ending, Ends, Fails}
 use Rattle.libyaml_events.specs.Source.{Coming}
+use Rattle.libyaml_events.proofs.NextEvents.{FailsHere}
 use Rattle.token_lines.specs.declared.run.Outcome.{Outcome}
 use Rattle.token_lines.specs.declared.run.Outcome.TheVariants.{Ended, Faulted, OutputFailed}
-use Rattle.token_lines.specs.EventText.{event_line}
+use Rattle.line_writing.specs.EventText.{event_line}
 use Rattle.token_lines.specs.EventRun.{event_lines, Writes, WritesFault, whole, broken_off}
-use Rattle.token_lines.specs.EventStep.{TakesFirst, FailsHere}
-use Rattle.token_lines.specs.FaultText.{fault_text}
+use Rattle.token_lines.specs.EventStep.{TakesFirst}
+use Rattle.line_writing.specs.FaultText.{fault_text}
 
 -- some of the events were written, and the others are to come
 pub record Came {S : Type 0} (known : S → Option Coming) (before after : Option (List ℕ)) (p : Parser S) (events : List yaml_event_t) (ending : Ending) : Type 0 where

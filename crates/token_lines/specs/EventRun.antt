@@ -7,10 +7,10 @@ use Rattle.libyaml_events.specs.FaultTexts.{memory_fault}
 use Rattle.libyaml_events.specs.Runs.{Ending, Ends, Fails, IsRun}
 use Rattle.token_lines.specs.declared.run.Outcome.{Outcome}
 use Rattle.token_lines.specs.declared.run.Outcome.TheVariants.{Ended, Faulted, OutputFailed}
-use Rattle.token_lines.specs.EventText.{event_line}
-use Rattle.token_lines.specs.FaultText.{fault_text}
-use Rattle.token_lines.specs.LineSource.{BreaksOff}
-use Rattle.token_lines.specs.ReadLines.{read_lines}
+use Rattle.line_writing.specs.EventText.{event_line}
+use Rattle.line_writing.specs.FaultText.{fault_text}
+use Rattle.line_reading.specs.LineSource.{BreaksOff}
+use Rattle.line_reading.specs.ReadLines.{read_lines}
 use Rattle.token_lines.specs.declared.TheConstants.{MAX_TOKENS}
 
 -- the lines of events

@@ -13,9 +13,9 @@ use Rattle.token_lines.specs.declared.TheConstants.{MAX_TOKENS}
 use Rattle.token_lines.specs.declared.run.Outcome.{Outcome}
 use Rattle.token_lines.specs.declared.run.Outcome.TheVariants.{Ended, Faulted, OutputFailed}
 use Rattle.token_lines.specs.EventRun.{event_lines}
-use Rattle.token_lines.specs.EventText.{event_line}
-use Rattle.token_lines.specs.FaultText.{fault_text}
-use Rattle.token_lines.specs.LineSource.{LineSource, Gives}
+use Rattle.line_writing.specs.EventText.{event_line}
+use Rattle.line_writing.specs.FaultText.{fault_text}
+use Rattle.line_reading.specs.LineSource.{LineSource, Gives}
 
 -- What a run wrote behind a last call that gave this event: its line, which is the stream end's, where the run ended; or
 -- else the text of a refused growth, for want of memory for that line. Where the output failed, nothing is said.

@@ -11,18 +11,17 @@ ghost use Rattle.libyaml_events.specs.Runs.{Ending};
 ghost use Rattle.libyaml_events.specs.Stages.{is_event};
 ghost use Rattle.token_lines.specs.EventRun.{Writes, WritesRunOf};
 ghost use Rattle.token_lines.specs.EventStep.{Steps, Turn};
-ghost use Rattle.token_lines.specs.FaultText.{fault_text};
+ghost use Rattle.line_writing.specs.FaultText.{fault_text};
 ghost use Rattle.token_lines.specs.LastCall.{LastCall, NothingLeft, RunInTurn};
 
 use crate::MAX_TOKENS;
-use crate::event_line::{append_event, write_line};
-use crate::fault_text::write_fault;
-use crate::lent_lines::LentLines;
 use libyaml_events::{
     NO_FAULT, yaml_parser_delete, yaml_parser_initialize, yaml_parser_parse, yaml_parser_t,
     yaml_parser_t_prefix, yaml_token_source_t,
 };
 use libyaml_types::{unnamed_yaml_event_t_data, yaml_error_type_t, yaml_event_t};
+use line_reading::LentLines;
+use line_writing::{append_event, write_fault, write_line};
 use std::alloc::Global;
 use std::io::{BufRead, Write};
 

@@ -1,6 +1,6 @@
 use Rattle.std.proofs.Common.{rules, [], ap, ◌∙◌}
-use Rattle.token_lines.specs.LentLines.{GivesLent, lines_of}
-use Rattle.token_lines.specs.LineSource.{Gives}
+use Rattle.line_reading.specs.LentLines.{GivesLent, lines_of}
+use Rattle.line_reading.specs.LineSource.{Gives}
 use Rattle.token_lines.proofs.LentRun.{last_seen, over, same_loan}
 use Rattle.token_lines.proofs.run.run_events.Goals as goal
 

@@ -1,12 +1,12 @@
 use Rattle.std.proofs.Common.{◌++◌, refl, ap, ◌∙◌, subst, sym}
 use Rattle.std.specs.Io.KnownBytes.{Appends}
 use Rattle.libyaml_events.specs.History.{has_ended}
+use Rattle.libyaml_events.proofs.NextEvents.{FailsHere, Says, fails_here, first_event}
 use Rattle.token_lines.specs.declared.run.Step.TheVariants.{Written, Ended, OutputFailed}
-use Rattle.token_lines.specs.EventText.{event_line}
-use Rattle.token_lines.specs.EventStep.{FailsHere}
+use Rattle.line_writing.specs.EventText.{event_line}
 use Rattle.token_lines.proofs.LastCallLemmas.{gave_one, failed_once}
 use Rattle.token_lines.proofs.RunLemmas.{Keeps-same}
-use Rattle.token_lines.proofs.StepLemmas.{Says, ended_by, running_by, fails_here, first_event, takes_first, takes_last, nothing_left}
+use Rattle.token_lines.proofs.StepLemmas.{ended_by, running_by, takes_first, takes_last, nothing_left}
 use Rattle.token_lines.proofs.run.write_next.Goals as goal
 
 pub returns-in_default-clause-step : goal.returns-in_default-clause-step

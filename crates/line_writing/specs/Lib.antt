@@ -1,0 +1,5 @@
+pub mod Escape
+pub mod FieldTexts
+pub mod EventText
+pub mod FaultText
+pub mod Refusal
