@@ -1,3 +1,4 @@
 pub mod Documents
+pub mod LoadedNodes
 pub mod Nodes
 pub mod Pairs

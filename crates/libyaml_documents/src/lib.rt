@@ -1,8 +1,10 @@
 //! Documents of YAML: nodes named by ids, built by calls.
 #![tactic(auto)]
 
+pub mod building;
 mod document;
 mod items;
+mod loaded;
 mod node;
 mod pairs;
 

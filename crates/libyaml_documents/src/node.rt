@@ -60,6 +60,7 @@ pub struct yaml_node_t {
 
 impl yaml_node_t {
     ghost use Rattle.libyaml_documents.specs.Nodes.{node_type, IsSequence, IsMapping, with_item, with_pair};
+    ghost use Rattle.libyaml_documents.specs.LoadedNodes.{children_of};
 
     /// The type of the node, which is never `YAML_NO_NODE`.
     ///
@@ -71,6 +72,17 @@ impl yaml_node_t {
             unnamed_yaml_node_t_data::Scalar(_) => yaml_node_type_t::YAML_SCALAR_NODE,
             unnamed_yaml_node_t_data::Sequence(_) => yaml_node_type_t::YAML_SEQUENCE_NODE,
             unnamed_yaml_node_t_data::Mapping(_) => yaml_node_type_t::YAML_MAPPING_NODE,
+        }
+    }
+
+    /// How many items or pairs the node has; a scalar has none.
+    pub(crate) fn children_count(&self) -> usize
+        ensures { result ≡ children_of self.now.content }
+    {
+        match &self.content {
+            unnamed_yaml_node_t_data::Scalar(_) => 0,
+            unnamed_yaml_node_t_data::Sequence(sequence) => sequence.items.len(),
+            unnamed_yaml_node_t_data::Mapping(mapping) => mapping.pairs.len(),
         }
     }
 

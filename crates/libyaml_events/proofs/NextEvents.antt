@@ -25,7 +25,7 @@ not_ok r h k = cc
 same_event : (r : EventOrError) (e d : yaml_event_t) → r ≡ Ok e → r ≡ Ok d → d ≡ e
 same_event r e d h k = cc
 
-module _ {S : Type 0} (known : S → Option Coming) (MayBreak : Fault → Type 0) (old new : Parser S) where
+module _ {S : Type 0} (known : S → Option Coming) (MayBreak : S → Fault → Type 0) (old new : Parser S) where
   -- the three clauses of a call on the run that is to come
   pub record Says (r : EventOrError) : Type 0 where
     pub next : (e : yaml_event_t) (later : List yaml_event_t) (ending : Ending) → RunToCome known old (e ∷ later) ending → UnlessBroken MayBreak r new ((r ≡ Ok e) × RunToCome known new later ending)
@@ -33,20 +33,20 @@ module _ {S : Type 0} (known : S → Option Coming) (MayBreak : Fault → Type 0
     pub fault : (f : Fault) → RunToCome known old [] (Fails f) → UnlessBroken MayBreak r new ((r ≡ Err f.error) × (kept_fault new ≡ f))
 
   -- a call that fails
-  pub fails_here : (r : EventOrError) (x : yaml_error_type_t) → r ≡ Err x → Says r → (events : List yaml_event_t) (ending : Ending) → RunToCome known old events ending → FailsHere MayBreak (kept_fault new) events ending
+  pub fails_here : (r : EventOrError) (x : yaml_error_type_t) → r ≡ Err x → Says r → (events : List yaml_event_t) (ending : Ending) → RunToCome known old events ending → FailsHere (MayBreak new.source) (kept_fault new) events ending
   fails_here r x failed says (e ∷ later) ending run = go (says.next e later ending run)
     where
-      go : UnlessBroken MayBreak r new ((r ≡ Ok e) × RunToCome known new later ending) → FailsHere MayBreak (kept_fault new) (e ∷ later) ending
+      go : UnlessBroken MayBreak r new ((r ≡ Ok e) × RunToCome known new later ending) → FailsHere (MayBreak new.source) (kept_fault new) (e ∷ later) ending
       go (does d) = absurd (not_ok r failed d.0)
       go (no_memory i j) = inr (inl j)
-      go (breaks g i j k) = inr (inr (subst MayBreak (sym k) i))
+      go (breaks g i j k) = inr (inr (subst (MayBreak new.source) (sym k) i))
   fails_here r x failed says [] Ends run = absurd (not_ok r failed (says.end run).0)
   fails_here r x failed says [] (Fails f) run = go (says.fault f run)
     where
-      go : UnlessBroken MayBreak r new ((r ≡ Err f.error) × (kept_fault new ≡ f)) → FailsHere MayBreak (kept_fault new) [] (Fails f)
+      go : UnlessBroken MayBreak r new ((r ≡ Err f.error) × (kept_fault new ≡ f)) → FailsHere (MayBreak new.source) (kept_fault new) [] (Fails f)
       go (does d) = inl (refl, ap Fails (sym d.1))
       go (no_memory i j) = inr (inl j)
-      go (breaks g i j k) = inr (inr (subst MayBreak (sym k) i))
+      go (breaks g i j k) = inr (inr (subst (MayBreak new.source) (sym k) i))
 
   -- a call that gives an event gives the first, and leaves the others
   pub record First (e : yaml_event_t) (events : List yaml_event_t) (ending : Ending) : Type 0 where

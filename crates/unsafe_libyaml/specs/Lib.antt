@@ -1,3 +1,4 @@
+pub mod WholeRun
 -- what the clauses of the crates below cite, so that a user names this crate alone
 pub use Rattle.libyaml_types.specs.Numbers
 pub use Rattle.libyaml_types.specs.Texts

@@ -22,7 +22,7 @@ use std::alloc::{AllocError, Global};
 const MOST_NODES: usize = 2147483647;
 
 /// Whether an id is left for one more node.
-fn has_room(document: &yaml_document_t) -> Result<(), yaml_refusal_t>
+pub(super) fn has_room(document: &yaml_document_t) -> Result<(), yaml_refusal_t>
     ensures ok { OnOk result (length document.now.nodes < most_nodes) }
     ensures err { OnErr result ((result ≡ Err yaml_refusal_t.TooManyNodes) × (length document.now.nodes ≡ most_nodes)) }
 {
@@ -64,7 +64,10 @@ fn new_node(
 }
 
 /// Puts a node without children behind the others, and gives its id.
-fn push_node(document: &mut yaml_document_t, node: yaml_node_t) -> Result<i32, yaml_refusal_t>
+pub(super) fn push_node(
+    document: &mut yaml_document_t,
+    node: yaml_node_t,
+) -> Result<i32, yaml_refusal_t>
     requires room { length document.old.nodes < most_nodes }
     requires childless { ids_of node.content ≡ [] }
     ensures ok { IfOk result (λ id. id ≡ pos (length document.old.nodes + 1)) }

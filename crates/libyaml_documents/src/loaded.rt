@@ -1,0 +1,118 @@
+//! Nodes made of events, by the rule of a load: no tag, or `!`, is the tag of the node's kind.
+
+ghost use Rattle.std.specs.Prelude.{◌≡◌, [], true, IfOk, OnErr};
+ghost use Rattle.libyaml_documents.specs.LoadedNodes.{loaded_tag, mapping_loaded, scalar_loaded, sequence_loaded, takes_default};
+ghost use Rattle.libyaml_documents.specs.Nodes.{ids_of};
+
+use crate::items::NodeItems;
+use crate::node::{
+    unnamed_yaml_node_t_data, unnamed_yaml_node_t_data_mapping, unnamed_yaml_node_t_data_scalar,
+    unnamed_yaml_node_t_data_sequence, yaml_node_t,
+};
+use crate::pairs::NodePairs;
+use libyaml_types::{
+    Text, unnamed_yaml_event_t_data_mapping_start, unnamed_yaml_event_t_data_scalar,
+    unnamed_yaml_event_t_data_sequence_start, yaml_mark_t,
+};
+use std::alloc::{AllocError, Global};
+
+/// The tag of a loaded node: the given one, but `default` where none is given, or `!`.
+fn tag_of(alloc: Global, tag: Option<Text>, default: &str) -> Result<Text, AllocError>
+    ensures ok { IfOk result (λ text. text ≡ loaded_tag default.now tag) }
+    ensures refused { OnErr result (takes_default tag ≡ true) }
+{
+    match tag {
+        Some(tag) => if tag.as_str() == "!" {
+            Text::from_str(alloc, default)
+        } else {
+            Ok(tag)
+        },
+        None => Text::from_str(alloc, default),
+    }
+}
+
+/// The node of a scalar event that stands at these places. Its texts are moved, and its anchor is
+/// let go: a caller that wants it takes it out before.
+///
+/// Without a tag, or with `!`, its tag is `tag:yaml.org,2002:str`, and only then memory is asked for.
+/// Answers `AllocError` where it is refused.
+pub fn scalar_of_event(
+    alloc: Global,
+    scalar: unnamed_yaml_event_t_data_scalar,
+    start_mark: yaml_mark_t,
+    end_mark: yaml_mark_t,
+) -> Result<yaml_node_t, AllocError>
+    ensures ok { IfOk result (λ node. node ≡ scalar_loaded scalar start_mark end_mark) }
+    ensures childless { IfOk result (λ node. ids_of node.content ≡ []) }
+    ensures refused { OnErr result (takes_default scalar.tag ≡ true) }
+{
+    let tag = tag_of(alloc, scalar.tag, "tag:yaml.org,2002:str")?;
+    let content = unnamed_yaml_node_t_data_scalar {
+        value: scalar.value,
+        style: scalar.style,
+    };
+    Ok(yaml_node_t {
+        tag,
+        content: unnamed_yaml_node_t_data::Scalar(content),
+        start_mark,
+        end_mark,
+    })
+}
+
+/// The node, without items, of a sequence whose start event stands at these places. Its tag is
+/// moved, and its anchor is let go: a caller that wants it takes it out before. Its end mark is to be
+/// set when the sequence ends.
+///
+/// Without a tag, or with `!`, its tag is `tag:yaml.org,2002:seq`, and only then memory is asked for.
+/// Answers `AllocError` where it is refused.
+pub fn sequence_of_event(
+    alloc: Global,
+    start: unnamed_yaml_event_t_data_sequence_start,
+    start_mark: yaml_mark_t,
+    end_mark: yaml_mark_t,
+) -> Result<yaml_node_t, AllocError>
+    ensures ok { IfOk result (λ node. node ≡ sequence_loaded start.tag start.style [] start_mark end_mark) }
+    ensures childless { IfOk result (λ node. ids_of node.content ≡ []) }
+    ensures refused { OnErr result (takes_default start.tag ≡ true) }
+{
+    let tag = tag_of(alloc, start.tag, "tag:yaml.org,2002:seq")?;
+    let content = unnamed_yaml_node_t_data_sequence {
+        items: NodeItems::new(alloc),
+        style: start.style,
+    };
+    Ok(yaml_node_t {
+        tag,
+        content: unnamed_yaml_node_t_data::Sequence(content),
+        start_mark,
+        end_mark,
+    })
+}
+
+/// The node, without pairs, of a mapping whose start event stands at these places. Its tag is moved,
+/// and its anchor is let go: a caller that wants it takes it out before. Its end mark is to be set
+/// when the mapping ends.
+///
+/// Without a tag, or with `!`, its tag is `tag:yaml.org,2002:map`, and only then memory is asked for.
+/// Answers `AllocError` where it is refused.
+pub fn mapping_of_event(
+    alloc: Global,
+    start: unnamed_yaml_event_t_data_mapping_start,
+    start_mark: yaml_mark_t,
+    end_mark: yaml_mark_t,
+) -> Result<yaml_node_t, AllocError>
+    ensures ok { IfOk result (λ node. node ≡ mapping_loaded start.tag start.style [] start_mark end_mark) }
+    ensures childless { IfOk result (λ node. ids_of node.content ≡ []) }
+    ensures refused { OnErr result (takes_default start.tag ≡ true) }
+{
+    let tag = tag_of(alloc, start.tag, "tag:yaml.org,2002:map")?;
+    let content = unnamed_yaml_node_t_data_mapping {
+        pairs: NodePairs::new(alloc),
+        style: start.style,
+    };
+    Ok(yaml_node_t {
+        tag,
+        content: unnamed_yaml_node_t_data::Mapping(content),
+        start_mark,
+        end_mark,
+    })
+}
