@@ -5,8 +5,7 @@ use Rattle.std.proofs.lemmas.List.Elements.{All-head, All-tail}
 use Rattle.std.proofs.lemmas.List.Splits.{slice_split_at, slice_split_none}
 use Rattle.std.specs.List.{slice_split}
 use Rattle.std.specs.Io.KnownBytes.{Consumes, IsAtEnd}
-use Rattle.line_reading.specs.declared.TheConstants.{MAX_LINE}
-use Rattle.line_reading.specs.ReadLines.{last_line, lines_of_parts, lines, behind_line}
+use Rattle.line_reading.specs.ReadLines.{longest_line, last_line, lines_of_parts, lines, behind_line}
 use Rattle.line_reading.specs.NextLine.{TakesLine, TakesNoLine, BeginsTooLong}
 use Rattle.line_reading.specs.declared.line_problem.LineProblem.TheVariants.{LineTooLong, NoMoreTokens}
 use Rattle.line_reading.specs.LineLaws.{has_parts, lines_of_more}
@@ -45,12 +44,12 @@ long_part (b ∷ l) rest clean =
     let h = long_part l rest (All-tail (λ x. x ≢ 10) b l clean) in
     rw (ne_eqb b 10 (All-head (λ x. x ≢ 10) b l clean), h.1.1.0) (b ∷ h.0, (h.1.0, (refl, omega (arith, h.1.1.1))))
 
-begins_long : (f : List ℕ) (r : List (List ℕ)) → MAX_LINE < length f → BeginsTooLong (lines_of_parts (f ∷ r))
+begins_long : (f : List ℕ) (r : List (List ℕ)) → longest_line < length f → BeginsTooLong (lines_of_parts (f ∷ r))
 begins_long [] [] h = absurd (omega (arith, h))
 begins_long (b ∷ bs) [] h = h
 begins_long f (g ∷ r) h = h
 
-too_long : (l rest : List ℕ) → All (λ x. x ≢ 10) l → length l ≡ MAX_LINE + 1 → BeginsTooLong (lines (l ++ rest))
+too_long : (l rest : List ℕ) → All (λ x. x ≢ 10) l → length l ≡ longest_line + 1 → BeginsTooLong (lines (l ++ rest))
 unfolding LongPart
 too_long l rest clean e =
     let h = long_part l rest clean in
@@ -77,7 +76,7 @@ takes_none None after h end = tt
 takes_none (Some bytes) None h end = absurd h
 takes_none (Some bytes) (Some rest) h end = ap lines (h ∙ end)
 
-pub takes_too_long : (before after : Option (List ℕ)) (l : List ℕ) → All (λ x. x ≢ 10) l → length l ≡ MAX_LINE + 1 → Consumes before after (l ++ []) → TakesNoLine before LineTooLong
+pub takes_too_long : (before after : Option (List ℕ)) (l : List ℕ) → All (λ x. x ≢ 10) l → length l ≡ longest_line + 1 → Consumes before after (l ++ []) → TakesNoLine before LineTooLong
 takes_too_long None after l clean e h = tt
 takes_too_long (Some bytes) None l clean e h = absurd h
 takes_too_long (Some bytes) (Some rest) l clean e h =

@@ -1,12 +1,12 @@
 -- A source of token lines (docs/DEFINITIONS.md, "Lines").
-use Rattle.std.specs.Prelude.{◌≡◌, ◌<◌, ◌≤◌, ◌⊎◌, ℕ, ◌+◌, List, [], Option, Some, None, Ok, Err, option_map}
+use Rattle.std.specs.Prelude.{◌≡◌, ◌<◌, ◌≤◌, ℕ, ◌+◌, List, [], Option, Some, None, Ok, Err, option_map}
 use Rattle.libyaml_events.specs.Fault.{Fault, Answer}
 use Rattle.libyaml_events.specs.Source.{Coming, coming}
 use Rattle.line_reading.specs.declared.token_reader.TokenReader.{TokenReader}
-use Rattle.line_reading.specs.declared.line_problem.LineProblem.TheVariants.{Memory, ReadFailed, TooManyTokens}
+use Rattle.line_reading.specs.declared.line_problem.LineProblem.TheVariants.{TooManyTokens}
 use Rattle.line_reading.specs.LineFault.{line_fault}
 use Rattle.line_reading.specs.ReadLines.{lines, coming_from}
-use Rattle.line_reading.specs.NextLine.{LineAnswer}
+use Rattle.line_reading.specs.NextLine.{LineAnswer, BreaksOffAt}
 
 -- a source: its reader, how many tokens it has given and how many it may give, and the fault that it keeps
 pub record LineSource (R : Type 0) : Type 0 where
@@ -62,6 +62,6 @@ known_by (Some fault) bytes given max_tokens = Some (coming [] fault)
 abbrev pub known_of : {R : Type 0} → (R → Option (List ℕ)) → LineSource R → Option Coming
 known_of remaining s = known_by s.fault (remaining s.reader) s.given s.max_tokens
 
--- a source may break off for want of memory, or where a read fails
-abbrev pub BreaksOff : Fault → Type 0
-BreaksOff fault = (n : ℕ) × ((fault ≡ line_fault Memory n) ⊎ (fault ≡ line_fault ReadFailed n))
+-- a source that has given so many tokens may have broken off for want of memory, or where a read failed
+abbrev pub BreaksOff : {R : Type 0} → LineSource R → Fault → Type 0
+BreaksOff s fault = BreaksOffAt s.given fault

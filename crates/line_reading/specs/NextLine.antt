@@ -5,9 +5,8 @@ use Rattle.libyaml_types.specs.declared.token.yaml_token_t.{yaml_token_t}
 use Rattle.libyaml_events.specs.Fault.{Fault, Answer}
 use Rattle.line_reading.specs.declared.line_problem.LineProblem.{LineProblem}
 use Rattle.line_reading.specs.declared.line_problem.LineProblem.TheVariants.{Memory, ReadFailed, LineTooLong, BadTokenLine, TooManyTokens, NoMoreTokens}
-use Rattle.line_reading.specs.declared.TheConstants.{MAX_LINE}
 use Rattle.line_reading.specs.LineFault.{line_fault}
-use Rattle.line_reading.specs.ReadLines.{lines, behind_line, line_answer}
+use Rattle.line_reading.specs.ReadLines.{longest_line, lines, behind_line, line_answer}
 
 -- the reader has lost some bytes, n at most
 abbrev pub TakesAtMost : ℕ → Option (List ℕ) → Option (List ℕ) → Type 0
@@ -26,7 +25,7 @@ TakesLine (Some bytes) line after = (lines bytes ≡ line ∷ lines (behind_line
 -- the first line is too long
 abbrev pub BeginsTooLong : List (List ℕ) → Type 0
 BeginsTooLong [] = ⊥
-BeginsTooLong (line ∷ more) = MAX_LINE < length line
+BeginsTooLong (line ∷ more) = longest_line < length line
 
 -- there is no such line
 abbrev pub HasNoLine : List ℕ → LineProblem → Type 0

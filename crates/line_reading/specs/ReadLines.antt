@@ -5,9 +5,12 @@ use Rattle.libyaml_types.specs.declared.token.yaml_token_t.{yaml_token_t}
 use Rattle.libyaml_events.specs.Fault.{Answer}
 use Rattle.libyaml_events.specs.Source.{Coming, coming}
 use Rattle.line_reading.specs.declared.line_problem.LineProblem.TheVariants.{LineTooLong, BadTokenLine, TooManyTokens, NoMoreTokens}
-use Rattle.line_reading.specs.declared.TheConstants.{MAX_LINE}
 use Rattle.line_reading.specs.LineFault.{line_fault}
 use Rattle.line_reading.specs.TokenLine.{token_of_line}
+
+-- a token line has at most so many bytes, its LF not counted
+abbrev pub longest_line : ℕ
+longest_line = 1048576
 
 -- what stands behind the last LF is a line where a byte stands there
 abbrev pub last_line : List ℕ → List (List ℕ)
@@ -34,7 +37,7 @@ token_or_fault (Some token) n = Ok token
 token_or_fault None n = Err (line_fault BadTokenLine n)
 
 abbrev pub line_answer : ℕ → List ℕ → Answer
-line_answer n line = if nat_lt MAX_LINE (length line) then Err (line_fault LineTooLong n) else token_or_fault (token_of_line line) n
+line_answer n line = if nat_lt longest_line (length line) then Err (line_fault LineTooLong n) else token_or_fault (token_of_line line) n
 
 -- an answer, and what comes behind it: nothing behind a fault
 abbrev pub coming_behind : Answer → Coming → Coming

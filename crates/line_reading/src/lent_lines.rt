@@ -42,7 +42,7 @@ impl<R: BufRead> yaml_token_source_t for LentLines<'_, R> {
 
     ghost known = { λ s. known_of R.remaining (lines_of s) };
 
-    ghost may_break = { BreaksOff };
+    ghost may_break = { λ s fault. BreaksOff (lines_of s) fault };
 
     ghost falls = { λ s t token h. source_falls R.remaining (lines_of s) (lines_of t) token h.0 };
 

@@ -2,6 +2,7 @@
 ghost use Rattle.std.specs.Prelude.{◌≡◌, ◌≢◌, ◌≤◌, ◌<◌, ◌+◌, ◌++◌, ◌↔◌, [], All, drop, take, length, vec_len, IfOk, IfErr, OnOk, OnErr, OnSome, Ok, IsOk};
 ghost use Rattle.std.specs.Io.KnownBytes.{Consumes, Keeps, IsAtEnd};
 ghost use Rattle.line_reading.specs.Line.{ended_by, appended, line_feed};
+ghost use Rattle.line_reading.specs.ReadLines.{longest_line};
 ghost use Rattle.line_reading.specs.NextLine.{TakesAtMost, TakesLine, TakesNoLine, IsReadProblem};
 
 use crate::MAX_LINE;
@@ -12,9 +13,9 @@ use std::io::BufRead;
 /// Reads one line: what stands before an LF, or before the end where a byte stands there. Takes the line and its LF, and no byte behind them.
 pub fn read_line<R: BufRead>(reader: &mut R, line: &mut Vec<u8>) -> Result<(), LineProblem>
     ensures whole { OnOk result (TakesLine (R.remaining reader.old) line.new.items (R.remaining reader.new)) }
-    ensures fits { OnOk result (length line.new.items ≤ MAX_LINE) }
+    ensures fits { OnOk result (length line.new.items ≤ longest_line) }
     ensures none { IfErr result (λ problem. TakesNoLine (R.remaining reader.old) problem) }
-    ensures takes { TakesAtMost (MAX_LINE + 1) (R.remaining reader.old) (R.remaining reader.new) }
+    ensures takes { TakesAtMost (longest_line + 1) (R.remaining reader.old) (R.remaining reader.new) }
 {
     line.clear();
     match take_line(reader, line)? {
@@ -38,8 +39,8 @@ fn take_line<R: BufRead>(reader: &mut R, line: &mut Vec<u8>) -> Result<LineEnd, 
     requires { line.old.items ≡ [] }
     ensures consumes { IfOk result (λ end. Consumes (R.remaining reader.old) (R.remaining reader.new) (line.new.items ++ line_feed end)) }
     ensures clean { All (λ x. x ≢ 10) line.new.items }
-    ensures fits { length line.new.items ≤ MAX_LINE + 1 }
-    ensures too_long { result ≡ Ok LineEnd.TooLong ↔ ((length line.new.items ≡ MAX_LINE + 1) × IsOk result) }
+    ensures fits { length line.new.items ≤ longest_line + 1 }
+    ensures too_long { result ≡ Ok LineEnd.TooLong ↔ ((length line.new.items ≡ longest_line + 1) × IsOk result) }
     ensures end { result ≡ Ok LineEnd.End → OnSome (R.remaining reader.old) (IsAtEnd (R.remaining reader.new)) }
     ensures err { OnErr result (Consumes (R.remaining reader.old) (R.remaining reader.new) line.new.items) }
     ensures problem { IfErr result IsReadProblem }

@@ -3,10 +3,9 @@ ghost use Rattle.std.specs.Prelude.{◌≡◌, ◌+◌, ◌-◌, IfOk, IfSome, S
 ghost use Rattle.libyaml_events.specs.Fault.{answer_of};
 ghost use Rattle.line_reading.specs.LineSource.{Gives, known_of, BreaksOff};
 ghost use Rattle.line_reading.specs.LineSourceLaws.{source_falls, source_follows, source_repeats};
-ghost use Rattle.line_reading.specs.ReadLines.{read_lines};
+ghost use Rattle.line_reading.specs.ReadLines.{longest_line, read_lines};
 ghost use Rattle.line_reading.specs.NextLine.{TakesAtMost, IsBehindLine};
 
-use crate::MAX_LINE;
 use crate::token_reader::TokenReader;
 use libyaml_events::{yaml_source_fault_t, yaml_token_source_t};
 use libyaml_types::yaml_token_t;
@@ -73,7 +72,7 @@ impl<R: BufRead> yaml_token_source_t for yaml_line_source_t<R> {
     fn next_token(&mut self) -> Result<yaml_token_t, yaml_source_fault_t>
         ensures gives { Gives R.remaining self.old (answer_of result) self.new }
         ensures leaves { IfOk result (λ _. IsBehindLine (R.remaining self.old.reader) (R.remaining self.new.reader)) }
-        ensures takes { TakesAtMost (MAX_LINE + 1) (R.remaining self.old.reader) (R.remaining self.new.reader) }
+        ensures takes { TakesAtMost (longest_line + 1) (R.remaining self.old.reader) (R.remaining self.new.reader) }
     {
         self.tokens.next_token(&mut self.reader, &mut self.line)
     }

@@ -3,9 +3,9 @@ ghost use Rattle.std.specs.Prelude.{◌≡◌, ◌+◌, IfOk};
 ghost use Rattle.libyaml_events.specs.Fault.{answer_of, source_fault};
 ghost use Rattle.line_reading.specs.LineFault.{line_fault};
 ghost use Rattle.line_reading.specs.LineSource.{Gives, source_over};
+ghost use Rattle.line_reading.specs.ReadLines.{longest_line};
 ghost use Rattle.line_reading.specs.NextLine.{TakesAtMost, IsBehindLine};
 
-use crate::MAX_LINE;
 use crate::line::read_line;
 use crate::line_problem::LineProblem;
 use crate::token_line::read_token_line;
@@ -46,7 +46,7 @@ impl TokenReader {
     ) -> Result<yaml_token_t, yaml_source_fault_t>
         ensures gives { Gives R.remaining (source_over reader.old self.old) (answer_of result) (source_over reader.new self.new) }
         ensures leaves { IfOk result (λ _. IsBehindLine (R.remaining reader.old) (R.remaining reader.new)) }
-        ensures takes { TakesAtMost (MAX_LINE + 1) (R.remaining reader.old) (R.remaining reader.new) }
+        ensures takes { TakesAtMost (longest_line + 1) (R.remaining reader.old) (R.remaining reader.new) }
     {
         if let Some(problem) = self.problem {
             return Err(problem.fault(self.given));

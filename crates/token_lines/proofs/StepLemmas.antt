@@ -2,6 +2,7 @@
 use Rattle.std.proofs.Common.{◌≡◌, ℕ, List, [], ◌∷◌, Option, Bool, Ok, IfOk, true, false, sym, ap, ◌∙◌, subst}
 use Rattle.std.proofs.KnownBytes.{Appends-nil}
 use Rattle.std.proofs.lemmas.List.{append-nil}
+use Rattle.std.specs.List.{concat}
 use Rattle.std.specs.Io.KnownBytes.{Appends}
 use Rattle.libyaml_types.specs.declared.event.yaml_event_t.{yaml_event_t}
 use Rattle.libyaml_types.specs.declared.token.yaml_token_t.{yaml_token_t}
@@ -42,18 +43,18 @@ module _ {S : Type 0} (old new : Parser S) (r : EventOrError) (e : yaml_event_t)
       no : true ≡ false → ⊥
       no k = cc
 
-module _ {S : Type 0} (known : S → Option Coming) (MayBreak : Fault → Type 0) (old new : Parser S) where
+module _ {S : Type 0} (known : S → Option Coming) (MayBreak : S → Fault → Type 0) (old new : Parser S) where
   pub takes_first : (a b : Option (List ℕ)) (e : yaml_event_t) (events : List yaml_event_t) (ending : Ending) → First known MayBreak old new e events ending → Appends a b (event_line e) → TakesFirst known new a b events ending
   takes_first a b e events ending f wrote = record { event = e; later = f.later; first = f.first; run = f.run; wrote = wrote }
 
-  pub takes_last : (a b : Option (List ℕ)) (e : yaml_event_t) (events : List yaml_event_t) (ending : Ending) → First known MayBreak old new e events ending → ((later : List yaml_event_t) (x : Ending) → RunToCome known new later x → (later ≡ []) × (x ≡ Ends)) → Appends a b (event_line e) → (ending ≡ Ends) × Appends a b (event_lines events)
+  pub takes_last : (a b : Option (List ℕ)) (e : yaml_event_t) (events : List yaml_event_t) (ending : Ending) → First known MayBreak old new e events ending → ((later : List yaml_event_t) (x : Ending) → RunToCome known new later x → (later ≡ []) × (x ≡ Ends)) → Appends a b (event_line e) → (ending ≡ Ends) × Appends a b (concat (event_lines events))
   takes_last a b e events ending f nothing wrote =
       let last = nothing f.later ending f.run in
-      let all : event_line e ≡ event_lines events = sym (append-nil (event_line e)) ∙ ap event_lines (sym (f.first ∙ ap (λ l. e ∷ l) last.0)) in
+      let all : event_line e ≡ concat (event_lines events) = sym (append-nil (event_line e)) ∙ ap (λ l. concat (event_lines l)) (sym (f.first ∙ ap (λ l. e ∷ l) last.0)) in
       (last.1, subst (Appends a b) all wrote)
 
   -- a call that gave the empty event
-  pub nothing_left : (a : Option (List ℕ)) (events : List yaml_event_t) (ending : Ending) → RunToCome known old events ending → new ≡ old → ((later : List yaml_event_t) (x : Ending) → RunToCome known new later x → (later ≡ []) × (x ≡ Ends)) → (ending ≡ Ends) × Appends a a (event_lines events)
+  pub nothing_left : (a : Option (List ℕ)) (events : List yaml_event_t) (ending : Ending) → RunToCome known old events ending → new ≡ old → ((later : List yaml_event_t) (x : Ending) → RunToCome known new later x → (later ≡ []) × (x ≡ Ends)) → (ending ≡ Ends) × Appends a a (concat (event_lines events))
   nothing_left a events ending run same nothing =
       let last = nothing events ending (subst (λ p. RunToCome known p events ending) (sym same) run) in
-      (last.1, subst (λ l. Appends a a (event_lines l)) (sym last.0) (Appends-nil a))
+      (last.1, subst (λ l. Appends a a (concat (event_lines l))) (sym last.0) (Appends-nil a))

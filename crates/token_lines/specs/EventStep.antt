@@ -1,5 +1,6 @@
 -- What one step of a run writes.
 use Rattle.std.specs.Prelude.{◌≡◌, ℕ, List, [], ◌∷◌, true, false, Option}
+use Rattle.std.specs.List.{concat}
 use Rattle.std.specs.Io.KnownBytes.{Appends, Keeps}
 use Rattle.libyaml_types.specs.declared.event.yaml_event_t.{yaml_event_t}
 use Rattle.libyaml_events.specs.Config.{Parser}
@@ -26,10 +27,10 @@ pub record TakesFirst {S : Type 0} (known : S → Option Coming) (new : Parser S
   pub wrote : Appends before after (event_line event)
 
 -- what a step did where this run was to come
-abbrev pub Steps : {S : Type 0} → (known : S → Option Coming) → (MayBreak : Fault → Type 0) → Step → Parser S → (before after : Option (List ℕ)) → List yaml_event_t → Ending → Type 0
+abbrev pub Steps : {S : Type 0} → (known : S → Option Coming) → (MayBreak : S → Fault → Type 0) → Step → Parser S → (before after : Option (List ℕ)) → List yaml_event_t → Ending → Type 0
 Steps known MayBreak Written new before after events ending = TakesFirst known new before after events ending
-Steps known MayBreak Ended new before after events ending = (ending ≡ Ends) × Appends before after (event_lines events)
-Steps known MayBreak (Failed f) new before after events ending = FailsHere MayBreak (fault_of f) events ending × Keeps before after
+Steps known MayBreak Ended new before after events ending = (ending ≡ Ends) × Appends before after (concat (event_lines events))
+Steps known MayBreak (Failed f) new before after events ending = FailsHere (MayBreak new.source) (fault_of f) events ending × Keeps before after
 Steps known MayBreak OutputFailed new before after events ending = Unit {0}
 
 -- what a step wrote behind a call that gave this event

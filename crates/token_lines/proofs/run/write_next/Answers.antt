@@ -15,7 +15,7 @@ returns-in_default-clause-step g c events ending run =
     let call = c.yaml_parser_parse-parsed in
     let says : Says t.known t.may_break c.args.parser.now call.new.parser call.result = record { next = call.ensures.next_of_run; end = call.ensures.end_of_run; fault = call.ensures.fault_of_run } in
     let failed = fails_here t.known t.may_break c.args.parser.now call.new.parser call.result c.in_default.field-0 c.in_default.is says events ending run in
-    (subst (λ f. FailsHere t.may_break f events ending) (sym c.prefix.ensures.kept) failed, Keeps-same _)
+    (subst (λ f. FailsHere (t.may_break call.new.parser.source) f events ending) (sym c.prefix.ensures.kept) failed, Keeps-same _)
 
 pub returns-then-not-is_event-clause-step : goal.returns-then-not-is_event-clause-step
 returns-then-not-is_event-clause-step g c events ending run =
