@@ -35,10 +35,13 @@ pub record Reached {S : Type 0} (known : S → Option Coming) (source : S) (p : 
   pub running : has_ended p ≡ false
   pub left : (l : List Token) (f : Fault) (e : List Event) (x : Ending) → IsRun l f e x → known source ≡ Some (coming l f) → Left known p given e x
 
-module _ {S : Type 0} (known : S → Option Coming) (MayBreak : Fault → Type 0) (source : S) (old new : Parser S) where
+module _ {S : Type 0} (known : S → Option Coming) (MayBreak : S → Fault → Type 0) (source : S) (old new : Parser S) where
   pub reached_start : History new [] [] → has_ended new ≡ false
       → ((l : List Token) (f : Fault) → known source ≡ Some (coming l f) → (e : List Event) (x : Ending) → IsRun l f e x → RunToCome known new e x) → Reached known source new []
   reached_start h running run = record { asked = []; history = h; running = running; left = λ l f e x r k. record { later = e; all = refl; to_come = run l f k e x r } }
+
+  pub reached_as : (given all : List Event) → all ≡ given → Reached known source new given → Reached known source new all
+  reached_as given all h reached = subst (λ (l : List Event). Reached known source new l) (sym h) reached
 
   left_behind : (given : List Event) (r : EventOrError) (e : Event) → r ≡ Ok e → Says known MayBreak old new r → Reached known source old given → (gives : S → Answer → S → Type 0) → (reached : Reached known source old given) → CarriesOn gives old e new reached.asked given → (l : List Token) (f : Fault) (es : List Event) (x : Ending) → IsRun l f es x → known source ≡ Some (coming l f) → Left known new (given ++ e ∷ []) es x
   left_behind given r e is says _ gives reached on l f es x run k =
@@ -73,10 +76,10 @@ module _ {S : Type 0} (known : S → Option Coming) (MayBreak : Fault → Type 0
       fault_is : ending_of run.fault ≡ Fails (kept_fault new)
       fault_is = ap ending_of fault ∙ ap Fails kept
 
-      go : (a : Left known old given es y) → FailsHere MayBreak (kept_fault new) a.later y → RunsTo MayBreak run es y
+      go : (a : Left known old given es y) → FailsHere (MayBreak new.source) (kept_fault new) a.later y → RunsTo MayBreak run es y
       go a (inl h) = whole (all ∙ (sym (append-nil given) ∙ (ap (λ t. given ++ t) (sym h.0) ∙ sym a.all))) (fault_is ∙ sym h.1)
       go a (inr (inl h)) = absurd (other (ap (λ (g : Fault). g.error) (kept ∙ h)))
-      go a (inr (inr h)) = broken_off (kept_fault new) h fault_is
+      go a (inr (inr h)) = broken_off new.source (kept_fault new) h fault_is
 
 -- a run of any list is one of a tree's tokens, or of a cut tree's
 pub tree_runs : (t : Stream) (f : Fault) → in_order t ≡ true → IsRun (tokens t) f (events t) Ends

@@ -11,7 +11,8 @@ abbrev pub ending_of : Option yaml_parser_t_prefix → Ending
 ending_of None = Ends
 ending_of (Some f) = Fails (fault_of f)
 
--- These events and this ending; or the source broke off, by a fault that it names as possible. A list never does.
-pub data RunsTo (MayBreak : Fault → Type 0) (run : yaml_run_t) (events : List Event) (ending : Ending) : Type 0 where
+-- These events and this ending; or the source broke off, by a fault that it names as possible where it then stood. A list
+-- never does.
+pub data RunsTo {S : Type 0} (MayBreak : S → Fault → Type 0) (run : yaml_run_t) (events : List Event) (ending : Ending) : Type 0 where
   whole : run.events.items ≡ events → ending_of run.fault ≡ ending → RunsTo MayBreak run events ending
-  broken_off : (f : Fault) → MayBreak f → ending_of run.fault ≡ Fails f → RunsTo MayBreak run events ending
+  broken_off : (s : S) (f : Fault) → MayBreak s f → ending_of run.fault ≡ Fails f → RunsTo MayBreak run events ending

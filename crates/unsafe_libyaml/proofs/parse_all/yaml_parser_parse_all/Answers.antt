@@ -1,7 +1,6 @@
-use Rattle.std.proofs.Common.{List, ap, refl, subst, sym}
-use Rattle.libyaml_events.specs.Events.{Event}
+use Rattle.std.proofs.Common.{ap, refl, sym}
 use Rattle.libyaml_events.proofs.Running.{cut_run}
-use Rattle.unsafe_libyaml.proofs.WholeRuns.{Reached, if_ok, ran_to_end, ran_to_fault, reached_next, reached_start, tree_runs}
+use Rattle.unsafe_libyaml.proofs.WholeRuns.{if_ok, ran_to_end, ran_to_fault, reached_as, reached_next, reached_start, tree_runs}
 use Rattle.unsafe_libyaml.proofs.parse_all.yaml_parser_parse_all.Goals as goal
 
 pub loop-event-init : goal.loop-event-init
@@ -9,7 +8,7 @@ loop-event-init g c =
     let t = g.S.yaml_token_source_t in
     let parser = c.yaml_parser_initialize-parser in
     let start = reached_start t.known t.may_break _ parser.result parser.result parser.ensures.begins parser.ensures.running (parser.ensures.run_to_come t.known) in
-    subst (λ (given : List Event). Reached t.known c.args.source parser.result given) (sym c.new-events.ensures.items) start
+    reached_as t.known t.may_break _ parser.result parser.result _ _ c.new-events.ensures.items start
 
 pub loop-event-smaller : goal.loop-event-smaller
 loop-event-smaller g c = c.in-Ok.ensures.falls c.loop-event.invariant.running
@@ -20,7 +19,7 @@ loop-event-preserved g c =
     let call = c.yaml_parser_parse.ensures in
     let old = c.loop-event.invariant in
     let next = reached_next t.known t.may_break _ _ _ _ _ _ c.in-Ok.is (record { next = call.next_of_run; end = call.end_of_run; fault = call.fault_of_run }) t.gives old (c.in-Ok.ensures.carries_on old.running old.asked _ old.history) (sym c.if-is_last.ensures) in
-    subst (λ (given : List Event). Reached t.known c.args.source c.yaml_parser_parse.new.parser given) (sym c.in_ok-push-in-Ok.ensures.items) next
+    reached_as t.known t.may_break _ c.loop-event.parser c.yaml_parser_parse.new.parser _ _ c.in_ok-push-in-Ok.ensures.items next
 
 pub returns-then-is_last-clause-of_list : goal.returns-then-is_last-clause-of_list
 returns-then-is_last-clause-of_list g c =
