@@ -1,4 +1,4 @@
-//! Tokens and events as lines of text.
+//! Tokens, events and documents as lines of text.
 //!
 //! A user names this crate alone: the crates below it, for reading and for writing a line, are passed on.
 #![tactic(auto)]
@@ -7,7 +7,7 @@ pub mod laws;
 mod run;
 
 pub use line_reading::{MAX_LINE, yaml_line_source_t};
-pub use line_writing::{line_refusal_t, write_event, write_fault};
+pub use line_writing::{line_refusal_t, write_document, write_event, write_fault};
 pub use run::{Outcome, run_events, write_events};
 
 /// A run reads at most this many tokens.
