@@ -34,12 +34,3 @@ pub const MAX_LINE: usize = 1_048_576;
 
 /// A run reads at most this many tokens.
 pub const MAX_TOKENS: u64 = 1_000_000;
-
-#[cfg(test)]
-mod failing;
-#[cfg(test)]
-mod reading_tests;
-#[cfg(test)]
-mod run_tests;
-#[cfg(test)]
-mod writing_tests;

@@ -1,30 +1,24 @@
-use crate::failing::FailingReader;
-use crate::{MAX_LINE, MAX_TOKENS, yaml_line_source_t};
-use libyaml_events::{yaml_source_fault_t, yaml_token_source_t};
-use libyaml_types::{
-    Text, ZERO_MARK, unnamed_yaml_token_t_data, unnamed_yaml_token_t_data_alias,
-    unnamed_yaml_token_t_data_anchor, unnamed_yaml_token_t_data_scalar,
-    unnamed_yaml_token_t_data_stream_start, unnamed_yaml_token_t_data_tag,
-    unnamed_yaml_token_t_data_tag_directive, unnamed_yaml_token_t_data_version_directive,
-    yaml_encoding_t, yaml_error_type_t, yaml_mark_t, yaml_scalar_style_t, yaml_token_t,
-    yaml_token_type_t,
-};
+//! Token lines, read one by one.
+
+use row_notation::{EVERY_CALL, PieceReader, mark};
 use std::alloc::{AllocError, Global};
 use std::io::BufRead;
 use std::process::Abort;
 use std::test::Fail;
+use token_lines::{MAX_TOKENS, yaml_line_source_t};
+use unsafe_libyaml::{
+    Text, ZERO_MARK, unnamed_yaml_token_t_data, unnamed_yaml_token_t_data_alias,
+    unnamed_yaml_token_t_data_anchor, unnamed_yaml_token_t_data_scalar,
+    unnamed_yaml_token_t_data_stream_start, unnamed_yaml_token_t_data_tag,
+    unnamed_yaml_token_t_data_tag_directive, unnamed_yaml_token_t_data_version_directive,
+    yaml_encoding_t, yaml_error_type_t, yaml_event_type_t, yaml_mark_t, yaml_parser_delete,
+    yaml_parser_initialize, yaml_parser_parse, yaml_scalar_style_t, yaml_source_fault_t,
+    yaml_token_source_t, yaml_token_t, yaml_token_type_t,
+};
 
 /// The lines of a stream with one scalar.
 const STREAM: &[u8] =
     b"STREAM-START 0:0:0 1:0:1 utf8\nSCALAR 2:0:2 3:0:3 =a plain\nSTREAM-END 4:0:4 5:0:5\n";
-
-fn place(index: u64) -> yaml_mark_t {
-    yaml_mark_t {
-        index,
-        line: 0,
-        column: index,
-    }
-}
 
 fn stream_start(encoding: yaml_encoding_t) -> unnamed_yaml_token_t_data {
     unnamed_yaml_token_t_data::StreamStart(unnamed_yaml_token_t_data_stream_start { encoding })
@@ -49,7 +43,7 @@ fn version(major: i32, minor: i32) -> unnamed_yaml_token_t_data {
 }
 
 /// That the fault is this one, of a source that has given so many tokens.
-fn assert_fault(
+pub(crate) fn assert_fault(
     rt: &impl Abort,
     fault: yaml_source_fault_t,
     error: yaml_error_type_t,
@@ -60,12 +54,12 @@ fn assert_fault(
     assert_eq!(rt; fault.problem(), Some(problem));
     assert_eq!(rt; fault.problem_offset(), given);
     assert_eq!(rt; fault.problem_value(), -1);
-    let mark = yaml_mark_t {
+    let behind = yaml_mark_t {
         index: given,
         line: given,
         column: 0,
     };
-    assert_eq!(rt; fault.problem_mark(), mark);
+    assert_eq!(rt; fault.problem_mark(), behind);
     assert_eq!(rt; fault.context(), None);
     assert_eq!(rt; fault.context_mark(), ZERO_MARK);
 }
@@ -74,7 +68,7 @@ fn assert_fault(
 fn assert_reads(rt: &impl Abort, alloc: Global, line: &[u8], content: unnamed_yaml_token_t_data) {
     let mut source = yaml_line_source_t::new(alloc, line, MAX_TOKENS);
     let token = source.next_token().ok().expect(rt, "a token");
-    assert_eq!(rt; token, yaml_token_t::new(content, place(7), place(8)));
+    assert_eq!(rt; token, yaml_token_t::new(content, mark(7), mark(8)));
 }
 
 #[test]
@@ -140,8 +134,8 @@ fn tokens_without_payload(rt: HostRuntime) {
         let mut source = yaml_line_source_t::new(alloc, line, MAX_TOKENS);
         let token = source.next_token().ok().expect(&rt, "a token");
         assert_eq!(rt; token.type_(), want);
-        assert_eq!(rt; token.start_mark, place(7));
-        assert_eq!(rt; token.end_mark, place(8));
+        assert_eq!(rt; token.start_mark, mark(7));
+        assert_eq!(rt; token.end_mark, mark(8));
     }
 }
 
@@ -266,12 +260,12 @@ fn the_largest_number_in_a_mark(rt: HostRuntime) {
     let line = b"KEY 0:0:18446744073709551615 0:0:0".as_slice();
     let mut source = yaml_line_source_t::new(rt.alloc(), line, MAX_TOKENS);
     let token = source.next_token().ok().expect(&rt, "a token");
-    let mark = yaml_mark_t {
+    let last = yaml_mark_t {
         index: 0,
         line: 0,
         column: u64::MAX,
     };
-    assert_eq!(rt; token.start_mark, mark);
+    assert_eq!(rt; token.start_mark, last);
     assert_eq!(rt; token.end_mark, ZERO_MARK);
 }
 
@@ -394,7 +388,7 @@ fn at_most_as_many_tokens_as_are_allowed(rt: HostRuntime) {
     let mut source = yaml_line_source_t::new(alloc, STREAM, 1);
     let token = source.next_token().ok().expect(&rt, "the only token");
     let content = stream_start(yaml_encoding_t::YAML_UTF8_ENCODING);
-    assert_eq!(rt; token, yaml_token_t::new(content, place(0), place(1)));
+    assert_eq!(rt; token, yaml_token_t::new(content, mark(0), mark(1)));
     for _ in 0..3 {
         let fault = source.next_token().err().expect(&rt, "the bound");
         assert_fault(
@@ -425,7 +419,7 @@ fn what_follows_stays_in_the_reader(rt: HostRuntime) -> Result<(), Fail> {
 fn a_line_in_pieces(rt: HostRuntime) {
     let alloc = rt.alloc();
     for step in [1, 2, 7] {
-        let reader = FailingReader::new(STREAM, step, usize::MAX);
+        let reader = PieceReader::new(STREAM, step, EVERY_CALL);
         let mut source = yaml_line_source_t::new(alloc, reader, MAX_TOKENS);
         assert_stream(&rt, &mut source);
         let fault = source.next_token().err().expect(&rt, "the end");
@@ -455,7 +449,7 @@ fn a_read_that_fails(rt: HostRuntime) {
         (8, 2),
         (9, 3),
     ] {
-        let reader = FailingReader::new(STREAM, 10, looks_left);
+        let reader = PieceReader::new(STREAM, 10, looks_left);
         let mut source = yaml_line_source_t::new(alloc, reader, MAX_TOKENS);
         for _ in 0..given {
             assert!(rt; source.next_token().is_ok(), "after {looks_left} looks");
@@ -473,72 +467,20 @@ fn a_read_that_fails(rt: HostRuntime) {
     }
 }
 
-/// A line of so many bytes with a scalar of `x`, behind a stream's start.
-fn long_line(alloc: Global, len: usize) -> Result<Vec<u8>, AllocError> {
-    let mut input = b"STREAM-START 0:0:0 1:0:1 utf8\nSCALAR 2:0:2 3:0:3 =".to_vec(alloc)?;
-    for _ in 0..len.saturating_sub(26) {
-        input.push(b'x')?;
-    }
-    input.extend_from_slice(b" plain\nSTREAM-END 4:0:4 5:0:5\n")?;
-    Ok(input)
-}
-
 #[test]
-fn the_longest_line(rt: HostRuntime) -> Result<(), Fail> {
-    let alloc = rt.alloc();
-    let input = long_line(alloc, MAX_LINE)?;
-    let mut source = yaml_line_source_t::new(alloc, input.as_slice(), MAX_TOKENS);
-    assert_stream(&rt, &mut source);
-
-    let input = long_line(alloc, MAX_LINE + 1)?;
-    let mut source = yaml_line_source_t::new(alloc, input.as_slice(), MAX_TOKENS);
-    assert!(rt; source.next_token().is_ok());
-    for _ in 0..2 {
-        let fault = source.next_token().err().expect(&rt, "a long line");
-        assert_fault(
-            &rt,
-            fault,
-            yaml_error_type_t::YAML_READER_ERROR,
-            "line too long",
-            1,
-        );
-    }
-    Ok(())
-}
-
-/// Lines whose tokens have a text, plain and with escapes, and two.
-const TEXTS: &[u8] =
-    b"TAG-DIRECTIVE 0:0:0 0:0:0 =!e! =p%20q\nANCHOR 0:0:0 0:0:0 =a\nTAG 0:0:0 0:0:0 =!e! =x\nSCALAR 0:0:0 0:0:0 =a%20text plain\nKEY 0:0:0 0:0:0\n";
-
-// Passes whichever growth is refused.
-#[test]
-fn a_refused_growth_is_kept(rt: HostRuntime) {
-    let alloc = rt.alloc();
-    let mut source = yaml_line_source_t::new(alloc, TEXTS, MAX_TOKENS);
-    let mut gives_all = true;
+fn the_reader_of_a_deleted_parser_holds_what_follows(rt: HostRuntime) -> Result<(), Fail> {
+    let input = [STREAM, b"junk"].concat(rt.alloc())?;
+    let source = yaml_line_source_t::new(rt.alloc(), input.as_slice(), MAX_TOKENS);
+    let mut parser = yaml_parser_initialize(rt.alloc(), source);
+    let mut last = yaml_event_type_t::YAML_NO_EVENT;
     for _ in 0..5 {
-        gives_all &= source.next_token().is_ok();
+        let Ok(event) = yaml_parser_parse(&mut parser) else {
+            panic!(rt; "a fault behind {last:?}");
+        };
+        last = event.type_();
     }
-    let fault = source.next_token().err().expect(&rt, "a fault");
-    if fault.error() == yaml_error_type_t::YAML_MEMORY_ERROR {
-        for _ in 0..2 {
-            let fault = source.next_token().err().expect(&rt, "a refused growth");
-            assert_eq!(rt; fault.error(), yaml_error_type_t::YAML_MEMORY_ERROR);
-            assert_eq!(rt; fault.problem(), None);
-            assert_eq!(rt; fault.problem_offset(), 0);
-            assert_eq!(rt; fault.problem_value(), 0);
-            assert_eq!(rt; fault.problem_mark(), ZERO_MARK);
-            assert_eq!(rt; fault.context(), None);
-            assert_eq!(rt; fault.context_mark(), ZERO_MARK);
-        }
-    } else {
-        assert!(rt; gives_all);
-        assert_fault(
-            &rt,
-            fault,
-            yaml_error_type_t::YAML_READER_ERROR,
-            "no more tokens",
-            5,
-        );
-    }
+    assert_eq!(rt; last, yaml_event_type_t::YAML_STREAM_END_EVENT);
+    let reader = yaml_parser_delete(parser).into_reader();
+    assert_eq!(rt; reader, b"junk".as_slice());
+    Ok(())
 }

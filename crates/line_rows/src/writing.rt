@@ -1,30 +1,24 @@
-use crate::failing::FailingWriter;
-use crate::{line_refusal_t, write_event, write_fault};
-use libyaml_events::{NO_FAULT, yaml_parser_t_prefix};
-use libyaml_types::{
-    TagDirectives, Text, ZERO_MARK, unnamed_yaml_event_t_data, unnamed_yaml_event_t_data_alias,
-    unnamed_yaml_event_t_data_document_end, unnamed_yaml_event_t_data_document_start,
-    unnamed_yaml_event_t_data_mapping_start, unnamed_yaml_event_t_data_scalar,
-    unnamed_yaml_event_t_data_sequence_start, unnamed_yaml_event_t_data_stream_start,
-    yaml_encoding_t, yaml_error_type_t, yaml_event_t, yaml_mapping_style_t, yaml_mark_t,
-    yaml_scalar_style_t, yaml_sequence_style_t, yaml_tag_directive_t, yaml_version_directive_t,
-};
+//! Events and faults, written as lines.
+
+use row_notation::{PieceWriter, mark};
 use std::alloc::{AllocError, Global};
 use std::test::Fail;
-
-fn place(index: u64) -> yaml_mark_t {
-    yaml_mark_t {
-        index,
-        line: 0,
-        column: index,
-    }
-}
+use token_lines::{line_refusal_t, write_event, write_fault};
+use unsafe_libyaml::{
+    NO_FAULT, TagDirectives, Text, ZERO_MARK, unnamed_yaml_event_t_data,
+    unnamed_yaml_event_t_data_alias, unnamed_yaml_event_t_data_document_end,
+    unnamed_yaml_event_t_data_document_start, unnamed_yaml_event_t_data_mapping_start,
+    unnamed_yaml_event_t_data_scalar, unnamed_yaml_event_t_data_sequence_start,
+    unnamed_yaml_event_t_data_stream_start, yaml_encoding_t, yaml_error_type_t, yaml_event_t,
+    yaml_mapping_style_t, yaml_mark_t, yaml_parser_t_prefix, yaml_scalar_style_t,
+    yaml_sequence_style_t, yaml_tag_directive_t, yaml_version_directive_t,
+};
 
 fn event(content: unnamed_yaml_event_t_data, start: u64, end: u64) -> yaml_event_t {
     yaml_event_t {
         content,
-        start_mark: place(start),
-        end_mark: place(end),
+        start_mark: mark(start),
+        end_mark: mark(end),
     }
 }
 
@@ -342,9 +336,9 @@ fn content_fault() -> yaml_parser_t_prefix {
     yaml_parser_t_prefix {
         error: yaml_error_type_t::YAML_PARSER_ERROR,
         problem: Some("did not find expected node content"),
-        problem_mark: place(2),
+        problem_mark: mark(2),
         context: Some("while parsing a block node"),
-        context_mark: place(1),
+        context_mark: mark(1),
         ..NO_FAULT
     }
 }
@@ -408,14 +402,14 @@ fn each_write_failing_in_turn(rt: HostRuntime) -> Result<(), Fail> {
     let mut whole = Vec::new(alloc);
     write_fault(&content_fault(), &mut whole)?;
     for calls in 0..whole.len() {
-        let mut writer = FailingWriter::new(alloc, 1, calls);
+        let mut writer = PieceWriter::new(alloc, 1, calls);
         let refused = write_fault(&content_fault(), &mut writer);
         assert_eq!(rt; refused, Err(line_refusal_t::Output));
-        assert_eq!(rt; writer.written.as_slice(), &whole[..calls]);
+        assert_eq!(rt; writer.written(), &whole[..calls]);
     }
     let end = event(unnamed_yaml_event_t_data::StreamEnd, 4, 5);
     for calls in 0..23usize {
-        let mut writer = FailingWriter::new(alloc, 1, calls);
+        let mut writer = PieceWriter::new(alloc, 1, calls);
         let refused = write_event(alloc, &end, &mut writer);
         assert_eq!(rt; refused, Err(line_refusal_t::Output));
     }
