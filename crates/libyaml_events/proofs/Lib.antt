@@ -57,3 +57,4 @@ pub mod SlotCalls
 pub mod Headline
 pub mod NextEvents
 pub mod CallsInTurn
+pub mod NestingSoFar
