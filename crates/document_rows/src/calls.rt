@@ -66,7 +66,7 @@ fn items_stand_in_the_order_of_their_calls(rt: HostRuntime) -> Result<(), Fail> 
     assert_eq!(rt; (list, word), (1, 2));
     assert_eq!(rt;
         shown(rt.alloc(), &document)?.as_str(),
-        "+Di(0) !!seqany[2 1](0,0) !!str=a(0,0) -Di(0)"
+        "+Di(0) any!!seq[2 1](0,0) !!str=a(0,0) -Di(0)"
     );
     Ok(())
 }
@@ -79,7 +79,7 @@ fn a_pair_is_a_key_and_its_value(rt: HostRuntime) -> Result<(), Fail> {
     yaml_document_append_mapping_pair(&mut document, map, word, map)?;
     assert_eq!(rt;
         shown(rt.alloc(), &document)?.as_str(),
-        "+Di(0) !!mapblock{2:1}(0,0) !!str=a(0,0) -Di(0)"
+        "+Di(0) block!!map{2:1}(0,0) !!str=a(0,0) -Di(0)"
     );
     Ok(())
 }
@@ -93,7 +93,7 @@ fn a_given_tag_stays(rt: HostRuntime) -> Result<(), Fail> {
     yaml_document_add_mapping(&mut document, None, YAML_ANY_MAPPING_STYLE)?;
     assert_eq!(rt;
         shown(rt.alloc(), &document)?.as_str(),
-        "+Di(0) <!>double=(0,0) <>block[](0,0) !!mapany{}(0,0) -Di(0)"
+        "+Di(0) double<!>=(0,0) block<>[](0,0) any!!map{}(0,0) -Di(0)"
     );
     Ok(())
 }

@@ -1,7 +1,7 @@
 //! Rows of lines: token lines as they are read, event lines as they are written, and whole runs.
 //!
 //! The program makes each run of `rows` through readers and writers that cut their bytes, and says how
-//! many differ from what is expected.
+//! many differ from what is expected. Then it runs over more lines than are read.
 #![tactic(auto)]
 
 #[cfg(test)]
@@ -14,7 +14,7 @@ mod runs;
 #[cfg(test)]
 mod writing;
 
-use row_notation::{EVERY_CALL, PieceReader, PieceWriter};
+use row_notation::{EVERY_CALL, LineCounter, PieceReader, PieceWriter, RepeatingReader};
 use rows::RUNS;
 use std::alloc::Global;
 use std::io;
@@ -31,6 +31,18 @@ fn gives(alloc: Global, tokens: &str, piece: usize, lines: &str, outcome: Outcom
     ended == outcome && writer.written() == lines.as_bytes()
 }
 
+/// Runs over the start of a stream and so many open sequences, and says what was written.
+fn run_open_sequences(rt: &(impl Print + AllocGlobal), sequences: u64) -> io::Result<()> {
+    let front = b"STREAM-START 0:0:0 0:0:0 utf8\n";
+    let line = b"FLOW-SEQUENCE-START 0:0:0 0:0:0\n";
+    let mut reader = RepeatingReader::new(front, line, sequences);
+    let mut writer = LineCounter::new(rt.alloc());
+    let ended = run_events(rt.alloc(), &mut reader, &mut writer);
+    let lines = writer.lines();
+    let last = str::from_utf8(writer.last()).unwrap_or("no text\n");
+    print!(rt; "{sequences} sequences, {lines} lines, {ended:?}: {last}")
+}
+
 fn main(rt: HostRuntime) -> io::Result<()> {
     let mut runs = 0u64;
     let mut differ = 0u64;
@@ -44,5 +56,6 @@ fn main(rt: HostRuntime) -> io::Result<()> {
         }
     }
     println!(rt; "{runs} runs, {differ} differ")?;
-    Ok(())
+    run_open_sequences(&rt, 2)?;
+    run_open_sequences(&rt, 1_000_000)
 }

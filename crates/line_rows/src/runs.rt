@@ -1,8 +1,8 @@
-//! Whole runs: where the reader or the writer fails, lines that are alone, the ends of lines, and the
-//! two bounds.
+//! Whole runs: where the reader or the writer fails, lines that are alone, the ends of lines, and
+//! the longest line.
 
 use crate::rows::{ONE_SCALAR, ONE_SCALAR_EVENTS, RUNS};
-use row_notation::{EVERY_CALL, PieceReader, PieceWriter, RepeatingReader};
+use row_notation::{EVERY_CALL, PieceReader, PieceWriter};
 use std::alloc::{AllocError, Global};
 use std::test::Fail;
 use token_lines::{MAX_LINE, MAX_TOKENS, Outcome, run_events, write_events, yaml_line_source_t};
@@ -277,38 +277,6 @@ fn the_longest_line(rt: HostRuntime) -> Result<(), Fail> {
             "in pieces of {piece}"
         );
     }
-    Ok(())
-}
-
-/// Whether these are the lines of a stream with so many open sequences, and then the fault.
-fn are_open_sequences(written: &str, sequences: u64, fault: &str) -> bool {
-    let mut lines = written.split_inclusive('\n');
-    let starts = lines.next() == Some("STREAM-START 0:0:0 0:0:0 utf8\n")
-        && lines.next() == Some("DOCUMENT-START 0:0:0 0:0:0 1 - 0\n");
-    let mut found = 0u64;
-    for line in lines {
-        if found == sequences {
-            return starts && line == fault;
-        }
-        if line != "SEQUENCE-START 0:0:0 0:0:0 - - 1 flow\n" {
-            return false;
-        }
-        found = found.wrapping_add(1);
-    }
-    false
-}
-
-#[test]
-fn at_most_a_million_tokens(rt: HostRuntime) -> Result<(), Fail> {
-    let front = b"STREAM-START 0:0:0 0:0:0 utf8\n";
-    let line = b"FLOW-SEQUENCE-START 0:0:0 0:0:0\n";
-    let mut reader = RepeatingReader::new(front, line, 1_000_000);
-    let mut written = Vec::new(rt.alloc());
-    let ended = run_events(rt.alloc(), &mut reader, &mut written);
-    assert_eq!(rt; ended, Outcome::Faulted);
-    let text = str::from_utf8(written.as_slice())?;
-    let fault = "FAULT reader 1000000:1000000:0 too many tokens\n";
-    assert!(rt; are_open_sequences(text, 999_999, fault));
     Ok(())
 }
 

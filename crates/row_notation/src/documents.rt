@@ -4,9 +4,8 @@ use crate::events::{document_end, show_directives, show_mark, show_marks, word_o
 use anyhow::Result;
 use std::fmt::Write;
 use unsafe_libyaml::{
-    unnamed_yaml_node_t_data, unnamed_yaml_node_t_data_mapping, unnamed_yaml_node_t_data_scalar,
-    unnamed_yaml_node_t_data_sequence, yaml_document_t, yaml_mapping_style_t, yaml_node_t,
-    yaml_sequence_style_t,
+    unnamed_yaml_node_t_data, unnamed_yaml_node_t_data_mapping, unnamed_yaml_node_t_data_sequence,
+    yaml_document_t, yaml_mapping_style_t, yaml_node_t, yaml_sequence_style_t,
 };
 
 fn show_tag(shown: &mut String, tag: &str) -> Result<()> {
@@ -17,19 +16,8 @@ fn show_tag(shown: &mut String, tag: &str) -> Result<()> {
     Ok(())
 }
 
-fn show_scalar(shown: &mut String, scalar: &unnamed_yaml_node_t_data_scalar) -> Result<()> {
-    let style = word_of_style(scalar.style);
-    let value = &scalar.value;
-    write!(shown, "{style}={value}")?;
-    Ok(())
-}
-
-fn show_sequence(shown: &mut String, sequence: &unnamed_yaml_node_t_data_sequence) -> Result<()> {
-    shown.push_str(match sequence.style {
-        yaml_sequence_style_t::YAML_ANY_SEQUENCE_STYLE => "any[",
-        yaml_sequence_style_t::YAML_BLOCK_SEQUENCE_STYLE => "block[",
-        yaml_sequence_style_t::YAML_FLOW_SEQUENCE_STYLE => "[",
-    })?;
+fn show_items(shown: &mut String, sequence: &unnamed_yaml_node_t_data_sequence) -> Result<()> {
+    shown.push_str("[")?;
     let mut gap = "";
     for item in sequence.items.as_slice() {
         write!(shown, "{gap}{item}")?;
@@ -39,12 +27,8 @@ fn show_sequence(shown: &mut String, sequence: &unnamed_yaml_node_t_data_sequenc
     Ok(())
 }
 
-fn show_mapping(shown: &mut String, mapping: &unnamed_yaml_node_t_data_mapping) -> Result<()> {
-    shown.push_str(match mapping.style {
-        yaml_mapping_style_t::YAML_ANY_MAPPING_STYLE => "any{",
-        yaml_mapping_style_t::YAML_BLOCK_MAPPING_STYLE => "block{",
-        yaml_mapping_style_t::YAML_FLOW_MAPPING_STYLE => "{",
-    })?;
+fn show_pairs(shown: &mut String, mapping: &unnamed_yaml_node_t_data_mapping) -> Result<()> {
+    shown.push_str("{")?;
     let mut gap = "";
     for pair in mapping.pairs.as_slice() {
         let key = pair.key;
@@ -56,12 +40,33 @@ fn show_mapping(shown: &mut String, mapping: &unnamed_yaml_node_t_data_mapping) 
     Ok(())
 }
 
+/// The word for a node's style, which is none for a plain scalar and a flow collection.
+fn word_of_node(content: &unnamed_yaml_node_t_data) -> &'static str {
+    match content {
+        unnamed_yaml_node_t_data::Scalar(scalar) => word_of_style(scalar.style),
+        unnamed_yaml_node_t_data::Sequence(sequence) => match sequence.style {
+            yaml_sequence_style_t::YAML_ANY_SEQUENCE_STYLE => "any",
+            yaml_sequence_style_t::YAML_BLOCK_SEQUENCE_STYLE => "block",
+            yaml_sequence_style_t::YAML_FLOW_SEQUENCE_STYLE => "",
+        },
+        unnamed_yaml_node_t_data::Mapping(mapping) => match mapping.style {
+            yaml_mapping_style_t::YAML_ANY_MAPPING_STYLE => "any",
+            yaml_mapping_style_t::YAML_BLOCK_MAPPING_STYLE => "block",
+            yaml_mapping_style_t::YAML_FLOW_MAPPING_STYLE => "",
+        },
+    }
+}
+
 fn show_node(shown: &mut String, node: &yaml_node_t) -> Result<()> {
+    shown.push_str(word_of_node(&node.content))?;
     show_tag(shown, node.tag.as_str())?;
     match &node.content {
-        unnamed_yaml_node_t_data::Scalar(scalar) => show_scalar(shown, scalar)?,
-        unnamed_yaml_node_t_data::Sequence(sequence) => show_sequence(shown, sequence)?,
-        unnamed_yaml_node_t_data::Mapping(mapping) => show_mapping(shown, mapping)?,
+        unnamed_yaml_node_t_data::Scalar(scalar) => {
+            let value = &scalar.value;
+            write!(shown, "={value}")?;
+        }
+        unnamed_yaml_node_t_data::Sequence(sequence) => show_items(shown, sequence)?,
+        unnamed_yaml_node_t_data::Mapping(mapping) => show_pairs(shown, mapping)?,
     }
     show_marks(shown, node.start_mark, node.end_mark)
 }

@@ -6,7 +6,7 @@ use std::fmt::Write;
 use unsafe_libyaml::{ZERO_MARK, yaml_error_type_t, yaml_parser_t_prefix};
 
 /// Whether two prefixes are equal in all fields.
-pub(crate) fn are_same(one: &yaml_parser_t_prefix, other: &yaml_parser_t_prefix) -> bool {
+pub fn are_same_faults(one: &yaml_parser_t_prefix, other: &yaml_parser_t_prefix) -> bool {
     one.error == other.error
         && one.problem == other.problem
         && one.problem_offset == other.problem_offset

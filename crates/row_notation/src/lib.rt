@@ -12,8 +12,8 @@
 //! plain. Then come both marks in parentheses.
 //!
 //! Documents: the start as in events with its one mark, the nodes in the order of their ids, and the end
-//! with its one mark. A node has its tag, its style where that is neither plain nor flow, its content
-//! and both marks: `!!str=a(2,3)`, `<p:x>double=a(2,3)`, `!!seq[2 3](2,9)`, `!!map{2:3 4:5}(2,17)`. A
+//! with its one mark. A node has its style where that is neither plain nor flow, its tag, its content
+//! and both marks: `!!str=a(2,3)`, `double<p:x>=a(2,3)`, `!!seq[2 3](2,9)`, `block!!map{2:3}(2,17)`. A
 //! tag that begins with `tag:yaml.org,2002:` is shown by `!!` and the rest, any other in `<` and `>`.
 //!
 //! Faults: the number of the error, the problem and its mark, then context and mark, and the offset and
@@ -29,7 +29,7 @@ mod tokens;
 
 pub use documents::show_document;
 pub use events::{mark, show_event};
-pub use faults::show_fault;
-pub use pieces::{EVERY_CALL, FixedWriter, PieceReader, PieceWriter, RepeatingReader};
+pub use faults::{are_same_faults, show_fault};
+pub use pieces::{EVERY_CALL, FixedWriter, LineCounter, PieceReader, PieceWriter, RepeatingReader};
 pub use runs::{is_empty, is_over, parsed, show_run};
 pub use tokens::{end_of_row, source_of, tokens_of};

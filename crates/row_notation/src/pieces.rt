@@ -140,6 +140,53 @@ impl Write for FixedWriter {
     }
 }
 
+/// Counts the lines that are written, and keeps the last alone.
+#[derive(Drop)]
+pub struct LineCounter {
+    lines: u64,
+    last: Vec<u8>,
+    is_whole: bool,
+}
+
+impl LineCounter {
+    /// A writer that has written nothing. Takes no memory.
+    pub fn new(alloc: Global) -> Self {
+        LineCounter {
+            lines: 0,
+            last: Vec::new(alloc),
+            is_whole: false,
+        }
+    }
+
+    /// How many lines were written, each with its LF.
+    pub fn lines(&self) -> u64 {
+        self.lines
+    }
+
+    /// The last line, with its LF where that was written.
+    pub fn last(&self) -> &[u8] {
+        self.last.as_slice()
+    }
+}
+
+impl Write for LineCounter {
+    fn write(&mut self, buf: &[u8]) -> io::Result<usize> {
+        for byte in buf {
+            if self.is_whole {
+                self.last.clear();
+            }
+            self.last.push(*byte)?;
+            self.is_whole = *byte == b'\n';
+            self.lines = self.lines.saturating_add(u64::from(self.is_whole));
+        }
+        Ok(buf.len())
+    }
+
+    fn flush(&mut self) -> io::Result<()> {
+        Ok(())
+    }
+}
+
 /// Hands out a front, and then one line again and again.
 #[derive(Drop)]
 pub struct RepeatingReader<'a> {

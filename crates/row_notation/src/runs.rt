@@ -1,7 +1,7 @@
 //! Whole runs, shown.
 
 use crate::events::show_event;
-use crate::faults::{are_same, show_fault};
+use crate::faults::{are_same_faults, show_fault};
 use crate::tokens::source_of;
 use anyhow::Result;
 use std::alloc::Global;
@@ -25,7 +25,7 @@ pub fn is_over<S: yaml_token_source_t>(parser: &mut yaml_parser_t<S>) -> bool {
             Ok(event) if is_empty(&event) => {}
             _ => return false,
         }
-        if !are_same(&kept, parser.prefix()) {
+        if !are_same_faults(&kept, parser.prefix()) {
             return false;
         }
     }

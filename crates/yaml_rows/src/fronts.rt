@@ -29,7 +29,15 @@ fn ends_of_sources() -> [yaml_source_fault_t; 3] {
     [
         yaml_source_fault_t::new(YAML_MEMORY_ERROR, None, 1, -1, mark(99), context, mark(98)),
         yaml_source_fault_t::new(YAML_READER_ERROR, problem, 2, -2, mark(99), None, mark(98)),
-        yaml_source_fault_t::new(YAML_SCANNER_ERROR, problem, 3, -3, mark(99), context, mark(98)),
+        yaml_source_fault_t::new(
+            YAML_SCANNER_ERROR,
+            problem,
+            3,
+            -3,
+            mark(99),
+            context,
+            mark(98),
+        ),
     ]
 }
 

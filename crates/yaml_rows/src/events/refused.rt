@@ -1,7 +1,7 @@
 //! Each growth of a parser refused in turn: run with the Nth allocation failing, for each N
 //! (`examples/refused_growths.sh`). One growth is refused at most, and whatever met it is done again.
 
-use row_notation::{is_over, source_of};
+use row_notation::{are_same_faults, is_over, source_of};
 use std::process::Abort;
 use unsafe_libyaml::{
     NO_FAULT, yaml_error_type_t, yaml_parser_initialize, yaml_parser_parse, yaml_parser_t_prefix,
@@ -25,12 +25,12 @@ fn meets_a_refusal(rt: &(impl Abort + AllocGlobal)) -> bool {
         if let Err(error) = yaml_parser_parse(&mut parser) {
             assert_eq!(rt; error, yaml_error_type_t::YAML_MEMORY_ERROR);
             let kept = yaml_parser_t_prefix { error, ..NO_FAULT };
-            assert!(rt; *parser.prefix() == kept);
+            assert!(rt; are_same_faults(parser.prefix(), &kept));
             assert!(rt; is_over(&mut parser));
             return true;
         }
     }
-    assert!(rt; *parser.prefix() == NO_FAULT);
+    assert!(rt; are_same_faults(parser.prefix(), &NO_FAULT));
     assert!(rt; is_over(&mut parser));
     false
 }
