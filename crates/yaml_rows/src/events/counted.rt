@@ -1,18 +1,17 @@
 //! How many tokens a parser asks for before each event.
 
 ghost use Rattle.std.specs.Prelude.{◌≡◌, None, length};
-ghost use Rattle.libyaml_events.specs.Source.{coming, list_answer, rest};
-ghost use Rattle.libyaml_events.specs.ListLaws.{list_falls, list_repeats};
+ghost use Rattle.unsafe_libyaml.specs.Source.{coming, list_answer, rest};
+ghost use Rattle.unsafe_libyaml.specs.ListLaws.{list_falls, list_repeats};
 
-use crate::notation::{end_of_row, tokens_of};
-use libyaml_events::{
-    yaml_list_source_t, yaml_parser_delete, yaml_parser_initialize, yaml_parser_parse,
-    yaml_source_fault_t, yaml_token_source_t,
-};
-use libyaml_types::{unnamed_yaml_event_t_data, yaml_token_t};
+use row_notation::{is_empty, source_of};
 use std::alloc::Global;
 use std::fmt::Write;
 use std::test::Fail;
+use unsafe_libyaml::{
+    yaml_list_source_t, yaml_parser_delete, yaml_parser_initialize, yaml_parser_parse,
+    yaml_source_fault_t, yaml_token_source_t, yaml_token_t,
+};
 
 /// A list source that doesn't make its list known, and counts how often it was asked.
 #[derive(Drop)]
@@ -59,12 +58,12 @@ const COUNTS: [(&str, &str, u64); 3] = [
 
 /// The tokens asked for by so many calls over a row, and whether the last of them gave an event.
 fn asked_by(alloc: Global, row: &str, calls: u64) -> Result<(u64, bool), Fail> {
-    let list = yaml_list_source_t::new(tokens_of(alloc, row)?, end_of_row());
+    let list = source_of(alloc, row)?;
     let mut parser = yaml_parser_initialize(alloc, CountedSource { list, asked: 0 });
     let mut gave = false;
     for _ in 0..calls {
         gave = match yaml_parser_parse(&mut parser) {
-            Ok(event) => !matches!(event.content, unnamed_yaml_event_t_data::NoEvent),
+            Ok(event) => !is_empty(&event),
             Err(_) => false,
         };
     }

@@ -1,6 +1,6 @@
 //! Rows with a fault, with their bad token and all behind it replaced by an end.
 
-use crate::notation::parsed;
+use row_notation::parsed;
 use std::test::Fail;
 
 /// A name, the tokens before the bad one with an end, and what parsing gives.
