@@ -7,8 +7,8 @@ use Rattle.libyaml_events.specs.Events.{events}
 use Rattle.libyaml_events.specs.CutTrees.{Cut, at_tag, at_tag_behind, declared}
 use Rattle.libyaml_events.specs.CutEvents.{cut_events}
 use Rattle.libyaml_events.specs.CutFaults.{fault}
-use Rattle.libyaml_events.specs.Fits.{Fits, HasCut, IsUnknown}
-use Rattle.libyaml_events.specs.Sentences.{IsSentence, is_end, has_end}
+use Rattle.libyaml_events.specs.Fits.{Fits, IsUnknown}
+use Rattle.libyaml_events.specs.Sentences.{is_end, has_end}
 use Rattle.libyaml_events.specs.Runs.{Ends, Fails, IsRun, has_token, is_behind, is_behind_properties, RunsWhole, to_its_end, to_its_fault}
 use Rattle.libyaml_events.proofs.Lists.{nil_right}
 use Rattle.libyaml_events.proofs.Running.{sentence_run, cut_run}

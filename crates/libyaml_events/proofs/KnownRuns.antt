@@ -174,7 +174,7 @@ all_waited : (c : Cut) (l : List Token) → HasWaited c l → is_behind_properti
 all_waited c l (at_once e f) = ap (is_behind_properties c) e ∙ f
 all_waited c l (by_last front t e f g) = g
 
-module _ {S : Type 0} (gives_to : S → Answer → S → Type 0) (known : S → Option Coming) (MayBreak : Fault → Type 0) (follows : (s t : S) (a : Answer) → gives_to s a t → Follows MayBreak (known s) a (known t)) where
+module _ {S : Type 0} (gives_to : S → Answer → S → Type 0) (known : S → Option Coming) (MayBreak : S → Fault → Type 0) (follows : (s t : S) (a : Answer) → gives_to s a t → Follows (MayBreak t) (known s) a (known t)) where
   -- tokens that a known source gave are the front of its list
   record Front (more list : List Token) (f : Fault) (t : S) : Type 0 where
     rest : List Token
@@ -183,27 +183,27 @@ module _ {S : Type 0} (gives_to : S → Answer → S → Type 0) (known : S → 
 
   in_order : (more : List Token) (s t : S) → Gave gives_to s (answers more []) t → (list : List Token) (f : Fault) → known s ≡ Some (coming list f) → Front more list f t
   in_order [] s t g list f k = record { rest = list; all = refl; knows = ap known g ∙ k }
-  in_order (x ∷ more) s t g list f k = go list (subst (λ (y : Option Coming). Follows MayBreak y (Ok x) (known g.0)) k (follows s g.0 (Ok x) g.1)) (λ l h. in_order more g.0 t g.2 l f h)
+  in_order (x ∷ more) s t g list f k = go list (subst (λ (y : Option Coming). Follows (MayBreak g.0) y (Ok x) (known g.0)) k (follows s g.0 (Ok x) g.1)) (λ l h. in_order more g.0 t g.2 l f h)
     where
-      go : (list : List Token) → FollowsList MayBreak list f (Ok x) (known g.0) → ((l : List Token) → known g.0 ≡ Some (coming l f) → Front more l f t) → Front (x ∷ more) list f t
+      go : (list : List Token) → FollowsList (MayBreak g.0) list f (Ok x) (known g.0) → ((l : List Token) → known g.0 ≡ Some (coming l f) → Front more l f t) → Front (x ∷ more) list f t
       go [] h ih = absurd h
       go (u ∷ list) h ih = let i = ih list h.1 in record { rest = i.rest; all = ap (λ (l : List Token). u ∷ l) i.all ∙ ap (λ (y : Token). y ∷ (more ++ i.rest)) (sym h.0); knows = i.knows }
 
   -- a fault that a known source gave ends its list, or breaks it off
-  to_the_end : (more : List Token) (e : Fault) (s t : S) → Gave gives_to s (answers more (Err e ∷ [])) t → (list : List Token) (f : Fault) → known s ≡ Some (coming list f) → ((list ≡ more) × (e ≡ f)) ⊎ MayBreak e
-  to_the_end [] e s t g list f k = go list (subst (λ (y : Option Coming). Follows MayBreak y (Err e) (known g.0)) k (follows s g.0 (Err e) g.1))
+  to_the_end : (more : List Token) (e : Fault) (s t : S) → Gave gives_to s (answers more (Err e ∷ [])) t → (list : List Token) (f : Fault) → known s ≡ Some (coming list f) → ((list ≡ more) × (e ≡ f)) ⊎ MayBreak t e
+  to_the_end [] e s t g list f k = go list (subst (λ (y : Option Coming). Follows (MayBreak g.0) y (Err e) (known g.0)) k (follows s g.0 (Err e) g.1))
     where
-      go : (list : List Token) → FollowsList MayBreak list f (Err e) (known g.0) → ((list ≡ []) × (e ≡ f)) ⊎ MayBreak e
+      go : (list : List Token) → FollowsList (MayBreak g.0) list f (Err e) (known g.0) → ((list ≡ []) × (e ≡ f)) ⊎ MayBreak t e
       go [] (inl h, i) = inl (refl, h)
-      go [] (inr h, i) = inr h
-      go (u ∷ list) (h, i) = inr h
-  to_the_end (x ∷ more) e s t g list f k = go list (subst (λ (y : Option Coming). Follows MayBreak y (Ok x) (known g.0)) k (follows s g.0 (Ok x) g.1)) (λ l h. to_the_end more e g.0 t g.2 l f h)
+      go [] (inr h, i) = inr (subst (λ (x : S). MayBreak x e) (sym g.2) h)
+      go (u ∷ list) (h, i) = inr (subst (λ (x : S). MayBreak x e) (sym g.2) h)
+  to_the_end (x ∷ more) e s t g list f k = go list (subst (λ (y : Option Coming). Follows (MayBreak g.0) y (Ok x) (known g.0)) k (follows s g.0 (Ok x) g.1)) (λ l h. to_the_end more e g.0 t g.2 l f h)
     where
-      go : (list : List Token) → FollowsList MayBreak list f (Ok x) (known g.0) → ((l : List Token) → known g.0 ≡ Some (coming l f) → ((l ≡ more) × (e ≡ f)) ⊎ MayBreak e) → ((list ≡ x ∷ more) × (e ≡ f)) ⊎ MayBreak e
+      go : (list : List Token) → FollowsList (MayBreak g.0) list f (Ok x) (known g.0) → ((l : List Token) → known g.0 ≡ Some (coming l f) → ((l ≡ more) × (e ≡ f)) ⊎ MayBreak t e) → ((list ≡ x ∷ more) × (e ≡ f)) ⊎ MayBreak t e
       go [] h ih = absurd h
       go (u ∷ list) h ih = one_more (ih list h.1)
         where
-          one_more : ((list ≡ more) × (e ≡ f)) ⊎ MayBreak e → ((u ∷ list ≡ x ∷ more) × (e ≡ f)) ⊎ MayBreak e
+          one_more : ((list ≡ more) × (e ≡ f)) ⊎ MayBreak t e → ((u ∷ list ≡ x ∷ more) × (e ≡ f)) ⊎ MayBreak t e
           one_more (inl (i, j)) = inl (ap (λ (l : List Token). u ∷ l) i ∙ ap (λ (y : Token). y ∷ more) (sym h.0), j)
           one_more (inr i) = inr i
 
@@ -274,7 +274,7 @@ module _ {S : Type 0} (gives_to : S → Answer → S → Type 0) (known : S → 
                 does (cut_last to_come ending h l front.rest front.all j)
             by (of_source l i j m) = at_last (to_the_end l (kept_fault new) old.source new.source (subst (λ (y : List Answer). Gave gives_to old.source y new.source) i k.gave) h.rest h.fault h.knows)
               where
-                at_last : ((h.rest ≡ l) × (kept_fault new ≡ h.fault)) ⊎ MayBreak (kept_fault new) → UnlessBroken MayBreak (Err x) new (IsLast to_come ending)
+                at_last : ((h.rest ≡ l) × (kept_fault new ≡ h.fault)) ⊎ MayBreak new.source (kept_fault new) → UnlessBroken MayBreak (Err x) new (IsLast to_come ending)
                 at_last (inl (a, b)) = does (short_last to_come ending h l a b m)
                 at_last (inr a) = breaks (kept_fault new) a (ap Err kept) refl
 
@@ -286,7 +286,7 @@ module _ {S : Type 0} (gives_to : S → Answer → S → Type 0) (known : S → 
         let (a, b) = one_run_proof (h.asked ++ h.rest) h.fault (h.given ++ to_come) (events w.tree) ending Ends h.run (subst (λ (y : List Token). IsRun (y ++ h.rest) h.fault (events w.tree) Ends) (sym w.all_tokens) (sentence_run w.tree h.rest h.fault w.order)) in
         (behind_same h.given to_come [] (a ∙ (sym w.all_events ∙ sym (nil_right h.given))), b)
 
-    more_to_come : (e : Event) (later : List Event) (ending : Ending) → RunToCome known old (e ∷ later) ending → is_over old.config ≡ false
+    pub more_to_come : (e : Event) (later : List Event) (ending : Ending) → RunToCome known old (e ∷ later) ending → is_over old.config ≡ false
     more_to_come e later ending h = go (is_over old.config) refl
       where
         go : (b : Bool) → is_over old.config ≡ b → is_over old.config ≡ false

@@ -55,3 +55,4 @@ pub mod Raised
 pub mod SlotRows
 pub mod SlotCalls
 pub mod Headline
+pub mod NextEvents

@@ -1,5 +1,5 @@
 -- A step of a call, by what it left in its slots.
-use Rattle.std.proofs.Common.{◌≡◌, ◌∙◌, ◌+◌, ◌<◌, ℕ, Option, None, Some, Result, Ok, Err, refl, ap, length, arith}
+use Rattle.std.proofs.Common.{◌≡◌, ◌∙◌, ◌+◌, ◌<◌, ℕ, Option, None, Some, Ok, refl, ap, length, arith}
 use Rattle.libyaml_events.specs.Calls.{held, held_token, Fetches, FetchesFrom}
 use Rattle.libyaml_types.specs.declared.token.yaml_token_t.{yaml_token_t}
 use Rattle.libyaml_types.specs.declared.event.yaml_event_t.{yaml_event_t}

@@ -1,5 +1,5 @@
 -- Where a token is in no row, the machine reads a node.
-use Rattle.std.proofs.Common.{◌≡◌, Option, None, Some, Bool, true, false, refl, sym, Result, Ok, Err}
+use Rattle.std.proofs.Common.{◌≡◌, Option, None, Some, false, refl, sym, Result, Ok, Err}
 use Rattle.libyaml_types.specs.declared.enums.yaml_error_type_t.{yaml_error_type_t}
 use Rattle.libyaml_types.specs.declared.enums.yaml_parser_state_t.{yaml_parser_state_t}
 use Rattle.libyaml_types.specs.declared.mark.yaml_mark_t.{yaml_mark_t}

@@ -4,7 +4,7 @@ use Rattle.libyaml_types.specs.declared.event.unnamed_yaml_event_t_data.{unnamed
 use Rattle.libyaml_types.specs.declared.event.unnamed_yaml_event_t_data.TheVariants as ev
 use Rattle.libyaml_events.specs.Machine.{Outcome, step, parse_stream_start, parse_document_end, at_state}
 use Rattle.libyaml_events.specs.FaultTexts.{no_fault, zero_mark}
-use Rattle.libyaml_events.specs.Config.{Config, taken, is_fault, is_end, is_over, is_between, between_documents}
+use Rattle.libyaml_events.specs.Config.{Config, taken, is_fault, is_end, is_over, is_between}
 use Rattle.libyaml_events.specs.Trees.{behind, whole}
 use Rattle.libyaml_events.specs.History.{answers, is_stream_end, Ran, begins, goes_on}
 use Rattle.libyaml_events.specs.Parsing.{IsWhole}
@@ -150,7 +150,7 @@ pub staged_over : (c : Config) (g : List Event) → Staged c g → is_over c ≡
 staged_over c g h = ap (λ (f : Fault). is_fault f.error || is_end c.state) h.no_fault_kept ∙ end_stage c.state c.states c.lookahead (stage_of g) h.good
 
 -- and it stands between documents exactly where none of the events leaves one open
-pub staged_between : (c : Config) (g : List Event) → Staged c g → between_documents c ≡ is_outside (stage_of g)
+pub staged_between : (c : Config) (g : List Event) → Staged c g → is_fault c.fault.error || is_between c.state ≡ is_outside (stage_of g)
 staged_between c g h = ap (λ (f : Fault). is_fault f.error || is_between c.state) h.no_fault_kept ∙ between_stage c.state c.states c.lookahead (stage_of g) h.good
 
 -- the depth of the stack

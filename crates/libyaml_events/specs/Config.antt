@@ -116,6 +116,3 @@ is_between YAML_PARSE_IMPLICIT_DOCUMENT_START_STATE = true
 is_between YAML_PARSE_DOCUMENT_START_STATE = true
 is_between YAML_PARSE_END_STATE = true
 is_between _ = false
-
-abbrev pub between_documents : Config → Bool
-between_documents c = is_fault c.fault.error || is_between c.state

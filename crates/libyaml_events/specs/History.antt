@@ -1,10 +1,10 @@
 -- What a parser asked its source for and what it gave since it was initialized (docs/DEFINITIONS.md, "Histories").
-use Rattle.std.specs.Prelude.{◌≡◌, ◌++◌, ◌∷◌, ℕ, List, [], length, Ok, Bool, true, false}
+use Rattle.std.specs.Prelude.{◌≡◌, ◌++◌, ◌∷◌, ◌||◌, ℕ, List, [], length, Ok, Bool, true, false, pos}
 use Rattle.libyaml_types.specs.declared.event.unnamed_yaml_event_t_data.TheVariants as ev
 use Rattle.libyaml_events.specs.Fault.{Fault, Answer}
 use Rattle.libyaml_events.specs.Tokens.{Token}
 use Rattle.libyaml_events.specs.Events.{Event}
-use Rattle.libyaml_events.specs.Config.{Config, Parser, taken, start, is_over}
+use Rattle.libyaml_events.specs.Config.{Config, Parser, taken, start, with_config, with_fault, is_fault, is_over, is_between}
 use Rattle.libyaml_events.specs.Calls.{Calls, held}
 use Rattle.libyaml_events.specs.declared.progress.Want.TheVariants.{AtState}
 
@@ -29,6 +29,21 @@ has_ended p = is_over p.config
 
 abbrev pub kept_fault : {S : Type 0} → Parser S → Fault
 kept_fault p = p.config.fault
+
+abbrev pub has_failed : {S : Type 0} → Parser S → Bool
+has_failed p = is_fault (kept_fault p).error
+
+-- the parser stands in no document, or keeps a fault
+abbrev pub between_documents : {S : Type 0} → Parser S → Bool
+between_documents p = has_failed p || is_between p.config.state
+
+-- a parser over this source that nothing was asked of
+abbrev pub new_parser : {S : Type 0} → S → Parser S
+new_parser s = record { source = s; config = start; max_entries = pos 2147483647 }
+
+-- the same parser, which keeps this fault
+abbrev pub keeping : {S : Type 0} → Fault → Parser S → Parser S
+keeping f p = with_config p (with_fault p.config f)
 
 -- how many states stand on the parser's stack
 abbrev pub stack_depth : {S : Type 0} → Parser S → ℕ

@@ -22,8 +22,9 @@ pub record RunToCome {S : Type 0} (known : S → Option Coming) (p : Parser S) (
   pub knows : known p.source ≡ Some (coming rest fault)
   pub run : IsRun (asked ++ rest) fault (given ++ to_come) ending
 
--- What the run says; or a growth was refused; or the source broke off, by a fault that it names as possible.
-pub data UnlessBroken {S : Type 0} (MayBreak : Fault → Type 0) (r : EventOrError) (new : Parser S) (Does : Type 0) : Type 0 where
+-- What the run says; or a growth was refused; or the source broke off, by a fault that it names as possible where it then
+-- stands.
+pub data UnlessBroken {S : Type 0} (MayBreak : S → Fault → Type 0) (r : EventOrError) (new : Parser S) (Does : Type 0) : Type 0 where
   does : Does → UnlessBroken MayBreak r new Does
   no_memory : r ≡ Err YAML_MEMORY_ERROR → kept_fault new ≡ memory_fault → UnlessBroken MayBreak r new Does
-  breaks : (f : Fault) → MayBreak f → r ≡ Err f.error → kept_fault new ≡ f → UnlessBroken MayBreak r new Does
+  breaks : (f : Fault) → MayBreak new.source f → r ≡ Err f.error → kept_fault new ≡ f → UnlessBroken MayBreak r new Does

@@ -11,7 +11,7 @@ pub record Coming : Type 0 where
 abbrev pub coming : List yaml_token_t → Fault → Coming
 coming ts f = record { tokens = ts; fault = f }
 
--- The next token of the list, then its fault; or a fault that is possible, which then ends the list.
+-- The next token of the list, then its fault; or a fault by which the source may have broken off, which then ends the list.
 abbrev pub FollowsList : (Fault → Type 0) → List yaml_token_t → Fault → Answer → Option Coming → Type 0
 FollowsList MayBreak [] f (Ok t) after = ⊥
 FollowsList MayBreak [] f (Err e) after = ((e ≡ f) ⊎ MayBreak e) × (after ≡ Some (coming [] e))

@@ -45,7 +45,7 @@ impl yaml_token_source_t for yaml_list_source_t {
 
     ghost known = { λ s. Some s };
 
-    ghost may_break = { λ _. ⊥ };
+    ghost may_break = { λ _ _. ⊥ };
 
     ghost falls = { list_falls };
 

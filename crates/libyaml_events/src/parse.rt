@@ -2,13 +2,13 @@
 ghost use Rattle.std.specs.Prelude.{◌≡◌, ◌≤◌, ◌<◌, ◌+◌, ◌++◌, ◌*◌, ◌∷◌, List, [], length, Ok, Err, true, false, IfOk, IfErr};
 ghost use Rattle.libyaml_types.specs.declared.token.yaml_token_t.{yaml_token_t};
 ghost use Rattle.libyaml_types.specs.declared.event.yaml_event_t.{yaml_event_t};
-ghost use Rattle.libyaml_events.specs.Config.{is_over, between_documents};
+ghost use Rattle.libyaml_events.specs.Config.{is_over};
 ghost use Rattle.libyaml_events.specs.Calls.{Call, empty_event};
 ghost use Rattle.libyaml_events.specs.Fault.{Fault};
 ghost use Rattle.libyaml_events.specs.Settled.{Begins, BeginsEach};
 ghost use Rattle.libyaml_events.specs.Runs.{Ending, Ends, Fails, IsRun};
 ghost use Rattle.libyaml_events.specs.Stages.{stage_of, open_collections, is_outside};
-ghost use Rattle.libyaml_events.specs.History.{History, has_ended, kept_fault, stack_depth};
+ghost use Rattle.libyaml_events.specs.History.{History, has_ended, kept_fault, between_documents, stack_depth};
 ghost use Rattle.libyaml_events.specs.Lookahead.{HoldsLast};
 ghost use Rattle.libyaml_events.specs.Pops.{PopsNothingBelow};
 ghost use Rattle.libyaml_events.specs.EventsLeft.{events_left};
@@ -71,7 +71,7 @@ pub fn yaml_parser_parse<S: yaml_token_source_t>(
     ensures fails { IfErr result (λ _. (asked : List yaml_token_t) (given : List yaml_event_t) → History parser.old asked given → FailsBy S.gives parser.old parser.new asked given) }
     ensures begins { (asked : List yaml_token_t) (given : List yaml_event_t) → History parser.new asked given → BeginsEach asked given }
     ensures begins_run { (asked : List yaml_token_t) (given : List yaml_event_t) → History parser.new asked given → (rest : List yaml_token_t) (f : Fault) (e : List yaml_event_t) (x : Ending) → IsRun (asked ++ rest) f e x → Begins given e }
-    ensures between { (asked : List yaml_token_t) (given : List yaml_event_t) → History parser.new asked given → between_documents parser.new.config ≡ is_outside (stage_of given) }
+    ensures between { (asked : List yaml_token_t) (given : List yaml_event_t) → History parser.new asked given → between_documents parser.new ≡ is_outside (stage_of given) }
     ensures at_most_four { (asked : List yaml_token_t) (given : List yaml_event_t) → History parser.new asked given → length given ≤ 4 * length asked }
     ensures depth { (asked : List yaml_token_t) (given : List yaml_event_t) → History parser.new asked given → stack_depth parser.new ≤ open_collections (stage_of given) + 1 }
     ensures pops { (asked : List yaml_token_t) (given : List yaml_event_t) → History parser.old asked given → PopsNothingBelow S.gives parser.old result parser.new }
@@ -80,6 +80,7 @@ pub fn yaml_parser_parse<S: yaml_token_source_t>(
     ensures falls { has_ended parser.old ≡ false → IfOk result (λ _. events_left S.bound parser.new < events_left S.bound parser.old) }
     // over a source that knows its tokens, by the run that is to come
     ensures next_of_run { (e : yaml_event_t) (later : List yaml_event_t) (ending : Ending) → RunToCome S.known parser.old (e ∷ later) ending → UnlessBroken S.may_break result parser.new ((result ≡ Ok e) × RunToCome S.known parser.new later ending) }
+    ensures not_ended { (e : yaml_event_t) (later : List yaml_event_t) (ending : Ending) → RunToCome S.known parser.old (e ∷ later) ending → has_ended parser.old ≡ false }
     ensures end_of_run { RunToCome S.known parser.old [] Ends → (result ≡ Ok empty_event) × (parser.new ≡ parser.old) }
     ensures fault_of_run { (f : Fault) → RunToCome S.known parser.old [] (Fails f) → UnlessBroken S.may_break result parser.new ((result ≡ Err f.error) × (kept_fault parser.new ≡ f)) }
     ensures nothing_behind_end { has_ended parser.new ≡ true → (later : List yaml_event_t) (ending : Ending) → RunToCome S.known parser.new later ending → (later ≡ []) × (ending ≡ Ends) }

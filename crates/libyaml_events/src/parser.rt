@@ -2,11 +2,11 @@
 ghost use Rattle.std.specs.Prelude.{◌≡◌, ◌⊎◌, [], pos, ◌≤ℤ◌, true, false, List, Option, Some};
 ghost use Rattle.libyaml_events.specs.Fault.{Fault, fault_of};
 ghost use Rattle.libyaml_events.specs.FaultTexts.{no_fault};
-ghost use Rattle.libyaml_events.specs.Config.{start, with_config, with_fault, marked_ended, is_fault, is_over, between_documents};
+ghost use Rattle.libyaml_events.specs.Config.{with_config, marked_ended, is_over};
 ghost use Rattle.libyaml_events.specs.Source.{Coming, coming};
 ghost use Rattle.libyaml_events.specs.Runs.{Ending, IsRun};
 ghost use Rattle.libyaml_events.specs.Stages.{is_outside, stage_of};
-ghost use Rattle.libyaml_events.specs.History.{History, has_ended, kept_fault};
+ghost use Rattle.libyaml_events.specs.History.{History, new_parser, has_ended, has_failed, kept_fault, keeping, between_documents};
 ghost use Rattle.libyaml_events.specs.RunToCome.{RunToCome};
 ghost use Rattle.libyaml_types.specs.declared.token.yaml_token_t.{yaml_token_t};
 ghost use Rattle.libyaml_types.specs.declared.event.yaml_event_t.{yaml_event_t};
@@ -72,7 +72,11 @@ impl<S> Model for yaml_parser_t<S> {
 ///
 /// libyaml: `yaml_parser_initialize` and `yaml_parser_set_input`.
 pub fn yaml_parser_initialize<S>(alloc: Global, source: S) -> yaml_parser_t<S>
-    ensures value { result ≡ record { source = source; config = start; max_entries = pos 2147483647 } }
+    ensures value { result ≡ new_parser source }
+    ensures source { result.source ≡ source }
+    ensures bound { result.max_entries ≡ pos 2147483647 }
+    ensures no_fault { kept_fault result ≡ no_fault }
+    ensures between { between_documents result ≡ true }
     ensures begins { History result [] [] }
     ensures running { has_ended result ≡ false }
     // over a source that knows its tokens and the fault behind them, their whole run is to come
@@ -105,8 +109,8 @@ pub fn yaml_parser_delete<S>(parser: yaml_parser_t<S>) -> S
 /// Whether the parser stands between documents: not from a document's start event until its end event, but once a fault
 /// is kept.
 pub fn yaml_parser_between_documents<S>(parser: &yaml_parser_t<S>) -> bool
-    ensures value { result ≡ between_documents parser.now.config }
-    ensures failed { is_fault (kept_fault parser.now).error ≡ true → result ≡ true }
+    ensures value { result ≡ between_documents parser.now }
+    ensures failed { has_failed parser.now ≡ true → result ≡ true }
     ensures by_events { (asked : List yaml_token_t) (given : List yaml_event_t) → History parser.now asked given → result ≡ is_outside (stage_of given) }
 {
     parser.stands_between_documents()
@@ -115,7 +119,7 @@ pub fn yaml_parser_between_documents<S>(parser: &yaml_parser_t<S>) -> bool
 /// Sets how many entries each list of a loaded document may have, between documents.
 pub fn yaml_parser_set_max_entries<S>(parser: &mut yaml_parser_t<S>, n: i32)
     requires at_least_one { pos 1 ≤ℤ n }
-    requires between { between_documents parser.old.config ≡ true }
+    requires between { between_documents parser.old ≡ true }
     ensures bound { parser.new ≡ record parser.old { max_entries = n } }
     // the history and the run stay
     ensures history { (asked : List yaml_token_t) (given : List yaml_event_t) → History parser.old asked given → History parser.new asked given }
@@ -129,7 +133,7 @@ impl<S> yaml_parser_t<S> {
     ///
     /// libyaml: the fields `error` to `context_mark`.
     pub fn prefix(&self) -> &yaml_parser_t_prefix
-        ensures kept { fault_of result.now ≡ self.now.config.fault }
+        ensures kept { fault_of result.now ≡ kept_fault self.now }
         // before a fault it is that of no fault
         ensures before_fault { (asked : List yaml_token_t) (given : List yaml_event_t) → History self.now asked given → fault_of result.now ≡ no_fault }
     {
@@ -145,9 +149,10 @@ impl<S> yaml_parser_t<S> {
 
     /// Keeps a fault of the loader for good: want of memory, or a fault of the composer, where no fault is kept.
     pub fn keep_fault(&mut self, fault: yaml_parser_t_prefix)
-        requires first { is_fault self.old.config.fault.error ≡ false }
+        requires first { has_failed self.old ≡ false }
         requires of_loader { (fault.error ≡ yaml_error_type_t.YAML_MEMORY_ERROR) ⊎ (fault.error ≡ yaml_error_type_t.YAML_COMPOSER_ERROR) }
-        ensures kept { self.new ≡ with_config self.old (with_fault self.old.config (fault_of fault)) }
+        ensures kept { self.new ≡ keeping (fault_of fault) self.old }
+        ensures fault { kept_fault self.new ≡ fault_of fault }
         ensures ended { has_ended self.new ≡ true }
     {
         self.prefix = fault;
@@ -159,13 +164,13 @@ impl<S> yaml_parser_t<S> {
     }
 
     fn has_failed(&self) -> bool
-        ensures { result ≡ is_fault self.now.config.fault.error }
+        ensures { result ≡ has_failed self.now }
     {
         !matches!(self.prefix.error, yaml_error_type_t::YAML_NO_ERROR)
     }
 
     fn stands_between_documents(&self) -> bool
-        ensures { result ≡ between_documents self.now.config }
+        ensures { result ≡ between_documents self.now }
     {
         self.has_failed()
             || matches!(

@@ -18,15 +18,15 @@ pub trait yaml_token_source_t {
     /// The tokens to come and the fault that ends them, where they are known.
     ghost known: { Self → Option Coming };
 
-    /// The faults by which it may break off.
-    ghost may_break: { Fault → Type 0 };
+    /// The faults by which it may have broken off, where it now stands so.
+    ghost may_break: { Self → Fault → Type 0 };
 
     fn next_token(&mut self) -> Result<yaml_token_t, yaml_source_fault_t>
         ensures { gives self.old (answer_of result) self.new };
 
     ghost falls: { (s t : Self) (token : yaml_token_t) → gives s (Ok token) t → bound s ≡ bound t + 1 };
 
-    ghost follows: { (s t : Self) (answer : Answer) → gives s answer t → Follows may_break (known s) answer (known t) };
+    ghost follows: { (s t : Self) (answer : Answer) → gives s answer t → Follows (may_break t) (known s) answer (known t) };
 
     ghost repeats: { (s t u : Self) (fault : Fault) (answer : Answer) → gives s (Err fault) t → gives t answer u → answer ≡ Err fault };
 }

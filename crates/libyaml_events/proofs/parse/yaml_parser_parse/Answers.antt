@@ -3,7 +3,7 @@ use Rattle.libyaml_events.proofs.Calling.{ran_links}
 use Rattle.libyaml_events.proofs.Counting.{linked_begins_each, linked_count}
 use Rattle.libyaml_events.proofs.Falling.{parse_falls}
 use Rattle.libyaml_events.proofs.Held.{ran_holds}
-use Rattle.libyaml_events.proofs.KnownRuns.{next_of_run, fault_of_run, over_call, nothing_behind_end, linked_begins, run_given}
+use Rattle.libyaml_events.proofs.KnownRuns.{next_of_run, fault_of_run, over_call, nothing_behind_end, linked_begins, run_given, more_to_come}
 use Rattle.libyaml_events.proofs.Parsed.{carried_on, failed_by}
 use Rattle.libyaml_events.proofs.Raised.{pops_nothing_below}
 use Rattle.libyaml_events.proofs.Staged.{ran_staged, staged_depth, staged_between}
@@ -44,6 +44,9 @@ returns-clause-falls g c = let t = g.S.yaml_token_source_t in parse_falls t.give
 
 pub returns-clause-nothing_behind_end : goal.returns-clause-nothing_behind_end
 returns-clause-nothing_behind_end g c = nothing_behind_end g.S.yaml_token_source_t.known _
+
+pub returns-clause-not_ended : goal.returns-clause-not_ended
+returns-clause-not_ended g c = let t = g.S.yaml_token_source_t in more_to_come t.gives t.known t.may_break g.met.S.yaml_token_source_t.follows _ c.next_event.new.self
 
 pub returns-clause-begins_run : goal.returns-clause-begins_run
 returns-clause-begins_run g c asked given h rest f e x run = let b = linked_begins _ asked given rest (ran_links h) in (b.0, run_given (asked ++ rest) f e x run ∙ b.1)
