@@ -1,0 +1,2 @@
+pub mod AnchorLemmas
+pub mod StackLemmas

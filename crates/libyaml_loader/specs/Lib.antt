@@ -1,0 +1,4 @@
+pub mod Ids
+pub mod Anchors
+pub mod Refusals
+pub mod Stack

@@ -1,0 +1,14 @@
+//! The loader: documents of YAML, composed of the events of a parser.
+#![tactic(auto)]
+
+pub mod anchors;
+
+pub mod ids;
+
+pub mod refusal;
+pub mod stack;
+
+
+
+
+
