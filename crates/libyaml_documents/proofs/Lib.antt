@@ -1,1 +1,7 @@
+mod Choices
+mod DocumentsEqual
+mod EventsEqual
+mod Fields
 pub mod Ids
+mod NodesEqual
+mod TokensEqual

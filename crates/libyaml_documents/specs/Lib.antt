@@ -1,4 +1,5 @@
 pub mod Documents
+pub mod Equal
 pub mod LoadedNodes
 pub mod Nodes
 pub mod Pairs

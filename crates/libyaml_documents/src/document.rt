@@ -23,7 +23,7 @@ use std::marker::Model;
 /// Every id in the items and pairs of its nodes names one of its nodes.
 ///
 /// libyaml: `yaml_document_t`.
-#[derive(Drop)]
+#[derive(Debug, Drop)]
 pub struct yaml_document_t {
     nodes: Vec<yaml_node_t>,
     version_directive: Option<yaml_version_directive_t>,
@@ -107,6 +107,31 @@ impl yaml_document_t {
     }
 }
 
+impl PartialEq for yaml_document_t {
+    ghost use Rattle.std.specs.Cmp.{partial_equiv_from_equiv};
+    ghost use Rattle.libyaml_documents.specs.Equal.{same_document, same_document_equiv};
+
+    ghost eq = { same_document };
+
+    ghost laws = { partial_equiv_from_equiv same_document_equiv };
+
+    fn eq(&self, other: &Self) -> bool {
+        self.nodes() == other.nodes()
+            && self.version_directive == other.version_directive
+            && self.tag_directives == other.tag_directives
+            && self.start_implicit == other.start_implicit
+            && self.end_implicit == other.end_implicit
+            && self.start_mark == other.start_mark
+            && self.end_mark == other.end_mark
+    }
+}
+
+impl Eq for yaml_document_t {
+    ghost use Rattle.libyaml_documents.specs.Equal.{same_document_equiv};
+
+    ghost laws = { same_document_equiv };
+}
+
 /// The place of the node of this id: ids count from 1, places from 0.
 fn place_of(id: i32) -> usize
     requires { pos 1 ≤ℤ id }
@@ -131,11 +156,13 @@ pub fn yaml_document_get_node(document: &yaml_document_t, index: i32) -> Option<
     ensures found { IsSome result ↔ IsIdUpTo (length document.now.nodes) index }
     ensures node { option_copied result ≡ node_at document.now.nodes index }
     ensures type_is { IfSome result (λ node. node_type node.now.content ≡ type_at document.now.nodes index) }
+    ensures ids_in_range { EveryIdNamesANode document.now.nodes }
 {
+    let nodes = document.nodes();
     if index < 1 {
         return None;
     }
-    document.nodes.get(place_of(index))
+    nodes.get(place_of(index))
 }
 
 /// The node of id 1, or `None` where the document has no nodes.
@@ -146,6 +173,7 @@ pub fn yaml_document_get_node(document: &yaml_document_t, index: i32) -> Option<
 pub fn yaml_document_get_root_node(document: &yaml_document_t) -> Option<&yaml_node_t>
     ensures found { IsSome result ↔ (0 < length document.now.nodes) }
     ensures node { option_copied result ≡ node_at document.now.nodes (pos 1) }
+    ensures type_is { IfSome result (λ node. node_type node.now.content ≡ type_at document.now.nodes (pos 1)) }
 {
     document.nodes.first()
 }

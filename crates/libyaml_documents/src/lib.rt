@@ -4,6 +4,7 @@
 pub mod building;
 mod document;
 mod items;
+pub mod laws;
 mod loaded;
 mod node;
 mod pairs;

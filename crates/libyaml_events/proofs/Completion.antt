@@ -20,7 +20,7 @@ pub one_tree_proof : (s t : Stream) → tokens s ≡ tokens t → s ≡ t
 one_tree_proof s t e = done_same s t (sym (stream_reads s) ∙ (ap (λ (l : List Token). feeds l unopened) e ∙ stream_reads t))
 
 -- each position can be completed
-abbrev Ends : List Token → Position → Type 0
+abbrev pub Ends : List Token → Position → Type 0
 Ends l q = (t : Stream) × (feeds l q ≡ goes (done t)) × (tests l q true ≡ true)
 
 block_ends : (m : Marks) (c : BlockPlace) (x : BlockNode) → Ends (rest_block_place m c) (fill c x)
@@ -39,7 +39,7 @@ flow_ends m (flow_key (open_collection p o mapping s is) k) x = flow_ends m p (c
 flow_ends m (flow_value (open_collection p o sequence s is) k n v) x = flow_ends m p (collection o sequence s is (last (pair k n (with_value v (flow_node x)))) m)
 flow_ends m (flow_value (open_collection p o mapping s is) k n v) x = flow_ends m p (collection o mapping s is (last (pair k n (with_value v (flow_node x)))) m)
 
-position_ends : (m : Marks) (q : Position) → Ends (position_rest m q) q
+pub position_ends : (m : Marks) (q : Position) → Ends (position_rest m q) q
 position_ends m unopened = (whole (free (opened any_encoding m)) m, refl, refl)
 position_ends m (between (free f)) = (whole (free f) m, refl, refl)
 position_ends m (between (behind d)) = (whole (behind d) m, refl, refl)

@@ -26,6 +26,7 @@ use Rattle.libyaml_events.specs.Config.{Config, Parser, taken, is_over}
 use Rattle.libyaml_events.specs.Calls.{EventOrError, Gave, held, Calls, Call, ParsesIf, empty_event}
 use Rattle.libyaml_events.specs.Needs.{HasWaited, at_once, by_last}
 use Rattle.libyaml_events.specs.History.{goes_on, has_ended, answers, kept_fault}
+use Rattle.libyaml_events.specs.CallsInTurn.{KnowsRest}
 use Rattle.libyaml_events.specs.RunToCome.{RunToCome, UnlessBroken, does, no_memory, breaks}
 use Rattle.libyaml_events.specs.declared.progress.Want.TheVariants.{AtState}
 use Rattle.libyaml_events.proofs.Lists.{nil_right, assoc}
@@ -176,16 +177,11 @@ all_waited c l (by_last front t e f g) = g
 
 module _ {S : Type 0} (gives_to : S → Answer → S → Type 0) (known : S → Option Coming) (MayBreak : S → Fault → Type 0) (follows : (s t : S) (a : Answer) → gives_to s a t → Follows (MayBreak t) (known s) a (known t)) where
   -- tokens that a known source gave are the front of its list
-  record Front (more list : List Token) (f : Fault) (t : S) : Type 0 where
-    rest : List Token
-    all : list ≡ more ++ rest
-    knows : known t ≡ Some (coming rest f)
-
-  in_order : (more : List Token) (s t : S) → Gave gives_to s (answers more []) t → (list : List Token) (f : Fault) → known s ≡ Some (coming list f) → Front more list f t
+  pub in_order : (more : List Token) (s t : S) → Gave gives_to s (answers more []) t → (list : List Token) (f : Fault) → known s ≡ Some (coming list f) → KnowsRest known more list f t
   in_order [] s t g list f k = record { rest = list; all = refl; knows = ap known g ∙ k }
   in_order (x ∷ more) s t g list f k = go list (subst (λ (y : Option Coming). Follows (MayBreak g.0) y (Ok x) (known g.0)) k (follows s g.0 (Ok x) g.1)) (λ l h. in_order more g.0 t g.2 l f h)
     where
-      go : (list : List Token) → FollowsList (MayBreak g.0) list f (Ok x) (known g.0) → ((l : List Token) → known g.0 ≡ Some (coming l f) → Front more l f t) → Front (x ∷ more) list f t
+      go : (list : List Token) → FollowsList (MayBreak g.0) list f (Ok x) (known g.0) → ((l : List Token) → known g.0 ≡ Some (coming l f) → KnowsRest known more l f t) → KnowsRest known (x ∷ more) list f t
       go [] h ih = absurd h
       go (u ∷ list) h ih = let i = ih list h.1 in record { rest = i.rest; all = ap (λ (l : List Token). u ∷ l) i.all ∙ ap (λ (y : Token). y ∷ (more ++ i.rest)) (sym h.0); knows = i.knows }
 

@@ -56,3 +56,5 @@ pub mod SlotRows
 pub mod SlotCalls
 pub mod Headline
 pub mod NextEvents
+pub mod CallsInTurn
+pub mod NestingSoFar

@@ -13,7 +13,7 @@ Splits g = (r : List Event) → g r ≡ g [] ++ r
 nothing_splits : Splits (λ (r : List Event). r)
 nothing_splits r = refl
 
-behind_event : (e : Event) (g : List Event → List Event) → Splits g → Splits (λ (r : List Event). e ∷ g r)
+pub behind_event : (e : Event) (g : List Event → List Event) → Splits g → Splits (λ (r : List Event). e ∷ g r)
 behind_event e g s r = ap (λ (l : List Event). e ∷ l) (s r)
 
 event_splits : (e : Event) → Splits (λ (r : List Event). e ∷ r)
@@ -26,7 +26,7 @@ opens_split : (k : Sort) (m : Marks) → Splits (opens_pair k m)
 opens_split sequence m r = refl
 opens_split mapping m r = refl
 
-member_end_splits : (k : Sort) (e : FlowMember) (m : Mark) → Splits (member_end k e m)
+pub member_end_splits : (k : Sort) (e : FlowMember) (m : Mark) → Splits (member_end k e m)
 member_end_splits sequence (single n) m r = refl
 member_end_splits mapping (single n) m r = refl
 member_end_splits sequence (pair s x no_value) m r = refl
@@ -34,7 +34,7 @@ member_end_splits mapping (pair s x no_value) m r = refl
 member_end_splits sequence (pair s x (with_value v y)) m r = refl
 member_end_splits mapping (pair s x (with_value v y)) m r = refl
 
-missing_value_splits : (ps : Parts) (m : Mark) → Splits (missing_value ps m)
+pub missing_value_splits : (ps : Parts) (m : Mark) → Splits (missing_value ps m)
 missing_value_splits no_parts m r = refl
 missing_value_splits (part ps key v x) m r = refl
 missing_value_splits (part ps value v x) m r = refl

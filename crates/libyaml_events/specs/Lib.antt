@@ -33,6 +33,7 @@ pub mod Stages
 pub mod Needs
 pub mod Parsing
 pub mod RunToCome
+pub mod CallsInTurn
 pub mod EventsLeft
 pub mod Nesting
 pub mod RowNotation

@@ -1,7 +1,7 @@
 -- Events that nest (docs/DEFINITIONS.md, "Nesting"; YAML 1.1, 3.1): a stream of documents, each of one value. A value is
 -- an alias, a scalar, or a collection with its values between its start and its end; a mapping holds keys and values in
 -- turn.
-use Rattle.std.specs.Prelude.{◌≡◌, ℕ, List, [], ◌∷◌, Option, Bool, true}
+use Rattle.std.specs.Prelude.{◌≡◌, ◌++◌, ℕ, List, [], ◌∷◌, Option, Bool, true}
 use Rattle.libyaml_types.specs.declared.event.unnamed_yaml_event_t_data_alias.{unnamed_yaml_event_t_data_alias}
 use Rattle.libyaml_types.specs.declared.event.unnamed_yaml_event_t_data_document_start.{unnamed_yaml_event_t_data_document_start}
 use Rattle.libyaml_types.specs.declared.event.unnamed_yaml_event_t_data_scalar.{unnamed_yaml_event_t_data_scalar}
@@ -75,3 +75,32 @@ pub record IsNested (l : List Event) : Type 0 where
   pub end_end : Mark
   pub all : l ≡ (stream_start_event head start start_end ∷ texts_events texts (stream_end_event end end_end ∷ []))
   pub pairs : TextsHavePairs texts
+
+-- the events begin those of one value
+pub record BeginsValue (front : List Event) : Type 0 where
+  pub val : Value
+  pub rest : List Event
+  pub all : value_events val [] ≡ front ++ rest
+  pub pairs : HasPairs val
+
+-- no document is open; or one is: its start, and events that begin those of its value
+pub data IsOpenDocument (l : List Event) : Type 0 where
+  none_open : l ≡ [] → IsOpenDocument l
+  one_open : (d : unnamed_yaml_event_t_data_document_start) (m n : Mark) (front : List Event) → l ≡ event (ev.DocumentStart d) m n ∷ front → BeginsValue front → IsOpenDocument l
+
+-- the stream's start, whole documents, and at most one that is open
+pub record HasBegun (l : List Event) : Type 0 where
+  pub head : StreamHead
+  pub start : Mark
+  pub start_end : Mark
+  pub texts : Texts
+  pub open_document : List Event
+  pub all : l ≡ stream_start_event head start start_end ∷ texts_events texts open_document
+  pub pairs : TextsHavePairs texts
+  pub is_open : IsOpenDocument open_document
+
+-- events that nest as far as they go
+pub data NestsSoFar (l : List Event) : Type 0 where
+  not_begun : l ≡ [] → NestsSoFar l
+  has_begun : HasBegun l → NestsSoFar l
+  whole : IsNested l → NestsSoFar l

@@ -1,6 +1,7 @@
 //! The laws of the grammar, over its definitions alone. Each function does nothing when it runs: its
 //! contract is the law.
 
+pub mod calls;
 pub mod productions;
 pub mod rows;
 
@@ -13,7 +14,7 @@ ghost use Rattle.libyaml_events.specs.Errors.{IsSourceError};
 ghost use Rattle.libyaml_events.specs.Events.{Event, before_events, block_slot_events, document_start_event, documents_events, events, first_block, first_directive, free_events, prefix_of};
 ghost use Rattle.libyaml_events.specs.Fault.{Fault};
 ghost use Rattle.libyaml_events.specs.Fits.{Fits, HasCut, NodeBegins};
-ghost use Rattle.libyaml_events.specs.Nesting.{IsNested};
+ghost use Rattle.libyaml_events.specs.Nesting.{IsNested, NestsSoFar};
 ghost use Rattle.libyaml_events.specs.Order.{in_order};
 ghost use Rattle.libyaml_events.specs.Rest.{rest};
 ghost use Rattle.libyaml_events.specs.Runs.{Ending, Ends, Fails, HasFault, IsRun, RunsWhole, is_behind_properties};
@@ -94,6 +95,14 @@ pub fn run_ends()
 /// even number of nodes between its start and its end.
 pub fn events_nest()
     ensures { (t : Stream) → IsNested (events t) }
+{}
+
+/// The events of each run nest as far as they go, whatever cuts it off: whole documents, then at most one that is open,
+/// and each mapping that is closed has an even number of nodes. Those of a run that ends nest to the end.
+pub fn run_nests()
+    ensures so_far { (l : List Token) (f : Fault) (e : List Event) (x : Ending) → IsRun l f e x → NestsSoFar e }
+    ensures ended { (l : List Token) (f : Fault) (e : List Event) → IsRun l f e Ends → IsNested e }
+    ensures fronts { (l rest : List Event) → IsNested (l ++ rest) → NestsSoFar l }
 {}
 
 /// The events of a document's content hang on its own directives alone, whatever stands before it, and on

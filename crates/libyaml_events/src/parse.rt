@@ -12,6 +12,7 @@ ghost use Rattle.libyaml_events.specs.History.{History, has_ended, kept_fault, b
 ghost use Rattle.libyaml_events.specs.Lookahead.{HoldsLast};
 ghost use Rattle.libyaml_events.specs.Pops.{PopsNothingBelow};
 ghost use Rattle.libyaml_events.specs.EventsLeft.{events_left};
+ghost use Rattle.libyaml_events.specs.Nesting.{NestsSoFar};
 ghost use Rattle.libyaml_events.specs.Parsing.{CarriesOn, FailsBy};
 ghost use Rattle.libyaml_events.specs.RunToCome.{RunToCome, UnlessBroken};
 
@@ -71,6 +72,7 @@ pub fn yaml_parser_parse<S: yaml_token_source_t>(
     ensures fails { IfErr result (λ _. (asked : List yaml_token_t) (given : List yaml_event_t) → History parser.old asked given → FailsBy S.gives parser.old parser.new asked given) }
     ensures begins { (asked : List yaml_token_t) (given : List yaml_event_t) → History parser.new asked given → BeginsEach asked given }
     ensures begins_run { (asked : List yaml_token_t) (given : List yaml_event_t) → History parser.new asked given → (rest : List yaml_token_t) (f : Fault) (e : List yaml_event_t) (x : Ending) → IsRun (asked ++ rest) f e x → Begins given e }
+    ensures nests { (asked : List yaml_token_t) (given : List yaml_event_t) → History parser.new asked given → NestsSoFar given }
     ensures between { (asked : List yaml_token_t) (given : List yaml_event_t) → History parser.new asked given → between_documents parser.new ≡ is_outside (stage_of given) }
     ensures at_most_four { (asked : List yaml_token_t) (given : List yaml_event_t) → History parser.new asked given → length given ≤ 4 * length asked }
     ensures depth { (asked : List yaml_token_t) (given : List yaml_event_t) → History parser.new asked given → stack_depth parser.new ≤ open_collections (stage_of given) + 1 }

@@ -3,6 +3,8 @@
 //! A user names this crate alone: the crates below it are passed on.
 #![tactic(auto)]
 
+mod parse_all;
+
 pub use libyaml_documents::{
     NodeItems, NodePairs, unnamed_yaml_node_t_data, unnamed_yaml_node_t_data_mapping,
     unnamed_yaml_node_t_data_scalar, unnamed_yaml_node_t_data_sequence, yaml_alias_data_t,
@@ -34,6 +36,7 @@ pub use libyaml_types::{
     yaml_stream_start_event_initialize, yaml_tag_directive_t, yaml_token_delete, yaml_token_t,
     yaml_token_type_t, yaml_version_directive_t,
 };
+pub use parse_all::{yaml_parser_parse_all, yaml_run_t};
 // The variants of the enums, by their bare names.
 pub use libyaml_types::enums::yaml_break_t::{
     YAML_ANY_BREAK, YAML_CR_BREAK, YAML_CRLN_BREAK, YAML_LN_BREAK,

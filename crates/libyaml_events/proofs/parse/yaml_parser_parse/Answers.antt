@@ -1,9 +1,12 @@
-use Rattle.std.proofs.Common.{arith, ◌++◌, ◌∙◌}
+use Rattle.std.proofs.Common.{arith, [], ◌++◌, ◌∙◌}
+use Rattle.libyaml_events.specs.FaultTexts.{no_fault}
 use Rattle.libyaml_events.proofs.Calling.{ran_links}
 use Rattle.libyaml_events.proofs.Counting.{linked_begins_each, linked_count}
 use Rattle.libyaml_events.proofs.Falling.{parse_falls}
 use Rattle.libyaml_events.proofs.Held.{ran_holds}
 use Rattle.libyaml_events.proofs.KnownRuns.{next_of_run, fault_of_run, over_call, nothing_behind_end, linked_begins, run_given, more_to_come}
+use Rattle.libyaml_events.proofs.NestingSoFar.{run_front_nests}
+use Rattle.libyaml_events.proofs.Running.{some_run_proof}
 use Rattle.libyaml_events.proofs.Parsed.{carried_on, failed_by}
 use Rattle.libyaml_events.proofs.Raised.{pops_nothing_below}
 use Rattle.libyaml_events.proofs.Staged.{ran_staged, staged_depth, staged_between}
@@ -50,6 +53,12 @@ returns-clause-not_ended g c = let t = g.S.yaml_token_source_t in more_to_come t
 
 pub returns-clause-begins_run : goal.returns-clause-begins_run
 returns-clause-begins_run g c asked given h rest f e x run = let b = linked_begins _ asked given rest (ran_links h) in (b.0, run_given (asked ++ rest) f e x run ∙ b.1)
+
+pub returns-clause-nests : goal.returns-clause-nests
+returns-clause-nests g c asked given h =
+    let b = linked_begins _ asked given [] (ran_links h) in
+    let (e, x, run) = some_run_proof (asked ++ []) no_fault in
+    run_front_nests (asked ++ []) no_fault e x run given b.0 (run_given (asked ++ []) no_fault e x run ∙ b.1)
 
 pub returns-clause-between : goal.returns-clause-between
 returns-clause-between g c asked given h = staged_between _ given (ran_staged h)

@@ -1,0 +1,93 @@
+//! All events of a source at once.
+ghost use Rattle.std.specs.Prelude.{◌≡◌, ◌≢◌, ◌++◌, ◌∷◌, List, Some, true, IfOk};
+ghost use Rattle.libyaml_events.specs.CutEvents.{cut_events};
+ghost use Rattle.libyaml_events.specs.CutFaults.{fault};
+ghost use Rattle.libyaml_events.specs.CutTrees.{Cut};
+ghost use Rattle.libyaml_events.specs.Events.{Event, events};
+ghost use Rattle.libyaml_events.specs.Fault.{Fault};
+ghost use Rattle.libyaml_events.specs.Fits.{Fits};
+ghost use Rattle.libyaml_events.specs.History.{is_stream_end};
+ghost use Rattle.libyaml_events.specs.Order.{in_order};
+ghost use Rattle.libyaml_events.specs.Runs.{Ending, Ends, Fails, IsRun, is_behind_properties};
+ghost use Rattle.libyaml_events.specs.Source.{coming};
+ghost use Rattle.libyaml_events.specs.Tokens.{Token};
+ghost use Rattle.libyaml_events.specs.Trees.{Stream, tokens};
+ghost use Rattle.unsafe_libyaml.specs.WholeRun.{RunsTo};
+
+use libyaml_events::{
+    yaml_parser_initialize, yaml_parser_parse, yaml_parser_t_prefix, yaml_token_source_t,
+};
+use libyaml_types::{unnamed_yaml_event_t_data, yaml_error_type_t, yaml_event_t};
+use std::alloc::{AllocError, Global};
+
+/// All events of a source, and how they ended.
+#[derive(Drop)]
+pub struct yaml_run_t {
+    /// The events in their order.
+    pub events: Vec<yaml_event_t>,
+    /// The fault behind them, or `None` where the last is the stream's end.
+    pub fault: Option<yaml_parser_t_prefix>,
+}
+
+/// All events of a source, and how they ended: the calls of `yaml_parser_parse` until the stream's end or a
+/// fault, as one value.
+///
+/// Answers `AllocError` where a growth is refused, or where the source's fault is want of memory.
+///
+/// libyaml: a loop over `yaml_parser_parse`.
+pub fn yaml_parser_parse_all<S: yaml_token_source_t + Drop>(
+    alloc: Global,
+    source: S,
+) -> Result<yaml_run_t, AllocError>
+    // the tokens of a tree in order give its events, and the end
+    ensures of_tree { (t : Stream) (f : Fault) → in_order t ≡ true → S.known source ≡ Some (coming (tokens t) f)
+        → IfOk result (λ run. RunsTo S.may_break run (events t) Ends) }
+    // a cut tree that fits gives its events, and its fault
+    ensures of_cut_tree { (before : List Token) (token : Token) (behind : List Token) (c : Cut) (f : Fault) → Fits before token c
+        → is_behind_properties c behind ≡ true → S.known source ≡ Some (coming (before ++ token ∷ behind) f)
+        → IfOk result (λ run. RunsTo S.may_break run (cut_events c token) (Fails (fault c token.content token.start_mark))) }
+    // any list of tokens gives its run
+    ensures of_list { (l : List Token) (f : Fault) (e : List Event) (x : Ending) → IsRun l f e x → S.known source ≡ Some (coming l f)
+        → IfOk result (λ run. RunsTo S.may_break run e x) }
+{
+    let mut parser = yaml_parser_initialize(alloc, source);
+    let mut events = Vec::new(alloc);
+    loop {
+        match yaml_parser_parse(&mut parser) {
+            Ok(event) => {
+                let is_last = is_stream_end(&event);
+                events.push(event)?;
+                if is_last {
+                    return Ok(yaml_run_t {
+                        events,
+                        fault: None,
+                    });
+                }
+            }
+            Err(_) => return failed_run(events, *parser.prefix()),
+        }
+    }
+}
+
+/// The run of these events, which this fault ended; but want of memory is answered as such.
+fn failed_run(
+    events: Vec<yaml_event_t>,
+    fault: yaml_parser_t_prefix,
+) -> Result<yaml_run_t, AllocError>
+    ensures { IfOk result (λ run. (run.events ≡ events) × (run.fault ≡ Some fault) × (fault.error ≢ yaml_error_type_t.YAML_MEMORY_ERROR)) }
+{
+    match fault.error {
+        yaml_error_type_t::YAML_MEMORY_ERROR => Err(AllocError),
+        _ => Ok(yaml_run_t {
+            events,
+            fault: Some(fault),
+        }),
+    }
+}
+
+/// Whether a stream ends with this event.
+fn is_stream_end(event: &yaml_event_t) -> bool
+    ensures { result ≡ is_stream_end event.now }
+{
+    matches!(event.content, unnamed_yaml_event_t_data::StreamEnd)
+}
