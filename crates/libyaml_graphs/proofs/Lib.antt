@@ -1,1 +1,4 @@
 pub mod Machine
+pub mod Built
+pub mod Following
+pub mod LoaderLoads
