@@ -23,6 +23,7 @@ use Rattle.libyaml_events.specs.CutTrees.{Open, Place, block, entry, explicit_ro
 use Rattle.libyaml_events.specs.Rest.{rest}
 use Rattle.libyaml_events.specs.Positions.{Position, between, done, due, flow_behind, flow_due, flow_keyed, headed, in_indentless, in_mapping, in_sequence, shown, unopened}
 use Rattle.libyaml_events.specs.Calls.{Calls, EventOrError, Refused, RefusedAt, Then, may_grow_at}
+use Rattle.libyaml_events.proofs.CallsInTurn.{stage_more}
 use Rattle.libyaml_events.proofs.Completion.{read_order}
 use Rattle.libyaml_events.proofs.Follow.{more}
 use Rattle.libyaml_events.proofs.Giving.{shown_given}
@@ -355,10 +356,6 @@ refused_stage c g h (Err f ∷ rest) z = absurd z
 refused_stage c g h (Ok t ∷ rest) z = refused_at c.state c.states c.lookahead (stage_of g) h.good (taken c) t t.content (λ w' c'. Refused w' c' rest) rest z
 
 -- a tree's events lead to the end
-pub stage_append : (st : Stage) (a b : List Event) → stage_from st (a ++ b) ≡ stage_from (stage_from st a) b
-stage_append st [] b = refl
-stage_append st (x ∷ a) b = stage_append (after st x.content) a b
-
 pub tree_ends : (t : Stream) → is_at_end (stage_of (events t)) ≡ true
-tree_ends (whole (free f) m) = ap (λ (l : List Event). is_at_end (stage_of l)) (position_splits (between (free f)) m.start (stream_end_event m.start m.end ∷ [])) ∙ ap is_at_end (stage_append at_start (shown (between (free f)) m.start []) (stream_end_event m.start m.end ∷ []))
-tree_ends (whole (behind d) m) = ap (λ (l : List Event). is_at_end (stage_of l)) (position_splits (between (behind d)) m.start (document_end_event true m.start m.start ∷ stream_end_event m.start m.end ∷ [])) ∙ ap is_at_end (stage_append at_start (shown (between (behind d)) m.start []) (document_end_event true m.start m.start ∷ stream_end_event m.start m.end ∷ []))
+tree_ends (whole (free f) m) = ap (λ (l : List Event). is_at_end (stage_of l)) (position_splits (between (free f)) m.start (stream_end_event m.start m.end ∷ [])) ∙ ap is_at_end (stage_more at_start (shown (between (free f)) m.start []) (stream_end_event m.start m.end ∷ []))
+tree_ends (whole (behind d) m) = ap (λ (l : List Event). is_at_end (stage_of l)) (position_splits (between (behind d)) m.start (document_end_event true m.start m.start ∷ stream_end_event m.start m.end ∷ [])) ∙ ap is_at_end (stage_more at_start (shown (between (behind d)) m.start []) (document_end_event true m.start m.start ∷ stream_end_event m.start m.end ∷ []))

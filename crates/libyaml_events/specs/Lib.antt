@@ -3,6 +3,7 @@ pub mod Fault
 pub mod Source
 pub mod ListLaws
 pub mod FaultTexts
+pub mod Message
 pub mod State
 pub mod Config
 pub mod Machine

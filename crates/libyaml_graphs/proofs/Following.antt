@@ -241,9 +241,16 @@ alias_follows a m es b xs s h = go (get xs a) (h a)
   where
     go : (c : Option Carrier) → c ≡ carrier a es → Follows (on_alias c m (loader_of b xs)) (alias_fault (carrier a es) m) es (build es (alias_part a m) b)
     go None e = ap (λ (c : Option Carrier). alias_fault c m) (sym e)
-    go (Some c) e = (ap (λ (d : Option Carrier). alias_fault d m) (sym e), (xs, loader_same _ _ _ _ xs
-        (hand_built c.id b.places b.held ∙ ap (λ (d : Option Carrier). nodes_in (hold_top (id_or d) b.places b.held)) e)
-        (handed_built c.id b.places b.held s.falls ∙ ap (λ (d : Option Carrier). stack_of b.places (hold_top (id_or d) b.places b.held)) e), h))
+    go (Some c) e = (
+      ap (λ (d : Option Carrier). alias_fault d m) (sym e),
+      (
+        xs,
+        loader_same _ _ _ _ xs
+            (hand_built c.id b.places b.held ∙ ap (λ (d : Option Carrier). nodes_in (hold_top (id_or d) b.places b.held)) e)
+            (handed_built c.id b.places b.held s.falls ∙ ap (λ (d : Option Carrier). stack_of b.places (hold_top (id_or d) b.places b.held)) e),
+        h,
+      ),
+    )
 
 leaf_follows : (b : Option (List ℕ)) (x : yaml_node_t) (es : List Start) (c : Built) (xs : Anchors) → Stands es c → Agrees es xs → Follows (load_part (loader_of c xs) (leaf_part b x)) (anchor_fault es b x.start_mark) (start_of b x ∷ es) (build es (leaf_part b x) c)
 leaf_follows b x es c xs s h = go (register b (suc (length (nodes_in c.held))) x.start_mark xs) (registers b (suc (length (nodes_in c.held))) x.start_mark es xs h)

@@ -2,3 +2,5 @@ pub mod Machine
 pub mod Built
 pub mod Following
 pub mod LoaderLoads
+pub mod Sizes
+pub mod BoundedLoader

@@ -1,5 +1,5 @@
 use Rattle.libyaml_graphs.proofs.LoaderLoads.{between_loads}
-use Rattle.libyaml_graphs.proofs.laws.loader_loads.Goals as goal
+use Rattle.libyaml_graphs.proofs.laws.machine.all_loads.Goals as goal
 
 pub returns : goal.returns
 returns c = between_loads
