@@ -1,2 +1,3 @@
 pub mod AnchorLemmas
 pub mod StackLemmas
+pub mod LoadLemmas

@@ -1,14 +1,11 @@
 //! The loader: documents of YAML, composed of the events of a parser.
 #![tactic(auto)]
 
-pub mod anchors;
+mod anchors;
+mod composition;
+mod ids;
+mod load;
+mod refusal;
+mod stack;
 
-pub mod ids;
-
-pub mod refusal;
-pub mod stack;
-
-
-
-
-
+pub use load::yaml_parser_load;
