@@ -1,2 +1,4 @@
 pub mod AnchorLemmas
 pub mod StackLemmas
+pub mod Handing
+pub mod Loading

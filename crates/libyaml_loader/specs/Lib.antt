@@ -1,4 +1,5 @@
-pub mod Ids
 pub mod Anchors
+pub mod Context
+pub mod Ids
 pub mod Refusals
 pub mod Stack

@@ -3,6 +3,7 @@
 
 pub mod anchors;
 
+pub mod context;
 pub mod ids;
 
 pub mod refusal;
