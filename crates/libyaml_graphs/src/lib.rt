@@ -2,3 +2,5 @@
 //!
 //! There is no code here: `libyaml_loader` loads documents, and its contracts cite these definitions.
 #![tactic(auto)]
+
+pub mod laws;
