@@ -4,3 +4,5 @@ pub mod Following
 pub mod LoaderLoads
 pub mod Sizes
 pub mod BoundedLoader
+pub mod TreeGraphs
+pub mod TextLoads

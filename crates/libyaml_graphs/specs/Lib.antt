@@ -4,3 +4,4 @@ pub mod ComposerFaults
 pub mod Loads
 pub mod Bounds
 pub mod Loader
+pub mod GraphLaws

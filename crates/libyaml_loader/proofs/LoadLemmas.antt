@@ -1,5 +1,5 @@
 -- How the events that are to come give the same load, however far the loader has come.
-use Rattle.std.proofs.Common.{◌≡◌, ◌⊎◌, ℕ, List, [], ◌∷◌, Option, None, Some, Ok, Err, true, false, Bool, refl, sym, ap, ◌∙◌, subst, inl, inr}
+use Rattle.std.proofs.Common.{◌≡◌, ◌⊎◌, ℕ, List, [], ◌∷◌, Option, None, Some, Ok, Err, IfSome, true, false, Bool, refl, sym, ap, ◌∙◌, subst, inl, inr}
 use Rattle.libyaml_types.specs.declared.enums.yaml_error_type_t.{yaml_error_type_t}
 use Rattle.libyaml_types.specs.declared.enums.yaml_error_type_t.TheVariants.{YAML_MEMORY_ERROR}
 use Rattle.libyaml_types.specs.declared.event.unnamed_yaml_event_t_data.{unnamed_yaml_event_t_data}
@@ -21,11 +21,15 @@ use Rattle.libyaml_events.specs.Parsing.{CarriesOn}
 use Rattle.libyaml_events.specs.Stages.{is_event}
 use Rattle.libyaml_events.specs.Tokens.{Mark, Token}
 use Rattle.libyaml_graphs.specs.Bounds.{next_bounded}
-use Rattle.libyaml_graphs.specs.Loader.{Loader, Outcome, State, between, bounded_option, failed, fresh, going, if_going, within, load_from, left_from}
+use Rattle.libyaml_graphs.specs.Loader.{Anchors, Loader, Open, Outcome, State, between, bounded_option, failed, fresh, going, if_going, no_anchors, within, load_from, left_from}
 use Rattle.libyaml_graphs.specs.Loads.{Load, behind_document, document, last_load, left_over}
 use Rattle.libyaml_graphs.specs.Parts.{Closing, Opening, closing_in, closing_of, opening_of, part_of}
 use Rattle.libyaml_graphs.proofs.BoundedLoader.{one_load}
-use Rattle.libyaml_loader.specs.Composing.{Composing}
+use Rattle.libyaml_documents.specs.declared.node.yaml_node_t.{yaml_node_t}
+use Rattle.libyaml_loader.proofs.IdsKept.{ids_fresh}
+use Rattle.libyaml_loader.specs.Composing.{stands}
+use Rattle.libyaml_loader.specs.Context.{IdsAreIn, loader_of}
+use Rattle.libyaml_loader.specs.declared.context.loader_ctx.{loader_ctx}
 use Rattle.libyaml_loader.specs.Refusals.{fault_by}
 use Rattle.libyaml_loader.specs.declared.refusal.Refusal.{Refusal}
 use Rattle.libyaml_loader.specs.declared.refusal.Refusal.TheVariants.{Memory}
@@ -135,16 +139,32 @@ no_closing ev.SequenceEnd m h = refl
 no_closing (ev.MappingStart s) m h = refl
 no_closing ev.MappingEnd m h = refl
 
-abbrev pub composing_of : Option Opening → Option Composing
-composing_of x = option_map (λ (o : Opening). record { opening = o; loader = fresh }) x
+-- a document begun
+abbrev pub states_begun : Option Opening → Option State
+states_begun x = option_map (λ (o : Opening). within o fresh) x
 
-pub begun_is : (x : Option Opening) (c : Composing) → composing_of x ≡ Some c → (x ≡ Some c.opening) × (c.loader ≡ fresh)
-begun_is None c h = cc
-begun_is (Some o) c h = let same : c ≡ record { opening = o; loader = fresh } = cc in (ap (λ (d : Composing). Some d.opening) (sym same), ap (λ (d : Composing). d.loader) same)
+abbrev pub states_of : Option loader_ctx → Option State
+states_of r = option_map stands r
 
-pub not_begun : (x : Option Opening) → ((c : Composing) → composing_of x ≡ Some c → ⊥) → x ≡ None
-not_begun None h = refl
-not_begun (Some o) h = absurd (h _ refl)
+pub record Begun (x : Option Opening) (ctx : loader_ctx) : Type 0 where
+  pub start : Opening
+  pub is : x ≡ Some start
+  pub state : stands ctx ≡ within start fresh
+
+pub begun_is : (x : Option Opening) (r : Option loader_ctx) (ctx : loader_ctx) → r ≡ Some ctx → states_of r ≡ states_begun x → Begun x ctx
+begun_is None r ctx h k = absurd (no (sym (ap states_of h) ∙ k))
+  where
+    no : Some (stands ctx) ≡ None → ⊥
+    no e = cc
+begun_is (Some o) r ctx h k = record { start = o; is = refl; state = same (sym (ap states_of h) ∙ k) }
+  where
+    same : {s t : State} → Some s ≡ Some t → s ≡ t
+    same e = cc
+
+pub not_begun : (x : Option Opening) (r : Option loader_ctx) → ((ctx : loader_ctx) → r ≡ Some ctx → ⊥) → states_of r ≡ states_begun x → x ≡ None
+not_begun None r h k = refl
+not_begun (Some o) None h k = cc
+not_begun (Some o) (Some ctx) h k = absurd (h ctx refl)
 
 -- one event composed, or refused
 module _ (m n : ℕ) (same : m ≡ n) (o : Opening) (l : Loader) (e : Event) (none : closing_of e ≡ None) where
@@ -167,8 +187,24 @@ module _ (m n : ℕ) (same : m ≡ n) (o : Opening) (l : Loader) (e : Event) (no
   refused_by i (inr h) = inr (refused (fault_by i) h)
 
 -- a document begun by an event
-pub opened : (n : ℕ) (e : Event) (c : Composing) → (opening_of e ≡ Some c.opening) × (c.loader ≡ fresh) → (r : List Event) (x : Ending) → load_from n between (e ∷ r) x ≡ load_from n (within c.opening c.loader) r x
-opened n e c h r x = opens n e r x c.opening h.0 ∙ ap (λ (l : Loader). load_from n (within c.opening l) r x) (sym h.1)
+pub opened : (n : ℕ) (e : Event) (ctx : loader_ctx) → Begun (opening_of e) ctx → (r : List Event) (x : Ending) → load_from n between (e ∷ r) x ≡ load_from n (stands ctx) r x
+opened n e ctx h r x = opens n e r x h.start h.is ∙ ap (λ (s : State). load_from n s r x) (sym h.state)
 
-pub opened_left : (e : Event) (c : Composing) → (opening_of e ≡ Some c.opening) × (c.loader ≡ fresh) → (r : List Event) → left_from between (e ∷ r) ≡ left_from (within c.opening c.loader) r
-opened_left e c h r = opens_left e r c.opening h.0
+pub opened_left : (e : Event) (ctx : loader_ctx) → Begun (opening_of e) ctx → (r : List Event) → left_from between (e ∷ r) ≡ left_from (stands ctx) r
+opened_left e ctx h r = opens_left e r h.start h.is ∙ ap (λ (s : State). left_from s r) (sym h.state)
+
+pub begun_ids : (x : Option Opening) (r : Option loader_ctx) → IfSome r (λ ctx. IdsAreIn (loader_of ctx)) → (ctx : loader_ctx) → r ≡ Some ctx → IdsAreIn (loader_of ctx)
+begun_ids x (Some d) h ctx e = subst (λ (c : loader_ctx). IdsAreIn (loader_of c)) (same e) h
+  where
+    same : Some d ≡ Some ctx → d ≡ ctx
+    same k = cc
+begun_ids x None h ctx e = cc
+
+pub fresh_ids : (ctx : loader_ctx) → ctx.document.nodes ≡ [] → ctx.stack ≡ [] → ctx.anchors ≡ no_anchors → IdsAreIn (loader_of ctx)
+fresh_ids ctx nodes stack anchors = subst IdsAreIn (sym is) ids_fresh
+  where
+    is : loader_of ctx ≡ fresh
+    is =
+        ap (λ (n : List yaml_node_t). record { nodes = n; stack = ctx.stack; anchors = ctx.anchors }) nodes
+        ∙ (ap (λ (s : List Open). record { nodes = []; stack = s; anchors = ctx.anchors }) stack
+        ∙ ap (λ (a : Anchors). record { nodes = []; stack = []; anchors = a }) anchors)

@@ -1,6 +1,7 @@
-pub mod Ids
 pub mod Anchors
+pub mod Context
+pub mod Ids
 pub mod Refusals
 pub mod Stack
-pub mod Composing
 pub mod Loading
+pub mod Composing

@@ -1,6 +1,6 @@
 //! The ids of nodes, and what names nodes by them.
 
-ghost use Rattle.std.specs.Prelude.{pos, ◌≤ℤ◌};
+ghost use Rattle.std.specs.Prelude.{◌≡◌, pos, ◌≤ℤ◌};
 
 use libyaml_types::yaml_mark_t;
 
@@ -9,6 +9,16 @@ use libyaml_types::yaml_mark_t;
 pub struct NodeId {
     pub number: i32,
     ghost positive: { pos 1 ≤ℤ number },
+}
+
+impl NodeId {
+    /// The id of this number.
+    pub fn new(number: i32) -> Self
+        requires { pos 1 ≤ℤ number }
+        ensures { result.number ≡ number }
+    {
+        NodeId { number }
+    }
 }
 
 /// The node that carries an anchor, and where it starts.

@@ -2,7 +2,7 @@
 #![tactic(auto)]
 
 mod anchors;
-mod composition;
+mod context;
 mod ids;
 mod load;
 mod refusal;

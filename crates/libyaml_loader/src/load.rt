@@ -1,27 +1,29 @@
 //! One document of a parser's stream.
-ghost use Rattle.std.specs.Prelude.{◌≡◌, List, [], None, true, false, IfErr, Ok, Err};
+ghost use Rattle.std.specs.Prelude.{◌≡◌, List, [], None, true, false, IfErr, IfSome, Ok, Err};
 ghost use Rattle.libyaml_events.specs.Events.{Event};
 ghost use Rattle.libyaml_events.specs.History.{between_documents, has_ended, has_failed, kept_fault};
 ghost use Rattle.libyaml_events.specs.RunToCome.{RunToCome};
 ghost use Rattle.libyaml_events.specs.Runs.{Ending};
 ghost use Rattle.libyaml_events.specs.Stages.{is_event};
 ghost use Rattle.std.specs.Option.{option_map};
-ghost use Rattle.libyaml_graphs.specs.Parts.{opening_of};
+ghost use Rattle.libyaml_graphs.specs.Parts.{opening_in};
 ghost use Rattle.libyaml_documents.specs.Documents.{empty_document};
 ghost use Rattle.libyaml_graphs.specs.Bounds.{next_bounded};
 ghost use Rattle.libyaml_graphs.specs.Loader.{fresh, within, load_from, left_from};
 ghost use Rattle.libyaml_graphs.specs.Loads.{left_over};
 ghost use Rattle.libyaml_loader.specs.Ids.{magnitude};
+ghost use Rattle.libyaml_loader.specs.Composing.{stands};
+ghost use Rattle.libyaml_loader.specs.Context.{IdsAreIn, loader_of};
 ghost use Rattle.libyaml_loader.specs.Loading.{LoadsUnlessBroken};
 
-use crate::composition::Composition;
+use crate::context::loader_ctx;
 use crate::refusal::{has_failed, keep_refusal};
 use libyaml_documents::building::begin_document;
 use libyaml_documents::yaml_document_t;
 use libyaml_events::{yaml_parser_parse, yaml_parser_t, yaml_token_source_t};
 use libyaml_types::{
     TagDirectives, ZERO_MARK, unnamed_yaml_event_t_data, unnamed_yaml_event_t_data_document_start,
-    yaml_error_type_t, yaml_event_t,
+    yaml_error_type_t, yaml_event_t, yaml_mark_t,
 };
 use std::alloc::Global;
 
@@ -49,65 +51,72 @@ pub fn yaml_parser_load<S: yaml_token_source_t>(
         return Err(parser.prefix().error);
     }
     let alloc = parser.allocator();
+    let max_entries = most_entries(parser);
     loop {
         let event = yaml_parser_parse(parser)?;
-        if !is_event(&event) {
+        if !is_event(&event.content) {
             return Ok(document_without_root(alloc));
         }
-        if let Some(composition) = begun(alloc, event) {
-            return yaml_parser_load_document(parser, composition);
+        if let Some(ctx) = begun(alloc, max_entries, event.content, event.start_mark) {
+            return yaml_parser_load_document(parser, ctx);
         }
     }
 }
 
-/// The document that is on the way.
+/// The rest of a document on the way.
 ///
 /// libyaml: `yaml_parser_load_document` and `yaml_parser_load_nodes`.
 fn yaml_parser_load_document<S: yaml_token_source_t>(
     parser: &mut yaml_parser_t<S>,
-    composition: Composition,
+    mut ctx: loader_ctx,
 ) -> Result<yaml_document_t, yaml_error_type_t>
+    requires ids { IdsAreIn (loader_of ctx) }
+    requires most { ctx.max_entries ≡ magnitude parser.old.max_entries }
     ensures fails { IfErr result (λ x. (x ≡ (kept_fault parser.new).error) × (has_ended parser.new ≡ true)) }
     ensures bound { parser.new.max_entries ≡ parser.old.max_entries }
     ensures next_load { (events : List Event) (ending : Ending) → RunToCome S.known parser.old events ending
-        → LoadsUnlessBroken S.known S.may_break result parser.new (load_from (magnitude parser.old.max_entries) (within composition.opening composition.loader) events ending) (left_from (within composition.opening composition.loader) events) ending }
+        → LoadsUnlessBroken S.known S.may_break result parser.new (load_from (magnitude parser.old.max_entries) (stands ctx) events ending) (left_from (stands ctx) events) ending }
 {
-    let alloc = parser.allocator();
-    let max_entries = most_entries(parser);
-    let mut composition = composition;
     loop {
         let event = yaml_parser_parse(parser)?;
-        if !is_event(&event) {
-            return Ok(document_without_root(alloc));
+        if !is_event(&event.content) {
+            return Ok(document_without_root(ctx.alloc));
         }
-        if let unnamed_yaml_event_t_data::DocumentEnd(end) = &event.content {
-            return Ok(composition.end(end.implicit, event.end_mark));
+        let yaml_event_t {
+            content,
+            start_mark,
+            end_mark,
+        } = event;
+        if let unnamed_yaml_event_t_data::DocumentEnd(end) = &content {
+            return Ok(ctx.into_document(end.implicit, end_mark));
         }
-        if let Err(refusal) = composition.compose(alloc, max_entries, event) {
+        if let Err(refusal) = ctx.compose(content, start_mark, end_mark) {
             return Err(keep_refusal(parser, refusal));
         }
     }
 }
 
 /// Whether this is an event, and not the empty one.
-fn is_event(event: &yaml_event_t) -> bool
-    ensures { result ≡ is_event event.now.content }
+fn is_event(content: &unnamed_yaml_event_t_data) -> bool
+    ensures { result ≡ is_event content.now }
 {
-    !matches!(event.content, unnamed_yaml_event_t_data::NoEvent)
+    !matches!(content, unnamed_yaml_event_t_data::NoEvent)
 }
 
-/// The document that this event begins, if it begins one.
-fn begun(alloc: Global, event: yaml_event_t) -> Option<Composition>
-    ensures { result ≡ option_map (λ o. record { opening = o; loader = fresh }) (opening_of event) }
+/// The document that an event of this content begins, if it begins one.
+fn begun(
+    alloc: Global,
+    max_entries: usize,
+    content: unnamed_yaml_event_t_data,
+    start_mark: yaml_mark_t,
+) -> Option<loader_ctx>
+    ensures begins { option_map stands result ≡ option_map (λ o. within o fresh) (opening_in content start_mark) }
+    ensures ids { IfSome result (λ ctx. IdsAreIn (loader_of ctx)) }
+    ensures most { IfSome result (λ ctx. ctx.max_entries ≡ max_entries) }
 {
-    let yaml_event_t {
-        content,
-        start_mark,
-        ..
-    } = event;
     match content {
         unnamed_yaml_event_t_data::DocumentStart(start) => {
-            Some(Composition::begin(alloc, start, start_mark))
+            Some(loader_ctx::new(alloc, max_entries, start, start_mark))
         }
         _ => None,
     }

@@ -49,7 +49,7 @@ impl OpenCollections {
 
     /// Takes the innermost collection off.
     pub fn pop(&mut self) -> Option<Open>
-        ensures open { option_map open_of result ≡ innermost self.old }
+        ensures top { option_map open_of result ≡ innermost self.old }
         ensures rest { self.new ≡ outer self.old }
     {
         self.inner.pop()

@@ -4,6 +4,7 @@ use Rattle.libyaml_events.specs.Stages.{is_event}
 use Rattle.libyaml_events.proofs.NextEvents.{Says, fails_here, first_event}
 use Rattle.libyaml_graphs.specs.Loader.{between, within}
 use Rattle.libyaml_graphs.proofs.Machine.{opens, opens_left, passes, passes_left}
+use Rattle.libyaml_loader.specs.Composing.{stands}
 use Rattle.libyaml_loader.specs.Ids.{magnitude}
 use Rattle.libyaml_loader.proofs.LoadLemmas.{as_next, begun_is, gives_nothing, hands_on, is_over, is_running, left_step, not_begun, opened, opened_left, parser_fails}
 use Rattle.libyaml_loader.proofs.load.yaml_parser_load.Goals as goal
@@ -33,11 +34,11 @@ returns-in-Some-clause-next_load g c events ending run =
     let call = c.yaml_parser_parse.ensures in
     let left = c.loop-event.invariant.left events ending run in
     let event = c.in_ok-event.event in
-    let composing = c.in-Some.composition in
+    let ctx = c.in-Some.ctx in
     let an_event : is_event c.in_ok-event.event.content ≡ true = search rules in
     let first = first_event t.known t.may_break _ _ _ event c.in_ok-event.was an_event (record { next = call.next_of_run; end = call.end_of_run; fault = call.fault_of_run }) left.later ending left.run in
-    let begun = begun_is _ composing (sym c.begun.ensures ∙ c.in-Some.is) in
-    let next = left_step t.known t.may_break (magnitude c.args.parser.now.max_entries) between between (within composing.opening composing.loader) _ _ event events ending left first (opened (magnitude c.args.parser.now.max_entries) event composing begun) (opened_left event composing begun) in
+    let begun = begun_is _ _ ctx c.in-Some.is c.begun.ensures.begins in
+    let next = left_step t.known t.may_break (magnitude c.args.parser.now.max_entries) between between (stands ctx) _ _ event events ending left first (opened (magnitude c.args.parser.now.max_entries) event ctx begun) (opened_left event ctx begun) in
     as_next t.known t.may_break _ _ _ events ending (hands_on t.known t.may_break _ (magnitude c.yaml_parser_parse.new.parser.max_entries) (ap magnitude (call.bound ∙ c.loop-event.invariant.bound)) _ _ _ _ _ events ending next c.yaml_parser_load_document.ensures.next_load)
 
 pub loop-event-smaller : goal.loop-event-smaller
@@ -51,7 +52,7 @@ loop-event-preserved g c =
     let call = c.yaml_parser_parse.ensures in
     let event = c.in_ok-event.event in
     let an_event : is_event c.in_ok-event.event.content ≡ true = search rules in
-    let none = not_begun _ (λ composing h. c.in_default.not-Some composing (c.begun.ensures ∙ h)) in
+    let none = not_begun _ _ c.in_default.not-Some c.begun.ensures.begins in
     record {
       bound = call.bound ∙ c.loop-event.invariant.bound;
       left = λ events ending run.
