@@ -1,24 +1,26 @@
 -- How the events that are to come give the same load, however far the loader has come.
-use Rattle.std.proofs.Common.{◌≡◌, ◌⊎◌, ℕ, List, [], ◌∷◌, Option, None, Some, Ok, Err, IfSome, true, false, Bool, refl, sym, ap, ◌∙◌, subst, inl, inr}
+use Rattle.std.proofs.Common.{◌≡◌, ◌⊎◌, ◌||◌, ◌++◌, ℕ, List, [], ◌∷◌, Option, None, Some, Ok, Err, IfSome, true, false, Bool, refl, sym, ap, ◌∙◌, subst, inl, inr}
 use Rattle.libyaml_types.specs.declared.enums.yaml_error_type_t.{yaml_error_type_t}
-use Rattle.libyaml_types.specs.declared.enums.yaml_error_type_t.TheVariants.{YAML_MEMORY_ERROR}
+use Rattle.libyaml_types.specs.declared.enums.yaml_parser_state_t.{yaml_parser_state_t}
+use Rattle.libyaml_types.specs.declared.enums.yaml_parser_state_t.TheVariants.{YAML_PARSE_END_STATE}
 use Rattle.libyaml_types.specs.declared.event.unnamed_yaml_event_t_data.{unnamed_yaml_event_t_data}
 use Rattle.libyaml_types.specs.declared.event.unnamed_yaml_event_t_data.TheVariants as ev
 use Rattle.libyaml_documents.specs.Documents.{Document, empty_document}
-use Rattle.libyaml_events.specs.Config.{Parser}
+use Rattle.libyaml_events.specs.Config.{Parser, is_between, is_end, is_fault}
 use Rattle.libyaml_events.specs.Events.{Event}
 use Rattle.libyaml_events.specs.Fault.{Answer, Fault}
 use Rattle.libyaml_events.specs.FaultTexts.{memory_fault}
-use Rattle.libyaml_events.specs.History.{History, has_ended, kept_fault}
+use Rattle.libyaml_events.specs.History.{History, between_documents, has_ended, kept_fault}
 use Rattle.libyaml_events.specs.RunToCome.{RunToCome}
-use Rattle.libyaml_events.specs.Runs.{Ending, Ends, Fails}
+use Rattle.libyaml_events.specs.Runs.{Ending, Ends}
 use Rattle.libyaml_events.specs.Source.{Coming}
+use Rattle.libyaml_events.proofs.CallsInTurn.{stage_more}
 use Rattle.libyaml_events.proofs.NextEvents.{FailsHere, First}
 use Rattle.std.specs.Option.{option_map}
 use Rattle.libyaml_types.specs.declared.event.unnamed_yaml_event_t_data_document_end.{unnamed_yaml_event_t_data_document_end}
 use Rattle.libyaml_events.specs.Calls.{EventOrError, empty_event}
 use Rattle.libyaml_events.specs.Parsing.{CarriesOn}
-use Rattle.libyaml_events.specs.Stages.{is_event}
+use Rattle.libyaml_events.specs.Stages.{after, at_start, is_event, is_outside, stage_of}
 use Rattle.libyaml_events.specs.Tokens.{Mark, Token}
 use Rattle.libyaml_graphs.specs.Bounds.{next_bounded}
 use Rattle.libyaml_graphs.specs.Loader.{Anchors, Loader, Open, Outcome, State, between, bounded_option, failed, fresh, going, if_going, no_anchors, within, load_from, left_from}
@@ -43,6 +45,19 @@ pub record Left {S : Type 0} (known : S → Option Coming) (n : ℕ) (first now 
   pub same : load_from n first events ending ≡ load_from n now later ending
   pub left : left_from first events ≡ left_from now later
 
+over_between : (b : Bool) (s : yaml_parser_state_t) → (b || is_end s) ≡ true → (b || is_between s) ≡ true
+over_between true s h = refl
+over_between false YAML_PARSE_END_STATE h = refl
+over_between false _ h = absurd cc
+
+-- a parser that is over stands between documents
+ended_between : {S : Type 0} (p : Parser S) → has_ended p ≡ true → between_documents p ≡ true
+ended_between p h = over_between (is_fault (kept_fault p).error) p.config.state h
+
+-- so does one behind a document's end
+pub behind_end : (given : List Event) (e : Event) {d : unnamed_yaml_event_t_data_document_end} → e.content ≡ ev.DocumentEnd d → is_outside (stage_of (given ++ e ∷ [])) ≡ true
+behind_end given e h = ap is_outside (stage_more at_start given (e ∷ [])) ∙ ap (λ (k : unnamed_yaml_event_t_data). is_outside (after (stage_of given) k)) h
+
 none_left : (s : State) → left_from s [] ≡ []
 none_left between = refl
 none_left (within o l) = refl
@@ -61,27 +76,27 @@ module _ {S : Type 0} (known : S → Option Coming) (MayBreak : S → Fault → 
   }
 
   pub loads_as : (result : DocumentOrError) (new : Parser S) (a b : Load) (l m : List Event) (ending : Ending) → a ≡ b → l ≡ m → LoadsUnlessBroken known MayBreak result new b m ending → LoadsUnlessBroken known MayBreak result new a l ending
-  loads_as result new a b l m ending h k (gives d is answered run) = gives d (h ∙ is) answered (subst (λ (r : List Event). RunToCome known new r ending) (sym k) run)
+  loads_as result new a b l m ending h k (gives d is answered run outside) = gives d (h ∙ is) answered (subst (λ (r : List Event). RunToCome known new r ending) (sym k) run) outside
   loads_as result new a b l m ending h k (fails f is answered kept) = fails f (h ∙ is) answered kept
   loads_as result new a b l m ending h k (no_memory answered kept) = no_memory answered kept
   loads_as result new a b l m ending h k (breaks f may answered kept) = breaks f may answered kept
 
   -- the document's end has come
   pub gives_document : (first now : State) (old new : Parser S) (e : Event) (events : List Event) (ending : Ending) → (l : Left known n first now old events ending) → First known MayBreak old new e l.later ending
-      → (d : Document) → ((r : List Event) (x : Ending) → load_from n now (e ∷ r) x ≡ Ok d) → ((r : List Event) → left_from now (e ∷ r) ≡ r) → LoadsUnlessBroken known MayBreak (Ok d) new (load_from n first events ending) (left_from first events) ending
-  gives_document first now old new e events ending l f d loads lefts =
+      → (d : Document) → ((r : List Event) (x : Ending) → load_from n now (e ∷ r) x ≡ Ok d) → ((r : List Event) → left_from now (e ∷ r) ≡ r) → between_documents new ≡ true → LoadsUnlessBroken known MayBreak (Ok d) new (load_from n first events ending) (left_from first events) ending
+  gives_document first now old new e events ending l f d loads lefts outside =
       let left : left_from first events ≡ f.later = l.left ∙ (ap (λ (r : List Event). left_from now r) f.first ∙ lefts f.later) in
-      gives d (l.same ∙ (ap (λ (r : List Event). load_from n now r ending) f.first ∙ loads f.later ending)) refl (subst (λ (r : List Event). RunToCome known new r ending) (sym left) f.run)
+      gives d (l.same ∙ (ap (λ (r : List Event). load_from n now r ending) f.first ∙ loads f.later ending)) refl (subst (λ (r : List Event). RunToCome known new r ending) (sym left) f.run) outside
 
   -- nothing was left
-  pub gives_nothing : (first now : State) (old new : Parser S) (events : List Event) (ending : Ending) → (l : Left known n first now old events ending) → new ≡ old → ((later : List Event) (x : Ending) → RunToCome known new later x → (later ≡ []) × (x ≡ Ends))
+  pub gives_nothing : (first now : State) (old new : Parser S) (events : List Event) (ending : Ending) → (l : Left known n first now old events ending) → new ≡ old → ((later : List Event) (x : Ending) → RunToCome known new later x → (later ≡ []) × (x ≡ Ends)) → has_ended new ≡ true
       → LoadsUnlessBroken known MayBreak (Ok (empty_document None [] false false)) new (load_from n first events ending) (left_from first events) ending
-  gives_nothing first now old new events ending l same nothing =
+  gives_nothing first now old new events ending l same nothing over =
       let run : RunToCome known new l.later ending = subst (λ (p : Parser S). RunToCome known p l.later ending) (sym same) l.run in
       let none = nothing l.later ending run in
       let left : left_from first events ≡ [] = l.left ∙ (ap (λ (r : List Event). left_from now r) none.0 ∙ none_left now) in
       let load : load_from n first events ending ≡ last_load Ends = l.same ∙ (ap (λ (r : List Event). load_from n now r ending) none.0 ∙ (nothing_left n now ending ∙ ap last_load none.1)) in
-      gives (empty_document None [] false false) load refl (subst (λ (r : List Event). RunToCome known new r ending) (none.0 ∙ sym left) run)
+      gives (empty_document None [] false false) load refl (subst (λ (r : List Event). RunToCome known new r ending) (none.0 ∙ sym left) run) (ended_between new over)
 
   -- the parser failed
   pub parser_fails : (first now : State) (old new : Parser S) (x : yaml_error_type_t) (events : List Event) (ending : Ending) → x ≡ (kept_fault new).error → (l : Left known n first now old events ending) → FailsHere (MayBreak new.source) (kept_fault new) l.later ending

@@ -1,9 +1,9 @@
-use Rattle.std.proofs.Common.{◌≡◌, Err, Some, ap, ◌∙◌, refl, rules, sym, true, false}
+use Rattle.std.proofs.Common.{◌≡◌, Err, ap, ◌∙◌, refl, rules, true, false}
 use Rattle.libyaml_events.specs.History.{has_ended}
 use Rattle.libyaml_events.specs.Stages.{is_event}
-use Rattle.libyaml_events.proofs.NextEvents.{Says, fails_here, first_event}
-use Rattle.libyaml_graphs.specs.Loader.{between, within}
-use Rattle.libyaml_graphs.proofs.Machine.{opens, opens_left, passes, passes_left}
+use Rattle.libyaml_events.proofs.NextEvents.{fails_here, first_event}
+use Rattle.libyaml_graphs.specs.Loader.{between}
+use Rattle.libyaml_graphs.proofs.Machine.{passes, passes_left}
 use Rattle.libyaml_loader.specs.Composing.{stands}
 use Rattle.libyaml_loader.specs.Ids.{magnitude}
 use Rattle.libyaml_loader.proofs.LoadLemmas.{as_next, begun_is, gives_nothing, hands_on, is_over, is_running, left_step, not_begun, opened, opened_left, parser_fails}
@@ -26,7 +26,7 @@ returns-then-not-is_event-clause-next_load g c events ending run =
     let empty : is_event c.in_ok-event.event.content ≡ false = search rules in
     let over = is_over c.loop-event.parser c.yaml_parser_parse.new.parser c.yaml_parser_parse.result c.in_ok-event.event t.gives _ refl empty c.in_ok-event.ensures.carries_on _ _ left.run.history in
     let same = (call.ended over).1 in
-    rw c.document_without_root.ensures (as_next t.known t.may_break _ _ _ events ending (gives_nothing t.known t.may_break _ _ _ _ _ events ending left same (call.nothing_behind_end (ap has_ended same ∙ over))))
+    rw c.document_without_root.ensures (as_next t.known t.may_break _ _ _ events ending (gives_nothing t.known t.may_break _ _ _ _ _ events ending left same (call.nothing_behind_end (ap has_ended same ∙ over)) (ap has_ended same ∙ over)))
 
 pub returns-in-Some-clause-next_load : goal.returns-in-Some-clause-next_load
 returns-in-Some-clause-next_load g c events ending run =
@@ -56,7 +56,7 @@ loop-event-preserved g c =
     record {
       bound = call.bound ∙ c.loop-event.invariant.bound;
       left = λ events ending run.
-        let left = c.loop-event.invariant.left events ending run in
-        let first = first_event t.known t.may_break _ _ _ event c.in_ok-event.was an_event (record { next = call.next_of_run; end = call.end_of_run; fault = call.fault_of_run }) left.later ending left.run in
-        left_step t.known t.may_break _ _ _ between _ _ event events ending left first (λ r x. passes _ event r x none) (λ r. passes_left event r none);
+          let left = c.loop-event.invariant.left events ending run in
+          let first = first_event t.known t.may_break _ _ _ event c.in_ok-event.was an_event (record { next = call.next_of_run; end = call.end_of_run; fault = call.fault_of_run }) left.later ending left.run in
+          left_step t.known t.may_break _ _ _ between _ _ event events ending left first (λ r x. passes _ event r x none) (λ r. passes_left event r none);
     }

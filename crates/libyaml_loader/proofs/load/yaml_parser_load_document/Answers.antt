@@ -1,13 +1,12 @@
-use Rattle.std.proofs.Common.{◌≡◌, Err, Ok, ap, ◌∙◌, refl, rules, sym, true, false, None}
+use Rattle.std.proofs.Common.{◌≡◌, Err, ap, ◌∙◌, refl, rules, true, false}
 use Rattle.libyaml_events.specs.History.{has_ended, kept_fault}
 use Rattle.libyaml_events.specs.Stages.{is_event}
-use Rattle.libyaml_events.proofs.NextEvents.{Says, fails_here, first_event}
-use Rattle.libyaml_graphs.specs.Parts.{closing_of}
+use Rattle.libyaml_events.proofs.NextEvents.{fails_here, first_event}
 use Rattle.libyaml_graphs.proofs.Machine.{closes, closes_left}
 use Rattle.libyaml_loader.specs.Composing.{opening}
 use Rattle.libyaml_loader.specs.Context.{loader_of}
 use Rattle.libyaml_loader.proofs.IdsKept.{ids_kept}
-use Rattle.libyaml_loader.proofs.LoadLemmas.{closing_is, composed, composed_left, gives_document, gives_nothing, is_over, is_running, left_step, no_closing, parser_fails, refused_by, refuses}
+use Rattle.libyaml_loader.proofs.LoadLemmas.{behind_end, closing_is, composed, composed_left, gives_document, gives_nothing, is_over, is_running, left_step, no_closing, parser_fails, refused_by, refuses}
 use Rattle.libyaml_loader.proofs.load.yaml_parser_load_document.Goals as goal
 
 pub returns-in_err-event-clause-next_load : goal.returns-in_err-event-clause-next_load
@@ -27,7 +26,7 @@ returns-then-not-is_event-clause-next_load g c events ending run =
     let empty : is_event c.in_ok-event.event.content ≡ false = search rules in
     let over = is_over c.loop-ctx.parser c.yaml_parser_parse.new.parser c.yaml_parser_parse.result c.in_ok-event.event t.gives _ refl empty c.in_ok-event.ensures.carries_on _ _ left.run.history in
     let same = (call.ended over).1 in
-    rw c.document_without_root.ensures (gives_nothing t.known t.may_break _ _ _ _ _ events ending left same (call.nothing_behind_end (ap has_ended same ∙ over)))
+    rw c.document_without_root.ensures (gives_nothing t.known t.may_break _ _ _ _ _ events ending left same (call.nothing_behind_end (ap has_ended same ∙ over)) (ap has_ended same ∙ over))
 
 pub returns-in-DocumentEnd-clause-next_load : goal.returns-in-DocumentEnd-clause-next_load
 returns-in-DocumentEnd-clause-next_load g c events ending run =
@@ -38,7 +37,9 @@ returns-in-DocumentEnd-clause-next_load g c events ending run =
     let an_event : is_event c.in_ok-event.event.content ≡ true = search rules in
     let first = first_event t.known t.may_break _ _ _ event c.in_ok-event.was an_event (record { next = call.next_of_run; end = call.end_of_run; fault = call.fault_of_run }) left.later ending left.run in
     let closing = closing_is event c.in-DocumentEnd.is in
-    rw c.into_document.ensures (gives_document t.known t.may_break _ _ _ _ _ _ events ending left first _ (λ r x. closes _ _ _ event r x _ closing) (λ r. closes_left (opening c.loop-ctx.ctx.document) (loader_of c.loop-ctx.ctx) event r _ closing))
+    let running = is_running c.loop-ctx.parser c.yaml_parser_parse.new.parser c.yaml_parser_parse.result event _ refl c.in_ok-event.was an_event call.ended in
+    let outside = call.between _ _ (c.in_ok-event.ensures.carries_on running _ _ left.run.history).history ∙ behind_end left.run.given event c.in-DocumentEnd.is in
+    rw c.into_document.ensures (gives_document t.known t.may_break _ _ _ _ _ _ events ending left first _ (λ r x. closes _ _ _ event r x _ closing) (λ r. closes_left (opening c.loop-ctx.ctx.document) (loader_of c.loop-ctx.ctx) event r _ closing) outside)
 
 pub returns-in-Err-clause-fails : goal.returns-in-Err-clause-fails
 returns-in-Err-clause-fails g c = (c.keep_refusal.ensures.error, c.keep_refusal.ensures.ended)
@@ -78,7 +79,7 @@ loop-ctx-preserved g c =
       most = made.bound ∙ c.loop-ctx.invariant.most;
       bound = call.bound ∙ c.loop-ctx.invariant.bound;
       left = λ events ending run.
-        let left = c.loop-ctx.invariant.left events ending run in
-        let first = first_event t.known t.may_break _ _ _ event c.in_ok-event.was an_event (record { next = call.next_of_run; end = call.end_of_run; fault = call.fault_of_run }) left.later ending left.run in
-        left_step t.known t.may_break _ _ _ _ _ _ event events ending left first (composed _ _ c.loop-ctx.invariant.most (opening old.document) (loader_of old) event none (opening new.document) (loader_of new) (ap opening made.document) made.goes) (composed_left _ _ c.loop-ctx.invariant.most (opening old.document) (loader_of old) event none (opening new.document) (loader_of new));
+          let left = c.loop-ctx.invariant.left events ending run in
+          let first = first_event t.known t.may_break _ _ _ event c.in_ok-event.was an_event (record { next = call.next_of_run; end = call.end_of_run; fault = call.fault_of_run }) left.later ending left.run in
+          left_step t.known t.may_break _ _ _ _ _ _ event events ending left first (composed _ _ c.loop-ctx.invariant.most (opening old.document) (loader_of old) event none (opening new.document) (loader_of new) (ap opening made.document) made.goes) (composed_left _ _ c.loop-ctx.invariant.most (opening old.document) (loader_of old) event none (opening new.document) (loader_of new));
     }
