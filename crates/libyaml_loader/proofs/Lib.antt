@@ -2,3 +2,8 @@ pub mod AnchorLemmas
 pub mod StackLemmas
 pub mod Handing
 pub mod Loading
+pub mod IdsKept
+pub mod Taking
+pub mod Reaching
+pub mod Stepping
+pub mod NextLoads

@@ -1,15 +1,14 @@
 //! The loader: documents of YAML, composed of the events of a parser.
 #![tactic(auto)]
 
-pub mod anchors;
+mod anchors;
+mod context;
+mod ids;
+mod load;
+mod refusal;
+mod stack;
 
-pub mod context;
-pub mod ids;
+pub use load::yaml_parser_load;
 
-pub mod refusal;
-pub mod stack;
-
-
-
-
-
+#[cfg(test)]
+mod tests;
