@@ -1,27 +1,26 @@
 -- How a load goes on by the events that it takes.
-use Rattle.std.proofs.Common.{◌≡◌, ◌⊎◌, ◌++◌, ◌∷◌, ℕ, List, [], Option, Some, None, Ok, Err, true, false, refl, sym, ap, ◌∙◌, subst, inl, inr, append_assoc}
-use Rattle.libyaml_types.specs.declared.enums.yaml_error_type_t.{yaml_error_type_t}
+use Rattle.std.proofs.Common.{◌≡◌, ◌⊎◌, ◌++◌, ◌∷◌, ℕ, List, [], Option, Some, None, Ok, Err, false, refl, sym, ap, ◌∙◌, subst, inl, inr, append_assoc}
 use Rattle.libyaml_documents.specs.Documents.{Document, empty_document}
 use Rattle.libyaml_events.specs.Config.{Parser}
 use Rattle.libyaml_events.specs.Events.{Event}
 use Rattle.libyaml_events.specs.Fault.{Answer, Fault}
 use Rattle.libyaml_events.specs.FaultTexts.{memory_fault}
-use Rattle.libyaml_events.specs.History.{History, between_documents}
+use Rattle.libyaml_events.specs.History.{History}
 use Rattle.libyaml_events.specs.RunToCome.{RunToCome}
-use Rattle.libyaml_events.specs.Runs.{Ending, Ends}
+use Rattle.libyaml_events.specs.Runs.{Ending}
 use Rattle.libyaml_events.specs.Source.{Coming}
 use Rattle.libyaml_events.specs.Tokens.{Token}
 use Rattle.libyaml_graphs.specs.Loader.{Loader, Outcome, State, between, bounded_option, failed, fresh, going, if_going, left_from, load_from, within}
-use Rattle.libyaml_graphs.specs.Loads.{Load, document, last_load}
+use Rattle.libyaml_graphs.specs.Loads.{Load, document}
 use Rattle.libyaml_graphs.specs.Parts as parts
 use Rattle.libyaml_graphs.specs.Parts.{Opening, closing_of, opening_of, part_of}
 use Rattle.libyaml_graphs.proofs.Machine.{closes, closes_left, goes_on_left, nothing_left, opens, opens_left, passes, passes_left, within_event}
-use Rattle.libyaml_loader.specs.Context.{Composed, loader_of}
+use Rattle.libyaml_loader.specs.Context.{loader_of}
 use Rattle.libyaml_loader.specs.declared.context.loader_ctx.{loader_ctx}
 use Rattle.libyaml_loader.specs.declared.load.Closing.{Closing}
 use Rattle.libyaml_loader.specs.declared.load.Step.TheVariants as step
-use Rattle.libyaml_loader.specs.Loading.{DocumentOrError, KeptBy, LeftOf, LoadFails, Loads, LoadsFrom, ParserFails, Took, at_end, by_loader, by_memory, by_parser, whole}
-use Rattle.libyaml_loader.specs.Steps.{FindsEnd, LoaderFails, StepBy, TakesEvent, closing}
+use Rattle.libyaml_loader.specs.Loading.{DocumentOrError, KeptBy, LoadFails, Loads, LoadsFrom, ParserFails, Took, at_end, by_loader, by_memory, by_parser, whole}
+use Rattle.libyaml_loader.specs.Steps.{FindsEnd, LoaderFails, TakesEvent, closing}
 use Rattle.libyaml_loader.proofs.Taking.{took_both, took_none}
 
 -- by these events a load comes from the one state to the other

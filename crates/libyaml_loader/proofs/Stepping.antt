@@ -10,7 +10,6 @@ use Rattle.libyaml_events.specs.Calls.{EventOrError}
 use Rattle.libyaml_events.specs.Config.{Parser, is_fault}
 use Rattle.libyaml_events.specs.Events.{Event}
 use Rattle.libyaml_events.specs.Fault.{Answer, Fault}
-use Rattle.libyaml_events.specs.FaultTexts.{memory_fault}
 use Rattle.libyaml_events.specs.History.{History, has_failed, keeping}
 use Rattle.libyaml_events.specs.Source.{Coming}
 use Rattle.libyaml_events.specs.Stages.{is_event}
@@ -24,7 +23,7 @@ use Rattle.libyaml_graphs.proofs.BoundedLoader.{one_load}
 use Rattle.libyaml_graphs.specs.Loads.{document, left_over}
 use Rattle.libyaml_graphs.specs.Parts as parts
 use Rattle.libyaml_graphs.specs.Parts.{Part, closing_in, closing_of, opening_in, opening_of, part_in, part_of}
-use Rattle.libyaml_loader.specs.Context.{Composed, IdsAreIn, Refuses, loader_of, with_nodes}
+use Rattle.libyaml_loader.specs.Context.{IdsAreIn, Refuses, loader_of, with_nodes}
 use Rattle.libyaml_loader.specs.declared.context.loader_ctx.{loader_ctx}
 use Rattle.libyaml_loader.specs.declared.load.Closing.{Closing}
 use Rattle.libyaml_loader.specs.declared.load.Step.{Step}

@@ -1,5 +1,5 @@
 -- What one call of the parser says of the events that a load takes.
-use Rattle.std.proofs.Common.{◌≡◌, ◌⊎◌, ◌||◌, ◌++◌, ◌∷◌, List, [], Option, Some, None, Bool, Ok, Err, IfOk, IfErr, true, false, refl, sym, ap, ◌∙◌, subst, inl, inr, append_assoc}
+use Rattle.std.proofs.Common.{◌≡◌, ◌||◌, ◌++◌, ◌∷◌, List, [], Option, Some, Bool, Ok, Err, IfOk, IfErr, true, false, refl, sym, ap, ◌∙◌, subst, append_assoc}
 use Rattle.libyaml_types.specs.declared.enums.yaml_error_type_t.{yaml_error_type_t}
 use Rattle.libyaml_types.specs.declared.enums.yaml_parser_state_t.{yaml_parser_state_t}
 use Rattle.libyaml_types.specs.declared.enums.yaml_parser_state_t.TheVariants.{YAML_PARSE_END_STATE}
@@ -16,12 +16,12 @@ use Rattle.libyaml_events.specs.Parsing.{CarriesOn, FailsBy}
 use Rattle.libyaml_events.specs.RunToCome.{RunToCome, UnlessBroken}
 use Rattle.libyaml_events.specs.Runs.{Ending, Ends, Fails}
 use Rattle.libyaml_events.specs.Source.{Coming}
-use Rattle.libyaml_events.specs.Stages.{Stage, after, at_start, is_event, is_outside, stage_from, stage_of}
+use Rattle.libyaml_events.specs.Stages.{Stage, after, at_start, is_event, is_outside, stage_of}
 use Rattle.libyaml_events.specs.Tokens.{Token}
 use Rattle.libyaml_events.proofs.CallsInTurn.{both_calls, no_call, one_call, stage_more}
 use Rattle.libyaml_events.proofs.NextEvents.{Says, fails_here, first_event}
 use Rattle.libyaml_graphs.specs.Parts.{Closing, closing_in, closing_of}
-use Rattle.libyaml_loader.specs.Loading.{LeftOf, ParserFails, Took}
+use Rattle.libyaml_loader.specs.Loading.{ParserFails, Took}
 use Rattle.libyaml_loader.specs.Steps.{FindsEnd}
 
 no : true ≡ false → ⊥

@@ -8,7 +8,9 @@ ghost use Rattle.libyaml_documents.specs.Documents.{empty_document};
 ghost use Rattle.libyaml_documents.specs.LoadedNodes.{begun_document};
 ghost use Rattle.libyaml_events.specs.EventsLeft.{events_left};
 ghost use Rattle.libyaml_events.specs.Stages.{is_event};
-ghost use Rattle.libyaml_events.specs.History.{between_documents, has_ended, has_failed, kept_fault};
+ghost use Rattle.libyaml_events.specs.Runs.{Ending};
+ghost use Rattle.libyaml_events.specs.RunToCome.{RunToCome};
+ghost use Rattle.libyaml_events.specs.History.{History, between_documents, has_ended, has_failed, kept_fault};
 ghost use Rattle.libyaml_graphs.specs.Bounds.{next_bounded};
 ghost use Rattle.libyaml_graphs.specs.Loader as machine;
 ghost use Rattle.libyaml_graphs.specs.Loads.{left_over};
@@ -16,6 +18,7 @@ ghost use Rattle.libyaml_graphs.specs.Parts as parts;
 ghost use Rattle.libyaml_loader.specs.Context.{IdsAreIn, loader_of, with_nodes};
 ghost use Rattle.libyaml_loader.specs.Ids.{magnitude};
 ghost use Rattle.libyaml_loader.specs.Loading.{LoadsFrom};
+ghost use Rattle.libyaml_loader.specs.NextLoad.{Answers, UnlessBroken};
 ghost use Rattle.libyaml_loader.specs.Steps.{Steps, closing, opening_at};
 
 use crate::context::loader_ctx;
@@ -69,11 +72,27 @@ pub fn yaml_parser_load<S: yaml_token_source_t>(
     ensures kept { has_failed parser.old ≡ true → (result ≡ Err (kept_fault parser.old).error) × (parser.new ≡ parser.old) }
     ensures fails { IfErr result (λ x. (x ≡ (kept_fault parser.new).error) × (has_ended parser.new ≡ true)) }
     ensures bound { parser.new.max_entries ≡ parser.old.max_entries }
+    ensures between { (asked : List yaml_token_t) (given : List yaml_event_t) → History parser.old asked given → between_documents parser.new ≡ true }
+    // over every source, by the events that were taken
     ensures loads { has_failed parser.old ≡ false → LoadsFrom S.gives S.known S.may_break (next_bounded (magnitude parser.old.max_entries)) left_over parser.old result parser.new }
+    // over a source that knows its tokens, by the run that is to come
+    ensures next_load { (events : List yaml_event_t) (ending : Ending) → RunToCome S.known parser.old events ending
+        → UnlessBroken S.may_break result parser.new (Answers S.known (next_bounded (magnitude parser.old.max_entries) events ending) result parser.new (left_over events) ending) }
 {
     if has_failed(parser) {
         return Err(parser.prefix().error);
     }
+    next_document(parser)
+}
+
+/// The next document, where no fault is kept.
+fn next_document<S: yaml_token_source_t>(
+    parser: &mut yaml_parser_t<S>,
+) -> Result<yaml_document_t, yaml_error_type_t>
+    ensures fails { IfErr result (λ x. (x ≡ (kept_fault parser.new).error) × (has_ended parser.new ≡ true)) }
+    ensures bound { parser.new.max_entries ≡ parser.old.max_entries }
+    ensures loads { LoadsFrom S.gives S.known S.may_break (next_bounded (magnitude parser.old.max_entries)) left_over parser.old result parser.new }
+{
     loop {
         let yaml_event_t {
             content,

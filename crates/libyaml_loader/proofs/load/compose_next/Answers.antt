@@ -1,4 +1,4 @@
-use Rattle.std.proofs.Common.{◌≡◌, Ok, Err, None, refl, rules, ap, sym, ◌∙◌, inl, inr, subst, true, false}
+use Rattle.std.proofs.Common.{◌≡◌, Err, refl, rules, sym, ◌∙◌, inr, true, false}
 use Rattle.libyaml_events.specs.Stages.{is_event}
 use Rattle.libyaml_loader.proofs.Stepping.{loader_fails, steps_err, takes}
 use Rattle.libyaml_loader.proofs.Taking.{Called, finds_end, parser_fails}

@@ -1,7 +1,7 @@
 use Rattle.libyaml_events.specs.EventsLeft.{events_left}
 use Rattle.libyaml_loader.specs.Ids.{magnitude}
 use Rattle.libyaml_loader.proofs.Stepping.{Skips}
-use Rattle.libyaml_loader.proofs.load.yaml_parser_load.Given as goal
+use Rattle.libyaml_loader.proofs.load.next_document.Given as goal
 
 abbrev pub invariant-loop-content : goal.invariant-loop-content
 invariant-loop-content g l = Skips g.S.yaml_token_source_t.gives g.S.yaml_token_source_t.known g.S.yaml_token_source_t.may_break (magnitude l.initial.parser.max_entries) l.initial.parser l.parser
