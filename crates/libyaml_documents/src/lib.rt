@@ -20,6 +20,3 @@ pub use node::{
     unnamed_yaml_node_t_data_sequence, yaml_alias_data_t, yaml_node_t,
 };
 pub use pairs::{NodePairs, yaml_node_pair_t};
-
-#[cfg(test)]
-mod tests;

@@ -1,6 +1,6 @@
 -- The loader follows the graph as it is built: its nodes are those built, and its stack is the open places with the keys that
 -- wait there.
-use Rattle.std.proofs.Common.{◌≡◌, ℕ, zero, suc, List, [], ◌∷◌, ◌++◌, length, refl, sym, ap, ◌∙◌, subst, cond, Option, Some, None, Bool, true, false, nat_cmp}
+use Rattle.std.proofs.Common.{◌≡◌, ℕ, zero, suc, List, [], ◌∷◌, ◌++◌, length, refl, sym, ap, ◌∙◌, cond, Option, Some, None, Bool, true, false, nat_cmp}
 use Rattle.std.specs.Ordering.{eq_by_cmp}
 use Rattle.std.specs.Cmp.Lexicographic.{slice_cmp, texts_ties, nat_list_eq_equiv, nat_list_cmp_total}
 use Rattle.std.specs.FinMap.{get, insert, get-insert, get-from_entries}

@@ -6,3 +6,8 @@ pub mod Sizes
 pub mod BoundedLoader
 pub mod TreeGraphs
 pub mod TextLoads
+pub mod Ids
+pub mod OneLoad
+pub mod Room
+pub mod RunLoads
+pub mod LoadRows

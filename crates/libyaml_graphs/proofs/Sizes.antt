@@ -12,7 +12,7 @@ use Rattle.libyaml_graphs.specs.Graphs.{Start, carrier, id_or, items, pairs}
 use Rattle.libyaml_graphs.specs.Loader.{Anchors, content_full, content_with, full_at, key_behind, list_full, parent_full}
 use Rattle.libyaml_graphs.specs.Parts.{Part, alias_part, children, end_part, leaf_part, start_of, start_part, with_children}
 use Rattle.libyaml_graphs.proofs.Built.{AllHas, BeginsEmpty, Built, Has, Held, bare, build, change, end_at, end_top, grown_key, held_graph, hold, hold_top, nodes_in, paired}
-use Rattle.libyaml_graphs.proofs.Following.{key_append, key_in, loader_of, nodes_append, stack_of}
+use Rattle.libyaml_graphs.proofs.Following.{key_append, key_in, loader_of, stack_of}
 
 -- the entries of a node's list, with the key that waits
 abbrev pub begun : Option ℕ → unnamed_yaml_node_t_data → ℕ

@@ -2,7 +2,7 @@
 use Rattle.std.proofs.Common.{◌≡◌, ◌++◌, List, [], ◌∷◌, Option, Some, None, Bool, refl, sym, ap, ◌∙◌}
 use Rattle.libyaml_types.specs.declared.event.unnamed_yaml_event_t_data.TheVariants as ev
 use Rattle.libyaml_types.specs.declared.event.unnamed_yaml_event_t_data_document_start.{unnamed_yaml_event_t_data_document_start}
-use Rattle.libyaml_events.specs.Events.{Event, document_end_event, end_event, event, stream_end_event, stream_start_event}
+use Rattle.libyaml_events.specs.Events.{Event, document_end_event, end_event, event, stream_end_event}
 use Rattle.libyaml_events.specs.Fault.{Fault}
 use Rattle.libyaml_events.specs.Nesting.{BeginsValue, HasBegun, IsNested, IsOpenDocument, NestsSoFar, Texts, Value, Values, alias_value, collection_value, first_value, has_begun, no_texts, no_values, none_open, not_begun, one_open, scalar_value, text_behind, texts_events, value_events, values_events, whole}
 use Rattle.libyaml_events.specs.Runs.{Ending, Ends}

@@ -79,14 +79,14 @@ pub record IsBoundedLoads (n : ℕ) (l : List Token) (f : Fault) (a : List Load)
   pub all : a ≡ bounded_loads n events ending
 
 -- no list of these parts of a document needs more than n entries
-abbrev pub Fits : ℕ → List Part → Type 0
-Fits n l = (length (graph [] l) ≤ n) × All (λ k. k ≤ n) (list_sizes [] l)
+abbrev pub StaysWithin : ℕ → List Part → Type 0
+StaysWithin n l = (length (graph [] l) ≤ n) × All (λ k. k ≤ n) (list_sizes [] l)
 
 -- nor does one of a document that a load begins: behind a composer fault no load begins one
 abbrev mutual
   pub HasRoom : ℕ → List Event → Type 0
   HasRoom n [] = Unit {0}
-  HasRoom n (e ∷ r) = elim (opening_of e) [ None ↦ HasRoom n r | Some o ↦ Fits n (parts r) × (composer_fault [] (parts r) ≡ None → HasRoomBehind n r) ]
+  HasRoom n (e ∷ r) = elim (opening_of e) [ None ↦ HasRoom n r | Some o ↦ StaysWithin n (parts r) × (composer_fault [] (parts r) ≡ None → HasRoomBehind n r) ]
 
   pub HasRoomBehind : ℕ → List Event → Type 0
   HasRoomBehind n [] = Unit {0}

@@ -1,4 +1,4 @@
--- The composer's faults (docs/DEFINITIONS.md, "Graphs and loads"): an alias whose anchor no earlier head carries, and an
+-- The composer's faults (docs/DEFINITIONS.md, "Composer faults"): an alias whose anchor no earlier head carries, and an
 -- anchor that an earlier head carries.
 use Rattle.std.specs.Prelude.{ℕ, List, [], ◌∷◌, Option, Some, None, codes}
 use Rattle.libyaml_types.specs.declared.enums.yaml_error_type_t.TheVariants.{YAML_COMPOSER_ERROR}

@@ -1,4 +1,4 @@
--- The graph of a document, by recursion on its value (docs/DEFINITIONS.md, "Graphs and loads"). A node's id is one more
+-- The graph of a document, by recursion on its value (docs/DEFINITIONS.md, "Graphs"). A node's id is one more
 -- than the nodes that start before it; es are the starts of those nodes, the newest first.
 use Rattle.std.specs.Prelude.{ℕ, suc, ℤ, pos, List, [], ◌∷◌, length, Option, Some, None, Bool, true, false}
 use Rattle.libyaml_events.specs.Events.{Layout, mapping_style, same_text, sequence_style}

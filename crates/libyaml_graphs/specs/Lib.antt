@@ -1,3 +1,4 @@
+-- graphs, loads, and the loader as a machine
 pub mod Graphs
 pub mod Parts
 pub mod ComposerFaults
@@ -5,3 +6,4 @@ pub mod Loads
 pub mod Bounds
 pub mod Loader
 pub mod GraphLaws
+pub mod LoadRows

@@ -1,4 +1,4 @@
--- The loads of a run, which is its events and its ending (docs/DEFINITIONS.md, "Graphs and loads").
+-- The loads of a run, which is its events and its ending (docs/DEFINITIONS.md, "Loads").
 use Rattle.std.specs.Prelude.{◌≡◌, List, [], ◌∷◌, Option, Some, None, false, Result, Ok, Err}
 use Rattle.libyaml_events.specs.Events.{Event}
 use Rattle.libyaml_events.specs.Fault.{Fault}

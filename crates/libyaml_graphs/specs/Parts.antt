@@ -1,4 +1,4 @@
--- The parts of a document by its events, and its graph by parts (docs/DEFINITIONS.md, "Graphs and loads"). This is the form
+-- The parts of a document by its events, and its graph by parts (docs/DEFINITIONS.md, "Graphs"). This is the form
 -- of the graph that needs no tree, so that it is also that of a document which a fault cuts off.
 use Rattle.std.specs.Prelude.{ℕ, zero, suc, List, [], ◌∷◌, ◌++◌, length, Option, Some, None, Bool}
 use Rattle.libyaml_types.specs.declared.event.unnamed_yaml_event_t_data.TheVariants as ev

@@ -17,8 +17,8 @@ use Rattle.token_lines.specs.declared.run.Outcome.TheVariants.{Ended, Faulted, O
 use Rattle.token_lines.specs.declared.run.Step.{Step}
 use Rattle.token_lines.specs.declared.run.Step.TheVariants as step
 use Rattle.token_lines.specs.EventStep.{StepForEvent, StepForFault, Turn, gave_event, failed}
-use Rattle.token_lines.specs.EventText.{event_line}
-use Rattle.token_lines.specs.FaultText.{fault_text}
+use Rattle.line_writing.specs.EventText.{event_line}
+use Rattle.line_writing.specs.FaultText.{fault_text}
 use Rattle.token_lines.specs.LastCall.{AllWritten, Closes, LastCall, closed_by_event, closed_by_fault}
 use Rattle.token_lines.proofs.RunLemmas.{appends_more, keeps_then}
 

@@ -1,15 +1,25 @@
 -- A run over a lent reader, seen as one over the source that owns it.
-use Rattle.std.proofs.Common.{◌≡◌, ℕ, List, [], ◌∷◌, Option, ap, ◌∙◌}
+use Rattle.std.proofs.Common.{◌≡◌, ℕ, List, [], ◌∷◌, Option, Some, None, IfSome, refl, ap, ◌∙◌}
 use Rattle.libyaml_types.specs.declared.event.yaml_event_t.{yaml_event_t}
 use Rattle.libyaml_types.specs.declared.token.yaml_token_t.{yaml_token_t}
 use Rattle.libyaml_events.specs.Calls.{Gave}
 use Rattle.libyaml_events.specs.Config.{Parser}
-use Rattle.libyaml_events.specs.Fault.{Answer}
+use Rattle.libyaml_events.specs.Fault.{Answer, Fault}
+use Rattle.libyaml_events.specs.Runs.{Ending, IsRun}
+use Rattle.libyaml_events.specs.Source.{coming}
 use Rattle.libyaml_events.specs.Parsing.{CarriesOn, FailsBy}
-use Rattle.token_lines.specs.declared.lent_lines.LentLines.{LentLines}
+use Rattle.line_reading.specs.declared.lent_lines.LentLines.{LentLines}
 use Rattle.token_lines.specs.declared.run.Outcome.{Outcome}
 use Rattle.token_lines.specs.LastCall.{Closes, LastCall, closed_by_event, closed_by_fault}
-use Rattle.token_lines.specs.LentLines.{GivesLent}
+use Rattle.line_reading.specs.LentLines.{GivesLent}
+use Rattle.line_reading.specs.LineSource.{coming_of}
+use Rattle.token_lines.specs.EventRun.{most_tokens, IsRunOf}
+
+-- what is written of every run of a known input's lines
+pub writes_of_lines : (bytes : Option (List ℕ)) (Wrote : List yaml_event_t → Ending → Type 0) → ((tokens : List yaml_token_t) (f : Fault) → coming_of bytes 0 most_tokens ≡ Some (coming tokens f) → (events : List yaml_event_t) (ending : Ending) → IsRun tokens f events ending → Wrote events ending)
+    → IfSome bytes (λ known. (events : List yaml_event_t) (ending : Ending) → IsRunOf known events ending → Wrote events ending)
+writes_of_lines None Wrote h = tt
+writes_of_lines (Some bytes) Wrote h = λ events ending run. h _ _ refl events ending run
 
 -- a parser whose source is seen as another
 abbrev pub over : {S T : Type 0} → (S → T) → Parser S → Parser T

@@ -1,5 +1,6 @@
 -- What one step of a run writes.
-use Rattle.std.specs.Prelude.{◌≡◌, ◌⊎◌, ℕ, List, [], ◌∷◌, true, false, Option}
+use Rattle.std.specs.Prelude.{◌≡◌, ℕ, List, [], ◌∷◌, true, false, Option}
+use Rattle.std.specs.List.{concat}
 use Rattle.std.specs.Io.KnownBytes.{Appends, Keeps}
 use Rattle.libyaml_types.specs.declared.event.yaml_event_t.{yaml_event_t}
 use Rattle.libyaml_events.specs.Config.{Parser}
@@ -8,13 +9,14 @@ use Rattle.libyaml_events.specs.History.{is_stream_end, kept_fault}
 use Rattle.libyaml_events.specs.Fault.{Fault, Answer, fault_of}
 use Rattle.libyaml_events.specs.FaultTexts.{memory_fault}
 use Rattle.libyaml_events.specs.Parsing.{CarriesOn, FailsBy}
+use Rattle.libyaml_events.proofs.NextEvents.{FailsHere}
 use Rattle.libyaml_events.specs.RunToCome.{RunToCome}
-use Rattle.libyaml_events.specs.Runs.{Ending, Ends, Fails}
+use Rattle.libyaml_events.specs.Runs.{Ending, Ends}
 use Rattle.libyaml_events.specs.Source.{Coming}
 use Rattle.token_lines.specs.declared.run.Step.{Step}
 use Rattle.token_lines.specs.declared.run.Step.TheVariants.{Written, Ended, Failed, OutputFailed}
 use Rattle.token_lines.specs.EventRun.{event_lines}
-use Rattle.token_lines.specs.EventText.{event_line}
+use Rattle.line_writing.specs.EventText.{event_line}
 
 -- the first of the events was written, and the others are to come
 pub record TakesFirst {S : Type 0} (known : S → Option Coming) (new : Parser S) (before after : Option (List ℕ)) (events : List yaml_event_t) (ending : Ending) : Type 0 where
@@ -24,15 +26,11 @@ pub record TakesFirst {S : Type 0} (known : S → Option Coming) (new : Parser S
   pub run : RunToCome known new later ending
   pub wrote : Appends before after (event_line event)
 
--- the run fails by this fault, or it was broken off
-abbrev pub FailsHere : (MayBreak : Fault → Type 0) → Fault → List yaml_event_t → Ending → Type 0
-FailsHere MayBreak f events ending = ((events ≡ []) × (ending ≡ Fails f)) ⊎ ((f ≡ memory_fault) ⊎ MayBreak f)
-
 -- what a step did where this run was to come
-abbrev pub Steps : {S : Type 0} → (known : S → Option Coming) → (MayBreak : Fault → Type 0) → Step → Parser S → (before after : Option (List ℕ)) → List yaml_event_t → Ending → Type 0
+abbrev pub Steps : {S : Type 0} → (known : S → Option Coming) → (MayBreak : S → Fault → Type 0) → Step → Parser S → (before after : Option (List ℕ)) → List yaml_event_t → Ending → Type 0
 Steps known MayBreak Written new before after events ending = TakesFirst known new before after events ending
-Steps known MayBreak Ended new before after events ending = (ending ≡ Ends) × Appends before after (event_lines events)
-Steps known MayBreak (Failed f) new before after events ending = FailsHere MayBreak (fault_of f) events ending × Keeps before after
+Steps known MayBreak Ended new before after events ending = (ending ≡ Ends) × Appends before after (concat (event_lines events))
+Steps known MayBreak (Failed f) new before after events ending = FailsHere (MayBreak new.source) (fault_of f) events ending × Keeps before after
 Steps known MayBreak OutputFailed new before after events ending = Unit {0}
 
 -- what a step wrote behind a call that gave this event

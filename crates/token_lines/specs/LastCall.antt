@@ -1,5 +1,6 @@
 -- That no line is held back: each is written before the next event is parsed (docs/DEFINITIONS.md, "Runs over lines").
 use Rattle.std.specs.Prelude.{◌≡◌, ◌++◌, ◌⊎◌, ℕ, List, [], true, false, Option, None}
+use Rattle.std.specs.List.{concat}
 use Rattle.std.specs.Io.KnownBytes.{Appends, Keeps}
 use Rattle.libyaml_types.specs.declared.event.yaml_event_t.{yaml_event_t}
 use Rattle.libyaml_types.specs.declared.token.yaml_token_t.{yaml_token_t}
@@ -9,13 +10,12 @@ use Rattle.libyaml_events.specs.Fault.{Answer, Fault}
 use Rattle.libyaml_events.specs.FaultTexts.{memory_fault}
 use Rattle.libyaml_events.specs.History.{History, answers, has_ended, is_stream_end, kept_fault}
 use Rattle.libyaml_events.specs.Parsing.{CarriesOn, FailsBy}
-use Rattle.token_lines.specs.declared.TheConstants.{MAX_TOKENS}
 use Rattle.token_lines.specs.declared.run.Outcome.{Outcome}
 use Rattle.token_lines.specs.declared.run.Outcome.TheVariants.{Ended, Faulted, OutputFailed}
-use Rattle.token_lines.specs.EventRun.{event_lines}
-use Rattle.token_lines.specs.EventText.{event_line}
-use Rattle.token_lines.specs.FaultText.{fault_text}
-use Rattle.token_lines.specs.LineSource.{LineSource, Gives}
+use Rattle.token_lines.specs.EventRun.{most_tokens, event_lines, WritesRunOf}
+use Rattle.line_writing.specs.EventText.{event_line}
+use Rattle.line_writing.specs.FaultText.{fault_text}
+use Rattle.line_reading.specs.LineSource.{LineSource, Gives, BreaksOff}
 
 -- What a run wrote behind a last call that gave this event: its line, which is the stream end's, where the run ended; or
 -- else the text of a refused growth, for want of memory for that line. Where the output failed, nothing is said.
@@ -43,7 +43,7 @@ pub record AllWritten {S : Type 0} (gives : S → Answer → S → Type 0) (firs
   pub gave : Gave gives first.source (answers more []) parser.source
   pub history : History parser (asked ++ more) (given ++ events)
   pub running : has_ended parser ≡ false
-  pub wrote : Appends before after (event_lines events)
+  pub wrote : Appends before after (concat (event_lines events))
 
 -- The last call of the parser: the writer held the line of each event that was given before, and what was written since
 -- is of this call.
@@ -61,13 +61,15 @@ pub record NothingLeft {S : Type 0} (outcome : Outcome) (old new : Parser S) (be
 
 -- a parser at the start of a reader's lines
 pub record StartsAt {R : Type 0} (reader : R) (p : Parser (LineSource R)) : Type 0 where
-  pub source : p.source ≡ record { reader = reader; given = 0; max_tokens = MAX_TOKENS; fault = None }
+  pub source : p.source ≡ record { reader = reader; given = 0; max_tokens = most_tokens; fault = None }
   pub begins : History p [] []
 
--- a run over a reader's lines, by a parser that started there: the reader is left as the parser's last call left it
-pub record RunInTurn {R W : Type 0} (remaining : R → Option (List ℕ)) (contents : W → Option (List ℕ)) (old new : R) (outcome : Outcome) (before after : Option (List ℕ)) : Type 0 where
+-- A run over a reader's lines, by a parser that started there: what it wrote, where its source may have broken off as it
+-- then stood; each line in its turn; and the reader is left as the parser's last call left it.
+pub record RunsOver {R W : Type 0} (remaining : R → Option (List ℕ)) (contents : W → Option (List ℕ)) (old new : R) (outcome : Outcome) (before after : Option (List ℕ)) : Type 0 where
   pub first : Parser (LineSource R)
   pub last : Parser (LineSource R)
   pub starts : StartsAt old first
-  pub last_call : LastCall (Gives remaining) contents outcome first last before after [] []
+  pub writes : WritesRunOf (remaining old) (BreaksOff last.source) outcome before after
+  pub in_turn : LastCall (Gives remaining) contents outcome first last before after [] []
   pub left : new ≡ last.source.reader

@@ -2,9 +2,9 @@
 use Rattle.std.specs.Prelude.{◌≡◌, ◌<◌, ◌^◌, ℕ, List, All, true, Some}
 use Rattle.std.specs.Str.{is_utf8}
 use Rattle.percent_encoding.specs.Percent.{percent_decode}
-use Rattle.token_lines.specs.Escape.{escaped}
-use Rattle.token_lines.specs.Field.{text_of}
-use Rattle.token_lines.specs.FieldTexts.{string_text}
+use Rattle.line_writing.specs.Escape.{escaped}
+use Rattle.line_reading.specs.Field.{text_of}
+use Rattle.line_writing.specs.FieldTexts.{string_text}
 
 -- the bytes that the escaped form of any bytes stands for are those bytes
 abbrev pub BytesReadBack : Type 0

@@ -1,45 +1,14 @@
-//! Tokens and events as lines of text.
+//! Tokens, events and documents as lines of text.
+//!
+//! A user names this crate alone: the crates below it, for reading and for writing a line, are passed on.
 #![tactic(auto)]
 
-mod escape;
-mod event_line;
-mod fault_text;
-mod field;
-mod field_text;
-mod front;
 pub mod laws;
-mod lent_lines;
-mod line;
-mod line_problem;
-mod line_source;
-mod marks;
-mod number;
-mod parts;
-mod refusal;
 mod run;
-mod search;
-mod token_error;
-mod token_line;
-mod token_name;
-mod token_reader;
 
-pub use event_line::write_event;
-pub use fault_text::write_fault;
-pub use line_source::yaml_line_source_t;
-pub use refusal::line_refusal_t;
+pub use line_reading::{MAX_LINE, yaml_line_source_t};
+pub use line_writing::{line_refusal_t, write_document, write_event, write_fault};
 pub use run::{Outcome, run_events, write_events};
-
-/// A token line has at most this many bytes, its LF not counted.
-pub const MAX_LINE: usize = 1_048_576;
 
 /// A run reads at most this many tokens.
 pub const MAX_TOKENS: u64 = 1_000_000;
-
-#[cfg(test)]
-mod failing;
-#[cfg(test)]
-mod reading_tests;
-#[cfg(test)]
-mod run_tests;
-#[cfg(test)]
-mod writing_tests;

@@ -9,20 +9,20 @@ ghost use Rattle.libyaml_events.specs.History.{History, has_ended, is_stream_end
 ghost use Rattle.libyaml_events.specs.RunToCome.{RunToCome};
 ghost use Rattle.libyaml_events.specs.Runs.{Ending};
 ghost use Rattle.libyaml_events.specs.Stages.{is_event};
-ghost use Rattle.token_lines.specs.EventRun.{Writes, WritesRunOf};
+ghost use Rattle.token_lines.specs.EventRun.{event_lines};
 ghost use Rattle.token_lines.specs.EventStep.{Steps, Turn};
-ghost use Rattle.token_lines.specs.FaultText.{fault_text};
-ghost use Rattle.token_lines.specs.LastCall.{LastCall, NothingLeft, RunInTurn};
+ghost use Rattle.line_writing.specs.FaultText.{fault_text};
+ghost use Rattle.token_lines.specs.LastCall.{LastCall, NothingLeft, RunsOver};
+ghost use Rattle.token_lines.specs.LineRun.{Writes};
 
 use crate::MAX_TOKENS;
-use crate::event_line::{append_event, write_line};
-use crate::fault_text::write_fault;
-use crate::lent_lines::LentLines;
 use libyaml_events::{
     NO_FAULT, yaml_parser_delete, yaml_parser_initialize, yaml_parser_parse, yaml_parser_t,
     yaml_parser_t_prefix, yaml_token_source_t,
 };
 use libyaml_types::{unnamed_yaml_event_t_data, yaml_error_type_t, yaml_event_t};
+use line_reading::LentLines;
+use line_writing::{append_event, write_fault, write_line};
 use std::alloc::Global;
 use std::io::{BufRead, Write};
 
@@ -63,9 +63,7 @@ enum Step {
 /// Want of memory for a line is written as the fault of a refused growth. The writer is flushed
 /// before `Ended` and `Faulted`; after `OutputFailed` nothing is said of it.
 pub fn run_events<R: BufRead, W: Write>(alloc: Global, reader: &mut R, writer: &mut W) -> Outcome
-    ensures writes { WritesRunOf (R.remaining reader.old) result (W.contents writer.old) (W.contents writer.new) }
-    // at the parser's last call, which left the reader so, each event's line had been written
-    ensures in_turn { RunInTurn R.remaining W.contents reader.old reader.new result (W.contents writer.old) (W.contents writer.new) }
+    ensures { RunsOver R.remaining W.contents reader.old reader.new result (W.contents writer.old) (W.contents writer.new) }
 {
     let mut line = Vec::new(alloc);
     let source = LentLines::new(alloc, reader, &mut line, MAX_TOKENS);
@@ -84,8 +82,9 @@ pub fn run_events<R: BufRead, W: Write>(alloc: Global, reader: &mut R, writer: &
 /// or a fault nothing is left to write, and `Ended` is answered.
 ///
 /// Want of memory for a line is written as the fault of a refused growth. The writer is flushed
-/// before `Ended` and `Faulted`. After `OutputFailed` the parser stands behind the last event whose
-/// line was to be written.
+/// before `Ended` and `Faulted`. After `OutputFailed`, and after the fault of a line that found no
+/// memory, the parser stands behind the event whose line was to be written: a further call goes on
+/// behind that event, whose line is lost.
 pub fn write_events<S: yaml_token_source_t, W: Write>(
     alloc: Global,
     parser: &mut yaml_parser_t<S>,
@@ -93,7 +92,7 @@ pub fn write_events<S: yaml_token_source_t, W: Write>(
 ) -> Outcome
     ensures ended { has_ended parser.old ≡ true → NothingLeft result parser.old parser.new (W.contents writer.old) (W.contents writer.new) }
     ensures writes { (events : List yaml_event_t) (ending : Ending) → RunToCome S.known parser.old events ending
-        → Writes S.may_break result (W.contents writer.old) (W.contents writer.new) events ending }
+        → Writes (S.may_break parser.new.source) result (W.contents writer.old) (W.contents writer.new) (event_lines events) ending }
     // at the parser's last call each event's line had been written
     ensures in_turn { has_ended parser.old ≡ false → (asked : List yaml_token_t) (given : List yaml_event_t) → History parser.old asked given
         → LastCall S.gives W.contents result parser.old parser.new (W.contents writer.old) (W.contents writer.new) asked given }

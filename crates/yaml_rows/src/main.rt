@@ -1,41 +1,38 @@
-//! Lists of tokens with the events that they give, as data and as tests of the public calls.
+//! Rows of types and events, and lists of tokens with the events that they give.
 //!
-//! The program runs `run_events` over each list that `names` names, and says where its lines differ
-//! from those expected.
+//! The program parses each list that `names` names, whole and each front of it, and says where that differs
+//! from what is expected.
 #![tactic(auto)]
 
 #[cfg(test)]
-mod calls;
-#[cfg(test)]
-mod completed;
-#[cfg(test)]
-mod counted;
-#[cfg(test)]
-mod notation;
-#[cfg(test)]
-mod parsing;
-#[cfg(test)]
-mod pieces;
-#[cfg(test)]
-mod runs;
+mod events;
+mod fronts;
+mod lists;
 #[cfg(test)]
 mod types;
 
 use anyhow::Result;
+use fronts::each_front_begins;
+use lists::{gives_lines, keeps_its_end};
 use std::alloc::Global;
 use std::fs;
 use std::rt::Files;
-use token_lines::run_events;
 
-/// Whether the events of the list `name` are those expected.
-fn gives_its_events(rt: &(impl Files + AllocGlobal), name: &str) -> Result<bool> {
+/// What is wrong with the list `name`, if anything is.
+fn difference(rt: &(impl Files + AllocGlobal), name: &str) -> Result<Option<&'static str>> {
     let alloc: Global = rt.alloc();
     let tokens = fs::read_to_string(rt, format!(in alloc; "{name}.tokens")?)?;
     let events = fs::read_to_string(rt, format!(in alloc; "{name}.events")?)?;
-    let mut written = Vec::new(alloc);
-    let mut input = tokens.as_bytes();
-    let _ = run_events(alloc, &mut input, &mut written);
-    Ok(written.as_slice() == events.as_bytes())
+    if !gives_lines(alloc, tokens.as_str(), events.as_str()) {
+        return Ok(Some("other lines"));
+    }
+    if !keeps_its_end(alloc, tokens.as_str()) {
+        return Ok(Some("another end"));
+    }
+    if !each_front_begins(alloc, tokens.as_str())? {
+        return Ok(Some("another front"));
+    }
+    Ok(None)
 }
 
 fn main(rt: HostRuntime) -> Result<()> {
@@ -43,8 +40,8 @@ fn main(rt: HostRuntime) -> Result<()> {
     let mut lists = 0u64;
     let mut differ = 0u64;
     for name in names.lines() {
-        if !gives_its_events(&rt, name)? {
-            println!(rt; "{name} differs")?;
+        if let Some(what) = difference(&rt, name)? {
+            println!(rt; "{name}: {what}")?;
             differ = differ.wrapping_add(1);
         }
         lists = lists.wrapping_add(1);

@@ -1,6 +1,6 @@
 //! What the words of the command line ask for.
-ghost use Rattle.std.specs.Prelude.{◌≡◌, ◌<◌, ◌↔◌, IsTrue, map, string_bytes};
-ghost use Rattle.yamltokens.specs.Words.{AskForEvents, RunsWith};
+ghost use Rattle.std.specs.Prelude.{◌≡◌, ◌<◌, Some, None, map, string_bytes};
+ghost use Rattle.yamltokens.specs.Words.{run_of, asked_run, RunsWith};
 
 use std::alloc::Global;
 use std::io::{BufRead, Write};
@@ -11,6 +11,13 @@ pub const WRONG_WORDS: u8 = 2;
 
 /// The exit status where a write or a flush failed, or where no memory was found for a buffer.
 pub const OUTPUT_FAILED: u8 = 3;
+
+/// What the program is asked to write.
+#[derive(Copy, Clone)]
+pub enum Run {
+    /// The lines of events.
+    Events,
+}
 
 /// Runs what the words behind the program's name ask for, from `reader` to `output`, and answers the
 /// exit status. The words are looked at before anything is read.
@@ -23,14 +30,15 @@ pub fn run_words<R: BufRead, W: Write, E: Write>(
     output: &mut W,
     errors: &mut E,
 ) -> u8
-    ensures runs { AskForEvents (map string_bytes words.now) → RunsWith R.remaining W.contents reader.old reader.new result (W.contents output.old) (W.contents output.new) }
-    ensures refused { ¬ AskForEvents (map string_bytes words.now) → (result ≡ WRONG_WORDS) × (output.new ≡ output.old) × (reader.new ≡ reader.old) }
-    ensures quiet { result < WRONG_WORDS → errors.new ≡ errors.old }
+    ensures runs { (run : Run) → asked_run (map string_bytes words.now) ≡ Some run
+        → RunsWith run R.remaining W.contents reader.old reader.new result (W.contents output.old) (W.contents output.new) }
+    ensures refused { asked_run (map string_bytes words.now) ≡ None → (result ≡ 2) × (output.new ≡ output.old) × (reader.new ≡ reader.old) }
+    ensures quiet { result < 2 → errors.new ≡ errors.old }
 {
-    if !ask_for_events(words) {
-        return refuse_words(errors);
-    }
-    let outcome = run_events(alloc, reader, output);
+    let outcome = match asked_run(words) {
+        Some(Run::Events) => run_events(alloc, reader, output),
+        None => return refuse_words(errors),
+    };
     match outcome {
         Outcome::Ended => 0,
         Outcome::Faulted => 1,
@@ -38,26 +46,37 @@ pub fn run_words<R: BufRead, W: Write, E: Write>(
     }
 }
 
-/// Whether the one word is `events`.
-fn ask_for_events(words: &[String]) -> bool
-    ensures { IsTrue result ↔ AskForEvents (map string_bytes words.now) }
+/// The run that the words ask for, of which there is exactly one.
+fn asked_run(words: &[String]) -> Option<Run>
+    ensures { result ≡ asked_run (map string_bytes words.now) }
 {
     match words {
-        [word] => word.as_str() == "events",
-        _ => false,
+        [word] => run_of(word.as_str()),
+        _ => None,
+    }
+}
+
+/// The run that a word asks for.
+fn run_of(word: &str) -> Option<Run>
+    ensures { result ≡ run_of word.now }
+{
+    if word == "events" {
+        Some(Run::Events)
+    } else {
+        None
     }
 }
 
 /// Writes the usage line.
 pub fn refuse_words<E: Write>(errors: &mut E) -> u8
-    ensures { result ≡ WRONG_WORDS }
+    ensures { result ≡ 2 }
 {
     refuse(WRONG_WORDS, "usage: yamltokens events|nodes\n", errors)
 }
 
 /// Writes that no memory was found for a buffer.
 pub fn no_memory<E: Write>(errors: &mut E) -> u8
-    ensures { result ≡ OUTPUT_FAILED }
+    ensures { result ≡ 3 }
 {
     refuse(OUTPUT_FAILED, "yamltokens: no memory\n", errors)
 }

@@ -1,5 +1,5 @@
-//! The loader as a machine over events gives the loads of every run. Each function does nothing when it runs:
-//! its contract is the law.
+//! The loader as a machine over events gives the loads of every run. Each function does nothing when it
+//! runs: its contract is the law.
 
 ghost use Rattle.std.specs.Prelude.{◌≡◌, ℕ, List};
 ghost use Rattle.libyaml_events.specs.Events.{Event};

@@ -1,10 +1,8 @@
 //! What a `Text` and `TagDirectives` can do.
-use libyaml_types::directive::{TagDirectives, yaml_tag_directive_t};
-use libyaml_types::refusal::yaml_refusal_t;
-use libyaml_types::text::Text;
 use std::alloc::Global;
 use std::cmp::Ordering;
 use std::test::Fail;
+use unsafe_libyaml::{TagDirectives, Text, yaml_refusal_t, yaml_tag_directive_t};
 
 #[test]
 fn a_text_is_its_string(rt: HostRuntime) -> Result<(), Fail> {

@@ -1,30 +1,20 @@
 //! Each call that makes or empties an event or a token. In texts, the zero byte inside counts.
-use libyaml_types::constructors::{
-    yaml_alias_event_initialize, yaml_document_end_event_initialize,
-    yaml_document_start_event_initialize, yaml_event_delete, yaml_mapping_end_event_initialize,
-    yaml_mapping_start_event_initialize, yaml_scalar_event_initialize,
-    yaml_sequence_end_event_initialize, yaml_sequence_start_event_initialize,
-    yaml_stream_end_event_initialize, yaml_stream_start_event_initialize, yaml_token_delete,
-};
-use libyaml_types::directive::{TagDirectives, yaml_tag_directive_t, yaml_version_directive_t};
-use libyaml_types::enums::{
-    yaml_encoding_t, yaml_event_type_t, yaml_mapping_style_t, yaml_scalar_style_t,
-    yaml_sequence_style_t, yaml_token_type_t,
-};
-use libyaml_types::event::{
-    unnamed_yaml_event_t_data, unnamed_yaml_event_t_data_alias,
-    unnamed_yaml_event_t_data_document_end, unnamed_yaml_event_t_data_document_start,
-    unnamed_yaml_event_t_data_mapping_start, unnamed_yaml_event_t_data_scalar,
-    unnamed_yaml_event_t_data_sequence_start, unnamed_yaml_event_t_data_stream_start, yaml_event_t,
-};
-use libyaml_types::mark::{ZERO_MARK, yaml_mark_t};
-use libyaml_types::refusal::yaml_refusal_t;
-use libyaml_types::text::Text;
-use libyaml_types::token::{
-    unnamed_yaml_token_t_data, unnamed_yaml_token_t_data_anchor, yaml_token_t,
-};
 use std::alloc::Global;
 use std::test::Fail;
+use unsafe_libyaml::{
+    TagDirectives, Text, ZERO_MARK, unnamed_yaml_event_t_data, unnamed_yaml_event_t_data_alias,
+    unnamed_yaml_event_t_data_document_end, unnamed_yaml_event_t_data_document_start,
+    unnamed_yaml_event_t_data_mapping_start, unnamed_yaml_event_t_data_scalar,
+    unnamed_yaml_event_t_data_sequence_start, unnamed_yaml_event_t_data_stream_start,
+    unnamed_yaml_token_t_data, unnamed_yaml_token_t_data_anchor, yaml_alias_event_initialize,
+    yaml_document_end_event_initialize, yaml_document_start_event_initialize, yaml_encoding_t,
+    yaml_event_delete, yaml_event_t, yaml_event_type_t, yaml_mapping_end_event_initialize,
+    yaml_mapping_start_event_initialize, yaml_mapping_style_t, yaml_mark_t, yaml_refusal_t,
+    yaml_scalar_event_initialize, yaml_scalar_style_t, yaml_sequence_end_event_initialize,
+    yaml_sequence_start_event_initialize, yaml_sequence_style_t, yaml_stream_end_event_initialize,
+    yaml_stream_start_event_initialize, yaml_tag_directive_t, yaml_token_delete, yaml_token_t,
+    yaml_token_type_t, yaml_version_directive_t,
+};
 
 fn zero_inside(alloc: Global) -> Result<Text, Fail> {
     Ok(Text::from_str(alloc, "a\0b")?)

@@ -1,24 +1,15 @@
 //! Numbers, texts and comparisons.
-use libyaml_types::directive::{TagDirectives, yaml_tag_directive_t};
-use libyaml_types::enums::{
-    yaml_break_t, yaml_encoding_t, yaml_error_type_t, yaml_event_type_t, yaml_mapping_style_t,
-    yaml_node_type_t, yaml_parser_state_t, yaml_scalar_style_t, yaml_sequence_style_t,
-    yaml_token_type_t,
-};
-use libyaml_types::event::{
-    unnamed_yaml_event_t_data, unnamed_yaml_event_t_data_alias, yaml_event_t,
-};
-use libyaml_types::laws::order_of_scalar_styles;
-use libyaml_types::mark::{ZERO_MARK, yaml_mark_t};
-use libyaml_types::refusal::yaml_refusal_t;
-use libyaml_types::text::Text;
-use libyaml_types::token::{
-    unnamed_yaml_token_t_data, unnamed_yaml_token_t_data_scalar,
-    unnamed_yaml_token_t_data_version_directive, yaml_token_t,
-};
 use std::alloc::Global;
 use std::cmp::Ordering;
 use std::test::Fail;
+use unsafe_libyaml::{
+    TagDirectives, Text, ZERO_MARK, unnamed_yaml_event_t_data, unnamed_yaml_event_t_data_alias,
+    unnamed_yaml_token_t_data, unnamed_yaml_token_t_data_scalar,
+    unnamed_yaml_token_t_data_version_directive, yaml_break_t, yaml_encoding_t, yaml_error_type_t,
+    yaml_event_t, yaml_event_type_t, yaml_mapping_style_t, yaml_mark_t, yaml_node_type_t,
+    yaml_parser_state_t, yaml_refusal_t, yaml_scalar_style_t, yaml_sequence_style_t,
+    yaml_tag_directive_t, yaml_token_t, yaml_token_type_t,
+};
 
 #[test]
 fn last_numbers_of_enums(rt: HostRuntime) {
@@ -34,18 +25,81 @@ fn last_numbers_of_enums(rt: HostRuntime) {
     assert_eq!(rt; yaml_parser_state_t::YAML_PARSE_END_STATE.number(), 23);
 }
 
+/// In the order of their numbers.
+const TOKEN_TYPES: [yaml_token_type_t; 22] = [
+    yaml_token_type_t::YAML_NO_TOKEN,
+    yaml_token_type_t::YAML_STREAM_START_TOKEN,
+    yaml_token_type_t::YAML_STREAM_END_TOKEN,
+    yaml_token_type_t::YAML_VERSION_DIRECTIVE_TOKEN,
+    yaml_token_type_t::YAML_TAG_DIRECTIVE_TOKEN,
+    yaml_token_type_t::YAML_DOCUMENT_START_TOKEN,
+    yaml_token_type_t::YAML_DOCUMENT_END_TOKEN,
+    yaml_token_type_t::YAML_BLOCK_SEQUENCE_START_TOKEN,
+    yaml_token_type_t::YAML_BLOCK_MAPPING_START_TOKEN,
+    yaml_token_type_t::YAML_BLOCK_END_TOKEN,
+    yaml_token_type_t::YAML_FLOW_SEQUENCE_START_TOKEN,
+    yaml_token_type_t::YAML_FLOW_SEQUENCE_END_TOKEN,
+    yaml_token_type_t::YAML_FLOW_MAPPING_START_TOKEN,
+    yaml_token_type_t::YAML_FLOW_MAPPING_END_TOKEN,
+    yaml_token_type_t::YAML_BLOCK_ENTRY_TOKEN,
+    yaml_token_type_t::YAML_FLOW_ENTRY_TOKEN,
+    yaml_token_type_t::YAML_KEY_TOKEN,
+    yaml_token_type_t::YAML_VALUE_TOKEN,
+    yaml_token_type_t::YAML_ALIAS_TOKEN,
+    yaml_token_type_t::YAML_ANCHOR_TOKEN,
+    yaml_token_type_t::YAML_TAG_TOKEN,
+    yaml_token_type_t::YAML_SCALAR_TOKEN,
+];
+
+/// In the order of their numbers.
+const STATES: [yaml_parser_state_t; 24] = [
+    yaml_parser_state_t::YAML_PARSE_STREAM_START_STATE,
+    yaml_parser_state_t::YAML_PARSE_IMPLICIT_DOCUMENT_START_STATE,
+    yaml_parser_state_t::YAML_PARSE_DOCUMENT_START_STATE,
+    yaml_parser_state_t::YAML_PARSE_DOCUMENT_CONTENT_STATE,
+    yaml_parser_state_t::YAML_PARSE_DOCUMENT_END_STATE,
+    yaml_parser_state_t::YAML_PARSE_BLOCK_NODE_STATE,
+    yaml_parser_state_t::YAML_PARSE_BLOCK_NODE_OR_INDENTLESS_SEQUENCE_STATE,
+    yaml_parser_state_t::YAML_PARSE_FLOW_NODE_STATE,
+    yaml_parser_state_t::YAML_PARSE_BLOCK_SEQUENCE_FIRST_ENTRY_STATE,
+    yaml_parser_state_t::YAML_PARSE_BLOCK_SEQUENCE_ENTRY_STATE,
+    yaml_parser_state_t::YAML_PARSE_INDENTLESS_SEQUENCE_ENTRY_STATE,
+    yaml_parser_state_t::YAML_PARSE_BLOCK_MAPPING_FIRST_KEY_STATE,
+    yaml_parser_state_t::YAML_PARSE_BLOCK_MAPPING_KEY_STATE,
+    yaml_parser_state_t::YAML_PARSE_BLOCK_MAPPING_VALUE_STATE,
+    yaml_parser_state_t::YAML_PARSE_FLOW_SEQUENCE_FIRST_ENTRY_STATE,
+    yaml_parser_state_t::YAML_PARSE_FLOW_SEQUENCE_ENTRY_STATE,
+    yaml_parser_state_t::YAML_PARSE_FLOW_SEQUENCE_ENTRY_MAPPING_KEY_STATE,
+    yaml_parser_state_t::YAML_PARSE_FLOW_SEQUENCE_ENTRY_MAPPING_VALUE_STATE,
+    yaml_parser_state_t::YAML_PARSE_FLOW_SEQUENCE_ENTRY_MAPPING_END_STATE,
+    yaml_parser_state_t::YAML_PARSE_FLOW_MAPPING_FIRST_KEY_STATE,
+    yaml_parser_state_t::YAML_PARSE_FLOW_MAPPING_KEY_STATE,
+    yaml_parser_state_t::YAML_PARSE_FLOW_MAPPING_VALUE_STATE,
+    yaml_parser_state_t::YAML_PARSE_FLOW_MAPPING_EMPTY_VALUE_STATE,
+    yaml_parser_state_t::YAML_PARSE_END_STATE,
+];
+
 #[test]
 fn order_is_that_of_numbers(rt: HostRuntime) {
+    for (place, one) in (0u32..).zip(&TOKEN_TYPES) {
+        assert_eq!(rt; one.number(), place);
+        for other in &TOKEN_TYPES {
+            assert_eq!(rt; one.cmp(other), one.number().cmp(&other.number()));
+            assert_eq!(rt; one == other, one.number() == other.number());
+        }
+    }
+    for (place, one) in (0u32..).zip(&STATES) {
+        assert_eq!(rt; one.number(), place);
+        for other in &STATES {
+            assert_eq!(rt; one.cmp(other), one.number().cmp(&other.number()));
+            assert_eq!(rt; one == other, one.number() == other.number());
+        }
+    }
     let plain = yaml_scalar_style_t::YAML_PLAIN_SCALAR_STYLE;
-    let folded = yaml_scalar_style_t::YAML_FOLDED_SCALAR_STYLE;
-    assert_eq!(rt; order_of_scalar_styles(plain, folded), Ordering::Less);
-    assert!(rt; plain != folded);
-    let key = yaml_token_type_t::YAML_KEY_TOKEN;
-    let value = yaml_token_type_t::YAML_VALUE_TOKEN;
-    assert_eq!(rt; value.cmp(&key), Ordering::Greater);
-    let first = yaml_parser_state_t::YAML_PARSE_STREAM_START_STATE;
-    let last = yaml_parser_state_t::YAML_PARSE_END_STATE;
-    assert_eq!(rt; first.cmp(&last), Ordering::Less);
+    assert_eq!(rt;
+        plain.cmp(&yaml_scalar_style_t::YAML_FOLDED_SCALAR_STYLE),
+        Ordering::Less
+    );
 }
 
 #[test]

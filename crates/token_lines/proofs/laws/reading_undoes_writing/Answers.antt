@@ -1,4 +1,5 @@
-use Rattle.token_lines.proofs.EscapeLemmas.{percent_decode-escaped, string_reads_back, string_is_field}
+use Rattle.line_writing.proofs.EscapeLemmas.{percent_decode-escaped}
+use Rattle.token_lines.proofs.ReadsBackLemmas.{string_reads_back, string_is_field}
 use Rattle.token_lines.proofs.laws.reading_undoes_writing.Goals as goal
 
 pub returns-clause-bytes : goal.returns-clause-bytes

@@ -2,6 +2,7 @@ use Rattle.std.proofs.Common.{refl, ap, ◌∙◌, subst}
 use Rattle.std.specs.Io.KnownBytes.{Keeps}
 use Rattle.libyaml_events.specs.Fault.{fault_of}
 use Rattle.libyaml_events.specs.History.{has_ended}
+use Rattle.token_lines.specs.EventRun.{event_lines}
 use Rattle.token_lines.proofs.LastCallLemmas.{none_yet, one_more, last_call, ends_by, fails_by, output_fails, written_no_end, failed_no_end, output_no_end}
 use Rattle.token_lines.proofs.RunLemmas.{came_none, came_more, came_last, came_fails, writes_ended, writes_faulted}
 use Rattle.token_lines.proofs.run.write_events.Goals as goal
@@ -10,13 +11,13 @@ pub returns-in-Ended-clause-writes : goal.returns-in-Ended-clause-writes
 returns-in-Ended-clause-writes g c events ending run =
     let known = g.S.yaml_token_source_t.known in
     let written = came_last known _ _ _ _ c.loop-writer.parser events ending (c.loop-writer.invariant.came events ending run) c.in-Ended.ensures.step c.flushed.ensures.keeps in
-    writes_ended g.S.yaml_token_source_t.may_break c.flushed.result _ _ events ending c.flushed.ensures.outcome written
+    writes_ended (g.S.yaml_token_source_t.may_break c.write_next.new.parser.source) c.flushed.result _ _ (event_lines events) ending c.flushed.ensures.outcome written
 
 pub returns-in-Failed-clause-writes : goal.returns-in-Failed-clause-writes
 returns-in-Failed-clause-writes g c events ending run =
     let known = g.S.yaml_token_source_t.known in
-    let may_break = g.S.yaml_token_source_t.may_break in
-    writes_faulted may_break c.faulted.result _ _ events ending c.faulted.ensures.not_ended
+    let may_break = g.S.yaml_token_source_t.may_break c.write_next.new.parser.source in
+    writes_faulted may_break c.faulted.result _ _ (event_lines events) ending c.faulted.ensures.not_ended
     (λ faulted. came_fails known may_break _ _ _ _ c.loop-writer.parser (fault_of c.in-Failed.fault) events ending (c.loop-writer.invariant.came events ending run) c.in-Failed.ensures.step (c.faulted.ensures.writes faulted))
 
 pub loop-writer-init : goal.loop-writer-init

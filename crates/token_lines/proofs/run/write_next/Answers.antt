@@ -1,12 +1,12 @@
 use Rattle.std.proofs.Common.{◌++◌, refl, ap, ◌∙◌, subst, sym}
 use Rattle.std.specs.Io.KnownBytes.{Appends}
 use Rattle.libyaml_events.specs.History.{has_ended}
+use Rattle.libyaml_events.proofs.NextEvents.{FailsHere, Says, fails_here, first_event}
 use Rattle.token_lines.specs.declared.run.Step.TheVariants.{Written, Ended, OutputFailed}
-use Rattle.token_lines.specs.EventText.{event_line}
-use Rattle.token_lines.specs.EventStep.{FailsHere}
+use Rattle.line_writing.specs.EventText.{event_line}
 use Rattle.token_lines.proofs.LastCallLemmas.{gave_one, failed_once}
 use Rattle.token_lines.proofs.RunLemmas.{Keeps-same}
-use Rattle.token_lines.proofs.StepLemmas.{Says, ended_by, running_by, fails_here, first_event, takes_first, takes_last, nothing_left}
+use Rattle.token_lines.proofs.StepLemmas.{ended_by, running_by, takes_first, takes_last, nothing_left}
 use Rattle.token_lines.proofs.run.write_next.Goals as goal
 
 pub returns-in_default-clause-step : goal.returns-in_default-clause-step
@@ -15,7 +15,7 @@ returns-in_default-clause-step g c events ending run =
     let call = c.yaml_parser_parse-parsed in
     let says : Says t.known t.may_break c.args.parser.now call.new.parser call.result = record { next = call.ensures.next_of_run; end = call.ensures.end_of_run; fault = call.ensures.fault_of_run } in
     let failed = fails_here t.known t.may_break c.args.parser.now call.new.parser call.result c.in_default.field-0 c.in_default.is says events ending run in
-    (subst (λ f. FailsHere t.may_break f events ending) (sym c.prefix.ensures.kept) failed, Keeps-same _)
+    (subst (λ f. FailsHere (t.may_break call.new.parser.source) f events ending) (sym c.prefix.ensures.kept) failed, Keeps-same _)
 
 pub returns-then-not-is_event-clause-step : goal.returns-then-not-is_event-clause-step
 returns-then-not-is_event-clause-step g c events ending run =

@@ -1,0 +1,15 @@
+pub mod Line
+pub mod LineFault
+pub mod Number
+pub mod Parts
+pub mod Reading
+pub mod Field
+pub mod TokenName
+pub mod TokenLine
+pub mod Front
+pub mod ReadLines
+pub mod NextLine
+pub mod LineSource
+pub mod LentLines
+pub mod LineLaws
+pub mod LineSourceLaws

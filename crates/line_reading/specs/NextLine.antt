@@ -1,0 +1,77 @@
+-- What one line of a reader gives, where its bytes are known.
+use Rattle.std.specs.Prelude.{◌≡◌, ◌<◌, ◌≤◌, ◌⊎◌, ℕ, List, [], ◌∷◌, length, Option, Some, None, Result, Ok, Err}
+use Rattle.std.specs.Io.KnownBytes.{Consumes}
+use Rattle.libyaml_types.specs.declared.token.yaml_token_t.{yaml_token_t}
+use Rattle.libyaml_events.specs.Fault.{Fault, Answer}
+use Rattle.line_reading.specs.declared.line_problem.LineProblem.{LineProblem}
+use Rattle.line_reading.specs.declared.line_problem.LineProblem.TheVariants.{Memory, ReadFailed, LineTooLong, BadTokenLine, TooManyTokens, NoMoreTokens}
+use Rattle.line_reading.specs.LineFault.{line_fault}
+use Rattle.line_reading.specs.ReadLines.{longest_line, lines, behind_line, line_answer}
+
+-- the reader has lost some bytes, n at most
+abbrev pub TakesAtMost : ℕ → Option (List ℕ) → Option (List ℕ) → Type 0
+TakesAtMost n before after = (taken : List ℕ) × (length taken ≤ n) × Consumes before after taken
+
+-- the reader is left behind its first line and the LF of it
+abbrev pub IsBehindLine : Option (List ℕ) → Option (List ℕ) → Type 0
+IsBehindLine None after = Unit {0}
+IsBehindLine (Some bytes) after = after ≡ Some (behind_line bytes)
+
+-- the line is the reader's first, and the reader is left behind it and its LF
+abbrev pub TakesLine : Option (List ℕ) → List ℕ → Option (List ℕ) → Type 0
+TakesLine None line after = Unit {0}
+TakesLine (Some bytes) line after = (lines bytes ≡ line ∷ lines (behind_line bytes)) × (after ≡ Some (behind_line bytes))
+
+-- the first line is too long
+abbrev pub BeginsTooLong : List (List ℕ) → Type 0
+BeginsTooLong [] = ⊥
+BeginsTooLong (line ∷ more) = longest_line < length line
+
+-- there is no such line
+abbrev pub HasNoLine : List ℕ → LineProblem → Type 0
+HasNoLine bytes Memory = Unit {0}
+HasNoLine bytes ReadFailed = Unit {0}
+HasNoLine bytes LineTooLong = BeginsTooLong (lines bytes)
+HasNoLine bytes BadTokenLine = ⊥
+HasNoLine bytes TooManyTokens = ⊥
+HasNoLine bytes NoMoreTokens = lines bytes ≡ []
+
+abbrev pub TakesNoLine : Option (List ℕ) → LineProblem → Type 0
+TakesNoLine None problem = Unit {0}
+TakesNoLine (Some bytes) problem = HasNoLine bytes problem
+
+-- what the first of some lines gives
+abbrev pub first_answer : ℕ → List (List ℕ) → Answer
+first_answer n [] = Err (line_fault NoMoreTokens n)
+first_answer n (line ∷ more) = line_answer n line
+
+-- the faults by which a source may break off that has given n tokens
+abbrev pub BreaksOffAt : ℕ → Fault → Type 0
+BreaksOffAt n fault = (fault ≡ line_fault Memory n) ⊎ (fault ≡ line_fault ReadFailed n)
+
+-- a fault of a source that has given n tokens
+abbrev pub IsFaultAt : ℕ → Fault → Type 0
+IsFaultAt n fault = (problem : LineProblem) × (fault ≡ line_fault problem n)
+
+-- an answer of a reader whose bytes are known: of its first line, or a fault that breaks off
+abbrev pub KnownAnswer : List ℕ → ℕ → Answer → Option (List ℕ) → Type 0
+KnownAnswer bytes n (Ok token) after = (first_answer n (lines bytes) ≡ Ok token) × (after ≡ Some (behind_line bytes))
+KnownAnswer bytes n (Err fault) after = (first_answer n (lines bytes) ≡ Err fault) ⊎ BreaksOffAt n fault
+
+-- an answer of a reader whose bytes are not known
+abbrev pub UnknownAnswer : ℕ → Answer → Type 0
+UnknownAnswer n (Ok token) = Unit {0}
+UnknownAnswer n (Err fault) = IsFaultAt n fault
+
+abbrev pub LineAnswer : Option (List ℕ) → ℕ → Answer → Option (List ℕ) → Type 0
+LineAnswer None n answer after = UnknownAnswer n answer
+LineAnswer (Some bytes) n answer after = KnownAnswer bytes n answer after
+
+-- the problems of reading itself
+abbrev pub IsReadProblem : LineProblem → Type 0
+IsReadProblem problem = (problem ≡ Memory) ⊎ (problem ≡ ReadFailed)
+
+-- a token, or the fault of a problem where n tokens were given
+abbrev pub answer_by : ℕ → Result yaml_token_t LineProblem → Answer
+answer_by n (Ok token) = Ok token
+answer_by n (Err problem) = Err (line_fault problem n)

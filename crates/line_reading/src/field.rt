@@ -1,0 +1,109 @@
+//! The fields of a token line.
+ghost use Rattle.std.specs.Prelude.{◌≡◌};
+ghost use Rattle.line_reading.specs.Field.{version_of, utf8_text, text_of, encoding_of, scalar_style_of};
+ghost use Rattle.percent_encoding.specs.Percent as percent;
+ghost use Rattle.line_reading.specs.Reading.{IsReadAs};
+
+use crate::number::read_signed;
+use crate::parts::Parts;
+use crate::search::len_before;
+use crate::token_error::TokenLineError;
+use libyaml_types::{
+    Text, unnamed_yaml_token_t_data_version_directive, yaml_encoding_t, yaml_scalar_style_t,
+};
+use percent_encoding::percent_decode;
+use std::alloc::Global;
+
+/// Two signed numbers with a point between them.
+pub fn read_version(field: &[u8]) -> Option<unnamed_yaml_token_t_data_version_directive>
+    ensures { result ≡ version_of field.now }
+{
+    let mut parts = Parts::new(field, b'.');
+    let major = parts.next()?;
+    let minor = parts.next()?;
+    if parts.next().is_some() {
+        return None;
+    }
+    Some(unnamed_yaml_token_t_data_version_directive {
+        major: read_signed(major)?,
+        minor: read_signed(minor)?,
+    })
+}
+
+/// `=` and an escaped text.
+pub fn read_text(alloc: Global, field: &[u8]) -> Result<Text, TokenLineError>
+    ensures { IsReadAs result (text_of field.now) }
+{
+    let [b'=', escaped @ ..] = field else {
+        return Err(TokenLineError::BadLine);
+    };
+    escaped_text(alloc, escaped)
+}
+
+fn escaped_text(alloc: Global, escaped: &[u8]) -> Result<Text, TokenLineError>
+    ensures { IsReadAs result (utf8_text (percent.percent_decode escaped.now)) }
+{
+    if len_before(escaped, b'%') == escaped.len() {
+        plain_text(alloc, escaped)
+    } else {
+        decoded_text(alloc, escaped)
+    }
+}
+
+fn plain_text(alloc: Global, bytes: &[u8]) -> Result<Text, TokenLineError>
+    ensures { IsReadAs result (utf8_text bytes.now) }
+{
+    match simdutf8::basic::from_utf8(bytes) {
+        Ok(text) => Ok(Text::from_str(alloc, text)?),
+        Err(_) => Err(TokenLineError::BadLine),
+    }
+}
+
+fn decoded_text(alloc: Global, escaped: &[u8]) -> Result<Text, TokenLineError>
+    ensures { IsReadAs result (utf8_text (percent.percent_decode escaped.now)) }
+{
+    let mut bytes = Vec::with_capacity(alloc, escaped.len())?;
+    percent_decode(escaped).append_to(&mut bytes)?;
+    match String::from_utf8(bytes) {
+        Ok(text) => Ok(Text::from(text)),
+        Err(_) => Err(TokenLineError::BadLine),
+    }
+}
+
+/// An encoding by its name.
+pub fn read_encoding(name: &[u8]) -> Option<yaml_encoding_t>
+    ensures { result ≡ encoding_of name.now }
+{
+    if name == b"any".as_slice() {
+        Some(yaml_encoding_t::YAML_ANY_ENCODING)
+    } else if name == b"utf8".as_slice() {
+        Some(yaml_encoding_t::YAML_UTF8_ENCODING)
+    } else if name == b"utf16le".as_slice() {
+        Some(yaml_encoding_t::YAML_UTF16LE_ENCODING)
+    } else if name == b"utf16be".as_slice() {
+        Some(yaml_encoding_t::YAML_UTF16BE_ENCODING)
+    } else {
+        None
+    }
+}
+
+/// A scalar style by its name.
+pub fn read_scalar_style(name: &[u8]) -> Option<yaml_scalar_style_t>
+    ensures { result ≡ scalar_style_of name.now }
+{
+    if name == b"any".as_slice() {
+        Some(yaml_scalar_style_t::YAML_ANY_SCALAR_STYLE)
+    } else if name == b"plain".as_slice() {
+        Some(yaml_scalar_style_t::YAML_PLAIN_SCALAR_STYLE)
+    } else if name == b"single".as_slice() {
+        Some(yaml_scalar_style_t::YAML_SINGLE_QUOTED_SCALAR_STYLE)
+    } else if name == b"double".as_slice() {
+        Some(yaml_scalar_style_t::YAML_DOUBLE_QUOTED_SCALAR_STYLE)
+    } else if name == b"literal".as_slice() {
+        Some(yaml_scalar_style_t::YAML_LITERAL_SCALAR_STYLE)
+    } else if name == b"folded".as_slice() {
+        Some(yaml_scalar_style_t::YAML_FOLDED_SCALAR_STYLE)
+    } else {
+        None
+    }
+}

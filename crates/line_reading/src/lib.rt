@@ -1,0 +1,22 @@
+//! Token lines as they are read.
+#![tactic(auto)]
+
+mod field;
+mod front;
+mod lent_lines;
+mod line;
+mod line_problem;
+mod line_source;
+mod number;
+mod parts;
+mod search;
+mod token_error;
+mod token_line;
+mod token_name;
+mod token_reader;
+
+pub use lent_lines::LentLines;
+pub use line_source::yaml_line_source_t;
+
+/// A token line has at most this many bytes, its LF not counted.
+pub const MAX_LINE: usize = 1_048_576;

@@ -1,0 +1,113 @@
+//! One line of a reader.
+ghost use Rattle.std.specs.Prelude.{◌≡◌, ◌≢◌, ◌≤◌, ◌<◌, ◌+◌, ◌++◌, ◌↔◌, [], All, drop, take, length, vec_len, IfOk, IfErr, OnOk, OnErr, OnSome, Ok, IsOk};
+ghost use Rattle.std.specs.Io.KnownBytes.{Consumes, Keeps, IsAtEnd};
+ghost use Rattle.line_reading.specs.Line.{ended_by, appended, line_feed};
+ghost use Rattle.line_reading.specs.ReadLines.{longest_line};
+ghost use Rattle.line_reading.specs.NextLine.{TakesAtMost, TakesLine, TakesNoLine, IsReadProblem};
+
+use crate::MAX_LINE;
+use crate::line_problem::LineProblem;
+use crate::search::len_before;
+use std::io::BufRead;
+
+/// Reads one line: what stands before an LF, or before the end where a byte stands there. Takes the line and its LF, and no byte behind them.
+pub fn read_line<R: BufRead>(reader: &mut R, line: &mut Vec<u8>) -> Result<(), LineProblem>
+    ensures whole { OnOk result (TakesLine (R.remaining reader.old) line.new.items (R.remaining reader.new)) }
+    ensures fits { OnOk result (length line.new.items ≤ longest_line) }
+    ensures none { IfErr result (λ problem. TakesNoLine (R.remaining reader.old) problem) }
+    ensures takes { TakesAtMost (longest_line + 1) (R.remaining reader.old) (R.remaining reader.new) }
+{
+    line.clear();
+    match take_line(reader, line)? {
+        LineEnd::TooLong => Err(LineProblem::LineTooLong),
+        LineEnd::End if line.is_empty() => Err(LineProblem::NoMoreTokens),
+        LineEnd::End => Ok(()),
+        LineEnd::LineFeed => Ok(()),
+    }
+}
+
+/// How a line ended.
+#[derive(Copy, Clone)]
+pub enum LineEnd {
+    LineFeed,
+    End,
+    TooLong,
+}
+
+/// Takes a line into an empty `line`: up to an LF, which is taken too, or to the end, or to the byte that is too many.
+fn take_line<R: BufRead>(reader: &mut R, line: &mut Vec<u8>) -> Result<LineEnd, LineProblem>
+    requires { line.old.items ≡ [] }
+    ensures consumes { IfOk result (λ end. Consumes (R.remaining reader.old) (R.remaining reader.new) (line.new.items ++ line_feed end)) }
+    ensures clean { All (λ x. x ≢ 10) line.new.items }
+    ensures fits { length line.new.items ≤ longest_line + 1 }
+    ensures too_long { result ≡ Ok LineEnd.TooLong ↔ ((length line.new.items ≡ longest_line + 1) × IsOk result) }
+    ensures end { result ≡ Ok LineEnd.End → OnSome (R.remaining reader.old) (IsAtEnd (R.remaining reader.new)) }
+    ensures err { OnErr result (Consumes (R.remaining reader.old) (R.remaining reader.new) line.new.items) }
+    ensures problem { IfErr result IsReadProblem }
+{
+    while line.len() <= MAX_LINE {
+        let room = MAX_LINE + 1 - line.len();
+        match take_part(reader, line, room)? {
+            Part::More => {}
+            Part::LineFeed => return Ok(LineEnd::LineFeed),
+            Part::End => return Ok(LineEnd::End),
+        }
+    }
+    Ok(LineEnd::TooLong)
+}
+
+/// What a look at the reader's buffer met.
+#[derive(Copy, Clone)]
+enum Part {
+    More,
+    LineFeed,
+    End,
+}
+
+/// Moves bytes of one line, `room` with its LF at most, from the reader's buffer behind `line`.
+fn take_part<R: BufRead>(
+    reader: &mut R,
+    line: &mut Vec<u8>,
+    room: usize,
+) -> Result<Part, LineProblem>
+    requires { 0 < room }
+    ensures appends { line.new.items ≡ line.old.items ++ appended line.old.items line.new.items }
+    ensures consumes { IfOk result (λ part. Consumes (R.remaining reader.old) (R.remaining reader.new) (appended line.old.items line.new.items ++ ended_by part)) }
+    ensures clean { All (λ x. x ≢ 10) (appended line.old.items line.new.items) }
+    ensures fits { IfOk result (λ part. length (appended line.old.items line.new.items) + length (ended_by part) ≤ room) }
+    ensures err { OnErr result (line.new.items ≡ line.old.items) }
+    ensures keeps { OnErr result (Keeps (R.remaining reader.old) (R.remaining reader.new)) }
+    ensures more { result ≡ Ok Part.More → 0 < length (appended line.old.items line.new.items) }
+    ensures at_end { result ≡ Ok Part.End → OnSome (R.remaining reader.old) (IsAtEnd (R.remaining reader.new)) }
+    ensures end { result ≡ Ok Part.End → line.new.items ≡ line.old.items }
+    ensures problem { IfErr result IsReadProblem }
+{
+    let available = match reader.fill_buf() {
+        Ok(available) => available,
+        Err(_) => return Err(LineProblem::ReadFailed),
+    };
+    if available.is_empty() {
+        return Ok(Part::End);
+    }
+    let front = &available[..available.len().min(room)];
+    let len = len_before(front, b'\n');
+    append(line, &front[..len])?;
+    if len < front.len() {
+        reader.consume(len + 1);
+        return Ok(Part::LineFeed);
+    }
+    reader.consume(len);
+    Ok(Part::More)
+}
+
+#[tactic(auto, using(crate::proofs::Appended::appended_is))]
+fn append(line: &mut Vec<u8>, part: &[u8]) -> Result<(), LineProblem>
+    ensures ok { OnOk result ((line.new.items ≡ line.old.items ++ part.now) × (appended line.old.items line.new.items ≡ part.now)) }
+    ensures err { OnErr result (line.new.items ≡ line.old.items) }
+    ensures problem { IfErr result (λ problem. problem ≡ LineProblem.Memory) }
+{
+    match line.extend_from_slice(part) {
+        Ok(()) => Ok(()),
+        Err(_) => Err(LineProblem::Memory),
+    }
+}

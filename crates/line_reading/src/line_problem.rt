@@ -1,0 +1,86 @@
+//! Why a line source gave no token.
+ghost use Rattle.std.specs.Prelude.{◌≡◌};
+ghost use Rattle.libyaml_events.specs.Errors.{IsSourceError};
+ghost use Rattle.libyaml_events.specs.Fault.{source_fault};
+ghost use Rattle.libyaml_events.specs.FaultTexts.{memory_fault};
+ghost use Rattle.line_reading.specs.LineFault.{problem_at, line_fault};
+
+use crate::token_error::TokenLineError;
+use libyaml_events::yaml_source_fault_t;
+use libyaml_types::{ZERO_MARK, yaml_error_type_t, yaml_mark_t};
+
+/// Why a line source gave no token.
+#[derive(Copy, Clone, PartialEq, Eq, Debug)]
+pub enum LineProblem {
+    /// A growth was refused.
+    Memory,
+    /// The reader answered an error.
+    ReadFailed,
+    /// The line has more than `MAX_LINE` bytes.
+    LineTooLong,
+    /// The line is no token line.
+    BadTokenLine,
+    /// As many tokens were given as are allowed.
+    TooManyTokens,
+    /// The input has ended.
+    NoMoreTokens,
+}
+
+impl From<TokenLineError> for LineProblem {
+    ghost use Rattle.std.specs.Prelude.{◌≡◌};
+    ghost use Rattle.line_reading.specs.LineFault.{problem_of};
+
+    ghost from_gives = { λ error problem. problem ≡ problem_of error };
+
+    fn from(error: TokenLineError) -> LineProblem {
+        match error {
+            TokenLineError::BadLine => LineProblem::BadTokenLine,
+            TokenLineError::Memory => LineProblem::Memory,
+        }
+    }
+}
+
+impl LineProblem {
+    /// The fault of a source that has given so many tokens.
+    pub fn fault(self, given: u64) -> yaml_source_fault_t
+        ensures { source_fault result ≡ line_fault self given }
+    {
+        let reader = yaml_error_type_t::YAML_READER_ERROR;
+        let scanner = yaml_error_type_t::YAML_SCANNER_ERROR;
+        match self {
+            LineProblem::Memory => memory_fault(),
+            LineProblem::ReadFailed => fault_at(reader, "read failed", given),
+            LineProblem::LineTooLong => fault_at(reader, "line too long", given),
+            LineProblem::BadTokenLine => fault_at(scanner, "bad token line", given),
+            LineProblem::TooManyTokens => fault_at(reader, "too many tokens", given),
+            LineProblem::NoMoreTokens => fault_at(reader, "no more tokens", given),
+        }
+    }
+}
+
+fn memory_fault() -> yaml_source_fault_t
+    ensures { source_fault result ≡ memory_fault }
+{
+    yaml_source_fault_t::new(
+        yaml_error_type_t::YAML_MEMORY_ERROR,
+        None,
+        0,
+        0,
+        ZERO_MARK,
+        None,
+        ZERO_MARK,
+    )
+}
+
+/// The fault that the line behind so many tokens gives, without a context.
+fn fault_at(error: yaml_error_type_t, problem: &'static str, given: u64) -> yaml_source_fault_t
+    requires { IsSourceError error }
+    ensures { source_fault result ≡ problem_at error problem.entry.now given }
+{
+    let mark = yaml_mark_t {
+        index: given,
+        line: given,
+        column: 0,
+    };
+    yaml_source_fault_t::new(error, Some(problem), given, -1, mark, None, ZERO_MARK)
+}

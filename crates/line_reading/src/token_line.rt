@@ -1,0 +1,158 @@
+//! Token lines.
+ghost use Rattle.std.specs.Prelude.{◌≡◌};
+ghost use Rattle.line_reading.specs.Front.{token_at};
+ghost use Rattle.line_reading.specs.TokenLine.{bare_content, content_of_one, content_of_two, content_of, token_of_line};
+ghost use Rattle.line_reading.specs.Reading.{IsReadAs};
+
+use crate::field::{read_encoding, read_scalar_style, read_text, read_version};
+use crate::front::take_mark;
+use crate::parts::{Parts, cut};
+use crate::token_error::TokenLineError;
+use crate::token_name::read_token_type;
+use libyaml_types::{
+    unnamed_yaml_token_t_data, unnamed_yaml_token_t_data_alias, unnamed_yaml_token_t_data_anchor,
+    unnamed_yaml_token_t_data_scalar, unnamed_yaml_token_t_data_stream_start,
+    unnamed_yaml_token_t_data_tag, unnamed_yaml_token_t_data_tag_directive, yaml_token_t,
+    yaml_token_type_t,
+};
+use std::alloc::Global;
+
+/// The token of a line, which has no LF. Only the token's texts take memory.
+pub fn read_token_line(alloc: Global, line: &[u8]) -> Result<yaml_token_t, TokenLineError>
+    ensures { IsReadAs result (token_of_line line.now) }
+{
+    take_token(alloc, line)
+}
+
+/// The same, from the front of the line.
+fn take_token(alloc: Global, line: &[u8]) -> Result<yaml_token_t, TokenLineError>
+    ensures { IsReadAs result (token_at line.now) }
+{
+    let (name, marks) = cut(line, b' ');
+    let marks = marks.ok_or(TokenLineError::BadLine)?;
+    let type_ = read_token_type(name).ok_or(TokenLineError::BadLine)?;
+    let (start_mark, rest) = take_mark(marks).ok_or(TokenLineError::BadLine)?;
+    let rest = rest.ok_or(TokenLineError::BadLine)?;
+    let (end_mark, rest) = take_mark(rest).ok_or(TokenLineError::BadLine)?;
+    let content = read_content(alloc, type_, Parts::behind(rest, b' '))?;
+    Ok(yaml_token_t::new(content, start_mark, end_mark))
+}
+
+/// The content of a token of this type, from the fields behind its marks.
+#[inline(always)]
+fn read_content(
+    alloc: Global,
+    type_: yaml_token_type_t,
+    mut fields: Parts,
+) -> Result<unnamed_yaml_token_t_data, TokenLineError>
+    ensures { IsReadAs result (content_of type_ fields.entry) }
+{
+    let Some(first) = fields.next() else {
+        return read_bare_content(type_);
+    };
+    let Some(second) = fields.next() else {
+        return read_content_of_one(alloc, type_, first);
+    };
+    if fields.next().is_some() {
+        return Err(TokenLineError::BadLine);
+    }
+    read_content_of_two(alloc, type_, first, second)
+}
+
+fn read_bare_content(type_: yaml_token_type_t) -> Result<unnamed_yaml_token_t_data, TokenLineError>
+    ensures { IsReadAs result (bare_content type_) }
+{
+    match type_ {
+        yaml_token_type_t::YAML_NO_TOKEN => Ok(unnamed_yaml_token_t_data::NoToken),
+        yaml_token_type_t::YAML_STREAM_END_TOKEN => Ok(unnamed_yaml_token_t_data::StreamEnd),
+        yaml_token_type_t::YAML_DOCUMENT_START_TOKEN => Ok(
+            unnamed_yaml_token_t_data::DocumentStart,
+        ),
+        yaml_token_type_t::YAML_DOCUMENT_END_TOKEN => Ok(unnamed_yaml_token_t_data::DocumentEnd),
+        yaml_token_type_t::YAML_BLOCK_SEQUENCE_START_TOKEN => Ok(
+            unnamed_yaml_token_t_data::BlockSequenceStart,
+        ),
+        yaml_token_type_t::YAML_BLOCK_MAPPING_START_TOKEN => Ok(
+            unnamed_yaml_token_t_data::BlockMappingStart,
+        ),
+        yaml_token_type_t::YAML_BLOCK_END_TOKEN => Ok(unnamed_yaml_token_t_data::BlockEnd),
+        yaml_token_type_t::YAML_FLOW_SEQUENCE_START_TOKEN => Ok(
+            unnamed_yaml_token_t_data::FlowSequenceStart,
+        ),
+        yaml_token_type_t::YAML_FLOW_SEQUENCE_END_TOKEN => Ok(
+            unnamed_yaml_token_t_data::FlowSequenceEnd,
+        ),
+        yaml_token_type_t::YAML_FLOW_MAPPING_START_TOKEN => Ok(
+            unnamed_yaml_token_t_data::FlowMappingStart,
+        ),
+        yaml_token_type_t::YAML_FLOW_MAPPING_END_TOKEN => Ok(
+            unnamed_yaml_token_t_data::FlowMappingEnd,
+        ),
+        yaml_token_type_t::YAML_BLOCK_ENTRY_TOKEN => Ok(unnamed_yaml_token_t_data::BlockEntry),
+        yaml_token_type_t::YAML_FLOW_ENTRY_TOKEN => Ok(unnamed_yaml_token_t_data::FlowEntry),
+        yaml_token_type_t::YAML_KEY_TOKEN => Ok(unnamed_yaml_token_t_data::Key),
+        yaml_token_type_t::YAML_VALUE_TOKEN => Ok(unnamed_yaml_token_t_data::Value),
+        _ => Err(TokenLineError::BadLine),
+    }
+}
+
+fn read_content_of_one(
+    alloc: Global,
+    type_: yaml_token_type_t,
+    field: &[u8],
+) -> Result<unnamed_yaml_token_t_data, TokenLineError>
+    ensures { IsReadAs result (content_of_one type_ field.now) }
+{
+    match type_ {
+        yaml_token_type_t::YAML_STREAM_START_TOKEN => {
+            let encoding = read_encoding(field).ok_or(TokenLineError::BadLine)?;
+            Ok(unnamed_yaml_token_t_data::StreamStart(unnamed_yaml_token_t_data_stream_start {
+                encoding,
+            }))
+        }
+        yaml_token_type_t::YAML_VERSION_DIRECTIVE_TOKEN => {
+            let version = read_version(field).ok_or(TokenLineError::BadLine)?;
+            Ok(unnamed_yaml_token_t_data::VersionDirective(version))
+        }
+        yaml_token_type_t::YAML_ALIAS_TOKEN => {
+            let value = read_text(alloc, field)?;
+            Ok(unnamed_yaml_token_t_data::Alias(unnamed_yaml_token_t_data_alias { value }))
+        }
+        yaml_token_type_t::YAML_ANCHOR_TOKEN => {
+            let value = read_text(alloc, field)?;
+            Ok(unnamed_yaml_token_t_data::Anchor(unnamed_yaml_token_t_data_anchor { value }))
+        }
+        _ => Err(TokenLineError::BadLine),
+    }
+}
+
+fn read_content_of_two(
+    alloc: Global,
+    type_: yaml_token_type_t,
+    first: &[u8],
+    second: &[u8],
+) -> Result<unnamed_yaml_token_t_data, TokenLineError>
+    ensures { IsReadAs result (content_of_two type_ first.now second.now) }
+{
+    match type_ {
+        yaml_token_type_t::YAML_TAG_DIRECTIVE_TOKEN => {
+            let handle = read_text(alloc, first)?;
+            let prefix = read_text(alloc, second)?;
+            Ok(unnamed_yaml_token_t_data::TagDirective(unnamed_yaml_token_t_data_tag_directive {
+                handle,
+                prefix,
+            }))
+        }
+        yaml_token_type_t::YAML_TAG_TOKEN => {
+            let handle = read_text(alloc, first)?;
+            let suffix = read_text(alloc, second)?;
+            Ok(unnamed_yaml_token_t_data::Tag(unnamed_yaml_token_t_data_tag { handle, suffix }))
+        }
+        yaml_token_type_t::YAML_SCALAR_TOKEN => {
+            let value = read_text(alloc, first)?;
+            let style = read_scalar_style(second).ok_or(TokenLineError::BadLine)?;
+            Ok(unnamed_yaml_token_t_data::Scalar(unnamed_yaml_token_t_data_scalar { value, style }))
+        }
+        _ => Err(TokenLineError::BadLine),
+    }
+}

@@ -1,0 +1,77 @@
+//! The tokens of lines, one by one.
+ghost use Rattle.std.specs.Prelude.{◌≡◌, ◌+◌, IfOk};
+ghost use Rattle.libyaml_events.specs.Fault.{answer_of, source_fault};
+ghost use Rattle.line_reading.specs.LineFault.{line_fault};
+ghost use Rattle.line_reading.specs.LineSource.{Gives, source_over};
+ghost use Rattle.line_reading.specs.ReadLines.{longest_line};
+ghost use Rattle.line_reading.specs.NextLine.{TakesAtMost, IsBehindLine};
+
+use crate::line::read_line;
+use crate::line_problem::LineProblem;
+use crate::token_line::read_token_line;
+use libyaml_events::yaml_source_fault_t;
+use libyaml_types::yaml_token_t;
+use std::alloc::Global;
+use std::io::BufRead;
+
+/// Reads tokens off lines: counts them, up to a bound, and keeps the first problem for good.
+#[derive(Drop)]
+pub(crate) struct TokenReader {
+    given: u64,
+    max_tokens: u64,
+    problem: Option<LineProblem>,
+    alloc: Global,
+}
+
+impl TokenReader {
+    /// One that gives `max_tokens` tokens at most.
+    pub(crate) fn new(alloc: Global, max_tokens: u64) -> TokenReader
+        ensures given { result.given ≡ 0 }
+        ensures max_tokens { result.max_tokens ≡ max_tokens }
+        ensures problem { result.problem ≡ None }
+    {
+        TokenReader {
+            given: 0,
+            max_tokens,
+            problem: None,
+            alloc,
+        }
+    }
+
+    /// The token of the reader's next line, or why there is none. A kept problem is given again; then `too many tokens` comes before a line is read.
+    pub(crate) fn next_token<R: BufRead>(
+        &mut self,
+        reader: &mut R,
+        line: &mut Vec<u8>,
+    ) -> Result<yaml_token_t, yaml_source_fault_t>
+        ensures gives { Gives R.remaining (source_over reader.old self.old) (answer_of result) (source_over reader.new self.new) }
+        ensures leaves { IfOk result (λ _. IsBehindLine (R.remaining reader.old) (R.remaining reader.new)) }
+        ensures takes { TakesAtMost (longest_line + 1) (R.remaining reader.old) (R.remaining reader.new) }
+    {
+        if let Some(problem) = self.problem {
+            return Err(problem.fault(self.given));
+        }
+        if self.given >= self.max_tokens {
+            return Err(self.keep(LineProblem::TooManyTokens));
+        }
+        if let Err(problem) = read_line(reader, line) {
+            return Err(self.keep(problem));
+        }
+        match read_token_line(self.alloc, line) {
+            Ok(token) => {
+                self.given += 1;
+                Ok(token)
+            }
+            Err(error) => Err(self.keep(LineProblem::from(error))),
+        }
+    }
+
+    /// Keeps a problem for good, as a fault.
+    fn keep(&mut self, problem: LineProblem) -> yaml_source_fault_t
+        ensures fault { source_fault result ≡ line_fault problem self.old.given }
+        ensures kept { self.new ≡ record self.old { problem = Some problem } }
+    {
+        self.problem = Some(problem);
+        problem.fault(self.given)
+    }
+}

@@ -1,0 +1,10 @@
+use Rattle.std.proofs.Common.{arith}
+use Rattle.std.proofs.lemmas.List.Elements.{All-from_get_or}
+use Rattle.percent_encoding.proofs.PercentLemmas.{IsByte}
+use Rattle.line_writing.proofs.EscapeLemmas.{percent_encode-escaped}
+use Rattle.line_writing.proofs.escape.append_escaped.Goals as goal
+
+pub returns : goal.returns
+returns c =
+    let small = All-from_get_or IsByte c.args.text.now 0 (λ i within. omega (arith, c.type_inv.text i)) in
+    rw (← percent_encode-escaped c.args.text.now small, ← c.utf8_percent_encode.ensures.text) c.append_to.ensures.ok

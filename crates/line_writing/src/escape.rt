@@ -1,0 +1,16 @@
+//! Strings in lines.
+ghost use Rattle.std.specs.Prelude.{◌≡◌, ◌++◌, OnOk, string_bytes};
+ghost use Rattle.line_writing.specs.Escape.{escaped};
+
+use percent_encoding::{AsciiSet, CONTROLS, ascii_set, utf8_percent_encode};
+use std::alloc::AllocError;
+
+/// What is escaped besides the bytes above ASCII.
+pub(crate) const ESCAPED: AsciiSet = ascii_set!(CONTROLS.add(b' ').add(b'%'));
+
+/// Appends the text, escaped.
+pub(crate) fn append_escaped(line: &mut String, text: &str) -> Result<(), AllocError>
+    ensures { OnOk result (string_bytes line.new ≡ string_bytes line.old ++ escaped text.now) }
+{
+    utf8_percent_encode(text, ESCAPED).append_to(line)
+}

@@ -1,0 +1,169 @@
+//! The fields of a line as they are written, each behind a space.
+ghost use Rattle.std.specs.Prelude.{◌≡◌, ◌++◌, [], ◌∷◌, OnOk, string_bytes, decimal};
+ghost use Rattle.line_writing.specs.FieldTexts.{behind_spaces, optional_version_text, flag_text, string_text, optional_string_text, directive_texts, encoding_text, scalar_style_text, sequence_style_text, mapping_style_text};
+
+use crate::escape::append_escaped;
+use itoa::Buffer;
+use libyaml_types::{
+    Text, yaml_encoding_t, yaml_mapping_style_t, yaml_scalar_style_t, yaml_sequence_style_t,
+    yaml_tag_directive_t, yaml_version_directive_t,
+};
+use std::alloc::AllocError;
+
+/// What stands for a field that is absent.
+pub(crate) const ABSENT: &str = "-";
+
+/// Appends a field that needs no escapes.
+pub(crate) fn append_field(line: &mut String, field: &str) -> Result<(), AllocError>
+    ensures { OnOk result (string_bytes line.new ≡ string_bytes line.old ++ behind_spaces (field.now ∷ [])) }
+{
+    line.push_str(" ")?;
+    line.push_str(field)
+}
+
+pub(crate) fn append_number(line: &mut String, number: usize) -> Result<(), AllocError>
+    ensures { OnOk result (string_bytes line.new ≡ string_bytes line.old ++ behind_spaces (decimal number ∷ [])) }
+{
+    append_field(line, Buffer::new().format(number))
+}
+
+pub(crate) fn append_version(
+    line: &mut String,
+    version: Option<yaml_version_directive_t>,
+) -> Result<(), AllocError>
+    ensures { OnOk result (string_bytes line.new ≡ string_bytes line.old ++ behind_spaces (optional_version_text version ∷ [])) }
+{
+    let Some(version) = version else {
+        return append_field(line, ABSENT);
+    };
+    let mut digits = Buffer::new();
+    append_field(line, digits.format(version.major))?;
+    line.push_str(".")?;
+    line.push_str(digits.format(version.minor))
+}
+
+pub(crate) fn append_flag(line: &mut String, flag: bool) -> Result<(), AllocError>
+    ensures { OnOk result (string_bytes line.new ≡ string_bytes line.old ++ behind_spaces (flag_text flag ∷ [])) }
+{
+    line.push_str(if flag { " 1" } else { " 0" })
+}
+
+/// Appends two flags by one constant.
+pub(crate) fn append_two_flags(
+    line: &mut String,
+    first: bool,
+    second: bool,
+) -> Result<(), AllocError>
+    ensures { OnOk result (string_bytes line.new ≡ string_bytes line.old ++ behind_spaces (flag_text first ∷ flag_text second ∷ [])) }
+{
+    line.push_str(match (first, second) {
+        (false, false) => " 0 0",
+        (false, true) => " 0 1",
+        (true, false) => " 1 0",
+        (true, true) => " 1 1",
+    })
+}
+
+pub(crate) fn append_string(line: &mut String, text: &Text) -> Result<(), AllocError>
+    ensures { OnOk result (string_bytes line.new ≡ string_bytes line.old ++ behind_spaces (string_text text.now ∷ [])) }
+{
+    line.push_str(" =")?;
+    append_escaped(line, text.as_str())
+}
+
+pub(crate) fn append_optional_string(
+    line: &mut String,
+    text: &Option<Text>,
+) -> Result<(), AllocError>
+    ensures { OnOk result (string_bytes line.new ≡ string_bytes line.old ++ behind_spaces (optional_string_text text.now ∷ [])) }
+{
+    match text {
+        Some(text) => append_string(line, text),
+        None => line.push_str(" -"),
+    }
+}
+
+/// Appends the anchor and the tag of a node. Most nodes have neither.
+pub(crate) fn append_properties(
+    line: &mut String,
+    anchor: &Option<Text>,
+    tag: &Option<Text>,
+) -> Result<(), AllocError>
+    ensures { OnOk result (string_bytes line.new ≡ string_bytes line.old ++ behind_spaces (optional_string_text anchor.now ∷ optional_string_text tag.now ∷ [])) }
+{
+    if anchor.is_none() && tag.is_none() {
+        return line.push_str(" - -");
+    }
+    append_optional_string(line, anchor)?;
+    append_optional_string(line, tag)
+}
+
+/// Appends the handle and the prefix of each directive.
+pub(crate) fn append_directives(
+    line: &mut String,
+    directives: &[yaml_tag_directive_t],
+) -> Result<(), AllocError>
+    ensures { OnOk result (string_bytes line.new ≡ string_bytes line.old ++ behind_spaces (directive_texts directives.now)) }
+{
+    for directive in directives {
+        append_string(line, &directive.handle)?;
+        append_string(line, &directive.prefix)?;
+    }
+    Ok(())
+}
+
+pub(crate) fn append_encoding(
+    line: &mut String,
+    encoding: yaml_encoding_t,
+) -> Result<(), AllocError>
+    ensures { OnOk result (string_bytes line.new ≡ string_bytes line.old ++ behind_spaces (encoding_text encoding ∷ [])) }
+{
+    match encoding {
+        yaml_encoding_t::YAML_ANY_ENCODING => line.push_str(" any"),
+        yaml_encoding_t::YAML_UTF8_ENCODING => line.push_str(" utf8"),
+        yaml_encoding_t::YAML_UTF16LE_ENCODING => line.push_str(" utf16le"),
+        yaml_encoding_t::YAML_UTF16BE_ENCODING => line.push_str(" utf16be"),
+    }
+}
+
+pub(crate) fn append_scalar_style(
+    line: &mut String,
+    style: yaml_scalar_style_t,
+) -> Result<(), AllocError>
+    ensures { OnOk result (string_bytes line.new ≡ string_bytes line.old ++ behind_spaces (scalar_style_text style ∷ [])) }
+{
+    match style {
+        yaml_scalar_style_t::YAML_ANY_SCALAR_STYLE => line.push_str(" any"),
+        yaml_scalar_style_t::YAML_PLAIN_SCALAR_STYLE => line.push_str(" plain"),
+        yaml_scalar_style_t::YAML_SINGLE_QUOTED_SCALAR_STYLE => line.push_str(" single"),
+        yaml_scalar_style_t::YAML_DOUBLE_QUOTED_SCALAR_STYLE => line.push_str(" double"),
+        yaml_scalar_style_t::YAML_LITERAL_SCALAR_STYLE => line.push_str(" literal"),
+        yaml_scalar_style_t::YAML_FOLDED_SCALAR_STYLE => line.push_str(" folded"),
+    }
+}
+
+pub(crate) fn append_sequence_style(
+    line: &mut String,
+    style: yaml_sequence_style_t,
+) -> Result<(), AllocError>
+    ensures { OnOk result (string_bytes line.new ≡ string_bytes line.old ++ behind_spaces (sequence_style_text style ∷ [])) }
+{
+    match style {
+        yaml_sequence_style_t::YAML_ANY_SEQUENCE_STYLE => line.push_str(" any"),
+        yaml_sequence_style_t::YAML_BLOCK_SEQUENCE_STYLE => line.push_str(" block"),
+        yaml_sequence_style_t::YAML_FLOW_SEQUENCE_STYLE => line.push_str(" flow"),
+    }
+}
+
+pub(crate) fn append_mapping_style(
+    line: &mut String,
+    style: yaml_mapping_style_t,
+) -> Result<(), AllocError>
+    ensures { OnOk result (string_bytes line.new ≡ string_bytes line.old ++ behind_spaces (mapping_style_text style ∷ [])) }
+{
+    match style {
+        yaml_mapping_style_t::YAML_ANY_MAPPING_STYLE => line.push_str(" any"),
+        yaml_mapping_style_t::YAML_BLOCK_MAPPING_STYLE => line.push_str(" block"),
+        yaml_mapping_style_t::YAML_FLOW_MAPPING_STYLE => line.push_str(" flow"),
+    }
+}

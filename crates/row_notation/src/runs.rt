@@ -1,0 +1,66 @@
+//! Whole runs, shown.
+
+use crate::events::show_event;
+use crate::faults::{are_same_faults, show_fault};
+use crate::tokens::source_of;
+use anyhow::Result;
+use std::alloc::Global;
+use unsafe_libyaml::{
+    ZERO_MARK, unnamed_yaml_event_t_data, yaml_event_t, yaml_parser_initialize, yaml_parser_parse,
+    yaml_parser_t, yaml_token_source_t,
+};
+
+/// Whether this is the empty event, without marks.
+pub fn is_empty(event: &yaml_event_t) -> bool {
+    matches!(event.content, unnamed_yaml_event_t_data::NoEvent)
+        && event.start_mark == ZERO_MARK
+        && event.end_mark == ZERO_MARK
+}
+
+/// Whether this parser gives the empty event three times, and keeps its fault or its want of one.
+pub fn is_over<S: yaml_token_source_t>(parser: &mut yaml_parser_t<S>) -> bool {
+    let kept = *parser.prefix();
+    for _ in 0..3u8 {
+        match yaml_parser_parse(parser) {
+            Ok(event) if is_empty(&event) => {}
+            _ => return false,
+        }
+        if !are_same_faults(&kept, parser.prefix()) {
+            return false;
+        }
+    }
+    true
+}
+
+/// The events of a parser and the fault behind them, if there is one; then ` more` where anything but
+/// the empty event follows.
+///
+/// Errors: want of memory.
+pub fn show_run<S: yaml_token_source_t>(
+    alloc: Global,
+    parser: &mut yaml_parser_t<S>,
+) -> Result<String> {
+    let mut shown = String::new(alloc);
+    for _ in 0..10_000u32 {
+        match yaml_parser_parse(parser) {
+            Ok(event) if is_empty(&event) => break,
+            Ok(event) => show_event(&mut shown, &event)?,
+            Err(error) => {
+                show_fault(&mut shown, error, parser.prefix())?;
+                break;
+            }
+        }
+    }
+    if !is_over(parser) {
+        shown.push_str(" more")?;
+    }
+    Ok(shown)
+}
+
+/// What parsing a row gives.
+///
+/// Errors: those of `tokens_of`.
+pub fn parsed(alloc: Global, row: &str) -> Result<String> {
+    let mut parser = yaml_parser_initialize(alloc, source_of(alloc, row)?);
+    show_run(alloc, &mut parser)
+}

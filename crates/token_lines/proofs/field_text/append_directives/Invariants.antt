@@ -1,7 +1,0 @@
-use Rattle.std.proofs.Common.{◌≡◌, ◌++◌, string_bytes, take}
-use Rattle.token_lines.specs.FieldTexts.{behind_spaces, directive_texts}
-use Rattle.token_lines.proofs.field_text.append_directives.Given as goal
-
-abbrev pub invariant-loop-directive : goal.invariant-loop-directive
-invariant-loop-directive l =
-    string_bytes l.line ≡ string_bytes l.initial.line ++ behind_spaces (directive_texts (take l.directive-index l.directives))

@@ -1,0 +1,90 @@
+//! How many tokens a parser asks for before each event.
+
+ghost use Rattle.std.specs.Prelude.{◌≡◌, None, length};
+ghost use Rattle.unsafe_libyaml.specs.Source.{coming, list_answer, rest};
+ghost use Rattle.unsafe_libyaml.specs.ListLaws.{list_falls, list_repeats};
+
+use row_notation::{is_empty, source_of};
+use std::alloc::Global;
+use std::fmt::Write;
+use std::test::Fail;
+use unsafe_libyaml::{
+    yaml_list_source_t, yaml_parser_delete, yaml_parser_initialize, yaml_parser_parse,
+    yaml_source_fault_t, yaml_token_source_t, yaml_token_t,
+};
+
+/// A list source that doesn't make its list known, and counts how often it was asked.
+#[derive(Drop)]
+struct CountedSource {
+    list: yaml_list_source_t,
+    asked: u64,
+}
+
+impl yaml_token_source_t for CountedSource {
+    ghost bound = { λ s. length s.list.tokens };
+
+    ghost gives = { λ s answer t. (answer ≡ list_answer s.list.tokens s.list.fault) × (t.list ≡ coming (rest s.list.tokens) s.list.fault) };
+
+    ghost known = { λ _. None };
+
+    ghost may_break = { λ _. ⊥ };
+
+    ghost falls = { λ s t token h. list_falls s.list t.list token h };
+
+    ghost follows = { λ s t answer h. tt };
+
+    ghost repeats = { λ s t u fault answer h k. list_repeats s.list t.list u.list fault answer h k };
+
+    fn next_token(&mut self) -> Result<yaml_token_t, yaml_source_fault_t> {
+        self.asked = self.asked.wrapping_add(1);
+        self.list.next_token()
+    }
+}
+
+/// A row, the tokens asked for when each event came, and those asked for when the run had ended.
+const COUNTS: [(&str, &str, u64); 3] = [
+    ("STREAM-START SCALAR(a) STREAM-END", "1 2 2 3 3 ", 3),
+    (
+        "STREAM-START BLOCK-MAPPING-START KEY BLOCK-ENTRY BLOCK-END STREAM-END",
+        "1 2 2 4 5 5 5 5 6 6 ",
+        6,
+    ),
+    (
+        "STREAM-START ANCHOR(a) TAG(!e!,x) SCALAR(b) STREAM-END",
+        "1 2 ",
+        4,
+    ),
+];
+
+/// The tokens asked for by so many calls over a row, and whether the last of them gave an event.
+fn asked_by(alloc: Global, row: &str, calls: u64) -> Result<(u64, bool), Fail> {
+    let list = source_of(alloc, row)?;
+    let mut parser = yaml_parser_initialize(alloc, CountedSource { list, asked: 0 });
+    let mut gave = false;
+    for _ in 0..calls {
+        gave = match yaml_parser_parse(&mut parser) {
+            Ok(event) => !is_empty(&event),
+            Err(_) => false,
+        };
+    }
+    let source = yaml_parser_delete(parser);
+    Ok((source.asked, gave))
+}
+
+#[test]
+fn no_token_is_asked_for_early(rt: HostRuntime) -> Result<(), Fail> {
+    for (row, expected, in_all) in COUNTS {
+        let mut shown = String::new(rt.alloc());
+        for calls in 1..100u64 {
+            let (asked, gave) = asked_by(rt.alloc(), row, calls)?;
+            if !gave {
+                break;
+            }
+            write!(shown, "{asked} ")?;
+        }
+        assert_eq!(rt; shown.as_str(), expected, "{row}");
+        let (asked, _) = asked_by(rt.alloc(), row, 100)?;
+        assert_eq!(rt; asked, in_all, "{row}");
+    }
+    Ok(())
+}
