@@ -51,3 +51,4 @@ pub use Rattle.libyaml_graphs.specs.Loads
 pub use Rattle.libyaml_graphs.specs.Bounds
 pub use Rattle.libyaml_graphs.specs.GraphLaws
 pub use Rattle.libyaml_loader.specs.Loading
+pub use Rattle.libyaml_loader.specs.NextLoad
