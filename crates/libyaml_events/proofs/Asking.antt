@@ -3,8 +3,9 @@ use Rattle.std.proofs.Common.{◌≡◌, List, [], ◌∷◌, Ok, Err, Bool, ref
 use Rattle.libyaml_events.specs.Fault.{Answer}
 use Rattle.libyaml_events.specs.Tokens.{Token}
 use Rattle.libyaml_events.specs.Config.{Config}
+use Rattle.libyaml_events.specs.Growth.{may_grow}
 use Rattle.libyaml_events.specs.Machine.{Outcome, step}
-use Rattle.libyaml_events.specs.Calls.{EventOrError, Then, Calls, may_grow, RefusedAt, Refused}
+use Rattle.libyaml_events.specs.Calls.{EventOrError, Then, Calls, RefusedAt, Refused}
 use Rattle.libyaml_events.specs.History.{answers}
 use Rattle.libyaml_events.specs.declared.progress.Want.{Want}
 use Rattle.libyaml_events.specs.declared.progress.Progress.TheVariants.{Given, Wants}
@@ -42,7 +43,7 @@ refused_ask_on g (a ∷ rest) ih (Ok (Wants w, c)) h = ih w c h
 pub refused_ask : (a : List Answer) (w : Want) (c : Config) → Refused w c a → Asks w c a
 refused_ask [] w c h = tt
 refused_ask (Err f ∷ rest) w c h = absurd h
-refused_ask (Ok t ∷ rest) w c h = refused_ask_on (may_grow w c) rest (λ w' c'. refused_ask rest w' c') (step w c t) h
+refused_ask (Ok t ∷ rest) w c h = refused_ask_on (may_grow w c t.content) rest (λ w' c'. refused_ask rest w' c') (step w c t) h
 
 -- the answers before a refused growth are tokens
 pub record AreTokens (a : List Answer) : Type 0 where
@@ -61,4 +62,4 @@ refused_tokens_on g (a ∷ rest) ih (Ok (Wants w, c)) h = ih w c h
 pub refused_tokens : (a : List Answer) (w : Want) (c : Config) → Refused w c a → AreTokens a
 refused_tokens [] w c h = absurd h
 refused_tokens (Err f ∷ rest) w c h = absurd h
-refused_tokens (Ok t ∷ rest) w c h = one_more t rest (refused_tokens_on (may_grow w c) rest (λ w' c'. refused_tokens rest w' c') (step w c t) h)
+refused_tokens (Ok t ∷ rest) w c h = one_more t rest (refused_tokens_on (may_grow w c t.content) rest (λ w' c'. refused_tokens rest w' c') (step w c t) h)

@@ -8,9 +8,10 @@ use Rattle.libyaml_types.specs.declared.enums.yaml_error_type_t.TheVariants.{YAM
 use Rattle.libyaml_events.specs.Errors.{IsSourceError}
 use Rattle.libyaml_events.specs.Fault.{Answer}
 use Rattle.libyaml_events.specs.Config.{Config, Parser, taken, is_over}
+use Rattle.libyaml_events.specs.Growth.{may_grow}
 use Rattle.libyaml_events.specs.Machine.{step}
 use Rattle.libyaml_events.specs.Steps.{Steps}
-use Rattle.libyaml_events.specs.Calls.{EventOrError, Gave, held, Fetches, FetchesFrom, Then, Calls, may_grow, RefusedAt, Refused, Parses, ParsesIf, AreOfSource, Call}
+use Rattle.libyaml_events.specs.Calls.{EventOrError, Gave, held, Fetches, FetchesFrom, Then, Calls, RefusedAt, Refused, Parses, ParsesIf, AreOfSource, Call}
 use Rattle.libyaml_events.specs.declared.progress.Want.{Want}
 use Rattle.libyaml_events.specs.declared.progress.Want.TheVariants.{AtState}
 use Rattle.libyaml_events.specs.declared.progress.Progress.TheVariants.{Given, Wants}
@@ -46,7 +47,7 @@ pub record InHand {S : Type 0} (gives : S → Answer → S → Type 0) (first no
   pub gave : Gave gives first.source asked now.source
   pub of_source : AreOfSource asked
   pub goes_on : (rest : List Answer) (r : EventOrError) (new : Config) → Then (step w now.config t) (λ w' c'. Calls w' c' rest r new) rest r new → Calls AtState (taken first.config) (held first.config ++ (asked ++ rest)) r new
-  pub refuses_on : (rest : List Answer) → RefusedAt (may_grow w now.config) (step w now.config t) (λ w' c'. Refused w' c' rest) rest → Refused AtState (taken first.config) (held first.config ++ (asked ++ rest))
+  pub refuses_on : (rest : List Answer) → RefusedAt (may_grow w now.config t.content) (step w now.config t) (λ w' c'. Refused w' c' rest) rest → Refused AtState (taken first.config) (held first.config ++ (asked ++ rest))
 
 -- a growth refused at a later token
 refused_later : (grows : Bool) (w : Want) (c : Config) (rest : List Answer) → Refused w c rest → RefusedAt grows (Ok (Wants w, c)) (λ w' c'. Refused w' c' rest) rest
@@ -109,7 +110,7 @@ module _ {S : Type 0} (gives : S → Answer → S → Type 0) (first now : Parse
   }
 
   -- so does a fault of the grammar, or want of memory where the step may take some
-  pub gave_fault : (x : yaml_error_type_t) (new : Parser S) → Steps (step w now.config t) now (Err x) new → (x ≡ YAML_MEMORY_ERROR → may_grow w now.config ≡ true) → Call gives first (Err x) new
+  pub gave_fault : (x : yaml_error_type_t) (new : Parser S) → Steps (step w now.config t) now (Err x) new → (x ≡ YAML_MEMORY_ERROR → may_grow w now.config t.content ≡ true) → Call gives first (Err x) new
   gave_fault YAML_MEMORY_ERROR new h grows = record {
     asked = hand.asked;
     gave = rw h.1 hand.gave;
@@ -135,5 +136,5 @@ module _ {S : Type 0} (gives : S → Answer → S → Type 0) (first now : Parse
         gave = rw h.1 hand.gave;
         of_source = hand.of_source;
         goes_on = λ rest r end k. hand.goes_on rest r end (rw h.0 (subst (λ c. Calls w' c rest r end) (taken_same new.config none) (rw none at k)));
-        refuses_on = λ rest k. hand.refuses_on rest (rw h.0 (refused_later (may_grow w now.config) w' new.config rest (subst (λ c. Refused w' c rest) (taken_same new.config none) (rw none at k))));
+        refuses_on = λ rest k. hand.refuses_on rest (rw h.0 (refused_later (may_grow w now.config t.content) w' new.config rest (subst (λ c. Refused w' c rest) (taken_same new.config none) (rw none at k))));
       }

@@ -231,7 +231,7 @@ call_ends [] w c n e d h = absurd h
 call_ends (t ∷ l) w c n e d h = then_ends t l (call_ends l) (step w c t) (held_on c n t w t.content) e d h
 
 -- the token that is held comes first
-held_first : (o : Option Token) (more : List Token) → held_token o ++ answers more [] ≡ answers (tokens_in o ++ more) []
+pub held_first : (o : Option Token) (more : List Token) → held_token o ++ answers more [] ≡ answers (tokens_in o ++ more) []
 held_first None more = refl
 held_first (Some t) more = refl
 

@@ -263,8 +263,8 @@ module _ {S : Type 0} (gives_to : S → Answer → S → Type 0) (known : S → 
         go : FailsBy gives_to old new h.asked h.given → UnlessBroken MayBreak (Err x) new (IsLast to_come ending)
         go k = by k.cause
           where
-            by : Cause h.asked h.given k.more (kept_fault new) → UnlessBroken MayBreak (Err x) new (IsLast to_come ending)
-            by (of_memory l i j m) = no_memory (ap Err (kept ∙ ap (λ (y : Fault). y.error) m)) m
+            by : Cause old.config h.asked h.given k.more (kept_fault new) → UnlessBroken MayBreak (Err x) new (IsLast to_come ending)
+            by (of_memory l i j z m) = no_memory (ap Err (kept ∙ ap (λ (y : Fault). y.error) m)) m
             by (of_grammar l i j) =
                 let front = in_order l old.source new.source (subst (λ (y : List Answer). Gave gives_to old.source y new.source) i k.gave) h.rest h.fault h.knows in
                 does (cut_last to_come ending h l front.rest front.all j)

@@ -32,7 +32,10 @@ use Rattle.libyaml_events.proofs.Asking.{Asks, calls_ask, refused_ask, AreTokens
 use Rattle.libyaml_events.proofs.Calling.{Answered, gave, failed, faulted, call_answers, call_gives, ran_links, asks_stand, Starts, ready, holding, starts}
 use Rattle.libyaml_events.proofs.Needed.{open_there, standing_needs}
 use Rattle.libyaml_events.proofs.Staged.{Staged, call_staged, ran_staged, stage_snoc, staged_over, staged_whole, leads_to_end, refused_stage}
-use Rattle.libyaml_events.specs.Stages.{at_start, is_event, is_at_end, stage_of}
+use Rattle.libyaml_events.specs.Lookahead.{HoldsLast, tokens_held}
+use Rattle.libyaml_events.specs.Stages.{at_start, is_event, is_at_end, stage_of, takes_no_memory}
+use Rattle.libyaml_events.proofs.Held.{held_first, ran_holds}
+use Rattle.libyaml_events.proofs.Lists.{assoc}
 use Rattle.libyaml_events.specs.History.{is_stream_end}
 
 -- a call of a parser that has not ended
@@ -178,18 +181,18 @@ module _ {S : Type 0} (gives : S → Answer → S → Type 0) (old new : Parser 
       go true k = absurd (not_ok empty_event x k.1)
       go false k = refl
 
-  cause_of : (x : yaml_error_type_t) (asked : List Token) (g : List Event) (a : List Answer) → AreOfSource a → Staged old.config g → Links old.config asked g → is_over old.config ≡ false → CallsUnlessRefused AtState (taken old.config) (held old.config ++ a) (Err x) new.config → Cause asked g a new.config.fault
-  cause_of x asked g a s staged links begun (inr (h, m)) = by_tokens (refused_rest (starts old.config asked g links begun) h)
+  cause_of : (x : yaml_error_type_t) (asked : List Token) (g : List Event) (a : List Answer) → HoldsLast old asked → AreOfSource a → Staged old.config g → Links old.config asked g → is_over old.config ≡ false → CallsUnlessRefused AtState (taken old.config) (held old.config ++ a) (Err x) new.config → Cause old.config asked g a new.config.fault
+  cause_of x asked g a holds s staged links begun (inr (h, m)) = by_tokens (refused_rest (starts old.config asked g links begun) h)
     where
-      by_tokens : AreTokens a → Cause asked g a new.config.fault
-      by_tokens t = of_memory t.tokens t.are (refused_stage old.config g staged (held old.config ++ a) h) m
+      by_tokens : AreTokens a → Cause old.config asked g a new.config.fault
+      by_tokens t = of_memory t.tokens t.are (ap (takes_no_memory (stage_of g)) (ap (λ (l : List Token). l ++ t.tokens) holds.all_tokens ∙ assoc holds.before (tokens_held old) t.tokens) ∙ refused_stage old.config g staged holds.before (tokens_held old ++ t.tokens) (subst (Refused AtState (taken old.config)) (held_first old.config.lookahead t.tokens) (subst (λ (y : List Answer). Refused AtState (taken old.config) (held old.config ++ y)) t.are h))) h m
 
       refused_rest : Starts old.config asked g → Refused AtState (taken old.config) (held old.config ++ a) → AreTokens a
       refused_rest (ready e k) z = refused_tokens a AtState (taken old.config) (subst (λ (y : List Answer). Refused AtState (taken old.config) (y ++ a)) e z)
       refused_rest (holding u e k) z = tokens_behind u a (refused_tokens (Ok u ∷ a) AtState (taken old.config) (subst (λ (y : List Answer). Refused AtState (taken old.config) (y ++ a)) e z))
-  cause_of x asked g a s staged links begun (inl h) = go (call_answers old.config asked g links begun a (Err x) new.config h)
+  cause_of x asked g a holds s staged links begun (inl h) = go (call_answers old.config asked g links begun a (Err x) new.config h)
     where
-      go : Answered (Err x) new.config asked a g → Cause asked g a new.config.fault
+      go : Answered (Err x) new.config asked a g → Cause old.config asked g a new.config.fault
       go (gave more e i j k) = absurd (not_ok e x j)
       go (failed more i j k) = of_grammar more i (has_failed (asked ++ more) g new.config.fault k)
       go (faulted more w c i j k) = of_source more i (source_error more new.config.fault (subst AreOfSource i s)) (stops_short (asked ++ more) g w c k)
@@ -202,7 +205,7 @@ module _ {S : Type 0} (gives : S → Answer → S → Type 0) (old new : Parser 
         more = call.asked;
         gave = call.gave;
         needed = each_needed old.config asked g call.asked (Err x) new.config (ran_links ran) begun does;
-        cause = cause_of x asked g call.asked call.of_source (ran_staged ran) (ran_links ran) begun does;
+        cause = cause_of x asked g call.asked (ran_holds old asked g ran) call.of_source (ran_staged ran) (ran_links ran) begun does;
       }
 
   pub failed_by : (r : EventOrError) → Call gives old r new → IfErr r (λ x. (asked : List Token) (g : List Event) → History old asked g → FailsBy gives old new asked g)

@@ -14,7 +14,8 @@ use Rattle.libyaml_events.specs.Config.{Config, Parser, below, is_over, keep, po
 use Rattle.libyaml_events.specs.Order.{is_version}
 use Rattle.libyaml_events.specs.Machine as mach
 use Rattle.libyaml_events.specs.Machine.{Outcome, step, close, give, give_at, may_open, first_version, version_directive, further_document_end, anchor_behind, tag_behind, content_behind, content_resolved, node_content, no_content, parse_node, explicit_document, parse_implicit_document_start, parse_document_start, behind_properties, at_state, machine, resolve}
-use Rattle.libyaml_events.specs.Calls.{EventOrError, Calls, CallsUnlessRefused, Call, Parses, ParsesIf, Refused, RefusedAt, Then, held, may_grow}
+use Rattle.libyaml_events.specs.Growth.{may_grow, may_grow_at}
+use Rattle.libyaml_events.specs.Calls.{EventOrError, Calls, CallsUnlessRefused, Call, Parses, ParsesIf, Refused, RefusedAt, Then, held}
 use Rattle.libyaml_events.specs.History.{History, Ran}
 use Rattle.libyaml_events.specs.Pops.{raised, PopsNothingBelow}
 use Rattle.libyaml_events.specs.Stages.{Stage, stage_of}
@@ -272,14 +273,18 @@ module _ (ss : List yaml_parser_state_t) (ms : List Mark) where
   same_refused_at b (a ∷ rest) c st ih (Ok (Wants w, c')) g m z = ih w c' g.2 g.0 m z
   same_refused_at b (a ∷ rest) c st ih (Ok (Given e, c')) g m z = absurd z
 
-  same_growth : (w : Want) (c : Config) → may_grow w c ≡ may_grow w (raised ss ms c)
-  same_growth AtState c = refl
-  same_growth _ c = refl
+  same_growth_at : (s : yaml_parser_state_t) (c : Config) (k : Content) → may_grow_at s c k ≡ may_grow_at s (raised ss ms c) k
+  same_growth_at YAML_PARSE_IMPLICIT_DOCUMENT_START_STATE c k = refl
+  same_growth_at _ c k = refl
+
+  same_growth : (w : Want) (c : Config) (k : Content) → may_grow w c k ≡ may_grow w (raised ss ms c) k
+  same_growth AtState c k = same_growth_at c.state c k
+  same_growth _ c k = refl
 
   same_refusals : (a : List Answer) (st : Stage) → SameRefusals a st
   same_refusals [] st w c n g m z = absurd z
   same_refusals (Err f ∷ rest) st w c n g m z = absurd z
-  same_refusals (Ok t ∷ rest) st w c n g m z = subst (λ (b : Bool). RefusedAt b (step w (raised ss ms c) t) (λ w' c'. Refused w' c' rest) rest) (same_growth w c) (subst (λ (o : Outcome). RefusedAt (may_grow w c) o (λ w' c'. Refused w' c' rest) rest) (sym (raised_on st c w t t.content g m)) (same_refused_at (may_grow w c) rest c st (same_refusals rest st) (step w c t) (good_on st c n w t t.content g) (marked_on c w t t.content m) z))
+  same_refusals (Ok t ∷ rest) st w c n g m z = subst (λ (b : Bool). RefusedAt b (step w (raised ss ms c) t) (λ w' c'. Refused w' c' rest) rest) (same_growth w c t.content) (subst (λ (o : Outcome). RefusedAt (may_grow w c t.content) o (λ w' c'. Refused w' c' rest) rest) (sym (raised_on st c w t t.content g m)) (same_refused_at (may_grow w c t.content) rest c st (same_refusals rest st) (step w c t) (good_on st c n w t t.content g) (marked_on c w t t.content m) z))
 
   same_unless_refused : (a : List Answer) (r : EventOrError) (d c : Config) (st : Stage) → c.lookahead ≡ None → Good AtState c st → IsMarked AtState c → CallsUnlessRefused AtState c a r d → CallsUnlessRefused AtState (raised ss ms c) a r (raised ss ms d)
   same_unless_refused a (Ok e) d c st n g m z = same_calls a (Ok e) d st AtState c n g m z

@@ -1,8 +1,13 @@
 -- What the stage of a parser's events says of it.
-use Rattle.std.proofs.Common.{◌≡◌, ◌≤◌, ◌||◌, ℕ, zero, suc, arith, List, [], ◌∷◌, ◌++◌, length, Option, Some, None, true, false, Ok, Err, refl, sym, ap, ◌∙◌, subst}
+use Rattle.std.proofs.Common.{◌≡◌, ◌≤◌, ◌||◌, ◌⊎◌, inl, inr, Bool, ℕ, zero, suc, arith, List, [], ◌∷◌, ◌++◌, length, Option, Some, None, true, false, Ok, Err, refl, sym, ap, ◌∙◌, subst}
 use Rattle.libyaml_types.specs.declared.event.unnamed_yaml_event_t_data.{unnamed_yaml_event_t_data}
 use Rattle.libyaml_types.specs.declared.event.unnamed_yaml_event_t_data.TheVariants as ev
-use Rattle.libyaml_events.specs.Machine.{Outcome, step, parse_stream_start, parse_document_end, at_state}
+use Rattle.std.specs.FinMap.{get}
+use Rattle.libyaml_types.specs.declared.directive.yaml_tag_directive_t.{yaml_tag_directive_t}
+use Rattle.libyaml_types.specs.declared.directive.yaml_version_directive_t.{yaml_version_directive_t}
+use Rattle.libyaml_events.specs.Order.{is_version}
+use Rattle.libyaml_events.specs.declared.progress.DirectivesRead.{DirectivesRead}
+use Rattle.libyaml_events.specs.Machine.{Outcome, step, first_version, version_directive, tag_directive, explicit_document, further_document_end, parse_implicit_document_start, parse_document_start, no_directives, parse_stream_start, parse_document_end, at_state}
 use Rattle.libyaml_events.specs.FaultTexts.{no_fault, zero_mark}
 use Rattle.libyaml_events.specs.Config.{Config, taken, is_fault, is_end, is_over, is_between}
 use Rattle.libyaml_events.specs.Trees.{behind, whole}
@@ -13,16 +18,18 @@ use Rattle.libyaml_events.specs.CutTrees.{open_collection}
 use Rattle.libyaml_events.specs.Calls.{held}
 use Rattle.libyaml_events.proofs.Lists.{nil_right}
 use Rattle.libyaml_events.specs.Reading.{reads_all, goes}
-use Rattle.libyaml_events.specs.Stages.{Stage, at_start, before_root, within, after, is_event, is_outside, is_at_end, stage_from, stage_of, open_collections, takes_no_memory}
+use Rattle.libyaml_events.specs.Stages.{Stage, at_start, before_root, within, after, is_event, is_outside, is_at_end, stage_from, stage_of, open_collections, is_quiet, ends_quietly, takes_no_memory}
 use Rattle.libyaml_events.specs.Events.{events}
 use Rattle.libyaml_events.specs.Fault.{Answer, Fault}
-use Rattle.libyaml_events.specs.Tokens.{Content, DocumentEnd, StreamStart, Token}
+use Rattle.libyaml_events.specs.Tokens.{Content, DocumentEnd, DocumentStart, Mark, StreamEnd, StreamStart, TagDirective, Token, VersionDirective}
 use Rattle.libyaml_events.specs.Trees.{FlowMember, Stream, free, key, mapping, no_parts, no_value, pair, part, sequence, single, value, with_value}
 use Rattle.libyaml_events.specs.Events.{Event, document_end_event, stream_end_event}
 use Rattle.libyaml_events.specs.CutTrees.{Open, Place, block, entry, explicit_root, flow_entry, flow_key, flow_value, implicit_root, indentless_entry, part_place, root, slot}
 use Rattle.libyaml_events.specs.Rest.{rest}
 use Rattle.libyaml_events.specs.Positions.{Position, between, done, due, flow_behind, flow_due, flow_keyed, headed, in_indentless, in_mapping, in_sequence, shown, unopened}
-use Rattle.libyaml_events.specs.Calls.{Calls, EventOrError, Refused, RefusedAt, Then, may_grow_at}
+use Rattle.libyaml_events.specs.Calls.{Calls, EventOrError, Refused, RefusedAt, Then}
+use Rattle.libyaml_events.specs.Growth.{grows_at_directive, grows_at_document, may_grow, may_grow_at}
+use Rattle.libyaml_events.proofs.CallsInTurn.{stage_more}
 use Rattle.libyaml_events.proofs.Completion.{read_order}
 use Rattle.libyaml_events.proofs.Follow.{more}
 use Rattle.libyaml_events.proofs.Giving.{shown_given}
@@ -32,7 +39,7 @@ use Rattle.libyaml_events.proofs.Orders.{reads_to}
 use Rattle.libyaml_events.proofs.Splits.{position_splits}
 use Rattle.libyaml_events.proofs.Stand.{Links, amid_token, at_position}
 use Rattle.libyaml_events.specs.declared.progress.Want.{Want}
-use Rattle.libyaml_events.specs.declared.progress.Want.TheVariants.{AtState}
+use Rattle.libyaml_events.specs.declared.progress.Want.TheVariants.{AtState, BehindDirective}
 use Rattle.libyaml_events.specs.declared.progress.Progress.TheVariants.{Given, Wants}
 use Rattle.libyaml_types.specs.declared.enums.yaml_parser_state_t.TheVariants.{YAML_PARSE_BLOCK_MAPPING_KEY_STATE, YAML_PARSE_BLOCK_MAPPING_VALUE_STATE, YAML_PARSE_BLOCK_NODE_OR_INDENTLESS_SEQUENCE_STATE, YAML_PARSE_BLOCK_NODE_STATE, YAML_PARSE_BLOCK_SEQUENCE_ENTRY_STATE, YAML_PARSE_DOCUMENT_CONTENT_STATE, YAML_PARSE_DOCUMENT_END_STATE, YAML_PARSE_DOCUMENT_START_STATE, YAML_PARSE_END_STATE, YAML_PARSE_FLOW_MAPPING_EMPTY_VALUE_STATE, YAML_PARSE_FLOW_MAPPING_KEY_STATE, YAML_PARSE_FLOW_MAPPING_VALUE_STATE, YAML_PARSE_FLOW_NODE_STATE, YAML_PARSE_FLOW_SEQUENCE_ENTRY_MAPPING_END_STATE, YAML_PARSE_FLOW_SEQUENCE_ENTRY_MAPPING_KEY_STATE, YAML_PARSE_FLOW_SEQUENCE_ENTRY_MAPPING_VALUE_STATE, YAML_PARSE_FLOW_SEQUENCE_ENTRY_STATE, YAML_PARSE_IMPLICIT_DOCUMENT_START_STATE, YAML_PARSE_INDENTLESS_SEQUENCE_ENTRY_STATE, YAML_PARSE_STREAM_START_STATE}
 use Rattle.libyaml_types.specs.declared.enums.yaml_parser_state_t.{yaml_parser_state_t}
@@ -307,21 +314,108 @@ leads_to_end st e h = go e.content st h
     go ev.MappingEnd (within (suc n)) h = refl
     go ev.MappingEnd st h = h
 
--- where the next event takes no memory
-due_takes : (ss : List yaml_parser_state_t) (st : Stage) → NodeDue ss st → takes_no_memory st ≡ false
-due_takes [] st h = absurd h
-due_takes (YAML_PARSE_DOCUMENT_END_STATE ∷ ss) st h = ap takes_no_memory h.1
-due_takes (YAML_PARSE_BLOCK_SEQUENCE_ENTRY_STATE ∷ ss) st h = ap takes_no_memory h.1
-due_takes (YAML_PARSE_INDENTLESS_SEQUENCE_ENTRY_STATE ∷ ss) st h = ap takes_no_memory h.1
-due_takes (YAML_PARSE_BLOCK_MAPPING_KEY_STATE ∷ ss) st h = ap takes_no_memory h.1
-due_takes (YAML_PARSE_BLOCK_MAPPING_VALUE_STATE ∷ ss) st h = ap takes_no_memory h.1
-due_takes (YAML_PARSE_FLOW_SEQUENCE_ENTRY_STATE ∷ ss) st h = ap takes_no_memory h.1
-due_takes (YAML_PARSE_FLOW_SEQUENCE_ENTRY_MAPPING_VALUE_STATE ∷ ss) st h = ap takes_no_memory h.1
-due_takes (YAML_PARSE_FLOW_SEQUENCE_ENTRY_MAPPING_END_STATE ∷ ss) st h = ap takes_no_memory h.1
-due_takes (YAML_PARSE_FLOW_MAPPING_KEY_STATE ∷ ss) st h = ap takes_no_memory h.1
-due_takes (YAML_PARSE_FLOW_MAPPING_VALUE_STATE ∷ ss) st h = ap takes_no_memory h.1
-due_takes (YAML_PARSE_FLOW_MAPPING_EMPTY_VALUE_STATE ∷ ss) st h = ap takes_no_memory h.1
-due_takes (s ∷ ss) st h = absurd h
+-- where a call takes no memory
+due_takes : (ss : List yaml_parser_state_t) (st : Stage) (l : List Token) → NodeDue ss st → takes_no_memory st l ≡ false
+due_takes [] st l h = absurd h
+due_takes (YAML_PARSE_DOCUMENT_END_STATE ∷ ss) st l h = ap (λ (x : Stage). takes_no_memory x l) h.1
+due_takes (YAML_PARSE_BLOCK_SEQUENCE_ENTRY_STATE ∷ ss) st l h = ap (λ (x : Stage). takes_no_memory x l) h.1
+due_takes (YAML_PARSE_INDENTLESS_SEQUENCE_ENTRY_STATE ∷ ss) st l h = ap (λ (x : Stage). takes_no_memory x l) h.1
+due_takes (YAML_PARSE_BLOCK_MAPPING_KEY_STATE ∷ ss) st l h = ap (λ (x : Stage). takes_no_memory x l) h.1
+due_takes (YAML_PARSE_BLOCK_MAPPING_VALUE_STATE ∷ ss) st l h = ap (λ (x : Stage). takes_no_memory x l) h.1
+due_takes (YAML_PARSE_FLOW_SEQUENCE_ENTRY_STATE ∷ ss) st l h = ap (λ (x : Stage). takes_no_memory x l) h.1
+due_takes (YAML_PARSE_FLOW_SEQUENCE_ENTRY_MAPPING_VALUE_STATE ∷ ss) st l h = ap (λ (x : Stage). takes_no_memory x l) h.1
+due_takes (YAML_PARSE_FLOW_SEQUENCE_ENTRY_MAPPING_END_STATE ∷ ss) st l h = ap (λ (x : Stage). takes_no_memory x l) h.1
+due_takes (YAML_PARSE_FLOW_MAPPING_KEY_STATE ∷ ss) st l h = ap (λ (x : Stage). takes_no_memory x l) h.1
+due_takes (YAML_PARSE_FLOW_MAPPING_VALUE_STATE ∷ ss) st l h = ap (λ (x : Stage). takes_no_memory x l) h.1
+due_takes (YAML_PARSE_FLOW_MAPPING_EMPTY_VALUE_STATE ∷ ss) st l h = ap (λ (x : Stage). takes_no_memory x l) h.1
+due_takes (s ∷ ss) st l h = absurd h
+
+-- outside a document a call stays there until it gives an event
+abbrev IsOutsideAt : yaml_parser_state_t → Type 0
+IsOutsideAt s = (s ≡ YAML_PARSE_IMPLICIT_DOCUMENT_START_STATE) ⊎ (s ≡ YAML_PARSE_DOCUMENT_START_STATE)
+
+abbrev IsOutside : Want → Config → Type 0
+IsOutside AtState c = IsOutsideAt c.state
+IsOutside (BehindDirective d) c = Unit {0}
+IsOutside _ c = ⊥
+
+abbrev StaysOutside : Outcome → Type 0
+StaysOutside (Err f) = Unit {0}
+StaysOutside (Ok (Given e, c)) = Unit {0}
+StaysOutside (Ok (Wants w, c)) = IsOutside w c
+
+version_stays : (v : Option yaml_version_directive_t) (d : DirectivesRead) (c : Config) (m : Mark) (x : yaml_version_directive_t) → StaysOutside (version_directive v d c m x)
+version_stays (Some earlier) d c m x = tt
+version_stays None d c m x = go (is_version x.major x.minor)
+  where
+    go : (b : Bool) → StaysOutside (first_version b d c m x)
+    go true = tt
+    go false = tt
+
+tag_stays : (o : Option (List ℕ)) (d : DirectivesRead) (c : Config) (m : Mark) (x : yaml_tag_directive_t) → StaysOutside (tag_directive o d c m x)
+tag_stays (Some earlier) d c m x = tt
+tag_stays None d c m x = tt
+
+explicit_stays : (d : DirectivesRead) (c : Config) (t : Token) (k : Content) → StaysOutside (explicit_document d c t k)
+explicit_stays d c t (VersionDirective v) = version_stays d.version d c t.start_mark (record { major = v.major; minor = v.minor })
+explicit_stays d c t (TagDirective g) = tag_stays (get c.handles g.handle) d c t.start_mark (record { handle = g.handle; prefix = g.prefix })
+explicit_stays d c t DocumentStart = tt
+explicit_stays d c t _ = tt
+
+further_stays : (b : Bool) (c : Config) (t : Token) → IsOutsideAt c.state → StaysOutside (further_document_end b c t)
+further_stays true c t o = o
+further_stays false c t o = tt
+
+implicit_stays : (c : Config) (t : Token) (k : Content) → IsOutsideAt c.state → StaysOutside (parse_implicit_document_start c t k)
+implicit_stays c t StreamEnd o = tt
+implicit_stays c t (VersionDirective v) o = explicit_stays (no_directives t.start_mark) c t (VersionDirective v)
+implicit_stays c t (TagDirective g) o = explicit_stays (no_directives t.start_mark) c t (TagDirective g)
+implicit_stays c t DocumentStart o = tt
+implicit_stays c t DocumentEnd o = further_stays c.has_ended c t o
+implicit_stays c t _ o = tt
+
+start_stays : (c : Config) (t : Token) (k : Content) → StaysOutside (parse_document_start c t k)
+start_stays c t StreamEnd = tt
+start_stays c t k = explicit_stays (no_directives t.start_mark) c t k
+
+stays_outside : (w : Want) (c : Config) (t : Token) → IsOutside w c → StaysOutside (step w c t)
+stays_outside AtState c t (inl e) = subst (λ (s : yaml_parser_state_t). StaysOutside (at_state s c t t.content)) (sym e) (implicit_stays c t t.content (inl e))
+stays_outside AtState c t (inr e) = subst (λ (s : yaml_parser_state_t). StaysOutside (at_state s c t t.content)) (sym e) (start_stays c t t.content)
+stays_outside (BehindDirective d) c t o = explicit_stays d c t t.content
+stays_outside _ c t o = absurd o
+
+-- and there no memory is taken at the stream's end or at a version
+document_grows : (has_ended : Bool) (k : Content) → grows_at_document has_ended k ≡ true → is_quiet k ≡ false
+document_grows b StreamEnd h = absurd cc
+document_grows b (VersionDirective v) h = absurd cc
+document_grows b _ h = refl
+
+directive_grows : (k : Content) → grows_at_directive k ≡ true → is_quiet k ≡ false
+directive_grows StreamEnd h = absurd cc
+directive_grows (VersionDirective v) h = absurd cc
+directive_grows _ h = refl
+
+outside_grows : (w : Want) (c : Config) (k : Content) → IsOutside w c → may_grow w c k ≡ true → is_quiet k ≡ false
+outside_grows AtState c k (inl e) h = document_grows c.has_ended k (sym (ap (λ (s : yaml_parser_state_t). may_grow_at s c k) e) ∙ h)
+outside_grows AtState c k (inr e) h = directive_grows k (sym (ap (λ (s : yaml_parser_state_t). may_grow_at s c k) e) ∙ h)
+outside_grows (BehindDirective d) c k o h = directive_grows k h
+outside_grows _ c k o h = absurd o
+
+not_quiet : (l : List Token) (w : Want) (c : Config) → IsOutside w c → Refused w c (answers l []) → ends_quietly l ≡ false
+not_quiet [] w c o h = absurd h
+not_quiet (t ∷ []) w c o h = outside_grows w c t.content o h
+not_quiet (t ∷ u ∷ l) w c o h = go (λ v d s z. not_quiet (u ∷ l) v d s z) (step w c t) (stays_outside w c t o) h
+  where
+    go : ((v : Want) (d : Config) → IsOutside v d → Refused v d (answers (u ∷ l) []) → ends_quietly (u ∷ l) ≡ false) → (x : Outcome) → StaysOutside x → RefusedAt (may_grow w c t.content) x (λ w' c'. Refused w' c' (answers (u ∷ l) [])) (answers (u ∷ l) []) → ends_quietly (u ∷ l) ≡ false
+    go ih (Err f) s z = absurd z
+    go ih (Ok (Given e, d)) s z = absurd z
+    go ih (Ok (Wants v, d)) s z = ih v d s z
+
+-- the last token is that of the end of the list
+quiet_behind : (a : List Token) (t : Token) (l : List Token) → ends_quietly (a ++ t ∷ l) ≡ ends_quietly (t ∷ l)
+quiet_behind [] t l = refl
+quiet_behind (x ∷ []) t l = refl
+quiet_behind (x ∷ y ∷ a) t l = quiet_behind (y ∷ a) t l
 
 refused_start : (c : Config) (t : Token) (k : Content) (More : Want → Config → Type 0) (rest : List Answer) → RefusedAt false (parse_stream_start c t k) More rest → ⊥
 refused_start c t k More [] h = absurd cc
@@ -333,32 +427,27 @@ refused_end c t k More [] h = absurd cc
 refused_end c t DocumentEnd More (x ∷ rest) h = h
 refused_end c t k More (x ∷ rest) h = h
 
-refused_at : (s : yaml_parser_state_t) (ss : List yaml_parser_state_t) (l : Option Token) (st : Stage) → GoodAt s ss l st → (c : Config) (t : Token) (k : Content) (More : Want → Config → Type 0) (rest : List Answer) → RefusedAt (may_grow_at s) (at_state s c t k) More rest → takes_no_memory st ≡ false
-refused_at YAML_PARSE_STREAM_START_STATE ss l st g c t k More rest h = absurd (refused_start c t k More rest h)
-refused_at YAML_PARSE_DOCUMENT_END_STATE ss l st g c t k More rest h = absurd (refused_end c t k More rest h)
-refused_at YAML_PARSE_IMPLICIT_DOCUMENT_START_STATE ss l st g c t k More rest h = ap takes_no_memory g.1
-refused_at YAML_PARSE_DOCUMENT_START_STATE ss l st g c t k More rest h = ap takes_no_memory g.1
-refused_at YAML_PARSE_DOCUMENT_CONTENT_STATE ss l st g c t k More rest h = due_takes ss st g
-refused_at YAML_PARSE_BLOCK_NODE_STATE ss l st g c t k More rest h = due_takes ss st g
-refused_at YAML_PARSE_BLOCK_NODE_OR_INDENTLESS_SEQUENCE_STATE ss l st g c t k More rest h = due_takes ss st g
-refused_at YAML_PARSE_FLOW_NODE_STATE ss l st g c t k More rest h = due_takes ss st g
-refused_at YAML_PARSE_FLOW_SEQUENCE_ENTRY_MAPPING_KEY_STATE ss l st g c t k More rest h = ap takes_no_memory g.1
-refused_at YAML_PARSE_FLOW_SEQUENCE_ENTRY_MAPPING_VALUE_STATE ss l st g c t k More rest h = ap takes_no_memory g.1
-refused_at YAML_PARSE_FLOW_SEQUENCE_ENTRY_MAPPING_END_STATE ss l st g c t k More rest h = ap takes_no_memory g.1
-refused_at YAML_PARSE_END_STATE ss l st g c t k More rest h = ap takes_no_memory g.1
-refused_at _ ss l st g c t k More rest h = ap takes_no_memory g.1
+refused_at : (s : yaml_parser_state_t) (ss : List yaml_parser_state_t) (o : Option Token) (st : Stage) → GoodAt s ss o st → (c : Config) (t : Token) (k : Content) (More : Want → Config → Type 0) (rest : List Answer) → RefusedAt (may_grow_at s c k) (at_state s c t k) More rest → (l : List Token) → (IsOutsideAt s → ends_quietly l ≡ false) → takes_no_memory st l ≡ false
+refused_at YAML_PARSE_STREAM_START_STATE ss o st g c t k More rest h l q = absurd (refused_start c t k More rest h)
+refused_at YAML_PARSE_DOCUMENT_END_STATE ss o st g c t k More rest h l q = absurd (refused_end c t k More rest h)
+refused_at YAML_PARSE_IMPLICIT_DOCUMENT_START_STATE ss o st g c t k More rest h l q = ap (λ (x : Stage). takes_no_memory x l) g.1 ∙ q (inl refl)
+refused_at YAML_PARSE_DOCUMENT_START_STATE ss o st g c t k More rest h l q = ap (λ (x : Stage). takes_no_memory x l) g.1 ∙ q (inr refl)
+refused_at YAML_PARSE_DOCUMENT_CONTENT_STATE ss o st g c t k More rest h l q = due_takes ss st l g
+refused_at YAML_PARSE_BLOCK_NODE_STATE ss o st g c t k More rest h l q = due_takes ss st l g
+refused_at YAML_PARSE_BLOCK_NODE_OR_INDENTLESS_SEQUENCE_STATE ss o st g c t k More rest h l q = due_takes ss st l g
+refused_at YAML_PARSE_FLOW_NODE_STATE ss o st g c t k More rest h l q = due_takes ss st l g
+refused_at YAML_PARSE_FLOW_SEQUENCE_ENTRY_MAPPING_KEY_STATE ss o st g c t k More rest h l q = ap (λ (x : Stage). takes_no_memory x l) g.1
+refused_at YAML_PARSE_FLOW_SEQUENCE_ENTRY_MAPPING_VALUE_STATE ss o st g c t k More rest h l q = ap (λ (x : Stage). takes_no_memory x l) g.1
+refused_at YAML_PARSE_FLOW_SEQUENCE_ENTRY_MAPPING_END_STATE ss o st g c t k More rest h l q = ap (λ (x : Stage). takes_no_memory x l) g.1
+refused_at YAML_PARSE_END_STATE ss o st g c t k More rest h l q = ap (λ (x : Stage). takes_no_memory x l) g.1
+refused_at _ ss o st g c t k More rest h l q = ap (λ (x : Stage). takes_no_memory x l) g.1
 
--- a growth is refused only where the next event may take memory
-pub refused_stage : (c : Config) (g : List Event) → Staged c g → (a : List Answer) → Refused AtState (taken c) a → takes_no_memory (stage_of g) ≡ false
-refused_stage c g h [] z = absurd z
-refused_stage c g h (Err f ∷ rest) z = absurd z
-refused_stage c g h (Ok t ∷ rest) z = refused_at c.state c.states c.lookahead (stage_of g) h.good (taken c) t t.content (λ w' c'. Refused w' c' rest) rest z
+-- a growth is refused only where the call may take memory
+pub refused_stage : (c : Config) (g : List Event) → Staged c g → (before l : List Token) → Refused AtState (taken c) (answers l []) → takes_no_memory (stage_of g) (before ++ l) ≡ false
+refused_stage c g h before [] z = absurd z
+refused_stage c g h before (t ∷ l) z = refused_at c.state c.states c.lookahead (stage_of g) h.good (taken c) t t.content (λ w' c'. Refused w' c' (answers l [])) (answers l []) z (before ++ t ∷ l) (λ o. quiet_behind before t l ∙ not_quiet (t ∷ l) AtState (taken c) o z)
 
 -- a tree's events lead to the end
-pub stage_append : (st : Stage) (a b : List Event) → stage_from st (a ++ b) ≡ stage_from (stage_from st a) b
-stage_append st [] b = refl
-stage_append st (x ∷ a) b = stage_append (after st x.content) a b
-
 pub tree_ends : (t : Stream) → is_at_end (stage_of (events t)) ≡ true
-tree_ends (whole (free f) m) = ap (λ (l : List Event). is_at_end (stage_of l)) (position_splits (between (free f)) m.start (stream_end_event m.start m.end ∷ [])) ∙ ap is_at_end (stage_append at_start (shown (between (free f)) m.start []) (stream_end_event m.start m.end ∷ []))
-tree_ends (whole (behind d) m) = ap (λ (l : List Event). is_at_end (stage_of l)) (position_splits (between (behind d)) m.start (document_end_event true m.start m.start ∷ stream_end_event m.start m.end ∷ [])) ∙ ap is_at_end (stage_append at_start (shown (between (behind d)) m.start []) (document_end_event true m.start m.start ∷ stream_end_event m.start m.end ∷ []))
+tree_ends (whole (free f) m) = ap (λ (l : List Event). is_at_end (stage_of l)) (position_splits (between (free f)) m.start (stream_end_event m.start m.end ∷ [])) ∙ ap is_at_end (stage_more at_start (shown (between (free f)) m.start []) (stream_end_event m.start m.end ∷ []))
+tree_ends (whole (behind d) m) = ap (λ (l : List Event). is_at_end (stage_of l)) (position_splits (between (behind d)) m.start (document_end_event true m.start m.start ∷ stream_end_event m.start m.end ∷ [])) ∙ ap is_at_end (stage_more at_start (shown (between (behind d)) m.start []) (document_end_event true m.start m.start ∷ stream_end_event m.start m.end ∷ []))

@@ -4,13 +4,12 @@ use Rattle.libyaml_types.specs.declared.token.yaml_token_t.{yaml_token_t}
 use Rattle.libyaml_types.specs.declared.event.yaml_event_t.{yaml_event_t}
 use Rattle.libyaml_types.specs.declared.event.unnamed_yaml_event_t_data.TheVariants.{NoEvent}
 use Rattle.libyaml_types.specs.declared.enums.yaml_error_type_t.{yaml_error_type_t}
-use Rattle.libyaml_types.specs.declared.enums.yaml_parser_state_t.{yaml_parser_state_t}
-use Rattle.libyaml_types.specs.declared.enums.yaml_parser_state_t.TheVariants.{YAML_PARSE_STREAM_START_STATE, YAML_PARSE_DOCUMENT_END_STATE}
 use Rattle.libyaml_events.specs.Fault.{Answer}
 use Rattle.libyaml_events.specs.FaultTexts.{zero_mark, memory_fault}
 use Rattle.libyaml_events.specs.Errors.{IsSourceError}
 use Rattle.libyaml_events.specs.Config.{Config, Parser, with_config, with_fault, taken, is_over}
 use Rattle.libyaml_events.specs.Events.{event}
+use Rattle.libyaml_events.specs.Growth.{may_grow}
 use Rattle.libyaml_events.specs.Machine.{Outcome, step}
 use Rattle.libyaml_events.specs.declared.progress.Want.{Want}
 use Rattle.libyaml_events.specs.declared.progress.Want.TheVariants.{AtState}
@@ -54,27 +53,21 @@ Calls w c [] r new = ⊥
 Calls w c (Err f ∷ rest) r new = (rest ≡ []) × (r ≡ Err f.error) × (new ≡ with_fault c f)
 Calls w c (Ok t ∷ rest) r new = Then (step w c t) (λ w' c'. Calls w' c' rest r new) rest r new
 
--- the parser's own growth: none at the stream's start and at a document's end
-abbrev pub may_grow_at : yaml_parser_state_t → Bool
-may_grow_at YAML_PARSE_STREAM_START_STATE = false
-may_grow_at YAML_PARSE_DOCUMENT_END_STATE = false
-may_grow_at _ = true
-
-abbrev pub may_grow : Want → Config → Bool
-may_grow AtState c = may_grow_at c.state
-may_grow _ c = true
-
 abbrev pub RefusedAt : (grows : Bool) → Outcome → (Want → Config → Type 0) → List Answer → Type 0
 RefusedAt grows out More [] = grows ≡ true
 RefusedAt grows (Err f) More (a ∷ rest) = ⊥
 RefusedAt grows (Ok (Given e, c)) More (a ∷ rest) = ⊥
 RefusedAt grows (Ok (Wants w, c)) More (a ∷ rest) = More w c
 
--- a call that looks at exactly these answers and meets a refused growth at the last
+-- a call that looks at exactly these answers and meets a refused growth at the last, where that step may take memory
 abbrev pub Refused : Want → Config → List Answer → Type 0
 Refused w c [] = ⊥
 Refused w c (Err f ∷ rest) = ⊥
-Refused w c (Ok t ∷ rest) = RefusedAt (may_grow w c) (step w c t) (λ w' c'. Refused w' c' rest) rest
+Refused w c (Ok t ∷ rest) = RefusedAt (may_grow w c t.content) (step w c t) (λ w' c'. Refused w' c' rest) rest
+
+-- a call of a parser that stands so looks at exactly these answers, and at the last of them a growth was refused
+abbrev pub MeetsRefusal : Config → List Answer → Type 0
+MeetsRefusal c asked = Refused AtState (taken c) (held c ++ asked)
 
 -- an event is the machine's; an error is, or else a growth was refused
 abbrev pub CallsUnlessRefused : Want → Config → List Answer → EventOrError → Config → Type 0

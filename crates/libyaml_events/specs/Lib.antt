@@ -3,10 +3,12 @@ pub mod Fault
 pub mod Source
 pub mod ListLaws
 pub mod FaultTexts
+pub mod Message
 pub mod State
 pub mod Config
 pub mod Machine
 pub mod Slots
+pub mod Growth
 pub mod Answers
 pub mod Steps
 pub mod Calls

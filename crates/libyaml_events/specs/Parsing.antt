@@ -14,8 +14,8 @@ use Rattle.libyaml_events.specs.Sentences.{IsBeginning, has_end}
 use Rattle.libyaml_events.specs.Fits.{Fits}
 use Rattle.libyaml_events.specs.Settled.{IsSettled}
 use Rattle.libyaml_events.specs.Runs.{is_behind_properties}
-use Rattle.libyaml_events.specs.Config.{Parser}
-use Rattle.libyaml_events.specs.Calls.{Gave}
+use Rattle.libyaml_events.specs.Config.{Config, Parser}
+use Rattle.libyaml_events.specs.Calls.{Gave, MeetsRefusal}
 use Rattle.libyaml_events.specs.Stages.{is_event, stage_of, takes_no_memory}
 use Rattle.libyaml_events.specs.History.{History, answers, has_ended, is_stream_end, kept_fault}
 use Rattle.libyaml_events.specs.Needs.{EachNeeded, HasWaited}
@@ -58,17 +58,17 @@ pub data StopsShort (asked : List Token) (given : List Event) : Type 0 where
   behind_beginning : IsBeginning asked → has_end asked ≡ false → IsSettled asked given → StopsShort asked given
   amid_properties : (before : List Token) (token : Token) (behind : List Token) (c : Cut) → asked ≡ before ++ token ∷ behind → Fits before token c → is_behind_properties c behind ≡ false → given ≡ cut_events c token → StopsShort asked given
 
--- Why a call failed, which asked for these answers behind these tokens: a growth was refused, but not at the stream's
--- start or a document's end; or the tokens have a fault of
--- the grammar; or the source's own fault came, which is kept with all its fields.
-pub data Cause (asked : List Token) (given : List Event) (more : List Answer) (f : Fault) : Type 0 where
-  of_memory : (l : List Token) → more ≡ answers l [] → takes_no_memory (stage_of given) ≡ false → f ≡ memory_fault → Cause asked given more f
-  of_grammar : (l : List Token) → more ≡ answers l [] → HasFailed (asked ++ l) given f → Cause asked given more f
-  of_source : (l : List Token) → more ≡ answers l (Err f ∷ []) → IsSourceError f.error → StopsShort (asked ++ l) given → Cause asked given more f
+-- Why a call of a parser that stood so failed, which asked for these answers behind these tokens: a growth was refused, at
+-- the last token that was looked at, where memory may be taken; or the tokens have a fault of the grammar; or the source's
+-- own fault came, which is kept with all its fields.
+pub data Cause (old : Config) (asked : List Token) (given : List Event) (more : List Answer) (f : Fault) : Type 0 where
+  of_memory : (l : List Token) → more ≡ answers l [] → takes_no_memory (stage_of given) (asked ++ l) ≡ false → MeetsRefusal old more → f ≡ memory_fault → Cause old asked given more f
+  of_grammar : (l : List Token) → more ≡ answers l [] → HasFailed (asked ++ l) given f → Cause old asked given more f
+  of_source : (l : List Token) → more ≡ answers l (Err f ∷ []) → IsSourceError f.error → StopsShort (asked ++ l) given → Cause old asked given more f
 
 -- a call that failed: the source gave some answers more, each of which was needed, and the fault is kept
 pub record FailsBy {S : Type 0} (gives : S → Answer → S → Type 0) (old new : Parser S) (asked : List Token) (given : List Event) : Type 0 where
   pub more : List Answer
   pub gave : Gave gives old.source more new.source
   pub needed : EachNeeded asked more given
-  pub cause : Cause asked given more (kept_fault new)
+  pub cause : Cause old.config asked given more (kept_fault new)

@@ -3,6 +3,7 @@ use Rattle.std.specs.Prelude.{ℕ, zero, suc, List, [], ◌∷◌, Bool, true, f
 use Rattle.libyaml_types.specs.declared.event.unnamed_yaml_event_t_data.{unnamed_yaml_event_t_data}
 use Rattle.libyaml_types.specs.declared.event.unnamed_yaml_event_t_data.TheVariants as ev
 use Rattle.libyaml_events.specs.Events.{Event}
+use Rattle.libyaml_events.specs.Tokens.{Content, Token, StreamEnd, VersionDirective}
 
 -- Before the stream; outside a document; in a document before its root, within one open collection and so many more, or
 -- behind its root; behind the stream.
@@ -67,11 +68,24 @@ abbrev pub is_at_end : Stage → Bool
 is_at_end at_end = true
 is_at_end _ = false
 
--- where the next event takes no memory: the stream's start, and a document's end
-abbrev pub takes_no_memory : Stage → Bool
-takes_no_memory at_start = true
-takes_no_memory behind_root = true
-takes_no_memory _ = false
+-- whether the last of these tokens is a STREAM-END or a VERSION-DIRECTIVE
+abbrev pub is_quiet : Content → Bool
+is_quiet StreamEnd = true
+is_quiet (VersionDirective v) = true
+is_quiet _ = false
+
+abbrev pub ends_quietly : List Token → Bool
+ends_quietly [] = false
+ends_quietly (t ∷ []) = is_quiet t.content
+ends_quietly (t ∷ u ∷ l) = ends_quietly (u ∷ l)
+
+-- Where a call takes no memory that asked for these tokens: at the stream's start and at a document's end, and outside a
+-- document at the stream's end and at a version.
+abbrev pub takes_no_memory : Stage → List Token → Bool
+takes_no_memory at_start l = true
+takes_no_memory outside l = ends_quietly l
+takes_no_memory behind_root l = true
+takes_no_memory _ l = false
 
 -- whether it is an event, and not the empty one
 abbrev pub is_event : unnamed_yaml_event_t_data → Bool

@@ -1,11 +1,12 @@
 -- How the code of a step does what the machine does.
-use Rattle.std.specs.Prelude.{◌≡◌, ℕ, List, Option, Some, None, Result, Ok, Err}
+use Rattle.std.specs.Prelude.{◌≡◌, ℕ, List, Bool, true, Option, Some, None, Result, Ok, Err}
 use Rattle.libyaml_types.specs.declared.enums.yaml_error_type_t.{yaml_error_type_t}
 use Rattle.libyaml_types.specs.declared.enums.yaml_error_type_t.TheVariants.{YAML_NO_ERROR, YAML_MEMORY_ERROR, YAML_READER_ERROR, YAML_SCANNER_ERROR, YAML_PARSER_ERROR, YAML_COMPOSER_ERROR, YAML_WRITER_ERROR, YAML_EMITTER_ERROR}
 use Rattle.libyaml_types.specs.declared.mark.yaml_mark_t.{yaml_mark_t}
 use Rattle.libyaml_events.specs.Fault.{Fault}
 use Rattle.libyaml_events.specs.FaultTexts.{memory_fault, tag_fault}
 use Rattle.libyaml_events.specs.Config.{Config, Parser, with_config, with_fault}
+use Rattle.libyaml_events.specs.Growth.{has_prefix}
 use Rattle.libyaml_events.specs.Machine.{Outcome, resolve}
 use Rattle.libyaml_events.specs.declared.progress.TagRead.{TagRead}
 use Rattle.libyaml_events.specs.declared.progress.Progress.{Progress}
@@ -28,12 +29,13 @@ Steps out old (Ok (Given e)) new = (out ≡ Ok (Given e, new.config)) × (new.so
 Steps out old (Ok (Wants w)) new = (out ≡ Ok (Wants w, new.config)) × (new.source ≡ old.source) × (new.max_entries ≡ old.max_entries) × (new.config.lookahead ≡ old.config.lookahead)
 Steps out old (Err e) new = FailsBy new.config out e × (new.source ≡ old.source) × (new.max_entries ≡ old.max_entries)
 
-abbrev pub ResolvesTo : {S : Type 0} → Option (List ℕ) → Fault → Parser S → Result (List ℕ) yaml_error_type_t → Parser S → Type 0
-ResolvesTo tag f old (Ok text) new = (tag ≡ Some text) × (new ≡ old)
-ResolvesTo tag f old (Err YAML_MEMORY_ERROR) new = new ≡ with_config old (with_fault old.config memory_fault)
-ResolvesTo tag f old (Err YAML_PARSER_ERROR) new = (tag ≡ None) × (new ≡ with_config old (with_fault old.config f))
-ResolvesTo tag f old (Err _) new = ⊥
+abbrev pub ResolvesTo : {S : Type 0} → (joined : Bool) → Option (List ℕ) → Fault → Parser S → Result (List ℕ) yaml_error_type_t → Parser S → Type 0
+ResolvesTo joined tag f old (Ok text) new = (tag ≡ Some text) × (new ≡ old)
+ResolvesTo joined tag f old (Err YAML_MEMORY_ERROR) new = (joined ≡ true) × (new ≡ with_config old (with_fault old.config memory_fault))
+ResolvesTo joined tag f old (Err YAML_PARSER_ERROR) new = (tag ≡ None) × (new ≡ with_config old (with_fault old.config f))
+ResolvesTo joined tag f old (Err _) new = ⊥
 
--- the tag in full, or the fault of a handle that is not defined, in a node that begins at `start`
+-- the tag in full, or the fault of a handle that is not defined, in a node that begins at `start`; or, where the tag is
+-- joined, a growth was refused
 abbrev pub Resolves : {S : Type 0} → TagRead → yaml_mark_t → Parser S → Result (List ℕ) yaml_error_type_t → Parser S → Type 0
-Resolves g start old r new = ResolvesTo (resolve old.config.handles g.handle g.suffix) (tag_fault start g.mark) old r new
+Resolves g start old r new = ResolvesTo (has_prefix old.config.handles g.handle) (resolve old.config.handles g.handle g.suffix) (tag_fault start g.mark) old r new

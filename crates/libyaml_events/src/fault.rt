@@ -9,7 +9,7 @@ use libyaml_types::{ZERO_MARK, yaml_error_type_t, yaml_mark_t};
 /// What a parser keeps of its fault. Before a fault it is `NO_FAULT`.
 ///
 /// libyaml: `yaml_parser_t_prefix`.
-#[derive(Copy, Clone)]
+#[derive(Copy, Clone, PartialEq, Eq, Debug)]
 pub struct yaml_parser_t_prefix {
     /// The kind of the fault.
     pub error: yaml_error_type_t,
@@ -39,7 +39,7 @@ pub const NO_FAULT: yaml_parser_t_prefix = yaml_parser_t_prefix {
 };
 
 /// The fault of a token source: want of memory, or a fault of its reader or scanner.
-#[derive(Copy, Clone)]
+#[derive(Copy, Clone, PartialEq, Eq, Debug)]
 pub struct yaml_source_fault_t {
     prefix: yaml_parser_t_prefix,
     ghost of_source: { IsSourceError prefix.error },

@@ -4,6 +4,7 @@
 mod fault;
 pub mod laws;
 mod list_source;
+mod message;
 mod parse;
 mod parser;
 mod progress;
@@ -13,6 +14,7 @@ mod states;
 
 pub use fault::{NO_FAULT, yaml_parser_t_prefix, yaml_source_fault_t};
 pub use list_source::yaml_list_source_t;
+pub use message::yaml_error_words;
 pub use parse::yaml_parser_parse;
 pub use parser::{
     yaml_parser_between_documents, yaml_parser_delete, yaml_parser_initialize,

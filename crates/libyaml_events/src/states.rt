@@ -1,5 +1,5 @@
 //! The states: each takes a token, and gives an event, wants a further token, or faults.
-ghost use Rattle.std.specs.Prelude.{◌≡◌, Ok, Err, OnOk, OnErr, true};
+ghost use Rattle.std.specs.Prelude.{◌≡◌, Ok, Err, OnOk, OnErr, true, is_some};
 ghost use Rattle.libyaml_events.specs.FaultTexts.{memory_fault};
 ghost use Rattle.libyaml_events.specs.Config.{with_config, with_fault, at, pushed_mark};
 ghost use Rattle.libyaml_events.specs.Machine.{step, at_state, process_empty_scalar, close};
@@ -7,7 +7,7 @@ ghost use Rattle.libyaml_events.specs.Steps.{Steps};
 ghost use Rattle.libyaml_events.specs.Slots.{at_slot, state_behind, entered};
 ghost use Rattle.libyaml_events.specs.Answers.{answer, wanted};
 ghost use Rattle.libyaml_events.specs.declared.progress.Progress.TheVariants.{Given};
-ghost use Rattle.libyaml_events.specs.Calls.{may_grow, may_grow_at};
+ghost use Rattle.libyaml_events.specs.Growth.{enters, may_grow, may_grow_at};
 
 mod block;
 mod documents;
@@ -36,7 +36,7 @@ impl<S> yaml_parser_t<S> {
         out: &mut yaml_event_t,
     ) -> Result<Next, yaml_error_type_t>
         ensures steps { Steps (step (wanted next pending.old) self.old.config token) self.old (answer result pending.new out.new) self.new }
-        ensures grows { result ≡ Err yaml_error_type_t.YAML_MEMORY_ERROR → may_grow (wanted next pending.old) self.old.config ≡ true }
+        ensures grows { result ≡ Err yaml_error_type_t.YAML_MEMORY_ERROR → may_grow (wanted next pending.old) self.old.config token.content ≡ true }
     {
         match next {
             Next::Given | Next::AtState => self.parse_at_state(token, pending, out),
@@ -68,7 +68,7 @@ impl<S> yaml_parser_t<S> {
         out: &mut yaml_event_t,
     ) -> Result<Next, yaml_error_type_t>
         ensures steps { Steps (at_state self.old.config.state self.old.config token token.content) self.old (answer result pending.new out.new) self.new }
-        ensures grows { result ≡ Err yaml_error_type_t.YAML_MEMORY_ERROR → may_grow_at self.old.config.state ≡ true }
+        ensures grows { result ≡ Err yaml_error_type_t.YAML_MEMORY_ERROR → may_grow_at self.old.config.state self.old.config token.content ≡ true }
     {
         match self.state() {
             yaml_parser_state_t::YAML_PARSE_STREAM_START_STATE => self.parse_stream_start(
@@ -159,7 +159,8 @@ impl<S> yaml_parser_t<S> {
         pending: &mut Pending,
         out: &mut yaml_event_t,
     ) -> Result<Next, yaml_error_type_t>
-        ensures { Steps (at_slot slot pending.old.mark self.old.config token token.content) self.old (answer result pending.new out.new) self.new }
+        ensures steps { Steps (at_slot slot pending.old.mark self.old.config token token.content) self.old (answer result pending.new out.new) self.new }
+        ensures grows { result ≡ Err yaml_error_type_t.YAML_MEMORY_ERROR → enters slot token.content ≡ true }
     {
         if slot.is_nothing_before(&token.content) {
             match slot.state_behind() {
@@ -178,6 +179,7 @@ impl<S> yaml_parser_t<S> {
     fn push_state_behind(&mut self, slot: Slot) -> Result<(), yaml_error_type_t>
         ensures ok { OnOk result (self.new ≡ with_config self.old (entered (state_behind slot) self.old.config)) }
         ensures err { OnErr result ((result ≡ Err yaml_error_type_t.YAML_MEMORY_ERROR) × (self.new ≡ with_config self.old (with_fault self.old.config memory_fault))) }
+        ensures grows { OnErr result (is_some (state_behind slot) ≡ true) }
     {
         match slot.state_behind() {
             Some(state) => self.push_state(state),

@@ -1,5 +1,5 @@
 //! Block collections.
-ghost use Rattle.std.specs.Prelude.{◌≡◌};
+ghost use Rattle.std.specs.Prelude.{◌≡◌, IfErr};
 ghost use Rattle.libyaml_types.specs.Numbers.{parser_state_number};
 ghost use Rattle.libyaml_events.specs.State.{IsBackByte};
 ghost use Rattle.libyaml_events.specs.Machine.{first_block_sequence_entry, parse_block_sequence_entry, behind_block_entry, parse_indentless_sequence_entry, behind_indentless_entry, first_block_mapping_key, parse_block_mapping_key, parse_block_mapping_value, behind_block_indicator};
@@ -34,7 +34,8 @@ impl<S> yaml_parser_t<S> {
         pending: &mut Pending,
         out: &mut yaml_event_t,
     ) -> Result<Next, yaml_error_type_t>
-        ensures { Steps (parse_block_sequence_entry self.old.config token token.content) self.old (answer result pending.new out.new) self.new }
+        ensures steps { Steps (parse_block_sequence_entry self.old.config token token.content) self.old (answer result pending.new out.new) self.new }
+        ensures error { IfErr result (λ e. e ≡ yaml_error_type_t.YAML_PARSER_ERROR) }
     {
         match token.content {
             unnamed_yaml_token_t_data::BlockEntry => {
@@ -63,7 +64,8 @@ impl<S> yaml_parser_t<S> {
         pending: &mut Pending,
         out: &mut yaml_event_t,
     ) -> Result<Next, yaml_error_type_t>
-        ensures { Steps (parse_indentless_sequence_entry self.old.config token token.content) self.old (answer result pending.new out.new) self.new }
+        ensures steps { Steps (parse_indentless_sequence_entry self.old.config token token.content) self.old (answer result pending.new out.new) self.new }
+        ensures error { IfErr result (λ e. e ≡ yaml_error_type_t.YAML_PARSER_ERROR) }
     {
         match token.content {
             unnamed_yaml_token_t_data::BlockEntry => {
@@ -101,7 +103,8 @@ impl<S> yaml_parser_t<S> {
         pending: &mut Pending,
         out: &mut yaml_event_t,
     ) -> Result<Next, yaml_error_type_t>
-        ensures { Steps (parse_block_mapping_key self.old.config token token.content) self.old (answer result pending.new out.new) self.new }
+        ensures steps { Steps (parse_block_mapping_key self.old.config token token.content) self.old (answer result pending.new out.new) self.new }
+        ensures error { IfErr result (λ e. e ≡ yaml_error_type_t.YAML_PARSER_ERROR) }
     {
         match token.content {
             unnamed_yaml_token_t_data::Key => {
@@ -136,7 +139,8 @@ impl<S> yaml_parser_t<S> {
         pending: &mut Pending,
         out: &mut yaml_event_t,
     ) -> Result<Next, yaml_error_type_t>
-        ensures { Steps (parse_block_mapping_value self.old.config token token.content) self.old (answer result pending.new out.new) self.new }
+        ensures steps { Steps (parse_block_mapping_value self.old.config token token.content) self.old (answer result pending.new out.new) self.new }
+        ensures error { IfErr result (λ e. e ≡ yaml_error_type_t.YAML_PARSER_ERROR) }
     {
         match token.content {
             unnamed_yaml_token_t_data::Value => {

@@ -1,8 +1,9 @@
 //! Stream and documents.
-ghost use Rattle.std.specs.Prelude.{◌≡◌, Ok, Err, OnOk, OnErr, IfErr};
+ghost use Rattle.std.specs.Prelude.{◌≡◌, Ok, Err, OnOk, OnErr, IfErr, true};
 ghost use Rattle.libyaml_events.specs.FaultTexts.{memory_fault};
 ghost use Rattle.libyaml_events.specs.Config.{with_config, with_fault};
 ghost use Rattle.libyaml_events.specs.Machine.{parse_stream_start, begin_document, implicit_document, version_directive, tag_directive, explicit_document, no_directives, end_stream, parse_implicit_document_start, parse_document_start, end_document, parse_document_end};
+ghost use Rattle.libyaml_events.specs.Growth.{grows_at_directive, grows_at_document};
 ghost use Rattle.libyaml_events.specs.Steps.{Steps};
 ghost use Rattle.libyaml_events.specs.Answers.{answer};
 ghost use Rattle.libyaml_events.specs.declared.progress.Progress.TheVariants.{Given};
@@ -93,7 +94,8 @@ impl<S> yaml_parser_t<S> {
         pending: &mut Pending,
         out: &mut yaml_event_t,
     ) -> Result<Next, yaml_error_type_t>
-        ensures { Steps (version_directive pending.old.directives.version pending.old.directives self.old.config mark version) self.old (answer result pending.new out.new) self.new }
+        ensures steps { Steps (version_directive pending.old.directives.version pending.old.directives self.old.config mark version) self.old (answer result pending.new out.new) self.new }
+        ensures error { IfErr result (λ e. e ≡ yaml_error_type_t.YAML_PARSER_ERROR) }
     {
         if pending.directives.version.is_some() {
             return Err(self.set_parser_error("found duplicate %YAML directive", mark));
@@ -134,7 +136,8 @@ impl<S> yaml_parser_t<S> {
         pending: &mut Pending,
         out: &mut yaml_event_t,
     ) -> Result<Next, yaml_error_type_t>
-        ensures { Steps (explicit_document pending.old.directives self.old.config token token.content) self.old (answer result pending.new out.new) self.new }
+        ensures steps { Steps (explicit_document pending.old.directives self.old.config token token.content) self.old (answer result pending.new out.new) self.new }
+        ensures grows { result ≡ Err yaml_error_type_t.YAML_MEMORY_ERROR → grows_at_directive token.content ≡ true }
     {
         let mark = token.start_mark;
         match token.content {
@@ -188,7 +191,8 @@ impl<S> yaml_parser_t<S> {
         pending: &mut Pending,
         out: &mut yaml_event_t,
     ) -> Result<Next, yaml_error_type_t>
-        ensures { Steps (explicit_document (no_directives token.start_mark) self.old.config token token.content) self.old (answer result pending.new out.new) self.new }
+        ensures steps { Steps (explicit_document (no_directives token.start_mark) self.old.config token token.content) self.old (answer result pending.new out.new) self.new }
+        ensures grows { result ≡ Err yaml_error_type_t.YAML_MEMORY_ERROR → grows_at_directive token.content ≡ true }
     {
         pending.directives = self.no_directives(token.start_mark);
         self.parse_explicit_document(token, pending, out)
@@ -214,7 +218,8 @@ impl<S> yaml_parser_t<S> {
         pending: &mut Pending,
         out: &mut yaml_event_t,
     ) -> Result<Next, yaml_error_type_t>
-        ensures { Steps (parse_implicit_document_start self.old.config token token.content) self.old (answer result pending.new out.new) self.new }
+        ensures steps { Steps (parse_implicit_document_start self.old.config token token.content) self.old (answer result pending.new out.new) self.new }
+        ensures grows { result ≡ Err yaml_error_type_t.YAML_MEMORY_ERROR → grows_at_document self.old.config.has_ended token.content ≡ true }
     {
         match token.content {
             unnamed_yaml_token_t_data::StreamEnd => {
@@ -244,7 +249,8 @@ impl<S> yaml_parser_t<S> {
         pending: &mut Pending,
         out: &mut yaml_event_t,
     ) -> Result<Next, yaml_error_type_t>
-        ensures { Steps (parse_document_start self.old.config token token.content) self.old (answer result pending.new out.new) self.new }
+        ensures steps { Steps (parse_document_start self.old.config token token.content) self.old (answer result pending.new out.new) self.new }
+        ensures grows { result ≡ Err yaml_error_type_t.YAML_MEMORY_ERROR → grows_at_directive token.content ≡ true }
     {
         match token.content {
             unnamed_yaml_token_t_data::StreamEnd => {

@@ -1,6 +1,7 @@
 //! Flow collections.
-ghost use Rattle.std.specs.Prelude.{◌≡◌, Ok};
+ghost use Rattle.std.specs.Prelude.{◌≡◌, Ok, Err, IfErr, true};
 ghost use Rattle.libyaml_events.specs.Machine.{first_flow_sequence_entry, parse_flow_sequence_entry, behind_flow_sequence_entry, parse_flow_sequence_entry_mapping_key, parse_flow_sequence_entry_mapping_value, behind_flow_sequence_value, parse_flow_sequence_entry_mapping_end, first_flow_mapping_key, parse_flow_mapping_key, behind_flow_mapping_entry, behind_flow_mapping_key, parse_flow_mapping_value, behind_flow_mapping_value, parse_flow_mapping_empty_value};
+ghost use Rattle.libyaml_events.specs.Growth.{enters_sequence_entry, enters_mapping_entry};
 ghost use Rattle.libyaml_events.specs.Steps.{Steps};
 ghost use Rattle.libyaml_events.specs.Answers.{answer};
 ghost use Rattle.libyaml_events.specs.declared.progress.Progress.TheVariants.{Given};
@@ -34,7 +35,8 @@ impl<S> yaml_parser_t<S> {
         pending: &mut Pending,
         out: &mut yaml_event_t,
     ) -> Result<Next, yaml_error_type_t>
-        ensures { Steps (parse_flow_sequence_entry self.old.config token token.content) self.old (answer result pending.new out.new) self.new }
+        ensures steps { Steps (parse_flow_sequence_entry self.old.config token token.content) self.old (answer result pending.new out.new) self.new }
+        ensures error { IfErr result (λ e. e ≡ yaml_error_type_t.YAML_PARSER_ERROR) }
     {
         match token.content {
             unnamed_yaml_token_t_data::FlowEntry => { Ok(Next::BehindFlowSequenceEntry) }
@@ -61,7 +63,8 @@ impl<S> yaml_parser_t<S> {
         pending: &mut Pending,
         out: &mut yaml_event_t,
     ) -> Result<Next, yaml_error_type_t>
-        ensures { Steps (behind_flow_sequence_entry self.old.config token token.content) self.old (answer result pending.new out.new) self.new }
+        ensures steps { Steps (behind_flow_sequence_entry self.old.config token token.content) self.old (answer result pending.new out.new) self.new }
+        ensures grows { result ≡ Err yaml_error_type_t.YAML_MEMORY_ERROR → enters_sequence_entry token.content ≡ true }
     {
         match token.content {
             unnamed_yaml_token_t_data::FlowSequenceEnd => {
@@ -93,7 +96,8 @@ impl<S> yaml_parser_t<S> {
         pending: &mut Pending,
         out: &mut yaml_event_t,
     ) -> Result<Next, yaml_error_type_t>
-        ensures { Steps (parse_flow_sequence_entry_mapping_value self.old.config token token.content) self.old (answer result pending.new out.new) self.new }
+        ensures steps { Steps (parse_flow_sequence_entry_mapping_value self.old.config token token.content) self.old (answer result pending.new out.new) self.new }
+        ensures error { IfErr result (λ e. e ≡ yaml_error_type_t.YAML_PARSER_ERROR) }
     {
         match token.content {
             unnamed_yaml_token_t_data::Value => Ok(Next::BehindFlowSequenceValue),
@@ -141,7 +145,8 @@ impl<S> yaml_parser_t<S> {
         pending: &mut Pending,
         out: &mut yaml_event_t,
     ) -> Result<Next, yaml_error_type_t>
-        ensures { Steps (parse_flow_mapping_key self.old.config token token.content) self.old (answer result pending.new out.new) self.new }
+        ensures steps { Steps (parse_flow_mapping_key self.old.config token token.content) self.old (answer result pending.new out.new) self.new }
+        ensures error { IfErr result (λ e. e ≡ yaml_error_type_t.YAML_PARSER_ERROR) }
     {
         match token.content {
             unnamed_yaml_token_t_data::FlowEntry => { Ok(Next::BehindFlowMappingEntry) }
@@ -168,7 +173,8 @@ impl<S> yaml_parser_t<S> {
         pending: &mut Pending,
         out: &mut yaml_event_t,
     ) -> Result<Next, yaml_error_type_t>
-        ensures { Steps (behind_flow_mapping_entry self.old.config token token.content) self.old (answer result pending.new out.new) self.new }
+        ensures steps { Steps (behind_flow_mapping_entry self.old.config token token.content) self.old (answer result pending.new out.new) self.new }
+        ensures grows { result ≡ Err yaml_error_type_t.YAML_MEMORY_ERROR → enters_mapping_entry token.content ≡ true }
     {
         match token.content {
             unnamed_yaml_token_t_data::FlowMappingEnd => {
@@ -190,7 +196,8 @@ impl<S> yaml_parser_t<S> {
         pending: &mut Pending,
         out: &mut yaml_event_t,
     ) -> Result<Next, yaml_error_type_t>
-        ensures { Steps (parse_flow_mapping_value self.old.config token token.content) self.old (answer result pending.new out.new) self.new }
+        ensures steps { Steps (parse_flow_mapping_value self.old.config token token.content) self.old (answer result pending.new out.new) self.new }
+        ensures error { IfErr result (λ e. e ≡ yaml_error_type_t.YAML_PARSER_ERROR) }
     {
         match token.content {
             unnamed_yaml_token_t_data::Value => Ok(Next::BehindFlowMappingValue),

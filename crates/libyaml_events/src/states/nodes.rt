@@ -1,9 +1,10 @@
 //! Nodes: properties and content.
-ghost use Rattle.std.specs.Prelude.{◌≡◌, Ok, false};
+ghost use Rattle.std.specs.Prelude.{◌≡◌, Ok, Err, IfErr, false, true};
 ghost use Rattle.libyaml_types.specs.declared.event.unnamed_yaml_event_t_data_scalar.{unnamed_yaml_event_t_data_scalar};
 ghost use Rattle.libyaml_types.specs.declared.enums.yaml_scalar_style_t.TheVariants.{YAML_PLAIN_SCALAR_STYLE};
 ghost use Rattle.libyaml_events.specs.Events.{is_plain, plain_flag, quoted_flag, is_missing};
 ghost use Rattle.libyaml_events.specs.Machine.{scalar, sequence_start, mapping_start, only_properties, no_content, open_collection, scalar_content, is_block, node_content, content_behind, behind_properties, parse_node};
+ghost use Rattle.libyaml_events.specs.Growth.{joins, joins_before};
 ghost use Rattle.libyaml_events.specs.Steps.{Steps};
 ghost use Rattle.libyaml_events.specs.Answers.{answer, given};
 ghost use Rattle.libyaml_events.specs.declared.progress.Progress.TheVariants.{Given};
@@ -124,7 +125,8 @@ impl<S> yaml_parser_t<S> {
         pending: &mut Pending,
         out: &mut yaml_event_t,
     ) -> Result<Next, yaml_error_type_t>
-        ensures { Steps (parse_node place self.old.config token token.content) self.old (answer result pending.new out.new) self.new }
+        ensures steps { Steps (parse_node place self.old.config token token.content) self.old (answer result pending.new out.new) self.new }
+        ensures error { IfErr result (λ e. e ≡ yaml_error_type_t.YAML_PARSER_ERROR) }
     {
         let start_mark = token.start_mark;
         let end_mark = token.end_mark;
@@ -186,7 +188,8 @@ impl<S> yaml_parser_t<S> {
         pending: &mut Pending,
         out: &mut yaml_event_t,
     ) -> Result<Next, yaml_error_type_t>
-        ensures { Steps (behind_properties pending.old.place pending.old.properties self.old.config token token.content) self.old (answer result pending.new out.new) self.new }
+        ensures steps { Steps (behind_properties pending.old.place pending.old.properties self.old.config token token.content) self.old (answer result pending.new out.new) self.new }
+        ensures grows { result ≡ Err yaml_error_type_t.YAML_MEMORY_ERROR → joins_before pending.old.properties self.old.config.handles token.content ≡ true }
     {
         let start_mark = token.start_mark;
         let end_mark = token.end_mark;
@@ -219,7 +222,8 @@ impl<S> yaml_parser_t<S> {
         pending: &mut Pending,
         out: &mut yaml_event_t,
     ) -> Result<(), yaml_error_type_t>
-        ensures { Steps (content_behind pending.old.place pending.old.properties pending.old.properties.tag self.old.config token token.content) self.old (given result out.new) self.new }
+        ensures steps { Steps (content_behind pending.old.place pending.old.properties pending.old.properties.tag self.old.config token token.content) self.old (given result out.new) self.new }
+        ensures grows { result ≡ Err yaml_error_type_t.YAML_MEMORY_ERROR → joins pending.old.properties.tag self.old.config.handles ≡ true }
     {
         let start_mark = pending.properties.start_mark;
         let end_mark = pending.properties.end_mark;
@@ -244,7 +248,8 @@ impl<S> yaml_parser_t<S> {
         token: yaml_token_t,
         out: &mut yaml_event_t,
     ) -> Result<(), yaml_error_type_t>
-        ensures { Steps (node_content place head self.old.config token token.content) self.old (given result out.new) self.new }
+        ensures steps { Steps (node_content place head self.old.config token token.content) self.old (given result out.new) self.new }
+        ensures error { IfErr result (λ e. e ≡ yaml_error_type_t.YAML_PARSER_ERROR) }
     {
         let end_mark = token.end_mark;
         match token.content {
@@ -367,7 +372,8 @@ impl<S> yaml_parser_t<S> {
         token: yaml_token_t,
         out: &mut yaml_event_t,
     ) -> Result<(), yaml_error_type_t>
-        ensures { Steps (no_content place head.anchor head.tag head self.old.config token) self.old (given result out.new) self.new }
+        ensures steps { Steps (no_content place head.anchor head.tag head self.old.config token) self.old (given result out.new) self.new }
+        ensures error { IfErr result (λ e. e ≡ yaml_error_type_t.YAML_PARSER_ERROR) }
     {
         if head.anchor.is_none() && head.tag.is_none() {
             return Err(self.set_content_error(place, token.start_mark));

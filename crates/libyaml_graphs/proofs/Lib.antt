@@ -1,0 +1,13 @@
+pub mod Machine
+pub mod Built
+pub mod Following
+pub mod LoaderLoads
+pub mod Sizes
+pub mod BoundedLoader
+pub mod TreeGraphs
+pub mod TextLoads
+pub mod Ids
+pub mod OneLoad
+pub mod Room
+pub mod RunLoads
+pub mod LoadRows

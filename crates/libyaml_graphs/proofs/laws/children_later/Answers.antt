@@ -1,0 +1,5 @@
+use Rattle.libyaml_graphs.proofs.Ids.{children_later}
+use Rattle.libyaml_graphs.proofs.laws.children_later.Goals as goal
+
+pub returns : goal.returns
+returns c = children_later

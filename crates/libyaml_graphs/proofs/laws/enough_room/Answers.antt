@@ -1,0 +1,8 @@
+use Rattle.libyaml_graphs.proofs.Room.{room_loads, room_next}
+use Rattle.libyaml_graphs.proofs.laws.enough_room.Goals as goal
+
+pub returns-clause-all : goal.returns-clause-all
+returns-clause-all c = room_loads
+
+pub returns-clause-next : goal.returns-clause-next
+returns-clause-next c = room_next

@@ -1,0 +1,5 @@
+use Rattle.libyaml_graphs.proofs.RunLoads.{headline}
+use Rattle.libyaml_graphs.proofs.laws.headline.Goals as goal
+
+pub returns : goal.returns
+returns c = headline

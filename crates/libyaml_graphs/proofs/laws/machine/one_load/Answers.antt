@@ -1,0 +1,5 @@
+use Rattle.libyaml_graphs.proofs.BoundedLoader.{one_load}
+use Rattle.libyaml_graphs.proofs.laws.machine.one_load.Goals as goal
+
+pub returns : goal.returns
+returns c = one_load

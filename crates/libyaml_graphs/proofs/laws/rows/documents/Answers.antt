@@ -1,0 +1,14 @@
+use Rattle.libyaml_graphs.proofs.LoadRows.{directives, empty_documents, empty_stream, explicit_end}
+use Rattle.libyaml_graphs.proofs.laws.rows.documents.Goals as goal
+
+pub returns-clause-empty_stream : goal.returns-clause-empty_stream
+returns-clause-empty_stream c = empty_stream
+
+pub returns-clause-directives : goal.returns-clause-directives
+returns-clause-directives c = directives
+
+pub returns-clause-explicit_end : goal.returns-clause-explicit_end
+returns-clause-explicit_end c = explicit_end
+
+pub returns-clause-empty_documents : goal.returns-clause-empty_documents
+returns-clause-empty_documents c = empty_documents

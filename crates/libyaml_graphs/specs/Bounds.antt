@@ -1,0 +1,93 @@
+-- Loads in which each list of a document has at most n entries: the list of its nodes, and the items or pairs of each node
+-- (docs/DEFINITIONS.md, "Loads within a bound").
+use Rattle.std.specs.Prelude.{◌≡◌, ◌≤◌, ℕ, suc, List, [], ◌∷◌, ◌++◌, length, nat_lt, Option, Some, None, All, Bool, true, false}
+use Rattle.libyaml_events.specs.Events.{Event, either}
+use Rattle.libyaml_events.specs.Fault.{Fault}
+use Rattle.libyaml_events.specs.FaultTexts.{memory_fault}
+use Rattle.libyaml_events.specs.Runs.{Ending, IsRun}
+use Rattle.libyaml_events.specs.Tokens.{Token}
+use Rattle.libyaml_documents.specs.declared.node.unnamed_yaml_node_t_data.{unnamed_yaml_node_t_data}
+use Rattle.libyaml_documents.specs.declared.node.unnamed_yaml_node_t_data.TheVariants.{Scalar, Sequence, Mapping}
+use Rattle.libyaml_graphs.specs.ComposerFaults.{composer_fault, part_fault}
+use Rattle.libyaml_graphs.specs.Graphs.{Start}
+use Rattle.libyaml_graphs.specs.Loads.{Load, answer, document_end, last_load, load_then}
+use Rattle.libyaml_graphs.specs.Parts.{Part, alias_part, behind, children, closing_of, end_part, graph, leaf_part, opening_of, parts, start_of, start_part}
+
+-- the pairs that children begin: one at each key, also where its value is still to come
+abbrev pub pairs_begun : List ℕ → ℕ
+pairs_begun [] = 0
+pairs_begun (k ∷ []) = 1
+pairs_begun (k ∷ v ∷ is) = suc (pairs_begun is)
+
+-- the entries that a node's list needs for its children
+abbrev pub entries : unnamed_yaml_node_t_data → List ℕ → ℕ
+entries (Scalar s) is = 0
+entries (Sequence s) is = length is
+entries (Mapping s) is = pairs_begun is
+
+-- those of each collection among the parts of a document
+abbrev pub list_sizes : List Start → List Part → List ℕ
+list_sizes es [] = []
+list_sizes es (alias_part a m ∷ r) = list_sizes es r
+list_sizes es (leaf_part a x ∷ r) = list_sizes (start_of a x ∷ es) r
+list_sizes es (start_part a x ∷ r) = entries x.content (children 0 (start_of a x ∷ es) r) ∷ list_sizes (start_of a x ∷ es) r
+list_sizes es (end_part n ∷ r) = list_sizes es r
+
+-- one of them is more than n
+abbrev pub one_above : ℕ → List ℕ → Bool
+one_above n [] = false
+one_above n (k ∷ ks) = either (nat_lt n k) (one_above n ks)
+
+-- What stops a load: the first part with which there are more than n nodes, else which has a composer fault, else with which
+-- a node's list has more than n entries. The first and the last are want of memory. `before` are the parts before, and es
+-- their starts.
+abbrev pub if_above : Bool → Option Fault → Option Fault
+if_above true o = Some memory_fault
+if_above false o = o
+
+abbrev pub if_wrong : Option Fault → Option Fault → Option Fault
+if_wrong (Some f) o = Some f
+if_wrong None o = o
+
+abbrev pub stop_at : ℕ → List Start → (before : List Part) → Part → Option Fault → Option Fault
+stop_at n es before p o = if_above (nat_lt n (length (behind p es))) (if_wrong (part_fault es p) (if_above (one_above n (list_sizes [] (before ++ p ∷ []))) o))
+
+abbrev pub first_stop : ℕ → List Start → (before : List Part) → List Part → Option Fault
+first_stop n es before [] = None
+first_stop n es before (p ∷ r) = stop_at n es before p (first_stop n (behind p es) (before ++ p ∷ []) r)
+
+-- The loads of a run within the bound n.
+abbrev mutual
+  pub bounded_loads : ℕ → List Event → Ending → List Load
+  bounded_loads n [] x = last_load x ∷ []
+  bounded_loads n (e ∷ r) x = elim (opening_of e) [ None ↦ bounded_loads n r x | Some o ↦ load_then (first_stop n [] [] (parts r)) (document_end r) o (graph [] (parts r)) (last_load x) (bounded_loads_behind n r x) ]
+
+  pub bounded_loads_behind : ℕ → List Event → Ending → List Load
+  bounded_loads_behind n [] x = last_load x ∷ []
+  bounded_loads_behind n (e ∷ r) x = elim (closing_of e) [ Some c ↦ bounded_loads n r x | None ↦ bounded_loads_behind n r x ]
+
+-- one load within the bound n; the events that it leaves are those that it leaves without a bound
+abbrev pub next_bounded : ℕ → List Event → Ending → Load
+next_bounded n [] x = last_load x
+next_bounded n (e ∷ r) x = elim (opening_of e) [ None ↦ next_bounded n r x | Some o ↦ answer (first_stop n [] [] (parts r)) (document_end r) o (graph [] (parts r)) (last_load x) ]
+
+-- the loads over a list of tokens with the source's fault f behind it
+pub record IsBoundedLoads (n : ℕ) (l : List Token) (f : Fault) (a : List Load) : Type 0 where
+  pub events : List Event
+  pub ending : Ending
+  pub run : IsRun l f events ending
+  pub all : a ≡ bounded_loads n events ending
+
+-- no list of these parts of a document needs more than n entries
+abbrev pub StaysWithin : ℕ → List Part → Type 0
+StaysWithin n l = (length (graph [] l) ≤ n) × All (λ k. k ≤ n) (list_sizes [] l)
+
+-- nor does one of a document that a load begins: behind a composer fault no load begins one
+abbrev mutual
+  pub HasRoom : ℕ → List Event → Type 0
+  HasRoom n [] = Unit {0}
+  HasRoom n (e ∷ r) = elim (opening_of e) [ None ↦ HasRoom n r | Some o ↦ StaysWithin n (parts r) × (composer_fault [] (parts r) ≡ None → HasRoomBehind n r) ]
+
+  pub HasRoomBehind : ℕ → List Event → Type 0
+  HasRoomBehind n [] = Unit {0}
+  HasRoomBehind n (e ∷ r) = elim (closing_of e) [ Some c ↦ HasRoom n r | None ↦ HasRoomBehind n r ]

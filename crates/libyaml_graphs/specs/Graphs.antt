@@ -1,0 +1,81 @@
+-- The graph of a document, by recursion on its value (docs/DEFINITIONS.md, "Graphs"). A node's id is one more
+-- than the nodes that start before it; es are the starts of those nodes, the newest first.
+use Rattle.std.specs.Prelude.{ℕ, suc, ℤ, pos, List, [], ◌∷◌, length, Option, Some, None, Bool, true, false}
+use Rattle.libyaml_events.specs.Events.{Layout, mapping_style, same_text, sequence_style}
+use Rattle.libyaml_events.specs.Nesting.{Value, Values, alias_value, collection_value, first_value, no_values, scalar_value}
+use Rattle.libyaml_events.specs.Tokens.{Mark}
+use Rattle.libyaml_events.specs.Trees.{Sort, mapping, sequence}
+use Rattle.libyaml_documents.specs.LoadedNodes.{mapping_loaded, scalar_loaded, sequence_loaded}
+use Rattle.libyaml_documents.specs.declared.node.yaml_node_t.{yaml_node_t}
+use Rattle.libyaml_documents.specs.declared.pairs.yaml_node_pair_t.{yaml_node_pair_t}
+
+-- a node's start: the anchor that the node carries, if it does, and where it starts
+pub record Start : Type 0 where
+  pub anchor : Option (List ℕ)
+  pub mark : Mark
+
+-- the node that carries an anchor: its id, and where it starts
+pub record Carrier : Type 0 where
+  pub id : ℕ
+  pub mark : Mark
+
+abbrev pub carries : Option (List ℕ) → List ℕ → Bool
+carries None a = false
+carries (Some b) a = same_text b a
+
+abbrev pub carrier : List ℕ → List Start → Option Carrier
+carrier a [] = None
+carrier a (s ∷ es) = elim (carries s.anchor a) [ true ↦ Some (record { id = suc (length es); mark = s.mark }) | false ↦ carrier a es ]
+
+-- an alias that nothing carries has no id, and 0 stands for it
+abbrev pub id_or : Option Carrier → ℕ
+id_or None = 0
+id_or (Some c) = c.id
+
+-- the ids of children as a sequence's items, and in turn as keys and values of a mapping; a key without value gives no pair
+abbrev pub items : List ℕ → List ℤ
+items [] = []
+items (i ∷ is) = pos i ∷ items is
+
+abbrev pub pairs : List ℕ → List yaml_node_pair_t
+pairs [] = []
+pairs (k ∷ []) = []
+pairs (k ∷ v ∷ is) = record { key = pos k; value = pos v } ∷ pairs is
+
+-- a collection's node with the ids of its children, from the start event's start to the end event's end
+abbrev pub collection_loaded : Sort → (tag : Option (List ℕ)) → Layout → (children : List ℕ) → (start end : Mark) → yaml_node_t
+collection_loaded sequence t s is m n = sequence_loaded t (sequence_style s) (items is) m n
+collection_loaded mapping t s is m n = mapping_loaded t (mapping_style s) (pairs is) m n
+
+-- the starts behind a value, and behind values one after the other
+abbrev mutual
+  pub starts_behind : Value → List Start → List Start
+  starts_behind (alias_value a m n) es = es
+  starts_behind (scalar_value s m n) es = record { anchor = s.anchor; mark = m } ∷ es
+  starts_behind (collection_value k a t i s m n vs p q) es = starts_behind_all vs (record { anchor = a; mark = m } ∷ es)
+
+  pub starts_behind_all : Values → List Start → List Start
+  starts_behind_all no_values es = es
+  starts_behind_all (first_value v vs) es = starts_behind_all vs (starts_behind v es)
+
+-- the id of a value: that of its own node, or of the node which carries its anchor
+abbrev pub id_of : Value → List Start → ℕ
+id_of (alias_value a m n) es = id_or (carrier a.anchor es)
+id_of (scalar_value s m n) es = suc (length es)
+id_of (collection_value k a t i s m n vs p q) es = suc (length es)
+
+abbrev pub ids_of_all : Values → List Start → List ℕ
+ids_of_all no_values es = []
+ids_of_all (first_value v vs) es = id_of v es ∷ ids_of_all vs (starts_behind v es)
+
+-- The graph: the nodes of a value, each before its children, and behind them l. An anchor is known from its node's start
+-- on, so a node may hold itself.
+abbrev mutual
+  pub nodes_of : Value → List Start → List yaml_node_t → List yaml_node_t
+  nodes_of (alias_value a m n) es l = l
+  nodes_of (scalar_value s m n) es l = scalar_loaded s m n ∷ l
+  nodes_of (collection_value k a t i s m n vs p q) es l = collection_loaded k t s (ids_of_all vs (record { anchor = a; mark = m } ∷ es)) m q ∷ nodes_of_all vs (record { anchor = a; mark = m } ∷ es) l
+
+  pub nodes_of_all : Values → List Start → List yaml_node_t → List yaml_node_t
+  nodes_of_all no_values es l = l
+  nodes_of_all (first_value v vs) es l = nodes_of v es (nodes_of_all vs (starts_behind v es) l)

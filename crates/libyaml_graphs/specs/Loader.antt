@@ -1,0 +1,190 @@
+-- The loader as a machine over events (docs/DEFINITIONS.md, "The loader as a machine"): the nodes so far, a stack of the
+-- collections that are open, and the anchors. By this the loader's contracts are proved; no public clause speaks of it.
+use Rattle.std.specs.Prelude.{ℕ, zero, suc, pos, List, [], ◌∷◌, ◌++◌, length, nat_lt, Option, Some, None, Bool, true, false, Ok, Err}
+use Rattle.std.specs.FinMap.{FinMap, from_entries, get, insert}
+use Rattle.std.specs.Cmp.Lexicographic.{slice_cmp}
+use Rattle.std.specs.Ordering.{nat_cmp}
+use Rattle.libyaml_events.specs.Events.{Event}
+use Rattle.libyaml_events.specs.Fault.{Fault}
+use Rattle.libyaml_events.specs.FaultTexts.{memory_fault}
+use Rattle.libyaml_events.specs.Runs.{Ending}
+use Rattle.libyaml_events.specs.Tokens.{Mark}
+use Rattle.libyaml_documents.specs.LoadedNodes.{with_end}
+use Rattle.libyaml_documents.specs.Nodes.{changed_at, item_behind, pair_behind}
+use Rattle.libyaml_documents.specs.declared.node.unnamed_yaml_node_t_data.{unnamed_yaml_node_t_data}
+use Rattle.libyaml_documents.specs.declared.node.unnamed_yaml_node_t_data.TheVariants.{Scalar, Sequence, Mapping}
+use Rattle.libyaml_documents.specs.declared.node.yaml_node_t.{yaml_node_t}
+use Rattle.libyaml_graphs.specs.ComposerFaults.{repeated_anchor, undefined_alias}
+use Rattle.libyaml_graphs.specs.Graphs.{Carrier}
+use Rattle.libyaml_graphs.specs.Loads.{Load, behind_document, document, last_load, left_over}
+use Rattle.libyaml_graphs.specs.Parts.{Opening, Part, alias_part, closing_of, end_part, leaf_part, opening_of, part_of, start_part}
+
+-- the carrier of each anchor
+abbrev pub Anchors : Type 0
+Anchors = FinMap (slice_cmp nat_cmp) Carrier
+
+abbrev pub no_anchors : Anchors
+no_anchors = from_entries []
+
+-- An open collection: the place of its node in the list, from 0, and the id of the key that waits for its value.
+pub record Open : Type 0 where
+  pub place : ℕ
+  pub key : Option ℕ
+
+-- the innermost open collection stands first
+pub record Loader : Type 0 where
+  pub nodes : List yaml_node_t
+  pub stack : List Open
+  pub anchors : Anchors
+
+abbrev pub fresh : Loader
+fresh = record { nodes = []; stack = []; anchors = no_anchors }
+
+pub data Outcome : Type 0 where
+  going : Loader → Outcome
+  failed : Fault → Outcome
+
+-- A child behind those of a node, where k is the key that waits: a sequence has one item more, a mapping a pair more or a key
+-- that waits.
+abbrev pub content_with : Option ℕ → ℕ → unnamed_yaml_node_t_data → unnamed_yaml_node_t_data
+content_with k i (Scalar s) = Scalar s
+content_with k i (Sequence s) = item_behind (pos i) (Sequence s)
+content_with None i (Mapping s) = Mapping s
+content_with (Some k) i (Mapping s) = pair_behind (record { key = pos k; value = pos i }) (Mapping s)
+
+abbrev pub key_behind : Option ℕ → ℕ → unnamed_yaml_node_t_data → Option ℕ
+key_behind k i (Scalar s) = k
+key_behind k i (Sequence s) = k
+key_behind None i (Mapping s) = Some i
+key_behind (Some k) i (Mapping s) = None
+
+abbrev pub with_child : Option ℕ → ℕ → yaml_node_t → yaml_node_t
+with_child k i x = record x { content = content_with k i x.content }
+
+abbrev pub key_at : ℕ → Option ℕ → ℕ → List yaml_node_t → Option ℕ
+key_at p k i [] = k
+key_at zero k i (x ∷ xs) = key_behind k i x.content
+key_at (suc p) k i (x ∷ xs) = key_at p k i xs
+
+-- a child handed to the innermost open collection: the nodes and the stack behind it
+abbrev pub hand : ℕ → List Open → List yaml_node_t → List yaml_node_t
+hand i [] nodes = nodes
+hand i (o ∷ s) nodes = changed_at o.place (with_child o.key i) nodes
+
+abbrev pub handed : ℕ → List Open → List yaml_node_t → List Open
+handed i [] nodes = []
+handed i (o ∷ s) nodes = record { place = o.place; key = key_at o.place o.key i nodes } ∷ s
+
+-- the innermost open collection ends at m
+abbrev pub close : Mark → List Open → List yaml_node_t → List yaml_node_t
+close m [] nodes = nodes
+close m (o ∷ s) nodes = changed_at o.place (with_end m) nodes
+
+abbrev pub outer : List Open → List Open
+outer [] = []
+outer (o ∷ s) = s
+
+-- an anchor is registered, unless it is known
+pub data Registered : Type 0 where
+  known : Mark → Registered
+  registered : Anchors → Registered
+
+abbrev pub register : Option (List ℕ) → ℕ → Mark → Anchors → Registered
+register None i m xs = registered xs
+register (Some a) i m xs = elim (get xs a) [ Some c ↦ known c.mark | None ↦ registered (insert xs a (record { id = i; mark = m })) ]
+
+abbrev pub on_alias : Option Carrier → Mark → Loader → Outcome
+on_alias None m l = failed (undefined_alias m)
+on_alias (Some c) m l = going (record { nodes = hand c.id l.stack l.nodes; stack = handed c.id l.stack l.nodes; anchors = l.anchors })
+
+-- a node is put behind the others and then handed to its parent; `opens` are the collections that it opens
+abbrev pub on_node : Registered → yaml_node_t → (opens : List Open) → Loader → Outcome
+on_node (known m) x opens l = failed (repeated_anchor m x.start_mark)
+on_node (registered xs) x opens l = going (record { nodes = hand (suc (length l.nodes)) l.stack (l.nodes ++ x ∷ []); stack = opens ++ handed (suc (length l.nodes)) l.stack (l.nodes ++ x ∷ []); anchors = xs })
+
+-- one part, without a bound
+abbrev pub load_part : Loader → Part → Outcome
+load_part l (alias_part a m) = on_alias (get l.anchors a) m l
+load_part l (leaf_part a x) = on_node (register a (suc (length l.nodes)) x.start_mark l.anchors) x [] l
+load_part l (start_part a x) = on_node (register a (suc (length l.nodes)) x.start_mark l.anchors) x (record { place = length l.nodes; key = None } ∷ []) l
+load_part l (end_part n) = going (record { nodes = close n l.stack l.nodes; stack = outer l.stack; anchors = l.anchors })
+
+-- One part, with the bound n: the list of nodes first, then the anchor or alias, then the parent's list. A mapping's list
+-- has room for a value where it had room for the key.
+abbrev pub content_full : ℕ → Option ℕ → unnamed_yaml_node_t_data → Bool
+content_full n k (Scalar s) = false
+content_full n k (Sequence s) = nat_lt n (suc (length s.items))
+content_full n None (Mapping s) = nat_lt n (suc (length s.pairs))
+content_full n (Some k) (Mapping s) = false
+
+abbrev pub full_at : ℕ → ℕ → Option ℕ → List yaml_node_t → Bool
+full_at n p k [] = false
+full_at n zero k (x ∷ xs) = content_full n k x.content
+full_at n (suc p) k (x ∷ xs) = full_at n p k xs
+
+abbrev pub parent_full : ℕ → List Open → List yaml_node_t → Bool
+parent_full n [] nodes = false
+parent_full n (o ∷ s) nodes = full_at n o.place o.key nodes
+
+abbrev pub nodes_full : ℕ → Loader → Part → Bool
+nodes_full n l (alias_part a m) = false
+nodes_full n l (leaf_part a x) = nat_lt n (suc (length l.nodes))
+nodes_full n l (start_part a x) = nat_lt n (suc (length l.nodes))
+nodes_full n l (end_part m) = false
+
+abbrev pub list_full : ℕ → Loader → Part → Bool
+list_full n l (alias_part a m) = parent_full n l.stack l.nodes
+list_full n l (leaf_part a x) = parent_full n l.stack l.nodes
+list_full n l (start_part a x) = parent_full n l.stack l.nodes
+list_full n l (end_part m) = false
+
+abbrev pub unless_full : Bool → Outcome → Outcome
+unless_full true o = failed memory_fault
+unless_full false o = o
+
+abbrev pub if_child_fits : Bool → Outcome → Outcome
+if_child_fits b (failed f) = failed f
+if_child_fits b (going l) = unless_full b (going l)
+
+abbrev pub bounded_part : ℕ → Loader → Part → Outcome
+bounded_part n l p = unless_full (nodes_full n l p) (if_child_fits (list_full n l p) (load_part l p))
+
+-- an event that is no part of a document leaves all as it is
+abbrev pub load_option : Loader → Option Part → Outcome
+load_option l None = going l
+load_option l (Some p) = load_part l p
+
+abbrev pub bounded_option : ℕ → Loader → Option Part → Outcome
+bounded_option n l None = going l
+bounded_option n l (Some p) = bounded_part n l p
+
+-- between documents, or within one
+pub data State : Type 0 where
+  between : State
+  within : Opening → Loader → State
+
+-- what comes of an outcome: its fault in the form of an answer, or what the loader goes on to
+abbrev pub if_going : {A : Type 0} → (Fault → A) → Outcome → (Loader → A) → A
+if_going fault (going l) f = f l
+if_going fault (failed x) f = fault x
+
+-- One load, over the events to come: its answer, and the events that it leaves.
+abbrev pub load_from : ℕ → State → List Event → Ending → Load
+load_from n s [] x = last_load x
+load_from n between (e ∷ r) x = elim (opening_of e) [ None ↦ load_from n between r x | Some o ↦ load_from n (within o fresh) r x ]
+load_from n (within o l) (e ∷ r) x = elim (closing_of e) [ Some c ↦ Ok (document o l.nodes c) | None ↦ if_going (λ (f : Fault). Err f) (bounded_option n l (part_of e)) (λ (k : Loader). load_from n (within o k) r x) ]
+
+abbrev pub left_from : State → List Event → List Event
+left_from between r = left_over r
+left_from (within o l) r = behind_document r
+
+-- All loads, one after the other, without a bound and with the bound n.
+abbrev pub load_all : State → List Event → Ending → List Load
+load_all s [] x = last_load x ∷ []
+load_all between (e ∷ r) x = elim (opening_of e) [ None ↦ load_all between r x | Some o ↦ load_all (within o fresh) r x ]
+load_all (within o l) (e ∷ r) x = elim (closing_of e) [ Some c ↦ Ok (document o l.nodes c) ∷ load_all between r x | None ↦ if_going (λ (f : Fault). Err f ∷ []) (load_option l (part_of e)) (λ (k : Loader). load_all (within o k) r x) ]
+
+abbrev pub bounded_all : ℕ → State → List Event → Ending → List Load
+bounded_all n s [] x = last_load x ∷ []
+bounded_all n between (e ∷ r) x = elim (opening_of e) [ None ↦ bounded_all n between r x | Some o ↦ bounded_all n (within o fresh) r x ]
+bounded_all n (within o l) (e ∷ r) x = elim (closing_of e) [ Some c ↦ Ok (document o l.nodes c) ∷ bounded_all n between r x | None ↦ if_going (λ (f : Fault). Err f ∷ []) (bounded_option n l (part_of e)) (λ (k : Loader). bounded_all n (within o k) r x) ]

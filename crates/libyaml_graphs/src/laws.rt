@@ -1,0 +1,109 @@
+//! The laws of graphs and loads, over their definitions alone. Each function does nothing when it runs: its
+//! contract is the law.
+
+pub mod machine;
+pub mod rows;
+
+ghost use Rattle.std.specs.Prelude.{◌≡◌, ◌++◌, ◌↔◌, ℕ, suc, List, [], ◌∷◌, Option, None, true, false};
+ghost use Rattle.libyaml_events.specs.CutEvents.{cut_events};
+ghost use Rattle.libyaml_events.specs.CutFaults.{fault};
+ghost use Rattle.libyaml_events.specs.CutTrees.{Cut};
+ghost use Rattle.libyaml_events.specs.Events.{Event, events};
+ghost use Rattle.libyaml_events.specs.Fault.{Fault};
+ghost use Rattle.libyaml_events.specs.Fits.{Fits};
+ghost use Rattle.libyaml_events.specs.Nesting.{HasPairs, IsNested, NestsSoFar, Texts, TextsHavePairs, Value, value_events};
+ghost use Rattle.libyaml_events.specs.Order.{in_order};
+ghost use Rattle.libyaml_events.specs.Runs.{Ending, Ends, Fails, is_behind_properties};
+ghost use Rattle.libyaml_events.specs.Sentences.{IsBeginning, has_end};
+ghost use Rattle.libyaml_events.specs.Settled.{IsSettled};
+ghost use Rattle.libyaml_events.specs.Tokens.{Marks, StreamEnd, Token, tok};
+ghost use Rattle.libyaml_events.specs.Trees.{Stream, tokens};
+ghost use Rattle.libyaml_documents.specs.Nodes.{EveryIdNamesANode};
+ghost use Rattle.libyaml_graphs.specs.Bounds.{HasRoom, StaysWithin, bounded_loads, first_stop, next_bounded};
+ghost use Rattle.libyaml_graphs.specs.ComposerFaults.{composer_fault, heads};
+ghost use Rattle.libyaml_graphs.specs.GraphLaws.{ChildrenAreLater, EachHoldsItsChildren, EachIdNames, HoldsItsChildren, LoadsWhole, NestedLoads, load_at, unless_fault};
+ghost use Rattle.libyaml_graphs.specs.Graphs.{Start, nodes_of, starts_behind};
+ghost use Rattle.libyaml_graphs.specs.Loads.{IsLoads, Load, last_load, left_over, loads, loads_of, next_load};
+ghost use Rattle.libyaml_graphs.specs.Parts.{Part, graph, parts};
+
+/// The headline of loads: over a list whose only STREAM-END is its last token, the loads are the graphs of
+/// its one tree's documents, up to the first composer fault, and then the document without root; or those
+/// of the one cut tree that fits, and then the composer fault of the document that is open in it, or the
+/// cut tree's own fault.
+pub fn headline()
+    ensures { (l : List Token) (m : Marks) (f : Fault) → has_end l ≡ false → LoadsWhole (l ++ tok StreamEnd m ∷ []) f }
+{}
+
+/// Each list of tokens has one list of loads for each fault behind it.
+pub fn one_loads()
+    ensures some { (l : List Token) (f : Fault) → (a : List Load) × IsLoads l f a }
+    ensures one { (l : List Token) (f : Fault) (a b : List Load) → IsLoads l f a → IsLoads l f b → a ≡ b }
+{}
+
+/// The loads of a run, whatever cuts it off: the graphs of its whole documents, up to the first composer
+/// fault, and then the composer fault of the document that is open, if it has one, and else how the run
+/// ends.
+pub fn loads_of_run()
+    ensures of_run { (l : List Token) (f : Fault) (a : List Load) (h : IsLoads l f a) → NestedLoads h.events h.ending a }
+    ensures of_events { (l : List Event) (x : Ending) → NestsSoFar l → NestedLoads l x (loads l x) }
+{}
+
+/// The loads over a list that begins with a known tree's tokens: a sentence's with anything behind it, a
+/// cut tree's that fits with the token behind it and anything behind that, or a beginning's with nothing
+/// behind it.
+pub fn loads_of_tree()
+    ensures sentence { (t : Stream) (r : List Token) (f : Fault) → in_order t ≡ true → (n : IsNested (events t)) × IsLoads (tokens t ++ r) f (loads_of n.texts (last_load Ends ∷ [])) }
+    ensures cut_tree { (l : List Token) (b : Token) (r : List Token) (c : Cut) (f : Fault) → Fits l b c → is_behind_properties c r ≡ true → (a : List Load) × IsLoads (l ++ b ∷ r) f a × NestedLoads (cut_events c b) (Fails (fault c b.content b.start_mark)) a }
+    ensures amid_properties { (l : List Token) (b : Token) (r : List Token) (c : Cut) (f : Fault) → Fits l b c → is_behind_properties c r ≡ false → (a : List Load) × IsLoads (l ++ b ∷ r) f a × NestedLoads (cut_events c b) (Fails f) a }
+    ensures beginning { (l : List Token) (e : List Event) (f : Fault) → IsBeginning l → has_end l ≡ false → IsSettled l e → (a : List Load) × IsLoads l f a × NestedLoads e (Fails f) a }
+{}
+
+/// The graph by a document's parts is the graph by the tree of its value.
+pub fn graph_of_tree()
+    ensures { (v : Value) (es : List Start) (r : List Event) → graph es (parts (value_events v r)) ≡ nodes_of v es (graph (starts_behind v es) (parts r)) }
+{}
+
+/// The composer's fault is one of the heads alone.
+pub fn fault_of_heads()
+    ensures { (l : List Part) (es : List Start) → composer_fault es l ≡ composer_fault es (heads l) }
+{}
+
+/// Every id in the items and pairs of a loaded document names one of its nodes.
+pub fn every_id()
+    ensures of_value { (v : Value) → composer_fault [] (parts (value_events v [])) ≡ None → EveryIdNamesANode (nodes_of v [] []) }
+    ensures of_run { (l : List Token) (f : Fault) (a : List Load) → IsLoads l f a → EachIdNames a }
+{}
+
+/// Where each mapping has an even number of values, as in every run, each node holds the ids of all its
+/// children in their order: no pair lacks its value.
+pub fn no_value_lacks()
+    ensures of_value { (v : Value) (es : List Start) → HasPairs v → HoldsItsChildren v es }
+    ensures of_documents { (ts : Texts) → TextsHavePairs ts → EachHoldsItsChildren ts }
+{}
+
+/// A child that is no alias has a greater id than its parent, and an alias's id is that of an earlier or
+/// enclosing node.
+pub fn children_later()
+    ensures { (v : Value) (es : List Start) → ChildrenAreLater v es }
+{}
+
+/// The first load is the next load's answer, and those behind it are its fault again and again, or the
+/// loads of the events that it leaves; the same holds within a bound.
+pub fn load_by_load()
+    ensures first { (r : List Event) (x : Ending) (z : Load) → load_at z 0 (loads r x) ≡ next_load r x }
+    ensures later { (r : List Event) (x : Ending) (z : Load) (n : ℕ) → load_at z (suc n) (loads r x) ≡ unless_fault (next_load r x) (load_at (next_load r x) n (loads (left_over r) x)) }
+    ensures first_bounded { (r : List Event) (x : Ending) (z : Load) (m : ℕ) → load_at z 0 (bounded_loads m r x) ≡ next_bounded m r x }
+    ensures later_bounded { (r : List Event) (x : Ending) (z : Load) (m n : ℕ) → load_at z (suc n) (bounded_loads m r x) ≡ unless_fault (next_bounded m r x) (load_at (next_bounded m r x) n (bounded_loads m (left_over r) x)) }
+{}
+
+/// Where no list of a document that a load begins needs more than n entries, the bound n changes nothing.
+pub fn enough_room()
+    ensures all { (r : List Event) (x : Ending) (n : ℕ) → HasRoom n r → bounded_loads n r x ≡ loads r x }
+    ensures next { (r : List Event) (x : Ending) (n : ℕ) → HasRoom n r → next_bounded n r x ≡ next_load r x }
+{}
+
+/// The bound is exact: nothing stops a load within the bound n exactly where its document has no composer
+/// fault and none of its lists needs more than n entries.
+pub fn bound_is_exact()
+    ensures { (l : List Part) (n : ℕ) → (first_stop n [] [] l ≡ None) ↔ ((composer_fault [] l ≡ None) × StaysWithin n l) }
+{}

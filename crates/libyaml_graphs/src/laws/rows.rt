@@ -1,0 +1,60 @@
+//! Worked rows of loads: lists of tokens with the answers of the loads over them. Each function does
+//! nothing when it runs: its contract is the rows.
+
+ghost use Rattle.libyaml_graphs.specs.LoadRows.{RowAliasBeforeBound, RowAnchorOfDocumentBefore, RowBoundBeforeAnchor, RowBoundOfEachDocument, RowCollectionsInPairs, RowDirectives, RowEmptyDocuments, RowEmptyStream, RowEmptyTag, RowExclamationMarksOfCollections, RowExplicitEnd, RowHoldsItself, RowItemTwice, RowItemsBeyondBound, RowKeyBeyondBound, RowNestedHoldsItself, RowNodesBeyondBound, RowNodesInBound, RowPairInBound, RowPairs, RowParserFault, RowSecondAliasUndefined, RowSecondAnchor, RowSourceEnds, RowTagThatIsAnExclamationMark, RowUndefinedAlias, RowUndefinedAliasBeforeSourceEnds, RowUndefinedAliasBehindKey};
+
+/// A stream without documents, directives, an explicit end, and documents without content.
+pub fn documents()
+    ensures empty_stream { RowEmptyStream }
+    ensures directives { RowDirectives }
+    ensures explicit_end { RowExplicitEnd }
+    ensures empty_documents { RowEmptyDocuments }
+{}
+
+/// Pairs, and collections in one another.
+pub fn collections()
+    ensures pairs { RowPairs }
+    ensures collections_in_pairs { RowCollectionsInPairs }
+{}
+
+/// The tag `!`, and an empty one.
+pub fn tags()
+    ensures tag_that_is_an_exclamation_mark { RowTagThatIsAnExclamationMark }
+    ensures exclamation_marks_of_collections { RowExclamationMarksOfCollections }
+    ensures empty_tag { RowEmptyTag }
+{}
+
+/// Nodes that hold themselves, and nodes that stand more than once.
+pub fn aliases()
+    ensures holds_itself { RowHoldsItself }
+    ensures item_twice { RowItemTwice }
+    ensures nested_holds_itself { RowNestedHoldsItself }
+{}
+
+/// Undefined aliases, and an anchor that two nodes carry.
+pub fn composer_faults()
+    ensures undefined_alias { RowUndefinedAlias }
+    ensures second_alias_undefined { RowSecondAliasUndefined }
+    ensures anchor_of_document_before { RowAnchorOfDocumentBefore }
+    ensures second_anchor { RowSecondAnchor }
+{}
+
+/// Runs that a fault of the parser or the source cuts off.
+pub fn cut_off()
+    ensures parser_fault { RowParserFault }
+    ensures source_ends { RowSourceEnds }
+    ensures undefined_alias_before_source_ends { RowUndefinedAliasBeforeSourceEnds }
+{}
+
+/// Loads within a bound: its order against the composer's faults, and a pair that counts at its key.
+pub fn bounds()
+    ensures nodes_in_bound { RowNodesInBound }
+    ensures nodes_beyond_bound { RowNodesBeyondBound }
+    ensures items_beyond_bound { RowItemsBeyondBound }
+    ensures bound_of_each_document { RowBoundOfEachDocument }
+    ensures bound_before_anchor { RowBoundBeforeAnchor }
+    ensures alias_before_bound { RowAliasBeforeBound }
+    ensures pair_in_bound { RowPairInBound }
+    ensures key_beyond_bound { RowKeyBeyondBound }
+    ensures undefined_alias_behind_key { RowUndefinedAliasBehindKey }
+{}
