@@ -1,11 +1,11 @@
 -- The map of anchors, by its entries.
-use Rattle.std.proofs.Common.{◌≡◌, ℕ, List, [], ◌∷◌, Option, Some, None, Bool, true, false, cond, nat_cmp, refl, ap, sym, ◌∙◌}
+use Rattle.std.proofs.Common.{◌≡◌, ℕ, List, [], ◌∷◌, Option, Some, Bool, true, false, cond, nat_cmp, refl, ap, sym, ◌∙◌}
 use Rattle.std.specs.Cmp.{eq_by_cmp_equiv}
 use Rattle.std.specs.Cmp.Lexicographic.{slice_cmp, nat_list_cmp_total}
 use Rattle.std.specs.BTreeMap.{is_at}
 use Rattle.std.specs.Map.{lookup}
 use Rattle.std.specs.Option.{option_map}
-use Rattle.std.specs.FinMap.{from_entries, find, get, insert, get-from_entries, get-insert, same_map}
+use Rattle.std.specs.FinMap.{find, get, insert, get-from_entries, get-insert, same_map}
 use Rattle.std.proofs.lemmas.Map.Lookups.{exact_bytes}
 use Rattle.libyaml_loader.specs.declared.ids.Carrier.{Carrier}
 use Rattle.libyaml_loader.specs.Anchors.{anchors_of, carriers_of}

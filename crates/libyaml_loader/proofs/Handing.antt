@@ -1,8 +1,8 @@
 -- A child handed to the innermost open collection, as the code does it.
-use Rattle.std.proofs.Common.{◌≡◌, ◌≤◌, ◌<◌, ◌++◌, ◌∷◌, List, [], ℕ, zero, suc, ℤ, pos, negsuc, ◌≤ℤ◌, length, nat_lt, arith, ap, refl, sym, subst, ◌∙◌, Option, Some, None, Result, Ok, Err, OnOk, Bool, false}
+use Rattle.std.proofs.Common.{◌≡◌, ◌∷◌, List, [], ℕ, zero, suc, ℤ, pos, negsuc, ◌≤ℤ◌, nat_lt, arith, ap, refl, sym, subst, ◌∙◌, Option, Some, None, Result, Ok, Err, OnOk, Bool, false}
 use Rattle.std.proofs.lemmas.Int.{ints}
 use Rattle.libyaml_types.specs.declared.enums.yaml_node_type_t.{yaml_node_type_t}
-use Rattle.libyaml_types.specs.declared.enums.yaml_node_type_t.TheVariants.{YAML_NO_NODE, YAML_SCALAR_NODE, YAML_SEQUENCE_NODE, YAML_MAPPING_NODE}
+use Rattle.libyaml_types.specs.declared.enums.yaml_node_type_t.TheVariants.{YAML_SEQUENCE_NODE, YAML_MAPPING_NODE}
 use Rattle.libyaml_documents.specs.LoadedNodes.{children_at}
 use Rattle.libyaml_documents.specs.Nodes.{changed_at, type_at, with_changed, with_item, with_pair}
 use Rattle.libyaml_documents.specs.declared.node.unnamed_yaml_node_t_data.{unnamed_yaml_node_t_data}

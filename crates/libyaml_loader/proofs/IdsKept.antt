@@ -1,5 +1,5 @@
 -- The loader's steps keep ids in range.
-use Rattle.std.proofs.Common.{◌≡◌, ◌≤◌, ◌<◌, ◌++◌, ◌∷◌, List, [], ℕ, zero, suc, length, arith, ap, refl, sym, subst, ◌∙◌, Option, Some, None, Bool, true, false, cond, nat_cmp, length-append}
+use Rattle.std.proofs.Common.{◌≡◌, ◌≤◌, ◌++◌, ◌∷◌, List, [], ℕ, zero, suc, length, arith, ap, refl, sym, subst, ◌∙◌, Option, Some, None, Bool, true, false, cond, nat_cmp, length-append}
 use Rattle.std.specs.Cmp.Lexicographic.{slice_cmp, nat_list_cmp_total}
 use Rattle.std.specs.BTreeMap.{is_at}
 use Rattle.std.specs.FinMap.{get, insert, get-insert, get-empty}
@@ -10,7 +10,7 @@ use Rattle.libyaml_documents.specs.declared.node.unnamed_yaml_node_t_data.{unnam
 use Rattle.libyaml_documents.specs.declared.node.unnamed_yaml_node_t_data.TheVariants.{Scalar, Sequence, Mapping}
 use Rattle.libyaml_documents.specs.declared.node.yaml_node_t.{yaml_node_t}
 use Rattle.libyaml_graphs.specs.Graphs as graphs
-use Rattle.libyaml_graphs.specs.Loader.{Anchors, Loader, Open, Outcome, Registered, bounded_option, bounded_part, close, failed, fresh, going, hand, handed, if_child_fits, key_at, key_behind, known, list_full, load_part, nodes_full, on_alias, on_node, outer, register, registered, unless_full, with_child}
+use Rattle.libyaml_graphs.specs.Loader.{Anchors, Loader, Open, Outcome, Registered, bounded_option, close, failed, fresh, going, hand, handed, if_child_fits, key_at, key_behind, known, list_full, load_part, nodes_full, on_alias, on_node, outer, register, registered, unless_full, with_child}
 use Rattle.libyaml_graphs.specs.Parts.{Part, alias_part, end_part, leaf_part, start_part}
 use Rattle.libyaml_loader.specs.Context.{AllOpenIn, CarrierIn, IdsAreIn, KeyIn}
 use Rattle.libyaml_loader.proofs.Loading.{open_more}

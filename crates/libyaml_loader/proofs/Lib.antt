@@ -3,4 +3,7 @@ pub mod StackLemmas
 pub mod Handing
 pub mod Loading
 pub mod IdsKept
-pub mod LoadLemmas
+pub mod Taking
+pub mod Reaching
+pub mod Stepping
+pub mod NextLoads

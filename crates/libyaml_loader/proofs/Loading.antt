@@ -1,18 +1,12 @@
 -- A node put behind the others, registered and handed to its parent, as a step of the loader's machine.
-use Rattle.std.proofs.Common.{◌≡◌, ◌≤◌, ◌<◌, ◌+◌, ◌++◌, ℤ, pos, add-one, ◌∷◌, ◌⊎◌, List, [], ℕ, zero, suc, length, nat_lt, arith, ap, refl, sym, subst, ◌∙◌, inl, inr, Option, Some, None, Bool, true, false, length-append}
-use Rattle.std.specs.FinMap.{get}
-use Rattle.libyaml_types.specs.declared.mark.yaml_mark_t.{yaml_mark_t}
+use Rattle.std.proofs.Common.{◌≡◌, ◌≤◌, ◌<◌, ◌+◌, ◌++◌, ℤ, pos, add-one, ◌∷◌, List, [], ℕ, zero, suc, length, arith, ap, refl, sym, subst, ◌∙◌, inl, inr, Option, Some, None, Bool, false, length-append}
 use Rattle.libyaml_documents.specs.declared.node.yaml_node_t.{yaml_node_t}
 use Rattle.libyaml_documents.specs.Documents.{Document, with_node}
-use Rattle.libyaml_graphs.specs.Graphs as graphs
-use Rattle.libyaml_graphs.specs.ComposerFaults.{undefined_alias}
-use Rattle.libyaml_graphs.specs.Loader.{Anchors, Loader, Open, Outcome, Registered, bounded_part, failed, full_at, going, hand, handed, if_child_fits, known, list_full, nodes_full, on_alias, on_node, parent_full, register, registered, unless_full}
-use Rattle.libyaml_graphs.specs.Parts.{alias_part, leaf_part, start_part}
+use Rattle.libyaml_graphs.specs.Loader.{Anchors, Loader, Open, Outcome, Registered, failed, full_at, going, hand, handed, if_child_fits, known, on_node, parent_full, register, registered, unless_full}
 use Rattle.libyaml_loader.specs.declared.context.loader_ctx.{loader_ctx}
 use Rattle.libyaml_loader.specs.declared.ids.NodeId.{NodeId}
 use Rattle.libyaml_loader.specs.declared.refusal.Refusal.{Refusal}
-use Rattle.libyaml_loader.specs.declared.refusal.Refusal.TheVariants.{Memory, RepeatedAnchor}
-use Rattle.libyaml_loader.specs.Context.{AllOpenIn, KeyIn, NodeLoaded, RefusedBy, RefusesAnchor, handed_to, loader_of, with_nodes}
+use Rattle.libyaml_loader.specs.Context.{AllOpenIn, KeyIn, NodeLoaded, RefusedBy, RefusesAnchor, handed_to, with_nodes}
 use Rattle.libyaml_loader.specs.Ids.{id_of, magnitude}
 use Rattle.libyaml_loader.specs.Refusals.{fault_by}
 

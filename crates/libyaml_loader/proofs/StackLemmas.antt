@@ -1,11 +1,11 @@
 -- The stack of open collections, by the list of its `Vec`.
-use Rattle.std.proofs.Common.{◌≡◌, ◌++◌, ◌∷◌, List, [], ℕ, zero, suc, arith, map, reverse, get_or, set, length, ap, refl, sym, ◌∙◌, Option, Some, None}
+use Rattle.std.proofs.Common.{◌≡◌, ◌++◌, ◌∷◌, List, [], ℕ, zero, suc, arith, map, reverse, get_or, set, length, ap, refl, sym, ◌∙◌, Option}
 use Rattle.std.proofs.lemmas.List.{reverse-append}
 use Rattle.libyaml_graphs.specs.Loader as machine
 use Rattle.libyaml_loader.specs.declared.ids.NodeId.{NodeId}
 use Rattle.libyaml_loader.specs.declared.ids.Open.{Open}
 use Rattle.libyaml_loader.specs.Ids.{key_of, open_of, place_of}
-use Rattle.libyaml_loader.specs.Stack.{innermost, stack_of, with_key}
+use Rattle.libyaml_loader.specs.Stack.{stack_of, with_key}
 
 map_push : {A B : Type 0} (f : A → B) (xs : List A) (x : A) → map f (xs ++ x ∷ []) ≡ map f xs ++ f x ∷ []
 map_push f [] x = refl

@@ -2,7 +2,6 @@
 use Rattle.std.specs.Prelude.{ℕ, List, [], ◌∷◌, refl}
 use Rattle.std.specs.FinMap.{from_entries, code}
 use Rattle.std.specs.Coded.{Coded, code_by, coded_ℕ, coded_list, coded×}
-use Rattle.libyaml_types.specs.declared.mark.yaml_mark_t.{yaml_mark_t}
 use Rattle.libyaml_graphs.specs.Graphs as graphs
 use Rattle.libyaml_graphs.specs.Loader as machine
 use Rattle.libyaml_loader.specs.declared.ids.Carrier.{Carrier}

@@ -1,11 +1,11 @@
 -- The document on the way, and what the loader's steps make of it.
-use Rattle.std.specs.Prelude.{◌≡◌, ◌≤◌, ◌<◌, ◌++◌, ◌∷◌, ◌⊎◌, ℕ, suc, List, [], length, false, Option, Some, None, Bool}
+use Rattle.std.specs.Prelude.{◌≡◌, ◌≤◌, ◌<◌, ◌++◌, ◌∷◌, ◌⊎◌, ℕ, suc, List, [], length, false, Option, Some, None}
 use Rattle.std.specs.FinMap.{get}
 use Rattle.libyaml_types.specs.declared.mark.yaml_mark_t.{yaml_mark_t}
 use Rattle.libyaml_documents.specs.declared.node.yaml_node_t.{yaml_node_t}
 use Rattle.libyaml_documents.specs.Documents.{Document}
 use Rattle.libyaml_graphs.specs.Graphs as graphs
-use Rattle.libyaml_graphs.specs.Loader.{Anchors, Loader, Open, Outcome, Registered, bounded_option, close, failed, going, hand, handed, known, outer, parent_full, register, registered}
+use Rattle.libyaml_graphs.specs.Loader.{Loader, Open, Outcome, Registered, bounded_option, close, failed, going, hand, handed, known, outer, parent_full, register, registered}
 use Rattle.libyaml_graphs.specs.Parts.{Part}
 use Rattle.libyaml_loader.specs.declared.context.loader_ctx.{loader_ctx}
 use Rattle.libyaml_loader.specs.declared.ids.NodeId.{NodeId}

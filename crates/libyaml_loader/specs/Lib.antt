@@ -4,4 +4,5 @@ pub mod Ids
 pub mod Refusals
 pub mod Stack
 pub mod Loading
-pub mod Composing
+pub mod Steps
+pub mod NextLoad

@@ -9,3 +9,6 @@ mod refusal;
 mod stack;
 
 pub use load::yaml_parser_load;
+
+#[cfg(test)]
+mod tests;

@@ -1,9 +1,7 @@
 //! Why a load stops, and how the parser keeps it.
 
-ghost use Rattle.std.specs.Prelude.{◌≡◌, List, true, false};
-ghost use Rattle.libyaml_events.specs.Events.{Event};
-ghost use Rattle.libyaml_events.specs.Tokens.{Token};
-ghost use Rattle.libyaml_events.specs.History.{History, has_ended, has_failed, kept_fault, keeping};
+ghost use Rattle.std.specs.Prelude.{◌≡◌, true, false};
+ghost use Rattle.libyaml_events.specs.History.{has_ended, has_failed, kept_fault, keeping};
 ghost use Rattle.libyaml_events.specs.FaultTexts.{memory_fault};
 ghost use Rattle.libyaml_loader.specs.Refusals.{composer_fault, composer_fault_in, fault_by};
 
@@ -44,8 +42,7 @@ impl From<yaml_refusal_t> for Refusal {
 
 /// Whether the parser keeps a fault.
 pub fn has_failed<S>(parser: &yaml_parser_t<S>) -> bool
-    ensures value { result ≡ has_failed parser.now }
-    ensures before_fault { (asked : List Token) (given : List Event) → History parser.now asked given → has_failed parser.now ≡ false }
+    ensures { result ≡ has_failed parser.now }
 {
     !matches!(parser.prefix().error, yaml_error_type_t::YAML_NO_ERROR)
 }
@@ -53,7 +50,6 @@ pub fn has_failed<S>(parser: &yaml_parser_t<S>) -> bool
 /// The parser keeps the fault of this refusal for good, unless it keeps one. Answers the error that it keeps.
 pub fn keep_refusal<S>(parser: &mut yaml_parser_t<S>, refusal: Refusal) -> yaml_error_type_t
     ensures kept { has_failed parser.old ≡ false → parser.new ≡ keeping (fault_by refusal) parser.old }
-    ensures before_fault { (asked : List Token) (given : List Event) → History parser.old asked given → parser.new ≡ keeping (fault_by refusal) parser.old }
     ensures error { result ≡ (kept_fault parser.new).error }
     ensures ended { has_ended parser.new ≡ true }
     ensures bound { parser.new.max_entries ≡ parser.old.max_entries }
