@@ -22,15 +22,14 @@ pub fn document_of_words(alloc: Global) -> Result<yaml_document_t, yaml_refusal_
     Ok(document)
 }
 
-/// The first key of a document whose root is a mapping, where it is a scalar. Its id names a node, as each id
-/// in a document does, so there is nothing to be refused.
+/// The first key of a document whose root is a mapping, where it is a scalar.
 pub fn first_word(document: &yaml_document_t) -> Option<&str> {
     let unnamed_yaml_node_t_data::Mapping(mapping) = &yaml_document_get_root_node(document)?.content
     else {
         return None;
     };
     let pair = mapping.pairs.as_slice().first()?;
-    let key = yaml_document_get_node(document, pair.key).unwrap();
+    let key = yaml_document_get_node(document, pair.key)?;
     match &key.content {
         unnamed_yaml_node_t_data::Scalar(scalar) => Some(scalar.value.as_str()),
         _ => None,

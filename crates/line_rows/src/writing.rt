@@ -3,15 +3,18 @@
 use row_notation::{PieceWriter, mark};
 use std::alloc::{AllocError, Global};
 use std::test::Fail;
-use token_lines::{line_refusal_t, write_event, write_fault};
+use token_lines::{line_refusal_t, write_document, write_event, write_fault};
 use unsafe_libyaml::{
     NO_FAULT, TagDirectives, Text, ZERO_MARK, unnamed_yaml_event_t_data,
     unnamed_yaml_event_t_data_alias, unnamed_yaml_event_t_data_document_end,
     unnamed_yaml_event_t_data_document_start, unnamed_yaml_event_t_data_mapping_start,
     unnamed_yaml_event_t_data_scalar, unnamed_yaml_event_t_data_sequence_start,
-    unnamed_yaml_event_t_data_stream_start, yaml_encoding_t, yaml_error_type_t, yaml_event_t,
-    yaml_mapping_style_t, yaml_mark_t, yaml_parser_t_prefix, yaml_scalar_style_t,
-    yaml_sequence_style_t, yaml_tag_directive_t, yaml_version_directive_t,
+    unnamed_yaml_event_t_data_stream_start, yaml_document_add_mapping, yaml_document_add_scalar,
+    yaml_document_add_sequence, yaml_document_append_mapping_pair,
+    yaml_document_append_sequence_item, yaml_document_initialize, yaml_document_t, yaml_encoding_t,
+    yaml_error_type_t, yaml_event_t, yaml_mapping_style_t, yaml_mark_t, yaml_parser_t_prefix,
+    yaml_refusal_t, yaml_scalar_style_t, yaml_sequence_style_t, yaml_tag_directive_t,
+    yaml_version_directive_t,
 };
 
 fn event(content: unnamed_yaml_event_t_data, start: u64, end: u64) -> yaml_event_t {
@@ -413,6 +416,40 @@ fn each_write_failing_in_turn(rt: HostRuntime) -> Result<(), Fail> {
         let refused = write_event(alloc, &end, &mut writer);
         assert_eq!(rt; refused, Err(line_refusal_t::Output));
     }
+    Ok(())
+}
+
+/// { "a b": &list [ "a b", *list ], *list : itself }, with directives.
+fn document_with_each_node(alloc: Global) -> Result<yaml_document_t, yaml_refusal_t> {
+    let version = Some(yaml_version_directive_t { major: 1, minor: 2 });
+    let pairs: [(&[u8], &[u8]); 1] = [(b"!!", b"p:")];
+    let mut document = yaml_document_initialize(alloc, version, &pairs, false, true)?;
+    let style = yaml_mapping_style_t::YAML_FLOW_MAPPING_STYLE;
+    let map = yaml_document_add_mapping(&mut document, None, style)?;
+    let style = yaml_scalar_style_t::YAML_PLAIN_SCALAR_STYLE;
+    let key = yaml_document_add_scalar(&mut document, Some(b"!"), b"a b", style)?;
+    let style = yaml_sequence_style_t::YAML_BLOCK_SEQUENCE_STYLE;
+    let list = yaml_document_add_sequence(&mut document, None, style)?;
+    yaml_document_append_sequence_item(&mut document, list, key)?;
+    yaml_document_append_sequence_item(&mut document, list, list)?;
+    yaml_document_append_mapping_pair(&mut document, map, key, list)?;
+    yaml_document_append_mapping_pair(&mut document, map, list, map)?;
+    Ok(document)
+}
+
+#[test]
+fn lines_of_a_document(rt: HostRuntime) -> Result<(), Fail> {
+    let document = document_with_each_node(rt.alloc())?;
+    let mut written = Vec::new(rt.alloc());
+    write_document(rt.alloc(), &document, &mut written)?;
+    assert_eq!(rt;
+        written.as_slice(),
+        b"DOCUMENT 0:0:0 0:0:0 0 1 1.2 1 =!! =p:\n\
+          1 MAPPING 0:0:0 0:0:0 =tag:yaml.org,2002:map flow 2 2:3 3:1\n\
+          2 SCALAR 0:0:0 0:0:0 =! =a%20b plain\n\
+          3 SEQUENCE 0:0:0 0:0:0 =tag:yaml.org,2002:seq block 2 2 3\n"
+            .as_slice()
+    );
     Ok(())
 }
 

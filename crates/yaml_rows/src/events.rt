@@ -3,5 +3,6 @@
 mod calls;
 mod completed;
 mod counted;
+mod faults;
 mod parsing;
 mod refused;

@@ -27,7 +27,7 @@ impl yaml_token_source_t for CountedSource {
 
     ghost known = { λ _. None };
 
-    ghost may_break = { λ _. ⊥ };
+    ghost may_break = { λ _ _. ⊥ };
 
     ghost falls = { λ s t token h. list_falls s.list t.list token h };
 
