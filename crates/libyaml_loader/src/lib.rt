@@ -9,6 +9,3 @@ mod refusal;
 mod stack;
 
 pub use load::yaml_parser_load;
-
-#[cfg(test)]
-mod tests;
