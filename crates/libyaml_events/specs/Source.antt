@@ -30,9 +30,3 @@ list_answer (t ∷ ts) f = Ok t
 abbrev pub rest : List yaml_token_t → List yaml_token_t
 rest [] = []
 rest (t ∷ ts) = ts
-
--- the second list, if there is one, ends in the fault of the first
-abbrev pub EndsAlike : Option Coming → Option Coming → Type 0
-EndsAlike None b = Unit {0}
-EndsAlike (Some a) None = ⊥
-EndsAlike (Some a) (Some b) = b.fault ≡ a.fault

@@ -97,8 +97,9 @@ pub fn events_nest()
     ensures { (t : Stream) → IsNested (events t) }
 {}
 
-/// The events of each run nest as far as they go, whatever cuts it off: whole documents, then at most one that is open,
-/// and each mapping that is closed has an even number of nodes. Those of a run that ends nest to the end.
+/// The events of each run nest as far as they go, whatever cuts it off: whole documents, then at most one
+/// that is open, and each mapping that is closed has an even number of nodes. Those of a run that ends nest
+/// to the end.
 pub fn run_nests()
     ensures so_far { (l : List Token) (f : Fault) (e : List Event) (x : Ending) → IsRun l f e x → NestsSoFar e }
     ensures ended { (l : List Token) (f : Fault) (e : List Event) → IsRun l f e Ends → IsNested e }

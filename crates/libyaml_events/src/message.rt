@@ -40,7 +40,8 @@ impl fmt::Display for Place {
     }
 }
 
-/// The problem with its place, or else the kind of the fault; and behind it the context, if there is one, with its place.
+/// The problem with its place, or else the kind of the fault; and behind it the context with its place, if
+/// there is one.
 impl fmt::Display for yaml_parser_t_prefix {
     ghost output = { λ p. Some (message (fault_of p)) };
 

@@ -96,8 +96,8 @@ pub fn yaml_parser_initialize<S>(alloc: Global, source: S) -> yaml_parser_t<S>
     }
 }
 
-/// Spends the parser and gives its source back. If it knew its tokens, it still knows those that were not asked for
-/// (`laws::calls::source_left`).
+/// Spends the parser and gives its source back. If it knew its tokens, it still knows those that were not
+/// asked for (`laws::calls::source_left`).
 ///
 /// libyaml: `yaml_parser_delete`.
 pub fn yaml_parser_delete<S>(parser: yaml_parser_t<S>) -> S

@@ -4,14 +4,14 @@ use Rattle.std.proofs.lemmas.Int.{ints}
 use Rattle.std.proofs.lemmas.List.Elements.{All-nil, All-cons}
 use Rattle.libyaml_events.specs.Events.{Event, Layout, end_event}
 use Rattle.libyaml_events.specs.Fault.{Fault}
-use Rattle.libyaml_events.specs.Nesting.{AllHavePairs, HasPairs, Value, Values, alias_value, collection_value, first_value, is_even, no_values, scalar_value, value_events, values_events}
+use Rattle.libyaml_events.specs.Nesting.{AllHavePairs, HasPairs, Texts, TextsHavePairs, Value, Values, alias_value, collection_value, first_value, is_even, no_texts, no_values, scalar_value, text_behind, value_events, values_events}
 use Rattle.libyaml_events.specs.Order.{negated}
 use Rattle.libyaml_events.specs.Tokens.{Mark}
 use Rattle.libyaml_events.specs.Trees.{Sort, mapping, sequence}
 use Rattle.libyaml_documents.specs.Nodes.{EveryIdNamesANode, IsIdUpTo, ids_of, ids_of_pairs}
 use Rattle.libyaml_documents.specs.declared.node.yaml_node_t.{yaml_node_t}
 use Rattle.libyaml_graphs.specs.ComposerFaults.{alias_fault, anchor_fault, composer_fault, heads, or_else, part_fault}
-use Rattle.libyaml_graphs.specs.GraphLaws.{AllHoldTheirChildren, AllLater, ChildrenAreLater, HoldsItsChildren, IsLater}
+use Rattle.libyaml_graphs.specs.GraphLaws.{AllHoldTheirChildren, AllLater, ChildrenAreLater, EachHoldsItsChildren, HoldsItsChildren, IsLater}
 use Rattle.libyaml_graphs.specs.Graphs.{Carrier, Start, carrier, carries, collection_loaded, id_of, id_or, ids_of_all, items, nodes_of, nodes_of_all, pairs, starts_behind, starts_behind_all}
 use Rattle.libyaml_graphs.specs.Parts.{Part, alias_part, end_part, leaf_part, parts, start_of, start_part}
 
@@ -168,6 +168,10 @@ mutual
   all_hold_children : (vs : Values) (es : List Start) → AllHavePairs vs → AllHoldTheirChildren vs es
   all_hold_children no_values es h = tt
   all_hold_children (first_value v vs) es h = (holds_children v es h.0, all_hold_children vs (starts_behind v es) h.1)
+
+pub texts_hold : (ts : Texts) → TextsHavePairs ts → EachHoldsItsChildren ts
+texts_hold no_texts h = tt
+texts_hold (text_behind ts d m n v i p q) h = (texts_hold ts h.0, holds_children v [] h.1)
 
 -- children come later than their parents
 is_later : (n : ℕ) (v : Value) (es : List Start) → n ≤ length es → IsLater n v es

@@ -6,7 +6,7 @@ use Rattle.libyaml_events.specs.CutTrees.{Cut}
 use Rattle.libyaml_events.specs.Events.{Event, events}
 use Rattle.libyaml_events.specs.Fault.{Fault}
 use Rattle.libyaml_events.specs.Fits.{Fits}
-use Rattle.libyaml_events.specs.Nesting.{HasBegun, IsNested, Value, Values, alias_value, collection_value, first_value, no_values, scalar_value}
+use Rattle.libyaml_events.specs.Nesting.{HasBegun, IsNested, Texts, Value, Values, alias_value, collection_value, first_value, no_texts, no_values, scalar_value, text_behind}
 use Rattle.libyaml_events.specs.Order.{in_order}
 use Rattle.libyaml_events.specs.Runs.{Ending, Ends, Fails}
 use Rattle.libyaml_events.specs.Tokens.{Token}
@@ -46,6 +46,11 @@ abbrev mutual
   pub AllHoldTheirChildren : Values → List Start → Type 0
   AllHoldTheirChildren no_values es = Unit {0}
   AllHoldTheirChildren (first_value v vs) es = HoldsItsChildren v es × AllHoldTheirChildren vs (starts_behind v es)
+
+-- and so it is in the value of each document
+abbrev pub EachHoldsItsChildren : Texts → Type 0
+EachHoldsItsChildren no_texts = Unit {0}
+EachHoldsItsChildren (text_behind ts d m n v i p q) = EachHoldsItsChildren ts × HoldsItsChildren v []
 
 -- every id in each loaded document names one of its nodes
 abbrev pub EachIdNames : List Load → Type 0

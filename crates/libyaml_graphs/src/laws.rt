@@ -11,7 +11,7 @@ ghost use Rattle.libyaml_events.specs.CutTrees.{Cut};
 ghost use Rattle.libyaml_events.specs.Events.{Event, events};
 ghost use Rattle.libyaml_events.specs.Fault.{Fault};
 ghost use Rattle.libyaml_events.specs.Fits.{Fits};
-ghost use Rattle.libyaml_events.specs.Nesting.{HasPairs, IsNested, NestsSoFar, Value, value_events};
+ghost use Rattle.libyaml_events.specs.Nesting.{HasPairs, IsNested, NestsSoFar, Texts, TextsHavePairs, Value, value_events};
 ghost use Rattle.libyaml_events.specs.Order.{in_order};
 ghost use Rattle.libyaml_events.specs.Runs.{Ending, Ends, Fails, is_behind_properties};
 ghost use Rattle.libyaml_events.specs.Sentences.{IsBeginning, has_end};
@@ -21,7 +21,7 @@ ghost use Rattle.libyaml_events.specs.Trees.{Stream, tokens};
 ghost use Rattle.libyaml_documents.specs.Nodes.{EveryIdNamesANode};
 ghost use Rattle.libyaml_graphs.specs.Bounds.{HasRoom, StaysWithin, bounded_loads, first_stop, next_bounded};
 ghost use Rattle.libyaml_graphs.specs.ComposerFaults.{composer_fault, heads};
-ghost use Rattle.libyaml_graphs.specs.GraphLaws.{ChildrenAreLater, EachIdNames, HoldsItsChildren, LoadsWhole, NestedLoads, load_at, unless_fault};
+ghost use Rattle.libyaml_graphs.specs.GraphLaws.{ChildrenAreLater, EachHoldsItsChildren, EachIdNames, HoldsItsChildren, LoadsWhole, NestedLoads, load_at, unless_fault};
 ghost use Rattle.libyaml_graphs.specs.Graphs.{Start, nodes_of, starts_behind};
 ghost use Rattle.libyaml_graphs.specs.Loads.{IsLoads, Load, last_load, left_over, loads, loads_of, next_load};
 ghost use Rattle.libyaml_graphs.specs.Parts.{Part, graph, parts};
@@ -77,7 +77,8 @@ pub fn every_id()
 /// Where each mapping has an even number of values, as in every run, each node holds the ids of all its
 /// children in their order: no pair lacks its value.
 pub fn no_value_lacks()
-    ensures { (v : Value) (es : List Start) → HasPairs v → HoldsItsChildren v es }
+    ensures of_value { (v : Value) (es : List Start) → HasPairs v → HoldsItsChildren v es }
+    ensures of_documents { (ts : Texts) → TextsHavePairs ts → EachHoldsItsChildren ts }
 {}
 
 /// A child that is no alias has a greater id than its parent, and an alias's id is that of an earlier or

@@ -44,3 +44,10 @@ pub use Rattle.libyaml_documents.specs.Documents
 pub use Rattle.libyaml_documents.specs.LoadedNodes
 pub use Rattle.libyaml_documents.specs.Nodes
 pub use Rattle.libyaml_documents.specs.Pairs
+pub use Rattle.libyaml_graphs.specs.Graphs
+pub use Rattle.libyaml_graphs.specs.Parts
+pub use Rattle.libyaml_graphs.specs.ComposerFaults
+pub use Rattle.libyaml_graphs.specs.Loads
+pub use Rattle.libyaml_graphs.specs.Bounds
+pub use Rattle.libyaml_graphs.specs.GraphLaws
+pub use Rattle.libyaml_loader.specs.Loading

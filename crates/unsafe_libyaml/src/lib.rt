@@ -14,7 +14,7 @@ pub use libyaml_documents::{
     yaml_node_item_t, yaml_node_pair_t, yaml_node_t,
 };
 pub use libyaml_events::{
-    NO_FAULT, laws, yaml_list_source_t, yaml_parser_between_documents, yaml_parser_delete,
+    NO_FAULT, laws, yaml_error_words, yaml_list_source_t, yaml_parser_between_documents, yaml_parser_delete,
     yaml_parser_initialize, yaml_parser_parse, yaml_parser_set_max_entries, yaml_parser_t,
     yaml_parser_t_prefix, yaml_source_fault_t, yaml_token_source_t,
 };
@@ -36,6 +36,9 @@ pub use libyaml_types::{
     yaml_stream_start_event_initialize, yaml_tag_directive_t, yaml_token_delete, yaml_token_t,
     yaml_token_type_t, yaml_version_directive_t,
 };
+pub use libyaml_documents::laws as document_laws;
+pub use libyaml_graphs::laws as graph_laws;
+pub use libyaml_loader::yaml_parser_load;
 pub use parse_all::{yaml_parser_parse_all, yaml_run_t};
 // The variants of the enums, by their bare names.
 pub use libyaml_types::enums::yaml_break_t::{

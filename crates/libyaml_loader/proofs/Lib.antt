@@ -1,0 +1,9 @@
+pub mod AnchorLemmas
+pub mod StackLemmas
+pub mod Handing
+pub mod Loading
+pub mod IdsKept
+pub mod Taking
+pub mod Reaching
+pub mod Stepping
+pub mod NextLoads

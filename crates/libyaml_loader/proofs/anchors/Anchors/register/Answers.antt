@@ -1,0 +1,15 @@
+use Rattle.std.proofs.Common.{ap, sym, ◌∙◌}
+use Rattle.std.specs.Option.{option_map}
+use Rattle.libyaml_loader.specs.Ids.{carrier_of}
+use Rattle.libyaml_loader.proofs.AnchorLemmas.{get_anchor, one_registered}
+use Rattle.libyaml_loader.proofs.anchors.Anchors.register.Goals as goal
+
+pub returns-clause-earlier : goal.returns-clause-earlier
+returns-clause-earlier c =
+    let found = ap (option_map carrier_of) c.in_ok-insert.ensures.old ∙ sym (get_anchor c.self.inside.inner.entries c.args.anchor) in
+    rw (← c.self.view_is) found
+
+pub returns-clause-registered : goal.returns-clause-registered
+returns-clause-registered c =
+    let made = one_registered c.self.inside.inner.entries c.insert.new.self.entries c.args.anchor c.args.carrier c.in_ok-insert.ensures.updates.0 in
+    rw (← c.self.view_is) made

@@ -1,0 +1,72 @@
+-- The document on the way, and what the loader's steps make of it.
+use Rattle.std.specs.Prelude.{◌≡◌, ◌≤◌, ◌<◌, ◌++◌, ◌∷◌, ◌⊎◌, ℕ, suc, List, [], length, false, Option, Some, None}
+use Rattle.std.specs.FinMap.{get}
+use Rattle.libyaml_types.specs.declared.mark.yaml_mark_t.{yaml_mark_t}
+use Rattle.libyaml_documents.specs.declared.node.yaml_node_t.{yaml_node_t}
+use Rattle.libyaml_documents.specs.Documents.{Document}
+use Rattle.libyaml_graphs.specs.Graphs as graphs
+use Rattle.libyaml_graphs.specs.Loader.{Loader, Open, Outcome, Registered, bounded_option, close, failed, going, hand, handed, known, outer, parent_full, register, registered}
+use Rattle.libyaml_graphs.specs.Parts.{Part}
+use Rattle.libyaml_loader.specs.declared.context.loader_ctx.{loader_ctx}
+use Rattle.libyaml_loader.specs.declared.ids.NodeId.{NodeId}
+use Rattle.libyaml_loader.specs.declared.refusal.Refusal.{Refusal}
+use Rattle.libyaml_loader.specs.declared.refusal.Refusal.TheVariants.{Memory, RepeatedAnchor}
+use Rattle.libyaml_loader.specs.Ids.{id_of}
+use Rattle.libyaml_loader.specs.Refusals.{fault_by}
+
+-- what the loader's machine sees
+abbrev pub loader_of : loader_ctx → Loader
+loader_of c = record { nodes = c.document.nodes; stack = c.stack; anchors = c.anchors }
+
+abbrev pub with_nodes : List yaml_node_t → Document → Document
+with_nodes nodes d = record d { nodes = nodes }
+
+-- Open collections, keys that wait and carriers are among n nodes.
+abbrev pub KeyIn : ℕ → Option ℕ → Type 0
+KeyIn n None = Unit {0}
+KeyIn n (Some k) = k ≤ n
+
+abbrev pub CarrierIn : ℕ → Option graphs.Carrier → Type 0
+CarrierIn n None = Unit {0}
+CarrierIn n (Some c) = c.id ≤ n
+
+abbrev pub AllOpenIn : ℕ → List Open → Type 0
+AllOpenIn n [] = Unit {0}
+AllOpenIn n (o ∷ s) = (o.place < n) × KeyIn n o.key × AllOpenIn n s
+
+pub record IdsAreIn (l : Loader) : Type 0 where
+  pub stack : AllOpenIn (length l.nodes) l.stack
+  pub carriers : (a : List ℕ) → CarrierIn (length l.nodes) (get l.anchors a)
+
+-- a child handed to the innermost open collection
+abbrev pub handed_to : ℕ → loader_ctx → loader_ctx
+handed_to i c = record c { document = with_nodes (hand i c.stack c.document.nodes) c.document; stack = handed i c.stack c.document.nodes }
+
+-- the innermost open collection ended
+abbrev pub closed : yaml_mark_t → loader_ctx → loader_ctx
+closed m c = record c { document = with_nodes (close m c.stack c.document.nodes) c.document; stack = outer c.stack }
+
+-- why an anchor is not registered
+abbrev pub RefusesAnchor : Registered → yaml_mark_t → Refusal → Type 0
+RefusesAnchor (known first) m r = (r ≡ Memory) ⊎ (r ≡ RepeatedAnchor first m)
+RefusesAnchor (registered xs) m r = r ≡ Memory
+
+-- a node was put behind the others, its anchor registered, and it was handed to its parent
+pub record NodeLoaded (old new : loader_ctx) (id : NodeId) (anchor : Option (List ℕ)) (node : yaml_node_t) : Type 0 where
+  pub id_is : id_of id ≡ suc (length old.document.nodes)
+  pub anchors : register anchor (suc (length old.document.nodes)) node.start_mark old.anchors ≡ registered new.anchors
+  pub context : new ≡ handed_to (suc (length old.document.nodes)) (record old { document = with_nodes (old.document.nodes ++ node ∷ []) old.document; anchors = new.anchors })
+  pub room : parent_full old.max_entries old.stack old.document.nodes ≡ false
+
+-- the machine goes on by an event's part, and the document's fields stay
+pub record Composed (old new : loader_ctx) (p : Option Part) : Type 0 where
+  pub goes : bounded_option old.max_entries (loader_of old) p ≡ going (loader_of new)
+  pub document : new.document ≡ with_nodes new.document.nodes old.document
+  pub bound : new.max_entries ≡ old.max_entries
+
+-- a growth was refused, or the machine fails by this refusal
+abbrev pub RefusedBy : Outcome → Refusal → Type 0
+RefusedBy o r = (r ≡ Memory) ⊎ (o ≡ failed (fault_by r))
+
+abbrev pub Refuses : loader_ctx → Option Part → Refusal → Type 0
+Refuses old p r = RefusedBy (bounded_option old.max_entries (loader_of old) p) r

@@ -1,0 +1,32 @@
+-- Ids, carriers and open collections, as the loader's machine has them.
+use Rattle.std.specs.Prelude.{ℕ, zero, suc, ℤ, pos, negsuc, Option, Some, None}
+use Rattle.libyaml_graphs.specs.Graphs as graphs
+use Rattle.libyaml_graphs.specs.Loader as machine
+use Rattle.libyaml_loader.specs.declared.ids.NodeId.{NodeId}
+use Rattle.libyaml_loader.specs.declared.ids.Carrier.{Carrier}
+use Rattle.libyaml_loader.specs.declared.ids.Open.{Open}
+
+abbrev pub magnitude : ℤ → ℕ
+magnitude (pos n) = n
+magnitude (negsuc n) = zero
+
+abbrev pub id_of : NodeId → ℕ
+id_of i = magnitude i.number
+
+abbrev pub one_less : ℕ → ℕ
+one_less zero = zero
+one_less (suc n) = n
+
+-- ids count from 1, places from 0
+abbrev pub place_of : NodeId → ℕ
+place_of i = one_less (id_of i)
+
+abbrev pub key_of : Option NodeId → Option ℕ
+key_of None = None
+key_of (Some i) = Some (id_of i)
+
+abbrev pub open_of : Open → machine.Open
+open_of o = record { place = place_of o.node; key = key_of o.key }
+
+abbrev pub carrier_of : Carrier → graphs.Carrier
+carrier_of c = record { id = id_of c.node; mark = c.mark }

@@ -1,0 +1,63 @@
+-- What one event of a document does in a load.
+use Rattle.std.specs.Prelude.{◌≡◌, ◌∷◌, ◌⊎◌, List, [], Option, Some, None, Result, Ok, Err, true}
+use Rattle.libyaml_types.specs.declared.enums.yaml_error_type_t.{yaml_error_type_t}
+use Rattle.libyaml_events.specs.Config.{Parser}
+use Rattle.libyaml_events.specs.Events.{Event}
+use Rattle.libyaml_events.specs.Fault.{Answer, Fault}
+use Rattle.libyaml_events.specs.FaultTexts.{memory_fault}
+use Rattle.libyaml_events.specs.History.{History, between_documents}
+use Rattle.libyaml_events.specs.Runs.{Ending, Ends}
+use Rattle.libyaml_events.specs.RunToCome.{RunToCome}
+use Rattle.libyaml_events.specs.Source.{Coming}
+use Rattle.libyaml_events.specs.Tokens.{Token}
+use Rattle.libyaml_graphs.specs.Loader.{bounded_option, failed}
+use Rattle.libyaml_graphs.specs.Parts as parts
+use Rattle.libyaml_graphs.specs.Parts.{closing_of, part_of}
+use Rattle.libyaml_loader.specs.Context.{Composed, loader_of}
+use Rattle.libyaml_loader.specs.declared.context.loader_ctx.{loader_ctx}
+use Rattle.libyaml_loader.specs.declared.load.Closing.{Closing}
+use Rattle.libyaml_loader.specs.declared.load.Opening.{Opening}
+use Rattle.libyaml_loader.specs.declared.load.Step.{Step}
+use Rattle.libyaml_loader.specs.declared.load.Step.TheVariants as step
+use Rattle.libyaml_loader.specs.Loading.{KeptBy, ParserFails, Took}
+
+abbrev pub closing : Closing → parts.Closing
+closing c = record { is_implicit = c.implicit; mark = c.mark }
+
+abbrev pub opening_at : Opening → parts.Opening
+opening_at o = record { start = o.start; mark = o.mark }
+
+-- what the event did to the document on the way
+abbrev pub StepBy : Step → (old new : loader_ctx) → Event → Type 0
+StepBy step.Composed old new e = (closing_of e ≡ None) × Composed old new (part_of e)
+StepBy (step.Closed c) old new e = (closing_of e ≡ Some (closing c)) × (new ≡ old)
+StepBy step.Ended old new e = ⊥
+
+-- the next event was taken
+pub record TakesEvent {S : Type 0} (gives : S → Answer → S → Type 0) (known : S → Option Coming) (step : Step) (old new : Parser S) (before after : loader_ctx) : Type 0 where
+  pub event : Event
+  pub took : Took gives known old new (event ∷ [])
+  pub by : StepBy step before after event
+  pub ended : (asked : List Token) (given : List Event) → History old asked given → (c : parts.Closing) → closing_of event ≡ Some c → between_documents new ≡ true
+
+-- no event was left
+pub record FindsEnd {S : Type 0} (gives : S → Answer → S → Type 0) (known : S → Option Coming) (old new : Parser S) : Type 0 where
+  pub took : Took gives known old new []
+  pub ends : (events : List Event) (ending : Ending) → RunToCome known old events ending → (events ≡ []) × (ending ≡ Ends)
+  pub stands : (asked : List Token) (given : List Event) → History old asked given → between_documents new ≡ true
+
+-- the next event was taken and refused
+pub record LoaderFails {S : Type 0} (gives : S → Answer → S → Type 0) (known : S → Option Coming) (old new : Parser S) (before : loader_ctx) : Type 0 where
+  pub event : Event
+  pub parser : Parser S
+  pub took : Took gives known old parser (event ∷ [])
+  pub no_end : closing_of event ≡ None
+  pub fault : Fault
+  pub keeps : KeptBy fault parser new
+  pub why : (fault ≡ memory_fault) ⊎ (bounded_option before.max_entries (loader_of before) (part_of event) ≡ failed fault)
+
+abbrev pub Steps : {S : Type 0} → (S → Answer → S → Type 0) → (S → Option Coming) → (S → Fault → Type 0) → Result Step yaml_error_type_t → (old new : Parser S) → (before after : loader_ctx) → Type 0
+Steps gives known MayBreak (Ok step.Ended) old new before after = FindsEnd gives known old new
+Steps gives known MayBreak (Ok step.Composed) old new before after = TakesEvent gives known step.Composed old new before after
+Steps gives known MayBreak (Ok (step.Closed c)) old new before after = TakesEvent gives known (step.Closed c) old new before after
+Steps gives known MayBreak (Err x) old new before after = ParserFails gives known MayBreak old new ⊎ LoaderFails gives known old new before

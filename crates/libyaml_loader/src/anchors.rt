@@ -1,0 +1,63 @@
+//! The anchors of a document on the way.
+
+ghost use Rattle.std.specs.Prelude.{◌≡◌, IfOk, OnOk};
+ghost use Rattle.std.specs.Option.{option_map};
+ghost use Rattle.std.specs.FinMap.{get, insert};
+ghost use Rattle.libyaml_graphs.specs.Loader.{no_anchors};
+ghost use Rattle.libyaml_loader.specs.Ids.{carrier_of};
+
+use crate::ids::Carrier;
+use libyaml_types::Text;
+use std::alloc::{AllocError, Global};
+use std::collections::BTreeMap;
+use std::marker::Model;
+
+/// The first carrier of each anchor that came so far.
+///
+/// libyaml: the parser's field `aliases`.
+#[derive(Drop)]
+pub struct Anchors {
+    inner: BTreeMap<Text, Carrier>,
+}
+
+impl Model for Anchors {
+    ghost use Rattle.libyaml_graphs.specs.Loader as machine;
+    ghost use Rattle.libyaml_loader.specs.Anchors.{anchors_code, anchors_of};
+
+    ghost Value = { machine.Anchors };
+
+    ghost coded = { anchors_code };
+
+    ghost view = { λ a. anchors_of a.inner.entries };
+}
+
+impl Anchors {
+    /// No anchors. Takes no memory.
+    pub fn new(alloc: Global) -> Self
+        ensures { result ≡ no_anchors }
+    {
+        Anchors {
+            inner: BTreeMap::new(alloc),
+        }
+    }
+
+    /// The carrier of this anchor.
+    #[tactic(auto, using(crate::proofs::AnchorLemmas::get_anchor))]
+    pub fn find(&self, anchor: &Text) -> Option<Carrier>
+        ensures { option_map carrier_of result ≡ get self.now anchor.now }
+    {
+        self.inner.get(anchor).copied()
+    }
+
+    /// Puts down the carrier of this anchor, and answers the one that it had before.
+    pub fn register(
+        &mut self,
+        anchor: Text,
+        carrier: Carrier,
+    ) -> Result<Option<Carrier>, AllocError>
+        ensures earlier { IfOk result (λ earlier. option_map carrier_of earlier ≡ get self.old anchor) }
+        ensures registered { OnOk result (self.new ≡ insert self.old anchor (carrier_of carrier)) }
+    {
+        Ok(self.inner.insert(anchor, carrier)?)
+    }
+}

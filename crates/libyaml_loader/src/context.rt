@@ -1,0 +1,324 @@
+//! A document on the way: its nodes so far, its open collections and its anchors.
+
+ghost use Rattle.std.specs.Prelude.{◌≡◌, ◌≤◌, ◌⊎◌, suc, [], length, nat_lt, false, Some, None, IfOk, IfErr, OnOk};
+ghost use Rattle.libyaml_documents.specs.Documents.{with_changed_node};
+ghost use Rattle.libyaml_documents.specs.LoadedNodes.{begun_document, children_at, ended_document, mapping_loaded, scalar_loaded, sequence_loaded};
+ghost use Rattle.libyaml_documents.specs.Nodes.{ids_of, type_at, with_item, with_pair};
+ghost use Rattle.libyaml_graphs.specs.Loader.{no_anchors, parent_full, register, registered};
+ghost use Rattle.libyaml_graphs.specs.Parts.{alias_part, end_part, leaf_part, part_in, start_part};
+ghost use Rattle.libyaml_loader.specs.Context.{AllOpenIn, Composed, IdsAreIn, NodeLoaded, Refuses, RefusesAnchor, closed, handed_to, loader_of};
+ghost use Rattle.libyaml_loader.specs.Ids.{id_of};
+ghost use Rattle.libyaml_loader.specs.Stack.{opened, with_key};
+
+use crate::anchors::Anchors;
+use crate::ids::{Carrier, NodeId};
+use crate::refusal::Refusal;
+use crate::stack::OpenCollections;
+use libyaml_documents::building::{
+    append_node, begin_document, children_count, end_document, mapping_of_event, scalar_of_event,
+    sequence_of_event, set_end_mark,
+};
+use libyaml_documents::{
+    yaml_document_append_mapping_pair, yaml_document_append_sequence_item, yaml_document_get_node,
+    yaml_document_t, yaml_node_t,
+};
+use libyaml_types::{
+    Text, unnamed_yaml_event_t_data, unnamed_yaml_event_t_data_document_start,
+    unnamed_yaml_event_t_data_mapping_start, unnamed_yaml_event_t_data_scalar,
+    unnamed_yaml_event_t_data_sequence_start, yaml_mark_t, yaml_node_type_t,
+};
+use std::alloc::Global;
+
+/// A document on the way, whose lists have at most `max_entries` entries.
+///
+/// libyaml: `loader_ctx`, with the parser's fields `document` and `aliases`.
+#[derive(Drop)]
+pub struct loader_ctx {
+    pub document: yaml_document_t,
+    pub stack: OpenCollections,
+    pub anchors: Anchors,
+    pub max_entries: usize,
+    pub alloc: Global,
+}
+
+/// The type of the node of this id.
+fn type_of(document: &yaml_document_t, id: NodeId) -> yaml_node_type_t
+    ensures { result ≡ type_at document.now.nodes id.number }
+{
+    match yaml_document_get_node(document, id.number) {
+        Some(node) => node.type_(),
+        None => yaml_node_type_t::YAML_NO_NODE,
+    }
+}
+
+impl loader_ctx {
+    /// The document that this start event begins.
+    pub fn new(
+        alloc: Global,
+        max_entries: usize,
+        start: unnamed_yaml_event_t_data_document_start,
+        start_mark: yaml_mark_t,
+    ) -> Self
+        ensures document { result.document ≡ begun_document start start_mark }
+        ensures stack { result.stack ≡ [] }
+        ensures anchors { result.anchors ≡ no_anchors }
+        ensures bound { result.max_entries ≡ max_entries }
+    {
+        loader_ctx {
+            document: begin_document(alloc, start, start_mark),
+            stack: OpenCollections::new(alloc),
+            anchors: Anchors::new(alloc),
+            max_entries,
+            alloc,
+        }
+    }
+
+    /// The document, which ends so and here.
+    pub fn into_document(self, implicit: bool, end_mark: yaml_mark_t) -> yaml_document_t
+        ensures { result ≡ ended_document self.document implicit end_mark }
+    {
+        let mut document = self.document;
+        end_document(&mut document, implicit, end_mark);
+        document
+    }
+
+    /// Composes an event of the document. An event that is no part of its nodes changes nothing.
+    pub fn compose(
+        &mut self,
+        content: unnamed_yaml_event_t_data,
+        start_mark: yaml_mark_t,
+        end_mark: yaml_mark_t,
+    ) -> Result<(), Refusal>
+        requires { IdsAreIn (loader_of self.old) }
+        ensures ok { OnOk result (Composed self.old self.new (part_in content start_mark end_mark)) }
+        ensures err { IfErr result (λ r. Refuses self.old (part_in content start_mark end_mark) r) }
+    {
+        match content {
+            unnamed_yaml_event_t_data::Alias(alias) => {
+                self.yaml_parser_load_alias(&alias.anchor, start_mark)
+            }
+            unnamed_yaml_event_t_data::Scalar(scalar) => {
+                self.yaml_parser_load_scalar(scalar, start_mark, end_mark)
+            }
+            unnamed_yaml_event_t_data::SequenceStart(start) => {
+                self.yaml_parser_load_sequence(start, start_mark, end_mark)
+            }
+            unnamed_yaml_event_t_data::MappingStart(start) => {
+                self.yaml_parser_load_mapping(start, start_mark, end_mark)
+            }
+            unnamed_yaml_event_t_data::SequenceEnd | unnamed_yaml_event_t_data::MappingEnd => {
+                self.load_end(end_mark);
+                Ok(())
+            }
+            _ => Ok(()),
+        }
+    }
+
+    /// Whether a list of this many entries may have one more.
+    fn has_room(&self, entries: usize) -> Result<(), Refusal>
+        ensures ok { OnOk result (nat_lt self.now.max_entries (suc entries) ≡ false) }
+        ensures err { IfErr result (λ r. r ≡ Refusal.Memory) }
+    {
+        if entries < self.max_entries {
+            Ok(())
+        } else {
+            Err(Refusal::Memory)
+        }
+    }
+
+    /// Puts an alias into the innermost open collection.
+    ///
+    /// libyaml: `yaml_parser_load_alias`.
+    fn yaml_parser_load_alias(
+        &mut self,
+        anchor: &Text,
+        start_mark: yaml_mark_t,
+    ) -> Result<(), Refusal>
+        requires { IdsAreIn (loader_of self.old) }
+        ensures ok { OnOk result (Composed self.old self.new (Some (alias_part anchor.now start_mark))) }
+        ensures err { IfErr result (λ r. Refuses self.old (Some (alias_part anchor.now start_mark)) r) }
+    {
+        match self.anchors.find(anchor) {
+            Some(carrier) => self.yaml_parser_load_node_add(carrier.node),
+            None => Err(Refusal::UndefinedAlias(start_mark)),
+        }
+    }
+
+    /// Puts a scalar behind the nodes and into the innermost open collection.
+    ///
+    /// libyaml: `yaml_parser_load_scalar`.
+    fn yaml_parser_load_scalar(
+        &mut self,
+        mut scalar: unnamed_yaml_event_t_data_scalar,
+        start_mark: yaml_mark_t,
+        end_mark: yaml_mark_t,
+    ) -> Result<(), Refusal>
+        requires { IdsAreIn (loader_of self.old) }
+        ensures ok { OnOk result (Composed self.old self.new (Some (leaf_part scalar.anchor (scalar_loaded scalar start_mark end_mark)))) }
+        ensures err { IfErr result (λ r. Refuses self.old (Some (leaf_part scalar.anchor (scalar_loaded scalar start_mark end_mark))) r) }
+    {
+        self.has_room(self.document.nodes().len())?;
+        let anchor = scalar.anchor.take();
+        let node = scalar_of_event(self.alloc, scalar, start_mark, end_mark)?;
+        self.load_node(anchor, node)?;
+        Ok(())
+    }
+
+    /// Puts a sequence behind the nodes and into the innermost open collection, and opens it.
+    ///
+    /// libyaml: `yaml_parser_load_sequence`.
+    fn yaml_parser_load_sequence(
+        &mut self,
+        mut start: unnamed_yaml_event_t_data_sequence_start,
+        start_mark: yaml_mark_t,
+        end_mark: yaml_mark_t,
+    ) -> Result<(), Refusal>
+        requires { IdsAreIn (loader_of self.old) }
+        ensures ok { OnOk result (Composed self.old self.new (Some (start_part start.anchor (sequence_loaded start.tag start.style [] start_mark end_mark)))) }
+        ensures err { IfErr result (λ r. Refuses self.old (Some (start_part start.anchor (sequence_loaded start.tag start.style [] start_mark end_mark))) r) }
+    {
+        self.has_room(self.document.nodes().len())?;
+        let anchor = start.anchor.take();
+        let node = sequence_of_event(self.alloc, start, start_mark, end_mark)?;
+        let id = self.load_node(anchor, node)?;
+        self.stack.push(id)?;
+        Ok(())
+    }
+
+    /// Puts a mapping behind the nodes and into the innermost open collection, and opens it.
+    ///
+    /// libyaml: `yaml_parser_load_mapping`.
+    fn yaml_parser_load_mapping(
+        &mut self,
+        mut start: unnamed_yaml_event_t_data_mapping_start,
+        start_mark: yaml_mark_t,
+        end_mark: yaml_mark_t,
+    ) -> Result<(), Refusal>
+        requires { IdsAreIn (loader_of self.old) }
+        ensures ok { OnOk result (Composed self.old self.new (Some (start_part start.anchor (mapping_loaded start.tag start.style [] start_mark end_mark)))) }
+        ensures err { IfErr result (λ r. Refuses self.old (Some (start_part start.anchor (mapping_loaded start.tag start.style [] start_mark end_mark))) r) }
+    {
+        self.has_room(self.document.nodes().len())?;
+        let anchor = start.anchor.take();
+        let node = mapping_of_event(self.alloc, start, start_mark, end_mark)?;
+        let id = self.load_node(anchor, node)?;
+        self.stack.push(id)?;
+        Ok(())
+    }
+
+    /// Puts a node without children behind the others and into the innermost open collection, and
+    /// answers its id.
+    fn load_node(&mut self, anchor: Option<Text>, node: yaml_node_t) -> Result<NodeId, Refusal>
+        requires ids { IdsAreIn (loader_of self.old) }
+        requires childless { ids_of node.content ≡ [] }
+        ensures ok { IfOk result (λ id. NodeLoaded self.old self.new id anchor node) }
+        ensures err { IfErr result (λ r. RefusesAnchor (register anchor (suc (length self.old.document.nodes)) node.start_mark self.old.anchors) node.start_mark r) }
+    {
+        let mark = node.start_mark;
+        let id = NodeId::new(append_node(&mut self.document, node)?);
+        self.yaml_parser_register_anchor(anchor, Carrier { node: id, mark })?;
+        self.yaml_parser_load_node_add(id)?;
+        Ok(id)
+    }
+
+    /// Puts down that a node carries this anchor.
+    ///
+    /// libyaml: `yaml_parser_register_anchor`.
+    fn yaml_parser_register_anchor(
+        &mut self,
+        anchor: Option<Text>,
+        carrier: Carrier,
+    ) -> Result<(), Refusal>
+        ensures ok { OnOk result (register anchor (id_of carrier.node) carrier.mark self.old.anchors ≡ registered self.new.anchors) }
+        ensures rest { OnOk result (self.new ≡ record self.old { anchors = self.new.anchors }) }
+        ensures err { IfErr result (λ r. RefusesAnchor (register anchor (id_of carrier.node) carrier.mark self.old.anchors) carrier.mark r) }
+    {
+        let Some(anchor) = anchor else {
+            return Ok(());
+        };
+        match self.anchors.register(anchor, carrier)? {
+            None => Ok(()),
+            Some(first) => Err(Refusal::RepeatedAnchor(first.mark, carrier.mark)),
+        }
+    }
+
+    /// Ends the innermost open collection.
+    ///
+    /// libyaml: `yaml_parser_load_sequence_end` and `yaml_parser_load_mapping_end`.
+    fn load_end(&mut self, end_mark: yaml_mark_t)
+        requires { AllOpenIn (length self.old.document.nodes) self.old.stack }
+        ensures { self.new ≡ closed end_mark self.old }
+    {
+        if let Some(closed) = self.stack.pop() {
+            set_end_mark(&mut self.document, closed.node.number, end_mark);
+        }
+    }
+
+    /// Puts a child into the innermost open collection, if there is one.
+    ///
+    /// libyaml: `yaml_parser_load_node_add`.
+    fn yaml_parser_load_node_add(&mut self, child: NodeId) -> Result<(), Refusal>
+        requires stack { AllOpenIn (length self.old.document.nodes) self.old.stack }
+        requires child { id_of child ≤ length self.old.document.nodes }
+        ensures ok { OnOk result (self.new ≡ handed_to (id_of child) self.old) }
+        ensures room { OnOk result (parent_full self.old.max_entries self.old.stack self.old.document.nodes ≡ false) }
+        ensures err { IfErr result (λ r. r ≡ Refusal.Memory) }
+    {
+        let Some(parent) = self.stack.innermost() else {
+            return Ok(());
+        };
+        match type_of(&self.document, parent.node) {
+            yaml_node_type_t::YAML_SEQUENCE_NODE => self.add_item(parent.node, child),
+            yaml_node_type_t::YAML_MAPPING_NODE => match parent.key {
+                Some(key) => self.add_pair(parent.node, key, child),
+                None => self.add_key(parent.node, child),
+            },
+            yaml_node_type_t::YAML_SCALAR_NODE => Ok(()),
+            yaml_node_type_t::YAML_NO_NODE => Ok(()),
+        }
+    }
+
+    /// Puts an item behind the others of a sequence.
+    fn add_item(&mut self, sequence: NodeId, item: NodeId) -> Result<(), Refusal>
+        requires sequence { type_at self.old.document.nodes sequence.number ≡ yaml_node_type_t.YAML_SEQUENCE_NODE }
+        requires item { id_of item ≤ length self.old.document.nodes }
+        ensures ok { OnOk result (self.new ≡ record self.old { document = with_changed_node self.old.document sequence.number (with_item item.number) }) }
+        ensures room { OnOk result (nat_lt self.old.max_entries (suc (children_at self.old.document.nodes sequence.number)) ≡ false) }
+        ensures err { IfErr result (λ r. r ≡ Refusal.Memory) }
+    {
+        self.has_room(children_count(&self.document, sequence.number))?;
+        yaml_document_append_sequence_item(&mut self.document, sequence.number, item.number)?;
+        Ok(())
+    }
+
+    /// Lets a key wait for its value in the innermost open collection, which is a mapping.
+    fn add_key(&mut self, mapping: NodeId, key: NodeId) -> Result<(), Refusal>
+        requires mapping { type_at self.old.document.nodes mapping.number ≡ yaml_node_type_t.YAML_MAPPING_NODE }
+        ensures ok { OnOk result (self.new ≡ record self.old { stack = with_key (Some (id_of key)) self.old.stack }) }
+        ensures room { OnOk result (nat_lt self.old.max_entries (suc (children_at self.old.document.nodes mapping.number)) ≡ false) }
+        ensures err { IfErr result (λ r. r ≡ Refusal.Memory) }
+    {
+        self.has_room(children_count(&self.document, mapping.number))?;
+        self.stack.set_key(Some(key));
+        Ok(())
+    }
+
+    /// Puts the pair of a key that waited behind the others of the innermost open collection, which is
+    /// a mapping.
+    fn add_pair(&mut self, mapping: NodeId, key: NodeId, value: NodeId) -> Result<(), Refusal>
+        requires mapping { type_at self.old.document.nodes mapping.number ≡ yaml_node_type_t.YAML_MAPPING_NODE }
+        requires key { id_of key ≤ length self.old.document.nodes }
+        requires value { id_of value ≤ length self.old.document.nodes }
+        ensures ok { OnOk result (self.new ≡ record self.old { document = with_changed_node self.old.document mapping.number (with_pair key.number value.number); stack = with_key None self.old.stack }) }
+        ensures err { IfErr result (λ r. r ≡ Refusal.Memory) }
+    {
+        yaml_document_append_mapping_pair(
+            &mut self.document,
+            mapping.number,
+            key.number,
+            value.number,
+        )?;
+        self.stack.set_key(None);
+        Ok(())
+    }
+}

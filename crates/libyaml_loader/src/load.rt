@@ -1,0 +1,228 @@
+//! The next document of a parser.
+
+ghost use Rattle.std.specs.Prelude.{◌≡◌, ◌<◌, List, [], None, Ok, Err, IfErr, true, false};
+ghost use Rattle.std.specs.Option.{option_map};
+ghost use Rattle.libyaml_types.specs.declared.token.yaml_token_t.{yaml_token_t};
+ghost use Rattle.libyaml_types.specs.declared.event.yaml_event_t.{yaml_event_t};
+ghost use Rattle.libyaml_documents.specs.Documents.{empty_document};
+ghost use Rattle.libyaml_documents.specs.LoadedNodes.{begun_document};
+ghost use Rattle.libyaml_events.specs.EventsLeft.{events_left};
+ghost use Rattle.libyaml_events.specs.Stages.{is_event};
+ghost use Rattle.libyaml_events.specs.Runs.{Ending};
+ghost use Rattle.libyaml_events.specs.RunToCome.{RunToCome};
+ghost use Rattle.libyaml_events.specs.History.{History, between_documents, has_ended, has_failed, kept_fault};
+ghost use Rattle.libyaml_graphs.specs.Bounds.{next_bounded};
+ghost use Rattle.libyaml_graphs.specs.Loader as machine;
+ghost use Rattle.libyaml_graphs.specs.Loads.{left_over};
+ghost use Rattle.libyaml_graphs.specs.Parts as parts;
+ghost use Rattle.libyaml_loader.specs.Context.{IdsAreIn, loader_of, with_nodes};
+ghost use Rattle.libyaml_loader.specs.Ids.{magnitude};
+ghost use Rattle.libyaml_loader.specs.Loading.{LoadsFrom};
+ghost use Rattle.libyaml_loader.specs.NextLoad.{Answers, UnlessBroken};
+ghost use Rattle.libyaml_loader.specs.Steps.{Steps, closing, opening_at};
+
+use crate::context::loader_ctx;
+use crate::refusal::{has_failed, keep_refusal};
+use libyaml_documents::building::begin_document;
+use libyaml_documents::yaml_document_t;
+use libyaml_events::{yaml_parser_parse, yaml_parser_t, yaml_token_source_t};
+use libyaml_types::{
+    TagDirectives, ZERO_MARK, unnamed_yaml_event_t_data, unnamed_yaml_event_t_data_document_start,
+    yaml_error_type_t, yaml_event_t, yaml_mark_t,
+};
+use std::alloc::Global;
+
+/// The start of a document.
+#[derive(Drop)]
+struct Opening {
+    start: unnamed_yaml_event_t_data_document_start,
+    mark: yaml_mark_t,
+}
+
+/// The end of a document.
+#[derive(Copy, Clone)]
+struct Closing {
+    implicit: bool,
+    mark: yaml_mark_t,
+}
+
+/// What came of the next event of a document.
+#[derive(Copy, Clone)]
+enum Step {
+    /// It was composed.
+    Composed,
+    /// It ends the document.
+    Closed(Closing),
+    /// None came: the stream has ended.
+    Ended,
+}
+
+/// The next document, or at the stream's end the document without root.
+///
+/// Answers the error of a fault, which the parser keeps for good: one of the parser; an alias whose
+/// anchor no node before it carries, or a second node with an anchor; want of memory, where a growth is
+/// refused or a list of the document would have more than `max_entries` entries.
+///
+/// libyaml: `yaml_parser_load`.
+pub fn yaml_parser_load<S: yaml_token_source_t>(
+    parser: &mut yaml_parser_t<S>,
+) -> Result<yaml_document_t, yaml_error_type_t>
+    requires between { between_documents parser.old ≡ true }
+    // a fault that is kept is answered for good
+    ensures kept { has_failed parser.old ≡ true → (result ≡ Err (kept_fault parser.old).error) × (parser.new ≡ parser.old) }
+    ensures fails { IfErr result (λ x. (x ≡ (kept_fault parser.new).error) × (has_ended parser.new ≡ true)) }
+    ensures bound { parser.new.max_entries ≡ parser.old.max_entries }
+    ensures between { (asked : List yaml_token_t) (given : List yaml_event_t) → History parser.old asked given → between_documents parser.new ≡ true }
+    // over every source, by the events that were taken
+    ensures loads { has_failed parser.old ≡ false → LoadsFrom S.gives S.known S.may_break (next_bounded (magnitude parser.old.max_entries)) left_over parser.old result parser.new }
+    // over a source that knows its tokens, by the run that is to come
+    ensures next_load { (events : List yaml_event_t) (ending : Ending) → RunToCome S.known parser.old events ending
+        → UnlessBroken S.may_break result parser.new (Answers S.known (next_bounded (magnitude parser.old.max_entries) events ending) result parser.new (left_over events) ending) }
+{
+    if has_failed(parser) {
+        return Err(parser.prefix().error);
+    }
+    next_document(parser)
+}
+
+/// The next document, where no fault is kept.
+fn next_document<S: yaml_token_source_t>(
+    parser: &mut yaml_parser_t<S>,
+) -> Result<yaml_document_t, yaml_error_type_t>
+    ensures fails { IfErr result (λ x. (x ≡ (kept_fault parser.new).error) × (has_ended parser.new ≡ true)) }
+    ensures bound { parser.new.max_entries ≡ parser.old.max_entries }
+    ensures loads { LoadsFrom S.gives S.known S.may_break (next_bounded (magnitude parser.old.max_entries)) left_over parser.old result parser.new }
+{
+    loop {
+        let yaml_event_t {
+            content,
+            start_mark,
+            ..
+        } = yaml_parser_parse(parser)?;
+        if !is_event(&content) {
+            return Ok(without_root(parser.allocator()));
+        }
+        match opening_of(content, start_mark) {
+            Some(opening) => return yaml_parser_load_document(parser, opening),
+            None => {}
+        }
+    }
+}
+
+/// The document without root.
+fn without_root(alloc: Global) -> yaml_document_t
+    ensures { result ≡ empty_document None [] false false }
+{
+    let start = unnamed_yaml_event_t_data_document_start {
+        version_directive: None,
+        tag_directives: TagDirectives::new(alloc),
+        implicit: false,
+    };
+    begin_document(alloc, start, ZERO_MARK)
+}
+
+/// How many entries each list may have.
+fn bound_of<S>(parser: &yaml_parser_t<S>) -> usize
+    ensures { result ≡ magnitude parser.now.max_entries }
+{
+    let most = parser.max_entries();
+    if most < 0 { 0 } else { most as usize }
+}
+
+/// The rest of the document that this start event begins.
+///
+/// libyaml: `yaml_parser_load_document`.
+fn yaml_parser_load_document<S: yaml_token_source_t>(
+    parser: &mut yaml_parser_t<S>,
+    opening: Opening,
+) -> Result<yaml_document_t, yaml_error_type_t>
+    ensures fails { IfErr result (λ x. (x ≡ (kept_fault parser.new).error) × (has_ended parser.new ≡ true)) }
+    ensures bound { parser.new.max_entries ≡ parser.old.max_entries }
+    ensures loads { LoadsFrom S.gives S.known S.may_break (machine.load_from (magnitude parser.old.max_entries) (machine.within (opening_at opening) machine.fresh)) (machine.left_from (machine.within (opening_at opening) machine.fresh)) parser.old result parser.new }
+{
+    let alloc = parser.allocator();
+    let ctx = loader_ctx::new(alloc, bound_of(parser), opening.start, opening.mark);
+    yaml_parser_load_nodes(parser, ctx)
+}
+
+/// The rest of a document on the way.
+///
+/// libyaml: `yaml_parser_load_nodes`.
+fn yaml_parser_load_nodes<S: yaml_token_source_t>(
+    parser: &mut yaml_parser_t<S>,
+    mut ctx: loader_ctx,
+) -> Result<yaml_document_t, yaml_error_type_t>
+    requires ids { IdsAreIn (loader_of ctx) }
+    ensures fails { IfErr result (λ x. (x ≡ (kept_fault parser.new).error) × (has_ended parser.new ≡ true)) }
+    ensures bound { parser.new.max_entries ≡ parser.old.max_entries }
+    ensures loads { (o : parts.Opening) → ctx.document ≡ with_nodes ctx.document.nodes (begun_document o.start o.mark) → LoadsFrom S.gives S.known S.may_break (machine.load_from ctx.max_entries (machine.within o (loader_of ctx))) (machine.left_from (machine.within o (loader_of ctx))) parser.old result parser.new }
+{
+    loop {
+        match compose_next(parser, &mut ctx)? {
+            Step::Composed => {}
+            Step::Closed(closing) => return Ok(ctx.into_document(closing.implicit, closing.mark)),
+            Step::Ended => return Ok(without_root(ctx.alloc)),
+        }
+    }
+}
+
+/// Composes the next event of a document.
+fn compose_next<S: yaml_token_source_t>(
+    parser: &mut yaml_parser_t<S>,
+    ctx: &mut loader_ctx,
+) -> Result<Step, yaml_error_type_t>
+    requires ids { IdsAreIn (loader_of ctx.old) }
+    ensures falls { result ≡ Ok Step.Composed → events_left S.bound parser.new < events_left S.bound parser.old }
+    ensures fails { IfErr result (λ x. (x ≡ (kept_fault parser.new).error) × (has_ended parser.new ≡ true)) }
+    ensures bound { parser.new.max_entries ≡ parser.old.max_entries }
+    ensures steps { Steps S.gives S.known S.may_break result parser.old parser.new ctx.old ctx.new }
+{
+    let yaml_event_t {
+        content,
+        start_mark,
+        end_mark,
+    } = yaml_parser_parse(parser)?;
+    if !is_event(&content) {
+        return Ok(Step::Ended);
+    }
+    match closing_of(&content, end_mark) {
+        Some(closing) => Ok(Step::Closed(closing)),
+        None => match ctx.compose(content, start_mark, end_mark) {
+            Ok(()) => Ok(Step::Composed),
+            Err(refusal) => Err(keep_refusal(parser, refusal)),
+        },
+    }
+}
+
+/// Whether this is an event, and not the empty one.
+fn is_event(content: &unnamed_yaml_event_t_data) -> bool
+    ensures { result ≡ is_event content.now }
+{
+    !matches!(content, unnamed_yaml_event_t_data::NoEvent)
+}
+
+/// The start of a document, if the event is one.
+fn opening_of(content: unnamed_yaml_event_t_data, start_mark: yaml_mark_t) -> Option<Opening>
+    ensures { option_map opening_at result ≡ parts.opening_in content start_mark }
+{
+    match content {
+        unnamed_yaml_event_t_data::DocumentStart(start) => Some(Opening {
+            start,
+            mark: start_mark,
+        }),
+        _ => None,
+    }
+}
+
+/// The end of a document, if the event is one.
+fn closing_of(content: &unnamed_yaml_event_t_data, end_mark: yaml_mark_t) -> Option<Closing>
+    ensures { option_map closing result ≡ parts.closing_in content.now end_mark }
+{
+    match content {
+        unnamed_yaml_event_t_data::DocumentEnd(end) => Some(Closing {
+            implicit: end.implicit,
+            mark: end_mark,
+        }),
+        _ => None,
+    }
+}

@@ -1,0 +1,74 @@
+//! The open collections of a document on the way.
+
+ghost use Rattle.std.specs.Prelude.{◌≡◌, [], ◌∷◌, OnOk};
+ghost use Rattle.std.specs.Option.{option_map};
+ghost use Rattle.libyaml_graphs.specs.Loader.{outer};
+ghost use Rattle.libyaml_loader.specs.Ids.{key_of, open_of};
+ghost use Rattle.libyaml_loader.specs.Stack.{innermost, opened, with_key};
+
+use crate::ids::{NodeId, Open};
+use std::alloc::{AllocError, Global};
+use std::marker::Model;
+
+/// A stack of open collections, which contracts see with the innermost first.
+///
+/// libyaml: `loader_ctx`.
+#[derive(Drop)]
+pub struct OpenCollections {
+    inner: Vec<Open>,
+}
+
+impl Model for OpenCollections {
+    ghost use Rattle.std.specs.Prelude.{List};
+    ghost use Rattle.libyaml_graphs.specs.Loader as machine;
+
+    ghost Value = { List machine.Open };
+
+    ghost use Rattle.libyaml_loader.specs.Stack.{stack_of};
+
+    ghost view = { λ s. stack_of s.inner.items };
+}
+
+impl OpenCollections {
+    /// No open collections. Takes no memory.
+    pub fn new(alloc: Global) -> Self
+        ensures { result ≡ [] }
+    {
+        OpenCollections {
+            inner: Vec::new(alloc),
+        }
+    }
+
+    /// Opens the collection of this node.
+    pub fn push(&mut self, node: NodeId) -> Result<(), AllocError>
+        ensures { OnOk result (self.new ≡ opened node ∷ self.old) }
+    {
+        self.inner.push(Open { node, key: None })?;
+        Ok(())
+    }
+
+    /// Takes the innermost collection off.
+    pub fn pop(&mut self) -> Option<Open>
+        ensures top { option_map open_of result ≡ innermost self.old }
+        ensures rest { self.new ≡ outer self.old }
+    {
+        self.inner.pop()
+    }
+
+    /// The innermost collection.
+    pub fn innermost(&self) -> Option<Open>
+        ensures { option_map open_of result ≡ innermost self.now }
+    {
+        self.inner.last().copied()
+    }
+
+    /// Lets this key wait in the innermost collection, or none.
+    pub fn set_key(&mut self, key: Option<NodeId>)
+        ensures { self.new ≡ with_key (key_of key) self.old }
+    {
+        let count = self.inner.len();
+        if count > 0 {
+            self.inner[count - 1].key = key;
+        }
+    }
+}
