@@ -188,7 +188,15 @@ fn ends_of_sources() -> [yaml_source_fault_t; 3] {
     let context = Some("while giving a row");
     [
         yaml_source_fault_t::new(YAML_MEMORY_ERROR, None, 1, -1, mark(99), context, mark(98)),
-        yaml_source_fault_t::new(YAML_READER_ERROR, problem, 2, -3, mark(99), context, mark(98)),
+        yaml_source_fault_t::new(
+            YAML_READER_ERROR,
+            problem,
+            2,
+            -3,
+            mark(99),
+            context,
+            mark(98),
+        ),
         yaml_source_fault_t::new(YAML_SCANNER_ERROR, problem, 3, -2, mark(99), None, mark(98)),
     ]
 }
@@ -248,7 +256,7 @@ fn loaded(
     tokens.truncate(most);
     let source = yaml_list_source_t::new(tokens, end);
     let mut parser = yaml_parser_initialize(alloc, source);
-    yaml_parser_set_max_entries(&mut parser, bound);
+    yaml_parser_set_max_entries(&mut parser, bound.max(1));
     show_loads(alloc, &mut parser)
 }
 

@@ -7,6 +7,8 @@
 mod calls;
 mod drained;
 #[cfg(test)]
+mod loads;
+#[cfg(test)]
 mod refused;
 mod words;
 
