@@ -10,6 +10,8 @@ mod drained;
 mod loads;
 #[cfg(test)]
 mod refused;
+#[cfg(test)]
+mod whole_runs;
 mod words;
 
 use anyhow::Result;
