@@ -360,7 +360,7 @@ const GROWING: [(usize, usize); 4] = [(2, 2), (4, 1), (6, 1), (13, 1)];
 fn refused_growth_is_kept_by_a_load(rt: HostRuntime) {
     let mut refusals = 0u8;
     for (place, documents) in GROWING {
-        let (_, row, _, _) = ROWS[place];
+        let (_, row, _, _) = *ROWS.get(place).expect(&rt, "a row");
         for _ in 0..2u8 {
             if meets_a_refusal(&rt, row, documents) {
                 refusals = refusals.wrapping_add(1);

@@ -28,7 +28,7 @@ fn refused_growth_cuts_a_run_behind_a_line(rt: HostRuntime) -> Result<(), Fail> 
     let mut refusals = 0u8;
     // A scalar, a fault with a context, and directives with a tag that is joined.
     for row in [0usize, 5, 6] {
-        let (tokens, lines, outcome) = RUNS[row];
+        let (tokens, lines, outcome) = *RUNS.get(row).expect(&rt, "a run");
         for _ in 0..2u8 {
             let mut reader = tokens.as_bytes();
             let mut writer = FixedWriter::new();
