@@ -1,8 +1,8 @@
 #!/bin/sh
-# Refuses growths in turn: the tests whose names begin with `refused_growth_`, with the Nth allocation of each
-# failing, for each N. Every other test fails where its own allocation is refused, so the lines of these tests alone
-# are read. It ends where N is past the last allocation of all of them, as `names` of tests that are all `ok` can't
-# tell, so the count is given: by crate, one more than the most that any of its tests makes.
+# Refuses growths in turn: runs the tests of a program of rows once for each N, with the Nth allocation of each test
+# refused, and reads the lines of those tests alone whose names begin with `refused_growth_`. All others fail where
+# their own allocation is refused, which says nothing. LAST is the last N; past the last allocation of a test it runs
+# as ever.
 #
 #     examples/refused_growths.sh [CRATE LAST]
 set -u
