@@ -13,7 +13,7 @@ use unsafe_libyaml::{
 fn first_tokens(alloc: Global, lines: &str, most: usize) -> Result<Vec<yaml_token_t>> {
     let mut source = yaml_line_source_t::new(alloc, lines.as_bytes(), MAX_TOKENS);
     let mut tokens = Vec::new(alloc);
-    while tokens.len() < most {
+    for _ in 0..most {
         match source.next_token() {
             Ok(token) => tokens.push(token)?,
             Err(_) => break,
