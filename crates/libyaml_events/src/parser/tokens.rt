@@ -48,8 +48,11 @@ impl<S: yaml_token_source_t> yaml_parser_t<S> {
         ensures fetches { Fetches S.gives self.old result self.new }
         ensures error { IfErr result (λ e. is_fault e ≡ true) }
     {
-        if let Some(token) = self.take_lookahead() {
-            return Ok(token);
+        // Looked at before it is taken: mostly there is none.
+        if self.lookahead.is_some() {
+            if let Some(token) = self.take_lookahead() {
+                return Ok(token);
+            }
         }
         self.ask()
     }

@@ -1,5 +1,5 @@
 //! Nodes: properties and content.
-ghost use Rattle.std.specs.Prelude.{◌≡◌, Ok, Err, IfErr, false, true};
+ghost use Rattle.std.specs.Prelude.{◌≡◌, Ok, Err, IfErr, None, false, true};
 ghost use Rattle.libyaml_types.specs.declared.event.unnamed_yaml_event_t_data_scalar.{unnamed_yaml_event_t_data_scalar};
 ghost use Rattle.libyaml_types.specs.declared.enums.yaml_scalar_style_t.TheVariants.{YAML_PLAIN_SCALAR_STYLE};
 ghost use Rattle.libyaml_events.specs.Events.{is_plain, plain_flag, quoted_flag, is_missing};
@@ -131,6 +131,10 @@ impl<S> yaml_parser_t<S> {
         let start_mark = token.start_mark;
         let end_mark = token.end_mark;
         match token.content {
+            unnamed_yaml_token_t_data::Scalar(scalar) => {
+                self.bare_scalar(scalar, start_mark, end_mark, out);
+                Ok(Next::Given)
+            }
             unnamed_yaml_token_t_data::Alias(alias) => {
                 self.pop_state();
                 let event = unnamed_yaml_event_t_data_alias {
@@ -179,6 +183,35 @@ impl<S> yaml_parser_t<S> {
                 Ok(Next::Given)
             }
         }
+    }
+
+    /// A scalar without properties, which most nodes are.
+    #[inline(always)]
+    fn bare_scalar(
+        &mut self,
+        content: unnamed_yaml_token_t_data_scalar,
+        start_mark: yaml_mark_t,
+        end_mark: yaml_mark_t,
+        out: &mut yaml_event_t,
+    )
+        ensures { Steps (scalar_content (record { anchor = None; tag = None; start_mark = start_mark; end_mark = end_mark }) self.old.config content end_mark) self.old (Ok (Given out.new)) self.new }
+    {
+        self.pop_state();
+        let plain_implicit = is_plain(content.style);
+        let event = unnamed_yaml_event_t_data_scalar {
+            anchor: None,
+            tag: None,
+            value: content.value,
+            plain_implicit,
+            quoted_implicit: !plain_implicit,
+            style: content.style,
+        };
+        give(
+            out,
+            unnamed_yaml_event_t_data::Scalar(event),
+            start_mark,
+            end_mark,
+        );
     }
 
     /// Behind properties: the other one, or what the node is.
