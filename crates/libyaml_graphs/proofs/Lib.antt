@@ -8,6 +8,7 @@ pub mod TreeGraphs
 pub mod TextLoads
 pub mod Ids
 pub mod OneLoad
+pub mod Roots
 pub mod Room
 pub mod RunLoads
 pub mod LoadRows

@@ -18,7 +18,7 @@ loads_left (e ∷ r) x = go (closing_of e) (loads_left r x)
     go (Some y) h = refl
     go None h = h
 
-bounded_left : (r : List Event) (x : Ending) (m : ℕ) → bounded_loads_behind m r x ≡ bounded_loads m (behind_document r) x
+pub bounded_left : (r : List Event) (x : Ending) (m : ℕ) → bounded_loads_behind m r x ≡ bounded_loads m (behind_document r) x
 bounded_left [] x m = refl
 bounded_left (e ∷ r) x m = go (closing_of e) (bounded_left r x m)
   where

@@ -15,7 +15,7 @@ use Rattle.libyaml_documents.specs.Nodes.{EveryIdNamesANode, ids_of}
 use Rattle.libyaml_graphs.specs.ComposerFaults.{composer_fault}
 use Rattle.libyaml_graphs.specs.Graphs.{Start, collection_loaded, id_of, ids_of_all, items, starts_behind}
 use Rattle.libyaml_graphs.specs.Loads.{IsLoads, Load, last_load, loads_of}
-use Rattle.libyaml_graphs.specs.Parts.{parts}
+use Rattle.libyaml_graphs.specs.Parts.{Opening, Part, alias_part, end_part, leaf_part, opening_of, part_of, parts, start_part}
 
 -- A child that is no alias has a greater id than n. An alias's id is that of a node which starts before the alias: an earlier
 -- one, or one that the alias stands in.
@@ -78,6 +78,24 @@ fault_or (Some f) z = Err f
 abbrev pub open_load : List Event → Ending → Load
 open_load [] x = last_load x
 open_load (e ∷ r) x = fault_or (composer_fault [] (parts r)) (last_load x)
+
+-- an alias, a scalar or the start of a collection: a node begins with it
+abbrev pub BeginsNode : Option Part → Type 0
+BeginsNode None = ⊥
+BeginsNode (Some (alias_part a m)) = Unit {0}
+BeginsNode (Some (leaf_part a x)) = Unit {0}
+BeginsNode (Some (start_part a x)) = Unit {0}
+BeginsNode (Some (end_part n)) = ⊥
+
+abbrev pub RootFollows : Option Opening → List Event → Type 0
+RootFollows None r = Unit {0}
+RootFollows (Some o) [] = Unit {0}
+RootFollows (Some o) (e ∷ r) = BeginsNode (part_of e)
+
+-- behind each document's start its root begins, unless the events stop there
+abbrev pub RootsFollow : List Event → Type 0
+RootsFollow [] = Unit {0}
+RootsFollow (e ∷ r) = RootFollows (opening_of e) r × RootsFollow r
 
 -- The loads of events that nest as far as they go: the graphs of the whole documents, up to the first composer fault, and
 -- then what the open document gives.

@@ -4,7 +4,7 @@
 pub mod machine;
 pub mod rows;
 
-ghost use Rattle.std.specs.Prelude.{◌≡◌, ◌++◌, ◌↔◌, ℕ, suc, List, [], ◌∷◌, Option, None, true, false};
+ghost use Rattle.std.specs.Prelude.{◌≡◌, ◌≢◌, ◌++◌, ◌↔◌, ℕ, suc, List, [], ◌∷◌, Option, None, true, false, Ok, Err};
 ghost use Rattle.libyaml_events.specs.CutEvents.{cut_events};
 ghost use Rattle.libyaml_events.specs.CutFaults.{fault};
 ghost use Rattle.libyaml_events.specs.CutTrees.{Cut};
@@ -18,10 +18,11 @@ ghost use Rattle.libyaml_events.specs.Sentences.{IsBeginning, has_end};
 ghost use Rattle.libyaml_events.specs.Settled.{IsSettled};
 ghost use Rattle.libyaml_events.specs.Tokens.{Marks, StreamEnd, Token, tok};
 ghost use Rattle.libyaml_events.specs.Trees.{Stream, tokens};
+ghost use Rattle.libyaml_documents.specs.Documents.{Document};
 ghost use Rattle.libyaml_documents.specs.Nodes.{EveryIdNamesANode};
 ghost use Rattle.libyaml_graphs.specs.Bounds.{HasRoom, StaysWithin, bounded_loads, first_stop, next_bounded};
 ghost use Rattle.libyaml_graphs.specs.ComposerFaults.{composer_fault, heads};
-ghost use Rattle.libyaml_graphs.specs.GraphLaws.{ChildrenAreLater, EachHoldsItsChildren, EachIdNames, HoldsItsChildren, LoadsWhole, NestedLoads, load_at, unless_fault};
+ghost use Rattle.libyaml_graphs.specs.GraphLaws.{ChildrenAreLater, EachHoldsItsChildren, EachIdNames, HoldsItsChildren, LoadsWhole, NestedLoads, RootsFollow, load_at, unless_fault};
 ghost use Rattle.libyaml_graphs.specs.Graphs.{Start, nodes_of, starts_behind};
 ghost use Rattle.libyaml_graphs.specs.Loads.{IsLoads, Load, last_load, left_over, loads, loads_of, next_load};
 ghost use Rattle.libyaml_graphs.specs.Parts.{Part, graph, parts};
@@ -94,6 +95,17 @@ pub fn load_by_load()
     ensures later { (r : List Event) (x : Ending) (z : Load) (n : ℕ) → load_at z (suc n) (loads r x) ≡ unless_fault (next_load r x) (load_at (next_load r x) n (loads (left_over r) x)) }
     ensures first_bounded { (r : List Event) (x : Ending) (z : Load) (m : ℕ) → load_at z 0 (bounded_loads m r x) ≡ next_bounded m r x }
     ensures later_bounded { (r : List Event) (x : Ending) (z : Load) (m n : ℕ) → load_at z (suc n) (bounded_loads m r x) ≡ unless_fault (next_bounded m r x) (load_at (next_bounded m r x) n (bounded_loads m (left_over r) x)) }
+{}
+
+/// In a run each document's root begins behind its start, and so it is in the events that a load leaves. So
+/// a document without nodes is the last load, at the run's end; behind one with nodes come the loads of
+/// the events that it leaves; and a fault is the last load.
+pub fn whole_documents_have_roots()
+    ensures roots_follow { (l : List Event) → NestsSoFar l → RootsFollow l }
+    ensures left_over { (l : List Event) → RootsFollow l → RootsFollow (left_over l) }
+    ensures without_nodes { (l : List Event) (x : Ending) (n : ℕ) (d : Document) → RootsFollow l → next_bounded n l x ≡ Ok d → d.nodes ≡ [] → (bounded_loads n l x ≡ Ok d ∷ []) × (last_load x ≡ Ok d) }
+    ensures with_nodes { (l : List Event) (x : Ending) (n : ℕ) (d : Document) → next_bounded n l x ≡ Ok d → d.nodes ≢ [] → bounded_loads n l x ≡ Ok d ∷ bounded_loads n (left_over l) x }
+    ensures fault { (l : List Event) (x : Ending) (n : ℕ) (f : Fault) → next_bounded n l x ≡ Err f → bounded_loads n l x ≡ Err f ∷ [] }
 {}
 
 /// Where no list of a document that a load begins needs more than n entries, the bound n changes nothing.

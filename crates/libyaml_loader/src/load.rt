@@ -1,6 +1,6 @@
 //! The next document of a parser.
 
-ghost use Rattle.std.specs.Prelude.{◌≡◌, ◌<◌, List, [], None, Ok, Err, IfErr, true, false};
+ghost use Rattle.std.specs.Prelude.{◌≡◌, ◌<◌, ◌⊎◌, List, [], None, Ok, Err, IfOk, IfErr, true, false};
 ghost use Rattle.std.specs.Option.{option_map};
 ghost use Rattle.libyaml_types.specs.declared.token.yaml_token_t.{yaml_token_t};
 ghost use Rattle.libyaml_types.specs.declared.event.yaml_event_t.{yaml_event_t};
@@ -73,6 +73,8 @@ pub fn yaml_parser_load<S: yaml_token_source_t>(
     ensures fails { IfErr result (λ x. (x ≡ (kept_fault parser.new).error) × (has_ended parser.new ≡ true)) }
     ensures bound { parser.new.max_entries ≡ parser.old.max_entries }
     ensures between { (asked : List yaml_token_t) (given : List yaml_event_t) → History parser.old asked given → between_documents parser.new ≡ true }
+    // so a loop over the documents ends
+    ensures falls { IfOk result (λ d. (d ≡ empty_document None [] false false) ⊎ (events_left S.bound parser.new < events_left S.bound parser.old)) }
     // over every source, by the events that were taken
     ensures loads { has_failed parser.old ≡ false → LoadsFrom S.gives S.known S.may_break (next_bounded (magnitude parser.old.max_entries)) left_over parser.old result parser.new }
     // over a source that knows its tokens, by the run that is to come
@@ -89,6 +91,7 @@ pub fn yaml_parser_load<S: yaml_token_source_t>(
 fn next_document<S: yaml_token_source_t>(
     parser: &mut yaml_parser_t<S>,
 ) -> Result<yaml_document_t, yaml_error_type_t>
+    ensures falls { IfOk result (λ d. (d ≡ empty_document None [] false false) ⊎ (events_left S.bound parser.new < events_left S.bound parser.old)) }
     ensures fails { IfErr result (λ x. (x ≡ (kept_fault parser.new).error) × (has_ended parser.new ≡ true)) }
     ensures bound { parser.new.max_entries ≡ parser.old.max_entries }
     ensures loads { LoadsFrom S.gives S.known S.may_break (next_bounded (magnitude parser.old.max_entries)) left_over parser.old result parser.new }
@@ -136,6 +139,7 @@ fn yaml_parser_load_document<S: yaml_token_source_t>(
     parser: &mut yaml_parser_t<S>,
     opening: Opening,
 ) -> Result<yaml_document_t, yaml_error_type_t>
+    ensures falls { IfOk result (λ d. (d ≡ empty_document None [] false false) ⊎ (events_left S.bound parser.new < events_left S.bound parser.old)) }
     ensures fails { IfErr result (λ x. (x ≡ (kept_fault parser.new).error) × (has_ended parser.new ≡ true)) }
     ensures bound { parser.new.max_entries ≡ parser.old.max_entries }
     ensures loads { LoadsFrom S.gives S.known S.may_break (machine.load_from (magnitude parser.old.max_entries) (machine.within (opening_at opening) machine.fresh)) (machine.left_from (machine.within (opening_at opening) machine.fresh)) parser.old result parser.new }
@@ -153,6 +157,7 @@ fn yaml_parser_load_nodes<S: yaml_token_source_t>(
     mut ctx: loader_ctx,
 ) -> Result<yaml_document_t, yaml_error_type_t>
     requires ids { IdsAreIn (loader_of ctx) }
+    ensures falls { IfOk result (λ d. (d ≡ empty_document None [] false false) ⊎ (events_left S.bound parser.new < events_left S.bound parser.old)) }
     ensures fails { IfErr result (λ x. (x ≡ (kept_fault parser.new).error) × (has_ended parser.new ≡ true)) }
     ensures bound { parser.new.max_entries ≡ parser.old.max_entries }
     ensures loads { (o : parts.Opening) → ctx.document ≡ with_nodes ctx.document.nodes (begun_document o.start o.mark) → LoadsFrom S.gives S.known S.may_break (machine.load_from ctx.max_entries (machine.within o (loader_of ctx))) (machine.left_from (machine.within o (loader_of ctx))) parser.old result parser.new }
@@ -172,7 +177,7 @@ fn compose_next<S: yaml_token_source_t>(
     ctx: &mut loader_ctx,
 ) -> Result<Step, yaml_error_type_t>
     requires ids { IdsAreIn (loader_of ctx.old) }
-    ensures falls { result ≡ Ok Step.Composed → events_left S.bound parser.new < events_left S.bound parser.old }
+    ensures falls { IfOk result (λ s. (s ≡ Step.Ended) ⊎ (events_left S.bound parser.new < events_left S.bound parser.old)) }
     ensures fails { IfErr result (λ x. (x ≡ (kept_fault parser.new).error) × (has_ended parser.new ≡ true)) }
     ensures bound { parser.new.max_entries ≡ parser.old.max_entries }
     ensures steps { Steps S.gives S.known S.may_break result parser.old parser.new ctx.old ctx.new }

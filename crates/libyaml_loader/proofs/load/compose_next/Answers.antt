@@ -1,7 +1,7 @@
-use Rattle.std.proofs.Common.{◌≡◌, Err, refl, rules, sym, ◌∙◌, inr, true, false}
+use Rattle.std.proofs.Common.{◌≡◌, Err, refl, rules, sym, ◌∙◌, inl, inr, true, false}
 use Rattle.libyaml_events.specs.Stages.{is_event}
 use Rattle.libyaml_loader.proofs.Stepping.{loader_fails, steps_err, takes}
-use Rattle.libyaml_loader.proofs.Taking.{Called, finds_end, parser_fails}
+use Rattle.libyaml_loader.proofs.Taking.{Called, finds_end, parser_fails, running}
 use Rattle.libyaml_loader.proofs.load.compose_next.Goals as goal
 
 pub returns-in_err-content-clause-steps : goal.returns-in_err-content-clause-steps
@@ -49,3 +49,24 @@ returns-in-Err-clause-steps g c =
     let an_event : is_event c.in_ok-content.field-0.content ≡ true = sym c.is_event.ensures ∙ c.if-not-is_event.false in
     let no_end = sym c.in-None.ensures in
     inr (loader_fails t.gives t.known t.may_break c.args.parser.now call.new.parser c.keep_refusal.new.parser call.result called event c.in_ok-content.was an_event no_end c.args.ctx.now c.in-Err.refusal c.in-Err.ensures.err c.keep_refusal.ensures.kept)
+
+pub returns-in-Some-clause-falls : goal.returns-in-Some-clause-falls
+returns-in-Some-clause-falls g c =
+    let t = g.S.yaml_token_source_t in
+    let call = c.yaml_parser_parse in
+    let called : Called t.gives t.known t.may_break c.args.parser.now call.new.parser call.result = record { ended = call.ensures.ended; carries_on = call.ensures.carries_on; fails = call.ensures.fails; between = call.ensures.between; next = call.ensures.next_of_run; end = call.ensures.end_of_run; fault = call.ensures.fault_of_run; nothing = call.ensures.nothing_behind_end } in
+    let an_event : is_event c.in_ok-content.field-0.content ≡ true = sym c.is_event.ensures ∙ c.if-not-is_event.false in
+    let run = running t.gives t.known t.may_break c.args.parser.now call.new.parser call.result called c.in_ok-content.field-0 c.in_ok-content.was an_event in
+    inr (rw c.in_ok-content.was at (call.ensures.falls run))
+
+pub returns-in-Ok-clause-falls : goal.returns-in-Ok-clause-falls
+returns-in-Ok-clause-falls g c =
+    let t = g.S.yaml_token_source_t in
+    let call = c.yaml_parser_parse in
+    let called : Called t.gives t.known t.may_break c.args.parser.now call.new.parser call.result = record { ended = call.ensures.ended; carries_on = call.ensures.carries_on; fails = call.ensures.fails; between = call.ensures.between; next = call.ensures.next_of_run; end = call.ensures.end_of_run; fault = call.ensures.fault_of_run; nothing = call.ensures.nothing_behind_end } in
+    let an_event : is_event c.in_ok-content.field-0.content ≡ true = sym c.is_event.ensures ∙ c.if-not-is_event.false in
+    let run = running t.gives t.known t.may_break c.args.parser.now call.new.parser call.result called c.in_ok-content.field-0 c.in_ok-content.was an_event in
+    inr (rw c.in_ok-content.was at (call.ensures.falls run))
+
+pub returns-then-not-is_event-clause-falls : goal.returns-then-not-is_event-clause-falls
+returns-then-not-is_event-clause-falls g c = inl refl

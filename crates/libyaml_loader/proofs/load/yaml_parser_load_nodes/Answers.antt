@@ -1,32 +1,44 @@
-use Rattle.std.proofs.Common.{◌≡◌, Ok, Err, Result, rules, ap, ◌∙◌}
+use Rattle.std.proofs.Common.{◌≡◌, Ok, Err, Result, rules, ap, ◌∙◌, sym, inl, inr}
+use Rattle.std.proofs.Math.Nat.{le_refl}
+use Rattle.libyaml_events.specs.EventsLeft.{events_left}
 use Rattle.libyaml_types.specs.declared.enums.yaml_error_type_t.{yaml_error_type_t}
+use Rattle.libyaml_loader.specs.declared.load.Closing.{Closing}
 use Rattle.libyaml_loader.specs.declared.load.Step.{Step}
 use Rattle.libyaml_loader.specs.declared.load.Step.TheVariants as step
+use Rattle.libyaml_loader.proofs.Falling.{falls_since, has_fallen, stays_since}
 use Rattle.libyaml_loader.proofs.Stepping.{steps_at, way_closes, way_fails, way_finds_end, way_more, way_none}
 use Rattle.libyaml_loader.proofs.load.yaml_parser_load_nodes.Goals as goal
 
 ok_step : (r : Result Step yaml_error_type_t) (s t : Step) → r ≡ Ok s → s ≡ t → r ≡ Ok t
 ok_step r s t e f = e ∙ ap (λ (x : Step). Ok x) f
 
+composed_is_no_end : ◌≡◌ {A = Step} step.Composed step.Ended → ⊥
+composed_is_no_end h = cc
+
+closed_is_no_end : (x : Closing) → ◌≡◌ {A = Step} (step.Closed x) step.Ended → ⊥
+closed_is_no_end x h = cc
+
 pub loop-ctx-init : goal.loop-ctx-init
 loop-ctx-init g c =
     let t = g.S.yaml_token_source_t in
-    way_none t.gives t.known t.may_break c.args.parser.now c.args.ctx c.requires.ids
+    (way_none t.gives t.known t.may_break c.args.parser.now c.args.ctx c.requires.ids, le_refl (events_left t.bound c.args.parser.now))
 
 pub loop-ctx-preserved : goal.loop-ctx-preserved
 loop-ctx-preserved g c =
     let t = g.S.yaml_token_source_t in
     let call = c.compose_next in
-    let is = ok_step call.result c.in_ok-compose_next.field-0 step.Composed c.in_ok-compose_next.was c.in-Composed.is in
-    way_more t.gives t.known t.may_break c.args.parser.now c.loop-ctx.parser call.new.parser c.args.ctx c.loop-ctx.ctx call.new.ctx c.loop-ctx.invariant
-    (steps_at t.gives t.known t.may_break call.result (Ok step.Composed) c.loop-ctx.parser call.new.parser c.loop-ctx.ctx call.new.ctx is call.ensures.steps) call.ensures.bound
+    let is = ok_step call.result c.in_ok-compose_next.field-0 step.Composed c.in_ok-compose_next.was c.in-Composed.is in (
+      way_more t.gives t.known t.may_break c.args.parser.now c.loop-ctx.parser call.new.parser c.args.ctx c.loop-ctx.ctx call.new.ctx c.loop-ctx.invariant.0
+          (steps_at t.gives t.known t.may_break call.result (Ok step.Composed) c.loop-ctx.parser call.new.parser c.loop-ctx.ctx call.new.ctx is call.ensures.steps) call.ensures.bound,
+      stays_since _ _ _ c.loop-ctx.invariant.1 (has_fallen (λ (x : Step). x ≡ step.Ended) call.result step.Composed _ _ is composed_is_no_end call.ensures.falls),
+    )
 
 pub returns-in_err-compose_next-clause-loads : goal.returns-in_err-compose_next-clause-loads
 returns-in_err-compose_next-clause-loads g c o begun =
     let t = g.S.yaml_token_source_t in
     let call = c.compose_next in
     let e : c.from_residual.result ≡ Err c.in_err-compose_next.field-0.0 = search rules in
-    way_fails t.gives t.known t.may_break c.args.parser.now c.loop-ctx.parser call.new.parser c.args.ctx c.loop-ctx.ctx c.loop-ctx.invariant o c.from_residual.result c.in_err-compose_next.field-0.0 e
+    way_fails t.gives t.known t.may_break c.args.parser.now c.loop-ctx.parser call.new.parser c.args.ctx c.loop-ctx.ctx c.loop-ctx.invariant.0 o c.from_residual.result c.in_err-compose_next.field-0.0 e
     (steps_at t.gives t.known t.may_break call.result (Err c.in_err-compose_next.field-0.0) c.loop-ctx.parser call.new.parser c.loop-ctx.ctx call.new.ctx c.in_err-compose_next.was call.ensures.steps)
 
 pub returns-in-Closed-clause-loads : goal.returns-in-Closed-clause-loads
@@ -34,7 +46,7 @@ returns-in-Closed-clause-loads g c o begun =
     let t = g.S.yaml_token_source_t in
     let call = c.compose_next in
     let is = ok_step call.result c.in_ok-compose_next.field-0 (step.Closed c.in-Closed.closing) c.in_ok-compose_next.was c.in-Closed.is in
-    way_closes t.gives t.known t.may_break c.args.parser.now c.loop-ctx.parser call.new.parser c.args.ctx c.loop-ctx.ctx c.loop-ctx.invariant o call.new.ctx c.in-Closed.closing c.into_document.result begun
+    way_closes t.gives t.known t.may_break c.args.parser.now c.loop-ctx.parser call.new.parser c.args.ctx c.loop-ctx.ctx c.loop-ctx.invariant.0 o call.new.ctx c.in-Closed.closing c.into_document.result begun
     (steps_at t.gives t.known t.may_break call.result (Ok (step.Closed c.in-Closed.closing)) c.loop-ctx.parser call.new.parser c.loop-ctx.ctx call.new.ctx is call.ensures.steps) c.into_document.ensures
 
 pub returns-in-Ended-clause-loads : goal.returns-in-Ended-clause-loads
@@ -42,5 +54,20 @@ returns-in-Ended-clause-loads g c o begun =
     let t = g.S.yaml_token_source_t in
     let call = c.compose_next in
     let is = ok_step call.result c.in_ok-compose_next.field-0 step.Ended c.in_ok-compose_next.was c.in-Ended.is in
-    way_finds_end t.gives t.known t.may_break c.args.parser.now c.loop-ctx.parser call.new.parser c.args.ctx c.loop-ctx.ctx c.loop-ctx.invariant o c.without_root.result
+    way_finds_end t.gives t.known t.may_break c.args.parser.now c.loop-ctx.parser call.new.parser c.args.ctx c.loop-ctx.ctx c.loop-ctx.invariant.0 o c.without_root.result
     (steps_at t.gives t.known t.may_break call.result (Ok step.Ended) c.loop-ctx.parser call.new.parser c.loop-ctx.ctx call.new.ctx is call.ensures.steps) c.without_root.ensures
+
+pub loop-ctx-smaller : goal.loop-ctx-smaller
+loop-ctx-smaller g c =
+    let call = c.compose_next in
+    let is = ok_step call.result c.in_ok-compose_next.field-0 step.Composed c.in_ok-compose_next.was c.in-Composed.is in
+    has_fallen (λ (x : Step). x ≡ step.Ended) call.result step.Composed _ _ is composed_is_no_end call.ensures.falls
+
+pub returns-in-Closed-clause-falls : goal.returns-in-Closed-clause-falls
+returns-in-Closed-clause-falls g c =
+    let call = c.compose_next in
+    let is = ok_step call.result c.in_ok-compose_next.field-0 (step.Closed c.in-Closed.closing) c.in_ok-compose_next.was c.in-Closed.is in
+    inr (falls_since _ _ _ c.loop-ctx.invariant.1 (has_fallen (λ (x : Step). x ≡ step.Ended) call.result (step.Closed c.in-Closed.closing) _ _ is (closed_is_no_end c.in-Closed.closing) call.ensures.falls))
+
+pub returns-in-Ended-clause-falls : goal.returns-in-Ended-clause-falls
+returns-in-Ended-clause-falls g c = inl c.without_root.ensures

@@ -1,0 +1,167 @@
+-- A whole document has a root, so that a document without nodes is the one at the stream's end.
+use Rattle.std.proofs.Common.{◌≡◌, ◌≢◌, ◌++◌, ℕ, List, [], ◌∷◌, Option, Some, None, Bool, true, false, Ok, Err, nat_lt, refl, sym, ap, ◌∙◌, subst}
+use Rattle.libyaml_types.specs.declared.event.unnamed_yaml_event_t_data.{unnamed_yaml_event_t_data}
+use Rattle.libyaml_types.specs.declared.event.unnamed_yaml_event_t_data.TheVariants as ev
+use Rattle.libyaml_events.specs.Events.{Event, document_end_event, end_event, event, stream_end_event}
+use Rattle.libyaml_events.specs.Fault.{Fault}
+use Rattle.libyaml_events.specs.Nesting.{IsOpenDocument, NestsSoFar, Texts, Value, Values, alias_value, collection_value, first_value, has_begun, no_texts, no_values, none_open, not_begun, one_open, scalar_value, text_behind, texts_events, value_events, values_events, whole}
+use Rattle.libyaml_events.specs.Runs.{Ending, Ends, Fails}
+use Rattle.libyaml_events.specs.Tokens.{Mark}
+use Rattle.libyaml_events.specs.Trees.{mapping, sequence}
+use Rattle.libyaml_documents.specs.Documents.{Document}
+use Rattle.libyaml_graphs.specs.Bounds.{bounded_loads, bounded_loads_behind, first_stop, if_above, next_bounded}
+use Rattle.libyaml_graphs.specs.GraphLaws.{BeginsNode, RootFollows, RootsFollow}
+use Rattle.libyaml_graphs.specs.Loads.{Load, answer, behind_document, document, document_end, last_load, left_over, load_then}
+use Rattle.libyaml_graphs.specs.Parts.{Closing, Opening, Part, alias_part, closing_in, closing_of, end_part, graph, leaf_part, opening_of, part_in, part_of, parts, start_part, with_part}
+use Rattle.libyaml_graphs.proofs.OneLoad.{bounded_left}
+
+-- in events that nest as far as they go each document's root follows its start
+mutual
+  value_roots : (v : Value) (r : List Event) → RootsFollow r → RootsFollow (value_events v r)
+  value_roots (alias_value a m n) r h = (tt, h)
+  value_roots (scalar_value s m n) r h = (tt, h)
+  value_roots (collection_value sequence a t i s m n vs p q) r h = (tt, values_roots vs (end_event sequence p q ∷ r) (tt, h))
+  value_roots (collection_value mapping a t i s m n vs p q) r h = (tt, values_roots vs (end_event mapping p q ∷ r) (tt, h))
+
+  values_roots : (vs : Values) (r : List Event) → RootsFollow r → RootsFollow (values_events vs r)
+  values_roots no_values r h = h
+  values_roots (first_value v vs) r h = value_roots v (values_events vs r) (values_roots vs r h)
+
+root_first : (v : Value) (r : List Event) (o : Opening) → RootFollows (Some o) (value_events v r)
+root_first (alias_value a m n) r o = tt
+root_first (scalar_value s m n) r o = tt
+root_first (collection_value sequence a t i s m n vs p q) r o = tt
+root_first (collection_value mapping a t i s m n vs p q) r o = tt
+
+texts_roots : (ts : Texts) (r : List Event) → RootsFollow r → RootsFollow (texts_events ts r)
+texts_roots no_texts r h = h
+texts_roots (text_behind ts d m n v i p q) r h = texts_roots ts (event (ev.DocumentStart d) m n ∷ value_events v (document_end_event i p q ∷ r)) (root_first v (document_end_event i p q ∷ r) (record { start = d; mark = m }), value_roots v (document_end_event i p q ∷ r) (tt, h))
+
+front_first : (o : Option Opening) (f r : List Event) → RootFollows o (f ++ r) → RootFollows o f
+front_first None f r h = tt
+front_first (Some o) [] r h = tt
+front_first (Some o) (e ∷ f) r h = h
+
+front_roots : (f r : List Event) → RootsFollow (f ++ r) → RootsFollow f
+front_roots [] r h = tt
+front_roots (e ∷ f) r h = (front_first (opening_of e) f r h.0, front_roots f r h.1)
+
+open_roots : (l : List Event) → IsOpenDocument l → RootsFollow l
+open_roots l (none_open e) = subst RootsFollow (sym e) tt
+open_roots l (one_open d m n front e b) =
+    let first = subst (λ (k : List Event). RootFollows (Some (record { start = d; mark = m })) k) b.all (root_first b.val [] (record { start = d; mark = m })) in
+    let rest = subst RootsFollow b.all (value_roots b.val [] tt) in
+    subst RootsFollow (sym e) (front_first (Some (record { start = d; mark = m })) front b.rest first, front_roots front b.rest rest)
+
+pub roots_follow : (l : List Event) → NestsSoFar l → RootsFollow l
+roots_follow l (not_begun e) = subst RootsFollow (sym e) tt
+roots_follow l (has_begun n) = subst RootsFollow (sym n.all) (tt, texts_roots n.texts n.open_document (open_roots n.open_document n.is_open))
+roots_follow l (whole n) = subst RootsFollow (sym n.all) (tt, texts_roots n.texts (stream_end_event n.end n.end_end ∷ []) (tt, tt))
+
+-- and so it is in those that a load leaves
+behind_roots : (r : List Event) → RootsFollow r → RootsFollow (behind_document r)
+behind_roots [] h = tt
+behind_roots (e ∷ r) h = go (closing_of e) (behind_roots r h.1)
+  where
+    go : (c : Option Closing) → RootsFollow (behind_document r) → RootsFollow (elim c [ Some y ↦ r | None ↦ behind_document r ])
+    go (Some y) k = h.1
+    go None k = k
+
+pub left_roots : (r : List Event) → RootsFollow r → RootsFollow (left_over r)
+left_roots [] h = tt
+left_roots (e ∷ r) h = go (opening_of e) (left_roots r h.1)
+  where
+    go : (o : Option Opening) → RootsFollow (left_over r) → RootsFollow (elim o [ None ↦ left_over r | Some y ↦ behind_document r ])
+    go None k = k
+    go (Some y) k = behind_roots r h.1
+
+-- a document that begins with a node and that nothing stops has nodes
+node_first : (k : unnamed_yaml_event_t_data) (m n : Mark) → BeginsNode (part_in k m n) → closing_in k n ≡ None
+node_first (ev.DocumentEnd d) m n h = absurd h
+node_first ev.NoEvent m n h = refl
+node_first (ev.StreamStart s) m n h = refl
+node_first ev.StreamEnd m n h = refl
+node_first (ev.DocumentStart d) m n h = refl
+node_first (ev.Alias a) m n h = refl
+node_first (ev.Scalar s) m n h = refl
+node_first (ev.SequenceStart s) m n h = refl
+node_first ev.SequenceEnd m n h = refl
+node_first (ev.MappingStart s) m n h = refl
+node_first ev.MappingEnd m n h = refl
+
+part_first : (e : Event) (r : List Event) → closing_of e ≡ None → parts (e ∷ r) ≡ with_part (part_of e) (parts r)
+part_first e r h = ap (λ (c : Option Closing). elim c [ Some y ↦ [] | None ↦ with_part (part_of e) (parts r) ]) h
+
+stops : (b : Bool) (f : Fault) → if_above b (Some f) ≡ None → ⊥
+stops true f h = cc
+stops false f h = cc
+
+first_node : (p : Option Part) (l : List Part) (n : ℕ) → BeginsNode p → first_stop n [] [] (with_part p l) ≡ None → graph [] (with_part p l) ≢ []
+first_node None l n h s e = h
+first_node (Some (alias_part a m)) l n h s e = stops (nat_lt n 0) _ s
+first_node (Some (leaf_part a x)) l n h s e = cc
+first_node (Some (start_part a x)) l n h s e = cc
+first_node (Some (end_part m)) l n h s e = h
+
+has_nodes : (r : List Event) (o : Opening) (c : Closing) (n : ℕ) → RootFollows (Some o) r → first_stop n [] [] (parts r) ≡ None → document_end r ≡ Some c → graph [] (parts r) ≢ []
+has_nodes [] o c n h s d e = cc
+has_nodes (f ∷ r) o c n h s d e =
+    let p : parts (f ∷ r) ≡ with_part (part_of f) (parts r) = part_first f r (node_first f.content f.start_mark f.end_mark h) in
+    first_node (part_of f) (parts r) n h (ap (λ (l : List Part). first_stop n [] [] l) (sym p) ∙ s) (ap (λ (l : List Part). graph [] l) (sym p) ∙ e)
+
+ok : (a b : Document) → ◌≡◌ {A = Load} (Ok a) (Ok b) → a ≡ b
+ok a b h = cc
+
+last_bare : (x : Ending) (d : Document) → last_load x ≡ Ok d → d.nodes ≡ []
+last_bare Ends d h = ap (λ (a : Document). a.nodes) (sym (ok _ d h))
+last_bare (Fails f) d h = absurd cc
+
+-- The load without nodes is the last, and the run's end.
+pub last_of : (r : List Event) (x : Ending) (n : ℕ) (d : Document) → RootsFollow r → next_bounded n r x ≡ Ok d → d.nodes ≡ [] → (bounded_loads n r x ≡ Ok d ∷ []) × (last_load x ≡ Ok d)
+last_of [] x n d h a e = (ap (λ (l : Load). l ∷ []) a, a)
+last_of (v ∷ r) x n d h a e = go (opening_of v) refl a (last_of r x n d h.1)
+  where
+    at : (o : Opening) (f : Option Fault) (c : Option Closing) → RootFollows (Some o) r → first_stop n [] [] (parts r) ≡ f → document_end r ≡ c → answer f c o (graph [] (parts r)) (last_load x) ≡ Ok d
+        → (load_then f c o (graph [] (parts r)) (last_load x) (bounded_loads_behind n r x) ≡ Ok d ∷ []) × (last_load x ≡ Ok d)
+    at o (Some f) c root s t b = absurd cc
+    at o None (Some c) root s t b = absurd (has_nodes r o c n root s t (ap (λ (k : Document). k.nodes) (ok (document o (graph [] (parts r)) c) d b) ∙ e))
+    at o None None root s t b = (ap (λ (l : Load). l ∷ []) b, b)
+
+    go : (o : Option Opening) → opening_of v ≡ o → ◌≡◌ {A = Load} (elim o [ None ↦ next_bounded n r x | Some y ↦ answer (first_stop n [] [] (parts r)) (document_end r) y (graph [] (parts r)) (last_load x) ]) (Ok d)
+        → (next_bounded n r x ≡ Ok d → d.nodes ≡ [] → (bounded_loads n r x ≡ Ok d ∷ []) × (last_load x ≡ Ok d))
+        → (◌≡◌ {A = List Load} (elim o [ None ↦ bounded_loads n r x | Some y ↦ load_then (first_stop n [] [] (parts r)) (document_end r) y (graph [] (parts r)) (last_load x) (bounded_loads_behind n r x) ]) (Ok d ∷ [])) × (last_load x ≡ Ok d)
+    go None is b k = k b e
+    go (Some o) is b k = at o (first_stop n [] [] (parts r)) (document_end r) (subst (λ (y : Option Opening). RootFollows y r) is h.0) refl refl b
+
+-- Behind a load with nodes come the loads of the events that it leaves.
+pub earlier_of : (r : List Event) (x : Ending) (n : ℕ) (d : Document) → next_bounded n r x ≡ Ok d → d.nodes ≢ [] → bounded_loads n r x ≡ Ok d ∷ bounded_loads n (left_over r) x
+earlier_of [] x n d a e = absurd (e (last_bare x d a))
+earlier_of (v ∷ r) x n d a e = go (opening_of v) a (earlier_of r x n d)
+  where
+    at : (o : Opening) (f : Option Fault) (c : Option Closing) → answer f c o (graph [] (parts r)) (last_load x) ≡ Ok d
+        → load_then f c o (graph [] (parts r)) (last_load x) (bounded_loads_behind n r x) ≡ Ok d ∷ bounded_loads n (behind_document r) x
+    at o (Some f) c b = absurd cc
+    at o None (Some c) b = ap (λ (l : Load). l ∷ bounded_loads_behind n r x) b ∙ ap (λ (l : List Load). Ok d ∷ l) (bounded_left r x n)
+    at o None None b = absurd (e (last_bare x d b))
+
+    go : (o : Option Opening) → ◌≡◌ {A = Load} (elim o [ None ↦ next_bounded n r x | Some y ↦ answer (first_stop n [] [] (parts r)) (document_end r) y (graph [] (parts r)) (last_load x) ]) (Ok d)
+        → (next_bounded n r x ≡ Ok d → d.nodes ≢ [] → bounded_loads n r x ≡ Ok d ∷ bounded_loads n (left_over r) x)
+        → ◌≡◌ {A = List Load} (elim o [ None ↦ bounded_loads n r x | Some y ↦ load_then (first_stop n [] [] (parts r)) (document_end r) y (graph [] (parts r)) (last_load x) (bounded_loads_behind n r x) ]) (Ok d ∷ bounded_loads n (elim o [ None ↦ left_over r | Some y ↦ behind_document r ]) x)
+    go None b k = k b e
+    go (Some o) b k = at o (first_stop n [] [] (parts r)) (document_end r) b
+
+-- A fault is the last load.
+pub fault_of : (r : List Event) (x : Ending) (n : ℕ) (f : Fault) → next_bounded n r x ≡ Err f → bounded_loads n r x ≡ Err f ∷ []
+fault_of [] x n f a = ap (λ (l : Load). l ∷ []) a
+fault_of (v ∷ r) x n f a = go (opening_of v) a (fault_of r x n f)
+  where
+    at : (o : Opening) (g : Option Fault) (c : Option Closing) → answer g c o (graph [] (parts r)) (last_load x) ≡ Err f → load_then g c o (graph [] (parts r)) (last_load x) (bounded_loads_behind n r x) ≡ Err f ∷ []
+    at o (Some g) c b = ap (λ (l : Load). l ∷ []) b
+    at o None (Some c) b = absurd cc
+    at o None None b = ap (λ (l : Load). l ∷ []) b
+
+    go : (o : Option Opening) → ◌≡◌ {A = Load} (elim o [ None ↦ next_bounded n r x | Some y ↦ answer (first_stop n [] [] (parts r)) (document_end r) y (graph [] (parts r)) (last_load x) ]) (Err f)
+        → (next_bounded n r x ≡ Err f → bounded_loads n r x ≡ Err f ∷ [])
+        → ◌≡◌ {A = List Load} (elim o [ None ↦ bounded_loads n r x | Some y ↦ load_then (first_stop n [] [] (parts r)) (document_end r) y (graph [] (parts r)) (last_load x) (bounded_loads_behind n r x) ]) (Err f ∷ [])
+    go None b k = k b
+    go (Some o) b k = at o (first_stop n [] [] (parts r)) (document_end r) b
