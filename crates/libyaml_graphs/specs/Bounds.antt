@@ -1,6 +1,7 @@
 -- Loads in which each list of a document has at most n entries: the list of its nodes, and the items or pairs of each node
 -- (docs/DEFINITIONS.md, "Loads within a bound").
-use Rattle.std.specs.Prelude.{◌≡◌, ◌≤◌, ℕ, suc, List, [], ◌∷◌, ◌++◌, length, nat_lt, Option, Some, None, All, Bool, true, false}
+use Rattle.std.specs.Prelude.{◌≡◌, ◌≢◌, ◌≤◌, ℕ, suc, List, [], ◌∷◌, ◌++◌, length, nat_lt, Option, Some, None, All, Bool, true, false, Ok, Err}
+use Rattle.libyaml_types.specs.declared.enums.yaml_error_type_t.TheVariants.{YAML_MEMORY_ERROR}
 use Rattle.libyaml_events.specs.Events.{Event, either}
 use Rattle.libyaml_events.specs.Fault.{Fault}
 use Rattle.libyaml_events.specs.FaultTexts.{memory_fault}
@@ -91,3 +92,9 @@ abbrev mutual
   pub HasRoomBehind : ℕ → List Event → Type 0
   HasRoomBehind n [] = Unit {0}
   HasRoomBehind n (e ∷ r) = elim (closing_of e) [ Some c ↦ HasRoom n r | None ↦ HasRoomBehind n r ]
+
+-- none of these loads is want of memory
+abbrev pub NoneLacksMemory : List Load → Type 0
+NoneLacksMemory [] = Unit {0}
+NoneLacksMemory (Ok d ∷ l) = NoneLacksMemory l
+NoneLacksMemory (Err f ∷ l) = (f.error ≢ YAML_MEMORY_ERROR) × NoneLacksMemory l

@@ -8,11 +8,14 @@ use Rattle.libyaml_types.specs.declared.enums.yaml_mapping_style_t.TheVariants.{
 use Rattle.libyaml_types.specs.declared.enums.yaml_scalar_style_t.TheVariants.{YAML_PLAIN_SCALAR_STYLE}
 use Rattle.libyaml_types.specs.declared.enums.yaml_sequence_style_t.TheVariants.{YAML_BLOCK_SEQUENCE_STYLE, YAML_FLOW_SEQUENCE_STYLE}
 use Rattle.libyaml_types.specs.declared.token.unnamed_yaml_token_t_data.TheVariants.{StreamEnd, DocumentStart, DocumentEnd, BlockSequenceStart, BlockMappingStart, BlockEnd, BlockEntry, FlowSequenceStart, FlowSequenceEnd, FlowMappingStart, FlowMappingEnd, FlowEntry, Key, Value}
+use Rattle.libyaml_events.specs.Events.{document_end_event, document_start_event}
 use Rattle.libyaml_events.specs.RowNotation.{ALIAS, ANCHOR, HANDLE, SCALAR, STREAM, TAG, VERSION, asks_version, declares, list, no_more, place, says_while}
+use Rattle.libyaml_events.specs.Trees.{no_directives}
 use Rattle.libyaml_documents.specs.declared.node.unnamed_yaml_node_t_data.TheVariants.{Scalar, Sequence, Mapping}
 use Rattle.libyaml_documents.specs.declared.node.yaml_node_t.{yaml_node_t}
 use Rattle.libyaml_documents.specs.declared.pairs.yaml_node_pair_t.{yaml_node_pair_t}
 use Rattle.libyaml_graphs.specs.Bounds.{IsBoundedLoads}
+use Rattle.libyaml_graphs.specs.GraphLaws.{RootsFollow}
 use Rattle.libyaml_graphs.specs.Loads.{IsLoads, Load}
 
 -- a document from an index to another, with its version, directives, flags and nodes; one whose start and end are implicit;
@@ -66,6 +69,10 @@ no_memory = Err (record { error = YAML_MEMORY_ERROR; problem = None; problem_off
 abbrev pub RowEmptyStream : Type 0
 RowEmptyStream = IsLoads (list (
     STREAM ∷ StreamEnd ∷ [])) no_more (no_root ∷ [])
+
+-- no run has a document's end directly behind its start: there its root would lack
+abbrev pub RowStartWithoutRoot : Type 0
+RowStartWithoutRoot = RootsFollow (document_start_event no_directives true (place 2) (place 2) ∷ document_end_event true (place 2) (place 2) ∷ []) → ⊥
 
 abbrev pub RowDirectives : Type 0
 RowDirectives = IsLoads (list (

@@ -20,7 +20,7 @@ ghost use Rattle.libyaml_events.specs.Tokens.{Marks, StreamEnd, Token, tok};
 ghost use Rattle.libyaml_events.specs.Trees.{Stream, tokens};
 ghost use Rattle.libyaml_documents.specs.Documents.{Document};
 ghost use Rattle.libyaml_documents.specs.Nodes.{EveryIdNamesANode};
-ghost use Rattle.libyaml_graphs.specs.Bounds.{HasRoom, StaysWithin, bounded_loads, first_stop, next_bounded};
+ghost use Rattle.libyaml_graphs.specs.Bounds.{HasRoom, NoneLacksMemory, StaysWithin, bounded_loads, first_stop, next_bounded};
 ghost use Rattle.libyaml_graphs.specs.ComposerFaults.{composer_fault, heads};
 ghost use Rattle.libyaml_graphs.specs.GraphLaws.{ChildrenAreLater, EachHoldsItsChildren, EachIdNames, HoldsItsChildren, LoadsWhole, NestedLoads, RootsFollow, load_at, unless_fault};
 ghost use Rattle.libyaml_graphs.specs.Graphs.{Start, nodes_of, starts_behind};
@@ -108,10 +108,12 @@ pub fn whole_documents_have_roots()
     ensures fault { (l : List Event) (x : Ending) (n : ℕ) (f : Fault) → next_bounded n l x ≡ Err f → bounded_loads n l x ≡ Err f ∷ [] }
 {}
 
-/// Where no list of a document that a load begins needs more than n entries, the bound n changes nothing.
+/// Where no list of a document that a load begins needs more than n entries, the bound n changes nothing;
+/// nor does it where none of the loads within it is want of memory.
 pub fn enough_room()
     ensures all { (r : List Event) (x : Ending) (n : ℕ) → HasRoom n r → bounded_loads n r x ≡ loads r x }
     ensures next { (r : List Event) (x : Ending) (n : ℕ) → HasRoom n r → next_bounded n r x ≡ next_load r x }
+    ensures unmet { (r : List Event) (x : Ending) (n : ℕ) → NoneLacksMemory (bounded_loads n r x) → bounded_loads n r x ≡ loads r x }
 {}
 
 /// The bound is exact: nothing stops a load within the bound n exactly where its document has no composer

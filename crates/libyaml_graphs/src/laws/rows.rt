@@ -1,14 +1,16 @@
 //! Worked rows of loads: lists of tokens with the answers of the loads over them. Each function does
 //! nothing when it runs: its contract is the rows.
 
-ghost use Rattle.libyaml_graphs.specs.LoadRows.{RowAliasBeforeBound, RowAnchorOfDocumentBefore, RowBoundBeforeAnchor, RowBoundOfEachDocument, RowCollectionsInPairs, RowDirectives, RowEmptyDocuments, RowEmptyStream, RowEmptyTag, RowExclamationMarksOfCollections, RowExplicitEnd, RowHoldsItself, RowItemTwice, RowItemsBeyondBound, RowKeyBeyondBound, RowNestedHoldsItself, RowNodesBeyondBound, RowNodesInBound, RowPairInBound, RowPairs, RowParserFault, RowSecondAliasUndefined, RowSecondAnchor, RowSourceEnds, RowTagThatIsAnExclamationMark, RowUndefinedAlias, RowUndefinedAliasBeforeSourceEnds, RowUndefinedAliasBehindKey};
+ghost use Rattle.libyaml_graphs.specs.LoadRows.{RowAliasBeforeBound, RowAnchorOfDocumentBefore, RowBoundBeforeAnchor, RowBoundOfEachDocument, RowCollectionsInPairs, RowDirectives, RowEmptyDocuments, RowEmptyStream, RowEmptyTag, RowExclamationMarksOfCollections, RowExplicitEnd, RowHoldsItself, RowItemTwice, RowItemsBeyondBound, RowKeyBeyondBound, RowNestedHoldsItself, RowNodesBeyondBound, RowNodesInBound, RowPairInBound, RowPairs, RowParserFault, RowSecondAliasUndefined, RowSecondAnchor, RowSourceEnds, RowStartWithoutRoot, RowTagThatIsAnExclamationMark, RowUndefinedAlias, RowUndefinedAliasBeforeSourceEnds, RowUndefinedAliasBehindKey};
 
-/// A stream without documents, directives, an explicit end, and documents without content.
+/// A stream without documents, directives, an explicit end, documents without content, and a start that no
+/// root follows.
 pub fn documents()
     ensures empty_stream { RowEmptyStream }
     ensures directives { RowDirectives }
     ensures explicit_end { RowExplicitEnd }
     ensures empty_documents { RowEmptyDocuments }
+    ensures start_without_root { RowStartWithoutRoot }
 {}
 
 /// Pairs, and collections in one another.

@@ -1,4 +1,5 @@
 use Rattle.libyaml_graphs.proofs.Room.{room_loads, room_next}
+use Rattle.libyaml_graphs.proofs.Unmet.{unmet_loads}
 use Rattle.libyaml_graphs.proofs.laws.enough_room.Goals as goal
 
 pub returns-clause-all : goal.returns-clause-all
@@ -6,3 +7,6 @@ returns-clause-all c = room_loads
 
 pub returns-clause-next : goal.returns-clause-next
 returns-clause-next c = room_next
+
+pub returns-clause-unmet : goal.returns-clause-unmet
+returns-clause-unmet c = unmet_loads

@@ -12,3 +12,6 @@ returns-clause-explicit_end c = explicit_end
 
 pub returns-clause-empty_documents : goal.returns-clause-empty_documents
 returns-clause-empty_documents c = empty_documents
+
+pub returns-clause-start_without_root : goal.returns-clause-start_without_root
+returns-clause-start_without_root c h = h.0
