@@ -58,3 +58,4 @@ pub mod Headline
 pub mod NextEvents
 pub mod CallsInTurn
 pub mod NestingSoFar
+pub mod LeadsOut

@@ -43,3 +43,4 @@ pub mod Rows
 pub mod CutRows
 pub mod EmptyRows
 pub mod StackRows
+pub mod OutsideEvents

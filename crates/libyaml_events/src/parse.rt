@@ -4,6 +4,7 @@ ghost use Rattle.libyaml_types.specs.declared.token.yaml_token_t.{yaml_token_t};
 ghost use Rattle.libyaml_types.specs.declared.event.yaml_event_t.{yaml_event_t};
 ghost use Rattle.libyaml_events.specs.Config.{is_over};
 ghost use Rattle.libyaml_events.specs.Calls.{Call, empty_event};
+ghost use Rattle.libyaml_events.specs.OutsideEvents.{is_outside_event};
 ghost use Rattle.libyaml_events.specs.Fault.{Fault};
 ghost use Rattle.libyaml_events.specs.Settled.{Begins, BeginsEach};
 ghost use Rattle.libyaml_events.specs.Runs.{Ending, Ends, Fails, IsRun};
@@ -74,6 +75,7 @@ pub fn yaml_parser_parse<S: yaml_token_source_t>(
     ensures begins_run { (asked : List yaml_token_t) (given : List yaml_event_t) → History parser.new asked given → (rest : List yaml_token_t) (f : Fault) (e : List yaml_event_t) (x : Ending) → IsRun (asked ++ rest) f e x → Begins given e }
     ensures nests { (asked : List yaml_token_t) (given : List yaml_event_t) → History parser.new asked given → NestsSoFar given }
     ensures between { (asked : List yaml_token_t) (given : List yaml_event_t) → History parser.new asked given → between_documents parser.new ≡ is_outside (stage_of given) }
+    ensures outside { IfOk result (λ e. is_outside_event e.content ≡ true → between_documents parser.new ≡ true) }
     ensures at_most_four { (asked : List yaml_token_t) (given : List yaml_event_t) → History parser.new asked given → length given ≤ 4 * length asked }
     ensures depth { (asked : List yaml_token_t) (given : List yaml_event_t) → History parser.new asked given → stack_depth parser.new ≤ open_collections (stage_of given) + 1 }
     ensures pops { (asked : List yaml_token_t) (given : List yaml_event_t) → History parser.old asked given → PopsNothingBelow S.gives parser.old result parser.new }

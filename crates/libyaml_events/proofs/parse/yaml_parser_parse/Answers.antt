@@ -2,6 +2,7 @@ use Rattle.std.proofs.Common.{arith, [], ◌++◌, ◌∙◌}
 use Rattle.libyaml_events.specs.FaultTexts.{no_fault}
 use Rattle.libyaml_events.proofs.Calling.{ran_links}
 use Rattle.libyaml_events.proofs.Counting.{linked_begins_each, linked_count}
+use Rattle.libyaml_events.proofs.LeadsOut.{stands_outside}
 use Rattle.libyaml_events.proofs.Falling.{parse_falls}
 use Rattle.libyaml_events.proofs.Held.{ran_holds}
 use Rattle.libyaml_events.proofs.KnownRuns.{next_of_run, fault_of_run, over_call, nothing_behind_end, linked_begins, run_given, more_to_come}
@@ -62,3 +63,6 @@ returns-clause-nests g c asked given h =
 
 pub returns-clause-between : goal.returns-clause-between
 returns-clause-between g c asked given h = staged_between _ given (ran_staged h)
+
+pub returns-clause-outside : goal.returns-clause-outside
+returns-clause-outside g c = stands_outside g.S.yaml_token_source_t.gives _ _ _ c.next_event.ensures.call
