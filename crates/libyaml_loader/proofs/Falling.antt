@@ -1,5 +1,5 @@
 -- How the events left fall in a load.
-use Rattle.std.proofs.Common.{◌≡◌, ◌≤◌, ◌<◌, ◌⊎◌, ℕ, Result, Ok, Err, IfOk, arith, refl, sym, ap, ◌∙◌, subst, inl, inr}
+use Rattle.std.proofs.Common.{◌≡◌, ◌≤◌, ◌<◌, ◌⊎◌, ℕ, Result, Ok, Err, IfOk, arith, subst, inl, inr}
 
 -- a number that fell from one that is not above the first
 pub falls_since : (first old new : ℕ) → old ≤ first → new < old → new < first

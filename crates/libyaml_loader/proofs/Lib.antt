@@ -8,3 +8,4 @@ pub mod Taking
 pub mod Reaching
 pub mod Stepping
 pub mod NextLoads
+pub mod Outside

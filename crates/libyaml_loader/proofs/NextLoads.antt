@@ -6,9 +6,7 @@ use Rattle.libyaml_events.specs.Config.{Parser, is_fault}
 use Rattle.libyaml_events.specs.Events.{Event}
 use Rattle.libyaml_events.specs.Fault.{Answer, Fault}
 use Rattle.libyaml_events.specs.FaultTexts.{memory_fault}
-use Rattle.libyaml_events.specs.History.{History, between_documents, has_ended, has_failed, kept_fault}
-use Rattle.libyaml_events.specs.Tokens.{Token}
-use Rattle.libyaml_loader.proofs.Taking.{ended_between}
+use Rattle.libyaml_events.specs.History.{has_ended, has_failed, kept_fault}
 use Rattle.libyaml_events.specs.Runs.{Ending}
 use Rattle.libyaml_events.specs.RunToCome.{RunToCome}
 use Rattle.libyaml_events.specs.Source.{Coming}
@@ -57,9 +55,3 @@ module _ {S : Type 0} (gives : S → Answer → S → Type 0) (known : S → Opt
           let l = took.runs events ending run in
           let m : kept_fault new ≡ memory_fault = ap (λ (p : Parser S). kept_fault p) (keeps l.run.asked l.run.given l.run.history) in
           no_memory (ap (λ (x : yaml_error_type_t). Err x) (k.0 ∙ ap (λ (g : Fault). g.error) m)) m
-
-  pub stands_between : (old new : Parser S) (r : DocumentOrError) → IfErr r (λ (x : yaml_error_type_t). (x ≡ (kept_fault new).error) × (has_ended new ≡ true)) → LoadsFrom gives known MayBreak load left old r new
-      → (asked : List Token) (given : List Event) → History old asked given → between_documents new ≡ true
-  stands_between old new (Ok d) kept (whole taken took gives_it leaves stands) asked given h = stands asked given h
-  stands_between old new (Ok d) kept (at_end taken took gives_it leaves ends is stands) asked given h = stands asked given h
-  stands_between old new (Err x) kept loads asked given h = ended_between new kept.1

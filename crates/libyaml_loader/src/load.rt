@@ -2,7 +2,6 @@
 
 ghost use Rattle.std.specs.Prelude.{◌≡◌, ◌<◌, ◌⊎◌, List, [], None, Ok, Err, IfOk, IfErr, true, false};
 ghost use Rattle.std.specs.Option.{option_map};
-ghost use Rattle.libyaml_types.specs.declared.token.yaml_token_t.{yaml_token_t};
 ghost use Rattle.libyaml_types.specs.declared.event.yaml_event_t.{yaml_event_t};
 ghost use Rattle.libyaml_documents.specs.Documents.{empty_document};
 ghost use Rattle.libyaml_documents.specs.LoadedNodes.{begun_document};
@@ -10,7 +9,7 @@ ghost use Rattle.libyaml_events.specs.EventsLeft.{events_left};
 ghost use Rattle.libyaml_events.specs.Stages.{is_event};
 ghost use Rattle.libyaml_events.specs.Runs.{Ending};
 ghost use Rattle.libyaml_events.specs.RunToCome.{RunToCome};
-ghost use Rattle.libyaml_events.specs.History.{History, between_documents, has_ended, has_failed, kept_fault};
+ghost use Rattle.libyaml_events.specs.History.{between_documents, has_ended, has_failed, kept_fault};
 ghost use Rattle.libyaml_graphs.specs.Bounds.{next_bounded};
 ghost use Rattle.libyaml_graphs.specs.Loader as machine;
 ghost use Rattle.libyaml_graphs.specs.Loads.{left_over};
@@ -72,7 +71,7 @@ pub fn yaml_parser_load<S: yaml_token_source_t>(
     ensures kept { has_failed parser.old ≡ true → (result ≡ Err (kept_fault parser.old).error) × (parser.new ≡ parser.old) }
     ensures fails { IfErr result (λ x. (x ≡ (kept_fault parser.new).error) × (has_ended parser.new ≡ true)) }
     ensures bound { parser.new.max_entries ≡ parser.old.max_entries }
-    ensures between { (asked : List yaml_token_t) (given : List yaml_event_t) → History parser.old asked given → between_documents parser.new ≡ true }
+    ensures between { between_documents parser.new ≡ true }
     // so a loop over the documents ends
     ensures falls { IfOk result (λ d. (d ≡ empty_document None [] false false) ⊎ (events_left S.bound parser.new < events_left S.bound parser.old)) }
     // over every source, by the events that were taken
@@ -94,6 +93,7 @@ fn next_document<S: yaml_token_source_t>(
     ensures falls { IfOk result (λ d. (d ≡ empty_document None [] false false) ⊎ (events_left S.bound parser.new < events_left S.bound parser.old)) }
     ensures fails { IfErr result (λ x. (x ≡ (kept_fault parser.new).error) × (has_ended parser.new ≡ true)) }
     ensures bound { parser.new.max_entries ≡ parser.old.max_entries }
+    ensures between { between_documents parser.new ≡ true }
     ensures loads { LoadsFrom S.gives S.known S.may_break (next_bounded (magnitude parser.old.max_entries)) left_over parser.old result parser.new }
 {
     loop {
@@ -142,6 +142,7 @@ fn yaml_parser_load_document<S: yaml_token_source_t>(
     ensures falls { IfOk result (λ d. (d ≡ empty_document None [] false false) ⊎ (events_left S.bound parser.new < events_left S.bound parser.old)) }
     ensures fails { IfErr result (λ x. (x ≡ (kept_fault parser.new).error) × (has_ended parser.new ≡ true)) }
     ensures bound { parser.new.max_entries ≡ parser.old.max_entries }
+    ensures between { between_documents parser.new ≡ true }
     ensures loads { LoadsFrom S.gives S.known S.may_break (machine.load_from (magnitude parser.old.max_entries) (machine.within (opening_at opening) machine.fresh)) (machine.left_from (machine.within (opening_at opening) machine.fresh)) parser.old result parser.new }
 {
     let alloc = parser.allocator();
@@ -160,6 +161,7 @@ fn yaml_parser_load_nodes<S: yaml_token_source_t>(
     ensures falls { IfOk result (λ d. (d ≡ empty_document None [] false false) ⊎ (events_left S.bound parser.new < events_left S.bound parser.old)) }
     ensures fails { IfErr result (λ x. (x ≡ (kept_fault parser.new).error) × (has_ended parser.new ≡ true)) }
     ensures bound { parser.new.max_entries ≡ parser.old.max_entries }
+    ensures between { between_documents parser.new ≡ true }
     ensures loads { (o : parts.Opening) → ctx.document ≡ with_nodes ctx.document.nodes (begun_document o.start o.mark) → LoadsFrom S.gives S.known S.may_break (machine.load_from ctx.max_entries (machine.within o (loader_of ctx))) (machine.left_from (machine.within o (loader_of ctx))) parser.old result parser.new }
 {
     loop {
@@ -180,6 +182,7 @@ fn compose_next<S: yaml_token_source_t>(
     ensures falls { IfOk result (λ s. (s ≡ Step.Ended) ⊎ (events_left S.bound parser.new < events_left S.bound parser.old)) }
     ensures fails { IfErr result (λ x. (x ≡ (kept_fault parser.new).error) × (has_ended parser.new ≡ true)) }
     ensures bound { parser.new.max_entries ≡ parser.old.max_entries }
+    ensures between { IfOk result (λ s. (s ≡ Step.Composed) ⊎ (between_documents parser.new ≡ true)) }
     ensures steps { Steps S.gives S.known S.may_break result parser.old parser.new ctx.old ctx.new }
 {
     let yaml_event_t {

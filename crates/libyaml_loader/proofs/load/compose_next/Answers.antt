@@ -1,5 +1,6 @@
 use Rattle.std.proofs.Common.{◌≡◌, Err, refl, rules, sym, ◌∙◌, inl, inr, true, false}
 use Rattle.libyaml_events.specs.Stages.{is_event}
+use Rattle.libyaml_loader.proofs.Outside.{behind_all, behind_close}
 use Rattle.libyaml_loader.proofs.Stepping.{loader_fails, steps_err, takes}
 use Rattle.libyaml_loader.proofs.Taking.{Called, finds_end, parser_fails, running}
 use Rattle.libyaml_loader.proofs.load.compose_next.Goals as goal
@@ -70,3 +71,16 @@ returns-in-Ok-clause-falls g c =
 
 pub returns-then-not-is_event-clause-falls : goal.returns-then-not-is_event-clause-falls
 returns-then-not-is_event-clause-falls g c = inl refl
+
+pub returns-then-not-is_event-clause-between : goal.returns-then-not-is_event-clause-between
+returns-then-not-is_event-clause-between g c =
+    let call = c.yaml_parser_parse in
+    inr (behind_all call.new.parser call.result c.in_ok-content.field-0 c.in_ok-content.was call.ensures.outside (sym c.is_event.ensures ∙ c.if-not-is_event.true))
+
+pub returns-in-Some-clause-between : goal.returns-in-Some-clause-between
+returns-in-Some-clause-between g c =
+    let call = c.yaml_parser_parse in
+    inr (behind_close call.new.parser call.result c.in_ok-content.field-0 c.in_ok-content.was call.ensures.outside _ _ (sym c.in-Some.ensures))
+
+pub returns-in-Ok-clause-between : goal.returns-in-Ok-clause-between
+returns-in-Ok-clause-between g c = inl refl

@@ -8,8 +8,9 @@ use Rattle.libyaml_loader.specs.Ids.{magnitude}
 use Rattle.libyaml_loader.specs.Loading.{LoadsFrom}
 use Rattle.libyaml_loader.specs.Steps.{opening_at}
 use Rattle.libyaml_loader.proofs.Falling.{falls_later, stays_since}
+use Rattle.libyaml_loader.proofs.Outside.{behind_all}
 use Rattle.libyaml_loader.proofs.Stepping.{skips_none, skips_end, skips_fail, skips_more, skips_opens}
-use Rattle.libyaml_loader.proofs.Taking.{Called, finds_end, parser_fails, running}
+use Rattle.libyaml_loader.proofs.Taking.{Called, ended_between, finds_end, parser_fails, running}
 use Rattle.libyaml_loader.proofs.load.next_document.Goals as goal
 
 pub returns-in_err-content-clause-loads : goal.returns-in_err-content-clause-loads
@@ -81,3 +82,13 @@ returns-in-Some-clause-falls g c =
     let fell : events_left t.bound call.new.parser < events_left t.bound c.loop-content.parser = rw c.in_ok-content.was at (call.ensures.falls run) in
     let load = c.yaml_parser_load_document in
     falls_later (λ (d : Document). d ≡ empty_document None [] false false) load.result _ _ _ (stays_since _ _ _ c.loop-content.invariant.1 fell) load.ensures.falls
+
+pub returns-in_err-content-clause-between : goal.returns-in_err-content-clause-between
+returns-in_err-content-clause-between g c =
+    let call = c.yaml_parser_parse in
+    ended_between call.new.parser (rw c.in_err-content.was at call.ensures.kept).1
+
+pub returns-then-not-is_event-clause-between : goal.returns-then-not-is_event-clause-between
+returns-then-not-is_event-clause-between g c =
+    let call = c.yaml_parser_parse in
+    behind_all call.new.parser call.result c.in_ok-content.field-0 c.in_ok-content.was call.ensures.outside (sym c.is_event.ensures ∙ c.if-not-is_event.true)

@@ -5,7 +5,7 @@ use Rattle.libyaml_events.proofs.Staged.{ran_staged}
 use Rattle.libyaml_graphs.specs.Bounds.{next_bounded}
 use Rattle.libyaml_graphs.specs.Loads.{left_over}
 use Rattle.libyaml_loader.specs.Ids.{magnitude}
-use Rattle.libyaml_loader.proofs.NextLoads.{next_load, stands_between}
+use Rattle.libyaml_loader.proofs.NextLoads.{next_load}
 use Rattle.libyaml_loader.proofs.load.yaml_parser_load.Goals as goal
 
 no : true ≡ false → ⊥
@@ -16,16 +16,10 @@ returns-then-has_failed-clause-next_load g c events ending run =
     absurd (no (sym c.if-has_failed.true ∙ c.has_failed.ensures ∙ ap (λ (f : Fault). is_fault f.error) (ran_staged run.history).no_fault_kept))
 
 pub returns-then-has_failed-clause-between : goal.returns-then-has_failed-clause-between
-returns-then-has_failed-clause-between g c asked given h = c.requires.between
+returns-then-has_failed-clause-between g c = c.requires.between
 
 pub returns-clause-next_load : goal.returns-clause-next_load
 returns-clause-next_load g c =
     let t = g.S.yaml_token_source_t in
     let call = c.next_document in
     next_load t.gives t.known t.may_break (next_bounded (magnitude c.args.parser.now.max_entries)) left_over c.args.parser.now call.new.parser call.result call.ensures.fails (λ first. call.ensures.loads)
-
-pub returns-clause-between : goal.returns-clause-between
-returns-clause-between g c asked given h =
-    let t = g.S.yaml_token_source_t in
-    let call = c.next_document in
-    stands_between t.gives t.known t.may_break (next_bounded (magnitude c.args.parser.now.max_entries)) left_over c.args.parser.now call.new.parser call.result call.ensures.fails call.ensures.loads asked given h

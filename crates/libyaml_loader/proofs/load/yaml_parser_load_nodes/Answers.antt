@@ -1,4 +1,4 @@
-use Rattle.std.proofs.Common.{◌≡◌, Ok, Err, Result, rules, ap, ◌∙◌, sym, inl, inr}
+use Rattle.std.proofs.Common.{◌≡◌, Ok, Err, Result, rules, ap, ◌∙◌, inl, inr}
 use Rattle.std.proofs.Math.Nat.{le_refl}
 use Rattle.libyaml_events.specs.EventsLeft.{events_left}
 use Rattle.libyaml_types.specs.declared.enums.yaml_error_type_t.{yaml_error_type_t}
@@ -6,7 +6,9 @@ use Rattle.libyaml_loader.specs.declared.load.Closing.{Closing}
 use Rattle.libyaml_loader.specs.declared.load.Step.{Step}
 use Rattle.libyaml_loader.specs.declared.load.Step.TheVariants as step
 use Rattle.libyaml_loader.proofs.Falling.{falls_since, has_fallen, stays_since}
+use Rattle.libyaml_loader.proofs.Outside.{behind_step}
 use Rattle.libyaml_loader.proofs.Stepping.{steps_at, way_closes, way_fails, way_finds_end, way_more, way_none}
+use Rattle.libyaml_loader.proofs.Taking.{ended_between}
 use Rattle.libyaml_loader.proofs.load.yaml_parser_load_nodes.Goals as goal
 
 ok_step : (r : Result Step yaml_error_type_t) (s t : Step) → r ≡ Ok s → s ≡ t → r ≡ Ok t
@@ -71,3 +73,26 @@ returns-in-Closed-clause-falls g c =
 
 pub returns-in-Ended-clause-falls : goal.returns-in-Ended-clause-falls
 returns-in-Ended-clause-falls g c = inl c.without_root.ensures
+
+pub returns-in_err-compose_next-clause-between : goal.returns-in_err-compose_next-clause-between
+returns-in_err-compose_next-clause-between g c =
+    let call = c.compose_next in
+    ended_between call.new.parser (rw c.in_err-compose_next.was at call.ensures.fails).1
+
+closed_goes_on : (x : Closing) → ◌≡◌ {A = Step} (step.Closed x) step.Composed → ⊥
+closed_goes_on x h = cc
+
+end_goes_on : ◌≡◌ {A = Step} step.Ended step.Composed → ⊥
+end_goes_on h = cc
+
+pub returns-in-Closed-clause-between : goal.returns-in-Closed-clause-between
+returns-in-Closed-clause-between g c =
+    let call = c.compose_next in
+    let is = ok_step call.result c.in_ok-compose_next.field-0 (step.Closed c.in-Closed.closing) c.in_ok-compose_next.was c.in-Closed.is in
+    behind_step call.new.parser call.result (step.Closed c.in-Closed.closing) is (closed_goes_on c.in-Closed.closing) call.ensures.between
+
+pub returns-in-Ended-clause-between : goal.returns-in-Ended-clause-between
+returns-in-Ended-clause-between g c =
+    let call = c.compose_next in
+    let is = ok_step call.result c.in_ok-compose_next.field-0 step.Ended c.in_ok-compose_next.was c.in-Ended.is in
+    behind_step call.new.parser call.result step.Ended is end_goes_on call.ensures.between
