@@ -1,1 +1,2 @@
 mod WholeRuns
+mod WholeLoads

@@ -1,4 +1,5 @@
 pub mod WholeRun
+pub mod WholeLoads
 -- what the clauses of the crates below cite, so that a user names this crate alone
 pub use Rattle.libyaml_types.specs.Numbers
 pub use Rattle.libyaml_types.specs.Texts
@@ -52,3 +53,4 @@ pub use Rattle.libyaml_graphs.specs.Bounds
 pub use Rattle.libyaml_graphs.specs.GraphLaws
 pub use Rattle.libyaml_loader.specs.Loading
 pub use Rattle.libyaml_loader.specs.NextLoad
+pub use Rattle.libyaml_loader.specs.Ids

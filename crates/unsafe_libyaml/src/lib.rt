@@ -3,6 +3,7 @@
 //! A user names this crate alone: the crates below it are passed on.
 #![tactic(auto)]
 
+mod load_all;
 mod parse_all;
 
 pub use libyaml_documents::{
@@ -39,6 +40,7 @@ pub use libyaml_types::{
     yaml_stream_start_event_initialize, yaml_tag_directive_t, yaml_token_delete, yaml_token_t,
     yaml_token_type_t, yaml_version_directive_t,
 };
+pub use load_all::{yaml_documents_t, yaml_parser_load_all};
 pub use parse_all::{yaml_parser_parse_all, yaml_run_t};
 // The variants of the enums, by their bare names.
 pub use libyaml_types::enums::yaml_break_t::{

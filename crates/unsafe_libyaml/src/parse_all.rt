@@ -76,12 +76,20 @@ fn failed_run(
 ) -> Result<yaml_run_t, AllocError>
     ensures { IfOk result (λ run. (run.events ≡ events) × (run.fault ≡ Some fault) × (fault.error ≢ yaml_error_type_t.YAML_MEMORY_ERROR)) }
 {
+    let fault = unless_memory(fault)?;
+    Ok(yaml_run_t {
+        events,
+        fault: Some(fault),
+    })
+}
+
+/// This fault, but want of memory is answered as such.
+pub fn unless_memory(fault: yaml_parser_t_prefix) -> Result<yaml_parser_t_prefix, AllocError>
+    ensures { IfOk result (λ f. (f ≡ fault) × (fault.error ≢ yaml_error_type_t.YAML_MEMORY_ERROR)) }
+{
     match fault.error {
         yaml_error_type_t::YAML_MEMORY_ERROR => Err(AllocError),
-        _ => Ok(yaml_run_t {
-            events,
-            fault: Some(fault),
-        }),
+        _ => Ok(fault),
     }
 }
 
