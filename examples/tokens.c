@@ -17,64 +17,65 @@ static const char *const ENCODINGS[] = {"any", "utf8", "utf16le", "utf16be"};
 static const char *const STYLES[] = {"any", "plain", "single", "double", "literal", "folded"};
 
 /* A text field: `=` and the bytes, those that need it as `%` and two digits. */
-static void put_text(const yaml_char_t *text, size_t length)
+static void put_text(FILE *lines, const yaml_char_t *text, size_t length)
 {
-    fputs(" =", stdout);
+    fputs(" =", lines);
     for (size_t i = 0; i < length; i++) {
         if (text[i] > 0x20 && text[i] < 0x7F && text[i] != '%')
-            putchar(text[i]);
+            putc(text[i], lines);
         else
-            printf("%%%02X", text[i]);
+            fprintf(lines, "%%%02X", text[i]);
     }
 }
 
-static void put_string(const yaml_char_t *text)
+static void put_string(FILE *lines, const yaml_char_t *text)
 {
-    put_text(text, strlen((const char *)text));
+    put_text(lines, text, strlen((const char *)text));
 }
 
-static void put_mark(yaml_mark_t mark)
+static void put_mark(FILE *lines, yaml_mark_t mark)
 {
-    printf(" %zu:%zu:%zu", mark.index, mark.line, mark.column);
+    fprintf(lines, " %zu:%zu:%zu", mark.index, mark.line, mark.column);
 }
 
-static void put_token(const yaml_token_t *token)
+static void put_token(FILE *lines, const yaml_token_t *token)
 {
-    fputs(NAMES[token->type], stdout);
-    put_mark(token->start_mark);
-    put_mark(token->end_mark);
+    fputs(NAMES[token->type], lines);
+    put_mark(lines, token->start_mark);
+    put_mark(lines, token->end_mark);
     switch (token->type) {
     case YAML_STREAM_START_TOKEN:
-        printf(" %s", ENCODINGS[token->data.stream_start.encoding]);
+        fprintf(lines, " %s", ENCODINGS[token->data.stream_start.encoding]);
         break;
     case YAML_VERSION_DIRECTIVE_TOKEN:
-        printf(" %d.%d", token->data.version_directive.major, token->data.version_directive.minor);
+        fprintf(lines, " %d.%d", token->data.version_directive.major, token->data.version_directive.minor);
         break;
     case YAML_TAG_DIRECTIVE_TOKEN:
-        put_string(token->data.tag_directive.handle);
-        put_string(token->data.tag_directive.prefix);
+        put_string(lines, token->data.tag_directive.handle);
+        put_string(lines, token->data.tag_directive.prefix);
         break;
     case YAML_ALIAS_TOKEN:
-        put_string(token->data.alias.value);
+        put_string(lines, token->data.alias.value);
         break;
     case YAML_ANCHOR_TOKEN:
-        put_string(token->data.anchor.value);
+        put_string(lines, token->data.anchor.value);
         break;
     case YAML_TAG_TOKEN:
-        put_string(token->data.tag.handle);
-        put_string(token->data.tag.suffix);
+        put_string(lines, token->data.tag.handle);
+        put_string(lines, token->data.tag.suffix);
         break;
     case YAML_SCALAR_TOKEN:
-        put_text(token->data.scalar.value, token->data.scalar.length);
-        printf(" %s", STYLES[token->data.scalar.style]);
+        put_text(lines, token->data.scalar.value, token->data.scalar.length);
+        fprintf(lines, " %s", STYLES[token->data.scalar.style]);
         break;
     default:
         break;
     }
-    putchar('\n');
+    putc('\n', lines);
 }
 
-int main(void)
+/* Writes the token lines of a YAML text; 0 where the scanner went through it. */
+static int write_tokens(FILE *text, FILE *lines)
 {
     yaml_parser_t parser;
     yaml_token_t token;
@@ -82,7 +83,7 @@ int main(void)
 
     if (!yaml_parser_initialize(&parser))
         return 1;
-    yaml_parser_set_input_file(&parser, stdin);
+    yaml_parser_set_input_file(&parser, text);
     while (more) {
         if (!yaml_parser_scan(&parser, &token)) {
             fprintf(stderr, "%s, line %zu, column %zu\n", parser.problem, parser.problem_mark.line + 1,
@@ -90,10 +91,17 @@ int main(void)
             yaml_parser_delete(&parser);
             return 1;
         }
-        put_token(&token);
+        put_token(lines, &token);
         more = token.type != YAML_STREAM_END_TOKEN;
         yaml_token_delete(&token);
     }
     yaml_parser_delete(&parser);
     return 0;
 }
+
+#ifndef TOKENS_WITHOUT_MAIN
+int main(void)
+{
+    return write_tokens(stdin, stdout);
+}
+#endif
