@@ -33,7 +33,7 @@ pub output_no_end : step.OutputFailed ≡ step.Ended → ⊥
 output_no_end h = cc
 
 module _ {S : Type 0} (gives : S → Answer → S → Type 0) where
-  gave_then : (l m : List yaml_token_t) (a b c : S) → Gave gives a (answers l []) b → Gave gives b (answers m []) c → Gave gives a (answers (l ++ m) []) c
+  pub gave_then : (l m : List yaml_token_t) (a b c : S) → Gave gives a (answers l []) b → Gave gives b (answers m []) c → Gave gives a (answers (l ++ m) []) c
   gave_then [] m a b c h k = subst (λ x. Gave gives x (answers m []) c) h k
   gave_then (t ∷ l) m a b c (mid, g, h) k = (mid, g, gave_then l m mid b c h k)
 

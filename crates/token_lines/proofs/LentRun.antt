@@ -27,7 +27,7 @@ over seen p = record { source = seen p.source; config = p.config; max_entries = 
 
 -- sources that are seen as others
 module _ {S T : Type 0} (gives : S → Answer → S → Type 0) (gives' : T → Answer → T → Type 0) (seen : S → T) (sees : (s : S) (a : Answer) (t : S) → gives s a t → gives' (seen s) a (seen t)) where
-  gave_seen : (s t : S) (l : List Answer) → Gave gives s l t → Gave gives' (seen s) l (seen t)
+  pub gave_seen : (s t : S) (l : List Answer) → Gave gives s l t → Gave gives' (seen s) l (seen t)
   gave_seen s t [] h = ap seen h
   gave_seen s t (a ∷ l) (mid, g, h) = (seen mid, sees s a mid g, gave_seen mid t l h)
 
@@ -42,7 +42,7 @@ module _ {S T : Type 0} (gives : S → Answer → S → Type 0) (gives' : T → 
     whole = h.whole;
   }
 
-  fails_seen : (p q : Parser S) (asked : List yaml_token_t) (given : List yaml_event_t) → FailsBy gives p q asked given → FailsBy gives' (over seen p) (over seen q) asked given
+  pub fails_seen : (p q : Parser S) (asked : List yaml_token_t) (given : List yaml_event_t) → FailsBy gives p q asked given → FailsBy gives' (over seen p) (over seen q) asked given
   fails_seen p q asked given h = record { more = h.more; gave = gave_seen p.source q.source _ h.gave; needed = h.needed; cause = h.cause }
 
   closes_seen : (outcome : Outcome) (p q : Parser S) (before after : Option (List ℕ)) (asked : List yaml_token_t) (given : List yaml_event_t) → Closes gives outcome p q before after asked given → Closes gives' outcome (over seen p) (over seen q) before after asked given
@@ -66,7 +66,7 @@ module _ {S T : Type 0} (gives : S → Answer → S → Type 0) (gives' : T → 
 
 -- the reader stays the same loan
 module _ {R : Type 0} (remaining : R → Option (List ℕ)) where
-  gave_loan : (s t : LentLines R) (l : List Answer) → Gave (GivesLent remaining) s l t → t.reader.ghost_name ≡ s.reader.ghost_name
+  pub gave_loan : (s t : LentLines R) (l : List Answer) → Gave (GivesLent remaining) s l t → t.reader.ghost_name ≡ s.reader.ghost_name
   gave_loan s t [] h = ap (λ x. x.reader.ghost_name) h
   gave_loan s t (a ∷ l) (mid, g, h) = gave_loan mid t l h ∙ g.1
 

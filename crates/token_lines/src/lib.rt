@@ -8,7 +8,7 @@ mod run;
 
 pub use line_reading::{MAX_LINE, yaml_line_source_t};
 pub use line_writing::{line_refusal_t, write_document, write_event, write_fault};
-pub use run::{Outcome, run_events, write_events};
+pub use run::{Outcome, run_events, run_nodes, write_events, write_nodes};
 
 /// A run reads at most this many tokens.
 pub const MAX_TOKENS: u64 = 1_000_000;

@@ -1,0 +1,120 @@
+use Rattle.std.proofs.Common.{refl, ap, ◌∙◌, subst}
+use Rattle.std.specs.Io.KnownBytes.{Appends}
+use Rattle.libyaml_events.specs.Fault.{Fault, fault_of}
+use Rattle.libyaml_events.specs.History.{has_failed, kept_fault}
+use Rattle.libyaml_graphs.specs.Bounds.{bounded_loads}
+use Rattle.libyaml_loader.specs.Ids.{magnitude}
+use Rattle.line_writing.specs.FaultText.{fault_text}
+use Rattle.token_lines.specs.declared.run.Step.TheVariants as step
+use Rattle.token_lines.specs.NodeRun.{loads_ending, loads_lines}
+use Rattle.token_lines.proofs.NodeRunLemmas.{loads_fail, loads_last, loads_more, loads_none}
+use Rattle.token_lines.proofs.NodeTurnLemmas.{last_load, loads_end, loads_failed, loads_output, none_loaded, not_ended_is, one_loaded, steps_at, turn_at}
+use Rattle.token_lines.proofs.RunLemmas.{writes_ended, writes_faulted}
+use Rattle.token_lines.proofs.run.nodes.write_nodes.Goals as goal
+
+pub loop-writer-init : goal.loop-writer-init
+loop-writer-init g c =
+    let t = g.S.yaml_token_source_t in
+    record {
+      between = c.requires.between;
+      bound = refl;
+      kept = λ failed. (refl, refl);
+      in_turn = λ asked given history. none_loaded t.gives t.known t.may_break (magnitude c.args.parser.now.max_entries) _ _ asked given history;
+      came = λ events ending run. loads_none t.known (magnitude c.args.parser.now.max_entries) _ _ events ending run;
+    }
+
+pub loop-writer-preserved : goal.loop-writer-preserved
+loop-writer-preserved g c =
+    let t = g.S.yaml_token_source_t in
+    let contents = g.W.Write.contents in
+    let p = c.loop-writer.parser in
+    let q = c.write_next.new.parser in
+    let bound = c.loop-writer.invariant.bound in
+    let n = magnitude c.args.parser.now.max_entries in
+    record {
+      between = c.write_next.ensures.between;
+      bound = c.write_next.ensures.bound ∙ bound;
+      kept = λ failed. absurd (c.in-Written.ensures.kept (ap has_failed (c.loop-writer.invariant.kept failed).0 ∙ failed)).0;
+      in_turn = λ asked given history. one_loaded t.gives t.known t.may_break n c.args.parser.now p q (contents c.args.writer.now) (contents c.loop-writer.writer) (contents c.write_next.new.writer) asked given (c.loop-writer.invariant.in_turn asked given history)
+          (turn_at t.gives t.known t.may_break step.Written p q (contents c.loop-writer.writer) (contents c.write_next.new.writer) _ _ bound c.in-Written.ensures.turn);
+      came = λ events ending run. loads_more t.known n (contents c.args.writer.now) (contents c.loop-writer.writer) (contents c.write_next.new.writer) p q events ending (c.loop-writer.invariant.came events ending run)
+          (steps_at t.gives t.known t.may_break step.Written p q (contents c.loop-writer.writer) (contents c.write_next.new.writer) _ _ bound c.in-Written.ensures.step);
+    }
+
+pub loop-writer-smaller : goal.loop-writer-smaller
+loop-writer-smaller g c = c.in-Written.ensures.falls refl
+
+pub returns-in-Ended-clause-writes : goal.returns-in-Ended-clause-writes
+returns-in-Ended-clause-writes g c events ending run =
+    let t = g.S.yaml_token_source_t in
+    let contents = g.W.Write.contents in
+    let p = c.loop-writer.parser in
+    let q = c.write_next.new.parser in
+    let n = magnitude c.args.parser.now.max_entries in
+    let loads = bounded_loads n events ending in
+    let steps = steps_at t.gives t.known t.may_break step.Ended p q (contents c.loop-writer.writer) (contents c.write_next.new.writer) _ _ c.loop-writer.invariant.bound c.in-Ended.ensures.step in
+    writes_ended (t.may_break q.source) c.flushed.result _ _ (loads_lines loads) (loads_ending loads) c.flushed.ensures.outcome
+    (loads_last t.known n (contents c.args.writer.now) (contents c.loop-writer.writer) (contents c.write_next.new.writer) (contents c.flushed.new.writer) p events ending (c.loop-writer.invariant.came events ending run) steps c.flushed.ensures.keeps)
+
+pub returns-in-Failed-clause-writes : goal.returns-in-Failed-clause-writes
+returns-in-Failed-clause-writes g c events ending run =
+    let t = g.S.yaml_token_source_t in
+    let contents = g.W.Write.contents in
+    let p = c.loop-writer.parser in
+    let q = c.write_next.new.parser in
+    let n = magnitude c.args.parser.now.max_entries in
+    let loads = bounded_loads n events ending in
+    let steps = steps_at t.gives t.known t.may_break (step.Failed c.in-Failed.fault) p q (contents c.loop-writer.writer) (contents c.write_next.new.writer) _ _ c.loop-writer.invariant.bound c.in-Failed.ensures.step in
+    writes_faulted (t.may_break q.source) c.faulted.result _ _ (loads_lines loads) (loads_ending loads) c.faulted.ensures.not_ended
+    (λ faulted. loads_fail t.known n (t.may_break q.source) (contents c.args.writer.now) (contents c.loop-writer.writer) (contents c.write_next.new.writer) (contents c.faulted.new.writer) p (fault_of c.in-Failed.fault) events ending (c.loop-writer.invariant.came events ending run) steps (c.faulted.ensures.writes faulted))
+
+pub returns-in-Ended-clause-kept : goal.returns-in-Ended-clause-kept
+returns-in-Ended-clause-kept g c failed = absurd (c.in-Ended.ensures.kept (ap has_failed (c.loop-writer.invariant.kept failed).0 ∙ failed)).0
+
+pub returns-in-OutputFailed-clause-kept : goal.returns-in-OutputFailed-clause-kept
+returns-in-OutputFailed-clause-kept g c failed = absurd (c.in-OutputFailed.ensures.kept (ap has_failed (c.loop-writer.invariant.kept failed).0 ∙ failed)).0
+
+pub returns-in-Failed-clause-kept : goal.returns-in-Failed-clause-kept
+returns-in-Failed-clause-kept g c failed =
+    let contents = g.W.Write.contents in
+    let still = c.loop-writer.invariant.kept failed in
+    let last = c.in-Failed.ensures.kept (ap has_failed still.0 ∙ failed) in
+    record {
+      answer = not_ended_is c.faulted.result c.faulted.ensures.not_ended;
+      parser = last.1 ∙ still.0;
+      wrote = λ faulted. subst (λ (f : Fault). Appends (contents c.args.writer.now) (contents c.faulted.new.writer) (fault_text f)) (last.0 ∙ ap kept_fault still.0)
+          (subst (λ w. Appends (contents w) (contents c.faulted.new.writer) (fault_text (fault_of c.in-Failed.fault))) (last.2 ∙ still.1) (c.faulted.ensures.writes faulted));
+    }
+
+pub returns-in-Ended-clause-in_turn : goal.returns-in-Ended-clause-in_turn
+returns-in-Ended-clause-in_turn g c asked given history =
+    let t = g.S.yaml_token_source_t in
+    let contents = g.W.Write.contents in
+    let p = c.loop-writer.parser in
+    let q = c.write_next.new.parser in
+    let n = magnitude c.args.parser.now.max_entries in
+    let turns = turn_at t.gives t.known t.may_break step.Ended p q (contents c.loop-writer.writer) (contents c.write_next.new.writer) _ _ c.loop-writer.invariant.bound c.in-Ended.ensures.turn in
+    last_load t.gives t.known t.may_break n contents c.flushed.result step.Ended c.args.parser.now p q c.loop-writer.writer (contents c.args.writer.now) (contents c.write_next.new.writer) (contents c.flushed.new.writer) asked given (c.loop-writer.invariant.in_turn asked given history) turns
+    (loads_end c.flushed.result (kept_fault q) (contents c.loop-writer.writer) (contents c.write_next.new.writer) (contents c.flushed.new.writer) c.flushed.ensures.outcome c.flushed.ensures.keeps)
+
+pub returns-in-Failed-clause-in_turn : goal.returns-in-Failed-clause-in_turn
+returns-in-Failed-clause-in_turn g c asked given history =
+    let t = g.S.yaml_token_source_t in
+    let contents = g.W.Write.contents in
+    let p = c.loop-writer.parser in
+    let q = c.write_next.new.parser in
+    let n = magnitude c.args.parser.now.max_entries in
+    let turns = turn_at t.gives t.known t.may_break (step.Failed c.in-Failed.fault) p q (contents c.loop-writer.writer) (contents c.write_next.new.writer) _ _ c.loop-writer.invariant.bound c.in-Failed.ensures.turn in
+    last_load t.gives t.known t.may_break n contents c.faulted.result (step.Failed c.in-Failed.fault) c.args.parser.now p q c.loop-writer.writer (contents c.args.writer.now) (contents c.write_next.new.writer) (contents c.faulted.new.writer) asked given (c.loop-writer.invariant.in_turn asked given history) turns
+    (loads_failed c.faulted.result c.in-Failed.fault (kept_fault q) (contents c.loop-writer.writer) (contents c.write_next.new.writer) (contents c.faulted.new.writer) c.faulted.ensures.not_ended c.faulted.ensures.writes)
+
+pub returns-in-OutputFailed-clause-in_turn : goal.returns-in-OutputFailed-clause-in_turn
+returns-in-OutputFailed-clause-in_turn g c asked given history =
+    let t = g.S.yaml_token_source_t in
+    let contents = g.W.Write.contents in
+    let p = c.loop-writer.parser in
+    let q = c.write_next.new.parser in
+    let n = magnitude c.args.parser.now.max_entries in
+    let turns = turn_at t.gives t.known t.may_break step.OutputFailed p q (contents c.loop-writer.writer) (contents c.write_next.new.writer) _ _ c.loop-writer.invariant.bound c.in-OutputFailed.ensures.turn in
+    last_load t.gives t.known t.may_break n contents _ step.OutputFailed c.args.parser.now p q c.loop-writer.writer (contents c.args.writer.now) (contents c.write_next.new.writer) (contents c.write_next.new.writer) asked given (c.loop-writer.invariant.in_turn asked given history) turns
+    (loads_output (kept_fault q) (contents c.loop-writer.writer) (contents c.write_next.new.writer) (contents c.write_next.new.writer))

@@ -1,0 +1,125 @@
+//! Runs that write the lines of events.
+ghost use Rattle.std.specs.Prelude.{◌≡◌, ◌<◌, List, true, false};
+ghost use Rattle.libyaml_types.specs.declared.event.yaml_event_t.{yaml_event_t};
+ghost use Rattle.libyaml_types.specs.declared.token.yaml_token_t.{yaml_token_t};
+ghost use Rattle.libyaml_events.specs.EventsLeft.{events_left};
+ghost use Rattle.libyaml_events.specs.History.{History, has_ended, is_stream_end};
+ghost use Rattle.libyaml_events.specs.RunToCome.{RunToCome};
+ghost use Rattle.libyaml_events.specs.Runs.{Ending};
+ghost use Rattle.libyaml_events.specs.Stages.{is_event};
+ghost use Rattle.token_lines.specs.EventRun.{event_lines};
+ghost use Rattle.token_lines.specs.EventStep.{Steps, Turn};
+ghost use Rattle.token_lines.specs.LastCall.{LastCall, NothingLeft, RunsOver};
+ghost use Rattle.token_lines.specs.LineRun.{Writes};
+
+use super::{MEMORY_FAULT, Outcome, Step, faulted, flushed};
+use crate::MAX_TOKENS;
+use libyaml_events::{
+    yaml_parser_delete, yaml_parser_initialize, yaml_parser_parse, yaml_parser_t,
+    yaml_token_source_t,
+};
+use libyaml_types::{unnamed_yaml_event_t_data, yaml_event_t};
+use line_reading::LentLines;
+use line_writing::{append_event, write_line};
+use std::alloc::Global;
+use std::io::{BufRead, Write};
+
+/// Writes the line of each event of the token lines, before the next event is parsed, and then the
+/// text of the fault, if there is one. Reads at most `MAX_TOKENS` tokens, and leaves in the reader
+/// what follows the last line that it read.
+///
+/// Want of memory for a line is written as the fault of a refused growth. The writer is flushed
+/// before `Ended` and `Faulted`; after `OutputFailed` nothing is said of it.
+pub fn run_events<R: BufRead, W: Write>(alloc: Global, reader: &mut R, writer: &mut W) -> Outcome
+    ensures { RunsOver R.remaining W.contents reader.old reader.new result (W.contents writer.old) (W.contents writer.new) }
+{
+    let mut line = Vec::new(alloc);
+    let source = LentLines::new(alloc, reader, &mut line, MAX_TOKENS);
+    let mut parser = yaml_parser_initialize(alloc, source);
+    let outcome = write_events(alloc, &mut parser, writer);
+    // The loan of the reader ends here.
+    let LentLines {
+        reader: _reader,
+        ..
+    } = yaml_parser_delete(parser);
+    outcome
+}
+
+/// Writes the line of each event that is to come, before the next event is parsed, and then the text
+/// of the fault, if there is one. The parser may have given events before; behind the stream end event
+/// or a fault nothing is left to write, and `Ended` is answered.
+///
+/// Want of memory for a line is written as the fault of a refused growth. The writer is flushed
+/// before `Ended` and `Faulted`. After `OutputFailed`, and after the fault of a line that found no
+/// memory, the parser stands behind the event whose line was to be written: a further call goes on
+/// behind that event, whose line is lost.
+pub fn write_events<S: yaml_token_source_t, W: Write>(
+    alloc: Global,
+    parser: &mut yaml_parser_t<S>,
+    writer: &mut W,
+) -> Outcome
+    ensures ended { has_ended parser.old ≡ true → NothingLeft result parser.old parser.new (W.contents writer.old) (W.contents writer.new) }
+    ensures writes { (events : List yaml_event_t) (ending : Ending) → RunToCome S.known parser.old events ending
+        → Writes (S.may_break parser.new.source) result (W.contents writer.old) (W.contents writer.new) (event_lines events) ending }
+    // at the parser's last call each event's line had been written
+    ensures in_turn { has_ended parser.old ≡ false → (asked : List yaml_token_t) (given : List yaml_event_t) → History parser.old asked given
+        → LastCall S.gives W.contents result parser.old parser.new (W.contents writer.old) (W.contents writer.new) asked given }
+{
+    let mut line = String::new(alloc);
+    loop {
+        match write_next(parser, &mut line, writer) {
+            Step::Written => {}
+            Step::Ended => return flushed(Outcome::Ended, writer),
+            Step::Failed(fault) => return faulted(&fault, writer),
+            Step::OutputFailed => return Outcome::OutputFailed,
+        }
+    }
+}
+
+/// Writes the line of the next event, whose text is made in `line`.
+fn write_next<S: yaml_token_source_t, W: Write>(
+    parser: &mut yaml_parser_t<S>,
+    line: &mut String,
+    writer: &mut W,
+) -> Step
+    ensures falls { result ≡ Step.Written → events_left S.bound parser.new < events_left S.bound parser.old }
+    ensures ended { has_ended parser.old ≡ true → (result ≡ Step.Ended) × (parser.new ≡ parser.old) × (writer.new ≡ writer.old) }
+    ensures turn { has_ended parser.old ≡ false → (asked : List yaml_token_t) (given : List yaml_event_t) → History parser.old asked given
+        → Turn S.gives result parser.old parser.new (W.contents writer.old) (W.contents writer.new) asked given }
+    ensures step { (events : List yaml_event_t) (ending : Ending) → RunToCome S.known parser.old events ending
+        → Steps S.known S.may_break result parser.new (W.contents writer.old) (W.contents writer.new) events ending }
+{
+    let parsed = yaml_parser_parse(parser);
+    let Ok(event) = &parsed else {
+        return Step::Failed(*parser.prefix());
+    };
+    if !is_event(event) {
+        return Step::Ended;
+    }
+    line.clear();
+    let Ok(()) = append_event(line, event) else {
+        return Step::Failed(MEMORY_FAULT);
+    };
+    let Ok(()) = write_line(line, writer) else {
+        return Step::OutputFailed;
+    };
+    if is_stream_end(event) {
+        Step::Ended
+    } else {
+        Step::Written
+    }
+}
+
+/// Whether this is an event, and not the empty one.
+fn is_event(event: &yaml_event_t) -> bool
+    ensures { result ≡ is_event event.now.content }
+{
+    !matches!(event.content, unnamed_yaml_event_t_data::NoEvent)
+}
+
+/// Whether a stream ends with this event.
+fn is_stream_end(event: &yaml_event_t) -> bool
+    ensures { result ≡ is_stream_end event.now }
+{
+    matches!(event.content, unnamed_yaml_event_t_data::StreamEnd)
+}

@@ -1,0 +1,107 @@
+//! Runs that write the texts of documents.
+ghost use Rattle.std.specs.Prelude.{◌≡◌, ◌<◌, List, true, false};
+ghost use Rattle.libyaml_types.specs.declared.event.yaml_event_t.{yaml_event_t};
+ghost use Rattle.libyaml_types.specs.declared.token.yaml_token_t.{yaml_token_t};
+ghost use Rattle.libyaml_events.specs.EventsLeft.{events_left};
+ghost use Rattle.libyaml_events.specs.History.{History, between_documents, has_failed, kept_fault};
+ghost use Rattle.libyaml_events.specs.RunToCome.{RunToCome};
+ghost use Rattle.libyaml_events.specs.Runs.{Ending};
+ghost use Rattle.libyaml_graphs.specs.Bounds.{bounded_loads};
+ghost use Rattle.libyaml_loader.specs.Ids.{magnitude};
+ghost use Rattle.token_lines.specs.LastLoad.{LastLoad, NodesOver, WritesKept};
+ghost use Rattle.token_lines.specs.NodeRun.{WritesLoads};
+ghost use Rattle.token_lines.specs.NodeStep.{IsKept, LoadTurn, NodeSteps};
+
+use super::{MEMORY_FAULT, Outcome, Step, faulted, flushed};
+use crate::MAX_TOKENS;
+use libyaml_events::{
+    yaml_parser_delete, yaml_parser_initialize, yaml_parser_t, yaml_token_source_t,
+};
+use libyaml_loader::yaml_parser_load;
+use line_reading::LentLines;
+use line_writing::{line_refusal_t, write_document};
+use std::alloc::Global;
+use std::io::{BufRead, Write};
+
+/// Writes the text of each document of the token lines, before anything of the next is read, and then
+/// the text of the fault, if there is one. Reads at most `MAX_TOKENS` tokens, and leaves in the reader
+/// what follows the last line that it read.
+///
+/// Want of memory for a line is written as the fault of a refused growth, behind the lines before it. The
+/// writer is flushed before `Ended` and `Faulted`; after `OutputFailed` nothing is said of it.
+pub fn run_nodes<R: BufRead, W: Write>(alloc: Global, reader: &mut R, writer: &mut W) -> Outcome
+    ensures { NodesOver R.remaining W.contents reader.old reader.new result (W.contents writer.old) (W.contents writer.new) }
+{
+    let mut line = Vec::new(alloc);
+    let source = LentLines::new(alloc, reader, &mut line, MAX_TOKENS);
+    let mut parser = yaml_parser_initialize(alloc, source);
+    let outcome = write_nodes(alloc, &mut parser, writer);
+    // The loan of the reader ends here.
+    let LentLines {
+        reader: _reader,
+        ..
+    } = yaml_parser_delete(parser);
+    outcome
+}
+
+/// Writes the text of each document that is to come, before the next is loaded, and then the text of the
+/// fault, if there is one. The parser may have given documents before. The document without root, which
+/// comes at the stream's end, writes nothing; a fault that the parser keeps is written again.
+///
+/// Want of memory for a line is written as the fault of a refused growth, behind the lines before it. The
+/// writer is flushed before `Ended` and `Faulted`. After `OutputFailed`, and after the fault of a line that
+/// found no memory, the parser stands behind the document whose text was to be written: a further call goes
+/// on behind that document, the rest of whose text is lost.
+pub fn write_nodes<S: yaml_token_source_t, W: Write>(
+    alloc: Global,
+    parser: &mut yaml_parser_t<S>,
+    writer: &mut W,
+) -> Outcome
+    requires between { between_documents parser.old ≡ true }
+    ensures kept { has_failed parser.old ≡ true → WritesKept result parser.old parser.new (W.contents writer.old) (W.contents writer.new) }
+    ensures writes { (events : List yaml_event_t) (ending : Ending) → RunToCome S.known parser.old events ending
+        → WritesLoads (S.may_break parser.new.source) result (W.contents writer.old) (W.contents writer.new) (bounded_loads (magnitude parser.old.max_entries) events ending) }
+    // at the parser's last load each document's text had been written
+    ensures in_turn { (asked : List yaml_token_t) (given : List yaml_event_t) → History parser.old asked given
+        → LastLoad S.gives S.known S.may_break W.contents (magnitude parser.old.max_entries) result parser.old parser.new (W.contents writer.old) (W.contents writer.new) asked given }
+    ensures between { between_documents parser.new ≡ true }
+    ensures bound { parser.new.max_entries ≡ parser.old.max_entries }
+{
+    loop {
+        match write_next(alloc, parser, writer) {
+            Step::Written => {}
+            Step::Ended => return flushed(Outcome::Ended, writer),
+            Step::Failed(fault) => return faulted(&fault, writer),
+            Step::OutputFailed => return Outcome::OutputFailed,
+        }
+    }
+}
+
+/// Writes the text of the next document.
+fn write_next<S: yaml_token_source_t, W: Write>(
+    alloc: Global,
+    parser: &mut yaml_parser_t<S>,
+    writer: &mut W,
+) -> Step
+    requires between { between_documents parser.old ≡ true }
+    ensures falls { result ≡ Step.Written → events_left S.bound parser.new < events_left S.bound parser.old }
+    ensures between { between_documents parser.new ≡ true }
+    ensures bound { parser.new.max_entries ≡ parser.old.max_entries }
+    ensures kept { has_failed parser.old ≡ true → IsKept result (kept_fault parser.old) × (parser.new ≡ parser.old) × (writer.new ≡ writer.old) }
+    ensures turn { has_failed parser.old ≡ false → LoadTurn S.gives S.known S.may_break (magnitude parser.old.max_entries) result parser.old parser.new (W.contents writer.old) (W.contents writer.new) }
+    ensures step { (events : List yaml_event_t) (ending : Ending) → RunToCome S.known parser.old events ending
+        → NodeSteps S.known S.may_break (magnitude parser.old.max_entries) result parser.new (W.contents writer.old) (W.contents writer.new) events ending }
+{
+    let loaded = yaml_parser_load(parser);
+    let Ok(document) = &loaded else {
+        return Step::Failed(*parser.prefix());
+    };
+    if document.nodes().is_empty() {
+        return Step::Ended;
+    }
+    match write_document(alloc, document, writer) {
+        Ok(()) => Step::Written,
+        Err(line_refusal_t::Memory) => Step::Failed(MEMORY_FAULT),
+        Err(line_refusal_t::Output) => Step::OutputFailed,
+    }
+}
