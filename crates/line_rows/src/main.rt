@@ -1,4 +1,4 @@
-//! Rows of lines: token lines as they are read, event lines as they are written, and whole runs.
+//! Rows of lines: token lines as they are read, lines of events and documents as they are written, and whole runs.
 //!
 //! The program makes each run of `rows` through readers and writers that cut their bytes, and says how
 //! many differ from what is expected. Then it runs over more lines than are read.
@@ -15,7 +15,7 @@ mod runs;
 mod writing;
 
 use row_notation::{EVERY_CALL, LineCounter, PieceReader, PieceWriter, RepeatingReader};
-use rows::RUNS;
+use rows::{LinesOf, RUNS, run};
 use std::alloc::Global;
 use std::io;
 use token_lines::{Outcome, run_events};
@@ -24,10 +24,17 @@ use token_lines::{Outcome, run_events};
 const PIECES: [usize; 4] = [1, 2, 7, 4096];
 
 /// Whether a run in these pieces writes these lines and ends so.
-fn gives(alloc: Global, tokens: &str, piece: usize, lines: &str, outcome: Outcome) -> bool {
+fn gives(
+    alloc: Global,
+    of: LinesOf,
+    tokens: &str,
+    piece: usize,
+    lines: &str,
+    outcome: Outcome,
+) -> bool {
     let mut reader = PieceReader::new(tokens.as_bytes(), piece, EVERY_CALL);
     let mut writer = PieceWriter::new(alloc, piece, EVERY_CALL);
-    let ended = run_events(alloc, &mut reader, &mut writer);
+    let ended = run(of, alloc, &mut reader, &mut writer);
     ended == outcome && writer.written() == lines.as_bytes()
 }
 
@@ -46,9 +53,9 @@ fn run_open_sequences(rt: &(impl Print + AllocGlobal), sequences: u64) -> io::Re
 fn main(rt: HostRuntime) -> io::Result<()> {
     let mut runs = 0u64;
     let mut differ = 0u64;
-    for (tokens, lines, outcome) in RUNS {
+    for (of, tokens, lines, outcome) in RUNS {
         for piece in PIECES {
-            if !gives(rt.alloc(), tokens, piece, lines, outcome) {
+            if !gives(rt.alloc(), of, tokens, piece, lines, outcome) {
                 println!(rt; "in pieces of {piece} this differs:\n{tokens}")?;
                 differ = differ.wrapping_add(1);
             }

@@ -4,13 +4,11 @@
 //! tests pass only if each answer is the whole one.
 
 use crate::reading::assert_fault;
-use crate::rows::RUNS;
+use crate::rows::{RUNS, run};
 use row_notation::FixedWriter;
 use std::process::Abort;
 use std::test::Fail;
-use token_lines::{
-    MAX_TOKENS, Outcome, line_refusal_t, run_events, write_event, yaml_line_source_t,
-};
+use token_lines::{MAX_TOKENS, Outcome, line_refusal_t, write_event, yaml_line_source_t};
 use unsafe_libyaml::{
     ZERO_MARK, yaml_error_type_t, yaml_stream_end_event_initialize, yaml_token_source_t,
 };
@@ -26,13 +24,14 @@ fn is_front_and_fault(written: &str, lines: &str) -> bool {
 #[test]
 fn refused_growth_cuts_a_run_behind_a_line(rt: HostRuntime) -> Result<(), Fail> {
     let mut refusals = 0u8;
-    // A scalar, a fault with a context, and directives with a tag that is joined.
-    for row in [0usize, 5, 6] {
-        let (tokens, lines, outcome) = *RUNS.get(row).expect(&rt, "a run");
+    // Events of a scalar, a fault with a context, and directives with a tag that is joined; documents with
+    // directives, with pairs, and with a fault behind one.
+    for row in [0usize, 5, 6, 9, 10, 13] {
+        let (of, tokens, lines, outcome) = *RUNS.get(row).expect(&rt, "a run");
         for _ in 0..2u8 {
             let mut reader = tokens.as_bytes();
             let mut writer = FixedWriter::new();
-            let ended = run_events(rt.alloc(), &mut reader, &mut writer);
+            let ended = run(of, rt.alloc(), &mut reader, &mut writer);
             let written = str::from_utf8(writer.written())?;
             if written == lines {
                 assert_eq!(rt; ended, outcome);

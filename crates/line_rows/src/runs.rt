@@ -1,18 +1,22 @@
 //! Whole runs: where the reader or the writer fails, lines that are alone, the ends of lines, and
 //! the longest line.
 
-use crate::rows::{ONE_SCALAR, ONE_SCALAR_EVENTS, RUNS};
+use crate::rows::{LinesOf, ONE_SCALAR, ONE_SCALAR_EVENTS, ONE_SCALAR_NODES, RUNS, run};
 use row_notation::{EVERY_CALL, PieceReader, PieceWriter};
 use std::alloc::{AllocError, Global};
 use std::test::Fail;
-use token_lines::{MAX_LINE, MAX_TOKENS, Outcome, run_events, write_events, yaml_line_source_t};
-use unsafe_libyaml::{yaml_event_type_t, yaml_parser_initialize, yaml_parser_parse};
+use token_lines::{
+    MAX_LINE, MAX_TOKENS, Outcome, run_events, write_events, write_nodes, yaml_line_source_t,
+};
+use unsafe_libyaml::{
+    yaml_event_type_t, yaml_parser_initialize, yaml_parser_load, yaml_parser_parse,
+};
 
 /// What a run writes of these token lines, and how it ends.
-fn run(alloc: Global, tokens: &str) -> Result<(String, Outcome), Fail> {
+fn run_over(alloc: Global, of: LinesOf, tokens: &str) -> Result<(String, Outcome), Fail> {
     let mut written = Vec::new(alloc);
     let mut input = tokens.as_bytes();
-    let ended = run_events(alloc, &mut input, &mut written);
+    let ended = run(of, alloc, &mut input, &mut written);
     let text = str::from_utf8(written.as_slice())?;
     Ok((String::from_str(alloc, text)?, ended))
 }
@@ -58,7 +62,11 @@ const FRONTS: [(usize, &str); 3] = [
 #[test]
 fn fronts_of_lines(rt: HostRuntime) -> Result<(), Fail> {
     for (lines, want) in FRONTS {
-        let (written, ended) = run(rt.alloc(), first_lines(ONE_SCALAR, lines))?;
+        let (written, ended) = run_over(
+            rt.alloc(),
+            LinesOf::Events,
+            first_lines(ONE_SCALAR, lines),
+        )?;
         assert_eq!(rt; written.as_str(), want);
         assert_eq!(rt; ended, Outcome::Faulted);
     }
@@ -67,8 +75,8 @@ fn fronts_of_lines(rt: HostRuntime) -> Result<(), Fail> {
 
 /// What a run writes whose reader fails behind so many lines: that of a reader that ends there, with the
 /// other problem.
-fn failing_behind(alloc: Global, tokens: &str, lines: usize) -> Result<String, Fail> {
-    let (front, _) = run(alloc, first_lines(tokens, lines))?;
+fn failing_behind(alloc: Global, of: LinesOf, tokens: &str, lines: usize) -> Result<String, Fail> {
+    let (front, _) = run_over(alloc, of, first_lines(tokens, lines))?;
     let ended = front
         .strip_suffix("no more tokens\n")
         .ok_or("another fault")?;
@@ -80,14 +88,14 @@ fn failing_behind(alloc: Global, tokens: &str, lines: usize) -> Result<String, F
 #[test]
 fn each_read_failing_in_turn(rt: HostRuntime) -> Result<(), Fail> {
     let alloc = rt.alloc();
-    for (tokens, events, outcome) in RUNS {
+    for (of, tokens, text, outcome) in RUNS {
         let mut came_through = false;
         // A call for each byte, and one for the end.
         for calls in 0..tokens.len().saturating_add(2) {
             let mut reader = PieceReader::new(tokens.as_bytes(), 1, calls);
             let mut writer = PieceWriter::new(alloc, 4096, EVERY_CALL);
-            let ended = run_events(alloc, &mut reader, &mut writer);
-            if writer.written() == events.as_bytes() {
+            let ended = run(of, alloc, &mut reader, &mut writer);
+            if writer.written() == text.as_bytes() {
                 assert_eq!(rt; ended, outcome);
                 came_through = true;
                 break;
@@ -95,7 +103,7 @@ fn each_read_failing_in_turn(rt: HostRuntime) -> Result<(), Fail> {
             assert_eq!(rt; ended, Outcome::Faulted, "the call {calls}");
             let read = tokens.as_bytes().get(..calls).unwrap_or(tokens.as_bytes());
             let lines = read.iter().filter(|byte| **byte == b'\n').count();
-            let want = failing_behind(alloc, tokens, lines)?;
+            let want = failing_behind(alloc, of, tokens, lines)?;
             assert_eq!(rt; writer.written(), want.as_bytes(), "the call {calls}");
         }
         assert!(rt; came_through);
@@ -106,19 +114,19 @@ fn each_read_failing_in_turn(rt: HostRuntime) -> Result<(), Fail> {
 #[test]
 fn each_write_and_flush_failing_in_turn(rt: HostRuntime) -> Result<(), Fail> {
     let alloc = rt.alloc();
-    for (tokens, want, outcome) in RUNS {
+    for (of, tokens, want, outcome) in RUNS {
         // A write for each byte, and a flush: with one call fewer the run fails, and with these it doesn't.
         for calls in 0..want.len().saturating_add(1) {
             let mut reader = tokens.as_bytes();
             let mut writer = PieceWriter::new(alloc, 1, calls);
-            let ended = run_events(alloc, &mut reader, &mut writer);
+            let ended = run(of, alloc, &mut reader, &mut writer);
             assert_eq!(rt; ended, Outcome::OutputFailed, "after {calls} calls");
             let front = want.as_bytes().get(..calls).unwrap_or(want.as_bytes());
             assert_eq!(rt; writer.written(), front);
         }
         let mut reader = tokens.as_bytes();
         let mut writer = PieceWriter::new(alloc, 1, want.len().saturating_add(1));
-        assert_eq!(rt; run_events(alloc, &mut reader, &mut writer), outcome);
+        assert_eq!(rt; run(of, alloc, &mut reader, &mut writer), outcome);
         assert_eq!(rt; writer.written(), want.as_bytes());
     }
     Ok(())
@@ -205,27 +213,39 @@ const LINES: [(&str, &str); 8] = [
 #[test]
 fn lines_that_are_alone(rt: HostRuntime) -> Result<(), Fail> {
     for (line, fault) in LINES {
-        let (written, ended) = run(rt.alloc(), line)?;
+        let (written, ended) = run_over(rt.alloc(), LinesOf::Events, line)?;
         assert_eq!(rt; ended, Outcome::Faulted, "{line}");
         assert_eq!(rt; written.as_str(), fault, "{line}");
     }
     Ok(())
 }
 
-#[test]
-fn ends_of_lines(rt: HostRuntime) -> Result<(), Fail> {
-    let (written, ended) = run(rt.alloc(), ONE_SCALAR.trim_end())?;
-    assert_eq!(rt; ended, Outcome::Ended);
-    assert_eq!(rt; written.as_str(), ONE_SCALAR_EVENTS);
-
-    let mut returns = String::new(rt.alloc());
+/// The lines of `ONE_SCALAR` with a CR before each LF.
+fn with_returns(alloc: Global) -> Result<String, AllocError> {
+    let mut returns = String::new(alloc);
     for line in ONE_SCALAR.lines() {
         returns.push_str(line)?;
         returns.push_str("\r\n")?;
     }
-    let (written, ended) = run(rt.alloc(), returns.as_str())?;
-    assert_eq!(rt; ended, Outcome::Faulted);
-    assert_eq!(rt; written.as_str(), "FAULT scanner 0:0:0 bad token line\n");
+    Ok(returns)
+}
+
+/// Whether a run takes a last line without LF, and no line with a CR.
+fn takes_ends_of_lines(alloc: Global, of: LinesOf, text: &str) -> Result<bool, Fail> {
+    let (whole, ended) = run_over(alloc, of, ONE_SCALAR.trim_end())?;
+    let (fault, faulted) = run_over(alloc, of, with_returns(alloc)?.as_str())?;
+    Ok(
+        ended == Outcome::Ended
+            && whole.as_str() == text
+            && faulted == Outcome::Faulted
+            && fault.as_str() == "FAULT scanner 0:0:0 bad token line\n",
+    )
+}
+
+#[test]
+fn ends_of_lines(rt: HostRuntime) -> Result<(), Fail> {
+    assert!(rt; takes_ends_of_lines(rt.alloc(), LinesOf::Events, ONE_SCALAR_EVENTS)?);
+    assert!(rt; takes_ends_of_lines(rt.alloc(), LinesOf::Documents, ONE_SCALAR_NODES)?);
     Ok(())
 }
 
@@ -278,6 +298,70 @@ fn the_longest_line(rt: HostRuntime) -> Result<(), Fail> {
             "in pieces of {piece}"
         );
     }
+    Ok(())
+}
+
+/// Whether a run over documents takes the longest line, and none that is longer.
+fn takes_longest_node(alloc: Global) -> Result<bool, Fail> {
+    let front = "DOCUMENT 2:0:2 4:0:4 1 1 - 0\n1 SCALAR 2:0:2 3:0:3 =tag:yaml.org,2002:str =";
+    let nodes = around(alloc, front, LONGEST_SCALAR, " plain\n")?;
+    let longest = long_scalar(alloc, LONGEST_SCALAR)?;
+    let (whole, ended) = run_over(alloc, LinesOf::Documents, longest.as_str())?;
+    let too_long = long_scalar(alloc, LONGEST_SCALAR + 1)?;
+    let (fault, faulted) = run_over(alloc, LinesOf::Documents, too_long.as_str())?;
+    Ok(
+        ended == Outcome::Ended
+            && whole.as_str() == nodes.as_str()
+            && faulted == Outcome::Faulted
+            && fault.as_str() == "FAULT reader 1:1:0 line too long\n",
+    )
+}
+
+#[test]
+fn the_longest_node(rt: HostRuntime) -> Result<(), Fail> {
+    assert!(rt; takes_longest_node(rt.alloc())?);
+    Ok(())
+}
+
+/// Whether a parser is lent to `write_nodes` behind its first document, and gives the second and nothing twice.
+fn writes_the_rest(alloc: Global) -> Result<bool, Fail> {
+    let (_, tokens, text, _) = RUNS[9];
+    let source = yaml_line_source_t::new(alloc, tokens.as_bytes(), MAX_TOKENS);
+    let mut parser = yaml_parser_initialize(alloc, source);
+    if yaml_parser_load(&mut parser).is_err() {
+        return Ok(false);
+    }
+    let mut written = Vec::new(alloc);
+    let first = write_nodes(alloc, &mut parser, &mut written);
+    let second = write_nodes(alloc, &mut parser, &mut written);
+    let rest = str::from_utf8(written.as_slice())?;
+    Ok(
+        first == Outcome::Ended
+            && second == Outcome::Ended
+            && text.ends_with(rest)
+            && rest.starts_with("DOCUMENT 10:0:10 "),
+    )
+}
+
+/// Whether a fault that a parser keeps is written again.
+fn writes_a_fault_again(alloc: Global) -> Result<bool, Fail> {
+    let source = yaml_line_source_t::new(alloc, b"".as_slice(), MAX_TOKENS);
+    let mut parser = yaml_parser_initialize(alloc, source);
+    let mut written = Vec::new(alloc);
+    let first = write_nodes(alloc, &mut parser, &mut written);
+    let second = write_nodes(alloc, &mut parser, &mut written);
+    let twice = b"FAULT reader 0:0:0 no more tokens\nFAULT reader 0:0:0 no more tokens\n";
+    Ok(
+        first == Outcome::Faulted
+            && second == Outcome::Faulted
+            && written.as_slice() == twice.as_slice(),
+    )
+}
+
+#[test]
+fn the_documents_of_a_parser(rt: HostRuntime) -> Result<(), Fail> {
+    assert!(rt; writes_the_rest(rt.alloc())?);
+    assert!(rt; writes_a_fault_again(rt.alloc())?);
     Ok(())
 }
 
