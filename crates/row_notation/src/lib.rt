@@ -23,6 +23,7 @@
 mod documents;
 mod events;
 mod faults;
+mod fronts;
 mod pieces;
 mod runs;
 mod tokens;
@@ -30,6 +31,7 @@ mod tokens;
 pub use documents::show_document;
 pub use events::{mark, show_event};
 pub use faults::{are_same_faults, show_fault};
+pub use fronts::{ends_of_sources, is_front, shown_end};
 pub use pieces::{EVERY_CALL, FixedWriter, LineCounter, PieceReader, PieceWriter, RepeatingReader};
-pub use runs::{is_empty, is_over, parsed, show_run};
+pub use runs::{first_parsed_otherwise, is_empty, is_over, parsed, show_run};
 pub use tokens::{end_of_row, source_of, tokens_of};

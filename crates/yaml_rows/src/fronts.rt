@@ -1,12 +1,12 @@
 //! The fronts of a list of tokens, with each error of a source behind them.
 
 use anyhow::Result;
-use row_notation::{mark, show_fault, show_run};
+use row_notation::{ends_of_sources, is_front, show_run, shown_end};
 use std::alloc::Global;
 use token_lines::{MAX_TOKENS, yaml_line_source_t};
 use unsafe_libyaml::{
-    YAML_MEMORY_ERROR, YAML_READER_ERROR, YAML_SCANNER_ERROR, yaml_list_source_t,
-    yaml_parser_initialize, yaml_source_fault_t, yaml_token_source_t, yaml_token_t,
+    yaml_list_source_t, yaml_parser_initialize, yaml_source_fault_t, yaml_token_source_t,
+    yaml_token_t,
 };
 
 /// The tokens of these lines, and at most so many.
@@ -22,25 +22,6 @@ fn first_tokens(alloc: Global, lines: &str, most: usize) -> Result<Vec<yaml_toke
     Ok(tokens)
 }
 
-/// The faults by which a source may end. Their fields tell them from each fault of a list.
-fn ends_of_sources() -> [yaml_source_fault_t; 3] {
-    let problem = Some("the source broke off");
-    let context = Some("while giving a list");
-    [
-        yaml_source_fault_t::new(YAML_MEMORY_ERROR, None, 1, -1, mark(99), context, mark(98)),
-        yaml_source_fault_t::new(YAML_READER_ERROR, problem, 2, -2, mark(99), None, mark(98)),
-        yaml_source_fault_t::new(
-            YAML_SCANNER_ERROR,
-            problem,
-            3,
-            -3,
-            mark(99),
-            context,
-            mark(98),
-        ),
-    ]
-}
-
 /// What parsing so many of the tokens gives, with this fault behind them.
 fn parsed_front(
     alloc: Global,
@@ -53,32 +34,31 @@ fn parsed_front(
     show_run(alloc, &mut parser)
 }
 
-/// Whether `front` begins `whole`, and ends where an event does.
-fn begins(front: &str, whole: &str) -> bool {
-    match whole.strip_prefix(front) {
-        Some(rest) => front.is_empty() || rest.is_empty() || rest.starts_with(' '),
-        None => false,
+/// Whether each front of these tokens gives events that begin those of all tokens, and then either the fault that
+/// stands behind the front, or the end of the whole list.
+fn each_begins(
+    alloc: Global,
+    lines: &str,
+    tokens: usize,
+    end: yaml_source_fault_t,
+) -> Result<bool> {
+    let fault = shown_end(alloc, &end)?;
+    let whole = parsed_front(alloc, lines, tokens, end)?;
+    for most in 0..tokens {
+        let front = parsed_front(alloc, lines, most, end)?;
+        if !is_front(front.as_str(), whole.as_str(), fault.as_str()) {
+            return Ok(false);
+        }
     }
+    Ok(true)
 }
 
-/// Whether each front of these tokens gives events that begin those of all tokens, and then either the fault that
-/// stands behind the front, or the end of the whole list; whichever error the fault has.
+/// Whether the fronts of these tokens begin them, whichever error the fault behind them has.
 pub fn each_front_begins(alloc: Global, lines: &str) -> Result<bool> {
     let tokens = first_tokens(alloc, lines, usize::MAX)?.len();
     for end in ends_of_sources() {
-        let fault = end.prefix();
-        let mut shown_fault = String::new(alloc);
-        show_fault(&mut shown_fault, fault.error, &fault)?;
-        let whole = parsed_front(alloc, lines, tokens, end)?;
-        for most in 0..tokens {
-            let front = parsed_front(alloc, lines, most, end)?;
-            let is_right = match front.strip_suffix(shown_fault.as_str()) {
-                Some(events) => begins(events.trim_end(), whole.as_str()),
-                None => front == whole,
-            };
-            if !is_right {
-                return Ok(false);
-            }
+        if !each_begins(alloc, lines, tokens, end)? {
+            return Ok(false);
         }
     }
     Ok(true)

@@ -1,6 +1,6 @@
 //! Rows with a fault, with their bad token and all behind it replaced by an end.
 
-use row_notation::parsed;
+use row_notation::first_parsed_otherwise;
 use std::test::Fail;
 
 /// A name, the tokens before the bad one with an end, and what parsing gives.
@@ -44,9 +44,6 @@ const ROWS: [(&str, &str, &str); 7] = [
 
 #[test]
 fn what_stands_before_a_bad_token_can_be_completed(rt: HostRuntime) -> Result<(), Fail> {
-    for (name, tokens, events) in ROWS {
-        let shown = parsed(rt.alloc(), tokens)?;
-        assert_eq!(rt; shown.as_str(), events, "{name}");
-    }
+    assert_eq!(rt; first_parsed_otherwise(rt.alloc(), &ROWS)?, None);
     Ok(())
 }

@@ -4,6 +4,7 @@ ghost use Rattle.std.specs.Prelude.{◌≡◌, None, length};
 ghost use Rattle.unsafe_libyaml.specs.Source.{coming, list_answer, rest};
 ghost use Rattle.unsafe_libyaml.specs.ListLaws.{list_falls, list_repeats};
 
+use anyhow::Result;
 use row_notation::{is_empty, source_of};
 use std::alloc::Global;
 use std::fmt::Write;
@@ -57,7 +58,7 @@ const COUNTS: [(&str, &str, u64); 3] = [
 ];
 
 /// The tokens asked for by so many calls over a row, and whether the last of them gave an event.
-fn asked_by(alloc: Global, row: &str, calls: u64) -> Result<(u64, bool), Fail> {
+fn asked_by(alloc: Global, row: &str, calls: u64) -> Result<(u64, bool)> {
     let list = source_of(alloc, row)?;
     let mut parser = yaml_parser_initialize(alloc, CountedSource { list, asked: 0 });
     let mut gave = false;
@@ -71,20 +72,33 @@ fn asked_by(alloc: Global, row: &str, calls: u64) -> Result<(u64, bool), Fail> {
     Ok((source.asked, gave))
 }
 
+/// The tokens asked for when each event came.
+fn shown_counts(alloc: Global, row: &str) -> Result<String> {
+    let mut shown = String::new(alloc);
+    for calls in 1..100u64 {
+        let (asked, gave) = asked_by(alloc, row, calls)?;
+        if !gave {
+            break;
+        }
+        write!(shown, "{asked} ")?;
+    }
+    Ok(shown)
+}
+
+fn is_asked_late(alloc: Global, row: &str, expected: &str, in_all: u64) -> Result<[bool; 2]> {
+    let (asked, _) = asked_by(alloc, row, 100)?;
+    let shown = shown_counts(alloc, row)?;
+    Ok([shown.as_str() == expected, asked == in_all])
+}
+
 #[test]
 fn no_token_is_asked_for_early(rt: HostRuntime) -> Result<(), Fail> {
     for (row, expected, in_all) in COUNTS {
-        let mut shown = String::new(rt.alloc());
-        for calls in 1..100u64 {
-            let (asked, gave) = asked_by(rt.alloc(), row, calls)?;
-            if !gave {
-                break;
-            }
-            write!(shown, "{asked} ")?;
-        }
-        assert_eq!(rt; shown.as_str(), expected, "{row}");
-        let (asked, _) = asked_by(rt.alloc(), row, 100)?;
-        assert_eq!(rt; asked, in_all, "{row}");
+        assert_eq!(rt;
+            is_asked_late(rt.alloc(), row, expected, in_all)?,
+            [true; 2],
+            "{row}"
+        );
     }
     Ok(())
 }

@@ -1,12 +1,13 @@
 //! What a fault says, and that `?` takes it.
 
+use anyhow::Result;
 use row_notation::source_of;
 use std::alloc::Global;
 use std::test::Fail;
 use unsafe_libyaml::yaml_parser_parse_all;
 
 /// How many events a row has, or its fault.
-fn count_events(alloc: Global, row: &str) -> anyhow::Result<usize> {
+fn count_events(alloc: Global, row: &str) -> Result<usize> {
     let run = yaml_parser_parse_all(alloc, source_of(alloc, row)?)?;
     if let Some(fault) = run.fault {
         Err(fault)?;
@@ -30,14 +31,18 @@ const FAULTS: [(&str, &str); 3] = [
     ),
 ];
 
+fn is_told(alloc: Global, row: &str, text: &str) -> Result<bool> {
+    let Err(error) = count_events(alloc, row) else {
+        return Ok(false);
+    };
+    let said = format!(in alloc; "{error}")?;
+    Ok(said.as_str() == text)
+}
+
 #[test]
 fn faults_say_where_they_stand(rt: HostRuntime) -> Result<(), Fail> {
     for (row, text) in FAULTS {
-        let Err(error) = count_events(rt.alloc(), row) else {
-            return Err("no fault")?;
-        };
-        let said = format!(in rt.alloc(); "{error}")?;
-        assert_eq!(rt; said.as_str(), text);
+        assert!(rt; is_told(rt.alloc(), row, text)?, "{row}");
     }
     let events = count_events(rt.alloc(), "STREAM-START SCALAR(a) STREAM-END")?;
     assert_eq!(rt; events, 5);

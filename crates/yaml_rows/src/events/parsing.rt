@@ -1,7 +1,7 @@
 //! Rows that stand in no list: what parsing each gives.
 
 use anyhow::Result;
-use row_notation::{mark, parsed, show_event, show_fault, source_of};
+use row_notation::{first_parsed_otherwise, mark, show_event, show_fault, source_of};
 use std::alloc::Global;
 use std::test::Fail;
 use unsafe_libyaml::{
@@ -40,20 +40,31 @@ fn parsed_at_once(alloc: Global, row: &str) -> Result<String> {
     Ok(shown)
 }
 
+/// The name of the first row that parsing at once gives other events, if any.
+fn first_otherwise_at_once(alloc: Global) -> Result<Option<&'static str>> {
+    for (name, tokens, events) in ROWS {
+        let shown = parsed_at_once(alloc, tokens)?;
+        if shown.as_str() != events {
+            return Ok(Some(name));
+        }
+    }
+    Ok(None)
+}
+
 #[test]
 fn rows_give_their_events(rt: HostRuntime) -> Result<(), Fail> {
-    for (name, tokens, events) in ROWS {
-        let shown = parsed(rt.alloc(), tokens)?;
-        assert_eq!(rt; shown.as_str(), events, "{name}");
-        let shown = parsed_at_once(rt.alloc(), tokens)?;
-        assert_eq!(rt; shown.as_str(), events, "{name} at once");
-    }
+    assert_eq!(rt; first_parsed_otherwise(rt.alloc(), &ROWS)?, None);
+    assert_eq!(rt; first_otherwise_at_once(rt.alloc())?, None);
     Ok(())
+}
+
+fn parses_nothing(alloc: Global) -> bool {
+    let fault = yaml_source_fault_t::new(YAML_MEMORY_ERROR, None, 0, 0, mark(0), None, mark(0));
+    let source = yaml_list_source_t::new(Vec::new(alloc), fault);
+    yaml_parser_parse_all(alloc, source).is_err()
 }
 
 #[test]
 fn a_source_without_memory_gives_no_run(rt: HostRuntime) {
-    let fault = yaml_source_fault_t::new(YAML_MEMORY_ERROR, None, 0, 0, mark(0), None, mark(0));
-    let source = yaml_list_source_t::new(Vec::new(rt.alloc()), fault);
-    assert!(rt; yaml_parser_parse_all(rt.alloc(), source).is_err());
+    assert!(rt; parses_nothing(rt.alloc()));
 }

@@ -1,0 +1,56 @@
+//! Fronts of a row, with each error of a source behind them.
+
+use crate::events::mark;
+use crate::faults::show_fault;
+use anyhow::Result;
+use std::alloc::Global;
+use unsafe_libyaml::{
+    YAML_MEMORY_ERROR, YAML_READER_ERROR, YAML_SCANNER_ERROR, yaml_source_fault_t,
+};
+
+/// The faults by which a source may end, in the order of their numbers. Their fields tell them from each fault of
+/// a row.
+pub fn ends_of_sources() -> [yaml_source_fault_t; 3] {
+    let problem = Some("the source broke off");
+    let context = Some("while giving a row");
+    [
+        yaml_source_fault_t::new(YAML_MEMORY_ERROR, None, 1, -1, mark(99), context, mark(98)),
+        yaml_source_fault_t::new(
+            YAML_READER_ERROR,
+            problem,
+            2,
+            -3,
+            mark(99),
+            context,
+            mark(98),
+        ),
+        yaml_source_fault_t::new(YAML_SCANNER_ERROR, problem, 3, -2, mark(99), None, mark(98)),
+    ]
+}
+
+/// How the fault by which a source ends is shown.
+///
+/// Errors: want of memory.
+pub fn shown_end(alloc: Global, end: &yaml_source_fault_t) -> Result<String> {
+    let mut shown = String::new(alloc);
+    let fault = end.prefix();
+    show_fault(&mut shown, fault.error, &fault)?;
+    Ok(shown)
+}
+
+/// Whether `front` begins `whole`, and ends where an event or a document does.
+fn begins(front: &str, whole: &str) -> bool {
+    match whole.strip_prefix(front) {
+        Some(rest) => front.is_empty() || rest.is_empty() || rest.starts_with(' '),
+        None => false,
+    }
+}
+
+/// Whether what a front of a row gives begins what the row gives and is ended by `fault`, which stands behind the
+/// front, or is all that the row gives.
+pub fn is_front(front: &str, whole: &str, fault: &str) -> bool {
+    match front.strip_suffix(fault) {
+        Some(before) => begins(before.trim_end(), whole),
+        None => front == whole,
+    }
+}
