@@ -1,0 +1,47 @@
+//! Deep documents, built by calls.
+
+ghost use Rattle.std.specs.Prelude.{◌≡◌, IsTrue};
+ghost use Rattle.unsafe_libyaml.specs.Nodes.{type_at};
+
+use crate::growing::is_chain;
+use std::alloc::Global;
+use unsafe_libyaml::{
+    YAML_FLOW_SEQUENCE_STYLE, YAML_SEQUENCE_NODE, yaml_document_add_sequence,
+    yaml_document_append_sequence_item, yaml_document_get_node, yaml_document_initialize,
+    yaml_document_t, yaml_node_type_t, yaml_refusal_t,
+};
+
+/// Whether a node of this type has this id.
+fn is_at(document: &yaml_document_t, id: i32, wanted: yaml_node_type_t) -> bool
+    ensures { IsTrue result → type_at document.now.nodes id ≡ wanted }
+{
+    match yaml_document_get_node(document, id) {
+        Some(node) => node.type_() == wanted,
+        None => false,
+    }
+}
+
+/// Adds a sequence as an item of another, and answers its id.
+fn nest(document: &mut yaml_document_t, outer: i32) -> Result<i32, yaml_refusal_t> {
+    let inner = yaml_document_add_sequence(document, None, YAML_FLOW_SEQUENCE_STYLE)?;
+    if is_at(document, outer, YAML_SEQUENCE_NODE)
+        && yaml_document_get_node(document, inner).is_some()
+    {
+        yaml_document_append_sequence_item(document, outer, inner)?;
+    }
+    Ok(inner)
+}
+
+/// Builds n sequences, at least one, each the only item of the one before, and answers how many there are then; 0
+/// where they don't stand so.
+///
+/// Errors: want of memory.
+pub fn build_nested(alloc: Global, n: u32) -> Result<usize, yaml_refusal_t> {
+    let mut document = yaml_document_initialize(alloc, None, &[], true, true)?;
+    let mut innermost = yaml_document_add_sequence(&mut document, None, YAML_FLOW_SEQUENCE_STYLE)?;
+    for _ in 1..n {
+        innermost = nest(&mut document, innermost)?;
+    }
+    let nodes = document.nodes();
+    Ok(if is_chain(nodes) { nodes.len() } else { 0 })
+}

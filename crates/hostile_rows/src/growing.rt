@@ -1,0 +1,108 @@
+//! Lists that grow by a number, over the source that computes them and over a list of the same tokens.
+
+use crate::in_step::{Counted, EVERY_CALL, Shape, count_documents, count_events};
+use computed_tokens::{ComputedTokens, GrowingList};
+use row_notation::{end_of_row, is_over};
+use std::alloc::{AllocError, Global};
+use unsafe_libyaml::{
+    unnamed_yaml_node_t_data, yaml_document_t, yaml_list_source_t, yaml_node_t,
+    yaml_parser_initialize, yaml_token_source_t,
+};
+
+/// A list at a number n, as the shape of its documents.
+#[derive(Copy, Clone)]
+pub struct Grown {
+    pub list: GrowingList,
+    pub n: u32,
+}
+
+impl Grown {
+    fn computed(self, alloc: Global) -> ComputedTokens {
+        ComputedTokens::new(alloc, self.list, self.n, end_of_row())
+    }
+
+    /// A list source of the same tokens.
+    fn listed(self, alloc: Global) -> Result<yaml_list_source_t, AllocError> {
+        let mut source = self.computed(alloc);
+        let mut tokens = Vec::new(alloc);
+        for _ in 0..EVERY_CALL {
+            match source.next_token() {
+                Ok(token) => tokens.push(token)?,
+                Err(_) => break,
+            }
+        }
+        Ok(yaml_list_source_t::new(tokens, end_of_row()))
+    }
+
+    /// The events of the list; None where the two sources differ, or where more comes behind the end.
+    pub fn parsed(self, alloc: Global) -> Result<Option<Counted>, AllocError> {
+        let mut one = yaml_parser_initialize(alloc, self.computed(alloc));
+        let mut other = yaml_parser_initialize(alloc, self.listed(alloc)?);
+        let counted = count_events(&mut one, &mut other);
+        let are_over = is_over(&mut one) && is_over(&mut other);
+        Ok(counted.filter(|_| are_over))
+    }
+
+    /// The documents of the list; None where the two sources differ, or where a document has another shape.
+    pub fn loaded(self, alloc: Global) -> Result<Option<Counted>, AllocError> {
+        let mut one = yaml_parser_initialize(alloc, self.computed(alloc));
+        let mut other = yaml_parser_initialize(alloc, self.listed(alloc)?);
+        let counted = count_documents(&mut one, &mut other, &self);
+        let again = count_documents(&mut one, &mut other, &self);
+        let are_over = again.is_some_and(|again| again.count == 0);
+        Ok(counted.filter(|_| are_over))
+    }
+}
+
+impl Shape for Grown {
+    fn is_shape_of(&self, document: &yaml_document_t) -> bool {
+        let nodes = document.nodes();
+        let n = self.n as usize;
+        match self.list {
+            GrowingList::NestedSequences => nodes.len() == n && is_chain(nodes),
+            GrowingList::NestedPairs => nodes.len() == 3 * n + 1,
+            GrowingList::Aliases => nodes.len() == 1
+                && nodes.iter().all(|node| is_all_root(node, n)),
+            _ => nodes.len() == 1 && nodes.iter().all(is_empty_scalar),
+        }
+    }
+}
+
+/// The ids in a sequence.
+fn items_of(node: &yaml_node_t) -> Option<&[i32]> {
+    match &node.content {
+        unnamed_yaml_node_t_data::Sequence(sequence) => Some(sequence.items.as_slice()),
+        _ => None,
+    }
+}
+
+/// Whether each node is a sequence with the next as its only item, and the last is empty.
+pub fn is_chain(nodes: &[yaml_node_t]) -> bool {
+    for (index, node) in nodes.iter().enumerate() {
+        let next = index.saturating_add(2);
+        let is_link = match items_of(node) {
+            Some([]) => next > nodes.len(),
+            Some([item]) => usize::try_from(*item).ok() == Some(next),
+            _ => false,
+        };
+        if !is_link {
+            return false;
+        }
+    }
+    true
+}
+
+/// Whether this is a sequence of so many items, all of them the root.
+fn is_all_root(node: &yaml_node_t, len: usize) -> bool {
+    match items_of(node) {
+        Some(items) => items.len() == len && items.iter().all(|item| *item == 1),
+        None => false,
+    }
+}
+
+fn is_empty_scalar(node: &yaml_node_t) -> bool {
+    match &node.content {
+        unnamed_yaml_node_t_data::Scalar(scalar) => scalar.value.is_empty(),
+        _ => false,
+    }
+}

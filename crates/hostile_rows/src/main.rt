@@ -1,0 +1,120 @@
+//! Hostile use: lists that are large, deep or cut, texts of every length, and drawn lists.
+//!
+//! The program without words runs all of these and says what it counted. `hostile_rows refused` runs what
+//! `examples/refused_growths.sh` refuses growths of, and `hostile_rows WORK N` does the work of
+//! `examples/flat_memory.sh`.
+#![tactic(auto)]
+
+mod built;
+mod drawn;
+mod flat;
+mod fronts;
+mod growing;
+mod in_step;
+mod loads;
+mod refused;
+mod texts;
+
+use anyhow::{Context, Result, bail};
+use built::build_nested;
+use computed_tokens::GrowingList;
+use drawn::draw_lists;
+use fronts::{first_wrong_front, first_wrong_load};
+use growing::Grown;
+use in_step::Counted;
+use std::env;
+use std::rt::Env;
+use texts::count_refused;
+
+/// How large and deep the lists are.
+const N: u32 = 100_000;
+
+/// The lists that grow, by name.
+const LISTS: [(&str, GrowingList); 6] = [
+    ("nested sequences", GrowingList::NestedSequences),
+    ("nested pairs", GrowingList::NestedPairs),
+    ("document ends", GrowingList::DocumentEnds),
+    ("documents", GrowingList::Documents),
+    ("aliases", GrowingList::Aliases),
+    ("tag directives", GrowingList::TagDirectives),
+];
+
+/// Shows what was counted over both sources, and the fault that ended it.
+fn show_counted(rt: &impl Print, counted: Option<Counted>, what: &str) -> Result<()> {
+    match counted {
+        None => print!(rt; ", {what} differ")?,
+        Some(counted) => {
+            let count = counted.count;
+            print!(rt; ", {count} {what}")?;
+            if let Some(problem) = counted.fault.problem {
+                let index = counted.fault.problem_mark.index;
+                print!(rt; " and {problem} at {index}")?;
+            }
+        }
+    }
+    Ok(())
+}
+
+fn run_growing(rt: &(impl Print + AllocGlobal), name: &str, list: GrowingList) -> Result<()> {
+    let grown = Grown { list, n: N };
+    print!(rt; "{name}")?;
+    show_counted(rt, grown.parsed(rt.alloc())?, "events")?;
+    show_counted(rt, grown.loaded(rt.alloc())?, "documents")?;
+    println!(rt)?;
+    Ok(())
+}
+
+fn run_rows(rt: &(impl Print + AllocGlobal)) -> Result<()> {
+    for (name, list) in LISTS {
+        run_growing(rt, name, list)?;
+    }
+    let nested = build_nested(rt.alloc(), N)?;
+    println!(rt; "nested by calls: {nested} nodes")?;
+    let front = first_wrong_front(rt.alloc())?.unwrap_or("none");
+    println!(rt; "wrong fronts: {front}")?;
+    let load = first_wrong_load(rt.alloc())?.unwrap_or("none");
+    println!(rt; "wrong loads of fronts: {load}")?;
+    let refused = count_refused(rt.alloc())?;
+    println!(rt; "lengths of texts that are refused: {refused}")?;
+    let drawn = draw_lists(rt.alloc(), 500)?;
+    let lists = drawn.lists;
+    let tokens = drawn.tokens;
+    let wrong = drawn.wrong;
+    println!(rt; "{lists} drawn lists of {tokens} tokens, {wrong} wrong")?;
+    Ok(())
+}
+
+/// Does so much of the work that this word names, and says what it counted.
+fn run_work(rt: &(impl Print + AllocGlobal), word: &str, n: u32) -> Result<()> {
+    let counted = match word {
+        "parsed" => flat::parse_documents(rt.alloc(), n),
+        "loaded" => flat::load_documents(rt.alloc(), n),
+        "left" => flat::leave_runs(rt.alloc(), n),
+        "deleted" => flat::delete_tokens_and_events(rt.alloc(), n)?,
+        _ => bail!("no such work: {word}"),
+    };
+    println!(rt; "{counted}")?;
+    Ok(())
+}
+
+fn run_words(rt: &(impl Print + Env + AllocGlobal)) -> Result<()> {
+    let words: Vec<String> = env::args(rt)?.skip(1).collect(rt.alloc())?;
+    match words.as_slice() {
+        [] => run_rows(rt),
+        [word] if word.as_str() == "refused" => {
+            let wrong = refused::count_wrong(rt.alloc());
+            println!(rt; "{wrong} wrong")?;
+            Ok(())
+        }
+        [word, n] => run_work(
+            rt,
+            word.as_str(),
+            n.as_str().parse::<u32>().context("no number")?,
+        ),
+        _ => bail!("no such words"),
+    }
+}
+
+fn main(rt: HostRuntime) -> Result<()> {
+    run_words(&rt)
+}

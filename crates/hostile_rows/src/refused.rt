@@ -1,0 +1,65 @@
+//! Growths refused in turn: whatever is run is run twice, and at most one of the two meets a refused growth.
+//!
+//! `examples/refused_growths.sh` runs this with the first allocation refused, the second, and so on until a run
+//! meets none.
+
+use crate::fronts::{ROWS, Reading, is_cut, shown_front};
+use anyhow::Result;
+use row_notation::{FixedWriter, end_of_row};
+use std::alloc::Global;
+use token_lines::run_events;
+
+/// Token lines with a directive, a tag that is joined, an anchor, and collections that nest.
+const LINES: &str = "STREAM-START 0:0:0 1:0:1 utf8\n\
+    TAG-DIRECTIVE 2:0:2 3:0:3 =!e! =p:\n\
+    DOCUMENT-START 4:0:4 5:0:5\n\
+    ANCHOR 6:0:6 7:0:7 =a%20b\n\
+    TAG 8:0:8 9:0:9 =!e! =x\n\
+    FLOW-SEQUENCE-START 10:0:10 11:0:11\n\
+    FLOW-MAPPING-START 12:0:12 13:0:13\n\
+    SCALAR 14:0:14 15:0:15 =%c3%a9 double\n\
+    FLOW-MAPPING-END 16:0:16 17:0:17\n\
+    FLOW-SEQUENCE-END 18:0:18 19:0:19\n\
+    STREAM-END 20:0:20 21:0:21\n";
+
+/// Whether two runs show the same, or one of them is the other's beginning with this fault behind it. An `Err` is a
+/// growth that was refused beside the run, and only one of the two can have met it.
+fn are_right<F: Fn() -> Result<String>>(fault: &str, run: F) -> bool
+    requires { F.IsAlwaysCallable run }
+{
+    match (run(), run()) {
+        (Ok(one), Ok(other)) => {
+            let one = one.as_str();
+            let other = other.as_str();
+            one == other || is_cut(one, fault, other) || is_cut(other, fault, one)
+        }
+        (Err(_), Err(_)) => false,
+        _ => true,
+    }
+}
+
+/// What a run writes of these lines, by a writer that takes no memory.
+fn written(alloc: Global, lines: &str) -> Result<String> {
+    let mut reader = lines.as_bytes();
+    let mut writer = FixedWriter::new();
+    run_events(alloc, &mut reader, &mut writer);
+    Ok(String::from_str(alloc, str::from_utf8(writer.written())?)?)
+}
+
+fn is_row_right(alloc: Global, row: &str, reading: Reading) -> bool {
+    are_right(
+        "fault 1",
+        || shown_front(alloc, row, usize::MAX, end_of_row(), reading),
+    )
+}
+
+/// How many runs gave something else than what they give, or its front and the refused growth.
+pub fn count_wrong(alloc: Global) -> u64 {
+    let mut wrong = u64::from(!are_right("FAULT memory 0:0:0 -\n", || written(alloc, LINES)));
+    for row in ROWS {
+        let events = is_row_right(alloc, row, Reading::Events);
+        let documents = is_row_right(alloc, row, Reading::Documents);
+        wrong = wrong.saturating_add(u64::from(!(events && documents)));
+    }
+    wrong
+}
