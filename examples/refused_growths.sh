@@ -1,14 +1,37 @@
 #!/bin/sh
-# Refuses growths in turn: runs the tests of a program of rows once for each N, with the Nth allocation of each test
-# refused, and reads the lines of those tests alone whose names begin with `refused_growth_`. All others fail where
-# their own allocation is refused, which says nothing. LAST is the last N; past the last allocation of a test it runs
-# as ever.
+# Refuses growths in turn: runs `hostile_rows refused` with its first allocation refused, then with its second, and so on
+# until nothing is refused. The program counts what gave a wrong answer. It has to be built (`rt run` in
+# crates/hostile_rows); a C compiler and the GNU C library are needed.
+#
+# With CRATE and LAST it runs the tests of a program of rows, once for each N up to LAST, with the Nth allocation of each
+# test refused, and reads the lines of those tests alone whose names begin with `refused_growth_`. All others fail where
+# their own allocation is refused, which says nothing. Past the last allocation of a test it runs as ever.
 #
 #     examples/refused_growths.sh [CRATE LAST]
 set -u
 cd "$(dirname "$0")/.." || exit 2
 
-refuse() {
+# Where the program's arguments can't be read for want of memory, it says so and does nothing.
+refuse_in_turn() {
+    program=crates/hostile_rows/out/hostile_rows
+    shim=$(mktemp) || exit 2
+    cc -O2 -fPIC -shared -o "$shim" examples/refuse.c || exit 2
+    n=1
+    while :; do
+        said=$(REFUSE=$n LD_PRELOAD=$shim "$program" refused 2>&1)
+        case $said in
+        *"no growth refused"*) break ;;
+        "0 wrong" | "Error: out of memory") ;;
+        *) echo "allocation $n refused: $said"; status=1 ;;
+        esac
+        n=$((n + 1))
+    done
+    rm -f "$shim"
+    [ "$said" = "$(printf '0 wrong\nno growth refused')" ] || status=1
+    echo "$((n - 1)) allocations refused in turn"
+}
+
+refuse_in_tests() {
     n=1
     while [ "$n" -le "$2" ]; do
         lines=$(cd "crates/$1" && rt try --test --fail-alloc "$n" 2>&1 | grep '::refused_growth_.* \.\.\. ')
@@ -22,10 +45,8 @@ refuse() {
 
 status=0
 if [ $# -eq 2 ]; then
-    refuse "$1" "$2"
+    refuse_in_tests "$1" "$2"
 else
-    refuse yaml_rows 30
-    refuse document_rows 30
-    refuse line_rows 30
+    refuse_in_turn
 fi
 exit $status

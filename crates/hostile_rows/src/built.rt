@@ -1,25 +1,13 @@
 //! Deep documents, built by calls.
 
-ghost use Rattle.std.specs.Prelude.{◌≡◌, IsTrue};
-ghost use Rattle.unsafe_libyaml.specs.Nodes.{type_at};
-
+use crate::calls::is_at;
 use crate::growing::is_chain;
 use std::alloc::Global;
 use unsafe_libyaml::{
     YAML_FLOW_SEQUENCE_STYLE, YAML_SEQUENCE_NODE, yaml_document_add_sequence,
     yaml_document_append_sequence_item, yaml_document_get_node, yaml_document_initialize,
-    yaml_document_t, yaml_node_type_t, yaml_refusal_t,
+    yaml_document_t, yaml_refusal_t,
 };
-
-/// Whether a node of this type has this id.
-fn is_at(document: &yaml_document_t, id: i32, wanted: yaml_node_type_t) -> bool
-    ensures { IsTrue result → type_at document.now.nodes id ≡ wanted }
-{
-    match yaml_document_get_node(document, id) {
-        Some(node) => node.type_() == wanted,
-        None => false,
-    }
-}
 
 /// Adds a sequence as an item of another, and answers its id.
 fn nest(document: &mut yaml_document_t, outer: i32) -> Result<i32, yaml_refusal_t> {

@@ -6,6 +6,7 @@
 #![tactic(auto)]
 
 mod built;
+mod calls;
 mod drawn;
 mod flat;
 mod fronts;

@@ -1,8 +1,9 @@
 //! Growths refused in turn: whatever is run is run twice, and at most one of the two meets a refused growth.
 //!
-//! `examples/refused_growths.sh` runs this with the first allocation refused, the second, and so on until a run
-//! meets none.
+//! `examples/refused_growths.sh` runs this with the first allocation refused, then the second, and so on until
+//! nothing is refused.
 
+use crate::calls::{CONSTRUCTORS, Constructor, built, constructed};
 use crate::fronts::{ROWS, Reading, is_cut, shown_front};
 use anyhow::Result;
 use row_notation::{FixedWriter, end_of_row};
@@ -53,13 +54,35 @@ fn is_row_right(alloc: Global, row: &str, reading: Reading) -> bool {
     )
 }
 
-/// How many runs gave something else than what they give, or its front and the refused growth.
-pub fn count_wrong(alloc: Global) -> u64 {
-    let mut wrong = u64::from(!are_right("FAULT memory 0:0:0 -\n", || written(alloc, LINES)));
+fn are_lines_right(alloc: Global) -> bool {
+    are_right("FAULT memory 0:0:0 -\n", || written(alloc, LINES))
+}
+
+// A constructor, and a call on a document, answers the refused growth and is called again: nothing is cut.
+
+fn is_constructor_right(alloc: Global, constructor: Constructor) -> bool {
+    are_right("fault 1", || constructed(alloc, constructor))
+}
+
+fn are_calls_right(alloc: Global) -> bool {
+    are_right("fault 1", || built(alloc))
+}
+
+fn count_wrong_rows(alloc: Global) -> u64 {
+    let mut wrong = 0u64;
     for row in ROWS {
         let events = is_row_right(alloc, row, Reading::Events);
         let documents = is_row_right(alloc, row, Reading::Documents);
         wrong = wrong.saturating_add(u64::from(!(events && documents)));
     }
     wrong
+}
+
+/// How many of all that is run gave something else than what it gives, or its front and the refused growth.
+pub fn count_wrong(alloc: Global) -> u64 {
+    let mut wrong = u64::from(!are_lines_right(alloc)) + u64::from(!are_calls_right(alloc));
+    for constructor in CONSTRUCTORS {
+        wrong = wrong.saturating_add(u64::from(!is_constructor_right(alloc, constructor)));
+    }
+    wrong.saturating_add(count_wrong_rows(alloc))
 }

@@ -1,0 +1,177 @@
+//! Constructors and calls on documents, each made again where its growth is refused.
+
+ghost use Rattle.std.specs.Prelude.{◌≡◌, IsTrue};
+ghost use Rattle.unsafe_libyaml.specs.Nodes.{type_at};
+
+use anyhow::{Result, ensure};
+use row_notation::{show_document, show_event};
+use std::alloc::Global;
+use unsafe_libyaml::{
+    YAML_ANY_MAPPING_STYLE, YAML_ANY_SCALAR_STYLE, YAML_ANY_SEQUENCE_STYLE, YAML_MAPPING_NODE,
+    YAML_SEQUENCE_NODE, yaml_alias_event_initialize, yaml_document_add_mapping,
+    yaml_document_add_scalar, yaml_document_add_sequence, yaml_document_append_mapping_pair,
+    yaml_document_append_sequence_item, yaml_document_get_node, yaml_document_initialize,
+    yaml_document_start_event_initialize, yaml_document_t, yaml_event_t,
+    yaml_mapping_start_event_initialize, yaml_node_type_t, yaml_refusal_t,
+    yaml_scalar_event_initialize, yaml_sequence_start_event_initialize,
+};
+
+const ANCHOR: Option<&[u8]> = Some(b"a");
+
+const TAG: Option<&[u8]> = Some(b"!t");
+
+const DIRECTIVES: [(&[u8], &[u8]); 2] = [(b"!a!", b"p:"), (b"!b!", b"q:")];
+
+/// The constructors whose texts are copied.
+#[derive(Copy, Clone)]
+pub enum Constructor {
+    DocumentStart,
+    Alias,
+    Scalar,
+    SequenceStart,
+    MappingStart,
+}
+
+pub const CONSTRUCTORS: [Constructor; 5] = [
+    Constructor::DocumentStart,
+    Constructor::Alias,
+    Constructor::Scalar,
+    Constructor::SequenceStart,
+    Constructor::MappingStart,
+];
+
+fn construct(alloc: Global, constructor: Constructor) -> Result<yaml_event_t, yaml_refusal_t> {
+    match constructor {
+        Constructor::DocumentStart => {
+            yaml_document_start_event_initialize(alloc, None, DIRECTIVES.as_slice(), true)
+        }
+        Constructor::Alias => yaml_alias_event_initialize(alloc, b"a"),
+        Constructor::Scalar => {
+            let style = YAML_ANY_SCALAR_STYLE;
+            yaml_scalar_event_initialize(alloc, ANCHOR, TAG, b"text", true, true, style)
+        }
+        Constructor::SequenceStart => {
+            let style = YAML_ANY_SEQUENCE_STYLE;
+            yaml_sequence_start_event_initialize(alloc, ANCHOR, TAG, true, style)
+        }
+        Constructor::MappingStart => {
+            let style = YAML_ANY_MAPPING_STYLE;
+            yaml_mapping_start_event_initialize(alloc, ANCHOR, TAG, true, style)
+        }
+    }
+}
+
+/// What a constructor gives, asked again where it answers `Memory`.
+///
+/// Errors: want of memory beside that, and another refusal.
+pub fn constructed(alloc: Global, constructor: Constructor) -> Result<String> {
+    let event = match construct(alloc, constructor) {
+        Err(yaml_refusal_t::Memory) => construct(alloc, constructor)?,
+        answer => answer?,
+    };
+    let mut shown = String::new(alloc);
+    show_event(&mut shown, &event)?;
+    Ok(shown)
+}
+
+/// A call on a document. The ids are those that earlier calls answered.
+#[derive(Copy, Clone)]
+enum Call {
+    Scalar,
+    Sequence,
+    Mapping,
+    Item(i32, i32),
+    Pair(i32, i32, i32),
+}
+
+/// Each kind of call where the list that it adds to has to grow, and where it needn't.
+const CALLS: [Call; 17] = [
+    Call::Sequence,
+    Call::Item(1, 1),
+    Call::Scalar,
+    Call::Mapping,
+    Call::Pair(3, 2, 1),
+    Call::Scalar,
+    Call::Mapping,
+    Call::Item(1, 5),
+    Call::Item(1, 4),
+    Call::Item(1, 3),
+    Call::Item(1, 2),
+    Call::Pair(3, 2, 5),
+    Call::Pair(3, 1, 4),
+    Call::Sequence,
+    Call::Mapping,
+    Call::Sequence,
+    Call::Scalar,
+];
+
+/// Whether a node of this type has this id.
+pub fn is_at(document: &yaml_document_t, id: i32, wanted: yaml_node_type_t) -> bool
+    ensures { IsTrue result → type_at document.now.nodes id ≡ wanted }
+{
+    match yaml_document_get_node(document, id) {
+        Some(node) => node.type_() == wanted,
+        None => false,
+    }
+}
+
+/// Makes a call, where its ids allow it.
+fn make(document: &mut yaml_document_t, call: Call) -> Result<(), yaml_refusal_t> {
+    match call {
+        Call::Scalar => {
+            yaml_document_add_scalar(document, TAG, b"text", YAML_ANY_SCALAR_STYLE)?;
+        }
+        Call::Sequence => {
+            yaml_document_add_sequence(document, None, YAML_ANY_SEQUENCE_STYLE)?;
+        }
+        Call::Mapping => {
+            yaml_document_add_mapping(document, None, YAML_ANY_MAPPING_STYLE)?;
+        }
+        Call::Item(sequence, item) => if is_at(document, sequence, YAML_SEQUENCE_NODE)
+            && yaml_document_get_node(document, item).is_some()
+        {
+            yaml_document_append_sequence_item(document, sequence, item)?;
+        },
+        Call::Pair(mapping, key, value) => if is_at(document, mapping, YAML_MAPPING_NODE)
+            && yaml_document_get_node(document, key).is_some()
+            && yaml_document_get_node(document, value).is_some()
+        {
+            yaml_document_append_mapping_pair(document, mapping, key, value)?;
+        },
+    }
+    Ok(())
+}
+
+fn begin(alloc: Global) -> Result<yaml_document_t, yaml_refusal_t> {
+    yaml_document_initialize(alloc, None, DIRECTIVES.as_slice(), true, false)
+}
+
+/// Makes a call, again where it answers `Memory`, which has to leave the document as it was.
+fn make_again(alloc: Global, document: &mut yaml_document_t, call: Call) -> Result<()> {
+    let mut before = String::new(alloc);
+    show_document(&mut before, document)?;
+    if let Err(refusal) = make(document, call) {
+        ensure!(refusal == yaml_refusal_t::Memory, "another refusal");
+        let mut after = String::new(alloc);
+        show_document(&mut after, document)?;
+        ensure!(after == before, "a refused call changed the document");
+        make(document, call)?;
+    }
+    Ok(())
+}
+
+/// The document behind all calls, each made again where it answers `Memory`.
+///
+/// Errors: want of memory beside that, another refusal, and a refused call that changed the document.
+pub fn built(alloc: Global) -> Result<String> {
+    let mut document = match begin(alloc) {
+        Err(yaml_refusal_t::Memory) => begin(alloc)?,
+        answer => answer?,
+    };
+    for call in CALLS {
+        make_again(alloc, &mut document, call)?;
+    }
+    let mut shown = String::new(alloc);
+    show_document(&mut shown, &document)?;
+    Ok(shown)
+}
