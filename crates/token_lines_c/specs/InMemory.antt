@@ -5,6 +5,7 @@ use Rattle.line_reading.specs.NextLine.{BreaksOffAt}
 use Rattle.token_lines.specs.declared.run.Outcome.{Outcome}
 use Rattle.token_lines.specs.declared.run.Outcome.TheVariants.{Ended, Faulted, OutputFailed}
 use Rattle.token_lines.specs.EventRun.{WritesRunOf}
+use Rattle.token_lines.specs.NodeRun.{WritesNodesOf}
 
 abbrev pub status_of : Outcome → ℕ
 status_of Ended = 0
@@ -19,12 +20,18 @@ Fills written old new = new ≡ take (length old) written ++ drop (length writte
 abbrev pub MayBreakOff : Fault → Type 0
 MayBreakOff f = (given : ℕ) × BreaksOffAt given f
 
--- The run of these token lines wrote what a run writes of them. It is in the buffer as far as that has room, `wanted` is
--- its length, and the status says how the run ended.
-pub record RunsInto (tokens old new : List ℕ) (wanted status : ℕ) : Type 0 where
+-- what a run over these token lines writes, and how it ends: the lines of the events, or of the documents
+abbrev pub writes_events : (tokens : List ℕ) → Outcome → (written : List ℕ) → Type 0
+writes_events tokens outcome written = WritesRunOf (Some tokens) MayBreakOff outcome (Some []) (Some written)
+
+abbrev pub writes_nodes : (tokens : List ℕ) → Outcome → (written : List ℕ) → Type 0
+writes_nodes tokens outcome written = WritesNodesOf (Some tokens) MayBreakOff outcome (Some []) (Some written)
+
+-- What a run wrote is in the buffer as far as that has room, `wanted` is its length, and the status says how the run ended.
+pub record WritesInto (Writes : Outcome → List ℕ → Type 0) (old new : List ℕ) (wanted status : ℕ) : Type 0 where
   pub written : List ℕ
   pub outcome : Outcome
-  pub wrote : WritesRunOf (Some tokens) MayBreakOff outcome (Some []) (Some written)
+  pub wrote : Writes outcome written
   pub filled : Fills written old new
   pub wanted_is : wanted ≡ length written
   pub status_is : status ≡ status_of outcome

@@ -3,11 +3,11 @@
 //! `examples/token_lines.h` declares the exports, and says what a caller owes.
 #![tactic(auto)]
 
-ghost use Rattle.std.specs.Prelude.{◌≡◌, ◌++◌, length, take, drop};
-ghost use Rattle.token_lines_c.specs.InMemory.{RunsInto, status_of};
+ghost use Rattle.std.specs.Prelude.{◌≡◌, length};
+ghost use Rattle.token_lines_c.specs.InMemory.{Fills, WritesInto, status_of, writes_events, writes_nodes};
 
 use std::alloc::Global;
-use token_lines::{Outcome, run_events};
+use token_lines::{Outcome, run_events, run_nodes};
 
 /// Writes what `run_events` writes of these token lines: its front goes to `out`, as far as that has room, and its
 /// length to `wanted`.
@@ -21,23 +21,40 @@ pub extern "C" fn token_lines_run_events(
     out: &mut [u8],
     wanted: &mut usize,
 ) -> u32
-    ensures { RunsInto tokens.now out.old out.new wanted.new result }
+    ensures { WritesInto (writes_events tokens.now) out.old out.new wanted.new result }
 {
     let mut reader = tokens;
     let mut written = Vec::new(alloc);
     let outcome = run_events(alloc, &mut reader, &mut written);
-    let bytes = written.as_slice();
-    *wanted = bytes.len();
-    fill(out, bytes);
+    *wanted = fill(out, written.as_slice());
     status_of(outcome)
 }
 
-/// Copies as many bytes as `out` has room for.
-fn fill(out: &mut [u8], written: &[u8])
-    ensures { out.new ≡ take (length out.old) written.now ++ drop (length written.now) out.old }
+/// Writes what `run_nodes` writes of these token lines, in the same way.
+#[unsafe(no_mangle)]
+pub extern "C" fn token_lines_run_nodes(
+    alloc: Global,
+    tokens: &[u8],
+    out: &mut [u8],
+    wanted: &mut usize,
+) -> u32
+    ensures { WritesInto (writes_nodes tokens.now) out.old out.new wanted.new result }
+{
+    let mut reader = tokens;
+    let mut written = Vec::new(alloc);
+    let outcome = run_nodes(alloc, &mut reader, &mut written);
+    *wanted = fill(out, written.as_slice());
+    status_of(outcome)
+}
+
+/// Copies as many bytes as `out` has room for, and answers how many there are.
+fn fill(out: &mut [u8], written: &[u8]) -> usize
+    ensures wanted { result ≡ length written.now }
+    ensures filled { Fills written.now out.old out.new }
 {
     let count = written.len().min(out.len());
     out[..count].copy_from_slice(&written[..count]);
+    written.len()
 }
 
 /// The number of an outcome.
