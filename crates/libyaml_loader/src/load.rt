@@ -69,6 +69,8 @@ pub fn yaml_parser_load<S: yaml_token_source_t>(
     requires between { between_documents parser.old ≡ true }
     // a fault that is kept is answered for good
     ensures kept { has_failed parser.old ≡ true → (result ≡ Err (kept_fault parser.old).error) × (parser.new ≡ parser.old) }
+    // behind the stream's end nothing changes
+    ensures ended { has_ended parser.old ≡ true → has_failed parser.old ≡ false → (result ≡ Ok (empty_document None [] false false)) × (parser.new ≡ parser.old) }
     ensures fails { IfErr result (λ x. (x ≡ (kept_fault parser.new).error) × (has_ended parser.new ≡ true)) }
     ensures bound { parser.new.max_entries ≡ parser.old.max_entries }
     ensures between { between_documents parser.new ≡ true }
@@ -90,6 +92,7 @@ pub fn yaml_parser_load<S: yaml_token_source_t>(
 fn next_document<S: yaml_token_source_t>(
     parser: &mut yaml_parser_t<S>,
 ) -> Result<yaml_document_t, yaml_error_type_t>
+    ensures ended { has_ended parser.old ≡ true → (result ≡ Ok (empty_document None [] false false)) × (parser.new ≡ parser.old) }
     ensures falls { IfOk result (λ d. (d ≡ empty_document None [] false false) ⊎ (events_left S.bound parser.new < events_left S.bound parser.old)) }
     ensures fails { IfErr result (λ x. (x ≡ (kept_fault parser.new).error) × (has_ended parser.new ≡ true)) }
     ensures bound { parser.new.max_entries ≡ parser.old.max_entries }

@@ -1,4 +1,4 @@
-use Rattle.std.proofs.Common.{◌≡◌, ◌<◌, Err, rules, sym, ◌∙◌, subst, true, false, ℤ, inl, None, []}
+use Rattle.std.proofs.Common.{◌≡◌, ◌<◌, Ok, Err, ap, refl, rules, sym, ◌∙◌, subst, true, false, ℤ, inl, None, []}
 use Rattle.std.proofs.Math.Nat.{le_refl}
 use Rattle.libyaml_documents.specs.Documents.{Document, empty_document}
 use Rattle.libyaml_events.specs.EventsLeft.{events_left}
@@ -7,6 +7,7 @@ use Rattle.libyaml_graphs.specs.Loader.{fresh, left_from, load_from, within}
 use Rattle.libyaml_loader.specs.Ids.{magnitude}
 use Rattle.libyaml_loader.specs.Loading.{LoadsFrom}
 use Rattle.libyaml_loader.specs.Steps.{opening_at}
+use Rattle.libyaml_loader.proofs.Ended.{has_not_ended, no_error, still_ended}
 use Rattle.libyaml_loader.proofs.Falling.{falls_later, stays_since}
 use Rattle.libyaml_loader.proofs.Outside.{behind_all}
 use Rattle.libyaml_loader.proofs.Stepping.{skips_none, skips_end, skips_fail, skips_more, skips_opens}
@@ -62,12 +63,13 @@ loop-content-preserved g c =
     let fell : events_left t.bound call.new.parser < events_left t.bound c.loop-content.parser = rw c.in_ok-content.was at (call.ensures.falls run) in (
       skips_more t.gives t.known t.may_break (magnitude c.args.parser.now.max_entries) c.args.parser.now c.loop-content.parser call.new.parser call.result called c.in_ok-content.field-0 c.in_ok-content.was an_event (sym c.in-None.ensures) call.ensures.bound c.loop-content.invariant.0,
       stays_since _ _ _ c.loop-content.invariant.1 fell,
+      λ ended. absurd (has_not_ended c.args.parser.now c.loop-content.parser c.loop-content.invariant.2 run ended),
     )
 
 pub loop-content-init : goal.loop-content-init
 loop-content-init g c =
     let t = g.S.yaml_token_source_t in
-    (skips_none t.gives t.known t.may_break (magnitude c.args.parser.now.max_entries) c.args.parser.now, le_refl (events_left t.bound c.args.parser.now))
+    (skips_none t.gives t.known t.may_break (magnitude c.args.parser.now.max_entries) c.args.parser.now, le_refl (events_left t.bound c.args.parser.now), λ ended. refl)
 
 pub returns-then-not-is_event-clause-falls : goal.returns-then-not-is_event-clause-falls
 returns-then-not-is_event-clause-falls g c = inl c.without_root.ensures
@@ -92,3 +94,22 @@ pub returns-then-not-is_event-clause-between : goal.returns-then-not-is_event-cl
 returns-then-not-is_event-clause-between g c =
     let call = c.yaml_parser_parse in
     behind_all call.new.parser call.result c.in_ok-content.field-0 c.in_ok-content.was call.ensures.outside (sym c.is_event.ensures ∙ c.if-not-is_event.true)
+
+pub returns-in_err-content-clause-ended : goal.returns-in_err-content-clause-ended
+returns-in_err-content-clause-ended g c ended =
+    let call = c.yaml_parser_parse in
+    absurd (no_error (sym (call.ensures.ended (still_ended c.args.parser.now c.loop-content.parser c.loop-content.invariant.2 ended)).0 ∙ c.in_err-content.was))
+
+pub returns-then-not-is_event-clause-ended : goal.returns-then-not-is_event-clause-ended
+returns-then-not-is_event-clause-ended g c ended =
+    let call = c.yaml_parser_parse in
+    (ap (λ (d : Document). Ok d) c.without_root.ensures, (call.ensures.ended (still_ended c.args.parser.now c.loop-content.parser c.loop-content.invariant.2 ended)).1 ∙ c.loop-content.invariant.2 ended)
+
+pub returns-in-Some-clause-ended : goal.returns-in-Some-clause-ended
+returns-in-Some-clause-ended g c ended =
+    let t = g.S.yaml_token_source_t in
+    let call = c.yaml_parser_parse in
+    let called : Called t.gives t.known t.may_break c.loop-content.parser call.new.parser call.result = record { ended = call.ensures.ended; carries_on = call.ensures.carries_on; fails = call.ensures.fails; between = call.ensures.between; next = call.ensures.next_of_run; end = call.ensures.end_of_run; fault = call.ensures.fault_of_run; nothing = call.ensures.nothing_behind_end } in
+    let an_event : is_event c.in_ok-content.field-0.content ≡ true = sym c.is_event.ensures ∙ c.if-not-is_event.false in
+    let run = running t.gives t.known t.may_break c.loop-content.parser call.new.parser call.result called c.in_ok-content.field-0 c.in_ok-content.was an_event in
+    absurd (has_not_ended c.args.parser.now c.loop-content.parser c.loop-content.invariant.2 run ended)

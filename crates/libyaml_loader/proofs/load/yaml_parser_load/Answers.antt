@@ -23,3 +23,9 @@ returns-clause-next_load g c =
     let t = g.S.yaml_token_source_t in
     let call = c.next_document in
     next_load t.gives t.known t.may_break (next_bounded (magnitude c.args.parser.now.max_entries)) left_over c.args.parser.now call.new.parser call.result call.ensures.fails (λ first. call.ensures.loads)
+
+pub returns-then-has_failed-clause-ended : goal.returns-then-has_failed-clause-ended
+returns-then-has_failed-clause-ended g c ended none = absurd (no (sym c.if-has_failed.true ∙ c.has_failed.ensures ∙ none))
+
+pub returns-clause-ended : goal.returns-clause-ended
+returns-clause-ended g c ended none = c.next_document.ensures.ended ended
