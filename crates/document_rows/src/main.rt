@@ -11,6 +11,8 @@ mod loads;
 #[cfg(test)]
 mod refused;
 #[cfg(test)]
+mod whole_loads;
+#[cfg(test)]
 mod whole_runs;
 mod words;
 
