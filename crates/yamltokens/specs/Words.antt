@@ -3,12 +3,13 @@ use Rattle.std.specs.Prelude.{◌≡◌, ℕ, List, [], ◌∷◌, Option, Some,
 use Rattle.token_lines.specs.declared.run.Outcome.{Outcome}
 use Rattle.token_lines.specs.declared.run.Outcome.TheVariants.{Ended, Faulted, OutputFailed}
 use Rattle.token_lines.specs.LastCall.{RunsOver}
+use Rattle.token_lines.specs.LastLoad.{NodesOver}
 use Rattle.yamltokens.specs.declared.words.Run.{Run}
-use Rattle.yamltokens.specs.declared.words.Run.TheVariants.{Events}
+use Rattle.yamltokens.specs.declared.words.Run.TheVariants.{Events, Nodes}
 
 -- the run that one word asks for
 abbrev pub run_of : List ℕ → Option Run
-run_of word = if bytes_eq word (codes "events") then Some Events else None
+run_of word = if bytes_eq word (codes "events") then Some Events else (if bytes_eq word (codes "nodes") then Some Nodes else None)
 
 -- the run that the words ask for: there is exactly one word
 abbrev pub asked_run : List (List ℕ) → Option Run
@@ -23,6 +24,7 @@ status_of OutputFailed = 3
 -- the run was over a reader's lines, and wrote what it writes
 abbrev pub WasOver : {R W : Type 0} → Run → (remaining : R → Option (List ℕ)) → (contents : W → Option (List ℕ)) → (old new : R) → Outcome → (before after : Option (List ℕ)) → Type 0
 WasOver Events remaining contents old new outcome before after = RunsOver remaining contents old new outcome before after
+WasOver Nodes remaining contents old new outcome before after = NodesOver remaining contents old new outcome before after
 
 -- such a run, and this status says how it ended
 pub record RunsWith {R W : Type 0} (run : Run) (remaining : R → Option (List ℕ)) (contents : W → Option (List ℕ)) (old new : R) (status : ℕ) (before after : Option (List ℕ)) : Type 0 where

@@ -4,7 +4,7 @@ ghost use Rattle.yamltokens.specs.Words.{run_of, asked_run, RunsWith};
 
 use std::alloc::Global;
 use std::io::{BufRead, Write};
-use token_lines::{Outcome, run_events};
+use token_lines::{Outcome, run_events, run_nodes};
 
 /// The exit status of words that ask for nothing, or that can't be read.
 pub const WRONG_WORDS: u8 = 2;
@@ -17,6 +17,8 @@ pub const OUTPUT_FAILED: u8 = 3;
 pub enum Run {
     /// The lines of events.
     Events,
+    /// The texts of documents.
+    Nodes,
 }
 
 /// Runs what the words behind the program's name ask for, from `reader` to `output`, and answers the
@@ -37,6 +39,7 @@ pub fn run_words<R: BufRead, W: Write, E: Write>(
 {
     let outcome = match asked_run(words) {
         Some(Run::Events) => run_events(alloc, reader, output),
+        Some(Run::Nodes) => run_nodes(alloc, reader, output),
         None => return refuse_words(errors),
     };
     match outcome {
@@ -60,10 +63,10 @@ fn asked_run(words: &[String]) -> Option<Run>
 fn run_of(word: &str) -> Option<Run>
     ensures { result ≡ run_of word.now }
 {
-    if word == "events" {
-        Some(Run::Events)
-    } else {
-        None
+    match word {
+        "events" => Some(Run::Events),
+        "nodes" => Some(Run::Nodes),
+        _ => None,
     }
 }
 
@@ -121,7 +124,7 @@ mod tests {
             &[],
             &["events", "events"],
             &["Events"],
-            &["nodes"],
+            &["nodes", "events"],
             &["events "],
         ];
         for case in cases {

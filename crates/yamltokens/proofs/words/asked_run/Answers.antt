@@ -1,4 +1,4 @@
-use Rattle.std.proofs.Common.{◌≡◌, ◌≤◌, ◌<◌, ℕ, List, [], ◌∷◌, length, get_or, map, string_bytes, ap, sym, ◌∙◌, arith}
+use Rattle.std.proofs.Common.{◌≡◌, ◌≤◌, ◌<◌, List, [], ◌∷◌, length, get_or, map, string_bytes, ap, sym, ◌∙◌, arith}
 use Rattle.yamltokens.specs.Words.{asked_run}
 use Rattle.yamltokens.proofs.words.asked_run.Goals as goal
 
