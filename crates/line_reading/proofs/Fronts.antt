@@ -3,7 +3,7 @@ use Rattle.std.proofs.Common.{◌≡◌, leb, ◌==◌, ℕ, ◌+◌, ◌-◌, �
 use Rattle.std.proofs.lemmas.Bool.{cond_both}
 use Rattle.std.proofs.lemmas.List.{at_drop_more, at_drop_all, take_more, append-nil}
 use Rattle.std.proofs.Common.{append_assoc, min}
-use Rattle.std.proofs.lemmas.List.{get_or-take, length-take}
+use Rattle.std.proofs.lemmas.List.{get_or-take, length-take, length-drop, drop-drop}
 use Rattle.std.proofs.lemmas.Bool.{leb-true, and_parts}
 use Rattle.std.proofs.Math.Nat.{pow-suc, pow-le-pow_right}
 use Rattle.std.proofs.Math.Numerals.{add-one}
@@ -86,6 +86,43 @@ ends_at_end bytes i n h large =
     let none : drop i bytes ≡ [] = at_drop_all (λ x. x) bytes i large in
     ends bytes i n h (ap digits_of none) (ap behind_digits none ∙ sym none)
 
+-- the same, where the bytes that are looked at are a front of those
+
+front_place : (bytes : List ℕ) (k i : ℕ) → i < length (take k bytes) → (i < length bytes) × (get_or (take k bytes) i 0 ≡ get_or bytes i 0)
+front_place bytes k i small =
+    let within : i < min k (length bytes) = rw (sym (length-take k bytes)) small in
+    (omega (arith, within), get_or-take k bytes i 0 (omega (arith, within)))
+
+pub more_within : (bytes : List ℕ) (k i n : ℕ) → HasRead bytes i n → i < length (take k bytes) → is_ascii_digit (get_or (take k bytes) i 0) ≡ true → n * 10 + (get_or (take k bytes) i 0 - 48) < 2 ^ 64
+    → HasRead bytes (i + 1) (n * 10 + (get_or (take k bytes) i 0 - 48))
+more_within bytes k i n h small d fits =
+    let place = front_place bytes k i small in
+    rw (place.1) (read_more bytes i n h place.0 (rw (sym place.1) d) (rw (sym place.1) fits))
+
+pub too_much_within : (bytes : List ℕ) (k i n : ℕ) → HasRead bytes i n → i < length (take k bytes) → is_ascii_digit (get_or (take k bytes) i 0) ≡ true → 2 ^ 64 ≤ n * 10 + (get_or (take k bytes) i 0 - 48) → number_at bytes ≡ None
+too_much_within bytes k i n h small d large =
+    let place = front_place bytes k i small in
+    read_too_much bytes i n h place.0 (rw (sym place.1) d) (rw (sym place.1) large)
+
+pub ends_within : (bytes : List ℕ) (k i n : ℕ) → HasRead bytes i n → i < length (take k bytes) → is_ascii_digit (get_or (take k bytes) i 0) ≡ false → EndsAt bytes i n
+ends_within bytes k i n h small d =
+    let place = front_place bytes k i small in
+    ends_at_other bytes i n h place.0 (rw (sym place.1) d)
+
+pub ends_with_line : (line : List ℕ) (at i n : ℕ) → HasRead (drop at line) i n → i ≤ length (take (length line - at) (drop at line)) → length (take (length line - at) (drop at line)) ≤ i → EndsAt (drop at line) (length line - at) n
+ends_with_line line at i n h most least =
+    let size : length (take (length line - at) (drop at line)) ≡ length line - at = length-take (length line - at) (drop at line) ∙ omega (arith, length-drop at line) in
+    let all : i ≡ length line - at = omega (arith, most, least, size) in
+    rw (← all) (ends_at_end (drop at line) i n h (omega (arith, all, length-drop at line)))
+
+-- the number that stands there, or that there is none
+
+pub ended_none : (bytes : List ℕ) (i n : ℕ) → EndsAt bytes i n → number_of (take i bytes) ≡ None → number_at bytes ≡ None
+ended_none bytes i n h e = rw (h.digits, e) refl
+
+pub ended_some : (line : List ℕ) (at i n v end : ℕ) → EndsAt (drop at line) i n → number_of (take i (drop at line)) ≡ Some n → v ≡ n → end ≡ at + i → number_at (drop at line) ≡ Some (v, drop end line)
+ended_some line at i n v end h e same place = rw (h.digits, e, h.behind, same, place, drop-drop i at line) refl
+
 -- the same, with a value that i digits can have
 pub record HasReadFew (bytes : List ℕ) (i n : ℕ) : Type 0 where
   pub read : HasRead bytes i n
@@ -110,24 +147,16 @@ few_below i n b h high low =
     let more : 10 ^ (i + 1) ≡ 10 ^ i * 10 = ap (λ x. 10 ^ x) (add-one i) ∙ pow-suc 10 i in
     rw more (omega (arith, h, high, low))
 
-pub read_few_more : (bytes : List ℕ) (k i n : ℕ) → k ≤ 19 → HasReadFew bytes i n → i < length (take k bytes) → is_ascii_digit (get_or (take k bytes) i 0) ≡ true → HasReadFew bytes (i + 1) (n * 10 + get_or (take k bytes) i 0 - 48)
-read_few_more bytes k i n short few small d =
-    let within : i < min k (length bytes) = rw (sym (length-take k bytes)) small in
-    let i_short : i < k = omega (arith, within) in
-    let i_small : i < length bytes = omega (arith, within) in
-    let same : get_or (take k bytes) i 0 ≡ get_or bytes i 0 = get_or-take k bytes i 0 i_short in
-    let b = get_or bytes i 0 in
-    let digit : is_ascii_digit b ≡ true = rw (sym same) d in
-    let bounds : (48 ≤ b) × (b ≤ 57) = digit_within b digit in
-    let fit : n * 10 + 57 < 2 ^ 64 = few_fit i n few.below (omega (arith, i_short, short)) in
-    let more : n * 10 + b - 48 ≡ n * 10 + (b - 48) = omega (arith, bounds.0) in
-    rw same (rw more (record {
-      read = read_more bytes i n few.read i_small digit (omega (arith, fit, bounds.1));
-      below = few_below i n b few.below bounds.1 bounds.0;
-    }))
-
-pub few_room : (bytes : List ℕ) (k i n : ℕ) → k ≤ 19 → HasReadFew bytes i n → i < length (take k bytes) → is_ascii_digit (get_or (take k bytes) i 0) ≡ true → n * 10 + get_or (take k bytes) i 0 < 2 ^ 64
+pub few_room : (bytes : List ℕ) (k i n : ℕ) → k ≤ 19 → HasReadFew bytes i n → i < length (take k bytes) → is_ascii_digit (get_or (take k bytes) i 0) ≡ true → n * 10 + (get_or (take k bytes) i 0 - 48) < 2 ^ 64
 few_room bytes k i n short few small d =
     let within : i < min k (length bytes) = rw (sym (length-take k bytes)) small in
     let bounds : (48 ≤ get_or (take k bytes) i 0) × (get_or (take k bytes) i 0 ≤ 57) = digit_within (get_or (take k bytes) i 0) d in
     omega (arith, few_fit i n few.below (omega (arith, within, short)), bounds.1)
+
+pub few_more_within : (bytes : List ℕ) (k i n : ℕ) → k ≤ 19 → HasReadFew bytes i n → i < length (take k bytes) → is_ascii_digit (get_or (take k bytes) i 0) ≡ true → HasReadFew bytes (i + 1) (n * 10 + (get_or (take k bytes) i 0 - 48))
+few_more_within bytes k i n short few small d =
+    let bounds = digit_within (get_or (take k bytes) i 0) d in
+    record {
+      read = more_within bytes k i n few.read small d (few_room bytes k i n short few small d);
+      below = few_below i n (get_or (take k bytes) i 0) few.below bounds.1 bounds.0;
+    }

@@ -5,3 +5,4 @@ pub mod Texts
 pub mod LinesLemmas
 pub mod Fronts
 pub mod FrontTokens
+pub mod Marks

@@ -37,6 +37,11 @@ abbrev pub behind_field : List ℕ → Option (Option (List ℕ))
 behind_field [] = Some None
 behind_field (b ∷ bs) = if b == 32 then Some (Some bs) else None
 
+-- the further fields behind a field that has ended
+abbrev pub further : List ℕ → Option (List ℕ)
+further [] = None
+further (b ∷ bs) = Some bs
+
 -- a number at the front, and what stands behind it
 abbrev pub number_at : List ℕ → Option (ℕ × List ℕ)
 number_at bytes = option_map (λ n. (n, behind_digits bytes)) (number_of (digits_of bytes))

@@ -1,96 +1,158 @@
-//! Numbers and marks at the front of some bytes.
-ghost use Rattle.std.specs.Prelude.{◌≡◌, ◌≤◌, Some, None, length, take, drop, option_copied, MatchOption};
-ghost use Rattle.line_reading.specs.Front.{behind_first, behind_field, number_at, mark_at};
+//! Numbers and marks at places of a line.
+ghost use Rattle.std.specs.Prelude.{◌≡◌, ◌+◌, ◌≤◌, ◌<◌, Some, None, true, false, length, take, drop};
+ghost use Rattle.line_reading.specs.Front.{behind_first, behind_field, further, number_at, mark_at};
 ghost use Rattle.line_reading.specs.Number.{value_of, number_of};
 
 use libyaml_types::yaml_mark_t;
 
-/// The mark that is the first field, and the further fields, if there are some.
+/// Reads the mark that is the field at a place, and answers where that field ends: 0 where it is no mark.
 #[inline(always)]
-pub fn take_mark(bytes: &[u8]) -> Option<(yaml_mark_t, Option<&[u8]>)>
-    ensures { MatchOption result (mark_at bytes.now ≡ None) (λ taken. mark_at bytes.now ≡ Some (taken.0, option_copied taken.1)) }
+pub fn read_mark(line: &[u8], at: usize, mark: &mut yaml_mark_t) -> usize
+    requires { at ≤ length line.now }
+    ensures within { result ≤ length line.now }
+    ensures none { result ≡ 0 → mark_at (drop at line.now) ≡ None }
+    ensures some { 0 < result → mark_at (drop at line.now) ≡ Some (mark.new, further (drop result line.now)) }
 {
-    let (index, rest) = take_number(bytes)?;
-    let (line, rest) = take_number(behind(rest, b':')?)?;
-    let (column, rest) = take_number(behind(rest, b':')?)?;
-    let further = end_field(rest)?;
-    let mark = yaml_mark_t {
-        index,
-        line,
-        column,
-    };
-    Some((mark, further))
-}
-
-/// What stands behind a field that has ended: nothing, or a space and further fields.
-fn end_field(rest: &[u8]) -> Option<Option<&[u8]>>
-    ensures { MatchOption result (behind_field rest.now ≡ None) (λ further. behind_field rest.now ≡ Some (option_copied further)) }
-{
-    match rest {
-        [] => Some(None),
-        [b' ', further @ ..] => Some(Some(further)),
-        _ => None,
+    let index = read_number(line, at);
+    if index.end == 0 {
+        return 0;
     }
-}
-
-/// What stands behind `byte`, where that is the first.
-fn behind(bytes: &[u8], byte: u8) -> Option<&[u8]>
-    ensures { option_copied result ≡ behind_first byte bytes.now }
-{
-    match bytes {
-        [first, rest @ ..] if *first == byte => Some(rest),
-        _ => None,
+    if !is_byte_at(line, index.end, b':') {
+        return 0;
     }
+    let row = read_number(line, index.end + 1);
+    if row.end == 0 {
+        return 0;
+    }
+    if !is_byte_at(line, row.end, b':') {
+        return 0;
+    }
+    let column = read_number(line, row.end + 1);
+    if column.end == 0 {
+        return 0;
+    }
+    if !ends_field(line, column.end) {
+        return 0;
+    }
+    mark.index = index.value;
+    mark.line = row.value;
+    mark.column = column.value;
+    column.end
 }
 
-/// So many digits have a value within 64 bits, whatever they are.
-const SHORT: usize = 19;
-
-/// The number at the front, and what stands behind it.
+/// Whether the byte stands at a place.
 #[inline(always)]
-fn take_number(bytes: &[u8]) -> Option<(u64, &[u8])>
-    ensures { MatchOption result (number_at bytes.now ≡ None) (λ taken. number_at bytes.now ≡ Some (taken.0, taken.1.now)) }
+fn is_byte_at(line: &[u8], at: usize, byte: u8) -> bool
+    requires { at ≤ length line.now }
+    ensures yes { result ≡ true → (at < length line.now) × (behind_first byte (drop at line.now) ≡ Some (drop (at + 1) line.now)) }
+    ensures no { result ≡ false → behind_first byte (drop at line.now) ≡ None }
+{
+    at < line.len() && line[at] == byte
+}
+
+/// Whether a field that goes up to a place ends there.
+#[inline(always)]
+fn ends_field(line: &[u8], at: usize) -> bool
+    requires { at ≤ length line.now }
+    ensures yes { result ≡ true → behind_field (drop at line.now) ≡ Some (further (drop at line.now)) }
+    ensures no { result ≡ false → behind_field (drop at line.now) ≡ None }
+{
+    at == line.len() || line[at] == b' '
+}
+
+/// A number, and where its digits end: 0 where there is no number.
+#[derive(Copy, Clone)]
+struct NumberRead {
+    value: u64,
+    end: usize,
+}
+
+const NO_NUMBER: NumberRead = NumberRead { value: 0, end: 0 };
+
+/// The number at a place.
+#[inline(always)]
+fn read_number(line: &[u8], at: usize) -> NumberRead
+    requires { at ≤ length line.now }
+    ensures within { result.end ≤ length line.now }
+    ensures none { result.end ≡ 0 → number_at (drop at line.now) ≡ None }
+    ensures some { 0 < result.end → number_at (drop at line.now) ≡ Some (result.value, drop result.end line.now) }
+{
+    if line.len() - at < FEW {
+        return read_last_number(line, at);
+    }
+    let mut value = 0u64;
+    for (len, digit) in line[at..at + FEW].iter().enumerate() {
+        if !digit.is_ascii_digit() {
+            return ended_number(line, at, len, value);
+        }
+        value = value * 10 + u64::from(*digit - b'0');
+    }
+    read_any_number(line, at)
+}
+
+/// So many bytes are looked at without a look at the line's end, and so many digits are within 64 bits.
+const FEW: usize = 8;
+
+/// The same, where the line has few bytes left.
+#[inline(never)]
+fn read_last_number(line: &[u8], at: usize) -> NumberRead
+    requires within { at ≤ length line.now }
+    requires few { length line.now < at + 8 }
+    ensures within { result.end ≤ length line.now }
+    ensures none { result.end ≡ 0 → number_at (drop at line.now) ≡ None }
+    ensures some { 0 < result.end → number_at (drop at line.now) ≡ Some (result.value, drop result.end line.now) }
 {
     let mut value = 0u64;
-    for (len, digit) in bytes[..bytes.len().min(SHORT)].iter().enumerate() {
+    for (len, digit) in line[at..].iter().enumerate() {
         if !digit.is_ascii_digit() {
-            return ended_number(bytes, len, value);
+            return ended_number(line, at, len, value);
         }
-        value = value * 10 + u64::from(*digit) - u64::from(b'0');
+        value = value * 10 + u64::from(*digit - b'0');
     }
-    if bytes.len() <= SHORT {
-        ended_number(bytes, bytes.len(), value)
-    } else {
-        take_long_number(bytes)
-    }
+    ended_number(line, at, line.len() - at, value)
 }
 
 /// The same, of any length.
 #[cold]
-fn take_long_number(bytes: &[u8]) -> Option<(u64, &[u8])>
-    ensures { MatchOption result (number_at bytes.now ≡ None) (λ taken. number_at bytes.now ≡ Some (taken.0, taken.1.now)) }
+#[inline(never)]
+fn read_any_number(line: &[u8], at: usize) -> NumberRead
+    requires { at ≤ length line.now }
+    ensures within { result.end ≤ length line.now }
+    ensures none { result.end ≡ 0 → number_at (drop at line.now) ≡ None }
+    ensures some { 0 < result.end → number_at (drop at line.now) ≡ Some (result.value, drop result.end line.now) }
 {
     let mut value = 0u64;
-    for (len, digit) in bytes.iter().enumerate() {
+    for (len, digit) in line[at..].iter().enumerate() {
         if !digit.is_ascii_digit() {
-            return ended_number(bytes, len, value);
+            return ended_number(line, at, len, value);
         }
-        value = value
-            .checked_mul(10)?
-            .checked_add(u64::from(*digit - b'0'))?;
+        let Some(tens) = value.checked_mul(10) else {
+            return NO_NUMBER;
+        };
+        let Some(more) = tens.checked_add(u64::from(*digit - b'0')) else {
+            return NO_NUMBER;
+        };
+        value = more;
     }
-    ended_number(bytes, bytes.len(), value)
+    ended_number(line, at, line.len() - at, value)
 }
 
-/// The number of so many digits, whose value is known, and what stands behind it.
-fn ended_number(bytes: &[u8], len: usize, value: u64) -> Option<(u64, &[u8])>
-    requires within { len ≤ length bytes.now }
-    requires digits { value_of (take len bytes.now) ≡ Some value }
-    ensures { MatchOption result (number_of (take len bytes.now) ≡ None) (λ taken. (number_of (take len bytes.now) ≡ Some taken.0) × (taken.1.now ≡ drop len bytes.now)) }
+/// The number of so many digits, whose value is known.
+#[inline(always)]
+fn ended_number(line: &[u8], at: usize, len: usize, value: u64) -> NumberRead
+    requires within { at + len ≤ length line.now }
+    requires digits { value_of (take len (drop at line.now)) ≡ Some value }
+    ensures none { result.end ≡ 0 → number_of (take len (drop at line.now)) ≡ None }
+    ensures some { 0 < result.end → number_of (take len (drop at line.now)) ≡ Some value }
+    ensures value { 0 < result.end → result.value ≡ value }
+    ensures end { 0 < result.end → result.end ≡ at + len }
 {
-    match &bytes[..len] {
-        [] => None,
-        [b'0', _, ..] => None,
-        _ => Some((value, &bytes[len..])),
+    match &line[at..at + len] {
+        [] => NO_NUMBER,
+        [b'0', _, ..] => NO_NUMBER,
+        _ => NumberRead {
+            value,
+            end: at + len,
+        },
     }
 }

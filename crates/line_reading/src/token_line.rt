@@ -1,19 +1,20 @@
 //! Token lines.
-ghost use Rattle.std.specs.Prelude.{◌≡◌};
-ghost use Rattle.line_reading.specs.Front.{token_at};
+ghost use Rattle.std.specs.Prelude.{◌≡◌, ◌≤◌, drop, length, option_copied};
+ghost use Rattle.line_reading.specs.Front.{further, token_at};
 ghost use Rattle.line_reading.specs.TokenLine.{bare_content, content_of_one, content_of_two, content_of, token_of_line};
 ghost use Rattle.line_reading.specs.Reading.{IsReadAs};
 
 use crate::field::{read_encoding, read_scalar_style, read_text, read_version};
-use crate::front::take_mark;
-use crate::parts::{Parts, cut};
+use crate::front::read_mark;
+use crate::parts::Parts;
+use crate::search::len_before;
 use crate::token_error::TokenLineError;
 use crate::token_name::read_token_type;
 use libyaml_types::{
-    unnamed_yaml_token_t_data, unnamed_yaml_token_t_data_alias, unnamed_yaml_token_t_data_anchor,
-    unnamed_yaml_token_t_data_scalar, unnamed_yaml_token_t_data_stream_start,
-    unnamed_yaml_token_t_data_tag, unnamed_yaml_token_t_data_tag_directive, yaml_token_t,
-    yaml_token_type_t,
+    ZERO_MARK, unnamed_yaml_token_t_data, unnamed_yaml_token_t_data_alias,
+    unnamed_yaml_token_t_data_anchor, unnamed_yaml_token_t_data_scalar,
+    unnamed_yaml_token_t_data_stream_start, unnamed_yaml_token_t_data_tag,
+    unnamed_yaml_token_t_data_tag_directive, yaml_token_t, yaml_token_type_t,
 };
 use std::alloc::Global;
 
@@ -28,14 +29,35 @@ pub fn read_token_line(alloc: Global, line: &[u8]) -> Result<yaml_token_t, Token
 fn take_token(alloc: Global, line: &[u8]) -> Result<yaml_token_t, TokenLineError>
     ensures { IsReadAs result (token_at line.now) }
 {
-    let (name, marks) = cut(line, b' ');
-    let marks = marks.ok_or(TokenLineError::BadLine)?;
-    let type_ = read_token_type(name).ok_or(TokenLineError::BadLine)?;
-    let (start_mark, rest) = take_mark(marks).ok_or(TokenLineError::BadLine)?;
-    let rest = rest.ok_or(TokenLineError::BadLine)?;
-    let (end_mark, rest) = take_mark(rest).ok_or(TokenLineError::BadLine)?;
-    let content = read_content(alloc, type_, Parts::behind(rest, b' '))?;
+    let name = len_before(line, b' ');
+    if name == line.len() {
+        return Err(TokenLineError::BadLine);
+    }
+    let type_ = read_token_type(&line[..name]).ok_or(TokenLineError::BadLine)?;
+    let mut start_mark = ZERO_MARK;
+    let start = read_mark(line, name + 1, &mut start_mark);
+    if start == 0 || start == line.len() {
+        return Err(TokenLineError::BadLine);
+    }
+    let mut end_mark = ZERO_MARK;
+    let end = read_mark(line, start + 1, &mut end_mark);
+    if end == 0 {
+        return Err(TokenLineError::BadLine);
+    }
+    let content = read_content(alloc, type_, Parts::behind(fields_behind(line, end), b' '))?;
     Ok(yaml_token_t::new(content, start_mark, end_mark))
+}
+
+/// The further fields behind one that ends at a place, if there are some.
+#[inline(always)]
+fn fields_behind(line: &[u8], end: usize) -> Option<&[u8]>
+    requires { end ≤ length line.now }
+    ensures { option_copied result ≡ further (drop end line.now) }
+{
+    if end == line.len() {
+        return None;
+    }
+    Some(&line[end + 1..])
 }
 
 /// The content of a token of this type, from the fields behind its marks.
