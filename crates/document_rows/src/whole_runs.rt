@@ -1,5 +1,6 @@
 //! The README's example of a whole run.
 
+use anyhow::Result;
 use row_notation::tokens_of;
 use std::alloc::Global;
 use std::test::Fail;
@@ -34,30 +35,43 @@ fn types_of(
     Ok(types)
 }
 
+fn gives_all_events(alloc: Global) -> Result<[bool; 3]> {
+    let types = types_of(
+        alloc,
+        tokens_of(alloc, "STREAM-START SCALAR(a) STREAM-END")?,
+    )?;
+    Ok([
+        types.len() == 5,
+        types.get(3).copied() == Some(YAML_DOCUMENT_END_EVENT),
+        types.last().copied() == Some(YAML_STREAM_END_EVENT),
+    ])
+}
+
 #[test]
 fn all_events_of_a_list(rt: HostRuntime) -> Result<(), Fail> {
-    let tokens = tokens_of(rt.alloc(), "STREAM-START SCALAR(a) STREAM-END")?;
-    let types = types_of(rt.alloc(), tokens)?;
-    assert!(rt; types.len() == 5);
-    assert!(rt; types.get(3).copied() == Some(YAML_DOCUMENT_END_EVENT));
-    assert!(rt; types.last().copied() == Some(YAML_STREAM_END_EVENT));
+    assert_eq!(rt; gives_all_events(rt.alloc())?, [true; 3]);
     Ok(())
+}
+
+/// Whether these tokens have a fault that is told so.
+fn is_told(alloc: Global, tokens: Vec<yaml_token_t>, told: &str) -> Result<bool> {
+    let Err(fault) = types_of(alloc, tokens) else {
+        return Ok(false);
+    };
+    let mut words = String::new(alloc);
+    write!(words, "{fault}")?;
+    Ok(words.as_str() == told)
+}
+
+fn tells_a_fault(alloc: Global) -> Result<bool> {
+    let row = "STREAM-START FLOW-SEQUENCE-START SCALAR(a) FLOW-MAPPING-END STREAM-END";
+    let told = "did not find expected ',' or ']' at line 1, column 7; \
+                while parsing a flow sequence at line 1, column 3";
+    is_told(alloc, tokens_of(alloc, row)?, told)
 }
 
 #[test]
 fn a_fault_in_words(rt: HostRuntime) -> Result<(), Fail> {
-    let tokens = tokens_of(
-        rt.alloc(),
-        "STREAM-START FLOW-SEQUENCE-START SCALAR(a) FLOW-MAPPING-END STREAM-END",
-    )?;
-    let Err(fault) = types_of(rt.alloc(), tokens) else {
-        assert!(rt; false);
-        return Ok(());
-    };
-    let mut words = String::new(rt.alloc());
-    write!(words, "{fault}")?;
-    let told = "did not find expected ',' or ']' at line 1, column 7; \
-                while parsing a flow sequence at line 1, column 3";
-    assert!(rt; words.as_str() == told);
+    assert!(rt; tells_a_fault(rt.alloc())?);
     Ok(())
 }
