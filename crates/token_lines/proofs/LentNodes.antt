@@ -17,8 +17,9 @@ use Rattle.line_reading.specs.LentLines.{GivesLent, lines_of}
 use Rattle.line_reading.specs.LineSource.{BreaksOff, known_of}
 use Rattle.token_lines.specs.declared.run.Outcome.{Outcome}
 use Rattle.token_lines.specs.EventRun.{IsRunOf}
-use Rattle.token_lines.specs.LastLoad.{LastLoad}
-use Rattle.token_lines.specs.NodeRun.{WritesLoads, WritesNodesOf, most_entries}
+use Rattle.token_lines.specs.LastLoad.{LastLoad, most_entries}
+use Rattle.token_lines.specs.NodeRun.{WritesLoads, WritesNodesOf}
+use Rattle.token_lines.proofs.NoBound.{front_of_loads, writes_all}
 use Rattle.token_lines.proofs.LentRun.{fails_seen, gave_loan, gave_seen, over}
 
 -- what a source over a lent reader knows, and how it may break off
@@ -32,7 +33,8 @@ breaks_lent s f = BreaksOff (lines_of s) f
 pub writes_of_runs : (bytes : Option (List ℕ)) (MayBreak : Fault → Type 0) (outcome : Outcome) (old new : Option (List ℕ))
     → IfSome bytes (λ known. (events : List yaml_event_t) (ending : Ending) → IsRunOf known events ending → WritesLoads MayBreak outcome old new (bounded_loads most_entries events ending)) → WritesNodesOf bytes MayBreak outcome old new
 writes_of_runs None MayBreak outcome old new h = tt
-writes_of_runs (Some bytes) MayBreak outcome old new h = λ loads is. subst (λ (l : List Load). WritesLoads MayBreak outcome old new l) (sym is.all) (h is.events is.ending is.run)
+writes_of_runs (Some bytes) MayBreak outcome old new h = λ loads is. subst (λ (l : List Load). WritesLoads MayBreak outcome old new l) (sym is.all)
+    (writes_all MayBreak outcome old new _ _ (front_of_loads is.events is.ending most_entries) (h is.events is.ending is.run))
 
 -- sources that are seen as others, which know and break off alike
 module _ {S T : Type 0} (gives : S → Answer → S → Type 0) (gives' : T → Answer → T → Type 0) (known : T → Option Coming) (MayBreak : T → Fault → Type 0) (seen : S → T) (sees : (s : S) (a : Answer) (t : S) → gives s a t → gives' (seen s) a (seen t)) where

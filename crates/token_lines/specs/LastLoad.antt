@@ -22,7 +22,7 @@ use Rattle.line_writing.specs.FaultText.{fault_text}
 use Rattle.token_lines.specs.declared.run.Outcome.{Outcome}
 use Rattle.token_lines.specs.declared.run.Outcome.TheVariants.{Ended, Faulted, OutputFailed}
 use Rattle.token_lines.specs.LastCall.{StartsAt}
-use Rattle.token_lines.specs.NodeRun.{WritesNodesOf, most_entries}
+use Rattle.token_lines.specs.NodeRun.{WritesNodesOf}
 
 -- for want of memory for one of these lines those before it were written, and then the text of a refused growth
 pub record CutText (before after : Option (List ℕ)) (lines : List (List ℕ)) : Type 0 where
@@ -68,6 +68,10 @@ pub record WritesKept {S : Type 0} (outcome : Outcome) (old new : Parser S) (bef
   pub answer : (outcome ≡ Faulted) ⊎ (outcome ≡ OutputFailed)
   pub parser : new ≡ old
   pub wrote : outcome ≡ Faulted → Appends before after (fault_text (kept_fault old))
+
+-- each list of a document that a new parser loads has at most so many entries
+abbrev pub most_entries : ℕ
+most_entries = 2147483647
 
 -- A run over a reader's lines, by a parser that started there: what it wrote, where its source may have broken off as it
 -- then stood; each document in its turn; and the reader is left as the parser's last load left it.

@@ -4,17 +4,12 @@ use Rattle.std.specs.List.{flat_map}
 use Rattle.libyaml_documents.specs.declared.node.yaml_node_t.{yaml_node_t}
 use Rattle.libyaml_events.specs.Fault.{Fault}
 use Rattle.libyaml_events.specs.Runs.{Ending, Ends, Fails}
-use Rattle.libyaml_graphs.specs.Bounds.{IsBoundedLoads}
-use Rattle.libyaml_graphs.specs.Loads.{Load}
+use Rattle.libyaml_graphs.specs.Loads.{IsLoads, Load}
 use Rattle.line_reading.specs.ReadLines.{read_lines}
 use Rattle.line_writing.specs.DocumentText.{document_lines}
 use Rattle.token_lines.specs.declared.run.Outcome.{Outcome}
 use Rattle.token_lines.specs.EventRun.{most_tokens}
 use Rattle.token_lines.specs.LineRun.{Writes}
-
--- each list of a document of a run has at most so many entries
-abbrev pub most_entries : ℕ
-most_entries = 2147483647
 
 -- the lines of a load: those of a document with nodes. The document without root has none, nor has a fault.
 abbrev pub lines_with : List yaml_node_t → List (List ℕ) → List (List ℕ)
@@ -40,7 +35,7 @@ WritesLoads MayBreak outcome old new loads = Writes MayBreak outcome old new (lo
 
 -- the loads of the token lines of an input
 abbrev pub AreLoadsOf : List ℕ → List Load → Type 0
-AreLoadsOf bytes loads = IsBoundedLoads most_entries (read_lines bytes most_tokens).tokens (read_lines bytes most_tokens).fault loads
+AreLoadsOf bytes loads = IsLoads (read_lines bytes most_tokens).tokens (read_lines bytes most_tokens).fault loads
 
 -- what a run writes of an input, where its bytes are known
 abbrev pub WritesNodesOf : (bytes : Option (List ℕ)) → (MayBreak : Fault → Type 0) → Outcome → (old new : Option (List ℕ)) → Type 0

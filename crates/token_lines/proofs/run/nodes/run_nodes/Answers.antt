@@ -3,8 +3,8 @@ use Rattle.libyaml_graphs.specs.Bounds.{bounded_loads}
 use Rattle.libyaml_loader.specs.Ids.{magnitude}
 use Rattle.line_reading.specs.LentLines.{GivesLent, lines_of}
 use Rattle.line_reading.specs.LineSource.{BreaksOff, Gives, known_of}
-use Rattle.token_lines.specs.LastLoad.{LastLoad}
-use Rattle.token_lines.specs.NodeRun.{WritesLoads, most_entries}
+use Rattle.token_lines.specs.LastLoad.{LastLoad, most_entries}
+use Rattle.token_lines.specs.NodeRun.{WritesLoads}
 use Rattle.token_lines.proofs.LentNodes.{breaks_lent, known_lent, last_load_seen, same_loan_loaded, writes_of_runs}
 use Rattle.token_lines.proofs.LentRun.{over, writes_of_lines}
 use Rattle.token_lines.proofs.run.nodes.run_nodes.Goals as goal
