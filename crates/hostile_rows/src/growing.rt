@@ -1,8 +1,10 @@
 //! Lists that grow by a number, over the source that computes them and over a list of the same tokens.
 
 use crate::in_step::{Counted, EVERY_CALL, Shape, count_documents, count_events};
+use crate::loads::is_loaded;
+use anyhow::{Result, ensure};
 use computed_tokens::{ComputedTokens, GrowingList};
-use row_notation::{end_of_row, is_over};
+use row_notation::{end_of_row, is_over, show_run};
 use std::alloc::{AllocError, Global};
 use unsafe_libyaml::{
     unnamed_yaml_node_t_data, yaml_document_t, yaml_list_source_t, yaml_node_t,
@@ -35,7 +37,7 @@ impl Grown {
     }
 
     /// The events of the list; None where the two sources differ, or where more comes behind the end.
-    pub fn parsed(self, alloc: Global) -> Result<Option<Counted>, AllocError> {
+    pub fn parsed(self, alloc: Global) -> Result<Option<Counted>> {
         let mut one = yaml_parser_initialize(alloc, self.computed(alloc));
         let mut other = yaml_parser_initialize(alloc, self.listed(alloc)?);
         let counted = count_events(&mut one, &mut other);
@@ -44,7 +46,7 @@ impl Grown {
     }
 
     /// The documents of the list; None where the two sources differ, or where a document has another shape.
-    pub fn loaded(self, alloc: Global) -> Result<Option<Counted>, AllocError> {
+    pub fn loaded(self, alloc: Global) -> Result<Option<Counted>> {
         let mut one = yaml_parser_initialize(alloc, self.computed(alloc));
         let mut other = yaml_parser_initialize(alloc, self.listed(alloc)?);
         let counted = count_documents(&mut one, &mut other, &self);
@@ -52,6 +54,17 @@ impl Grown {
         let are_over = again.is_some_and(|again| again.count == 0);
         Ok(counted.filter(|_| are_over))
     }
+}
+
+/// The events of a list, over the source that computes them, and the fault behind them. They have to be the last, and
+/// the fault has to be kept.
+///
+/// Errors: want of memory, and an answer that isn't kept.
+pub fn show_grown(alloc: Global, grown: Grown) -> Result<String> {
+    let mut parser = yaml_parser_initialize(alloc, grown.computed(alloc));
+    let shown = show_run(alloc, &mut parser)?;
+    ensure!(is_loaded(&mut parser), "more behind the end");
+    Ok(shown)
 }
 
 impl Shape for Grown {

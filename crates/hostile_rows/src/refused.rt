@@ -5,7 +5,9 @@
 
 use crate::calls::{CONSTRUCTORS, Constructor, built, constructed};
 use crate::fronts::{ROWS, Reading, is_cut, shown_front};
+use crate::growing::{Grown, show_grown};
 use anyhow::Result;
+use computed_tokens::GrowingList;
 use row_notation::{FixedWriter, end_of_row};
 use std::alloc::Global;
 use token_lines::run_events;
@@ -54,6 +56,11 @@ fn is_row_right(alloc: Global, row: &str, reading: Reading) -> bool {
     )
 }
 
+/// Whether a source that computes its tokens, and needs memory for their texts, keeps what it answers.
+fn is_computed_right(alloc: Global, list: GrowingList) -> bool {
+    are_right("fault 1", || show_grown(alloc, Grown { list, n: 3 }))
+}
+
 fn are_lines_right(alloc: Global) -> bool {
     are_right("FAULT memory 0:0:0 -\n", || written(alloc, LINES))
 }
@@ -78,11 +85,27 @@ fn count_wrong_rows(alloc: Global) -> u64 {
     wrong
 }
 
-/// How many of all that is run gave something else than what it gives, or its front and the refused growth.
-pub fn count_wrong(alloc: Global) -> u64 {
-    let mut wrong = u64::from(!are_lines_right(alloc)) + u64::from(!are_calls_right(alloc));
+fn count_wrong_computed(alloc: Global) -> u64 {
+    let mut wrong = 0u64;
+    for list in [GrowingList::Aliases, GrowingList::TagDirectives] {
+        wrong = wrong.saturating_add(u64::from(!is_computed_right(alloc, list)));
+    }
+    wrong
+}
+
+fn count_wrong_constructors(alloc: Global) -> u64 {
+    let mut wrong = 0u64;
     for constructor in CONSTRUCTORS {
         wrong = wrong.saturating_add(u64::from(!is_constructor_right(alloc, constructor)));
     }
-    wrong.saturating_add(count_wrong_rows(alloc))
+    wrong
+}
+
+/// How many of all that is run gave something else than what it gives, or its front and the refused growth.
+pub fn count_wrong(alloc: Global) -> u64 {
+    u64::from(!are_lines_right(alloc))
+        .saturating_add(u64::from(!are_calls_right(alloc)))
+        .saturating_add(count_wrong_computed(alloc))
+        .saturating_add(count_wrong_constructors(alloc))
+        .saturating_add(count_wrong_rows(alloc))
 }
