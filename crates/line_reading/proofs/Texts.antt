@@ -1,10 +1,10 @@
 -- texts: their escapes and their UTF-8
-use Rattle.std.proofs.Common.{◌≡◌, ◌≢◌, ℕ, All, List, [], ◌∷◌, length, take, Some, None, refl, ap, ◌∙◌, subst, IsUtf8, arith}
+use Rattle.std.proofs.Common.{◌≡◌, ◌≢◌, ℕ, All, zero, suc, List, [], ◌∷◌, Some, None, refl, ap, ◌∙◌, IsUtf8, arith}
 use Rattle.std.proofs.lemmas.Bool.{false_from_ne_true}
-use Rattle.std.proofs.lemmas.List.{take_all}
-use Rattle.std.proofs.lemmas.List.Elements.{All-head, All-tail}
-use Rattle.std.proofs.lemmas.Str.{IsUtf8-from_is_utf8, is_utf8-from_IsUtf8}
-use Rattle.std.specs.Str.{is_utf8}
+use Rattle.std.proofs.lemmas.List.Elements.{All-head, All-tail, All-weaker}
+use Rattle.std.proofs.lemmas.Str.{IsUtf8-from_ascii, IsUtf8-from_is_utf8, is_utf8-from_IsUtf8}
+use Rattle.std.specs.Str.{IsAscii, is_utf8}
+use Rattle.byte_words.specs.Clean.{IsClean}
 use Rattle.percent_encoding.specs.Percent.{percent_decode}
 use Rattle.percent_encoding.proofs.PercentLemmas.{percent_decode-nil, percent_decode_not_percent}
 use Rattle.line_reading.specs.Field.{utf8_text}
@@ -19,6 +19,13 @@ no_escape : (bs : List ℕ) → All (λ x. x ≢ 37) bs → percent_decode bs �
 no_escape [] h = percent_decode-nil
 no_escape (b ∷ bs) h = percent_decode_not_percent b bs (All-head (λ x. x ≢ 37) b bs h) ∙ ap (λ r. b ∷ r) (no_escape bs (All-tail (λ x. x ≢ 37) b bs h))
 
--- bytes without a `%` stand for themselves
-pub plain : (bs : List ℕ) (n : ℕ) → n ≡ length bs → All (λ x. x ≢ 37) (take n bs) → percent_decode bs ≡ bs
-plain bs n e h = no_escape bs (subst (All (λ x. x ≢ 37)) (take_all n bs (omega arith)) h)
+-- clean bytes stand for themselves, and are a text
+pub clean_ascii : (bs : List ℕ) → All IsClean bs → IsAscii bs
+clean_ascii [] h i = omega arith
+clean_ascii (b ∷ bs) h zero = omega (arith, (All-head IsClean b bs h).1)
+clean_ascii (b ∷ bs) h (suc i) = clean_ascii bs (All-tail IsClean b bs h) i
+
+pub clean_text : (bs : List ℕ) → All IsClean bs → utf8_text (percent_decode bs) ≡ Some bs
+clean_text bs h =
+    let bare : percent_decode bs ≡ bs = no_escape bs (All-weaker IsClean (λ x. x ≢ 37) (λ x c. c.2) bs h) in
+    rw bare (utf8_text-yes bs (IsUtf8-from_ascii bs (clean_ascii bs h)))

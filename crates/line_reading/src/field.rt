@@ -6,12 +6,12 @@ ghost use Rattle.line_reading.specs.Reading.{IsReadAs};
 
 use crate::number::read_signed;
 use crate::parts::Parts;
-use crate::search::len_before;
 use crate::token_error::TokenLineError;
+use byte_words::is_clean;
 use libyaml_types::{
     Text, unnamed_yaml_token_t_data_version_directive, yaml_encoding_t, yaml_scalar_style_t,
 };
-use percent_encoding::percent_decode;
+use percent_encoding::{ascii_str, percent_decode};
 use std::alloc::Global;
 
 /// Two signed numbers with a point between them.
@@ -43,19 +43,10 @@ pub fn read_text(alloc: Global, field: &[u8]) -> Result<Text, TokenLineError>
 fn escaped_text(alloc: Global, escaped: &[u8]) -> Result<Text, TokenLineError>
     ensures { IsReadAs result (utf8_text (percent.percent_decode escaped.now)) }
 {
-    if len_before(escaped, b'%') == escaped.len() {
-        plain_text(alloc, escaped)
+    if is_clean(escaped) {
+        Ok(Text::from_str(alloc, ascii_str(escaped))?)
     } else {
         decoded_text(alloc, escaped)
-    }
-}
-
-fn plain_text(alloc: Global, bytes: &[u8]) -> Result<Text, TokenLineError>
-    ensures { IsReadAs result (utf8_text bytes.now) }
-{
-    match simdutf8::basic::from_utf8(bytes) {
-        Ok(text) => Ok(Text::from_str(alloc, text)?),
-        Err(_) => Err(TokenLineError::BadLine),
     }
 }
 

@@ -2,6 +2,7 @@
 ghost use Rattle.std.specs.Prelude.{◌≡◌, ◌++◌, OnOk, string_bytes};
 ghost use Rattle.line_writing.specs.Escape.{escaped};
 
+use byte_words::is_clean;
 use percent_encoding::{AsciiSet, CONTROLS, ascii_set, utf8_percent_encode};
 use std::alloc::AllocError;
 
@@ -12,5 +13,8 @@ pub(crate) const ESCAPED: AsciiSet = ascii_set!(CONTROLS.add(b' ').add(b'%'));
 pub(crate) fn append_escaped(line: &mut String, text: &str) -> Result<(), AllocError>
     ensures { OnOk result (string_bytes line.new ≡ string_bytes line.old ++ escaped text.now) }
 {
+    if is_clean(text.as_bytes()) {
+        return line.push_str(text);
+    }
     utf8_percent_encode(text, ESCAPED).append_to(line)
 }

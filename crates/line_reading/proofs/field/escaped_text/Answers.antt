@@ -1,5 +1,5 @@
-use Rattle.line_reading.proofs.Texts.{plain}
+use Rattle.line_reading.proofs.Texts.{clean_text}
 use Rattle.line_reading.proofs.field.escaped_text.Goals as goal
 
-pub returns-then-len_before-escaped : goal.returns-then-len_before-escaped
-returns-then-len_before-escaped c = rw (plain c.args.escaped.now c.len_before.result c.if-len_before-escaped.true c.len_before.ensures.before) c.plain_text.ensures
+pub returns-in_ok-from_str : goal.returns-in_ok-from_str
+returns-in_ok-from_str c = rw (c.in_ok-from_str.ensures, c.ascii_str.ensures) (clean_text _ (c.is_clean.ensures.clean c.if-is_clean.true))

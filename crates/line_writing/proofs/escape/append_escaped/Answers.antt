@@ -1,8 +1,13 @@
-use Rattle.std.proofs.Common.{arith}
+use Rattle.std.proofs.Common.{arith, rules}
 use Rattle.std.proofs.lemmas.List.Elements.{All-from_get_or}
 use Rattle.percent_encoding.proofs.PercentLemmas.{IsByte}
-use Rattle.line_writing.proofs.EscapeLemmas.{percent_encode-escaped}
+use Rattle.line_writing.proofs.EscapeLemmas.{percent_encode-escaped, escaped-clean}
 use Rattle.line_writing.proofs.escape.append_escaped.Goals as goal
+
+pub returns-then-is_clean : goal.returns-then-is_clean
+returns-then-is_clean c =
+    let clean = c.is_clean.ensures.clean c.if-is_clean.true in
+    rw (← c.as_bytes.ensures.value, escaped-clean c.as_bytes.result.now clean, c.as_bytes.ensures.value) (search rules)
 
 pub returns : goal.returns
 returns c =

@@ -1,0 +1,189 @@
+-- a word of bytes, and what the operations on words do to each byte
+use Rattle.std.proofs.Common.{◌≡◌, ◌≢◌, ◌+◌, ◌-◌, ◌*◌, ◌^◌, ◌<◌, ◌≤◌, ℕ, zero, suc, Bool, true, false, not, ◌==◌, List, [], ◌∷◌, length, length-drop, take, drop, get_or, refl, ap, sym, ◌∙◌, arith, eq-eqb}
+use Rattle.std.specs.Int.Bits.{bit_and, bit_or, bit_xor}
+use Rattle.std.proofs.lemmas.Bool.{agree_below, agree_below_at, eqb-true, eqb-false}
+use Rattle.std.proofs.lemmas.List.{get_or-drop, get_or-take, length-take}
+use Rattle.std.proofs.lemmas.Nat.{and_block, or_block, xor_block, and_le_r, or_lt, xor_lt}
+use Rattle.std.specs.Slice.Scan.{little_endian, HoldsNowhere, HoldsSomewhere}
+use Rattle.byte_words.specs.Clean.{is_odd, is_odd_at}
+
+abbrev AreBytes : List ℕ → Type 0
+AreBytes [] = Unit {0}
+AreBytes (b ∷ bs) = (b < 2 ^ 8) × AreBytes bs
+
+-- the word whose bytes are f of each byte, the first lowest
+abbrev word : (ℕ → ℕ) → List ℕ → ℕ
+word f [] = 0
+word f (b ∷ bs) = word f bs * 2 ^ 8 + f b
+
+-- f of a byte is a byte
+abbrev KeepsBytes : (ℕ → ℕ) → Type 0
+KeepsBytes f = (b : ℕ) → b < 2 ^ 8 → f b < 2 ^ 8
+
+and_word : (f g : ℕ → ℕ) → KeepsBytes f → KeepsBytes g → (bs : List ℕ) → AreBytes bs → bit_and (word f bs) (word g bs) ≡ word (λ b. bit_and (f b) (g b)) bs
+and_word f g F G [] h = refl
+and_word f g F G (b ∷ bs) h = and_block 8 (word f bs) (word g bs) (f b) (g b) (F b h.0) (G b h.0) ∙ ap (λ w. w * 2 ^ 8 + bit_and (f b) (g b)) (and_word f g F G bs h.1)
+
+or_word : (f g : ℕ → ℕ) → KeepsBytes f → KeepsBytes g → (bs : List ℕ) → AreBytes bs → bit_or (word f bs) (word g bs) ≡ word (λ b. bit_or (f b) (g b)) bs
+or_word f g F G [] h = refl
+or_word f g F G (b ∷ bs) h = or_block 8 (word f bs) (word g bs) (f b) (g b) (F b h.0) (G b h.0) ∙ ap (λ w. w * 2 ^ 8 + bit_or (f b) (g b)) (or_word f g F G bs h.1)
+
+xor_word : (f g : ℕ → ℕ) → KeepsBytes f → KeepsBytes g → (bs : List ℕ) → AreBytes bs → bit_xor (word f bs) (word g bs) ≡ word (λ b. bit_xor (f b) (g b)) bs
+xor_word f g F G [] h = refl
+xor_word f g F G (b ∷ bs) h = xor_block 8 (word f bs) (word g bs) (f b) (g b) (F b h.0) (G b h.0) ∙ ap (λ w. w * 2 ^ 8 + bit_xor (f b) (g b)) (xor_word f g F G bs h.1)
+
+add_word : (f g : ℕ → ℕ) → (bs : List ℕ) → word f bs + word g bs ≡ word (λ b. f b + g b) bs
+add_word f g [] = refl
+add_word f g (b ∷ bs) = omega (arith, add_word f g bs)
+
+-- one byte again and again
+abbrev ones : ℕ → ℕ
+ones zero = 0
+ones (suc n) = ones n * 2 ^ 8 + 1
+
+spread : (c : ℕ) (bs : List ℕ) → word (λ _. c) bs ≡ c * ones (length bs)
+spread c [] = omega arith
+spread c (b ∷ bs) = omega (arith, spread c bs)
+
+eight : (c : ℕ) (bs : List ℕ) → length bs ≡ 8 → word (λ _. c) bs ≡ c * 0x0101_0101_0101_0101
+eight c bs e = spread c bs ∙ ap (λ n. c * ones n) e
+
+-- the bits of a byte that is odd: the highest, and else none
+
+abbrev low : ℕ → ℕ
+low b = bit_and b 127
+
+abbrev both : ℕ → ℕ
+both b = bit_and (low b + 95) (bit_xor (low b) 37 + 127)
+
+abbrev marked : ℕ → ℕ
+marked b = bit_and (bit_or (bit_or (bit_xor (both b) 128) (low b + 1)) b) 128
+
+tried : agree_below (λ b. marked b == 0) (λ b. not (is_odd b)) 256 ≡ true
+tried = refl
+
+low_small : (b : ℕ) → low b < 2 ^ 7
+low_small b = omega (arith, and_le_r b 127)
+
+other_small : (b : ℕ) → bit_xor (low b) 37 < 2 ^ 7
+other_small b = xor_lt 7 (low b) 37 (low_small b) (omega arith)
+
+keeps_any : (f : ℕ → ℕ) → ((b : ℕ) → f b < 2 ^ 8) → KeepsBytes f
+keeps_any f h b small = h b
+
+-- the same of a word
+abbrev marks : ℕ → ℕ
+marks w =
+    let l = bit_and w 0x7f7f_7f7f_7f7f_7f7f in
+    bit_and (bit_or (bit_or (bit_xor (bit_and (l + 0x5f5f_5f5f_5f5f_5f5f) (bit_xor l 0x2525_2525_2525_2525 + 0x7f7f_7f7f_7f7f_7f7f)) 0x8080_8080_8080_8080) (l + 0x0101_0101_0101_0101)) w) 0x8080_8080_8080_8080
+
+constant : (c : ℕ) → c < 2 ^ 8 → KeepsBytes (λ _. c)
+constant c h b small = h
+
+pub marks_are : (bs : List ℕ) → length bs ≡ 8 → AreBytes bs → marks (word (λ b. b) bs) ≡ word marked bs
+marks_are bs long fit =
+    let l_small : KeepsBytes low = λ b _. omega (arith, low_small b) in
+    let o_small : KeepsBytes (λ b. bit_xor (low b) 37 + 127) = λ b _. omega (arith, other_small b) in
+    let s_small : KeepsBytes (λ b. low b + 95) = λ b _. omega (arith, low_small b) in
+    let d_small : KeepsBytes (λ b. low b + 1) = λ b _. omega (arith, low_small b) in
+    let b_small : KeepsBytes both = λ b h. omega (arith, and_le_r (low b + 95) (bit_xor (low b) 37 + 127), o_small b h) in
+    let n_small : KeepsBytes (λ b. bit_xor (both b) 128) = λ b h. xor_lt 8 (both b) 128 (b_small b h) (omega arith) in
+    let e_small : KeepsBytes (λ b. bit_or (bit_xor (both b) 128) (low b + 1)) = λ b h. or_lt 8 _ _ (n_small b h) (d_small b h) in
+    let a_small : KeepsBytes (λ b. bit_or (bit_or (bit_xor (both b) 128) (low b + 1)) b) = λ b h. or_lt 8 _ _ (e_small b h) h in
+    let l : bit_and (word (λ b. b) bs) 0x7f7f_7f7f_7f7f_7f7f ≡ word low bs = ap (bit_and (word (λ b. b) bs)) (sym (eight 127 bs long)) ∙ and_word (λ b. b) (λ _. 127) (λ b h. h) (constant 127 (omega arith)) bs fit in
+    let s : word low bs + 0x5f5f_5f5f_5f5f_5f5f ≡ word (λ b. low b + 95) bs = ap (λ w. word low bs + w) (sym (eight 95 bs long)) ∙ add_word low (λ _. 95) bs in
+    let x : bit_xor (word low bs) 0x2525_2525_2525_2525 ≡ word (λ b. bit_xor (low b) 37) bs = ap (bit_xor (word low bs)) (sym (eight 37 bs long)) ∙ xor_word low (λ _. 37) l_small (constant 37 (omega arith)) bs fit in
+    let o : word (λ b. bit_xor (low b) 37) bs + 0x7f7f_7f7f_7f7f_7f7f ≡ word (λ b. bit_xor (low b) 37 + 127) bs = ap (λ w. word (λ b. bit_xor (low b) 37) bs + w) (sym (eight 127 bs long)) ∙ add_word (λ b. bit_xor (low b) 37) (λ _. 127) bs in
+    let d : word low bs + 0x0101_0101_0101_0101 ≡ word (λ b. low b + 1) bs = ap (λ w. word low bs + w) (sym (eight 1 bs long)) ∙ add_word low (λ _. 1) bs in
+    let b : bit_and (word (λ b. low b + 95) bs) (word (λ b. bit_xor (low b) 37 + 127) bs) ≡ word both bs = and_word (λ b. low b + 95) (λ b. bit_xor (low b) 37 + 127) s_small o_small bs fit in
+    let n : bit_xor (word both bs) 0x8080_8080_8080_8080 ≡ word (λ b. bit_xor (both b) 128) bs = ap (bit_xor (word both bs)) (sym (eight 128 bs long)) ∙ xor_word both (λ _. 128) b_small (constant 128 (omega arith)) bs fit in
+    let e = or_word (λ b. bit_xor (both b) 128) (λ b. low b + 1) n_small d_small bs fit in
+    let a = or_word (λ b. bit_or (bit_xor (both b) 128) (low b + 1)) (λ b. b) e_small (λ b h. h) bs fit in
+    let all : word (λ b. bit_or (bit_or (bit_xor (both b) 128) (low b + 1)) b) bs ≡ bit_or (bit_or (bit_xor (bit_and (word low bs + 0x5f5f_5f5f_5f5f_5f5f) (bit_xor (word low bs) 0x2525_2525_2525_2525 + 0x7f7f_7f7f_7f7f_7f7f)) 0x8080_8080_8080_8080) (word low bs + 0x0101_0101_0101_0101)) (word (λ b. b) bs) =
+    rw (s, x, o, d, b, n, e, a) refl in
+    let last : bit_and (word (λ b. bit_or (bit_or (bit_xor (both b) 128) (low b + 1)) b) bs) 0x8080_8080_8080_8080 ≡ word marked bs = ap (bit_and (word (λ b. bit_or (bit_or (bit_xor (both b) 128) (low b + 1)) b) bs)) (sym (eight 128 bs long)) ∙ and_word (λ b. bit_or (bit_or (bit_xor (both b) 128) (low b + 1)) b) (λ _. 128) a_small (constant 128 (omega arith)) bs fit in
+    rw (l) (ap (λ w. bit_and w 0x8080_8080_8080_8080) (sym all) ∙ last)
+
+-- a byte is marked where it is odd
+
+true_not : (x : Bool) → not x ≡ true → x ≡ false
+true_not true e = sym e
+true_not false e = refl
+
+false_not : (x : Bool) → not x ≡ false → x ≡ true
+false_not true e = refl
+false_not false e = sym e
+
+is_marked : (b : ℕ) → b < 2 ^ 8 → (marked b == 0) ≡ not (is_odd b)
+is_marked b small = agree_below_at (λ b. marked b == 0) (λ b. not (is_odd b)) 256 b tried small
+
+none_marked : (bs : List ℕ) → AreBytes bs → word marked bs ≡ 0 → (j : ℕ) → j < length bs → is_odd (get_or bs j 0) ≡ false
+none_marked [] fit e j h = absurd (omega arith)
+none_marked (b ∷ bs) fit e zero h = true_not (is_odd b) (sym (is_marked b fit.0) ∙ eq-eqb (marked b) 0 (omega (arith, e)))
+none_marked (b ∷ bs) fit e (suc j) h = none_marked bs fit.1 (omega (arith, e)) j (omega arith)
+
+abbrev SomeOdd : List ℕ → Type 0
+SomeOdd bs = (j : ℕ) × (j < length bs) × (is_odd (get_or bs j 0) ≡ true)
+
+some_marked : (bs : List ℕ) → AreBytes bs → word marked bs ≢ 0 → SomeOdd bs
+some_marked [] fit e = absurd (e refl)
+some_marked (b ∷ bs) fit e = go (marked b == 0) refl (some_marked bs fit.1)
+  where
+    go : (t : Bool) → (marked b == 0) ≡ t → (word marked bs ≢ 0 → SomeOdd bs) → SomeOdd (b ∷ bs)
+    go false h rest = (0, omega arith, false_not (is_odd b) (sym (is_marked b fit.0) ∙ h))
+    go true h rest =
+        let zero_here = eqb-true (marked b) 0 h in
+        let found = rest (λ z. e (omega (arith, z, zero_here))) in
+        (suc found.0, omega (arith, found.1), found.2)
+
+-- the bytes at a place
+
+bytes_of : (xs : List ℕ) → ((i : ℕ) → i < length xs → get_or xs i 0 < 2 ^ 8) → AreBytes xs
+bytes_of [] f = tt
+bytes_of (x ∷ xs) f = (f 0 (omega arith), bytes_of xs (λ i h. f (suc i) (omega arith)))
+
+eight_are : (xs : List ℕ) → length xs ≡ 8
+    → word (λ b. b) xs ≡ get_or xs 0 0 + get_or xs 1 0 * 256 + get_or xs 2 0 * 65536 + get_or xs 3 0 * 16777216 + get_or xs 4 0 * 4294967296 + get_or xs 5 0 * 1099511627776 + get_or xs 6 0 * 281474976710656 + get_or xs 7 0 * 72057594037927936
+eight_are [] e = absurd (omega arith)
+eight_are (a ∷ []) e = absurd (omega arith)
+eight_are (a ∷ b ∷ []) e = absurd (omega arith)
+eight_are (a ∷ b ∷ c ∷ []) e = absurd (omega arith)
+eight_are (a ∷ b ∷ c ∷ d ∷ []) e = absurd (omega arith)
+eight_are (a ∷ b ∷ c ∷ d ∷ p ∷ []) e = absurd (omega arith)
+eight_are (a ∷ b ∷ c ∷ d ∷ p ∷ q ∷ []) e = absurd (omega arith)
+eight_are (a ∷ b ∷ c ∷ d ∷ p ∷ q ∷ r ∷ []) e = absurd (omega arith)
+eight_are (a ∷ b ∷ c ∷ d ∷ p ∷ q ∷ r ∷ s ∷ []) e = omega arith
+eight_are (a ∷ b ∷ c ∷ d ∷ p ∷ q ∷ r ∷ s ∷ t ∷ xs) e = absurd (omega arith)
+
+module _ (bs : List ℕ) (at : ℕ) (room : at + 8 ≤ length bs) (fits : (i : ℕ) → get_or bs i 0 < 2 ^ 8) where
+  abbrev xs : List ℕ
+  xs = take 8 (drop at bs)
+
+  long : length xs ≡ 8
+  long = length-take 8 (drop at bs) ∙ omega (arith, length-drop at bs)
+
+  place : (j : ℕ) → j < 8 → get_or xs j 0 ≡ get_or bs (at + j) 0
+  place j h = get_or-take 8 (drop at bs) j 0 h ∙ get_or-drop at bs j 0
+
+  are_bytes : AreBytes xs
+  are_bytes = bytes_of xs (λ j h. rw (place j (omega (arith, long, h))) (fits (at + j)))
+
+  read : (w : ℕ) → w ≡ little_endian bs at → marks w ≡ word marked xs
+  read w is =
+      let first : get_or xs 0 0 ≡ get_or bs at 0 = place 0 (omega arith) ∙ ap (λ i. get_or bs i 0) {y = at} (omega arith) in
+      let same : w ≡ word (λ b. b) xs =
+      omega (arith, is, eight_are xs long, first, place 1 (omega arith), place 2 (omega arith), place 3 (omega arith), place 4 (omega arith), place 5 (omega arith), place 6 (omega arith), place 7 (omega arith)) in
+      ap marks same ∙ marks_are xs long are_bytes
+
+  pub clean_at : (w : ℕ) → w ≡ little_endian bs at → (marks w == 0) ≡ true → HoldsNowhere (is_odd_at bs) at (at + 8)
+  clean_at w is e k low high =
+      let none : word marked xs ≡ 0 = sym (read w is) ∙ eqb-true (marks w) 0 e in
+      let here : at + (k - at) ≡ k = omega arith in
+      let found = none_marked xs are_bytes none (k - at) (omega (arith, long)) in
+      rw (← here, ← place (k - at) (omega arith)) found
+
+  pub odd_at : (w : ℕ) → w ≡ little_endian bs at → (marks w == 0) ≡ false → HoldsSomewhere (is_odd_at bs) at (at + 8)
+  odd_at w is e =
+      let found = some_marked xs are_bytes (λ z. eqb-false (marks w) 0 e (read w is ∙ z)) in
+      let small : found.0 < 8 = omega (arith, long, found.1) in
+      (at + found.0, omega arith, omega (arith, small), ap is_odd (sym (place found.0 small)) ∙ found.2)

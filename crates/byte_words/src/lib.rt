@@ -1,0 +1,7 @@
+//! Bytes looked at eight at a time, as words.
+#![tactic(auto)]
+
+mod clean;
+mod word;
+
+pub use clean::is_clean;
