@@ -20,17 +20,26 @@ word f (b ∷ bs) = word f bs * 2 ^ 8 + f b
 abbrev KeepsBytes : (ℕ → ℕ) → Type 0
 KeepsBytes f = (b : ℕ) → b < 2 ^ 8 → f b < 2 ^ 8
 
-and_word : (f g : ℕ → ℕ) → KeepsBytes f → KeepsBytes g → (bs : List ℕ) → AreBytes bs → bit_and (word f bs) (word g bs) ≡ word (λ b. bit_and (f b) (g b)) bs
+and_word : (f g : ℕ → ℕ) → KeepsBytes f → KeepsBytes g → (bs : List ℕ) → AreBytes bs
+    → bit_and (word f bs) (word g bs) ≡ word (λ b. bit_and (f b) (g b)) bs
 and_word f g F G [] h = refl
-and_word f g F G (b ∷ bs) h = and_block 8 (word f bs) (word g bs) (f b) (g b) (F b h.0) (G b h.0) ∙ ap (λ w. w * 2 ^ 8 + bit_and (f b) (g b)) (and_word f g F G bs h.1)
+and_word f g F G (b ∷ bs) h =
+    and_block 8 (word f bs) (word g bs) (f b) (g b) (F b h.0) (G b h.0)
+    ∙ ap (λ w. w * 2 ^ 8 + bit_and (f b) (g b)) (and_word f g F G bs h.1)
 
-or_word : (f g : ℕ → ℕ) → KeepsBytes f → KeepsBytes g → (bs : List ℕ) → AreBytes bs → bit_or (word f bs) (word g bs) ≡ word (λ b. bit_or (f b) (g b)) bs
+or_word : (f g : ℕ → ℕ) → KeepsBytes f → KeepsBytes g → (bs : List ℕ) → AreBytes bs
+    → bit_or (word f bs) (word g bs) ≡ word (λ b. bit_or (f b) (g b)) bs
 or_word f g F G [] h = refl
-or_word f g F G (b ∷ bs) h = or_block 8 (word f bs) (word g bs) (f b) (g b) (F b h.0) (G b h.0) ∙ ap (λ w. w * 2 ^ 8 + bit_or (f b) (g b)) (or_word f g F G bs h.1)
+or_word f g F G (b ∷ bs) h =
+    or_block 8 (word f bs) (word g bs) (f b) (g b) (F b h.0) (G b h.0)
+    ∙ ap (λ w. w * 2 ^ 8 + bit_or (f b) (g b)) (or_word f g F G bs h.1)
 
-xor_word : (f g : ℕ → ℕ) → KeepsBytes f → KeepsBytes g → (bs : List ℕ) → AreBytes bs → bit_xor (word f bs) (word g bs) ≡ word (λ b. bit_xor (f b) (g b)) bs
+xor_word : (f g : ℕ → ℕ) → KeepsBytes f → KeepsBytes g → (bs : List ℕ) → AreBytes bs
+    → bit_xor (word f bs) (word g bs) ≡ word (λ b. bit_xor (f b) (g b)) bs
 xor_word f g F G [] h = refl
-xor_word f g F G (b ∷ bs) h = xor_block 8 (word f bs) (word g bs) (f b) (g b) (F b h.0) (G b h.0) ∙ ap (λ w. w * 2 ^ 8 + bit_xor (f b) (g b)) (xor_word f g F G bs h.1)
+xor_word f g F G (b ∷ bs) h =
+    xor_block 8 (word f bs) (word g bs) (f b) (g b) (F b h.0) (G b h.0)
+    ∙ ap (λ w. w * 2 ^ 8 + bit_xor (f b) (g b)) (xor_word f g F G bs h.1)
 
 add_word : (f g : ℕ → ℕ) → (bs : List ℕ) → word f bs + word g bs ≡ word (λ b. f b + g b) bs
 add_word f g [] = refl
@@ -53,11 +62,29 @@ eight c bs e = spread c bs ∙ ap (λ n. c * ones n) e
 abbrev low : ℕ → ℕ
 low b = bit_and b 127
 
+abbrev visible : ℕ → ℕ
+visible b = low b + 95
+
+abbrev no_percent : ℕ → ℕ
+no_percent b = bit_xor (low b) 37 + 127
+
+abbrev delete : ℕ → ℕ
+delete b = low b + 1
+
 abbrev both : ℕ → ℕ
-both b = bit_and (low b + 95) (bit_xor (low b) 37 + 127)
+both b = bit_and (visible b) (no_percent b)
+
+abbrev other : ℕ → ℕ
+other b = bit_xor (both b) 128
+
+abbrev either : ℕ → ℕ
+either b = bit_or (other b) (delete b)
+
+abbrev any : ℕ → ℕ
+any b = bit_or (either b) b
 
 abbrev marked : ℕ → ℕ
-marked b = bit_and (bit_or (bit_or (bit_xor (both b) 128) (low b + 1)) b) 128
+marked b = bit_and (any b) 128
 
 tried : agree_below (λ b. marked b == 0) (λ b. not (is_odd b)) 256 ≡ true
 tried = refl
@@ -65,44 +92,75 @@ tried = refl
 low_small : (b : ℕ) → low b < 2 ^ 7
 low_small b = omega (arith, and_le_r b 127)
 
-other_small : (b : ℕ) → bit_xor (low b) 37 < 2 ^ 7
-other_small b = xor_lt 7 (low b) 37 (low_small b) (omega arith)
-
-keeps_any : (f : ℕ → ℕ) → ((b : ℕ) → f b < 2 ^ 8) → KeepsBytes f
-keeps_any f h b small = h b
-
--- the same of a word
-abbrev marks : ℕ → ℕ
-marks w =
-    let l = bit_and w 0x7f7f_7f7f_7f7f_7f7f in
-    bit_and (bit_or (bit_or (bit_xor (bit_and (l + 0x5f5f_5f5f_5f5f_5f5f) (bit_xor l 0x2525_2525_2525_2525 + 0x7f7f_7f7f_7f7f_7f7f)) 0x8080_8080_8080_8080) (l + 0x0101_0101_0101_0101)) w) 0x8080_8080_8080_8080
+-- each of them is a byte
 
 constant : (c : ℕ) → c < 2 ^ 8 → KeepsBytes (λ _. c)
 constant c h b small = h
 
-pub marks_are : (bs : List ℕ) → length bs ≡ 8 → AreBytes bs → marks (word (λ b. b) bs) ≡ word marked bs
-marks_are bs long fit =
-    let l_small : KeepsBytes low = λ b _. omega (arith, low_small b) in
-    let o_small : KeepsBytes (λ b. bit_xor (low b) 37 + 127) = λ b _. omega (arith, other_small b) in
-    let s_small : KeepsBytes (λ b. low b + 95) = λ b _. omega (arith, low_small b) in
-    let d_small : KeepsBytes (λ b. low b + 1) = λ b _. omega (arith, low_small b) in
-    let b_small : KeepsBytes both = λ b h. omega (arith, and_le_r (low b + 95) (bit_xor (low b) 37 + 127), o_small b h) in
-    let n_small : KeepsBytes (λ b. bit_xor (both b) 128) = λ b h. xor_lt 8 (both b) 128 (b_small b h) (omega arith) in
-    let e_small : KeepsBytes (λ b. bit_or (bit_xor (both b) 128) (low b + 1)) = λ b h. or_lt 8 _ _ (n_small b h) (d_small b h) in
-    let a_small : KeepsBytes (λ b. bit_or (bit_or (bit_xor (both b) 128) (low b + 1)) b) = λ b h. or_lt 8 _ _ (e_small b h) h in
-    let l : bit_and (word (λ b. b) bs) 0x7f7f_7f7f_7f7f_7f7f ≡ word low bs = ap (bit_and (word (λ b. b) bs)) (sym (eight 127 bs long)) ∙ and_word (λ b. b) (λ _. 127) (λ b h. h) (constant 127 (omega arith)) bs fit in
-    let s : word low bs + 0x5f5f_5f5f_5f5f_5f5f ≡ word (λ b. low b + 95) bs = ap (λ w. word low bs + w) (sym (eight 95 bs long)) ∙ add_word low (λ _. 95) bs in
-    let x : bit_xor (word low bs) 0x2525_2525_2525_2525 ≡ word (λ b. bit_xor (low b) 37) bs = ap (bit_xor (word low bs)) (sym (eight 37 bs long)) ∙ xor_word low (λ _. 37) l_small (constant 37 (omega arith)) bs fit in
-    let o : word (λ b. bit_xor (low b) 37) bs + 0x7f7f_7f7f_7f7f_7f7f ≡ word (λ b. bit_xor (low b) 37 + 127) bs = ap (λ w. word (λ b. bit_xor (low b) 37) bs + w) (sym (eight 127 bs long)) ∙ add_word (λ b. bit_xor (low b) 37) (λ _. 127) bs in
-    let d : word low bs + 0x0101_0101_0101_0101 ≡ word (λ b. low b + 1) bs = ap (λ w. word low bs + w) (sym (eight 1 bs long)) ∙ add_word low (λ _. 1) bs in
-    let b : bit_and (word (λ b. low b + 95) bs) (word (λ b. bit_xor (low b) 37 + 127) bs) ≡ word both bs = and_word (λ b. low b + 95) (λ b. bit_xor (low b) 37 + 127) s_small o_small bs fit in
-    let n : bit_xor (word both bs) 0x8080_8080_8080_8080 ≡ word (λ b. bit_xor (both b) 128) bs = ap (bit_xor (word both bs)) (sym (eight 128 bs long)) ∙ xor_word both (λ _. 128) b_small (constant 128 (omega arith)) bs fit in
-    let e = or_word (λ b. bit_xor (both b) 128) (λ b. low b + 1) n_small d_small bs fit in
-    let a = or_word (λ b. bit_or (bit_xor (both b) 128) (low b + 1)) (λ b. b) e_small (λ b h. h) bs fit in
-    let all : word (λ b. bit_or (bit_or (bit_xor (both b) 128) (low b + 1)) b) bs ≡ bit_or (bit_or (bit_xor (bit_and (word low bs + 0x5f5f_5f5f_5f5f_5f5f) (bit_xor (word low bs) 0x2525_2525_2525_2525 + 0x7f7f_7f7f_7f7f_7f7f)) 0x8080_8080_8080_8080) (word low bs + 0x0101_0101_0101_0101)) (word (λ b. b) bs) =
-    rw (s, x, o, d, b, n, e, a) refl in
-    let last : bit_and (word (λ b. bit_or (bit_or (bit_xor (both b) 128) (low b + 1)) b) bs) 0x8080_8080_8080_8080 ≡ word marked bs = ap (bit_and (word (λ b. bit_or (bit_or (bit_xor (both b) 128) (low b + 1)) b) bs)) (sym (eight 128 bs long)) ∙ and_word (λ b. bit_or (bit_or (bit_xor (both b) 128) (low b + 1)) b) (λ _. 128) a_small (constant 128 (omega arith)) bs fit in
-    rw (l) (ap (λ w. bit_and w 0x8080_8080_8080_8080) (sym all) ∙ last)
+low_byte : KeepsBytes low
+low_byte b h = omega (arith, low_small b)
+
+visible_byte : KeepsBytes visible
+visible_byte b h = omega (arith, low_small b)
+
+no_percent_byte : KeepsBytes no_percent
+no_percent_byte b h = omega (arith, xor_lt 7 (low b) 37 (low_small b) (omega arith))
+
+delete_byte : KeepsBytes delete
+delete_byte b h = omega (arith, low_small b)
+
+both_byte : KeepsBytes both
+both_byte b h = omega (arith, and_le_r (visible b) (no_percent b), no_percent_byte b h)
+
+other_byte : KeepsBytes other
+other_byte b h = xor_lt 8 (both b) 128 (both_byte b h) (omega arith)
+
+either_byte : KeepsBytes either
+either_byte b h = or_lt 8 (other b) (delete b) (other_byte b h) (delete_byte b h)
+
+any_byte : KeepsBytes any
+any_byte b h = or_lt 8 (either b) b (either_byte b h) h
+
+-- the same of a word
+
+abbrev any_of : ℕ → ℕ → ℕ
+any_of w l =
+    let odd = bit_xor (bit_and (l + 0x5f5f_5f5f_5f5f_5f5f) (bit_xor l 0x2525_2525_2525_2525 + 0x7f7f_7f7f_7f7f_7f7f)) 0x8080_8080_8080_8080 in
+    bit_or (bit_or odd (l + 0x0101_0101_0101_0101)) w
+
+abbrev marks : ℕ → ℕ
+marks w = bit_and (any_of w (bit_and w 0x7f7f_7f7f_7f7f_7f7f)) 0x8080_8080_8080_8080
+
+module _ (bs : List ℕ) (long : length bs ≡ 8) (fit : AreBytes bs) where
+  low_is : bit_and (word (λ b. b) bs) 0x7f7f_7f7f_7f7f_7f7f ≡ word low bs
+  low_is = ap (bit_and (word (λ b. b) bs)) (sym (eight 127 bs long)) ∙ and_word (λ b. b) (λ _. 127) (λ b h. h) (constant 127 (omega arith)) bs fit
+
+  visible_is : word low bs + 0x5f5f_5f5f_5f5f_5f5f ≡ word visible bs
+  visible_is = ap (λ w. word low bs + w) (sym (eight 95 bs long)) ∙ add_word low (λ _. 95) bs
+
+  percent_is : bit_xor (word low bs) 0x2525_2525_2525_2525 ≡ word (λ b. bit_xor (low b) 37) bs
+  percent_is = ap (bit_xor (word low bs)) (sym (eight 37 bs long)) ∙ xor_word low (λ _. 37) low_byte (constant 37 (omega arith)) bs fit
+
+  no_percent_is : word (λ b. bit_xor (low b) 37) bs + 0x7f7f_7f7f_7f7f_7f7f ≡ word no_percent bs
+  no_percent_is = ap (λ w. word (λ b. bit_xor (low b) 37) bs + w) (sym (eight 127 bs long)) ∙ add_word (λ b. bit_xor (low b) 37) (λ _. 127) bs
+
+  delete_is : word low bs + 0x0101_0101_0101_0101 ≡ word delete bs
+  delete_is = ap (λ w. word low bs + w) (sym (eight 1 bs long)) ∙ add_word low (λ _. 1) bs
+
+  other_is : bit_xor (word both bs) 0x8080_8080_8080_8080 ≡ word other bs
+  other_is = ap (bit_xor (word both bs)) (sym (eight 128 bs long)) ∙ xor_word both (λ _. 128) both_byte (constant 128 (omega arith)) bs fit
+
+  any_is : any_of (word (λ b. b) bs) (word low bs) ≡ word any bs
+  any_is =
+      let both_is = and_word visible no_percent visible_byte no_percent_byte bs fit in
+      let either_is = or_word other delete other_byte delete_byte bs fit in
+      rw (visible_is, percent_is, no_percent_is, delete_is, both_is, other_is, either_is) (or_word either (λ b. b) either_byte (λ b h. h) bs fit)
+
+  pub marks_are : marks (word (λ b. b) bs) ≡ word marked bs
+  marks_are =
+      rw (low_is, any_is) (
+      ap (bit_and (word any bs)) (sym (eight 128 bs long)) ∙ and_word any (λ _. 128) any_byte (constant 128 (omega arith)) bs fit
+      )
 
 -- a byte is marked where it is odd
 
@@ -143,7 +201,9 @@ bytes_of [] f = tt
 bytes_of (x ∷ xs) f = (f 0 (omega arith), bytes_of xs (λ i h. f (suc i) (omega arith)))
 
 eight_are : (xs : List ℕ) → length xs ≡ 8
-    → word (λ b. b) xs ≡ get_or xs 0 0 + get_or xs 1 0 * 256 + get_or xs 2 0 * 65536 + get_or xs 3 0 * 16777216 + get_or xs 4 0 * 4294967296 + get_or xs 5 0 * 1099511627776 + get_or xs 6 0 * 281474976710656 + get_or xs 7 0 * 72057594037927936
+    → word (λ b. b) xs
+    ≡ get_or xs 0 0 + get_or xs 1 0 * 256 + get_or xs 2 0 * 65536 + get_or xs 3 0 * 16777216
+    + get_or xs 4 0 * 4294967296 + get_or xs 5 0 * 1099511627776 + get_or xs 6 0 * 281474976710656 + get_or xs 7 0 * 72057594037927936
 eight_are [] e = absurd (omega arith)
 eight_are (a ∷ []) e = absurd (omega arith)
 eight_are (a ∷ b ∷ []) e = absurd (omega arith)
@@ -171,8 +231,14 @@ module _ (bs : List ℕ) (at : ℕ) (room : at + 8 ≤ length bs) (fits : (i : �
   read : (w : ℕ) → w ≡ little_endian bs at → marks w ≡ word marked xs
   read w is =
       let first : get_or xs 0 0 ≡ get_or bs at 0 = place 0 (omega arith) ∙ ap (λ i. get_or bs i 0) {y = at} (omega arith) in
-      let same : w ≡ word (λ b. b) xs =
-      omega (arith, is, eight_are xs long, first, place 1 (omega arith), place 2 (omega arith), place 3 (omega arith), place 4 (omega arith), place 5 (omega arith), place 6 (omega arith), place 7 (omega arith)) in
+      let one = place 1 (omega arith) in
+      let two = place 2 (omega arith) in
+      let three = place 3 (omega arith) in
+      let four = place 4 (omega arith) in
+      let five = place 5 (omega arith) in
+      let six = place 6 (omega arith) in
+      let seven = place 7 (omega arith) in
+      let same : w ≡ word (λ b. b) xs = omega (arith, is, eight_are xs long, first, one, two, three, four, five, six, seven) in
       ap marks same ∙ marks_are xs long are_bytes
 
   pub clean_at : (w : ℕ) → w ≡ little_endian bs at → (marks w == 0) ≡ true → HoldsNowhere (is_odd_at bs) at (at + 8)
