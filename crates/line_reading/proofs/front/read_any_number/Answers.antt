@@ -6,37 +6,48 @@ pub loop-len-init : goal.loop-len-init
 loop-len-init c = none_read (drop c.args.at c.args.line.now)
 
 pub ended_number-requires-clause-digits : goal.ended_number-requires-clause-digits
-ended_number-requires-clause-digits c = (ends_within _ _ c.loop-len.len c.loop-len.value c.loop-len.invariant c.loop-len-test.true (sym c.if-not-is_ascii_digit.ensures.value)).value
+ended_number-requires-clause-digits c =
+    let ends = ends_within _ _ c.loop-len.len c.loop-len.value c.loop-len.invariant c.loop-len-test.true (sym c.if-not-is_ascii_digit.ensures.value) in
+    ends.value
 
 pub returns-then-not-is_ascii_digit-clause-none : goal.returns-then-not-is_ascii_digit-clause-none
 returns-then-not-is_ascii_digit-clause-none c =
-    λ e. ended_none _ _ _ (ends_within _ _ c.loop-len.len c.loop-len.value c.loop-len.invariant c.loop-len-test.true (sym c.if-not-is_ascii_digit.ensures.value)) (c.ended_number.ensures.none e)
+    let ends = ends_within _ _ c.loop-len.len c.loop-len.value c.loop-len.invariant c.loop-len-test.true (sym c.if-not-is_ascii_digit.ensures.value) in
+    λ e. ended_none _ _ _ ends (c.ended_number.ensures.none e)
 
 pub returns-then-not-is_ascii_digit-clause-some : goal.returns-then-not-is_ascii_digit-clause-some
 returns-then-not-is_ascii_digit-clause-some c =
-    λ e. ended_some c.args.line.now c.args.at _ _ _ _ (ends_within _ _ c.loop-len.len c.loop-len.value c.loop-len.invariant c.loop-len-test.true (sym c.if-not-is_ascii_digit.ensures.value)) (c.ended_number.ensures.some e) (c.ended_number.ensures.value e) (c.ended_number.ensures.end e)
+    let ends = ends_within _ _ c.loop-len.len c.loop-len.value c.loop-len.invariant c.loop-len-test.true (sym c.if-not-is_ascii_digit.ensures.value) in
+    λ e. ended_some c.args.line.now c.args.at _ _ _ _ ends (c.ended_number.ensures.some e) (c.ended_number.ensures.value e) (c.ended_number.ensures.end e)
 
 pub returns-in_default-clause-none : goal.returns-in_default-clause-none
 returns-in_default-clause-none c =
-    λ _. too_much_within _ _ c.loop-len.len c.loop-len.value c.loop-len.invariant c.loop-len-test.true (sym c.if-not-is_ascii_digit.ensures.value) (omega (arith, c.in_default.ensures))
+    let digit = sym c.if-not-is_ascii_digit.ensures.value in
+    λ _. too_much_within _ _ c.loop-len.len c.loop-len.value c.loop-len.invariant c.loop-len-test.true digit (omega (arith, c.in_default.ensures))
 
 pub returns-in_default-checked_add-clause-none : goal.returns-in_default-checked_add-clause-none
 returns-in_default-checked_add-clause-none c =
-    λ _. too_much_within _ _ c.loop-len.len c.loop-len.value c.loop-len.invariant c.loop-len-test.true (sym c.if-not-is_ascii_digit.ensures.value) (omega (arith, c.in_default-checked_add.ensures, c.in-Some.ensures, c.from.ensures))
+    let digit = sym c.if-not-is_ascii_digit.ensures.value in
+    λ _. too_much_within _ _ c.loop-len.len c.loop-len.value c.loop-len.invariant c.loop-len-test.true digit (omega (arith, c.in_default-checked_add.ensures, c.in-Some.ensures, c.from.ensures))
 
 pub loop-len-preserved : goal.loop-len-preserved
 loop-len-preserved c =
-    let digit = slice_index_or (take (length c.args.line.now - c.args.at) (drop c.args.at c.args.line.now)) c.loop-len.len 0 in
-    let next : c.in-Some-checked_add.more ≡ c.loop-len.value * 10 + (digit - 48) = omega (arith, c.in-Some-checked_add.ensures, c.in-Some.ensures, c.from.ensures) in
-    rw next (more_within _ _ c.loop-len.len c.loop-len.value c.loop-len.invariant c.loop-len-test.true (sym c.if-not-is_ascii_digit.ensures.value) (omega (arith, c.in-Some-checked_add.ensures, next)))
+    let digit = sym c.if-not-is_ascii_digit.ensures.value in
+    let byte = slice_index_or (take (length c.args.line.now - c.args.at) (drop c.args.at c.args.line.now)) c.loop-len.len 0 in
+    let next : c.in-Some-checked_add.more ≡ c.loop-len.value * 10 + (byte - 48) = omega (arith, c.in-Some-checked_add.ensures, c.in-Some.ensures, c.from.ensures) in
+    rw next (more_within _ _ c.loop-len.len c.loop-len.value c.loop-len.invariant c.loop-len-test.true digit (omega (arith, c.in-Some-checked_add.ensures, next)))
 
 pub ended_number-requires-2-clause-digits : goal.ended_number-requires-2-clause-digits
-ended_number-requires-2-clause-digits c = (ends_with_line c.args.line.now c.args.at _ _ c.loop-len.invariant c.loop-len.auto.len-end c.loop-len-test.false).value
+ended_number-requires-2-clause-digits c =
+    let ends = ends_with_line c.args.line.now c.args.at _ _ c.loop-len.invariant c.loop-len.auto.len-end c.loop-len-test.false in
+    ends.value
 
 pub returns-clause-none : goal.returns-clause-none
 returns-clause-none c =
-    λ e. ended_none _ _ _ (ends_with_line c.args.line.now c.args.at _ _ c.loop-len.invariant c.loop-len.auto.len-end c.loop-len-test.false) (c.ended_number-2.ensures.none e)
+    let ends = ends_with_line c.args.line.now c.args.at _ _ c.loop-len.invariant c.loop-len.auto.len-end c.loop-len-test.false in
+    λ e. ended_none _ _ _ ends (c.ended_number-2.ensures.none e)
 
 pub returns-clause-some : goal.returns-clause-some
 returns-clause-some c =
-    λ e. ended_some c.args.line.now c.args.at _ _ _ _ (ends_with_line c.args.line.now c.args.at _ _ c.loop-len.invariant c.loop-len.auto.len-end c.loop-len-test.false) (c.ended_number-2.ensures.some e) (c.ended_number-2.ensures.value e) (c.ended_number-2.ensures.end e)
+    let ends = ends_with_line c.args.line.now c.args.at _ _ c.loop-len.invariant c.loop-len.auto.len-end c.loop-len-test.false in
+    λ e. ended_some c.args.line.now c.args.at _ _ _ _ ends (c.ended_number-2.ensures.some e) (c.ended_number-2.ensures.value e) (c.ended_number-2.ensures.end e)

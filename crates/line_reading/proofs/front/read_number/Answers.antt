@@ -6,21 +6,31 @@ pub loop-len-init : goal.loop-len-init
 loop-len-init c = none_read_few (drop c.args.at c.args.line.now)
 
 pub ended_number-requires-clause-digits : goal.ended_number-requires-clause-digits
-ended_number-requires-clause-digits c = (ends_within _ _ c.loop-len.len c.loop-len.value c.loop-len.invariant.read c.loop-len-test.true (sym c.if-not-is_ascii_digit.ensures.value)).value
+ended_number-requires-clause-digits c =
+    let ends = ends_within _ _ c.loop-len.len c.loop-len.value c.loop-len.invariant.read c.loop-len-test.true (sym c.if-not-is_ascii_digit.ensures.value) in
+    ends.value
 
 pub returns-then-not-is_ascii_digit-clause-none : goal.returns-then-not-is_ascii_digit-clause-none
 returns-then-not-is_ascii_digit-clause-none c =
-    λ e. ended_none _ _ _ (ends_within _ _ c.loop-len.len c.loop-len.value c.loop-len.invariant.read c.loop-len-test.true (sym c.if-not-is_ascii_digit.ensures.value)) (c.ended_number.ensures.none e)
+    let ends = ends_within _ _ c.loop-len.len c.loop-len.value c.loop-len.invariant.read c.loop-len-test.true (sym c.if-not-is_ascii_digit.ensures.value) in
+    λ e. ended_none _ _ _ ends (c.ended_number.ensures.none e)
 
 pub returns-then-not-is_ascii_digit-clause-some : goal.returns-then-not-is_ascii_digit-clause-some
 returns-then-not-is_ascii_digit-clause-some c =
-    λ e. ended_some c.args.line.now c.args.at _ _ _ _ (ends_within _ _ c.loop-len.len c.loop-len.value c.loop-len.invariant.read c.loop-len-test.true (sym c.if-not-is_ascii_digit.ensures.value)) (c.ended_number.ensures.some e) (c.ended_number.ensures.value e) (c.ended_number.ensures.end e)
+    let ends = ends_within _ _ c.loop-len.len c.loop-len.value c.loop-len.invariant.read c.loop-len-test.true (sym c.if-not-is_ascii_digit.ensures.value) in
+    λ e. ended_some c.args.line.now c.args.at _ _ _ _ ends (c.ended_number.ensures.some e) (c.ended_number.ensures.value e) (c.ended_number.ensures.end e)
 
 pub overflow_mul-value : goal.overflow_mul-value
-overflow_mul-value c = omega (arith, few_room _ _ c.loop-len.len c.loop-len.value (omega arith) c.loop-len.invariant c.loop-len-test.true (sym c.if-not-is_ascii_digit.ensures.value))
+overflow_mul-value c =
+    let digit = sym c.if-not-is_ascii_digit.ensures.value in
+    omega (arith, few_room _ _ c.loop-len.len c.loop-len.value (omega arith) c.loop-len.invariant c.loop-len-test.true digit)
 
 pub overflow_add-value : goal.overflow_add-value
-overflow_add-value c = omega (arith, c.from.ensures, few_room _ _ c.loop-len.len c.loop-len.value (omega arith) c.loop-len.invariant c.loop-len-test.true (sym c.if-not-is_ascii_digit.ensures.value))
+overflow_add-value c =
+    let digit = sym c.if-not-is_ascii_digit.ensures.value in
+    omega (arith, c.from.ensures, few_room _ _ c.loop-len.len c.loop-len.value (omega arith) c.loop-len.invariant c.loop-len-test.true digit)
 
 pub loop-len-preserved : goal.loop-len-preserved
-loop-len-preserved c = rw (c.from.ensures) (few_more_within _ _ c.loop-len.len c.loop-len.value (omega arith) c.loop-len.invariant c.loop-len-test.true (sym c.if-not-is_ascii_digit.ensures.value))
+loop-len-preserved c =
+    let digit = sym c.if-not-is_ascii_digit.ensures.value in
+    rw (c.from.ensures) (few_more_within _ _ c.loop-len.len c.loop-len.value (omega arith) c.loop-len.invariant c.loop-len-test.true digit)
