@@ -40,6 +40,7 @@ pub fn read_text(alloc: Global, field: &[u8]) -> Result<Text, TokenLineError>
     escaped_text(alloc, escaped)
 }
 
+#[tactic(auto, using(crate::proofs::Texts::clean_text))]
 fn escaped_text(alloc: Global, escaped: &[u8]) -> Result<Text, TokenLineError>
     ensures { IsReadAs result (utf8_text (percent.percent_decode escaped.now)) }
 {
