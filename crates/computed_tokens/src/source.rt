@@ -76,8 +76,8 @@ impl yaml_token_source_t for ComputedTokens {
     // What one call may answer, and what it makes of the source.
     ghost gives = { Gives };
 
-    // The tokens to come are not told. A source that tells them says here by which faults it may break off all the
-    // same, and proves below that its answers follow what it told.
+    // The tokens to come are not told. A source that tells them says here by which faults it may break
+    // off all the same, and proves below that its answers follow what it told.
     ghost known = { λ _. None };
 
     ghost may_break = { λ _ _. ⊥ };

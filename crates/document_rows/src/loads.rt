@@ -17,8 +17,8 @@ use unsafe_libyaml::{
 /// The bound that a parser begins with.
 const NO_BOUND: i32 = 2147483647;
 
-/// A name, the tokens, the bound on each list of a document, and what loading gives. The document without root
-/// stands for the stream's end.
+/// A name, the tokens, the bound on each list of a document, and what loading gives. The document without
+/// root stands for the stream's end.
 const ROWS: [(&str, &str, i32, &str); 27] = [
     (
         "empty_stream",
@@ -330,8 +330,8 @@ fn load_of<S: yaml_token_source_t>(
     }
 }
 
-/// Whether this load met a refused growth, which the parser then keeps by its error alone. Else a document comes, with
-/// nodes where it is wanted so. None where neither is so.
+/// Whether this load met a refused growth, which the parser then keeps by its error alone. Else a
+/// document comes, with nodes where it is wanted so. None where neither is so.
 fn is_refused<S: yaml_token_source_t>(
     parser: &mut yaml_parser_t<S>,
     is_wanted: bool,
@@ -346,8 +346,8 @@ fn is_refused<S: yaml_token_source_t>(
     }
 }
 
-/// Whether a growth was refused, in making the source or in loading it, and then in each further load. Else so many
-/// documents come, and then the one without root. None where neither is so.
+/// Whether a growth was refused, in making the source or in loading it, and then in each further load.
+/// Else so many documents come, and then the one without root. None where neither is so.
 fn meets_a_refusal(alloc: Global, row: &str, documents: usize) -> Option<bool> {
     let Ok(source) = source_of(alloc, row) else {
         return Some(true);

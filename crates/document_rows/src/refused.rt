@@ -107,8 +107,8 @@ fn are_same(one: &yaml_document_t, other: &yaml_document_t) -> bool {
         && one.end_mark() == other.end_mark()
 }
 
-/// Makes a call, and once more where it was refused, which has to be for want of memory and leave the document as its
-/// twin. Answers whether it was refused, or none where anything else came.
+/// Makes a call, and once more where it was refused, which has to be for want of memory and leave the
+/// document as its twin. Answers whether it was refused, or none where anything else came.
 fn make_again(document: &mut yaml_document_t, twin: &yaml_document_t, call: Call) -> Option<bool> {
     match make(document, call) {
         Ok(()) => Some(false),

@@ -20,8 +20,8 @@ fn nest(document: &mut yaml_document_t, outer: i32) -> Result<i32, yaml_refusal_
     Ok(inner)
 }
 
-/// Builds n sequences, at least one, each the only item of the one before, and answers how many there are then; 0
-/// where they don't stand so.
+/// Builds n sequences, at least one, each the only item of the one before, and answers how many there are
+/// then; 0 where they don't stand so.
 ///
 /// Errors: want of memory.
 pub fn build_nested(alloc: Global, n: u32) -> Result<usize, yaml_refusal_t> {

@@ -163,7 +163,8 @@ impl Drawn {
         Ok(ended == Outcome::Faulted && written == expected)
     }
 
-    /// Whether neither parsing nor loading the list ends for want of memory, and its lines give what its tokens give.
+    /// Whether neither parsing nor loading the list ends for want of memory, and its lines give what its
+    /// tokens give.
     fn is_right(&self, alloc: Global) -> Result<bool> {
         Ok(
             parsing_ends_by(alloc, self.row.as_str())? == YAML_READER_ERROR

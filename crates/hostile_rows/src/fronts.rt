@@ -110,7 +110,8 @@ fn ends_of_sources() -> [yaml_source_fault_t; 3] {
     ]
 }
 
-/// Whether `front` is the beginning of `whole`, cut behind an event, a document or a line, with this fault behind it.
+/// Whether `front` is the beginning of `whole`, cut behind an event, a document or a line, with this
+/// fault behind it.
 pub fn is_cut(front: &str, fault: &str, whole: &str) -> bool {
     let Some(given) = front.strip_suffix(fault) else {
         return false;

@@ -56,8 +56,8 @@ impl Grown {
     }
 }
 
-/// The events of a list, over the source that computes them, and the fault behind them. They have to be the last, and
-/// the fault has to be kept.
+/// The events of a list, over the source that computes them, and the fault behind them. They have to be
+/// the last, and the fault has to be kept.
 ///
 /// Errors: want of memory, and an answer that isn't kept.
 pub fn show_grown(alloc: Global, grown: Grown) -> Result<String> {

@@ -62,8 +62,8 @@ pub trait Shape {
     fn is_shape_of(&self, document: &yaml_document_t) -> bool;
 }
 
-/// Counts the documents with a root that two parsers load; None where a document or a fault of theirs differs,
-/// or where a document is not of the shape.
+/// Counts the documents with a root that two parsers load; None where a document or a fault of theirs
+/// differs, or where a document is not of the shape.
 pub fn count_documents<S: yaml_token_source_t, T: yaml_token_source_t>(
     one: &mut yaml_parser_t<S>,
     other: &mut yaml_parser_t<T>,

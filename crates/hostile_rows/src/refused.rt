@@ -1,7 +1,7 @@
 //! Growths refused in turn: whatever is run is run twice, and at most one of the two meets a refused growth.
 //!
-//! `examples/refused_growths.sh` runs this with the first allocation refused, then the second, and so on until
-//! nothing is refused.
+//! `examples/refused_growths.sh` runs this with the first allocation refused, then the second, and so on
+//! until nothing is refused.
 
 use crate::calls::{CONSTRUCTORS, Constructor, built, constructed};
 use crate::fronts::{ROWS, Reading, is_cut, shown_front};
@@ -25,8 +25,8 @@ const LINES: &str = "STREAM-START 0:0:0 1:0:1 utf8\n\
     FLOW-SEQUENCE-END 18:0:18 19:0:19\n\
     STREAM-END 20:0:20 21:0:21\n";
 
-/// Whether two runs show the same, or one of them is the other's beginning with this fault behind it. An `Err` is a
-/// growth that was refused beside the run, and only one of the two can have met it.
+/// Whether two runs show the same, or one of them is the other's beginning with this fault behind it. An
+/// `Err` is a growth that was refused beside the run, and only one of the two can have met it.
 fn are_right<F: Fn() -> Result<String>>(fault: &str, run: F) -> bool
     requires { F.IsAlwaysCallable run }
 {

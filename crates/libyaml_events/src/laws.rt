@@ -75,8 +75,9 @@ pub fn one_run()
     ensures one { (l : List Token) (f : Fault) (d e : List Event) (x y : Ending) → IsRun l f d x → IsRun l f e y → (d ≡ e) × (x ≡ y) }
 {}
 
-/// The run over a list that begins with a known tree's tokens: a sentence's with anything behind it, a cut
-/// tree's that fits with the token behind it and anything behind that, or a beginning's with nothing behind it.
+/// The run over a list that begins with a known tree's tokens: a sentence's with anything behind it, a
+/// cut tree's that fits with the token behind it and anything behind that, or a beginning's with nothing
+/// behind it.
 pub fn run_of_tree()
     ensures sentence { (t : Stream) (r : List Token) (f : Fault) → in_order t ≡ true → IsRun (tokens t ++ r) f (events t) Ends }
     ensures cut_tree { (l : List Token) (b : Token) (r : List Token) (c : Cut) (f : Fault) → Fits l b c → is_behind_properties c r ≡ true → IsRun (l ++ b ∷ r) f (cut_events c b) (Fails (fault c b.content b.start_mark)) }
@@ -120,8 +121,8 @@ pub fn tag_places()
     ensures { (l : List Token) (m : Marks) (s : List ℕ) → IsBeginning (l ++ tok (Tag (record { handle = []; suffix = s })) m ∷ []) ↔ ((p : Place) × NodeBegins l p) }
 {}
 
-/// The headline: a list whose only STREAM-END is its last token runs to the events of its one tree, or to the events and
-/// the fault of the one cut tree that fits.
+/// The headline: a list whose only STREAM-END is its last token runs to the events of its one tree, or to
+/// the events and the fault of the one cut tree that fits.
 pub fn headline()
     ensures { (l : List Token) (m : Marks) (f : Fault) → has_end l ≡ false → RunsWhole (l ++ tok StreamEnd m ∷ []) f }
 {}

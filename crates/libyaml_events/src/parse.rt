@@ -53,11 +53,11 @@ impl<S: yaml_token_source_t> yaml_parser_t<S> {
     }
 }
 
-/// The next event of the stream. Behind the stream's end or a fault it is the empty event: nothing changes, and the
-/// source is asked for nothing.
+/// The next event of the stream. Behind the stream's end or a fault it is the empty event: nothing
+/// changes, and the source is asked for nothing.
 ///
-/// Answers the error of a fault, which the parser keeps for good: want of memory, a fault of the source, or a fault of
-/// the grammar.
+/// Answers the error of a fault, which the parser keeps for good: want of memory, a fault of the source,
+/// or a fault of the grammar.
 ///
 /// libyaml: `yaml_parser_parse`.
 pub fn yaml_parser_parse<S: yaml_token_source_t>(

@@ -107,8 +107,8 @@ pub fn yaml_parser_delete<S>(parser: yaml_parser_t<S>) -> S
     source
 }
 
-/// Whether the parser stands between documents: not from a document's start event until its end event, but once a fault
-/// is kept.
+/// Whether the parser stands between documents: not from a document's start event until its end event,
+/// but once a fault is kept.
 pub fn yaml_parser_between_documents<S>(parser: &yaml_parser_t<S>) -> bool
     ensures value { result ≡ between_documents parser.now }
     ensures failed { has_failed parser.now ≡ true → result ≡ true }
@@ -148,7 +148,8 @@ impl<S> yaml_parser_t<S> {
         self.max_entries
     }
 
-    /// Keeps a fault of the loader for good: want of memory, or a fault of the composer, where no fault is kept.
+    /// Keeps a fault of the loader for good: want of memory, or a fault of the composer, where no fault
+    /// is kept.
     pub fn keep_fault(&mut self, fault: yaml_parser_t_prefix)
         requires first { has_failed self.old ≡ false }
         requires of_loader { (fault.error ≡ yaml_error_type_t.YAML_MEMORY_ERROR) ⊎ (fault.error ≡ yaml_error_type_t.YAML_COMPOSER_ERROR) }

@@ -10,7 +10,8 @@ use crate::line_problem::LineProblem;
 use crate::search::len_before;
 use std::io::BufRead;
 
-/// Reads one line: what stands before an LF, or before the end where a byte stands there. Takes the line and its LF, and no byte behind them.
+/// Reads one line: what stands before an LF, or before the end where a byte stands there. Takes the line
+/// and its LF, and no byte behind them.
 pub fn read_line<R: BufRead>(reader: &mut R, line: &mut Vec<u8>) -> Result<(), LineProblem>
     ensures whole { OnOk result (TakesLine (R.remaining reader.old) line.new.items (R.remaining reader.new)) }
     ensures fits { OnOk result (length line.new.items ≤ longest_line) }
@@ -34,7 +35,8 @@ pub enum LineEnd {
     TooLong,
 }
 
-/// Takes a line into an empty `line`: up to an LF, which is taken too, or to the end, or to the byte that is too many.
+/// Takes a line into an empty `line`: up to an LF, which is taken too, or to the end, or to the byte that
+/// is too many.
 fn take_line<R: BufRead>(reader: &mut R, line: &mut Vec<u8>) -> Result<LineEnd, LineProblem>
     requires { line.old.items ≡ [] }
     ensures consumes { IfOk result (λ end. Consumes (R.remaining reader.old) (R.remaining reader.new) (line.new.items ++ line_feed end)) }

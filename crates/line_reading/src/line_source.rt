@@ -68,7 +68,8 @@ impl<R: BufRead> yaml_token_source_t for yaml_line_source_t<R> {
 
     ghost repeats = { source_repeats R.remaining };
 
-    /// The token of the next line, or why there is none. A kept fault is given again; then `too many tokens` comes before a line is read.
+    /// The token of the next line, or why there is none. A kept fault is given again; then `too many
+    /// tokens` comes before a line is read.
     fn next_token(&mut self) -> Result<yaml_token_t, yaml_source_fault_t>
         ensures gives { Gives R.remaining self.old (answer_of result) self.new }
         ensures leaves { IfOk result (λ _. IsBehindLine (R.remaining self.old.reader) (R.remaining self.new.reader)) }

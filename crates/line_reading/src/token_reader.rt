@@ -38,7 +38,8 @@ impl TokenReader {
         }
     }
 
-    /// The token of the reader's next line, or why there is none. A kept problem is given again; then `too many tokens` comes before a line is read.
+    /// The token of the reader's next line, or why there is none. A kept problem is given again; then
+    /// `too many tokens` comes before a line is read.
     pub(crate) fn next_token<R: BufRead>(
         &mut self,
         reader: &mut R,

@@ -1,4 +1,5 @@
-//! Rows of lines: token lines as they are read, lines of events and documents as they are written, and whole runs.
+//! Rows of lines: token lines as they are read, lines of events and documents as they are written, and
+//! whole runs.
 //!
 //! The program makes each run of `rows` through readers and writers that cut their bytes, and says how
 //! many differ from what is expected. Then it runs over more lines than are read.

@@ -1,4 +1,5 @@
-//! Each growth refused in turn: run with the Nth allocation failing, for each N (`examples/refused_growths.sh`).
+//! Each growth refused in turn: run with the Nth allocation failing, for each N
+//! (`examples/refused_growths.sh`).
 //!
 //! One growth is refused at most, and whatever met it is done again. So where nothing is refused, these
 //! tests pass only if each answer is the whole one.

@@ -323,7 +323,8 @@ fn the_longest_node(rt: HostRuntime) -> Result<(), Fail> {
     Ok(())
 }
 
-/// Whether a parser is lent to `write_nodes` behind its first document, and gives the second and nothing twice.
+/// Whether a parser is lent to `write_nodes` behind its first document, and gives the second and nothing
+/// twice.
 fn writes_the_rest(alloc: Global) -> Result<bool, Fail> {
     let (_, tokens, text, _) = RUNS[9];
     let source = yaml_line_source_t::new(alloc, tokens.as_bytes(), MAX_TOKENS);

@@ -8,8 +8,8 @@ use unsafe_libyaml::{
     YAML_MEMORY_ERROR, YAML_READER_ERROR, YAML_SCANNER_ERROR, yaml_source_fault_t,
 };
 
-/// The faults by which a source may end, in the order of their numbers. Their fields tell them from each fault of
-/// a row.
+/// The faults by which a source may end, in the order of their numbers. Their fields tell them from each
+/// fault of a row.
 pub fn ends_of_sources() -> [yaml_source_fault_t; 3] {
     let problem = Some("the source broke off");
     let context = Some("while giving a row");
@@ -46,8 +46,8 @@ fn begins(front: &str, whole: &str) -> bool {
     }
 }
 
-/// Whether what a front of a row gives begins what the row gives and is ended by `fault`, which stands behind the
-/// front, or is all that the row gives.
+/// Whether what a front of a row gives begins what the row gives and is ended by `fault`, which stands
+/// behind the front, or is all that the row gives.
 pub fn is_front(front: &str, whole: &str, fault: &str) -> bool {
     match front.strip_suffix(fault) {
         Some(before) => begins(before.trim_end(), whole),

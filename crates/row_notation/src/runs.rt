@@ -65,8 +65,8 @@ pub fn parsed(alloc: Global, row: &str) -> Result<String> {
     show_run(alloc, &mut parser)
 }
 
-/// The name of the first row that parsing gives other events, if any. A row is a name, the tokens, and the events
-/// as they are shown.
+/// The name of the first row that parsing gives other events, if any. A row is a name, the tokens, and
+/// the events as they are shown.
 ///
 /// Errors: those of `tokens_of`.
 pub fn first_parsed_otherwise<'a>(

@@ -9,11 +9,11 @@ ghost use Rattle.token_lines_c.specs.InMemory.{Fills, WritesInto, status_of, wri
 use std::alloc::Global;
 use token_lines::{Outcome, run_events, run_nodes};
 
-/// Writes what `run_events` writes of these token lines: its front goes to `out`, as far as that has room, and its
-/// length to `wanted`.
+/// Writes what `run_events` writes of these token lines: its front goes to `out`, as far as that has
+/// room, and its length to `wanted`.
 ///
-/// Answers 0 where the run ended, 1 where the text of a fault was written, and 2 where no memory was found for what
-/// is written: then it is cut off.
+/// Answers 0 where the run ended, 1 where the text of a fault was written, and 2 where no memory was
+/// found for what is written: then it is cut off.
 #[unsafe(no_mangle)]
 pub extern "C" fn token_lines_run_events(
     alloc: Global,

@@ -46,7 +46,8 @@ pub fn yaml_parser_load_all<S: yaml_token_source_t + Drop>(
     // the tokens of a tree in order give its documents' graphs, up to the first composer fault
     ensures of_tree { (t : Stream) (f : Fault) → in_order t ≡ true → S.known source ≡ Some (coming (tokens t) f)
         → IfOk result (λ all. (n : IsNested (events t)) × LoadsTo S.may_break all (loads_of n.texts (last_load Ends ∷ []))) }
-    // a cut tree that fits gives those of its whole documents, and then the open one's composer fault or its own
+    // a cut tree that fits gives those of its whole documents, and then the open one's composer fault or
+    // its own
     ensures of_cut_tree { (before : List Token) (token : Token) (behind : List Token) (c : Cut) (f : Fault) → Fits before token c
         → is_behind_properties c behind ≡ true → S.known source ≡ Some (coming (before ++ token ∷ behind) f)
         → IfOk result (λ all. (loads : List Load) × NestedLoads (cut_events c token) (Fails (fault c token.content token.start_mark)) loads × LoadsTo S.may_break all loads) }

@@ -34,8 +34,8 @@ fn parsed_front(
     show_run(alloc, &mut parser)
 }
 
-/// Whether each front of these tokens gives events that begin those of all tokens, and then either the fault that
-/// stands behind the front, or the end of the whole list.
+/// Whether each front of these tokens gives events that begin those of all tokens, and then either the
+/// fault that stands behind the front, or the end of the whole list.
 fn each_begins(
     alloc: Global,
     lines: &str,

@@ -31,8 +31,8 @@ fn has_hidden_fields(fault: &yaml_parser_t_prefix) -> bool {
     }
 }
 
-/// Whether parsing these token lines answers the error that it keeps, and gives empty events for good behind its
-/// end or its fault.
+/// Whether parsing these token lines answers the error that it keeps, and gives empty events for good
+/// behind its end or its fault.
 pub fn keeps_its_end(alloc: Global, tokens: &str) -> bool {
     let source = yaml_line_source_t::new(alloc, tokens.as_bytes(), MAX_TOKENS);
     let mut parser = yaml_parser_initialize(alloc, source);

@@ -1,5 +1,5 @@
-//! `yamltokens events` and `yamltokens nodes`: token lines on standard input, the lines of events or of documents
-//! on standard output.
+//! `yamltokens events` and `yamltokens nodes`: token lines on standard input, the lines of events or of
+//! documents on standard output.
 #![tactic(auto)]
 
 mod words;

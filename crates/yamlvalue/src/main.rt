@@ -1,4 +1,5 @@
-//! `yamlvalue WORD..`: the scalar at the end of a path, in the first document of the token lines on standard input.
+//! `yamlvalue WORD..`: the scalar at the end of a path, in the first document of the token lines on
+//! standard input.
 #![tactic(auto)]
 
 mod path;

@@ -5,8 +5,8 @@ ghost use Rattle.unsafe_libyaml.specs.Nodes.{IsIdUpTo, ids_of, node_at};
 
 use unsafe_libyaml::{unnamed_yaml_node_t_data, yaml_document_t, yaml_node_pair_t, yaml_node_t};
 
-/// The node that an id of the document names. Ids count from 1, and each id in a document names a node, so there
-/// is no `None`.
+/// The node that an id of the document names. Ids count from 1, and each id in a document names a node,
+/// so there is no `None`.
 pub fn named_node(document: &yaml_document_t, id: i32) -> &yaml_node_t
     requires { IsIdUpTo (length document.now.nodes) id }
     ensures node { Some result.now ≡ node_at document.now.nodes id }
@@ -15,8 +15,8 @@ pub fn named_node(document: &yaml_document_t, id: i32) -> &yaml_node_t
     &document.nodes()[(id - 1) as usize]
 }
 
-/// The id of the node at the end of a path from the root, or `None` where the path leads nowhere. A word stands
-/// for the value of that key in a mapping, and for the item of that number, from 0, in a sequence.
+/// The id of the node at the end of a path from the root, or `None` where the path leads nowhere. A word
+/// stands for the value of that key in a mapping, and for the item of that number, from 0, in a sequence.
 pub fn id_at(document: &yaml_document_t, path: &[String]) -> Option<i32>
     ensures { IfSome result (IsIdUpTo (length document.now.nodes)) }
 {

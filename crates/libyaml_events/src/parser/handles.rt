@@ -48,7 +48,8 @@ impl<S> yaml_parser_t<S> {
         }
     }
 
-    /// Declares a handle, and answers whether it was declared before. Keeps want of memory where it is refused.
+    /// Declares a handle, and answers whether it was declared before. Keeps want of memory where it is
+    /// refused.
     pub(crate) fn declare(
         &mut self,
         handle: &Text,
@@ -77,8 +78,8 @@ impl<S> yaml_parser_t<S> {
         self.handles = BTreeMap::new(self.alloc);
     }
 
-    /// The tag in full: its suffix alone where its handle is empty, else behind the handle's prefix. Keeps the fault of
-    /// a handle that is not defined, in a node that begins at `start_mark`.
+    /// The tag in full: its suffix alone where its handle is empty, else behind the handle's prefix.
+    /// Keeps the fault of a handle that is not defined, in a node that begins at `start_mark`.
     pub(crate) fn resolve_tag(
         &mut self,
         tag: TagRead,

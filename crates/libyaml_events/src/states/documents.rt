@@ -210,8 +210,8 @@ impl<S> yaml_parser_t<S> {
         );
     }
 
-    /// Where a document may be implicit: at the stream's start and behind DOCUMENT-END. A further DOCUMENT-END is
-    /// skipped.
+    /// Where a document may be implicit: at the stream's start and behind DOCUMENT-END. A further
+    /// DOCUMENT-END is skipped.
     pub(super) fn parse_implicit_document_start(
         &mut self,
         token: yaml_token_t,

@@ -56,7 +56,8 @@ impl<S> yaml_parser_t<S> {
         }
     }
 
-    /// Behind FLOW-SEQUENCE-START or FLOW-ENTRY: an entry, which with KEY is a mapping of one pair, or the end.
+    /// Behind FLOW-SEQUENCE-START or FLOW-ENTRY: an entry, which with KEY is a mapping of one pair, or
+    /// the end.
     pub(super) fn parse_behind_flow_sequence_entry(
         &mut self,
         token: yaml_token_t,

@@ -33,8 +33,8 @@ fn first_error(parser: &mut yaml_parser_t<yaml_list_source_t>) -> Option<yaml_er
     None
 }
 
-/// Whether a growth was refused, in making the source or in parsing it, which the parser then keeps by its error
-/// alone. Else all events come. None where neither is so.
+/// Whether a growth was refused, in making the source or in parsing it, which the parser then keeps by
+/// its error alone. Else all events come. None where neither is so.
 fn is_refused(alloc: Global) -> Option<bool> {
     let Ok(source) = source_of(alloc, GROWING) else {
         return Some(true);
