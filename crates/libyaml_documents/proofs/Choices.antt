@@ -42,6 +42,7 @@ choices_decide (Fs ∷ Fss) es all (inr x) (inr y) =
     (λ e. ap inr (rest.0 e), λ e. rest.1 (ap (right_or x) e))
 
 -- an enum, where each variant's fields decide
-pub enum_decides : (N : Record) (es : Each Bool N.parts) → AllDecide N.parts es → (a b : N.D) → Decides (by false false N.parts es (N.as_values a) (N.as_values b)) (a ≡ b)
+pub enum_decides : (N : Record) (es : Each Bool N.parts) → AllDecide N.parts es → (a b : N.D)
+    → Decides (by false false N.parts es (N.as_values a) (N.as_values b)) (a ≡ b)
 enum_decides N es all a b =
     through (choices_decide N.parts es all (N.as_values a) (N.as_values b)) (values_one N a b) (λ e. ap N.as_values e)

@@ -11,6 +11,31 @@ use Rattle.libyaml_documents.proofs.NodesEqual.{node_decides}
 
 pub document_decides : (a b : Document) → Decides (same_document a b) (a ≡ b)
 document_decides a b =
-    through (both (pointwise_decides node_decides a.nodes b.nodes) (both (versions_decide a.version_directive b.version_directive) (both (directives_decide a.tag_directives b.tag_directives) (both (booleans_Decides a.start_implicit b.start_implicit) (both (booleans_Decides a.end_implicit b.end_implicit) (both (mark_decides a.start_mark b.start_mark) (mark_decides a.end_mark b.end_mark)))))))
-    (λ p i. record { nodes = p.0 i; version_directive = p.1.0 i; tag_directives = p.1.1.0 i; start_implicit = p.1.1.1.0 i; end_implicit = p.1.1.1.1.0 i; start_mark = p.1.1.1.1.1.0 i; end_mark = p.1.1.1.1.1.1 i })
-    (λ e. (ap (λ (x : Document). x.nodes) e, (ap (λ (x : Document). x.version_directive) e, (ap (λ (x : Document). x.tag_directives) e, (ap (λ (x : Document). x.start_implicit) e, (ap (λ (x : Document). x.end_implicit) e, (ap (λ (x : Document). x.start_mark) e, ap (λ (x : Document). x.end_mark) e)))))))
+    through (both (pointwise_decides node_decides a.nodes b.nodes)
+    (both (versions_decide a.version_directive b.version_directive)
+    (both (directives_decide a.tag_directives b.tag_directives)
+    (both (booleans_Decides a.start_implicit b.start_implicit)
+    (both (booleans_Decides a.end_implicit b.end_implicit) (both (mark_decides a.start_mark b.start_mark) (mark_decides a.end_mark b.end_mark)))))))
+    (λ p i. record {
+      nodes = p.0 i;
+      version_directive = p.1.0 i;
+      tag_directives = p.1.1.0 i;
+      start_implicit = p.1.1.1.0 i;
+      end_implicit
+          = p.1.1.1.1.0 i;
+      start_mark = p.1.1.1.1.1.0 i;
+      end_mark = p.1.1.1.1.1.1 i;
+    })
+    (λ e. (
+      ap (λ (x : Document). x.nodes) e,
+      (
+        ap (λ (x : Document). x.version_directive) e,
+        (
+          ap (λ (x : Document). x.tag_directives) e,
+          (
+            ap (λ (x : Document). x.start_implicit) e,
+            (ap (λ (x : Document). x.end_implicit) e, (ap (λ (x : Document). x.start_mark) e, ap (λ (x : Document). x.end_mark) e)),
+          ),
+        ),
+      ),
+    ))

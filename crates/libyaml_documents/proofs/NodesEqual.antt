@@ -35,10 +35,17 @@ mapping_decides a b =
     (λ e. (ap (λ (x : unnamed_yaml_node_t_data_mapping). x.pairs) e, ap (λ (x : unnamed_yaml_node_t_data_mapping). x.style) e))
 
 content_decides : (a b : unnamed_yaml_node_t_data) → Decides ((content_eq.ghosts).eq a b) (a ≡ b)
-content_decides = enum_decides enum _ (one_field (scalar_eq.ghosts).eq scalar_decides, (one_field (sequence_eq.ghosts).eq sequence_decides, (one_field (mapping_eq.ghosts).eq mapping_decides, tt)))
+content_decides = enum_decides enum _ (
+  one_field (scalar_eq.ghosts).eq scalar_decides,
+  (one_field (sequence_eq.ghosts).eq sequence_decides, (one_field (mapping_eq.ghosts).eq mapping_decides, tt)),
+)
 
 pub node_decides : (a b : yaml_node_t) → Decides ((node_eq.ghosts).eq a b) (a ≡ b)
 node_decides a b =
-    through (both (bytes_decides a.tag b.tag) (both (content_decides a.content b.content) (both (mark_decides a.start_mark b.start_mark) (mark_decides a.end_mark b.end_mark))))
+    through (both (bytes_decides a.tag b.tag)
+    (both (content_decides a.content b.content) (both (mark_decides a.start_mark b.start_mark) (mark_decides a.end_mark b.end_mark))))
     (λ p i. record { tag = p.0 i; content = p.1.0 i; start_mark = p.1.1.0 i; end_mark = p.1.1.1 i })
-    (λ e. (ap (λ (x : yaml_node_t). x.tag) e, (ap (λ (x : yaml_node_t). x.content) e, (ap (λ (x : yaml_node_t). x.start_mark) e, ap (λ (x : yaml_node_t). x.end_mark) e))))
+    (λ e. (
+      ap (λ (x : yaml_node_t). x.tag) e,
+      (ap (λ (x : yaml_node_t). x.content) e, (ap (λ (x : yaml_node_t). x.start_mark) e, ap (λ (x : yaml_node_t). x.end_mark) e)),
+    ))

@@ -68,7 +68,67 @@ scalar_decides a b =
     (λ e. (ap (λ (x : unnamed_yaml_token_t_data_scalar). x.value) e, ap (λ (x : unnamed_yaml_token_t_data_scalar). x.style) e))
 
 content_decides : (a b : unnamed_yaml_token_t_data) → Decides ((content_eq.ghosts).eq a b) (a ≡ b)
-content_decides = enum_decides enum _ (no_field, (one_field (stream_start_eq.ghosts).eq stream_start_decides, (no_field, (one_field (version_directive_eq.ghosts).eq version_directive_decides, (one_field (tag_directive_eq.ghosts).eq tag_directive_decides, (no_field, (no_field, (no_field, (no_field, (no_field, (no_field, (no_field, (no_field, (no_field, (no_field, (no_field, (no_field, (no_field, (one_field (alias_eq.ghosts).eq alias_decides, (one_field (anchor_eq.ghosts).eq anchor_decides, (one_field (tag_eq.ghosts).eq tag_decides, (one_field (scalar_eq.ghosts).eq scalar_decides, tt))))))))))))))))))))))
+content_decides = enum_decides enum _ (
+  no_field,
+  (
+    one_field (stream_start_eq.ghosts).eq stream_start_decides,
+    (
+      no_field,
+      (
+        one_field (version_directive_eq.ghosts).eq version_directive_decides,
+        (
+          one_field (tag_directive_eq.ghosts).eq tag_directive_decides,
+          (
+            no_field,
+            (
+              no_field,
+              (
+                no_field,
+                (
+                  no_field,
+                  (
+                    no_field,
+                    (
+                      no_field,
+                      (
+                        no_field,
+                        (
+                          no_field,
+                          (
+                            no_field,
+                            (
+                              no_field,
+                              (
+                                no_field,
+                                (
+                                  no_field,
+                                  (
+                                    no_field,
+                                    (
+                                      one_field (alias_eq.ghosts).eq alias_decides,
+                                      (
+                                        one_field (anchor_eq.ghosts).eq anchor_decides,
+                                        (one_field (tag_eq.ghosts).eq tag_decides, (one_field (scalar_eq.ghosts).eq scalar_decides, tt)),
+                                      ),
+                                    ),
+                                  ),
+                                ),
+                              ),
+                            ),
+                          ),
+                        ),
+                      ),
+                    ),
+                  ),
+                ),
+              ),
+            ),
+          ),
+        ),
+      ),
+    ),
+  ),
+)
 
 pub token_decides : (a b : yaml_token_t) → Decides ((token_eq.ghosts).eq a b) (a ≡ b)
 token_decides a b =

@@ -173,7 +173,8 @@ pub fn yaml_document_get_node(document: &yaml_document_t, index: i32) -> Option<
 pub fn yaml_document_get_root_node(document: &yaml_document_t) -> Option<&yaml_node_t>
     ensures found { IsSome result ↔ (0 < length document.now.nodes) }
     ensures node { option_copied result ≡ node_at document.now.nodes (pos 1) }
-    ensures type_is { IfSome result (λ node. node_type node.now.content ≡ type_at document.now.nodes (pos 1)) }
+    ensures type_is { IfSome result (λ node. node_type node.now.content
+        ≡ type_at document.now.nodes (pos 1)) }
 {
     document.nodes.first()
 }

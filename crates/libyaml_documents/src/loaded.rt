@@ -1,7 +1,8 @@
 //! Nodes made of events, by the rule of a load: no tag, or `!`, is the tag of the node's kind.
 
 ghost use Rattle.std.specs.Prelude.{◌≡◌, [], true, IfOk, OnErr};
-ghost use Rattle.libyaml_documents.specs.LoadedNodes.{loaded_tag, mapping_loaded, scalar_loaded, sequence_loaded, takes_default};
+ghost use Rattle.libyaml_documents.specs.LoadedNodes.{loaded_tag, mapping_loaded, scalar_loaded};
+ghost use Rattle.libyaml_documents.specs.LoadedNodes.{sequence_loaded, takes_default};
 ghost use Rattle.libyaml_documents.specs.Nodes.{ids_of};
 
 use crate::items::NodeItems;

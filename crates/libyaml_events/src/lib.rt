@@ -1,10 +1,8 @@
 //! From a source of tokens to events.
 #![tactic(auto)]
 
-mod fault;
 pub mod laws;
 mod list_source;
-mod message;
 mod parse;
 mod parser;
 mod progress;
@@ -12,15 +10,15 @@ mod slot;
 mod source;
 mod states;
 
-pub use fault::{NO_FAULT, yaml_parser_t_prefix, yaml_source_fault_t};
 pub use list_source::yaml_list_source_t;
-pub use message::yaml_error_words;
 pub use parse::yaml_parser_parse;
 pub use parser::{
     yaml_parser_between_documents, yaml_parser_delete, yaml_parser_initialize,
     yaml_parser_set_max_entries, yaml_parser_t,
 };
 pub use source::yaml_token_source_t;
+// What a fault says.
+pub use libyaml_grammar::{NO_FAULT, yaml_error_words, yaml_parser_t_prefix, yaml_source_fault_t};
 // The tokens, events and other types of the calls.
 pub use libyaml_types::{
     TagDirectives, Text, ZERO_MARK, unnamed_yaml_event_t_data, unnamed_yaml_event_t_data_alias,

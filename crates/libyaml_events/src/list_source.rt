@@ -1,11 +1,11 @@
 //! A source over a list.
 ghost use Rattle.std.specs.Prelude.{◌≡◌, ℕ, List, length, Some};
-ghost use Rattle.libyaml_events.specs.Fault.{source_fault};
-ghost use Rattle.libyaml_events.specs.Source.{coming, list_answer, rest};
-ghost use Rattle.libyaml_events.specs.ListLaws.{list_falls, list_follows, list_repeats};
+ghost use Rattle.libyaml_grammar.specs.runs.Fault.{source_fault};
+ghost use Rattle.libyaml_events.specs.sources.Source.{coming, list_answer, rest_of_list};
+ghost use Rattle.libyaml_events.specs.sources.ListLaws.{list_falls, list_follows, list_repeats};
 
-use crate::fault::yaml_source_fault_t;
 use crate::source::yaml_token_source_t;
+use libyaml_grammar::yaml_source_fault_t;
 use libyaml_types::yaml_token_t;
 use std::marker::Model;
 use std::vec::IntoIter;
@@ -19,8 +19,8 @@ pub struct yaml_list_source_t {
 
 impl Model for yaml_list_source_t {
     ghost use Rattle.std.specs.Vec.Iter.{into_iter_items};
-    ghost use Rattle.libyaml_events.specs.Fault.{source_fault};
-    ghost use Rattle.libyaml_events.specs.Source.{Coming};
+    ghost use Rattle.libyaml_grammar.specs.runs.Fault.{source_fault};
+    ghost use Rattle.libyaml_events.specs.sources.Source.{Coming};
 
     ghost Value = { Coming };
 
@@ -41,7 +41,8 @@ impl yaml_list_source_t {
 impl yaml_token_source_t for yaml_list_source_t {
     ghost bound = { λ s. length s.tokens };
 
-    ghost gives = { λ s answer t. (answer ≡ list_answer s.tokens s.fault) × (t ≡ coming (rest s.tokens) s.fault) };
+    ghost gives = { λ s answer t. (answer ≡ list_answer s.tokens s.fault)
+        × (t ≡ coming (rest_of_list s.tokens) s.fault) };
 
     ghost known = { λ s. Some s };
 

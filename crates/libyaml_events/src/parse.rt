@@ -1,21 +1,24 @@
 //! One call of the parser.
-ghost use Rattle.std.specs.Prelude.{◌≡◌, ◌≤◌, ◌<◌, ◌+◌, ◌++◌, ◌*◌, ◌∷◌, List, [], length, Ok, Err, true, false, IfOk, IfErr};
+ghost use Rattle.std.specs.Prelude.{◌≡◌, ◌≤◌, ◌<◌, ◌+◌, ◌++◌, ◌*◌, ◌∷◌, List, [], length, Ok, Err};
+ghost use Rattle.std.specs.Prelude.{true, false, IfOk, IfErr};
 ghost use Rattle.libyaml_types.specs.declared.token.yaml_token_t.{yaml_token_t};
 ghost use Rattle.libyaml_types.specs.declared.event.yaml_event_t.{yaml_event_t};
-ghost use Rattle.libyaml_events.specs.Config.{is_over};
-ghost use Rattle.libyaml_events.specs.Calls.{Call, empty_event};
-ghost use Rattle.libyaml_events.specs.OutsideEvents.{is_outside_event};
-ghost use Rattle.libyaml_events.specs.Fault.{Fault};
-ghost use Rattle.libyaml_events.specs.Settled.{Begins, BeginsEach};
-ghost use Rattle.libyaml_events.specs.Runs.{Ending, Ends, Fails, IsRun};
-ghost use Rattle.libyaml_events.specs.Stages.{stage_of, open_collections, is_outside};
-ghost use Rattle.libyaml_events.specs.History.{History, has_ended, kept_fault, between_documents, stack_depth};
-ghost use Rattle.libyaml_events.specs.Lookahead.{HoldsLast};
-ghost use Rattle.libyaml_events.specs.Pops.{PopsNothingBelow};
-ghost use Rattle.libyaml_events.specs.EventsLeft.{events_left};
-ghost use Rattle.libyaml_events.specs.Nesting.{NestsSoFar};
-ghost use Rattle.libyaml_events.specs.Parsing.{CarriesOn, FailsBy};
-ghost use Rattle.libyaml_events.specs.RunToCome.{RunToCome, UnlessBroken};
+ghost use Rattle.libyaml_events.specs.machine.Config.{ended_or_failed};
+ghost use Rattle.libyaml_types.specs.Events.{empty_event};
+ghost use Rattle.libyaml_events.specs.sources.Calls.{Call};
+ghost use Rattle.libyaml_events.specs.parsers.OutsideEvents.{is_outside_event};
+ghost use Rattle.libyaml_grammar.specs.runs.Fault.{Fault};
+ghost use Rattle.libyaml_grammar.specs.cuts.Settled.{Begins, BeginsEach};
+ghost use Rattle.libyaml_grammar.specs.runs.Runs.{Ending, Ends, Fails, IsRun};
+ghost use Rattle.libyaml_events.specs.parsers.Stages.{stage_of, open_collections, is_outside};
+ghost use Rattle.libyaml_events.specs.sources.History.{History, is_over, kept_fault};
+ghost use Rattle.libyaml_events.specs.sources.History.{between_documents, stack_depth};
+ghost use Rattle.libyaml_events.specs.parsers.Lookahead.{HoldsLast};
+ghost use Rattle.libyaml_events.specs.parsers.Pops.{PopsNothingBelow};
+ghost use Rattle.libyaml_events.specs.parsers.EventsLeft.{events_left};
+ghost use Rattle.libyaml_grammar.specs.sentences.Nesting.{NestsSoFar};
+ghost use Rattle.libyaml_events.specs.sources.Parsing.{CarriesOn, FailsBy};
+ghost use Rattle.libyaml_events.specs.sources.RunToCome.{RunToCome, UnlessBroken};
 
 use crate::parser::yaml_parser_t;
 use crate::progress::{Next, Pending};
@@ -25,7 +28,8 @@ use libyaml_types::{ZERO_MARK, unnamed_yaml_event_t_data, yaml_error_type_t, yam
 impl<S: yaml_token_source_t> yaml_parser_t<S> {
     /// The next event, as the machine gives it.
     fn next_event(&mut self) -> Result<yaml_event_t, yaml_error_type_t>
-        ensures kept { IfErr result (λ e. (e ≡ self.new.config.fault.error) × (is_over self.new.config ≡ true)) }
+        ensures kept { IfErr result (λ e. (e ≡ self.new.config.fault.error)
+            × (ended_or_failed self.new.config ≡ true)) }
         ensures bound { self.new.max_entries ≡ self.old.max_entries }
         ensures call { Call S.gives self.old result self.new }
     {
@@ -64,30 +68,52 @@ pub fn yaml_parser_parse<S: yaml_token_source_t>(
     parser: &mut yaml_parser_t<S>,
 ) -> Result<yaml_event_t, yaml_error_type_t>
     // behind the stream end event or a fault
-    ensures ended { has_ended parser.old ≡ true → (result ≡ Ok empty_event) × (parser.new ≡ parser.old) }
+    ensures ended { is_over parser.old ≡ true → (result ≡ Ok empty_event) × (parser.new ≡ parser.old) }
     // a fault is kept for good
-    ensures kept { IfErr result (λ x. (x ≡ (kept_fault parser.new).error) × (has_ended parser.new ≡ true)) }
+    ensures kept { IfErr result (λ x. (x ≡ (kept_fault parser.new).error) × (is_over parser.new ≡ true)) }
     ensures bound { parser.new.max_entries ≡ parser.old.max_entries }
     // over every source, by the tokens that were asked for and the events that were given
-    ensures carries_on { has_ended parser.old ≡ false → IfOk result (λ e. (asked : List yaml_token_t) (given : List yaml_event_t) → History parser.old asked given → CarriesOn S.gives parser.old e parser.new asked given) }
-    ensures fails { IfErr result (λ _. (asked : List yaml_token_t) (given : List yaml_event_t) → History parser.old asked given → FailsBy S.gives parser.old parser.new asked given) }
-    ensures begins { (asked : List yaml_token_t) (given : List yaml_event_t) → History parser.new asked given → BeginsEach asked given }
-    ensures begins_run { (asked : List yaml_token_t) (given : List yaml_event_t) → History parser.new asked given → (rest : List yaml_token_t) (f : Fault) (e : List yaml_event_t) (x : Ending) → IsRun (asked ++ rest) f e x → Begins given e }
-    ensures nests { (asked : List yaml_token_t) (given : List yaml_event_t) → History parser.new asked given → NestsSoFar given }
-    ensures between { (asked : List yaml_token_t) (given : List yaml_event_t) → History parser.new asked given → between_documents parser.new ≡ is_outside (stage_of given) }
-    ensures outside { IfOk result (λ e. is_outside_event e.content ≡ true → between_documents parser.new ≡ true) }
-    ensures at_most_four { (asked : List yaml_token_t) (given : List yaml_event_t) → History parser.new asked given → length given ≤ 4 * length asked }
-    ensures depth { (asked : List yaml_token_t) (given : List yaml_event_t) → History parser.new asked given → stack_depth parser.new ≤ open_collections (stage_of given) + 1 }
-    ensures pops { (asked : List yaml_token_t) (given : List yaml_event_t) → History parser.old asked given → PopsNothingBelow S.gives parser.old result parser.new }
-    ensures one_ahead { (asked : List yaml_token_t) (given : List yaml_event_t) → History parser.new asked given → HoldsLast parser.new asked }
+    ensures carries_on { is_over parser.old ≡ false
+        → IfOk result (λ e. (asked : List yaml_token_t) (given : List yaml_event_t)
+        → History parser.old asked given → CarriesOn S.gives parser.old e parser.new asked given) }
+    ensures fails { IfErr result (λ _. (asked : List yaml_token_t) (given : List yaml_event_t)
+        → History parser.old asked given → FailsBy S.gives parser.old parser.new asked given) }
+    ensures begins { (asked : List yaml_token_t) (given : List yaml_event_t) → History parser.new asked given
+        → BeginsEach asked given }
+    ensures begins_run { (asked : List yaml_token_t) (given : List yaml_event_t)
+        → History parser.new asked given
+        → (rest : List yaml_token_t) (f : Fault) (e : List yaml_event_t) (x : Ending)
+        → IsRun (asked ++ rest) f e x → Begins given e }
+    ensures nests { (asked : List yaml_token_t) (given : List yaml_event_t) → History parser.new asked given
+        → NestsSoFar given }
+    ensures between { (asked : List yaml_token_t) (given : List yaml_event_t) → History parser.new asked given
+        → between_documents parser.new ≡ is_outside (stage_of given) }
+    ensures outside { IfOk result (λ e. is_outside_event e.content ≡ true
+        → between_documents parser.new ≡ true) }
+    ensures at_most_four { (asked : List yaml_token_t) (given : List yaml_event_t)
+        → History parser.new asked given → length given ≤ 4 * length asked }
+    ensures depth { (asked : List yaml_token_t) (given : List yaml_event_t) → History parser.new asked given
+        → stack_depth parser.new ≤ open_collections (stage_of given) + 1 }
+    ensures pops { (asked : List yaml_token_t) (given : List yaml_event_t) → History parser.old asked given
+        → PopsNothingBelow S.gives parser.old result parser.new }
+    ensures one_ahead { (asked : List yaml_token_t) (given : List yaml_event_t)
+        → History parser.new asked given → HoldsLast parser.new asked }
     // so a loop over the events ends
-    ensures falls { has_ended parser.old ≡ false → IfOk result (λ _. events_left S.bound parser.new < events_left S.bound parser.old) }
+    ensures falls { is_over parser.old ≡ false
+        → IfOk result (λ _. events_left S.bound parser.new < events_left S.bound parser.old) }
     // over a source that knows its tokens, by the run that is to come
-    ensures next_of_run { (e : yaml_event_t) (later : List yaml_event_t) (ending : Ending) → RunToCome S.known parser.old (e ∷ later) ending → UnlessBroken S.may_break result parser.new ((result ≡ Ok e) × RunToCome S.known parser.new later ending) }
-    ensures not_ended { (e : yaml_event_t) (later : List yaml_event_t) (ending : Ending) → RunToCome S.known parser.old (e ∷ later) ending → has_ended parser.old ≡ false }
-    ensures end_of_run { RunToCome S.known parser.old [] Ends → (result ≡ Ok empty_event) × (parser.new ≡ parser.old) }
-    ensures fault_of_run { (f : Fault) → RunToCome S.known parser.old [] (Fails f) → UnlessBroken S.may_break result parser.new ((result ≡ Err f.error) × (kept_fault parser.new ≡ f)) }
-    ensures nothing_behind_end { has_ended parser.new ≡ true → (later : List yaml_event_t) (ending : Ending) → RunToCome S.known parser.new later ending → (later ≡ []) × (ending ≡ Ends) }
+    ensures next_of_run { (e : yaml_event_t) (later : List yaml_event_t) (ending : Ending)
+        → RunToCome S.known parser.old (e ∷ later) ending
+        → UnlessBroken S.may_break result parser.new ((result ≡ Ok e)
+        × RunToCome S.known parser.new later ending) }
+    ensures not_ended { (e : yaml_event_t) (later : List yaml_event_t) (ending : Ending)
+        → RunToCome S.known parser.old (e ∷ later) ending → is_over parser.old ≡ false }
+    ensures end_of_run { RunToCome S.known parser.old [] Ends → (result ≡ Ok empty_event)
+        × (parser.new ≡ parser.old) }
+    ensures fault_of_run { (f : Fault) → RunToCome S.known parser.old [] (Fails f)
+        → UnlessBroken S.may_break result parser.new ((result ≡ Err f.error) × (kept_fault parser.new ≡ f)) }
+    ensures nothing_behind_end { is_over parser.new ≡ true → (later : List yaml_event_t) (ending : Ending)
+        → RunToCome S.known parser.new later ending → (later ≡ []) × (ending ≡ Ends) }
 {
     parser.next_event()
 }

@@ -1,13 +1,14 @@
 //! The parser.
 ghost use Rattle.std.specs.Prelude.{◌≡◌, ◌⊎◌, [], pos, ◌≤ℤ◌, true, false, List, Option, Some};
-ghost use Rattle.libyaml_events.specs.Fault.{Fault, fault_of};
-ghost use Rattle.libyaml_events.specs.FaultTexts.{no_fault};
-ghost use Rattle.libyaml_events.specs.Config.{with_config, marked_ended, is_over};
-ghost use Rattle.libyaml_events.specs.Source.{Coming, coming};
-ghost use Rattle.libyaml_events.specs.Runs.{Ending, IsRun};
-ghost use Rattle.libyaml_events.specs.Stages.{is_outside, stage_of};
-ghost use Rattle.libyaml_events.specs.History.{History, new_parser, has_ended, has_failed, kept_fault, keeping, between_documents};
-ghost use Rattle.libyaml_events.specs.RunToCome.{RunToCome};
+ghost use Rattle.libyaml_grammar.specs.runs.Fault.{Fault, fault_of};
+ghost use Rattle.libyaml_grammar.specs.cuts.FaultTexts.{no_fault};
+ghost use Rattle.libyaml_events.specs.machine.Config.{with_config, marked_ended, ended_or_failed};
+ghost use Rattle.libyaml_events.specs.sources.Source.{Coming, coming};
+ghost use Rattle.libyaml_grammar.specs.runs.Runs.{Ending, IsRun};
+ghost use Rattle.libyaml_events.specs.parsers.Stages.{is_outside, stage_of};
+ghost use Rattle.libyaml_events.specs.sources.History.{History, new_parser, is_over, has_failed};
+ghost use Rattle.libyaml_events.specs.sources.History.{kept_fault, keeping, between_documents};
+ghost use Rattle.libyaml_events.specs.sources.RunToCome.{RunToCome};
 ghost use Rattle.libyaml_types.specs.declared.token.yaml_token_t.{yaml_token_t};
 ghost use Rattle.libyaml_types.specs.declared.event.yaml_event_t.{yaml_event_t};
 
@@ -16,7 +17,7 @@ mod handles;
 mod stacks;
 mod tokens;
 
-use crate::fault::{NO_FAULT, yaml_parser_t_prefix};
+use libyaml_grammar::{NO_FAULT, yaml_parser_t_prefix};
 use libyaml_types::{Text, yaml_error_type_t, yaml_mark_t, yaml_parser_state_t, yaml_token_t};
 use std::alloc::Global;
 use std::collections::BTreeMap;
@@ -33,7 +34,7 @@ pub struct yaml_parser_t<S> {
     states: Vec<u8>,
     marks: Vec<yaml_mark_t>,
     handles: BTreeMap<Text, Text>,
-    has_ended: bool,
+    behind_document_end: bool,
     prefix: yaml_parser_t_prefix,
     max_entries: i32,
     alloc: Global,
@@ -43,9 +44,9 @@ impl<S> Model for yaml_parser_t<S> {
     ghost use Rattle.std.specs.Prelude.{ℕ, All, reverse};
     ghost use Rattle.std.specs.FinMap.{from_entries};
     ghost use Rattle.std.specs.Coded.{codes};
-    ghost use Rattle.libyaml_events.specs.Fault.{fault_of};
-    ghost use Rattle.libyaml_events.specs.State.{stack_of, IsBackByte};
-    ghost use Rattle.libyaml_events.specs.Config.{Parser, handles_code};
+    ghost use Rattle.libyaml_grammar.specs.runs.Fault.{fault_of};
+    ghost use Rattle.libyaml_events.specs.machine.State.{stack_of, IsBackByte};
+    ghost use Rattle.libyaml_events.specs.machine.Config.{Parser, handles_code};
 
     ghost Value = { Parser S };
 
@@ -59,7 +60,7 @@ impl<S> Model for yaml_parser_t<S> {
         states = stack_of p.states.items;
         marks = reverse p.marks.items;
         handles = from_entries p.handles.entries;
-        has_ended = p.has_ended;
+        behind_document_end = p.behind_document_end;
         fault = fault_of p.prefix;
       };
       max_entries = p.max_entries;
@@ -78,9 +79,11 @@ pub fn yaml_parser_initialize<S>(alloc: Global, source: S) -> yaml_parser_t<S>
     ensures no_fault { kept_fault result ≡ no_fault }
     ensures between { between_documents result ≡ true }
     ensures begins { History result [] [] }
-    ensures running { has_ended result ≡ false }
+    ensures running { is_over result ≡ false }
     // over a source that knows its tokens and the fault behind them, their whole run is to come
-    ensures run_to_come { (known : S → Option Coming) (tokens : List yaml_token_t) (f : Fault) → known source ≡ Some (coming tokens f) → (events : List yaml_event_t) (ending : Ending) → IsRun tokens f events ending → RunToCome known result events ending }
+    ensures run_to_come { (known : S → Option Coming) (tokens : List yaml_token_t) (f : Fault)
+        → known source ≡ Some (coming tokens f) → (events : List yaml_event_t) (ending : Ending)
+        → IsRun tokens f events ending → RunToCome known result events ending }
 {
     yaml_parser_t {
         source,
@@ -89,7 +92,7 @@ pub fn yaml_parser_initialize<S>(alloc: Global, source: S) -> yaml_parser_t<S>
         states: Vec::new(alloc),
         marks: Vec::new(alloc),
         handles: BTreeMap::new(alloc),
-        has_ended: false,
+        behind_document_end: false,
         prefix: NO_FAULT,
         max_entries: i32::MAX,
         alloc,
@@ -112,7 +115,8 @@ pub fn yaml_parser_delete<S>(parser: yaml_parser_t<S>) -> S
 pub fn yaml_parser_between_documents<S>(parser: &yaml_parser_t<S>) -> bool
     ensures value { result ≡ between_documents parser.now }
     ensures failed { has_failed parser.now ≡ true → result ≡ true }
-    ensures by_events { (asked : List yaml_token_t) (given : List yaml_event_t) → History parser.now asked given → result ≡ is_outside (stage_of given) }
+    ensures by_events { (asked : List yaml_token_t) (given : List yaml_event_t)
+        → History parser.now asked given → result ≡ is_outside (stage_of given) }
 {
     parser.stands_between_documents()
 }
@@ -123,8 +127,10 @@ pub fn yaml_parser_set_max_entries<S>(parser: &mut yaml_parser_t<S>, n: i32)
     requires between { between_documents parser.old ≡ true }
     ensures bound { parser.new ≡ record parser.old { max_entries = n } }
     // the history and the run stay
-    ensures history { (asked : List yaml_token_t) (given : List yaml_event_t) → History parser.old asked given → History parser.new asked given }
-    ensures run_to_come { (known : S → Option Coming) (events : List yaml_event_t) (ending : Ending) → RunToCome known parser.old events ending → RunToCome known parser.new events ending }
+    ensures history { (asked : List yaml_token_t) (given : List yaml_event_t) → History parser.old asked given
+        → History parser.new asked given }
+    ensures run_to_come { (known : S → Option Coming) (events : List yaml_event_t) (ending : Ending)
+        → RunToCome known parser.old events ending → RunToCome known parser.new events ending }
 {
     parser.max_entries = n;
 }
@@ -136,7 +142,8 @@ impl<S> yaml_parser_t<S> {
     pub fn prefix(&self) -> &yaml_parser_t_prefix
         ensures kept { fault_of result.now ≡ kept_fault self.now }
         // before a fault it is that of no fault
-        ensures before_fault { (asked : List yaml_token_t) (given : List yaml_event_t) → History self.now asked given → fault_of result.now ≡ no_fault }
+        ensures before_fault { (asked : List yaml_token_t) (given : List yaml_event_t)
+            → History self.now asked given → fault_of result.now ≡ no_fault }
     {
         &self.prefix
     }
@@ -152,10 +159,11 @@ impl<S> yaml_parser_t<S> {
     /// is kept.
     pub fn keep_fault(&mut self, fault: yaml_parser_t_prefix)
         requires first { has_failed self.old ≡ false }
-        requires of_loader { (fault.error ≡ yaml_error_type_t.YAML_MEMORY_ERROR) ⊎ (fault.error ≡ yaml_error_type_t.YAML_COMPOSER_ERROR) }
+        requires of_loader { (fault.error ≡ yaml_error_type_t.YAML_MEMORY_ERROR)
+            ⊎ (fault.error ≡ yaml_error_type_t.YAML_COMPOSER_ERROR) }
         ensures kept { self.new ≡ keeping (fault_of fault) self.old }
         ensures fault { kept_fault self.new ≡ fault_of fault }
-        ensures ended { has_ended self.new ≡ true }
+        ensures ended { is_over self.new ≡ true }
     {
         self.prefix = fault;
     }
@@ -186,21 +194,21 @@ impl<S> yaml_parser_t<S> {
 
     /// Whether nothing more comes: behind the stream's end or a fault.
     pub(crate) fn is_over(&self) -> bool
-        ensures { result ≡ is_over self.now.config }
+        ensures { result ≡ ended_or_failed self.now.config }
     {
         self.has_failed() || matches!(self.state, yaml_parser_state_t::YAML_PARSE_END_STATE)
     }
 
-    pub(crate) fn has_ended(&self) -> bool
-        ensures { result ≡ self.now.config.has_ended }
+    pub(crate) fn behind_document_end(&self) -> bool
+        ensures { result ≡ self.now.config.behind_document_end }
     {
-        self.has_ended
+        self.behind_document_end
     }
 
     /// Whether a document's explicit end came last.
-    pub(crate) fn set_has_ended(&mut self, has_ended: bool)
-        ensures { self.new ≡ with_config self.old (marked_ended has_ended self.old.config) }
+    pub(crate) fn set_behind_document_end(&mut self, behind_document_end: bool)
+        ensures { self.new ≡ with_config self.old (marked_ended behind_document_end self.old.config) }
     {
-        self.has_ended = has_ended;
+        self.behind_document_end = behind_document_end;
     }
 }

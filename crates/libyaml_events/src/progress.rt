@@ -30,11 +30,11 @@ pub enum NodePlace {
 }
 
 impl NodePlace {
-    ghost use Rattle.libyaml_events.specs.Machine.{is_block, may_be_indentless};
+    ghost use Rattle.libyaml_events.specs.machine.Machine.{is_block_place, may_be_indentless};
 
     /// Whether a block collection may stand here.
     pub fn is_block(self) -> bool
-        ensures { result ≡ is_block self }
+        ensures { result ≡ is_block_place self }
     {
         match self {
             NodePlace::Block | NodePlace::BlockOrIndentlessSequence => true,
@@ -164,7 +164,7 @@ impl Pending {
     }
 }
 
-ghost use Rattle.libyaml_events.specs.Events.{event};
+ghost use Rattle.libyaml_grammar.specs.sentences.Events.{event};
 
 /// Puts an event with these marks into the slot.
 #[inline(always)]

@@ -1,7 +1,7 @@
 //! Where a node may be nothing.
 ghost use Rattle.std.specs.Prelude.{◌≡◌, IfSome};
 ghost use Rattle.libyaml_types.specs.Numbers.{parser_state_number};
-ghost use Rattle.libyaml_events.specs.State.{IsBackByte};
+ghost use Rattle.libyaml_events.specs.machine.State.{IsBackByte};
 
 use crate::progress::{NodePlace, Pending};
 use libyaml_types::{unnamed_yaml_token_t_data, yaml_mark_t, yaml_parser_state_t, yaml_token_t};
@@ -21,7 +21,7 @@ pub enum Slot {
 }
 
 impl Slot {
-    ghost use Rattle.libyaml_events.specs.Slots.{is_nothing_before, state_behind, place, empty_mark};
+    ghost use Rattle.libyaml_events.specs.machine.Slots.{is_nothing_before, state_behind, place, empty_mark};
 
     /// Whether the node is nothing before this token.
     #[inline(always)]

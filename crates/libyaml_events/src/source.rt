@@ -1,10 +1,10 @@
 //! Where a parser's tokens come from.
 ghost use Rattle.std.specs.Prelude.{◌≡◌, ℕ, ◌+◌, Option, Ok, Err, OnOk, None, Some};
 ghost use Rattle.libyaml_types.specs.declared.token.yaml_token_t.{yaml_token_t};
-ghost use Rattle.libyaml_events.specs.Fault.{Fault, Answer, answer_of};
-ghost use Rattle.libyaml_events.specs.Source.{Coming, Follows};
+ghost use Rattle.libyaml_grammar.specs.runs.Fault.{Fault, Answer, answer_of};
+ghost use Rattle.libyaml_events.specs.sources.Source.{Coming, Follows};
 
-use crate::fault::yaml_source_fault_t;
+use libyaml_grammar::yaml_source_fault_t;
 use libyaml_types::yaml_token_t;
 
 /// A source of tokens, which ends in a fault.
@@ -26,7 +26,9 @@ pub trait yaml_token_source_t {
 
     ghost falls: { (s t : Self) (token : yaml_token_t) → gives s (Ok token) t → bound s ≡ bound t + 1 };
 
-    ghost follows: { (s t : Self) (answer : Answer) → gives s answer t → Follows (may_break t) (known s) answer (known t) };
+    ghost follows: { (s t : Self) (answer : Answer) → gives s answer t
+        → Follows (may_break t) (known s) answer (known t) };
 
-    ghost repeats: { (s t u : Self) (fault : Fault) (answer : Answer) → gives s (Err fault) t → gives t answer u → answer ≡ Err fault };
+    ghost repeats: { (s t u : Self) (fault : Fault) (answer : Answer) → gives s (Err fault) t
+        → gives t answer u → answer ≡ Err fault };
 }

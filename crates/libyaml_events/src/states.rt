@@ -1,13 +1,14 @@
 //! The states: each takes a token, and gives an event, wants a further token, or faults.
 ghost use Rattle.std.specs.Prelude.{◌≡◌, Ok, Err, OnOk, OnErr, true, is_some};
-ghost use Rattle.libyaml_events.specs.FaultTexts.{memory_fault};
-ghost use Rattle.libyaml_events.specs.Config.{with_config, with_fault, at, pushed_mark};
-ghost use Rattle.libyaml_events.specs.Machine.{step, at_state, process_empty_scalar, close};
-ghost use Rattle.libyaml_events.specs.Steps.{Steps};
-ghost use Rattle.libyaml_events.specs.Slots.{at_slot, state_behind, entered};
-ghost use Rattle.libyaml_events.specs.Answers.{answer, wanted};
+ghost use Rattle.libyaml_grammar.specs.cuts.FaultTexts.{memory_fault};
+ghost use Rattle.libyaml_events.specs.machine.Config.{with_config, with_fault, at, pushed_mark};
+ghost use Rattle.libyaml_events.specs.machine.Machine.{step, at_state, process_empty_scalar};
+ghost use Rattle.libyaml_events.specs.machine.Machine.{close_collection};
+ghost use Rattle.libyaml_events.specs.machine.Steps.{Steps};
+ghost use Rattle.libyaml_events.specs.machine.Slots.{at_slot, state_behind, entered};
+ghost use Rattle.libyaml_events.specs.machine.Answers.{answer, wanted};
 ghost use Rattle.libyaml_events.specs.declared.progress.Progress.TheVariants.{Given};
-ghost use Rattle.libyaml_events.specs.Growth.{enters, may_grow, may_grow_at};
+ghost use Rattle.libyaml_events.specs.machine.Growth.{enters, may_grow, may_grow_at};
 
 mod block;
 mod documents;
@@ -35,8 +36,10 @@ impl<S> yaml_parser_t<S> {
         pending: &mut Pending,
         out: &mut yaml_event_t,
     ) -> Result<Next, yaml_error_type_t>
-        ensures steps { Steps (step (wanted next pending.old) self.old.config token) self.old (answer result pending.new out.new) self.new }
-        ensures grows { result ≡ Err yaml_error_type_t.YAML_MEMORY_ERROR → may_grow (wanted next pending.old) self.old.config token.content ≡ true }
+        ensures steps { Steps (step (wanted next pending.old) self.old.config token) self.old
+            (answer result pending.new out.new) self.new }
+        ensures grows { result ≡ Err yaml_error_type_t.YAML_MEMORY_ERROR
+            → may_grow (wanted next pending.old) self.old.config token.content ≡ true }
     {
         match next {
             Next::Given | Next::AtState => self.parse_at_state(token, pending, out),
@@ -67,8 +70,10 @@ impl<S> yaml_parser_t<S> {
         pending: &mut Pending,
         out: &mut yaml_event_t,
     ) -> Result<Next, yaml_error_type_t>
-        ensures steps { Steps (at_state self.old.config.state self.old.config token token.content) self.old (answer result pending.new out.new) self.new }
-        ensures grows { result ≡ Err yaml_error_type_t.YAML_MEMORY_ERROR → may_grow_at self.old.config.state self.old.config token.content ≡ true }
+        ensures steps { Steps (at_state self.old.config.state self.old.config token token.content) self.old
+            (answer result pending.new out.new) self.new }
+        ensures grows { result ≡ Err yaml_error_type_t.YAML_MEMORY_ERROR
+            → may_grow_at self.old.config.state self.old.config token.content ≡ true }
     {
         match self.state() {
             yaml_parser_state_t::YAML_PARSE_STREAM_START_STATE => self.parse_stream_start(
@@ -159,7 +164,8 @@ impl<S> yaml_parser_t<S> {
         pending: &mut Pending,
         out: &mut yaml_event_t,
     ) -> Result<Next, yaml_error_type_t>
-        ensures steps { Steps (at_slot slot pending.old.mark self.old.config token token.content) self.old (answer result pending.new out.new) self.new }
+        ensures steps { Steps (at_slot slot pending.old.mark self.old.config token token.content) self.old
+            (answer result pending.new out.new) self.new }
         ensures grows { result ≡ Err yaml_error_type_t.YAML_MEMORY_ERROR → enters slot token.content ≡ true }
     {
         if slot.is_nothing_before(&token.content) {
@@ -177,8 +183,10 @@ impl<S> yaml_parser_t<S> {
     /// The state behind the place's node goes on the stack. A document's is there already.
     #[inline(always)]
     fn push_state_behind(&mut self, slot: Slot) -> Result<(), yaml_error_type_t>
-        ensures ok { OnOk result (self.new ≡ with_config self.old (entered (state_behind slot) self.old.config)) }
-        ensures err { OnErr result ((result ≡ Err yaml_error_type_t.YAML_MEMORY_ERROR) × (self.new ≡ with_config self.old (with_fault self.old.config memory_fault))) }
+        ensures ok { OnOk result (self.new
+            ≡ with_config self.old (entered (state_behind slot) self.old.config)) }
+        ensures err { OnErr result ((result ≡ Err yaml_error_type_t.YAML_MEMORY_ERROR)
+            × (self.new ≡ with_config self.old (with_fault self.old.config memory_fault))) }
         ensures grows { OnErr result (is_some (state_behind slot) ≡ true) }
     {
         match slot.state_behind() {
@@ -196,7 +204,8 @@ impl<S> yaml_parser_t<S> {
         token: yaml_token_t,
         out: &mut yaml_event_t,
     )
-        ensures { Steps (process_empty_scalar mark token self.old.config) self.old (Ok (Given out.new)) self.new }
+        ensures { Steps (process_empty_scalar mark token self.old.config) self.old (Ok (Given out.new))
+            self.new }
     {
         self.keep(token);
         let text = Text::new(self.allocator());
@@ -209,8 +218,10 @@ impl<S> yaml_parser_t<S> {
         start: yaml_mark_t,
         state: yaml_parser_state_t,
     ) -> Result<(), yaml_error_type_t>
-        ensures ok { OnOk result (self.new ≡ with_config self.old (at state (pushed_mark start self.old.config))) }
-        ensures err { OnErr result ((result ≡ Err yaml_error_type_t.YAML_MEMORY_ERROR) × (self.new ≡ with_config self.old (with_fault self.old.config memory_fault))) }
+        ensures ok { OnOk result (self.new
+            ≡ with_config self.old (at state (pushed_mark start self.old.config))) }
+        ensures err { OnErr result ((result ≡ Err yaml_error_type_t.YAML_MEMORY_ERROR)
+            × (self.new ≡ with_config self.old (with_fault self.old.config memory_fault))) }
     {
         self.push_mark(start)?;
         self.set_state(state);
@@ -224,7 +235,8 @@ impl<S> yaml_parser_t<S> {
         token: &yaml_token_t,
         out: &mut yaml_event_t,
     )
-        ensures { Steps (close content token.now self.old.config) self.old (Ok (Given out.new)) self.new }
+        ensures { Steps (close_collection content token.now self.old.config) self.old (Ok (Given out.new))
+            self.new }
     {
         let _ = self.pop_mark();
         self.pop_state();

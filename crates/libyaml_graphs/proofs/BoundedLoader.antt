@@ -1,15 +1,18 @@
 -- The loader with its bound gives the loads within that bound, all of them and one alone.
-use Rattle.std.proofs.Common.{◌≡◌, ℕ, suc, List, [], ◌∷◌, ◌++◌, length, nat_lt, refl, sym, ap, ◌∙◌, append_assoc, append-nil, Option, Some, None, Bool, true, false, Ok, Err}
-use Rattle.libyaml_events.specs.Events.{Event}
-use Rattle.libyaml_events.specs.Fault.{Fault}
-use Rattle.libyaml_events.specs.Runs.{Ending}
+use Rattle.std.proofs.Common.{◌≡◌, ℕ, suc, List, [], ◌∷◌, ◌++◌, length, nat_lt, refl, sym, ap, ◌∙◌, append_assoc, append-nil, Option, Some, None, Bool, true}
+use Rattle.std.proofs.Common.{false, Ok, Err}
+use Rattle.libyaml_grammar.specs.sentences.Events.{Event}
+use Rattle.libyaml_grammar.specs.runs.Fault.{Fault}
+use Rattle.libyaml_grammar.specs.runs.Runs.{Ending}
 use Rattle.libyaml_documents.specs.declared.node.yaml_node_t.{yaml_node_t}
 use Rattle.libyaml_graphs.specs.Bounds.{bounded_loads, bounded_loads_behind, first_stop, if_above, if_wrong, list_sizes, next_bounded, one_above, stop_at}
 use Rattle.libyaml_graphs.specs.ComposerFaults.{part_fault}
 use Rattle.libyaml_graphs.specs.Graphs.{Start}
-use Rattle.libyaml_graphs.specs.Loader.{Anchors, Loader, Outcome, between, bounded_all, bounded_option, bounded_part, failed, fresh, going, if_child_fits, if_going, list_full, load_from, load_part, no_anchors, nodes_full, unless_full, within}
+use Rattle.libyaml_graphs.specs.Loader.{Anchors, Loader, Loading, between, bounded_all, bounded_option, bounded_part, failed, fresh, going, if_child_fits}
+use Rattle.libyaml_graphs.specs.Loader.{if_going, list_full, load_from, load_part, no_anchors, nodes_full, unless_full, within}
 use Rattle.libyaml_graphs.specs.Loads.{Load, answer, document, document_end, last_load, load_then}
-use Rattle.libyaml_graphs.specs.Parts.{Closing, Opening, Part, alias_part, behind, closing_of, end_part, graph, leaf_part, opening_of, part_of, parts, start_part, with_part}
+use Rattle.libyaml_graphs.specs.Parts.{Closing, Opening, Part, alias_part, behind, closing_of, end_part, graph, leaf_part, opening_of, part_of, parts}
+use Rattle.libyaml_graphs.specs.Parts.{start_part, with_part}
 use Rattle.libyaml_graphs.proofs.Built.{BeginsEmpty, Built, Held, build, build_finished, finished, finished_none, graph_nodes, held_graph, nodes_in, unbuilt}
 use Rattle.libyaml_graphs.proofs.Following.{Agrees, Follows, Stands, build_stands, loader_of, nodes_length, none_known, part_follows, stands_unbuilt}
 use Rattle.libyaml_graphs.proofs.LoaderLoads.{Answering, IfBeginsEmpty, begins_empty, settled}
@@ -30,7 +33,9 @@ all_begin_more : (F : List Part) (p : Part) → AllBegin F → BeginsEmpty p →
 all_begin_more [] p h e = (e, tt)
 all_begin_more (q ∷ F) p h e = (h.0, all_begin_more F p h.1 e)
 
-reaches : (p : Part) (es : List Start) (F : List Part) (b : Built) → BeginsEmpty p → Stands es b → ((P : List Part) → finished [] (F ++ P) unbuilt ≡ finished es P b) → (P : List Part) → finished [] ((F ++ p ∷ []) ++ P) unbuilt ≡ finished (behind p es) P (build es p b)
+reaches : (p : Part) (es : List Start) (F : List Part) (b : Built) → BeginsEmpty p → Stands es b
+    → ((P : List Part) → finished [] (F ++ P) unbuilt ≡ finished es P b) → (P : List Part)
+    → finished [] ((F ++ p ∷ []) ++ P) unbuilt ≡ finished (behind p es) P (build es p b)
 reaches p es F b e s r P = ap (λ (Q : List Part). finished [] Q unbuilt) (append_assoc F (p ∷ []) P) ∙ (r (p ∷ P) ∙ sym (build_finished p es P b e s.there))
 
 -- what is built is the graph of the parts so far
@@ -40,40 +45,56 @@ held_so_far es F b r = sym (finished_none es b) ∙ (sym (r []) ∙ ap (held_gra
 nodes_so_far : (n : ℕ) (es : List Start) (F : List Part) (b : Built) → Within n es F b → nodes_in b.held ≡ graph [] F
 nodes_so_far n es F b s = ap nodes_in (held_so_far es F b s.reached) ∙ graph_nodes F []
 
-nodes_grow : (p : Part) (n : ℕ) (es : List Start) (b : Built) (xs : Anchors) → length b.held ≡ length es → nat_lt n (length es) ≡ false → nodes_full n (loader_of b xs) p ≡ nat_lt n (length (behind p es))
+nodes_grow : (p : Part) (n : ℕ) (es : List Start) (b : Built) (xs : Anchors) → length b.held ≡ length es → nat_lt n (length es) ≡ false
+    → nodes_full n (loader_of b xs) p ≡ nat_lt n (length (behind p es))
 nodes_grow (alias_part a m) n es b xs s h = sym h
 nodes_grow (leaf_part a x) n es b xs s h = ap (λ (i : ℕ). nat_lt n (suc i)) (nodes_length b.held ∙ s)
 nodes_grow (start_part a x) n es b xs s h = ap (λ (i : ℕ). nat_lt n (suc i)) (nodes_length b.held ∙ s)
 nodes_grow (end_part m) n es b xs s h = sym h
 
 -- one part within the bound, where K is what the loader does behind it
-step : {A : Type 0} (n : ℕ) (p : Part) (es : List Start) (F : List Part) (b : Built) (xs : Anchors) (w : Answering A) (N : List yaml_node_t) (K : Loader → A) (X : Option Fault) → BeginsEmpty p → Within n es F b → Agrees es xs
+step : {A : Type 0} (n : ℕ) (p : Part) (es : List Start) (F : List Part) (b : Built) (xs : Anchors) (w : Answering A) (N : List yaml_node_t) (K : Loader
+    → A) (X : Option Fault) → BeginsEmpty p → Within n es F b → Agrees es xs
     → ((ys : Anchors) → Within n (behind p es) (F ++ p ∷ []) (build es p b) → Agrees (behind p es) ys → K (loader_of (build es p b) ys) ≡ settled w X N)
     → if_going w.of_fault (bounded_part n (loader_of b xs) p) K ≡ settled w (stop_at n es F p X) N
 step n p es F b xs w N K X e s h ih = first (nat_lt n (length (behind p es))) refl
   where
-    third : (ys : Anchors) → Agrees (behind p es) ys → nat_lt n (length (behind p es)) ≡ false → (c : Bool) → one_above n (sizes (build es p b).held) ≡ c → if_going w.of_fault (unless_full c (going (loader_of (build es p b) ys))) K ≡ settled w (if_above c X) N
+    third : (ys : Anchors) → Agrees (behind p es) ys → nat_lt n (length (behind p es)) ≡ false → (c : Bool) → one_above n (sizes (build es p b).held) ≡ c
+        → if_going w.of_fault (unless_full c (going (loader_of (build es p b) ys))) K ≡ settled w (if_above c X) N
     third ys a m true q = refl
-    third ys a m false q = ih ys (record { stands = build_stands p es b s.stands; few = m; short = q; reached = reaches p es F b e s.stands s.reached; all_begin = all_begin_more F p s.all_begin e }) a
+    third ys a m false q = ih ys (record {
+      stands = build_stands p es b s.stands;
+      few = m;
+      short = q;
+      reached = reaches p es F b e s.stands s.reached;
+      all_begin
+          = all_begin_more F p s.all_begin e;
+    }) a
 
     sized : one_above n (sizes (build es p b).held) ≡ one_above n (list_sizes [] (F ++ p ∷ []))
-    sized = ap (λ (hs : List Held). one_above n (sizes hs)) (held_so_far (behind p es) (F ++ p ∷ []) (build es p b) (reaches p es F b e s.stands s.reached)) ∙ graph_sizes (F ++ p ∷ []) [] n (all_begin_more F p s.all_begin e)
+    sized = ap (λ (hs : List Held). one_above n (sizes hs)) (held_so_far (behind p es) (F ++ p ∷ []) (build es p b) (reaches p es F b e s.stands s.reached))
+        ∙ graph_sizes (F ++ p ∷ []) [] n (all_begin_more F p s.all_begin e)
 
-    second : (u : Outcome) → nat_lt n (length (behind p es)) ≡ false → Follows u (part_fault es p) (behind p es) (build es p b) → if_going w.of_fault (if_child_fits (list_full n (loader_of b xs) p) u) K ≡ settled w (if_wrong (part_fault es p) (if_above (one_above n (list_sizes [] (F ++ p ∷ []))) X)) N
+    second : (u : Loading) → nat_lt n (length (behind p es)) ≡ false → Follows u (part_fault es p) (behind p es) (build es p b)
+        → if_going w.of_fault (if_child_fits (list_full n (loader_of b xs) p) u) K
+        ≡ settled w (if_wrong (part_fault es p) (if_above (one_above n (list_sizes [] (F ++ p ∷ []))) X)) N
     second (failed f) m y = ap (λ (x : Option Fault). settled w (if_wrong x (if_above (one_above n (list_sizes [] (F ++ p ∷ []))) X)) N) (sym y)
     second (going k) m y =
         ap (λ (j : Loader). if_going w.of_fault (unless_full (list_full n (loader_of b xs) p) (going j)) K) y.1.1
-        ∙ (ap (λ (c : Bool). if_going w.of_fault (unless_full c (going (loader_of (build es p b) y.1.0))) K) (sym (list_grows p n es b xs e s.stands.there s.short))
+        ∙ (ap (λ (c : Bool). if_going w.of_fault (unless_full c (going (loader_of (build es p b) y.1.0))) K)
+        (sym (list_grows p n es b xs e s.stands.there s.short))
         ∙ (third y.1.0 y.1.2 m (one_above n (sizes (build es p b).held)) refl
         ∙ (ap (λ (c : Bool). settled w (if_above c X) N) sized
         ∙ ap (λ (x : Option Fault). settled w (if_wrong x (if_above (one_above n (list_sizes [] (F ++ p ∷ []))) X)) N) (sym y.0))))
 
     first : (c : Bool) → nat_lt n (length (behind p es)) ≡ c → if_going w.of_fault (bounded_part n (loader_of b xs) p) K ≡ settled w (stop_at n es F p X) N
     first true q =
-        ap (λ (c : Bool). if_going w.of_fault (unless_full c (if_child_fits (list_full n (loader_of b xs) p) (load_part (loader_of b xs) p))) K) (nodes_grow p n es b xs s.stands.size s.few ∙ q)
+        ap (λ (c : Bool). if_going w.of_fault (unless_full c (if_child_fits (list_full n (loader_of b xs) p) (load_part (loader_of b xs) p))) K)
+        (nodes_grow p n es b xs s.stands.size s.few ∙ q)
         ∙ ap (λ (c : Bool). settled w (if_above c (if_wrong (part_fault es p) (if_above (one_above n (list_sizes [] (F ++ p ∷ []))) X))) N) (sym q)
     first false q =
-        ap (λ (c : Bool). if_going w.of_fault (unless_full c (if_child_fits (list_full n (loader_of b xs) p) (load_part (loader_of b xs) p))) K) (nodes_grow p n es b xs s.stands.size s.few ∙ q)
+        ap (λ (c : Bool). if_going w.of_fault (unless_full c (if_child_fits (list_full n (loader_of b xs) p) (load_part (loader_of b xs) p))) K)
+        (nodes_grow p n es b xs s.stands.size s.few ∙ q)
         ∙ (second (load_part (loader_of b xs) p) q (part_follows p es b xs s.stands h)
         ∙ ap (λ (c : Bool). settled w (if_above c (if_wrong (part_fault es p) (if_above (one_above n (list_sizes [] (F ++ p ∷ []))) X))) N) (sym q))
 
@@ -84,45 +105,68 @@ all_answers c o x l = record { of_fault = λ (f : Fault). Err f ∷ []; of_nodes
 abbrev all_bounded : ℕ → Option Closing → Opening → Ending → List Load → List Start → List Part → List Part → List Load
 all_bounded n c o x l es F P = settled (all_answers c o x l) (first_stop n es F P) (graph [] (F ++ P))
 
-all_event : (n : ℕ) (e : Event) (r : List Event) (es : List Start) (F : List Part) (o : Opening) (b : Built) (xs : Anchors) (x : Ending) → Within n es F b → Agrees es xs → bounded_all n between r x ≡ bounded_loads n r x
-    → ((fs : List Start) (G : List Part) (c : Built) (ys : Anchors) → Within n fs G c → Agrees fs ys → bounded_all n (within o (loader_of c ys)) r x ≡ all_bounded n (document_end r) o x (bounded_loads_behind n r x) fs G (parts r))
+all_event : (n : ℕ) (e : Event) (r : List Event) (es : List Start) (F : List Part) (o : Opening) (b : Built) (xs : Anchors) (x : Ending) → Within n es F b
+    → Agrees es xs → bounded_all n between r x ≡ bounded_loads n r x
+    → ((fs : List Start) (G : List Part) (c : Built) (ys : Anchors) → Within n fs G c → Agrees fs ys
+    → bounded_all n (within o (loader_of c ys)) r x ≡ all_bounded n (document_end r) o x (bounded_loads_behind n r x) fs G (parts r))
     → bounded_all n (within o (loader_of b xs)) (e ∷ r) x ≡ all_bounded n (document_end (e ∷ r)) o x (bounded_loads_behind n (e ∷ r) x) es F (parts (e ∷ r))
 all_event n e r es F o b xs x s h next ih = go (closing_of e) (part_of e) (begins_empty e.content e.start_mark e.end_mark)
   where
-    part_or : (q : Option Part) → IfBeginsEmpty q → if_going (λ (f : Fault). Err f ∷ []) (bounded_option n (loader_of b xs) q) (λ (k : Loader). bounded_all n (within o k) r x) ≡ all_bounded n (document_end r) o x (bounded_loads_behind n r x) es F (with_part q (parts r))
+    part_or : (q : Option Part) → IfBeginsEmpty q
+        → if_going (λ (f : Fault). Err f ∷ []) (bounded_option n (loader_of b xs) q) (λ (k : Loader). bounded_all n (within o k) r x)
+        ≡ all_bounded n (document_end r) o x (bounded_loads_behind n r x) es F (with_part q (parts r))
     part_or None u = ih es F b xs s h
-    part_or (Some p) u = step n p es F b xs (all_answers (document_end r) o x (bounded_loads_behind n r x)) (graph [] (F ++ p ∷ parts r)) (λ (k : Loader). bounded_all n (within o k) r x) (first_stop n (behind p es) (F ++ p ∷ []) (parts r)) u s h
-        (λ ys t a. ih (behind p es) (F ++ p ∷ []) (build es p b) ys t a ∙ ap (λ (Q : List Part). settled (all_answers (document_end r) o x (bounded_loads_behind n r x)) (first_stop n (behind p es) (F ++ p ∷ []) (parts r)) (graph [] Q)) (append_assoc F (p ∷ []) (parts r)))
+    part_or (Some p) u = step n p es F b xs (all_answers (document_end r) o x (bounded_loads_behind n r x)) (graph [] (F ++ p ∷ parts r))
+        (λ (k : Loader). bounded_all n (within o k) r x) (first_stop n (behind p es) (F ++ p ∷ []) (parts r)) u s h
+        (λ ys t a. ih (behind p es) (F ++ p ∷ []) (build es p b) ys t a
+        ∙ ap (λ (Q : List Part). settled (all_answers (document_end r) o x (bounded_loads_behind n r x))
+        (first_stop n (behind p es) (F ++ p ∷ []) (parts r)) (graph [] Q)) (append_assoc F (p ∷ []) (parts r)))
 
     go : (c : Option Closing) (q : Option Part) → IfBeginsEmpty q
-        → elim c [ Some d ↦ Ok (document o (nodes_in b.held) d) ∷ bounded_all n between r x | None ↦ if_going (λ (f : Fault). Err f ∷ []) (bounded_option n (loader_of b xs) q) (λ (k : Loader). bounded_all n (within o k) r x) ]
-        ≡ all_bounded n (elim c [ Some d ↦ Some d | None ↦ document_end r ]) o x (elim c [ Some d ↦ bounded_loads n r x | None ↦ bounded_loads_behind n r x ]) es F (elim c [ Some d ↦ [] | None ↦ with_part q (parts r) ])
+        → elim c [
+          | Some d ↦ Ok (document o (nodes_in b.held) d) ∷ bounded_all n between r x
+          | None ↦ if_going (λ (f : Fault). Err f ∷ []) (bounded_option n (loader_of b xs) q) (λ (k : Loader). bounded_all n (within o k) r x)
+        ]
+        ≡ all_bounded n (elim c [ Some d ↦ Some d | None ↦ document_end r ]) o x (elim c [ Some d ↦ bounded_loads n r x | None ↦ bounded_loads_behind n r x ])
+        es F (elim c [ Some d ↦ [] | None ↦ with_part q (parts r) ])
     go (Some d) q u =
         ap (λ (l : List Load). Ok (document o (nodes_in b.held) d) ∷ l) next
         ∙ ap (λ (nodes : List yaml_node_t). Ok (document o nodes d) ∷ bounded_loads n r x) (nodes_so_far n es F b s ∙ ap (graph []) (sym (append-nil F)))
     go None q u = part_or q u
 
-all_other : (n : ℕ) (e : Event) (r : List Event) (x : Ending) → bounded_all n between r x ≡ bounded_loads n r x → ((o : Opening) → bounded_all n (within o fresh) r x ≡ load_then (first_stop n [] [] (parts r)) (document_end r) o (graph [] (parts r)) (last_load x) (bounded_loads_behind n r x)) → bounded_all n between (e ∷ r) x ≡ bounded_loads n (e ∷ r) x
+all_other : (n : ℕ) (e : Event) (r : List Event) (x : Ending) → bounded_all n between r x ≡ bounded_loads n r x
+    → ((o : Opening) → bounded_all n (within o fresh) r x
+    ≡ load_then (first_stop n [] [] (parts r)) (document_end r) o (graph [] (parts r)) (last_load x) (bounded_loads_behind n r x))
+    → bounded_all n between (e ∷ r) x ≡ bounded_loads n (e ∷ r) x
 all_other n e r x next ih = go (opening_of e)
   where
     go : (c : Option Opening)
         → ◌≡◌ {A = List Load} (elim c [ None ↦ bounded_all n between r x | Some o ↦ bounded_all n (within o fresh) r x ])
-        (elim c [ None ↦ bounded_loads n r x | Some o ↦ load_then (first_stop n [] [] (parts r)) (document_end r) o (graph [] (parts r)) (last_load x) (bounded_loads_behind n r x) ])
+        (elim c [
+          | None ↦ bounded_loads n r x
+          | Some o ↦ load_then (first_stop n [] [] (parts r)) (document_end r) o (graph [] (parts r)) (last_load x) (bounded_loads_behind n r x)
+        ])
     go None = next
     go (Some o) = ih o
 
-then_all : (f : Option Fault) (c : Option Closing) (o : Opening) (nodes : List yaml_node_t) (x : Ending) (l : List Load) → settled (all_answers c o x l) f nodes ≡ load_then f c o nodes (last_load x) l
+then_all : (f : Option Fault) (c : Option Closing) (o : Opening) (nodes : List yaml_node_t) (x : Ending) (l : List Load)
+    → settled (all_answers c o x l) f nodes ≡ load_then f c o nodes (last_load x) l
 then_all (Some f) c o nodes x l = refl
 then_all None c o nodes x l = refl
 
 mutual
   pub between_bounded : (r : List Event) (x : Ending) (n : ℕ) → bounded_all n between r x ≡ bounded_loads n r x
   between_bounded [] x n = refl
-  between_bounded (e ∷ r) x n = all_other n e r x (between_bounded r x n) (λ (o : Opening). within_bounded r n [] [] o unbuilt no_anchors x (within_unbuilt n) none_known ∙ then_all (first_stop n [] [] (parts r)) (document_end r) o (graph [] (parts r)) x (bounded_loads_behind n r x))
+  between_bounded (e ∷ r) x n = all_other n e r x (between_bounded r x n)
+      (λ (o : Opening). within_bounded r n [] [] o unbuilt no_anchors x (within_unbuilt n) none_known
+      ∙ then_all (first_stop n [] [] (parts r)) (document_end r) o (graph [] (parts r)) x (bounded_loads_behind n r x))
 
-  within_bounded : (r : List Event) (n : ℕ) (es : List Start) (F : List Part) (o : Opening) (b : Built) (xs : Anchors) (x : Ending) → Within n es F b → Agrees es xs → bounded_all n (within o (loader_of b xs)) r x ≡ all_bounded n (document_end r) o x (bounded_loads_behind n r x) es F (parts r)
+  within_bounded : (r : List Event) (n : ℕ) (es : List Start) (F : List Part) (o : Opening) (b : Built) (xs : Anchors) (x : Ending) → Within n es F b
+      → Agrees es xs → bounded_all n (within o (loader_of b xs)) r x ≡ all_bounded n (document_end r) o x (bounded_loads_behind n r x) es F (parts r)
   within_bounded [] n es F o b xs x s h = refl
-  within_bounded (e ∷ r) n es F o b xs x s h = all_event n e r es F o b xs x s h (between_bounded r x n) (λ (fs : List Start) (G : List Part) (c : Built) (ys : Anchors) (t : Within n fs G c) (a : Agrees fs ys). within_bounded r n fs G o c ys x t a)
+  within_bounded (e ∷ r) n es F o b xs x s h
+      = all_event n e r es F o b xs x s h (between_bounded r x n)
+      (λ (fs : List Start) (G : List Part) (c : Built) (ys : Anchors) (t : Within n fs G c) (a : Agrees fs ys). within_bounded r n fs G o c ys x t a)
 
 -- One load.
 abbrev one_answer : Option Closing → Opening → Ending → Answering Load
@@ -131,27 +175,41 @@ one_answer c o x = record { of_fault = λ (f : Fault). Err f; of_nodes = λ (nod
 abbrev one_bounded : ℕ → Option Closing → Opening → Ending → List Start → List Part → List Part → Load
 one_bounded n c o x es F P = settled (one_answer c o x) (first_stop n es F P) (graph [] (F ++ P))
 
-one_event : (n : ℕ) (e : Event) (r : List Event) (es : List Start) (F : List Part) (o : Opening) (b : Built) (xs : Anchors) (x : Ending) → Within n es F b → Agrees es xs
-    → ((fs : List Start) (G : List Part) (c : Built) (ys : Anchors) → Within n fs G c → Agrees fs ys → load_from n (within o (loader_of c ys)) r x ≡ one_bounded n (document_end r) o x fs G (parts r))
+one_event : (n : ℕ) (e : Event) (r : List Event) (es : List Start) (F : List Part) (o : Opening) (b : Built) (xs : Anchors) (x : Ending) → Within n es F b
+    → Agrees es xs
+    → ((fs : List Start) (G : List Part) (c : Built) (ys : Anchors) → Within n fs G c → Agrees fs ys
+    → load_from n (within o (loader_of c ys)) r x ≡ one_bounded n (document_end r) o x fs G (parts r))
     → load_from n (within o (loader_of b xs)) (e ∷ r) x ≡ one_bounded n (document_end (e ∷ r)) o x es F (parts (e ∷ r))
 one_event n e r es F o b xs x s h ih = go (closing_of e) (part_of e) (begins_empty e.content e.start_mark e.end_mark)
   where
-    part_or : (q : Option Part) → IfBeginsEmpty q → if_going (λ (f : Fault). Err f) (bounded_option n (loader_of b xs) q) (λ (k : Loader). load_from n (within o k) r x) ≡ one_bounded n (document_end r) o x es F (with_part q (parts r))
+    part_or : (q : Option Part) → IfBeginsEmpty q
+        → if_going (λ (f : Fault). Err f) (bounded_option n (loader_of b xs) q) (λ (k : Loader). load_from n (within o k) r x)
+        ≡ one_bounded n (document_end r) o x es F (with_part q (parts r))
     part_or None u = ih es F b xs s h
-    part_or (Some p) u = step n p es F b xs (one_answer (document_end r) o x) (graph [] (F ++ p ∷ parts r)) (λ (k : Loader). load_from n (within o k) r x) (first_stop n (behind p es) (F ++ p ∷ []) (parts r)) u s h
-        (λ ys t a. ih (behind p es) (F ++ p ∷ []) (build es p b) ys t a ∙ ap (λ (Q : List Part). settled (one_answer (document_end r) o x) (first_stop n (behind p es) (F ++ p ∷ []) (parts r)) (graph [] Q)) (append_assoc F (p ∷ []) (parts r)))
+    part_or (Some p) u = step n p es F b xs (one_answer (document_end r) o x) (graph [] (F ++ p ∷ parts r)) (λ (k : Loader). load_from n (within o k) r x)
+        (first_stop n (behind p es) (F ++ p ∷ []) (parts r)) u s h
+        (λ ys t a. ih (behind p es) (F ++ p ∷ []) (build es p b) ys t a
+        ∙ ap (λ (Q : List Part). settled (one_answer (document_end r) o x) (first_stop n (behind p es) (F ++ p ∷ []) (parts r)) (graph [] Q))
+        (append_assoc F (p ∷ []) (parts r)))
 
     go : (c : Option Closing) (q : Option Part) → IfBeginsEmpty q
-        → elim c [ Some d ↦ Ok (document o (nodes_in b.held) d) | None ↦ if_going (λ (f : Fault). Err f) (bounded_option n (loader_of b xs) q) (λ (k : Loader). load_from n (within o k) r x) ]
+        → elim c [
+          | Some d ↦ Ok (document o (nodes_in b.held) d)
+          | None ↦ if_going (λ (f : Fault). Err f) (bounded_option n (loader_of b xs) q) (λ (k : Loader). load_from n (within o k) r x)
+        ]
         ≡ one_bounded n (elim c [ Some d ↦ Some d | None ↦ document_end r ]) o x es F (elim c [ Some d ↦ [] | None ↦ with_part q (parts r) ])
     go (Some d) q u = ap (λ (nodes : List yaml_node_t). Ok (document o nodes d)) (nodes_so_far n es F b s ∙ ap (graph []) (sym (append-nil F)))
     go None q u = part_or q u
 
-one_within : (r : List Event) (n : ℕ) (es : List Start) (F : List Part) (o : Opening) (b : Built) (xs : Anchors) (x : Ending) → Within n es F b → Agrees es xs → load_from n (within o (loader_of b xs)) r x ≡ one_bounded n (document_end r) o x es F (parts r)
+one_within : (r : List Event) (n : ℕ) (es : List Start) (F : List Part) (o : Opening) (b : Built) (xs : Anchors) (x : Ending) → Within n es F b → Agrees es xs
+    → load_from n (within o (loader_of b xs)) r x ≡ one_bounded n (document_end r) o x es F (parts r)
 one_within [] n es F o b xs x s h = refl
-one_within (e ∷ r) n es F o b xs x s h = one_event n e r es F o b xs x s h (λ (fs : List Start) (G : List Part) (c : Built) (ys : Anchors) (t : Within n fs G c) (a : Agrees fs ys). one_within r n fs G o c ys x t a)
+one_within (e ∷ r) n es F o b xs x s h
+    = one_event n e r es F o b xs x s h
+    (λ (fs : List Start) (G : List Part) (c : Built) (ys : Anchors) (t : Within n fs G c) (a : Agrees fs ys). one_within r n fs G o c ys x t a)
 
-then_one : (f : Option Fault) (c : Option Closing) (o : Opening) (nodes : List yaml_node_t) (x : Ending) → settled (one_answer c o x) f nodes ≡ answer f c o nodes (last_load x)
+then_one : (f : Option Fault) (c : Option Closing) (o : Opening) (nodes : List yaml_node_t) (x : Ending)
+    → settled (one_answer c o x) f nodes ≡ answer f c o nodes (last_load x)
 then_one (Some f) c o nodes x = refl
 then_one None c o nodes x = refl
 
@@ -163,4 +221,5 @@ one_load (e ∷ r) x n = go (opening_of e) (one_load r x n)
         → ◌≡◌ {A = Load} (elim c [ None ↦ load_from n between r x | Some o ↦ load_from n (within o fresh) r x ])
         (elim c [ None ↦ next_bounded n r x | Some o ↦ answer (first_stop n [] [] (parts r)) (document_end r) o (graph [] (parts r)) (last_load x) ])
     go None h = h
-    go (Some o) h = one_within r n [] [] o unbuilt no_anchors x (within_unbuilt n) none_known ∙ then_one (first_stop n [] [] (parts r)) (document_end r) o (graph [] (parts r)) x
+    go (Some o) h = one_within r n [] [] o unbuilt no_anchors x (within_unbuilt n) none_known
+        ∙ then_one (first_stop n [] [] (parts r)) (document_end r) o (graph [] (parts r)) x

@@ -3,7 +3,7 @@
 use Rattle.std.proofs.Common.{◌≡◌, ℕ, zero, suc, ℤ, pos, List, [], ◌∷◌, ◌++◌, length, refl, sym, ap, ◌∙◌, append_assoc, append-nil, Option, None}
 use Rattle.libyaml_types.specs.declared.enums.yaml_mapping_style_t.{yaml_mapping_style_t}
 use Rattle.libyaml_types.specs.declared.enums.yaml_sequence_style_t.{yaml_sequence_style_t}
-use Rattle.libyaml_events.specs.Tokens.{Mark}
+use Rattle.libyaml_grammar.specs.sentences.Tokens.{Mark}
 use Rattle.libyaml_documents.specs.LoadedNodes.{with_end}
 use Rattle.libyaml_documents.specs.declared.node.unnamed_yaml_node_t_data.{unnamed_yaml_node_t_data}
 use Rattle.libyaml_documents.specs.declared.node.unnamed_yaml_node_t_data.TheVariants.{Scalar, Sequence, Mapping}
@@ -157,18 +157,22 @@ applied (p ∷ s) f hs = applied s (λ (d : ℕ). f (suc d)) (change p (f 0) hs)
 
 applied_same : (s : List ℕ) (f g : ℕ → Held → Held) (hs : List Held) → ((d : ℕ) (x : Held) → f d x ≡ g d x) → applied s f hs ≡ applied s g hs
 applied_same [] f g hs e = refl
-applied_same (p ∷ s) f g hs e = ap (λ (l : List Held). applied s (λ (d : ℕ). f (suc d)) l) (change_same p (f 0) (g 0) hs (e 0)) ∙ applied_same s (λ (d : ℕ). f (suc d)) (λ (d : ℕ). g (suc d)) (change p (g 0) hs) (λ d x. e (suc d) x)
+applied_same (p ∷ s) f g hs e = ap (λ (l : List Held). applied s (λ (d : ℕ). f (suc d)) l) (change_same p (f 0) (g 0) hs (e 0))
+    ∙ applied_same s (λ (d : ℕ). f (suc d)) (λ (d : ℕ). g (suc d)) (change p (g 0) hs) (λ d x. e (suc d) x)
 
 pub applied_not : (s : List ℕ) (f : ℕ → Held → Held) (hs : List Held) → ((d : ℕ) (x : Held) → f d x ≡ x) → applied s f hs ≡ hs
 applied_not [] f hs e = refl
-applied_not (p ∷ s) f hs e = ap (λ (l : List Held). applied s (λ (d : ℕ). f (suc d)) l) (change_not p (f 0) hs (e 0)) ∙ applied_not s (λ (d : ℕ). f (suc d)) hs (λ d x. e (suc d) x)
+applied_not (p ∷ s) f hs e = ap (λ (l : List Held). applied s (λ (d : ℕ). f (suc d)) l) (change_not p (f 0) hs (e 0))
+    ∙ applied_not s (λ (d : ℕ). f (suc d)) hs (λ d x. e (suc d) x)
 
 applied_append : (s : List ℕ) (f : ℕ → Held → Held) (hs r : List Held) → AllHas s hs → applied s f (hs ++ r) ≡ applied s f hs ++ r
 applied_append [] f hs r h = refl
-applied_append (p ∷ s) f hs r h = ap (λ (l : List Held). applied s (λ (d : ℕ). f (suc d)) l) (change_append p (f 0) hs r h.0) ∙ applied_append s (λ (d : ℕ). f (suc d)) (change p (f 0) hs) r (all_change s p (f 0) hs h.1)
+applied_append (p ∷ s) f hs r h = ap (λ (l : List Held). applied s (λ (d : ℕ). f (suc d)) l) (change_append p (f 0) hs r h.0)
+    ∙ applied_append s (λ (d : ℕ). f (suc d)) (change p (f 0) hs) r (all_change s p (f 0) hs h.1)
 
 -- a child handed over now, or with the rest
-applied_hold : (i : ℕ) (s : List ℕ) (f g : ℕ → Held → Held) (hs : List Held) → ((x : Held) → f 0 (hold i x) ≡ g 0 x) → ((d : ℕ) (x : Held) → f (suc d) x ≡ g (suc d) x) → applied s f (hold_top i s hs) ≡ applied s g hs
+applied_hold : (i : ℕ) (s : List ℕ) (f g : ℕ → Held → Held) (hs : List Held) → ((x : Held) → f 0 (hold i x) ≡ g 0 x)
+    → ((d : ℕ) (x : Held) → f (suc d) x ≡ g (suc d) x) → applied s f (hold_top i s hs) ≡ applied s g hs
 applied_hold i [] f g hs e h = refl
 applied_hold i (p ∷ s) f g hs e h =
     ap (λ (l : List Held). applied s (λ (d : ℕ). f (suc d)) l) (change_change p (f 0) (hold i) hs ∙ change_same p (λ (x : Held). f 0 (hold i x)) (g 0) hs e)
@@ -220,7 +224,13 @@ grown_from c is e = ap (λ (d : unnamed_yaml_node_t_data). grown None d is) (sym
 -- what the rest P of a document makes of an open node
 abbrev pub rested : List Start → List Part → ℕ → Held → Held
 rested es P d h = record {
-  node = record { tag = h.node.tag; content = grown h.key h.node.content (children d es P); start_mark = h.node.start_mark; end_mark = end_in d h.node.end_mark P };
+  node = record {
+    tag = h.node.tag;
+    content = grown h.key h.node.content (children d es P);
+    start_mark = h.node.start_mark;
+    end_mark
+        = end_in d h.node.end_mark P;
+  };
   key = grown_key h.key h.node.content (children d es P);
 }
 
@@ -229,14 +239,17 @@ abbrev pub held_graph : List Start → List Part → List Held
 held_graph es [] = []
 held_graph es (alias_part a m ∷ r) = held_graph es r
 held_graph es (leaf_part a x ∷ r) = bare x ∷ held_graph (start_of a x ∷ es) r
-held_graph es (start_part a x ∷ r) = record { node = ended (children 0 (start_of a x ∷ es) r) (end_in 0 x.end_mark r) x; key = grown_key None x.content (children 0 (start_of a x ∷ es) r) } ∷ held_graph (start_of a x ∷ es) r
+held_graph es (start_part a x ∷ r)
+    = record { node = ended (children 0 (start_of a x ∷ es) r) (end_in 0 x.end_mark r) x; key = grown_key None x.content (children 0 (start_of a x ∷ es) r) }
+    ∷ held_graph (start_of a x ∷ es) r
 held_graph es (end_part n ∷ r) = held_graph es r
 
 pub graph_nodes : (P : List Part) (es : List Start) → nodes_in (held_graph es P) ≡ graph es P
 graph_nodes [] es = refl
 graph_nodes (alias_part a m ∷ P) es = graph_nodes P es
 graph_nodes (leaf_part a x ∷ P) es = ap (λ (l : List yaml_node_t). x ∷ l) (graph_nodes P (start_of a x ∷ es))
-graph_nodes (start_part a x ∷ P) es = ap (λ (l : List yaml_node_t). ended (children 0 (start_of a x ∷ es) P) (end_in 0 x.end_mark P) x ∷ l) (graph_nodes P (start_of a x ∷ es))
+graph_nodes (start_part a x ∷ P) es
+    = ap (λ (l : List yaml_node_t). ended (children 0 (start_of a x ∷ es) P) (end_in 0 x.end_mark P) x ∷ l) (graph_nodes P (start_of a x ∷ es))
 graph_nodes (end_part n ∷ P) es = graph_nodes P es
 
 -- the whole graph, from what is built so far and the rest
@@ -250,18 +263,21 @@ BeginsEmpty (leaf_part a x) = with_children [] x.content ≡ x.content
 BeginsEmpty (start_part a x) = with_children [] x.content ≡ x.content
 BeginsEmpty (end_part n) = Unit {0}
 
-leaf_finished : (a : Option (List ℕ)) (x : yaml_node_t) (es : List Start) (P : List Part) (b : Built) → AllHas b.places b.held → finished (start_of a x ∷ es) P (build es (leaf_part a x) b) ≡ finished es (leaf_part a x ∷ P) b
+leaf_finished : (a : Option (List ℕ)) (x : yaml_node_t) (es : List Start) (P : List Part) (b : Built) → AllHas b.places b.held
+    → finished (start_of a x ∷ es) P (build es (leaf_part a x) b) ≡ finished es (leaf_part a x ∷ P) b
 leaf_finished a x es P b h =
     let F : ℕ → Held → Held = rested (start_of a x ∷ es) P in
     let G : ℕ → Held → Held = rested es (leaf_part a x ∷ P) in
     let R : List Held = held_graph (start_of a x ∷ es) P in
-    ap (λ (l : List Held). l ++ R) (applied_hold (suc (length es)) b.places F G (b.held ++ bare x ∷ []) (λ y. refl) (λ d y. refl) ∙ applied_append b.places G b.held (bare x ∷ []) h)
+    ap (λ (l : List Held). l ++ R) (applied_hold (suc (length es)) b.places F G (b.held ++ bare x ∷ []) (λ y. refl) (λ d y. refl)
+    ∙ applied_append b.places G b.held (bare x ∷ []) h)
     ∙ append_assoc (applied b.places G b.held) (bare x ∷ []) R
 
 abbrev with_content : yaml_node_t → Mark → Option ℕ → unnamed_yaml_node_t_data → Held
 with_content x n k c = record { node = record { tag = x.tag; content = c; start_mark = x.start_mark; end_mark = n }; key = k }
 
-start_finished : (a : Option (List ℕ)) (x : yaml_node_t) (es : List Start) (P : List Part) (b : Built) → with_children [] x.content ≡ x.content → AllHas b.places b.held → finished (start_of a x ∷ es) P (build es (start_part a x) b) ≡ finished es (start_part a x ∷ P) b
+start_finished : (a : Option (List ℕ)) (x : yaml_node_t) (es : List Start) (P : List Part) (b : Built) → with_children [] x.content ≡ x.content
+    → AllHas b.places b.held → finished (start_of a x ∷ es) P (build es (start_part a x) b) ≡ finished es (start_part a x ∷ P) b
 start_finished a x es P b e h =
     let fs : List Start = start_of a x ∷ es in
     let F : ℕ → Held → Held = rested fs P in
@@ -275,7 +291,8 @@ start_finished a x es P b e h =
     ∙ (ap (λ (l : List Held). applied b.places (λ (d : ℕ). F (suc d)) l ++ R) (change_last (F 0) M (bare x))
     ∙ (ap (λ (l : List Held). l ++ R) (applied_append b.places (λ (d : ℕ). F (suc d)) M (F 0 (bare x) ∷ []) (all_hold b.places b.places i b.held h))
     ∙ (ap (λ (l : List Held). (l ++ F 0 (bare x) ∷ []) ++ R) (applied_hold i b.places (λ (d : ℕ). F (suc d)) G b.held (λ y. refl) (λ d y. refl))
-    ∙ (ap (λ (c : unnamed_yaml_node_t_data). (applied b.places G b.held ++ with_content x (end_in 0 x.end_mark P) k c ∷ []) ++ R) (grown_from x.content (children 0 fs P) e)
+    ∙ (ap (λ (c : unnamed_yaml_node_t_data). (applied b.places G b.held ++ with_content x (end_in 0 x.end_mark P) k c ∷ [])
+    ++ R) (grown_from x.content (children 0 fs P) e)
     ∙ append_assoc (applied b.places G b.held) (with_content x (end_in 0 x.end_mark P) k (with_children (children 0 fs P) x.content) ∷ []) R)))))
 
 end_finished : (n : Mark) (es : List Start) (P : List Part) (b : Built) → finished es P (build es (end_part n) b) ≡ finished es (end_part n ∷ P) b
@@ -286,8 +303,11 @@ end_finished n es P b = ap (λ (l : List Held). l ++ held_graph es P) (go b.plac
     go (p ∷ s) = refl
 
 -- a part built, or left to the rest, makes the same graph
-pub build_finished : (p : Part) (es : List Start) (P : List Part) (b : Built) → BeginsEmpty p → AllHas b.places b.held → finished (behind p es) P (build es p b) ≡ finished es (p ∷ P) b
-build_finished (alias_part a m) es P b e h = ap (λ (l : List Held). l ++ held_graph es P) (applied_hold (id_or (carrier a es)) b.places (rested es P) (rested es (alias_part a m ∷ P)) b.held (λ x. refl) (λ d x. refl))
+pub build_finished : (p : Part) (es : List Start) (P : List Part) (b : Built) → BeginsEmpty p → AllHas b.places b.held
+    → finished (behind p es) P (build es p b) ≡ finished es (p ∷ P) b
+build_finished (alias_part a m) es P b e h
+    = ap (λ (l : List Held). l ++ held_graph es P)
+    (applied_hold (id_or (carrier a es)) b.places (rested es P) (rested es (alias_part a m ∷ P)) b.held (λ x. refl) (λ d x. refl))
 build_finished (leaf_part a x) es P b e h = leaf_finished a x es P b h
 build_finished (start_part a x) es P b e h = start_finished a x es P b e h
 build_finished (end_part n) es P b e h = end_finished n es P b

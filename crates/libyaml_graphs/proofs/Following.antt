@@ -4,17 +4,19 @@ use Rattle.std.proofs.Common.{◌≡◌, ℕ, zero, suc, List, [], ◌∷◌, �
 use Rattle.std.specs.Ordering.{eq_by_cmp}
 use Rattle.std.specs.Cmp.Lexicographic.{slice_cmp, texts_ties, nat_list_eq_equiv, nat_list_cmp_total}
 use Rattle.std.specs.FinMap.{get, insert, get-insert, get-from_entries}
-use Rattle.libyaml_events.specs.Events.{same_text}
-use Rattle.libyaml_events.specs.Fault.{Fault}
-use Rattle.libyaml_events.specs.Tokens.{Mark}
+use Rattle.libyaml_grammar.specs.sentences.Events.{same_text}
+use Rattle.libyaml_grammar.specs.runs.Fault.{Fault}
+use Rattle.libyaml_grammar.specs.sentences.Tokens.{Mark}
 use Rattle.libyaml_documents.specs.LoadedNodes.{with_end}
 use Rattle.libyaml_documents.specs.Nodes.{changed_at}
 use Rattle.libyaml_documents.specs.declared.node.yaml_node_t.{yaml_node_t}
 use Rattle.libyaml_graphs.specs.ComposerFaults.{alias_fault, anchor_fault, known_fault, part_fault, repeated_anchor}
 use Rattle.libyaml_graphs.specs.Graphs.{Carrier, Start, carrier, carries, id_or}
-use Rattle.libyaml_graphs.specs.Loader.{Anchors, Loader, Open, Outcome, Registered, close, failed, going, hand, handed, key_at, known, load_part, no_anchors, on_alias, on_node, outer, register, registered, with_child}
+use Rattle.libyaml_graphs.specs.Loader.{Anchors, Loader, Open, Loading, Registered, closed_by, failed, going, hand, handed, key_at, known, load_part}
+use Rattle.libyaml_graphs.specs.Loader.{no_anchors, on_alias, on_node, outer, register, registered, with_child}
 use Rattle.libyaml_graphs.specs.Parts.{Part, alias_part, behind, end_part, leaf_part, start_of, start_part}
-use Rattle.libyaml_graphs.proofs.Built.{AllHas, Built, Has, Held, all_append, all_end, all_hold, bare, below, build, change, end_at, end_top, has_last, hold, hold_top, length_end, length_hold, length_more, nodes_in, unbuilt}
+use Rattle.libyaml_graphs.proofs.Built.{AllHas, Built, Has, Held, all_append, all_end, all_hold, bare, below, build, change, end_at, end_top, has_last, hold}
+use Rattle.libyaml_graphs.proofs.Built.{hold_top, length_end, length_hold, length_more, nodes_in, unbuilt}
 
 -- the key that waits at a place, and a stack of places with their keys
 abbrev pub key_in : ℕ → List Held → Option ℕ
@@ -133,7 +135,7 @@ end_nodes p m [] = refl
 end_nodes zero m (h ∷ hs) = refl
 end_nodes (suc p) m (h ∷ hs) = ap (λ (l : List yaml_node_t). h.node ∷ l) (end_nodes p m hs)
 
-close_built : (m : Mark) (s : List ℕ) (hs : List Held) → close m (stack_of s hs) (nodes_in hs) ≡ nodes_in (end_top m s hs)
+close_built : (m : Mark) (s : List ℕ) (hs : List Held) → closed_by m (stack_of s hs) (nodes_in hs) ≡ nodes_in (end_top m s hs)
 close_built m [] hs = refl
 close_built m (p ∷ s) hs = end_nodes p m hs
 
@@ -155,7 +157,13 @@ below_falls [] h = tt
 below_falls (p ∷ s) h = h.1
 
 pub build_stands : (p : Part) (es : List Start) (b : Built) → Stands es b → Stands (behind p es) (build es p b)
-build_stands (alias_part a m) es b s = record { size = length_hold (id_or (carrier a es)) b.places b.held ∙ s.size; there = all_hold b.places b.places (id_or (carrier a es)) b.held s.there; falls = s.falls }
+build_stands (alias_part a m) es b s
+    = record {
+      size = length_hold (id_or (carrier a es)) b.places b.held ∙ s.size;
+      there
+          = all_hold b.places b.places (id_or (carrier a es)) b.held s.there;
+      falls = s.falls;
+    }
 build_stands (leaf_part a x) es b s = record {
   size = length_hold (suc (length es)) b.places (b.held ++ bare x ∷ []) ∙ (length_more b.held (bare x) ∙ ap (λ (n : ℕ). suc n) s.size);
   there = all_hold b.places b.places (suc (length es)) (b.held ++ bare x ∷ []) (all_append b.places b.held (bare x ∷ []) s.there);
@@ -163,24 +171,34 @@ build_stands (leaf_part a x) es b s = record {
 }
 build_stands (start_part a x) es b s = record {
   size = length_hold (suc (length es)) b.places (b.held ++ bare x ∷ []) ∙ (length_more b.held (bare x) ∙ ap (λ (n : ℕ). suc n) s.size);
-  there = all_hold (length b.held ∷ b.places) b.places (suc (length es)) (b.held ++ bare x ∷ []) (has_last b.held (bare x), all_append b.places b.held (bare x ∷ []) s.there);
+  there = all_hold (length b.held ∷ b.places) b.places (suc (length es)) (b.held ++ bare x ∷ []) (
+    has_last b.held (bare x),
+    all_append b.places b.held (bare x ∷ []) s.there,
+  );
   falls = (all_less b.places b.held s.there, s.falls);
 }
-build_stands (end_part n) es b s = record { size = length_end n b.places b.held ∙ s.size; there = all_end n b.places b.held s.there; falls = below_falls b.places s.falls }
+build_stands (end_part n) es b s
+    = record { size = length_end n b.places b.held ∙ s.size; there = all_end n b.places b.held s.there; falls = below_falls b.places s.falls }
 
 -- the loader behind each part
-loader_same : (nodes ms : List yaml_node_t) (s t : List Open) (xs : Anchors) → nodes ≡ ms → s ≡ t → ◌≡◌ {A = Loader} (record { nodes = nodes; stack = s; anchors = xs }) (record { nodes = ms; stack = t; anchors = xs })
-loader_same nodes ms s t xs e h = ap (λ (l : List yaml_node_t). record { nodes = l; stack = s; anchors = xs }) e ∙ ap (λ (l : List Open). record { nodes = ms; stack = l; anchors = xs }) h
+loader_same : (nodes ms : List yaml_node_t) (s t : List Open) (xs : Anchors) → nodes ≡ ms → s ≡ t
+    → ◌≡◌ {A = Loader} (record { nodes = nodes; stack = s; anchors = xs }) (record { nodes = ms; stack = t; anchors = xs })
+loader_same nodes ms s t xs e h = ap (λ (l : List yaml_node_t). record { nodes = l; stack = s; anchors = xs }) e
+    ∙ ap (λ (l : List Open). record { nodes = ms; stack = l; anchors = xs }) h
 
 -- a node that is put behind the others and handed to its parent, with what the stack is then
-put_nodes : (x : yaml_node_t) (es : List Start) (b : Built) → Stands es b → hand (suc (length (nodes_in b.held))) (stack_of b.places b.held) (nodes_in b.held ++ x ∷ []) ≡ nodes_in (hold_top (suc (length es)) b.places (b.held ++ bare x ∷ []))
+put_nodes : (x : yaml_node_t) (es : List Start) (b : Built) → Stands es b
+    → hand (suc (length (nodes_in b.held))) (stack_of b.places b.held) (nodes_in b.held ++ x ∷ [])
+    ≡ nodes_in (hold_top (suc (length es)) b.places (b.held ++ bare x ∷ []))
 put_nodes x es b s =
     ap (λ (i : ℕ). hand (suc i) (stack_of b.places b.held) (nodes_in b.held ++ x ∷ [])) (nodes_length b.held ∙ s.size)
     ∙ (ap (λ (t : List Open). hand (suc (length es)) t (nodes_in b.held ++ x ∷ [])) (sym (stack_append b.places b.held (bare x ∷ []) s.there))
     ∙ (ap (hand (suc (length es)) (stack_of b.places (b.held ++ bare x ∷ []))) (sym (nodes_append b.held (bare x ∷ [])))
     ∙ hand_built (suc (length es)) b.places (b.held ++ bare x ∷ [])))
 
-put_stack : (x : yaml_node_t) (es : List Start) (b : Built) → Stands es b → handed (suc (length (nodes_in b.held))) (stack_of b.places b.held) (nodes_in b.held ++ x ∷ []) ≡ stack_of b.places (hold_top (suc (length es)) b.places (b.held ++ bare x ∷ []))
+put_stack : (x : yaml_node_t) (es : List Start) (b : Built) → Stands es b
+    → handed (suc (length (nodes_in b.held))) (stack_of b.places b.held) (nodes_in b.held ++ x ∷ [])
+    ≡ stack_of b.places (hold_top (suc (length es)) b.places (b.held ++ bare x ∷ []))
 put_stack x es b s =
     ap (λ (i : ℕ). handed (suc i) (stack_of b.places b.held) (nodes_in b.held ++ x ∷ [])) (nodes_length b.held ∙ s.size)
     ∙ (ap (λ (t : List Open). handed (suc (length es)) t (nodes_in b.held ++ x ∷ [])) (sym (stack_append b.places b.held (bare x ∷ []) s.there))
@@ -191,7 +209,10 @@ new_key : (i : ℕ) (s : List ℕ) (hs : List Held) (x : yaml_node_t) → AllHas
 new_key i [] hs x h = key_last hs (bare x)
 new_key i (p ∷ s) hs x h = key_above (length hs) p (hold i) (hs ++ bare x ∷ []) (has_less p hs h.0) ∙ key_last hs (bare x)
 
-opened_stack : (x : yaml_node_t) (es : List Start) (b : Built) → Stands es b → ◌≡◌ {A = List Open} (record { place = length (nodes_in b.held); key = None } ∷ handed (suc (length (nodes_in b.held))) (stack_of b.places b.held) (nodes_in b.held ++ x ∷ [])) (stack_of (length b.held ∷ b.places) (hold_top (suc (length es)) b.places (b.held ++ bare x ∷ [])))
+opened_stack : (x : yaml_node_t) (es : List Start) (b : Built) → Stands es b
+    → ◌≡◌ {A = List Open} (record { place = length (nodes_in b.held); key = None }
+    ∷ handed (suc (length (nodes_in b.held))) (stack_of b.places b.held) (nodes_in b.held ++ x ∷ []))
+    (stack_of (length b.held ∷ b.places) (hold_top (suc (length es)) b.places (b.held ++ bare x ∷ [])))
 opened_stack x es b s =
     let hs : List Held = hold_top (suc (length es)) b.places (b.held ++ bare x ∷ []) in
     ap (λ (t : List Open). record { place = length (nodes_in b.held); key = None } ∷ t) (put_stack x es b s)
@@ -219,7 +240,8 @@ abbrev Meets : Registered → (Anchors → Type 0) → Mark → Option Fault →
 Meets (known k) P m f = f ≡ Some (repeated_anchor k m)
 Meets (registered xs) P m f = (f ≡ None) × P xs
 
-registers : (b : Option (List ℕ)) (i : ℕ) (m : Mark) (es : List Start) (xs : Anchors) → Agrees es xs → Meets (register b i m xs) (λ (ys : Anchors). (a : List ℕ) → get ys a ≡ with_anchor b i m es a) m (anchor_fault es b m)
+registers : (b : Option (List ℕ)) (i : ℕ) (m : Mark) (es : List Start) (xs : Anchors) → Agrees es xs
+    → Meets (register b i m xs) (λ (ys : Anchors). (a : List ℕ) → get ys a ≡ with_anchor b i m es a) m (anchor_fault es b m)
 registers None i m es xs h = (refl, h)
 registers (Some b) i m es xs h = go (get xs b) (h b)
   where
@@ -227,16 +249,22 @@ registers (Some b) i m es xs h = go (get xs b) (h b)
     ends true c o r e = refl
     ends false c o r e = e
 
-    go : (c : Option Carrier) → c ≡ carrier b es → Meets (elim c [ Some x ↦ known x.mark | None ↦ registered (insert xs b (record { id = i; mark = m })) ]) (λ (ys : Anchors). (a : List ℕ) → get ys a ≡ with_anchor (Some b) i m es a) m (known_fault (carrier b es) m)
+    go : (c : Option Carrier) → c ≡ carrier b es
+        → Meets (elim c [ Some x ↦ known x.mark | None ↦ registered (insert xs b (record { id = i; mark = m })) ]) (λ (ys : Anchors). (a : List ℕ)
+        → get ys a ≡ with_anchor (Some b) i m es a) m (known_fault (carrier b es) m)
     go (Some x) e = ap (λ (c : Option Carrier). known_fault c m) (sym e)
-    go None e = (ap (λ (c : Option Carrier). known_fault c m) (sym e), λ (a : List ℕ). inserted xs b (record { id = i; mark = m }) a ∙ ends (same_text b a) (record { id = i; mark = m }) (get xs a) (carrier a es) (h a))
+    go None e = (
+      ap (λ (c : Option Carrier). known_fault c m) (sym e),
+      λ (a : List ℕ). inserted xs b (record { id = i; mark = m }) a ∙ ends (same_text b a) (record { id = i; mark = m }) (get xs a) (carrier a es) (h a),
+    )
 
 -- What a part does: it fails as the composer does, or the loader goes on with what is built.
-abbrev pub Follows : Outcome → Option Fault → List Start → Built → Type 0
+abbrev pub Follows : Loading → Option Fault → List Start → Built → Type 0
 Follows (failed f) w es b = w ≡ Some f
 Follows (going k) w es b = (w ≡ None) × ((ys : Anchors) × (k ≡ loader_of b ys) × Agrees es ys)
 
-alias_follows : (a : List ℕ) (m : Mark) (es : List Start) (b : Built) (xs : Anchors) → Stands es b → Agrees es xs → Follows (load_part (loader_of b xs) (alias_part a m)) (alias_fault (carrier a es) m) es (build es (alias_part a m) b)
+alias_follows : (a : List ℕ) (m : Mark) (es : List Start) (b : Built) (xs : Anchors) → Stands es b → Agrees es xs
+    → Follows (load_part (loader_of b xs) (alias_part a m)) (alias_fault (carrier a es) m) es (build es (alias_part a m) b)
 alias_follows a m es b xs s h = go (get xs a) (h a)
   where
     go : (c : Option Carrier) → c ≡ carrier a es → Follows (on_alias c m (loader_of b xs)) (alias_fault (carrier a es) m) es (build es (alias_part a m) b)
@@ -252,21 +280,45 @@ alias_follows a m es b xs s h = go (get xs a) (h a)
       ),
     )
 
-leaf_follows : (b : Option (List ℕ)) (x : yaml_node_t) (es : List Start) (c : Built) (xs : Anchors) → Stands es c → Agrees es xs → Follows (load_part (loader_of c xs) (leaf_part b x)) (anchor_fault es b x.start_mark) (start_of b x ∷ es) (build es (leaf_part b x) c)
-leaf_follows b x es c xs s h = go (register b (suc (length (nodes_in c.held))) x.start_mark xs) (registers b (suc (length (nodes_in c.held))) x.start_mark es xs h)
+leaf_follows : (b : Option (List ℕ)) (x : yaml_node_t) (es : List Start) (c : Built) (xs : Anchors) → Stands es c → Agrees es xs
+    → Follows (load_part (loader_of c xs) (leaf_part b x)) (anchor_fault es b x.start_mark) (start_of b x ∷ es) (build es (leaf_part b x) c)
+leaf_follows b x es c xs s h = go (register b (suc (length (nodes_in c.held))) x.start_mark xs)
+    (registers b (suc (length (nodes_in c.held))) x.start_mark es xs h)
   where
-    go : (g : Registered) → Meets g (λ (ys : Anchors). (a : List ℕ) → get ys a ≡ with_anchor b (suc (length (nodes_in c.held))) x.start_mark es a) x.start_mark (anchor_fault es b x.start_mark) → Follows (on_node g x [] (loader_of c xs)) (anchor_fault es b x.start_mark) (start_of b x ∷ es) (build es (leaf_part b x) c)
+    go : (g : Registered) → Meets g (λ (ys : Anchors). (a : List ℕ)
+        → get ys a ≡ with_anchor b (suc (length (nodes_in c.held))) x.start_mark es a) x.start_mark (anchor_fault es b x.start_mark)
+        → Follows (on_node g x [] (loader_of c xs)) (anchor_fault es b x.start_mark) (start_of b x ∷ es) (build es (leaf_part b x) c)
     go (known k) q = q
-    go (registered ys) q = (q.0, (ys, loader_same _ _ _ _ ys (put_nodes x es c s) (put_stack x es c s), λ a. q.1 a ∙ ap (λ (i : ℕ). with_anchor b (suc i) x.start_mark es a) (nodes_length c.held ∙ s.size)))
+    go (registered ys) q = (
+      q.0,
+      (
+        ys,
+        loader_same _ _ _ _ ys (put_nodes x es c s) (put_stack x es c s),
+        λ a. q.1 a ∙ ap (λ (i : ℕ). with_anchor b (suc i) x.start_mark es a) (nodes_length c.held ∙ s.size),
+      ),
+    )
 
-start_follows : (b : Option (List ℕ)) (x : yaml_node_t) (es : List Start) (c : Built) (xs : Anchors) → Stands es c → Agrees es xs → Follows (load_part (loader_of c xs) (start_part b x)) (anchor_fault es b x.start_mark) (start_of b x ∷ es) (build es (start_part b x) c)
-start_follows b x es c xs s h = go (register b (suc (length (nodes_in c.held))) x.start_mark xs) (registers b (suc (length (nodes_in c.held))) x.start_mark es xs h)
+start_follows : (b : Option (List ℕ)) (x : yaml_node_t) (es : List Start) (c : Built) (xs : Anchors) → Stands es c → Agrees es xs
+    → Follows (load_part (loader_of c xs) (start_part b x)) (anchor_fault es b x.start_mark) (start_of b x ∷ es) (build es (start_part b x) c)
+start_follows b x es c xs s h = go (register b (suc (length (nodes_in c.held))) x.start_mark xs)
+    (registers b (suc (length (nodes_in c.held))) x.start_mark es xs h)
   where
-    go : (g : Registered) → Meets g (λ (ys : Anchors). (a : List ℕ) → get ys a ≡ with_anchor b (suc (length (nodes_in c.held))) x.start_mark es a) x.start_mark (anchor_fault es b x.start_mark) → Follows (on_node g x (record { place = length (nodes_in c.held); key = None } ∷ []) (loader_of c xs)) (anchor_fault es b x.start_mark) (start_of b x ∷ es) (build es (start_part b x) c)
+    go : (g : Registered) → Meets g (λ (ys : Anchors). (a : List ℕ)
+        → get ys a ≡ with_anchor b (suc (length (nodes_in c.held))) x.start_mark es a) x.start_mark (anchor_fault es b x.start_mark)
+        → Follows (on_node g x (record { place = length (nodes_in c.held); key = None } ∷ []) (loader_of c xs)) (anchor_fault es b x.start_mark) (start_of b x
+        ∷ es) (build es (start_part b x) c)
     go (known k) q = q
-    go (registered ys) q = (q.0, (ys, loader_same _ _ _ _ ys (put_nodes x es c s) (opened_stack x es c s), λ a. q.1 a ∙ ap (λ (i : ℕ). with_anchor b (suc i) x.start_mark es a) (nodes_length c.held ∙ s.size)))
+    go (registered ys) q = (
+      q.0,
+      (
+        ys,
+        loader_same _ _ _ _ ys (put_nodes x es c s) (opened_stack x es c s),
+        λ a. q.1 a ∙ ap (λ (i : ℕ). with_anchor b (suc i) x.start_mark es a) (nodes_length c.held ∙ s.size),
+      ),
+    )
 
-pub part_follows : (p : Part) (es : List Start) (b : Built) (xs : Anchors) → Stands es b → Agrees es xs → Follows (load_part (loader_of b xs) p) (part_fault es p) (behind p es) (build es p b)
+pub part_follows : (p : Part) (es : List Start) (b : Built) (xs : Anchors) → Stands es b → Agrees es xs
+    → Follows (load_part (loader_of b xs) p) (part_fault es p) (behind p es) (build es p b)
 part_follows (alias_part a m) es b xs s h = alias_follows a m es b xs s h
 part_follows (leaf_part a x) es b xs s h = leaf_follows a x es b xs s h
 part_follows (start_part a x) es b xs s h = start_follows a x es b xs s h

@@ -1,18 +1,21 @@
 -- The ids of a graph: each names a node, a node holds those of all its children, and children come later than their parents.
-use Rattle.std.proofs.Common.{◌≡◌, ◌≤◌, ℕ, suc, ℤ, pos, List, [], ◌∷◌, ◌+◌, length, All, arith, add-zero, zero-add, Option, Some, None, Bool, true, false, refl, sym, ap, ◌∙◌, subst, le_refl, le_trans, le_of_lt, lt-suc_self, suc-le-suc, zero-le}
+use Rattle.std.proofs.Common.{◌≡◌, ◌≤◌, ℕ, suc, ℤ, pos, List, [], ◌∷◌, ◌+◌, length, All, arith, add-zero, zero-add, Option, Some, None, Bool, true, false}
+use Rattle.std.proofs.Common.{refl, sym, ap, ◌∙◌, subst, le_refl, le_trans, le_of_lt, lt-suc_self, suc-le-suc, zero-le}
 use Rattle.std.proofs.lemmas.Int.{ints}
 use Rattle.std.proofs.lemmas.List.Elements.{All-nil, All-cons}
-use Rattle.libyaml_events.specs.Events.{Event, Layout, end_event}
-use Rattle.libyaml_events.specs.Fault.{Fault}
-use Rattle.libyaml_events.specs.Nesting.{AllHavePairs, HasPairs, Texts, TextsHavePairs, Value, Values, alias_value, collection_value, first_value, is_even, no_texts, no_values, scalar_value, text_behind, value_events, values_events}
-use Rattle.libyaml_events.specs.Order.{negated}
-use Rattle.libyaml_events.specs.Tokens.{Mark}
-use Rattle.libyaml_events.specs.Trees.{Sort, mapping, sequence}
+use Rattle.libyaml_grammar.specs.sentences.Events.{Event, Layout, end_at}
+use Rattle.libyaml_grammar.specs.runs.Fault.{Fault}
+use Rattle.libyaml_grammar.specs.sentences.Nesting.{AllHavePairs, HasPairs, Texts, TextsHavePairs, Value, Values, alias_value, collection_value, first_value}
+use Rattle.libyaml_grammar.specs.sentences.Nesting.{is_even, no_texts, no_values, scalar_value, text_behind, value_events, values_events}
+use Rattle.libyaml_grammar.specs.sentences.Order.{negated}
+use Rattle.libyaml_grammar.specs.sentences.Tokens.{Mark}
+use Rattle.libyaml_grammar.specs.sentences.Trees.{Sort, mapping, sequence}
 use Rattle.libyaml_documents.specs.Nodes.{EveryIdNamesANode, IsIdUpTo, ids_of, ids_of_pairs}
 use Rattle.libyaml_documents.specs.declared.node.yaml_node_t.{yaml_node_t}
 use Rattle.libyaml_graphs.specs.ComposerFaults.{alias_fault, anchor_fault, composer_fault, heads, or_else, part_fault}
 use Rattle.libyaml_graphs.specs.GraphLaws.{AllHoldTheirChildren, AllLater, ChildrenAreLater, EachHoldsItsChildren, HoldsItsChildren, IsLater}
-use Rattle.libyaml_graphs.specs.Graphs.{Carrier, Start, carrier, carries, collection_loaded, id_of, id_or, ids_of_all, items, nodes_of, nodes_of_all, pairs, starts_behind, starts_behind_all}
+use Rattle.libyaml_graphs.specs.Graphs.{Carrier, Start, carrier, carries, collection_loaded, id_of, id_or, ids_of_all, items, nodes_of, nodes_of_all, pairs}
+use Rattle.libyaml_graphs.specs.Graphs.{starts_behind, starts_behind_all}
 use Rattle.libyaml_graphs.specs.Parts.{Part, alias_part, end_part, leaf_part, parts, start_of, start_part}
 
 one_more : (n : ℕ) → n ≤ suc n
@@ -23,7 +26,8 @@ or_none None g e = (refl, e)
 or_none (Some f) g e = cc
 
 -- an alias's id is that of a node whose start stands before it
-carried : (b : Bool) (n : ℕ) (m : Mark) (o : Option Carrier) → id_or o ≤ n → id_or (elim b [ true ↦ Some (record { id = suc n; mark = m }) | false ↦ o ]) ≤ suc n
+carried : (b : Bool) (n : ℕ) (m : Mark) (o : Option Carrier) → id_or o ≤ n
+    → id_or (elim b [ true ↦ Some (record { id = suc n; mark = m }) | false ↦ o ]) ≤ suc n
 carried true n m o h = le_refl _
 carried false n m o h = le_trans h (one_more n)
 
@@ -32,7 +36,9 @@ carrier_before a [] = le_refl _
 carrier_before a (s ∷ es) = carried (carries s.anchor a) (length es) s.mark (carrier a es) (carrier_before a es)
 
 -- and is not zero where the alias has no fault
-named : (b : Bool) (n : ℕ) (i m : Mark) (o : Option Carrier) → (alias_fault o m ≡ None → 1 ≤ id_or o) → alias_fault (elim b [ true ↦ Some (record { id = suc n; mark = i }) | false ↦ o ]) m ≡ None → 1 ≤ id_or (elim b [ true ↦ Some (record { id = suc n; mark = i }) | false ↦ o ])
+named : (b : Bool) (n : ℕ) (i m : Mark) (o : Option Carrier) → (alias_fault o m ≡ None → 1 ≤ id_or o)
+    → alias_fault (elim b [ true ↦ Some (record { id = suc n; mark = i }) | false ↦ o ]) m ≡ None
+    → 1 ≤ id_or (elim b [ true ↦ Some (record { id = suc n; mark = i }) | false ↦ o ])
 named true n i m o f e = suc-le-suc zero-le
 named false n i m o f e = f e
 
@@ -66,19 +72,24 @@ AllUpTo n (i ∷ is) = IsUpTo n i × AllUpTo n is
 
 -- where the composer finds no fault in values they have ids, and there is none in what stands behind them
 mutual
-  value_sound : (v : Value) (es : List Start) (r : List Event) → composer_fault es (parts (value_events v r)) ≡ None → (1 ≤ id_of v es) × (composer_fault (starts_behind v es) (parts r) ≡ None)
+  value_sound : (v : Value) (es : List Start) (r : List Event) → composer_fault es (parts (value_events v r)) ≡ None → (1 ≤ id_of v es)
+      × (composer_fault (starts_behind v es) (parts r) ≡ None)
   value_sound (alias_value a m n) es r e =
       let h : (alias_fault (carrier a.anchor es) m ≡ None) × (composer_fault es (parts r) ≡ None) = or_none _ _ e in
       (carrier_id a.anchor es m h.0, h.1)
   value_sound (scalar_value s m n) es r e = (suc-le-suc zero-le, (or_none (anchor_fault es s.anchor m) _ e).1)
-  value_sound (collection_value sequence a t i s m n vs p q) es r e = (suc-le-suc zero-le, (values_sound vs (record { anchor = a; mark = m } ∷ es) (end_event sequence p q ∷ r) (or_none (anchor_fault es a m) _ e).1).1)
-  value_sound (collection_value mapping a t i s m n vs p q) es r e = (suc-le-suc zero-le, (values_sound vs (record { anchor = a; mark = m } ∷ es) (end_event mapping p q ∷ r) (or_none (anchor_fault es a m) _ e).1).1)
+  value_sound (collection_value sequence a t i s m n vs p q) es r e
+      = (suc-le-suc zero-le, (values_sound vs (record { anchor = a; mark = m } ∷ es) (end_at sequence p q ∷ r) (or_none (anchor_fault es a m) _ e).1).1)
+  value_sound (collection_value mapping a t i s m n vs p q) es r e
+      = (suc-le-suc zero-le, (values_sound vs (record { anchor = a; mark = m } ∷ es) (end_at mapping p q ∷ r) (or_none (anchor_fault es a m) _ e).1).1)
 
-  values_sound : (vs : Values) (es : List Start) (r : List Event) → composer_fault es (parts (values_events vs r)) ≡ None → ((n : ℕ) → length (starts_behind_all vs es) ≤ n → AllUpTo n (ids_of_all vs es)) × (composer_fault (starts_behind_all vs es) (parts r) ≡ None)
+  values_sound : (vs : Values) (es : List Start) (r : List Event) → composer_fault es (parts (values_events vs r)) ≡ None
+      → ((n : ℕ) → length (starts_behind_all vs es) ≤ n → AllUpTo n (ids_of_all vs es)) × (composer_fault (starts_behind_all vs es) (parts r) ≡ None)
   values_sound no_values es r e = (λ n h. tt, e)
   values_sound (first_value v vs) es r e =
       let a : (1 ≤ id_of v es) × (composer_fault (starts_behind v es) (parts (values_events vs r)) ≡ None) = value_sound v es (values_events vs r) e in
-      let b : ((n : ℕ) → length (starts_behind_all vs (starts_behind v es)) ≤ n → AllUpTo n (ids_of_all vs (starts_behind v es))) × (composer_fault (starts_behind_all vs (starts_behind v es)) (parts r) ≡ None) = values_sound vs (starts_behind v es) r a.1 in
+      let b : ((n : ℕ) → length (starts_behind_all vs (starts_behind v es)) ≤ n → AllUpTo n (ids_of_all vs (starts_behind v es)))
+      × (composer_fault (starts_behind_all vs (starts_behind v es)) (parts r) ≡ None) = values_sound vs (starts_behind v es) r a.1 in
       (λ n h. (record { first = a.0; last = le_trans (id_up_to v es) (le_trans (all_starts_grow vs (starts_behind v es)) h) }, b.0 n h), b.1)
 
 is_id : (n i : ℕ) → IsUpTo n i → IsIdUpTo n (pos i)
@@ -91,7 +102,8 @@ items_are n (i ∷ is) h = All-cons (IsIdUpTo n) (pos i) (items is) (is_id n i h
 pairs_are : (n : ℕ) (is : List ℕ) → AllUpTo n is → All (IsIdUpTo n) (ids_of_pairs (pairs is))
 pairs_are n [] h = All-nil (IsIdUpTo n)
 pairs_are n (k ∷ []) h = All-nil (IsIdUpTo n)
-pairs_are n (k ∷ v ∷ is) h = All-cons (IsIdUpTo n) (pos k) (pos v ∷ ids_of_pairs (pairs is)) (is_id n k h.0) (All-cons (IsIdUpTo n) (pos v) (ids_of_pairs (pairs is)) (is_id n v h.1.0) (pairs_are n is h.1.1))
+pairs_are n (k ∷ v ∷ is) h = All-cons (IsIdUpTo n) (pos k) (pos v ∷ ids_of_pairs (pairs is)) (is_id n k h.0)
+    (All-cons (IsIdUpTo n) (pos v) (ids_of_pairs (pairs is)) (is_id n v h.1.0) (pairs_are n is h.1.1))
 
 abbrev Ids : ℕ → yaml_node_t → Type 0
 Ids n x = All (IsIdUpTo n) (ids_of x.content)
@@ -100,24 +112,30 @@ collection_ids : (k : Sort) (n : ℕ) (t : Option (List ℕ)) (s : Layout) (is :
 collection_ids sequence n t s is m q h = items_are n is h
 collection_ids mapping n t s is m q h = pairs_are n is h
 
-opened_sound : (k : Sort) (a t : Option (List ℕ)) (i : Bool) (s : Layout) (m n : Mark) (vs : Values) (p q : Mark) (es : List Start) (r : List Event) → composer_fault es (parts (value_events (collection_value k a t i s m n vs p q) r)) ≡ None → composer_fault (record { anchor = a; mark = m } ∷ es) (parts (values_events vs (end_event k p q ∷ r))) ≡ None
+opened_sound : (k : Sort) (a t : Option (List ℕ)) (i : Bool) (s : Layout) (m n : Mark) (vs : Values) (p q : Mark) (es : List Start) (r : List Event)
+    → composer_fault es (parts (value_events (collection_value k a t i s m n vs p q) r)) ≡ None
+    → composer_fault (record { anchor = a; mark = m } ∷ es) (parts (values_events vs (end_at k p q ∷ r))) ≡ None
 opened_sound sequence a t i s m n vs p q es r e = (or_none (anchor_fault es a m) _ e).1
 opened_sound mapping a t i s m n vs p q es r e = (or_none (anchor_fault es a m) _ e).1
 
 mutual
-  value_ids : (v : Value) (n : ℕ) (es : List Start) (r : List Event) (l : List yaml_node_t) → composer_fault es (parts (value_events v r)) ≡ None → length (starts_behind v es) ≤ n → All (Ids n) l → All (Ids n) (nodes_of v es l)
+  value_ids : (v : Value) (n : ℕ) (es : List Start) (r : List Event) (l : List yaml_node_t) → composer_fault es (parts (value_events v r)) ≡ None
+      → length (starts_behind v es) ≤ n → All (Ids n) l → All (Ids n) (nodes_of v es l)
   value_ids (alias_value a m j) n es r l e h k = k
   value_ids (scalar_value s m j) n es r l e h k = All-cons (Ids n) _ l (All-nil (IsIdUpTo n)) k
   value_ids (collection_value c a t i s m j vs x q) n es r l e h k =
       let fs : List Start = record { anchor = a; mark = m } ∷ es in
-      let f : composer_fault fs (parts (values_events vs (end_event c x q ∷ r))) ≡ None = opened_sound c a t i s m j vs x q es r e in
+      let f : composer_fault fs (parts (values_events vs (end_at c x q ∷ r))) ≡ None = opened_sound c a t i s m j vs x q es r e in
       All-cons (Ids n) (collection_loaded c t s (ids_of_all vs fs) m q) (nodes_of_all vs fs l)
-      (collection_ids c n t s (ids_of_all vs fs) m q ((values_sound vs fs (end_event c x q ∷ r) f).0 n h))
-      (values_ids vs n fs (end_event c x q ∷ r) l f h k)
+      (collection_ids c n t s (ids_of_all vs fs) m q ((values_sound vs fs (end_at c x q ∷ r) f).0 n h))
+      (values_ids vs n fs (end_at c x q ∷ r) l f h k)
 
-  values_ids : (vs : Values) (n : ℕ) (es : List Start) (r : List Event) (l : List yaml_node_t) → composer_fault es (parts (values_events vs r)) ≡ None → length (starts_behind_all vs es) ≤ n → All (Ids n) l → All (Ids n) (nodes_of_all vs es l)
+  values_ids : (vs : Values) (n : ℕ) (es : List Start) (r : List Event) (l : List yaml_node_t) → composer_fault es (parts (values_events vs r)) ≡ None
+      → length (starts_behind_all vs es) ≤ n → All (Ids n) l → All (Ids n) (nodes_of_all vs es l)
   values_ids no_values n es r l e h k = k
-  values_ids (first_value v vs) n es r l e h k = value_ids v n es (values_events vs r) (nodes_of_all vs (starts_behind v es) l) e (le_trans (all_starts_grow vs (starts_behind v es)) h) (values_ids vs n (starts_behind v es) r l (value_sound v es (values_events vs r) e).1 h k)
+  values_ids (first_value v vs) n es r l e h k
+      = value_ids v n es (values_events vs r) (nodes_of_all vs (starts_behind v es) l) e (le_trans (all_starts_grow vs (starts_behind v es)) h)
+      (values_ids vs n (starts_behind v es) r l (value_sound v es (values_events vs r) e).1 h k)
 
 moved : (a b : ℕ) → suc a + b ≡ a + suc b
 moved a b = omega arith
@@ -129,7 +147,8 @@ mutual
   nodes_count (collection_value c a t i s m j vs p q) es l =
       all_nodes_count vs (record { anchor = a; mark = m } ∷ es) l ∙ moved (length es) (length (nodes_of_all vs (record { anchor = a; mark = m } ∷ es) l))
 
-  all_nodes_count : (vs : Values) (es : List Start) (l : List yaml_node_t) → length (starts_behind_all vs es) + length l ≡ length es + length (nodes_of_all vs es l)
+  all_nodes_count : (vs : Values) (es : List Start) (l : List yaml_node_t)
+      → length (starts_behind_all vs es) + length l ≡ length es + length (nodes_of_all vs es l)
   all_nodes_count no_values es l = refl
   all_nodes_count (first_value v vs) es l = all_nodes_count vs (starts_behind v es) l ∙ nodes_count v es (nodes_of_all vs (starts_behind v es) l)
 
@@ -138,7 +157,8 @@ node_count v = sym (add-zero _) ∙ (nodes_count v [] [] ∙ zero-add _)
 
 -- in a document without composer fault every id names a node
 pub every_id : (v : Value) → composer_fault [] (parts (value_events v [])) ≡ None → EveryIdNamesANode (nodes_of v [] [])
-every_id v e = value_ids v (length (nodes_of v [] [])) [] [] [] e (subst (λ (n : ℕ). length (starts_behind v []) ≤ n) (node_count v) (le_refl _)) (All-nil (Ids (length (nodes_of v [] []))))
+every_id v e = value_ids v (length (nodes_of v [] [])) [] [] [] e (subst (λ (n : ℕ). length (starts_behind v []) ≤ n) (node_count v) (le_refl _))
+    (All-nil (Ids (length (nodes_of v [] []))))
 
 -- each node holds the ids of all its children
 abbrev even_list : List ℕ → Bool
@@ -163,7 +183,11 @@ mutual
   holds_children (alias_value a m n) es h = tt
   holds_children (scalar_value s m n) es h = tt
   holds_children (collection_value sequence a t i s m n vs p q) es h = (refl, all_hold_children vs (record { anchor = a; mark = m } ∷ es) h.1)
-  holds_children (collection_value mapping a t i s m n vs p q) es h = (pairs_hold (ids_of_all vs (record { anchor = a; mark = m } ∷ es)) (ids_even vs (record { anchor = a; mark = m } ∷ es) ∙ h.0), all_hold_children vs (record { anchor = a; mark = m } ∷ es) h.1)
+  holds_children (collection_value mapping a t i s m n vs p q) es h
+      = (
+        pairs_hold (ids_of_all vs (record { anchor = a; mark = m } ∷ es)) (ids_even vs (record { anchor = a; mark = m } ∷ es) ∙ h.0),
+        all_hold_children vs (record { anchor = a; mark = m } ∷ es) h.1,
+      )
 
   all_hold_children : (vs : Values) (es : List Start) → AllHavePairs vs → AllHoldTheirChildren vs es
   all_hold_children no_values es h = tt

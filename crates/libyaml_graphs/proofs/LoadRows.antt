@@ -1,34 +1,50 @@
 -- Each worked row is read token by token; all else is computed.
 use Rattle.std.proofs.Common.{◌≡◌, ◌++◌, ◌∷◌, ℕ, suc, List, refl, true, false}
 use Rattle.std.specs.Prelude.{take, drop}
-use Rattle.libyaml_events.specs.CutEvents.{cut_events}
-use Rattle.libyaml_events.specs.CutFaults.{fault}
-use Rattle.libyaml_events.specs.CutTrees.{Cut}
-use Rattle.libyaml_events.specs.Events.{events}
-use Rattle.libyaml_events.specs.Fault.{Fault}
-use Rattle.libyaml_events.specs.Positions.{Position, done, unopened}
-use Rattle.libyaml_events.specs.Reading.{bad, goes, reads, reads_all}
-use Rattle.libyaml_events.specs.Runs.{Ends, Fails, is_behind_properties}
-use Rattle.libyaml_events.specs.Sentences.{has_end}
-use Rattle.libyaml_events.specs.Settled.{sure}
-use Rattle.libyaml_events.specs.Tokens.{Token}
-use Rattle.libyaml_events.specs.Trees.{Stream}
-use Rattle.libyaml_events.proofs.Fronts.{front}
-use Rattle.libyaml_events.proofs.RowKinds.{begin_row, cut_row, sentence_row}
+use Rattle.libyaml_grammar.specs.cuts.CutEvents.{cut_events}
+use Rattle.libyaml_grammar.specs.cuts.CutFaults.{fault}
+use Rattle.libyaml_grammar.specs.cuts.CutTrees.{Cut}
+use Rattle.libyaml_grammar.specs.sentences.Events.{events}
+use Rattle.libyaml_grammar.specs.runs.Fault.{Fault}
+use Rattle.libyaml_grammar.proofs.positions.Positions.{Position, done, unopened}
+use Rattle.libyaml_grammar.proofs.positions.Reading.{bad, goes, reads, reads_all}
+use Rattle.libyaml_grammar.specs.runs.Runs.{Ends, Fails, is_behind_properties}
+use Rattle.libyaml_grammar.specs.sentences.Sentences.{has_end}
+use Rattle.libyaml_grammar.specs.cuts.Settled.{sure}
+use Rattle.libyaml_grammar.specs.sentences.Tokens.{Token}
+use Rattle.libyaml_grammar.specs.sentences.Trees.{Stream}
+use Rattle.libyaml_grammar.proofs.runs.Fronts.{front}
+use Rattle.libyaml_grammar.proofs.rows.RowKinds.{begin_row, cut_row, sentence_row}
 use Rattle.libyaml_graphs.specs.Bounds.{IsBoundedLoads, bounded_loads}
 use Rattle.libyaml_graphs.specs.Loads.{IsLoads, Load, loads}
-use Rattle.libyaml_graphs.specs.LoadRows.{RowAliasBeforeBound, RowAnchorOfDocumentBefore, RowBoundBeforeAnchor, RowBoundOfEachDocument, RowCollectionsInPairs, RowDirectives, RowEmptyDocuments, RowEmptyStream, RowEmptyTag, RowExclamationMarksOfCollections, RowExplicitEnd, RowHoldsItself, RowItemTwice, RowItemsBeyondBound, RowKeyBeyondBound, RowNestedHoldsItself, RowNodesBeyondBound, RowNodesInBound, RowPairInBound, RowPairs, RowParserFault, RowSecondAliasUndefined, RowSecondAnchor, RowSourceEnds, RowTagThatIsAnExclamationMark, RowUndefinedAlias, RowUndefinedAliasBeforeSourceEnds, RowUndefinedAliasBehindKey}
+use Rattle.libyaml_graphs.specs.LoadRows.{RowAliasBeforeBound, RowAnchorOfDocumentBefore, RowBoundBeforeAnchor, RowBoundOfEachDocument, RowCollectionsInPairs}
+use Rattle.libyaml_graphs.specs.LoadRows.{RowDirectives, RowEmptyDocuments, RowEmptyStream, RowEmptyTag, RowExclamationMarksOfCollections, RowExplicitEnd}
+use Rattle.libyaml_graphs.specs.LoadRows.{RowHoldsItself, RowItemTwice, RowItemsBeyondBound, RowKeyBeyondBound, RowNestedHoldsItself, RowNodesBeyondBound}
+use Rattle.libyaml_graphs.specs.LoadRows.{RowNodesInBound, RowPairInBound, RowPairs, RowParserFault, RowSecondAliasUndefined, RowSecondAnchor, RowSourceEnds}
+use Rattle.libyaml_graphs.specs.LoadRows.{RowTagThatIsAnExclamationMark, RowUndefinedAlias, RowUndefinedAliasBeforeSourceEnds, RowUndefinedAliasBehindKey}
 
-sentence_loads : (n : ℕ) (l : List Token) (f : Fault) (a : List Load) (t : Stream) → reads_all (take n l) unopened ≡ goes (done t) → take n l ++ drop n l ≡ l → a ≡ loads (events t) Ends → IsLoads l f a
+sentence_loads : (n : ℕ) (l : List Token) (f : Fault) (a : List Load) (t : Stream) → reads_all (take n l) unopened ≡ goes (done t) → take n l ++ drop n l ≡ l
+    → a ≡ loads (events t) Ends → IsLoads l f a
 sentence_loads n l f a t r s h = record { events = events t; ending = Ends; run = sentence_row n l f (events t) t r s refl; all = h }
 
-cut_loads : (n : ℕ) (l : List Token) (f : Fault) (a : List Load) (b : Token) (q : Position) (c : Cut) → take n l ++ b ∷ drop (suc n) l ≡ l → reads_all (take n l) unopened ≡ goes q → reads q b ≡ bad c → is_behind_properties c (drop (suc n) l) ≡ true → a ≡ loads (cut_events c b) (Fails (fault c b.content b.start_mark)) → IsLoads l f a
-cut_loads n l f a b q c s r h i k = record { events = cut_events c b; ending = Fails (fault c b.content b.start_mark); run = cut_row n l f (cut_events c b) (fault c b.content b.start_mark) b q c s r h i refl refl; all = k }
+cut_loads : (n : ℕ) (l : List Token) (f : Fault) (a : List Load) (b : Token) (q : Position) (c : Cut) → take n l ++ b ∷ drop (suc n) l ≡ l
+    → reads_all (take n l) unopened ≡ goes q → reads q b ≡ bad c → is_behind_properties c (drop (suc n) l) ≡ true
+    → a ≡ loads (cut_events c b) (Fails (fault c b.content b.start_mark)) → IsLoads l f a
+cut_loads n l f a b q c s r h i k
+    = record {
+      events = cut_events c b;
+      ending = Fails (fault c b.content b.start_mark);
+      run
+          = cut_row n l f (cut_events c b) (fault c b.content b.start_mark) b q c s r h i refl refl;
+      all = k;
+    }
 
-begin_loads : (l : List Token) (f : Fault) (a : List Load) (q : Position) → reads_all l unopened ≡ goes q → has_end l ≡ false → a ≡ loads (sure (front q)) (Fails f) → IsLoads l f a
+begin_loads : (l : List Token) (f : Fault) (a : List Load) (q : Position) → reads_all l unopened ≡ goes q → has_end l ≡ false
+    → a ≡ loads (sure (front q)) (Fails f) → IsLoads l f a
 begin_loads l f a q r h k = record { events = sure (front q); ending = Fails f; run = begin_row l f (sure (front q)) q r h refl; all = k }
 
-bounded_rows : (m n : ℕ) (l : List Token) (f : Fault) (a : List Load) (t : Stream) → reads_all (take n l) unopened ≡ goes (done t) → take n l ++ drop n l ≡ l → a ≡ bounded_loads m (events t) Ends → IsBoundedLoads m l f a
+bounded_rows : (m n : ℕ) (l : List Token) (f : Fault) (a : List Load) (t : Stream) → reads_all (take n l) unopened ≡ goes (done t) → take n l ++ drop n l ≡ l
+    → a ≡ bounded_loads m (events t) Ends → IsBoundedLoads m l f a
 bounded_rows m n l f a t r s h = record { events = events t; ending = Ends; run = sentence_row n l f (events t) t r s refl; all = h }
 
 pub empty_stream : RowEmptyStream

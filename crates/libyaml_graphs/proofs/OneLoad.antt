@@ -1,8 +1,8 @@
 -- Load by load, without a bound and within one.
 use Rattle.std.proofs.Common.{◌≡◌, ℕ, zero, suc, List, [], ◌∷◌, Option, Some, None, refl, sym, ap, ◌∙◌}
-use Rattle.libyaml_events.specs.Events.{Event}
-use Rattle.libyaml_events.specs.Fault.{Fault}
-use Rattle.libyaml_events.specs.Runs.{Ending, Ends, Fails}
+use Rattle.libyaml_grammar.specs.sentences.Events.{Event}
+use Rattle.libyaml_grammar.specs.runs.Fault.{Fault}
+use Rattle.libyaml_grammar.specs.runs.Runs.{Ending, Ends, Fails}
 use Rattle.libyaml_documents.specs.declared.node.yaml_node_t.{yaml_node_t}
 use Rattle.libyaml_graphs.specs.Bounds.{bounded_loads, bounded_loads_behind, first_stop, next_bounded}
 use Rattle.libyaml_graphs.specs.ComposerFaults.{composer_fault}
@@ -14,7 +14,8 @@ loads_left : (r : List Event) (x : Ending) → loads_behind r x ≡ loads (behin
 loads_left [] x = refl
 loads_left (e ∷ r) x = go (closing_of e) (loads_left r x)
   where
-    go : (c : Option Closing) → loads_behind r x ≡ loads (behind_document r) x → ◌≡◌ {A = List Load} (elim c [ Some y ↦ loads r x | None ↦ loads_behind r x ]) (loads (elim c [ Some y ↦ r | None ↦ behind_document r ]) x)
+    go : (c : Option Closing) → loads_behind r x ≡ loads (behind_document r) x
+        → ◌≡◌ {A = List Load} (elim c [ Some y ↦ loads r x | None ↦ loads_behind r x ]) (loads (elim c [ Some y ↦ r | None ↦ behind_document r ]) x)
     go (Some y) h = refl
     go None h = h
 
@@ -22,7 +23,9 @@ pub bounded_left : (r : List Event) (x : Ending) (m : ℕ) → bounded_loads_beh
 bounded_left [] x m = refl
 bounded_left (e ∷ r) x m = go (closing_of e) (bounded_left r x m)
   where
-    go : (c : Option Closing) → bounded_loads_behind m r x ≡ bounded_loads m (behind_document r) x → ◌≡◌ {A = List Load} (elim c [ Some y ↦ bounded_loads m r x | None ↦ bounded_loads_behind m r x ]) (bounded_loads m (elim c [ Some y ↦ r | None ↦ behind_document r ]) x)
+    go : (c : Option Closing) → bounded_loads_behind m r x ≡ bounded_loads m (behind_document r) x
+        → ◌≡◌ {A = List Load} (elim c [ Some y ↦ bounded_loads m r x | None ↦ bounded_loads_behind m r x ])
+        (bounded_loads m (elim c [ Some y ↦ r | None ↦ behind_document r ]) x)
     go (Some y) h = refl
     go None h = h
 
@@ -31,12 +34,14 @@ none_behind : (r : List Event) → document_end r ≡ None → behind_document r
 none_behind [] h = refl
 none_behind (e ∷ r) h = go (closing_of e) h (none_behind r)
   where
-    go : (c : Option Closing) → ◌≡◌ {A = Option Closing} (elim c [ Some y ↦ Some y | None ↦ document_end r ]) None → (document_end r ≡ None → behind_document r ≡ []) → ◌≡◌ {A = List Event} (elim c [ Some y ↦ r | None ↦ behind_document r ]) []
+    go : (c : Option Closing) → ◌≡◌ {A = Option Closing} (elim c [ Some y ↦ Some y | None ↦ document_end r ]) None
+        → (document_end r ≡ None → behind_document r ≡ []) → ◌≡◌ {A = List Event} (elim c [ Some y ↦ r | None ↦ behind_document r ]) []
     go (Some y) h k = cc
     go None h k = k h
 
 -- the first of the loads
-first_of : (z : Load) (f : Option Fault) (c : Option Closing) (o : Opening) (ns : List yaml_node_t) (y : Load) (l : List Load) → load_at z 0 (load_then f c o ns y l) ≡ answer f c o ns y
+first_of : (z : Load) (f : Option Fault) (c : Option Closing) (o : Opening) (ns : List yaml_node_t) (y : Load) (l : List Load)
+    → load_at z 0 (load_then f c o ns y l) ≡ answer f c o ns y
 first_of z (Some f) c o ns y l = refl
 first_of z None (Some c) o ns y l = refl
 first_of z None None o ns y l = refl
@@ -46,7 +51,10 @@ first_load [] x z = refl
 first_load (e ∷ r) x z = go (opening_of e) (first_load r x z)
   where
     go : (c : Option Opening) → load_at z 0 (loads r x) ≡ next_load r x
-        → load_at z 0 (elim c [ None ↦ loads r x | Some o ↦ load_then (composer_fault [] (parts r)) (document_end r) o (graph [] (parts r)) (last_load x) (loads_behind r x) ])
+        → load_at z 0 (elim c [
+          | None ↦ loads r x
+          | Some o ↦ load_then (composer_fault [] (parts r)) (document_end r) o (graph [] (parts r)) (last_load x) (loads_behind r x)
+        ])
         ≡ elim c [ None ↦ next_load r x | Some o ↦ answer (composer_fault [] (parts r)) (document_end r) o (graph [] (parts r)) (last_load x) ]
     go None h = h
     go (Some o) h = first_of z (composer_fault [] (parts r)) (document_end r) o (graph [] (parts r)) (last_load x) (loads_behind r x)
@@ -56,7 +64,10 @@ first_bounded [] x z m = refl
 first_bounded (e ∷ r) x z m = go (opening_of e) (first_bounded r x z m)
   where
     go : (c : Option Opening) → load_at z 0 (bounded_loads m r x) ≡ next_bounded m r x
-        → load_at z 0 (elim c [ None ↦ bounded_loads m r x | Some o ↦ load_then (first_stop m [] [] (parts r)) (document_end r) o (graph [] (parts r)) (last_load x) (bounded_loads_behind m r x) ])
+        → load_at z 0 (elim c [
+          | None ↦ bounded_loads m r x
+          | Some o ↦ load_then (first_stop m [] [] (parts r)) (document_end r) o (graph [] (parts r)) (last_load x) (bounded_loads_behind m r x)
+        ])
         ≡ elim c [ None ↦ next_bounded m r x | Some o ↦ answer (first_stop m [] [] (parts r)) (document_end r) o (graph [] (parts r)) (last_load x) ]
     go None h = h
     go (Some o) h = first_of z (first_stop m [] [] (parts r)) (document_end r) o (graph [] (parts r)) (last_load x) (bounded_loads_behind m r x)
@@ -69,32 +80,56 @@ at_last (suc n) Ends = refl
 at_last (suc n) (Fails f) = refl
 
 -- the loads behind the first are those of what it leaves, or its fault again
-pub later_load : (r : List Event) (x : Ending) (z : Load) (n : ℕ) → load_at z (suc n) (loads r x) ≡ unless_fault (next_load r x) (load_at (next_load r x) n (loads (left_over r) x))
+pub later_load : (r : List Event) (x : Ending) (z : Load) (n : ℕ)
+    → load_at z (suc n) (loads r x) ≡ unless_fault (next_load r x) (load_at (next_load r x) n (loads (left_over r) x))
 later_load [] x z n = at_last n x
 later_load (e ∷ r) x z n = go (opening_of e) (later_load r x z n)
   where
-    later : (f : Option Fault) (c : Option Closing) (o : Opening) (ns : List yaml_node_t) → document_end r ≡ c → load_at z (suc n) (load_then f c o ns (last_load x) (loads_behind r x)) ≡ unless_fault (answer f c o ns (last_load x)) (load_at (answer f c o ns (last_load x)) n (loads (behind_document r) x))
+    later : (f : Option Fault) (c : Option Closing) (o : Opening) (ns : List yaml_node_t) → document_end r ≡ c
+        → load_at z (suc n) (load_then f c o ns (last_load x) (loads_behind r x))
+        ≡ unless_fault (answer f c o ns (last_load x)) (load_at (answer f c o ns (last_load x)) n (loads (behind_document r) x))
     later (Some f) c o ns h = refl
     later None (Some c) o ns h = ap (load_at (answer None (Some c) o ns (last_load x)) n) (loads_left r x)
     later None None o ns h = at_last n x ∙ ap (λ (l : List Event). unless_fault (last_load x) (load_at (last_load x) n (loads l x))) (sym (none_behind r h))
 
     go : (c : Option Opening) → load_at z (suc n) (loads r x) ≡ unless_fault (next_load r x) (load_at (next_load r x) n (loads (left_over r) x))
-        → load_at z (suc n) (elim c [ None ↦ loads r x | Some o ↦ load_then (composer_fault [] (parts r)) (document_end r) o (graph [] (parts r)) (last_load x) (loads_behind r x) ])
-        ≡ unless_fault (elim c [ None ↦ next_load r x | Some o ↦ answer (composer_fault [] (parts r)) (document_end r) o (graph [] (parts r)) (last_load x) ]) (load_at (elim c [ None ↦ next_load r x | Some o ↦ answer (composer_fault [] (parts r)) (document_end r) o (graph [] (parts r)) (last_load x) ]) n (loads (elim c [ None ↦ left_over r | Some o ↦ behind_document r ]) x))
+        → load_at z (suc n) (elim c [
+          | None ↦ loads r x
+          | Some o ↦ load_then (composer_fault [] (parts r)) (document_end r) o (graph [] (parts r)) (last_load x) (loads_behind r x)
+        ])
+        ≡ unless_fault (elim c [ None ↦ next_load r x | Some o ↦ answer (composer_fault [] (parts r)) (document_end r) o (graph [] (parts r)) (last_load x) ])
+        (load_at (elim c [ None ↦ next_load r x | Some o ↦ answer (composer_fault [] (parts r)) (document_end r) o (graph [] (parts r)) (last_load x) ]) n
+        (loads (elim c [ None ↦ left_over r | Some o ↦ behind_document r ]) x))
     go None h = h
     go (Some o) h = later (composer_fault [] (parts r)) (document_end r) o (graph [] (parts r)) refl
 
-pub later_bounded : (r : List Event) (x : Ending) (z : Load) (m n : ℕ) → load_at z (suc n) (bounded_loads m r x) ≡ unless_fault (next_bounded m r x) (load_at (next_bounded m r x) n (bounded_loads m (left_over r) x))
+pub later_bounded : (r : List Event) (x : Ending) (z : Load) (m n : ℕ)
+    → load_at z (suc n) (bounded_loads m r x) ≡ unless_fault (next_bounded m r x) (load_at (next_bounded m r x) n (bounded_loads m (left_over r) x))
 later_bounded [] x z m n = at_last n x
 later_bounded (e ∷ r) x z m n = go (opening_of e) (later_bounded r x z m n)
   where
-    later : (f : Option Fault) (c : Option Closing) (o : Opening) (ns : List yaml_node_t) → document_end r ≡ c → load_at z (suc n) (load_then f c o ns (last_load x) (bounded_loads_behind m r x)) ≡ unless_fault (answer f c o ns (last_load x)) (load_at (answer f c o ns (last_load x)) n (bounded_loads m (behind_document r) x))
+    later : (f : Option Fault) (c : Option Closing) (o : Opening) (ns : List yaml_node_t) → document_end r ≡ c
+        → load_at z (suc n) (load_then f c o ns (last_load x) (bounded_loads_behind m r x))
+        ≡ unless_fault (answer f c o ns (last_load x)) (load_at (answer f c o ns (last_load x)) n (bounded_loads m (behind_document r) x))
     later (Some f) c o ns h = refl
     later None (Some c) o ns h = ap (load_at (answer None (Some c) o ns (last_load x)) n) (bounded_left r x m)
-    later None None o ns h = at_last n x ∙ ap (λ (l : List Event). unless_fault (last_load x) (load_at (last_load x) n (bounded_loads m l x))) (sym (none_behind r h))
+    later None None o ns h = at_last n x
+        ∙ ap (λ (l : List Event). unless_fault (last_load x) (load_at (last_load x) n (bounded_loads m l x))) (sym (none_behind r h))
 
-    go : (c : Option Opening) → load_at z (suc n) (bounded_loads m r x) ≡ unless_fault (next_bounded m r x) (load_at (next_bounded m r x) n (bounded_loads m (left_over r) x))
-        → load_at z (suc n) (elim c [ None ↦ bounded_loads m r x | Some o ↦ load_then (first_stop m [] [] (parts r)) (document_end r) o (graph [] (parts r)) (last_load x) (bounded_loads_behind m r x) ])
-        ≡ unless_fault (elim c [ None ↦ next_bounded m r x | Some o ↦ answer (first_stop m [] [] (parts r)) (document_end r) o (graph [] (parts r)) (last_load x) ]) (load_at (elim c [ None ↦ next_bounded m r x | Some o ↦ answer (first_stop m [] [] (parts r)) (document_end r) o (graph [] (parts r)) (last_load x) ]) n (bounded_loads m (elim c [ None ↦ left_over r | Some o ↦ behind_document r ]) x))
+    go : (c : Option Opening) → load_at z (suc n) (bounded_loads m r x)
+        ≡ unless_fault (next_bounded m r x) (load_at (next_bounded m r x) n (bounded_loads m (left_over r) x))
+        → load_at z (suc n) (elim c [
+          | None ↦ bounded_loads m r x
+          | Some o ↦ load_then (first_stop m [] [] (parts r)) (document_end r) o (graph [] (parts r)) (last_load x) (bounded_loads_behind m r x)
+        ])
+        ≡ unless_fault (elim c [
+          | None ↦ next_bounded m r x
+          | Some o ↦ answer (first_stop m [] [] (parts r)) (document_end r) o (graph [] (parts r)) (last_load x)
+        ])
+        (load_at (elim c [
+          | None ↦ next_bounded m r x
+          | Some o ↦ answer (first_stop m [] [] (parts r)) (document_end r) o (graph [] (parts r)) (last_load x)
+        ]) n
+        (bounded_loads m (elim c [ None ↦ left_over r | Some o ↦ behind_document r ]) x))
     go None h = h
     go (Some o) h = later (first_stop m [] [] (parts r)) (document_end r) o (graph [] (parts r)) refl

@@ -1,16 +1,20 @@
 -- Where the lists of each document that a load begins have room, the bound changes nothing.
-use Rattle.std.proofs.Common.{◌≡◌, ◌≤◌, ◌+◌, ◌↔◌, ℕ, zero, suc, List, [], ◌∷◌, ◌++◌, length, nat_lt, All, Option, Some, None, Bool, true, false, refl, sym, ap, ◌∙◌, subst, append_assoc, append-nil, arith, zero-add, le_refl, le_trans, le_of_lt, lt-suc_self, suc-le-suc, zero-le, le-ltb, ltb-false}
+use Rattle.std.proofs.Common.{◌≡◌, ◌≤◌, ◌+◌, ◌↔◌, ℕ, zero, suc, List, [], ◌∷◌, ◌++◌, length, nat_lt, All, Option, Some, None, Bool, true, false, refl, sym}
+use Rattle.std.proofs.Common.{ap, ◌∙◌, subst, append_assoc, append-nil, arith, zero-add, le_refl, le_trans, le_of_lt, lt-suc_self, suc-le-suc, zero-le}
+use Rattle.std.proofs.Common.{le-ltb, ltb-false}
 use Rattle.std.proofs.lemmas.List.Elements.{All-cons, All-head, All-nil, All-tail}
-use Rattle.libyaml_events.specs.Events.{Event}
-use Rattle.libyaml_events.specs.Fault.{Fault}
-use Rattle.libyaml_events.specs.Runs.{Ending}
+use Rattle.libyaml_grammar.specs.sentences.Events.{Event}
+use Rattle.libyaml_grammar.specs.runs.Fault.{Fault}
+use Rattle.libyaml_grammar.specs.runs.Runs.{Ending}
 use Rattle.libyaml_documents.specs.declared.node.unnamed_yaml_node_t_data.{unnamed_yaml_node_t_data}
 use Rattle.libyaml_documents.specs.declared.node.unnamed_yaml_node_t_data.TheVariants.{Scalar, Sequence, Mapping}
-use Rattle.libyaml_graphs.specs.Bounds.{StaysWithin, HasRoom, HasRoomBehind, bounded_loads, bounded_loads_behind, entries, first_stop, if_above, if_wrong, list_sizes, next_bounded, one_above, pairs_begun}
+use Rattle.libyaml_graphs.specs.Bounds.{StaysWithin, HasRoom, HasRoomBehind, bounded_loads, bounded_loads_behind, entries, first_stop, if_above, if_wrong}
+use Rattle.libyaml_graphs.specs.Bounds.{list_sizes, next_bounded, one_above, pairs_begun}
 use Rattle.libyaml_graphs.specs.ComposerFaults.{composer_fault, or_else, part_fault}
 use Rattle.libyaml_graphs.specs.Graphs.{Start, carrier, id_or}
 use Rattle.libyaml_graphs.specs.Loads.{Load, answer, document_end, last_load, load_then, loads, loads_behind, next_load}
-use Rattle.libyaml_graphs.specs.Parts.{Closing, Opening, Part, alias_part, behind, children, closing_of, end_part, graph, if_outer, leaf_part, opening_of, parts, start_of, start_part}
+use Rattle.libyaml_graphs.specs.Parts.{Closing, Opening, Part, alias_part, behind, children, closing_of, end_part, graph, if_outer, leaf_part, opening_of}
+use Rattle.libyaml_graphs.specs.Parts.{parts, start_of, start_part}
 use Rattle.libyaml_graphs.proofs.Sizes.{either_false, either_none}
 
 outer_append : (d : ℕ) (is a x : List ℕ) → if_outer d is (a ++ x) ≡ if_outer d is a ++ x
@@ -26,8 +30,12 @@ outer_begin d is a b h = (h.0, ap (if_outer d is) h.1 ∙ outer_append d is a h.
 children_begin : (f g : List Part) (d : ℕ) (es : List Start) → Begins (children d es f) (children d es (f ++ g))
 children_begin [] g d es = (children d es g, refl)
 children_begin (alias_part a m ∷ f) g d es = outer_begin d (id_or (carrier a es) ∷ []) (children d es f) (children d es (f ++ g)) (children_begin f g d es)
-children_begin (leaf_part a x ∷ f) g d es = outer_begin d (suc (length es) ∷ []) (children d (start_of a x ∷ es) f) (children d (start_of a x ∷ es) (f ++ g)) (children_begin f g d (start_of a x ∷ es))
-children_begin (start_part a x ∷ f) g d es = outer_begin d (suc (length es) ∷ []) (children (suc d) (start_of a x ∷ es) f) (children (suc d) (start_of a x ∷ es) (f ++ g)) (children_begin f g (suc d) (start_of a x ∷ es))
+children_begin (leaf_part a x ∷ f) g d es
+    = outer_begin d (suc (length es) ∷ []) (children d (start_of a x ∷ es) f) (children d (start_of a x ∷ es) (f ++ g))
+    (children_begin f g d (start_of a x ∷ es))
+children_begin (start_part a x ∷ f) g d es
+    = outer_begin d (suc (length es) ∷ []) (children (suc d) (start_of a x ∷ es) f) (children (suc d) (start_of a x ∷ es) (f ++ g))
+    (children_begin f g (suc d) (start_of a x ∷ es))
 children_begin (end_part n ∷ f) g zero es = ([], refl)
 children_begin (end_part n ∷ f) g (suc d) es = children_begin f g d es
 
@@ -57,7 +65,8 @@ front_shorter (leaf_part a x ∷ f) g es n h = front_shorter f g (start_of a x �
 front_shorter (start_part a x ∷ f) g es n h =
     let fs : List Start = start_of a x ∷ es in
     let k : (nat_lt n (entries x.content (children 0 fs (f ++ g))) ≡ false) × (one_above n (list_sizes fs (f ++ g)) ≡ false) = either_false _ _ h in
-    either_none _ _ (lt_down n _ _ (more_entries x.content (children 0 fs f) (children 0 fs (f ++ g)) (children_begin f g 0 fs)) k.0) ∙ front_shorter f g fs n k.1
+    either_none _ _ (lt_down n _ _ (more_entries x.content (children 0 fs f) (children 0 fs (f ++ g)) (children_begin f g 0 fs)) k.0)
+    ∙ front_shorter f g fs n k.1
 front_shorter (end_part m ∷ f) g es n h = front_shorter f g es n h
 
 abbrev all_behind : List Start → List Part → List Start
@@ -74,12 +83,14 @@ starts_grow : (r : List Part) (es : List Start) → length es ≤ length (all_be
 starts_grow [] es = le_refl _
 starts_grow (p ∷ r) es = le_trans (one_more p es) (starts_grow r (behind p es))
 
-room : (r : List Part) (es : List Start) (F : List Part) (n : ℕ) → nat_lt n (length (all_behind es r)) ≡ false → one_above n (list_sizes [] (F ++ r)) ≡ false → first_stop n es F r ≡ composer_fault es r
+room : (r : List Part) (es : List Start) (F : List Part) (n : ℕ) → nat_lt n (length (all_behind es r)) ≡ false → one_above n (list_sizes [] (F ++ r)) ≡ false
+    → first_stop n es F r ≡ composer_fault es r
 room [] es F n a b = refl
 room (p ∷ r) es F n a b =
     let c : one_above n (list_sizes [] ((F ++ p ∷ []) ++ r)) ≡ false = ap (λ (l : List Part). one_above n (list_sizes [] l)) (append_assoc F (p ∷ []) r) ∙ b in
     let d : one_above n (list_sizes [] (F ++ p ∷ [])) ≡ false = front_shorter (F ++ p ∷ []) r [] n c in
-    ap (λ (x : Bool). if_above x (if_wrong (part_fault es p) (if_above (one_above n (list_sizes [] (F ++ p ∷ []))) (first_stop n (behind p es) (F ++ p ∷ []) r)))) (lt_down n _ _ (starts_grow r (behind p es)) a)
+    ap (λ (x : Bool). if_above x (if_wrong (part_fault es p)
+    (if_above (one_above n (list_sizes [] (F ++ p ∷ []))) (first_stop n (behind p es) (F ++ p ∷ []) r)))) (lt_down n _ _ (starts_grow r (behind p es)) a)
     ∙ (ap (λ (x : Bool). if_wrong (part_fault es p) (if_above x (first_stop n (behind p es) (F ++ p ∷ []) r))) d
     ∙ (ap (if_wrong (part_fault es p)) (room r (behind p es) (F ++ p ∷ []) n a c) ∙ go (part_fault es p)))
   where
@@ -105,14 +116,17 @@ fits_stop : (r : List Part) (n : ℕ) → StaysWithin n r → first_stop n [] []
 fits_stop r n h = room r [] [] n (ap (nat_lt n) (graph_count r [] ∙ zero-add _) ∙ le-ltb n (length (graph [] r)) h.0) (none_above n (list_sizes [] r) h.1)
 
 -- of a document
-text_room : (n : ℕ) (r : List Event) (x : Ending) (o : Opening) → StaysWithin n (parts r) → (composer_fault [] (parts r) ≡ None → bounded_loads_behind n r x ≡ loads_behind r x)
+text_room : (n : ℕ) (r : List Event) (x : Ending) (o : Opening) → StaysWithin n (parts r)
+    → (composer_fault [] (parts r) ≡ None → bounded_loads_behind n r x ≡ loads_behind r x)
     → load_then (first_stop n [] [] (parts r)) (document_end r) o (graph [] (parts r)) (last_load x) (bounded_loads_behind n r x)
     ≡ load_then (composer_fault [] (parts r)) (document_end r) o (graph [] (parts r)) (last_load x) (loads_behind r x)
 text_room n r x o f h =
     ap (λ (g : Option Fault). load_then g (document_end r) o (graph [] (parts r)) (last_load x) (bounded_loads_behind n r x)) (fits_stop (parts r) n f)
     ∙ go (composer_fault [] (parts r)) h (document_end r)
   where
-    go : (g : Option Fault) → (g ≡ None → bounded_loads_behind n r x ≡ loads_behind r x) → (c : Option Closing) → load_then g c o (graph [] (parts r)) (last_load x) (bounded_loads_behind n r x) ≡ load_then g c o (graph [] (parts r)) (last_load x) (loads_behind r x)
+    go : (g : Option Fault) → (g ≡ None → bounded_loads_behind n r x ≡ loads_behind r x) → (c : Option Closing)
+        → load_then g c o (graph [] (parts r)) (last_load x) (bounded_loads_behind n r x)
+        ≡ load_then g c o (graph [] (parts r)) (last_load x) (loads_behind r x)
     go (Some g) k c = refl
     go None k (Some c) = ap (load_then None (Some c) o (graph [] (parts r)) (last_load x)) (k refl)
     go None k None = refl
@@ -124,20 +138,30 @@ RoomAt n r c = elim c [ None ↦ HasRoom n r | Some o ↦ StaysWithin n (parts r
 abbrev RoomEndedAt : ℕ → List Event → Option Closing → Type 0
 RoomEndedAt n r c = elim c [ Some d ↦ HasRoom n r | None ↦ HasRoomBehind n r ]
 
-room_event : (e : Event) (r : List Event) (x : Ending) (n : ℕ) → HasRoom n (e ∷ r) → (HasRoom n r → bounded_loads n r x ≡ loads r x) → (HasRoomBehind n r → bounded_loads_behind n r x ≡ loads_behind r x) → bounded_loads n (e ∷ r) x ≡ loads (e ∷ r) x
+room_event : (e : Event) (r : List Event) (x : Ending) (n : ℕ) → HasRoom n (e ∷ r) → (HasRoom n r → bounded_loads n r x ≡ loads r x)
+    → (HasRoomBehind n r → bounded_loads_behind n r x ≡ loads_behind r x) → bounded_loads n (e ∷ r) x ≡ loads (e ∷ r) x
 room_event e r x n h next behind_it = go (opening_of e) h
   where
     go : (c : Option Opening) → RoomAt n r c
-        → ◌≡◌ {A = List Load} (elim c [ None ↦ bounded_loads n r x | Some o ↦ load_then (first_stop n [] [] (parts r)) (document_end r) o (graph [] (parts r)) (last_load x) (bounded_loads_behind n r x) ])
-        (elim c [ None ↦ loads r x | Some o ↦ load_then (composer_fault [] (parts r)) (document_end r) o (graph [] (parts r)) (last_load x) (loads_behind r x) ])
+        → ◌≡◌ {A = List Load} (elim c [
+          | None ↦ bounded_loads n r x
+          | Some o ↦ load_then (first_stop n [] [] (parts r)) (document_end r) o (graph [] (parts r)) (last_load x) (bounded_loads_behind n r x)
+        ])
+        (elim c [
+          | None ↦ loads r x
+          | Some o ↦ load_then (composer_fault [] (parts r)) (document_end r) o (graph [] (parts r)) (last_load x)
+              (loads_behind r x)
+        ])
     go None k = next k
     go (Some o) k = text_room n r x o k.0 (λ g. behind_it (k.1 g))
 
-behind_event : (e : Event) (r : List Event) (x : Ending) (n : ℕ) → HasRoomBehind n (e ∷ r) → (HasRoom n r → bounded_loads n r x ≡ loads r x) → (HasRoomBehind n r → bounded_loads_behind n r x ≡ loads_behind r x) → bounded_loads_behind n (e ∷ r) x ≡ loads_behind (e ∷ r) x
+behind_event : (e : Event) (r : List Event) (x : Ending) (n : ℕ) → HasRoomBehind n (e ∷ r) → (HasRoom n r → bounded_loads n r x ≡ loads r x)
+    → (HasRoomBehind n r → bounded_loads_behind n r x ≡ loads_behind r x) → bounded_loads_behind n (e ∷ r) x ≡ loads_behind (e ∷ r) x
 behind_event e r x n h next behind_it = go (closing_of e) h
   where
     go : (c : Option Closing) → RoomEndedAt n r c
-        → ◌≡◌ {A = List Load} (elim c [ Some d ↦ bounded_loads n r x | None ↦ bounded_loads_behind n r x ]) (elim c [ Some d ↦ loads r x | None ↦ loads_behind r x ])
+        → ◌≡◌ {A = List Load} (elim c [ Some d ↦ bounded_loads n r x | None ↦ bounded_loads_behind n r x ])
+        (elim c [ Some d ↦ loads r x | None ↦ loads_behind r x ])
     go (Some d) k = next k
     go None k = behind_it k
 
@@ -157,7 +181,10 @@ room_next (e ∷ r) x n h = go (opening_of e) h (λ (k : HasRoom n r). room_next
   where
     go : (c : Option Opening) → RoomAt n r c
         → (HasRoom n r → next_bounded n r x ≡ next_load r x)
-        → ◌≡◌ {A = Load} (elim c [ None ↦ next_bounded n r x | Some o ↦ answer (first_stop n [] [] (parts r)) (document_end r) o (graph [] (parts r)) (last_load x) ])
+        → ◌≡◌ {A = Load} (elim c [
+          | None ↦ next_bounded n r x
+          | Some o ↦ answer (first_stop n [] [] (parts r)) (document_end r) o (graph [] (parts r)) (last_load x)
+        ])
         (elim c [ None ↦ next_load r x | Some o ↦ answer (composer_fault [] (parts r)) (document_end r) o (graph [] (parts r)) (last_load x) ])
     go None k next = next k
     go (Some o) k next = ap (λ (g : Option Fault). answer g (document_end r) o (graph [] (parts r)) (last_load x)) (fits_stop (parts r) n k.0)
@@ -172,16 +199,22 @@ passed n false b (Some f) o e = cc
 passed n false true None o e = cc
 passed n false false None o e = (refl, refl, refl, e)
 
-unstopped : (P : List Part) (es : List Start) (F : List Part) (n : ℕ) → nat_lt n (length es) ≡ false → one_above n (list_sizes [] F) ≡ false → first_stop n es F P ≡ None → Unstopped n es F P
+unstopped : (P : List Part) (es : List Start) (F : List Part) (n : ℕ) → nat_lt n (length es) ≡ false → one_above n (list_sizes [] F) ≡ false
+    → first_stop n es F P ≡ None → Unstopped n es F P
 unstopped [] es F n a b e = (refl, a, ap (λ (l : List Part). one_above n (list_sizes [] l)) (append-nil F) ∙ b)
 unstopped (p ∷ P) es F n a b e =
-    let h = passed n (nat_lt n (length (behind p es))) (one_above n (list_sizes [] (F ++ p ∷ []))) (part_fault es p) (first_stop n (behind p es) (F ++ p ∷ []) P) e in
-    let k : Unstopped n (behind p es) (F ++ p ∷ []) P = unstopped P (behind p es) (F ++ p ∷ []) n h.0 h.2 h.3 in
-    (ap (λ (w : Option Fault). or_else w (composer_fault (behind p es) P)) h.1 ∙ k.0, k.1, ap (λ (l : List Part). one_above n (list_sizes [] l)) (sym (append_assoc F (p ∷ []) P)) ∙ k.2)
+    let h = passed n (nat_lt n (length (behind p es))) (one_above n (list_sizes [] (F ++ p ∷ []))) (part_fault es p)
+    (first_stop n (behind p es) (F ++ p ∷ []) P) e in
+    let k : Unstopped n (behind p es) (F ++ p ∷ []) P = unstopped P (behind p es) (F ++ p ∷ []) n h.0 h.2 h.3 in (
+      ap (λ (w : Option Fault). or_else w (composer_fault (behind p es) P)) h.1 ∙ k.0,
+      k.1,
+      ap (λ (l : List Part). one_above n (list_sizes [] l)) (sym (append_assoc F (p ∷ []) P)) ∙ k.2,
+    )
 
 all_within : (n : ℕ) (ks : List ℕ) → one_above n ks ≡ false → All (λ k. k ≤ n) ks
 all_within n [] h = All-nil (λ k. k ≤ n)
-all_within n (k ∷ ks) h = let e : (nat_lt n k ≡ false) × (one_above n ks ≡ false) = either_false _ _ h in All-cons (λ i. i ≤ n) k ks (ltb-false n k e.0) (all_within n ks e.1)
+all_within n (k ∷ ks) h = let e : (nat_lt n k ≡ false)
+    × (one_above n ks ≡ false) = either_false _ _ h in All-cons (λ i. i ≤ n) k ks (ltb-false n k e.0) (all_within n ks e.1)
 
 -- the bound is exact
 pub bound_exact : (P : List Part) (n : ℕ) → (first_stop n [] [] P ≡ None) ↔ ((composer_fault [] P ≡ None) × StaysWithin n P)

@@ -2,17 +2,20 @@
 use Rattle.std.proofs.Common.{◌≡◌, ◌≢◌, ◌++◌, ℕ, List, [], ◌∷◌, Option, Some, None, Bool, true, false, Ok, Err, nat_lt, refl, sym, ap, ◌∙◌, subst}
 use Rattle.libyaml_types.specs.declared.event.unnamed_yaml_event_t_data.{unnamed_yaml_event_t_data}
 use Rattle.libyaml_types.specs.declared.event.unnamed_yaml_event_t_data.TheVariants as ev
-use Rattle.libyaml_events.specs.Events.{Event, document_end_event, end_event, event, stream_end_event}
-use Rattle.libyaml_events.specs.Fault.{Fault}
-use Rattle.libyaml_events.specs.Nesting.{IsOpenDocument, NestsSoFar, Texts, Value, Values, alias_value, collection_value, first_value, has_begun, no_texts, no_values, none_open, not_begun, one_open, scalar_value, text_behind, texts_events, value_events, values_events, whole}
-use Rattle.libyaml_events.specs.Runs.{Ending, Ends, Fails}
-use Rattle.libyaml_events.specs.Tokens.{Mark}
-use Rattle.libyaml_events.specs.Trees.{mapping, sequence}
+use Rattle.libyaml_grammar.specs.sentences.Events.{Event, document_end_at, end_at, event, stream_end_at}
+use Rattle.libyaml_grammar.specs.runs.Fault.{Fault}
+use Rattle.libyaml_grammar.specs.sentences.Nesting.{IsOpenDocument, NestsSoFar, Texts, Value, Values, alias_value, collection_value, first_value, has_begun}
+use Rattle.libyaml_grammar.specs.sentences.Nesting.{no_texts, no_values, none_open, not_begun, one_open, scalar_value, text_behind, texts_events}
+use Rattle.libyaml_grammar.specs.sentences.Nesting.{value_events, values_events, whole}
+use Rattle.libyaml_grammar.specs.runs.Runs.{Ending, Ends, Fails}
+use Rattle.libyaml_grammar.specs.sentences.Tokens.{Mark}
+use Rattle.libyaml_grammar.specs.sentences.Trees.{mapping, sequence}
 use Rattle.libyaml_documents.specs.Documents.{Document}
 use Rattle.libyaml_graphs.specs.Bounds.{bounded_loads, bounded_loads_behind, first_stop, if_above, next_bounded}
 use Rattle.libyaml_graphs.specs.GraphLaws.{BeginsNode, RootFollows, RootsFollow}
 use Rattle.libyaml_graphs.specs.Loads.{Load, answer, behind_document, document, document_end, last_load, left_over, load_then}
-use Rattle.libyaml_graphs.specs.Parts.{Closing, Opening, Part, alias_part, closing_in, closing_of, end_part, graph, leaf_part, opening_of, part_in, part_of, parts, start_part, with_part}
+use Rattle.libyaml_graphs.specs.Parts.{Closing, Opening, Part, alias_part, closing_in, closing_of, end_part, graph, leaf_part, opening_of, part_in, part_of}
+use Rattle.libyaml_graphs.specs.Parts.{parts, start_part, with_part}
 use Rattle.libyaml_graphs.proofs.OneLoad.{bounded_left}
 
 -- in events that nest as far as they go each document's root follows its start
@@ -20,8 +23,8 @@ mutual
   value_roots : (v : Value) (r : List Event) → RootsFollow r → RootsFollow (value_events v r)
   value_roots (alias_value a m n) r h = (tt, h)
   value_roots (scalar_value s m n) r h = (tt, h)
-  value_roots (collection_value sequence a t i s m n vs p q) r h = (tt, values_roots vs (end_event sequence p q ∷ r) (tt, h))
-  value_roots (collection_value mapping a t i s m n vs p q) r h = (tt, values_roots vs (end_event mapping p q ∷ r) (tt, h))
+  value_roots (collection_value sequence a t i s m n vs p q) r h = (tt, values_roots vs (end_at sequence p q ∷ r) (tt, h))
+  value_roots (collection_value mapping a t i s m n vs p q) r h = (tt, values_roots vs (end_at mapping p q ∷ r) (tt, h))
 
   values_roots : (vs : Values) (r : List Event) → RootsFollow r → RootsFollow (values_events vs r)
   values_roots no_values r h = h
@@ -35,7 +38,9 @@ root_first (collection_value mapping a t i s m n vs p q) r o = tt
 
 texts_roots : (ts : Texts) (r : List Event) → RootsFollow r → RootsFollow (texts_events ts r)
 texts_roots no_texts r h = h
-texts_roots (text_behind ts d m n v i p q) r h = texts_roots ts (event (ev.DocumentStart d) m n ∷ value_events v (document_end_event i p q ∷ r)) (root_first v (document_end_event i p q ∷ r) (record { start = d; mark = m }), value_roots v (document_end_event i p q ∷ r) (tt, h))
+texts_roots (text_behind ts d m n v i p q) r h
+    = texts_roots ts (event (ev.DocumentStart d) m n ∷ value_events v (document_end_at i p q ∷ r))
+    (root_first v (document_end_at i p q ∷ r) (record { start = d; mark = m }), value_roots v (document_end_at i p q ∷ r) (tt, h))
 
 front_first : (o : Option Opening) (f r : List Event) → RootFollows o (f ++ r) → RootFollows o f
 front_first None f r h = tt
@@ -49,14 +54,15 @@ front_roots (e ∷ f) r h = (front_first (opening_of e) f r h.0, front_roots f r
 open_roots : (l : List Event) → IsOpenDocument l → RootsFollow l
 open_roots l (none_open e) = subst RootsFollow (sym e) tt
 open_roots l (one_open d m n front e b) =
-    let first = subst (λ (k : List Event). RootFollows (Some (record { start = d; mark = m })) k) b.all (root_first b.val [] (record { start = d; mark = m })) in
+    let first = subst (λ (k : List Event). RootFollows (Some (record { start = d; mark = m })) k) b.all (root_first b.val [] (record { start = d; mark = m }))
+    in
     let rest = subst RootsFollow b.all (value_roots b.val [] tt) in
     subst RootsFollow (sym e) (front_first (Some (record { start = d; mark = m })) front b.rest first, front_roots front b.rest rest)
 
 pub roots_follow : (l : List Event) → NestsSoFar l → RootsFollow l
 roots_follow l (not_begun e) = subst RootsFollow (sym e) tt
 roots_follow l (has_begun n) = subst RootsFollow (sym n.all) (tt, texts_roots n.texts n.open_document (open_roots n.open_document n.is_open))
-roots_follow l (whole n) = subst RootsFollow (sym n.all) (tt, texts_roots n.texts (stream_end_event n.end n.end_end ∷ []) (tt, tt))
+roots_follow l (whole n) = subst RootsFollow (sym n.all) (tt, texts_roots n.texts (stream_end_at n.end n.end_end ∷ []) (tt, tt))
 
 -- and so it is in those that a load leaves
 behind_roots : (r : List Event) → RootsFollow r → RootsFollow (behind_document r)
@@ -103,7 +109,8 @@ first_node (Some (leaf_part a x)) l n h s e = cc
 first_node (Some (start_part a x)) l n h s e = cc
 first_node (Some (end_part m)) l n h s e = h
 
-has_nodes : (r : List Event) (o : Opening) (c : Closing) (n : ℕ) → RootFollows (Some o) r → first_stop n [] [] (parts r) ≡ None → document_end r ≡ Some c → graph [] (parts r) ≢ []
+has_nodes : (r : List Event) (o : Opening) (c : Closing) (n : ℕ) → RootFollows (Some o) r → first_stop n [] [] (parts r) ≡ None → document_end r ≡ Some c
+    → graph [] (parts r) ≢ []
 has_nodes [] o c n h s d e = cc
 has_nodes (f ∷ r) o c n h s d e =
     let p : parts (f ∷ r) ≡ with_part (part_of f) (parts r) = part_first f r (node_first f.content f.start_mark f.end_mark h) in
@@ -117,24 +124,35 @@ last_bare Ends d h = ap (λ (a : Document). a.nodes) (sym (ok _ d h))
 last_bare (Fails f) d h = absurd cc
 
 -- The load without nodes is the last, and the run's end.
-pub last_of : (r : List Event) (x : Ending) (n : ℕ) (d : Document) → RootsFollow r → next_bounded n r x ≡ Ok d → d.nodes ≡ [] → (bounded_loads n r x ≡ Ok d ∷ []) × (last_load x ≡ Ok d)
+pub last_of : (r : List Event) (x : Ending) (n : ℕ) (d : Document) → RootsFollow r → next_bounded n r x ≡ Ok d → d.nodes ≡ []
+    → (bounded_loads n r x ≡ Ok d ∷ []) × (last_load x ≡ Ok d)
 last_of [] x n d h a e = (ap (λ (l : Load). l ∷ []) a, a)
 last_of (v ∷ r) x n d h a e = go (opening_of v) refl a (last_of r x n d h.1)
   where
-    at : (o : Opening) (f : Option Fault) (c : Option Closing) → RootFollows (Some o) r → first_stop n [] [] (parts r) ≡ f → document_end r ≡ c → answer f c o (graph [] (parts r)) (last_load x) ≡ Ok d
+    at : (o : Opening) (f : Option Fault) (c : Option Closing) → RootFollows (Some o) r → first_stop n [] [] (parts r) ≡ f → document_end r ≡ c
+        → answer f c o (graph [] (parts r)) (last_load x) ≡ Ok d
         → (load_then f c o (graph [] (parts r)) (last_load x) (bounded_loads_behind n r x) ≡ Ok d ∷ []) × (last_load x ≡ Ok d)
     at o (Some f) c root s t b = absurd cc
     at o None (Some c) root s t b = absurd (has_nodes r o c n root s t (ap (λ (k : Document). k.nodes) (ok (document o (graph [] (parts r)) c) d b) ∙ e))
     at o None None root s t b = (ap (λ (l : Load). l ∷ []) b, b)
 
-    go : (o : Option Opening) → opening_of v ≡ o → ◌≡◌ {A = Load} (elim o [ None ↦ next_bounded n r x | Some y ↦ answer (first_stop n [] [] (parts r)) (document_end r) y (graph [] (parts r)) (last_load x) ]) (Ok d)
+    go : (o : Option Opening) → opening_of v ≡ o
+        → ◌≡◌ {A = Load} (elim o [
+          | None ↦ next_bounded n r x
+          | Some y ↦ answer (first_stop n [] [] (parts r)) (document_end r) y (graph [] (parts r)) (last_load x)
+        ]) (Ok d)
         → (next_bounded n r x ≡ Ok d → d.nodes ≡ [] → (bounded_loads n r x ≡ Ok d ∷ []) × (last_load x ≡ Ok d))
-        → (◌≡◌ {A = List Load} (elim o [ None ↦ bounded_loads n r x | Some y ↦ load_then (first_stop n [] [] (parts r)) (document_end r) y (graph [] (parts r)) (last_load x) (bounded_loads_behind n r x) ]) (Ok d ∷ [])) × (last_load x ≡ Ok d)
+        → (◌≡◌ {A = List Load} (elim o [
+          | None ↦ bounded_loads n r x
+          | Some y ↦ load_then (first_stop n [] [] (parts r)) (document_end r) y (graph [] (parts r)) (last_load x) (bounded_loads_behind n r x)
+        ]) (Ok d
+        ∷ [])) × (last_load x ≡ Ok d)
     go None is b k = k b e
     go (Some o) is b k = at o (first_stop n [] [] (parts r)) (document_end r) (subst (λ (y : Option Opening). RootFollows y r) is h.0) refl refl b
 
 -- Behind a load with nodes come the loads of the events that it leaves.
-pub earlier_of : (r : List Event) (x : Ending) (n : ℕ) (d : Document) → next_bounded n r x ≡ Ok d → d.nodes ≢ [] → bounded_loads n r x ≡ Ok d ∷ bounded_loads n (left_over r) x
+pub earlier_of : (r : List Event) (x : Ending) (n : ℕ) (d : Document) → next_bounded n r x ≡ Ok d → d.nodes ≢ []
+    → bounded_loads n r x ≡ Ok d ∷ bounded_loads n (left_over r) x
 earlier_of [] x n d a e = absurd (e (last_bare x d a))
 earlier_of (v ∷ r) x n d a e = go (opening_of v) a (earlier_of r x n d)
   where
@@ -144,9 +162,15 @@ earlier_of (v ∷ r) x n d a e = go (opening_of v) a (earlier_of r x n d)
     at o None (Some c) b = ap (λ (l : Load). l ∷ bounded_loads_behind n r x) b ∙ ap (λ (l : List Load). Ok d ∷ l) (bounded_left r x n)
     at o None None b = absurd (e (last_bare x d b))
 
-    go : (o : Option Opening) → ◌≡◌ {A = Load} (elim o [ None ↦ next_bounded n r x | Some y ↦ answer (first_stop n [] [] (parts r)) (document_end r) y (graph [] (parts r)) (last_load x) ]) (Ok d)
+    go : (o : Option Opening) → ◌≡◌ {A
+        = Load} (elim o [ None ↦ next_bounded n r x | Some y ↦ answer (first_stop n [] [] (parts r)) (document_end r) y (graph [] (parts r)) (last_load x) ])
+        (Ok d)
         → (next_bounded n r x ≡ Ok d → d.nodes ≢ [] → bounded_loads n r x ≡ Ok d ∷ bounded_loads n (left_over r) x)
-        → ◌≡◌ {A = List Load} (elim o [ None ↦ bounded_loads n r x | Some y ↦ load_then (first_stop n [] [] (parts r)) (document_end r) y (graph [] (parts r)) (last_load x) (bounded_loads_behind n r x) ]) (Ok d ∷ bounded_loads n (elim o [ None ↦ left_over r | Some y ↦ behind_document r ]) x)
+        → ◌≡◌ {A = List Load} (elim o [
+          | None ↦ bounded_loads n r x
+          | Some y ↦ load_then (first_stop n [] [] (parts r)) (document_end r) y (graph [] (parts r)) (last_load x) (bounded_loads_behind n r x)
+        ]) (Ok d
+        ∷ bounded_loads n (elim o [ None ↦ left_over r | Some y ↦ behind_document r ]) x)
     go None b k = k b e
     go (Some o) b k = at o (first_stop n [] [] (parts r)) (document_end r) b
 
@@ -155,13 +179,20 @@ pub fault_of : (r : List Event) (x : Ending) (n : ℕ) (f : Fault) → next_boun
 fault_of [] x n f a = ap (λ (l : Load). l ∷ []) a
 fault_of (v ∷ r) x n f a = go (opening_of v) a (fault_of r x n f)
   where
-    at : (o : Opening) (g : Option Fault) (c : Option Closing) → answer g c o (graph [] (parts r)) (last_load x) ≡ Err f → load_then g c o (graph [] (parts r)) (last_load x) (bounded_loads_behind n r x) ≡ Err f ∷ []
+    at : (o : Opening) (g : Option Fault) (c : Option Closing) → answer g c o (graph [] (parts r)) (last_load x) ≡ Err f
+        → load_then g c o (graph [] (parts r)) (last_load x) (bounded_loads_behind n r x) ≡ Err f ∷ []
     at o (Some g) c b = ap (λ (l : Load). l ∷ []) b
     at o None (Some c) b = absurd cc
     at o None None b = ap (λ (l : Load). l ∷ []) b
 
-    go : (o : Option Opening) → ◌≡◌ {A = Load} (elim o [ None ↦ next_bounded n r x | Some y ↦ answer (first_stop n [] [] (parts r)) (document_end r) y (graph [] (parts r)) (last_load x) ]) (Err f)
+    go : (o : Option Opening) → ◌≡◌ {A
+        = Load} (elim o [ None ↦ next_bounded n r x | Some y ↦ answer (first_stop n [] [] (parts r)) (document_end r) y (graph [] (parts r)) (last_load x) ])
+        (Err f)
         → (next_bounded n r x ≡ Err f → bounded_loads n r x ≡ Err f ∷ [])
-        → ◌≡◌ {A = List Load} (elim o [ None ↦ bounded_loads n r x | Some y ↦ load_then (first_stop n [] [] (parts r)) (document_end r) y (graph [] (parts r)) (last_load x) (bounded_loads_behind n r x) ]) (Err f ∷ [])
+        → ◌≡◌ {A = List Load} (elim o [
+          | None ↦ bounded_loads n r x
+          | Some y ↦ load_then (first_stop n [] [] (parts r)) (document_end r) y (graph [] (parts r)) (last_load x) (bounded_loads_behind n r x)
+        ]) (Err f
+        ∷ [])
     go None b k = k b
     go (Some o) b k = at o (first_stop n [] [] (parts r)) (document_end r) b

@@ -1,23 +1,23 @@
 -- The loads over a list of tokens: there is one list of them, and those of known trees are known.
 use Rattle.std.proofs.Common.{◌≡◌, List, [], ◌∷◌, ◌++◌, Option, Some, None, true, false, refl, sym, ap₂, ◌∙◌, subst}
 use Rattle.std.proofs.lemmas.List.Elements.{All-nil}
-use Rattle.libyaml_events.specs.CutEvents.{cut_events}
-use Rattle.libyaml_events.specs.CutFaults.{fault}
-use Rattle.libyaml_events.specs.CutTrees.{Cut}
-use Rattle.libyaml_events.specs.Events.{Event, events}
-use Rattle.libyaml_events.specs.Fault.{Fault}
-use Rattle.libyaml_events.specs.Fits.{Fits}
-use Rattle.libyaml_events.specs.Nesting.{IsNested, Texts, Value, no_texts, text_behind, value_events}
-use Rattle.libyaml_events.specs.Order.{in_order}
-use Rattle.libyaml_events.specs.Runs.{Ending, Ends, Fails, IsRun, RunsWhole, is_behind_properties, to_its_end, to_its_fault}
-use Rattle.libyaml_events.specs.Sentences.{IsBeginning, has_end}
-use Rattle.libyaml_events.specs.Settled.{IsSettled}
-use Rattle.libyaml_events.specs.Tokens.{Marks, StreamEnd, Token, tok}
-use Rattle.libyaml_events.specs.Trees.{Stream, tokens}
-use Rattle.libyaml_events.proofs.Headline.{runs_whole}
-use Rattle.libyaml_events.proofs.Nesting.{events_nest_proof}
-use Rattle.libyaml_events.proofs.NestingSoFar.{run_nests_so_far}
-use Rattle.libyaml_events.proofs.Running.{amid_run, begin_run, cut_run, one_run_proof, sentence_run, some_run_proof}
+use Rattle.libyaml_grammar.specs.cuts.CutEvents.{cut_events}
+use Rattle.libyaml_grammar.specs.cuts.CutFaults.{fault}
+use Rattle.libyaml_grammar.specs.cuts.CutTrees.{Cut}
+use Rattle.libyaml_grammar.specs.sentences.Events.{Event, events}
+use Rattle.libyaml_grammar.specs.runs.Fault.{Fault}
+use Rattle.libyaml_grammar.specs.cuts.Fits.{Fits}
+use Rattle.libyaml_grammar.specs.sentences.Nesting.{IsNested, Texts, Value, no_texts, text_behind, value_events}
+use Rattle.libyaml_grammar.specs.sentences.Order.{in_order}
+use Rattle.libyaml_grammar.specs.runs.Runs.{Ending, Ends, Fails, IsRun, RunsWhole, is_behind_properties, to_its_end, to_its_fault}
+use Rattle.libyaml_grammar.specs.sentences.Sentences.{IsBeginning, has_end}
+use Rattle.libyaml_grammar.specs.cuts.Settled.{IsSettled}
+use Rattle.libyaml_grammar.specs.sentences.Tokens.{Marks, StreamEnd, Token, tok}
+use Rattle.libyaml_grammar.specs.sentences.Trees.{Stream, tokens}
+use Rattle.libyaml_grammar.proofs.runs.Headline.{runs_whole}
+use Rattle.libyaml_grammar.proofs.runs.Nesting.{events_nest_proof}
+use Rattle.libyaml_grammar.proofs.runs.NestingSoFar.{run_nests_so_far}
+use Rattle.libyaml_grammar.proofs.runs.Running.{amid_run, begin_run, cut_run, one_run_proof, sentence_run, some_run_proof}
 use Rattle.libyaml_documents.specs.Nodes.{EveryIdNamesANode}
 use Rattle.libyaml_graphs.specs.ComposerFaults.{composer_fault}
 use Rattle.libyaml_graphs.specs.GraphLaws.{EachIdNames, LoadsWhole, NestedLoads, fault_or, has_begun, not_begun, open_load, whole}
@@ -45,18 +45,22 @@ run_loads l f a h = subst (NestedLoads h.events h.ending) (sym h.all) (nested_lo
 of_run : (l : List Token) (f : Fault) (e : List Event) (x : Ending) → IsRun l f e x → (a : List Load) × IsLoads l f a × NestedLoads e x a
 of_run l f e x r = (loads e x, record { events = e; ending = x; run = r; all = refl }, nested_loads e x (run_nests_so_far l f e x r))
 
-pub sentence_loads : (t : Stream) (r : List Token) (f : Fault) → in_order t ≡ true → (n : IsNested (events t)) × IsLoads (tokens t ++ r) f (loads_of n.texts (last_load Ends ∷ []))
+pub sentence_loads : (t : Stream) (r : List Token) (f : Fault) → in_order t ≡ true → (n : IsNested (events t))
+    × IsLoads (tokens t ++ r) f (loads_of n.texts (last_load Ends ∷ []))
 sentence_loads t r f o =
     let n : IsNested (events t) = events_nest_proof t in
     (n, record { events = events t; ending = Ends; run = sentence_run t r f o; all = sym (whole_loads (events t) n Ends) })
 
-pub cut_tree_loads : (l : List Token) (b : Token) (r : List Token) (c : Cut) (f : Fault) → Fits l b c → is_behind_properties c r ≡ true → (a : List Load) × IsLoads (l ++ b ∷ r) f a × NestedLoads (cut_events c b) (Fails (fault c b.content b.start_mark)) a
+pub cut_tree_loads : (l : List Token) (b : Token) (r : List Token) (c : Cut) (f : Fault) → Fits l b c → is_behind_properties c r ≡ true → (a : List Load)
+    × IsLoads (l ++ b ∷ r) f a × NestedLoads (cut_events c b) (Fails (fault c b.content b.start_mark)) a
 cut_tree_loads l b r c f i h = of_run (l ++ b ∷ r) f (cut_events c b) (Fails (fault c b.content b.start_mark)) (cut_run l b r c f i h)
 
-pub amid_loads : (l : List Token) (b : Token) (r : List Token) (c : Cut) (f : Fault) → Fits l b c → is_behind_properties c r ≡ false → (a : List Load) × IsLoads (l ++ b ∷ r) f a × NestedLoads (cut_events c b) (Fails f) a
+pub amid_loads : (l : List Token) (b : Token) (r : List Token) (c : Cut) (f : Fault) → Fits l b c → is_behind_properties c r ≡ false → (a : List Load)
+    × IsLoads (l ++ b ∷ r) f a × NestedLoads (cut_events c b) (Fails f) a
 amid_loads l b r c f i h = of_run (l ++ b ∷ r) f (cut_events c b) (Fails f) (amid_run l b r c f i h)
 
-pub beginning_loads : (l : List Token) (e : List Event) (f : Fault) → IsBeginning l → has_end l ≡ false → IsSettled l e → (a : List Load) × IsLoads l f a × NestedLoads e (Fails f) a
+pub beginning_loads : (l : List Token) (e : List Event) (f : Fault) → IsBeginning l → has_end l ≡ false → IsSettled l e → (a : List Load) × IsLoads l f a
+    × NestedLoads e (Fails f) a
 beginning_loads l e f b h s = of_run l f e (Fails f) (begin_run l e f b h s)
 
 -- the headline
@@ -73,13 +77,16 @@ pub headline : (l : List Token) (m : Marks) (f : Fault) → has_end l ≡ false 
 headline l m f h = loads_whole (l ++ tok StreamEnd m ∷ []) f (runs_whole l m f h)
 
 -- every id in each loaded document names one of its nodes
-text_ids : (v : Value) (f : Option Fault) (c : Closing) (o : Opening) (z : Load) (l : List Load) → (f ≡ None → EveryIdNamesANode (nodes_of v [] [])) → EachIdNames l → EachIdNames (load_then f (Some c) o (nodes_of v [] []) z l)
+text_ids : (v : Value) (f : Option Fault) (c : Closing) (o : Opening) (z : Load) (l : List Load) → (f ≡ None → EveryIdNamesANode (nodes_of v [] []))
+    → EachIdNames l → EachIdNames (load_then f (Some c) o (nodes_of v [] []) z l)
 text_ids v (Some f) c o z l h k = tt
 text_ids v None c o z l h k = (h refl, k)
 
 texts_ids : (ts : Texts) (l : List Load) → EachIdNames l → EachIdNames (loads_of ts l)
 texts_ids no_texts l k = k
-texts_ids (text_behind ts d m n v i p q) l k = texts_ids ts _ (text_ids v (composer_fault [] (parts (value_events v []))) (record { is_implicit = i; mark = q }) (record { start = d; mark = m }) (last_load Ends) l (λ e. every_id v e) k)
+texts_ids (text_behind ts d m n v i p q) l k
+    = texts_ids ts _ (text_ids v (composer_fault [] (parts (value_events v []))) (record { is_implicit = i; mark = q }) (record { start = d; mark = m })
+    (last_load Ends) l (λ e. every_id v e) k)
 
 last_ids : (x : Ending) → EachIdNames (last_load x ∷ [])
 last_ids Ends = (All-nil _, tt)

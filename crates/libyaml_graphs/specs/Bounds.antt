@@ -2,11 +2,11 @@
 -- (docs/DEFINITIONS.md, "Loads within a bound").
 use Rattle.std.specs.Prelude.{◌≡◌, ◌≢◌, ◌≤◌, ℕ, suc, List, [], ◌∷◌, ◌++◌, length, nat_lt, Option, Some, None, All, Bool, true, false, Ok, Err}
 use Rattle.libyaml_types.specs.declared.enums.yaml_error_type_t.TheVariants.{YAML_MEMORY_ERROR}
-use Rattle.libyaml_events.specs.Events.{Event, either}
-use Rattle.libyaml_events.specs.Fault.{Fault}
-use Rattle.libyaml_events.specs.FaultTexts.{memory_fault}
-use Rattle.libyaml_events.specs.Runs.{Ending, IsRun}
-use Rattle.libyaml_events.specs.Tokens.{Token}
+use Rattle.libyaml_grammar.specs.sentences.Events.{Event, either}
+use Rattle.libyaml_grammar.specs.runs.Fault.{Fault}
+use Rattle.libyaml_grammar.specs.cuts.FaultTexts.{memory_fault}
+use Rattle.libyaml_grammar.specs.runs.Runs.{Ending, IsRun}
+use Rattle.libyaml_grammar.specs.sentences.Tokens.{Token}
 use Rattle.libyaml_documents.specs.declared.node.unnamed_yaml_node_t_data.{unnamed_yaml_node_t_data}
 use Rattle.libyaml_documents.specs.declared.node.unnamed_yaml_node_t_data.TheVariants.{Scalar, Sequence, Mapping}
 use Rattle.libyaml_graphs.specs.ComposerFaults.{composer_fault, part_fault}
@@ -61,7 +61,10 @@ first_stop n es before (p ∷ r) = stop_at n es before p (first_stop n (behind p
 abbrev mutual
   pub bounded_loads : ℕ → List Event → Ending → List Load
   bounded_loads n [] x = last_load x ∷ []
-  bounded_loads n (e ∷ r) x = elim (opening_of e) [ None ↦ bounded_loads n r x | Some o ↦ load_then (first_stop n [] [] (parts r)) (document_end r) o (graph [] (parts r)) (last_load x) (bounded_loads_behind n r x) ]
+  bounded_loads n (e ∷ r) x = elim (opening_of e) [
+    | None ↦ bounded_loads n r x
+    | Some o ↦ load_then (first_stop n [] [] (parts r)) (document_end r) o (graph [] (parts r)) (last_load x) (bounded_loads_behind n r x)
+  ]
 
   pub bounded_loads_behind : ℕ → List Event → Ending → List Load
   bounded_loads_behind n [] x = last_load x ∷ []
@@ -70,7 +73,10 @@ abbrev mutual
 -- one load within the bound n; the events that it leaves are those that it leaves without a bound
 abbrev pub next_bounded : ℕ → List Event → Ending → Load
 next_bounded n [] x = last_load x
-next_bounded n (e ∷ r) x = elim (opening_of e) [ None ↦ next_bounded n r x | Some o ↦ answer (first_stop n [] [] (parts r)) (document_end r) o (graph [] (parts r)) (last_load x) ]
+next_bounded n (e ∷ r) x = elim (opening_of e) [
+  | None ↦ next_bounded n r x
+  | Some o ↦ answer (first_stop n [] [] (parts r)) (document_end r) o (graph [] (parts r)) (last_load x)
+]
 
 -- the loads over a list of tokens with the source's fault f behind it
 pub record IsBoundedLoads (n : ℕ) (l : List Token) (f : Fault) (a : List Load) : Type 0 where

@@ -2,9 +2,9 @@
 -- anchor that an earlier head carries.
 use Rattle.std.specs.Prelude.{ℕ, List, [], ◌∷◌, Option, Some, None, codes}
 use Rattle.libyaml_types.specs.declared.enums.yaml_error_type_t.TheVariants.{YAML_COMPOSER_ERROR}
-use Rattle.libyaml_events.specs.Fault.{Fault}
-use Rattle.libyaml_events.specs.FaultTexts.{no_fault}
-use Rattle.libyaml_events.specs.Tokens.{Mark}
+use Rattle.libyaml_grammar.specs.runs.Fault.{Fault}
+use Rattle.libyaml_grammar.specs.cuts.FaultTexts.{no_fault}
+use Rattle.libyaml_grammar.specs.sentences.Tokens.{Mark}
 use Rattle.libyaml_graphs.specs.Graphs.{Carrier, Start, carrier}
 use Rattle.libyaml_graphs.specs.Parts.{Part, alias_part, behind, end_part, leaf_part, start_part}
 
@@ -12,7 +12,14 @@ abbrev pub undefined_alias : Mark → Fault
 undefined_alias m = record no_fault { error = YAML_COMPOSER_ERROR; problem = Some (codes "found undefined alias"); problem_mark = m }
 
 abbrev pub repeated_anchor : (first second : Mark) → Fault
-repeated_anchor m n = record no_fault { error = YAML_COMPOSER_ERROR; problem = Some (codes "second occurrence"); problem_mark = n; context = Some (codes "found duplicate anchor; first occurrence"); context_mark = m }
+repeated_anchor m n = record no_fault {
+  error = YAML_COMPOSER_ERROR;
+  problem = Some (codes "second occurrence");
+  problem_mark = n;
+  context
+      = Some (codes "found duplicate anchor; first occurrence");
+  context_mark = m;
+}
 
 -- the heads of a document: its aliases, scalars and starts of collections
 abbrev pub heads : List Part → List Part

@@ -1,16 +1,17 @@
 -- What the laws of graphs and loads say (docs/DEFINITIONS.md, "Laws of graphs and loads").
 use Rattle.std.specs.Prelude.{◌≡◌, ◌≤◌, ◌<◌, ◌++◌, ℕ, zero, suc, List, [], ◌∷◌, length, Option, Some, None, true, Ok, Err}
-use Rattle.libyaml_events.specs.CutEvents.{cut_events}
-use Rattle.libyaml_events.specs.CutFaults.{fault}
-use Rattle.libyaml_events.specs.CutTrees.{Cut}
-use Rattle.libyaml_events.specs.Events.{Event, events}
-use Rattle.libyaml_events.specs.Fault.{Fault}
-use Rattle.libyaml_events.specs.Fits.{Fits}
-use Rattle.libyaml_events.specs.Nesting.{HasBegun, IsNested, Texts, Value, Values, alias_value, collection_value, first_value, no_texts, no_values, scalar_value, text_behind}
-use Rattle.libyaml_events.specs.Order.{in_order}
-use Rattle.libyaml_events.specs.Runs.{Ending, Ends, Fails}
-use Rattle.libyaml_events.specs.Tokens.{Token}
-use Rattle.libyaml_events.specs.Trees.{Stream, tokens}
+use Rattle.libyaml_grammar.specs.cuts.CutEvents.{cut_events}
+use Rattle.libyaml_grammar.specs.cuts.CutFaults.{fault}
+use Rattle.libyaml_grammar.specs.cuts.CutTrees.{Cut}
+use Rattle.libyaml_grammar.specs.sentences.Events.{Event, events}
+use Rattle.libyaml_grammar.specs.runs.Fault.{Fault}
+use Rattle.libyaml_grammar.specs.cuts.Fits.{Fits}
+use Rattle.libyaml_grammar.specs.sentences.Nesting.{HasBegun, IsNested, Texts, Value, Values, alias_value, collection_value, first_value, no_texts, no_values}
+use Rattle.libyaml_grammar.specs.sentences.Nesting.{scalar_value, text_behind}
+use Rattle.libyaml_grammar.specs.sentences.Order.{in_order}
+use Rattle.libyaml_grammar.specs.runs.Runs.{Ending, Ends, Fails}
+use Rattle.libyaml_grammar.specs.sentences.Tokens.{Token}
+use Rattle.libyaml_grammar.specs.sentences.Trees.{Stream, tokens}
 use Rattle.libyaml_documents.specs.Nodes.{EveryIdNamesANode, ids_of}
 use Rattle.libyaml_graphs.specs.ComposerFaults.{composer_fault}
 use Rattle.libyaml_graphs.specs.Graphs.{Start, collection_loaded, id_of, ids_of_all, items, starts_behind}
@@ -40,7 +41,8 @@ abbrev mutual
   HoldsItsChildren (alias_value a m n) es = Unit {0}
   HoldsItsChildren (scalar_value s m n) es = Unit {0}
   HoldsItsChildren (collection_value k a t i s m n vs p q) es =
-      (ids_of (collection_loaded k t s (ids_of_all vs (record { anchor = a; mark = m } ∷ es)) m q).content ≡ items (ids_of_all vs (record { anchor = a; mark = m } ∷ es)))
+      (ids_of (collection_loaded k t s (ids_of_all vs (record { anchor = a; mark = m } ∷ es)) m q).content
+      ≡ items (ids_of_all vs (record { anchor = a; mark = m } ∷ es)))
       × AllHoldTheirChildren vs (record { anchor = a; mark = m } ∷ es)
 
   pub AllHoldTheirChildren : Values → List Start → Type 0
@@ -108,5 +110,7 @@ pub data NestedLoads (e : List Event) (x : Ending) (a : List Load) : Type 0 wher
 -- composer fault, and then the document without root; or those of the one cut tree that fits, and then the composer fault of
 -- the document that is open in it, or the cut tree's own. The fault behind the list never shows.
 pub data LoadsWhole (l : List Token) (f : Fault) : Type 0 where
-  to_its_end : (t : Stream) → in_order t ≡ true → l ≡ tokens t → (a : List Load) → IsLoads l f a → (n : IsNested (events t)) → a ≡ loads_of n.texts (last_load Ends ∷ []) → LoadsWhole l f
-  to_its_fault : (before : List Token) (token : Token) (behind : List Token) (c : Cut) → l ≡ before ++ token ∷ behind → Fits before token c → (a : List Load) → IsLoads l f a → NestedLoads (cut_events c token) (Fails (fault c token.content token.start_mark)) a → LoadsWhole l f
+  to_its_end : (t : Stream) → in_order t ≡ true → l ≡ tokens t → (a : List Load) → IsLoads l f a → (n : IsNested (events t))
+      → a ≡ loads_of n.texts (last_load Ends ∷ []) → LoadsWhole l f
+  to_its_fault : (before : List Token) (token : Token) (behind : List Token) (c : Cut) → l ≡ before ++ token ∷ behind → Fits before token c → (a : List Load)
+      → IsLoads l f a → NestedLoads (cut_events c token) (Fails (fault c token.content token.start_mark)) a → LoadsWhole l f

@@ -1,10 +1,10 @@
 -- The graph of a document, by recursion on its value (docs/DEFINITIONS.md, "Graphs"). A node's id is one more
 -- than the nodes that start before it; es are the starts of those nodes, the newest first.
 use Rattle.std.specs.Prelude.{ℕ, suc, ℤ, pos, List, [], ◌∷◌, length, Option, Some, None, Bool, true, false}
-use Rattle.libyaml_events.specs.Events.{Layout, mapping_style, same_text, sequence_style}
-use Rattle.libyaml_events.specs.Nesting.{Value, Values, alias_value, collection_value, first_value, no_values, scalar_value}
-use Rattle.libyaml_events.specs.Tokens.{Mark}
-use Rattle.libyaml_events.specs.Trees.{Sort, mapping, sequence}
+use Rattle.libyaml_grammar.specs.sentences.Events.{Layout, mapping_style, same_text, sequence_style}
+use Rattle.libyaml_grammar.specs.sentences.Nesting.{Value, Values, alias_value, collection_value, first_value, no_values, scalar_value}
+use Rattle.libyaml_grammar.specs.sentences.Tokens.{Mark}
+use Rattle.libyaml_grammar.specs.sentences.Trees.{Sort, mapping, sequence}
 use Rattle.libyaml_documents.specs.LoadedNodes.{mapping_loaded, scalar_loaded, sequence_loaded}
 use Rattle.libyaml_documents.specs.declared.node.yaml_node_t.{yaml_node_t}
 use Rattle.libyaml_documents.specs.declared.pairs.yaml_node_pair_t.{yaml_node_pair_t}
@@ -74,7 +74,8 @@ abbrev mutual
   pub nodes_of : Value → List Start → List yaml_node_t → List yaml_node_t
   nodes_of (alias_value a m n) es l = l
   nodes_of (scalar_value s m n) es l = scalar_loaded s m n ∷ l
-  nodes_of (collection_value k a t i s m n vs p q) es l = collection_loaded k t s (ids_of_all vs (record { anchor = a; mark = m } ∷ es)) m q ∷ nodes_of_all vs (record { anchor = a; mark = m } ∷ es) l
+  nodes_of (collection_value k a t i s m n vs p q) es l = collection_loaded k t s (ids_of_all vs (record { anchor = a; mark = m } ∷ es)) m q
+      ∷ nodes_of_all vs (record { anchor = a; mark = m } ∷ es) l
 
   pub nodes_of_all : Values → List Start → List yaml_node_t → List yaml_node_t
   nodes_of_all no_values es l = l

@@ -7,10 +7,13 @@ use Rattle.libyaml_types.specs.declared.enums.yaml_error_type_t.TheVariants.{YAM
 use Rattle.libyaml_types.specs.declared.enums.yaml_mapping_style_t.TheVariants.{YAML_BLOCK_MAPPING_STYLE, YAML_FLOW_MAPPING_STYLE}
 use Rattle.libyaml_types.specs.declared.enums.yaml_scalar_style_t.TheVariants.{YAML_PLAIN_SCALAR_STYLE}
 use Rattle.libyaml_types.specs.declared.enums.yaml_sequence_style_t.TheVariants.{YAML_BLOCK_SEQUENCE_STYLE, YAML_FLOW_SEQUENCE_STYLE}
-use Rattle.libyaml_types.specs.declared.token.unnamed_yaml_token_t_data.TheVariants.{StreamEnd, DocumentStart, DocumentEnd, BlockSequenceStart, BlockMappingStart, BlockEnd, BlockEntry, FlowSequenceStart, FlowSequenceEnd, FlowMappingStart, FlowMappingEnd, FlowEntry, Key, Value}
-use Rattle.libyaml_events.specs.Events.{document_end_event, document_start_event}
-use Rattle.libyaml_events.specs.RowNotation.{ALIAS, ANCHOR, HANDLE, SCALAR, STREAM, TAG, VERSION, asks_version, declares, list, no_more, place, says_while}
-use Rattle.libyaml_events.specs.Trees.{no_directives}
+use Rattle.libyaml_types.specs.declared.token.unnamed_yaml_token_t_data.TheVariants.{StreamEnd, DocumentStart, DocumentEnd, BlockSequenceStart}
+use Rattle.libyaml_types.specs.declared.token.unnamed_yaml_token_t_data.TheVariants.{BlockMappingStart, BlockEnd, BlockEntry, FlowSequenceStart}
+use Rattle.libyaml_types.specs.declared.token.unnamed_yaml_token_t_data.TheVariants.{FlowSequenceEnd, FlowMappingStart, FlowMappingEnd, FlowEntry, Key, Value}
+use Rattle.libyaml_grammar.specs.sentences.Events.{document_end_at, document_start_at}
+use Rattle.libyaml_grammar.specs.rows.RowNotation.{ALIAS, ANCHOR, HANDLE, SCALAR, STREAM, TAG, VERSION, asks_version, declares, list, no_more, place}
+use Rattle.libyaml_grammar.specs.rows.RowNotation.{says_while}
+use Rattle.libyaml_grammar.specs.sentences.Trees.{no_directives}
 use Rattle.libyaml_documents.specs.declared.node.unnamed_yaml_node_t_data.TheVariants.{Scalar, Sequence, Mapping}
 use Rattle.libyaml_documents.specs.declared.node.yaml_node_t.{yaml_node_t}
 use Rattle.libyaml_documents.specs.declared.pairs.yaml_node_pair_t.{yaml_node_pair_t}
@@ -21,7 +24,8 @@ use Rattle.libyaml_graphs.specs.Loads.{IsLoads, Load}
 -- a document from an index to another, with its version, directives, flags and nodes; one whose start and end are implicit;
 -- the one without root
 abbrev pub versioned : Option yaml_version_directive_t → List yaml_tag_directive_t → (start_implicit end_implicit : Bool) → ℕ → ℕ → List yaml_node_t → Load
-versioned v ds i j m n nodes = Ok (record { nodes = nodes; version_directive = v; tag_directives = ds; start_implicit = i; end_implicit = j; start_mark = place m; end_mark = place n })
+versioned v ds i j m n nodes = Ok
+    (record { nodes = nodes; version_directive = v; tag_directives = ds; start_implicit = i; end_implicit = j; start_mark = place m; end_mark = place n })
 
 abbrev pub loaded : List yaml_tag_directive_t → (start_implicit end_implicit : Bool) → ℕ → ℕ → List yaml_node_t → Load
 loaded ds i j m n nodes = versioned None ds i j m n nodes
@@ -40,30 +44,81 @@ abbrev pub text : (value : List ℕ) → ℕ → ℕ → yaml_node_t
 text v m n = tagged (codes "tag:yaml.org,2002:str") v m n
 
 abbrev pub flow_sequence : List ℤ → ℕ → ℕ → yaml_node_t
-flow_sequence is m n = record { tag = codes "tag:yaml.org,2002:seq"; content = Sequence (record { items = is; style = YAML_FLOW_SEQUENCE_STYLE }); start_mark = place m; end_mark = place n }
+flow_sequence is m n = record {
+  tag = codes "tag:yaml.org,2002:seq";
+  content = Sequence (record { items = is; style = YAML_FLOW_SEQUENCE_STYLE });
+  start_mark
+      = place m;
+  end_mark = place n;
+}
 
 abbrev pub flow_mapping : List yaml_node_pair_t → ℕ → ℕ → yaml_node_t
-flow_mapping ps m n = record { tag = codes "tag:yaml.org,2002:map"; content = Mapping (record { pairs = ps; style = YAML_FLOW_MAPPING_STYLE }); start_mark = place m; end_mark = place n }
+flow_mapping ps m n = record {
+  tag = codes "tag:yaml.org,2002:map";
+  content = Mapping (record { pairs = ps; style = YAML_FLOW_MAPPING_STYLE });
+  start_mark
+      = place m;
+  end_mark = place n;
+}
 
 abbrev pub block_sequence : List ℤ → ℕ → ℕ → yaml_node_t
-block_sequence is m n = record { tag = codes "tag:yaml.org,2002:seq"; content = Sequence (record { items = is; style = YAML_BLOCK_SEQUENCE_STYLE }); start_mark = place m; end_mark = place n }
+block_sequence is m n = record {
+  tag = codes "tag:yaml.org,2002:seq";
+  content = Sequence (record { items = is; style = YAML_BLOCK_SEQUENCE_STYLE });
+  start_mark
+      = place m;
+  end_mark = place n;
+}
 
 abbrev pub block_mapping : List yaml_node_pair_t → ℕ → ℕ → yaml_node_t
-block_mapping ps m n = record { tag = codes "tag:yaml.org,2002:map"; content = Mapping (record { pairs = ps; style = YAML_BLOCK_MAPPING_STYLE }); start_mark = place m; end_mark = place n }
+block_mapping ps m n = record {
+  tag = codes "tag:yaml.org,2002:map";
+  content = Mapping (record { pairs = ps; style = YAML_BLOCK_MAPPING_STYLE });
+  start_mark
+      = place m;
+  end_mark = place n;
+}
 
 abbrev pub pair : (key value : ℕ) → yaml_node_pair_t
 pair k v = record { key = pos k; value = pos v }
 
 -- composer faults: an alias at an index that nothing carries, and the second of two carriers
 abbrev pub no_carrier : ℕ → Load
-no_carrier m = Err (record { error = YAML_COMPOSER_ERROR; problem = Some (codes "found undefined alias"); problem_offset = 0; problem_value = pos 0; problem_mark = place m; context = None; context_mark = place 0 })
+no_carrier m = Err (record {
+  error = YAML_COMPOSER_ERROR;
+  problem = Some (codes "found undefined alias");
+  problem_offset = 0;
+  problem_value
+      = pos 0;
+  problem_mark = place m;
+  context = None;
+  context_mark = place 0;
+})
 
 abbrev pub second_carrier : (first second : ℕ) → Load
-second_carrier m n = Err (record { error = YAML_COMPOSER_ERROR; problem = Some (codes "second occurrence"); problem_offset = 0; problem_value = pos 0; problem_mark = place n; context = Some (codes "found duplicate anchor; first occurrence"); context_mark = place m })
+second_carrier m n = Err (record {
+  error = YAML_COMPOSER_ERROR;
+  problem = Some (codes "second occurrence");
+  problem_offset = 0;
+  problem_value
+      = pos 0;
+  problem_mark = place n;
+  context = Some (codes "found duplicate anchor; first occurrence");
+  context_mark = place m;
+})
 
 -- a list beyond its bound: the error alone
 abbrev pub no_memory : Load
-no_memory = Err (record { error = YAML_MEMORY_ERROR; problem = None; problem_offset = 0; problem_value = pos 0; problem_mark = place 0; context = None; context_mark = place 0 })
+no_memory = Err (record {
+  error = YAML_MEMORY_ERROR;
+  problem = None;
+  problem_offset = 0;
+  problem_value = pos 0;
+  problem_mark = place 0;
+  context
+      = None;
+  context_mark = place 0;
+})
 
 -- Documents.
 abbrev pub RowEmptyStream : Type 0
@@ -72,7 +127,7 @@ RowEmptyStream = IsLoads (list (
 
 -- no run has a document's end directly behind its start: there its root would lack
 abbrev pub RowStartWithoutRoot : Type 0
-RowStartWithoutRoot = RootsFollow (document_start_event no_directives true (place 2) (place 2) ∷ document_end_event true (place 2) (place 2) ∷ []) → ⊥
+RowStartWithoutRoot = RootsFollow (document_start_at no_directives true (place 2) (place 2) ∷ document_end_at true (place 2) (place 2) ∷ []) → ⊥
 
 abbrev pub RowDirectives : Type 0
 RowDirectives = IsLoads (list (

@@ -4,11 +4,11 @@ use Rattle.std.specs.Prelude.{ℕ, zero, suc, pos, List, [], ◌∷◌, ◌++◌
 use Rattle.std.specs.FinMap.{FinMap, from_entries, get, insert}
 use Rattle.std.specs.Cmp.Lexicographic.{slice_cmp}
 use Rattle.std.specs.Ordering.{nat_cmp}
-use Rattle.libyaml_events.specs.Events.{Event}
-use Rattle.libyaml_events.specs.Fault.{Fault}
-use Rattle.libyaml_events.specs.FaultTexts.{memory_fault}
-use Rattle.libyaml_events.specs.Runs.{Ending}
-use Rattle.libyaml_events.specs.Tokens.{Mark}
+use Rattle.libyaml_grammar.specs.sentences.Events.{Event}
+use Rattle.libyaml_grammar.specs.runs.Fault.{Fault}
+use Rattle.libyaml_grammar.specs.cuts.FaultTexts.{memory_fault}
+use Rattle.libyaml_grammar.specs.runs.Runs.{Ending}
+use Rattle.libyaml_grammar.specs.sentences.Tokens.{Mark}
 use Rattle.libyaml_documents.specs.LoadedNodes.{with_end}
 use Rattle.libyaml_documents.specs.Nodes.{changed_at, item_behind, pair_behind}
 use Rattle.libyaml_documents.specs.declared.node.unnamed_yaml_node_t_data.{unnamed_yaml_node_t_data}
@@ -40,9 +40,9 @@ pub record Loader : Type 0 where
 abbrev pub fresh : Loader
 fresh = record { nodes = []; stack = []; anchors = no_anchors }
 
-pub data Outcome : Type 0 where
-  going : Loader → Outcome
-  failed : Fault → Outcome
+pub data Loading : Type 0 where
+  going : Loader → Loading
+  failed : Fault → Loading
 
 -- A child behind those of a node, where k is the key that waits: a sequence has one item more, a mapping a pair more or a key
 -- that waits.
@@ -76,9 +76,9 @@ handed i [] nodes = []
 handed i (o ∷ s) nodes = record { place = o.place; key = key_at o.place o.key i nodes } ∷ s
 
 -- the innermost open collection ends at m
-abbrev pub close : Mark → List Open → List yaml_node_t → List yaml_node_t
-close m [] nodes = nodes
-close m (o ∷ s) nodes = changed_at o.place (with_end m) nodes
+abbrev pub closed_by : Mark → List Open → List yaml_node_t → List yaml_node_t
+closed_by m [] nodes = nodes
+closed_by m (o ∷ s) nodes = changed_at o.place (with_end m) nodes
 
 abbrev pub outer : List Open → List Open
 outer [] = []
@@ -93,21 +93,27 @@ abbrev pub register : Option (List ℕ) → ℕ → Mark → Anchors → Registe
 register None i m xs = registered xs
 register (Some a) i m xs = elim (get xs a) [ Some c ↦ known c.mark | None ↦ registered (insert xs a (record { id = i; mark = m })) ]
 
-abbrev pub on_alias : Option Carrier → Mark → Loader → Outcome
+abbrev pub on_alias : Option Carrier → Mark → Loader → Loading
 on_alias None m l = failed (undefined_alias m)
 on_alias (Some c) m l = going (record { nodes = hand c.id l.stack l.nodes; stack = handed c.id l.stack l.nodes; anchors = l.anchors })
 
 -- a node is put behind the others and then handed to its parent; `opens` are the collections that it opens
-abbrev pub on_node : Registered → yaml_node_t → (opens : List Open) → Loader → Outcome
+abbrev pub on_node : Registered → yaml_node_t → (opens : List Open) → Loader → Loading
 on_node (known m) x opens l = failed (repeated_anchor m x.start_mark)
-on_node (registered xs) x opens l = going (record { nodes = hand (suc (length l.nodes)) l.stack (l.nodes ++ x ∷ []); stack = opens ++ handed (suc (length l.nodes)) l.stack (l.nodes ++ x ∷ []); anchors = xs })
+on_node (registered xs) x opens l
+    = going (record {
+      nodes = hand (suc (length l.nodes)) l.stack (l.nodes ++ x ∷ []);
+      stack = opens
+          ++ handed (suc (length l.nodes)) l.stack (l.nodes ++ x ∷ []);
+      anchors = xs;
+    })
 
 -- one part, without a bound
-abbrev pub load_part : Loader → Part → Outcome
+abbrev pub load_part : Loader → Part → Loading
 load_part l (alias_part a m) = on_alias (get l.anchors a) m l
 load_part l (leaf_part a x) = on_node (register a (suc (length l.nodes)) x.start_mark l.anchors) x [] l
 load_part l (start_part a x) = on_node (register a (suc (length l.nodes)) x.start_mark l.anchors) x (record { place = length l.nodes; key = None } ∷ []) l
-load_part l (end_part n) = going (record { nodes = close n l.stack l.nodes; stack = outer l.stack; anchors = l.anchors })
+load_part l (end_part n) = going (record { nodes = closed_by n l.stack l.nodes; stack = outer l.stack; anchors = l.anchors })
 
 -- One part, with the bound n: the list of nodes first, then the anchor or alias, then the parent's list. A mapping's list
 -- has room for a value where it had room for the key.
@@ -138,23 +144,23 @@ list_full n l (leaf_part a x) = parent_full n l.stack l.nodes
 list_full n l (start_part a x) = parent_full n l.stack l.nodes
 list_full n l (end_part m) = false
 
-abbrev pub unless_full : Bool → Outcome → Outcome
+abbrev pub unless_full : Bool → Loading → Loading
 unless_full true o = failed memory_fault
 unless_full false o = o
 
-abbrev pub if_child_fits : Bool → Outcome → Outcome
+abbrev pub if_child_fits : Bool → Loading → Loading
 if_child_fits b (failed f) = failed f
 if_child_fits b (going l) = unless_full b (going l)
 
-abbrev pub bounded_part : ℕ → Loader → Part → Outcome
+abbrev pub bounded_part : ℕ → Loader → Part → Loading
 bounded_part n l p = unless_full (nodes_full n l p) (if_child_fits (list_full n l p) (load_part l p))
 
 -- an event that is no part of a document leaves all as it is
-abbrev pub load_option : Loader → Option Part → Outcome
+abbrev pub load_option : Loader → Option Part → Loading
 load_option l None = going l
 load_option l (Some p) = load_part l p
 
-abbrev pub bounded_option : ℕ → Loader → Option Part → Outcome
+abbrev pub bounded_option : ℕ → Loader → Option Part → Loading
 bounded_option n l None = going l
 bounded_option n l (Some p) = bounded_part n l p
 
@@ -164,7 +170,7 @@ pub data State : Type 0 where
   within : Opening → Loader → State
 
 -- what comes of an outcome: its fault in the form of an answer, or what the loader goes on to
-abbrev pub if_going : {A : Type 0} → (Fault → A) → Outcome → (Loader → A) → A
+abbrev pub if_going : {A : Type 0} → (Fault → A) → Loading → (Loader → A) → A
 if_going fault (going l) f = f l
 if_going fault (failed x) f = fault x
 
@@ -172,7 +178,11 @@ if_going fault (failed x) f = fault x
 abbrev pub load_from : ℕ → State → List Event → Ending → Load
 load_from n s [] x = last_load x
 load_from n between (e ∷ r) x = elim (opening_of e) [ None ↦ load_from n between r x | Some o ↦ load_from n (within o fresh) r x ]
-load_from n (within o l) (e ∷ r) x = elim (closing_of e) [ Some c ↦ Ok (document o l.nodes c) | None ↦ if_going (λ (f : Fault). Err f) (bounded_option n l (part_of e)) (λ (k : Loader). load_from n (within o k) r x) ]
+load_from n (within o l) (e ∷ r) x
+    = elim (closing_of e) [
+      | Some c ↦ Ok (document o l.nodes c)
+      | None ↦ if_going (λ (f : Fault). Err f) (bounded_option n l (part_of e)) (λ (k : Loader). load_from n (within o k) r x)
+    ]
 
 abbrev pub left_from : State → List Event → List Event
 left_from between r = left_over r
@@ -182,9 +192,17 @@ left_from (within o l) r = behind_document r
 abbrev pub load_all : State → List Event → Ending → List Load
 load_all s [] x = last_load x ∷ []
 load_all between (e ∷ r) x = elim (opening_of e) [ None ↦ load_all between r x | Some o ↦ load_all (within o fresh) r x ]
-load_all (within o l) (e ∷ r) x = elim (closing_of e) [ Some c ↦ Ok (document o l.nodes c) ∷ load_all between r x | None ↦ if_going (λ (f : Fault). Err f ∷ []) (load_option l (part_of e)) (λ (k : Loader). load_all (within o k) r x) ]
+load_all (within o l) (e ∷ r) x
+    = elim (closing_of e) [
+      | Some c ↦ Ok (document o l.nodes c) ∷ load_all between r x
+      | None ↦ if_going (λ (f : Fault). Err f ∷ []) (load_option l (part_of e)) (λ (k : Loader). load_all (within o k) r x)
+    ]
 
 abbrev pub bounded_all : ℕ → State → List Event → Ending → List Load
 bounded_all n s [] x = last_load x ∷ []
 bounded_all n between (e ∷ r) x = elim (opening_of e) [ None ↦ bounded_all n between r x | Some o ↦ bounded_all n (within o fresh) r x ]
-bounded_all n (within o l) (e ∷ r) x = elim (closing_of e) [ Some c ↦ Ok (document o l.nodes c) ∷ bounded_all n between r x | None ↦ if_going (λ (f : Fault). Err f ∷ []) (bounded_option n l (part_of e)) (λ (k : Loader). bounded_all n (within o k) r x) ]
+bounded_all n (within o l) (e ∷ r) x
+    = elim (closing_of e) [
+      | Some c ↦ Ok (document o l.nodes c) ∷ bounded_all n between r x
+      | None ↦ if_going (λ (f : Fault). Err f ∷ []) (bounded_option n l (part_of e)) (λ (k : Loader). bounded_all n (within o k) r x)
+    ]

@@ -1,10 +1,10 @@
 -- The loads of a run, which is its events and its ending (docs/DEFINITIONS.md, "Loads").
 use Rattle.std.specs.Prelude.{◌≡◌, List, [], ◌∷◌, Option, Some, None, false, Result, Ok, Err}
-use Rattle.libyaml_events.specs.Events.{Event}
-use Rattle.libyaml_events.specs.Fault.{Fault}
-use Rattle.libyaml_events.specs.Nesting.{Texts, no_texts, text_behind, value_events}
-use Rattle.libyaml_events.specs.Runs.{Ending, Ends, Fails, IsRun}
-use Rattle.libyaml_events.specs.Tokens.{Token}
+use Rattle.libyaml_grammar.specs.sentences.Events.{Event}
+use Rattle.libyaml_grammar.specs.runs.Fault.{Fault}
+use Rattle.libyaml_grammar.specs.sentences.Nesting.{Texts, no_texts, text_behind, value_events}
+use Rattle.libyaml_grammar.specs.runs.Runs.{Ending, Ends, Fails, IsRun}
+use Rattle.libyaml_grammar.specs.sentences.Tokens.{Token}
 use Rattle.libyaml_documents.specs.Documents.{Document, empty_document}
 use Rattle.libyaml_documents.specs.declared.node.yaml_node_t.{yaml_node_t}
 use Rattle.libyaml_graphs.specs.ComposerFaults.{composer_fault}
@@ -56,7 +56,10 @@ load_then None None o nodes last l = last ∷ []
 abbrev mutual
   pub loads : List Event → Ending → List Load
   loads [] x = last_load x ∷ []
-  loads (e ∷ r) x = elim (opening_of e) [ None ↦ loads r x | Some o ↦ load_then (composer_fault [] (parts r)) (document_end r) o (graph [] (parts r)) (last_load x) (loads_behind r x) ]
+  loads (e ∷ r) x = elim (opening_of e) [
+    | None ↦ loads r x
+    | Some o ↦ load_then (composer_fault [] (parts r)) (document_end r) o (graph [] (parts r)) (last_load x) (loads_behind r x)
+  ]
 
   -- those of the events behind the end of the document that the events are in
   pub loads_behind : List Event → Ending → List Load
@@ -66,7 +69,10 @@ abbrev mutual
 -- One load: its answer, and the events that it leaves to the next.
 abbrev pub next_load : List Event → Ending → Load
 next_load [] x = last_load x
-next_load (e ∷ r) x = elim (opening_of e) [ None ↦ next_load r x | Some o ↦ answer (composer_fault [] (parts r)) (document_end r) o (graph [] (parts r)) (last_load x) ]
+next_load (e ∷ r) x = elim (opening_of e) [
+  | None ↦ next_load r x
+  | Some o ↦ answer (composer_fault [] (parts r)) (document_end r) o (graph [] (parts r)) (last_load x)
+]
 
 abbrev pub left_over : List Event → List Event
 left_over [] = []
@@ -75,7 +81,9 @@ left_over (e ∷ r) = elim (opening_of e) [ None ↦ left_over r | Some o ↦ be
 -- The loads of whole documents by the trees of their values, up to the first composer fault, and behind them l.
 abbrev pub loads_of : Texts → List Load → List Load
 loads_of no_texts l = l
-loads_of (text_behind ts d m n v i p q) l = loads_of ts (load_then (composer_fault [] (parts (value_events v []))) (Some (record { is_implicit = i; mark = q })) (record { start = d; mark = m }) (nodes_of v [] []) (last_load Ends) l)
+loads_of (text_behind ts d m n v i p q) l
+    = loads_of ts (load_then (composer_fault [] (parts (value_events v []))) (Some (record { is_implicit = i; mark = q })) (record { start = d; mark = m })
+    (nodes_of v [] []) (last_load Ends) l)
 
 -- the loads over a list of tokens with the source's fault f behind it
 pub record IsLoads (l : List Token) (f : Fault) (a : List Load) : Type 0 where

@@ -4,25 +4,30 @@
 pub mod machine;
 pub mod rows;
 
-ghost use Rattle.std.specs.Prelude.{◌≡◌, ◌≢◌, ◌++◌, ◌↔◌, ℕ, suc, List, [], ◌∷◌, Option, None, true, false, Ok, Err};
-ghost use Rattle.libyaml_events.specs.CutEvents.{cut_events};
-ghost use Rattle.libyaml_events.specs.CutFaults.{fault};
-ghost use Rattle.libyaml_events.specs.CutTrees.{Cut};
-ghost use Rattle.libyaml_events.specs.Events.{Event, events};
-ghost use Rattle.libyaml_events.specs.Fault.{Fault};
-ghost use Rattle.libyaml_events.specs.Fits.{Fits};
-ghost use Rattle.libyaml_events.specs.Nesting.{HasPairs, IsNested, NestsSoFar, Texts, TextsHavePairs, Value, value_events};
-ghost use Rattle.libyaml_events.specs.Order.{in_order};
-ghost use Rattle.libyaml_events.specs.Runs.{Ending, Ends, Fails, is_behind_properties};
-ghost use Rattle.libyaml_events.specs.Sentences.{IsBeginning, has_end};
-ghost use Rattle.libyaml_events.specs.Settled.{IsSettled};
-ghost use Rattle.libyaml_events.specs.Tokens.{Marks, StreamEnd, Token, tok};
-ghost use Rattle.libyaml_events.specs.Trees.{Stream, tokens};
+ghost use Rattle.std.specs.Prelude.{◌≡◌, ◌≢◌, ◌++◌, ◌↔◌, ℕ, suc, List, [], ◌∷◌, Option, None, true};
+ghost use Rattle.std.specs.Prelude.{false, Ok, Err};
+ghost use Rattle.libyaml_grammar.specs.cuts.CutEvents.{cut_events};
+ghost use Rattle.libyaml_grammar.specs.cuts.CutFaults.{fault};
+ghost use Rattle.libyaml_grammar.specs.cuts.CutTrees.{Cut};
+ghost use Rattle.libyaml_grammar.specs.sentences.Events.{Event, events};
+ghost use Rattle.libyaml_grammar.specs.runs.Fault.{Fault};
+ghost use Rattle.libyaml_grammar.specs.cuts.Fits.{Fits};
+ghost use Rattle.libyaml_grammar.specs.sentences.Nesting.{HasPairs, IsNested, NestsSoFar, Texts};
+ghost use Rattle.libyaml_grammar.specs.sentences.Nesting.{TextsHavePairs, Value, value_events};
+ghost use Rattle.libyaml_grammar.specs.sentences.Order.{in_order};
+ghost use Rattle.libyaml_grammar.specs.runs.Runs.{Ending, Ends, Fails, is_behind_properties};
+ghost use Rattle.libyaml_grammar.specs.sentences.Sentences.{IsBeginning, has_end};
+ghost use Rattle.libyaml_grammar.specs.cuts.Settled.{IsSettled};
+ghost use Rattle.libyaml_grammar.specs.sentences.Tokens.{Marks, StreamEnd, Token, tok};
+ghost use Rattle.libyaml_grammar.specs.sentences.Trees.{Stream, tokens};
 ghost use Rattle.libyaml_documents.specs.Documents.{Document};
 ghost use Rattle.libyaml_documents.specs.Nodes.{EveryIdNamesANode};
-ghost use Rattle.libyaml_graphs.specs.Bounds.{HasRoom, NoneLacksMemory, StaysWithin, bounded_loads, first_stop, next_bounded};
+ghost use Rattle.libyaml_graphs.specs.Bounds.{HasRoom, NoneLacksMemory, StaysWithin, bounded_loads};
+ghost use Rattle.libyaml_graphs.specs.Bounds.{first_stop, next_bounded};
 ghost use Rattle.libyaml_graphs.specs.ComposerFaults.{composer_fault, heads};
-ghost use Rattle.libyaml_graphs.specs.GraphLaws.{ChildrenAreLater, EachHoldsItsChildren, EachIdNames, HoldsItsChildren, LoadsWhole, NestedLoads, RootsFollow, load_at, unless_fault};
+ghost use Rattle.libyaml_graphs.specs.GraphLaws.{ChildrenAreLater, EachHoldsItsChildren};
+ghost use Rattle.libyaml_graphs.specs.GraphLaws.{EachIdNames, HoldsItsChildren, LoadsWhole};
+ghost use Rattle.libyaml_graphs.specs.GraphLaws.{NestedLoads, RootsFollow, load_at, unless_fault};
 ghost use Rattle.libyaml_graphs.specs.Graphs.{Start, nodes_of, starts_behind};
 ghost use Rattle.libyaml_graphs.specs.Loads.{IsLoads, Load, last_load, left_over, loads, loads_of, next_load};
 ghost use Rattle.libyaml_graphs.specs.Parts.{Part, graph, parts};
@@ -32,7 +37,8 @@ ghost use Rattle.libyaml_graphs.specs.Parts.{Part, graph, parts};
 /// of the one cut tree that fits, and then the composer fault of the document that is open in it, or the
 /// cut tree's own fault.
 pub fn headline()
-    ensures { (l : List Token) (m : Marks) (f : Fault) → has_end l ≡ false → LoadsWhole (l ++ tok StreamEnd m ∷ []) f }
+    ensures { (l : List Token) (m : Marks) (f : Fault) → has_end l ≡ false
+        → LoadsWhole (l ++ tok StreamEnd m ∷ []) f }
 {}
 
 /// Each list of tokens has one list of loads for each fault behind it.
@@ -45,7 +51,8 @@ pub fn one_loads()
 /// fault, and then the composer fault of the document that is open, if it has one, and else how the run
 /// ends.
 pub fn loads_of_run()
-    ensures of_run { (l : List Token) (f : Fault) (a : List Load) (h : IsLoads l f a) → NestedLoads h.events h.ending a }
+    ensures of_run { (l : List Token) (f : Fault) (a : List Load) (h : IsLoads l f a)
+        → NestedLoads h.events h.ending a }
     ensures of_events { (l : List Event) (x : Ending) → NestsSoFar l → NestedLoads l x (loads l x) }
 {}
 
@@ -53,15 +60,22 @@ pub fn loads_of_run()
 /// cut tree's that fits with the token behind it and anything behind that, or a beginning's with nothing
 /// behind it.
 pub fn loads_of_tree()
-    ensures sentence { (t : Stream) (r : List Token) (f : Fault) → in_order t ≡ true → (n : IsNested (events t)) × IsLoads (tokens t ++ r) f (loads_of n.texts (last_load Ends ∷ [])) }
-    ensures cut_tree { (l : List Token) (b : Token) (r : List Token) (c : Cut) (f : Fault) → Fits l b c → is_behind_properties c r ≡ true → (a : List Load) × IsLoads (l ++ b ∷ r) f a × NestedLoads (cut_events c b) (Fails (fault c b.content b.start_mark)) a }
-    ensures amid_properties { (l : List Token) (b : Token) (r : List Token) (c : Cut) (f : Fault) → Fits l b c → is_behind_properties c r ≡ false → (a : List Load) × IsLoads (l ++ b ∷ r) f a × NestedLoads (cut_events c b) (Fails f) a }
-    ensures beginning { (l : List Token) (e : List Event) (f : Fault) → IsBeginning l → has_end l ≡ false → IsSettled l e → (a : List Load) × IsLoads l f a × NestedLoads e (Fails f) a }
+    ensures sentence { (t : Stream) (r : List Token) (f : Fault) → in_order t ≡ true
+        → (n : IsNested (events t)) × IsLoads (tokens t ++ r) f (loads_of n.texts (last_load Ends ∷ [])) }
+    ensures cut_tree { (l : List Token) (b : Token) (r : List Token) (c : Cut) (f : Fault) → Fits l b c
+        → is_behind_properties c r ≡ true → (a : List Load) × IsLoads (l ++ b ∷ r) f a
+        × NestedLoads (cut_events c b) (Fails (fault c b.content b.start_mark)) a }
+    ensures amid_properties { (l : List Token) (b : Token) (r : List Token) (c : Cut) (f : Fault) → Fits l b c
+        → is_behind_properties c r ≡ false → (a : List Load) × IsLoads (l ++ b ∷ r) f a
+        × NestedLoads (cut_events c b) (Fails f) a }
+    ensures beginning { (l : List Token) (e : List Event) (f : Fault) → IsBeginning l → has_end l ≡ false
+        → IsSettled l e → (a : List Load) × IsLoads l f a × NestedLoads e (Fails f) a }
 {}
 
 /// The graph by a document's parts is the graph by the tree of its value.
 pub fn graph_of_tree()
-    ensures { (v : Value) (es : List Start) (r : List Event) → graph es (parts (value_events v r)) ≡ nodes_of v es (graph (starts_behind v es) (parts r)) }
+    ensures { (v : Value) (es : List Start) (r : List Event)
+        → graph es (parts (value_events v r)) ≡ nodes_of v es (graph (starts_behind v es) (parts r)) }
 {}
 
 /// The composer's fault is one of the heads alone.
@@ -71,7 +85,8 @@ pub fn fault_of_heads()
 
 /// Every id in the items and pairs of a loaded document names one of its nodes.
 pub fn every_id()
-    ensures of_value { (v : Value) → composer_fault [] (parts (value_events v [])) ≡ None → EveryIdNamesANode (nodes_of v [] []) }
+    ensures of_value { (v : Value) → composer_fault [] (parts (value_events v [])) ≡ None
+        → EveryIdNamesANode (nodes_of v [] []) }
     ensures of_run { (l : List Token) (f : Fault) (a : List Load) → IsLoads l f a → EachIdNames a }
 {}
 
@@ -92,9 +107,15 @@ pub fn children_later()
 /// loads of the events that it leaves; the same holds within a bound.
 pub fn load_by_load()
     ensures first { (r : List Event) (x : Ending) (z : Load) → load_at z 0 (loads r x) ≡ next_load r x }
-    ensures later { (r : List Event) (x : Ending) (z : Load) (n : ℕ) → load_at z (suc n) (loads r x) ≡ unless_fault (next_load r x) (load_at (next_load r x) n (loads (left_over r) x)) }
-    ensures first_bounded { (r : List Event) (x : Ending) (z : Load) (m : ℕ) → load_at z 0 (bounded_loads m r x) ≡ next_bounded m r x }
-    ensures later_bounded { (r : List Event) (x : Ending) (z : Load) (m n : ℕ) → load_at z (suc n) (bounded_loads m r x) ≡ unless_fault (next_bounded m r x) (load_at (next_bounded m r x) n (bounded_loads m (left_over r) x)) }
+    ensures later { (r : List Event) (x : Ending) (z : Load) (n : ℕ)
+        → load_at z (suc n) (loads r x)
+        ≡ unless_fault (next_load r x) (load_at (next_load r x) n (loads (left_over r) x)) }
+    ensures first_bounded { (r : List Event) (x : Ending) (z : Load) (m : ℕ)
+        → load_at z 0 (bounded_loads m r x) ≡ next_bounded m r x }
+    ensures later_bounded { (r : List Event) (x : Ending) (z : Load) (m n : ℕ)
+        → load_at z (suc n) (bounded_loads m r x)
+        ≡ unless_fault (next_bounded m r x)
+        (load_at (next_bounded m r x) n (bounded_loads m (left_over r) x)) }
 {}
 
 /// In a run each document's root begins behind its start, and so it is in the events that a load leaves. So
@@ -103,9 +124,13 @@ pub fn load_by_load()
 pub fn whole_documents_have_roots()
     ensures roots_follow { (l : List Event) → NestsSoFar l → RootsFollow l }
     ensures left_over { (l : List Event) → RootsFollow l → RootsFollow (left_over l) }
-    ensures without_nodes { (l : List Event) (x : Ending) (n : ℕ) (d : Document) → RootsFollow l → next_bounded n l x ≡ Ok d → d.nodes ≡ [] → (bounded_loads n l x ≡ Ok d ∷ []) × (last_load x ≡ Ok d) }
-    ensures with_nodes { (l : List Event) (x : Ending) (n : ℕ) (d : Document) → next_bounded n l x ≡ Ok d → d.nodes ≢ [] → bounded_loads n l x ≡ Ok d ∷ bounded_loads n (left_over l) x }
-    ensures fault { (l : List Event) (x : Ending) (n : ℕ) (f : Fault) → next_bounded n l x ≡ Err f → bounded_loads n l x ≡ Err f ∷ [] }
+    ensures without_nodes { (l : List Event) (x : Ending) (n : ℕ) (d : Document) → RootsFollow l
+        → next_bounded n l x ≡ Ok d → d.nodes ≡ [] → (bounded_loads n l x ≡ Ok d ∷ [])
+        × (last_load x ≡ Ok d) }
+    ensures with_nodes { (l : List Event) (x : Ending) (n : ℕ) (d : Document) → next_bounded n l x ≡ Ok d
+        → d.nodes ≢ [] → bounded_loads n l x ≡ Ok d ∷ bounded_loads n (left_over l) x }
+    ensures fault { (l : List Event) (x : Ending) (n : ℕ) (f : Fault) → next_bounded n l x ≡ Err f
+        → bounded_loads n l x ≡ Err f ∷ [] }
 {}
 
 /// Where no list of a document that a load begins needs more than n entries, the bound n changes nothing;
@@ -113,11 +138,13 @@ pub fn whole_documents_have_roots()
 pub fn enough_room()
     ensures all { (r : List Event) (x : Ending) (n : ℕ) → HasRoom n r → bounded_loads n r x ≡ loads r x }
     ensures next { (r : List Event) (x : Ending) (n : ℕ) → HasRoom n r → next_bounded n r x ≡ next_load r x }
-    ensures unmet { (r : List Event) (x : Ending) (n : ℕ) → NoneLacksMemory (bounded_loads n r x) → bounded_loads n r x ≡ loads r x }
+    ensures unmet { (r : List Event) (x : Ending) (n : ℕ) → NoneLacksMemory (bounded_loads n r x)
+        → bounded_loads n r x ≡ loads r x }
 {}
 
 /// The bound is exact: nothing stops a load within the bound n exactly where its document has no composer
 /// fault and none of its lists needs more than n entries.
 pub fn bound_is_exact()
-    ensures { (l : List Part) (n : ℕ) → (first_stop n [] [] l ≡ None) ↔ ((composer_fault [] l ≡ None) × StaysWithin n l) }
+    ensures { (l : List Part) (n : ℕ)
+        → (first_stop n [] [] l ≡ None) ↔ ((composer_fault [] l ≡ None) × StaysWithin n l) }
 {}

@@ -1,5 +1,6 @@
 -- The loader's steps keep ids in range.
-use Rattle.std.proofs.Common.{◌≡◌, ◌≤◌, ◌++◌, ◌∷◌, List, [], ℕ, zero, suc, length, arith, ap, refl, sym, subst, ◌∙◌, Option, Some, None, Bool, true, false, cond, nat_cmp, length-append}
+use Rattle.std.proofs.Common.{◌≡◌, ◌≤◌, ◌++◌, ◌∷◌, List, [], ℕ, zero, suc, length, arith, ap, refl, sym, subst, ◌∙◌, Option, Some, None, Bool, true, false}
+use Rattle.std.proofs.Common.{cond, nat_cmp, length-append}
 use Rattle.std.specs.Cmp.Lexicographic.{slice_cmp, nat_list_cmp_total}
 use Rattle.std.specs.BTreeMap.{is_at}
 use Rattle.std.specs.FinMap.{get, insert, get-insert, get-empty}
@@ -10,7 +11,9 @@ use Rattle.libyaml_documents.specs.declared.node.unnamed_yaml_node_t_data.{unnam
 use Rattle.libyaml_documents.specs.declared.node.unnamed_yaml_node_t_data.TheVariants.{Scalar, Sequence, Mapping}
 use Rattle.libyaml_documents.specs.declared.node.yaml_node_t.{yaml_node_t}
 use Rattle.libyaml_graphs.specs.Graphs as graphs
-use Rattle.libyaml_graphs.specs.Loader.{Anchors, Loader, Open, Outcome, Registered, bounded_option, close, failed, fresh, going, hand, handed, if_child_fits, key_at, key_behind, known, list_full, load_part, nodes_full, on_alias, on_node, outer, register, registered, unless_full, with_child}
+use Rattle.libyaml_graphs.specs.Loader.{Anchors, Loader, Open, Loading, Registered, bounded_option, closed_by, failed, fresh, going, hand, handed}
+use Rattle.libyaml_graphs.specs.Loader.{if_child_fits, key_at, key_behind, known, list_full, load_part, nodes_full, on_alias, on_node, outer, register}
+use Rattle.libyaml_graphs.specs.Loader.{registered, unless_full, with_child}
 use Rattle.libyaml_graphs.specs.Parts.{Part, alias_part, end_part, leaf_part, start_part}
 use Rattle.libyaml_loader.specs.Context.{AllOpenIn, CarrierIn, IdsAreIn, KeyIn}
 use Rattle.libyaml_loader.proofs.Loading.{open_more}
@@ -24,7 +27,7 @@ length_hand : (i : ℕ) (s : List Open) (nodes : List yaml_node_t) → length (h
 length_hand i [] nodes = refl
 length_hand i (o ∷ s) nodes = length_changed o.place (with_child o.key i) nodes
 
-length_close : (m : yaml_mark_t) (s : List Open) (nodes : List yaml_node_t) → length (close m s nodes) ≡ length nodes
+length_close : (m : yaml_mark_t) (s : List Open) (nodes : List yaml_node_t) → length (closed_by m s nodes) ≡ length nodes
 length_close m [] nodes = refl
 length_close m (o ∷ s) nodes = length_changed o.place (with_end m) nodes
 
@@ -56,7 +59,8 @@ choose_in n true c o le h = le
 choose_in n false c o le h = h
 
 -- an anchor more
-register_in : (n : ℕ) (a : Option (List ℕ)) (i : ℕ) (m : yaml_mark_t) (xs ys : Anchors) → i ≤ n → ((q : List ℕ) → CarrierIn n (get xs q)) → register a i m xs ≡ registered ys → (q : List ℕ) → CarrierIn n (get ys q)
+register_in : (n : ℕ) (a : Option (List ℕ)) (i : ℕ) (m : yaml_mark_t) (xs ys : Anchors) → i ≤ n → ((q : List ℕ) → CarrierIn n (get xs q))
+    → register a i m xs ≡ registered ys → (q : List ℕ) → CarrierIn n (get ys q)
 register_in n None i m xs ys le h e q = subst (λ (z : Anchors). CarrierIn n (get z q)) (same e) (h q)
   where
     same : registered xs ≡ registered ys → xs ≡ ys
@@ -78,7 +82,8 @@ register_in n (Some a) i m xs ys le h e q = go (get xs a) e
 same_loader : (k l : Loader) → going l ≡ going k → l ≡ k
 same_loader k l e = cc
 
-node_in : (l k : Loader) (a : Option (List ℕ)) (x : yaml_node_t) (opens : List Open) → AllOpenIn (suc (length l.nodes)) opens → IdsAreIn l → on_node (register a (suc (length l.nodes)) x.start_mark l.anchors) x opens l ≡ going k → IdsAreIn k
+node_in : (l k : Loader) (a : Option (List ℕ)) (x : yaml_node_t) (opens : List Open) → AllOpenIn (suc (length l.nodes)) opens → IdsAreIn l
+    → on_node (register a (suc (length l.nodes)) x.start_mark l.anchors) x opens l ≡ going k → IdsAreIn k
 node_in l k a x opens new h e = go (register a (suc (length l.nodes)) x.start_mark l.anchors) refl e
   where
     n : ℕ
@@ -97,7 +102,8 @@ node_in l k a x opens new h e = go (register a (suc (length l.nodes)) x.start_ma
       stack = subst (λ (m : ℕ). AllOpenIn m (opens ++ handed n l.stack (l.nodes ++ x ∷ []))) (sym grown)
           (both opens _ new (handed_in n n l.stack (l.nodes ++ x ∷ []) (omega arith) (open_more (length l.nodes) n l.stack (omega arith) h.stack)));
       carriers = λ (q : List ℕ). subst (λ (m : ℕ). CarrierIn m (get xs q)) (sym grown)
-          (register_in n a n x.start_mark l.anchors xs (omega arith) (λ (b : List ℕ). carrier_more (length l.nodes) n (get l.anchors b) (omega arith) (h.carriers b)) p q);
+          (register_in n a n x.start_mark l.anchors xs (omega arith)
+          (λ (b : List ℕ). carrier_more (length l.nodes) n (get l.anchors b) (omega arith) (h.carriers b)) p q);
     })
 
 part_in : (l k : Loader) (p : Part) → IdsAreIn l → load_part l p ≡ going k → IdsAreIn k
@@ -106,7 +112,8 @@ part_in l k (alias_part a m) h e = go (get l.anchors a) (h.carriers a) e
     go : (c : Option graphs.Carrier) → CarrierIn (length l.nodes) c → on_alias c m l ≡ going k → IdsAreIn k
     go None g e = absurd cc
     go (Some c) g e = subst IdsAreIn (same_loader k _ e) (record {
-      stack = subst (λ (n : ℕ). AllOpenIn n (handed c.id l.stack l.nodes)) (sym (length_hand c.id l.stack l.nodes)) (handed_in (length l.nodes) c.id l.stack l.nodes g h.stack);
+      stack = subst (λ (n : ℕ). AllOpenIn n (handed c.id l.stack l.nodes)) (sym (length_hand c.id l.stack l.nodes))
+          (handed_in (length l.nodes) c.id l.stack l.nodes g h.stack);
       carriers = λ (q : List ℕ). subst (λ (n : ℕ). CarrierIn n (get l.anchors q)) (sym (length_hand c.id l.stack l.nodes)) (h.carriers q);
     })
 part_in l k (leaf_part a x) h e = node_in l k a x [] tt h e
@@ -116,7 +123,7 @@ part_in l k (end_part m) h e = subst IdsAreIn (same_loader k _ e) (record {
   carriers = λ (q : List ℕ). subst (λ (n : ℕ). CarrierIn n (get l.anchors q)) (sym (length_close m l.stack l.nodes)) (h.carriers q);
 })
 
-inner : (a b : Bool) (o : Outcome) (k : Loader) → unless_full a (if_child_fits b o) ≡ going k → o ≡ going k
+inner : (a b : Bool) (o : Loading) (k : Loader) → unless_full a (if_child_fits b o) ≡ going k → o ≡ going k
 inner true b o k e = absurd cc
 inner false b (failed f) k e = e
 inner false true (going l) k e = absurd cc

@@ -32,7 +32,8 @@ not_empty x items e = go (stack_of items) (sym (back (open_of x) (map open_of it
     go (o ∷ s) h = cc
 
 -- another key in the last
-pub stack_set : (items : List Open) (n : ℕ) (o : Open) (k : Option NodeId) → length items ≡ suc n → o ≡ get_or items n o → stack_of (set items n (record { node = o.node; key = k })) ≡ with_key (key_of k) (stack_of items)
+pub stack_set : (items : List Open) (n : ℕ) (o : Open) (k : Option NodeId) → length items ≡ suc n → o ≡ get_or items n o
+    → stack_of (set items n (record { node = o.node; key = k })) ≡ with_key (key_of k) (stack_of items)
 stack_set [] n o k h e = absurd (omega arith)
 stack_set (x ∷ []) zero o k h e = ap (λ (y : Open). record { place = place_of y.node; key = key_of k } ∷ []) e
 stack_set (x ∷ []) (suc n) o k h e = absurd (omega arith)

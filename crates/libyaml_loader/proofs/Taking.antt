@@ -6,20 +6,21 @@ use Rattle.libyaml_types.specs.declared.enums.yaml_parser_state_t.TheVariants.{Y
 use Rattle.libyaml_types.specs.declared.event.unnamed_yaml_event_t_data.{unnamed_yaml_event_t_data}
 use Rattle.libyaml_types.specs.declared.event.unnamed_yaml_event_t_data.TheVariants as ev
 use Rattle.libyaml_types.specs.declared.mark.yaml_mark_t.{yaml_mark_t}
-use Rattle.libyaml_events.specs.Calls.{EventOrError, empty_event}
-use Rattle.libyaml_events.specs.CallsInTurn.{CarriedOn}
-use Rattle.libyaml_events.specs.Config.{Parser, is_between, is_end, is_fault}
-use Rattle.libyaml_events.specs.Events.{Event}
-use Rattle.libyaml_events.specs.Fault.{Answer, Fault}
-use Rattle.libyaml_events.specs.History.{History, between_documents, has_ended, kept_fault}
-use Rattle.libyaml_events.specs.Parsing.{CarriesOn, FailsBy}
-use Rattle.libyaml_events.specs.RunToCome.{RunToCome, UnlessBroken}
-use Rattle.libyaml_events.specs.Runs.{Ending, Ends, Fails}
-use Rattle.libyaml_events.specs.Source.{Coming}
-use Rattle.libyaml_events.specs.Stages.{Stage, after, at_start, is_event, is_outside, stage_of}
-use Rattle.libyaml_events.specs.Tokens.{Token}
-use Rattle.libyaml_events.proofs.CallsInTurn.{both_calls, no_call, one_call, stage_more}
-use Rattle.libyaml_events.proofs.NextEvents.{Says, fails_here, first_event}
+use Rattle.libyaml_types.specs.Events.{empty_event}
+use Rattle.libyaml_events.specs.sources.Calls.{EventOrError}
+use Rattle.libyaml_events.specs.sources.CallsInTurn.{CarriedOn}
+use Rattle.libyaml_events.specs.machine.Config.{Parser, is_between, is_end_state, is_fault}
+use Rattle.libyaml_grammar.specs.sentences.Events.{Event}
+use Rattle.libyaml_grammar.specs.runs.Fault.{Answer, Fault}
+use Rattle.libyaml_events.specs.sources.History.{History, between_documents, is_over, kept_fault}
+use Rattle.libyaml_events.specs.sources.Parsing.{CarriesOn, FailsBy}
+use Rattle.libyaml_events.specs.sources.RunToCome.{RunToCome, UnlessBroken}
+use Rattle.libyaml_grammar.specs.runs.Runs.{Ending, Ends, Fails}
+use Rattle.libyaml_events.specs.sources.Source.{Coming}
+use Rattle.libyaml_events.specs.parsers.Stages.{Stage, after, at_start, is_event, is_outside, stage_of}
+use Rattle.libyaml_grammar.specs.sentences.Tokens.{Token}
+use Rattle.libyaml_events.proofs.calls.CallsInTurn.{both_calls, no_call, one_call, stage_more}
+use Rattle.libyaml_events.proofs.calls.NextEvents.{Says, fails_here, first_event}
 use Rattle.libyaml_graphs.specs.Parts.{Closing, closing_in, closing_of}
 use Rattle.libyaml_loader.specs.Loading.{ParserFails, Took}
 use Rattle.libyaml_loader.specs.Steps.{FindsEnd}
@@ -27,15 +28,16 @@ use Rattle.libyaml_loader.specs.Steps.{FindsEnd}
 no : true ≡ false → ⊥
 no h = cc
 
-over_between : (b : Bool) (s : yaml_parser_state_t) → (b || is_end s) ≡ true → (b || is_between s) ≡ true
+over_between : (b : Bool) (s : yaml_parser_state_t) → (b || is_end_state s) ≡ true → (b || is_between s) ≡ true
 over_between true s h = refl
 over_between false YAML_PARSE_END_STATE h = refl
 over_between false _ h = absurd cc
 
-pub ended_between : {S : Type 0} (p : Parser S) → has_ended p ≡ true → between_documents p ≡ true
+pub ended_between : {S : Type 0} (p : Parser S) → is_over p ≡ true → between_documents p ≡ true
 ended_between p h = over_between (is_fault (kept_fault p).error) p.config.state h
 
-outside_end : (st : Stage) (content : unnamed_yaml_event_t_data) (m : yaml_mark_t) (c : Closing) → closing_in content m ≡ Some c → is_outside (after st content) ≡ true
+outside_end : (st : Stage) (content : unnamed_yaml_event_t_data) (m : yaml_mark_t) (c : Closing) → closing_in content m ≡ Some c
+    → is_outside (after st content) ≡ true
 outside_end st (ev.DocumentEnd d) m c h = refl
 outside_end st ev.NoEvent m c h = absurd cc
 outside_end st (ev.StreamStart s) m c h = absurd cc
@@ -57,7 +59,8 @@ module _ {S : Type 0} (gives : S → Answer → S → Type 0) (known : S → Opt
 
   pub took_both : (old mid new : Parser S) (a b : List Event) → Took gives known old mid a → Took gives known mid new b → Took gives known old new (a ++ b)
   took_both old mid new a b x y = record {
-    history = λ (asked : List Token) (given : List Event) (h : History old asked given). let c = x.history asked given h in both_calls gives old mid new asked given a b c (y.history _ _ c.history);
+    history = λ (asked : List Token) (given : List Event) (h : History old asked given). let c
+        = x.history asked given h in both_calls gives old mid new asked given a b c (y.history _ _ c.history);
     runs = λ (events : List Event) (ending : Ending) (run : RunToCome known old events ending).
         let l = x.runs events ending run in
         let m = y.runs l.later ending l.run in
@@ -67,14 +70,16 @@ module _ {S : Type 0} (gives : S → Answer → S → Type 0) (known : S → Opt
   module _ (old new : Parser S) (r : EventOrError) where
     -- the clauses of a call
     pub record Called : Type 0 where
-      pub ended : has_ended old ≡ true → (r ≡ Ok empty_event) × (new ≡ old)
-      pub carries_on : has_ended old ≡ false → IfOk r (λ (e : Event). (asked : List Token) (given : List Event) → History old asked given → CarriesOn gives old e new asked given)
+      pub ended : is_over old ≡ true → (r ≡ Ok empty_event) × (new ≡ old)
+      pub carries_on : is_over old ≡ false
+          → IfOk r (λ (e : Event). (asked : List Token) (given : List Event) → History old asked given → CarriesOn gives old e new asked given)
       pub fails : IfErr r (λ (x : yaml_error_type_t). (asked : List Token) (given : List Event) → History old asked given → FailsBy gives old new asked given)
       pub between : (asked : List Token) (given : List Event) → History new asked given → between_documents new ≡ is_outside (stage_of given)
-      pub next : (e : Event) (later : List Event) (ending : Ending) → RunToCome known old (e ∷ later) ending → UnlessBroken MayBreak r new ((r ≡ Ok e) × RunToCome known new later ending)
+      pub next : (e : Event) (later : List Event) (ending : Ending) → RunToCome known old (e ∷ later) ending
+          → UnlessBroken MayBreak r new ((r ≡ Ok e) × RunToCome known new later ending)
       pub end : RunToCome known old [] Ends → (r ≡ Ok empty_event) × (new ≡ old)
       pub fault : (f : Fault) → RunToCome known old [] (Fails f) → UnlessBroken MayBreak r new ((r ≡ Err f.error) × (kept_fault new ≡ f))
-      pub nothing : has_ended new ≡ true → (later : List Event) (ending : Ending) → RunToCome known new later ending → (later ≡ []) × (ending ≡ Ends)
+      pub nothing : is_over new ≡ true → (later : List Event) (ending : Ending) → RunToCome known new later ending → (later ≡ []) × (ending ≡ Ends)
 
     says : Called → Says known MayBreak old new r
     says c = record { next = c.next; end = c.end; fault = c.fault }
@@ -86,10 +91,10 @@ module _ {S : Type 0} (gives : S → Answer → S → Type 0) (known : S → Opt
           ok : ◌≡◌ {A = EventOrError} (Ok e) (Ok empty_event) → e ≡ empty_event
           ok h = cc
 
-      pub running : is_event e.content ≡ true → has_ended old ≡ false
-      running an_event = go (has_ended old) refl
+      pub running : is_event e.content ≡ true → is_over old ≡ false
+      running an_event = go (is_over old) refl
         where
-          go : (b : Bool) → has_ended old ≡ b → has_ended old ≡ false
+          go : (b : Bool) → is_over old ≡ b → is_over old ≡ false
           go false h = h
           go true h = absurd (no (sym an_event ∙ ap (λ (x : Event). is_event x.content) (same (c.ended h).0)))
 
@@ -98,42 +103,51 @@ module _ {S : Type 0} (gives : S → Answer → S → Type 0) (known : S → Opt
 
       pub took_event : is_event e.content ≡ true → Took gives known old new (e ∷ [])
       took_event an_event = record {
-        history = λ (asked : List Token) (given : List Event) (h : History old asked given). one_call gives old old new asked given e (carried an_event asked given h);
+        history = λ (asked : List Token) (given : List Event) (h : History old asked given). one_call gives old old new asked given e
+            (carried an_event asked given h);
         runs = λ (events : List Event) (ending : Ending) (run : RunToCome known old events ending).
             let f = first_event known MayBreak old new r e is an_event (says c) events ending run in
             record { later = f.later; all = f.first; run = f.run };
       }
 
       -- behind a document's end the parser stands between documents
-      pub behind_end : is_event e.content ≡ true → (asked : List Token) (given : List Event) → History old asked given → (d : Closing) → closing_of e ≡ Some d → between_documents new ≡ true
+      pub behind_end : is_event e.content ≡ true → (asked : List Token) (given : List Event) → History old asked given → (d : Closing) → closing_of e ≡ Some d
+          → between_documents new ≡ true
       behind_end an_event asked given h d closes =
           let on = carried an_event asked given h in
           c.between _ _ on.history ∙ ap is_outside (stage_more at_start given (e ∷ [])) ∙ outside_end (stage_of given) e.content e.end_mark d closes
 
-      over : is_event e.content ≡ false → (asked : List Token) (given : List Event) → History old asked given → has_ended old ≡ true
-      over empty asked given history = go (has_ended old) refl
+      over : is_event e.content ≡ false → (asked : List Token) (given : List Event) → History old asked given → is_over old ≡ true
+      over empty asked given history = go (is_over old) refl
         where
-          go : (b : Bool) → has_ended old ≡ b → has_ended old ≡ true
+          go : (b : Bool) → is_over old ≡ b → is_over old ≡ true
           go true h = h
           go false h = absurd (no (sym ((rw is at (c.carries_on h)) asked given history).an_event ∙ empty))
 
       pub finds_end : is_event e.content ≡ false → FindsEnd gives known old new
       finds_end empty = record {
         took = record {
-          history = λ (asked : List Token) (given : List Event) (h : History old asked given). subst (λ (p : Parser S). CarriedOn gives old p asked given []) (sym (c.ended (over empty asked given h)).1) (no_call gives old old old asked given h);
-          runs = λ (events : List Event) (ending : Ending) (run : RunToCome known old events ending). record { later = events; all = refl; run = subst (λ (p : Parser S). RunToCome known p events ending) (sym (c.ended (over empty run.asked run.given run.history)).1) run };
+          history = λ (asked : List Token) (given : List Event) (h : History old asked given). subst (λ (p : Parser S). CarriedOn gives old p asked given [])
+              (sym (c.ended (over empty asked given h)).1) (no_call gives old old old asked given h);
+          runs = λ (events : List Event) (ending : Ending) (run : RunToCome known old events ending). record {
+            later = events;
+            all = refl;
+            run
+                = subst (λ (p : Parser S). RunToCome known p events ending) (sym (c.ended (over empty run.asked run.given run.history)).1) run;
+          };
         };
         ends = λ (events : List Event) (ending : Ending) (run : RunToCome known old events ending).
             let h = over empty run.asked run.given run.history in
             let s = (c.ended h).1 in
-            c.nothing (ap has_ended s ∙ h) events ending (subst (λ (p : Parser S). RunToCome known p events ending) (sym s) run);
+            c.nothing (ap is_over s ∙ h) events ending (subst (λ (p : Parser S). RunToCome known p events ending) (sym s) run);
         stands = λ (asked : List Token) (given : List Event) (history : History old asked given).
             let h = over empty asked given history in
-            ended_between new (ap has_ended (c.ended h).1 ∙ h);
+            ended_between new (ap is_over (c.ended h).1 ∙ h);
       }
 
     pub parser_fails : Called → (x : yaml_error_type_t) → r ≡ Err x → ParserFails gives known MayBreak old new
     parser_fails c x is = record {
       history = rw is at c.fails;
-      runs = λ (events : List Event) (ending : Ending) (run : RunToCome known old events ending). fails_here known MayBreak old new r x is (says c) events ending run;
+      runs = λ (events : List Event) (ending : Ending) (run : RunToCome known old events ending). fails_here known MayBreak old new r x is (says c) events
+          ending run;
     }

@@ -5,7 +5,8 @@ use Rattle.libyaml_types.specs.declared.mark.yaml_mark_t.{yaml_mark_t}
 use Rattle.libyaml_documents.specs.declared.node.yaml_node_t.{yaml_node_t}
 use Rattle.libyaml_documents.specs.Documents.{Document}
 use Rattle.libyaml_graphs.specs.Graphs as graphs
-use Rattle.libyaml_graphs.specs.Loader.{Loader, Open, Outcome, Registered, bounded_option, close, failed, going, hand, handed, known, outer, parent_full, register, registered}
+use Rattle.libyaml_graphs.specs.Loader.{Loader, Open, Loading, Registered, bounded_option, closed_by, failed, going, hand, handed, known, outer, parent_full}
+use Rattle.libyaml_graphs.specs.Loader.{register, registered}
 use Rattle.libyaml_graphs.specs.Parts.{Part}
 use Rattle.libyaml_loader.specs.declared.context.loader_ctx.{loader_ctx}
 use Rattle.libyaml_loader.specs.declared.ids.NodeId.{NodeId}
@@ -44,7 +45,7 @@ handed_to i c = record c { document = with_nodes (hand i c.stack c.document.node
 
 -- the innermost open collection ended
 abbrev pub closed : yaml_mark_t → loader_ctx → loader_ctx
-closed m c = record c { document = with_nodes (close m c.stack c.document.nodes) c.document; stack = outer c.stack }
+closed m c = record c { document = with_nodes (closed_by m c.stack c.document.nodes) c.document; stack = outer c.stack }
 
 -- why an anchor is not registered
 abbrev pub RefusesAnchor : Registered → yaml_mark_t → Refusal → Type 0
@@ -55,7 +56,8 @@ RefusesAnchor (registered xs) m r = r ≡ Memory
 pub record NodeLoaded (old new : loader_ctx) (id : NodeId) (anchor : Option (List ℕ)) (node : yaml_node_t) : Type 0 where
   pub id_is : id_of id ≡ suc (length old.document.nodes)
   pub anchors : register anchor (suc (length old.document.nodes)) node.start_mark old.anchors ≡ registered new.anchors
-  pub context : new ≡ handed_to (suc (length old.document.nodes)) (record old { document = with_nodes (old.document.nodes ++ node ∷ []) old.document; anchors = new.anchors })
+  pub context : new ≡ handed_to (suc (length old.document.nodes))
+      (record old { document = with_nodes (old.document.nodes ++ node ∷ []) old.document; anchors = new.anchors })
   pub room : parent_full old.max_entries old.stack old.document.nodes ≡ false
 
 -- the machine goes on by an event's part, and the document's fields stay
@@ -65,7 +67,7 @@ pub record Composed (old new : loader_ctx) (p : Option Part) : Type 0 where
   pub bound : new.max_entries ≡ old.max_entries
 
 -- a growth was refused, or the machine fails by this refusal
-abbrev pub RefusedBy : Outcome → Refusal → Type 0
+abbrev pub RefusedBy : Loading → Refusal → Type 0
 RefusedBy o r = (r ≡ Memory) ⊎ (o ≡ failed (fault_by r))
 
 abbrev pub Refuses : loader_ctx → Option Part → Refusal → Type 0

@@ -2,17 +2,17 @@
 use Rattle.std.specs.Prelude.{◌≡◌, ◌++◌, ◌⊎◌, List, [], Option, None, Result, Ok, Err, true, false}
 use Rattle.libyaml_types.specs.declared.enums.yaml_error_type_t.{yaml_error_type_t}
 use Rattle.libyaml_documents.specs.Documents.{Document, empty_document}
-use Rattle.libyaml_events.specs.CallsInTurn.{CarriedOn}
-use Rattle.libyaml_events.specs.Config.{Parser}
-use Rattle.libyaml_events.specs.Events.{Event}
-use Rattle.libyaml_events.specs.Fault.{Answer, Fault}
-use Rattle.libyaml_events.specs.FaultTexts.{memory_fault}
-use Rattle.libyaml_events.specs.History.{History, between_documents, kept_fault, keeping}
-use Rattle.libyaml_events.specs.Parsing.{FailsBy}
-use Rattle.libyaml_events.specs.Runs.{Ending, Ends, Fails}
-use Rattle.libyaml_events.specs.RunToCome.{RunToCome}
-use Rattle.libyaml_events.specs.Source.{Coming}
-use Rattle.libyaml_events.specs.Tokens.{Token}
+use Rattle.libyaml_events.specs.sources.CallsInTurn.{CarriedOn}
+use Rattle.libyaml_events.specs.machine.Config.{Parser}
+use Rattle.libyaml_grammar.specs.sentences.Events.{Event}
+use Rattle.libyaml_grammar.specs.runs.Fault.{Answer, Fault}
+use Rattle.libyaml_grammar.specs.cuts.FaultTexts.{memory_fault}
+use Rattle.libyaml_events.specs.sources.History.{History, between_documents, kept_fault, keeping}
+use Rattle.libyaml_events.specs.sources.Parsing.{FailsBy}
+use Rattle.libyaml_grammar.specs.runs.Runs.{Ending, Ends, Fails}
+use Rattle.libyaml_events.specs.sources.RunToCome.{RunToCome}
+use Rattle.libyaml_events.specs.sources.Source.{Coming}
+use Rattle.libyaml_grammar.specs.sentences.Tokens.{Token}
 use Rattle.libyaml_graphs.specs.Loads.{Load, last_load}
 
 -- what a load answers
@@ -36,7 +36,8 @@ abbrev pub FailsHere : (MayBreak : Fault → Type 0) → Fault → List Event �
 FailsHere MayBreak f events ending = ((events ≡ []) × (ending ≡ Fails f)) ⊎ ((f ≡ memory_fault) ⊎ MayBreak f)
 
 -- a call of the parser failed
-pub record ParserFails {S : Type 0} (gives : S → Answer → S → Type 0) (known : S → Option Coming) (MayBreak : S → Fault → Type 0) (old new : Parser S) : Type 0 where
+pub record ParserFails {S : Type 0} (gives : S → Answer → S → Type 0) (known : S → Option Coming) (MayBreak : S → Fault
+    → Type 0) (old new : Parser S) : Type 0 where
   pub history : (asked : List Token) (given : List Event) → History old asked given → FailsBy gives old new asked given
   pub runs : (events : List Event) (ending : Ending) → RunToCome known old events ending → FailsHere (MayBreak new.source) (kept_fault new) events ending
 
@@ -46,20 +47,28 @@ KeptBy f parser new = (asked : List Token) (given : List Event) → History pars
 
 -- A load that answered a document: it took the events up to a document's end, which have that document whatever stands
 -- behind them; or all events up to the stream's end, and the document is that without root.
-pub data Loads {S : Type 0} (gives : S → Answer → S → Type 0) (known : S → Option Coming) (load : List Event → Ending → Load) (left : List Event → List Event) (old new : Parser S) (d : Document) : Type 0 where
-  whole : (taken : List Event) → Took gives known old new taken → ((rest : List Event) (x : Ending) → load (taken ++ rest) x ≡ Ok d) → ((rest : List Event) → left (taken ++ rest) ≡ rest)
+pub data Loads {S : Type 0} (gives : S → Answer → S → Type 0) (known : S → Option Coming) (load : List Event → Ending → Load) (left : List Event
+    → List Event) (old new : Parser S) (d : Document) : Type 0 where
+  whole : (taken : List Event) → Took gives known old new taken → ((rest : List Event) (x : Ending) → load (taken ++ rest) x ≡ Ok d)
+      → ((rest : List Event) → left (taken ++ rest) ≡ rest)
       → ((asked : List Token) (given : List Event) → History old asked given → between_documents new ≡ true) → Loads gives known load left old new d
   at_end : (taken : List Event) → Took gives known old new taken → ((x : Ending) → load taken x ≡ last_load x) → (left taken ≡ [])
-      → ((events : List Event) (ending : Ending) → RunToCome known old events ending → (events ≡ taken) × (ending ≡ Ends)) → d ≡ empty_document None [] false false
+      → ((events : List Event) (ending : Ending) → RunToCome known old events ending → (events ≡ taken) × (ending ≡ Ends))
+      → d ≡ empty_document None [] false false
       → ((asked : List Token) (given : List Event) → History old asked given → between_documents new ≡ true) → Loads gives known load left old new d
 
 -- A load that failed: behind the events that it took the parser did, and these have no fault of a load; or these have one,
 -- which the parser keeps; or a growth was refused.
-pub data LoadFails {S : Type 0} (gives : S → Answer → S → Type 0) (known : S → Option Coming) (MayBreak : S → Fault → Type 0) (load : List Event → Ending → Load) (left : List Event → List Event) (old new : Parser S) : Type 0 where
-  by_parser : (taken : List Event) (parser : Parser S) → Took gives known old parser taken → ParserFails gives known MayBreak parser new → ((x : Ending) → load taken x ≡ last_load x) → LoadFails gives known MayBreak load left old new
-  by_loader : (taken : List Event) (parser : Parser S) → Took gives known old parser taken → (f : Fault) → KeptBy f parser new → ((rest : List Event) (x : Ending) → load (taken ++ rest) x ≡ Err f) → LoadFails gives known MayBreak load left old new
-  by_memory : (taken : List Event) (parser : Parser S) → Took gives known old parser taken → KeptBy memory_fault parser new → LoadFails gives known MayBreak load left old new
+pub data LoadFails {S : Type 0} (gives : S → Answer → S → Type 0) (known : S → Option Coming) (MayBreak : S → Fault → Type 0) (load : List Event → Ending
+    → Load) (left : List Event → List Event) (old new : Parser S) : Type 0 where
+  by_parser : (taken : List Event) (parser : Parser S) → Took gives known old parser taken → ParserFails gives known MayBreak parser new
+      → ((x : Ending) → load taken x ≡ last_load x) → LoadFails gives known MayBreak load left old new
+  by_loader : (taken : List Event) (parser : Parser S) → Took gives known old parser taken → (f : Fault) → KeptBy f parser new
+      → ((rest : List Event) (x : Ending) → load (taken ++ rest) x ≡ Err f) → LoadFails gives known MayBreak load left old new
+  by_memory : (taken : List Event) (parser : Parser S) → Took gives known old parser taken → KeptBy memory_fault parser new
+      → LoadFails gives known MayBreak load left old new
 
-abbrev pub LoadsFrom : {S : Type 0} → (S → Answer → S → Type 0) → (S → Option Coming) → (S → Fault → Type 0) → (List Event → Ending → Load) → (List Event → List Event) → Parser S → DocumentOrError → Parser S → Type 0
+abbrev pub LoadsFrom : {S : Type 0} → (S → Answer → S → Type 0) → (S → Option Coming) → (S → Fault → Type 0) → (List Event → Ending → Load)
+    → (List Event → List Event) → Parser S → DocumentOrError → Parser S → Type 0
 LoadsFrom gives known MayBreak load left old (Ok d) new = Loads gives known load left old new d
 LoadsFrom gives known MayBreak load left old (Err x) new = LoadFails gives known MayBreak load left old new

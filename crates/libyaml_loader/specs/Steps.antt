@@ -1,15 +1,15 @@
 -- What one event of a document does in a load.
 use Rattle.std.specs.Prelude.{◌≡◌, ◌∷◌, ◌⊎◌, List, [], Option, Some, None, Result, Ok, Err, true}
 use Rattle.libyaml_types.specs.declared.enums.yaml_error_type_t.{yaml_error_type_t}
-use Rattle.libyaml_events.specs.Config.{Parser}
-use Rattle.libyaml_events.specs.Events.{Event}
-use Rattle.libyaml_events.specs.Fault.{Answer, Fault}
-use Rattle.libyaml_events.specs.FaultTexts.{memory_fault}
-use Rattle.libyaml_events.specs.History.{History, between_documents}
-use Rattle.libyaml_events.specs.Runs.{Ending, Ends}
-use Rattle.libyaml_events.specs.RunToCome.{RunToCome}
-use Rattle.libyaml_events.specs.Source.{Coming}
-use Rattle.libyaml_events.specs.Tokens.{Token}
+use Rattle.libyaml_events.specs.machine.Config.{Parser}
+use Rattle.libyaml_grammar.specs.sentences.Events.{Event}
+use Rattle.libyaml_grammar.specs.runs.Fault.{Answer, Fault}
+use Rattle.libyaml_grammar.specs.cuts.FaultTexts.{memory_fault}
+use Rattle.libyaml_events.specs.sources.History.{History, between_documents}
+use Rattle.libyaml_grammar.specs.runs.Runs.{Ending, Ends}
+use Rattle.libyaml_events.specs.sources.RunToCome.{RunToCome}
+use Rattle.libyaml_events.specs.sources.Source.{Coming}
+use Rattle.libyaml_grammar.specs.sentences.Tokens.{Token}
 use Rattle.libyaml_graphs.specs.Loader.{bounded_option, failed}
 use Rattle.libyaml_graphs.specs.Parts as parts
 use Rattle.libyaml_graphs.specs.Parts.{closing_of, part_of}
@@ -34,11 +34,13 @@ StepBy (step.Closed c) old new e = (closing_of e ≡ Some (closing c)) × (new �
 StepBy step.Ended old new e = ⊥
 
 -- the next event was taken
-pub record TakesEvent {S : Type 0} (gives : S → Answer → S → Type 0) (known : S → Option Coming) (step : Step) (old new : Parser S) (before after : loader_ctx) : Type 0 where
+pub record TakesEvent {S : Type 0} (gives : S → Answer → S → Type 0) (known : S
+    → Option Coming) (step : Step) (old new : Parser S) (before after : loader_ctx) : Type 0 where
   pub event : Event
   pub took : Took gives known old new (event ∷ [])
   pub by : StepBy step before after event
-  pub ended : (asked : List Token) (given : List Event) → History old asked given → (c : parts.Closing) → closing_of event ≡ Some c → between_documents new ≡ true
+  pub ended : (asked : List Token) (given : List Event) → History old asked given → (c : parts.Closing) → closing_of event ≡ Some c
+      → between_documents new ≡ true
 
 -- no event was left
 pub record FindsEnd {S : Type 0} (gives : S → Answer → S → Type 0) (known : S → Option Coming) (old new : Parser S) : Type 0 where
@@ -56,8 +58,9 @@ pub record LoaderFails {S : Type 0} (gives : S → Answer → S → Type 0) (kno
   pub keeps : KeptBy fault parser new
   pub why : (fault ≡ memory_fault) ⊎ (bounded_option before.max_entries (loader_of before) (part_of event) ≡ failed fault)
 
-abbrev pub Steps : {S : Type 0} → (S → Answer → S → Type 0) → (S → Option Coming) → (S → Fault → Type 0) → Result Step yaml_error_type_t → (old new : Parser S) → (before after : loader_ctx) → Type 0
-Steps gives known MayBreak (Ok step.Ended) old new before after = FindsEnd gives known old new
-Steps gives known MayBreak (Ok step.Composed) old new before after = TakesEvent gives known step.Composed old new before after
-Steps gives known MayBreak (Ok (step.Closed c)) old new before after = TakesEvent gives known (step.Closed c) old new before after
-Steps gives known MayBreak (Err x) old new before after = ParserFails gives known MayBreak old new ⊎ LoaderFails gives known old new before
+abbrev pub ComposesBy : {S : Type 0} → (S → Answer → S → Type 0) → (S → Option Coming) → (S → Fault → Type 0) → Result Step yaml_error_type_t
+    → (old new : Parser S) → (before after : loader_ctx) → Type 0
+ComposesBy gives known MayBreak (Ok step.Ended) old new before after = FindsEnd gives known old new
+ComposesBy gives known MayBreak (Ok step.Composed) old new before after = TakesEvent gives known step.Composed old new before after
+ComposesBy gives known MayBreak (Ok (step.Closed c)) old new before after = TakesEvent gives known (step.Closed c) old new before after
+ComposesBy gives known MayBreak (Err x) old new before after = ParserFails gives known MayBreak old new ⊎ LoaderFails gives known old new before

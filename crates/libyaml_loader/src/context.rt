@@ -1,12 +1,16 @@
 //! A document on the way: its nodes so far, its open collections and its anchors.
 
-ghost use Rattle.std.specs.Prelude.{◌≡◌, ◌≤◌, ◌⊎◌, suc, [], length, nat_lt, false, Some, None, IfOk, IfErr, OnOk};
+ghost use Rattle.std.specs.Prelude.{◌≡◌, ◌≤◌, ◌⊎◌, suc, [], length, nat_lt, false, Some, None};
+ghost use Rattle.std.specs.Prelude.{IfOk, IfErr, OnOk};
 ghost use Rattle.libyaml_documents.specs.Documents.{with_changed_node};
-ghost use Rattle.libyaml_documents.specs.LoadedNodes.{begun_document, children_at, ended_document, mapping_loaded, scalar_loaded, sequence_loaded};
+ghost use Rattle.libyaml_documents.specs.LoadedNodes.{begun_document, children_at, ended_document};
+ghost use Rattle.libyaml_documents.specs.LoadedNodes.{mapping_loaded, scalar_loaded};
+ghost use Rattle.libyaml_documents.specs.LoadedNodes.{sequence_loaded};
 ghost use Rattle.libyaml_documents.specs.Nodes.{ids_of, type_at, with_item, with_pair};
 ghost use Rattle.libyaml_graphs.specs.Loader.{no_anchors, parent_full, register, registered};
 ghost use Rattle.libyaml_graphs.specs.Parts.{alias_part, end_part, leaf_part, part_in, start_part};
-ghost use Rattle.libyaml_loader.specs.Context.{AllOpenIn, Composed, IdsAreIn, NodeLoaded, Refuses, RefusesAnchor, closed, handed_to, loader_of};
+ghost use Rattle.libyaml_loader.specs.Context.{AllOpenIn, Composed, IdsAreIn, NodeLoaded, Refuses};
+ghost use Rattle.libyaml_loader.specs.Context.{RefusesAnchor, closed, handed_to, loader_of};
 ghost use Rattle.libyaml_loader.specs.Ids.{id_of};
 ghost use Rattle.libyaml_loader.specs.Stack.{opened, with_key};
 
@@ -154,8 +158,10 @@ impl loader_ctx {
         end_mark: yaml_mark_t,
     ) -> Result<(), Refusal>
         requires { IdsAreIn (loader_of self.old) }
-        ensures ok { OnOk result (Composed self.old self.new (Some (leaf_part scalar.anchor (scalar_loaded scalar start_mark end_mark)))) }
-        ensures err { IfErr result (λ r. Refuses self.old (Some (leaf_part scalar.anchor (scalar_loaded scalar start_mark end_mark))) r) }
+        ensures ok { OnOk result (Composed self.old self.new
+            (Some (leaf_part scalar.anchor (scalar_loaded scalar start_mark end_mark)))) }
+        ensures err { IfErr result (λ r. Refuses self.old
+            (Some (leaf_part scalar.anchor (scalar_loaded scalar start_mark end_mark))) r) }
     {
         self.has_room(self.document.nodes().len())?;
         let anchor = scalar.anchor.take();
@@ -174,8 +180,11 @@ impl loader_ctx {
         end_mark: yaml_mark_t,
     ) -> Result<(), Refusal>
         requires { IdsAreIn (loader_of self.old) }
-        ensures ok { OnOk result (Composed self.old self.new (Some (start_part start.anchor (sequence_loaded start.tag start.style [] start_mark end_mark)))) }
-        ensures err { IfErr result (λ r. Refuses self.old (Some (start_part start.anchor (sequence_loaded start.tag start.style [] start_mark end_mark))) r) }
+        ensures ok { OnOk result (Composed self.old self.new
+            (Some (start_part start.anchor (sequence_loaded start.tag start.style [] start_mark end_mark)))) }
+        ensures err { IfErr result (λ r. Refuses self.old
+            (Some (start_part start.anchor (sequence_loaded start.tag start.style [] start_mark end_mark)))
+            r) }
     {
         self.has_room(self.document.nodes().len())?;
         let anchor = start.anchor.take();
@@ -195,8 +204,11 @@ impl loader_ctx {
         end_mark: yaml_mark_t,
     ) -> Result<(), Refusal>
         requires { IdsAreIn (loader_of self.old) }
-        ensures ok { OnOk result (Composed self.old self.new (Some (start_part start.anchor (mapping_loaded start.tag start.style [] start_mark end_mark)))) }
-        ensures err { IfErr result (λ r. Refuses self.old (Some (start_part start.anchor (mapping_loaded start.tag start.style [] start_mark end_mark))) r) }
+        ensures ok { OnOk result (Composed self.old self.new
+            (Some (start_part start.anchor (mapping_loaded start.tag start.style [] start_mark end_mark)))) }
+        ensures err { IfErr result (λ r. Refuses self.old
+            (Some (start_part start.anchor (mapping_loaded start.tag start.style [] start_mark end_mark)))
+            r) }
     {
         self.has_room(self.document.nodes().len())?;
         let anchor = start.anchor.take();
@@ -212,7 +224,9 @@ impl loader_ctx {
         requires ids { IdsAreIn (loader_of self.old) }
         requires childless { ids_of node.content ≡ [] }
         ensures ok { IfOk result (λ id. NodeLoaded self.old self.new id anchor node) }
-        ensures err { IfErr result (λ r. RefusesAnchor (register anchor (suc (length self.old.document.nodes)) node.start_mark self.old.anchors) node.start_mark r) }
+        ensures err { IfErr result (λ r. RefusesAnchor
+            (register anchor (suc (length self.old.document.nodes)) node.start_mark self.old.anchors)
+            node.start_mark r) }
     {
         let mark = node.start_mark;
         let id = NodeId::new(append_node(&mut self.document, node)?);
@@ -229,9 +243,11 @@ impl loader_ctx {
         anchor: Option<Text>,
         carrier: Carrier,
     ) -> Result<(), Refusal>
-        ensures ok { OnOk result (register anchor (id_of carrier.node) carrier.mark self.old.anchors ≡ registered self.new.anchors) }
+        ensures ok { OnOk result (register anchor (id_of carrier.node) carrier.mark self.old.anchors
+            ≡ registered self.new.anchors) }
         ensures rest { OnOk result (self.new ≡ record self.old { anchors = self.new.anchors }) }
-        ensures err { IfErr result (λ r. RefusesAnchor (register anchor (id_of carrier.node) carrier.mark self.old.anchors) carrier.mark r) }
+        ensures err { IfErr result (λ r. RefusesAnchor
+            (register anchor (id_of carrier.node) carrier.mark self.old.anchors) carrier.mark r) }
     {
         let Some(anchor) = anchor else {
             return Ok(());
@@ -261,7 +277,8 @@ impl loader_ctx {
         requires stack { AllOpenIn (length self.old.document.nodes) self.old.stack }
         requires child { id_of child ≤ length self.old.document.nodes }
         ensures ok { OnOk result (self.new ≡ handed_to (id_of child) self.old) }
-        ensures room { OnOk result (parent_full self.old.max_entries self.old.stack self.old.document.nodes ≡ false) }
+        ensures room { OnOk result (parent_full self.old.max_entries self.old.stack self.old.document.nodes
+            ≡ false) }
         ensures err { IfErr result (λ r. r ≡ Refusal.Memory) }
     {
         let Some(parent) = self.stack.innermost() else {
@@ -280,10 +297,16 @@ impl loader_ctx {
 
     /// Puts an item behind the others of a sequence.
     fn add_item(&mut self, sequence: NodeId, item: NodeId) -> Result<(), Refusal>
-        requires sequence { type_at self.old.document.nodes sequence.number ≡ yaml_node_type_t.YAML_SEQUENCE_NODE }
+        requires sequence { type_at self.old.document.nodes sequence.number
+            ≡ yaml_node_type_t.YAML_SEQUENCE_NODE }
         requires item { id_of item ≤ length self.old.document.nodes }
-        ensures ok { OnOk result (self.new ≡ record self.old { document = with_changed_node self.old.document sequence.number (with_item item.number) }) }
-        ensures room { OnOk result (nat_lt self.old.max_entries (suc (children_at self.old.document.nodes sequence.number)) ≡ false) }
+        ensures ok { OnOk result (self.new
+            ≡ record self.old {
+              document = with_changed_node self.old.document sequence.number
+                  (with_item item.number);
+            }) }
+        ensures room { OnOk result (nat_lt self.old.max_entries
+            (suc (children_at self.old.document.nodes sequence.number)) ≡ false) }
         ensures err { IfErr result (λ r. r ≡ Refusal.Memory) }
     {
         self.has_room(children_count(&self.document, sequence.number))?;
@@ -293,9 +316,12 @@ impl loader_ctx {
 
     /// Lets a key wait for its value in the innermost open collection, which is a mapping.
     fn add_key(&mut self, mapping: NodeId, key: NodeId) -> Result<(), Refusal>
-        requires mapping { type_at self.old.document.nodes mapping.number ≡ yaml_node_type_t.YAML_MAPPING_NODE }
-        ensures ok { OnOk result (self.new ≡ record self.old { stack = with_key (Some (id_of key)) self.old.stack }) }
-        ensures room { OnOk result (nat_lt self.old.max_entries (suc (children_at self.old.document.nodes mapping.number)) ≡ false) }
+        requires mapping { type_at self.old.document.nodes mapping.number
+            ≡ yaml_node_type_t.YAML_MAPPING_NODE }
+        ensures ok { OnOk result (self.new
+            ≡ record self.old { stack = with_key (Some (id_of key)) self.old.stack }) }
+        ensures room { OnOk result (nat_lt self.old.max_entries
+            (suc (children_at self.old.document.nodes mapping.number)) ≡ false) }
         ensures err { IfErr result (λ r. r ≡ Refusal.Memory) }
     {
         self.has_room(children_count(&self.document, mapping.number))?;
@@ -306,10 +332,16 @@ impl loader_ctx {
     /// Puts the pair of a key that waited behind the others of the innermost open collection, which is
     /// a mapping.
     fn add_pair(&mut self, mapping: NodeId, key: NodeId, value: NodeId) -> Result<(), Refusal>
-        requires mapping { type_at self.old.document.nodes mapping.number ≡ yaml_node_type_t.YAML_MAPPING_NODE }
+        requires mapping { type_at self.old.document.nodes mapping.number
+            ≡ yaml_node_type_t.YAML_MAPPING_NODE }
         requires key { id_of key ≤ length self.old.document.nodes }
         requires value { id_of value ≤ length self.old.document.nodes }
-        ensures ok { OnOk result (self.new ≡ record self.old { document = with_changed_node self.old.document mapping.number (with_pair key.number value.number); stack = with_key None self.old.stack }) }
+        ensures ok { OnOk result (self.new
+            ≡ record self.old {
+              document = with_changed_node self.old.document mapping.number
+                  (with_pair key.number value.number);
+              stack = with_key None self.old.stack;
+            }) }
         ensures err { IfErr result (λ r. r ≡ Refusal.Memory) }
     {
         yaml_document_append_mapping_pair(

@@ -5,11 +5,11 @@ ghost use Rattle.std.specs.Option.{option_map};
 ghost use Rattle.libyaml_types.specs.declared.event.yaml_event_t.{yaml_event_t};
 ghost use Rattle.libyaml_documents.specs.Documents.{empty_document};
 ghost use Rattle.libyaml_documents.specs.LoadedNodes.{begun_document};
-ghost use Rattle.libyaml_events.specs.EventsLeft.{events_left};
-ghost use Rattle.libyaml_events.specs.Stages.{is_event};
-ghost use Rattle.libyaml_events.specs.Runs.{Ending};
-ghost use Rattle.libyaml_events.specs.RunToCome.{RunToCome};
-ghost use Rattle.libyaml_events.specs.History.{between_documents, has_ended, has_failed, kept_fault};
+ghost use Rattle.libyaml_events.specs.parsers.EventsLeft.{events_left};
+ghost use Rattle.libyaml_events.specs.parsers.Stages.{is_event};
+ghost use Rattle.libyaml_grammar.specs.runs.Runs.{Ending};
+ghost use Rattle.libyaml_events.specs.sources.RunToCome.{RunToCome};
+ghost use Rattle.libyaml_events.specs.sources.History.{between_documents, is_over, has_failed, kept_fault};
 ghost use Rattle.libyaml_graphs.specs.Bounds.{next_bounded};
 ghost use Rattle.libyaml_graphs.specs.Loader as machine;
 ghost use Rattle.libyaml_graphs.specs.Loads.{left_over};
@@ -18,7 +18,7 @@ ghost use Rattle.libyaml_loader.specs.Context.{IdsAreIn, loader_of, with_nodes};
 ghost use Rattle.libyaml_loader.specs.Ids.{magnitude};
 ghost use Rattle.libyaml_loader.specs.Loading.{LoadsFrom};
 ghost use Rattle.libyaml_loader.specs.NextLoad.{Answers, UnlessBroken};
-ghost use Rattle.libyaml_loader.specs.Steps.{Steps, closing, opening_at};
+ghost use Rattle.libyaml_loader.specs.Steps.{ComposesBy, closing, opening_at};
 
 use crate::context::loader_ctx;
 use crate::refusal::{has_failed, keep_refusal};
@@ -68,19 +68,27 @@ pub fn yaml_parser_load<S: yaml_token_source_t>(
 ) -> Result<yaml_document_t, yaml_error_type_t>
     requires between { between_documents parser.old ≡ true }
     // a fault that is kept is answered for good
-    ensures kept { has_failed parser.old ≡ true → (result ≡ Err (kept_fault parser.old).error) × (parser.new ≡ parser.old) }
+    ensures kept { has_failed parser.old ≡ true → (result ≡ Err (kept_fault parser.old).error)
+        × (parser.new ≡ parser.old) }
     // behind the stream's end nothing changes
-    ensures ended { has_ended parser.old ≡ true → has_failed parser.old ≡ false → (result ≡ Ok (empty_document None [] false false)) × (parser.new ≡ parser.old) }
-    ensures fails { IfErr result (λ x. (x ≡ (kept_fault parser.new).error) × (has_ended parser.new ≡ true)) }
+    ensures ended { is_over parser.old ≡ true → has_failed parser.old ≡ false
+        → (result ≡ Ok (empty_document None [] false false)) × (parser.new ≡ parser.old) }
+    ensures fails { IfErr result (λ x. (x ≡ (kept_fault parser.new).error) × (is_over parser.new ≡ true)) }
     ensures bound { parser.new.max_entries ≡ parser.old.max_entries }
     ensures between { between_documents parser.new ≡ true }
     // so a loop over the documents ends
-    ensures falls { IfOk result (λ d. (d ≡ empty_document None [] false false) ⊎ (events_left S.bound parser.new < events_left S.bound parser.old)) }
+    ensures falls { IfOk result (λ d. (d ≡ empty_document None [] false false)
+        ⊎ (events_left S.bound parser.new < events_left S.bound parser.old)) }
     // over every source, by the events that were taken
-    ensures loads { has_failed parser.old ≡ false → LoadsFrom S.gives S.known S.may_break (next_bounded (magnitude parser.old.max_entries)) left_over parser.old result parser.new }
+    ensures loads { has_failed parser.old ≡ false
+        → LoadsFrom S.gives S.known S.may_break (next_bounded (magnitude parser.old.max_entries)) left_over
+        parser.old result parser.new }
     // over a source that knows its tokens, by the run that is to come
-    ensures next_load { (events : List yaml_event_t) (ending : Ending) → RunToCome S.known parser.old events ending
-        → UnlessBroken S.may_break result parser.new (Answers S.known (next_bounded (magnitude parser.old.max_entries) events ending) result parser.new (left_over events) ending) }
+    ensures next_load { (events : List yaml_event_t) (ending : Ending)
+        → RunToCome S.known parser.old events ending
+        → UnlessBroken S.may_break result parser.new
+        (Answers S.known (next_bounded (magnitude parser.old.max_entries) events ending) result parser.new
+        (left_over events) ending) }
 {
     if has_failed(parser) {
         return Err(parser.prefix().error);
@@ -92,12 +100,15 @@ pub fn yaml_parser_load<S: yaml_token_source_t>(
 fn next_document<S: yaml_token_source_t>(
     parser: &mut yaml_parser_t<S>,
 ) -> Result<yaml_document_t, yaml_error_type_t>
-    ensures ended { has_ended parser.old ≡ true → (result ≡ Ok (empty_document None [] false false)) × (parser.new ≡ parser.old) }
-    ensures falls { IfOk result (λ d. (d ≡ empty_document None [] false false) ⊎ (events_left S.bound parser.new < events_left S.bound parser.old)) }
-    ensures fails { IfErr result (λ x. (x ≡ (kept_fault parser.new).error) × (has_ended parser.new ≡ true)) }
+    ensures ended { is_over parser.old ≡ true → (result ≡ Ok (empty_document None [] false false))
+        × (parser.new ≡ parser.old) }
+    ensures falls { IfOk result (λ d. (d ≡ empty_document None [] false false)
+        ⊎ (events_left S.bound parser.new < events_left S.bound parser.old)) }
+    ensures fails { IfErr result (λ x. (x ≡ (kept_fault parser.new).error) × (is_over parser.new ≡ true)) }
     ensures bound { parser.new.max_entries ≡ parser.old.max_entries }
     ensures between { between_documents parser.new ≡ true }
-    ensures loads { LoadsFrom S.gives S.known S.may_break (next_bounded (magnitude parser.old.max_entries)) left_over parser.old result parser.new }
+    ensures loads { LoadsFrom S.gives S.known S.may_break (next_bounded (magnitude parser.old.max_entries))
+        left_over parser.old result parser.new }
 {
     loop {
         let yaml_event_t {
@@ -142,11 +153,15 @@ fn yaml_parser_load_document<S: yaml_token_source_t>(
     parser: &mut yaml_parser_t<S>,
     opening: Opening,
 ) -> Result<yaml_document_t, yaml_error_type_t>
-    ensures falls { IfOk result (λ d. (d ≡ empty_document None [] false false) ⊎ (events_left S.bound parser.new < events_left S.bound parser.old)) }
-    ensures fails { IfErr result (λ x. (x ≡ (kept_fault parser.new).error) × (has_ended parser.new ≡ true)) }
+    ensures falls { IfOk result (λ d. (d ≡ empty_document None [] false false)
+        ⊎ (events_left S.bound parser.new < events_left S.bound parser.old)) }
+    ensures fails { IfErr result (λ x. (x ≡ (kept_fault parser.new).error) × (is_over parser.new ≡ true)) }
     ensures bound { parser.new.max_entries ≡ parser.old.max_entries }
     ensures between { between_documents parser.new ≡ true }
-    ensures loads { LoadsFrom S.gives S.known S.may_break (machine.load_from (magnitude parser.old.max_entries) (machine.within (opening_at opening) machine.fresh)) (machine.left_from (machine.within (opening_at opening) machine.fresh)) parser.old result parser.new }
+    ensures loads { LoadsFrom S.gives S.known S.may_break
+        (machine.load_from (magnitude parser.old.max_entries)
+        (machine.within (opening_at opening) machine.fresh))
+        (machine.left_from (machine.within (opening_at opening) machine.fresh)) parser.old result parser.new }
 {
     let alloc = parser.allocator();
     let ctx = loader_ctx::new(alloc, bound_of(parser), opening.start, opening.mark);
@@ -161,11 +176,16 @@ fn yaml_parser_load_nodes<S: yaml_token_source_t>(
     mut ctx: loader_ctx,
 ) -> Result<yaml_document_t, yaml_error_type_t>
     requires ids { IdsAreIn (loader_of ctx) }
-    ensures falls { IfOk result (λ d. (d ≡ empty_document None [] false false) ⊎ (events_left S.bound parser.new < events_left S.bound parser.old)) }
-    ensures fails { IfErr result (λ x. (x ≡ (kept_fault parser.new).error) × (has_ended parser.new ≡ true)) }
+    ensures falls { IfOk result (λ d. (d ≡ empty_document None [] false false)
+        ⊎ (events_left S.bound parser.new < events_left S.bound parser.old)) }
+    ensures fails { IfErr result (λ x. (x ≡ (kept_fault parser.new).error) × (is_over parser.new ≡ true)) }
     ensures bound { parser.new.max_entries ≡ parser.old.max_entries }
     ensures between { between_documents parser.new ≡ true }
-    ensures loads { (o : parts.Opening) → ctx.document ≡ with_nodes ctx.document.nodes (begun_document o.start o.mark) → LoadsFrom S.gives S.known S.may_break (machine.load_from ctx.max_entries (machine.within o (loader_of ctx))) (machine.left_from (machine.within o (loader_of ctx))) parser.old result parser.new }
+    ensures loads { (o : parts.Opening)
+        → ctx.document ≡ with_nodes ctx.document.nodes (begun_document o.start o.mark)
+        → LoadsFrom S.gives S.known S.may_break
+        (machine.load_from ctx.max_entries (machine.within o (loader_of ctx)))
+        (machine.left_from (machine.within o (loader_of ctx))) parser.old result parser.new }
 {
     loop {
         match compose_next(parser, &mut ctx)? {
@@ -182,11 +202,12 @@ fn compose_next<S: yaml_token_source_t>(
     ctx: &mut loader_ctx,
 ) -> Result<Step, yaml_error_type_t>
     requires ids { IdsAreIn (loader_of ctx.old) }
-    ensures falls { IfOk result (λ s. (s ≡ Step.Ended) ⊎ (events_left S.bound parser.new < events_left S.bound parser.old)) }
-    ensures fails { IfErr result (λ x. (x ≡ (kept_fault parser.new).error) × (has_ended parser.new ≡ true)) }
+    ensures falls { IfOk result (λ s. (s ≡ Step.Ended)
+        ⊎ (events_left S.bound parser.new < events_left S.bound parser.old)) }
+    ensures fails { IfErr result (λ x. (x ≡ (kept_fault parser.new).error) × (is_over parser.new ≡ true)) }
     ensures bound { parser.new.max_entries ≡ parser.old.max_entries }
     ensures between { IfOk result (λ s. (s ≡ Step.Composed) ⊎ (between_documents parser.new ≡ true)) }
-    ensures steps { Steps S.gives S.known S.may_break result parser.old parser.new ctx.old ctx.new }
+    ensures steps { ComposesBy S.gives S.known S.may_break result parser.old parser.new ctx.old ctx.new }
 {
     let yaml_event_t {
         content,

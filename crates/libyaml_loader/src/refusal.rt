@@ -1,8 +1,8 @@
 //! Why a load stops, and how the parser keeps it.
 
 ghost use Rattle.std.specs.Prelude.{◌≡◌, true, false};
-ghost use Rattle.libyaml_events.specs.History.{has_ended, has_failed, kept_fault, keeping};
-ghost use Rattle.libyaml_events.specs.FaultTexts.{memory_fault};
+ghost use Rattle.libyaml_events.specs.sources.History.{is_over, has_failed, kept_fault, keeping};
+ghost use Rattle.libyaml_grammar.specs.cuts.FaultTexts.{memory_fault};
 ghost use Rattle.libyaml_loader.specs.Refusals.{composer_fault, composer_fault_in, fault_by};
 
 use libyaml_events::{NO_FAULT, yaml_parser_t, yaml_parser_t_prefix};
@@ -51,7 +51,7 @@ pub fn has_failed<S>(parser: &yaml_parser_t<S>) -> bool
 pub fn keep_refusal<S>(parser: &mut yaml_parser_t<S>, refusal: Refusal) -> yaml_error_type_t
     ensures kept { has_failed parser.old ≡ false → parser.new ≡ keeping (fault_by refusal) parser.old }
     ensures error { result ≡ (kept_fault parser.new).error }
-    ensures ended { has_ended parser.new ≡ true }
+    ensures ended { is_over parser.new ≡ true }
     ensures bound { parser.new.max_entries ≡ parser.old.max_entries }
 {
     if has_failed(parser) {
@@ -118,7 +118,8 @@ fn yaml_parser_set_composer_error_context<S>(
 ) -> yaml_error_type_t
     requires { has_failed parser.old ≡ false }
     ensures error { result ≡ yaml_error_type_t.YAML_COMPOSER_ERROR }
-    ensures kept { parser.new ≡ keeping (composer_fault_in context.now context_mark problem.now problem_mark) parser.old }
+    ensures kept { parser.new ≡ keeping (composer_fault_in context.now context_mark problem.now problem_mark)
+        parser.old }
 {
     parser.keep_fault(yaml_parser_t_prefix {
         error: yaml_error_type_t::YAML_COMPOSER_ERROR,

@@ -2,7 +2,11 @@
 
 ghost use Rattle.std.specs.Prelude.{◌≡◌, IfErr, IfOk, IsErrOf, IsUtf8, OnOk, map, ◌↔◌, ◌⊎◌};
 ghost use Rattle.std.specs.Option.{option_copied};
-ghost use Rattle.libyaml_types.specs.Events.{empty_token, empty_event, stream_start_event, stream_end_event, document_start_event, document_end_event, alias_event, scalar_event, sequence_start_event, sequence_end_event, mapping_start_event, mapping_end_event, unmarked};
+ghost use Rattle.libyaml_types.specs.Events.{empty_token, empty_event, stream_start_event};
+ghost use Rattle.libyaml_types.specs.Events.{stream_end_event, document_start_event};
+ghost use Rattle.libyaml_types.specs.Events.{document_end_event, alias_event, scalar_event};
+ghost use Rattle.libyaml_types.specs.Events.{sequence_start_event, sequence_end_event};
+ghost use Rattle.libyaml_types.specs.Events.{mapping_start_event, mapping_end_event, unmarked};
 ghost use Rattle.libyaml_types.specs.Texts.{PropertiesAreUtf8, PairsAreUtf8, ScalarIsUtf8, directive_of};
 
 use crate::directive::{TagDirectives, yaml_version_directive_t};

@@ -1,6 +1,7 @@
 //! The directives of a document.
 
-ghost use Rattle.std.specs.Prelude.{◌≡◌, [], ◌∷◌, ◌++◌, length, map, ◌↔◌, ◌⊎◌, IsTrue, IfErr, IfOk, OnOk, OnErr, IsErrOf};
+ghost use Rattle.std.specs.Prelude.{◌≡◌, [], ◌∷◌, ◌++◌, length, map, ◌↔◌, ◌⊎◌, IsTrue, IfErr, IfOk};
+ghost use Rattle.std.specs.Prelude.{OnOk, OnErr, IsErrOf};
 ghost use Rattle.libyaml_types.specs.Texts.{PairIsUtf8, PairsAreUtf8, directive_of};
 
 use crate::refusal::yaml_refusal_t;

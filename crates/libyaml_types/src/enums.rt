@@ -1,6 +1,10 @@
 //! The enums without payload, and their numbers.
 ghost use Rattle.std.specs.Prelude.{◌≡◌};
-ghost use Rattle.libyaml_types.specs.Numbers.{encoding_number, break_number, error_type_number, scalar_style_number, sequence_style_number, mapping_style_number, token_type_number, event_type_number, node_type_number, parser_state_number};
+ghost use Rattle.libyaml_types.specs.Numbers.{encoding_number, break_number, error_type_number};
+ghost use Rattle.libyaml_types.specs.Numbers.{scalar_style_number, sequence_style_number};
+ghost use Rattle.libyaml_types.specs.Numbers.{mapping_style_number, token_type_number};
+ghost use Rattle.libyaml_types.specs.Numbers.{event_type_number, node_type_number};
+ghost use Rattle.libyaml_types.specs.Numbers.{parser_state_number};
 
 /// The encoding of a stream.
 ///

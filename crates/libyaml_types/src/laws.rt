@@ -2,7 +2,10 @@
 
 ghost use Rattle.std.specs.Prelude.{◌≡◌, ◌↔◌, IsTrue};
 ghost use Rattle.std.specs.Ordering.{nat_cmp};
-ghost use Rattle.libyaml_types.specs.Numbers.{encoding_number, break_number, error_type_number, scalar_style_number, sequence_style_number, mapping_style_number, event_type_number, node_type_number};
+ghost use Rattle.libyaml_types.specs.Numbers.{encoding_number, break_number, error_type_number};
+ghost use Rattle.libyaml_types.specs.Numbers.{scalar_style_number, sequence_style_number};
+ghost use Rattle.libyaml_types.specs.Numbers.{mapping_style_number, event_type_number};
+ghost use Rattle.libyaml_types.specs.Numbers.{node_type_number};
 
 use crate::directive::{TagDirectives, yaml_version_directive_t};
 use crate::enums::{

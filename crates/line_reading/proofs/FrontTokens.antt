@@ -1,5 +1,6 @@
 -- a line read from its front is read by its description
-use Rattle.std.proofs.Common.{◌≡◌, ◌≢◌, ℕ, ◌==◌, All, Bool, true, false, cond, List, [], ◌∷◌, ◌++◌, Option, Some, None, option_map, refl, ap, sym, ◌∙◌, subst, inl, inr}
+use Rattle.std.proofs.Common.{◌≡◌, ◌≢◌, ℕ, ◌==◌, All, Bool, true, false, cond, List, [], ◌∷◌, ◌++◌, Option, Some, None, option_map, refl, ap, sym, ◌∙◌, subst}
+use Rattle.std.proofs.Common.{inl, inr}
 use Rattle.std.proofs.lemmas.Bool.{cases_Bool, and_left, and_right, eqb-true}
 use Rattle.std.proofs.lemmas.List.{append-nil}
 use Rattle.std.proofs.lemmas.List.Elements.{All-nil, All-cons, All-head, All-tail}
@@ -20,7 +21,8 @@ use Rattle.line_reading.proofs.Fronts.{no_value}
 use Rattle.line_reading.proofs.Split.{no_separator, split_first, before-append, behind-append}
 
 -- bytes are digits and what stands behind them
-digits_cond : (t : Bool) (b : ℕ) (bs : List ℕ) → bs ≡ digits_of bs ++ behind_digits bs → b ∷ bs ≡ cond t (b ∷ digits_of bs) [] ++ cond t (behind_digits bs) (b ∷ bs)
+digits_cond : (t : Bool) (b : ℕ) (bs : List ℕ) → bs ≡ digits_of bs ++ behind_digits bs
+    → b ∷ bs ≡ cond t (b ∷ digits_of bs) [] ++ cond t (behind_digits bs) (b ∷ bs)
 digits_cond true b bs h = ap (λ x. b ∷ x) h
 digits_cond false b bs h = refl
 
@@ -130,7 +132,8 @@ shape_colon d r c32 c58 = goes_on r (record {
 before_other : (x : ℕ) (r : List ℕ) → (x == 32) ≡ false → before_byte 32 (x ∷ r) ≡ x ∷ before_byte 32 r
 before_other x r e = rw e refl
 
-shape_other : (d : List ℕ) (x : ℕ) (r : List ℕ) → All (λ x. x ≢ 32) d → All (λ x. x ≢ 58) d → is_ascii_digit x ≡ false → (x == 32) ≡ false → (x == 58) ≡ false → Shape (d ++ x ∷ r) d (x ∷ r)
+shape_other : (d : List ℕ) (x : ℕ) (r : List ℕ) → All (λ x. x ≢ 32) d → All (λ x. x ≢ 58) d → is_ascii_digit x ≡ false → (x == 32) ≡ false → (x == 58) ≡ false
+    → Shape (d ++ x ∷ r) d (x ∷ r)
 shape_other d x r c32 c58 digit e32 e58 =
     let past = past_digits d x (before_byte 32 r) (no_separator 58 d c58) e58 in
     other (d ++ x ∷ past.0) past.1.0 (record {
@@ -180,11 +183,13 @@ abbrev with_rest : Option ℕ → List ℕ → Option (ℕ × List ℕ)
 with_rest o t = option_map (λ n. (n, t)) o
 
 -- no further number
-nothing_last : {A : Type 0} (o : Option ℕ) (t : List ℕ) (k : ℕ → Option (List ℕ) → Option A) → behind_field t ≡ None → (with_rest o t >>= (λ r. behind_field r.1 >>= (λ f. k r.0 f))) ≡ None
+nothing_last : {A : Type 0} (o : Option ℕ) (t : List ℕ) (k : ℕ → Option (List ℕ) → Option A) → behind_field t ≡ None
+    → (with_rest o t >>= (λ r. behind_field r.1 >>= (λ f. k r.0 f))) ≡ None
 nothing_last None t k e = refl
 nothing_last (Some n) t k e = rw e refl
 
-the_last : {A : Type 0} (o : Option ℕ) (t : List ℕ) (f : Option (List ℕ)) (k : ℕ → Option (List ℕ) → Option A) → behind_field t ≡ Some f → (with_rest o t >>= (λ r. behind_field r.1 >>= (λ f. k r.0 f))) ≡ (o >>= (λ n. k n f))
+the_last : {A : Type 0} (o : Option ℕ) (t : List ℕ) (f : Option (List ℕ)) (k : ℕ → Option (List ℕ) → Option A) → behind_field t ≡ Some f
+    → (with_rest o t >>= (λ r. behind_field r.1 >>= (λ f. k r.0 f))) ≡ (o >>= (λ n. k n f))
 the_last None t f k e = refl
 the_last (Some n) t f k e = rw e refl
 
@@ -195,16 +200,22 @@ no_last : {A : Type 0} (K : ℕ → Option A) (p : List ℕ) (more : List (List 
 no_last K p [] e = rw e refl
 no_last K p (q ∷ more) e = refl
 
-last_step : {A : Type 0} (k : ℕ → Option (List ℕ) → Option A) (bytes : List ℕ) → Shape bytes (digits_of bytes) (behind_digits bytes) → (number_at bytes >>= (λ r. behind_field r.1 >>= (λ f. k r.0 f))) ≡ with_last (λ n. k n (behind_byte 32 bytes)) (S (before_byte 32 bytes))
+last_step : {A : Type 0} (k : ℕ → Option (List ℕ) → Option A) (bytes : List ℕ) → Shape bytes (digits_of bytes) (behind_digits bytes)
+    → (number_at bytes >>= (λ r. behind_field r.1 >>= (λ f. k r.0 f))) ≡ with_last (λ n. k n (behind_byte 32 bytes)) (S (before_byte 32 bytes))
 last_step k bytes (last h) = rw (h.parts) (the_last (number_of (digits_of bytes)) (behind_digits bytes) (behind_byte 32 bytes) k h.field)
-last_step k bytes (goes_on r h) = rw (h.parts) (nothing_last (number_of (digits_of bytes)) (behind_digits bytes) k h.field ∙ not_last (λ n. k n (behind_byte 32 bytes)) (digits_of bytes) (before_byte 32 r))
-last_step k bytes (other p more h) = rw (h.parts) (nothing_last (number_of (digits_of bytes)) (behind_digits bytes) k h.field ∙ no_last (λ n. k n (behind_byte 32 bytes)) p more h.number)
+last_step k bytes (goes_on r h)
+    = rw (h.parts) (nothing_last (number_of (digits_of bytes)) (behind_digits bytes) k h.field
+    ∙ not_last (λ n. k n (behind_byte 32 bytes)) (digits_of bytes) (before_byte 32 r))
+last_step k bytes (other p more h)
+    = rw (h.parts) (nothing_last (number_of (digits_of bytes)) (behind_digits bytes) k h.field ∙ no_last (λ n. k n (behind_byte 32 bytes)) p more h.number)
 
-nothing_next : {A : Type 0} (o : Option ℕ) (t : List ℕ) (k : ℕ → List ℕ → Option A) → behind_first 58 t ≡ None → (with_rest o t >>= (λ x. behind_first 58 x.1 >>= (λ r. k x.0 r))) ≡ None
+nothing_next : {A : Type 0} (o : Option ℕ) (t : List ℕ) (k : ℕ → List ℕ → Option A) → behind_first 58 t ≡ None
+    → (with_rest o t >>= (λ x. behind_first 58 x.1 >>= (λ r. k x.0 r))) ≡ None
 nothing_next None t k e = refl
 nothing_next (Some n) t k e = rw e refl
 
-the_next : {A : Type 0} (o : Option ℕ) (t r : List ℕ) (k : ℕ → List ℕ → Option A) → behind_first 58 t ≡ Some r → (with_rest o t >>= (λ x. behind_first 58 x.1 >>= (λ r. k x.0 r))) ≡ (o >>= (λ n. k n r))
+the_next : {A : Type 0} (o : Option ℕ) (t r : List ℕ) (k : ℕ → List ℕ → Option A) → behind_first 58 t ≡ Some r
+    → (with_rest o t >>= (λ x. behind_first 58 x.1 >>= (λ r. k x.0 r))) ≡ (o >>= (λ n. k n r))
 the_next None t r k e = refl
 the_next (Some n) t r k e = rw e refl
 
@@ -215,13 +226,18 @@ same_behind (Some x) f g h = h x
 no_next : {A : Type 0} (K : ℕ → List (List ℕ) → Option A) (p : List ℕ) (more : List (List ℕ)) → number_of p ≡ None → None ≡ with_number K (p ∷ more)
 no_next K p more e = rw e refl
 
-number_step : {A : Type 0} (k : ℕ → List ℕ → Option A) (K : Option (List ℕ) → ℕ → List (List ℕ) → Option A) → ((f : Option (List ℕ)) (n : ℕ) → K f n [] ≡ None) → ((n : ℕ) (r : List ℕ) → k n r ≡ K (behind_byte 32 r) n (S (before_byte 32 r))) → (bytes : List ℕ) → Shape bytes (digits_of bytes) (behind_digits bytes) → (number_at bytes >>= (λ x. behind_first 58 x.1 >>= (λ r. k x.0 r))) ≡ with_number (K (behind_byte 32 bytes)) (S (before_byte 32 bytes))
+number_step : {A : Type 0} (k : ℕ → List ℕ → Option A) (K : Option (List ℕ) → ℕ → List (List ℕ) → Option A) → ((f : Option (List ℕ)) (n : ℕ) → K f n [] ≡ None)
+    → ((n : ℕ) (r : List ℕ) → k n r ≡ K (behind_byte 32 r) n (S (before_byte 32 r))) → (bytes : List ℕ) → Shape bytes (digits_of bytes) (behind_digits bytes)
+    → (number_at bytes >>= (λ x. behind_first 58 x.1 >>= (λ r. k x.0 r))) ≡ with_number (K (behind_byte 32 bytes)) (S (before_byte 32 bytes))
 number_step k K none same bytes (last h) =
     let o = number_of (digits_of bytes) in
-    rw (h.parts) (nothing_next o (behind_digits bytes) k h.colon ∙ sym (none_behind o) ∙ same_behind o never (λ n. K (behind_byte 32 bytes) n []) (λ n. sym (none (behind_byte 32 bytes) n)))
+    rw (h.parts) (nothing_next o (behind_digits bytes) k h.colon ∙ sym (none_behind o)
+    ∙ same_behind o never (λ n. K (behind_byte 32 bytes) n []) (λ n. sym (none (behind_byte 32 bytes) n)))
 number_step k K none same bytes (goes_on r h) =
     let o = number_of (digits_of bytes) in
-    rw (h.parts) (the_next o (behind_digits bytes) r k h.colon ∙ same_behind o (λ n. k n r) (λ n. K (behind_byte 32 bytes) n (S (before_byte 32 r))) (λ n. same n r ∙ ap (λ f. K f n (S (before_byte 32 r))) (sym h.further)))
+    rw (h.parts) (the_next o (behind_digits bytes) r k h.colon
+    ∙ same_behind o (λ n. k n r) (λ n. K (behind_byte 32 bytes) n (S (before_byte 32 r))) (λ n. same n r
+    ∙ ap (λ f. K f n (S (before_byte 32 r))) (sym h.further)))
 number_step k K none same bytes (other p more h) =
     let o = number_of (digits_of bytes) in
     rw (h.parts) (nothing_next o (behind_digits bytes) k h.colon ∙ no_next (K (behind_byte 32 bytes)) p more h.number)
@@ -246,14 +262,21 @@ column_with f i l ps = with_last (λ c. Some (taken (mark i l c) f)) ps
 abbrev line_with : Option (List ℕ) → ℕ → List (List ℕ) → Option Taken
 line_with f i ps = with_number (column_with f i) ps
 
-column_at : (i l : ℕ) (bytes : List ℕ) → (number_at bytes >>= (λ c. behind_field c.1 >>= (λ f. Some (taken (mark i l c.0) f)))) ≡ column_with (behind_byte 32 bytes) i l (S (before_byte 32 bytes))
+column_at : (i l : ℕ) (bytes : List ℕ)
+    → (number_at bytes >>= (λ c. behind_field c.1 >>= (λ f. Some (taken (mark i l c.0) f))))
+    ≡ column_with (behind_byte 32 bytes) i l (S (before_byte 32 bytes))
 column_at i l bytes = last_step (λ c f. Some (taken (mark i l c) f)) bytes (shape bytes)
 
-line_at : (i : ℕ) (bytes : List ℕ) → (number_at bytes >>= (λ l. behind_first 58 l.1 >>= (λ r. number_at r >>= (λ c. behind_field c.1 >>= (λ f. Some (mark i l.0 c.0, f)))))) ≡ line_with (behind_byte 32 bytes) i (S (before_byte 32 bytes))
-line_at i bytes = number_step (λ l r. number_at r >>= (λ c. behind_field c.1 >>= (λ f. Some (taken (mark i l c.0) f)))) (λ f l. column_with f i l) (λ f l. refl) (column_at i) bytes (shape bytes)
+line_at : (i : ℕ) (bytes : List ℕ)
+    → (number_at bytes >>= (λ l. behind_first 58 l.1 >>= (λ r. number_at r >>= (λ c. behind_field c.1 >>= (λ f. Some (mark i l.0 c.0, f))))))
+    ≡ line_with (behind_byte 32 bytes) i (S (before_byte 32 bytes))
+line_at i bytes = number_step (λ l r. number_at r >>= (λ c. behind_field c.1 >>= (λ f. Some (taken (mark i l c.0) f)))) (λ f l. column_with f i l) (λ f l. refl)
+    (column_at i) bytes (shape bytes)
 
 index_at : (bytes : List ℕ) → mark_at bytes ≡ with_number (line_with (behind_byte 32 bytes)) (S (before_byte 32 bytes))
-index_at bytes = number_step (λ i r. number_at r >>= (λ l. behind_first 58 l.1 >>= (λ r. number_at r >>= (λ c. behind_field c.1 >>= (λ f. Some (mark i l.0 c.0, f)))))) (λ f i. line_with f i) (λ f i. refl) line_at bytes (shape bytes)
+index_at bytes = number_step (λ i r. number_at r
+    >>= (λ l. behind_first 58 l.1 >>= (λ r. number_at r >>= (λ c. behind_field c.1 >>= (λ f. Some (mark i l.0 c.0, f)))))) (λ f i. line_with f i)
+    (λ f i. refl) line_at bytes (shape bytes)
 
 one_too_few : (f : Option (List ℕ)) (o : Option ℕ) → (o >>= (λ i. line_with f i [])) ≡ None
 one_too_few f None = refl
@@ -264,7 +287,8 @@ two_too_few f None p = refl
 two_too_few f (Some i) None = refl
 two_too_few f (Some i) (Some l) = refl
 
-three : (f : Option (List ℕ)) (o p q : Option ℕ) → (o >>= (λ i. p >>= (λ l. q >>= (λ c. Some (taken (mark i l c) f))))) ≡ with_further (o >>= (λ i. p >>= (λ l. q >>= (λ c. Some (mark i l c))))) f
+three : (f : Option (List ℕ)) (o p q : Option ℕ)
+    → (o >>= (λ i. p >>= (λ l. q >>= (λ c. Some (taken (mark i l c) f))))) ≡ with_further (o >>= (λ i. p >>= (λ l. q >>= (λ c. Some (mark i l c))))) f
 three f None p q = refl
 three f (Some i) None q = refl
 three f (Some i) (Some l) None = refl
@@ -286,23 +310,32 @@ mark_at-is bytes = index_at bytes ∙ numbers_with (behind_byte 32 bytes) (S (be
 abbrev token_with : yaml_token_type_t → yaml_mark_t → Taken → Option yaml_token_t
 token_with type start end = content_of type (parts_of 32 end.1) >>= (λ content. Some (record { content = content; start_mark = start; end_mark = end.0 }))
 
-no_end : (o : Option yaml_token_type_t) (m : Option yaml_mark_t) → None ≡ (o >>= (λ type. with_further m None >>= (λ start. start.1 >>= (λ rest. mark_at rest >>= (token_with type start.0)))))
+no_end : (o : Option yaml_token_type_t) (m : Option yaml_mark_t)
+    → None ≡ (o >>= (λ type. with_further m None >>= (λ start. start.1 >>= (λ rest. mark_at rest >>= (token_with type start.0)))))
 no_end None m = refl
 no_end (Some type) None = refl
 no_end (Some type) (Some start) = refl
 
-both_ends : (o : Option yaml_token_type_t) (m n : Option yaml_mark_t) (rest : List ℕ) (f : Option (List ℕ)) → mark_at rest ≡ with_further n f → (o >>= (λ type. m >>= (λ start. n >>= (λ end. token_with type start (taken end f))))) ≡ (o >>= (λ type. with_further m (Some rest) >>= (λ start. start.1 >>= (λ rest. mark_at rest >>= (token_with type start.0)))))
+both_ends : (o : Option yaml_token_type_t) (m n : Option yaml_mark_t) (rest : List ℕ) (f : Option (List ℕ)) → mark_at rest ≡ with_further n f
+    → (o >>= (λ type. m >>= (λ start. n >>= (λ end. token_with type start (taken end f)))))
+    ≡ (o >>= (λ type. with_further m (Some rest) >>= (λ start. start.1 >>= (λ rest. mark_at rest >>= (token_with type start.0)))))
 both_ends None m n rest f e = refl
 both_ends (Some type) None n rest f e = refl
 both_ends (Some type) (Some start) None rest f e = rw e refl
 both_ends (Some type) (Some start) (Some end) rest f e = rw e refl
 
-marks_is : (name marks : List ℕ) (f : Option (List ℕ)) → behind_byte 32 marks ≡ f → token_of_fields (name ∷ before_byte 32 marks ∷ parts_of 32 f) ≡ (token_type_of name >>= (λ type. with_further (mark_of (before_byte 32 marks)) f >>= (λ start. start.1 >>= (λ rest. mark_at rest >>= (token_with type start.0)))))
+marks_is : (name marks : List ℕ) (f : Option (List ℕ)) → behind_byte 32 marks ≡ f
+    → token_of_fields (name ∷ before_byte 32 marks ∷ parts_of 32 f)
+    ≡ (token_type_of name >>= (λ type. with_further (mark_of (before_byte 32 marks)) f
+    >>= (λ start. start.1 >>= (λ rest. mark_at rest >>= (token_with type start.0)))))
 marks_is name marks None e = no_end (token_type_of name) (mark_of (before_byte 32 marks))
 marks_is name marks (Some rest) e =
-    rw (split_first 32 rest) (both_ends (token_type_of name) (mark_of (before_byte 32 marks)) (mark_of (before_byte 32 rest)) rest (behind_byte 32 rest) (mark_at-is rest))
+    rw (split_first 32 rest) (both_ends (token_type_of name) (mark_of (before_byte 32 marks)) (mark_of (before_byte 32 rest)) rest (behind_byte 32 rest)
+    (mark_at-is rest))
 
-fields_is : (name : List ℕ) (f : Option (List ℕ)) → token_of_fields (name ∷ parts_of 32 f) ≡ (f >>= (λ marks. token_type_of name >>= (λ type. mark_at marks >>= (λ start. start.1 >>= (λ rest. mark_at rest >>= (token_with type start.0))))))
+fields_is : (name : List ℕ) (f : Option (List ℕ))
+    → token_of_fields (name ∷ parts_of 32 f)
+    ≡ (f >>= (λ marks. token_type_of name >>= (λ type. mark_at marks >>= (λ start. start.1 >>= (λ rest. mark_at rest >>= (token_with type start.0))))))
 fields_is name None = refl
 fields_is name (Some marks) = rw (split_first 32 marks, mark_at-is marks) (marks_is name marks (behind_byte 32 marks) refl)
 

@@ -1,5 +1,6 @@
 -- a number at the front of some bytes
-use Rattle.std.proofs.Common.{◌≡◌, leb, ◌==◌, ℕ, ◌+◌, ◌-◌, ◌*◌, ◌<◌, ◌≤◌, ◌^◌, true, false, List, [], ◌∷◌, ◌++◌, length, take, drop, get_or, Some, None, refl, ap, sym, ◌∙◌, arith}
+use Rattle.std.proofs.Common.{◌≡◌, leb, ◌==◌, ℕ, ◌+◌, ◌-◌, ◌*◌, ◌<◌, ◌≤◌, ◌^◌, true, false, List, [], ◌∷◌, ◌++◌, length, take, drop, get_or, Some, None, refl}
+use Rattle.std.proofs.Common.{ap, sym, ◌∙◌, arith}
 use Rattle.std.proofs.lemmas.Bool.{cond_both}
 use Rattle.std.proofs.lemmas.List.{at_drop_more, at_drop_all, take_more, append-nil}
 use Rattle.std.proofs.Common.{append_assoc, min}
@@ -34,7 +35,8 @@ digits-no b bs d = rw d refl
 behind-no : (b : ℕ) (bs : List ℕ) → is_ascii_digit b ≡ false → behind_digits (b ∷ bs) ≡ b ∷ bs
 behind-no b bs d = rw d refl
 
-pub read_more : (bytes : List ℕ) (i n : ℕ) → HasRead bytes i n → i < length bytes → is_ascii_digit (get_or bytes i 0) ≡ true → n * 10 + (get_or bytes i 0 - 48) < 2 ^ 64 → HasRead bytes (i + 1) (n * 10 + (get_or bytes i 0 - 48))
+pub read_more : (bytes : List ℕ) (i n : ℕ) → HasRead bytes i n → i < length bytes → is_ascii_digit (get_or bytes i 0) ≡ true
+    → n * 10 + (get_or bytes i 0 - 48) < 2 ^ 64 → HasRead bytes (i + 1) (n * 10 + (get_or bytes i 0 - 48))
 read_more bytes i n h small d fits =
     let b = get_or bytes i 0 in
     let r = drop (i + 1) bytes in
@@ -52,11 +54,13 @@ no_value [] h = refl
 no_value (d ∷ []) h = h
 no_value (d ∷ e ∷ ds) h = cond_both (d == 48) None (value_of (d ∷ e ∷ ds)) (λ o. o ≡ None) (λ _. refl) (λ _. h)
 
-pub read_too_much : (bytes : List ℕ) (i n : ℕ) → HasRead bytes i n → i < length bytes → is_ascii_digit (get_or bytes i 0) ≡ true → 2 ^ 64 ≤ n * 10 + (get_or bytes i 0 - 48) → number_at bytes ≡ None
+pub read_too_much : (bytes : List ℕ) (i n : ℕ) → HasRead bytes i n → i < length bytes → is_ascii_digit (get_or bytes i 0) ≡ true
+    → 2 ^ 64 ≤ n * 10 + (get_or bytes i 0 - 48) → number_at bytes ≡ None
 read_too_much bytes i n h small d large =
     let b = get_or bytes i 0 in
     let r = drop (i + 1) bytes in
-    let none : value_of (digits_of bytes) ≡ None = h.value ∙ ap (value_after n) (at_drop_more digits_of bytes i 0 small ∙ digits-yes b r d) ∙ value_after-digit n b (digits_of r) d ∙ value_after-large _ (digits_of r) large in
+    let none : value_of (digits_of bytes) ≡ None = h.value ∙ ap (value_after n) (at_drop_more digits_of bytes i 0 small ∙ digits-yes b r d)
+    ∙ value_after-digit n b (digits_of r) d ∙ value_after-large _ (digits_of r) large in
     rw (no_value (digits_of bytes) none) refl
 
 -- the digits end at i
@@ -93,25 +97,30 @@ front_place bytes k i small =
     let within : i < min k (length bytes) = rw (sym (length-take k bytes)) small in
     (omega (arith, within), get_or-take k bytes i 0 (omega (arith, within)))
 
-pub more_within : (bytes : List ℕ) (k i n : ℕ) → HasRead bytes i n → i < length (take k bytes) → is_ascii_digit (get_or (take k bytes) i 0) ≡ true → n * 10 + (get_or (take k bytes) i 0 - 48) < 2 ^ 64
+pub more_within : (bytes : List ℕ) (k i n : ℕ) → HasRead bytes i n → i < length (take k bytes) → is_ascii_digit (get_or (take k bytes) i 0) ≡ true
+    → n * 10 + (get_or (take k bytes) i 0 - 48) < 2 ^ 64
     → HasRead bytes (i + 1) (n * 10 + (get_or (take k bytes) i 0 - 48))
 more_within bytes k i n h small d fits =
     let place = front_place bytes k i small in
     rw (place.1) (read_more bytes i n h place.0 (rw (sym place.1) d) (rw (sym place.1) fits))
 
-pub too_much_within : (bytes : List ℕ) (k i n : ℕ) → HasRead bytes i n → i < length (take k bytes) → is_ascii_digit (get_or (take k bytes) i 0) ≡ true → 2 ^ 64 ≤ n * 10 + (get_or (take k bytes) i 0 - 48) → number_at bytes ≡ None
+pub too_much_within : (bytes : List ℕ) (k i n : ℕ) → HasRead bytes i n → i < length (take k bytes) → is_ascii_digit (get_or (take k bytes) i 0) ≡ true
+    → 2 ^ 64 ≤ n * 10 + (get_or (take k bytes) i 0 - 48) → number_at bytes ≡ None
 too_much_within bytes k i n h small d large =
     let place = front_place bytes k i small in
     read_too_much bytes i n h place.0 (rw (sym place.1) d) (rw (sym place.1) large)
 
-pub ends_within : (bytes : List ℕ) (k i n : ℕ) → HasRead bytes i n → i < length (take k bytes) → is_ascii_digit (get_or (take k bytes) i 0) ≡ false → EndsAt bytes i n
+pub ends_within : (bytes : List ℕ) (k i n : ℕ) → HasRead bytes i n → i < length (take k bytes) → is_ascii_digit (get_or (take k bytes) i 0) ≡ false
+    → EndsAt bytes i n
 ends_within bytes k i n h small d =
     let place = front_place bytes k i small in
     ends_at_other bytes i n h place.0 (rw (sym place.1) d)
 
-pub ends_with_line : (line : List ℕ) (at i n : ℕ) → HasRead (drop at line) i n → i ≤ length (take (length line - at) (drop at line)) → length (take (length line - at) (drop at line)) ≤ i → EndsAt (drop at line) (length line - at) n
+pub ends_with_line : (line : List ℕ) (at i n : ℕ) → HasRead (drop at line) i n → i ≤ length (take (length line - at) (drop at line))
+    → length (take (length line - at) (drop at line)) ≤ i → EndsAt (drop at line) (length line - at) n
 ends_with_line line at i n h most least =
-    let size : length (take (length line - at) (drop at line)) ≡ length line - at = length-take (length line - at) (drop at line) ∙ omega (arith, length-drop at line) in
+    let size : length (take (length line - at) (drop at line)) ≡ length line - at = length-take (length line - at) (drop at line)
+    ∙ omega (arith, length-drop at line) in
     let all : i ≡ length line - at = omega (arith, most, least, size) in
     rw (← all) (ends_at_end (drop at line) i n h (omega (arith, all, length-drop at line)))
 
@@ -120,7 +129,8 @@ ends_with_line line at i n h most least =
 pub ended_none : (bytes : List ℕ) (i n : ℕ) → EndsAt bytes i n → number_of (take i bytes) ≡ None → number_at bytes ≡ None
 ended_none bytes i n h e = rw (h.digits, e) refl
 
-pub ended_some : (line : List ℕ) (at i n v end : ℕ) → EndsAt (drop at line) i n → number_of (take i (drop at line)) ≡ Some n → v ≡ n → end ≡ at + i → number_at (drop at line) ≡ Some (v, drop end line)
+pub ended_some : (line : List ℕ) (at i n v end : ℕ) → EndsAt (drop at line) i n → number_of (take i (drop at line)) ≡ Some n → v ≡ n → end ≡ at + i
+    → number_at (drop at line) ≡ Some (v, drop end line)
 ended_some line at i n v end h e same place = rw (h.digits, e, h.behind, same, place, drop-drop i at line) refl
 
 -- the same, with a value that i digits can have
@@ -147,13 +157,15 @@ few_below i n b h high low =
     let more : 10 ^ (i + 1) ≡ 10 ^ i * 10 = ap (λ x. 10 ^ x) (add-one i) ∙ pow-suc 10 i in
     rw more (omega (arith, h, high, low))
 
-pub few_room : (bytes : List ℕ) (k i n : ℕ) → k ≤ 19 → HasReadFew bytes i n → i < length (take k bytes) → is_ascii_digit (get_or (take k bytes) i 0) ≡ true → n * 10 + (get_or (take k bytes) i 0 - 48) < 2 ^ 64
+pub few_room : (bytes : List ℕ) (k i n : ℕ) → k ≤ 19 → HasReadFew bytes i n → i < length (take k bytes) → is_ascii_digit (get_or (take k bytes) i 0) ≡ true
+    → n * 10 + (get_or (take k bytes) i 0 - 48) < 2 ^ 64
 few_room bytes k i n short few small d =
     let within : i < min k (length bytes) = rw (sym (length-take k bytes)) small in
     let bounds : (48 ≤ get_or (take k bytes) i 0) × (get_or (take k bytes) i 0 ≤ 57) = digit_within (get_or (take k bytes) i 0) d in
     omega (arith, few_fit i n few.below (omega (arith, within, short)), bounds.1)
 
-pub few_more_within : (bytes : List ℕ) (k i n : ℕ) → k ≤ 19 → HasReadFew bytes i n → i < length (take k bytes) → is_ascii_digit (get_or (take k bytes) i 0) ≡ true → HasReadFew bytes (i + 1) (n * 10 + (get_or (take k bytes) i 0 - 48))
+pub few_more_within : (bytes : List ℕ) (k i n : ℕ) → k ≤ 19 → HasReadFew bytes i n → i < length (take k bytes)
+    → is_ascii_digit (get_or (take k bytes) i 0) ≡ true → HasReadFew bytes (i + 1) (n * 10 + (get_or (take k bytes) i 0 - 48))
 few_more_within bytes k i n short few small d =
     let bounds = digit_within (get_or (take k bytes) i 0) d in
     record {

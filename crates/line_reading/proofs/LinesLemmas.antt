@@ -1,5 +1,6 @@
 -- what a part of an input says of its lines
-use Rattle.std.proofs.Common.{◌≡◌, ◌≢◌, ℕ, ◌+◌, ◌<◌, ◌≤◌, ◌==◌, All, List, [], ◌∷◌, ◌++◌, length, Option, Some, None, refl, ap, sym, ◌∙◌, arith, ne_eqb, append_assoc, OnSome}
+use Rattle.std.proofs.Common.{◌≡◌, ◌≢◌, ℕ, ◌+◌, ◌<◌, ◌≤◌, ◌==◌, All, List, [], ◌∷◌, ◌++◌, length, Option, Some, None, refl, ap, sym, ◌∙◌, arith, ne_eqb}
+use Rattle.std.proofs.Common.{append_assoc, OnSome}
 use Rattle.std.proofs.lemmas.List.{append-nil}
 use Rattle.std.proofs.lemmas.List.Elements.{All-head, All-tail}
 use Rattle.std.proofs.lemmas.List.Splits.{slice_split_at, slice_split_none}
@@ -64,7 +65,8 @@ takes_line (Some bytes) (Some rest) l clean h =
     let whole : bytes ≡ l ++ 10 ∷ rest = h ∙ append_assoc l (10 ∷ []) rest in
     rw whole (lines-line l rest clean ∙ ap (λ r. l ∷ lines r) (sym (behind-line l rest clean)), ap Some (sym (behind-line l rest clean)))
 
-pub takes_last : (before after : Option (List ℕ)) (l : List ℕ) → All (λ x. x ≢ 10) l → 0 < length l → Consumes before after (l ++ []) → OnSome before (IsAtEnd after) → TakesLine before l after
+pub takes_last : (before after : Option (List ℕ)) (l : List ℕ) → All (λ x. x ≢ 10) l → 0 < length l → Consumes before after (l ++ [])
+    → OnSome before (IsAtEnd after) → TakesLine before l after
 takes_last None after l clean some h end = tt
 takes_last (Some bytes) None l clean some h end = absurd h
 takes_last (Some bytes) (Some rest) l clean some h end =
@@ -76,7 +78,8 @@ takes_none None after h end = tt
 takes_none (Some bytes) None h end = absurd h
 takes_none (Some bytes) (Some rest) h end = ap lines (h ∙ end)
 
-pub takes_too_long : (before after : Option (List ℕ)) (l : List ℕ) → All (λ x. x ≢ 10) l → length l ≡ longest_line + 1 → Consumes before after (l ++ []) → TakesNoLine before LineTooLong
+pub takes_too_long : (before after : Option (List ℕ)) (l : List ℕ) → All (λ x. x ≢ 10) l → length l ≡ longest_line + 1 → Consumes before after (l ++ [])
+    → TakesNoLine before LineTooLong
 takes_too_long None after l clean e h = tt
 takes_too_long (Some bytes) None l clean e h = absurd h
 takes_too_long (Some bytes) (Some rest) l clean e h =

@@ -33,17 +33,22 @@ no_marks line n all clean = rw (sym (cut_nowhere 32 line n all clean).1) refl
 pub no_type : (line : List ℕ) (n : ℕ) → IsNamed line n → token_type_of (take n line) ≡ None → token_at line ≡ None
 no_type line n h t = rw (h.marks, h.name, t) refl
 
-pub no_start : (line : List ℕ) (n : ℕ) (type : yaml_token_type_t) → IsNamed line n → token_type_of (take n line) ≡ Some type → mark_at (drop (n + 1) line) ≡ None → token_at line ≡ None
+pub no_start : (line : List ℕ) (n : ℕ) (type : yaml_token_type_t) → IsNamed line n → token_type_of (take n line) ≡ Some type
+    → mark_at (drop (n + 1) line) ≡ None → token_at line ≡ None
 no_start line n type h t s = rw (h.marks, h.name, t, s) refl
 
-pub no_end : (line : List ℕ) (n a : ℕ) (type : yaml_token_type_t) (start : yaml_mark_t) → IsNamed line n → token_type_of (take n line) ≡ Some type → mark_at (drop (n + 1) line) ≡ Some (start, further (drop a line)) → length line ≤ a → token_at line ≡ None
+pub no_end : (line : List ℕ) (n a : ℕ) (type : yaml_token_type_t) (start : yaml_mark_t) → IsNamed line n → token_type_of (take n line) ≡ Some type
+    → mark_at (drop (n + 1) line) ≡ Some (start, further (drop a line)) → length line ≤ a → token_at line ≡ None
 no_end line n a type start h t s e = rw (h.marks, h.name, t, s, none_further line a e) refl
 
-pub bad_end : (line : List ℕ) (n a : ℕ) (type : yaml_token_type_t) (start : yaml_mark_t) → IsNamed line n → token_type_of (take n line) ≡ Some type → mark_at (drop (n + 1) line) ≡ Some (start, further (drop a line)) → a < length line
+pub bad_end : (line : List ℕ) (n a : ℕ) (type : yaml_token_type_t) (start : yaml_mark_t) → IsNamed line n → token_type_of (take n line) ≡ Some type
+    → mark_at (drop (n + 1) line) ≡ Some (start, further (drop a line)) → a < length line
     → mark_at (drop (a + 1) line) ≡ None → token_at line ≡ None
 bad_end line n a type start h t s more e = rw (h.marks, h.name, t, s, some_further line a more, e) refl
 
-pub with_content : (line : List ℕ) (n a z : ℕ) (type : yaml_token_type_t) (start end : yaml_mark_t) → IsNamed line n → token_type_of (take n line) ≡ Some type → mark_at (drop (n + 1) line) ≡ Some (start, further (drop a line)) → a < length line
+pub with_content : (line : List ℕ) (n a z : ℕ) (type : yaml_token_type_t) (start end : yaml_mark_t) → IsNamed line n → token_type_of (take n line) ≡ Some type
+    → mark_at (drop (n + 1) line) ≡ Some (start, further (drop a line)) → a < length line
     → mark_at (drop (a + 1) line) ≡ Some (end, further (drop z line))
-    → token_at line ≡ (content_of type (parts_of 32 (further (drop z line))) >>= (λ content. Some (record { content = content; start_mark = start; end_mark = end })))
+    → token_at line ≡ (content_of type (parts_of 32 (further (drop z line)))
+    >>= (λ content. Some (record { content = content; start_mark = start; end_mark = end })))
 with_content line n a z type start end h t s more e = rw (h.marks, h.name, t, s, some_further line a more, e) refl

@@ -1,5 +1,6 @@
 -- a text cut at its first separator
-use Rattle.std.proofs.Common.{◌≡◌, ◌≢◌, ℕ, ◌==◌, ◌+◌, ◌<◌, ◌≤◌, All, Bool, true, false, cond, List, [], ◌∷◌, ◌++◌, length, take, drop, get_or, Some, None, refl, ap, sym, ◌∙◌, subst, ne_eqb, eq-eqb}
+use Rattle.std.proofs.Common.{◌≡◌, ◌≢◌, ℕ, ◌==◌, ◌+◌, ◌<◌, ◌≤◌, All, Bool, true, false, cond, List, [], ◌∷◌, ◌++◌, length, take, drop, get_or, Some, None}
+use Rattle.std.proofs.Common.{refl, ap, sym, ◌∙◌, subst, ne_eqb, eq-eqb}
 use Rattle.std.proofs.lemmas.List.{take-append-drop, take_all, at_drop_more, append-nil}
 use Rattle.std.proofs.lemmas.List.Elements.{All-weaker, All-head, All-tail}
 use Rattle.std.specs.List.{slice_split, onto_first}
@@ -10,7 +11,9 @@ pub no_separator : (c : ℕ) (bs : List ℕ) → All (λ x. x ≢ c) bs → All 
 no_separator c bs h = All-weaker (λ x. x ≢ c) (λ x. (x == c) ≡ false) (λ x ne. ne_eqb x c ne) bs h
 
 -- the parts are the first, and those behind it
-split_cond : (t : Bool) (c b : ℕ) (bs : List ℕ) → slice_split (λ b. b == c) bs ≡ before_byte c bs ∷ parts_of c (behind_byte c bs) → cond t ([] ∷ slice_split (λ b. b == c) bs) (onto_first b (slice_split (λ b. b == c) bs)) ≡ cond t [] (b ∷ before_byte c bs) ∷ parts_of c (cond t (Some bs) (behind_byte c bs))
+split_cond : (t : Bool) (c b : ℕ) (bs : List ℕ) → slice_split (λ b. b == c) bs ≡ before_byte c bs ∷ parts_of c (behind_byte c bs)
+    → cond t ([] ∷ slice_split (λ b. b == c) bs) (onto_first b (slice_split (λ b. b == c) bs)) ≡ cond t [] (b ∷ before_byte c bs)
+    ∷ parts_of c (cond t (Some bs) (behind_byte c bs))
 split_cond true c b bs h = refl
 split_cond false c b bs h = ap (onto_first b) h
 
@@ -30,7 +33,8 @@ behind-append c (b ∷ l) r clean = rw (ne_eqb b c (All-head (λ x. x ≢ c) b l
 at_separator : (c x : ℕ) (r : List ℕ) → x ≡ c → (before_byte c (x ∷ r) ≡ []) × (behind_byte c (x ∷ r) ≡ Some r)
 at_separator c x r e = rw (eq-eqb x c e) (refl, refl)
 
-pub cut_here : (c : ℕ) (bs : List ℕ) (n : ℕ) → n < length bs → All (λ x. x ≢ c) (take n bs) → get_or bs n 0 ≡ c → (take n bs ≡ before_byte c bs) × (Some (drop (n + 1) bs) ≡ behind_byte c bs)
+pub cut_here : (c : ℕ) (bs : List ℕ) (n : ℕ) → n < length bs → All (λ x. x ≢ c) (take n bs) → get_or bs n 0 ≡ c → (take n bs ≡ before_byte c bs)
+    × (Some (drop (n + 1) bs) ≡ behind_byte c bs)
 cut_here c bs n h clean at =
     let l = take n bs in
     let r = get_or bs n 0 ∷ drop (n + 1) bs in

@@ -1,6 +1,6 @@
 -- A source of token lines over a reader that is lent to it (docs/DEFINITIONS.md, "Runs over lines").
 use Rattle.std.specs.Prelude.{◌≡◌, ℕ, List, Option}
-use Rattle.libyaml_events.specs.Fault.{Answer}
+use Rattle.libyaml_grammar.specs.runs.Fault.{Answer}
 use Rattle.line_reading.specs.declared.lent_lines.LentLines.{LentLines}
 use Rattle.line_reading.specs.LineSource.{LineSource, Gives, source_over}
 

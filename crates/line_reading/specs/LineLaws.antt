@@ -35,7 +35,8 @@ shape_onto : (b : ℕ) (parts : List (List ℕ)) (behind : List ℕ) → Shape p
 shape_onto b parts behind (inl h) = inl (b ∷ h.0, (ap (onto_first b) h.1.0, h.1.1))
 shape_onto b parts behind (inr h) = inr (b ∷ h.0, ap (onto_first b) h.1)
 
-shape_cond : (t : Bool) (b : ℕ) (bs : List ℕ) → Shape (slice_split (λ b. b == 10) bs) (behind_line bs) → Shape (cond t ([] ∷ slice_split (λ b. b == 10) bs) (onto_first b (slice_split (λ b. b == 10) bs))) (cond t bs (behind_line bs))
+shape_cond : (t : Bool) (b : ℕ) (bs : List ℕ) → Shape (slice_split (λ b. b == 10) bs) (behind_line bs)
+    → Shape (cond t ([] ∷ slice_split (λ b. b == 10) bs) (onto_first b (slice_split (λ b. b == 10) bs))) (cond t bs (behind_line bs))
 shape_cond true b bs h = inr ([], refl)
 shape_cond false b bs h = shape_onto b _ _ h
 

@@ -2,7 +2,7 @@
 use Rattle.std.specs.Prelude.{◌≡◌, ◌<◌, ◌≤◌, ◌⊎◌, ℕ, List, [], ◌∷◌, length, Option, Some, None, Result, Ok, Err}
 use Rattle.std.specs.Io.KnownBytes.{Consumes}
 use Rattle.libyaml_types.specs.declared.token.yaml_token_t.{yaml_token_t}
-use Rattle.libyaml_events.specs.Fault.{Fault, Answer}
+use Rattle.libyaml_grammar.specs.runs.Fault.{Fault, Answer}
 use Rattle.line_reading.specs.declared.line_problem.LineProblem.{LineProblem}
 use Rattle.line_reading.specs.declared.line_problem.LineProblem.TheVariants.{Memory, ReadFailed, LineTooLong, BadTokenLine, TooManyTokens, NoMoreTokens}
 use Rattle.line_reading.specs.LineFault.{line_fault}

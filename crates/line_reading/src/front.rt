@@ -44,7 +44,8 @@ pub fn read_mark(line: &[u8], at: usize, mark: &mut yaml_mark_t) -> usize
 #[inline(always)]
 fn is_byte_at(line: &[u8], at: usize, byte: u8) -> bool
     requires { at ≤ length line.now }
-    ensures yes { result ≡ true → (at < length line.now) × (behind_first byte (drop at line.now) ≡ Some (drop (at + 1) line.now)) }
+    ensures yes { result ≡ true → (at < length line.now)
+        × (behind_first byte (drop at line.now) ≡ Some (drop (at + 1) line.now)) }
     ensures no { result ≡ false → behind_first byte (drop at line.now) ≡ None }
 {
     at < line.len() && line[at] == byte
@@ -75,7 +76,10 @@ fn read_number(line: &[u8], at: usize) -> NumberRead
     requires { at ≤ length line.now }
     ensures within { result.end ≤ length line.now }
     ensures none { result.end ≡ 0 → number_at (drop at line.now) ≡ None }
-    ensures some { 0 < result.end → number_at (drop at line.now) ≡ Some (result.value, drop result.end line.now) }
+    ensures some { 0 < result.end → number_at (drop at line.now) ≡ Some (
+      result.value,
+      drop result.end line.now,
+    ) }
 {
     if line.len() - at < FEW {
         return read_last_number(line, at);
@@ -100,7 +104,10 @@ fn read_last_number(line: &[u8], at: usize) -> NumberRead
     requires few { length line.now < at + 8 }
     ensures within { result.end ≤ length line.now }
     ensures none { result.end ≡ 0 → number_at (drop at line.now) ≡ None }
-    ensures some { 0 < result.end → number_at (drop at line.now) ≡ Some (result.value, drop result.end line.now) }
+    ensures some { 0 < result.end → number_at (drop at line.now) ≡ Some (
+      result.value,
+      drop result.end line.now,
+    ) }
 {
     let mut value = 0u64;
     for (len, digit) in line[at..].iter().enumerate() {
@@ -119,7 +126,10 @@ fn read_any_number(line: &[u8], at: usize) -> NumberRead
     requires { at ≤ length line.now }
     ensures within { result.end ≤ length line.now }
     ensures none { result.end ≡ 0 → number_at (drop at line.now) ≡ None }
-    ensures some { 0 < result.end → number_at (drop at line.now) ≡ Some (result.value, drop result.end line.now) }
+    ensures some { 0 < result.end → number_at (drop at line.now) ≡ Some (
+      result.value,
+      drop result.end line.now,
+    ) }
 {
     let mut value = 0u64;
     for (len, digit) in line[at..].iter().enumerate() {

@@ -1,6 +1,6 @@
 //! A source of tokens over the lines of a reader that is lent to it.
 ghost use Rattle.std.specs.Prelude.{◌≡◌, ◌-◌, None};
-ghost use Rattle.libyaml_events.specs.Fault.{answer_of};
+ghost use Rattle.libyaml_grammar.specs.runs.Fault.{answer_of};
 ghost use Rattle.line_reading.specs.LentLines.{lines_of, GivesLent};
 ghost use Rattle.line_reading.specs.LineSource.{known_of, BreaksOff};
 ghost use Rattle.line_reading.specs.LineSourceLaws.{source_falls, source_follows, source_repeats};
@@ -25,7 +25,8 @@ impl<'a, R: BufRead> LentLines<'a, R> {
     /// A source that gives `max_tokens` tokens at most. Takes no memory.
     pub fn new(alloc: Global, reader: &'a mut R, line: &'a mut Vec<u8>, max_tokens: u64) -> Self
         ensures reader { result.reader ≡ reader.entry }
-        ensures lines { lines_of result ≡ record { reader = reader.old; given = 0; max_tokens = max_tokens; fault = None } }
+        ensures lines { lines_of result
+            ≡ record { reader = reader.old; given = 0; max_tokens = max_tokens; fault = None } }
     {
         LentLines {
             reader,
@@ -48,7 +49,8 @@ impl<R: BufRead> yaml_token_source_t for LentLines<'_, R> {
 
     ghost follows = { λ s t answer h. source_follows R.remaining (lines_of s) (lines_of t) answer h.0 };
 
-    ghost repeats = { λ s t u fault answer h k. source_repeats R.remaining (lines_of s) (lines_of t) (lines_of u) fault answer h.0 k.0 };
+    ghost repeats = { λ s t u fault answer h k. source_repeats R.remaining (lines_of s) (lines_of t)
+        (lines_of u) fault answer h.0 k.0 };
 
     /// The token of the next line, or why there is none.
     fn next_token(&mut self) -> Result<yaml_token_t, yaml_source_fault_t>

@@ -1,5 +1,6 @@
 //! One line of a reader.
-ghost use Rattle.std.specs.Prelude.{◌≡◌, ◌≢◌, ◌≤◌, ◌<◌, ◌+◌, ◌++◌, ◌↔◌, [], All, drop, take, length, vec_len, IfOk, IfErr, OnOk, OnErr, OnSome, Ok, IsOk};
+ghost use Rattle.std.specs.Prelude.{◌≡◌, ◌≢◌, ◌≤◌, ◌<◌, ◌+◌, ◌++◌, ◌↔◌, [], All, drop, take};
+ghost use Rattle.std.specs.Prelude.{length, vec_len, IfOk, IfErr, OnOk, OnErr, OnSome, Ok, IsOk};
 ghost use Rattle.std.specs.Io.KnownBytes.{Consumes, Keeps, IsAtEnd};
 ghost use Rattle.line_reading.specs.Line.{ended_by, appended, line_feed};
 ghost use Rattle.line_reading.specs.ReadLines.{longest_line};
@@ -39,11 +40,15 @@ pub enum LineEnd {
 /// is too many.
 fn take_line<R: BufRead>(reader: &mut R, line: &mut Vec<u8>) -> Result<LineEnd, LineProblem>
     requires { line.old.items ≡ [] }
-    ensures consumes { IfOk result (λ end. Consumes (R.remaining reader.old) (R.remaining reader.new) (line.new.items ++ line_feed end)) }
+    ensures consumes { IfOk result
+        (λ end. Consumes (R.remaining reader.old) (R.remaining reader.new) (line.new.items
+        ++ line_feed end)) }
     ensures clean { All (λ x. x ≢ 10) line.new.items }
     ensures fits { length line.new.items ≤ longest_line + 1 }
-    ensures too_long { result ≡ Ok LineEnd.TooLong ↔ ((length line.new.items ≡ longest_line + 1) × IsOk result) }
-    ensures end { result ≡ Ok LineEnd.End → OnSome (R.remaining reader.old) (IsAtEnd (R.remaining reader.new)) }
+    ensures too_long { result ≡ Ok LineEnd.TooLong ↔ ((length line.new.items ≡ longest_line + 1)
+        × IsOk result) }
+    ensures end { result ≡ Ok LineEnd.End
+        → OnSome (R.remaining reader.old) (IsAtEnd (R.remaining reader.new)) }
     ensures err { OnErr result (Consumes (R.remaining reader.old) (R.remaining reader.new) line.new.items) }
     ensures problem { IfErr result IsReadProblem }
 {
@@ -74,13 +79,17 @@ fn take_part<R: BufRead>(
 ) -> Result<Part, LineProblem>
     requires { 0 < room }
     ensures appends { line.new.items ≡ line.old.items ++ appended line.old.items line.new.items }
-    ensures consumes { IfOk result (λ part. Consumes (R.remaining reader.old) (R.remaining reader.new) (appended line.old.items line.new.items ++ ended_by part)) }
+    ensures consumes { IfOk result
+        (λ part. Consumes (R.remaining reader.old) (R.remaining reader.new)
+        (appended line.old.items line.new.items ++ ended_by part)) }
     ensures clean { All (λ x. x ≢ 10) (appended line.old.items line.new.items) }
-    ensures fits { IfOk result (λ part. length (appended line.old.items line.new.items) + length (ended_by part) ≤ room) }
+    ensures fits { IfOk result (λ part. length (appended line.old.items line.new.items) + length
+        (ended_by part) ≤ room) }
     ensures err { OnErr result (line.new.items ≡ line.old.items) }
     ensures keeps { OnErr result (Keeps (R.remaining reader.old) (R.remaining reader.new)) }
     ensures more { result ≡ Ok Part.More → 0 < length (appended line.old.items line.new.items) }
-    ensures at_end { result ≡ Ok Part.End → OnSome (R.remaining reader.old) (IsAtEnd (R.remaining reader.new)) }
+    ensures at_end { result ≡ Ok Part.End
+        → OnSome (R.remaining reader.old) (IsAtEnd (R.remaining reader.new)) }
     ensures end { result ≡ Ok Part.End → line.new.items ≡ line.old.items }
     ensures problem { IfErr result IsReadProblem }
 {
@@ -104,7 +113,8 @@ fn take_part<R: BufRead>(
 
 #[tactic(auto, using(crate::proofs::Appended::appended_is))]
 fn append(line: &mut Vec<u8>, part: &[u8]) -> Result<(), LineProblem>
-    ensures ok { OnOk result ((line.new.items ≡ line.old.items ++ part.now) × (appended line.old.items line.new.items ≡ part.now)) }
+    ensures ok { OnOk result ((line.new.items ≡ line.old.items ++ part.now)
+        × (appended line.old.items line.new.items ≡ part.now)) }
     ensures err { OnErr result (line.new.items ≡ line.old.items) }
     ensures problem { IfErr result (λ problem. problem ≡ LineProblem.Memory) }
 {

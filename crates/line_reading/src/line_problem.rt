@@ -1,8 +1,8 @@
 //! Why a line source gave no token.
 ghost use Rattle.std.specs.Prelude.{◌≡◌};
-ghost use Rattle.libyaml_events.specs.Errors.{IsSourceError};
-ghost use Rattle.libyaml_events.specs.Fault.{source_fault};
-ghost use Rattle.libyaml_events.specs.FaultTexts.{memory_fault};
+ghost use Rattle.libyaml_grammar.specs.runs.Errors.{IsSourceError};
+ghost use Rattle.libyaml_grammar.specs.runs.Fault.{source_fault};
+ghost use Rattle.libyaml_grammar.specs.cuts.FaultTexts.{memory_fault};
 ghost use Rattle.line_reading.specs.LineFault.{problem_at, line_fault};
 
 use crate::token_error::TokenLineError;

@@ -1,6 +1,6 @@
 //! A source of tokens over the lines of a reader.
 ghost use Rattle.std.specs.Prelude.{◌≡◌, ◌+◌, ◌-◌, IfOk, IfSome, Some, None};
-ghost use Rattle.libyaml_events.specs.Fault.{answer_of};
+ghost use Rattle.libyaml_grammar.specs.runs.Fault.{answer_of};
 ghost use Rattle.line_reading.specs.LineSource.{Gives, known_of, BreaksOff};
 ghost use Rattle.line_reading.specs.LineSourceLaws.{source_falls, source_follows, source_repeats};
 ghost use Rattle.line_reading.specs.ReadLines.{longest_line, read_lines};
@@ -34,8 +34,15 @@ impl<R> Model for yaml_line_source_t<R> {
 impl<R: BufRead> yaml_line_source_t<R> {
     /// A source that gives `max_tokens` tokens at most. Takes no memory.
     pub fn new(alloc: Global, reader: R, max_tokens: u64) -> Self
-        ensures value { result ≡ record { reader = reader; given = 0; max_tokens = max_tokens; fault = None } }
-        ensures reads { IfSome (R.remaining reader) (λ bytes. known_of R.remaining result ≡ Some (read_lines bytes max_tokens)) }
+        ensures value { result ≡ record {
+          reader = reader;
+          given = 0;
+          max_tokens = max_tokens;
+          fault
+              = None;
+        } }
+        ensures reads { IfSome (R.remaining reader) (λ bytes. known_of R.remaining result
+            ≡ Some (read_lines bytes max_tokens)) }
     {
         yaml_line_source_t {
             reader,
@@ -72,8 +79,10 @@ impl<R: BufRead> yaml_token_source_t for yaml_line_source_t<R> {
     /// tokens` comes before a line is read.
     fn next_token(&mut self) -> Result<yaml_token_t, yaml_source_fault_t>
         ensures gives { Gives R.remaining self.old (answer_of result) self.new }
-        ensures leaves { IfOk result (λ _. IsBehindLine (R.remaining self.old.reader) (R.remaining self.new.reader)) }
-        ensures takes { TakesAtMost (longest_line + 1) (R.remaining self.old.reader) (R.remaining self.new.reader) }
+        ensures leaves { IfOk result (λ _. IsBehindLine (R.remaining self.old.reader)
+            (R.remaining self.new.reader)) }
+        ensures takes { TakesAtMost (longest_line + 1) (R.remaining self.old.reader)
+            (R.remaining self.new.reader) }
     {
         self.tokens.next_token(&mut self.reader, &mut self.line)
     }

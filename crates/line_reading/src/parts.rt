@@ -43,7 +43,8 @@ impl<'a> Parts<'a> {
 
     /// Takes the next part.
     pub fn next(&mut self) -> Option<&'a [u8]>
-        ensures { MatchOption result ((self.old ≡ []) × (self.new ≡ [])) (λ part. self.old ≡ part.now ∷ self.new) }
+        ensures { MatchOption result ((self.old ≡ [])
+            × (self.new ≡ [])) (λ part. self.old ≡ part.now ∷ self.new) }
     {
         let (part, rest) = cut(self.rest?, self.separator);
         self.rest = rest;

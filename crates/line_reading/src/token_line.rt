@@ -1,7 +1,8 @@
 //! Token lines.
 ghost use Rattle.std.specs.Prelude.{◌≡◌, ◌≤◌, drop, length, option_copied};
 ghost use Rattle.line_reading.specs.Front.{further, token_at};
-ghost use Rattle.line_reading.specs.TokenLine.{bare_content, content_of_one, content_of_two, content_of, token_of_line};
+ghost use Rattle.line_reading.specs.TokenLine.{bare_content, content_of_one, content_of_two};
+ghost use Rattle.line_reading.specs.TokenLine.{content_of, token_of_line};
 ghost use Rattle.line_reading.specs.Reading.{IsReadAs};
 
 use crate::field::{read_encoding, read_scalar_style, read_text, read_version};

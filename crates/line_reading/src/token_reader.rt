@@ -1,6 +1,6 @@
 //! The tokens of lines, one by one.
 ghost use Rattle.std.specs.Prelude.{◌≡◌, ◌+◌, IfOk};
-ghost use Rattle.libyaml_events.specs.Fault.{answer_of, source_fault};
+ghost use Rattle.libyaml_grammar.specs.runs.Fault.{answer_of, source_fault};
 ghost use Rattle.line_reading.specs.LineFault.{line_fault};
 ghost use Rattle.line_reading.specs.LineSource.{Gives, source_over};
 ghost use Rattle.line_reading.specs.ReadLines.{longest_line};
@@ -45,7 +45,8 @@ impl TokenReader {
         reader: &mut R,
         line: &mut Vec<u8>,
     ) -> Result<yaml_token_t, yaml_source_fault_t>
-        ensures gives { Gives R.remaining (source_over reader.old self.old) (answer_of result) (source_over reader.new self.new) }
+        ensures gives { Gives R.remaining (source_over reader.old self.old) (answer_of result)
+            (source_over reader.new self.new) }
         ensures leaves { IfOk result (λ _. IsBehindLine (R.remaining reader.old) (R.remaining reader.new)) }
         ensures takes { TakesAtMost (longest_line + 1) (R.remaining reader.old) (R.remaining reader.new) }
     {

@@ -1,5 +1,6 @@
 -- How the fields and lines that are appended one by one make a document's text.
-use Rattle.std.proofs.Common.{◌≡◌, ◌++◌, ◌+◌, ◌<◌, ℕ, List, [], ◌∷◌, length, get_or, take, drop, map, codes, refl, ap, ◌∙◌, sym, subst, arith, append_assoc, Option, Result, Ok, Err, OnOk, is_ok, if◌then◌else◌}
+use Rattle.std.proofs.Common.{◌≡◌, ◌++◌, ◌+◌, ◌<◌, ℕ, List, [], ◌∷◌, length, get_or, take, drop, map, codes, refl, ap, ◌∙◌, sym, subst, arith, append_assoc}
+use Rattle.std.proofs.Common.{Option, Result, Ok, Err, OnOk, is_ok, if◌then◌else◌}
 use Rattle.std.specs.List.{concat}
 use Rattle.std.specs.Io.KnownBytes.{Appends}
 use Rattle.std.proofs.KnownBytes.{Appends-nil, Appends-trans}
@@ -18,23 +19,30 @@ fields_more f xs i d within =
     ∙ ap behind_spaces (map-append f (take i xs) (get_or xs i d ∷ []))
     ∙ behind_spaces-append (map f (take i xs)) (f (get_or xs i d) ∷ [])
 
-regroup : (old id name marks tag fields end : List ℕ) → (((((old ++ id) ++ name) ++ marks) ++ tag) ++ fields) ++ end ≡ old ++ (id ++ ((name ++ (marks ++ (tag ++ fields))) ++ end))
+regroup : (old id name marks tag fields end : List ℕ)
+    → (((((old ++ id) ++ name) ++ marks) ++ tag) ++ fields) ++ end ≡ old ++ (id ++ ((name ++ (marks ++ (tag ++ fields))) ++ end))
 regroup old id name marks tag fields end = simp append_assoc
 
-spaced : (name m1 m2 tag : List ℕ) (fields : List (List ℕ)) → behind_spaces (name ∷ []) ++ (behind_spaces (m1 ∷ m2 ∷ []) ++ (behind_spaces (tag ∷ []) ++ behind_spaces fields)) ≡ behind_spaces (name ∷ m1 ∷ m2 ∷ tag ∷ fields)
+spaced : (name m1 m2 tag : List ℕ) (fields : List (List ℕ))
+    → behind_spaces (name ∷ []) ++ (behind_spaces (m1 ∷ m2 ∷ []) ++ (behind_spaces (tag ∷ []) ++ behind_spaces fields))
+    ≡ behind_spaces (name ∷ m1 ∷ m2 ∷ tag ∷ fields)
 spaced name m1 m2 tag fields =
     ap (λ l. behind_spaces (name ∷ []) ++ (behind_spaces (m1 ∷ m2 ∷ []) ++ l)) (sym (behind_spaces-append (tag ∷ []) fields))
     ∙ ap (λ l. behind_spaces (name ∷ []) ++ l) (sym (behind_spaces-append (m1 ∷ m2 ∷ []) (tag ∷ fields)))
     ∙ sym (behind_spaces-append (name ∷ []) (m1 ∷ m2 ∷ tag ∷ fields))
 
 -- an id, a name, two marks, a tag, the other fields and a line feed, one behind the other
-pub node_appended : {X E : Type 0} (old l1 l2 l3 l4 l5 l6 id name m1 m2 tag : List ℕ) (fields : List (List ℕ)) (r : Result X E) → l1 ≡ old ++ id → l2 ≡ l1 ++ behind_spaces (name ∷ [])
-    → l3 ≡ l2 ++ behind_spaces (m1 ∷ m2 ∷ []) → l4 ≡ l3 ++ behind_spaces (tag ∷ []) → l5 ≡ l4 ++ behind_spaces fields → l6 ≡ (if is_ok r then l5 ++ codes "\n" else l5)
+pub node_appended : {X E : Type 0} (old l1 l2 l3 l4 l5 l6 id name m1 m2 tag : List ℕ) (fields : List (List ℕ)) (r : Result X E) → l1 ≡ old ++ id
+    → l2 ≡ l1 ++ behind_spaces (name ∷ [])
+    → l3 ≡ l2 ++ behind_spaces (m1 ∷ m2 ∷ []) → l4 ≡ l3 ++ behind_spaces (tag ∷ []) → l5 ≡ l4 ++ behind_spaces fields
+    → l6 ≡ (if is_ok r then l5 ++ codes "\n" else l5)
     → OnOk r (l6 ≡ old ++ line_text (id ∷ name ∷ m1 ∷ m2 ∷ tag ∷ fields))
 node_appended old l1 l2 l3 l4 l5 l6 id name m1 m2 tag fields (Err e) e1 e2 e3 e4 e5 e6 = tt
 node_appended old l1 l2 l3 l4 l5 l6 id name m1 m2 tag fields (Ok x) e1 e2 e3 e4 e5 e6 =
     e6
-    ∙ ap (λ l. l ++ codes "\n") (e5 ∙ ap (λ l. l ++ behind_spaces fields) (e4 ∙ ap (λ l. l ++ behind_spaces (tag ∷ [])) (e3 ∙ ap (λ l. l ++ behind_spaces (m1 ∷ m2 ∷ [])) (e2 ∙ ap (λ l. l ++ behind_spaces (name ∷ [])) e1))))
+    ∙ ap (λ l. l ++ codes "\n") (e5
+    ∙ ap (λ l. l ++ behind_spaces fields) (e4
+    ∙ ap (λ l. l ++ behind_spaces (tag ∷ [])) (e3 ∙ ap (λ l. l ++ behind_spaces (m1 ∷ m2 ∷ [])) (e2 ∙ ap (λ l. l ++ behind_spaces (name ∷ [])) e1))))
     ∙ regroup old id (behind_spaces (name ∷ [])) (behind_spaces (m1 ∷ m2 ∷ [])) (behind_spaces (tag ∷ [])) (behind_spaces fields) (codes "\n")
     ∙ ap (λ l. old ++ (id ++ (l ++ codes "\n"))) (spaced name m1 m2 tag fields)
     ∙ ap (λ l. old ++ l) (sym (line_text-spaced id (name ∷ m1 ∷ m2 ∷ tag ∷ fields)))
@@ -47,7 +55,8 @@ lines_then id (x ∷ xs) ys =
     ap (λ l. node_line id x ∷ l) (lines_then (id + 1) xs ys ∙ ap (λ n. node_lines (id + 1) xs ++ node_lines n ys) e)
 
 -- the line of the node at this place, and those behind it
-lines_at : (ns : List yaml_node_t) (i : ℕ) (d : yaml_node_t) → i < length ns → node_lines 1 ns ≡ node_lines 1 (take i ns) ++ node_line (i + 1) (get_or ns i d) ∷ node_lines (i + 1 + 1) (drop (i + 1) ns)
+lines_at : (ns : List yaml_node_t) (i : ℕ) (d : yaml_node_t) → i < length ns
+    → node_lines 1 ns ≡ node_lines 1 (take i ns) ++ node_line (i + 1) (get_or ns i d) ∷ node_lines (i + 1 + 1) (drop (i + 1) ns)
 lines_at ns i d within =
     let front : 1 + length (take i ns) ≡ i + 1 = omega (arith, length-take-le i ns (omega (arith, within))) in
     ap (node_lines 1) (sym (take-append-drop i ns))
@@ -56,7 +65,8 @@ lines_at ns i d within =
     ∙ ap (λ n. node_lines 1 (take i ns) ++ node_lines n (get_or ns i d ∷ drop (i + 1) ns)) front
 
 -- one more line
-pub lines_more : (ns : List yaml_node_t) (i : ℕ) (d : yaml_node_t) → i < length ns → concat (node_lines 1 (take (i + 1) ns)) ≡ concat (node_lines 1 (take i ns)) ++ node_line (i + 1) (get_or ns i d)
+pub lines_more : (ns : List yaml_node_t) (i : ℕ) (d : yaml_node_t) → i < length ns
+    → concat (node_lines 1 (take (i + 1) ns)) ≡ concat (node_lines 1 (take i ns)) ++ node_line (i + 1) (get_or ns i d)
 lines_more ns i d within =
     let front : 1 + length (take i ns) ≡ i + 1 = omega (arith, length-take-le i ns (omega (arith, within))) in
     ap (λ l. concat (node_lines 1 l)) (take_more ns i d within)
@@ -66,7 +76,8 @@ lines_more ns i d within =
     ∙ ap (λ l. concat (node_lines 1 (take i ns)) ++ l) (append-nil (node_line (i + 1) (get_or ns i d)))
 
 -- a line that found no memory
-pub wrote_before : (ns : List yaml_node_t) (i : ℕ) (d : yaml_node_t) (a b : Option (List ℕ)) → i < length ns → Appends a b (concat (node_lines 1 (take i ns))) → WroteBefore a b (node_lines 1 ns)
+pub wrote_before : (ns : List yaml_node_t) (i : ℕ) (d : yaml_node_t) (a b : Option (List ℕ)) → i < length ns → Appends a b (concat (node_lines 1 (take i ns)))
+    → WroteBefore a b (node_lines 1 ns)
 wrote_before ns i d a b within wrote = record {
   front = node_lines 1 (take i ns);
   line = node_line (i + 1) (get_or ns i d);

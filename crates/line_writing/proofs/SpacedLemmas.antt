@@ -1,5 +1,6 @@
 -- How fields that are appended one by one make a line.
-use Rattle.std.proofs.Common.{◌≡◌, ◌++◌, ◌+◌, ◌<◌, ℕ, List, [], ◌∷◌, length, get_or, take, codes, refl, ap, ◌∙◌, sym, append_assoc, Result, Ok, Err, OnOk, is_ok, if◌then◌else◌}
+use Rattle.std.proofs.Common.{◌≡◌, ◌++◌, ◌+◌, ◌<◌, ℕ, List, [], ◌∷◌, length, get_or, take, codes, refl, ap, ◌∙◌, sym, append_assoc, Result, Ok, Err, OnOk}
+use Rattle.std.proofs.Common.{is_ok, if◌then◌else◌}
 use Rattle.std.specs.List.{join_with_byte}
 use Rattle.std.proofs.lemmas.List.{append-nil, take_more}
 use Rattle.libyaml_types.specs.declared.directive.yaml_tag_directive_t.{yaml_tag_directive_t}
@@ -23,7 +24,8 @@ directive_texts-append (x ∷ xs) ys = ap (λ l. string_text x.handle ∷ string
 
 -- one more directive
 pub directive_texts-more : (ds : List yaml_tag_directive_t) (i : ℕ) (d : yaml_tag_directive_t) → i < length ds
-    → behind_spaces (directive_texts (take (i + 1) ds)) ≡ behind_spaces (directive_texts (take i ds)) ++ behind_spaces (string_text (get_or ds i d).handle ∷ string_text (get_or ds i d).prefix ∷ [])
+    → behind_spaces (directive_texts (take (i + 1) ds)) ≡ behind_spaces (directive_texts (take i ds))
+    ++ behind_spaces (string_text (get_or ds i d).handle ∷ string_text (get_or ds i d).prefix ∷ [])
 directive_texts-more ds i d within =
     ap (λ l. behind_spaces (directive_texts l)) (take_more ds i d within)
     ∙ ap behind_spaces (directive_texts-append (take i ds) (get_or ds i d ∷ []))

@@ -4,7 +4,8 @@ use Rattle.std.specs.Fmt.{decimal}
 use Rattle.libyaml_types.specs.declared.event.yaml_event_t.{yaml_event_t}
 use Rattle.libyaml_types.specs.declared.event.unnamed_yaml_event_t_data.{unnamed_yaml_event_t_data}
 use Rattle.libyaml_types.specs.declared.event.unnamed_yaml_event_t_data.TheVariants as ev
-use Rattle.line_writing.specs.FieldTexts.{line_text, mark_text, optional_version_text, flag_text, string_text, optional_string_text, directive_texts, encoding_text, scalar_style_text, sequence_style_text, mapping_style_text}
+use Rattle.line_writing.specs.FieldTexts.{line_text, mark_text, optional_version_text, flag_text, string_text, optional_string_text, directive_texts}
+use Rattle.line_writing.specs.FieldTexts.{encoding_text, scalar_style_text, sequence_style_text, mapping_style_text}
 
 abbrev pub event_name : unnamed_yaml_event_t_data → List ℕ
 event_name ev.NoEvent = codes "NO-EVENT"
@@ -29,7 +30,8 @@ event_fields (ev.DocumentStart e) =
 event_fields (ev.DocumentEnd e) = flag_text e.implicit ∷ []
 event_fields (ev.Alias e) = string_text e.anchor ∷ []
 event_fields (ev.Scalar e) =
-    optional_string_text e.anchor ∷ optional_string_text e.tag ∷ string_text e.value ∷ flag_text e.plain_implicit ∷ flag_text e.quoted_implicit ∷ scalar_style_text e.style ∷ []
+    optional_string_text e.anchor ∷ optional_string_text e.tag ∷ string_text e.value ∷ flag_text e.plain_implicit ∷ flag_text e.quoted_implicit
+    ∷ scalar_style_text e.style ∷ []
 event_fields (ev.SequenceStart e) =
     optional_string_text e.anchor ∷ optional_string_text e.tag ∷ flag_text e.implicit ∷ sequence_style_text e.style ∷ []
 event_fields ev.SequenceEnd = []

@@ -3,7 +3,9 @@ ghost use Rattle.std.specs.Prelude.{◌≡◌, ◌++◌, [], ◌∷◌, OnOk, Er
 ghost use Rattle.std.specs.List.{concat};
 ghost use Rattle.std.specs.Fmt.{decimal, signed_decimal};
 ghost use Rattle.std.specs.Io.KnownBytes.{Appends};
-ghost use Rattle.line_writing.specs.DocumentText.{WroteBefore, document_fields, document_line, document_lines, node_fields, node_line, node_lines, node_name, pair_text};
+ghost use Rattle.line_writing.specs.DocumentText.{WroteBefore, document_fields, document_line};
+ghost use Rattle.line_writing.specs.DocumentText.{document_lines, node_fields, node_line};
+ghost use Rattle.line_writing.specs.DocumentText.{node_lines, node_name, pair_text};
 ghost use Rattle.line_writing.specs.FieldTexts.{behind_spaces};
 
 use crate::event_line::write_line;
@@ -32,8 +34,10 @@ pub fn write_document<W: Write>(
     document: &yaml_document_t,
     writer: &mut W,
 ) -> Result<(), line_refusal_t>
-    ensures ok { OnOk result (Appends (W.contents writer.old) (W.contents writer.new) (concat (document_lines document.now))) }
-    ensures memory { result ≡ Err line_refusal_t.Memory → WroteBefore (W.contents writer.old) (W.contents writer.new) (document_lines document.now) }
+    ensures ok { OnOk result (Appends (W.contents writer.old) (W.contents writer.new)
+        (concat (document_lines document.now))) }
+    ensures memory { result ≡ Err line_refusal_t.Memory
+        → WroteBefore (W.contents writer.old) (W.contents writer.new) (document_lines document.now) }
 {
     let mut line = String::new(alloc);
     append_document(&mut line, document)?;
@@ -47,8 +51,10 @@ fn write_nodes<W: Write>(
     nodes: &[yaml_node_t],
     writer: &mut W,
 ) -> Result<(), line_refusal_t>
-    ensures ok { OnOk result (Appends (W.contents writer.old) (W.contents writer.new) (concat (node_lines 1 nodes.now))) }
-    ensures memory { result ≡ Err line_refusal_t.Memory → WroteBefore (W.contents writer.old) (W.contents writer.new) (node_lines 1 nodes.now) }
+    ensures ok { OnOk result (Appends (W.contents writer.old) (W.contents writer.new)
+        (concat (node_lines 1 nodes.now))) }
+    ensures memory { result ≡ Err line_refusal_t.Memory
+        → WroteBefore (W.contents writer.old) (W.contents writer.new) (node_lines 1 nodes.now) }
 {
     for (place, node) in nodes.iter().enumerate() {
         line.clear();
@@ -70,7 +76,8 @@ fn append_document(line: &mut String, document: &yaml_document_t) -> Result<(), 
 
 /// Appends the fields of a document behind its marks.
 fn append_document_fields(line: &mut String, document: &yaml_document_t) -> Result<(), AllocError>
-    ensures { OnOk result (string_bytes line.new ≡ string_bytes line.old ++ behind_spaces (document_fields document.now)) }
+    ensures { OnOk result (string_bytes line.new ≡ string_bytes line.old
+        ++ behind_spaces (document_fields document.now)) }
 {
     let directives = document.tag_directives();
     append_two_flags(line, document.start_implicit(), document.end_implicit())?;
@@ -92,7 +99,8 @@ fn append_node(line: &mut String, id: usize, node: &yaml_node_t) -> Result<(), A
 }
 
 fn append_node_name(line: &mut String, content: &unnamed_yaml_node_t_data) -> Result<(), AllocError>
-    ensures { OnOk result (string_bytes line.new ≡ string_bytes line.old ++ behind_spaces (node_name content.now ∷ [])) }
+    ensures { OnOk result (string_bytes line.new ≡ string_bytes line.old
+        ++ behind_spaces (node_name content.now ∷ [])) }
 {
     match content {
         unnamed_yaml_node_t_data::Scalar(_) => line.push_str(" SCALAR"),
@@ -106,7 +114,8 @@ fn append_node_fields(
     line: &mut String,
     content: &unnamed_yaml_node_t_data,
 ) -> Result<(), AllocError>
-    ensures { OnOk result (string_bytes line.new ≡ string_bytes line.old ++ behind_spaces (node_fields content.now)) }
+    ensures { OnOk result (string_bytes line.new ≡ string_bytes line.old
+        ++ behind_spaces (node_fields content.now)) }
 {
     match content {
         unnamed_yaml_node_t_data::Scalar(scalar) => append_scalar_node(line, scalar),
@@ -119,7 +128,8 @@ fn append_scalar_node(
     line: &mut String,
     scalar: &unnamed_yaml_node_t_data_scalar,
 ) -> Result<(), AllocError>
-    ensures { OnOk result (string_bytes line.new ≡ string_bytes line.old ++ behind_spaces (node_fields (unnamed_yaml_node_t_data.Scalar scalar.now))) }
+    ensures { OnOk result (string_bytes line.new ≡ string_bytes line.old
+        ++ behind_spaces (node_fields (unnamed_yaml_node_t_data.Scalar scalar.now))) }
 {
     append_string(line, &scalar.value)?;
     append_scalar_style(line, scalar.style)
@@ -129,7 +139,8 @@ fn append_sequence_node(
     line: &mut String,
     sequence: &unnamed_yaml_node_t_data_sequence,
 ) -> Result<(), AllocError>
-    ensures { OnOk result (string_bytes line.new ≡ string_bytes line.old ++ behind_spaces (node_fields (unnamed_yaml_node_t_data.Sequence sequence.now))) }
+    ensures { OnOk result (string_bytes line.new ≡ string_bytes line.old
+        ++ behind_spaces (node_fields (unnamed_yaml_node_t_data.Sequence sequence.now))) }
 {
     append_sequence_style(line, sequence.style)?;
     append_number(line, sequence.items.len())?;
@@ -140,7 +151,8 @@ fn append_mapping_node(
     line: &mut String,
     mapping: &unnamed_yaml_node_t_data_mapping,
 ) -> Result<(), AllocError>
-    ensures { OnOk result (string_bytes line.new ≡ string_bytes line.old ++ behind_spaces (node_fields (unnamed_yaml_node_t_data.Mapping mapping.now))) }
+    ensures { OnOk result (string_bytes line.new ≡ string_bytes line.old
+        ++ behind_spaces (node_fields (unnamed_yaml_node_t_data.Mapping mapping.now))) }
 {
     append_mapping_style(line, mapping.style)?;
     append_number(line, mapping.pairs.len())?;
@@ -149,7 +161,8 @@ fn append_mapping_node(
 
 /// Appends the id of each item.
 fn append_items(line: &mut String, items: &[yaml_node_item_t]) -> Result<(), AllocError>
-    ensures { OnOk result (string_bytes line.new ≡ string_bytes line.old ++ behind_spaces (map signed_decimal items.now)) }
+    ensures { OnOk result (string_bytes line.new ≡ string_bytes line.old
+        ++ behind_spaces (map signed_decimal items.now)) }
 {
     for item in items {
         append_id(line, *item)?;
@@ -159,7 +172,8 @@ fn append_items(line: &mut String, items: &[yaml_node_item_t]) -> Result<(), All
 
 /// Appends the ids of each key and its value.
 fn append_pairs(line: &mut String, pairs: &[yaml_node_pair_t]) -> Result<(), AllocError>
-    ensures { OnOk result (string_bytes line.new ≡ string_bytes line.old ++ behind_spaces (map pair_text pairs.now)) }
+    ensures { OnOk result (string_bytes line.new ≡ string_bytes line.old
+        ++ behind_spaces (map pair_text pairs.now)) }
 {
     for pair in pairs {
         append_pair(line, pair)?;
@@ -168,13 +182,15 @@ fn append_pairs(line: &mut String, pairs: &[yaml_node_pair_t]) -> Result<(), All
 }
 
 fn append_id(line: &mut String, id: yaml_node_item_t) -> Result<(), AllocError>
-    ensures { OnOk result (string_bytes line.new ≡ string_bytes line.old ++ behind_spaces (signed_decimal id ∷ [])) }
+    ensures { OnOk result (string_bytes line.new ≡ string_bytes line.old
+        ++ behind_spaces (signed_decimal id ∷ [])) }
 {
     append_field(line, Buffer::new().format(id))
 }
 
 fn append_pair(line: &mut String, pair: &yaml_node_pair_t) -> Result<(), AllocError>
-    ensures { OnOk result (string_bytes line.new ≡ string_bytes line.old ++ behind_spaces (pair_text pair.now ∷ [])) }
+    ensures { OnOk result (string_bytes line.new ≡ string_bytes line.old
+        ++ behind_spaces (pair_text pair.now ∷ [])) }
 {
     append_id(line, pair.key)?;
     line.push_str(":")?;

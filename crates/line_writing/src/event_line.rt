@@ -2,7 +2,8 @@
 ghost use Rattle.std.specs.Prelude.{◌≡◌, ◌++◌, [], ◌∷◌, OnOk, Err, IsOkUnless, string_bytes};
 ghost use Rattle.std.specs.Io.KnownBytes.{Appends};
 ghost use Rattle.line_writing.specs.EventText.{event_name, event_fields, event_line};
-ghost use Rattle.line_writing.specs.FieldTexts.{behind_spaces, directive_texts, optional_version_text, flag_text};
+ghost use Rattle.line_writing.specs.FieldTexts.{behind_spaces, directive_texts};
+ghost use Rattle.line_writing.specs.FieldTexts.{optional_version_text, flag_text};
 
 use crate::field_text::{
     append_directives, append_encoding, append_flag, append_mapping_style, append_number,
@@ -26,7 +27,8 @@ pub fn write_event<W: Write>(
     event: &yaml_event_t,
     writer: &mut W,
 ) -> Result<(), line_refusal_t>
-    ensures ok { OnOk result (Appends (W.contents writer.old) (W.contents writer.new) (event_line event.now)) }
+    ensures ok { OnOk result (Appends (W.contents writer.old) (W.contents writer.new)
+        (event_line event.now)) }
     ensures memory { result ≡ Err line_refusal_t.Memory → writer.new ≡ writer.old }
 {
     let mut line = String::new(alloc);
@@ -36,7 +38,8 @@ pub fn write_event<W: Write>(
 
 /// Writes a line whose text is made.
 pub fn write_line<W: Write>(line: &String, writer: &mut W) -> Result<(), line_refusal_t>
-    ensures ok { OnOk result (Appends (W.contents writer.old) (W.contents writer.new) (string_bytes line.now)) }
+    ensures ok { OnOk result (Appends (W.contents writer.old) (W.contents writer.new)
+        (string_bytes line.now)) }
     ensures output { IsOkUnless result line_refusal_t.Output }
 {
     match writer.write_all(line.as_bytes()) {
@@ -76,7 +79,8 @@ fn append_name(line: &mut String, content: &unnamed_yaml_event_t_data) -> Result
 
 /// Appends the fields behind the marks.
 fn append_fields(line: &mut String, content: &unnamed_yaml_event_t_data) -> Result<(), AllocError>
-    ensures { OnOk result (string_bytes line.new ≡ string_bytes line.old ++ behind_spaces (event_fields content.now)) }
+    ensures { OnOk result (string_bytes line.new ≡ string_bytes line.old
+        ++ behind_spaces (event_fields content.now)) }
 {
     match content {
         unnamed_yaml_event_t_data::StreamStart(start) => append_encoding(line, start.encoding),
@@ -97,7 +101,8 @@ fn append_document_start(
     line: &mut String,
     start: &unnamed_yaml_event_t_data_document_start,
 ) -> Result<(), AllocError>
-    ensures { OnOk result (string_bytes line.new ≡ string_bytes line.old ++ behind_spaces (event_fields (unnamed_yaml_event_t_data.DocumentStart start.now))) }
+    ensures { OnOk result (string_bytes line.new ≡ string_bytes line.old
+        ++ behind_spaces (event_fields (unnamed_yaml_event_t_data.DocumentStart start.now))) }
 {
     let directives = start.tag_directives.as_slice();
     append_flag(line, start.implicit)?;
@@ -110,7 +115,8 @@ fn append_scalar(
     line: &mut String,
     scalar: &unnamed_yaml_event_t_data_scalar,
 ) -> Result<(), AllocError>
-    ensures { OnOk result (string_bytes line.new ≡ string_bytes line.old ++ behind_spaces (event_fields (unnamed_yaml_event_t_data.Scalar scalar.now))) }
+    ensures { OnOk result (string_bytes line.new ≡ string_bytes line.old
+        ++ behind_spaces (event_fields (unnamed_yaml_event_t_data.Scalar scalar.now))) }
 {
     append_properties(line, &scalar.anchor, &scalar.tag)?;
     append_string(line, &scalar.value)?;
@@ -122,7 +128,8 @@ fn append_sequence_start(
     line: &mut String,
     start: &unnamed_yaml_event_t_data_sequence_start,
 ) -> Result<(), AllocError>
-    ensures { OnOk result (string_bytes line.new ≡ string_bytes line.old ++ behind_spaces (event_fields (unnamed_yaml_event_t_data.SequenceStart start.now))) }
+    ensures { OnOk result (string_bytes line.new ≡ string_bytes line.old
+        ++ behind_spaces (event_fields (unnamed_yaml_event_t_data.SequenceStart start.now))) }
 {
     append_properties(line, &start.anchor, &start.tag)?;
     append_flag(line, start.implicit)?;
@@ -133,7 +140,8 @@ fn append_mapping_start(
     line: &mut String,
     start: &unnamed_yaml_event_t_data_mapping_start,
 ) -> Result<(), AllocError>
-    ensures { OnOk result (string_bytes line.new ≡ string_bytes line.old ++ behind_spaces (event_fields (unnamed_yaml_event_t_data.MappingStart start.now))) }
+    ensures { OnOk result (string_bytes line.new ≡ string_bytes line.old
+        ++ behind_spaces (event_fields (unnamed_yaml_event_t_data.MappingStart start.now))) }
 {
     append_properties(line, &start.anchor, &start.tag)?;
     append_flag(line, start.implicit)?;

@@ -1,9 +1,10 @@
 //! Faults as lines.
 ghost use Rattle.std.specs.Prelude.{◌≡◌, ◌++◌, OnOk, IsOkUnless, Some};
 ghost use Rattle.std.specs.Io.KnownBytes.{Appends};
-ghost use Rattle.libyaml_events.specs.Fault.{fault_of};
+ghost use Rattle.libyaml_grammar.specs.runs.Fault.{fault_of};
 ghost use Rattle.line_writing.specs.FieldTexts.{mark_text};
-ghost use Rattle.line_writing.specs.FaultText.{fault_kind, problem_text, problem_line, context_line, fault_text};
+ghost use Rattle.line_writing.specs.FaultText.{fault_kind, problem_text, problem_line};
+ghost use Rattle.line_writing.specs.FaultText.{context_line, fault_text};
 
 use crate::field_text::ABSENT;
 use crate::refusal::line_refusal_t;
@@ -17,7 +18,8 @@ pub fn write_fault<W: Write>(
     prefix: &yaml_parser_t_prefix,
     writer: &mut W,
 ) -> Result<(), line_refusal_t>
-    ensures ok { OnOk result (Appends (W.contents writer.old) (W.contents writer.new) (fault_text (fault_of prefix.now))) }
+    ensures ok { OnOk result (Appends (W.contents writer.old) (W.contents writer.new)
+        (fault_text (fault_of prefix.now))) }
     ensures output { IsOkUnless result line_refusal_t.Output }
 {
     write_problem(prefix, writer)?;
@@ -31,7 +33,8 @@ fn write_problem<W: Write>(
     prefix: &yaml_parser_t_prefix,
     writer: &mut W,
 ) -> Result<(), line_refusal_t>
-    ensures ok { OnOk result (Appends (W.contents writer.old) (W.contents writer.new) (problem_line (fault_of prefix.now))) }
+    ensures ok { OnOk result (Appends (W.contents writer.old) (W.contents writer.new)
+        (problem_line (fault_of prefix.now))) }
     ensures output { IsOkUnless result line_refusal_t.Output }
 {
     let kind = kind_name(prefix.error);
@@ -51,7 +54,8 @@ fn write_context<W: Write>(
     mark: yaml_mark_t,
     writer: &mut W,
 ) -> Result<(), line_refusal_t>
-    ensures ok { OnOk result (Appends (W.contents writer.old) (W.contents writer.new) (context_line (Some context.now) mark)) }
+    ensures ok { OnOk result (Appends (W.contents writer.old) (W.contents writer.new)
+        (context_line (Some context.now) mark)) }
     ensures output { IsOkUnless result line_refusal_t.Output }
 {
     let yaml_mark_t {

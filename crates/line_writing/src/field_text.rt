@@ -1,6 +1,9 @@
 //! The fields of a line as they are written, each behind a space.
 ghost use Rattle.std.specs.Prelude.{◌≡◌, ◌++◌, [], ◌∷◌, OnOk, string_bytes, decimal};
-ghost use Rattle.line_writing.specs.FieldTexts.{behind_spaces, optional_version_text, flag_text, string_text, optional_string_text, directive_texts, encoding_text, scalar_style_text, sequence_style_text, mapping_style_text};
+ghost use Rattle.line_writing.specs.FieldTexts.{behind_spaces, optional_version_text, flag_text};
+ghost use Rattle.line_writing.specs.FieldTexts.{string_text, optional_string_text, directive_texts};
+ghost use Rattle.line_writing.specs.FieldTexts.{encoding_text, scalar_style_text};
+ghost use Rattle.line_writing.specs.FieldTexts.{sequence_style_text, mapping_style_text};
 
 use crate::escape::append_escaped;
 use itoa::Buffer;
@@ -22,7 +25,8 @@ pub(crate) fn append_field(line: &mut String, field: &str) -> Result<(), AllocEr
 }
 
 pub(crate) fn append_number(line: &mut String, number: usize) -> Result<(), AllocError>
-    ensures { OnOk result (string_bytes line.new ≡ string_bytes line.old ++ behind_spaces (decimal number ∷ [])) }
+    ensures { OnOk result (string_bytes line.new ≡ string_bytes line.old
+        ++ behind_spaces (decimal number ∷ [])) }
 {
     append_field(line, Buffer::new().format(number))
 }
@@ -31,7 +35,8 @@ pub(crate) fn append_version(
     line: &mut String,
     version: Option<yaml_version_directive_t>,
 ) -> Result<(), AllocError>
-    ensures { OnOk result (string_bytes line.new ≡ string_bytes line.old ++ behind_spaces (optional_version_text version ∷ [])) }
+    ensures { OnOk result (string_bytes line.new ≡ string_bytes line.old
+        ++ behind_spaces (optional_version_text version ∷ [])) }
 {
     let Some(version) = version else {
         return append_field(line, ABSENT);
@@ -43,7 +48,8 @@ pub(crate) fn append_version(
 }
 
 pub(crate) fn append_flag(line: &mut String, flag: bool) -> Result<(), AllocError>
-    ensures { OnOk result (string_bytes line.new ≡ string_bytes line.old ++ behind_spaces (flag_text flag ∷ [])) }
+    ensures { OnOk result (string_bytes line.new ≡ string_bytes line.old
+        ++ behind_spaces (flag_text flag ∷ [])) }
 {
     line.push_str(if flag { " 1" } else { " 0" })
 }
@@ -54,7 +60,8 @@ pub(crate) fn append_two_flags(
     first: bool,
     second: bool,
 ) -> Result<(), AllocError>
-    ensures { OnOk result (string_bytes line.new ≡ string_bytes line.old ++ behind_spaces (flag_text first ∷ flag_text second ∷ [])) }
+    ensures { OnOk result (string_bytes line.new ≡ string_bytes line.old
+        ++ behind_spaces (flag_text first ∷ flag_text second ∷ [])) }
 {
     line.push_str(match (first, second) {
         (false, false) => " 0 0",
@@ -65,7 +72,8 @@ pub(crate) fn append_two_flags(
 }
 
 pub(crate) fn append_string(line: &mut String, text: &Text) -> Result<(), AllocError>
-    ensures { OnOk result (string_bytes line.new ≡ string_bytes line.old ++ behind_spaces (string_text text.now ∷ [])) }
+    ensures { OnOk result (string_bytes line.new ≡ string_bytes line.old
+        ++ behind_spaces (string_text text.now ∷ [])) }
 {
     line.push_str(" =")?;
     append_escaped(line, text.as_str())
@@ -75,7 +83,8 @@ pub(crate) fn append_optional_string(
     line: &mut String,
     text: &Option<Text>,
 ) -> Result<(), AllocError>
-    ensures { OnOk result (string_bytes line.new ≡ string_bytes line.old ++ behind_spaces (optional_string_text text.now ∷ [])) }
+    ensures { OnOk result (string_bytes line.new ≡ string_bytes line.old
+        ++ behind_spaces (optional_string_text text.now ∷ [])) }
 {
     match text {
         Some(text) => append_string(line, text),
@@ -89,7 +98,8 @@ pub(crate) fn append_properties(
     anchor: &Option<Text>,
     tag: &Option<Text>,
 ) -> Result<(), AllocError>
-    ensures { OnOk result (string_bytes line.new ≡ string_bytes line.old ++ behind_spaces (optional_string_text anchor.now ∷ optional_string_text tag.now ∷ [])) }
+    ensures { OnOk result (string_bytes line.new ≡ string_bytes line.old
+        ++ behind_spaces (optional_string_text anchor.now ∷ optional_string_text tag.now ∷ [])) }
 {
     if anchor.is_none() && tag.is_none() {
         return line.push_str(" - -");
@@ -103,7 +113,8 @@ pub(crate) fn append_directives(
     line: &mut String,
     directives: &[yaml_tag_directive_t],
 ) -> Result<(), AllocError>
-    ensures { OnOk result (string_bytes line.new ≡ string_bytes line.old ++ behind_spaces (directive_texts directives.now)) }
+    ensures { OnOk result (string_bytes line.new ≡ string_bytes line.old
+        ++ behind_spaces (directive_texts directives.now)) }
 {
     for directive in directives {
         append_string(line, &directive.handle)?;
@@ -116,7 +127,8 @@ pub(crate) fn append_encoding(
     line: &mut String,
     encoding: yaml_encoding_t,
 ) -> Result<(), AllocError>
-    ensures { OnOk result (string_bytes line.new ≡ string_bytes line.old ++ behind_spaces (encoding_text encoding ∷ [])) }
+    ensures { OnOk result (string_bytes line.new ≡ string_bytes line.old
+        ++ behind_spaces (encoding_text encoding ∷ [])) }
 {
     match encoding {
         yaml_encoding_t::YAML_ANY_ENCODING => line.push_str(" any"),
@@ -130,7 +142,8 @@ pub(crate) fn append_scalar_style(
     line: &mut String,
     style: yaml_scalar_style_t,
 ) -> Result<(), AllocError>
-    ensures { OnOk result (string_bytes line.new ≡ string_bytes line.old ++ behind_spaces (scalar_style_text style ∷ [])) }
+    ensures { OnOk result (string_bytes line.new ≡ string_bytes line.old
+        ++ behind_spaces (scalar_style_text style ∷ [])) }
 {
     match style {
         yaml_scalar_style_t::YAML_ANY_SCALAR_STYLE => line.push_str(" any"),
@@ -146,7 +159,8 @@ pub(crate) fn append_sequence_style(
     line: &mut String,
     style: yaml_sequence_style_t,
 ) -> Result<(), AllocError>
-    ensures { OnOk result (string_bytes line.new ≡ string_bytes line.old ++ behind_spaces (sequence_style_text style ∷ [])) }
+    ensures { OnOk result (string_bytes line.new ≡ string_bytes line.old
+        ++ behind_spaces (sequence_style_text style ∷ [])) }
 {
     match style {
         yaml_sequence_style_t::YAML_ANY_SEQUENCE_STYLE => line.push_str(" any"),
@@ -159,7 +173,8 @@ pub(crate) fn append_mapping_style(
     line: &mut String,
     style: yaml_mapping_style_t,
 ) -> Result<(), AllocError>
-    ensures { OnOk result (string_bytes line.new ≡ string_bytes line.old ++ behind_spaces (mapping_style_text style ∷ [])) }
+    ensures { OnOk result (string_bytes line.new ≡ string_bytes line.old
+        ++ behind_spaces (mapping_style_text style ∷ [])) }
 {
     match style {
         yaml_mapping_style_t::YAML_ANY_MAPPING_STYLE => line.push_str(" any"),

@@ -1,5 +1,6 @@
 //! Marks as they are written. Their digits are gathered first, from the last to the first.
-ghost use Rattle.std.specs.Prelude.{◌≡◌, ◌≤◌, ◌<◌, ◌+◌, ◌++◌, [], ◌∷◌, length, drop, OnOk, string_bytes, decimal, IsAscii};
+ghost use Rattle.std.specs.Prelude.{◌≡◌, ◌≤◌, ◌<◌, ◌+◌, ◌++◌, [], ◌∷◌, length, drop, OnOk};
+ghost use Rattle.std.specs.Prelude.{string_bytes, decimal, IsAscii};
 ghost use Rattle.line_writing.specs.FieldTexts.{behind_spaces, mark_text};
 
 use itoa::write_digits;
@@ -16,7 +17,8 @@ pub(crate) fn append_marks(
     start: &yaml_mark_t,
     end: &yaml_mark_t,
 ) -> Result<(), AllocError>
-    ensures { OnOk result (string_bytes line.new ≡ string_bytes line.old ++ behind_spaces (mark_text start.now ∷ mark_text end.now ∷ [])) }
+    ensures { OnOk result (string_bytes line.new ≡ string_bytes line.old
+        ++ behind_spaces (mark_text start.now ∷ mark_text end.now ∷ [])) }
 {
     let mut text = [0; TWO_MARKS];
     let from = write_mark(end, &mut text, TWO_MARKS);

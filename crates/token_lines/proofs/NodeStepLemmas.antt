@@ -8,14 +8,14 @@ use Rattle.libyaml_types.specs.declared.enums.yaml_error_type_t.{yaml_error_type
 use Rattle.libyaml_types.specs.declared.event.yaml_event_t.{yaml_event_t}
 use Rattle.libyaml_documents.specs.declared.node.yaml_node_t.{yaml_node_t}
 use Rattle.libyaml_documents.specs.Documents.{Document}
-use Rattle.libyaml_events.specs.Config.{Parser}
-use Rattle.libyaml_events.specs.Fault.{Fault}
-use Rattle.libyaml_events.specs.FaultTexts.{memory_fault}
-use Rattle.libyaml_events.specs.History.{kept_fault}
-use Rattle.libyaml_events.specs.RunToCome.{RunToCome}
-use Rattle.libyaml_events.specs.Runs.{Ending, Ends, Fails}
-use Rattle.libyaml_events.specs.Source.{Coming}
-use Rattle.libyaml_events.proofs.NestingSoFar.{run_nests_so_far}
+use Rattle.libyaml_events.specs.machine.Config.{Parser}
+use Rattle.libyaml_grammar.specs.runs.Fault.{Fault}
+use Rattle.libyaml_grammar.specs.cuts.FaultTexts.{memory_fault}
+use Rattle.libyaml_events.specs.sources.History.{kept_fault}
+use Rattle.libyaml_events.specs.sources.RunToCome.{RunToCome}
+use Rattle.libyaml_grammar.specs.runs.Runs.{Ending, Ends, Fails}
+use Rattle.libyaml_events.specs.sources.Source.{Coming}
+use Rattle.libyaml_grammar.proofs.runs.NestingSoFar.{run_nests_so_far}
 use Rattle.libyaml_graphs.specs.Bounds.{bounded_loads, next_bounded}
 use Rattle.libyaml_graphs.specs.GraphLaws.{RootsFollow}
 use Rattle.libyaml_graphs.specs.Loads.{Load, left_over}
@@ -51,17 +51,21 @@ ok_is r d e h k = cc
 ok_no_err : (r : DocumentOrError) (d : Document) (x : yaml_error_type_t) → r ≡ Ok d → r ≡ Err x → ⊥
 ok_no_err r d x h k = cc
 
-module _ {S : Type 0} (known : S → Option Coming) (MayBreak : S → Fault → Type 0) (n : ℕ) (old new : Parser S) (events : List yaml_event_t) (ending : Ending) (run : RunToCome known old events ending) (r : DocumentOrError) (load : UnlessBroken MayBreak r new (Answers known (next_bounded n events ending) r new (left_over events) ending)) where
+module _ {S : Type 0} (known : S → Option Coming) (MayBreak : S → Fault
+    → Type 0) (n : ℕ) (old new : Parser S) (events : List yaml_event_t) (ending : Ending) (run : RunToCome known old events ending) (r : DocumentOrError)
+    (load : UnlessBroken MayBreak r new (Answers known (next_bounded n events ending) r new (left_over events) ending)) where
   -- a load that answered a document
   module _ (d : Document) (is : r ≡ Ok d) where
     loaded : (next_bounded n events ending ≡ Ok d) × RunToCome known new (left_over events) ending
     loaded = from load
       where
-        answered : (l : Load) → next_bounded n events ending ≡ l → Answers known l r new (left_over events) ending → (next_bounded n events ending ≡ Ok d) × RunToCome known new (left_over events) ending
+        answered : (l : Load) → next_bounded n events ending ≡ l → Answers known l r new (left_over events) ending → (next_bounded n events ending ≡ Ok d)
+            × RunToCome known new (left_over events) ending
         answered (Ok e) i a = (i ∙ ok_is r d e is a.0, a.1)
         answered (Err f) i a = absurd (ok_no_err r d f.error is a.0)
 
-        from : UnlessBroken MayBreak r new (Answers known (next_bounded n events ending) r new (left_over events) ending) → (next_bounded n events ending ≡ Ok d) × RunToCome known new (left_over events) ending
+        from : UnlessBroken MayBreak r new (Answers known (next_bounded n events ending) r new (left_over events) ending)
+            → (next_bounded n events ending ≡ Ok d) × RunToCome known new (left_over events) ending
         from (does h) = answered (next_bounded n events ending) refl h
         from (no_memory e k) = absurd (ok_no_err r d _ is e)
         from (breaks f m e k) = absurd (ok_no_err r d _ is e)
@@ -69,38 +73,58 @@ module _ {S : Type 0} (known : S → Option Coming) (MayBreak : S → Fault → 
     pub step_written : (a b : Option (List ℕ)) → d.nodes ≢ [] → Appends a b (concat (document_lines d)) → TakesDocument known n new a b events ending
     step_written a b some wrote = record { document = d; first = earlier_of events ending n d loaded.0 some; has_nodes = some; run = loaded.1; wrote = wrote }
 
-    pub step_ended : (a : Option (List ℕ)) → d.nodes ≡ [] → (loads_ending (bounded_loads n events ending) ≡ Ends) × Appends a a (concat (loads_lines (bounded_loads n events ending)))
+    pub step_ended : (a : Option (List ℕ)) → d.nodes ≡ [] → (loads_ending (bounded_loads n events ending) ≡ Ends)
+        × Appends a a (concat (loads_lines (bounded_loads n events ending)))
     step_ended a none =
-        let roots = roots_behind run.given events (roots_follow (run.given ++ events) (run_nests_so_far (run.asked ++ run.rest) run.fault (run.given ++ events) ending run.run)) in
-        let last = last_of events ending n d roots loaded.0 none in
-        (ap loads_ending last.0, subst (λ (l : List (List ℕ)). Appends a a (concat l)) (sym (no_lines (bounded_loads n events ending) d last.0 none)) (Appends-nil a))
+        let roots = roots_behind run.given events
+        (roots_follow (run.given ++ events) (run_nests_so_far (run.asked ++ run.rest) run.fault (run.given ++ events) ending run.run)) in
+        let last = last_of events ending n d roots loaded.0 none in (
+          ap loads_ending last.0,
+          subst (λ (l : List (List ℕ)). Appends a a (concat l)) (sym (no_lines (bounded_loads n events ending) d last.0 none))
+              (Appends-nil a),
+        )
 
     -- for want of memory for one of its lines
-    pub step_cut : (a b : Option (List ℕ)) → d.nodes ≢ [] → WroteBefore a b (document_lines d) → WritesFront (MayBreak new.source) memory_fault a b (bounded_loads n events ending)
+    pub step_cut : (a b : Option (List ℕ)) → d.nodes ≢ [] → WroteBefore a b (document_lines d)
+        → WritesFront (MayBreak new.source) memory_fault a b (bounded_loads n events ending)
     step_cut a b some w =
         let later = loads_lines (bounded_loads n (left_over events) ending) in
         record {
           front = w.front;
           rest = (w.line ∷ w.rest) ++ later;
-          all = first_lines (bounded_loads n events ending) (bounded_loads n (left_over events) ending) d (earlier_of events ending n d loaded.0 some) some ∙ ap (λ (l : List (List ℕ)). l ++ later) w.all ∙ append_assoc w.front (w.line ∷ w.rest) later;
+          all = first_lines (bounded_loads n events ending) (bounded_loads n (left_over events) ending) d (earlier_of events ending n d loaded.0 some) some
+              ∙ ap (λ (l : List (List ℕ)). l ++ later) w.all ∙ append_assoc w.front (w.line ∷ w.rest) later;
           wrote = w.wrote;
           why = inr (inl refl);
         }
 
   -- a load that failed
-  pub step_failed : (x : yaml_error_type_t) → r ≡ Err x → (a : Option (List ℕ)) → WritesFront (MayBreak new.source) (kept_fault new) a a (bounded_loads n events ending)
+  pub step_failed : (x : yaml_error_type_t) → r ≡ Err x → (a : Option (List ℕ))
+      → WritesFront (MayBreak new.source) (kept_fault new) a a (bounded_loads n events ending)
   step_failed x is a = from load
     where
-      broken : (kept_fault new ≡ memory_fault) ⊎ MayBreak new.source (kept_fault new) → WritesFront (MayBreak new.source) (kept_fault new) a a (bounded_loads n events ending)
+      broken : (kept_fault new ≡ memory_fault) ⊎ MayBreak new.source (kept_fault new)
+          → WritesFront (MayBreak new.source) (kept_fault new) a a (bounded_loads n events ending)
       broken why = record { front = []; rest = loads_lines (bounded_loads n events ending); all = refl; wrote = Appends-nil a; why = inr why }
 
-      answered : (l : Load) → next_bounded n events ending ≡ l → Answers known l r new (left_over events) ending → WritesFront (MayBreak new.source) (kept_fault new) a a (bounded_loads n events ending)
+      answered : (l : Load) → next_bounded n events ending ≡ l → Answers known l r new (left_over events) ending
+          → WritesFront (MayBreak new.source) (kept_fault new) a a (bounded_loads n events ending)
       answered (Ok d) i h = absurd (ok_no_err r d x h.0 is)
       answered (Err f) i h =
           let only = fault_of events ending n f i in
-          record { front = []; rest = []; all = ap loads_lines only; wrote = Appends-nil a; why = inl (refl, ap loads_ending only ∙ ap (λ (g : Fault). Fails g) (sym h.1)) }
+          record {
+            front = [];
+            rest = [];
+            all = ap loads_lines only;
+            wrote = Appends-nil a;
+            why = inl (
+              refl,
+              ap loads_ending only ∙ ap (λ (g : Fault). Fails g) (sym h.1),
+            );
+          }
 
-      from : UnlessBroken MayBreak r new (Answers known (next_bounded n events ending) r new (left_over events) ending) → WritesFront (MayBreak new.source) (kept_fault new) a a (bounded_loads n events ending)
+      from : UnlessBroken MayBreak r new (Answers known (next_bounded n events ending) r new (left_over events) ending)
+          → WritesFront (MayBreak new.source) (kept_fault new) a a (bounded_loads n events ending)
       from (does h) = answered (next_bounded n events ending) refl h
       from (no_memory e k) = broken (inl k)
       from (breaks f m e k) = broken (inr (subst (MayBreak new.source) (sym k) m))

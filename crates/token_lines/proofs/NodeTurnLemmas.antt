@@ -1,5 +1,6 @@
 -- How a run's steps write each document in its turn.
-use Rattle.std.proofs.Common.{◌≡◌, ◌≢◌, ◌⊎◌, ◌++◌, ◌∷◌, ◌==◌, ℕ, ℤ, List, [], length, map, Option, Some, None, Bool, true, false, Ok, Err, refl, sym, ap, ◌∙◌, subst, inl, inr, append_assoc}
+use Rattle.std.proofs.Common.{◌≡◌, ◌≢◌, ◌⊎◌, ◌++◌, ◌∷◌, ◌==◌, ℕ, ℤ, List, [], length, map, Option, Some, None, Bool, true, false, Ok, Err, refl, sym, ap, ◌∙◌}
+use Rattle.std.proofs.Common.{subst, inl, inr, append_assoc}
 use Rattle.std.proofs.KnownBytes.{Appends-nil, Appends-trans}
 use Rattle.std.proofs.lemmas.Bool.{eqb-true}
 use Rattle.std.proofs.lemmas.List.{append-nil, nil_from_length}
@@ -10,14 +11,14 @@ use Rattle.libyaml_types.specs.declared.event.yaml_event_t.{yaml_event_t}
 use Rattle.libyaml_types.specs.declared.token.yaml_token_t.{yaml_token_t}
 use Rattle.libyaml_documents.specs.declared.node.yaml_node_t.{yaml_node_t}
 use Rattle.libyaml_documents.specs.Documents.{Document}
-use Rattle.libyaml_events.specs.Config.{Parser, is_fault}
-use Rattle.libyaml_events.specs.declared.fault.yaml_parser_t_prefix.{yaml_parser_t_prefix}
-use Rattle.libyaml_events.specs.Fault.{Answer, Fault, fault_of}
-use Rattle.libyaml_events.specs.History.{History, has_failed, kept_fault}
-use Rattle.libyaml_events.specs.RunToCome.{RunToCome}
-use Rattle.libyaml_events.specs.Runs.{Ending}
-use Rattle.libyaml_events.specs.Source.{Coming}
-use Rattle.libyaml_events.proofs.Staged.{ran_staged}
+use Rattle.libyaml_events.specs.machine.Config.{Parser, is_fault}
+use Rattle.libyaml_grammar.specs.declared.fault.yaml_parser_t_prefix.{yaml_parser_t_prefix}
+use Rattle.libyaml_grammar.specs.runs.Fault.{Answer, Fault, fault_of}
+use Rattle.libyaml_events.specs.sources.History.{History, has_failed, kept_fault}
+use Rattle.libyaml_events.specs.sources.RunToCome.{RunToCome}
+use Rattle.libyaml_grammar.specs.runs.Runs.{Ending}
+use Rattle.libyaml_events.specs.sources.Source.{Coming}
+use Rattle.libyaml_events.proofs.calls.Staged.{ran_staged}
 use Rattle.libyaml_graphs.specs.Bounds.{bounded_loads, next_bounded}
 use Rattle.libyaml_graphs.specs.Loads.{Load, left_over}
 use Rattle.libyaml_graphs.proofs.Roots.{earlier_of}
@@ -51,16 +52,20 @@ keeps_both (Some x) (Some y) None h k = absurd k
 keeps_both (Some x) (Some y) (Some z) h k = k ∙ h
 
 module _ {S : Type 0} (gives : S → Answer → S → Type 0) (known : S → Option Coming) (MayBreak : S → Fault → Type 0) (n : ℕ) where
-  pub turn_of : (s : Step) (p q : Parser S) (b c : Option (List ℕ)) (r a : DocumentOrError) → r ≡ a → LoadsFrom gives known MayBreak (next_bounded n) left_over p r q → StepForLoad s a (kept_fault q) b c → LoadTurn gives known MayBreak n s p q b c
-  turn_of s p q b c r a is load wrote = record { answer = r; load = load; wrote = subst (λ (x : DocumentOrError). StepForLoad s x (kept_fault q) b c) (sym is) wrote }
+  pub turn_of : (s : Step) (p q : Parser S) (b c : Option (List ℕ)) (r a : DocumentOrError) → r ≡ a
+      → LoadsFrom gives known MayBreak (next_bounded n) left_over p r q → StepForLoad s a (kept_fault q) b c → LoadTurn gives known MayBreak n s p q b c
+  turn_of s p q b c r a is load wrote
+      = record { answer = r; load = load; wrote = subst (λ (x : DocumentOrError). StepForLoad s x (kept_fault q) b c) (sym is) wrote }
 
-  pub none_loaded : (p : Parser S) (x : Option (List ℕ)) (asked : List yaml_token_t) (given : List yaml_event_t) → History p asked given → AllLoaded gives n p p x x asked given
+  pub none_loaded : (p : Parser S) (x : Option (List ℕ)) (asked : List yaml_token_t) (given : List yaml_event_t) → History p asked given
+      → AllLoaded gives n p p x x asked given
   none_loaded p x asked given h = record {
     more = [];
     events = [];
     documents = [];
     gave = refl;
-    history = subst (λ (l : List yaml_token_t). History p l (given ++ [])) (sym (append-nil asked)) (subst (λ (l : List yaml_event_t). History p asked l) (sym (append-nil given)) h);
+    history = subst (λ (l : List yaml_token_t). History p l (given ++ [])) (sym (append-nil asked))
+        (subst (λ (l : List yaml_event_t). History p asked l) (sym (append-nil given)) h);
     loads = λ (rest : List yaml_event_t) (x : Ending). refl;
     wrote = Appends-nil x;
   }
@@ -68,14 +73,18 @@ module _ {S : Type 0} (gives : S → Answer → S → Type 0) (known : S → Opt
   running : (p : Parser S) (asked : List yaml_token_t) (given : List yaml_event_t) → History p asked given → has_failed p ≡ false
   running p asked given h = ap (λ (f : Fault). is_fault f.error) (ran_staged h).no_fault_kept
 
-  texts_more : (ds : List Document) (d : Document) → concat (flat_map document_lines ds) ++ concat (document_lines d) ≡ concat (flat_map document_lines (ds ++ d ∷ []))
+  texts_more : (ds : List Document) (d : Document)
+      → concat (flat_map document_lines ds) ++ concat (document_lines d) ≡ concat (flat_map document_lines (ds ++ d ∷ []))
   texts_more [] d = ap concat (sym (append-nil (document_lines d)))
   texts_more (e ∷ ds) d =
-      ap (λ (l : List ℕ). l ++ concat (document_lines d)) (concat-append (document_lines e) (flat_map document_lines ds)) ∙ append_assoc (concat (document_lines e)) (concat (flat_map document_lines ds)) (concat (document_lines d))
+      ap (λ (l : List ℕ). l ++ concat (document_lines d)) (concat-append (document_lines e) (flat_map document_lines ds))
+      ∙ append_assoc (concat (document_lines e)) (concat (flat_map document_lines ds)) (concat (document_lines d))
       ∙ ap (λ (l : List ℕ). concat (document_lines e) ++ l) (texts_more ds d) ∙ sym (concat-append (document_lines e) (flat_map document_lines (ds ++ d ∷ [])))
 
-  loads_more : (events taken rest : List yaml_event_t) (x : Ending) (ds : List Document) (d : Document) → d.nodes ≢ [] → ((r : List yaml_event_t) → ◌≡◌ {A = List Load} (bounded_loads n (events ++ r) x) (map Ok ds ++ bounded_loads n r x))
-      → next_bounded n (taken ++ rest) x ≡ Ok d → left_over (taken ++ rest) ≡ rest → ◌≡◌ {A = List Load} (bounded_loads n ((events ++ taken) ++ rest) x) (map Ok (ds ++ d ∷ []) ++ bounded_loads n rest x)
+  loads_more : (events taken rest : List yaml_event_t) (x : Ending) (ds : List Document) (d : Document) → d.nodes ≢ []
+      → ((r : List yaml_event_t) → ◌≡◌ {A = List Load} (bounded_loads n (events ++ r) x) (map Ok ds ++ bounded_loads n r x))
+      → next_bounded n (taken ++ rest) x ≡ Ok d → left_over (taken ++ rest) ≡ rest
+      → ◌≡◌ {A = List Load} (bounded_loads n ((events ++ taken) ++ rest) x) (map Ok (ds ++ d ∷ []) ++ bounded_loads n rest x)
   loads_more events taken rest x ds d some before load left =
       let oks : List Load = map Ok ds in
       let one : List Load = Ok d ∷ [] in
@@ -89,14 +98,16 @@ module _ {S : Type 0} (gives : S → Answer → S → Type 0) (known : S → Opt
       oks_more [] = refl
       oks_more (e ∷ l) = ap (λ (m : List Load). Ok e ∷ m) (oks_more l)
 
-  pub one_loaded : (first p q : Parser S) (a b c : Option (List ℕ)) (asked : List yaml_token_t) (given : List yaml_event_t) → AllLoaded gives n first p a b asked given
+  pub one_loaded : (first p q : Parser S) (a b c : Option (List ℕ)) (asked : List yaml_token_t) (given : List yaml_event_t)
+      → AllLoaded gives n first p a b asked given
       → (has_failed p ≡ false → LoadTurn gives known MayBreak n step.Written p q b c) → AllLoaded gives n first q a c asked given
   one_loaded first p q a b c asked given w turns = go turn.answer turn.load turn.wrote
     where
       turn : LoadTurn gives known MayBreak n step.Written p q b c
       turn = turns (running p (asked ++ w.more) (given ++ w.events) w.history)
 
-      go : (r : DocumentOrError) → LoadsFrom gives known MayBreak (next_bounded n) left_over p r q → StepForLoad step.Written r (kept_fault q) b c → AllLoaded gives n first q a c asked given
+      go : (r : DocumentOrError) → LoadsFrom gives known MayBreak (next_bounded n) left_over p r q → StepForLoad step.Written r (kept_fault q) b c
+          → AllLoaded gives n first q a c asked given
       go (Ok d) (whole taken took load left stands) (some, wrote) =
           let on = took.history (asked ++ w.more) (given ++ w.events) w.history in
           record {
@@ -104,22 +115,29 @@ module _ {S : Type 0} (gives : S → Answer → S → Type 0) (known : S → Opt
             events = w.events ++ taken;
             documents = w.documents ++ d ∷ [];
             gave = gave_then gives w.more on.more first.source p.source q.source w.gave on.gave;
-            history = subst (λ (l : List yaml_event_t). History q (asked ++ (w.more ++ on.more)) l) (append_assoc given w.events taken) (subst (λ (l : List yaml_token_t). History q l ((given ++ w.events) ++ taken)) (append_assoc asked w.more on.more) on.history);
-            loads = λ (rest : List yaml_event_t) (x : Ending). loads_more w.events taken rest x w.documents d some (λ (r : List yaml_event_t). w.loads r x) (load rest x) (left rest);
-            wrote = subst (Appends a c) (texts_more w.documents d) (Appends-trans a b c (concat (flat_map document_lines w.documents)) (concat (document_lines d)) w.wrote wrote);
+            history = subst (λ (l : List yaml_event_t). History q (asked ++ (w.more ++ on.more)) l) (append_assoc given w.events taken)
+                (subst (λ (l : List yaml_token_t). History q l ((given ++ w.events) ++ taken)) (append_assoc asked w.more on.more) on.history);
+            loads = λ (rest : List yaml_event_t) (x : Ending). loads_more w.events taken rest x w.documents d some (λ (r : List yaml_event_t). w.loads r x)
+                (load rest x) (left rest);
+            wrote = subst (Appends a c) (texts_more w.documents d)
+                (Appends-trans a b c (concat (flat_map document_lines w.documents)) (concat (document_lines d)) w.wrote wrote);
           }
       go (Ok d) (at_end taken took load left ends is stands) (some, wrote) = absurd (some (ap (λ (x : Document). x.nodes) is))
       go (Err x) load wrote = absurd wrote
 
-  pub last_load : {W : Type 0} (contents : W → Option (List ℕ)) (outcome : Outcome) (s : Step) (first p q : Parser S) (writer : W) (a c d : Option (List ℕ)) (asked : List yaml_token_t) (given : List yaml_event_t) → AllLoaded gives n first p a (contents writer) asked given
-      → (has_failed p ≡ false → LoadTurn gives known MayBreak n s p q (contents writer) c) → ((r : DocumentOrError) → StepForLoad s r (kept_fault q) (contents writer) c → WroteForLoad outcome r (kept_fault q) (contents writer) d)
+  pub last_load : {W : Type 0} (contents : W
+      → Option (List ℕ)) (outcome : Outcome) (s : Step) (first p q : Parser S) (writer : W) (a c d : Option (List ℕ)) (asked : List yaml_token_t)
+      (given : List yaml_event_t) → AllLoaded gives n first p a (contents writer) asked given
+      → (has_failed p ≡ false → LoadTurn gives known MayBreak n s p q (contents writer) c)
+      → ((r : DocumentOrError) → StepForLoad s r (kept_fault q) (contents writer) c → WroteForLoad outcome r (kept_fault q) (contents writer) d)
       → LastLoad gives known MayBreak contents n outcome first q a d asked given
   last_load contents outcome s first p q writer a c d asked given w turns wrote =
       let turn = turns (running p (asked ++ w.more) (given ++ w.events) w.history) in
       record { parser = p; writer = writer; earlier = w; answer = turn.answer; load = turn.load; wrote = wrote turn.answer turn.wrote }
 
 -- nothing more was written
-pub loads_end : (outcome : Outcome) (kept : Fault) (b c d : Option (List ℕ)) → (outcome ≡ Ended) ⊎ (outcome ≡ OutputFailed) → Keeps c d → (r : DocumentOrError) → StepForLoad step.Ended r kept b c → WroteForLoad outcome r kept b d
+pub loads_end : (outcome : Outcome) (kept : Fault) (b c d : Option (List ℕ)) → (outcome ≡ Ended) ⊎ (outcome ≡ OutputFailed) → Keeps c d → (r : DocumentOrError)
+    → StepForLoad step.Ended r kept b c → WroteForLoad outcome r kept b d
 loads_end Ended kept b c d is keeps (Ok x) w = (w.0, keeps_both b c d w.1 keeps)
 loads_end Faulted kept b c d (inl is) keeps (Ok x) w = cc
 loads_end Faulted kept b c d (inr is) keeps (Ok x) w = cc
@@ -127,17 +145,29 @@ loads_end OutputFailed kept b c d is keeps (Ok x) w = tt
 loads_end outcome kept b c d is keeps (Err x) w = absurd w
 
 -- the text of a fault was written
-pub loads_failed : (outcome : Outcome) (f : yaml_parser_t_prefix) (kept : Fault) (b c d : Option (List ℕ)) → outcome ≢ Ended → (outcome ≡ Faulted → Appends c d (fault_text (fault_of f))) → (r : DocumentOrError) → StepForLoad (step.Failed f) r kept b c → WroteForLoad outcome r kept b d
+pub loads_failed : (outcome : Outcome) (f : yaml_parser_t_prefix) (kept : Fault) (b c d : Option (List ℕ)) → outcome ≢ Ended
+    → (outcome ≡ Faulted → Appends c d (fault_text (fault_of f))) → (r : DocumentOrError) → StepForLoad (step.Failed f) r kept b c
+    → WroteForLoad outcome r kept b d
 loads_failed Ended f kept b c d not wrote r w = absurd (not refl)
 loads_failed Faulted f kept b c d not wrote (Ok x) w =
     let cut = w.1 in
-    record { front = cut.front; line = cut.line; rest = cut.rest; all = cut.all; wrote = subst (λ (g : Fault). Appends b d (concat cut.front ++ fault_text g)) w.0 (Appends-trans b c d (concat cut.front) (fault_text (fault_of f)) cut.wrote (wrote refl)) }
-loads_failed Faulted f kept b c d not wrote (Err x) w = subst (λ (g : Fault). Appends b d (fault_text g)) w.0 (keeps_then b c d (fault_text (fault_of f)) w.1 (wrote refl))
+    record {
+      front = cut.front;
+      line = cut.line;
+      rest = cut.rest;
+      all = cut.all;
+      wrote
+          = subst (λ (g : Fault). Appends b d (concat cut.front ++ fault_text g)) w.0
+          (Appends-trans b c d (concat cut.front) (fault_text (fault_of f)) cut.wrote (wrote refl));
+    }
+loads_failed Faulted f kept b c d not wrote (Err x) w
+    = subst (λ (g : Fault). Appends b d (fault_text g)) w.0 (keeps_then b c d (fault_text (fault_of f)) w.1 (wrote refl))
 loads_failed OutputFailed f kept b c d not wrote (Ok x) w = tt
 loads_failed OutputFailed f kept b c d not wrote (Err x) w = tt
 
 -- the output failed at a document's text
-pub loads_output : (kept : Fault) (b c d : Option (List ℕ)) (r : DocumentOrError) → StepForLoad step.OutputFailed r kept b c → WroteForLoad OutputFailed r kept b d
+pub loads_output : (kept : Fault) (b c d : Option (List ℕ)) (r : DocumentOrError) → StepForLoad step.OutputFailed r kept b c
+    → WroteForLoad OutputFailed r kept b d
 loads_output kept b c d (Ok x) w = tt
 loads_output kept b c d (Err x) w = absurd w
 
@@ -148,10 +178,13 @@ not_ended_is Faulted not = inl refl
 not_ended_is OutputFailed not = inr refl
 
 -- the bound of the first parser
-module _ {S : Type 0} (gives : S → Answer → S → Type 0) (known : S → Option Coming) (MayBreak : S → Fault → Type 0) (s : Step) (p q : Parser S) (b c : Option (List ℕ)) (z w : ℤ) (same : z ≡ w) where
-  pub turn_at : (has_failed p ≡ false → LoadTurn gives known MayBreak (magnitude z) s p q b c) → has_failed p ≡ false → LoadTurn gives known MayBreak (magnitude w) s p q b c
+module _ {S : Type 0} (gives : S → Answer → S → Type 0) (known : S → Option Coming) (MayBreak : S → Fault
+    → Type 0) (s : Step) (p q : Parser S) (b c : Option (List ℕ)) (z w : ℤ) (same : z ≡ w) where
+  pub turn_at : (has_failed p ≡ false → LoadTurn gives known MayBreak (magnitude z) s p q b c) → has_failed p ≡ false
+      → LoadTurn gives known MayBreak (magnitude w) s p q b c
   turn_at turns running = subst (λ (y : ℤ). LoadTurn gives known MayBreak (magnitude y) s p q b c) same (turns running)
 
-  pub steps_at : ((events : List yaml_event_t) (ending : Ending) → RunToCome known p events ending → NodeSteps known MayBreak (magnitude z) s q b c events ending)
+  pub steps_at : ((events : List yaml_event_t) (ending : Ending) → RunToCome known p events ending
+      → NodeSteps known MayBreak (magnitude z) s q b c events ending)
       → (events : List yaml_event_t) (ending : Ending) → RunToCome known p events ending → NodeSteps known MayBreak (magnitude w) s q b c events ending
   steps_at steps events ending run = subst (λ (y : ℤ). NodeSteps known MayBreak (magnitude y) s q b c events ending) same (steps events ending run)

@@ -28,8 +28,10 @@ unfolding escaped
 escaped_above [] small = refl
 escaped_above (b ∷ bs) small =
     list_all-append above_space (written_byte b) (flat_map written_byte bs)
-    ∙ ap (λ t. t && list_all above_space (flat_map written_byte bs)) (agree_below_at (λ x. list_all above_space (written_byte x)) (λ x. true) 256 b written_above (All-head IsByte b bs small))
+    ∙ ap (λ t. t && list_all above_space (flat_map written_byte bs))
+    (agree_below_at (λ x. list_all above_space (written_byte x)) (λ x. true) 256 b written_above (All-head IsByte b bs small))
     ∙ escaped_above bs (All-tail IsByte b bs small)
 
 pub string_is_field : (string : List ℕ) → All IsByte string → All (λ b. 0x20 < b) (string_text string)
-string_is_field string small k d within = ltb-true 0x20 (get_or (string_text string) k d) (AllPass-from_list_all above_space (string_text string) (escaped_above string small) k d within)
+string_is_field string small k d within
+    = ltb-true 0x20 (get_or (string_text string) k d) (AllPass-from_list_all above_space (string_text string) (escaped_above string small) k d within)

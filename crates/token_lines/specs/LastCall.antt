@@ -4,12 +4,12 @@ use Rattle.std.specs.List.{concat}
 use Rattle.std.specs.Io.KnownBytes.{Appends, Keeps}
 use Rattle.libyaml_types.specs.declared.event.yaml_event_t.{yaml_event_t}
 use Rattle.libyaml_types.specs.declared.token.yaml_token_t.{yaml_token_t}
-use Rattle.libyaml_events.specs.Calls.{Gave}
-use Rattle.libyaml_events.specs.Config.{Parser}
-use Rattle.libyaml_events.specs.Fault.{Answer, Fault}
-use Rattle.libyaml_events.specs.FaultTexts.{memory_fault}
-use Rattle.libyaml_events.specs.History.{History, answers, has_ended, is_stream_end, kept_fault}
-use Rattle.libyaml_events.specs.Parsing.{CarriesOn, FailsBy}
+use Rattle.libyaml_events.specs.sources.Calls.{Gave}
+use Rattle.libyaml_events.specs.machine.Config.{Parser}
+use Rattle.libyaml_grammar.specs.runs.Fault.{Answer, Fault}
+use Rattle.libyaml_grammar.specs.cuts.FaultTexts.{memory_fault}
+use Rattle.libyaml_events.specs.sources.History.{History, answers, is_over, is_stream_end, kept_fault}
+use Rattle.libyaml_events.specs.sources.Parsing.{CarriesOn, FailsBy}
 use Rattle.token_lines.specs.declared.run.Outcome.{Outcome}
 use Rattle.token_lines.specs.declared.run.Outcome.TheVariants.{Ended, Faulted, OutputFailed}
 use Rattle.token_lines.specs.EventRun.{most_tokens, event_lines, WritesRunOf}
@@ -31,23 +31,29 @@ WroteForFault Faulted f before after = Appends before after (fault_text f)
 WroteForFault OutputFailed f before after = Unit {0}
 
 -- the last call of the parser, which gave an event or failed, and what was written behind it
-pub data Closes {S : Type 0} (gives : S → Answer → S → Type 0) (outcome : Outcome) (old new : Parser S) (before after : Option (List ℕ)) (asked : List yaml_token_t) (given : List yaml_event_t) : Type 0 where
-  closed_by_event : (e : yaml_event_t) → CarriesOn gives old e new asked given → WroteForEvent outcome e before after → Closes gives outcome old new before after asked given
-  closed_by_fault : FailsBy gives old new asked given → WroteForFault outcome (kept_fault new) before after → Closes gives outcome old new before after asked given
+pub data Closes {S : Type 0} (gives : S → Answer → S
+    → Type 0) (outcome : Outcome) (old new : Parser S) (before after : Option (List ℕ)) (asked : List yaml_token_t) (given : List yaml_event_t) : Type 0 where
+  closed_by_event : (e : yaml_event_t) → CarriesOn gives old e new asked given → WroteForEvent outcome e before after
+      → Closes gives outcome old new before after asked given
+  closed_by_fault : FailsBy gives old new asked given → WroteForFault outcome (kept_fault new) before after
+      → Closes gives outcome old new before after asked given
 
 -- From the first parser to this one, which has not ended, the source gave these tokens more and the parser these events,
 -- and the line of each event was written.
-pub record AllWritten {S : Type 0} (gives : S → Answer → S → Type 0) (first parser : Parser S) (before after : Option (List ℕ)) (asked : List yaml_token_t) (given : List yaml_event_t) : Type 0 where
+pub record AllWritten {S : Type 0} (gives : S → Answer → S
+    → Type 0) (first parser : Parser S) (before after : Option (List ℕ)) (asked : List yaml_token_t) (given : List yaml_event_t) : Type 0 where
   pub more : List yaml_token_t
   pub events : List yaml_event_t
   pub gave : Gave gives first.source (answers more []) parser.source
   pub history : History parser (asked ++ more) (given ++ events)
-  pub running : has_ended parser ≡ false
+  pub running : is_over parser ≡ false
   pub wrote : Appends before after (concat (event_lines events))
 
 -- The last call of the parser: the writer held the line of each event that was given before, and what was written since
 -- is of this call.
-pub record LastCall {S W : Type 0} (gives : S → Answer → S → Type 0) (contents : W → Option (List ℕ)) (outcome : Outcome) (first last : Parser S) (before after : Option (List ℕ)) (asked : List yaml_token_t) (given : List yaml_event_t) : Type 0 where
+pub record LastCall {S W : Type 0} (gives : S → Answer → S → Type 0) (contents : W
+    → Option (List ℕ)) (outcome : Outcome) (first last : Parser S) (before after : Option (List ℕ)) (asked : List yaml_token_t)
+    (given : List yaml_event_t) : Type 0 where
   pub parser : Parser S
   pub writer : W
   pub earlier : AllWritten gives first parser before (contents writer) asked given
@@ -66,7 +72,8 @@ pub record StartsAt {R : Type 0} (reader : R) (p : Parser (LineSource R)) : Type
 
 -- A run over a reader's lines, by a parser that started there: what it wrote, where its source may have broken off as it
 -- then stood; each line in its turn; and the reader is left as the parser's last call left it.
-pub record RunsOver {R W : Type 0} (remaining : R → Option (List ℕ)) (contents : W → Option (List ℕ)) (old new : R) (outcome : Outcome) (before after : Option (List ℕ)) : Type 0 where
+pub record RunsOver {R W : Type 0} (remaining : R → Option (List ℕ)) (contents : W
+    → Option (List ℕ)) (old new : R) (outcome : Outcome) (before after : Option (List ℕ)) : Type 0 where
   pub first : Parser (LineSource R)
   pub last : Parser (LineSource R)
   pub starts : StartsAt old first

@@ -6,13 +6,13 @@ use Rattle.std.specs.Io.KnownBytes.{Appends, Keeps}
 use Rattle.libyaml_types.specs.declared.event.yaml_event_t.{yaml_event_t}
 use Rattle.libyaml_types.specs.declared.token.yaml_token_t.{yaml_token_t}
 use Rattle.libyaml_documents.specs.Documents.{Document}
-use Rattle.libyaml_events.specs.Calls.{Gave}
-use Rattle.libyaml_events.specs.Config.{Parser}
-use Rattle.libyaml_events.specs.Fault.{Answer, Fault}
-use Rattle.libyaml_events.specs.FaultTexts.{memory_fault}
-use Rattle.libyaml_events.specs.History.{History, answers, kept_fault}
-use Rattle.libyaml_events.specs.Runs.{Ending}
-use Rattle.libyaml_events.specs.Source.{Coming}
+use Rattle.libyaml_events.specs.sources.Calls.{Gave}
+use Rattle.libyaml_events.specs.machine.Config.{Parser}
+use Rattle.libyaml_grammar.specs.runs.Fault.{Answer, Fault}
+use Rattle.libyaml_grammar.specs.cuts.FaultTexts.{memory_fault}
+use Rattle.libyaml_events.specs.sources.History.{History, answers, kept_fault}
+use Rattle.libyaml_grammar.specs.runs.Runs.{Ending}
+use Rattle.libyaml_events.specs.sources.Source.{Coming}
 use Rattle.libyaml_graphs.specs.Bounds.{bounded_loads, next_bounded}
 use Rattle.libyaml_graphs.specs.Loads.{Load, left_over}
 use Rattle.libyaml_loader.specs.Loading.{DocumentOrError, LoadsFrom}
@@ -44,7 +44,8 @@ WroteForLoad OutputFailed (Err x) kept before after = Unit {0}
 
 -- From the first parser to this one the source gave these tokens more and the parser these events, whose loads are these
 -- documents, whatever stands behind them; and the text of each document was written.
-pub record AllLoaded {S : Type 0} (gives : S → Answer → S → Type 0) (n : ℕ) (first parser : Parser S) (before after : Option (List ℕ)) (asked : List yaml_token_t) (given : List yaml_event_t) : Type 0 where
+pub record AllLoaded {S : Type 0} (gives : S → Answer → S
+    → Type 0) (n : ℕ) (first parser : Parser S) (before after : Option (List ℕ)) (asked : List yaml_token_t) (given : List yaml_event_t) : Type 0 where
   pub more : List yaml_token_t
   pub events : List yaml_event_t
   pub documents : List Document
@@ -55,7 +56,9 @@ pub record AllLoaded {S : Type 0} (gives : S → Answer → S → Type 0) (n : �
 
 -- The last load: the writer held the text of each document that was loaded before, and what was written since is of this
 -- load.
-pub record LastLoad {S W : Type 0} (gives : S → Answer → S → Type 0) (known : S → Option Coming) (MayBreak : S → Fault → Type 0) (contents : W → Option (List ℕ)) (n : ℕ) (outcome : Outcome) (first last : Parser S) (before after : Option (List ℕ)) (asked : List yaml_token_t) (given : List yaml_event_t) : Type 0 where
+pub record LastLoad {S W : Type 0} (gives : S → Answer → S → Type 0) (known : S → Option Coming) (MayBreak : S → Fault → Type 0) (contents : W
+    → Option (List ℕ)) (n : ℕ) (outcome : Outcome) (first last : Parser S) (before after : Option (List ℕ)) (asked : List yaml_token_t)
+    (given : List yaml_event_t) : Type 0 where
   pub parser : Parser S
   pub writer : W
   pub earlier : AllLoaded gives n first parser before (contents writer) asked given
@@ -75,7 +78,8 @@ most_entries = 2147483647
 
 -- A run over a reader's lines, by a parser that started there: what it wrote, where its source may have broken off as it
 -- then stood; each document in its turn; and the reader is left as the parser's last load left it.
-pub record NodesOver {R W : Type 0} (remaining : R → Option (List ℕ)) (contents : W → Option (List ℕ)) (old new : R) (outcome : Outcome) (before after : Option (List ℕ)) : Type 0 where
+pub record NodesOver {R W : Type 0} (remaining : R → Option (List ℕ)) (contents : W
+    → Option (List ℕ)) (old new : R) (outcome : Outcome) (before after : Option (List ℕ)) : Type 0 where
   pub first : Parser (LineSource R)
   pub last : Parser (LineSource R)
   pub starts : StartsAt old first

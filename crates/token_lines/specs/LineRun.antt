@@ -2,9 +2,9 @@
 use Rattle.std.specs.Prelude.{◌≡◌, ◌++◌, ◌⊎◌, ℕ, List, Option}
 use Rattle.std.specs.List.{concat}
 use Rattle.std.specs.Io.KnownBytes.{Appends}
-use Rattle.libyaml_events.specs.Fault.{Fault}
-use Rattle.libyaml_events.specs.FaultTexts.{memory_fault}
-use Rattle.libyaml_events.specs.Runs.{Ending, Ends, Fails}
+use Rattle.libyaml_grammar.specs.runs.Fault.{Fault}
+use Rattle.libyaml_grammar.specs.cuts.FaultTexts.{memory_fault}
+use Rattle.libyaml_grammar.specs.runs.Runs.{Ending, Ends, Fails}
 use Rattle.line_writing.specs.FaultText.{fault_text}
 use Rattle.token_lines.specs.declared.run.Outcome.{Outcome}
 use Rattle.token_lines.specs.declared.run.Outcome.TheVariants.{Ended, Faulted, OutputFailed}
@@ -13,7 +13,8 @@ use Rattle.token_lines.specs.declared.run.Outcome.TheVariants.{Ended, Faulted, O
 -- was refused or the source broke off.
 pub data WritesFault (MayBreak : Fault → Type 0) (old new : Option (List ℕ)) (lines : List (List ℕ)) (ending : Ending) : Type 0 where
   whole : (f : Fault) → ending ≡ Fails f → Appends old new (concat lines ++ fault_text f) → WritesFault MayBreak old new lines ending
-  broken_off : (front rest : List (List ℕ)) (f : Fault) → lines ≡ front ++ rest → (f ≡ memory_fault) ⊎ MayBreak f → Appends old new (concat front ++ fault_text f) → WritesFault MayBreak old new lines ending
+  broken_off : (front rest : List (List ℕ)) (f : Fault) → lines ≡ front ++ rest → (f ≡ memory_fault) ⊎ MayBreak f
+      → Appends old new (concat front ++ fault_text f) → WritesFault MayBreak old new lines ending
 
 -- What was written of a run that has these lines and this ending: all lines and nothing else where it ended; nothing is
 -- said where the output failed.

@@ -4,13 +4,13 @@ use Rattle.std.specs.List.{concat}
 use Rattle.std.specs.Io.KnownBytes.{Appends, Keeps}
 use Rattle.libyaml_types.specs.declared.event.yaml_event_t.{yaml_event_t}
 use Rattle.libyaml_documents.specs.Documents.{Document}
-use Rattle.libyaml_events.specs.Config.{Parser}
-use Rattle.libyaml_events.specs.Fault.{Answer, Fault, fault_of}
-use Rattle.libyaml_events.specs.FaultTexts.{memory_fault}
-use Rattle.libyaml_events.specs.History.{kept_fault}
-use Rattle.libyaml_events.specs.RunToCome.{RunToCome}
-use Rattle.libyaml_events.specs.Runs.{Ending, Ends, Fails}
-use Rattle.libyaml_events.specs.Source.{Coming}
+use Rattle.libyaml_events.specs.machine.Config.{Parser}
+use Rattle.libyaml_grammar.specs.runs.Fault.{Answer, Fault, fault_of}
+use Rattle.libyaml_grammar.specs.cuts.FaultTexts.{memory_fault}
+use Rattle.libyaml_events.specs.sources.History.{kept_fault}
+use Rattle.libyaml_events.specs.sources.RunToCome.{RunToCome}
+use Rattle.libyaml_grammar.specs.runs.Runs.{Ending, Ends, Fails}
+use Rattle.libyaml_events.specs.sources.Source.{Coming}
 use Rattle.libyaml_graphs.specs.Bounds.{bounded_loads, next_bounded}
 use Rattle.libyaml_graphs.specs.Loads.{Load, left_over}
 use Rattle.libyaml_loader.specs.Loading.{DocumentOrError, LoadsFrom}
@@ -20,7 +20,8 @@ use Rattle.token_lines.specs.declared.run.Step.TheVariants.{Written, Ended, Fail
 use Rattle.token_lines.specs.NodeRun.{loads_ending, loads_lines}
 
 -- the next document was written, and the loads behind it are to come
-pub record TakesDocument {S : Type 0} (known : S → Option Coming) (n : ℕ) (new : Parser S) (before after : Option (List ℕ)) (events : List yaml_event_t) (ending : Ending) : Type 0 where
+pub record TakesDocument {S : Type 0} (known : S
+    → Option Coming) (n : ℕ) (new : Parser S) (before after : Option (List ℕ)) (events : List yaml_event_t) (ending : Ending) : Type 0 where
   pub document : Document
   pub first : bounded_loads n events ending ≡ Ok document ∷ bounded_loads n (left_over events) ending
   pub has_nodes : document.nodes ≢ []
@@ -37,10 +38,13 @@ pub record WritesFront (MayBreak : Fault → Type 0) (f : Fault) (before after :
   pub why : ((rest ≡ []) × (loads_ending loads ≡ Fails f)) ⊎ ((f ≡ memory_fault) ⊎ MayBreak f)
 
 -- what a step did where this run was to come
-abbrev pub NodeSteps : {S : Type 0} → (known : S → Option Coming) → (MayBreak : S → Fault → Type 0) → (n : ℕ) → Step → Parser S → (before after : Option (List ℕ)) → List yaml_event_t → Ending → Type 0
+abbrev pub NodeSteps : {S : Type 0} → (known : S → Option Coming) → (MayBreak : S → Fault → Type 0) → (n : ℕ) → Step → Parser S
+    → (before after : Option (List ℕ)) → List yaml_event_t → Ending → Type 0
 NodeSteps known MayBreak n Written new before after events ending = TakesDocument known n new before after events ending
-NodeSteps known MayBreak n Ended new before after events ending = (loads_ending (bounded_loads n events ending) ≡ Ends) × Appends before after (concat (loads_lines (bounded_loads n events ending)))
-NodeSteps known MayBreak n (Failed f) new before after events ending = WritesFront (MayBreak new.source) (fault_of f) before after (bounded_loads n events ending)
+NodeSteps known MayBreak n Ended new before after events ending = (loads_ending (bounded_loads n events ending) ≡ Ends)
+    × Appends before after (concat (loads_lines (bounded_loads n events ending)))
+NodeSteps known MayBreak n (Failed f) new before after events ending
+    = WritesFront (MayBreak new.source) (fault_of f) before after (bounded_loads n events ending)
 NodeSteps known MayBreak n OutputFailed new before after events ending = Unit {0}
 
 -- what a step wrote behind a load that answered this
@@ -53,7 +57,8 @@ StepForLoad (Failed f) (Err x) kept before after = (fault_of f ≡ kept) × Keep
 StepForLoad _ (Err x) kept before after = ⊥
 
 -- one step: its load, and what was written behind it
-pub record LoadTurn {S : Type 0} (gives : S → Answer → S → Type 0) (known : S → Option Coming) (MayBreak : S → Fault → Type 0) (n : ℕ) (step : Step) (old new : Parser S) (before after : Option (List ℕ)) : Type 0 where
+pub record LoadTurn {S : Type 0} (gives : S → Answer → S → Type 0) (known : S → Option Coming) (MayBreak : S → Fault
+    → Type 0) (n : ℕ) (step : Step) (old new : Parser S) (before after : Option (List ℕ)) : Type 0 where
   pub answer : DocumentOrError
   pub load : LoadsFrom gives known MayBreak (next_bounded n) left_over old answer new
   pub wrote : StepForLoad step answer (kept_fault new) before after

@@ -1,7 +1,7 @@
 //! Runs: from token lines to the lines of events or of documents.
 ghost use Rattle.std.specs.Prelude.{◌≡◌, ◌≢◌, ◌⊎◌};
 ghost use Rattle.std.specs.Io.KnownBytes.{Appends, Keeps};
-ghost use Rattle.libyaml_events.specs.Fault.{fault_of};
+ghost use Rattle.libyaml_grammar.specs.runs.Fault.{fault_of};
 ghost use Rattle.line_writing.specs.FaultText.{fault_text};
 
 mod events;
@@ -47,7 +47,8 @@ const MEMORY_FAULT: yaml_parser_t_prefix = yaml_parser_t_prefix {
 /// Writes the text of a fault.
 fn faulted<W: Write>(prefix: &yaml_parser_t_prefix, writer: &mut W) -> Outcome
     ensures not_ended { result ≢ Outcome.Ended }
-    ensures writes { result ≡ Outcome.Faulted → Appends (W.contents writer.old) (W.contents writer.new) (fault_text (fault_of prefix.now)) }
+    ensures writes { result ≡ Outcome.Faulted
+        → Appends (W.contents writer.old) (W.contents writer.new) (fault_text (fault_of prefix.now)) }
 {
     match write_fault(prefix, writer) {
         Ok(()) => flushed(Outcome::Faulted, writer),

@@ -1,12 +1,13 @@
 -- What a run writes, where it may break off by one of more faults.
 use Rattle.std.proofs.Common.{ℕ, List, Option, inl, inr}
-use Rattle.libyaml_events.specs.Fault.{Fault}
-use Rattle.libyaml_events.specs.Runs.{Ending}
+use Rattle.libyaml_grammar.specs.runs.Fault.{Fault}
+use Rattle.libyaml_grammar.specs.runs.Runs.{Ending}
 use Rattle.token_lines.specs.LineRun.{Writes, WritesFault, whole, broken_off}
 use Rattle.token_lines.specs.declared.run.Outcome.{Outcome}
 use Rattle.token_lines.specs.declared.run.Outcome.TheVariants.{Ended, Faulted, OutputFailed}
 
-pub writes_more : (M N : Fault → Type 0) → ((f : Fault) → M f → N f) → (o : Outcome) (old new : Option (List ℕ)) (ls : List (List ℕ)) (x : Ending) → Writes M o old new ls x → Writes N o old new ls x
+pub writes_more : (M N : Fault → Type 0) → ((f : Fault) → M f → N f) → (o : Outcome) (old new : Option (List ℕ)) (ls : List (List ℕ)) (x : Ending)
+    → Writes M o old new ls x → Writes N o old new ls x
 writes_more M N k Ended old new ls x h = h
 writes_more M N k OutputFailed old new ls x h = h
 writes_more M N k Faulted old new ls x (whole f e a) = whole f e a

@@ -1,5 +1,6 @@
 -- How the documents of a whole run are gathered, load by load.
-use Rattle.std.proofs.Common.{◌≡◌, ◌≢◌, ◌<◌, ◌⊎◌, ◌++◌, ℕ, pos, nat_eq, List, [], ◌∷◌, length, map, arith, All, Option, Some, None, Result, Ok, Err, IfOk, true, false, refl, sym, ap, ap₂, ◌∙◌, subst, inl, inr}
+use Rattle.std.proofs.Common.{◌≡◌, ◌≢◌, ◌<◌, ◌⊎◌, ◌++◌, ℕ, pos, nat_eq, List, [], ◌∷◌, length, map, arith, All, Option, Some, None, Result, Ok, Err, IfOk}
+use Rattle.std.proofs.Common.{true, false, refl, sym, ap, ap₂, ◌∙◌, subst, inl, inr}
 use Rattle.std.proofs.lemmas.Bool.{eqb-true}
 use Rattle.std.proofs.lemmas.List.{append-nil}
 use Rattle.std.proofs.lemmas.List.Elements.{All-cons, All-head, All-nil, All-tail}
@@ -8,21 +9,21 @@ use Rattle.libyaml_types.specs.declared.enums.yaml_error_type_t.{yaml_error_type
 use Rattle.libyaml_types.specs.declared.enums.yaml_error_type_t.TheVariants.{YAML_MEMORY_ERROR}
 use Rattle.libyaml_documents.specs.Documents.{Document, empty_document}
 use Rattle.libyaml_documents.specs.declared.node.yaml_node_t.{yaml_node_t}
-use Rattle.libyaml_events.specs.Config.{Parser, is_fault}
-use Rattle.libyaml_events.specs.Events.{Event, events}
-use Rattle.libyaml_events.specs.Fault.{Answer, Fault}
-use Rattle.libyaml_events.specs.Fault as faults
-use Rattle.libyaml_events.specs.History.{History, between_documents, has_failed, kept_fault}
-use Rattle.libyaml_events.specs.Nesting.{IsNested}
-use Rattle.libyaml_events.specs.Order.{in_order}
-use Rattle.libyaml_events.specs.RunToCome.{RunToCome}
-use Rattle.libyaml_events.specs.Runs.{Ending, Ends, Fails, IsRun}
-use Rattle.libyaml_events.specs.Source.{Coming, coming}
-use Rattle.libyaml_events.specs.Tokens.{Token}
-use Rattle.libyaml_events.specs.Trees.{Stream, tokens}
-use Rattle.libyaml_events.specs.declared.fault.yaml_parser_t_prefix.{yaml_parser_t_prefix}
-use Rattle.libyaml_events.proofs.NestingSoFar.{run_nests_so_far}
-use Rattle.libyaml_events.proofs.Staged.{ran_staged}
+use Rattle.libyaml_events.specs.machine.Config.{Parser, is_fault}
+use Rattle.libyaml_grammar.specs.sentences.Events.{Event, events}
+use Rattle.libyaml_grammar.specs.runs.Fault.{Answer, Fault}
+use Rattle.libyaml_grammar.specs.runs.Fault as faults
+use Rattle.libyaml_events.specs.sources.History.{History, between_documents, has_failed, kept_fault}
+use Rattle.libyaml_grammar.specs.sentences.Nesting.{IsNested}
+use Rattle.libyaml_grammar.specs.sentences.Order.{in_order}
+use Rattle.libyaml_events.specs.sources.RunToCome.{RunToCome}
+use Rattle.libyaml_grammar.specs.runs.Runs.{Ending, Ends, Fails, IsRun}
+use Rattle.libyaml_events.specs.sources.Source.{Coming, coming}
+use Rattle.libyaml_grammar.specs.sentences.Tokens.{Token}
+use Rattle.libyaml_grammar.specs.sentences.Trees.{Stream, tokens}
+use Rattle.libyaml_grammar.specs.declared.fault.yaml_parser_t_prefix.{yaml_parser_t_prefix}
+use Rattle.libyaml_grammar.proofs.runs.NestingSoFar.{run_nests_so_far}
+use Rattle.libyaml_events.proofs.calls.Staged.{ran_staged}
 use Rattle.libyaml_graphs.specs.Bounds.{NoneLacksMemory, bounded_loads, next_bounded}
 use Rattle.libyaml_graphs.specs.GraphLaws.{RootsFollow}
 use Rattle.libyaml_graphs.specs.Loads.{IsLoads, Load, last_load, left_over, loads, loads_of}
@@ -86,7 +87,8 @@ ok a b h = cc
 
 module _ {S : Type 0} (gives : S → Answer → S → Type 0) (known : S → Option Coming) (MayBreak : S → Fault → Type 0) (source : S) (old new : Parser S) where
   pub loaded_none : History new [] [] → between_documents new ≡ true → new.max_entries ≡ pos 2147483647
-      → ((l : List Token) (f : Fault) → known source ≡ Some (coming l f) → (e : List Event) (x : Ending) → IsRun l f e x → RunToCome known new e x) → Loaded known source new []
+      → ((l : List Token) (f : Fault) → known source ≡ Some (coming l f) → (e : List Event) (x : Ending) → IsRun l f e x → RunToCome known new e x)
+      → Loaded known source new []
   loaded_none h between bound run = record {
     asked = [];
     given = [];
@@ -102,12 +104,14 @@ module _ {S : Type 0} (gives : S → Answer → S → Type 0) (known : S → Opt
 
   -- the clauses of a call
   pub record Called (r : DocumentOrError) : Type 0 where
-    pub next : (events : List Event) (ending : Ending) → RunToCome known old events ending → UnlessBroken MayBreak r new (Answers known (next_bounded (magnitude old.max_entries) events ending) r new (left_over events) ending)
+    pub next : (events : List Event) (ending : Ending) → RunToCome known old events ending
+        → UnlessBroken MayBreak r new (Answers known (next_bounded (magnitude old.max_entries) events ending) r new (left_over events) ending)
     pub loads : has_failed old ≡ false → LoadsFrom gives known MayBreak (next_bounded (magnitude old.max_entries)) left_over old r new
     pub between : between_documents new ≡ true
     pub bound : new.max_entries ≡ old.max_entries
 
-  answered : (r : DocumentOrError) (d : Document) → r ≡ Ok d → (a : Load) (e : List Event) (x : Ending) → UnlessBroken MayBreak r new (Answers known a r new e x) → (a ≡ Ok d) × RunToCome known new e x
+  answered : (r : DocumentOrError) (d : Document) → r ≡ Ok d → (a : Load) (e : List Event) (x : Ending)
+      → UnlessBroken MayBreak r new (Answers known a r new e x) → (a ≡ Ok d) × RunToCome known new e x
   answered r d is a e x (no_memory h k) = absurd (no_error (sym is ∙ h))
     where
       no_error : {z : yaml_error_type_t} → ◌≡◌ {A = DocumentOrError} (Ok d) (Err z) → ⊥
@@ -126,7 +130,8 @@ module _ {S : Type 0} (gives : S → Answer → S → Type 0) (known : S → Opt
   abbrev Failed : Load → Type 0
   Failed a = (a ≡ Err (kept_fault new)) ⊎ (((kept_fault new).error ≡ YAML_MEMORY_ERROR) ⊎ MayBreak new.source (kept_fault new))
 
-  failed_here : (r : DocumentOrError) (y : yaml_error_type_t) → r ≡ Err y → (a : Load) (e : List Event) (x : Ending) → UnlessBroken MayBreak r new (Answers known a r new e x) → Failed a
+  failed_here : (r : DocumentOrError) (y : yaml_error_type_t) → r ≡ Err y → (a : Load) (e : List Event) (x : Ending)
+      → UnlessBroken MayBreak r new (Answers known a r new e x) → Failed a
   failed_here r y is a e x (no_memory h k) = inr (inl (ap (λ (f : Fault). f.error) k))
   failed_here r y is a e x (breaks f b h k) = inr (inr (subst (λ (g : Fault). MayBreak new.source g) (sym k) b))
   failed_here r y is (Ok k) e x (does h) = absurd (no_document (sym is ∙ h.0))
@@ -141,21 +146,26 @@ module _ {S : Type 0} (gives : S → Answer → S → Type 0) (known : S → Opt
     given : List Event
     history : History new asked given
 
-  went_on : (load : List Event → Ending → Load) (left : List Event → List Event) (d : Document) → LoadsFrom gives known MayBreak load left old (Ok d) new → (asked : List Token) (given : List Event) → History old asked given → Went
-  went_on load left d (whole taken took a b c) asked given h = let k = took.history asked given h in record { asked = asked ++ k.more; given = given ++ taken; history = k.history }
-  went_on load left d (at_end taken took a b c e f) asked given h = let k = took.history asked given h in record { asked = asked ++ k.more; given = given ++ taken; history = k.history }
+  went_on : (load : List Event → Ending → Load) (left : List Event → List Event) (d : Document) → LoadsFrom gives known MayBreak load left old (Ok d) new
+      → (asked : List Token) (given : List Event) → History old asked given → Went
+  went_on load left d (whole taken took a b c) asked given h = let k
+      = took.history asked given h in record { asked = asked ++ k.more; given = given ++ taken; history = k.history }
+  went_on load left d (at_end taken took a b c e f) asked given h = let k
+      = took.history asked given h in record { asked = asked ++ k.more; given = given ++ taken; history = k.history }
 
   module _ (r : DocumentOrError) (call : Called r) (loaded : List Document) (was : Loaded known source old loaded) where
     most_is : magnitude old.max_entries ≡ most
     most_is = ap magnitude was.bound
 
-    answer_of : (e : List Event) (x : Ending) → RunToCome known old e x → UnlessBroken MayBreak r new (Answers known (next_bounded most e x) r new (left_over e) x)
+    answer_of : (e : List Event) (x : Ending) → RunToCome known old e x
+        → UnlessBroken MayBreak r new (Answers known (next_bounded most e x) r new (left_over e) x)
     answer_of e x run = subst (λ (n : ℕ). UnlessBroken MayBreak r new (Answers known (next_bounded n e x) r new (left_over e) x)) most_is (call.next e x run)
 
     history_of : (d : Document) → r ≡ Ok d → Went
     history_of d is =
         let runs : has_failed old ≡ false = ap (λ (f : Fault). is_fault f.error) (ran_staged was.history).no_fault_kept in
-        let l = subst (λ (q : DocumentOrError). LoadsFrom gives known MayBreak (next_bounded (magnitude old.max_entries)) left_over old q new) is (call.loads runs) in
+        let l = subst (λ (q : DocumentOrError). LoadsFrom gives known MayBreak (next_bounded (magnitude old.max_entries)) left_over old q new) is
+        (call.loads runs) in
         went_on (next_bounded (magnitude old.max_entries)) left_over d l was.asked was.given was.history
 
     pub loaded_next : (d : Document) → r ≡ Ok d → d.nodes ≢ [] → Loaded known source new (loaded ++ d ∷ [])
@@ -173,16 +183,20 @@ module _ {S : Type 0} (gives : S → Answer → S → Type 0) (known : S → Opt
               let b = answered r d is (next_bounded most a.later x) (left_over a.later) x (answer_of a.later x a.to_come) in
               record {
                 later = left_over a.later;
-                all = a.all ∙ ap (λ (t : List Load). oks loaded ++ t) (earlier_of a.later x most d b.0 has_root) ∙ oks_last loaded d (bounded_loads most (left_over a.later) x);
+                all = a.all ∙ ap (λ (t : List Load). oks loaded ++ t) (earlier_of a.later x most d b.0 has_root)
+                    ∙ oks_last loaded d (bounded_loads most (left_over a.later) x);
                 roots = left_roots a.later a.roots;
                 to_come = b.1;
               };
         }
 
-    told_all : (e : List Event) (x y : Ending) (a : Left known old loaded e x) → bounded_loads most a.later x ≡ last_load y ∷ [] → NoneLacksMemory (last_load y ∷ []) → (all : yaml_documents_t) → all.documents.items ≡ loaded → ending_of all.fault ≡ y → LoadsTo MayBreak all (loads e x)
+    told_all : (e : List Event) (x y : Ending) (a : Left known old loaded e x) → bounded_loads most a.later x ≡ last_load y ∷ []
+        → NoneLacksMemory (last_load y ∷ []) → (all : yaml_documents_t) → all.documents.items ≡ loaded → ending_of all.fault ≡ y
+        → LoadsTo MayBreak all (loads e x)
     told_all e x y a last memory all items fault_is =
         let list : bounded_loads most e x ≡ as_loads loaded y = a.all ∙ ap (λ (t : List Load). oks loaded ++ t) last in
-        told.whole (ap₂ as_loads items fault_is ∙ sym list ∙ unmet_loads e x most (subst NoneLacksMemory (sym list) (none_lacks loaded (last_load y ∷ []) memory)))
+        told.whole (ap₂ as_loads items fault_is ∙ sym list
+        ∙ unmet_loads e x most (subst NoneLacksMemory (sym list) (none_lacks loaded (last_load y ∷ []) memory)))
 
     pub loaded_all : (d : Document) → r ≡ Ok d → d.nodes ≡ [] → (all : yaml_documents_t) → all.documents.items ≡ loaded → all.fault ≡ None
         → (l : List Token) (f : Fault) (a : List Load) → IsLoads l f a → known source ≡ Some (coming l f) → LoadsTo MayBreak all a
@@ -196,10 +210,12 @@ module _ {S : Type 0} (gives : S → Answer → S → Type 0) (known : S → Opt
         subst (λ (t : List Load). LoadsTo MayBreak all t) (sym h.all) (told_all h.events x Ends b last tt all items (ap ending_of no_fault))
 
     -- where the fault is not want of memory
-    pub loaded_to_fault : (y : yaml_error_type_t) → r ≡ Err y → (all : yaml_documents_t) → all.documents.items ≡ loaded → (p : yaml_parser_t_prefix) → faults.fault_of p ≡ kept_fault new → all.fault ≡ Some p → p.error ≢ YAML_MEMORY_ERROR
+    pub loaded_to_fault : (y : yaml_error_type_t) → r ≡ Err y → (all : yaml_documents_t) → all.documents.items ≡ loaded → (p : yaml_parser_t_prefix)
+        → faults.fault_of p ≡ kept_fault new → all.fault ≡ Some p → p.error ≢ YAML_MEMORY_ERROR
         → (l : List Token) (f : Fault) (a : List Load) → IsLoads l f a → known source ≡ Some (coming l f) → LoadsTo MayBreak all a
     loaded_to_fault y is all items p kept fault_is other l f a h k =
-        subst (λ (t : List Load). LoadsTo MayBreak all t) (sym h.all) (go (failed_here r y is (next_bounded most b.later x) (left_over b.later) x (answer_of b.later x b.to_come)))
+        subst (λ (t : List Load). LoadsTo MayBreak all t) (sym h.all)
+        (go (failed_here r y is (next_bounded most b.later x) (left_over b.later) x (answer_of b.later x b.to_come)))
       where
         x : Ending
         x = h.ending

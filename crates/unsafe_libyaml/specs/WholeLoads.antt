@@ -1,8 +1,8 @@
 -- All documents of a source as a value (docs/DEFINITIONS.md, "Loads").
 use Rattle.std.specs.Prelude.{◌≡◌, ◌++◌, ◌∷◌, List, [], map, Ok}
 use Rattle.libyaml_documents.specs.Documents.{Document}
-use Rattle.libyaml_events.specs.Fault.{Fault}
-use Rattle.libyaml_events.specs.Runs.{Ending, Fails}
+use Rattle.libyaml_grammar.specs.runs.Fault.{Fault}
+use Rattle.libyaml_grammar.specs.runs.Runs.{Ending, Fails}
 use Rattle.libyaml_graphs.specs.Loads.{Load, last_load}
 use Rattle.unsafe_libyaml.specs.declared.load_all.yaml_documents_t.{yaml_documents_t}
 use Rattle.unsafe_libyaml.specs.WholeRun.{ending_of}

@@ -1,17 +1,17 @@
 //! All documents of a source at once.
 ghost use Rattle.std.specs.Prelude.{◌≡◌, ◌≢◌, ◌++◌, ◌∷◌, List, [], All, Some, true, IfOk};
-ghost use Rattle.libyaml_events.specs.CutEvents.{cut_events};
-ghost use Rattle.libyaml_events.specs.CutFaults.{fault};
-ghost use Rattle.libyaml_events.specs.CutTrees.{Cut};
-ghost use Rattle.libyaml_events.specs.Events.{events};
-ghost use Rattle.libyaml_events.specs.Fault.{Fault};
-ghost use Rattle.libyaml_events.specs.Fits.{Fits};
-ghost use Rattle.libyaml_events.specs.Nesting.{IsNested};
-ghost use Rattle.libyaml_events.specs.Order.{in_order};
-ghost use Rattle.libyaml_events.specs.Runs.{Ends, Fails, is_behind_properties};
-ghost use Rattle.libyaml_events.specs.Source.{coming};
-ghost use Rattle.libyaml_events.specs.Tokens.{Token};
-ghost use Rattle.libyaml_events.specs.Trees.{Stream, tokens};
+ghost use Rattle.libyaml_grammar.specs.cuts.CutEvents.{cut_events};
+ghost use Rattle.libyaml_grammar.specs.cuts.CutFaults.{fault};
+ghost use Rattle.libyaml_grammar.specs.cuts.CutTrees.{Cut};
+ghost use Rattle.libyaml_grammar.specs.sentences.Events.{events};
+ghost use Rattle.libyaml_grammar.specs.runs.Fault.{Fault};
+ghost use Rattle.libyaml_grammar.specs.cuts.Fits.{Fits};
+ghost use Rattle.libyaml_grammar.specs.sentences.Nesting.{IsNested};
+ghost use Rattle.libyaml_grammar.specs.sentences.Order.{in_order};
+ghost use Rattle.libyaml_grammar.specs.runs.Runs.{Ends, Fails, is_behind_properties};
+ghost use Rattle.libyaml_events.specs.sources.Source.{coming};
+ghost use Rattle.libyaml_grammar.specs.sentences.Tokens.{Token};
+ghost use Rattle.libyaml_grammar.specs.sentences.Trees.{Stream, tokens};
 ghost use Rattle.libyaml_graphs.specs.GraphLaws.{NestedLoads};
 ghost use Rattle.libyaml_graphs.specs.Loads.{IsLoads, Load, last_load, loads_of};
 ghost use Rattle.unsafe_libyaml.specs.WholeLoads.{LoadsTo};
@@ -44,15 +44,21 @@ pub fn yaml_parser_load_all<S: yaml_token_source_t + Drop>(
     source: S,
 ) -> Result<yaml_documents_t, AllocError>
     // the tokens of a tree in order give its documents' graphs, up to the first composer fault
-    ensures of_tree { (t : Stream) (f : Fault) → in_order t ≡ true → S.known source ≡ Some (coming (tokens t) f)
-        → IfOk result (λ all. (n : IsNested (events t)) × LoadsTo S.may_break all (loads_of n.texts (last_load Ends ∷ []))) }
+    ensures of_tree { (t : Stream) (f : Fault) → in_order t ≡ true
+        → S.known source ≡ Some (coming (tokens t) f)
+        → IfOk result (λ all. (n : IsNested (events t))
+        × LoadsTo S.may_break all (loads_of n.texts (last_load Ends ∷ []))) }
     // a cut tree that fits gives those of its whole documents, and then the open one's composer fault or
     // its own
-    ensures of_cut_tree { (before : List Token) (token : Token) (behind : List Token) (c : Cut) (f : Fault) → Fits before token c
+    ensures of_cut_tree { (before : List Token) (token : Token) (behind : List Token) (c : Cut) (f : Fault)
+        → Fits before token c
         → is_behind_properties c behind ≡ true → S.known source ≡ Some (coming (before ++ token ∷ behind) f)
-        → IfOk result (λ all. (loads : List Load) × NestedLoads (cut_events c token) (Fails (fault c token.content token.start_mark)) loads × LoadsTo S.may_break all loads) }
+        → IfOk result (λ all. (loads : List Load)
+        × NestedLoads (cut_events c token) (Fails (fault c token.content token.start_mark)) loads
+        × LoadsTo S.may_break all loads) }
     // any list of tokens gives its loads
-    ensures of_list { (l : List Token) (f : Fault) (loads : List Load) → IsLoads l f loads → S.known source ≡ Some (coming l f)
+    ensures of_list { (l : List Token) (f : Fault) (loads : List Load) → IsLoads l f loads
+        → S.known source ≡ Some (coming l f)
         → IfOk result (λ all. LoadsTo S.may_break all loads) }
     ensures roots { IfOk result (λ all. All (λ d. d.nodes ≢ []) all.documents.items) }
 {
@@ -79,7 +85,8 @@ fn failed_load(
     documents: Vec<yaml_document_t>,
     fault: yaml_parser_t_prefix,
 ) -> Result<yaml_documents_t, AllocError>
-    ensures { IfOk result (λ all. (all.documents ≡ documents) × (all.fault ≡ Some fault) × (fault.error ≢ yaml_error_type_t.YAML_MEMORY_ERROR)) }
+    ensures { IfOk result (λ all. (all.documents ≡ documents) × (all.fault ≡ Some fault)
+        × (fault.error ≢ yaml_error_type_t.YAML_MEMORY_ERROR)) }
 {
     let fault = unless_memory(fault)?;
     Ok(yaml_documents_t {

@@ -1,17 +1,17 @@
 //! All events of a source at once.
 ghost use Rattle.std.specs.Prelude.{◌≡◌, ◌≢◌, ◌++◌, ◌∷◌, List, Some, true, IfOk};
-ghost use Rattle.libyaml_events.specs.CutEvents.{cut_events};
-ghost use Rattle.libyaml_events.specs.CutFaults.{fault};
-ghost use Rattle.libyaml_events.specs.CutTrees.{Cut};
-ghost use Rattle.libyaml_events.specs.Events.{Event, events};
-ghost use Rattle.libyaml_events.specs.Fault.{Fault};
-ghost use Rattle.libyaml_events.specs.Fits.{Fits};
-ghost use Rattle.libyaml_events.specs.History.{is_stream_end};
-ghost use Rattle.libyaml_events.specs.Order.{in_order};
-ghost use Rattle.libyaml_events.specs.Runs.{Ending, Ends, Fails, IsRun, is_behind_properties};
-ghost use Rattle.libyaml_events.specs.Source.{coming};
-ghost use Rattle.libyaml_events.specs.Tokens.{Token};
-ghost use Rattle.libyaml_events.specs.Trees.{Stream, tokens};
+ghost use Rattle.libyaml_grammar.specs.cuts.CutEvents.{cut_events};
+ghost use Rattle.libyaml_grammar.specs.cuts.CutFaults.{fault};
+ghost use Rattle.libyaml_grammar.specs.cuts.CutTrees.{Cut};
+ghost use Rattle.libyaml_grammar.specs.sentences.Events.{Event, events};
+ghost use Rattle.libyaml_grammar.specs.runs.Fault.{Fault};
+ghost use Rattle.libyaml_grammar.specs.cuts.Fits.{Fits};
+ghost use Rattle.libyaml_events.specs.sources.History.{is_stream_end};
+ghost use Rattle.libyaml_grammar.specs.sentences.Order.{in_order};
+ghost use Rattle.libyaml_grammar.specs.runs.Runs.{Ending, Ends, Fails, IsRun, is_behind_properties};
+ghost use Rattle.libyaml_events.specs.sources.Source.{coming};
+ghost use Rattle.libyaml_grammar.specs.sentences.Tokens.{Token};
+ghost use Rattle.libyaml_grammar.specs.sentences.Trees.{Stream, tokens};
 ghost use Rattle.unsafe_libyaml.specs.WholeRun.{RunsTo};
 
 use libyaml_events::{
@@ -40,14 +40,18 @@ pub fn yaml_parser_parse_all<S: yaml_token_source_t + Drop>(
     source: S,
 ) -> Result<yaml_run_t, AllocError>
     // the tokens of a tree in order give its events, and the end
-    ensures of_tree { (t : Stream) (f : Fault) → in_order t ≡ true → S.known source ≡ Some (coming (tokens t) f)
+    ensures of_tree { (t : Stream) (f : Fault) → in_order t ≡ true
+        → S.known source ≡ Some (coming (tokens t) f)
         → IfOk result (λ run. RunsTo S.may_break run (events t) Ends) }
     // a cut tree that fits gives its events, and its fault
-    ensures of_cut_tree { (before : List Token) (token : Token) (behind : List Token) (c : Cut) (f : Fault) → Fits before token c
+    ensures of_cut_tree { (before : List Token) (token : Token) (behind : List Token) (c : Cut) (f : Fault)
+        → Fits before token c
         → is_behind_properties c behind ≡ true → S.known source ≡ Some (coming (before ++ token ∷ behind) f)
-        → IfOk result (λ run. RunsTo S.may_break run (cut_events c token) (Fails (fault c token.content token.start_mark))) }
+        → IfOk result (λ run. RunsTo S.may_break run (cut_events c token)
+        (Fails (fault c token.content token.start_mark))) }
     // any list of tokens gives its run
-    ensures of_list { (l : List Token) (f : Fault) (e : List Event) (x : Ending) → IsRun l f e x → S.known source ≡ Some (coming l f)
+    ensures of_list { (l : List Token) (f : Fault) (e : List Event) (x : Ending) → IsRun l f e x
+        → S.known source ≡ Some (coming l f)
         → IfOk result (λ run. RunsTo S.may_break run e x) }
 {
     let mut parser = yaml_parser_initialize(alloc, source);
@@ -74,7 +78,8 @@ fn failed_run(
     events: Vec<yaml_event_t>,
     fault: yaml_parser_t_prefix,
 ) -> Result<yaml_run_t, AllocError>
-    ensures { IfOk result (λ run. (run.events ≡ events) × (run.fault ≡ Some fault) × (fault.error ≢ yaml_error_type_t.YAML_MEMORY_ERROR)) }
+    ensures { IfOk result (λ run. (run.events ≡ events) × (run.fault ≡ Some fault)
+        × (fault.error ≢ yaml_error_type_t.YAML_MEMORY_ERROR)) }
 {
     let fault = unless_memory(fault)?;
     Ok(yaml_run_t {

@@ -33,8 +33,10 @@ pub fn run_words<R: BufRead, W: Write, E: Write>(
     errors: &mut E,
 ) -> u8
     ensures runs { (run : Run) → asked_run (map string_bytes words.now) ≡ Some run
-        → RunsWith run R.remaining W.contents reader.old reader.new result (W.contents output.old) (W.contents output.new) }
-    ensures refused { asked_run (map string_bytes words.now) ≡ None → (result ≡ 2) × (output.new ≡ output.old) × (reader.new ≡ reader.old) }
+        → RunsWith run R.remaining W.contents reader.old reader.new result (W.contents output.old)
+        (W.contents output.new) }
+    ensures refused { asked_run (map string_bytes words.now) ≡ None → (result ≡ 2) × (output.new ≡ output.old)
+        × (reader.new ≡ reader.old) }
     ensures quiet { result < 2 → errors.new ≡ errors.old }
 {
     let outcome = match asked_run(words) {

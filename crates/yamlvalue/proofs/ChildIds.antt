@@ -15,6 +15,7 @@ pairs_hold P l h = All-from_recursion (λ (p : yaml_node_pair_t). P p.key × P p
 pub list_is : {X : Type 0} (P : X → Type 0) (l k : List X) → All P k → l ≡ k → All P l
 list_is P l k h e = subst (λ x. All P x) (sym e) h
 
-pub item_holds : (P : ℤ → Type 0) (l k : List ℤ) → All P k → l ≡ k → (i : ℕ) (r : Option ℤ) → IfSome r (λ (x : ℤ). (i < length l) × (x ≡ slice_index_or l i (pos 0))) → IfSome r P
+pub item_holds : (P : ℤ → Type 0) (l k : List ℤ) → All P k → l ≡ k → (i : ℕ) (r : Option ℤ)
+    → IfSome r (λ (x : ℤ). (i < length l) × (x ≡ slice_index_or l i (pos 0))) → IfSome r P
 item_holds P l k h e i None g = g
 item_holds P l k h e i (Some x) g = subst P (sym g.1) (list_is P l k h e i (pos 0) g.0)

@@ -49,14 +49,16 @@ fn child_at(document: &yaml_document_t, id: i32, word: &str) -> Option<i32>
 
 /// The item of this number, from 0.
 fn item_at(items: &[i32], place: usize) -> Option<i32>
-    ensures { IfSome result (λ id. (place < length items.now) × (id ≡ slice_index_or items.now place (pos 0))) }
+    ensures { IfSome result (λ id. (place < length items.now)
+        × (id ≡ slice_index_or items.now place (pos 0))) }
 {
     items.get(place).copied()
 }
 
 /// The value of a key among pairs.
 fn value_of(document: &yaml_document_t, pairs: &[yaml_node_pair_t], word: &str) -> Option<i32>
-    requires { All (λ pair. IsIdUpTo (length document.now.nodes) pair.key × IsIdUpTo (length document.now.nodes) pair.value) pairs.now }
+    requires { All (λ pair. IsIdUpTo (length document.now.nodes) pair.key
+        × IsIdUpTo (length document.now.nodes) pair.value) pairs.now }
     ensures { IfSome result (IsIdUpTo (length document.now.nodes)) }
 {
     for pair in pairs {

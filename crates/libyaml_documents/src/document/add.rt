@@ -1,9 +1,12 @@
 //! The calls that add a node to a document.
 
-ghost use Rattle.std.specs.Prelude.{◌≡◌, ◌+◌, ◌<◌, ◌↔◌, pos, [], Err, IfOk, IfSome, OnOk, OnErr, IsErrOf, IsUtf8, length};
+ghost use Rattle.std.specs.Prelude.{◌≡◌, ◌+◌, ◌<◌, ◌↔◌, pos, [], Err, IfOk, IfSome, OnOk, OnErr};
+ghost use Rattle.std.specs.Prelude.{IsErrOf, IsUtf8, length};
 ghost use Rattle.std.specs.Option.{option_copied};
 ghost use Rattle.libyaml_documents.specs.Documents.{most_nodes, with_node};
-ghost use Rattle.libyaml_documents.specs.Nodes.{ids_of, node_of, node_type, tag_or, type_at, KeepsTypes, scalar_node, sequence_node, mapping_node};
+ghost use Rattle.libyaml_documents.specs.Nodes.{ids_of, node_of, node_type, tag_or, type_at};
+ghost use Rattle.libyaml_documents.specs.Nodes.{KeepsTypes, scalar_node, sequence_node};
+ghost use Rattle.libyaml_documents.specs.Nodes.{mapping_node};
 
 use super::yaml_document_t;
 use crate::items::NodeItems;
@@ -24,7 +27,8 @@ const MOST_NODES: usize = 2147483647;
 /// Whether an id is left for one more node.
 pub(super) fn has_room(document: &yaml_document_t) -> Result<(), yaml_refusal_t>
     ensures ok { OnOk result (length document.now.nodes < most_nodes) }
-    ensures err { OnErr result ((result ≡ Err yaml_refusal_t.TooManyNodes) × (length document.now.nodes ≡ most_nodes)) }
+    ensures err { OnErr result ((result ≡ Err yaml_refusal_t.TooManyNodes)
+        × (length document.now.nodes ≡ most_nodes)) }
 {
     if document.nodes.len() < MOST_NODES {
         Ok(())
@@ -96,13 +100,16 @@ pub fn yaml_document_add_scalar(
     style: yaml_scalar_style_t,
 ) -> Result<i32, yaml_refusal_t>
     ensures id { IfOk result (λ id. id ≡ pos (length document.old.nodes + 1)) }
-    ensures added { OnOk result (document.new ≡ with_node document.old (scalar_node (option_copied tag.entry) value.now style)) }
+    ensures added { OnOk result (document.new
+        ≡ with_node document.old (scalar_node (option_copied tag.entry) value.now style)) }
     ensures room { OnOk result (length document.old.nodes < most_nodes) }
     ensures utf8_tag { OnOk result (IfSome (option_copied tag.entry) IsUtf8) }
     ensures utf8_value { OnOk result (IsUtf8 value.now) }
     ensures too_many { IsErrOf result yaml_refusal_t.TooManyNodes ↔ (length document.old.nodes ≡ most_nodes) }
-    ensures not_utf8 { IsErrOf result yaml_refusal_t.NotUtf8 ↔ ((length document.old.nodes < most_nodes) × ¬ (IfSome (option_copied tag.entry) IsUtf8 × IsUtf8 value.now)) }
-    ensures memory { IsErrOf result yaml_refusal_t.Memory → (length document.old.nodes < most_nodes) × IfSome (option_copied tag.entry) IsUtf8 × IsUtf8 value.now }
+    ensures not_utf8 { IsErrOf result yaml_refusal_t.NotUtf8 ↔ ((length document.old.nodes < most_nodes)
+        × ¬ (IfSome (option_copied tag.entry) IsUtf8 × IsUtf8 value.now)) }
+    ensures memory { IsErrOf result yaml_refusal_t.Memory → (length document.old.nodes < most_nodes)
+        × IfSome (option_copied tag.entry) IsUtf8 × IsUtf8 value.now }
     ensures unchanged { OnErr result (document.new ≡ document.old) }
 
     // What a caller of the next call wants: the new id's type, and that the others stay.
@@ -135,17 +142,21 @@ pub fn yaml_document_add_sequence(
     style: yaml_sequence_style_t,
 ) -> Result<i32, yaml_refusal_t>
     ensures id { IfOk result (λ id. id ≡ pos (length document.old.nodes + 1)) }
-    ensures added { OnOk result (document.new ≡ with_node document.old (sequence_node (option_copied tag.entry) style)) }
+    ensures added { OnOk result (document.new
+        ≡ with_node document.old (sequence_node (option_copied tag.entry) style)) }
     ensures room { OnOk result (length document.old.nodes < most_nodes) }
     ensures utf8_tag { OnOk result (IfSome (option_copied tag.entry) IsUtf8) }
     ensures too_many { IsErrOf result yaml_refusal_t.TooManyNodes ↔ (length document.old.nodes ≡ most_nodes) }
-    ensures not_utf8 { IsErrOf result yaml_refusal_t.NotUtf8 ↔ ((length document.old.nodes < most_nodes) × ¬ IfSome (option_copied tag.entry) IsUtf8) }
-    ensures memory { IsErrOf result yaml_refusal_t.Memory → (length document.old.nodes < most_nodes) × IfSome (option_copied tag.entry) IsUtf8 }
+    ensures not_utf8 { IsErrOf result yaml_refusal_t.NotUtf8 ↔ ((length document.old.nodes < most_nodes)
+        × ¬ IfSome (option_copied tag.entry) IsUtf8) }
+    ensures memory { IsErrOf result yaml_refusal_t.Memory → (length document.old.nodes < most_nodes)
+        × IfSome (option_copied tag.entry) IsUtf8 }
     ensures unchanged { OnErr result (document.new ≡ document.old) }
 
     // What a caller of the next call wants: the new id's type, and that the others stay.
     ensures count { OnOk result (length document.new.nodes ≡ length document.old.nodes + 1) }
-    ensures type_is { IfOk result (λ id. type_at document.new.nodes id ≡ yaml_node_type_t.YAML_SEQUENCE_NODE) }
+    ensures type_is { IfOk result (λ id. type_at document.new.nodes id
+        ≡ yaml_node_type_t.YAML_SEQUENCE_NODE) }
     ensures types_kept { KeepsTypes document.old.nodes document.new.nodes }
 {
     has_room(document)?;
@@ -172,12 +183,15 @@ pub fn yaml_document_add_mapping(
     style: yaml_mapping_style_t,
 ) -> Result<i32, yaml_refusal_t>
     ensures id { IfOk result (λ id. id ≡ pos (length document.old.nodes + 1)) }
-    ensures added { OnOk result (document.new ≡ with_node document.old (mapping_node (option_copied tag.entry) style)) }
+    ensures added { OnOk result (document.new
+        ≡ with_node document.old (mapping_node (option_copied tag.entry) style)) }
     ensures room { OnOk result (length document.old.nodes < most_nodes) }
     ensures utf8_tag { OnOk result (IfSome (option_copied tag.entry) IsUtf8) }
     ensures too_many { IsErrOf result yaml_refusal_t.TooManyNodes ↔ (length document.old.nodes ≡ most_nodes) }
-    ensures not_utf8 { IsErrOf result yaml_refusal_t.NotUtf8 ↔ ((length document.old.nodes < most_nodes) × ¬ IfSome (option_copied tag.entry) IsUtf8) }
-    ensures memory { IsErrOf result yaml_refusal_t.Memory → (length document.old.nodes < most_nodes) × IfSome (option_copied tag.entry) IsUtf8 }
+    ensures not_utf8 { IsErrOf result yaml_refusal_t.NotUtf8 ↔ ((length document.old.nodes < most_nodes)
+        × ¬ IfSome (option_copied tag.entry) IsUtf8) }
+    ensures memory { IsErrOf result yaml_refusal_t.Memory → (length document.old.nodes < most_nodes)
+        × IfSome (option_copied tag.entry) IsUtf8 }
     ensures unchanged { OnErr result (document.new ≡ document.old) }
 
     // What a caller of the next call wants: the new id's type, and that the others stay.

@@ -1,6 +1,7 @@
 //! The steps by which a loader builds a document of events.
 
-ghost use Rattle.std.specs.Prelude.{◌≡◌, ◌+◌, ◌<◌, ◌↔◌, ◌⊎◌, pos, [], Err, IfOk, OnOk, OnErr, IsErrOf, length};
+ghost use Rattle.std.specs.Prelude.{◌≡◌, ◌+◌, ◌<◌, ◌↔◌, ◌⊎◌, pos, [], Err, IfOk, OnOk, OnErr};
+ghost use Rattle.std.specs.Prelude.{IsErrOf, length};
 ghost use Rattle.libyaml_documents.specs.Documents.{most_nodes, with_node, with_changed_node};
 ghost use Rattle.libyaml_documents.specs.LoadedNodes.{begun_document, children_at, ended_document, with_end};
 ghost use Rattle.libyaml_documents.specs.Nodes.{ids_of, node_type, type_at, IsIdUpTo, KeepsTypes};
@@ -54,7 +55,8 @@ pub fn append_node(document: &mut yaml_document_t, node: yaml_node_t) -> Result<
     ensures room { OnOk result (length document.old.nodes < most_nodes) }
     ensures too_many { IsErrOf result yaml_refusal_t.TooManyNodes ↔ (length document.old.nodes ≡ most_nodes) }
     ensures memory { IsErrOf result yaml_refusal_t.Memory → length document.old.nodes < most_nodes }
-    ensures errors { OnErr result ((result ≡ Err yaml_refusal_t.TooManyNodes) ⊎ (result ≡ Err yaml_refusal_t.Memory)) }
+    ensures errors { OnErr result ((result ≡ Err yaml_refusal_t.TooManyNodes)
+        ⊎ (result ≡ Err yaml_refusal_t.Memory)) }
     ensures unchanged { OnErr result (document.new ≡ document.old) }
 
     // What a caller of the next call wants: the new id's type, and that the others stay.

@@ -23,11 +23,14 @@ pub fn yaml_document_initialize(
     start_implicit: bool,
     end_implicit: bool,
 ) -> Result<yaml_document_t, yaml_refusal_t>
-    ensures ok { IfOk result (λ document. document ≡ empty_document version_directive (map directive_of tag_directives.now) start_implicit end_implicit) }
+    ensures ok { IfOk result (λ document. document
+        ≡ empty_document version_directive (map directive_of tag_directives.now) start_implicit
+        end_implicit) }
     ensures utf8 { OnOk result (PairsAreUtf8 tag_directives.now) }
     ensures memory { IsErrOf result yaml_refusal_t.Memory → PairsAreUtf8 tag_directives.now }
     ensures not_utf8 { IsErrOf result yaml_refusal_t.NotUtf8 ↔ ¬ PairsAreUtf8 tag_directives.now }
-    ensures errors { OnErr result ((result ≡ Err yaml_refusal_t.NotUtf8) ⊎ (result ≡ Err yaml_refusal_t.Memory)) }
+    ensures errors { OnErr result ((result ≡ Err yaml_refusal_t.NotUtf8)
+        ⊎ (result ≡ Err yaml_refusal_t.Memory)) }
 {
     Ok(yaml_document_t {
         nodes: Vec::new(alloc),

@@ -1,11 +1,11 @@
 //! Faults, which the parser keeps for good.
 ghost use Rattle.std.specs.Prelude.{◌≡◌};
-ghost use Rattle.libyaml_events.specs.Fault.{fault_of};
-ghost use Rattle.libyaml_events.specs.FaultTexts.{memory_fault, parser_fault, parser_fault_in};
-ghost use Rattle.libyaml_events.specs.Config.{with_config, with_fault};
+ghost use Rattle.libyaml_grammar.specs.runs.Fault.{fault_of};
+ghost use Rattle.libyaml_grammar.specs.cuts.FaultTexts.{memory_fault, parser_fault, parser_fault_in};
+ghost use Rattle.libyaml_events.specs.machine.Config.{with_config, with_fault};
 
-use crate::fault::{NO_FAULT, yaml_parser_t_prefix};
 use crate::parser::yaml_parser_t;
+use libyaml_grammar::{NO_FAULT, yaml_parser_t_prefix};
 use libyaml_types::{yaml_error_type_t, yaml_mark_t};
 
 impl<S> yaml_parser_t<S> {
@@ -36,7 +36,8 @@ impl<S> yaml_parser_t<S> {
         problem_mark: yaml_mark_t,
     ) -> yaml_error_type_t
         ensures error { result ≡ yaml_error_type_t.YAML_PARSER_ERROR }
-        ensures kept { self.new ≡ with_config self.old (with_fault self.old.config (parser_fault problem.now problem_mark)) }
+        ensures kept { self.new ≡ with_config self.old
+            (with_fault self.old.config (parser_fault problem.now problem_mark)) }
     {
         self.set_prefix(yaml_parser_t_prefix {
             error: yaml_error_type_t::YAML_PARSER_ERROR,
@@ -58,7 +59,8 @@ impl<S> yaml_parser_t<S> {
         problem_mark: yaml_mark_t,
     ) -> yaml_error_type_t
         ensures error { result ≡ yaml_error_type_t.YAML_PARSER_ERROR }
-        ensures kept { self.new ≡ with_config self.old (with_fault self.old.config (parser_fault_in context.now context_mark problem.now problem_mark)) }
+        ensures kept { self.new ≡ with_config self.old
+            (with_fault self.old.config (parser_fault_in context.now context_mark problem.now problem_mark)) }
     {
         self.set_prefix(yaml_parser_t_prefix {
             error: yaml_error_type_t::YAML_PARSER_ERROR,

@@ -2,10 +2,10 @@
 ghost use Rattle.std.specs.Prelude.{◌≡◌, ◌++◌, Err, OnOk, OnErr, IfOk, is_some};
 ghost use Rattle.std.specs.Option.{option_copied};
 ghost use Rattle.std.specs.FinMap as map;
-ghost use Rattle.libyaml_events.specs.FaultTexts.{memory_fault};
-ghost use Rattle.libyaml_events.specs.Config.{with_config, with_fault, declared, without_handles};
-ghost use Rattle.libyaml_events.specs.Machine.{default_prefix, or_default};
-ghost use Rattle.libyaml_events.specs.Steps.{Resolves};
+ghost use Rattle.libyaml_grammar.specs.cuts.FaultTexts.{memory_fault};
+ghost use Rattle.libyaml_events.specs.machine.Config.{with_config, with_fault, declared, without_handles};
+ghost use Rattle.libyaml_events.specs.machine.Machine.{undeclared_prefix, or_default};
+ghost use Rattle.libyaml_events.specs.machine.Steps.{Resolves};
 
 use crate::parser::yaml_parser_t;
 use crate::progress::TagRead;
@@ -15,7 +15,7 @@ use std::collections::BTreeMap;
 
 /// The prefix of a handle that no document has to declare.
 fn default_prefix_of(handle: &str) -> Option<&'static str>
-    ensures { option_copied result ≡ default_prefix handle.now }
+    ensures { option_copied result ≡ undeclared_prefix handle.now }
 {
     if handle == "!" {
         Some("!")
@@ -37,7 +37,7 @@ fn joined(alloc: Global, prefix: &str, suffix: &str) -> Result<Text, AllocError>
 }
 
 impl<S> yaml_parser_t<S> {
-    #[tactic(auto, using(crate::proofs::HandleLemmas::get_handle))]
+    #[tactic(auto, using(crate::proofs::code::HandleLemmas::get_handle))]
     /// The prefix that the document declares for a handle, or else its default one.
     pub(crate) fn prefix_of(&self, handle: &Text) -> Option<&str>
         ensures { option_copied result ≡ or_default (map.get self.now.config.handles handle.now) handle.now }
@@ -55,9 +55,12 @@ impl<S> yaml_parser_t<S> {
         handle: &Text,
         prefix: &Text,
     ) -> Result<bool, yaml_error_type_t>
-        ensures before { IfOk result (λ was_declared. was_declared ≡ is_some (map.get self.old.config.handles handle.now)) }
-        ensures ok { OnOk result (self.new ≡ with_config self.old (declared handle.now prefix.now self.old.config)) }
-        ensures err { OnErr result ((result ≡ Err yaml_error_type_t.YAML_MEMORY_ERROR) × (self.new ≡ with_config self.old (with_fault self.old.config memory_fault))) }
+        ensures before { IfOk result (λ was_declared. was_declared
+            ≡ is_some (map.get self.old.config.handles handle.now)) }
+        ensures ok { OnOk result (self.new
+            ≡ with_config self.old (declared handle.now prefix.now self.old.config)) }
+        ensures err { OnErr result ((result ≡ Err yaml_error_type_t.YAML_MEMORY_ERROR)
+            × (self.new ≡ with_config self.old (with_fault self.old.config memory_fault))) }
     {
         let Ok(handle) = handle.clone() else {
             return Err(self.out_of_memory());

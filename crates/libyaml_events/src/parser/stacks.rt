@@ -1,9 +1,10 @@
 //! The parser's stacks: states to go back to, and the starts of the open collections.
 ghost use Rattle.std.specs.Prelude.{◌≡◌, Err, OnOk, OnErr};
 ghost use Rattle.libyaml_types.specs.Numbers.{parser_state_number};
-ghost use Rattle.libyaml_events.specs.FaultTexts.{memory_fault};
-ghost use Rattle.libyaml_events.specs.State.{IsBackByte, back_state};
-ghost use Rattle.libyaml_events.specs.Config.{with_config, with_fault, at, pushed, popped, pushed_mark, popped_mark, top_mark};
+ghost use Rattle.libyaml_grammar.specs.cuts.FaultTexts.{memory_fault};
+ghost use Rattle.libyaml_events.specs.machine.State.{IsBackByte, back_state};
+ghost use Rattle.libyaml_events.specs.machine.Config.{with_config, with_fault, at, pushed, popped};
+ghost use Rattle.libyaml_events.specs.machine.Config.{pushed_mark, popped_mark, top_mark};
 
 use crate::parser::yaml_parser_t;
 use libyaml_types::{ZERO_MARK, yaml_error_type_t, yaml_mark_t, yaml_parser_state_t};
@@ -42,12 +43,13 @@ impl<S> yaml_parser_t<S> {
         self.state = state;
     }
 
-    #[tactic(auto, using(crate::proofs::Stacks::stack_push))]
+    #[tactic(auto, using(crate::proofs::code::Stacks::stack_push))]
     /// Puts a state on the stack, to go back to. Keeps want of memory where the growth is refused.
     pub(crate) fn push_state(&mut self, state: yaml_parser_state_t) -> Result<(), yaml_error_type_t>
         requires { IsBackByte (parser_state_number state) }
         ensures ok { OnOk result (self.new ≡ with_config self.old (pushed state self.old.config)) }
-        ensures err { OnErr result ((result ≡ Err yaml_error_type_t.YAML_MEMORY_ERROR) × (self.new ≡ with_config self.old (with_fault self.old.config memory_fault))) }
+        ensures err { OnErr result ((result ≡ Err yaml_error_type_t.YAML_MEMORY_ERROR)
+            × (self.new ≡ with_config self.old (with_fault self.old.config memory_fault))) }
     {
         if self.states.push(state.number() as u8).is_err() {
             return Err(self.out_of_memory());
@@ -55,7 +57,7 @@ impl<S> yaml_parser_t<S> {
         Ok(())
     }
 
-    #[tactic(auto, using(crate::proofs::Stacks::stack_pop))]
+    #[tactic(auto, using(crate::proofs::code::Stacks::stack_pop))]
     /// Goes back to the state on top of the stack.
     pub(crate) fn pop_state(&mut self)
         ensures { self.new ≡ with_config self.old (popped self.old.config) }
@@ -66,11 +68,12 @@ impl<S> yaml_parser_t<S> {
         };
     }
 
-    #[tactic(auto, using(crate::proofs::Stacks::reverse_push))]
+    #[tactic(auto, using(crate::proofs::code::Stacks::reverse_push))]
     /// Puts the start of a collection on the stack. Keeps want of memory where the growth is refused.
     pub(crate) fn push_mark(&mut self, mark: yaml_mark_t) -> Result<(), yaml_error_type_t>
         ensures ok { OnOk result (self.new ≡ with_config self.old (pushed_mark mark self.old.config)) }
-        ensures err { OnErr result ((result ≡ Err yaml_error_type_t.YAML_MEMORY_ERROR) × (self.new ≡ with_config self.old (with_fault self.old.config memory_fault))) }
+        ensures err { OnErr result ((result ≡ Err yaml_error_type_t.YAML_MEMORY_ERROR)
+            × (self.new ≡ with_config self.old (with_fault self.old.config memory_fault))) }
     {
         if self.marks.push(mark).is_err() {
             return Err(self.out_of_memory());
@@ -78,7 +81,7 @@ impl<S> yaml_parser_t<S> {
         Ok(())
     }
 
-    #[tactic(auto, using(crate::proofs::Stacks::reverse_pop))]
+    #[tactic(auto, using(crate::proofs::code::Stacks::reverse_pop))]
     /// Takes the start of the innermost collection off the stack.
     pub(crate) fn pop_mark(&mut self) -> yaml_mark_t
         ensures mark { result ≡ top_mark self.old.config.marks }

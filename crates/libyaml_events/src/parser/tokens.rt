@@ -1,8 +1,8 @@
 //! The next token: one that stayed, or else the source's.
 ghost use Rattle.std.specs.Prelude.{◌≡◌, Ok, Err, MatchResult, IfErr, true};
-ghost use Rattle.libyaml_events.specs.Config.{with_config, with_fault, keep, taken, is_fault};
-ghost use Rattle.libyaml_events.specs.Errors.{IsSourceError};
-ghost use Rattle.libyaml_events.specs.Calls.{Fetches};
+ghost use Rattle.libyaml_events.specs.machine.Config.{with_config, with_fault, keep, taken, is_fault};
+ghost use Rattle.libyaml_grammar.specs.runs.Errors.{IsSourceError};
+ghost use Rattle.libyaml_events.specs.sources.Calls.{Fetches};
 
 use crate::parser::yaml_parser_t;
 use crate::source::yaml_token_source_t;
@@ -30,7 +30,9 @@ impl<S: yaml_token_source_t> yaml_parser_t<S> {
         ensures error { IfErr result IsSourceError }
         ensures gives { MatchResult result
             (λ t. S.gives self.old.source (Ok t) self.new.source × (self.new.config ≡ self.old.config))
-            (λ e. S.gives self.old.source (Err self.new.config.fault) self.new.source × (self.new.config ≡ with_fault self.old.config self.new.config.fault) × (e ≡ self.new.config.fault.error)) }
+            (λ e. S.gives self.old.source (Err self.new.config.fault) self.new.source
+            × (self.new.config ≡ with_fault self.old.config self.new.config.fault)
+            × (e ≡ self.new.config.fault.error)) }
         ensures bound { self.new.max_entries ≡ self.old.max_entries }
     {
         match self.source.next_token() {
@@ -42,7 +44,7 @@ impl<S: yaml_token_source_t> yaml_parser_t<S> {
         }
     }
 
-    #[tactic(auto, using(crate::proofs::SourceErrors::source_error_is_fault))]
+    #[tactic(auto, using(crate::proofs::code::SourceErrors::source_error_is_fault))]
     /// The token that stayed, or else the source's next one, whose fault is kept for good.
     pub(crate) fn next_token(&mut self) -> Result<yaml_token_t, yaml_error_type_t>
         ensures fetches { Fetches S.gives self.old result self.new }

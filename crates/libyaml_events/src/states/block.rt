@@ -1,10 +1,18 @@
 //! Block collections.
 ghost use Rattle.std.specs.Prelude.{◌≡◌, IfErr};
 ghost use Rattle.libyaml_types.specs.Numbers.{parser_state_number};
-ghost use Rattle.libyaml_events.specs.State.{IsBackByte};
-ghost use Rattle.libyaml_events.specs.Machine.{first_block_sequence_entry, parse_block_sequence_entry, behind_block_entry, parse_indentless_sequence_entry, behind_indentless_entry, first_block_mapping_key, parse_block_mapping_key, parse_block_mapping_value, behind_block_indicator};
-ghost use Rattle.libyaml_events.specs.Steps.{Steps};
-ghost use Rattle.libyaml_events.specs.Answers.{answer};
+ghost use Rattle.libyaml_events.specs.machine.State.{IsBackByte};
+ghost use Rattle.libyaml_events.specs.machine.Machine.{first_block_sequence_entry};
+ghost use Rattle.libyaml_events.specs.machine.Machine.{parse_block_sequence_entry};
+ghost use Rattle.libyaml_events.specs.machine.Machine.{behind_block_entry};
+ghost use Rattle.libyaml_events.specs.machine.Machine.{parse_indentless_sequence_entry};
+ghost use Rattle.libyaml_events.specs.machine.Machine.{behind_indentless_entry};
+ghost use Rattle.libyaml_events.specs.machine.Machine.{first_block_mapping_key};
+ghost use Rattle.libyaml_events.specs.machine.Machine.{parse_block_mapping_key};
+ghost use Rattle.libyaml_events.specs.machine.Machine.{parse_block_mapping_value};
+ghost use Rattle.libyaml_events.specs.machine.Machine.{behind_block_indicator};
+ghost use Rattle.libyaml_events.specs.machine.Steps.{Steps};
+ghost use Rattle.libyaml_events.specs.machine.Answers.{answer};
 
 use crate::parser::yaml_parser_t;
 use crate::progress::{Next, Pending, give};
@@ -21,7 +29,8 @@ impl<S> yaml_parser_t<S> {
         pending: &mut Pending,
         out: &mut yaml_event_t,
     ) -> Result<Next, yaml_error_type_t>
-        ensures { Steps (first_block_sequence_entry self.old.config token.now) self.old (answer result pending.new out.new) self.new }
+        ensures { Steps (first_block_sequence_entry self.old.config token.now) self.old
+            (answer result pending.new out.new) self.new }
     {
         let state = yaml_parser_state_t::YAML_PARSE_BLOCK_SEQUENCE_ENTRY_STATE;
         self.open(token.start_mark, state)?;
@@ -34,7 +43,8 @@ impl<S> yaml_parser_t<S> {
         pending: &mut Pending,
         out: &mut yaml_event_t,
     ) -> Result<Next, yaml_error_type_t>
-        ensures steps { Steps (parse_block_sequence_entry self.old.config token token.content) self.old (answer result pending.new out.new) self.new }
+        ensures steps { Steps (parse_block_sequence_entry self.old.config token token.content) self.old
+            (answer result pending.new out.new) self.new }
         ensures error { IfErr result (λ e. e ≡ yaml_error_type_t.YAML_PARSER_ERROR) }
     {
         match token.content {
@@ -64,7 +74,8 @@ impl<S> yaml_parser_t<S> {
         pending: &mut Pending,
         out: &mut yaml_event_t,
     ) -> Result<Next, yaml_error_type_t>
-        ensures steps { Steps (parse_indentless_sequence_entry self.old.config token token.content) self.old (answer result pending.new out.new) self.new }
+        ensures steps { Steps (parse_indentless_sequence_entry self.old.config token token.content) self.old
+            (answer result pending.new out.new) self.new }
         ensures error { IfErr result (λ e. e ≡ yaml_error_type_t.YAML_PARSER_ERROR) }
     {
         match token.content {
@@ -89,7 +100,8 @@ impl<S> yaml_parser_t<S> {
         pending: &mut Pending,
         out: &mut yaml_event_t,
     ) -> Result<Next, yaml_error_type_t>
-        ensures { Steps (first_block_mapping_key self.old.config token.now) self.old (answer result pending.new out.new) self.new }
+        ensures { Steps (first_block_mapping_key self.old.config token.now) self.old
+            (answer result pending.new out.new) self.new }
     {
         let state = yaml_parser_state_t::YAML_PARSE_BLOCK_MAPPING_KEY_STATE;
         self.open(token.start_mark, state)?;
@@ -103,7 +115,8 @@ impl<S> yaml_parser_t<S> {
         pending: &mut Pending,
         out: &mut yaml_event_t,
     ) -> Result<Next, yaml_error_type_t>
-        ensures steps { Steps (parse_block_mapping_key self.old.config token token.content) self.old (answer result pending.new out.new) self.new }
+        ensures steps { Steps (parse_block_mapping_key self.old.config token token.content) self.old
+            (answer result pending.new out.new) self.new }
         ensures error { IfErr result (λ e. e ≡ yaml_error_type_t.YAML_PARSER_ERROR) }
     {
         match token.content {
@@ -139,7 +152,8 @@ impl<S> yaml_parser_t<S> {
         pending: &mut Pending,
         out: &mut yaml_event_t,
     ) -> Result<Next, yaml_error_type_t>
-        ensures steps { Steps (parse_block_mapping_value self.old.config token token.content) self.old (answer result pending.new out.new) self.new }
+        ensures steps { Steps (parse_block_mapping_value self.old.config token token.content) self.old
+            (answer result pending.new out.new) self.new }
         ensures error { IfErr result (λ e. e ≡ yaml_error_type_t.YAML_PARSER_ERROR) }
     {
         match token.content {

@@ -1,11 +1,17 @@
 //! Stream and documents.
 ghost use Rattle.std.specs.Prelude.{◌≡◌, Ok, Err, OnOk, OnErr, IfErr, true};
-ghost use Rattle.libyaml_events.specs.FaultTexts.{memory_fault};
-ghost use Rattle.libyaml_events.specs.Config.{with_config, with_fault};
-ghost use Rattle.libyaml_events.specs.Machine.{parse_stream_start, begin_document, implicit_document, version_directive, tag_directive, explicit_document, no_directives, end_stream, parse_implicit_document_start, parse_document_start, end_document, parse_document_end};
-ghost use Rattle.libyaml_events.specs.Growth.{grows_at_directive, grows_at_document};
-ghost use Rattle.libyaml_events.specs.Steps.{Steps};
-ghost use Rattle.libyaml_events.specs.Answers.{answer};
+ghost use Rattle.libyaml_grammar.specs.cuts.FaultTexts.{memory_fault};
+ghost use Rattle.libyaml_events.specs.machine.Config.{with_config, with_fault};
+ghost use Rattle.libyaml_events.specs.machine.Machine.{parse_stream_start, begin_document};
+ghost use Rattle.libyaml_events.specs.machine.Machine.{implicit_document, version_directive};
+ghost use Rattle.libyaml_events.specs.machine.Machine.{tag_directive, explicit_document};
+ghost use Rattle.libyaml_events.specs.machine.Machine.{no_directives, end_stream};
+ghost use Rattle.libyaml_events.specs.machine.Machine.{parse_implicit_document_start};
+ghost use Rattle.libyaml_events.specs.machine.Machine.{parse_document_start, end_document};
+ghost use Rattle.libyaml_events.specs.machine.Machine.{parse_document_end};
+ghost use Rattle.libyaml_events.specs.machine.Growth.{grows_at_directive, grows_at_document};
+ghost use Rattle.libyaml_events.specs.machine.Steps.{Steps};
+ghost use Rattle.libyaml_events.specs.machine.Answers.{answer};
 ghost use Rattle.libyaml_events.specs.declared.progress.Progress.TheVariants.{Given};
 ghost use Rattle.std.specs.FinMap.{get};
 
@@ -27,7 +33,8 @@ impl<S> yaml_parser_t<S> {
         pending: &mut Pending,
         out: &mut yaml_event_t,
     ) -> Result<Next, yaml_error_type_t>
-        ensures steps { Steps (parse_stream_start self.old.config token token.content) self.old (answer result pending.new out.new) self.new }
+        ensures steps { Steps (parse_stream_start self.old.config token token.content) self.old
+            (answer result pending.new out.new) self.new }
         ensures error { IfErr result (λ e. e ≡ yaml_error_type_t.YAML_PARSER_ERROR) }
     {
         let mark = token.start_mark;
@@ -52,11 +59,12 @@ impl<S> yaml_parser_t<S> {
     /// The document's root comes next, in `state`, and behind it the document's end.
     fn begin_document(&mut self, state: yaml_parser_state_t) -> Result<(), yaml_error_type_t>
         ensures ok { OnOk result (self.new ≡ with_config self.old (begin_document state self.old.config)) }
-        ensures err { OnErr result ((result ≡ Err yaml_error_type_t.YAML_MEMORY_ERROR) × (self.new ≡ with_config self.old (with_fault self.old.config memory_fault))) }
+        ensures err { OnErr result ((result ≡ Err yaml_error_type_t.YAML_MEMORY_ERROR)
+            × (self.new ≡ with_config self.old (with_fault self.old.config memory_fault))) }
     {
         self.push_state(yaml_parser_state_t::YAML_PARSE_DOCUMENT_END_STATE)?;
         self.set_state(state);
-        self.set_has_ended(false);
+        self.set_behind_document_end(false);
         Ok(())
     }
 
@@ -67,7 +75,8 @@ impl<S> yaml_parser_t<S> {
         pending: &mut Pending,
         out: &mut yaml_event_t,
     ) -> Result<Next, yaml_error_type_t>
-        ensures { Steps (implicit_document self.old.config token) self.old (answer result pending.new out.new) self.new }
+        ensures { Steps (implicit_document self.old.config token) self.old (answer result pending.new out.new)
+            self.new }
     {
         self.begin_document(yaml_parser_state_t::YAML_PARSE_BLOCK_NODE_STATE)?;
         let mark = token.start_mark;
@@ -94,7 +103,8 @@ impl<S> yaml_parser_t<S> {
         pending: &mut Pending,
         out: &mut yaml_event_t,
     ) -> Result<Next, yaml_error_type_t>
-        ensures steps { Steps (version_directive pending.old.directives.version pending.old.directives self.old.config mark version) self.old (answer result pending.new out.new) self.new }
+        ensures steps { Steps (version_directive pending.old.directives.version pending.old.directives
+            self.old.config mark version) self.old (answer result pending.new out.new) self.new }
         ensures error { IfErr result (λ e. e ≡ yaml_error_type_t.YAML_PARSER_ERROR) }
     {
         if pending.directives.version.is_some() {
@@ -115,7 +125,8 @@ impl<S> yaml_parser_t<S> {
         pending: &mut Pending,
         out: &mut yaml_event_t,
     ) -> Result<Next, yaml_error_type_t>
-        ensures { Steps (tag_directive (get self.old.config.handles directive.handle) pending.old.directives self.old.config mark directive) self.old (answer result pending.new out.new) self.new }
+        ensures { Steps (tag_directive (get self.old.config.handles directive.handle) pending.old.directives
+            self.old.config mark directive) self.old (answer result pending.new out.new) self.new }
     {
         let was_declared = self.declare(&directive.handle, &directive.prefix)?;
         if was_declared {
@@ -136,8 +147,10 @@ impl<S> yaml_parser_t<S> {
         pending: &mut Pending,
         out: &mut yaml_event_t,
     ) -> Result<Next, yaml_error_type_t>
-        ensures steps { Steps (explicit_document pending.old.directives self.old.config token token.content) self.old (answer result pending.new out.new) self.new }
-        ensures grows { result ≡ Err yaml_error_type_t.YAML_MEMORY_ERROR → grows_at_directive token.content ≡ true }
+        ensures steps { Steps (explicit_document pending.old.directives self.old.config token token.content)
+            self.old (answer result pending.new out.new) self.new }
+        ensures grows { result ≡ Err yaml_error_type_t.YAML_MEMORY_ERROR
+            → grows_at_directive token.content ≡ true }
     {
         let mark = token.start_mark;
         match token.content {
@@ -191,8 +204,10 @@ impl<S> yaml_parser_t<S> {
         pending: &mut Pending,
         out: &mut yaml_event_t,
     ) -> Result<Next, yaml_error_type_t>
-        ensures steps { Steps (explicit_document (no_directives token.start_mark) self.old.config token token.content) self.old (answer result pending.new out.new) self.new }
-        ensures grows { result ≡ Err yaml_error_type_t.YAML_MEMORY_ERROR → grows_at_directive token.content ≡ true }
+        ensures steps { Steps (explicit_document (no_directives token.start_mark) self.old.config token
+            token.content) self.old (answer result pending.new out.new) self.new }
+        ensures grows { result ≡ Err yaml_error_type_t.YAML_MEMORY_ERROR
+            → grows_at_directive token.content ≡ true }
     {
         pending.directives = self.no_directives(token.start_mark);
         self.parse_explicit_document(token, pending, out)
@@ -218,8 +233,10 @@ impl<S> yaml_parser_t<S> {
         pending: &mut Pending,
         out: &mut yaml_event_t,
     ) -> Result<Next, yaml_error_type_t>
-        ensures steps { Steps (parse_implicit_document_start self.old.config token token.content) self.old (answer result pending.new out.new) self.new }
-        ensures grows { result ≡ Err yaml_error_type_t.YAML_MEMORY_ERROR → grows_at_document self.old.config.has_ended token.content ≡ true }
+        ensures steps { Steps (parse_implicit_document_start self.old.config token token.content) self.old
+            (answer result pending.new out.new) self.new }
+        ensures grows { result ≡ Err yaml_error_type_t.YAML_MEMORY_ERROR
+            → grows_at_document self.old.config.behind_document_end token.content ≡ true }
     {
         match token.content {
             unnamed_yaml_token_t_data::StreamEnd => {
@@ -232,7 +249,7 @@ impl<S> yaml_parser_t<S> {
                 token, pending, out,
             ),
             unnamed_yaml_token_t_data::DocumentEnd => {
-                if self.has_ended() {
+                if self.behind_document_end() {
                     Ok(Next::AtState)
                 } else {
                     self.begin_implicit_document(token, pending, out)
@@ -249,8 +266,10 @@ impl<S> yaml_parser_t<S> {
         pending: &mut Pending,
         out: &mut yaml_event_t,
     ) -> Result<Next, yaml_error_type_t>
-        ensures steps { Steps (parse_document_start self.old.config token token.content) self.old (answer result pending.new out.new) self.new }
-        ensures grows { result ≡ Err yaml_error_type_t.YAML_MEMORY_ERROR → grows_at_directive token.content ≡ true }
+        ensures steps { Steps (parse_document_start self.old.config token token.content) self.old
+            (answer result pending.new out.new) self.new }
+        ensures grows { result ≡ Err yaml_error_type_t.YAML_MEMORY_ERROR
+            → grows_at_directive token.content ≡ true }
     {
         match token.content {
             unnamed_yaml_token_t_data::StreamEnd => {
@@ -262,16 +281,17 @@ impl<S> yaml_parser_t<S> {
     }
 
     /// The document's handles are forgotten, and `state` comes next.
-    fn end_document(&mut self, state: yaml_parser_state_t, has_ended: bool)
-        ensures { self.new ≡ with_config self.old (end_document state has_ended self.old.config) }
+    fn end_document(&mut self, state: yaml_parser_state_t, behind_document_end: bool)
+        ensures { self.new ≡ with_config self.old (end_document state behind_document_end self.old.config) }
     {
         self.forget_handles();
         self.set_state(state);
-        self.set_has_ended(has_ended);
+        self.set_behind_document_end(behind_document_end);
     }
 
     pub(super) fn parse_document_end(&mut self, token: yaml_token_t, out: &mut yaml_event_t)
-        ensures { Steps (parse_document_end self.old.config token token.content) self.old (Ok (Given out.new)) self.new }
+        ensures { Steps (parse_document_end self.old.config token token.content) self.old (Ok (Given out.new))
+            self.new }
     {
         match token.content {
             unnamed_yaml_token_t_data::DocumentEnd => {

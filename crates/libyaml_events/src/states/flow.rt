@@ -1,9 +1,22 @@
 //! Flow collections.
 ghost use Rattle.std.specs.Prelude.{◌≡◌, Ok, Err, IfErr, true};
-ghost use Rattle.libyaml_events.specs.Machine.{first_flow_sequence_entry, parse_flow_sequence_entry, behind_flow_sequence_entry, parse_flow_sequence_entry_mapping_key, parse_flow_sequence_entry_mapping_value, behind_flow_sequence_value, parse_flow_sequence_entry_mapping_end, first_flow_mapping_key, parse_flow_mapping_key, behind_flow_mapping_entry, behind_flow_mapping_key, parse_flow_mapping_value, behind_flow_mapping_value, parse_flow_mapping_empty_value};
-ghost use Rattle.libyaml_events.specs.Growth.{enters_sequence_entry, enters_mapping_entry};
-ghost use Rattle.libyaml_events.specs.Steps.{Steps};
-ghost use Rattle.libyaml_events.specs.Answers.{answer};
+ghost use Rattle.libyaml_events.specs.machine.Machine.{first_flow_sequence_entry};
+ghost use Rattle.libyaml_events.specs.machine.Machine.{parse_flow_sequence_entry};
+ghost use Rattle.libyaml_events.specs.machine.Machine.{behind_flow_sequence_entry};
+ghost use Rattle.libyaml_events.specs.machine.Machine.{parse_flow_sequence_entry_mapping_key};
+ghost use Rattle.libyaml_events.specs.machine.Machine.{parse_flow_sequence_entry_mapping_value};
+ghost use Rattle.libyaml_events.specs.machine.Machine.{behind_flow_sequence_value};
+ghost use Rattle.libyaml_events.specs.machine.Machine.{parse_flow_sequence_entry_mapping_end};
+ghost use Rattle.libyaml_events.specs.machine.Machine.{first_flow_mapping_key};
+ghost use Rattle.libyaml_events.specs.machine.Machine.{parse_flow_mapping_key};
+ghost use Rattle.libyaml_events.specs.machine.Machine.{behind_flow_mapping_entry};
+ghost use Rattle.libyaml_events.specs.machine.Machine.{behind_flow_mapping_key};
+ghost use Rattle.libyaml_events.specs.machine.Machine.{parse_flow_mapping_value};
+ghost use Rattle.libyaml_events.specs.machine.Machine.{behind_flow_mapping_value};
+ghost use Rattle.libyaml_events.specs.machine.Machine.{parse_flow_mapping_empty_value};
+ghost use Rattle.libyaml_events.specs.machine.Growth.{enters_sequence_entry, enters_mapping_entry};
+ghost use Rattle.libyaml_events.specs.machine.Steps.{Steps};
+ghost use Rattle.libyaml_events.specs.machine.Answers.{answer};
 ghost use Rattle.libyaml_events.specs.declared.progress.Progress.TheVariants.{Given};
 
 use crate::parser::yaml_parser_t;
@@ -22,7 +35,8 @@ impl<S> yaml_parser_t<S> {
         pending: &mut Pending,
         out: &mut yaml_event_t,
     ) -> Result<Next, yaml_error_type_t>
-        ensures { Steps (first_flow_sequence_entry self.old.config token.now) self.old (answer result pending.new out.new) self.new }
+        ensures { Steps (first_flow_sequence_entry self.old.config token.now) self.old
+            (answer result pending.new out.new) self.new }
     {
         let state = yaml_parser_state_t::YAML_PARSE_FLOW_SEQUENCE_ENTRY_STATE;
         self.open(token.start_mark, state)?;
@@ -35,7 +49,8 @@ impl<S> yaml_parser_t<S> {
         pending: &mut Pending,
         out: &mut yaml_event_t,
     ) -> Result<Next, yaml_error_type_t>
-        ensures steps { Steps (parse_flow_sequence_entry self.old.config token token.content) self.old (answer result pending.new out.new) self.new }
+        ensures steps { Steps (parse_flow_sequence_entry self.old.config token token.content) self.old
+            (answer result pending.new out.new) self.new }
         ensures error { IfErr result (λ e. e ≡ yaml_error_type_t.YAML_PARSER_ERROR) }
     {
         match token.content {
@@ -64,8 +79,10 @@ impl<S> yaml_parser_t<S> {
         pending: &mut Pending,
         out: &mut yaml_event_t,
     ) -> Result<Next, yaml_error_type_t>
-        ensures steps { Steps (behind_flow_sequence_entry self.old.config token token.content) self.old (answer result pending.new out.new) self.new }
-        ensures grows { result ≡ Err yaml_error_type_t.YAML_MEMORY_ERROR → enters_sequence_entry token.content ≡ true }
+        ensures steps { Steps (behind_flow_sequence_entry self.old.config token token.content) self.old
+            (answer result pending.new out.new) self.new }
+        ensures grows { result ≡ Err yaml_error_type_t.YAML_MEMORY_ERROR
+            → enters_sequence_entry token.content ≡ true }
     {
         match token.content {
             unnamed_yaml_token_t_data::FlowSequenceEnd => {
@@ -97,7 +114,8 @@ impl<S> yaml_parser_t<S> {
         pending: &mut Pending,
         out: &mut yaml_event_t,
     ) -> Result<Next, yaml_error_type_t>
-        ensures steps { Steps (parse_flow_sequence_entry_mapping_value self.old.config token token.content) self.old (answer result pending.new out.new) self.new }
+        ensures steps { Steps (parse_flow_sequence_entry_mapping_value self.old.config token token.content)
+            self.old (answer result pending.new out.new) self.new }
         ensures error { IfErr result (λ e. e ≡ yaml_error_type_t.YAML_PARSER_ERROR) }
     {
         match token.content {
@@ -118,7 +136,8 @@ impl<S> yaml_parser_t<S> {
         token: yaml_token_t,
         out: &mut yaml_event_t,
     )
-        ensures { Steps (parse_flow_sequence_entry_mapping_end self.old.config token) self.old (Ok (Given out.new)) self.new }
+        ensures { Steps (parse_flow_sequence_entry_mapping_end self.old.config token) self.old
+            (Ok (Given out.new)) self.new }
     {
         self.set_state(yaml_parser_state_t::YAML_PARSE_FLOW_SEQUENCE_ENTRY_STATE);
         let mark = token.start_mark;
@@ -133,7 +152,8 @@ impl<S> yaml_parser_t<S> {
         pending: &mut Pending,
         out: &mut yaml_event_t,
     ) -> Result<Next, yaml_error_type_t>
-        ensures { Steps (first_flow_mapping_key self.old.config token.now) self.old (answer result pending.new out.new) self.new }
+        ensures { Steps (first_flow_mapping_key self.old.config token.now) self.old
+            (answer result pending.new out.new) self.new }
     {
         let state = yaml_parser_state_t::YAML_PARSE_FLOW_MAPPING_KEY_STATE;
         self.open(token.start_mark, state)?;
@@ -146,7 +166,8 @@ impl<S> yaml_parser_t<S> {
         pending: &mut Pending,
         out: &mut yaml_event_t,
     ) -> Result<Next, yaml_error_type_t>
-        ensures steps { Steps (parse_flow_mapping_key self.old.config token token.content) self.old (answer result pending.new out.new) self.new }
+        ensures steps { Steps (parse_flow_mapping_key self.old.config token token.content) self.old
+            (answer result pending.new out.new) self.new }
         ensures error { IfErr result (λ e. e ≡ yaml_error_type_t.YAML_PARSER_ERROR) }
     {
         match token.content {
@@ -174,8 +195,10 @@ impl<S> yaml_parser_t<S> {
         pending: &mut Pending,
         out: &mut yaml_event_t,
     ) -> Result<Next, yaml_error_type_t>
-        ensures steps { Steps (behind_flow_mapping_entry self.old.config token token.content) self.old (answer result pending.new out.new) self.new }
-        ensures grows { result ≡ Err yaml_error_type_t.YAML_MEMORY_ERROR → enters_mapping_entry token.content ≡ true }
+        ensures steps { Steps (behind_flow_mapping_entry self.old.config token token.content) self.old
+            (answer result pending.new out.new) self.new }
+        ensures grows { result ≡ Err yaml_error_type_t.YAML_MEMORY_ERROR
+            → enters_mapping_entry token.content ≡ true }
     {
         match token.content {
             unnamed_yaml_token_t_data::FlowMappingEnd => {
@@ -197,7 +220,8 @@ impl<S> yaml_parser_t<S> {
         pending: &mut Pending,
         out: &mut yaml_event_t,
     ) -> Result<Next, yaml_error_type_t>
-        ensures steps { Steps (parse_flow_mapping_value self.old.config token token.content) self.old (answer result pending.new out.new) self.new }
+        ensures steps { Steps (parse_flow_mapping_value self.old.config token token.content) self.old
+            (answer result pending.new out.new) self.new }
         ensures error { IfErr result (λ e. e ≡ yaml_error_type_t.YAML_PARSER_ERROR) }
     {
         match token.content {
@@ -216,7 +240,8 @@ impl<S> yaml_parser_t<S> {
         token: yaml_token_t,
         out: &mut yaml_event_t,
     )
-        ensures { Steps (parse_flow_mapping_empty_value self.old.config token) self.old (Ok (Given out.new)) self.new }
+        ensures { Steps (parse_flow_mapping_empty_value self.old.config token) self.old (Ok (Given out.new))
+            self.new }
     {
         self.set_state(yaml_parser_state_t::YAML_PARSE_FLOW_MAPPING_KEY_STATE);
         self.process_empty_scalar(token.start_mark, token, out);

@@ -2,14 +2,19 @@
 ghost use Rattle.std.specs.Prelude.{◌≡◌, Ok, Err, IfErr, None, false, true};
 ghost use Rattle.libyaml_types.specs.declared.event.unnamed_yaml_event_t_data_scalar.{unnamed_yaml_event_t_data_scalar};
 ghost use Rattle.libyaml_types.specs.declared.enums.yaml_scalar_style_t.TheVariants.{YAML_PLAIN_SCALAR_STYLE};
-ghost use Rattle.libyaml_events.specs.Events.{is_plain, plain_flag, quoted_flag, is_missing};
-ghost use Rattle.libyaml_events.specs.Machine.{scalar, sequence_start, mapping_start, only_properties, no_content, open_collection, scalar_content, is_block, node_content, content_behind, behind_properties, parse_node};
-ghost use Rattle.libyaml_events.specs.Growth.{joins, joins_before};
-ghost use Rattle.libyaml_events.specs.Steps.{Steps};
-ghost use Rattle.libyaml_events.specs.Answers.{answer, given};
+ghost use Rattle.libyaml_grammar.specs.sentences.Events.{is_plain, plain_flag, quoted_flag, is_missing};
+ghost use Rattle.libyaml_events.specs.machine.Machine.{scalar, sequence_start, mapping_start};
+ghost use Rattle.libyaml_events.specs.machine.Machine.{only_properties, no_content};
+ghost use Rattle.libyaml_events.specs.machine.Machine.{open_collection, scalar_content};
+ghost use Rattle.libyaml_events.specs.machine.Machine.{is_block_place, node_content};
+ghost use Rattle.libyaml_events.specs.machine.Machine.{content_behind, behind_properties};
+ghost use Rattle.libyaml_events.specs.machine.Machine.{parse_node};
+ghost use Rattle.libyaml_events.specs.machine.Growth.{joins, joins_before};
+ghost use Rattle.libyaml_events.specs.machine.Steps.{Steps};
+ghost use Rattle.libyaml_events.specs.machine.Answers.{answer, given};
 ghost use Rattle.libyaml_events.specs.declared.progress.Progress.TheVariants.{Given};
-ghost use Rattle.libyaml_events.specs.Config.{with_config, with_fault};
-ghost use Rattle.libyaml_events.specs.FaultTexts.{content_fault};
+ghost use Rattle.libyaml_events.specs.machine.Config.{with_config, with_fault};
+ghost use Rattle.libyaml_grammar.specs.cuts.FaultTexts.{content_fault};
 
 use crate::parser::yaml_parser_t;
 use crate::progress::{Next, NodeHead, NodePlace, Pending, PropertiesRead, TagRead, give};
@@ -125,7 +130,8 @@ impl<S> yaml_parser_t<S> {
         pending: &mut Pending,
         out: &mut yaml_event_t,
     ) -> Result<Next, yaml_error_type_t>
-        ensures steps { Steps (parse_node place self.old.config token token.content) self.old (answer result pending.new out.new) self.new }
+        ensures steps { Steps (parse_node place self.old.config token token.content) self.old
+            (answer result pending.new out.new) self.new }
         ensures error { IfErr result (λ e. e ≡ yaml_error_type_t.YAML_PARSER_ERROR) }
     {
         let start_mark = token.start_mark;
@@ -194,7 +200,9 @@ impl<S> yaml_parser_t<S> {
         end_mark: yaml_mark_t,
         out: &mut yaml_event_t,
     )
-        ensures { Steps (scalar_content (record { anchor = None; tag = None; start_mark = start_mark; end_mark = end_mark }) self.old.config content end_mark) self.old (Ok (Given out.new)) self.new }
+        ensures { Steps (scalar_content
+            (record { anchor = None; tag = None; start_mark = start_mark; end_mark = end_mark })
+            self.old.config content end_mark) self.old (Ok (Given out.new)) self.new }
     {
         self.pop_state();
         let plain_implicit = is_plain(content.style);
@@ -221,8 +229,10 @@ impl<S> yaml_parser_t<S> {
         pending: &mut Pending,
         out: &mut yaml_event_t,
     ) -> Result<Next, yaml_error_type_t>
-        ensures steps { Steps (behind_properties pending.old.place pending.old.properties self.old.config token token.content) self.old (answer result pending.new out.new) self.new }
-        ensures grows { result ≡ Err yaml_error_type_t.YAML_MEMORY_ERROR → joins_before pending.old.properties self.old.config.handles token.content ≡ true }
+        ensures steps { Steps (behind_properties pending.old.place pending.old.properties self.old.config
+            token token.content) self.old (answer result pending.new out.new) self.new }
+        ensures grows { result ≡ Err yaml_error_type_t.YAML_MEMORY_ERROR
+            → joins_before pending.old.properties self.old.config.handles token.content ≡ true }
     {
         let start_mark = token.start_mark;
         let end_mark = token.end_mark;
@@ -255,8 +265,11 @@ impl<S> yaml_parser_t<S> {
         pending: &mut Pending,
         out: &mut yaml_event_t,
     ) -> Result<(), yaml_error_type_t>
-        ensures steps { Steps (content_behind pending.old.place pending.old.properties pending.old.properties.tag self.old.config token token.content) self.old (given result out.new) self.new }
-        ensures grows { result ≡ Err yaml_error_type_t.YAML_MEMORY_ERROR → joins pending.old.properties.tag self.old.config.handles ≡ true }
+        ensures steps { Steps (content_behind pending.old.place pending.old.properties
+            pending.old.properties.tag self.old.config token token.content) self.old (given result out.new)
+            self.new }
+        ensures grows { result ≡ Err yaml_error_type_t.YAML_MEMORY_ERROR
+            → joins pending.old.properties.tag self.old.config.handles ≡ true }
     {
         let start_mark = pending.properties.start_mark;
         let end_mark = pending.properties.end_mark;
@@ -281,7 +294,8 @@ impl<S> yaml_parser_t<S> {
         token: yaml_token_t,
         out: &mut yaml_event_t,
     ) -> Result<(), yaml_error_type_t>
-        ensures steps { Steps (node_content place head self.old.config token token.content) self.old (given result out.new) self.new }
+        ensures steps { Steps (node_content place head self.old.config token token.content) self.old
+            (given result out.new) self.new }
         ensures error { IfErr result (λ e. e ≡ yaml_error_type_t.YAML_PARSER_ERROR) }
     {
         let end_mark = token.end_mark;
@@ -342,7 +356,8 @@ impl<S> yaml_parser_t<S> {
         end_mark: yaml_mark_t,
         out: &mut yaml_event_t,
     )
-        ensures { Steps (scalar_content head self.old.config content end_mark) self.old (Ok (Given out.new)) self.new }
+        ensures { Steps (scalar_content head self.old.config content end_mark) self.old (Ok (Given out.new))
+            self.new }
     {
         self.pop_state();
         let event = unnamed_yaml_event_t_data_scalar {
@@ -370,7 +385,8 @@ impl<S> yaml_parser_t<S> {
         token: yaml_token_t,
         out: &mut yaml_event_t,
     )
-        ensures { Steps (open_collection (sequence_start head.anchor head.tag style) state head self.old.config token) self.old (Ok (Given out.new)) self.new }
+        ensures { Steps (open_collection (sequence_start head.anchor head.tag style) state head
+            self.old.config token) self.old (Ok (Given out.new)) self.new }
     {
         let end_mark = token.end_mark;
         self.set_state(state);
@@ -388,7 +404,8 @@ impl<S> yaml_parser_t<S> {
         token: yaml_token_t,
         out: &mut yaml_event_t,
     )
-        ensures { Steps (open_collection (mapping_start head.anchor head.tag style) state head self.old.config token) self.old (Ok (Given out.new)) self.new }
+        ensures { Steps (open_collection (mapping_start head.anchor head.tag style) state head self.old.config
+            token) self.old (Ok (Given out.new)) self.new }
     {
         let end_mark = token.end_mark;
         self.set_state(state);
@@ -405,7 +422,8 @@ impl<S> yaml_parser_t<S> {
         token: yaml_token_t,
         out: &mut yaml_event_t,
     ) -> Result<(), yaml_error_type_t>
-        ensures steps { Steps (no_content place head.anchor head.tag head self.old.config token) self.old (given result out.new) self.new }
+        ensures steps { Steps (no_content place head.anchor head.tag head self.old.config token) self.old
+            (given result out.new) self.new }
         ensures error { IfErr result (λ e. e ≡ yaml_error_type_t.YAML_PARSER_ERROR) }
     {
         if head.anchor.is_none() && head.tag.is_none() {
@@ -423,7 +441,8 @@ impl<S> yaml_parser_t<S> {
     /// Keeps the fault of a token that begins no node.
     fn set_content_error(&mut self, place: NodePlace, mark: yaml_mark_t) -> yaml_error_type_t
         ensures error { result ≡ yaml_error_type_t.YAML_PARSER_ERROR }
-        ensures kept { self.new ≡ with_config self.old (with_fault self.old.config (content_fault (is_block place) mark)) }
+        ensures kept { self.new ≡ with_config self.old
+            (with_fault self.old.config (content_fault (is_block_place place) mark)) }
     {
         let context = if place.is_block() {
             "while parsing a block node"

@@ -2,8 +2,8 @@
 //! runs: its contract is the law.
 
 ghost use Rattle.std.specs.Prelude.{◌≡◌, ℕ, List};
-ghost use Rattle.libyaml_events.specs.Events.{Event};
-ghost use Rattle.libyaml_events.specs.Runs.{Ending};
+ghost use Rattle.libyaml_grammar.specs.sentences.Events.{Event};
+ghost use Rattle.libyaml_grammar.specs.runs.Runs.{Ending};
 ghost use Rattle.libyaml_graphs.specs.Bounds.{bounded_loads, next_bounded};
 ghost use Rattle.libyaml_graphs.specs.Loader.{between, bounded_all, load_all, load_from};
 ghost use Rattle.libyaml_graphs.specs.Loads.{loads};

@@ -1,7 +1,20 @@
 //! Worked rows of loads: lists of tokens with the answers of the loads over them. Each function does
 //! nothing when it runs: its contract is the rows.
 
-ghost use Rattle.libyaml_graphs.specs.LoadRows.{RowAliasBeforeBound, RowAnchorOfDocumentBefore, RowBoundBeforeAnchor, RowBoundOfEachDocument, RowCollectionsInPairs, RowDirectives, RowEmptyDocuments, RowEmptyStream, RowEmptyTag, RowExclamationMarksOfCollections, RowExplicitEnd, RowHoldsItself, RowItemTwice, RowItemsBeyondBound, RowKeyBeyondBound, RowNestedHoldsItself, RowNodesBeyondBound, RowNodesInBound, RowPairInBound, RowPairs, RowParserFault, RowSecondAliasUndefined, RowSecondAnchor, RowSourceEnds, RowStartWithoutRoot, RowTagThatIsAnExclamationMark, RowUndefinedAlias, RowUndefinedAliasBeforeSourceEnds, RowUndefinedAliasBehindKey};
+ghost use Rattle.libyaml_graphs.specs.LoadRows.{RowAliasBeforeBound, RowAnchorOfDocumentBefore};
+ghost use Rattle.libyaml_graphs.specs.LoadRows.{RowBoundBeforeAnchor, RowBoundOfEachDocument};
+ghost use Rattle.libyaml_graphs.specs.LoadRows.{RowCollectionsInPairs, RowDirectives};
+ghost use Rattle.libyaml_graphs.specs.LoadRows.{RowEmptyDocuments, RowEmptyStream, RowEmptyTag};
+ghost use Rattle.libyaml_graphs.specs.LoadRows.{RowExclamationMarksOfCollections, RowExplicitEnd};
+ghost use Rattle.libyaml_graphs.specs.LoadRows.{RowHoldsItself, RowItemTwice, RowItemsBeyondBound};
+ghost use Rattle.libyaml_graphs.specs.LoadRows.{RowKeyBeyondBound, RowNestedHoldsItself};
+ghost use Rattle.libyaml_graphs.specs.LoadRows.{RowNodesBeyondBound, RowNodesInBound};
+ghost use Rattle.libyaml_graphs.specs.LoadRows.{RowPairInBound, RowPairs, RowParserFault};
+ghost use Rattle.libyaml_graphs.specs.LoadRows.{RowSecondAliasUndefined, RowSecondAnchor};
+ghost use Rattle.libyaml_graphs.specs.LoadRows.{RowSourceEnds, RowStartWithoutRoot};
+ghost use Rattle.libyaml_graphs.specs.LoadRows.{RowTagThatIsAnExclamationMark, RowUndefinedAlias};
+ghost use Rattle.libyaml_graphs.specs.LoadRows.{RowUndefinedAliasBeforeSourceEnds};
+ghost use Rattle.libyaml_graphs.specs.LoadRows.{RowUndefinedAliasBehindKey};
 
 /// A stream without documents, directives, an explicit end, documents without content, and a start that no
 /// root follows.

@@ -2,13 +2,13 @@
 ghost use Rattle.std.specs.Prelude.{◌≡◌, ◌<◌, List, true, false};
 ghost use Rattle.libyaml_types.specs.declared.event.yaml_event_t.{yaml_event_t};
 ghost use Rattle.libyaml_types.specs.declared.token.yaml_token_t.{yaml_token_t};
-ghost use Rattle.libyaml_events.specs.EventsLeft.{events_left};
-ghost use Rattle.libyaml_events.specs.History.{History, has_ended, is_stream_end};
-ghost use Rattle.libyaml_events.specs.RunToCome.{RunToCome};
-ghost use Rattle.libyaml_events.specs.Runs.{Ending};
-ghost use Rattle.libyaml_events.specs.Stages.{is_event};
+ghost use Rattle.libyaml_events.specs.parsers.EventsLeft.{events_left};
+ghost use Rattle.libyaml_events.specs.sources.History.{History, is_over, is_stream_end};
+ghost use Rattle.libyaml_events.specs.sources.RunToCome.{RunToCome};
+ghost use Rattle.libyaml_grammar.specs.runs.Runs.{Ending};
+ghost use Rattle.libyaml_events.specs.parsers.Stages.{is_event};
 ghost use Rattle.token_lines.specs.EventRun.{event_lines};
-ghost use Rattle.token_lines.specs.EventStep.{Steps, Turn};
+ghost use Rattle.token_lines.specs.EventStep.{StepsInRun, Turn};
 ghost use Rattle.token_lines.specs.LastCall.{LastCall, NothingLeft, RunsOver};
 ghost use Rattle.token_lines.specs.LineRun.{Writes};
 
@@ -31,7 +31,8 @@ use std::io::{BufRead, Write};
 /// Want of memory for a line is written as the fault of a refused growth. The writer is flushed
 /// before `Ended` and `Faulted`; after `OutputFailed` nothing is said of it.
 pub fn run_events<R: BufRead, W: Write>(alloc: Global, reader: &mut R, writer: &mut W) -> Outcome
-    ensures { RunsOver R.remaining W.contents reader.old reader.new result (W.contents writer.old) (W.contents writer.new) }
+    ensures { RunsOver R.remaining W.contents reader.old reader.new result (W.contents writer.old)
+        (W.contents writer.new) }
 {
     let mut line = Vec::new(alloc);
     let source = LentLines::new(alloc, reader, &mut line, MAX_TOKENS);
@@ -58,12 +59,17 @@ pub fn write_events<S: yaml_token_source_t, W: Write>(
     parser: &mut yaml_parser_t<S>,
     writer: &mut W,
 ) -> Outcome
-    ensures ended { has_ended parser.old ≡ true → NothingLeft result parser.old parser.new (W.contents writer.old) (W.contents writer.new) }
-    ensures writes { (events : List yaml_event_t) (ending : Ending) → RunToCome S.known parser.old events ending
-        → Writes (S.may_break parser.new.source) result (W.contents writer.old) (W.contents writer.new) (event_lines events) ending }
+    ensures ended { is_over parser.old ≡ true
+        → NothingLeft result parser.old parser.new (W.contents writer.old) (W.contents writer.new) }
+    ensures writes { (events : List yaml_event_t) (ending : Ending)
+        → RunToCome S.known parser.old events ending
+        → Writes (S.may_break parser.new.source) result (W.contents writer.old) (W.contents writer.new)
+        (event_lines events) ending }
     // at the parser's last call each event's line had been written
-    ensures in_turn { has_ended parser.old ≡ false → (asked : List yaml_token_t) (given : List yaml_event_t) → History parser.old asked given
-        → LastCall S.gives W.contents result parser.old parser.new (W.contents writer.old) (W.contents writer.new) asked given }
+    ensures in_turn { is_over parser.old ≡ false → (asked : List yaml_token_t) (given : List yaml_event_t)
+        → History parser.old asked given
+        → LastCall S.gives W.contents result parser.old parser.new (W.contents writer.old)
+        (W.contents writer.new) asked given }
 {
     let mut line = String::new(alloc);
     loop {
@@ -83,11 +89,15 @@ fn write_next<S: yaml_token_source_t, W: Write>(
     writer: &mut W,
 ) -> Step
     ensures falls { result ≡ Step.Written → events_left S.bound parser.new < events_left S.bound parser.old }
-    ensures ended { has_ended parser.old ≡ true → (result ≡ Step.Ended) × (parser.new ≡ parser.old) × (writer.new ≡ writer.old) }
-    ensures turn { has_ended parser.old ≡ false → (asked : List yaml_token_t) (given : List yaml_event_t) → History parser.old asked given
-        → Turn S.gives result parser.old parser.new (W.contents writer.old) (W.contents writer.new) asked given }
+    ensures ended { is_over parser.old ≡ true → (result ≡ Step.Ended) × (parser.new ≡ parser.old)
+        × (writer.new ≡ writer.old) }
+    ensures turn { is_over parser.old ≡ false → (asked : List yaml_token_t) (given : List yaml_event_t)
+        → History parser.old asked given
+        → Turn S.gives result parser.old parser.new (W.contents writer.old) (W.contents writer.new) asked
+        given }
     ensures step { (events : List yaml_event_t) (ending : Ending) → RunToCome S.known parser.old events ending
-        → Steps S.known S.may_break result parser.new (W.contents writer.old) (W.contents writer.new) events ending }
+        → StepsInRun S.known S.may_break result parser.new (W.contents writer.old) (W.contents writer.new)
+        events ending }
 {
     let parsed = yaml_parser_parse(parser);
     let Ok(event) = &parsed else {

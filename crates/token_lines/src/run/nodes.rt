@@ -2,10 +2,10 @@
 ghost use Rattle.std.specs.Prelude.{◌≡◌, ◌<◌, List, true, false};
 ghost use Rattle.libyaml_types.specs.declared.event.yaml_event_t.{yaml_event_t};
 ghost use Rattle.libyaml_types.specs.declared.token.yaml_token_t.{yaml_token_t};
-ghost use Rattle.libyaml_events.specs.EventsLeft.{events_left};
-ghost use Rattle.libyaml_events.specs.History.{History, between_documents, has_failed, kept_fault};
-ghost use Rattle.libyaml_events.specs.RunToCome.{RunToCome};
-ghost use Rattle.libyaml_events.specs.Runs.{Ending};
+ghost use Rattle.libyaml_events.specs.parsers.EventsLeft.{events_left};
+ghost use Rattle.libyaml_events.specs.sources.History.{History, between_documents, has_failed, kept_fault};
+ghost use Rattle.libyaml_events.specs.sources.RunToCome.{RunToCome};
+ghost use Rattle.libyaml_grammar.specs.runs.Runs.{Ending};
 ghost use Rattle.libyaml_graphs.specs.Bounds.{bounded_loads};
 ghost use Rattle.libyaml_loader.specs.Ids.{magnitude};
 ghost use Rattle.token_lines.specs.LastLoad.{LastLoad, NodesOver, WritesKept};
@@ -30,7 +30,8 @@ use std::io::{BufRead, Write};
 /// Want of memory for a line is written as the fault of a refused growth, behind the lines before it. The
 /// writer is flushed before `Ended` and `Faulted`; after `OutputFailed` nothing is said of it.
 pub fn run_nodes<R: BufRead, W: Write>(alloc: Global, reader: &mut R, writer: &mut W) -> Outcome
-    ensures { NodesOver R.remaining W.contents reader.old reader.new result (W.contents writer.old) (W.contents writer.new) }
+    ensures { NodesOver R.remaining W.contents reader.old reader.new result (W.contents writer.old)
+        (W.contents writer.new) }
 {
     let mut line = Vec::new(alloc);
     let source = LentLines::new(alloc, reader, &mut line, MAX_TOKENS);
@@ -58,12 +59,16 @@ pub fn write_nodes<S: yaml_token_source_t, W: Write>(
     writer: &mut W,
 ) -> Outcome
     requires between { between_documents parser.old ≡ true }
-    ensures kept { has_failed parser.old ≡ true → WritesKept result parser.old parser.new (W.contents writer.old) (W.contents writer.new) }
-    ensures writes { (events : List yaml_event_t) (ending : Ending) → RunToCome S.known parser.old events ending
-        → WritesLoads (S.may_break parser.new.source) result (W.contents writer.old) (W.contents writer.new) (bounded_loads (magnitude parser.old.max_entries) events ending) }
+    ensures kept { has_failed parser.old ≡ true
+        → WritesKept result parser.old parser.new (W.contents writer.old) (W.contents writer.new) }
+    ensures writes { (events : List yaml_event_t) (ending : Ending)
+        → RunToCome S.known parser.old events ending
+        → WritesLoads (S.may_break parser.new.source) result (W.contents writer.old) (W.contents writer.new)
+        (bounded_loads (magnitude parser.old.max_entries) events ending) }
     // at the parser's last load each document's text had been written
     ensures in_turn { (asked : List yaml_token_t) (given : List yaml_event_t) → History parser.old asked given
-        → LastLoad S.gives S.known S.may_break W.contents (magnitude parser.old.max_entries) result parser.old parser.new (W.contents writer.old) (W.contents writer.new) asked given }
+        → LastLoad S.gives S.known S.may_break W.contents (magnitude parser.old.max_entries) result parser.old
+        parser.new (W.contents writer.old) (W.contents writer.new) asked given }
     ensures between { between_documents parser.new ≡ true }
     ensures bound { parser.new.max_entries ≡ parser.old.max_entries }
 {
@@ -87,10 +92,14 @@ fn write_next<S: yaml_token_source_t, W: Write>(
     ensures falls { result ≡ Step.Written → events_left S.bound parser.new < events_left S.bound parser.old }
     ensures between { between_documents parser.new ≡ true }
     ensures bound { parser.new.max_entries ≡ parser.old.max_entries }
-    ensures kept { has_failed parser.old ≡ true → IsKept result (kept_fault parser.old) × (parser.new ≡ parser.old) × (writer.new ≡ writer.old) }
-    ensures turn { has_failed parser.old ≡ false → LoadTurn S.gives S.known S.may_break (magnitude parser.old.max_entries) result parser.old parser.new (W.contents writer.old) (W.contents writer.new) }
+    ensures kept { has_failed parser.old ≡ true → IsKept result (kept_fault parser.old)
+        × (parser.new ≡ parser.old) × (writer.new ≡ writer.old) }
+    ensures turn { has_failed parser.old ≡ false
+        → LoadTurn S.gives S.known S.may_break (magnitude parser.old.max_entries) result parser.old parser.new
+        (W.contents writer.old) (W.contents writer.new) }
     ensures step { (events : List yaml_event_t) (ending : Ending) → RunToCome S.known parser.old events ending
-        → NodeSteps S.known S.may_break (magnitude parser.old.max_entries) result parser.new (W.contents writer.old) (W.contents writer.new) events ending }
+        → NodeSteps S.known S.may_break (magnitude parser.old.max_entries) result parser.new
+        (W.contents writer.old) (W.contents writer.new) events ending }
 {
     let loaded = yaml_parser_load(parser);
     let Ok(document) = &loaded else {

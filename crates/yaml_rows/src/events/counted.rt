@@ -1,7 +1,7 @@
 //! How many tokens a parser asks for before each event.
 
 ghost use Rattle.std.specs.Prelude.{◌≡◌, None, length};
-ghost use Rattle.unsafe_libyaml.specs.Source.{coming, list_answer, rest};
+ghost use Rattle.unsafe_libyaml.specs.Source.{coming, list_answer, rest_of_list};
 ghost use Rattle.unsafe_libyaml.specs.ListLaws.{list_falls, list_repeats};
 
 use anyhow::Result;
@@ -24,7 +24,8 @@ struct CountedSource {
 impl yaml_token_source_t for CountedSource {
     ghost bound = { λ s. length s.list.tokens };
 
-    ghost gives = { λ s answer t. (answer ≡ list_answer s.list.tokens s.list.fault) × (t.list ≡ coming (rest s.list.tokens) s.list.fault) };
+    ghost gives = { λ s answer t. (answer ≡ list_answer s.list.tokens s.list.fault)
+        × (t.list ≡ coming (rest_of_list s.list.tokens) s.list.fault) };
 
     ghost known = { λ _. None };
 

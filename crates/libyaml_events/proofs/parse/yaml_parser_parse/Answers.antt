@@ -1,16 +1,16 @@
 use Rattle.std.proofs.Common.{arith, [], ◌++◌, ◌∙◌}
-use Rattle.libyaml_events.specs.FaultTexts.{no_fault}
-use Rattle.libyaml_events.proofs.Calling.{ran_links}
-use Rattle.libyaml_events.proofs.Counting.{linked_begins_each, linked_count}
-use Rattle.libyaml_events.proofs.LeadsOut.{stands_outside}
-use Rattle.libyaml_events.proofs.Falling.{parse_falls}
-use Rattle.libyaml_events.proofs.Held.{ran_holds}
-use Rattle.libyaml_events.proofs.KnownRuns.{next_of_run, fault_of_run, over_call, nothing_behind_end, linked_begins, run_given, more_to_come}
-use Rattle.libyaml_events.proofs.NestingSoFar.{run_front_nests}
-use Rattle.libyaml_events.proofs.Running.{some_run_proof}
-use Rattle.libyaml_events.proofs.Parsed.{carried_on, failed_by}
-use Rattle.libyaml_events.proofs.Raised.{pops_nothing_below}
-use Rattle.libyaml_events.proofs.Staged.{ran_staged, staged_depth, staged_between}
+use Rattle.libyaml_grammar.specs.cuts.FaultTexts.{no_fault}
+use Rattle.libyaml_events.proofs.calls.Calling.{ran_links}
+use Rattle.libyaml_events.proofs.calls.Counting.{linked_begins_each, linked_count}
+use Rattle.libyaml_events.proofs.calls.LeadsOut.{stands_outside}
+use Rattle.libyaml_events.proofs.calls.Falling.{parse_falls}
+use Rattle.libyaml_events.proofs.calls.Held.{ran_holds}
+use Rattle.libyaml_events.proofs.calls.KnownRuns.{next_of_run, fault_of_run, over_call, nothing_behind_end, linked_begins, run_given, more_to_come}
+use Rattle.libyaml_grammar.proofs.runs.NestingSoFar.{run_front_nests}
+use Rattle.libyaml_grammar.proofs.runs.Running.{some_run_proof}
+use Rattle.libyaml_events.proofs.calls.Parsed.{carried_on, failed_by}
+use Rattle.libyaml_events.proofs.calls.Raised.{pops_nothing_below}
+use Rattle.libyaml_events.proofs.calls.Staged.{ran_staged, staged_depth, staged_between}
 use Rattle.libyaml_events.proofs.parse.yaml_parser_parse.Goals as goal
 
 pub returns-clause-carries_on : goal.returns-clause-carries_on
@@ -35,13 +35,19 @@ pub returns-clause-one_ahead : goal.returns-clause-one_ahead
 returns-clause-one_ahead g c asked given h = ran_holds _ asked given h
 
 pub returns-clause-next_of_run : goal.returns-clause-next_of_run
-returns-clause-next_of_run g c = let t = g.S.yaml_token_source_t in next_of_run t.gives t.known t.may_break g.met.S.yaml_token_source_t.follows _ _ _ c.next_event.ensures.call c.next_event.ensures.kept
+returns-clause-next_of_run g c = let t
+    = g.S.yaml_token_source_t in next_of_run t.gives t.known t.may_break g.met.S.yaml_token_source_t.follows _ _ _ c.next_event.ensures.call
+    c.next_event.ensures.kept
 
 pub returns-clause-end_of_run : goal.returns-clause-end_of_run
-returns-clause-end_of_run g c h = let t = g.S.yaml_token_source_t in over_call t.gives t.known t.may_break g.met.S.yaml_token_source_t.follows _ _ _ c.next_event.ensures.call c.next_event.ensures.bound h
+returns-clause-end_of_run g c h = let t
+    = g.S.yaml_token_source_t in over_call t.gives t.known t.may_break g.met.S.yaml_token_source_t.follows _ _ _ c.next_event.ensures.call
+    c.next_event.ensures.bound h
 
 pub returns-clause-fault_of_run : goal.returns-clause-fault_of_run
-returns-clause-fault_of_run g c = let t = g.S.yaml_token_source_t in fault_of_run t.gives t.known t.may_break g.met.S.yaml_token_source_t.follows _ _ _ c.next_event.ensures.call c.next_event.ensures.kept
+returns-clause-fault_of_run g c = let t
+    = g.S.yaml_token_source_t in fault_of_run t.gives t.known t.may_break g.met.S.yaml_token_source_t.follows _ _ _ c.next_event.ensures.call
+    c.next_event.ensures.kept
 
 pub returns-clause-falls : goal.returns-clause-falls
 returns-clause-falls g c = let t = g.S.yaml_token_source_t in parse_falls t.gives t.bound g.met.S.yaml_token_source_t.falls _ _ _ c.next_event.ensures.call
@@ -50,10 +56,14 @@ pub returns-clause-nothing_behind_end : goal.returns-clause-nothing_behind_end
 returns-clause-nothing_behind_end g c = nothing_behind_end g.S.yaml_token_source_t.known _
 
 pub returns-clause-not_ended : goal.returns-clause-not_ended
-returns-clause-not_ended g c = let t = g.S.yaml_token_source_t in more_to_come t.gives t.known t.may_break g.met.S.yaml_token_source_t.follows _ c.next_event.new.self
+returns-clause-not_ended g c = let t
+    = g.S.yaml_token_source_t in more_to_come t.gives t.known t.may_break g.met.S.yaml_token_source_t.follows _ c.next_event.new.self
 
 pub returns-clause-begins_run : goal.returns-clause-begins_run
-returns-clause-begins_run g c asked given h rest f e x run = let b = linked_begins _ asked given rest (ran_links h) in (b.0, run_given (asked ++ rest) f e x run ∙ b.1)
+returns-clause-begins_run g c asked given h rest f e x run = let b = linked_begins _ asked given rest (ran_links h) in (
+  b.0,
+  run_given (asked ++ rest) f e x run ∙ b.1,
+)
 
 pub returns-clause-nests : goal.returns-clause-nests
 returns-clause-nests g c asked given h =

@@ -1,6 +1,6 @@
 use Rattle.std.proofs.Common.{◌||◌, ◌∙◌, Bool, ap}
-use Rattle.libyaml_events.specs.Config.{is_between}
-use Rattle.libyaml_events.proofs.Staged.{ran_staged, staged_between}
+use Rattle.libyaml_events.specs.machine.Config.{is_between}
+use Rattle.libyaml_events.proofs.calls.Staged.{ran_staged, staged_between}
 use Rattle.libyaml_events.proofs.parser.yaml_parser_between_documents.Goals as goal
 
 pub returns-clause-failed : goal.returns-clause-failed

@@ -1,5 +1,5 @@
 use Rattle.std.proofs.Common.{◌≡◌, Err, refl, rules, sym, ◌∙◌, inl, inr, true, false}
-use Rattle.libyaml_events.specs.Stages.{is_event}
+use Rattle.libyaml_events.specs.parsers.Stages.{is_event}
 use Rattle.libyaml_loader.proofs.Outside.{behind_all, behind_close}
 use Rattle.libyaml_loader.proofs.Stepping.{loader_fails, steps_err, takes}
 use Rattle.libyaml_loader.proofs.Taking.{Called, finds_end, parser_fails, running}
@@ -9,15 +9,38 @@ pub returns-in_err-content-clause-steps : goal.returns-in_err-content-clause-ste
 returns-in_err-content-clause-steps g c =
     let t = g.S.yaml_token_source_t in
     let call = c.yaml_parser_parse in
-    let called : Called t.gives t.known t.may_break c.args.parser.now call.new.parser call.result = record { ended = call.ensures.ended; carries_on = call.ensures.carries_on; fails = call.ensures.fails; between = call.ensures.between; next = call.ensures.next_of_run; end = call.ensures.end_of_run; fault = call.ensures.fault_of_run; nothing = call.ensures.nothing_behind_end } in
+    let called : Called t.gives t.known t.may_break c.args.parser.now call.new.parser call.result
+    = record {
+      ended = call.ensures.ended;
+      carries_on = call.ensures.carries_on;
+      fails = call.ensures.fails;
+      between = call.ensures.between;
+      next
+          = call.ensures.next_of_run;
+      end = call.ensures.end_of_run;
+      fault = call.ensures.fault_of_run;
+      nothing = call.ensures.nothing_behind_end;
+    } in
     let e : c.from_residual.result ≡ Err c.in_err-content.field-0.0 = search rules in
-    steps_err t.gives t.known t.may_break c.from_residual.result c.in_err-content.field-0.0 _ _ _ _ e (parser_fails t.gives t.known t.may_break c.args.parser.now call.new.parser call.result called c.in_err-content.field-0.0 c.in_err-content.was)
+    steps_err t.gives t.known t.may_break c.from_residual.result c.in_err-content.field-0.0 _ _ _ _ e
+    (parser_fails t.gives t.known t.may_break c.args.parser.now call.new.parser call.result called c.in_err-content.field-0.0 c.in_err-content.was)
 
 pub returns-then-not-is_event-clause-steps : goal.returns-then-not-is_event-clause-steps
 returns-then-not-is_event-clause-steps g c =
     let t = g.S.yaml_token_source_t in
     let call = c.yaml_parser_parse in
-    let called : Called t.gives t.known t.may_break c.args.parser.now call.new.parser call.result = record { ended = call.ensures.ended; carries_on = call.ensures.carries_on; fails = call.ensures.fails; between = call.ensures.between; next = call.ensures.next_of_run; end = call.ensures.end_of_run; fault = call.ensures.fault_of_run; nothing = call.ensures.nothing_behind_end } in
+    let called : Called t.gives t.known t.may_break c.args.parser.now call.new.parser call.result
+    = record {
+      ended = call.ensures.ended;
+      carries_on = call.ensures.carries_on;
+      fails = call.ensures.fails;
+      between = call.ensures.between;
+      next
+          = call.ensures.next_of_run;
+      end = call.ensures.end_of_run;
+      fault = call.ensures.fault_of_run;
+      nothing = call.ensures.nothing_behind_end;
+    } in
     let empty : is_event c.in_ok-content.field-0.content ≡ false = sym c.is_event.ensures ∙ c.if-not-is_event.true in
     finds_end t.gives t.known t.may_break c.args.parser.now call.new.parser call.result called c.in_ok-content.field-0 c.in_ok-content.was empty
 
@@ -25,7 +48,18 @@ pub returns-in-Some-clause-steps : goal.returns-in-Some-clause-steps
 returns-in-Some-clause-steps g c =
     let t = g.S.yaml_token_source_t in
     let call = c.yaml_parser_parse in
-    let called : Called t.gives t.known t.may_break c.args.parser.now call.new.parser call.result = record { ended = call.ensures.ended; carries_on = call.ensures.carries_on; fails = call.ensures.fails; between = call.ensures.between; next = call.ensures.next_of_run; end = call.ensures.end_of_run; fault = call.ensures.fault_of_run; nothing = call.ensures.nothing_behind_end } in
+    let called : Called t.gives t.known t.may_break c.args.parser.now call.new.parser call.result
+    = record {
+      ended = call.ensures.ended;
+      carries_on = call.ensures.carries_on;
+      fails = call.ensures.fails;
+      between = call.ensures.between;
+      next
+          = call.ensures.next_of_run;
+      end = call.ensures.end_of_run;
+      fault = call.ensures.fault_of_run;
+      nothing = call.ensures.nothing_behind_end;
+    } in
     let event = c.in_ok-content.field-0 in
     let an_event : is_event c.in_ok-content.field-0.content ≡ true = sym c.is_event.ensures ∙ c.if-not-is_event.false in
     let closes = sym c.in-Some.ensures in
@@ -35,7 +69,18 @@ pub returns-in-Ok-clause-steps : goal.returns-in-Ok-clause-steps
 returns-in-Ok-clause-steps g c =
     let t = g.S.yaml_token_source_t in
     let call = c.yaml_parser_parse in
-    let called : Called t.gives t.known t.may_break c.args.parser.now call.new.parser call.result = record { ended = call.ensures.ended; carries_on = call.ensures.carries_on; fails = call.ensures.fails; between = call.ensures.between; next = call.ensures.next_of_run; end = call.ensures.end_of_run; fault = call.ensures.fault_of_run; nothing = call.ensures.nothing_behind_end } in
+    let called : Called t.gives t.known t.may_break c.args.parser.now call.new.parser call.result
+    = record {
+      ended = call.ensures.ended;
+      carries_on = call.ensures.carries_on;
+      fails = call.ensures.fails;
+      between = call.ensures.between;
+      next
+          = call.ensures.next_of_run;
+      end = call.ensures.end_of_run;
+      fault = call.ensures.fault_of_run;
+      nothing = call.ensures.nothing_behind_end;
+    } in
     let event = c.in_ok-content.field-0 in
     let an_event : is_event c.in_ok-content.field-0.content ≡ true = sym c.is_event.ensures ∙ c.if-not-is_event.false in
     let no_end = sym c.in-None.ensures in
@@ -45,17 +90,40 @@ pub returns-in-Err-clause-steps : goal.returns-in-Err-clause-steps
 returns-in-Err-clause-steps g c =
     let t = g.S.yaml_token_source_t in
     let call = c.yaml_parser_parse in
-    let called : Called t.gives t.known t.may_break c.args.parser.now call.new.parser call.result = record { ended = call.ensures.ended; carries_on = call.ensures.carries_on; fails = call.ensures.fails; between = call.ensures.between; next = call.ensures.next_of_run; end = call.ensures.end_of_run; fault = call.ensures.fault_of_run; nothing = call.ensures.nothing_behind_end } in
+    let called : Called t.gives t.known t.may_break c.args.parser.now call.new.parser call.result
+    = record {
+      ended = call.ensures.ended;
+      carries_on = call.ensures.carries_on;
+      fails = call.ensures.fails;
+      between = call.ensures.between;
+      next
+          = call.ensures.next_of_run;
+      end = call.ensures.end_of_run;
+      fault = call.ensures.fault_of_run;
+      nothing = call.ensures.nothing_behind_end;
+    } in
     let event = c.in_ok-content.field-0 in
     let an_event : is_event c.in_ok-content.field-0.content ≡ true = sym c.is_event.ensures ∙ c.if-not-is_event.false in
     let no_end = sym c.in-None.ensures in
-    inr (loader_fails t.gives t.known t.may_break c.args.parser.now call.new.parser c.keep_refusal.new.parser call.result called event c.in_ok-content.was an_event no_end c.args.ctx.now c.in-Err.refusal c.in-Err.ensures.err c.keep_refusal.ensures.kept)
+    inr (loader_fails t.gives t.known t.may_break c.args.parser.now call.new.parser c.keep_refusal.new.parser call.result called event c.in_ok-content.was
+    an_event no_end c.args.ctx.now c.in-Err.refusal c.in-Err.ensures.err c.keep_refusal.ensures.kept)
 
 pub returns-in-Some-clause-falls : goal.returns-in-Some-clause-falls
 returns-in-Some-clause-falls g c =
     let t = g.S.yaml_token_source_t in
     let call = c.yaml_parser_parse in
-    let called : Called t.gives t.known t.may_break c.args.parser.now call.new.parser call.result = record { ended = call.ensures.ended; carries_on = call.ensures.carries_on; fails = call.ensures.fails; between = call.ensures.between; next = call.ensures.next_of_run; end = call.ensures.end_of_run; fault = call.ensures.fault_of_run; nothing = call.ensures.nothing_behind_end } in
+    let called : Called t.gives t.known t.may_break c.args.parser.now call.new.parser call.result
+    = record {
+      ended = call.ensures.ended;
+      carries_on = call.ensures.carries_on;
+      fails = call.ensures.fails;
+      between = call.ensures.between;
+      next
+          = call.ensures.next_of_run;
+      end = call.ensures.end_of_run;
+      fault = call.ensures.fault_of_run;
+      nothing = call.ensures.nothing_behind_end;
+    } in
     let an_event : is_event c.in_ok-content.field-0.content ≡ true = sym c.is_event.ensures ∙ c.if-not-is_event.false in
     let run = running t.gives t.known t.may_break c.args.parser.now call.new.parser call.result called c.in_ok-content.field-0 c.in_ok-content.was an_event in
     inr (rw c.in_ok-content.was at (call.ensures.falls run))
@@ -64,7 +132,18 @@ pub returns-in-Ok-clause-falls : goal.returns-in-Ok-clause-falls
 returns-in-Ok-clause-falls g c =
     let t = g.S.yaml_token_source_t in
     let call = c.yaml_parser_parse in
-    let called : Called t.gives t.known t.may_break c.args.parser.now call.new.parser call.result = record { ended = call.ensures.ended; carries_on = call.ensures.carries_on; fails = call.ensures.fails; between = call.ensures.between; next = call.ensures.next_of_run; end = call.ensures.end_of_run; fault = call.ensures.fault_of_run; nothing = call.ensures.nothing_behind_end } in
+    let called : Called t.gives t.known t.may_break c.args.parser.now call.new.parser call.result
+    = record {
+      ended = call.ensures.ended;
+      carries_on = call.ensures.carries_on;
+      fails = call.ensures.fails;
+      between = call.ensures.between;
+      next
+          = call.ensures.next_of_run;
+      end = call.ensures.end_of_run;
+      fault = call.ensures.fault_of_run;
+      nothing = call.ensures.nothing_behind_end;
+    } in
     let an_event : is_event c.in_ok-content.field-0.content ≡ true = sym c.is_event.ensures ∙ c.if-not-is_event.false in
     let run = running t.gives t.known t.may_break c.args.parser.now call.new.parser call.result called c.in_ok-content.field-0 c.in_ok-content.was an_event in
     inr (rw c.in_ok-content.was at (call.ensures.falls run))
@@ -75,7 +154,8 @@ returns-then-not-is_event-clause-falls g c = inl refl
 pub returns-then-not-is_event-clause-between : goal.returns-then-not-is_event-clause-between
 returns-then-not-is_event-clause-between g c =
     let call = c.yaml_parser_parse in
-    inr (behind_all call.new.parser call.result c.in_ok-content.field-0 c.in_ok-content.was call.ensures.outside (sym c.is_event.ensures ∙ c.if-not-is_event.true))
+    inr (behind_all call.new.parser call.result c.in_ok-content.field-0 c.in_ok-content.was call.ensures.outside (sym c.is_event.ensures
+    ∙ c.if-not-is_event.true))
 
 pub returns-in-Some-clause-between : goal.returns-in-Some-clause-between
 returns-in-Some-clause-between g c =

@@ -1,8 +1,8 @@
 use Rattle.std.proofs.Common.{◌≡◌, ◌<◌, Ok, Err, ap, refl, rules, sym, ◌∙◌, subst, true, false, ℤ, inl, None, []}
 use Rattle.std.proofs.Math.Nat.{le_refl}
 use Rattle.libyaml_documents.specs.Documents.{Document, empty_document}
-use Rattle.libyaml_events.specs.EventsLeft.{events_left}
-use Rattle.libyaml_events.specs.Stages.{is_event}
+use Rattle.libyaml_events.specs.parsers.EventsLeft.{events_left}
+use Rattle.libyaml_events.specs.parsers.Stages.{is_event}
 use Rattle.libyaml_graphs.specs.Loader.{fresh, left_from, load_from, within}
 use Rattle.libyaml_loader.specs.Ids.{magnitude}
 use Rattle.libyaml_loader.specs.Loading.{LoadsFrom}
@@ -18,58 +18,124 @@ pub returns-in_err-content-clause-loads : goal.returns-in_err-content-clause-loa
 returns-in_err-content-clause-loads g c =
     let t = g.S.yaml_token_source_t in
     let call = c.yaml_parser_parse in
-    let called : Called t.gives t.known t.may_break c.loop-content.parser call.new.parser call.result = record { ended = call.ensures.ended; carries_on = call.ensures.carries_on; fails = call.ensures.fails; between = call.ensures.between; next = call.ensures.next_of_run; end = call.ensures.end_of_run; fault = call.ensures.fault_of_run; nothing = call.ensures.nothing_behind_end } in
+    let called : Called t.gives t.known t.may_break c.loop-content.parser call.new.parser call.result
+    = record {
+      ended = call.ensures.ended;
+      carries_on = call.ensures.carries_on;
+      fails = call.ensures.fails;
+      between = call.ensures.between;
+      next
+          = call.ensures.next_of_run;
+      end = call.ensures.end_of_run;
+      fault = call.ensures.fault_of_run;
+      nothing = call.ensures.nothing_behind_end;
+    } in
     let e : c.from_residual.result ≡ Err c.in_err-content.field-0.0 = search rules in
-    skips_fail t.gives t.known t.may_break (magnitude c.args.parser.now.max_entries) c.args.parser.now c.loop-content.parser call.new.parser c.from_residual.result c.in_err-content.field-0.0 e c.loop-content.invariant.0
+    skips_fail t.gives t.known t.may_break (magnitude c.args.parser.now.max_entries) c.args.parser.now c.loop-content.parser call.new.parser
+    c.from_residual.result c.in_err-content.field-0.0 e c.loop-content.invariant.0
     (parser_fails t.gives t.known t.may_break c.loop-content.parser call.new.parser call.result called c.in_err-content.field-0.0 c.in_err-content.was)
 
 pub returns-then-not-is_event-clause-loads : goal.returns-then-not-is_event-clause-loads
 returns-then-not-is_event-clause-loads g c =
     let t = g.S.yaml_token_source_t in
     let call = c.yaml_parser_parse in
-    let called : Called t.gives t.known t.may_break c.loop-content.parser call.new.parser call.result = record { ended = call.ensures.ended; carries_on = call.ensures.carries_on; fails = call.ensures.fails; between = call.ensures.between; next = call.ensures.next_of_run; end = call.ensures.end_of_run; fault = call.ensures.fault_of_run; nothing = call.ensures.nothing_behind_end } in
+    let called : Called t.gives t.known t.may_break c.loop-content.parser call.new.parser call.result
+    = record {
+      ended = call.ensures.ended;
+      carries_on = call.ensures.carries_on;
+      fails = call.ensures.fails;
+      between = call.ensures.between;
+      next
+          = call.ensures.next_of_run;
+      end = call.ensures.end_of_run;
+      fault = call.ensures.fault_of_run;
+      nothing = call.ensures.nothing_behind_end;
+    } in
     let empty : is_event c.in_ok-content.field-0.content ≡ false = sym c.is_event.ensures ∙ c.if-not-is_event.true in
-    skips_end t.gives t.known t.may_break (magnitude c.args.parser.now.max_entries) c.args.parser.now c.loop-content.parser call.new.parser c.without_root.result c.loop-content.invariant.0
-    (finds_end t.gives t.known t.may_break c.loop-content.parser call.new.parser call.result called c.in_ok-content.field-0 c.in_ok-content.was empty) c.without_root.ensures
+    skips_end t.gives t.known t.may_break (magnitude c.args.parser.now.max_entries) c.args.parser.now c.loop-content.parser call.new.parser
+    c.without_root.result c.loop-content.invariant.0
+    (finds_end t.gives t.known t.may_break c.loop-content.parser call.new.parser call.result called c.in_ok-content.field-0 c.in_ok-content.was empty)
+    c.without_root.ensures
 
 pub returns-in-Some-clause-loads : goal.returns-in-Some-clause-loads
 returns-in-Some-clause-loads g c =
     let t = g.S.yaml_token_source_t in
     let call = c.yaml_parser_parse in
-    let called : Called t.gives t.known t.may_break c.loop-content.parser call.new.parser call.result = record { ended = call.ensures.ended; carries_on = call.ensures.carries_on; fails = call.ensures.fails; between = call.ensures.between; next = call.ensures.next_of_run; end = call.ensures.end_of_run; fault = call.ensures.fault_of_run; nothing = call.ensures.nothing_behind_end } in
+    let called : Called t.gives t.known t.may_break c.loop-content.parser call.new.parser call.result
+    = record {
+      ended = call.ensures.ended;
+      carries_on = call.ensures.carries_on;
+      fails = call.ensures.fails;
+      between = call.ensures.between;
+      next
+          = call.ensures.next_of_run;
+      end = call.ensures.end_of_run;
+      fault = call.ensures.fault_of_run;
+      nothing = call.ensures.nothing_behind_end;
+    } in
     let an_event : is_event c.in_ok-content.field-0.content ≡ true = sym c.is_event.ensures ∙ c.if-not-is_event.false in
     let load = c.yaml_parser_load_document in
     let same : call.new.parser.max_entries ≡ c.args.parser.now.max_entries = call.ensures.bound ∙ c.loop-content.invariant.0.most in
     let o = opening_at c.in-Some.opening in
-    let loads = subst (λ (z : ℤ). LoadsFrom t.gives t.known t.may_break (load_from (magnitude z) (within o fresh)) (left_from (within o fresh)) call.new.parser load.result load.new.parser) same load.ensures.loads in
-    skips_opens t.gives t.known t.may_break (magnitude c.args.parser.now.max_entries) c.args.parser.now c.loop-content.parser call.new.parser load.new.parser call.result called c.in_ok-content.field-0 c.in_ok-content.was an_event o (sym c.in-Some.ensures) load.result c.loop-content.invariant.0 loads
+    let loads = subst (λ (z : ℤ). LoadsFrom t.gives t.known t.may_break (load_from (magnitude z) (within o fresh)) (left_from (within o fresh)) call.new.parser
+    load.result load.new.parser) same load.ensures.loads in
+    skips_opens t.gives t.known t.may_break (magnitude c.args.parser.now.max_entries) c.args.parser.now c.loop-content.parser call.new.parser load.new.parser
+    call.result called c.in_ok-content.field-0 c.in_ok-content.was an_event o (sym c.in-Some.ensures) load.result c.loop-content.invariant.0 loads
 
 pub loop-content-smaller : goal.loop-content-smaller
 loop-content-smaller g c =
     let t = g.S.yaml_token_source_t in
     let call = c.yaml_parser_parse in
-    let called : Called t.gives t.known t.may_break c.loop-content.parser call.new.parser call.result = record { ended = call.ensures.ended; carries_on = call.ensures.carries_on; fails = call.ensures.fails; between = call.ensures.between; next = call.ensures.next_of_run; end = call.ensures.end_of_run; fault = call.ensures.fault_of_run; nothing = call.ensures.nothing_behind_end } in
+    let called : Called t.gives t.known t.may_break c.loop-content.parser call.new.parser call.result
+    = record {
+      ended = call.ensures.ended;
+      carries_on = call.ensures.carries_on;
+      fails = call.ensures.fails;
+      between = call.ensures.between;
+      next
+          = call.ensures.next_of_run;
+      end = call.ensures.end_of_run;
+      fault = call.ensures.fault_of_run;
+      nothing = call.ensures.nothing_behind_end;
+    } in
     let an_event : is_event c.in_ok-content.field-0.content ≡ true = sym c.is_event.ensures ∙ c.if-not-is_event.false in
-    let run = running t.gives t.known t.may_break c.loop-content.parser call.new.parser call.result called c.in_ok-content.field-0 c.in_ok-content.was an_event in
+    let run = running t.gives t.known t.may_break c.loop-content.parser call.new.parser call.result called c.in_ok-content.field-0 c.in_ok-content.was an_event
+    in
     rw c.in_ok-content.was at (call.ensures.falls run)
 
 pub loop-content-preserved : goal.loop-content-preserved
 loop-content-preserved g c =
     let t = g.S.yaml_token_source_t in
     let call = c.yaml_parser_parse in
-    let called : Called t.gives t.known t.may_break c.loop-content.parser call.new.parser call.result = record { ended = call.ensures.ended; carries_on = call.ensures.carries_on; fails = call.ensures.fails; between = call.ensures.between; next = call.ensures.next_of_run; end = call.ensures.end_of_run; fault = call.ensures.fault_of_run; nothing = call.ensures.nothing_behind_end } in
+    let called : Called t.gives t.known t.may_break c.loop-content.parser call.new.parser call.result
+    = record {
+      ended = call.ensures.ended;
+      carries_on = call.ensures.carries_on;
+      fails = call.ensures.fails;
+      between = call.ensures.between;
+      next
+          = call.ensures.next_of_run;
+      end = call.ensures.end_of_run;
+      fault = call.ensures.fault_of_run;
+      nothing = call.ensures.nothing_behind_end;
+    } in
     let an_event : is_event c.in_ok-content.field-0.content ≡ true = sym c.is_event.ensures ∙ c.if-not-is_event.false in
-    let run = running t.gives t.known t.may_break c.loop-content.parser call.new.parser call.result called c.in_ok-content.field-0 c.in_ok-content.was an_event in
+    let run = running t.gives t.known t.may_break c.loop-content.parser call.new.parser call.result called c.in_ok-content.field-0 c.in_ok-content.was an_event
+    in
     let fell : events_left t.bound call.new.parser < events_left t.bound c.loop-content.parser = rw c.in_ok-content.was at (call.ensures.falls run) in (
-      skips_more t.gives t.known t.may_break (magnitude c.args.parser.now.max_entries) c.args.parser.now c.loop-content.parser call.new.parser call.result called c.in_ok-content.field-0 c.in_ok-content.was an_event (sym c.in-None.ensures) call.ensures.bound c.loop-content.invariant.0,
+      skips_more t.gives t.known t.may_break (magnitude c.args.parser.now.max_entries) c.args.parser.now c.loop-content.parser call.new.parser call.result
+          called c.in_ok-content.field-0 c.in_ok-content.was an_event (sym c.in-None.ensures) call.ensures.bound c.loop-content.invariant.0,
       stays_since _ _ _ c.loop-content.invariant.1 fell,
       λ ended. absurd (has_not_ended c.args.parser.now c.loop-content.parser c.loop-content.invariant.2 run ended),
     )
 
 pub loop-content-init : goal.loop-content-init
 loop-content-init g c =
-    let t = g.S.yaml_token_source_t in
-    (skips_none t.gives t.known t.may_break (magnitude c.args.parser.now.max_entries) c.args.parser.now, le_refl (events_left t.bound c.args.parser.now), λ ended. refl)
+    let t = g.S.yaml_token_source_t in (
+      skips_none t.gives t.known t.may_break (magnitude c.args.parser.now.max_entries) c.args.parser.now,
+      le_refl (events_left t.bound c.args.parser.now),
+      λ ended. refl,
+    )
 
 pub returns-then-not-is_event-clause-falls : goal.returns-then-not-is_event-clause-falls
 returns-then-not-is_event-clause-falls g c = inl c.without_root.ensures
@@ -78,12 +144,25 @@ pub returns-in-Some-clause-falls : goal.returns-in-Some-clause-falls
 returns-in-Some-clause-falls g c =
     let t = g.S.yaml_token_source_t in
     let call = c.yaml_parser_parse in
-    let called : Called t.gives t.known t.may_break c.loop-content.parser call.new.parser call.result = record { ended = call.ensures.ended; carries_on = call.ensures.carries_on; fails = call.ensures.fails; between = call.ensures.between; next = call.ensures.next_of_run; end = call.ensures.end_of_run; fault = call.ensures.fault_of_run; nothing = call.ensures.nothing_behind_end } in
+    let called : Called t.gives t.known t.may_break c.loop-content.parser call.new.parser call.result
+    = record {
+      ended = call.ensures.ended;
+      carries_on = call.ensures.carries_on;
+      fails = call.ensures.fails;
+      between = call.ensures.between;
+      next
+          = call.ensures.next_of_run;
+      end = call.ensures.end_of_run;
+      fault = call.ensures.fault_of_run;
+      nothing = call.ensures.nothing_behind_end;
+    } in
     let an_event : is_event c.in_ok-content.field-0.content ≡ true = sym c.is_event.ensures ∙ c.if-not-is_event.false in
-    let run = running t.gives t.known t.may_break c.loop-content.parser call.new.parser call.result called c.in_ok-content.field-0 c.in_ok-content.was an_event in
+    let run = running t.gives t.known t.may_break c.loop-content.parser call.new.parser call.result called c.in_ok-content.field-0 c.in_ok-content.was an_event
+    in
     let fell : events_left t.bound call.new.parser < events_left t.bound c.loop-content.parser = rw c.in_ok-content.was at (call.ensures.falls run) in
     let load = c.yaml_parser_load_document in
-    falls_later (λ (d : Document). d ≡ empty_document None [] false false) load.result _ _ _ (stays_since _ _ _ c.loop-content.invariant.1 fell) load.ensures.falls
+    falls_later (λ (d : Document). d ≡ empty_document None [] false false) load.result _ _ _ (stays_since _ _ _ c.loop-content.invariant.1 fell)
+    load.ensures.falls
 
 pub returns-in_err-content-clause-between : goal.returns-in_err-content-clause-between
 returns-in_err-content-clause-between g c =
@@ -102,14 +181,28 @@ returns-in_err-content-clause-ended g c ended =
 
 pub returns-then-not-is_event-clause-ended : goal.returns-then-not-is_event-clause-ended
 returns-then-not-is_event-clause-ended g c ended =
-    let call = c.yaml_parser_parse in
-    (ap (λ (d : Document). Ok d) c.without_root.ensures, (call.ensures.ended (still_ended c.args.parser.now c.loop-content.parser c.loop-content.invariant.2 ended)).1 ∙ c.loop-content.invariant.2 ended)
+    let call = c.yaml_parser_parse in (
+      ap (λ (d : Document). Ok d) c.without_root.ensures,
+      (call.ensures.ended (still_ended c.args.parser.now c.loop-content.parser c.loop-content.invariant.2 ended)).1 ∙ c.loop-content.invariant.2 ended,
+    )
 
 pub returns-in-Some-clause-ended : goal.returns-in-Some-clause-ended
 returns-in-Some-clause-ended g c ended =
     let t = g.S.yaml_token_source_t in
     let call = c.yaml_parser_parse in
-    let called : Called t.gives t.known t.may_break c.loop-content.parser call.new.parser call.result = record { ended = call.ensures.ended; carries_on = call.ensures.carries_on; fails = call.ensures.fails; between = call.ensures.between; next = call.ensures.next_of_run; end = call.ensures.end_of_run; fault = call.ensures.fault_of_run; nothing = call.ensures.nothing_behind_end } in
+    let called : Called t.gives t.known t.may_break c.loop-content.parser call.new.parser call.result
+    = record {
+      ended = call.ensures.ended;
+      carries_on = call.ensures.carries_on;
+      fails = call.ensures.fails;
+      between = call.ensures.between;
+      next
+          = call.ensures.next_of_run;
+      end = call.ensures.end_of_run;
+      fault = call.ensures.fault_of_run;
+      nothing = call.ensures.nothing_behind_end;
+    } in
     let an_event : is_event c.in_ok-content.field-0.content ≡ true = sym c.is_event.ensures ∙ c.if-not-is_event.false in
-    let run = running t.gives t.known t.may_break c.loop-content.parser call.new.parser call.result called c.in_ok-content.field-0 c.in_ok-content.was an_event in
+    let run = running t.gives t.known t.may_break c.loop-content.parser call.new.parser call.result called c.in_ok-content.field-0 c.in_ok-content.was an_event
+    in
     absurd (has_not_ended c.args.parser.now c.loop-content.parser c.loop-content.invariant.2 run ended)

@@ -1,12 +1,15 @@
 use Rattle.std.specs.Prelude.{◌≡◌, ◌≤◌, true}
-use Rattle.libyaml_events.specs.EventsLeft.{events_left}
-use Rattle.libyaml_events.specs.History.{has_ended}
+use Rattle.libyaml_events.specs.parsers.EventsLeft.{events_left}
+use Rattle.libyaml_events.specs.sources.History.{is_over}
 use Rattle.libyaml_loader.specs.Ids.{magnitude}
 use Rattle.libyaml_loader.proofs.Stepping.{Skips}
 use Rattle.libyaml_loader.proofs.load.next_document.Given as goal
 
 abbrev pub invariant-loop-content : goal.invariant-loop-content
-invariant-loop-content g l = Skips g.S.yaml_token_source_t.gives g.S.yaml_token_source_t.known g.S.yaml_token_source_t.may_break (magnitude l.initial.parser.max_entries) l.initial.parser l.parser × (events_left g.S.yaml_token_source_t.bound l.parser ≤ events_left g.S.yaml_token_source_t.bound l.initial.parser) × (has_ended l.initial.parser ≡ true → l.parser ≡ l.initial.parser)
+invariant-loop-content g l = Skips g.S.yaml_token_source_t.gives g.S.yaml_token_source_t.known g.S.yaml_token_source_t.may_break
+    (magnitude l.initial.parser.max_entries) l.initial.parser l.parser
+    × (events_left g.S.yaml_token_source_t.bound l.parser ≤ events_left g.S.yaml_token_source_t.bound l.initial.parser)
+    × (is_over l.initial.parser ≡ true → l.parser ≡ l.initial.parser)
 
 abbrev pub decreases-loop-content : goal.decreases-loop-content
 decreases-loop-content g l = events_left g.S.yaml_token_source_t.bound l.parser

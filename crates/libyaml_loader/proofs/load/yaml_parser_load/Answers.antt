@@ -1,7 +1,7 @@
 use Rattle.std.proofs.Common.{◌≡◌, ap, sym, ◌∙◌, true, false}
-use Rattle.libyaml_events.specs.Config.{is_fault}
-use Rattle.libyaml_events.specs.Fault.{Fault}
-use Rattle.libyaml_events.proofs.Staged.{ran_staged}
+use Rattle.libyaml_events.specs.machine.Config.{is_fault}
+use Rattle.libyaml_grammar.specs.runs.Fault.{Fault}
+use Rattle.libyaml_events.proofs.calls.Staged.{ran_staged}
 use Rattle.libyaml_graphs.specs.Bounds.{next_bounded}
 use Rattle.libyaml_graphs.specs.Loads.{left_over}
 use Rattle.libyaml_loader.specs.Ids.{magnitude}
@@ -22,7 +22,8 @@ pub returns-clause-next_load : goal.returns-clause-next_load
 returns-clause-next_load g c =
     let t = g.S.yaml_token_source_t in
     let call = c.next_document in
-    next_load t.gives t.known t.may_break (next_bounded (magnitude c.args.parser.now.max_entries)) left_over c.args.parser.now call.new.parser call.result call.ensures.fails (λ first. call.ensures.loads)
+    next_load t.gives t.known t.may_break (next_bounded (magnitude c.args.parser.now.max_entries)) left_over c.args.parser.now call.new.parser call.result
+    call.ensures.fails (λ first. call.ensures.loads)
 
 pub returns-then-has_failed-clause-ended : goal.returns-then-has_failed-clause-ended
 returns-then-has_failed-clause-ended g c ended none = absurd (no (sym c.if-has_failed.true ∙ c.has_failed.ensures ∙ none))

@@ -13,5 +13,6 @@ returns-clause-loads g c =
     let t = g.S.yaml_token_source_t in
     let made = c.new-ctx.ensures in
     let o = opening_at c.args.opening in
-    loads_fresh t.gives t.known t.may_break c.new-ctx.result o _ _ _ _ (context_is_fresh c.new-ctx.result o made.document made.stack made.anchors) (made.bound ∙ c.bound_of.ensures)
+    loads_fresh t.gives t.known t.may_break c.new-ctx.result o _ _ _ _ (context_is_fresh c.new-ctx.result o made.document made.stack made.anchors) (made.bound
+    ∙ c.bound_of.ensures)
     (c.yaml_parser_load_nodes.ensures.loads o (begun_is c.new-ctx.result.document _ made.document))

@@ -1,6 +1,6 @@
 use Rattle.std.proofs.Common.{◌≡◌, Ok, Err, Result, rules, ap, ◌∙◌, inl, inr}
 use Rattle.std.proofs.Math.Nat.{le_refl}
-use Rattle.libyaml_events.specs.EventsLeft.{events_left}
+use Rattle.libyaml_events.specs.parsers.EventsLeft.{events_left}
 use Rattle.libyaml_types.specs.declared.enums.yaml_error_type_t.{yaml_error_type_t}
 use Rattle.libyaml_loader.specs.declared.load.Closing.{Closing}
 use Rattle.libyaml_loader.specs.declared.load.Step.{Step}
@@ -31,8 +31,10 @@ loop-ctx-preserved g c =
     let call = c.compose_next in
     let is = ok_step call.result c.in_ok-compose_next.field-0 step.Composed c.in_ok-compose_next.was c.in-Composed.is in (
       way_more t.gives t.known t.may_break c.args.parser.now c.loop-ctx.parser call.new.parser c.args.ctx c.loop-ctx.ctx call.new.ctx c.loop-ctx.invariant.0
-          (steps_at t.gives t.known t.may_break call.result (Ok step.Composed) c.loop-ctx.parser call.new.parser c.loop-ctx.ctx call.new.ctx is call.ensures.steps) call.ensures.bound,
-      stays_since _ _ _ c.loop-ctx.invariant.1 (has_fallen (λ (x : Step). x ≡ step.Ended) call.result step.Composed _ _ is composed_is_no_end call.ensures.falls),
+          (steps_at t.gives t.known t.may_break call.result (Ok step.Composed) c.loop-ctx.parser call.new.parser c.loop-ctx.ctx call.new.ctx is
+          call.ensures.steps) call.ensures.bound,
+      stays_since _ _ _ c.loop-ctx.invariant.1
+          (has_fallen (λ (x : Step). x ≡ step.Ended) call.result step.Composed _ _ is composed_is_no_end call.ensures.falls),
     )
 
 pub returns-in_err-compose_next-clause-loads : goal.returns-in_err-compose_next-clause-loads
@@ -40,24 +42,30 @@ returns-in_err-compose_next-clause-loads g c o begun =
     let t = g.S.yaml_token_source_t in
     let call = c.compose_next in
     let e : c.from_residual.result ≡ Err c.in_err-compose_next.field-0.0 = search rules in
-    way_fails t.gives t.known t.may_break c.args.parser.now c.loop-ctx.parser call.new.parser c.args.ctx c.loop-ctx.ctx c.loop-ctx.invariant.0 o c.from_residual.result c.in_err-compose_next.field-0.0 e
-    (steps_at t.gives t.known t.may_break call.result (Err c.in_err-compose_next.field-0.0) c.loop-ctx.parser call.new.parser c.loop-ctx.ctx call.new.ctx c.in_err-compose_next.was call.ensures.steps)
+    way_fails t.gives t.known t.may_break c.args.parser.now c.loop-ctx.parser call.new.parser c.args.ctx c.loop-ctx.ctx c.loop-ctx.invariant.0 o
+    c.from_residual.result c.in_err-compose_next.field-0.0 e
+    (steps_at t.gives t.known t.may_break call.result (Err c.in_err-compose_next.field-0.0) c.loop-ctx.parser call.new.parser c.loop-ctx.ctx call.new.ctx
+    c.in_err-compose_next.was call.ensures.steps)
 
 pub returns-in-Closed-clause-loads : goal.returns-in-Closed-clause-loads
 returns-in-Closed-clause-loads g c o begun =
     let t = g.S.yaml_token_source_t in
     let call = c.compose_next in
     let is = ok_step call.result c.in_ok-compose_next.field-0 (step.Closed c.in-Closed.closing) c.in_ok-compose_next.was c.in-Closed.is in
-    way_closes t.gives t.known t.may_break c.args.parser.now c.loop-ctx.parser call.new.parser c.args.ctx c.loop-ctx.ctx c.loop-ctx.invariant.0 o call.new.ctx c.in-Closed.closing c.into_document.result begun
-    (steps_at t.gives t.known t.may_break call.result (Ok (step.Closed c.in-Closed.closing)) c.loop-ctx.parser call.new.parser c.loop-ctx.ctx call.new.ctx is call.ensures.steps) c.into_document.ensures
+    way_closes t.gives t.known t.may_break c.args.parser.now c.loop-ctx.parser call.new.parser c.args.ctx c.loop-ctx.ctx c.loop-ctx.invariant.0 o call.new.ctx
+    c.in-Closed.closing c.into_document.result begun
+    (steps_at t.gives t.known t.may_break call.result (Ok (step.Closed c.in-Closed.closing)) c.loop-ctx.parser call.new.parser c.loop-ctx.ctx call.new.ctx is
+    call.ensures.steps) c.into_document.ensures
 
 pub returns-in-Ended-clause-loads : goal.returns-in-Ended-clause-loads
 returns-in-Ended-clause-loads g c o begun =
     let t = g.S.yaml_token_source_t in
     let call = c.compose_next in
     let is = ok_step call.result c.in_ok-compose_next.field-0 step.Ended c.in_ok-compose_next.was c.in-Ended.is in
-    way_finds_end t.gives t.known t.may_break c.args.parser.now c.loop-ctx.parser call.new.parser c.args.ctx c.loop-ctx.ctx c.loop-ctx.invariant.0 o c.without_root.result
-    (steps_at t.gives t.known t.may_break call.result (Ok step.Ended) c.loop-ctx.parser call.new.parser c.loop-ctx.ctx call.new.ctx is call.ensures.steps) c.without_root.ensures
+    way_finds_end t.gives t.known t.may_break c.args.parser.now c.loop-ctx.parser call.new.parser c.args.ctx c.loop-ctx.ctx c.loop-ctx.invariant.0 o
+    c.without_root.result
+    (steps_at t.gives t.known t.may_break call.result (Ok step.Ended) c.loop-ctx.parser call.new.parser c.loop-ctx.ctx call.new.ctx is call.ensures.steps)
+    c.without_root.ensures
 
 pub loop-ctx-smaller : goal.loop-ctx-smaller
 loop-ctx-smaller g c =
@@ -69,7 +77,9 @@ pub returns-in-Closed-clause-falls : goal.returns-in-Closed-clause-falls
 returns-in-Closed-clause-falls g c =
     let call = c.compose_next in
     let is = ok_step call.result c.in_ok-compose_next.field-0 (step.Closed c.in-Closed.closing) c.in_ok-compose_next.was c.in-Closed.is in
-    inr (falls_since _ _ _ c.loop-ctx.invariant.1 (has_fallen (λ (x : Step). x ≡ step.Ended) call.result (step.Closed c.in-Closed.closing) _ _ is (closed_is_no_end c.in-Closed.closing) call.ensures.falls))
+    inr (falls_since _ _ _ c.loop-ctx.invariant.1
+    (has_fallen (λ (x : Step). x ≡ step.Ended) call.result (step.Closed c.in-Closed.closing) _ _ is (closed_is_no_end c.in-Closed.closing)
+    call.ensures.falls))
 
 pub returns-in-Ended-clause-falls : goal.returns-in-Ended-clause-falls
 returns-in-Ended-clause-falls g c = inl c.without_root.ensures

@@ -28,14 +28,28 @@ returns-in_default-clause-none c =
 pub returns-in_default-checked_add-clause-none : goal.returns-in_default-checked_add-clause-none
 returns-in_default-checked_add-clause-none c =
     let digit = sym c.if-not-is_ascii_digit.ensures.value in
-    λ _. too_much_within _ _ c.loop-len.len c.loop-len.value c.loop-len.invariant c.loop-len-test.true digit (omega (arith, c.in_default-checked_add.ensures, c.in-Some.ensures, c.from.ensures))
+    λ _. too_much_within _ _ c.loop-len.len c.loop-len.value c.loop-len.invariant c.loop-len-test.true digit (omega (
+      arith,
+      c.in_default-checked_add.ensures,
+      c.in-Some.ensures,
+      c.from.ensures,
+    ))
 
 pub loop-len-preserved : goal.loop-len-preserved
 loop-len-preserved c =
     let digit = sym c.if-not-is_ascii_digit.ensures.value in
     let byte = slice_index_or (take (length c.args.line.now - c.args.at) (drop c.args.at c.args.line.now)) c.loop-len.len 0 in
-    let next : c.in-Some-checked_add.more ≡ c.loop-len.value * 10 + (byte - 48) = omega (arith, c.in-Some-checked_add.ensures, c.in-Some.ensures, c.from.ensures) in
-    rw next (more_within _ _ c.loop-len.len c.loop-len.value c.loop-len.invariant c.loop-len-test.true digit (omega (arith, c.in-Some-checked_add.ensures, next)))
+    let next : c.in-Some-checked_add.more ≡ c.loop-len.value * 10 + (byte - 48) = omega (
+      arith,
+      c.in-Some-checked_add.ensures,
+      c.in-Some.ensures,
+      c.from.ensures,
+    ) in
+    rw next (more_within _ _ c.loop-len.len c.loop-len.value c.loop-len.invariant c.loop-len-test.true digit (omega (
+      arith,
+      c.in-Some-checked_add.ensures,
+      next,
+    )))
 
 pub ended_number-requires-2-clause-digits : goal.ended_number-requires-2-clause-digits
 ended_number-requires-2-clause-digits c =

@@ -8,11 +8,17 @@ returns-then-not-is_ascii_digit c =
 
 pub returns-in_err-checked_mul : goal.returns-in_err-checked_mul
 returns-in_err-checked_mul c =
-    c.from_residual.ensures ∙ value_of-large _ _ _ c.loop-digit.invariant.so_far c.loop-digit-test.true (sym c.if-not-is_ascii_digit.ensures.value) (omega (arith, c.in_err-checked_mul.ensures))
+    c.from_residual.ensures ∙ value_of-large _ _ _ c.loop-digit.invariant.so_far c.loop-digit-test.true (sym c.if-not-is_ascii_digit.ensures.value)
+    (omega (arith, c.in_err-checked_mul.ensures))
 
 pub returns-in_err-value : goal.returns-in_err-value
 returns-in_err-value c =
-    c.from_residual-in_err-value.ensures ∙ value_of-large _ _ _ c.loop-digit.invariant.so_far c.loop-digit-test.true (sym c.if-not-is_ascii_digit.ensures.value) (omega (arith, c.in_err-value.ensures, c.in_ok-checked_mul.ensures))
+    c.from_residual-in_err-value.ensures
+    ∙ value_of-large _ _ _ c.loop-digit.invariant.so_far c.loop-digit-test.true (sym c.if-not-is_ascii_digit.ensures.value) (omega (
+      arith,
+      c.in_err-value.ensures,
+      c.in_ok-checked_mul.ensures,
+    ))
 
 pub loop-digit-preserved : goal.loop-digit-preserved
 loop-digit-preserved c =

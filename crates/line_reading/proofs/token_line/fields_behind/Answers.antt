@@ -7,5 +7,6 @@ pub returns : goal.returns
 returns c =
     let line = c.args.line.now in
     let end = c.args.end in
-    let whole : take (length line - (end + 1)) (drop (end + 1) line) ≡ drop (end + 1) line = take_all _ (drop (end + 1) line) (omega (arith, length-drop (end + 1) line)) in
+    let whole : take (length line - (end + 1)) (drop (end + 1) line) ≡ drop (end + 1) line
+    = take_all _ (drop (end + 1) line) (omega (arith, length-drop (end + 1) line)) in
     rw whole (sym (some_further line end (omega (arith, c.requires, c.if-end-line.false))))

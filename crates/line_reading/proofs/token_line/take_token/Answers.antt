@@ -49,7 +49,8 @@ returns-in_err-content c =
     let here = named line n small c.len_before-name.ensures.before (c.len_before-name.ensures.found small) in
     let type : token_type_of (take n line) ≡ Some c.in_ok-type_.type_ = search rules in
     let more : a < length line = omega (arith, c.read_mark-start.ensures.within, c.if-start-line.false) in
-    let all = with_content line n a z _ _ _ here type (c.read_mark-start.ensures.some (omega (arith, c.if-start-eq0.false))) more (c.read_mark-end.ensures.some (omega (arith, c.if-end-eq0.false))) in
+    let all = with_content line n a z _ _ _ here type (c.read_mark-start.ensures.some (omega (arith, c.if-start-eq0.false))) more
+    (c.read_mark-end.ensures.some (omega (arith, c.if-end-eq0.false))) in
     rw (all, ← c.fields_behind.ensures, ← c.behind.ensures) (search rules)
 
 pub returns : goal.returns
@@ -62,5 +63,6 @@ returns c =
     let here = named line n small c.len_before-name.ensures.before (c.len_before-name.ensures.found small) in
     let type : token_type_of (take n line) ≡ Some c.in_ok-type_.type_ = search rules in
     let more : a < length line = omega (arith, c.read_mark-start.ensures.within, c.if-start-line.false) in
-    let all = with_content line n a z _ _ _ here type (c.read_mark-start.ensures.some (omega (arith, c.if-start-eq0.false))) more (c.read_mark-end.ensures.some (omega (arith, c.if-end-eq0.false))) in
+    let all = with_content line n a z _ _ _ here type (c.read_mark-start.ensures.some (omega (arith, c.if-start-eq0.false))) more
+    (c.read_mark-end.ensures.some (omega (arith, c.if-end-eq0.false))) in
     rw (all, ← c.fields_behind.ensures, ← c.behind.ensures) (search rules)

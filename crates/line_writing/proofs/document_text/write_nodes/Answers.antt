@@ -6,7 +6,8 @@ use Rattle.line_writing.proofs.DocumentLemmas.{lines_more, wrote_before}
 use Rattle.line_writing.proofs.document_text.write_nodes.Goals as goal
 
 pub returns-in_err-append_node-clause-memory : goal.returns-in_err-append_node-clause-memory
-returns-in_err-append_node-clause-memory g c refused = wrote_before c.args.nodes.now c.loop-place.place c.index-nodes-place.result _ _ c.loop-place-test.true c.loop-place.invariant
+returns-in_err-append_node-clause-memory g c refused
+    = wrote_before c.args.nodes.now c.loop-place.place c.index-nodes-place.result _ _ c.loop-place-test.true c.loop-place.invariant
 
 pub loop-place-preserved : goal.loop-place-preserved
 loop-place-preserved g c =
@@ -14,5 +15,6 @@ loop-place-preserved g c =
     let place = c.loop-place.place in
     let node = c.index-nodes-place.result in
     let line = c.in_ok-append_node.ensures ∙ ap (λ l. l ++ node_line (place + 1) node) c.clear.ensures.bytes in
-    let wrote = subst (λ x. Appends (g.W.Write.contents c.loop-place.writer) (g.W.Write.contents c.write_line.new.writer) (node_line (place + 1) x)) c.index-nodes-place.is (subst (Appends _ _) line c.in_ok-write_line.ensures.ok) in
+    let wrote = subst (λ x. Appends (g.W.Write.contents c.loop-place.writer) (g.W.Write.contents c.write_line.new.writer) (node_line (place + 1) x))
+    c.index-nodes-place.is (subst (Appends _ _) line c.in_ok-write_line.ensures.ok) in
     subst (Appends _ _) (sym (lines_more nodes place node c.loop-place-test.true)) (Appends-trans _ _ _ _ _ c.loop-place.invariant wrote)

@@ -7,7 +7,8 @@ pub loop-document-init : goal.loop-document-init
 loop-document-init g c =
     let t = g.S.yaml_token_source_t in
     let parser = c.yaml_parser_initialize-parser in
-    let start = loaded_none t.gives t.known t.may_break _ parser.result parser.result parser.ensures.begins parser.ensures.between parser.ensures.bound (parser.ensures.run_to_come t.known) in
+    let start = loaded_none t.gives t.known t.may_break _ parser.result parser.result parser.ensures.begins parser.ensures.between parser.ensures.bound
+    (parser.ensures.run_to_come t.known) in
     loaded_as t.gives t.known t.may_break _ parser.result parser.result _ _ c.new-documents.ensures.items start
 
 pub yaml_parser_load-requires : goal.yaml_parser_load-requires
@@ -18,7 +19,9 @@ returns-then-is_empty-clause-of_list g c l f a h k =
     let t = g.S.yaml_token_source_t in
     let call = c.yaml_parser_load.ensures in
     let no_root : c.in-Ok.document.nodes ≡ [] = sym c.nodes.ensures.all ∙ bare c.nodes.result.now (sym c.if-is_empty.ensures) in
-    loaded_all t.gives t.known t.may_break c.args.source c.loop-document.parser c.yaml_parser_load.new.parser c.yaml_parser_load.result (record { next = call.next_load; loads = call.loads; between = call.between; bound = call.bound }) c.loop-document.documents.items c.loop-document.invariant c.in-Ok.document c.in-Ok.is no_root _ refl refl l f a h k
+    loaded_all t.gives t.known t.may_break c.args.source c.loop-document.parser c.yaml_parser_load.new.parser c.yaml_parser_load.result
+    (record { next = call.next_load; loads = call.loads; between = call.between; bound = call.bound }) c.loop-document.documents.items
+    c.loop-document.invariant c.in-Ok.document c.in-Ok.is no_root _ refl refl l f a h k
 
 pub returns-then-is_empty-clause-of_tree : goal.returns-then-is_empty-clause-of_tree
 returns-then-is_empty-clause-of_tree g c t f o k =
@@ -43,18 +46,25 @@ loop-document-preserved g c =
     let t = g.S.yaml_token_source_t in
     let call = c.yaml_parser_load.ensures in
     let has_root : c.in-Ok.document.nodes ≢ [] = λ e. rooted c.nodes.result.now (sym c.if-is_empty.ensures) (c.nodes.ensures.all ∙ e) in
-    let next = loaded_next t.gives t.known t.may_break c.args.source c.loop-document.parser c.yaml_parser_load.new.parser c.yaml_parser_load.result (record { next = call.next_load; loads = call.loads; between = call.between; bound = call.bound }) c.loop-document.documents.items c.loop-document.invariant c.in-Ok.document c.in-Ok.is has_root in
-    loaded_as t.gives t.known t.may_break c.args.source c.loop-document.parser c.yaml_parser_load.new.parser (c.loop-document.documents.items ++ c.in-Ok.document ∷ []) c.push.new.self.items c.in_ok-push-in-Ok.ensures.items next
+    let next = loaded_next t.gives t.known t.may_break c.args.source c.loop-document.parser c.yaml_parser_load.new.parser c.yaml_parser_load.result
+    (record { next = call.next_load; loads = call.loads; between = call.between; bound = call.bound }) c.loop-document.documents.items
+    c.loop-document.invariant c.in-Ok.document c.in-Ok.is has_root in
+    loaded_as t.gives t.known t.may_break c.args.source c.loop-document.parser c.yaml_parser_load.new.parser (c.loop-document.documents.items
+    ++ c.in-Ok.document ∷ []) c.push.new.self.items c.in_ok-push-in-Ok.ensures.items next
 
 pub returns-in-Err-clause-of_list : goal.returns-in-Err-clause-of_list
 returns-in-Err-clause-of_list g c l f a h k =
     let t = g.S.yaml_token_source_t in
     let call = c.yaml_parser_load.ensures in
-    let fails = loaded_to_fault t.gives t.known t.may_break c.args.source c.loop-document.parser c.yaml_parser_load.new.parser c.yaml_parser_load.result (record { next = call.next_load; loads = call.loads; between = call.between; bound = call.bound }) c.loop-document.documents.items c.loop-document.invariant c.in-Err.field-0 c.in-Err.is in
+    let fails = loaded_to_fault t.gives t.known t.may_break c.args.source c.loop-document.parser c.yaml_parser_load.new.parser c.yaml_parser_load.result
+    (record { next = call.next_load; loads = call.loads; between = call.between; bound = call.bound }) c.loop-document.documents.items
+    c.loop-document.invariant c.in-Err.field-0 c.in-Err.is in
     if_loaded c.failed_load.result _ _ c.failed_load.ensures (λ all r. fails all (ap (λ v. v.items) r.0) _ c.prefix.ensures.kept r.1 r.2 l f a h k)
 
 pub returns-in-Err-clause-roots : goal.returns-in-Err-clause-roots
-returns-in-Err-clause-roots g c = if_loaded c.failed_load.result _ _ c.failed_load.ensures (λ all r. subst (λ v. All (λ d. d.nodes ≢ []) v.items) (sym r.0) c.loop-document.invariant.roots)
+returns-in-Err-clause-roots g c
+    = if_loaded c.failed_load.result _ _ c.failed_load.ensures
+    (λ all r. subst (λ v. All (λ d. d.nodes ≢ []) v.items) (sym r.0) c.loop-document.invariant.roots)
 
 pub returns-in-Err-clause-of_tree : goal.returns-in-Err-clause-of_tree
 returns-in-Err-clause-of_tree g c t f o k =

@@ -1,4 +1,4 @@
-use Rattle.libyaml_events.specs.EventsLeft.{events_left}
+use Rattle.libyaml_events.specs.parsers.EventsLeft.{events_left}
 use Rattle.unsafe_libyaml.proofs.WholeLoads.{Loaded}
 use Rattle.unsafe_libyaml.proofs.load_all.yaml_parser_load_all.Given as goal
 

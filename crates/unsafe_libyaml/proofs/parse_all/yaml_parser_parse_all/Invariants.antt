@@ -1,4 +1,4 @@
-use Rattle.libyaml_events.specs.EventsLeft.{events_left}
+use Rattle.libyaml_events.specs.parsers.EventsLeft.{events_left}
 use Rattle.unsafe_libyaml.proofs.WholeRuns.{Reached}
 use Rattle.unsafe_libyaml.proofs.parse_all.yaml_parser_parse_all.Given as goal
 

@@ -16,5 +16,6 @@ value_of-requires c =
 pub returns-in_ok-place-in-Sequence : goal.returns-in_ok-place-in-Sequence
 returns-in_ok-place-in-Sequence c =
     let names = IsIdUpTo (length c.args.document.now.nodes) in
-    item_holds names c.as_slice.result.now c.in-Sequence.sequence.items (subst (λ (x : unnamed_yaml_node_t_data). All names (ids_of x)) c.in-Sequence.is c.named_node.ensures.ids)
+    item_holds names c.as_slice.result.now c.in-Sequence.sequence.items
+    (subst (λ (x : unnamed_yaml_node_t_data). All names (ids_of x)) c.in-Sequence.is c.named_node.ensures.ids)
     c.as_slice.ensures c.in_ok-place-in-Sequence.place c.item_at.result c.item_at.ensures

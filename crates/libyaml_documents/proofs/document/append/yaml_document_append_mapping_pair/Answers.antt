@@ -12,10 +12,13 @@ invariant_of-document-2 c =
     let key_fits : SFits w32 c.args.key = c.ranges.key in
     let value_fits : SFits w32 c.args.value = c.ranges.value in
     let pushed = simp to_z-of_z at c.in_ok-push_pair.ensures.ok in
-    let key_below : IsIdUpTo (length c.document.inside.nodes.items) c.args.key = subst (λ (d : Document). IsIdUpTo (length d.nodes) c.args.key) (sym c.document.view_is) c.requires.key in
-    let value_below : IsIdUpTo (length c.document.inside.nodes.items) c.args.value = subst (λ (d : Document). IsIdUpTo (length d.nodes) c.args.value) (sym c.document.view_is) c.requires.value in
+    let key_below : IsIdUpTo (length c.document.inside.nodes.items) c.args.key
+    = subst (λ (d : Document). IsIdUpTo (length d.nodes) c.args.key) (sym c.document.view_is) c.requires.key in
+    let value_below : IsIdUpTo (length c.document.inside.nodes.items) c.args.value
+    = subst (λ (d : Document). IsIdUpTo (length d.nodes) c.args.value) (sym c.document.view_is) c.requires.value in
     AreNodes-set c.place_of.result (with_pair c.args.key c.args.value) c.document.inside.nodes.items c.index_mut-node.result.now c.push_pair.new.self
-    (inside-type_at _ c.args.document.now c.args.mapping c.place_of.result YAML_MAPPING_NODE c.document.view_is (sym (to_z-of_z w32 c.args.mapping c.ranges.mapping) ∙ c.place_of.ensures) (λ (e : YAML_NO_NODE ≡ YAML_MAPPING_NODE). cc) c.requires.target)
+    (inside-type_at _ c.args.document.now c.args.mapping c.place_of.result YAML_MAPPING_NODE c.document.view_is
+    (sym (to_z-of_z w32 c.args.mapping c.ranges.mapping) ∙ c.place_of.ensures) (λ (e : YAML_NO_NODE ≡ YAML_MAPPING_NODE). cc) c.requires.target)
     c.index_mut-node.ensures.value pushed
     (λ node h. with_pair-keeps _ (record { key = c.args.key; value = c.args.value }) node.content key_below value_below h)
     c.document.invariant
@@ -25,7 +28,8 @@ returns-clause-ok c =
     let key_fits : SFits w32 c.args.key = c.ranges.key in
     let value_fits : SFits w32 c.args.value = c.ranges.value in
     let pushed = simp to_z-of_z at c.in_ok-push_pair.ensures.ok in
-    with_changed_node-set _ c.args.document.now c.args.mapping c.place_of.result (with_pair c.args.key c.args.value) c.index_mut-node.result.now c.push_pair.new.self
+    with_changed_node-set _ c.args.document.now c.args.mapping c.place_of.result (with_pair c.args.key c.args.value) c.index_mut-node.result.now
+    c.push_pair.new.self
     c.document.view_is (sym (to_z-of_z w32 c.args.mapping c.ranges.mapping) ∙ c.place_of.ensures) c.index_mut-node.ensures.value pushed
 
 pub returns-clause-types_kept : goal.returns-clause-types_kept

@@ -11,9 +11,11 @@ pub invariant_of-document-2 : goal.invariant_of-document-2
 invariant_of-document-2 c =
     let fits : SFits w32 c.args.item = c.ranges.item in
     let pushed = simp to_z-of_z at c.in_ok-push_item.ensures.ok in
-    let below : IsIdUpTo (length c.document.inside.nodes.items) c.args.item = subst (λ (d : Document). IsIdUpTo (length d.nodes) c.args.item) (sym c.document.view_is) c.requires.item in
+    let below : IsIdUpTo (length c.document.inside.nodes.items) c.args.item
+    = subst (λ (d : Document). IsIdUpTo (length d.nodes) c.args.item) (sym c.document.view_is) c.requires.item in
     AreNodes-set c.place_of.result (with_item c.args.item) c.document.inside.nodes.items c.index_mut-node.result.now c.push_item.new.self
-    (inside-type_at _ c.args.document.now c.args.sequence c.place_of.result YAML_SEQUENCE_NODE c.document.view_is (sym (to_z-of_z w32 c.args.sequence c.ranges.sequence) ∙ c.place_of.ensures) (λ (e : YAML_NO_NODE ≡ YAML_SEQUENCE_NODE). cc) c.requires.target)
+    (inside-type_at _ c.args.document.now c.args.sequence c.place_of.result YAML_SEQUENCE_NODE c.document.view_is
+    (sym (to_z-of_z w32 c.args.sequence c.ranges.sequence) ∙ c.place_of.ensures) (λ (e : YAML_NO_NODE ≡ YAML_SEQUENCE_NODE). cc) c.requires.target)
     c.index_mut-node.ensures.value pushed
     (λ node h. with_item-keeps _ c.args.item node.content below h)
     c.document.invariant

@@ -1,4 +1,4 @@
-use Rattle.libyaml_events.proofs.CallsInTurn.{no_call, one_call, both_calls, gave_then}
+use Rattle.libyaml_events.proofs.calls.CallsInTurn.{no_call, one_call, both_calls, gave_then}
 use Rattle.libyaml_events.proofs.laws.calls.calls_in_turn.Goals as goal
 
 pub returns-clause-none : goal.returns-clause-none

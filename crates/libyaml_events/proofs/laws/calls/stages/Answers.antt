@@ -1,6 +1,6 @@
 use Rattle.std.proofs.Common.{[], ◌∷◌}
-use Rattle.libyaml_events.specs.Stages.{at_start}
-use Rattle.libyaml_events.proofs.CallsInTurn.{stage_more}
+use Rattle.libyaml_events.specs.parsers.Stages.{at_start}
+use Rattle.libyaml_events.proofs.calls.CallsInTurn.{stage_more}
 use Rattle.libyaml_events.proofs.laws.calls.stages.Goals as goal
 
 pub returns-clause-next : goal.returns-clause-next

@@ -1,11 +1,11 @@
 use Rattle.std.proofs.Common.{◌≡◌, ◌++◌, ◌∷◌, List, [], refl, ap, arith, inl, inr, codes}
 use Rattle.libyaml_types.specs.declared.enums.yaml_error_type_t.TheVariants.{YAML_MEMORY_ERROR, YAML_PARSER_ERROR}
 use Rattle.libyaml_types.specs.declared.enums.yaml_parser_state_t.TheVariants.{YAML_PARSE_DOCUMENT_END_STATE, YAML_PARSE_END_STATE}
-use Rattle.libyaml_events.specs.Config.{Config}
-use Rattle.libyaml_events.specs.Fault.{Fault}
-use Rattle.libyaml_events.specs.RowNotation.{SCALAR, STREAM, place, token}
-use Rattle.libyaml_events.specs.StackRows.{MissesEntry}
-use Rattle.libyaml_events.specs.Tokens.{Content, Token}
+use Rattle.libyaml_events.specs.machine.Config.{Config}
+use Rattle.libyaml_grammar.specs.runs.Fault.{Fault}
+use Rattle.libyaml_grammar.specs.rows.RowNotation.{SCALAR, STREAM, place, token}
+use Rattle.libyaml_events.specs.rows.StackRows.{MissesEntry}
+use Rattle.libyaml_grammar.specs.sentences.Tokens.{Content, Token}
 use Rattle.libyaml_events.proofs.laws.rows.stacks.Goals as goal
 
 pub returns-clause-sequence_ends : goal.returns-clause-sequence_ends

@@ -1,5 +1,5 @@
 use Rattle.std.proofs.Common.{ap, sym, ◌∙◌, is_some}
-use Rattle.libyaml_events.proofs.HandleLemmas.{get_handle, one_declared}
+use Rattle.libyaml_events.proofs.code.HandleLemmas.{get_handle, one_declared}
 use Rattle.libyaml_events.proofs.parser.yaml_parser_t.declare.Goals as goal
 
 pub returns-in-Ok-insert-clause-before : goal.returns-in-Ok-insert-clause-before

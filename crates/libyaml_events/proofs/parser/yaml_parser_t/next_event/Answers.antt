@@ -1,6 +1,6 @@
 use Rattle.std.proofs.Common.{◌≡◌, Err, ap, rules}
-use Rattle.libyaml_events.proofs.CallLemmas.{fetched, faulted, gave_event, gave_fault}
-use Rattle.libyaml_events.proofs.SlotCalls.{wants_next, leaves_source, takes_one}
+use Rattle.libyaml_events.proofs.calls.CallLemmas.{fetched, faulted, gave_event, gave_fault}
+use Rattle.libyaml_events.proofs.machine.SlotCalls.{wants_next, leaves_source, takes_one}
 use Rattle.libyaml_events.proofs.parser.yaml_parser_t.next_event.Goals as goal
 
 pub returns-in_err-token-clause-call : goal.returns-in_err-token-clause-call
@@ -25,4 +25,6 @@ loop-event-preserved g c =
     wants_next g.S.yaml_token_source_t.gives _ _ _ _ hand _ _ _ _ c.in_default.not-Given c.in_ok-wanted.ensures.steps
 
 pub loop-event-smaller : goal.loop-event-smaller
-loop-event-smaller g c = takes_one g.S.yaml_token_source_t.gives g.S.yaml_token_source_t.bound g.met.S.yaml_token_source_t.falls c.loop-event.self c.next_token.new.self c.step.new.self _ c.in_ok-token.ensures.fetches (leaves_source _ c.next_token.new.self _ _ _ c.step.new.self c.in_default.not-Given c.in_ok-wanted.ensures.steps)
+loop-event-smaller g c = takes_one g.S.yaml_token_source_t.gives g.S.yaml_token_source_t.bound g.met.S.yaml_token_source_t.falls c.loop-event.self
+    c.next_token.new.self c.step.new.self _ c.in_ok-token.ensures.fetches
+    (leaves_source _ c.next_token.new.self _ _ _ c.step.new.self c.in_default.not-Given c.in_ok-wanted.ensures.steps)

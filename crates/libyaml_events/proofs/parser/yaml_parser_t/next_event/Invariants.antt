@@ -1,7 +1,7 @@
 use Rattle.std.proofs.Common.{◌+◌, length}
-use Rattle.libyaml_events.specs.Calls.{held}
-use Rattle.libyaml_events.specs.Answers.{wanted}
-use Rattle.libyaml_events.proofs.CallLemmas.{Reading}
+use Rattle.libyaml_events.specs.sources.Calls.{held}
+use Rattle.libyaml_events.specs.machine.Answers.{wanted}
+use Rattle.libyaml_events.proofs.calls.CallLemmas.{Reading}
 use Rattle.libyaml_events.proofs.parser.yaml_parser_t.next_event.Given as goal
 
 abbrev pub invariant-loop-event : goal.invariant-loop-event

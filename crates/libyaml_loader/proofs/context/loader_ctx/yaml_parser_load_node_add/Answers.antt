@@ -6,50 +6,68 @@ use Rattle.libyaml_loader.proofs.context.loader_ctx.yaml_parser_load_node_add.Go
 
 pub returns-in-YAML_SEQUENCE_NODE-clause-ok : goal.returns-in-YAML_SEQUENCE_NODE-clause-ok
 returns-in-YAML_SEQUENCE_NODE-clause-ok c =
-    let h = hands_item c.args.self.now.max_entries c.in-Some.parent c.args.child c.args.self.now.stack c.args.self.now.document.nodes c.in-Some.ensures (sym c.in-YAML_SEQUENCE_NODE.ensures) in
+    let h = hands_item c.args.self.now.max_entries c.in-Some.parent c.args.child c.args.self.now.stack c.args.self.now.document.nodes c.in-Some.ensures
+    (sym c.in-YAML_SEQUENCE_NODE.ensures) in
     on_ok c.add_item.result (λ made. made ∙ handed_by _ _ c.args.self.now _ _ _ h) c.add_item.ensures.ok
 
 pub returns-in-YAML_SEQUENCE_NODE-clause-room : goal.returns-in-YAML_SEQUENCE_NODE-clause-room
 returns-in-YAML_SEQUENCE_NODE-clause-room c =
-    let h = hands_item c.args.self.now.max_entries c.in-Some.parent c.args.child c.args.self.now.stack c.args.self.now.document.nodes c.in-Some.ensures (sym c.in-YAML_SEQUENCE_NODE.ensures) in
+    let h = hands_item c.args.self.now.max_entries c.in-Some.parent c.args.child c.args.self.now.stack c.args.self.now.document.nodes c.in-Some.ensures
+    (sym c.in-YAML_SEQUENCE_NODE.ensures) in
     on_ok c.add_item.result (λ room. h.full_is ∙ room) c.add_item.ensures.room
 
 pub returns-in-Some-key-clause-ok : goal.returns-in-Some-key-clause-ok
 returns-in-Some-key-clause-ok c =
-    let h = hands_value c.args.self.now.max_entries c.in-Some.parent c.in-Some-key.key c.args.child c.args.self.now.stack c.args.self.now.document.nodes c.in-Some-key.is c.in-Some.ensures (sym c.in-YAML_MAPPING_NODE.ensures) in
+    let h = hands_value c.args.self.now.max_entries c.in-Some.parent c.in-Some-key.key c.args.child c.args.self.now.stack c.args.self.now.document.nodes
+    c.in-Some-key.is c.in-Some.ensures (sym c.in-YAML_MAPPING_NODE.ensures) in
     on_ok c.add_pair.result (λ made. made ∙ handed_by _ _ c.args.self.now _ _ _ h) c.add_pair.ensures.ok
 
 pub returns-in-Some-key-clause-room : goal.returns-in-Some-key-clause-room
 returns-in-Some-key-clause-room c =
-    let h = hands_value c.args.self.now.max_entries c.in-Some.parent c.in-Some-key.key c.args.child c.args.self.now.stack c.args.self.now.document.nodes c.in-Some-key.is c.in-Some.ensures (sym c.in-YAML_MAPPING_NODE.ensures) in
+    let h = hands_value c.args.self.now.max_entries c.in-Some.parent c.in-Some-key.key c.args.child c.args.self.now.stack c.args.self.now.document.nodes
+    c.in-Some-key.is c.in-Some.ensures (sym c.in-YAML_MAPPING_NODE.ensures) in
     on_ok c.add_pair.result (λ made. h.full_is) c.add_pair.ensures.ok
 
 pub returns-in-None-clause-ok : goal.returns-in-None-clause-ok
 returns-in-None-clause-ok c =
-    let h = hands_key c.args.self.now.max_entries c.in-Some.parent c.args.child c.args.self.now.stack c.args.self.now.document.nodes c.in-None.is c.in-Some.ensures (sym c.in-YAML_MAPPING_NODE.ensures) in
+    let h = hands_key c.args.self.now.max_entries c.in-Some.parent c.args.child c.args.self.now.stack c.args.self.now.document.nodes c.in-None.is
+    c.in-Some.ensures (sym c.in-YAML_MAPPING_NODE.ensures) in
     on_ok c.add_key.result (λ made. made ∙ handed_by _ _ c.args.self.now _ _ _ h) c.add_key.ensures.ok
 
 pub returns-in-None-clause-room : goal.returns-in-None-clause-room
 returns-in-None-clause-room c =
-    let h = hands_key c.args.self.now.max_entries c.in-Some.parent c.args.child c.args.self.now.stack c.args.self.now.document.nodes c.in-None.is c.in-Some.ensures (sym c.in-YAML_MAPPING_NODE.ensures) in
+    let h = hands_key c.args.self.now.max_entries c.in-Some.parent c.args.child c.args.self.now.stack c.args.self.now.document.nodes c.in-None.is
+    c.in-Some.ensures (sym c.in-YAML_MAPPING_NODE.ensures) in
     on_ok c.add_key.result (λ room. h.full_is ∙ room) c.add_key.ensures.room
 
 pub returns-in-YAML_SCALAR_NODE-clause-ok : goal.returns-in-YAML_SCALAR_NODE-clause-ok
 returns-in-YAML_SCALAR_NODE-clause-ok c =
-    let h = hands_nothing c.args.self.now.max_entries c.in-Some.parent c.args.child c.args.self.now.stack c.args.self.now.document.nodes c.in-Some.ensures (λ (e : type_at c.args.self.now.document.nodes c.in-Some.parent.node.number ≡ YAML_SEQUENCE_NODE). let f = c.in-YAML_SCALAR_NODE.ensures in cc) (λ (e : type_at c.args.self.now.document.nodes c.in-Some.parent.node.number ≡ YAML_MAPPING_NODE). let f = c.in-YAML_SCALAR_NODE.ensures in cc) in
+    let h = hands_nothing c.args.self.now.max_entries c.in-Some.parent c.args.child c.args.self.now.stack c.args.self.now.document.nodes c.in-Some.ensures
+    (λ (e : type_at c.args.self.now.document.nodes c.in-Some.parent.node.number ≡ YAML_SEQUENCE_NODE). let f
+    = c.in-YAML_SCALAR_NODE.ensures in cc) (λ (e : type_at c.args.self.now.document.nodes c.in-Some.parent.node.number ≡ YAML_MAPPING_NODE). let f
+    = c.in-YAML_SCALAR_NODE.ensures in cc) in
     handed_by _ _ c.args.self.now _ _ _ h
 
 pub returns-in-YAML_SCALAR_NODE-clause-room : goal.returns-in-YAML_SCALAR_NODE-clause-room
 returns-in-YAML_SCALAR_NODE-clause-room c =
-    let h = hands_nothing c.args.self.now.max_entries c.in-Some.parent c.args.child c.args.self.now.stack c.args.self.now.document.nodes c.in-Some.ensures (λ (e : type_at c.args.self.now.document.nodes c.in-Some.parent.node.number ≡ YAML_SEQUENCE_NODE). let f = c.in-YAML_SCALAR_NODE.ensures in cc) (λ (e : type_at c.args.self.now.document.nodes c.in-Some.parent.node.number ≡ YAML_MAPPING_NODE). let f = c.in-YAML_SCALAR_NODE.ensures in cc) in
+    let h = hands_nothing c.args.self.now.max_entries c.in-Some.parent c.args.child c.args.self.now.stack c.args.self.now.document.nodes c.in-Some.ensures
+    (λ (e : type_at c.args.self.now.document.nodes c.in-Some.parent.node.number ≡ YAML_SEQUENCE_NODE). let f
+    = c.in-YAML_SCALAR_NODE.ensures in cc) (λ (e : type_at c.args.self.now.document.nodes c.in-Some.parent.node.number ≡ YAML_MAPPING_NODE). let f
+    = c.in-YAML_SCALAR_NODE.ensures in cc) in
     h.full_is
 
 pub returns-in-YAML_NO_NODE-clause-ok : goal.returns-in-YAML_NO_NODE-clause-ok
 returns-in-YAML_NO_NODE-clause-ok c =
-    let h = hands_nothing c.args.self.now.max_entries c.in-Some.parent c.args.child c.args.self.now.stack c.args.self.now.document.nodes c.in-Some.ensures (λ (e : type_at c.args.self.now.document.nodes c.in-Some.parent.node.number ≡ YAML_SEQUENCE_NODE). let f = c.in-YAML_NO_NODE.ensures in cc) (λ (e : type_at c.args.self.now.document.nodes c.in-Some.parent.node.number ≡ YAML_MAPPING_NODE). let f = c.in-YAML_NO_NODE.ensures in cc) in
+    let h = hands_nothing c.args.self.now.max_entries c.in-Some.parent c.args.child c.args.self.now.stack c.args.self.now.document.nodes c.in-Some.ensures
+    (λ (e : type_at c.args.self.now.document.nodes c.in-Some.parent.node.number ≡ YAML_SEQUENCE_NODE). let f
+    = c.in-YAML_NO_NODE.ensures in cc) (λ (e : type_at c.args.self.now.document.nodes c.in-Some.parent.node.number ≡ YAML_MAPPING_NODE). let f
+    = c.in-YAML_NO_NODE.ensures in cc) in
     handed_by _ _ c.args.self.now _ _ _ h
 
 pub returns-in-YAML_NO_NODE-clause-room : goal.returns-in-YAML_NO_NODE-clause-room
 returns-in-YAML_NO_NODE-clause-room c =
-    let h = hands_nothing c.args.self.now.max_entries c.in-Some.parent c.args.child c.args.self.now.stack c.args.self.now.document.nodes c.in-Some.ensures (λ (e : type_at c.args.self.now.document.nodes c.in-Some.parent.node.number ≡ YAML_SEQUENCE_NODE). let f = c.in-YAML_NO_NODE.ensures in cc) (λ (e : type_at c.args.self.now.document.nodes c.in-Some.parent.node.number ≡ YAML_MAPPING_NODE). let f = c.in-YAML_NO_NODE.ensures in cc) in
+    let h = hands_nothing c.args.self.now.max_entries c.in-Some.parent c.args.child c.args.self.now.stack c.args.self.now.document.nodes c.in-Some.ensures
+    (λ (e : type_at c.args.self.now.document.nodes c.in-Some.parent.node.number ≡ YAML_SEQUENCE_NODE). let f
+    = c.in-YAML_NO_NODE.ensures in cc) (λ (e : type_at c.args.self.now.document.nodes c.in-Some.parent.node.number ≡ YAML_MAPPING_NODE). let f
+    = c.in-YAML_NO_NODE.ensures in cc) in
     h.full_is

@@ -17,7 +17,9 @@ returns g c =
       last = over lines_of run.new.parser;
       starts = record { source = ap (λ p. lines_of p.source) parser.ensures.value ∙ c.new-source.ensures.lines; begins = parser.ensures.begins };
       writes = writes_of_lines _ _ (λ tokens f e events ending is.
-          run.ensures.writes events ending (parser.ensures.run_to_come (λ s. known_of remaining (lines_of s)) tokens f (ap (known_of remaining) c.new-source.ensures.lines ∙ e) events ending is));
+          run.ensures.writes events ending
+          (parser.ensures.run_to_come (λ s. known_of remaining (lines_of s)) tokens f (ap (known_of remaining) c.new-source.ensures.lines
+          ∙ e) events ending is));
       in_turn = last_seen (GivesLent remaining) (Gives remaining) lines_of (λ s a t h. h.0) contents run.result parser.result run.new.parser _ _ [] [] call;
       left = search rules;
     }

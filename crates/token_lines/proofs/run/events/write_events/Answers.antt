@@ -1,7 +1,7 @@
 use Rattle.std.proofs.Common.{refl, ap, ◌∙◌, subst}
 use Rattle.std.specs.Io.KnownBytes.{Keeps}
-use Rattle.libyaml_events.specs.Fault.{fault_of}
-use Rattle.libyaml_events.specs.History.{has_ended}
+use Rattle.libyaml_grammar.specs.runs.Fault.{fault_of}
+use Rattle.libyaml_events.specs.sources.History.{is_over}
 use Rattle.token_lines.specs.EventRun.{event_lines}
 use Rattle.token_lines.proofs.LastCallLemmas.{none_yet, one_more, last_call, ends_by, fails_by, output_fails, written_no_end, failed_no_end, output_no_end}
 use Rattle.token_lines.proofs.RunLemmas.{came_none, came_more, came_last, came_fails, writes_ended, writes_faulted}
@@ -10,15 +10,18 @@ use Rattle.token_lines.proofs.run.events.write_events.Goals as goal
 pub returns-in-Ended-clause-writes : goal.returns-in-Ended-clause-writes
 returns-in-Ended-clause-writes g c events ending run =
     let known = g.S.yaml_token_source_t.known in
-    let written = came_last known _ _ _ _ c.loop-writer.parser events ending (c.loop-writer.invariant.came events ending run) c.in-Ended.ensures.step c.flushed.ensures.keeps in
-    writes_ended (g.S.yaml_token_source_t.may_break c.write_next.new.parser.source) c.flushed.result _ _ (event_lines events) ending c.flushed.ensures.outcome written
+    let written = came_last known _ _ _ _ c.loop-writer.parser events ending (c.loop-writer.invariant.came events ending run) c.in-Ended.ensures.step
+    c.flushed.ensures.keeps in
+    writes_ended (g.S.yaml_token_source_t.may_break c.write_next.new.parser.source) c.flushed.result _ _ (event_lines events) ending c.flushed.ensures.outcome
+    written
 
 pub returns-in-Failed-clause-writes : goal.returns-in-Failed-clause-writes
 returns-in-Failed-clause-writes g c events ending run =
     let known = g.S.yaml_token_source_t.known in
     let may_break = g.S.yaml_token_source_t.may_break c.write_next.new.parser.source in
     writes_faulted may_break c.faulted.result _ _ (event_lines events) ending c.faulted.ensures.not_ended
-    (λ faulted. came_fails known may_break _ _ _ _ c.loop-writer.parser (fault_of c.in-Failed.fault) events ending (c.loop-writer.invariant.came events ending run) c.in-Failed.ensures.step (c.faulted.ensures.writes faulted))
+    (λ faulted. came_fails known may_break _ _ _ _ c.loop-writer.parser (fault_of c.in-Failed.fault) events ending
+    (c.loop-writer.invariant.came events ending run) c.in-Failed.ensures.step (c.faulted.ensures.writes faulted))
 
 pub loop-writer-init : goal.loop-writer-init
 loop-writer-init g c = record {
@@ -29,9 +32,11 @@ loop-writer-init g c = record {
 
 pub loop-writer-preserved : goal.loop-writer-preserved
 loop-writer-preserved g c = record {
-  ended = λ ended. absurd (written_no_end (c.in-Written.ensures.ended (ap has_ended (c.loop-writer.invariant.ended ended).0 ∙ ended)).0);
-  in_turn = λ not_ended asked given history. one_more g.S.yaml_token_source_t.gives _ c.loop-writer.parser c.write_next.new.parser _ _ _ asked given (c.loop-writer.invariant.in_turn not_ended asked given history) c.in-Written.ensures.turn;
-  came = λ events ending run. came_more g.S.yaml_token_source_t.known _ _ _ c.loop-writer.parser c.write_next.new.parser events ending (c.loop-writer.invariant.came events ending run) c.in-Written.ensures.step;
+  ended = λ ended. absurd (written_no_end (c.in-Written.ensures.ended (ap is_over (c.loop-writer.invariant.ended ended).0 ∙ ended)).0);
+  in_turn = λ not_ended asked given history. one_more g.S.yaml_token_source_t.gives _ c.loop-writer.parser c.write_next.new.parser _ _ _ asked given
+      (c.loop-writer.invariant.in_turn not_ended asked given history) c.in-Written.ensures.turn;
+  came = λ events ending run. came_more g.S.yaml_token_source_t.known _ _ _ c.loop-writer.parser c.write_next.new.parser events ending
+      (c.loop-writer.invariant.came events ending run) c.in-Written.ensures.step;
 }
 
 pub loop-writer-smaller : goal.loop-writer-smaller
@@ -41,7 +46,7 @@ pub returns-in-Ended-clause-ended : goal.returns-in-Ended-clause-ended
 returns-in-Ended-clause-ended g c ended =
     let contents = g.W.Write.contents in
     let still = c.loop-writer.invariant.ended ended in
-    let last = c.in-Ended.ensures.ended (ap has_ended still.0 ∙ ended) in
+    let last = c.in-Ended.ensures.ended (ap is_over still.0 ∙ ended) in
     record {
       answer = c.flushed.ensures.outcome;
       parser = last.1 ∙ still.0;
@@ -49,25 +54,32 @@ returns-in-Ended-clause-ended g c ended =
     }
 
 pub returns-in-Failed-clause-ended : goal.returns-in-Failed-clause-ended
-returns-in-Failed-clause-ended g c ended = absurd (failed_no_end c.in-Failed.fault (c.in-Failed.ensures.ended (ap has_ended (c.loop-writer.invariant.ended ended).0 ∙ ended)).0)
+returns-in-Failed-clause-ended g c ended
+    = absurd (failed_no_end c.in-Failed.fault (c.in-Failed.ensures.ended (ap is_over (c.loop-writer.invariant.ended ended).0 ∙ ended)).0)
 
 pub returns-in-OutputFailed-clause-ended : goal.returns-in-OutputFailed-clause-ended
-returns-in-OutputFailed-clause-ended g c ended = absurd (output_no_end (c.in-OutputFailed.ensures.ended (ap has_ended (c.loop-writer.invariant.ended ended).0 ∙ ended)).0)
+returns-in-OutputFailed-clause-ended g c ended
+    = absurd (output_no_end (c.in-OutputFailed.ensures.ended (ap is_over (c.loop-writer.invariant.ended ended).0 ∙ ended)).0)
 
 pub returns-in-Ended-clause-in_turn : goal.returns-in-Ended-clause-in_turn
 returns-in-Ended-clause-in_turn g c not_ended asked given history =
     let gives = g.S.yaml_token_source_t.gives in
-    last_call gives g.W.Write.contents _ _ c.loop-writer.parser c.write_next.new.parser c.loop-writer.writer (g.W.Write.contents c.args.writer.now) _ asked given (c.loop-writer.invariant.in_turn not_ended asked given history)
-    (λ running asked' given' h. ends_by gives c.flushed.result _ _ _ _ _ asked' given' c.flushed.ensures.outcome (c.in-Ended.ensures.turn running asked' given' h) c.flushed.ensures.keeps)
+    last_call gives g.W.Write.contents _ _ c.loop-writer.parser c.write_next.new.parser c.loop-writer.writer (g.W.Write.contents c.args.writer.now) _ asked
+    given (c.loop-writer.invariant.in_turn not_ended asked given history)
+    (λ running asked' given' h. ends_by gives c.flushed.result _ _ _ _ _ asked' given' c.flushed.ensures.outcome
+    (c.in-Ended.ensures.turn running asked' given' h) c.flushed.ensures.keeps)
 
 pub returns-in-Failed-clause-in_turn : goal.returns-in-Failed-clause-in_turn
 returns-in-Failed-clause-in_turn g c not_ended asked given history =
     let gives = g.S.yaml_token_source_t.gives in
-    last_call gives g.W.Write.contents _ _ c.loop-writer.parser c.write_next.new.parser c.loop-writer.writer (g.W.Write.contents c.args.writer.now) _ asked given (c.loop-writer.invariant.in_turn not_ended asked given history)
-    (λ running asked' given' h. fails_by gives c.faulted.result c.in-Failed.fault _ _ _ _ _ asked' given' c.faulted.ensures.not_ended (c.in-Failed.ensures.turn running asked' given' h) c.faulted.ensures.writes)
+    last_call gives g.W.Write.contents _ _ c.loop-writer.parser c.write_next.new.parser c.loop-writer.writer (g.W.Write.contents c.args.writer.now) _ asked
+    given (c.loop-writer.invariant.in_turn not_ended asked given history)
+    (λ running asked' given' h. fails_by gives c.faulted.result c.in-Failed.fault _ _ _ _ _ asked' given' c.faulted.ensures.not_ended
+    (c.in-Failed.ensures.turn running asked' given' h) c.faulted.ensures.writes)
 
 pub returns-in-OutputFailed-clause-in_turn : goal.returns-in-OutputFailed-clause-in_turn
 returns-in-OutputFailed-clause-in_turn g c not_ended asked given history =
     let gives = g.S.yaml_token_source_t.gives in
-    last_call gives g.W.Write.contents _ _ c.loop-writer.parser c.write_next.new.parser c.loop-writer.writer (g.W.Write.contents c.args.writer.now) (g.W.Write.contents c.write_next.new.writer) asked given (c.loop-writer.invariant.in_turn not_ended asked given history)
+    last_call gives g.W.Write.contents _ _ c.loop-writer.parser c.write_next.new.parser c.loop-writer.writer (g.W.Write.contents c.args.writer.now)
+    (g.W.Write.contents c.write_next.new.writer) asked given (c.loop-writer.invariant.in_turn not_ended asked given history)
     (λ running asked' given' h. output_fails gives _ _ _ _ _ asked' given' (c.in-OutputFailed.ensures.turn running asked' given' h))

@@ -1,5 +1,5 @@
 use Rattle.std.proofs.Common.{Ok, Err, refl, sym, ap, ◌∙◌, subst}
-use Rattle.libyaml_events.specs.Fault.{Fault}
+use Rattle.libyaml_grammar.specs.runs.Fault.{Fault}
 use Rattle.libyaml_graphs.specs.Bounds.{bounded_loads}
 use Rattle.libyaml_loader.specs.Ids.{magnitude}
 use Rattle.line_writing.specs.declared.refusal.line_refusal_t.{line_refusal_t}
@@ -14,52 +14,65 @@ pub returns-in_default-clause-step : goal.returns-in_default-clause-step
 returns-in_default-clause-step g c events ending run =
     let t = g.S.yaml_token_source_t in
     let call = c.yaml_parser_load-loaded in
-    subst (λ (f : Fault). WritesFront (t.may_break call.new.parser.source) f (g.W.Write.contents c.args.writer.now) (g.W.Write.contents c.args.writer.now) (bounded_loads (magnitude c.args.parser.now.max_entries) events ending)) (sym c.prefix.ensures.kept)
-    (step_failed t.known t.may_break (magnitude c.args.parser.now.max_entries) c.args.parser.now call.new.parser events ending run call.result (call.ensures.next_load events ending run) c.in_default.field-0 c.in_default.is _)
+    subst (λ (f : Fault). WritesFront (t.may_break call.new.parser.source) f (g.W.Write.contents c.args.writer.now) (g.W.Write.contents c.args.writer.now)
+    (bounded_loads (magnitude c.args.parser.now.max_entries) events ending)) (sym c.prefix.ensures.kept)
+    (step_failed t.known t.may_break (magnitude c.args.parser.now.max_entries) c.args.parser.now call.new.parser events ending run call.result
+    (call.ensures.next_load events ending run) c.in_default.field-0 c.in_default.is _)
 
 pub returns-then-is_empty-clause-step : goal.returns-then-is_empty-clause-step
 returns-then-is_empty-clause-step g c events ending run =
     let t = g.S.yaml_token_source_t in
     let call = c.yaml_parser_load-loaded in
     let none = has_none c.nodes.result.now c.in-Ok.document.nodes c.is_empty.result c.is_empty.ensures c.if-is_empty.true c.nodes.ensures.all in
-    step_ended t.known t.may_break (magnitude c.args.parser.now.max_entries) c.args.parser.now call.new.parser events ending run call.result (call.ensures.next_load events ending run) c.in-Ok.document c.in-Ok.is _ none
+    step_ended t.known t.may_break (magnitude c.args.parser.now.max_entries) c.args.parser.now call.new.parser events ending run call.result
+    (call.ensures.next_load events ending run) c.in-Ok.document c.in-Ok.is _ none
 
 pub returns-in-Ok-write_document-clause-step : goal.returns-in-Ok-write_document-clause-step
 returns-in-Ok-write_document-clause-step g c events ending run =
     let t = g.S.yaml_token_source_t in
     let call = c.yaml_parser_load-loaded in
     let some = has_some c.nodes.result.now c.in-Ok.document.nodes c.is_empty.result c.is_empty.ensures c.if-is_empty.false c.nodes.ensures.all in
-    step_written t.known t.may_break (magnitude c.args.parser.now.max_entries) c.args.parser.now call.new.parser events ending run call.result (call.ensures.next_load events ending run) c.in-Ok.document c.in-Ok.is _ _ some c.in-Ok-write_document.ensures.ok
+    step_written t.known t.may_break (magnitude c.args.parser.now.max_entries) c.args.parser.now call.new.parser events ending run call.result
+    (call.ensures.next_load events ending run) c.in-Ok.document c.in-Ok.is _ _ some c.in-Ok-write_document.ensures.ok
 
 pub returns-in-Err-Memory-clause-step : goal.returns-in-Err-Memory-clause-step
 returns-in-Err-Memory-clause-step g c events ending run =
     let t = g.S.yaml_token_source_t in
     let call = c.yaml_parser_load-loaded in
     let some = has_some c.nodes.result.now c.in-Ok.document.nodes c.is_empty.result c.is_empty.ensures c.if-is_empty.false c.nodes.ensures.all in
-    step_cut t.known t.may_break (magnitude c.args.parser.now.max_entries) c.args.parser.now call.new.parser events ending run call.result (call.ensures.next_load events ending run) c.in-Ok.document c.in-Ok.is _ _ some (c.write_document.ensures.memory (c.in-Err-Memory.is ∙ ap (λ (x : line_refusal_t). Err x) c.in-Err-Memory.field-0-is))
+    step_cut t.known t.may_break (magnitude c.args.parser.now.max_entries) c.args.parser.now call.new.parser events ending run call.result
+    (call.ensures.next_load events ending run) c.in-Ok.document c.in-Ok.is _ _ some
+    (c.write_document.ensures.memory (c.in-Err-Memory.is ∙ ap (λ (x : line_refusal_t). Err x) c.in-Err-Memory.field-0-is))
 
 pub returns-in_default-clause-turn : goal.returns-in_default-clause-turn
 returns-in_default-clause-turn g c running =
     let t = g.S.yaml_token_source_t in
     let call = c.yaml_parser_load-loaded in
-    turn_of t.gives t.known t.may_break (magnitude c.args.parser.now.max_entries) _ c.args.parser.now call.new.parser _ _ call.result (Err c.in_default.field-0) c.in_default.is (call.ensures.loads running) (c.prefix.ensures.kept, Keeps-same _)
+    turn_of t.gives t.known t.may_break (magnitude c.args.parser.now.max_entries) _ c.args.parser.now call.new.parser _ _ call.result (Err c.in_default.field-0)
+    c.in_default.is (call.ensures.loads running) (c.prefix.ensures.kept, Keeps-same _)
 
 pub returns-then-is_empty-clause-turn : goal.returns-then-is_empty-clause-turn
 returns-then-is_empty-clause-turn g c running =
     let t = g.S.yaml_token_source_t in
     let call = c.yaml_parser_load-loaded in
     let none = has_none c.nodes.result.now c.in-Ok.document.nodes c.is_empty.result c.is_empty.ensures c.if-is_empty.true c.nodes.ensures.all in
-    turn_of t.gives t.known t.may_break (magnitude c.args.parser.now.max_entries) Ended c.args.parser.now call.new.parser _ _ call.result (Ok c.in-Ok.document) c.in-Ok.is (call.ensures.loads running) (none, Keeps-same _)
+    turn_of t.gives t.known t.may_break (magnitude c.args.parser.now.max_entries) Ended c.args.parser.now call.new.parser _ _ call.result (Ok c.in-Ok.document)
+    c.in-Ok.is (call.ensures.loads running) (none, Keeps-same _)
 
 pub returns-in-Ok-write_document-clause-turn : goal.returns-in-Ok-write_document-clause-turn
 returns-in-Ok-write_document-clause-turn g c running =
     let t = g.S.yaml_token_source_t in
     let call = c.yaml_parser_load-loaded in
     let some = has_some c.nodes.result.now c.in-Ok.document.nodes c.is_empty.result c.is_empty.ensures c.if-is_empty.false c.nodes.ensures.all in
-    turn_of t.gives t.known t.may_break (magnitude c.args.parser.now.max_entries) Written c.args.parser.now call.new.parser _ _ call.result (Ok c.in-Ok.document) c.in-Ok.is (call.ensures.loads running) (some, c.in-Ok-write_document.ensures.ok)
+    turn_of t.gives t.known t.may_break (magnitude c.args.parser.now.max_entries) Written c.args.parser.now call.new.parser _ _ call.result
+    (Ok c.in-Ok.document) c.in-Ok.is (call.ensures.loads running) (some, c.in-Ok-write_document.ensures.ok)
 
 pub returns-in-Err-Memory-clause-turn : goal.returns-in-Err-Memory-clause-turn
 returns-in-Err-Memory-clause-turn g c running =
     let t = g.S.yaml_token_source_t in
     let call = c.yaml_parser_load-loaded in
-    turn_of t.gives t.known t.may_break (magnitude c.args.parser.now.max_entries) _ c.args.parser.now call.new.parser _ _ call.result (Ok c.in-Ok.document) c.in-Ok.is (call.ensures.loads running) (refl, c.write_document.ensures.memory (c.in-Err-Memory.is ∙ ap (λ (x : line_refusal_t). Err x) c.in-Err-Memory.field-0-is))
+    turn_of t.gives t.known t.may_break (magnitude c.args.parser.now.max_entries) _ c.args.parser.now call.new.parser _ _ call.result (Ok c.in-Ok.document)
+    c.in-Ok.is (call.ensures.loads running) (
+      refl,
+      c.write_document.ensures.memory (c.in-Err-Memory.is ∙ ap (λ (x : line_refusal_t). Err x) c.in-Err-Memory.field-0-is),
+    )

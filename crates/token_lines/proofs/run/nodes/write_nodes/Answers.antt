@@ -1,7 +1,7 @@
 use Rattle.std.proofs.Common.{refl, ap, ◌∙◌, subst}
 use Rattle.std.specs.Io.KnownBytes.{Appends}
-use Rattle.libyaml_events.specs.Fault.{Fault, fault_of}
-use Rattle.libyaml_events.specs.History.{has_failed, kept_fault}
+use Rattle.libyaml_grammar.specs.runs.Fault.{Fault, fault_of}
+use Rattle.libyaml_events.specs.sources.History.{has_failed, kept_fault}
 use Rattle.libyaml_graphs.specs.Bounds.{bounded_loads}
 use Rattle.libyaml_loader.specs.Ids.{magnitude}
 use Rattle.line_writing.specs.FaultText.{fault_text}
@@ -35,10 +35,14 @@ loop-writer-preserved g c =
       between = c.write_next.ensures.between;
       bound = c.write_next.ensures.bound ∙ bound;
       kept = λ failed. absurd (c.in-Written.ensures.kept (ap has_failed (c.loop-writer.invariant.kept failed).0 ∙ failed)).0;
-      in_turn = λ asked given history. one_loaded t.gives t.known t.may_break n c.args.parser.now p q (contents c.args.writer.now) (contents c.loop-writer.writer) (contents c.write_next.new.writer) asked given (c.loop-writer.invariant.in_turn asked given history)
-          (turn_at t.gives t.known t.may_break step.Written p q (contents c.loop-writer.writer) (contents c.write_next.new.writer) _ _ bound c.in-Written.ensures.turn);
-      came = λ events ending run. loads_more t.known n (contents c.args.writer.now) (contents c.loop-writer.writer) (contents c.write_next.new.writer) p q events ending (c.loop-writer.invariant.came events ending run)
-          (steps_at t.gives t.known t.may_break step.Written p q (contents c.loop-writer.writer) (contents c.write_next.new.writer) _ _ bound c.in-Written.ensures.step);
+      in_turn = λ asked given history. one_loaded t.gives t.known t.may_break n c.args.parser.now p q (contents c.args.writer.now)
+          (contents c.loop-writer.writer) (contents c.write_next.new.writer) asked given (c.loop-writer.invariant.in_turn asked given history)
+          (turn_at t.gives t.known t.may_break step.Written p q (contents c.loop-writer.writer) (contents c.write_next.new.writer) _ _ bound
+          c.in-Written.ensures.turn);
+      came = λ events ending run. loads_more t.known n (contents c.args.writer.now) (contents c.loop-writer.writer) (contents c.write_next.new.writer) p q
+          events ending (c.loop-writer.invariant.came events ending run)
+          (steps_at t.gives t.known t.may_break step.Written p q (contents c.loop-writer.writer) (contents c.write_next.new.writer) _ _ bound
+          c.in-Written.ensures.step);
     }
 
 pub loop-writer-smaller : goal.loop-writer-smaller
@@ -52,9 +56,11 @@ returns-in-Ended-clause-writes g c events ending run =
     let q = c.write_next.new.parser in
     let n = magnitude c.args.parser.now.max_entries in
     let loads = bounded_loads n events ending in
-    let steps = steps_at t.gives t.known t.may_break step.Ended p q (contents c.loop-writer.writer) (contents c.write_next.new.writer) _ _ c.loop-writer.invariant.bound c.in-Ended.ensures.step in
+    let steps = steps_at t.gives t.known t.may_break step.Ended p q (contents c.loop-writer.writer) (contents c.write_next.new.writer) _ _
+    c.loop-writer.invariant.bound c.in-Ended.ensures.step in
     writes_ended (t.may_break q.source) c.flushed.result _ _ (loads_lines loads) (loads_ending loads) c.flushed.ensures.outcome
-    (loads_last t.known n (contents c.args.writer.now) (contents c.loop-writer.writer) (contents c.write_next.new.writer) (contents c.flushed.new.writer) p events ending (c.loop-writer.invariant.came events ending run) steps c.flushed.ensures.keeps)
+    (loads_last t.known n (contents c.args.writer.now) (contents c.loop-writer.writer) (contents c.write_next.new.writer) (contents c.flushed.new.writer) p
+    events ending (c.loop-writer.invariant.came events ending run) steps c.flushed.ensures.keeps)
 
 pub returns-in-Failed-clause-writes : goal.returns-in-Failed-clause-writes
 returns-in-Failed-clause-writes g c events ending run =
@@ -64,9 +70,12 @@ returns-in-Failed-clause-writes g c events ending run =
     let q = c.write_next.new.parser in
     let n = magnitude c.args.parser.now.max_entries in
     let loads = bounded_loads n events ending in
-    let steps = steps_at t.gives t.known t.may_break (step.Failed c.in-Failed.fault) p q (contents c.loop-writer.writer) (contents c.write_next.new.writer) _ _ c.loop-writer.invariant.bound c.in-Failed.ensures.step in
+    let steps = steps_at t.gives t.known t.may_break (step.Failed c.in-Failed.fault) p q (contents c.loop-writer.writer) (contents c.write_next.new.writer) _ _
+    c.loop-writer.invariant.bound c.in-Failed.ensures.step in
     writes_faulted (t.may_break q.source) c.faulted.result _ _ (loads_lines loads) (loads_ending loads) c.faulted.ensures.not_ended
-    (λ faulted. loads_fail t.known n (t.may_break q.source) (contents c.args.writer.now) (contents c.loop-writer.writer) (contents c.write_next.new.writer) (contents c.faulted.new.writer) p (fault_of c.in-Failed.fault) events ending (c.loop-writer.invariant.came events ending run) steps (c.faulted.ensures.writes faulted))
+    (λ faulted. loads_fail t.known n (t.may_break q.source) (contents c.args.writer.now) (contents c.loop-writer.writer) (contents c.write_next.new.writer)
+    (contents c.faulted.new.writer) p (fault_of c.in-Failed.fault) events ending (c.loop-writer.invariant.came events ending run) steps
+    (c.faulted.ensures.writes faulted))
 
 pub returns-in-Ended-clause-kept : goal.returns-in-Ended-clause-kept
 returns-in-Ended-clause-kept g c failed = absurd (c.in-Ended.ensures.kept (ap has_failed (c.loop-writer.invariant.kept failed).0 ∙ failed)).0
@@ -82,8 +91,10 @@ returns-in-Failed-clause-kept g c failed =
     record {
       answer = not_ended_is c.faulted.result c.faulted.ensures.not_ended;
       parser = last.1 ∙ still.0;
-      wrote = λ faulted. subst (λ (f : Fault). Appends (contents c.args.writer.now) (contents c.faulted.new.writer) (fault_text f)) (last.0 ∙ ap kept_fault still.0)
-          (subst (λ w. Appends (contents w) (contents c.faulted.new.writer) (fault_text (fault_of c.in-Failed.fault))) (last.2 ∙ still.1) (c.faulted.ensures.writes faulted));
+      wrote = λ faulted. subst (λ (f : Fault). Appends (contents c.args.writer.now) (contents c.faulted.new.writer) (fault_text f)) (last.0
+          ∙ ap kept_fault still.0)
+          (subst (λ w. Appends (contents w) (contents c.faulted.new.writer) (fault_text (fault_of c.in-Failed.fault))) (last.2
+          ∙ still.1) (c.faulted.ensures.writes faulted));
     }
 
 pub returns-in-Ended-clause-in_turn : goal.returns-in-Ended-clause-in_turn
@@ -93,9 +104,12 @@ returns-in-Ended-clause-in_turn g c asked given history =
     let p = c.loop-writer.parser in
     let q = c.write_next.new.parser in
     let n = magnitude c.args.parser.now.max_entries in
-    let turns = turn_at t.gives t.known t.may_break step.Ended p q (contents c.loop-writer.writer) (contents c.write_next.new.writer) _ _ c.loop-writer.invariant.bound c.in-Ended.ensures.turn in
-    last_load t.gives t.known t.may_break n contents c.flushed.result step.Ended c.args.parser.now p q c.loop-writer.writer (contents c.args.writer.now) (contents c.write_next.new.writer) (contents c.flushed.new.writer) asked given (c.loop-writer.invariant.in_turn asked given history) turns
-    (loads_end c.flushed.result (kept_fault q) (contents c.loop-writer.writer) (contents c.write_next.new.writer) (contents c.flushed.new.writer) c.flushed.ensures.outcome c.flushed.ensures.keeps)
+    let turns = turn_at t.gives t.known t.may_break step.Ended p q (contents c.loop-writer.writer) (contents c.write_next.new.writer) _ _
+    c.loop-writer.invariant.bound c.in-Ended.ensures.turn in
+    last_load t.gives t.known t.may_break n contents c.flushed.result step.Ended c.args.parser.now p q c.loop-writer.writer (contents c.args.writer.now)
+    (contents c.write_next.new.writer) (contents c.flushed.new.writer) asked given (c.loop-writer.invariant.in_turn asked given history) turns
+    (loads_end c.flushed.result (kept_fault q) (contents c.loop-writer.writer) (contents c.write_next.new.writer) (contents c.flushed.new.writer)
+    c.flushed.ensures.outcome c.flushed.ensures.keeps)
 
 pub returns-in-Failed-clause-in_turn : goal.returns-in-Failed-clause-in_turn
 returns-in-Failed-clause-in_turn g c asked given history =
@@ -104,9 +118,13 @@ returns-in-Failed-clause-in_turn g c asked given history =
     let p = c.loop-writer.parser in
     let q = c.write_next.new.parser in
     let n = magnitude c.args.parser.now.max_entries in
-    let turns = turn_at t.gives t.known t.may_break (step.Failed c.in-Failed.fault) p q (contents c.loop-writer.writer) (contents c.write_next.new.writer) _ _ c.loop-writer.invariant.bound c.in-Failed.ensures.turn in
-    last_load t.gives t.known t.may_break n contents c.faulted.result (step.Failed c.in-Failed.fault) c.args.parser.now p q c.loop-writer.writer (contents c.args.writer.now) (contents c.write_next.new.writer) (contents c.faulted.new.writer) asked given (c.loop-writer.invariant.in_turn asked given history) turns
-    (loads_failed c.faulted.result c.in-Failed.fault (kept_fault q) (contents c.loop-writer.writer) (contents c.write_next.new.writer) (contents c.faulted.new.writer) c.faulted.ensures.not_ended c.faulted.ensures.writes)
+    let turns = turn_at t.gives t.known t.may_break (step.Failed c.in-Failed.fault) p q (contents c.loop-writer.writer) (contents c.write_next.new.writer) _ _
+    c.loop-writer.invariant.bound c.in-Failed.ensures.turn in
+    last_load t.gives t.known t.may_break n contents c.faulted.result (step.Failed c.in-Failed.fault) c.args.parser.now p q c.loop-writer.writer
+    (contents c.args.writer.now) (contents c.write_next.new.writer) (contents c.faulted.new.writer) asked given
+    (c.loop-writer.invariant.in_turn asked given history) turns
+    (loads_failed c.faulted.result c.in-Failed.fault (kept_fault q) (contents c.loop-writer.writer) (contents c.write_next.new.writer)
+    (contents c.faulted.new.writer) c.faulted.ensures.not_ended c.faulted.ensures.writes)
 
 pub returns-in-OutputFailed-clause-in_turn : goal.returns-in-OutputFailed-clause-in_turn
 returns-in-OutputFailed-clause-in_turn g c asked given history =
@@ -115,6 +133,8 @@ returns-in-OutputFailed-clause-in_turn g c asked given history =
     let p = c.loop-writer.parser in
     let q = c.write_next.new.parser in
     let n = magnitude c.args.parser.now.max_entries in
-    let turns = turn_at t.gives t.known t.may_break step.OutputFailed p q (contents c.loop-writer.writer) (contents c.write_next.new.writer) _ _ c.loop-writer.invariant.bound c.in-OutputFailed.ensures.turn in
-    last_load t.gives t.known t.may_break n contents _ step.OutputFailed c.args.parser.now p q c.loop-writer.writer (contents c.args.writer.now) (contents c.write_next.new.writer) (contents c.write_next.new.writer) asked given (c.loop-writer.invariant.in_turn asked given history) turns
+    let turns = turn_at t.gives t.known t.may_break step.OutputFailed p q (contents c.loop-writer.writer) (contents c.write_next.new.writer) _ _
+    c.loop-writer.invariant.bound c.in-OutputFailed.ensures.turn in
+    last_load t.gives t.known t.may_break n contents _ step.OutputFailed c.args.parser.now p q c.loop-writer.writer (contents c.args.writer.now)
+    (contents c.write_next.new.writer) (contents c.write_next.new.writer) asked given (c.loop-writer.invariant.in_turn asked given history) turns
     (loads_output (kept_fault q) (contents c.loop-writer.writer) (contents c.write_next.new.writer) (contents c.write_next.new.writer))

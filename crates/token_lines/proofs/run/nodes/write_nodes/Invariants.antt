@@ -1,10 +1,10 @@
 use Rattle.std.proofs.Common.{◌≡◌, List, true}
 use Rattle.libyaml_types.specs.declared.event.yaml_event_t.{yaml_event_t}
 use Rattle.libyaml_types.specs.declared.token.yaml_token_t.{yaml_token_t}
-use Rattle.libyaml_events.specs.EventsLeft.{events_left}
-use Rattle.libyaml_events.specs.History.{History, between_documents, has_failed}
-use Rattle.libyaml_events.specs.RunToCome.{RunToCome}
-use Rattle.libyaml_events.specs.Runs.{Ending}
+use Rattle.libyaml_events.specs.parsers.EventsLeft.{events_left}
+use Rattle.libyaml_events.specs.sources.History.{History, between_documents, has_failed}
+use Rattle.libyaml_events.specs.sources.RunToCome.{RunToCome}
+use Rattle.libyaml_grammar.specs.runs.Runs.{Ending}
 use Rattle.libyaml_loader.specs.Ids.{magnitude}
 use Rattle.token_lines.specs.LastLoad.{AllLoaded}
 use Rattle.token_lines.proofs.NodeRunLemmas.{CameLoads}
@@ -16,9 +16,11 @@ invariant-loop-writer g l = record {
   bound : l.parser.max_entries ≡ l.initial.parser.max_entries;
   kept : has_failed l.initial.parser ≡ true → (l.parser ≡ l.initial.parser) × (l.writer ≡ l.initial.writer);
   in_turn : (asked : List yaml_token_t) (given : List yaml_event_t) → History l.initial.parser asked given
-      → AllLoaded g.S.yaml_token_source_t.gives (magnitude l.initial.parser.max_entries) l.initial.parser l.parser (g.W.Write.contents l.initial.writer) (g.W.Write.contents l.writer) asked given;
+      → AllLoaded g.S.yaml_token_source_t.gives (magnitude l.initial.parser.max_entries) l.initial.parser l.parser (g.W.Write.contents l.initial.writer)
+      (g.W.Write.contents l.writer) asked given;
   came : (events : List yaml_event_t) (ending : Ending) → RunToCome g.S.yaml_token_source_t.known l.initial.parser events ending
-      → CameLoads g.S.yaml_token_source_t.known (magnitude l.initial.parser.max_entries) (g.W.Write.contents l.initial.writer) (g.W.Write.contents l.writer) l.parser events ending;
+      → CameLoads g.S.yaml_token_source_t.known (magnitude l.initial.parser.max_entries) (g.W.Write.contents l.initial.writer) (g.W.Write.contents l.writer)
+      l.parser events ending;
 }
 
 abbrev pub decreases-loop-writer : goal.decreases-loop-writer

@@ -1,0 +1,17 @@
+pub mod Asking
+pub mod Calling
+pub mod CallLemmas
+pub mod Needed
+pub mod Parsed
+pub mod KnownRuns
+pub mod NotOver
+pub mod Counting
+pub mod Falling
+pub mod Held
+pub mod Marked
+pub mod Raised
+pub mod Staging
+pub mod Staged
+pub mod LeadsOut
+pub mod CallsInTurn
+pub mod NextEvents

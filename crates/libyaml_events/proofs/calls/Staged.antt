@@ -1,0 +1,502 @@
+-- What the stage of a parser's events says of it.
+use Rattle.std.proofs.Common.{◌≡◌, ◌≤◌, ◌||◌, ◌⊎◌, inl, inr, Bool, ℕ, zero, suc, arith, List, [], ◌∷◌, ◌++◌, length, Option, Some, None, true, false, Ok, Err}
+use Rattle.std.proofs.Common.{refl, sym, ap, ◌∙◌, subst}
+use Rattle.libyaml_types.specs.declared.event.unnamed_yaml_event_t_data.{unnamed_yaml_event_t_data}
+use Rattle.libyaml_types.specs.declared.event.unnamed_yaml_event_t_data.TheVariants as ev
+use Rattle.std.specs.FinMap.{get}
+use Rattle.libyaml_types.specs.declared.directive.yaml_tag_directive_t.{yaml_tag_directive_t}
+use Rattle.libyaml_types.specs.declared.directive.yaml_version_directive_t.{yaml_version_directive_t}
+use Rattle.libyaml_grammar.specs.sentences.Order.{is_version}
+use Rattle.libyaml_events.specs.declared.progress.DirectivesRead.{DirectivesRead}
+use Rattle.libyaml_events.specs.machine.Machine.{Progressed, step, first_version, version_directive, tag_directive, explicit_document, further_document_end}
+use Rattle.libyaml_events.specs.machine.Machine.{parse_implicit_document_start, parse_document_start, no_directives, parse_stream_start, parse_document_end}
+use Rattle.libyaml_events.specs.machine.Machine.{at_state}
+use Rattle.libyaml_types.specs.Events.{zero_mark}
+use Rattle.libyaml_grammar.specs.cuts.FaultTexts.{no_fault}
+use Rattle.libyaml_events.specs.machine.Config.{Config, taken, is_fault, is_end_state, ended_or_failed, is_between}
+use Rattle.libyaml_grammar.specs.sentences.Trees.{behind, whole}
+use Rattle.libyaml_events.specs.sources.History.{answers, is_stream_end, Ran, begins, goes_on}
+use Rattle.libyaml_events.specs.sources.Parsing.{IsWhole}
+use Rattle.libyaml_events.proofs.calls.Staging.{around, IsStack, Inside, InPair, NodeDue, Good, GoodAt, GoodOn, good_on}
+use Rattle.libyaml_grammar.specs.cuts.CutTrees.{open_collection}
+use Rattle.libyaml_events.specs.sources.Calls.{held}
+use Rattle.libyaml_grammar.proofs.Lists.{nil_right}
+use Rattle.libyaml_grammar.proofs.positions.Reading.{reads_all, goes}
+use Rattle.libyaml_events.specs.parsers.Stages.{Stage, at_start, before_root, within, after, is_event, is_outside, is_at_end, stage_from, stage_of}
+use Rattle.libyaml_events.specs.parsers.Stages.{open_collections, is_quiet, ends_quietly, takes_no_memory}
+use Rattle.libyaml_grammar.specs.sentences.Events.{events}
+use Rattle.libyaml_grammar.specs.runs.Fault.{Answer, Fault}
+use Rattle.libyaml_grammar.specs.sentences.Tokens.{Content, DocumentEnd, DocumentStart, Mark, StreamEnd, StreamStart, TagDirective, Token, VersionDirective}
+use Rattle.libyaml_grammar.specs.sentences.Trees.{FlowMember, Stream, free, key, mapping, no_parts, no_value, pair, part, sequence, single, value, with_value}
+use Rattle.libyaml_grammar.specs.sentences.Events.{Event, document_end_at, stream_end_at}
+use Rattle.libyaml_grammar.specs.cuts.CutTrees.{Open, Place, block, entry, explicit_root, flow_entry, flow_key, flow_value, implicit_root, indentless_entry}
+use Rattle.libyaml_grammar.specs.cuts.CutTrees.{part_place, root, slot}
+use Rattle.libyaml_grammar.specs.cuts.Rest.{rest}
+use Rattle.libyaml_grammar.proofs.positions.Positions.{Position, between, done, due, flow_behind, flow_due, flow_keyed, headed, in_indentless, in_mapping}
+use Rattle.libyaml_grammar.proofs.positions.Positions.{in_sequence, shown, unopened}
+use Rattle.libyaml_events.specs.sources.Calls.{Calls, EventOrError, Refused, RefusedAt, Then}
+use Rattle.libyaml_events.specs.machine.Growth.{grows_at_directive, grows_at_document, may_grow, may_grow_at}
+use Rattle.libyaml_events.proofs.calls.CallsInTurn.{stage_more}
+use Rattle.libyaml_grammar.proofs.trees.Completion.{read_order}
+use Rattle.libyaml_events.proofs.machine.Follow.{more}
+use Rattle.libyaml_events.proofs.machine.Giving.{shown_given}
+use Rattle.libyaml_grammar.proofs.trees.Keeps.{feeds_keep}
+use Rattle.libyaml_events.proofs.machine.Link.{config_of, member_state, state_place}
+use Rattle.libyaml_grammar.proofs.runs.Orders.{reads_to}
+use Rattle.libyaml_grammar.proofs.trees.Splits.{position_splits}
+use Rattle.libyaml_events.proofs.machine.Stand.{Links, amid_token, at_position}
+use Rattle.libyaml_events.specs.declared.progress.Want.{Want}
+use Rattle.libyaml_events.specs.declared.progress.Want.TheVariants.{AtState, BehindDirective}
+use Rattle.libyaml_events.specs.declared.progress.Progress.TheVariants.{Given, Wants}
+use Rattle.libyaml_types.specs.declared.enums.yaml_parser_state_t.TheVariants.{YAML_PARSE_BLOCK_MAPPING_KEY_STATE, YAML_PARSE_BLOCK_MAPPING_VALUE_STATE}
+use Rattle.libyaml_types.specs.declared.enums.yaml_parser_state_t.TheVariants.{YAML_PARSE_BLOCK_NODE_OR_INDENTLESS_SEQUENCE_STATE}
+use Rattle.libyaml_types.specs.declared.enums.yaml_parser_state_t.TheVariants.{YAML_PARSE_BLOCK_NODE_STATE, YAML_PARSE_BLOCK_SEQUENCE_ENTRY_STATE}
+use Rattle.libyaml_types.specs.declared.enums.yaml_parser_state_t.TheVariants.{YAML_PARSE_DOCUMENT_CONTENT_STATE, YAML_PARSE_DOCUMENT_END_STATE}
+use Rattle.libyaml_types.specs.declared.enums.yaml_parser_state_t.TheVariants.{YAML_PARSE_DOCUMENT_START_STATE, YAML_PARSE_END_STATE}
+use Rattle.libyaml_types.specs.declared.enums.yaml_parser_state_t.TheVariants.{YAML_PARSE_FLOW_MAPPING_EMPTY_VALUE_STATE, YAML_PARSE_FLOW_MAPPING_KEY_STATE}
+use Rattle.libyaml_types.specs.declared.enums.yaml_parser_state_t.TheVariants.{YAML_PARSE_FLOW_MAPPING_VALUE_STATE, YAML_PARSE_FLOW_NODE_STATE}
+use Rattle.libyaml_types.specs.declared.enums.yaml_parser_state_t.TheVariants.{YAML_PARSE_FLOW_SEQUENCE_ENTRY_MAPPING_END_STATE}
+use Rattle.libyaml_types.specs.declared.enums.yaml_parser_state_t.TheVariants.{YAML_PARSE_FLOW_SEQUENCE_ENTRY_MAPPING_KEY_STATE}
+use Rattle.libyaml_types.specs.declared.enums.yaml_parser_state_t.TheVariants.{YAML_PARSE_FLOW_SEQUENCE_ENTRY_MAPPING_VALUE_STATE}
+use Rattle.libyaml_types.specs.declared.enums.yaml_parser_state_t.TheVariants.{YAML_PARSE_FLOW_SEQUENCE_ENTRY_STATE, YAML_PARSE_IMPLICIT_DOCUMENT_START_STATE}
+use Rattle.libyaml_types.specs.declared.enums.yaml_parser_state_t.TheVariants.{YAML_PARSE_INDENTLESS_SEQUENCE_ENTRY_STATE, YAML_PARSE_STREAM_START_STATE}
+use Rattle.libyaml_types.specs.declared.enums.yaml_parser_state_t.{yaml_parser_state_t}
+
+-- the lookahead matters at the end alone
+pub retake : (s : yaml_parser_state_t) (ss : List yaml_parser_state_t) (l : Option Token) (st : Stage) → GoodAt s ss l st → GoodAt s ss None st
+retake YAML_PARSE_END_STATE ss l st h = (h.0, h.1, refl)
+retake YAML_PARSE_STREAM_START_STATE ss l st h = h
+retake _ ss l st h = h
+
+record Left (d : Config) (st : Stage) (e : Event) (c : Config) : Type 0 where
+  good : Good AtState d (after st e.content)
+  same_fault : d.fault ≡ c.fault
+  event : is_event e.content ≡ true
+
+calls_good : (a : List Answer) (w : Want) (c : Config) (st : Stage) → c.lookahead ≡ None → Good w c st → (e : Event) (d : Config) → Calls w c a (Ok e) d
+    → Left d st e c
+calls_good [] w c st n g e d h = absurd h
+calls_good (Err f ∷ rest) w c st n g e d h = absurd (not_err h.1)
+  where
+    not_err : ◌≡◌ {A = EventOrError} (Ok e) (Err f.error) → ⊥
+    not_err x = cc
+calls_good (Ok t ∷ rest) w c st n g e d h = go (step w c t) (good_on st c n w t t.content g) h (λ w' c'. calls_good rest w' c' st)
+  where
+    go : (o : Progressed) → GoodOn o c st → Then o (λ w' c'. Calls w' c' rest (Ok e) d) rest (Ok e) d
+        → ((w' : Want) (c' : Config) → c'.lookahead ≡ None → Good w' c' st → (e : Event) (d : Config) → Calls w' c' rest (Ok e) d → Left d st e c')
+        → Left d st e c
+    go (Err f) x y ih = absurd (not_err y.1)
+      where
+        not_err : ◌≡◌ {A = EventOrError} (Ok e) (Err f.error) → ⊥
+        not_err z = cc
+    go (Ok (Wants w', c')) x y ih = let i = ih w' c' x.2 x.0 e d y in record { good = i.good; same_fault = i.same_fault ∙ x.1; event = i.event }
+    go (Ok (Given e', c')) x y ih = subst (λ (z : Event). Left d st z c) (same y.1)
+        (subst (λ (z : Config). Left z st e' c) (sym y.2) (record { good = x.0; same_fault = x.1; event = x.2 }))
+      where
+        same : ◌≡◌ {A = EventOrError} (Ok e) (Ok e') → e' ≡ e
+        same z = cc
+
+pub stage_snoc : (st : Stage) (l : List Event) (e : Event) → stage_from st (l ++ e ∷ []) ≡ after (stage_from st l) e.content
+stage_snoc st [] e = refl
+stage_snoc st (x ∷ l) e = stage_snoc (after st x.content) l e
+
+pub record Staged (c : Config) (g : List Event) : Type 0 where
+  pub good : Good AtState c (stage_of g)
+  pub no_fault_kept : c.fault ≡ no_fault
+
+pub call_staged : (c : Config) (g : List Event) → Staged c g → (a : List Answer) (e : Event) (d : Config) → Calls AtState (taken c) a (Ok e) d
+    → Staged d (g ++ e ∷ []) × (is_event e.content ≡ true)
+call_staged c g h a e d z =
+    let l = calls_good a AtState (taken c) (stage_of g) refl (retake c.state c.states c.lookahead (stage_of g) h.good) e d z in
+    (record { good = subst (λ (x : Stage). Good AtState d x) (sym (stage_snoc at_start g e)) l.good; no_fault_kept = l.same_fault ∙ h.no_fault_kept }, l.event)
+
+pub ran_staged : {c : Config} {asked : List Token} {g : List Event} → Ran c asked g → Staged c g
+ran_staged begins = record { good = (refl, refl); no_fault_kept = refl }
+ran_staged (goes_on c asked g more e {d} {asked'} {given'} run running call x y)
+    = subst (λ (z : List Event). Staged d z) (sym y) (call_staged c g (ran_staged run) (held c ++ answers more []) e d call).0
+
+-- the stream's end
+due_goes_on : (ss : List yaml_parser_state_t) (l : Option Token) (st : Stage) → NodeDue ss st → is_at_end st ≡ false
+due_goes_on [] l st h = absurd h
+due_goes_on (YAML_PARSE_DOCUMENT_END_STATE ∷ ss) l st h = ap is_at_end h.1
+due_goes_on (YAML_PARSE_BLOCK_SEQUENCE_ENTRY_STATE ∷ ss) l st h = ap is_at_end h.1
+due_goes_on (YAML_PARSE_INDENTLESS_SEQUENCE_ENTRY_STATE ∷ ss) l st h = ap is_at_end h.1
+due_goes_on (YAML_PARSE_BLOCK_MAPPING_KEY_STATE ∷ ss) l st h = ap is_at_end h.1
+due_goes_on (YAML_PARSE_BLOCK_MAPPING_VALUE_STATE ∷ ss) l st h = ap is_at_end h.1
+due_goes_on (YAML_PARSE_FLOW_SEQUENCE_ENTRY_STATE ∷ ss) l st h = ap is_at_end h.1
+due_goes_on (YAML_PARSE_FLOW_SEQUENCE_ENTRY_MAPPING_VALUE_STATE ∷ ss) l st h = ap is_at_end h.1
+due_goes_on (YAML_PARSE_FLOW_SEQUENCE_ENTRY_MAPPING_END_STATE ∷ ss) l st h = ap is_at_end h.1
+due_goes_on (YAML_PARSE_FLOW_MAPPING_KEY_STATE ∷ ss) l st h = ap is_at_end h.1
+due_goes_on (YAML_PARSE_FLOW_MAPPING_VALUE_STATE ∷ ss) l st h = ap is_at_end h.1
+due_goes_on (YAML_PARSE_FLOW_MAPPING_EMPTY_VALUE_STATE ∷ ss) l st h = ap is_at_end h.1
+due_goes_on (s ∷ ss) l st h = absurd h
+
+due_in_document : (ss : List yaml_parser_state_t) (st : Stage) → NodeDue ss st → is_outside st ≡ false
+due_in_document [] st h = absurd h
+due_in_document (YAML_PARSE_DOCUMENT_END_STATE ∷ ss) st h = ap is_outside h.1
+due_in_document (YAML_PARSE_BLOCK_SEQUENCE_ENTRY_STATE ∷ ss) st h = ap is_outside h.1
+due_in_document (YAML_PARSE_INDENTLESS_SEQUENCE_ENTRY_STATE ∷ ss) st h = ap is_outside h.1
+due_in_document (YAML_PARSE_BLOCK_MAPPING_KEY_STATE ∷ ss) st h = ap is_outside h.1
+due_in_document (YAML_PARSE_BLOCK_MAPPING_VALUE_STATE ∷ ss) st h = ap is_outside h.1
+due_in_document (YAML_PARSE_FLOW_SEQUENCE_ENTRY_STATE ∷ ss) st h = ap is_outside h.1
+due_in_document (YAML_PARSE_FLOW_SEQUENCE_ENTRY_MAPPING_VALUE_STATE ∷ ss) st h = ap is_outside h.1
+due_in_document (YAML_PARSE_FLOW_SEQUENCE_ENTRY_MAPPING_END_STATE ∷ ss) st h = ap is_outside h.1
+due_in_document (YAML_PARSE_FLOW_MAPPING_KEY_STATE ∷ ss) st h = ap is_outside h.1
+due_in_document (YAML_PARSE_FLOW_MAPPING_VALUE_STATE ∷ ss) st h = ap is_outside h.1
+due_in_document (YAML_PARSE_FLOW_MAPPING_EMPTY_VALUE_STATE ∷ ss) st h = ap is_outside h.1
+due_in_document (s ∷ ss) st h = absurd h
+
+end_stage : (s : yaml_parser_state_t) (ss : List yaml_parser_state_t) (l : Option Token) (st : Stage) → GoodAt s ss l st → is_end_state s ≡ is_at_end st
+end_stage YAML_PARSE_STREAM_START_STATE ss l st h = sym (ap is_at_end h.1)
+end_stage YAML_PARSE_IMPLICIT_DOCUMENT_START_STATE ss l st h = sym (ap is_at_end h.1)
+end_stage YAML_PARSE_DOCUMENT_START_STATE ss l st h = sym (ap is_at_end h.1)
+end_stage YAML_PARSE_DOCUMENT_CONTENT_STATE ss l st h = sym (due_goes_on ss l st h)
+end_stage YAML_PARSE_DOCUMENT_END_STATE ss l st h = sym (ap is_at_end h.1)
+end_stage YAML_PARSE_BLOCK_NODE_STATE ss l st h = sym (due_goes_on ss l st h)
+end_stage YAML_PARSE_BLOCK_NODE_OR_INDENTLESS_SEQUENCE_STATE ss l st h = sym (due_goes_on ss l st h)
+end_stage YAML_PARSE_FLOW_NODE_STATE ss l st h = sym (due_goes_on ss l st h)
+end_stage YAML_PARSE_END_STATE ss l st h = sym (ap is_at_end h.1)
+end_stage YAML_PARSE_FLOW_SEQUENCE_ENTRY_MAPPING_KEY_STATE ss l st h = sym (ap is_at_end h.1)
+end_stage YAML_PARSE_FLOW_SEQUENCE_ENTRY_MAPPING_VALUE_STATE ss l st h = sym (ap is_at_end h.1)
+end_stage YAML_PARSE_FLOW_SEQUENCE_ENTRY_MAPPING_END_STATE ss l st h = sym (ap is_at_end h.1)
+end_stage _ ss l st h = sym (ap is_at_end h.1)
+
+between_stage : (s : yaml_parser_state_t) (ss : List yaml_parser_state_t) (l : Option Token) (st : Stage) → GoodAt s ss l st → is_between s ≡ is_outside st
+between_stage YAML_PARSE_STREAM_START_STATE ss l st h = sym (ap is_outside h.1)
+between_stage YAML_PARSE_IMPLICIT_DOCUMENT_START_STATE ss l st h = sym (ap is_outside h.1)
+between_stage YAML_PARSE_DOCUMENT_START_STATE ss l st h = sym (ap is_outside h.1)
+between_stage YAML_PARSE_DOCUMENT_CONTENT_STATE ss l st h = sym (due_in_document ss st h)
+between_stage YAML_PARSE_DOCUMENT_END_STATE ss l st h = sym (ap is_outside h.1)
+between_stage YAML_PARSE_BLOCK_NODE_STATE ss l st h = sym (due_in_document ss st h)
+between_stage YAML_PARSE_BLOCK_NODE_OR_INDENTLESS_SEQUENCE_STATE ss l st h = sym (due_in_document ss st h)
+between_stage YAML_PARSE_FLOW_NODE_STATE ss l st h = sym (due_in_document ss st h)
+between_stage YAML_PARSE_END_STATE ss l st h = sym (ap is_outside h.1)
+between_stage YAML_PARSE_FLOW_SEQUENCE_ENTRY_MAPPING_KEY_STATE ss l st h = sym (ap is_outside h.1)
+between_stage YAML_PARSE_FLOW_SEQUENCE_ENTRY_MAPPING_VALUE_STATE ss l st h = sym (ap is_outside h.1)
+between_stage YAML_PARSE_FLOW_SEQUENCE_ENTRY_MAPPING_END_STATE ss l st h = sym (ap is_outside h.1)
+between_stage _ ss l st h = sym (ap is_outside h.1)
+
+-- the parser has ended exactly where the stream end event came
+pub staged_over : (c : Config) (g : List Event) → Staged c g → ended_or_failed c ≡ is_at_end (stage_of g)
+staged_over c g h = ap (λ (f : Fault). is_fault f.error || is_end_state c.state) h.no_fault_kept ∙ end_stage c.state c.states c.lookahead (stage_of g) h.good
+
+-- and it stands between documents exactly where none of the events leaves one open
+pub staged_between : (c : Config) (g : List Event) → Staged c g → is_fault c.fault.error || is_between c.state ≡ is_outside (stage_of g)
+staged_between c g h = ap (λ (f : Fault). is_fault f.error || is_between c.state) h.no_fault_kept
+    ∙ between_stage c.state c.states c.lookahead (stage_of g) h.good
+
+-- the depth of the stack
+stack_depth : (ss : List yaml_parser_state_t) → IsStack ss → length ss ≤ suc (around ss)
+stack_depth [] h = absurd h
+stack_depth (YAML_PARSE_DOCUMENT_END_STATE ∷ ss) h = let e : length ss ≡ zero = ap length h in omega arith
+stack_depth (YAML_PARSE_BLOCK_SEQUENCE_ENTRY_STATE ∷ ss) h = let i = stack_depth ss h in omega arith
+stack_depth (YAML_PARSE_INDENTLESS_SEQUENCE_ENTRY_STATE ∷ ss) h = let i = stack_depth ss h in omega arith
+stack_depth (YAML_PARSE_BLOCK_MAPPING_KEY_STATE ∷ ss) h = let i = stack_depth ss h in omega arith
+stack_depth (YAML_PARSE_BLOCK_MAPPING_VALUE_STATE ∷ ss) h = let i = stack_depth ss h in omega arith
+stack_depth (YAML_PARSE_FLOW_SEQUENCE_ENTRY_STATE ∷ ss) h = let i = stack_depth ss h in omega arith
+stack_depth (YAML_PARSE_FLOW_SEQUENCE_ENTRY_MAPPING_VALUE_STATE ∷ ss) h = let i = stack_depth ss h in omega arith
+stack_depth (YAML_PARSE_FLOW_SEQUENCE_ENTRY_MAPPING_END_STATE ∷ ss) h = let i = stack_depth ss h in omega arith
+stack_depth (YAML_PARSE_FLOW_MAPPING_KEY_STATE ∷ ss) h = let i = stack_depth ss h in omega arith
+stack_depth (YAML_PARSE_FLOW_MAPPING_VALUE_STATE ∷ ss) h = let i = stack_depth ss h in omega arith
+stack_depth (YAML_PARSE_FLOW_MAPPING_EMPTY_VALUE_STATE ∷ ss) h = let i = stack_depth ss h in omega arith
+stack_depth (s ∷ ss) h = absurd h
+
+due_depth : (ss : List yaml_parser_state_t) (st : Stage) → NodeDue ss st → length ss ≤ suc (open_collections st)
+due_depth [] st h = absurd h
+due_depth (YAML_PARSE_DOCUMENT_END_STATE ∷ ss) st h = let e : length ss ≡ zero = ap length h.0 in omega arith
+due_depth (YAML_PARSE_BLOCK_SEQUENCE_ENTRY_STATE ∷ ss) st h = let i = stack_depth ss h.0 in let e : open_collections st ≡ suc (around ss)
+    = ap open_collections h.1 in omega arith
+due_depth (YAML_PARSE_INDENTLESS_SEQUENCE_ENTRY_STATE ∷ ss) st h = let i = stack_depth ss h.0 in let e : open_collections st ≡ suc (around ss)
+    = ap open_collections h.1 in omega arith
+due_depth (YAML_PARSE_BLOCK_MAPPING_KEY_STATE ∷ ss) st h = let i = stack_depth ss h.0 in let e : open_collections st ≡ suc (around ss)
+    = ap open_collections h.1 in omega arith
+due_depth (YAML_PARSE_BLOCK_MAPPING_VALUE_STATE ∷ ss) st h = let i = stack_depth ss h.0 in let e : open_collections st ≡ suc (around ss)
+    = ap open_collections h.1 in omega arith
+due_depth (YAML_PARSE_FLOW_SEQUENCE_ENTRY_STATE ∷ ss) st h = let i = stack_depth ss h.0 in let e : open_collections st ≡ suc (around ss)
+    = ap open_collections h.1 in omega arith
+due_depth (YAML_PARSE_FLOW_SEQUENCE_ENTRY_MAPPING_VALUE_STATE ∷ ss) st h = let i = stack_depth ss h.0 in let e : open_collections st ≡ suc (suc (around ss))
+    = ap open_collections h.1 in omega arith
+due_depth (YAML_PARSE_FLOW_SEQUENCE_ENTRY_MAPPING_END_STATE ∷ ss) st h = let i = stack_depth ss h.0 in let e : open_collections st ≡ suc (suc (around ss))
+    = ap open_collections h.1 in omega arith
+due_depth (YAML_PARSE_FLOW_MAPPING_KEY_STATE ∷ ss) st h = let i = stack_depth ss h.0 in let e : open_collections st ≡ suc (around ss)
+    = ap open_collections h.1 in omega arith
+due_depth (YAML_PARSE_FLOW_MAPPING_VALUE_STATE ∷ ss) st h = let i = stack_depth ss h.0 in let e : open_collections st ≡ suc (around ss)
+    = ap open_collections h.1 in omega arith
+due_depth (YAML_PARSE_FLOW_MAPPING_EMPTY_VALUE_STATE ∷ ss) st h = let i = stack_depth ss h.0 in let e : open_collections st ≡ suc (around ss)
+    = ap open_collections h.1 in omega arith
+due_depth (s ∷ ss) st h = absurd h
+
+inside_depth : (ss : List yaml_parser_state_t) (st : Stage) → Inside ss st → length ss ≤ suc (open_collections st)
+inside_depth ss st h = let i = stack_depth ss h.0 in let e : open_collections st ≡ suc (around ss) = ap open_collections h.1 in omega arith
+
+pair_depth : (ss : List yaml_parser_state_t) (st : Stage) → InPair ss st → length ss ≤ suc (open_collections st)
+pair_depth ss st h = let i = stack_depth ss h.0 in let e : open_collections st ≡ suc (suc (around ss)) = ap open_collections h.1 in omega arith
+
+empty_depth : (ss : List yaml_parser_state_t) (n : ℕ) → ss ≡ [] → length ss ≤ suc n
+empty_depth ss n h = let e : length ss ≡ zero = ap length h in omega arith
+
+depth : (s : yaml_parser_state_t) (ss : List yaml_parser_state_t) (l : Option Token) (st : Stage) → GoodAt s ss l st → length ss ≤ suc (open_collections st)
+depth YAML_PARSE_STREAM_START_STATE ss l st h = empty_depth ss (open_collections st) h.0
+depth YAML_PARSE_IMPLICIT_DOCUMENT_START_STATE ss l st h = empty_depth ss (open_collections st) h.0
+depth YAML_PARSE_DOCUMENT_START_STATE ss l st h = empty_depth ss (open_collections st) h.0
+depth YAML_PARSE_DOCUMENT_CONTENT_STATE ss l st h = due_depth ss st h
+depth YAML_PARSE_DOCUMENT_END_STATE ss l st h = empty_depth ss (open_collections st) h.0
+depth YAML_PARSE_BLOCK_NODE_STATE ss l st h = due_depth ss st h
+depth YAML_PARSE_BLOCK_NODE_OR_INDENTLESS_SEQUENCE_STATE ss l st h = due_depth ss st h
+depth YAML_PARSE_FLOW_NODE_STATE ss l st h = due_depth ss st h
+depth YAML_PARSE_FLOW_SEQUENCE_ENTRY_MAPPING_KEY_STATE ss l st h = pair_depth ss st h
+depth YAML_PARSE_FLOW_SEQUENCE_ENTRY_MAPPING_VALUE_STATE ss l st h = pair_depth ss st h
+depth YAML_PARSE_FLOW_SEQUENCE_ENTRY_MAPPING_END_STATE ss l st h = pair_depth ss st h
+depth YAML_PARSE_END_STATE ss l st h = empty_depth ss (open_collections st) h.0
+depth _ ss l st h = inside_depth ss st h
+
+-- the stack holds at most one state more than there are open collections
+pub staged_depth : (c : Config) (g : List Event) → Staged c g → length c.states ≤ suc (open_collections (stage_of g))
+staged_depth c g h = depth c.state c.states c.lookahead (stage_of g) h.good
+
+-- at the end
+state_place_goes : (p : Place) → state_place p ≡ YAML_PARSE_END_STATE → ⊥
+state_place_goes (block (root (implicit_root f))) e = cc
+state_place_goes (block (root (explicit_root b ds m))) e = cc
+state_place_goes (block (entry c o s is z)) e = cc
+state_place_goes (block (slot (part_place c o s ps key v))) e = cc
+state_place_goes (block (slot (part_place c o s ps value v))) e = cc
+state_place_goes (block (indentless_entry c o is z)) e = cc
+state_place_goes (flow_entry (open_collection p o sequence s is)) e = cc
+state_place_goes (flow_entry (open_collection p o mapping s is)) e = cc
+state_place_goes (flow_key (open_collection p o sequence s is) k) e = cc
+state_place_goes (flow_key (open_collection p o mapping s is) k) e = cc
+state_place_goes (flow_value (open_collection p o sequence s is) k x v) e = cc
+state_place_goes (flow_value (open_collection p o mapping s is) k x v) e = cc
+
+member_state_goes : (c : Open) (x : FlowMember) → member_state c x ≡ YAML_PARSE_END_STATE → ⊥
+member_state_goes (open_collection p o sequence s is) (single x) e = cc
+member_state_goes (open_collection p o sequence s is) (pair k x no_value) e = cc
+member_state_goes (open_collection p o sequence s is) (pair k x (with_value v y)) e = cc
+member_state_goes (open_collection p o mapping s is) (single x) e = cc
+member_state_goes (open_collection p o mapping s is) (pair k x no_value) e = cc
+member_state_goes (open_collection p o mapping s is) (pair k x (with_value v y)) e = cc
+
+at_end_done : (q : Position) → (config_of q).state ≡ YAML_PARSE_END_STATE → (t : Stream) × (q ≡ done t)
+at_end_done unopened e = absurd cc
+at_end_done (between (free f)) e = absurd cc
+at_end_done (between (behind d)) e = absurd cc
+at_end_done (headed (free f) ds d) e = absurd cc
+at_end_done (headed (behind x) ds d) e = absurd cc
+at_end_done (due p None) e = absurd (state_place_goes p e)
+at_end_done (due p (Some ps)) e = absurd (state_place_goes p e)
+at_end_done (in_sequence c o s is) e = absurd cc
+at_end_done (in_mapping c o s no_parts) e = absurd cc
+at_end_done (in_mapping c o s (part ps key v x)) e = absurd cc
+at_end_done (in_mapping c o s (part ps value v x)) e = absurd cc
+at_end_done (in_indentless c o is z x) e = absurd cc
+at_end_done (flow_due c) e = absurd (state_place_goes (flow_entry c) e)
+at_end_done (flow_keyed c k x) e = absurd (member_state_goes c (pair k x no_value) e)
+at_end_done (flow_behind c x) e = absurd (member_state_goes c x e)
+at_end_done (done t) e = (t, refl)
+
+end_holds_none : (s : yaml_parser_state_t) (ss : List yaml_parser_state_t) (l : Option Token) (st : Stage) → GoodAt s ss l st → is_end_state s ≡ true
+    → (s ≡ YAML_PARSE_END_STATE) × (l ≡ None)
+end_holds_none YAML_PARSE_END_STATE ss l st h e = (refl, h.2)
+end_holds_none YAML_PARSE_STREAM_START_STATE ss l st h e = absurd cc
+end_holds_none _ ss l st h e = absurd cc
+
+-- behind the stream end event the tokens are a tree's, and the events are the tree's
+pub staged_whole : (c : Config) (asked : List Token) (g : List Event) → Links c asked g → Staged c g → is_at_end (stage_of g) ≡ true → IsWhole asked g
+staged_whole c asked g links h e = go links
+  where
+    last : (c.state ≡ YAML_PARSE_END_STATE) × (c.lookahead ≡ None)
+    last = end_holds_none c.state c.states c.lookahead (stage_of g) h.good (end_stage c.state c.states c.lookahead (stage_of g) h.good ∙ e)
+
+    go : Links c asked g → IsWhole asked g
+    go (at_position q x1 x2 x3 x4 x5) =
+        let (t, f) = at_end_done q (sym (ap (λ (z : Config). z.state) x4) ∙ last.0) in
+        let r : reads_all asked unopened ≡ goes (done t) = x1 ∙ ap goes f in
+        record {
+          tree = t;
+          order = read_order asked (done t) r;
+          all_tokens = sym (nil_right asked) ∙ sym (feeds_keep asked unopened (done t) (reads_to asked unopened (done t) r).0 []);
+          all_events = x5 ∙ sym (shown_given asked (done t) zero_mark [] r);
+        }
+    go (amid_token l t u q n x1 x2 x3) = absurd (not_held (sym x2 ∙ last.1))
+      where
+        not_held : ◌≡◌ {A = Option Token} (Some u) None → ⊥
+        not_held i = cc
+
+-- the stream end event, and no other, leads to the end
+pub leads_to_end : (st : Stage) (e : Event) → is_at_end st ≡ false → is_at_end (after st e.content) ≡ is_stream_end e
+leads_to_end st e h = go e.content st h
+  where
+    go : (k : unnamed_yaml_event_t_data) (st : Stage) → is_at_end st ≡ false → is_at_end (after st k) ≡ is_stream_end (record e { content = k })
+    go ev.NoEvent st h = h
+    go (ev.StreamStart s) st h = refl
+    go ev.StreamEnd st h = refl
+    go (ev.DocumentStart d) st h = refl
+    go (ev.DocumentEnd d) st h = refl
+    go (ev.Alias a) before_root h = refl
+    go (ev.Alias a) st h = h
+    go (ev.Scalar a) before_root h = refl
+    go (ev.Scalar a) st h = h
+    go (ev.SequenceStart s) before_root h = refl
+    go (ev.SequenceStart s) (within n) h = refl
+    go (ev.SequenceStart s) st h = h
+    go ev.SequenceEnd (within zero) h = refl
+    go ev.SequenceEnd (within (suc n)) h = refl
+    go ev.SequenceEnd st h = h
+    go (ev.MappingStart s) before_root h = refl
+    go (ev.MappingStart s) (within n) h = refl
+    go (ev.MappingStart s) st h = h
+    go ev.MappingEnd (within zero) h = refl
+    go ev.MappingEnd (within (suc n)) h = refl
+    go ev.MappingEnd st h = h
+
+-- where a call takes no memory
+due_takes : (ss : List yaml_parser_state_t) (st : Stage) (l : List Token) → NodeDue ss st → takes_no_memory st l ≡ false
+due_takes [] st l h = absurd h
+due_takes (YAML_PARSE_DOCUMENT_END_STATE ∷ ss) st l h = ap (λ (x : Stage). takes_no_memory x l) h.1
+due_takes (YAML_PARSE_BLOCK_SEQUENCE_ENTRY_STATE ∷ ss) st l h = ap (λ (x : Stage). takes_no_memory x l) h.1
+due_takes (YAML_PARSE_INDENTLESS_SEQUENCE_ENTRY_STATE ∷ ss) st l h = ap (λ (x : Stage). takes_no_memory x l) h.1
+due_takes (YAML_PARSE_BLOCK_MAPPING_KEY_STATE ∷ ss) st l h = ap (λ (x : Stage). takes_no_memory x l) h.1
+due_takes (YAML_PARSE_BLOCK_MAPPING_VALUE_STATE ∷ ss) st l h = ap (λ (x : Stage). takes_no_memory x l) h.1
+due_takes (YAML_PARSE_FLOW_SEQUENCE_ENTRY_STATE ∷ ss) st l h = ap (λ (x : Stage). takes_no_memory x l) h.1
+due_takes (YAML_PARSE_FLOW_SEQUENCE_ENTRY_MAPPING_VALUE_STATE ∷ ss) st l h = ap (λ (x : Stage). takes_no_memory x l) h.1
+due_takes (YAML_PARSE_FLOW_SEQUENCE_ENTRY_MAPPING_END_STATE ∷ ss) st l h = ap (λ (x : Stage). takes_no_memory x l) h.1
+due_takes (YAML_PARSE_FLOW_MAPPING_KEY_STATE ∷ ss) st l h = ap (λ (x : Stage). takes_no_memory x l) h.1
+due_takes (YAML_PARSE_FLOW_MAPPING_VALUE_STATE ∷ ss) st l h = ap (λ (x : Stage). takes_no_memory x l) h.1
+due_takes (YAML_PARSE_FLOW_MAPPING_EMPTY_VALUE_STATE ∷ ss) st l h = ap (λ (x : Stage). takes_no_memory x l) h.1
+due_takes (s ∷ ss) st l h = absurd h
+
+-- outside a document a call stays there until it gives an event
+abbrev IsOutsideAt : yaml_parser_state_t → Type 0
+IsOutsideAt s = (s ≡ YAML_PARSE_IMPLICIT_DOCUMENT_START_STATE) ⊎ (s ≡ YAML_PARSE_DOCUMENT_START_STATE)
+
+abbrev IsOutside : Want → Config → Type 0
+IsOutside AtState c = IsOutsideAt c.state
+IsOutside (BehindDirective d) c = Unit {0}
+IsOutside _ c = ⊥
+
+abbrev StaysOutside : Progressed → Type 0
+StaysOutside (Err f) = Unit {0}
+StaysOutside (Ok (Given e, c)) = Unit {0}
+StaysOutside (Ok (Wants w, c)) = IsOutside w c
+
+version_stays : (v : Option yaml_version_directive_t) (d : DirectivesRead) (c : Config) (m : Mark) (x : yaml_version_directive_t)
+    → StaysOutside (version_directive v d c m x)
+version_stays (Some earlier) d c m x = tt
+version_stays None d c m x = go (is_version x.major x.minor)
+  where
+    go : (b : Bool) → StaysOutside (first_version b d c m x)
+    go true = tt
+    go false = tt
+
+tag_stays : (o : Option (List ℕ)) (d : DirectivesRead) (c : Config) (m : Mark) (x : yaml_tag_directive_t) → StaysOutside (tag_directive o d c m x)
+tag_stays (Some earlier) d c m x = tt
+tag_stays None d c m x = tt
+
+explicit_stays : (d : DirectivesRead) (c : Config) (t : Token) (k : Content) → StaysOutside (explicit_document d c t k)
+explicit_stays d c t (VersionDirective v) = version_stays d.version d c t.start_mark (record { major = v.major; minor = v.minor })
+explicit_stays d c t (TagDirective g) = tag_stays (get c.handles g.handle) d c t.start_mark (record { handle = g.handle; prefix = g.prefix })
+explicit_stays d c t DocumentStart = tt
+explicit_stays d c t _ = tt
+
+further_stays : (b : Bool) (c : Config) (t : Token) → IsOutsideAt c.state → StaysOutside (further_document_end b c t)
+further_stays true c t o = o
+further_stays false c t o = tt
+
+implicit_stays : (c : Config) (t : Token) (k : Content) → IsOutsideAt c.state → StaysOutside (parse_implicit_document_start c t k)
+implicit_stays c t StreamEnd o = tt
+implicit_stays c t (VersionDirective v) o = explicit_stays (no_directives t.start_mark) c t (VersionDirective v)
+implicit_stays c t (TagDirective g) o = explicit_stays (no_directives t.start_mark) c t (TagDirective g)
+implicit_stays c t DocumentStart o = tt
+implicit_stays c t DocumentEnd o = further_stays c.behind_document_end c t o
+implicit_stays c t _ o = tt
+
+start_stays : (c : Config) (t : Token) (k : Content) → StaysOutside (parse_document_start c t k)
+start_stays c t StreamEnd = tt
+start_stays c t k = explicit_stays (no_directives t.start_mark) c t k
+
+stays_outside : (w : Want) (c : Config) (t : Token) → IsOutside w c → StaysOutside (step w c t)
+stays_outside AtState c t (inl e) = subst (λ (s : yaml_parser_state_t). StaysOutside (at_state s c t t.content)) (sym e) (implicit_stays c t t.content (inl e))
+stays_outside AtState c t (inr e) = subst (λ (s : yaml_parser_state_t). StaysOutside (at_state s c t t.content)) (sym e) (start_stays c t t.content)
+stays_outside (BehindDirective d) c t o = explicit_stays d c t t.content
+stays_outside _ c t o = absurd o
+
+-- and there no memory is taken at the stream's end or at a version
+document_grows : (behind_document_end : Bool) (k : Content) → grows_at_document behind_document_end k ≡ true → is_quiet k ≡ false
+document_grows b StreamEnd h = absurd cc
+document_grows b (VersionDirective v) h = absurd cc
+document_grows b _ h = refl
+
+directive_grows : (k : Content) → grows_at_directive k ≡ true → is_quiet k ≡ false
+directive_grows StreamEnd h = absurd cc
+directive_grows (VersionDirective v) h = absurd cc
+directive_grows _ h = refl
+
+outside_grows : (w : Want) (c : Config) (k : Content) → IsOutside w c → may_grow w c k ≡ true → is_quiet k ≡ false
+outside_grows AtState c k (inl e) h = document_grows c.behind_document_end k (sym (ap (λ (s : yaml_parser_state_t). may_grow_at s c k) e) ∙ h)
+outside_grows AtState c k (inr e) h = directive_grows k (sym (ap (λ (s : yaml_parser_state_t). may_grow_at s c k) e) ∙ h)
+outside_grows (BehindDirective d) c k o h = directive_grows k h
+outside_grows _ c k o h = absurd o
+
+not_quiet : (l : List Token) (w : Want) (c : Config) → IsOutside w c → Refused w c (answers l []) → ends_quietly l ≡ false
+not_quiet [] w c o h = absurd h
+not_quiet (t ∷ []) w c o h = outside_grows w c t.content o h
+not_quiet (t ∷ u ∷ l) w c o h = go (λ v d s z. not_quiet (u ∷ l) v d s z) (step w c t) (stays_outside w c t o) h
+  where
+    go : ((v : Want) (d : Config) → IsOutside v d → Refused v d (answers (u ∷ l) []) → ends_quietly (u ∷ l) ≡ false) → (x : Progressed) → StaysOutside x
+        → RefusedAt (may_grow w c t.content) x (λ w' c'. Refused w' c' (answers (u ∷ l) [])) (answers (u ∷ l) []) → ends_quietly (u ∷ l) ≡ false
+    go ih (Err f) s z = absurd z
+    go ih (Ok (Given e, d)) s z = absurd z
+    go ih (Ok (Wants v, d)) s z = ih v d s z
+
+-- the last token is that of the end of the list
+quiet_behind : (a : List Token) (t : Token) (l : List Token) → ends_quietly (a ++ t ∷ l) ≡ ends_quietly (t ∷ l)
+quiet_behind [] t l = refl
+quiet_behind (x ∷ []) t l = refl
+quiet_behind (x ∷ y ∷ a) t l = quiet_behind (y ∷ a) t l
+
+refused_start : (c : Config) (t : Token) (k : Content) (More : Want → Config → Type 0) (rest : List Answer)
+    → RefusedAt false (parse_stream_start c t k) More rest → ⊥
+refused_start c t k More [] h = absurd cc
+refused_start c t (StreamStart s) More (x ∷ rest) h = h
+refused_start c t k More (x ∷ rest) h = h
+
+refused_end : (c : Config) (t : Token) (k : Content) (More : Want → Config → Type 0) (rest : List Answer) → RefusedAt false (parse_document_end c t k) More rest
+    → ⊥
+refused_end c t k More [] h = absurd cc
+refused_end c t DocumentEnd More (x ∷ rest) h = h
+refused_end c t k More (x ∷ rest) h = h
+
+refused_at : (s : yaml_parser_state_t) (ss : List yaml_parser_state_t) (o : Option Token) (st : Stage) → GoodAt s ss o st
+    → (c : Config) (t : Token) (k : Content) (More : Want → Config → Type 0) (rest : List Answer) → RefusedAt (may_grow_at s c k) (at_state s c t k) More rest
+    → (l : List Token) → (IsOutsideAt s → ends_quietly l ≡ false) → takes_no_memory st l ≡ false
+refused_at YAML_PARSE_STREAM_START_STATE ss o st g c t k More rest h l q = absurd (refused_start c t k More rest h)
+refused_at YAML_PARSE_DOCUMENT_END_STATE ss o st g c t k More rest h l q = absurd (refused_end c t k More rest h)
+refused_at YAML_PARSE_IMPLICIT_DOCUMENT_START_STATE ss o st g c t k More rest h l q = ap (λ (x : Stage). takes_no_memory x l) g.1 ∙ q (inl refl)
+refused_at YAML_PARSE_DOCUMENT_START_STATE ss o st g c t k More rest h l q = ap (λ (x : Stage). takes_no_memory x l) g.1 ∙ q (inr refl)
+refused_at YAML_PARSE_DOCUMENT_CONTENT_STATE ss o st g c t k More rest h l q = due_takes ss st l g
+refused_at YAML_PARSE_BLOCK_NODE_STATE ss o st g c t k More rest h l q = due_takes ss st l g
+refused_at YAML_PARSE_BLOCK_NODE_OR_INDENTLESS_SEQUENCE_STATE ss o st g c t k More rest h l q = due_takes ss st l g
+refused_at YAML_PARSE_FLOW_NODE_STATE ss o st g c t k More rest h l q = due_takes ss st l g
+refused_at YAML_PARSE_FLOW_SEQUENCE_ENTRY_MAPPING_KEY_STATE ss o st g c t k More rest h l q = ap (λ (x : Stage). takes_no_memory x l) g.1
+refused_at YAML_PARSE_FLOW_SEQUENCE_ENTRY_MAPPING_VALUE_STATE ss o st g c t k More rest h l q = ap (λ (x : Stage). takes_no_memory x l) g.1
+refused_at YAML_PARSE_FLOW_SEQUENCE_ENTRY_MAPPING_END_STATE ss o st g c t k More rest h l q = ap (λ (x : Stage). takes_no_memory x l) g.1
+refused_at YAML_PARSE_END_STATE ss o st g c t k More rest h l q = ap (λ (x : Stage). takes_no_memory x l) g.1
+refused_at _ ss o st g c t k More rest h l q = ap (λ (x : Stage). takes_no_memory x l) g.1
+
+-- a growth is refused only where the call may take memory
+pub refused_stage : (c : Config) (g : List Event) → Staged c g → (before l : List Token) → Refused AtState (taken c) (answers l [])
+    → takes_no_memory (stage_of g) (before ++ l) ≡ false
+refused_stage c g h before [] z = absurd z
+refused_stage c g h before (t ∷ l) z
+    = refused_at c.state c.states c.lookahead (stage_of g) h.good (taken c) t t.content (λ w' c'. Refused w' c' (answers l [])) (answers l []) z (before ++ t
+    ∷ l) (λ o. quiet_behind before t l ∙ not_quiet (t ∷ l) AtState (taken c) o z)
+
+-- a tree's events lead to the end
+pub tree_ends : (t : Stream) → is_at_end (stage_of (events t)) ≡ true
+tree_ends (whole (free f) m) = ap (λ (l : List Event). is_at_end (stage_of l)) (position_splits (between (free f)) m.start (stream_end_at m.start m.end ∷ []))
+    ∙ ap is_at_end (stage_more at_start (shown (between (free f)) m.start []) (stream_end_at m.start m.end ∷ []))
+tree_ends (whole (behind d) m)
+    = ap (λ (l : List Event). is_at_end (stage_of l))
+    (position_splits (between (behind d)) m.start (document_end_at true m.start m.start ∷ stream_end_at m.start m.end ∷ []))
+    ∙ ap is_at_end (stage_more at_start (shown (between (behind d)) m.start []) (document_end_at true m.start m.start ∷ stream_end_at m.start m.end ∷ []))

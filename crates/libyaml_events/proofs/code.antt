@@ -1,0 +1,4 @@
+pub mod Stacks
+pub mod HandleLemmas
+pub mod SourceErrors
+pub mod PropertyLemmas

@@ -1,8 +1,0 @@
-use Rattle.libyaml_events.proofs.Running.{one_run_proof, some_run_proof}
-use Rattle.libyaml_events.proofs.laws.one_run.Goals as goal
-
-pub returns-clause-some : goal.returns-clause-some
-returns-clause-some c = some_run_proof
-
-pub returns-clause-one : goal.returns-clause-one
-returns-clause-one c = one_run_proof

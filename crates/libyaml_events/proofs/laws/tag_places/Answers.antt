@@ -1,5 +1,0 @@
-use Rattle.libyaml_events.proofs.TagPlaces.{tag_places_proof}
-use Rattle.libyaml_events.proofs.laws.tag_places.Goals as goal
-
-pub returns : goal.returns
-returns c = tag_places_proof

@@ -1,0 +1,9 @@
+pub mod Link
+pub mod Follow
+pub mod Declared
+pub mod Outcomes
+pub mod Stand
+pub mod Waiting
+pub mod Giving
+pub mod SlotRows
+pub mod SlotCalls

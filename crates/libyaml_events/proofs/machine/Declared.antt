@@ -1,0 +1,232 @@
+-- What the machine makes of directives and handles is what the grammar says of them.
+use Rattle.std.proofs.Common.{◌≡◌, ℕ, ◌++◌, List, [], ◌∷◌, Option, Some, None, refl, sym, ap, ◌∙◌, subst, Bool, true, false, cond, nat_cmp, codes}
+use Rattle.std.specs.Ordering.{eq_by_cmp}
+use Rattle.std.specs.Cmp.Lexicographic.{slice_cmp, texts_ties, nat_list_eq_equiv, nat_list_cmp_total}
+use Rattle.std.specs.FinMap.{get, insert, get-insert, get-from_entries}
+use Rattle.libyaml_events.specs.machine.Machine as mach
+use Rattle.libyaml_grammar.specs.cuts.FaultTexts.{duplicate_version_fault, version_fault}
+use Rattle.libyaml_grammar.specs.sentences.Tokens.{HandleDeclared, Mark, Marks, TagDirective, TagName, Token, VersionAsked, VersionDirective, tok}
+use Rattle.libyaml_grammar.specs.sentences.Trees.{Directives, directive, no_directives, tag_directive, version}
+use Rattle.libyaml_grammar.specs.sentences.Events.{Event, declaration, either, prefix_of, resolved, same_text, tag_directives_of, tag_directives_then}
+use Rattle.libyaml_grammar.specs.sentences.Events.{tag_from, version_of}
+use Rattle.libyaml_grammar.specs.sentences.Order.{both, declares, is_known, is_version, negated, no_version}
+use Rattle.libyaml_grammar.proofs.positions.Reading.{keeps_order}
+use Rattle.libyaml_events.specs.machine.Config.{Config, Handles}
+use Rattle.libyaml_events.specs.machine.Machine.{Progressed, explicit_document, or_default, resolve, with_prefix}
+use Rattle.libyaml_events.proofs.machine.Link.{End, after, directive_ends, fails, handles_of, waits}
+use Rattle.libyaml_grammar.proofs.Lists.{assoc}
+use Rattle.libyaml_events.specs.declared.progress.DirectivesRead.{DirectivesRead}
+use Rattle.libyaml_events.specs.declared.progress.Want.TheVariants.{BehindDirective}
+use Rattle.libyaml_types.specs.declared.directive.yaml_tag_directive_t.{yaml_tag_directive_t}
+use Rattle.libyaml_types.specs.declared.directive.yaml_version_directive_t.{yaml_version_directive_t}
+
+-- comparing texts
+same_swapped : (a b : List ℕ) → same_text a b ≡ same_text b a
+same_swapped a b = nat_list_eq_equiv.symm a b
+
+same_keys : (q g : List ℕ) → eq_by_cmp (slice_cmp nat_cmp) q g ≡ same_text g q
+same_keys q g = sym (texts_ties q g) ∙ same_swapped q g
+
+-- a handle in the map of handles
+abbrev text_or : Bool → List ℕ → List ℕ → List ℕ
+text_or u x y = elim u [ true ↦ x | false ↦ y ]
+
+default_same : (h : List ℕ) → mach.undeclared_prefix h
+    ≡ cond (same_text (codes "!") h) (Some (codes "!")) (cond (same_text (codes "!!") h) (Some (codes "tag:yaml.org,2002:")) None)
+default_same h = ap (λ (u : Bool). cond u (Some (codes "!")) (cond (same_text h (codes "!!")) (Some (codes "tag:yaml.org,2002:")) None))
+    (same_swapped h (codes "!")) ∙ ap (λ (u : Bool). cond (same_text (codes "!") h) (Some (codes "!")) (cond u (Some (codes "tag:yaml.org,2002:")) None))
+    (same_swapped h (codes "!!"))
+
+inserted : (hs : Handles) (g p h : List ℕ) → get (insert hs g p) h ≡ cond (same_text g h) (Some p) (get hs h)
+inserted hs g p h = get-insert nat_list_cmp_total hs g p h ∙ ap (λ (u : Bool). cond u (Some p) (get hs h)) (same_keys h g)
+
+none_declared : (h : List ℕ) → get (handles_of no_directives) h ≡ None
+none_declared h = get-from_entries nat_list_cmp_total [] h
+
+pub undeclared : (ds : Directives) (h : List ℕ) → declares ds h ≡ false → get (handles_of ds) h ≡ None
+undeclared no_directives h e = none_declared h
+undeclared (directive ds (version v m)) h e = undeclared ds h e
+undeclared (directive ds (tag_directive d m)) h e = inserted (handles_of ds) d.handle d.prefix h ∙ go (same_text d.handle h) (λ f. undeclared ds h f) e
+  where
+    go : (u : Bool) → (declares ds h ≡ false → get (handles_of ds) h ≡ None) → either u (declares ds h) ≡ false
+        → cond u (Some d.prefix) (get (handles_of ds) h) ≡ None
+    go true ih e = absurd cc
+    go false ih e = ih e
+
+pub already_declared : (ds : Directives) (h : List ℕ) → declares ds h ≡ true → (p : List ℕ) × (get (handles_of ds) h ≡ Some p)
+already_declared no_directives h e = absurd cc
+already_declared (directive ds (version v m)) h e = already_declared ds h e
+already_declared (directive ds (tag_directive d m)) h e =
+    let r = go (same_text d.handle h) (λ f. already_declared ds h f) e in
+    (r.0, inserted (handles_of ds) d.handle d.prefix h ∙ r.1)
+  where
+    go : (u : Bool) → (declares ds h ≡ true → (p : List ℕ) × (get (handles_of ds) h ≡ Some p)) → either u (declares ds h) ≡ true → (p : List ℕ)
+        × (cond u (Some d.prefix) (get (handles_of ds) h) ≡ Some p)
+    go true ih e = (d.prefix, refl)
+    go false ih e = ih e
+
+abbrev Known : Directives → List ℕ → Bool
+Known ds h = either (declares ds h) (either (same_text (codes "!") h) (same_text (codes "!!") h))
+
+found : (ds : Directives) (h : List ℕ) → Known ds h ≡ true → or_default (get (handles_of ds) h) h ≡ Some (prefix_of ds h)
+found no_directives h e = ap (λ (o : Option (List ℕ)). or_default o h) (none_declared h) ∙ default_same h
+    ∙ go (same_text (codes "!") h) (same_text (codes "!!") h) e
+  where
+    go : (u v : Bool) → either u v ≡ true
+        → cond u (Some (codes "!")) (cond v (Some (codes "tag:yaml.org,2002:")) None)
+        ≡ Some (text_or u (codes "!") (text_or v (codes "tag:yaml.org,2002:") []))
+    go true v e = refl
+    go false true e = refl
+    go false false e = absurd cc
+found (directive ds (version v m)) h e = found ds h e
+found (directive ds (tag_directive d m)) h e = ap (λ (o : Option (List ℕ)). or_default o h) (inserted (handles_of ds) d.handle d.prefix h)
+    ∙ go (same_text d.handle h) (λ f. found ds h f) e
+  where
+    go : (u : Bool) → (Known ds h ≡ true → or_default (get (handles_of ds) h) h ≡ Some (prefix_of ds h))
+        → either (either u (declares ds h)) (either (same_text (codes "!") h) (same_text (codes "!!") h)) ≡ true
+        → or_default (cond u (Some d.prefix) (get (handles_of ds) h)) h ≡ Some (text_or u d.prefix (prefix_of ds h))
+    go true ih e = refl
+    go false ih e = ih e
+
+pub resolve_is : (ds : Directives) (t : TagName) → is_known ds t.handle ≡ true → resolve (handles_of ds) t.handle t.suffix ≡ Some (resolved ds t)
+resolve_is ds t e = go t.handle e
+  where
+    go : (h : List ℕ) → is_known ds h ≡ true → resolve (handles_of ds) h t.suffix ≡ Some (tag_from ds h t.suffix)
+    go [] e = refl
+    go (x ∷ h) e = ap (λ (o : Option (List ℕ)). with_prefix o t.suffix) (found ds (x ∷ h) e)
+
+not_found : (ds : Directives) (h : List ℕ) → Known ds h ≡ false → or_default (get (handles_of ds) h) h ≡ None
+not_found ds h e = go (declares ds h) refl e
+  where
+    ends : (u v : Bool) → either u v ≡ false → cond u (Some (codes "!")) (cond v (Some (codes "tag:yaml.org,2002:")) None) ≡ None
+    ends true v e = absurd cc
+    ends false true e = absurd cc
+    ends false false e = refl
+
+    go : (u : Bool) → declares ds h ≡ u → either u (either (same_text (codes "!") h) (same_text (codes "!!") h)) ≡ false
+        → or_default (get (handles_of ds) h) h ≡ None
+    go true f e = absurd cc
+    go false f e = ap (λ (o : Option (List ℕ)). or_default o h) (undeclared ds h f)
+        ∙ (default_same h ∙ ends (same_text (codes "!") h) (same_text (codes "!!") h) e)
+
+pub resolve_not : (ds : Directives) (t : TagName) → is_known ds t.handle ≡ false → resolve (handles_of ds) t.handle t.suffix ≡ None
+resolve_not ds t e = go t.handle e
+  where
+    go : (h : List ℕ) → is_known ds h ≡ false → resolve (handles_of ds) h t.suffix ≡ None
+    go [] e = absurd cc
+    go (x ∷ h) e = ap (λ (o : Option (List ℕ)). with_prefix o t.suffix) (not_found ds (x ∷ h) e)
+
+-- directives
+abbrev pub read_so_far : Mark → Directives → DirectivesRead
+read_so_far s ds = record { start_mark = s; version = version_of ds; tag_directives = tag_directives_of ds }
+
+version_found : (ds : Directives) → no_version ds ≡ true → version_of ds ≡ None
+version_found no_directives e = refl
+version_found (directive ds (version v m)) e = absurd cc
+version_found (directive ds (tag_directive d m)) e = version_found ds e
+
+version_there : (ds : Directives) → no_version ds ≡ false → (v : yaml_version_directive_t) × (version_of ds ≡ Some v)
+version_there no_directives e = absurd cc
+version_there (directive ds (version v m)) e = (record { major = v.major; minor = v.minor }, refl)
+version_there (directive ds (tag_directive d m)) e = version_there ds e
+
+pub version_after : (s : Mark) (ds : Directives) (c : Config) (v : VersionAsked) (m : Marks) (f : Config → Token → List Event × End) (r : List Event)
+    → after (explicit_document (read_so_far s ds) c (tok (VersionDirective v) m) (VersionDirective v)) f r
+    ≡ (
+      r,
+      directive_ends (keeps_order ds no_directives (VersionDirective v)) ds (VersionDirective v) m
+          (waits (BehindDirective (read_so_far s (directive ds (version v m)))) c),
+    )
+version_after s ds c v m f r = go (no_version ds) refl
+  where
+    asked : yaml_version_directive_t
+    asked = record { major = v.major; minor = v.minor }
+
+    first : (o : Option yaml_version_directive_t) → o ≡ None → (u : Bool) → is_version v.major v.minor ≡ u
+        → after (mach.version_directive o (record { start_mark = s; version = o; tag_directives = tag_directives_of ds }) c m.start asked) f r
+        ≡ (r, elim u [ true ↦ waits (BehindDirective (read_so_far s (directive ds (version v m)))) c | false ↦ fails (version_fault m.start) ])
+    first (Some x) e u g = absurd (no x e)
+      where
+        no : (x : yaml_version_directive_t) → ◌≡◌ {A = Option yaml_version_directive_t} (Some x) None → ⊥
+        no x e = cc
+    first None e u g = ap (λ (w : Bool). after
+        (mach.first_version w (record { start_mark = s; version = None; tag_directives = tag_directives_of ds }) c m.start asked) f r) g ∙ by u
+      where
+        by : (u : Bool) → after (mach.first_version u (record { start_mark = s; version = None; tag_directives = tag_directives_of ds }) c m.start asked) f r
+            ≡ (r, elim u [ true ↦ waits (BehindDirective (read_so_far s (directive ds (version v m)))) c | false ↦ fails (version_fault m.start) ])
+        by true = refl
+        by false = refl
+
+    second : (o : Option yaml_version_directive_t) (x : yaml_version_directive_t) → o ≡ Some x
+        → after (mach.version_directive o (record { start_mark = s; version = o; tag_directives = tag_directives_of ds }) c m.start asked) f r
+        ≡ (r, fails (duplicate_version_fault m.start))
+    second o x e = subst (λ (y : Option yaml_version_directive_t). after
+        (mach.version_directive y (record { start_mark = s; version = y; tag_directives = tag_directives_of ds }) c m.start asked) f r
+        ≡ (r, fails (duplicate_version_fault m.start))) (sym e) refl
+
+    says : (n w : Bool) → no_version ds ≡ n → is_version v.major v.minor ≡ w
+        → directive_ends (keeps_order ds no_directives (VersionDirective v)) ds (VersionDirective v) m
+        (waits (BehindDirective (read_so_far s (directive ds (version v m)))) c)
+        ≡ elim n [
+          | true ↦ elim w [ true ↦ waits (BehindDirective (read_so_far s (directive ds (version v m)))) c | false ↦ fails (version_fault m.start) ]
+          | false ↦ fails (duplicate_version_fault m.start)
+        ]
+    says n w e g = ap (λ (x : Bool). directive_ends (both x (is_version v.major v.minor)) ds (VersionDirective v) m
+        (waits (BehindDirective (read_so_far s (directive ds (version v m)))) c)) e
+        ∙ (ap (λ (x : Bool). directive_ends (both n x) ds (VersionDirective v) m (waits (BehindDirective (read_so_far s (directive ds (version v m)))) c)) g
+        ∙ by n w e)
+      where
+        by : (n w : Bool) → no_version ds ≡ n
+            → directive_ends (both n w) ds (VersionDirective v) m (waits (BehindDirective (read_so_far s (directive ds (version v m)))) c)
+            ≡ elim n [
+              | true ↦ elim w [ true ↦ waits (BehindDirective (read_so_far s (directive ds (version v m)))) c | false ↦ fails (version_fault m.start) ]
+              | false ↦ fails (duplicate_version_fault m.start)
+            ]
+        by true true e = refl
+        by true false e = ap (λ (x : Bool). fails (elim x [ true ↦ version_fault m.start | false ↦ duplicate_version_fault m.start ])) e
+        by false w e = ap (λ (x : Bool). fails (elim x [ true ↦ version_fault m.start | false ↦ duplicate_version_fault m.start ])) e
+
+    go : (n : Bool) → no_version ds ≡ n
+        → after (explicit_document (read_so_far s ds) c (tok (VersionDirective v) m) (VersionDirective v)) f r
+        ≡ (
+          r,
+          directive_ends (keeps_order ds no_directives (VersionDirective v)) ds (VersionDirective v) m
+              (waits (BehindDirective (read_so_far s (directive ds (version v m)))) c),
+        )
+    go true e = first (version_of ds) (version_found ds e) (is_version v.major v.minor) refl
+        ∙ ap (λ (x : End). (r, x)) (sym (says true (is_version v.major v.minor) e refl))
+    go false e = let t = version_there ds e in second (version_of ds) t.0 t.1 ∙ ap (λ (x : End). (r, x)) (sym (says false (is_version v.major v.minor) e refl))
+
+directives_then : (ds : Directives) (r : List yaml_tag_directive_t) → tag_directives_then ds r ≡ tag_directives_then ds [] ++ r
+directives_then no_directives r = refl
+directives_then (directive ds (version v m)) r = directives_then ds r
+directives_then (directive ds (tag_directive d m)) r = directives_then ds (declaration d ∷ r)
+    ∙ (sym (assoc (tag_directives_then ds []) (declaration d ∷ []) r)
+    ∙ ap (λ (x : List yaml_tag_directive_t). x ++ r) (sym (directives_then ds (declaration d ∷ []))))
+
+pub tag_after : (s : Mark) (ds : Directives) (c : Config) (d : HandleDeclared) (m : Marks) (f : Config → Token → List Event × End) (r : List Event)
+    → c.handles ≡ handles_of ds → after (explicit_document (read_so_far s ds) c (tok (TagDirective d) m) (TagDirective d)) f r
+    ≡ (
+      r,
+      directive_ends (keeps_order ds no_directives (TagDirective d)) ds (TagDirective d) m
+          (waits (BehindDirective (read_so_far s (directive ds (tag_directive d m)))) (record c { handles = insert c.handles d.handle d.prefix })),
+    )
+tag_after s ds c d m f r h = go (declares ds d.handle) refl
+  where
+    after_it : Option (List ℕ) → List Event × End
+    after_it o = after (mach.tag_directive o (read_so_far s ds) c m.start (declaration d)) f r
+
+    goes_on : End
+    goes_on = waits (BehindDirective (read_so_far s (directive ds (tag_directive d m)))) (record c { handles = insert c.handles d.handle d.prefix })
+
+    new : waits (BehindDirective (record (read_so_far s ds) { tag_directives = tag_directives_of ds ++ declaration d ∷ [] }))
+        (record c { handles = insert c.handles d.handle d.prefix }) ≡ goes_on
+    new = ap (λ (x : List yaml_tag_directive_t). waits (BehindDirective (record { start_mark = s; version = version_of ds; tag_directives = x }))
+        (record c { handles = insert c.handles d.handle d.prefix })) (sym (directives_then ds (declaration d ∷ [])))
+
+    go : (u : Bool) → declares ds d.handle ≡ u
+        → after_it (get c.handles d.handle) ≡ (r, directive_ends (negated (declares ds d.handle)) ds (TagDirective d) m goes_on)
+    go true e = let t = already_declared ds d.handle e in ap after_it (ap (λ (x : Handles). get x d.handle) h ∙ t.1)
+        ∙ ap (λ (x : Bool). (r, directive_ends (negated x) ds (TagDirective d) m goes_on)) (sym e)
+    go false e = ap after_it (ap (λ (x : Handles). get x d.handle) h ∙ undeclared ds d.handle e)
+        ∙ (ap (λ (x : End). (r, x)) new ∙ ap (λ (x : Bool). (r, directive_ends (negated x) ds (TagDirective d) m goes_on)) (sym e))

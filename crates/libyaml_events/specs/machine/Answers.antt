@@ -1,0 +1,42 @@
+-- What a step left in its slots, as what the machine answers.
+use Rattle.std.specs.Prelude.{Result, Ok, Err}
+use Rattle.libyaml_types.specs.declared.event.yaml_event_t.{yaml_event_t}
+use Rattle.libyaml_types.specs.declared.enums.yaml_error_type_t.{yaml_error_type_t}
+use Rattle.libyaml_events.specs.declared.progress.Next.{Next}
+use Rattle.libyaml_events.specs.declared.progress.Next.TheVariants as next
+use Rattle.libyaml_events.specs.declared.progress.Pending.{Pending}
+use Rattle.libyaml_events.specs.declared.progress.Want.{Want}
+use Rattle.libyaml_events.specs.declared.progress.Want.TheVariants.{AtState, BehindDirective, BehindProperties, BehindBlockEntry, BehindIndentlessEntry}
+use Rattle.libyaml_events.specs.declared.progress.Want.TheVariants.{BehindKey, BehindValue, BehindFlowSequenceEntry, BehindFlowSequenceValue}
+use Rattle.libyaml_events.specs.declared.progress.Want.TheVariants.{BehindFlowMappingEntry, BehindFlowMappingKey, BehindFlowMappingValue}
+use Rattle.libyaml_events.specs.declared.progress.Progress.{Progress}
+use Rattle.libyaml_events.specs.declared.progress.Progress.TheVariants.{Given, Wants}
+
+-- what the next token is wanted for; behind an event the state says it
+abbrev pub wanted : Next → Pending → Want
+wanted next.Given p = AtState
+wanted next.AtState p = AtState
+wanted next.BehindDirective p = BehindDirective p.directives
+wanted next.BehindProperties p = BehindProperties p.place p.properties
+wanted next.BehindBlockEntry p = BehindBlockEntry p.mark
+wanted next.BehindIndentlessEntry p = BehindIndentlessEntry p.mark
+wanted next.BehindKey p = BehindKey p.mark
+wanted next.BehindValue p = BehindValue p.mark
+wanted next.BehindFlowSequenceEntry p = BehindFlowSequenceEntry
+wanted next.BehindFlowSequenceValue p = BehindFlowSequenceValue
+wanted next.BehindFlowMappingEntry p = BehindFlowMappingEntry
+wanted next.BehindFlowMappingKey p = BehindFlowMappingKey
+wanted next.BehindFlowMappingValue p = BehindFlowMappingValue
+
+abbrev pub progress : Next → Pending → yaml_event_t → Progress
+progress next.Given p e = Given e
+progress n p e = Wants (wanted n p)
+
+abbrev pub answer : Result Next yaml_error_type_t → Pending → yaml_event_t → Result Progress yaml_error_type_t
+answer (Ok n) p e = Ok (progress n p e)
+answer (Err x) p e = Err x
+
+-- a step that wants nothing further
+abbrev pub given : {A : Type 0} → Result A yaml_error_type_t → yaml_event_t → Result Progress yaml_error_type_t
+given (Ok u) e = Ok (Given e)
+given (Err x) e = Err x

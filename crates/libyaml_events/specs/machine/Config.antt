@@ -1,0 +1,130 @@
+-- What a parser is, whatever keeps it (docs/DEFINITIONS.md, "The parser as a machine").
+use Rattle.std.specs.Prelude.{◌∷◌, ◌||◌, ℕ, ℤ, List, [], Option, None, Some, Bool, true, false}
+use Rattle.std.specs.FinMap.{FinMap, from_entries, code, insert}
+use Rattle.std.specs.Coded.{Coded, coded_ℕ, coded_list}
+use Rattle.std.specs.Cmp.Lexicographic.{slice_cmp}
+use Rattle.std.specs.Ordering.{nat_cmp}
+use Rattle.libyaml_types.specs.declared.mark.yaml_mark_t.{yaml_mark_t}
+use Rattle.libyaml_types.specs.declared.token.yaml_token_t.{yaml_token_t}
+use Rattle.libyaml_types.specs.declared.enums.yaml_error_type_t.{yaml_error_type_t}
+use Rattle.libyaml_types.specs.declared.enums.yaml_error_type_t.TheVariants.{YAML_NO_ERROR, YAML_MEMORY_ERROR, YAML_READER_ERROR, YAML_SCANNER_ERROR}
+use Rattle.libyaml_types.specs.declared.enums.yaml_error_type_t.TheVariants.{YAML_PARSER_ERROR, YAML_COMPOSER_ERROR, YAML_WRITER_ERROR, YAML_EMITTER_ERROR}
+use Rattle.libyaml_types.specs.declared.enums.yaml_parser_state_t.{yaml_parser_state_t}
+use Rattle.libyaml_types.specs.declared.enums.yaml_parser_state_t.TheVariants.{YAML_PARSE_STREAM_START_STATE, YAML_PARSE_IMPLICIT_DOCUMENT_START_STATE}
+use Rattle.libyaml_types.specs.declared.enums.yaml_parser_state_t.TheVariants.{YAML_PARSE_DOCUMENT_START_STATE, YAML_PARSE_END_STATE}
+use Rattle.libyaml_grammar.specs.runs.Fault.{Fault}
+use Rattle.libyaml_types.specs.Events.{zero_mark}
+use Rattle.libyaml_grammar.specs.cuts.FaultTexts.{no_fault}
+
+-- the prefix of each handle that the document declares
+abbrev pub Handles : Type 0
+Handles = FinMap (slice_cmp nat_cmp) (List ℕ)
+
+abbrev pub handles_code : Coded Handles
+handles_code = code (coded_list coded_ℕ) (coded_list coded_ℕ)
+
+abbrev pub no_handles : Handles
+no_handles = from_entries []
+
+-- What the parser keeps between tokens. Both stacks have their top first. A document's explicit end came last where
+-- behind_document_end is true.
+pub record Config : Type 0 where
+  pub lookahead : Option yaml_token_t
+  pub state : yaml_parser_state_t
+  pub states : List yaml_parser_state_t
+  pub marks : List yaml_mark_t
+  pub handles : Handles
+  pub behind_document_end : Bool
+  pub fault : Fault
+
+pub record Parser (S : Type 0) : Type 0 where
+  pub source : S
+  pub config : Config
+  pub max_entries : ℤ
+
+abbrev pub start : Config
+start = record {
+  lookahead = None;
+  state = YAML_PARSE_STREAM_START_STATE;
+  states = [];
+  marks = [];
+  handles = no_handles;
+  behind_document_end = false;
+  fault
+      = no_fault;
+}
+
+abbrev pub with_config : {S : Type 0} → Parser S → Config → Parser S
+with_config p c = record p { config = c }
+
+abbrev pub with_fault : Config → Fault → Config
+with_fault c f = record c { fault = f }
+
+abbrev pub at : yaml_parser_state_t → Config → Config
+at state c = record c { state = state }
+
+-- the token stays, to be looked at again
+abbrev pub keep : yaml_token_t → Config → Config
+keep token c = record c { lookahead = Some token }
+
+abbrev pub taken : Config → Config
+taken c = record c { lookahead = None }
+
+abbrev pub pushed : yaml_parser_state_t → Config → Config
+pushed state c = record c { states = state ∷ c.states }
+
+abbrev pub top : List yaml_parser_state_t → yaml_parser_state_t
+top [] = YAML_PARSE_END_STATE
+top (s ∷ ss) = s
+
+abbrev pub below : {A : Type 0} → List A → List A
+below [] = []
+below (x ∷ xs) = xs
+
+abbrev pub popped : Config → Config
+popped c = record c { state = top c.states; states = below c.states }
+
+abbrev pub pushed_mark : yaml_mark_t → Config → Config
+pushed_mark mark c = record c { marks = mark ∷ c.marks }
+
+abbrev pub top_mark : List yaml_mark_t → yaml_mark_t
+top_mark [] = zero_mark
+top_mark (m ∷ ms) = m
+
+abbrev pub popped_mark : Config → Config
+popped_mark c = record c { marks = below c.marks }
+
+abbrev pub declared : List ℕ → List ℕ → Config → Config
+declared handle prefix c = record c { handles = insert c.handles handle prefix }
+
+abbrev pub without_handles : Config → Config
+without_handles c = record c { handles = no_handles }
+
+abbrev pub marked_ended : Bool → Config → Config
+marked_ended behind_document_end c = record c { behind_document_end = behind_document_end }
+
+abbrev pub is_fault : yaml_error_type_t → Bool
+is_fault YAML_NO_ERROR = false
+is_fault YAML_MEMORY_ERROR = true
+is_fault YAML_READER_ERROR = true
+is_fault YAML_SCANNER_ERROR = true
+is_fault YAML_PARSER_ERROR = true
+is_fault YAML_COMPOSER_ERROR = true
+is_fault YAML_WRITER_ERROR = true
+is_fault YAML_EMITTER_ERROR = true
+
+abbrev pub is_end_state : yaml_parser_state_t → Bool
+is_end_state YAML_PARSE_END_STATE = true
+is_end_state _ = false
+
+-- behind the stream's end or a fault
+abbrev pub ended_or_failed : Config → Bool
+ended_or_failed c = is_fault c.fault.error || is_end_state c.state
+
+-- in no document
+abbrev pub is_between : yaml_parser_state_t → Bool
+is_between YAML_PARSE_STREAM_START_STATE = true
+is_between YAML_PARSE_IMPLICIT_DOCUMENT_START_STATE = true
+is_between YAML_PARSE_DOCUMENT_START_STATE = true
+is_between YAML_PARSE_END_STATE = true
+is_between _ = false

@@ -1,0 +1,32 @@
+-- Why a parser asks for a token, and when it waits (docs/DEFINITIONS.md, "Needs").
+use Rattle.std.specs.Prelude.{◌≡◌, ◌++◌, ◌∷◌, List, [], true, false}
+use Rattle.libyaml_grammar.specs.runs.Fault.{Answer}
+use Rattle.libyaml_grammar.specs.sentences.Tokens.{Token}
+use Rattle.libyaml_grammar.specs.sentences.Events.{Event}
+use Rattle.libyaml_grammar.specs.cuts.CutTrees.{Cut}
+use Rattle.libyaml_grammar.specs.cuts.CutEvents.{cut_events}
+use Rattle.libyaml_grammar.specs.cuts.Fits.{Fits}
+use Rattle.libyaml_grammar.specs.cuts.Settled.{IsOpen}
+use Rattle.libyaml_grammar.specs.runs.Runs.{is_behind_properties}
+use Rattle.libyaml_grammar.specs.sentences.Sentences.{has_end}
+use Rattle.libyaml_events.specs.sources.History.{answers}
+
+-- These tokens behind a TAG with an undefined handle are those that are waited for: as many as it takes to stand behind
+-- the properties of its node, and none behind any other bad token.
+pub data HasWaited (c : Cut) (behind : List Token) : Type 0 where
+  at_once : behind ≡ [] → is_behind_properties c [] ≡ true → HasWaited c behind
+  by_last : (front : List Token) (t : Token) → behind ≡ front ++ t ∷ [] → is_behind_properties c front ≡ false → is_behind_properties c behind ≡ true
+      → HasWaited c behind
+
+-- Behind these tokens a further one is needed, where these events were given: two sentences begin with these tokens and
+-- differ in the next event; or the handle of a TAG is undefined and its node's properties are the last of these tokens.
+pub data NeedsMore (asked : List Token) (given : List Event) : Type 0 where
+  for_next_event : IsOpen asked given → NeedsMore asked given
+  amid_properties : (before : List Token) (token : Token) (behind : List Token) (c : Cut) → asked ≡ before ++ token ∷ behind → Fits before token c
+      → is_behind_properties c behind ≡ false → given ≡ cut_events c token → NeedsMore asked given
+
+-- Each of these answers, which were asked for one by one behind these tokens, was needed. None was asked for behind a
+-- STREAM-END.
+abbrev pub EachNeeded : List Token → List Answer → List Event → Type 0
+EachNeeded asked more given = (front : List Token) (x : Answer) (behind : List Answer) → more ≡ answers front (x ∷ behind) → (has_end (asked ++ front) ≡ false)
+    × NeedsMore (asked ++ front) given

@@ -1,0 +1,30 @@
+-- The run that a parser over a known source still has before it (docs/DEFINITIONS.md, "Runs").
+use Rattle.std.specs.Prelude.{◌≡◌, ◌++◌, List, Option, Some, Err}
+use Rattle.libyaml_types.specs.declared.enums.yaml_error_type_t.TheVariants.{YAML_MEMORY_ERROR}
+use Rattle.libyaml_grammar.specs.runs.Fault.{Fault}
+use Rattle.libyaml_grammar.specs.cuts.FaultTexts.{memory_fault}
+use Rattle.libyaml_events.specs.sources.Source.{Coming, coming}
+use Rattle.libyaml_grammar.specs.sentences.Tokens.{Token}
+use Rattle.libyaml_grammar.specs.sentences.Events.{Event}
+use Rattle.libyaml_grammar.specs.runs.Runs.{Ending, IsRun}
+use Rattle.libyaml_events.specs.machine.Config.{Parser}
+use Rattle.libyaml_events.specs.sources.Calls.{EventOrError}
+use Rattle.libyaml_events.specs.sources.History.{History, kept_fault}
+
+-- The tokens that were asked for and those that the source knows, together, have the run of the events that were given,
+-- then of these, with this ending.
+pub record RunToCome {S : Type 0} (known : S → Option Coming) (p : Parser S) (to_come : List Event) (ending : Ending) : Type 0 where
+  pub asked : List Token
+  pub given : List Event
+  pub rest : List Token
+  pub fault : Fault
+  pub history : History p asked given
+  pub knows : known p.source ≡ Some (coming rest fault)
+  pub run : IsRun (asked ++ rest) fault (given ++ to_come) ending
+
+-- What the run says; or a growth was refused; or the source broke off, by a fault that it names as possible where it then
+-- stands.
+pub data UnlessBroken {S : Type 0} (MayBreak : S → Fault → Type 0) (r : EventOrError) (new : Parser S) (Does : Type 0) : Type 0 where
+  does : Does → UnlessBroken MayBreak r new Does
+  no_memory : r ≡ Err YAML_MEMORY_ERROR → kept_fault new ≡ memory_fault → UnlessBroken MayBreak r new Does
+  breaks : (f : Fault) → MayBreak new.source f → r ≡ Err f.error → kept_fault new ≡ f → UnlessBroken MayBreak r new Does

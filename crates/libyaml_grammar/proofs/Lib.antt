@@ -1,0 +1,5 @@
+pub mod trees
+pub mod runs
+pub mod rows
+pub mod Lists
+pub mod positions

@@ -1,0 +1,5 @@
+use Rattle.libyaml_grammar.proofs.runs.Nesting.{events_nest_proof}
+use Rattle.libyaml_grammar.proofs.laws.events_nest.Goals as goal
+
+pub returns : goal.returns
+returns c = events_nest_proof

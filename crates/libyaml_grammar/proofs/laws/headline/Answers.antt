@@ -1,0 +1,5 @@
+use Rattle.libyaml_grammar.proofs.runs.Headline.{runs_whole}
+use Rattle.libyaml_grammar.proofs.laws.headline.Goals as goal
+
+pub returns : goal.returns
+returns c = runs_whole

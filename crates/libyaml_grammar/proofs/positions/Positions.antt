@@ -1,0 +1,113 @@
+-- Positions: what is known behind a list of tokens that begins a stream. It is the place on the right edge, with what is
+-- in hand there and the whole trees to the left of it. By positions the laws are proved, which speak of none.
+use Rattle.std.specs.Prelude.{List, [], ◌∷◌, Option, Some, None, Bool}
+use Rattle.libyaml_grammar.specs.sentences.Tokens.{BlockEnd, BlockEntry, BlockMappingStart, BlockSequenceStart, DocumentStart, Key, Mark, Marks, Scalar}
+use Rattle.libyaml_grammar.specs.sentences.Tokens.{StreamEnd, StreamStart, Token, empty_plain, tok}
+use Rattle.libyaml_grammar.specs.sentences.Trees.{Before, BlockItems, BlockSlot, Directive, Directives, FlowMember, FlowSlot, Parts, Properties, Stream}
+use Rattle.libyaml_grammar.specs.sentences.Trees.{anchor, before_tokens, behind, block_slot_tokens, directive, directive_token, directives_tokens}
+use Rattle.libyaml_grammar.specs.sentences.Trees.{flow_member_tokens, flow_slot_tokens, free, items_tokens, mapping, no_directives, option_tokens}
+use Rattle.libyaml_grammar.specs.sentences.Trees.{parts_tokens, sequence, stream_tokens}
+use Rattle.libyaml_grammar.specs.sentences.Events.{Event, before_events, block_layout, block_slot_events, documents_events, first_directive, first_entry}
+use Rattle.libyaml_grammar.specs.sentences.Events.{first_of, flow_member_events, flow_slot_events, free_events, items_events, opens_pair, parts_events}
+use Rattle.libyaml_grammar.specs.sentences.Events.{start_of, stream_events}
+use Rattle.libyaml_grammar.specs.sentences.Order.{admits, before_in_order, block_slot_in_order, both, directives_in_order, flow_member_in_order}
+use Rattle.libyaml_grammar.specs.sentences.Order.{flow_slot_in_order, items_in_order, option_in_order, parts_in_order, stream_in_order}
+use Rattle.libyaml_grammar.specs.cuts.CutTrees.{BlockPlace, Cut, Open, PartPlace, Place, at_directive, at_tag, at_tag_behind, before_stream}
+use Rattle.libyaml_grammar.specs.cuts.CutTrees.{block_place_in_order, block_place_tokens, content_due, declared, declared_block, declared_open, declared_part}
+use Rattle.libyaml_grammar.specs.cuts.CutTrees.{document_due, entry_due, open_in_order, open_tokens, part_due, part_place, part_place_in_order}
+use Rattle.libyaml_grammar.specs.cuts.CutTrees.{part_place_tokens, place_in_order, place_tokens, separator_due, start_due}
+use Rattle.libyaml_grammar.specs.cuts.CutEvents.{shown_block, shown_open, shown_part, shown_place, sort_of}
+use Rattle.libyaml_grammar.specs.cuts.Rest.{any_encoding, rest_block_place, rest_open, rest_place}
+
+-- Before the stream; where a document or the end is due; behind a directive; where a node or the rest of it is due;
+-- behind the start or a whole entry of a block collection, or behind a whole entry of a sequence without tokens of its
+-- own; in a flow collection where an entry is due, behind a key with its KEY, or behind a whole entry; and behind the
+-- stream's end.
+pub data Position : Type 0 where
+  unopened : Position
+  between : Before → Position
+  headed : Before → Directives → Directive → Position
+  due : Place → Option Properties → Position
+  in_sequence : BlockPlace → Option Properties → Marks → BlockItems → Position
+  in_mapping : BlockPlace → Option Properties → Marks → Parts → Position
+  in_indentless : PartPlace → Option Properties → BlockItems → Marks → BlockSlot → Position
+  flow_due : Open → Position
+  flow_keyed : Open → Marks → FlowSlot → Position
+  flow_behind : Open → FlowMember → Position
+  done : Stream → Position
+
+-- the tokens up to a position, and behind them the list r
+abbrev pub position_tokens : Position → List Token → List Token
+position_tokens unopened r = r
+position_tokens (between b) r = before_tokens b r
+position_tokens (headed b ds d) r = before_tokens b (directives_tokens ds (directive_token d ∷ r))
+position_tokens (due p o) r = place_tokens p (option_tokens o r)
+position_tokens (in_sequence c o m is) r = block_place_tokens c (option_tokens o (tok BlockSequenceStart m ∷ items_tokens is r))
+position_tokens (in_mapping c o m ps) r = block_place_tokens c (option_tokens o (tok BlockMappingStart m ∷ parts_tokens ps r))
+position_tokens (in_indentless c o is e n) r = part_place_tokens c (option_tokens o (items_tokens is (tok BlockEntry e ∷ block_slot_tokens n r)))
+position_tokens (flow_due c) r = open_tokens c r
+position_tokens (flow_keyed c k n) r = open_tokens c (tok Key k ∷ flow_slot_tokens n r)
+position_tokens (flow_behind c e) r = open_tokens c (flow_member_tokens e r)
+position_tokens (done t) r = stream_tokens t r
+
+-- whether what stands up to a position is in order, and b
+abbrev pub position_in_order : Position → Bool → Bool
+position_in_order unopened b = b
+position_in_order (between c) b = before_in_order c b
+position_in_order (headed c ds d) b = before_in_order c (directives_in_order ds (both (admits ds d) b))
+position_in_order (due p o) b = place_in_order p (option_in_order (declared p) o b)
+position_in_order (in_sequence c o m is) b = block_place_in_order c (option_in_order (declared_block c) o (items_in_order (declared_block c) is b))
+position_in_order (in_mapping c o m ps) b = block_place_in_order c (option_in_order (declared_block c) o (parts_in_order (declared_block c) ps b))
+position_in_order (in_indentless c o is e n) b
+    = part_place_in_order c (option_in_order (declared_part c) o (items_in_order (declared_part c) is (block_slot_in_order (declared_part c) n b)))
+position_in_order (flow_due c) b = open_in_order c b
+position_in_order (flow_keyed c k n) b = open_in_order c (flow_slot_in_order (declared_open c) n b)
+position_in_order (flow_behind c e) b = open_in_order c (flow_member_in_order (declared_open c) e b)
+position_in_order (done t) b = stream_in_order t b
+
+-- the events up to a position, where m is the start of the token behind
+abbrev pub shown : Position → Mark → List Event → List Event
+shown unopened m r = r
+shown (between (free f)) m r = free_events f r
+shown (between (behind d)) m r = documents_events d m r
+shown (headed b ds d) m r = before_events b (first_directive (directive ds d) m) r
+shown (due p o) m r = shown_place p (first_of o m) r
+shown (in_sequence c o s is) m r
+    = shown_block c (first_of o s.start) (start_of (declared_block c) sequence block_layout o s ∷ items_events (declared_block c) is r)
+shown (in_mapping c o s ps) m r
+    = shown_block c (first_of o s.start) (start_of (declared_block c) mapping block_layout o s ∷ parts_events (declared_block c) ps m r)
+shown (in_indentless c o is e n) m r
+    = shown_part c (start_of (declared_part c) sequence block_layout o (first_entry is e)
+    ∷ items_events (declared_part c) is (block_slot_events (declared_part c) n e.end r))
+shown (flow_due c) m r = shown_open c r
+shown (flow_keyed c k x) m r = shown_open c (opens_pair (sort_of c) k (flow_slot_events (declared_open c) x m r))
+shown (flow_behind c e) m r = shown_open c (flow_member_events (declared_open c) (sort_of c) e m r)
+shown (done t) m r = stream_events t r
+
+-- tokens that complete a position to a stream tree
+abbrev pub position_rest : Marks → Position → List Token
+position_rest m unopened = tok (StreamStart any_encoding) m ∷ tok StreamEnd m ∷ []
+position_rest m (between b) = tok StreamEnd m ∷ []
+position_rest m (headed b ds d) = tok DocumentStart m ∷ tok StreamEnd m ∷ []
+position_rest m (due p o) = tok (Scalar empty_plain) m ∷ rest_place m p
+position_rest m (in_sequence c o s is) = tok BlockEnd m ∷ rest_block_place m c
+position_rest m (in_mapping c o s ps) = tok BlockEnd m ∷ rest_block_place m c
+position_rest m (in_indentless (part_place c o s ps k v) x is e n) = tok BlockEnd m ∷ rest_block_place m c
+position_rest m (flow_due c) = rest_open m c
+position_rest m (flow_keyed c e n) = rest_open m c
+position_rest m (flow_behind c e) = rest_open m c
+position_rest m (done t) = []
+
+-- the position at which a cut tree is broken off
+abbrev pub stand : Cut → Position
+stand before_stream = unopened
+stand (document_due d) = between (behind d)
+stand (start_due b ds d) = headed b ds d
+stand (at_directive b no_directives) = between b
+stand (at_directive b (directive ds d)) = headed b ds d
+stand (content_due p) = due p None
+stand (at_tag p) = due p None
+stand (at_tag_behind p a m) = due p (Some (anchor a m))
+stand (entry_due c o m is) = in_sequence c o m is
+stand (part_due c o m ps) = in_mapping c o m ps
+stand (separator_due c e) = flow_behind c e

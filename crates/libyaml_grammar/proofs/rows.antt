@@ -1,0 +1,2 @@
+pub mod RowKinds
+pub mod Rows

@@ -1,0 +1,55 @@
+-- How a worked row is shown: its tokens are read to their end, to the bad token, or to where they stop.
+use Rattle.std.proofs.Common.{◌≡◌, ◌++◌, ◌∷◌, ℕ, suc, List, [], ap, ◌∙◌, subst, true, false}
+use Rattle.std.specs.Prelude.{take, drop}
+use Rattle.libyaml_grammar.specs.cuts.CutEvents.{cut_events}
+use Rattle.libyaml_grammar.specs.cuts.CutFaults.{fault}
+use Rattle.libyaml_grammar.specs.cuts.CutTrees.{Cut}
+use Rattle.libyaml_grammar.specs.sentences.Events.{Event, events}
+use Rattle.libyaml_grammar.specs.runs.Fault.{Fault}
+use Rattle.libyaml_grammar.proofs.positions.Positions.{Position, done, unopened}
+use Rattle.libyaml_grammar.proofs.positions.Reading.{bad, goes, reads, reads_all}
+use Rattle.libyaml_grammar.specs.runs.Runs.{Ends, Fails, IsRun, is_behind_properties}
+use Rattle.libyaml_grammar.specs.sentences.Sentences.{has_end}
+use Rattle.libyaml_grammar.specs.cuts.Settled.{IsSettled, sure}
+use Rattle.libyaml_grammar.specs.sentences.Tokens.{Token}
+use Rattle.libyaml_grammar.specs.sentences.Trees.{Stream, tokens}
+use Rattle.libyaml_grammar.proofs.trees.Completion.{append_nil, reached_begins, read_order}
+use Rattle.libyaml_grammar.proofs.trees.Fitting.{stops_fits}
+use Rattle.libyaml_grammar.proofs.runs.Fronts.{front, front_of}
+use Rattle.libyaml_grammar.proofs.trees.Keeps.{feeds_keep}
+use Rattle.libyaml_grammar.proofs.runs.Orders.{reads_to}
+use Rattle.libyaml_grammar.proofs.runs.Running.{amid_run, begin_run, cut_run, sentence_run}
+use Rattle.libyaml_grammar.proofs.runs.Settling.{front_settles}
+use Rattle.libyaml_grammar.proofs.runs.StreamEnds.{not_end_not_done}
+
+-- the first n tokens are a sentence
+pub sentence_row : (n : ℕ) (l : List Token) (f : Fault) (e : List Event) (t : Stream) → reads_all (take n l) unopened ≡ goes (done t) → take n l ++ drop n l ≡ l
+    → events t ≡ e → IsRun l f e Ends
+sentence_row n l f e t r s g =
+    let x : tokens t ≡ take n l = feeds_keep (take n l) unopened (done t) (reads_to (take n l) unopened (done t) r).0 [] ∙ append_nil (take n l) in
+    subst (λ (d : List Event). IsRun l f d Ends) g
+    (subst (λ (k : List Token). IsRun k f (events t) Ends) (ap (λ (k : List Token). k ++ drop n l) x
+    ∙ s) (sentence_run t (drop n l) f (read_order (take n l) (done t) r)))
+
+-- token n is bad
+pub cut_row : (n : ℕ) (l : List Token) (f : Fault) (e : List Event) (g : Fault) (b : Token) (q : Position) (c : Cut) → take n l ++ b ∷ drop (suc n) l ≡ l
+    → reads_all (take n l) unopened ≡ goes q → reads q b ≡ bad c → is_behind_properties c (drop (suc n) l) ≡ true → cut_events c b ≡ e
+    → fault c b.content b.start_mark ≡ g → IsRun l f e (Fails g)
+cut_row n l f e g b q c s r h i j k
+    = subst (λ (d : Fault). IsRun l f e (Fails d)) k
+    (subst (λ (d : List Event). IsRun l f d (Fails (fault c b.content b.start_mark))) j
+    (subst (λ (x : List Token). IsRun x f (cut_events c b) (Fails (fault c b.content b.start_mark))) s
+    (cut_run (take n l) b (drop (suc n) l) c f (stops_fits (take n l) b q c r h) i)))
+
+pub amid_row : (n : ℕ) (l : List Token) (f : Fault) (e : List Event) (b : Token) (q : Position) (c : Cut) → take n l ++ b ∷ drop (suc n) l ≡ l
+    → reads_all (take n l) unopened ≡ goes q → reads q b ≡ bad c → is_behind_properties c (drop (suc n) l) ≡ false → cut_events c b ≡ e
+    → IsRun l f e (Fails f)
+amid_row n l f e b q c s r h i j
+    = subst (λ (d : List Event). IsRun l f d (Fails f)) j
+    (subst (λ (x : List Token). IsRun x f (cut_events c b) (Fails f)) s (amid_run (take n l) b (drop (suc n) l) c f (stops_fits (take n l) b q c r h) i))
+
+-- no token is bad, and none ends the stream
+pub begin_row : (l : List Token) (f : Fault) (e : List Event) (q : Position) → reads_all l unopened ≡ goes q → has_end l ≡ false → sure (front q) ≡ e
+    → IsRun l f e (Fails f)
+begin_row l f e q r h g = begin_run l e f (reached_begins l q r) h
+    (subst (λ (d : List Event). IsSettled l d) g (front_settles l (front q) (front_of l q r (not_end_not_done l q r h))))

@@ -1,0 +1,186 @@
+-- Each beginning that is no sentence has one front tree: the cut tree at which a NO-TOKEN, bad everywhere, is bad.
+use Rattle.std.proofs.Common.{◌≡◌, List, [], ◌∷◌, ◌++◌, Option, Some, None, true, false, refl, sym, ap, ◌∙◌, subst}
+use Rattle.libyaml_grammar.specs.cuts.CutTrees.{Cut, Place, at_directive, at_tag, at_tag_behind, before_stream, block, content_due, document_due, entry}
+use Rattle.libyaml_grammar.specs.cuts.CutTrees.{entry_due, explicit_root, flow_entry, flow_key, flow_value, implicit_root, indentless_entry, part_due}
+use Rattle.libyaml_grammar.specs.cuts.CutTrees.{part_place, root, separator_due, slot, start_due}
+use Rattle.libyaml_grammar.specs.cuts.Fits.{EndsEmpty, Fits, FitsDirective, FitsTag, WantsContent, ends_empty, last_empty}
+use Rattle.libyaml_grammar.proofs.positions.Positions.{Position, between, done, due, flow_behind, flow_due, flow_keyed, headed, in_indentless, in_mapping}
+use Rattle.libyaml_grammar.proofs.positions.Positions.{in_sequence, unopened}
+use Rattle.libyaml_grammar.proofs.positions.Reading.{Step, bad, feeds, goes, over, reads, reads_all, then_all}
+use Rattle.libyaml_grammar.specs.sentences.Sentences.{IsBeginning}
+use Rattle.libyaml_grammar.specs.cuts.Settled.{IsFront, IsFrontPlace}
+use Rattle.libyaml_grammar.specs.sentences.Tokens.{Marks, NoToken, Token, tok, marks_of}
+use Rattle.libyaml_grammar.specs.sentences.Trees.{Properties, Stream, alone, behind, free, indentless, no_value, pair, part}
+use Rattle.libyaml_grammar.proofs.trees.Completion.{not_done, reads_append}
+use Rattle.libyaml_grammar.proofs.trees.Edge.{cut_reads, reached}
+use Rattle.libyaml_grammar.proofs.trees.Fitting.{stops_fits}
+use Rattle.libyaml_grammar.proofs.trees.OneCut.{edge_order, filled, fits_stop, one_cut_proof}
+use Rattle.libyaml_grammar.proofs.runs.Orders.{feeds_order, reads_from}
+
+abbrev pub front : Position → Cut
+front unopened = before_stream
+front (between (free f)) = content_due (block (root (implicit_root f)))
+front (between (behind d)) = document_due d
+front (headed b ds d) = start_due b ds d
+front (due p None) = content_due p
+front (due p (Some ps)) = filled p (alone ps)
+front (in_sequence c o s is) = entry_due c o s is
+front (in_mapping c o s ps) = part_due c o s ps
+front (in_indentless (part_place c o s ps k v) y is e x) = part_due c o s (part ps k v (indentless y is e x))
+front (flow_due c) = content_due (flow_entry c)
+front (flow_keyed c e x) = separator_due c (pair e x no_value)
+front (flow_behind c e) = separator_due c e
+front (done t) = before_stream
+
+abbrev pub IsNotDone : Position → Type 0
+IsNotDone (done t) = ⊥
+IsNotDone _ = Unit {0}
+
+nothing_stops : (p : Place) (m : Marks) → reads (due p None) (tok NoToken m) ≡ bad (content_due p)
+nothing_stops (block (root (implicit_root f))) m = refl
+nothing_stops (block (root (explicit_root b ds s))) m = refl
+nothing_stops (block (entry c o s is e)) m = refl
+nothing_stops (block (slot (part_place c o s ps k v))) m = refl
+nothing_stops (block (indentless_entry (part_place c o s ps k v) y is e)) m = refl
+nothing_stops (flow_entry c) m = refl
+nothing_stops (flow_key c e) m = refl
+nothing_stops (flow_value c e x v) m = refl
+
+alone_stops : (p : Place) (ps : Properties) (m : Marks) → reads (due p (Some ps)) (tok NoToken m) ≡ bad (filled p (alone ps))
+alone_stops (block (root (implicit_root f))) ps m = refl
+alone_stops (block (root (explicit_root b ds s))) ps m = refl
+alone_stops (block (entry c o s is e)) ps m = refl
+alone_stops (block (slot (part_place c o s qs k v))) ps m = refl
+alone_stops (block (indentless_entry (part_place c o s qs k v) y is e)) ps m = refl
+alone_stops (flow_entry c) ps m = refl
+alone_stops (flow_key c e) ps m = refl
+alone_stops (flow_value c e x v) ps m = refl
+
+pub none_stops : (q : Position) (m : Marks) → IsNotDone q → reads q (tok NoToken m) ≡ bad (front q)
+none_stops unopened m n = refl
+none_stops (between (free f)) m n = refl
+none_stops (between (behind d)) m n = refl
+none_stops (headed b ds d) m n = refl
+none_stops (due p None) m n = nothing_stops p m
+none_stops (due p (Some ps)) m n = alone_stops p ps m
+none_stops (in_sequence c o s is) m n = refl
+none_stops (in_mapping c o s ps) m n = refl
+none_stops (in_indentless (part_place c o s ps k v) y is e x) m n = refl
+none_stops (flow_due c) m n = refl
+none_stops (flow_keyed c e x) m n = refl
+none_stops (flow_behind c e) m n = refl
+none_stops (done t) m n = absurd n
+
+-- no ends_empty has it
+not_in_row : (p : Place) → ends_empty p NoToken ≡ true → ⊥
+not_in_row (block (root (implicit_root f))) e = cc
+not_in_row (block (root (explicit_root b ds m))) e = cc
+not_in_row (block (entry c o m is e)) f = cc
+not_in_row (block (slot c)) e = cc
+not_in_row (block (indentless_entry c o is e)) f = cc
+not_in_row (flow_entry c) e = cc
+not_in_row (flow_key c e) f = cc
+not_in_row (flow_value c e x v) f = cc
+
+row_lacks : (p : Place) → ends_empty p NoToken ≡ false
+row_lacks (block (root (implicit_root f))) = refl
+row_lacks (block (root (explicit_root b ds m))) = refl
+row_lacks (block (entry c o m is e)) = refl
+row_lacks (block (slot c)) = refl
+row_lacks (block (indentless_entry c o is e)) = refl
+row_lacks (flow_entry c) = refl
+row_lacks (flow_key c e) = refl
+row_lacks (flow_value c e x v) = refl
+
+none_empty : (o : Option Place) → EndsEmpty o NoToken → o ≡ None
+none_empty None h = refl
+none_empty (Some p) h = absurd (not_in_row p h)
+
+front_place : (l : List Token) (c : Cut) → FitsDirective c NoToken → FitsTag l c NoToken → IsFrontPlace c
+front_place l (at_directive b ds) d t = cc
+front_place l (at_tag p) d t = t
+front_place l (at_tag_behind p a m) d t = t
+front_place l _ d t = tt
+
+wants_none : (c : Cut) → WantsContent c NoToken
+wants_none (content_due p) = row_lacks p
+wants_none _ = tt
+
+no_directive : (c : Cut) → IsFrontPlace c → FitsDirective c NoToken
+no_directive (document_due d) p = refl
+no_directive (start_due b ds d) p = refl
+no_directive (at_directive b ds) p = absurd p
+no_directive (content_due (block (root (implicit_root f)))) p = refl
+no_directive (content_due _) p = tt
+no_directive _ p = tt
+
+no_tag : (l : List Token) (c : Cut) → IsFrontPlace c → FitsTag l c NoToken
+no_tag l (at_tag q) p = absurd p
+no_tag l (at_tag_behind q a m) p = absurd p
+no_tag l _ p = λ u. u.unknown
+
+in_no_row : (o : Option Place) → o ≡ None → EndsEmpty o NoToken
+in_no_row None e = tt
+in_no_row (Some p) e = cc
+
+abbrev nowhere : Token
+nowhere = tok NoToken (record { start = record { index = 0; line = 0; column = 0 }; end = record { index = 0; line = 0; column = 0 } })
+
+never_goes : (q p : Position) → reads q nowhere ≡ goes p → ⊥
+never_goes q p e = go q refl
+  where
+    go : (x : Position) → x ≡ q → ⊥
+    go (done t) f = let g : over ≡ goes p = ap (λ (y : Position). reads y nowhere) f ∙ e in cc
+    go x f = let g : bad (front x) ≡ goes p = sym (none_stops x (marks_of nowhere) tt) ∙ (ap (λ (y : Position). reads y nowhere) f ∙ e) in cc
+
+-- the front tree's tokens lead to its right edge
+pub front_reads : (l : List Token) (c : Cut) → IsFront l c → reads_all l unopened ≡ goes (reached c)
+front_reads l c f =
+    let e : feeds l unopened ≡ goes (reached c) = subst (λ (x : List Token). feeds x unopened ≡ goes (reached c)) f.tokens (cut_reads c []) in
+    reads_from l unopened (reached c) e (sym (feeds_order l unopened (reached c) e true) ∙ (edge_order c true ∙ f.order))
+
+front_fits : (l : List Token) (c : Cut) → IsFront l c → Fits l nowhere c
+front_fits l c f = record {
+  tokens = f.tokens;
+  order = f.order;
+  bad_token = not_done (l ++ nowhere
+      ∷ []) (then_all (reads (reached c) nowhere) goes) (λ p e. not_then (reads (reached c) nowhere) (λ x. never_goes (reached c) x) p e)
+      (reads_append l (nowhere ∷ []) unopened ∙ ap (λ (s : Step). then_all s (reads_all (nowhere ∷ []))) (front_reads l c f));
+  empty_end = in_no_row (last_empty c) f.full;
+  wants_content = wants_none c;
+  directive = no_directive c f.place;
+  tag = no_tag l c f.place;
+}
+  where
+    not_then : (s : Step) → ((p : Position) → s ≡ goes p → ⊥) → (p : Position) → then_all s goes ≡ goes p → ⊥
+    not_then (goes x) n p e = n x refl
+    not_then (bad x) n p e = cc
+    not_then over n p e = cc
+
+pub one_front_proof : (l : List Token) (c d : Cut) → IsFront l c → IsFront l d → c ≡ d
+one_front_proof l c d f g = one_cut_proof l nowhere c d (front_fits l c f) (front_fits l d g)
+
+pub front_of : (l : List Token) (q : Position) → reads_all l unopened ≡ goes q → IsNotDone q → IsFront l (front q)
+front_of l q e n =
+    let f = stops_fits l nowhere q (front q) e (none_stops q (marks_of nowhere) n) in
+    record { tokens = f.tokens; order = f.order; place = front_place l (front q) f.directive f.tag; full = none_empty (last_empty (front q)) f.empty_end }
+
+-- a beginning is read
+pub begin_reads : (a : List Token) → IsBeginning a → (p : Position) × (reads_all a unopened ≡ goes p)
+begin_reads a h = go (reads_all a unopened) refl
+  where
+    go : (s : Step) → reads_all a unopened ≡ s → (p : Position) × (reads_all a unopened ≡ goes p)
+    go (goes p) e = (p, e)
+    go (bad c) e = absurd (not_done a (bad c) (λ q f. cc) e h)
+    go over e = absurd (not_done a over (λ q f. cc) e h)
+
+-- a front tree is no whole stream
+pub front_not_done : (l : List Token) (c : Cut) → IsFront l c → (t : Stream) → reached c ≡ done t → ⊥
+front_not_done l c f t e = let g : bad c ≡ over = sym (fits_stop l nowhere c (front_fits l c f)) ∙ ap (λ (x : Position). reads x nowhere) e in cc
+
+pub not_done_front : (l : List Token) (c : Cut) → IsFront l c → IsNotDone (reached c)
+not_done_front l c f = go (reached c) refl
+  where
+    go : (x : Position) → reached c ≡ x → IsNotDone x
+    go (done t) e = front_not_done l c f t e
+    go _ e = tt

@@ -1,0 +1,218 @@
+-- The events of each run begin events that nest, so they nest as far as they go.
+use Rattle.std.proofs.Common.{◌≡◌, ◌⊎◌, inl, inr, List, [], ◌∷◌, ◌++◌, refl, sym, ap, ◌∙◌, subst, append_assoc, None, Some, true}
+use Rattle.libyaml_types.specs.declared.event.unnamed_yaml_event_t_data.TheVariants as ev
+use Rattle.libyaml_grammar.specs.cuts.CutEvents.{cut_events, shown_cut, sort_of}
+use Rattle.libyaml_grammar.specs.cuts.CutTrees.{Cut, at_directive, at_tag, at_tag_behind, before_stream, content_due, document_due, entry_due}
+use Rattle.libyaml_grammar.specs.cuts.CutTrees.{open_collection, part_due, separator_due, start_due}
+use Rattle.libyaml_grammar.specs.sentences.Events.{Event, document_end_at, documents_events, end_at, event, events, member_end, missing_value, start_at}
+use Rattle.libyaml_grammar.specs.sentences.Events.{stream_end_at, stream_start_at}
+use Rattle.libyaml_grammar.specs.runs.Fault.{Fault}
+use Rattle.libyaml_grammar.proofs.positions.Given.{given}
+use Rattle.libyaml_grammar.specs.sentences.Nesting.{BeginsValue, IsNested, IsOpenDocument, NestsSoFar, Texts, TextsHavePairs, Value, Values, alias_value}
+use Rattle.libyaml_grammar.specs.sentences.Nesting.{collection_value, first_value, has_begun, no_texts, no_values, none_open, not_begun, one_open}
+use Rattle.libyaml_grammar.specs.sentences.Nesting.{scalar_value, text_behind, texts_events, value_events, values_events, whole}
+use Rattle.libyaml_grammar.proofs.positions.Positions.{Position, between, done, due, flow_behind, headed, in_mapping, in_sequence, position_rest, shown, stand}
+use Rattle.libyaml_grammar.specs.runs.Runs.{Ending, Ends, IsRun, amid_properties, of_beginning, of_cut_tree, of_sentence}
+use Rattle.libyaml_grammar.specs.sentences.Tokens.{Mark, Marks, Token, marks_of}
+use Rattle.libyaml_grammar.specs.sentences.Trees.{Stream, anchor, behind, directive, free, mapping, no_directives, sequence}
+use Rattle.libyaml_grammar.proofs.trees.Completion.{position_ends}
+use Rattle.libyaml_grammar.proofs.Lists.{nil_right}
+use Rattle.libyaml_grammar.proofs.runs.Nesting.{events_nest_proof}
+use Rattle.libyaml_grammar.proofs.trees.Run.{first_mark, given_shown}
+use Rattle.libyaml_grammar.proofs.runs.Running.{ended_run}
+use Rattle.libyaml_grammar.proofs.trees.Splits.{Splits, behind_event, both_split, member_end_splits, missing_value_splits, position_splits}
+
+-- what a cut tree shows stands before the events behind it
+cut_splits : (c : Cut) (m : Mark) → Splits (shown_cut c m)
+cut_splits before_stream m = λ r. refl
+cut_splits (document_due d) m = both_split (documents_events d m) (λ (r : List Event). document_end_at true m m
+    ∷ r) (position_splits (between (behind d)) m) (λ r. refl)
+cut_splits (start_due b ds d) m = position_splits (headed b ds d) m
+cut_splits (at_directive (free f) no_directives) m = position_splits (between (free f)) m
+cut_splits (at_directive (behind d) no_directives) m
+    = both_split (documents_events d m) (λ (r : List Event). document_end_at true m m ∷ r) (position_splits (between (behind d)) m) (λ r. refl)
+cut_splits (at_directive b (directive ds d)) m = position_splits (headed b ds d) m
+cut_splits (content_due p) m = position_splits (due p None) m
+cut_splits (at_tag p) m = position_splits (due p None) m
+cut_splits (at_tag_behind p a x) m = position_splits (due p (Some (anchor a x))) m
+cut_splits (entry_due c o s is) m = position_splits (in_sequence c o s is) m
+cut_splits (part_due c o s ps) m
+    = both_split (shown (in_mapping c o s ps) m) (missing_value ps m) (position_splits (in_mapping c o s ps) m) (missing_value_splits ps m)
+cut_splits (separator_due c e) m
+    = both_split (shown (flow_behind c e) m) (member_end (sort_of c) e m) (position_splits (flow_behind c e) m) (member_end_splits (sort_of c) e m)
+
+-- a tree whose events go on from those of a cut tree
+abbrev GoesOn : Cut → Mark → Type 0
+GoesOn c m = (t : Stream) × (later : List Event) × (events t ≡ shown_cut c m later)
+
+-- the tree that completes a position, and the events of what completes it
+completed : (m : Marks) (q : Position) → (t : Stream) × (events t ≡ shown q (first_mark (position_rest m q) m.start) (given (position_rest m q) q []))
+completed m q = let e = position_ends m q in (e.0, given_shown (position_rest m q) q (done e.0) e.1 m.start [])
+
+goes_on : (c : Cut) (m : Marks) → GoesOn c m.start
+goes_on before_stream m = let t = completed m (stand before_stream) in (t.0, _, t.1)
+goes_on (document_due d) m = let t = completed m (between (behind d)) in (t.0, _, t.1)
+goes_on (start_due b ds d) m = let t = completed m (headed b ds d) in (t.0, _, t.1)
+goes_on (at_directive (free f) no_directives) m = let t = completed m (between (free f)) in (t.0, _, t.1)
+goes_on (at_directive (behind d) no_directives) m = let t = completed m (between (behind d)) in (t.0, _, t.1)
+goes_on (at_directive b (directive ds d)) m = let t = completed m (headed b ds d) in (t.0, _, t.1)
+goes_on (content_due p) m = let t = completed m (due p None) in (t.0, _, t.1)
+goes_on (at_tag p) m = let t = completed m (due p None) in (t.0, _, t.1)
+goes_on (at_tag_behind p a x) m = let t = completed m (due p (Some (anchor a x))) in (t.0, _, t.1)
+goes_on (entry_due c o s is) m = let t = completed m (in_sequence c o s is) in (t.0, _, t.1)
+goes_on (part_due c o s ps) m = let t = completed m (in_mapping c o s ps) in (t.0, _, t.1)
+goes_on (separator_due (open_collection p o sequence s is) e) m = let t = completed m (flow_behind (open_collection p o sequence s is) e) in (t.0, _, t.1)
+goes_on (separator_due (open_collection p o mapping s is) e) m = let t = completed m (flow_behind (open_collection p o mapping s is) e) in (t.0, _, t.1)
+
+-- the events begin events that nest
+abbrev pub BeginsNested : List Event → Type 0
+BeginsNested l = (rest : List Event) × IsNested (l ++ rest)
+
+tree_begins : (t : Stream) (l rest : List Event) → events t ≡ l ++ rest → BeginsNested l
+tree_begins t l rest e = (rest, subst IsNested e (events_nest_proof t))
+
+cut_begins : (c : Cut) (b : Token) → BeginsNested (cut_events c b)
+cut_begins c b = let g = goes_on c (marks_of b) in tree_begins g.0 (cut_events c b) g.1 (g.2 ∙ cut_splits c b.start_mark g.1)
+
+pub run_begins : (l : List Token) (f : Fault) (e : List Event) (x : Ending) → IsRun l f e x → BeginsNested e
+run_begins l f e x (of_sentence t a o g h) = tree_begins t e [] (sym g ∙ sym (nil_right e))
+run_begins l f e x (of_cut_tree before token after c a i o g h) = subst BeginsNested (sym g) (cut_begins c token)
+run_begins l f e x (amid_properties before token after c a i o g h) = subst BeginsNested (sym g) (cut_begins c token)
+run_begins l f e x (of_beginning b n s h) =
+    let r = s.begins_each b.sentence.tree b.rest b.sentence.order (sym b.sentence.all) in
+    tree_begins b.sentence.tree e r.0 r.1
+
+-- events that begin events that nest: whole documents, and at most one that is open
+two_lists : (a b c d : List Event) → a ++ b ≡ c ++ d → ((x : List Event) × (c ≡ a ++ x)) ⊎ ((x : List Event) × (a ≡ c ++ x) × (x ++ b ≡ d))
+two_lists [] b c d e = inl (c, refl)
+two_lists (t ∷ a) b [] d e = inr (t ∷ a, refl, e)
+two_lists (t ∷ a) b (u ∷ c) d e = go (two_lists a b c d (cc))
+  where
+    same : t ≡ u
+    same = cc
+
+    go : ((x : List Event) × (c ≡ a ++ x)) ⊎ ((x : List Event) × (a ≡ c ++ x) × (x ++ b ≡ d)) → ((x : List Event) × (u ∷ c ≡ t ∷ (a ++ x)))
+        ⊎ ((x : List Event) × (t ∷ a ≡ u ∷ (c ++ x)) × (x ++ b ≡ d))
+    go (inl (x, h)) = inl (x, ap (λ (l : List Event). u ∷ l) h ∙ ap (λ (y : Event). y ∷ (a ++ x)) (sym same))
+    go (inr (x, h, i)) = inr (x, ap (λ (l : List Event). t ∷ l) h ∙ ap (λ (y : Event). y ∷ (c ++ x)) same, i)
+
+mutual
+  value_splits : (v : Value) → Splits (value_events v)
+  value_splits (alias_value a m n) = λ r. refl
+  value_splits (scalar_value s m n) = λ r. refl
+  value_splits (collection_value k a t i s m n vs p q)
+      = behind_event (start_at k a t i s m n) (λ (r : List Event). values_events vs (end_at k p q ∷ r))
+      (both_split (values_events vs) (λ (r : List Event). end_at k p q ∷ r) (values_split vs) (λ r. refl))
+
+  values_split : (vs : Values) → Splits (values_events vs)
+  values_split no_values = λ r. refl
+  values_split (first_value v vs) = both_split (value_events v) (values_events vs) (value_splits v) (values_split vs)
+
+-- where a list ends that begins these documents and what stands behind them
+data EndsIn (l rest : List Event) (ts : Texts) (r : List Event) : Type 0 where
+  among : (us : Texts) (o : List Event) → l ≡ texts_events us o → TextsHavePairs us → IsOpenDocument o → EndsIn l rest ts r
+  past : (k : List Event) → l ≡ texts_events ts k → k ++ rest ≡ r → EndsIn l rest ts r
+
+ends_in : (ts : Texts) (l rest r : List Event) → TextsHavePairs ts → l ++ rest ≡ texts_events ts r → EndsIn l rest ts r
+ends_in no_texts l rest r h e = past l refl e
+ends_in (text_behind ts d m n v i p q) l rest r h e = go (ends_in ts l rest (event (ev.DocumentStart d) m n ∷ value_events v (document_end_at i p q ∷ r)) h.0 e)
+  where
+    head : Event
+    head = event (ev.DocumentStart d) m n
+
+    go : EndsIn l rest ts (event (ev.DocumentStart d) m n ∷ value_events v (document_end_at i p q ∷ r)) → EndsIn l rest (text_behind ts d m n v i p q) r
+    go (among us o a b c) = among us o a b c
+    go (past [] a b) = among ts [] a h.0 (none_open refl)
+    go (past (x ∷ k) a b) = further (two_lists k rest (value_events v []) (document_end_at i p q ∷ r) (tails ∙ value_splits v (document_end_at i p q ∷ r)))
+      where
+        heads : x ≡ event (ev.DocumentStart d) m n
+        heads = cc
+
+        tails : k ++ rest ≡ value_events v (document_end_at i p q ∷ r)
+        tails = cc
+
+        opens : BeginsValue k → EndsIn l rest (text_behind ts d m n v i p q) r
+        opens w = among ts (event (ev.DocumentStart d) m n ∷ k) (a ∙ ap (λ (y : Event). texts_events ts (y ∷ k)) heads) h.0 (one_open d m n k refl w)
+
+        further : ((y : List Event) × (value_events v [] ≡ k ++ y))
+            ⊎ ((y : List Event) × (k ≡ value_events v [] ++ y) × (y ++ rest ≡ document_end_at i p q ∷ r)) → EndsIn l rest (text_behind ts d m n v i p q) r
+        further (inl (y, c)) = opens (record { val = v; rest = y; all = c; pairs = h.1 })
+        further (inr ([], c, f)) = opens (record { val = v; rest = []; all = sym (nil_right (value_events v [])) ∙ (sym c ∙ sym (nil_right k)); pairs = h.1 })
+        further (inr (y ∷ ys, c, f)) = past ys (a
+            ∙ ap (texts_events ts) (ap (λ (z : Event). z ∷ k) heads
+            ∙ ap (λ (z : List Event). event (ev.DocumentStart d) m n ∷ z) (c
+            ∙ (ap (λ (z : Event). value_events v [] ++ z ∷ ys) first ∙ sym (value_splits v (document_end_at i p q ∷ ys)))))) others
+          where
+            first : y ≡ document_end_at i p q
+            first = cc
+
+            others : ys ++ rest ≡ r
+            others = cc
+
+pub front_nests : (l rest : List Event) → IsNested (l ++ rest) → NestsSoFar l
+front_nests [] rest n = not_begun refl
+front_nests (x ∷ l) rest n = go (ends_in n.texts l rest (stream_end_at n.end n.end_end ∷ []) n.pairs tails)
+  where
+    all : x ∷ (l ++ rest) ≡ stream_start_at n.head n.start n.start_end ∷ texts_events n.texts (stream_end_at n.end n.end_end ∷ [])
+    all = n.all
+
+    heads : x ≡ stream_start_at n.head n.start n.start_end
+    heads = let e = all in cc
+
+    tails : l ++ rest ≡ texts_events n.texts (stream_end_at n.end n.end_end ∷ [])
+    tails = let e = all in cc
+
+    behind_start : (k : List Event) → l ≡ k → x ∷ l ≡ stream_start_at n.head n.start n.start_end ∷ k
+    behind_start k e = ap (λ (z : List Event). x ∷ z) e ∙ ap (λ (y : Event). y ∷ k) heads
+
+    begun : (us : Texts) (o : List Event) → l ≡ texts_events us o → TextsHavePairs us → IsOpenDocument o → NestsSoFar (x ∷ l)
+    begun us o a b c = has_begun (record {
+      head = n.head;
+      start = n.start;
+      start_end = n.start_end;
+      texts = us;
+      open_document = o;
+      all
+          = behind_start (texts_events us o) a;
+      pairs = b;
+      is_open = c;
+    })
+
+    go : EndsIn l rest n.texts (stream_end_at n.end n.end_end ∷ []) → NestsSoFar (x ∷ l)
+    go (among us o a b c) = begun us o a b c
+    go (past [] a b) = begun n.texts [] a n.pairs (none_open refl)
+    go (past (y ∷ []) a b) = whole
+        (record {
+          head = n.head;
+          start = n.start;
+          start_end = n.start_end;
+          texts = n.texts;
+          end = n.end;
+          end_end = n.end_end;
+          all
+              = behind_start (texts_events n.texts (stream_end_at n.end n.end_end ∷ [])) (a ∙ ap (λ (z : Event). texts_events n.texts (z ∷ [])) last);
+          pairs
+              = n.pairs;
+        })
+      where
+        last : y ≡ stream_end_at n.end n.end_end
+        last = cc
+    go (past (y ∷ z ∷ k) a b) = absurd (no (z ∷ (k ++ rest)) others)
+      where
+        others : z ∷ (k ++ rest) ≡ []
+        others = cc
+
+        no : (u : List Event) → z ∷ (k ++ rest) ≡ [] → ⊥
+        no u h = cc
+
+pub run_nests_so_far : (l : List Token) (f : Fault) (e : List Event) (x : Ending) → IsRun l f e x → NestsSoFar e
+run_nests_so_far l f e x r = let b = run_begins l f e x r in front_nests e b.0 b.1
+
+-- and so does what begins the events of a run
+pub run_front_nests : (l : List Token) (f : Fault) (e : List Event) (x : Ending) → IsRun l f e x → (d later : List Event) → e ≡ d ++ later → NestsSoFar d
+run_front_nests l f e x r d later h =
+    let b = run_begins l f e x r in
+    front_nests d (later ++ b.0) (subst IsNested (ap (λ (y : List Event). y ++ b.0) h ∙ append_assoc d later b.0) b.1)
+
+pub ended_nests : (l : List Token) (f : Fault) (e : List Event) → IsRun l f e Ends → IsNested e
+ended_nests l f e r = let t = ended_run l f e r in subst IsNested (sym t.3) (events_nest_proof t.0)

@@ -1,0 +1,50 @@
+-- Two completions of one position with different marks differ in their first event.
+use Rattle.std.proofs.Common.{◌≡◌, [], Some, refl, ap}
+use Rattle.libyaml_grammar.specs.sentences.Tokens.{Marks}
+use Rattle.libyaml_grammar.specs.sentences.Trees.{Stream, behind, free, key, mapping, no_parts, no_value, pair, part, sequence, single, value, with_value}
+use Rattle.libyaml_grammar.specs.sentences.Events.{Event}
+use Rattle.libyaml_grammar.specs.cuts.CutTrees.{open_collection, part_place}
+use Rattle.libyaml_grammar.proofs.positions.Positions.{Position, between, done, due, flow_behind, flow_due, flow_keyed, headed, in_indentless, in_mapping}
+use Rattle.libyaml_grammar.proofs.positions.Positions.{in_sequence, position_rest, unopened}
+use Rattle.libyaml_grammar.proofs.positions.Given.{given}
+use Rattle.libyaml_grammar.specs.cuts.Settled.{next_event}
+
+same_start : (x y : Event) → Some x ≡ Some y → x.start_mark ≡ y.start_mark
+same_start x y h = ap (λ (e : Event). e.start_mark) (inside x y h)
+  where
+    inside : (x y : Event) → Some x ≡ Some y → x ≡ y
+    inside x y h = cc
+
+same_end : (x y : Event) → Some x ≡ Some y → x.end_mark ≡ y.end_mark
+same_end x y h = ap (λ (e : Event). e.end_mark) (inside x y h)
+  where
+    inside : (x y : Event) → Some x ≡ Some y → x ≡ y
+    inside x y h = cc
+
+-- two completions of one position differ in their first event
+abbrev Differ : Position → Marks → Marks → Type 0
+Differ q m n = next_event (given (position_rest m q) q []) ≡ next_event (given (position_rest n q) q []) → ⊥
+
+module _ (m n : Marks) (s : m.start ≡ n.start → ⊥) (e : m.end ≡ n.end → ⊥) where
+  pub differ : (q : Position) → ((t : Stream) → q ≡ done t → ⊥) → Differ q m n
+  differ unopened d h = s (same_start _ _ h)
+  differ (between (free f)) d h = s (same_start _ _ h)
+  differ (between (behind x)) d h = s (same_start _ _ h)
+  differ (headed b ds x) d h = e (same_end _ _ h)
+  differ (due p o) d h = e (same_end _ _ h)
+  differ (in_sequence c o z is) d h = s (same_start _ _ h)
+  differ (in_mapping c o z no_parts) d h = s (same_start _ _ h)
+  differ (in_mapping c o z (part ps key v x)) d h = s (same_start _ _ h)
+  differ (in_mapping c o z (part ps value v x)) d h = s (same_start _ _ h)
+  differ (in_indentless (part_place c o z ps k v) x is y w) d h = s (same_start _ _ h)
+  differ (flow_due (open_collection p o sequence z is)) d h = s (same_start _ _ h)
+  differ (flow_due (open_collection p o mapping z is)) d h = s (same_start _ _ h)
+  differ (flow_keyed (open_collection p o sequence z is) k x) d h = s (same_start _ _ h)
+  differ (flow_keyed (open_collection p o mapping z is) k x) d h = s (same_start _ _ h)
+  differ (flow_behind (open_collection p o sequence z is) (single x)) d h = s (same_start _ _ h)
+  differ (flow_behind (open_collection p o sequence z is) (pair k x no_value)) d h = s (same_start _ _ h)
+  differ (flow_behind (open_collection p o sequence z is) (pair k x (with_value v y))) d h = s (same_start _ _ h)
+  differ (flow_behind (open_collection p o mapping z is) (single x)) d h = s (same_start _ _ h)
+  differ (flow_behind (open_collection p o mapping z is) (pair k x no_value)) d h = s (same_start _ _ h)
+  differ (flow_behind (open_collection p o mapping z is) (pair k x (with_value v y))) d h = s (same_start _ _ h)
+  differ (done t) d h = d t refl

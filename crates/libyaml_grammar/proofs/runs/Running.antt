@@ -1,0 +1,338 @@
+-- Each list has one run for each fault of its source.
+use Rattle.std.proofs.Common.{◌≡◌, ◌⊎◌, inl, inr, List, [], ◌∷◌, ◌++◌, Bool, true, false, refl, sym, ap, ◌∙◌, subst}
+use Rattle.libyaml_types.specs.declared.enums.yaml_error_type_t.TheVariants.{YAML_PARSER_ERROR}
+use Rattle.libyaml_grammar.specs.runs.Errors.{IsSourceError}
+use Rattle.libyaml_grammar.specs.cuts.CutEvents.{shown_cut}
+use Rattle.libyaml_grammar.specs.cuts.CutFaults.{fault}
+use Rattle.libyaml_grammar.specs.cuts.CutTrees.{Cut, at_tag, at_tag_behind, cut_tokens, declared}
+use Rattle.libyaml_grammar.specs.sentences.Events.{Event, either, events}
+use Rattle.libyaml_grammar.specs.runs.Fault.{Fault}
+use Rattle.libyaml_grammar.specs.cuts.Fits.{Fits, FitsTag, IsUnknown}
+use Rattle.libyaml_grammar.specs.sentences.Order.{in_order}
+use Rattle.libyaml_grammar.proofs.positions.Positions.{Position, done, unopened}
+use Rattle.libyaml_grammar.proofs.positions.Reading.{Step, bad, checked, feed, goes, is_legal, over, reads, reads_all, then_all}
+use Rattle.libyaml_grammar.specs.runs.Runs.{HasFault, Ending, Ends, Fails, IsRun, amid_properties, has_token, is_behind, is_behind_properties, of_beginning}
+use Rattle.libyaml_grammar.specs.runs.Runs.{of_cut_tree, of_sentence}
+use Rattle.libyaml_grammar.specs.sentences.Sentences.{IsBeginning, IsSentence, has_end, is_end}
+use Rattle.libyaml_grammar.specs.cuts.Settled.{IsSettled, sure}
+use Rattle.libyaml_grammar.specs.runs.StreamEnds.{up_to_end}
+use Rattle.libyaml_grammar.specs.sentences.Tokens.{Anchor, Content, Tag, Token, marks_of}
+use Rattle.libyaml_grammar.specs.sentences.Trees.{Directives, Stream, tokens}
+use Rattle.libyaml_grammar.proofs.trees.Completion.{Stops, append_nil, goes_or_stops, reached_begins, read_order, reads_append, sentence_reads}
+use Rattle.libyaml_grammar.proofs.trees.Edge.{reached}
+use Rattle.libyaml_grammar.proofs.trees.Fitting.{over_done, stops_fits}
+use Rattle.libyaml_grammar.proofs.runs.Fronts.{IsNotDone, begin_reads}
+use Rattle.libyaml_grammar.proofs.trees.Keeps.{feeds_keep}
+use Rattle.libyaml_grammar.proofs.trees.OneCut.{bad_same, fits_reach, fits_stop, goes_same}
+use Rattle.libyaml_grammar.proofs.runs.Orders.{reads_to}
+use Rattle.libyaml_grammar.proofs.runs.Settling.{begin_front, front_settles, one_settled_proof}
+use Rattle.libyaml_grammar.proofs.runs.StreamEnds.{IsDone, end_is_done, not_end_not_done, sentence_has_end}
+
+-- lists of tokens
+first_same : (a b : Token) (l r : List Token) → a ∷ l ≡ b ∷ r → a ≡ b
+first_same a b l r e = cc
+
+rest_same : (a b : Token) (l r : List Token) → a ∷ l ≡ b ∷ r → l ≡ r
+rest_same a b l r e = cc
+
+behind_same : (a l r : List Token) → a ++ l ≡ a ++ r → l ≡ r
+behind_same [] l r e = e
+behind_same (x ∷ a) l r e = behind_same a l r (rest_same x x (a ++ l) (a ++ r) e)
+
+both_ends : (b : Bool) → b ≡ true → b ≡ false → ⊥
+both_ends true e f = cc
+both_ends false e f = cc
+
+-- before the last of these tokens there is no STREAM-END
+end_last : (l a : List Token) (t : Token) (r : List Token) → up_to_end l ≡ a ++ t ∷ r → has_end a ≡ false
+end_last l [] t r e = refl
+end_last [] (x ∷ a) t r e = absurd cc
+end_last (y ∷ l) (x ∷ a) t r e
+    = go (λ (g : up_to_end l ≡ a ++ t ∷ r). end_last l a t r g) (is_end y.content) (ap (λ (u : Token). is_end u.content) (first_same y x _ (a ++ t ∷ r) e))
+    (rest_same y x _ (a ++ t ∷ r) e)
+  where
+    none : (a : List Token) → [] ≡ a ++ t ∷ r → ⊥
+    none [] f = cc
+    none (z ∷ a) f = cc
+
+    go : (up_to_end l ≡ a ++ t ∷ r → has_end a ≡ false) → (b : Bool) → b ≡ is_end x.content → elim b [ true ↦ [] | false ↦ up_to_end l ] ≡ a ++ t ∷ r
+        → either (is_end x.content) (has_end a) ≡ false
+    go ih true f g = absurd (none a g)
+    go ih false f g = ap (λ (b : Bool). either b (has_end a)) (sym f) ∙ ih g
+
+up_to_later : (a l : List Token) → has_end a ≡ false → up_to_end (a ++ l) ≡ a ++ up_to_end l
+up_to_later [] l e = refl
+up_to_later (x ∷ a) l e = go (λ (f : has_end a ≡ false). up_to_later a l f) (is_end x.content) e
+  where
+    go : (has_end a ≡ false → up_to_end (a ++ l) ≡ a ++ up_to_end l) → (b : Bool) → either b (has_end a) ≡ false
+        → x ∷ elim b [ true ↦ [] | false ↦ up_to_end (a ++ l) ] ≡ x ∷ (a ++ up_to_end l)
+    go ih true f = absurd cc
+    go ih false f = ap (λ (r : List Token). x ∷ r) (ih f)
+
+all_of_it : (l : List Token) → has_end l ≡ false → up_to_end l ≡ l
+all_of_it [] e = refl
+all_of_it (x ∷ l) e = go (λ (f : has_end l ≡ false). all_of_it l f) (is_end x.content) e
+  where
+    go : (has_end l ≡ false → up_to_end l ≡ l) → (b : Bool) → either b (has_end l) ≡ false → x ∷ elim b [ true ↦ [] | false ↦ up_to_end l ] ≡ x ∷ l
+    go ih true f = absurd cc
+    go ih false f = ap (λ (r : List Token). x ∷ r) (ih f)
+
+none_left : (l : List Token) (q p : Position) → IsDone q → reads_all l q ≡ goes p → l ≡ []
+none_left [] q p d e = refl
+none_left (x ∷ l) (done t) p d e = absurd cc
+none_left (x ∷ l) _ p d e = absurd d
+
+one_done : (x : Token) (q p : Position) → is_end x.content ≡ true → reads q x ≡ goes p → IsDone p
+one_done x q p e f = end_is_done (x ∷ []) q p (ap (λ (s : Step). then_all s goes) f) (ap (λ (b : Bool). either b false) e)
+
+-- a list that is read to its STREAM-END is its own front
+pub up_to_read : (l : List Token) (q p : Position) (r : List Token) → reads_all l q ≡ goes p → has_end l ≡ true → up_to_end (l ++ r) ≡ l
+up_to_read [] q p r e h = absurd cc
+up_to_read (x ∷ l) q p r e h = go (λ (y : Position) (f : reads_all l y ≡ goes p) (g : has_end l ≡ true). up_to_read l y p r f g) (is_end x.content) refl
+    (reads q x) refl e h
+  where
+    go : ((y : Position) → reads_all l y ≡ goes p → has_end l ≡ true → up_to_end (l ++ r) ≡ l) → (b : Bool) → is_end x.content ≡ b → (s : Step) → reads q x ≡ s
+        → then_all s (reads_all l) ≡ goes p → either b (has_end l) ≡ true → x ∷ elim b [ true ↦ [] | false ↦ up_to_end (l ++ r) ] ≡ x ∷ l
+    go ih true j (goes y) f g k = ap (λ (a : List Token). x ∷ a) (sym (none_left l y p (one_done x q y j f) g))
+    go ih false j (goes y) f g k = ap (λ (a : List Token). x ∷ a) (ih y g k)
+    go ih b j (bad c) f g k = absurd cc
+    go ih b j over f g k = absurd cc
+
+-- how the four kinds of runs are read
+data Shape (l : List Token) (f : Fault) (e : List Event) (x : Ending) : Type 0 where
+  is_sentence : (t : Stream) → reads_all l unopened ≡ goes (done t) → e ≡ events t → x ≡ Ends → Shape l f e x
+  is_cut : (before : List Token) (token : Token) (behind : List Token) (c : Cut) → l ≡ before ++ token ∷ behind → cut_tokens c [] ≡ before
+      → reads_all l unopened ≡ bad c → e ≡ shown_cut c token.start_mark []
+      → x ≡ elim (is_behind_properties c behind) [ true ↦ Fails (fault c token.content token.start_mark) | false ↦ Fails f ] → Shape l f e x
+  is_beginning : (q : Position) → reads_all l unopened ≡ goes q → has_end l ≡ false → IsSettled l e → x ≡ Fails f → Shape l f e x
+
+cut_reading : (l before : List Token) (token : Token) (behind : List Token) (c : Cut) → l ≡ before ++ token ∷ behind → Fits before token c
+    → reads_all l unopened ≡ bad c
+cut_reading l before token behind c e f = ap (λ (x : List Token). reads_all x unopened) e
+    ∙ (reads_append before (token ∷ behind) unopened
+    ∙ (ap (λ (s : Step). then_all s (reads_all (token ∷ behind))) (fits_reach before token c f)
+    ∙ ap (λ (s : Step). then_all s (reads_all behind)) (fits_stop before token c f)))
+
+shape_of : (l : List Token) (f : Fault) (e : List Event) (x : Ending) → IsRun l f e x → Shape (up_to_end l) f e x
+shape_of l f e x (of_sentence t a o g h) = is_sentence t (sentence_reads (up_to_end l) (record { tree = t; all = a; order = o })) g h
+shape_of l f e x (of_cut_tree before token behind c a i o g h)
+    = is_cut before token behind c a i.tokens (cut_reading (up_to_end l) before token behind c a i) g (h
+    ∙ ap (λ (b : Bool). elim b [ true ↦ Fails (fault c token.content token.start_mark) | false ↦ Fails f ]) (sym o))
+shape_of l f e x (amid_properties before token behind c a i o g h)
+    = is_cut before token behind c a i.tokens (cut_reading (up_to_end l) before token behind c a i) g (h
+    ∙ ap (λ (b : Bool). elim b [ true ↦ Fails (fault c token.content token.start_mark) | false ↦ Fails f ]) (sym o))
+shape_of l f e x (of_beginning b n s h) =
+    let (q, g) = begin_reads (up_to_end l) b in
+    is_beginning q g n s h
+
+abbrev Same : List Event → List Event → Ending → Ending → Type 0
+Same d e x y = (d ≡ e) × (x ≡ y)
+
+cut_same : (l : List Token) (f : Fault) (d e : List Event) (x y : Ending) (a b : List Token) (t u : Token) (r s : List Token) (c : Cut) → l ≡ a ++ t ∷ r
+    → l ≡ b ++ u ∷ s → a ≡ b → d ≡ shown_cut c t.start_mark []
+    → x ≡ elim (is_behind_properties c r) [ true ↦ Fails (fault c t.content t.start_mark) | false ↦ Fails f ] → e ≡ shown_cut c u.start_mark []
+    → y ≡ elim (is_behind_properties c s) [ true ↦ Fails (fault c u.content u.start_mark) | false ↦ Fails f ] → Same d e x y
+cut_same l f d e x y a b t u r s c g h i j k m n =
+    let o : t ∷ r ≡ u ∷ s = behind_same a (t ∷ r) (u ∷ s) (sym g ∙ (h ∙ ap (λ (z : List Token). z ++ u ∷ s) (sym i))) in
+    let p : t ≡ u = first_same t u r s o in
+    let q : r ≡ s = rest_same t u r s o in
+    let ending : Token → List Token → Ending = λ z w. elim (is_behind_properties c w) [ true ↦ Fails (fault c z.content z.start_mark) | false ↦ Fails f ] in
+    (j ∙ (ap (λ (z : Token). shown_cut c z.start_mark []) p ∙ sym m), k ∙ (ap (λ (z : Token). ending z r) p ∙ (ap (ending u) q ∙ sym n)))
+
+not_both : (l : List Token) (q : Position) (c : Cut) → reads_all l unopened ≡ goes q → reads_all l unopened ≡ bad c → ⊥
+not_both l q c e f = no (sym e ∙ f)
+  where
+    no : goes q ≡ bad c → ⊥
+    no g = cc
+
+not_ended : (l : List Token) (q : Position) (t : Stream) → reads_all l unopened ≡ goes q → has_end l ≡ false → reads_all l unopened ≡ goes (done t) → ⊥
+not_ended l q t e h f = subst IsNotDone (goes_same q (done t) (sym e ∙ f)) (not_end_not_done l q e h)
+
+cut_of_same : (l : List Token) (c d : Cut) → reads_all l unopened ≡ bad c → reads_all l unopened ≡ bad d → c ≡ d
+cut_of_same l c d e f = bad_same c d (sym e ∙ f)
+
+same_shapes : (l : List Token) (f : Fault) (d e : List Event) (x y : Ending) → Shape l f d x → Shape l f e y → Same d e x y
+same_shapes l f d e x y (is_sentence t g h i) (is_sentence u j k m) = let n : t ≡ u
+    = same_done (goes_same (done t) (done u) (sym g ∙ j)) in (h ∙ (ap events n ∙ sym k), i ∙ sym m)
+  where
+    same_done : done t ≡ done u → t ≡ u
+    same_done o = cc
+same_shapes l f d e x y (is_sentence t g h i) (is_cut a b r c j k m n o) = absurd (not_both l (done t) c g m)
+same_shapes l f d e x y (is_sentence t g h i) (is_beginning q j k m n) = absurd (not_ended l q t j k g)
+same_shapes l f d e x y (is_cut a b r c j k m n o) (is_sentence t g h i) = absurd (not_both l (done t) c g m)
+same_shapes l f d e x y (is_cut a t r c g h i j k) (is_cut b u s c' m n o p q) =
+    let z : c' ≡ c = cut_of_same l c' c o i in
+    cut_same l f d e x y a b t u r s c g m (sym h ∙ (ap (λ (w : Cut). cut_tokens w []) (sym z) ∙ n)) j k (p
+    ∙ ap (λ (w : Cut). shown_cut w u.start_mark []) z) (q
+    ∙ ap (λ (w : Cut). elim (is_behind_properties w s) [ true ↦ Fails (fault w u.content u.start_mark) | false ↦ Fails f ]) z)
+same_shapes l f d e x y (is_cut a t r c g h i j k) (is_beginning q m n o p) = absurd (not_both l q c m i)
+same_shapes l f d e x y (is_beginning q j k m n) (is_sentence t g h i) = absurd (not_ended l q t j k g)
+same_shapes l f d e x y (is_beginning q m n o p) (is_cut a t r c g h i j k) = absurd (not_both l q c m i)
+same_shapes l f d e x y (is_beginning q g h i j) (is_beginning p k m n o) = (one_settled_proof l d e i n, j ∙ sym o)
+
+pub one_run_proof : (l : List Token) (f : Fault) (d e : List Event) (x y : Ending) → IsRun l f d x → IsRun l f e y → (d ≡ e) × (x ≡ y)
+one_run_proof l f d e x y r s = same_shapes (up_to_end l) f d e x y (shape_of l f d x r) (shape_of l f e y s)
+
+-- a list that is read to its end is a sentence
+read_sentence : (l : List Token) (t : Stream) → reads_all l unopened ≡ goes (done t) → IsSentence l
+read_sentence l t e = record {
+  tree = t;
+  all = sym (feeds_keep l unopened (done t) (reads_to l unopened (done t) e).0 [] ∙ append_nil l);
+  order
+      = read_order l (done t) e;
+}
+
+-- every list has a run
+abbrev HasRun : List Token → Fault → Type 0
+HasRun l f = (e : List Event) × (x : Ending) × IsRun l f e x
+
+cut_has_run : (l : List Token) (f : Fault) (before : List Token) (token : Token) (behind : List Token) (c : Cut) → up_to_end l ≡ before ++ token ∷ behind
+    → Fits before token c → (b : Bool) → is_behind_properties c behind ≡ b → HasRun l f
+cut_has_run l f before token behind c e i true h = (
+  shown_cut c token.start_mark [],
+  Fails (fault c token.content token.start_mark),
+  of_cut_tree before token behind c e i h refl refl,
+)
+cut_has_run l f before token behind c e i false h = (shown_cut c token.start_mark [], Fails f, amid_properties before token behind c e i h refl refl)
+
+begin_has_run : (l : List Token) (f : Fault) (q : Position) → reads_all (up_to_end l) unopened ≡ goes q → (b : Bool) → has_end (up_to_end l) ≡ b → HasRun l f
+begin_has_run l f q e true h = go q (end_is_done (up_to_end l) unopened q e h) e
+  where
+    go : (q : Position) → IsDone q → reads_all (up_to_end l) unopened ≡ goes q → HasRun l f
+    go (done t) d g =
+        let s = read_sentence (up_to_end l) t g in
+        (events s.tree, Ends, of_sentence s.tree s.all s.order refl refl)
+    go _ d g = absurd d
+begin_has_run l f q e false h =
+    let b = reached_begins (up_to_end l) q e in
+    let (c, i) = begin_front (up_to_end l) b h in
+    (sure c, Fails f, of_beginning b h (front_settles (up_to_end l) c i) refl)
+
+only_over : (s : Step) (b : Bool) → checked s b ≡ over → s ≡ over
+only_over (goes p) true e = absurd cc
+only_over (goes p) false e = absurd cc
+only_over (bad c) b e = absurd cc
+only_over over b e = refl
+
+-- a token behind a sentence is none of the front's
+not_past : (l before : List Token) (token : Token) (behind : List Token) (q : Position) → up_to_end l ≡ before ++ token ∷ behind
+    → reads_all before unopened ≡ goes q → reads q token ≡ over → ⊥
+not_past l before token behind q e g h =
+    let (t, f) = over_done q token.content (marks_of token) (only_over (feed q token) (is_legal q token.content) h) in
+    let s = read_sentence before t (g ∙ ap goes f) in
+    both_ends (has_end before) (sentence_has_end before s) (end_last l before token behind e)
+
+pub some_run_proof : (l : List Token) (f : Fault) → HasRun l f
+some_run_proof l f = go (goes_or_stops (up_to_end l) unopened)
+  where
+    stopped : (h : Stops (up_to_end l) unopened) → (s : Step) → reads h.at h.token ≡ s → HasRun l f
+    stopped h (goes q) e = absurd (h.stop q e)
+    stopped h (bad c) e = cut_has_run l f h.before h.token h.after c h.all (stops_fits h.before h.token h.at c h.reached e) (is_behind_properties c h.after)
+        refl
+    stopped h over e = absurd (not_past l h.before h.token h.after h.at h.all h.reached e)
+
+    go : ((q : Position) × (reads_all (up_to_end l) unopened ≡ goes q)) ⊎ Stops (up_to_end l) unopened → HasRun l f
+    go (inl h) = begin_has_run l f h.0 h.1 (has_end (up_to_end l)) refl
+    go (inr h) = stopped h (reads h.at h.token) refl
+
+-- over known trees
+pub sentence_run : (t : Stream) (r : List Token) (f : Fault) → in_order t ≡ true → IsRun (tokens t ++ r) f (events t) Ends
+sentence_run t r f o =
+    let s : IsSentence (tokens t) = record { tree = t; all = refl; order = o } in
+    of_sentence t (up_to_read (tokens t) unopened (done t) r (sentence_reads (tokens t) s) (sentence_has_end (tokens t) s)) o refl refl
+
+-- no cut tree has a STREAM-END
+cut_not_ended : (l : List Token) (b : Token) (c : Cut) → Fits l b c → has_end l ≡ false
+cut_not_ended l b c f = go (has_end l) refl
+  where
+    no : IsDone (reached c) → ⊥
+    no d = at (reached c) refl d
+      where
+        at : (x : Position) → reached c ≡ x → IsDone x → ⊥
+        at (done t) g d = let h : bad c ≡ over = sym (fits_stop l b c f) ∙ ap (λ (y : Position). reads y b) g in cc
+        at _ g d = d
+
+    go : (x : Bool) → has_end l ≡ x → has_end l ≡ false
+    go true e = absurd (no (end_is_done l unopened (reached c) (fits_reach l b c f) e))
+    go false e = e
+
+-- what stands behind the token of a cut tree
+behind_token : Token → List Token → List Token
+behind_token b r = elim (is_end b.content) [ true ↦ [] | false ↦ up_to_end r ]
+
+cut_front : (l : List Token) (b : Token) (r : List Token) (c : Cut) → Fits l b c → up_to_end (l ++ b ∷ r) ≡ l ++ b ∷ behind_token b r
+unfolding behind_token
+cut_front l b r c f = up_to_later l (b ∷ r) (cut_not_ended l b c f)
+
+has_front : (r : List Token) → has_token (up_to_end r) ≡ has_token r
+has_front [] = refl
+has_front (t ∷ r) = refl
+
+tag_behind : (t : Token) (r : List Token) (b : Bool) → is_end t.content ≡ b
+    → is_behind t.content (elim b [ true ↦ [] | false ↦ up_to_end r ]) ≡ is_behind t.content r
+tag_behind t r b e = go t.content b e
+  where
+    go : (k : Content) (b : Bool) → is_end k ≡ b → is_behind k (elim b [ true ↦ [] | false ↦ up_to_end r ]) ≡ is_behind k r
+    go (Anchor a) true f = absurd cc
+    go (Anchor a) false f = has_front r
+    go _ b f = refl
+
+is_no_tag : (k : Content) (ds : Directives) → IsUnknown ds k → is_end k ≡ false
+is_no_tag (Tag h) ds u = refl
+is_no_tag _ ds u = absurd u
+
+same_behind : (l : List Token) (b : Token) (r : List Token) (c : Cut) → FitsTag l c b.content
+    → is_behind_properties c (behind_token b r) ≡ is_behind_properties c r
+unfolding behind_token
+same_behind l b [] (at_tag p) u = ap (λ (x : Bool). is_behind_properties (at_tag p) (elim x [ true ↦ [] | false ↦ [] ])) (is_no_tag b.content (declared p) u)
+same_behind l b (t ∷ r) (at_tag p) u
+    = ap (λ (x : Bool). is_behind_properties (at_tag p) (elim x [ true ↦ [] | false ↦ up_to_end (t ∷ r) ])) (is_no_tag b.content (declared p) u)
+    ∙ tag_behind t r (is_end t.content) refl
+same_behind l b r (at_tag_behind p a m) u = ap (λ (x : Bool). has_token (elim x [ true ↦ [] | false ↦ up_to_end r ])) (is_no_tag b.content (declared p) u)
+    ∙ has_front r
+same_behind l b r _ u = refl
+
+pub cut_run : (l : List Token) (b : Token) (r : List Token) (c : Cut) (f : Fault) → Fits l b c → is_behind_properties c r ≡ true
+    → IsRun (l ++ b ∷ r) f (shown_cut c b.start_mark []) (Fails (fault c b.content b.start_mark))
+cut_run l b r c f i h = of_cut_tree l b (behind_token b r) c (cut_front l b r c i) i (same_behind l b r c i.tag ∙ h) refl refl
+
+pub amid_run : (l : List Token) (b : Token) (r : List Token) (c : Cut) (f : Fault) → Fits l b c → is_behind_properties c r ≡ false
+    → IsRun (l ++ b ∷ r) f (shown_cut c b.start_mark []) (Fails f)
+amid_run l b r c f i h = amid_properties l b (behind_token b r) c (cut_front l b r c i) i (same_behind l b r c i.tag ∙ h) refl refl
+
+pub begin_run : (l : List Token) (e : List Event) (f : Fault) → IsBeginning l → has_end l ≡ false → IsSettled l e → IsRun l f e (Fails f)
+begin_run l e f b h s =
+    let g : up_to_end l ≡ l = all_of_it l h in
+    of_beginning (subst IsBeginning (sym g) b) (ap has_end g ∙ h) (subst (λ (x : List Token). IsSettled x e) (sym g) s) refl
+
+-- what an ending says
+pub ended_run : (l : List Token) (f : Fault) (e : List Event) → IsRun l f e Ends → (t : Stream) × (in_order t ≡ true) × (up_to_end l ≡ tokens t)
+    × (e ≡ events t)
+ended_run l f e (of_sentence t a o g h) = (t, o, a, g)
+ended_run l f e (of_cut_tree before token behind c a i o g h) = absurd cc
+ended_run l f e (amid_properties before token behind c a i o g h) = absurd cc
+ended_run l f e (of_beginning b n s h) = absurd cc
+
+same_fault : (f g : Fault) → Fails f ≡ Fails g → f ≡ g
+same_fault f g e = cc
+
+no_source : (f g : Fault) → IsSourceError f.error → g.error ≡ YAML_PARSER_ERROR → g ≡ f → ⊥
+no_source f g s e h = let x : IsSourceError YAML_PARSER_ERROR = subst IsSourceError (sym (ap (λ (x : Fault). x.error) h) ∙ e) s in cc
+
+pub parser_fault_run : (l : List Token) (f : Fault) (e : List Event) (g : Fault) → IsSourceError f.error → g.error ≡ YAML_PARSER_ERROR → IsRun l f e (Fails g)
+    → HasFault (up_to_end l) e g
+parser_fault_run l f e g s p (of_sentence t a o d h) = absurd cc
+parser_fault_run l f e g s p (of_cut_tree before token behind c a i o d h)
+    = record {
+      before = before;
+      token = token;
+      behind = behind;
+      cut = c;
+      all = a;
+      fits = i;
+      given = d;
+      fails
+          = same_fault g (fault c token.content token.start_mark) h;
+    }
+parser_fault_run l f e g s p (amid_properties before token behind c a i o d h) = absurd (no_source f g s p (same_fault g f h))
+parser_fault_run l f e g s p (of_beginning b n d h) = absurd (no_source f g s p (same_fault g f h))

@@ -1,0 +1,106 @@
+-- A TAG goes on exactly where a node may begin, or behind an ANCHOR that begins one.
+use Rattle.std.proofs.Common.{◌≡◌, ℕ, List, [], ◌∷◌, ◌++◌, Some, refl, sym, ap, ◌∙◌, subst, Bool, true, false, inl, inr, ◌↔◌}
+use Rattle.libyaml_grammar.specs.sentences.Tokens.{Anchor, Marks, Tag, TagName, Token, tok, zero_marks}
+use Rattle.libyaml_grammar.specs.sentences.Trees.{anchor_tag, tag}
+use Rattle.libyaml_grammar.specs.sentences.Order.{both, is_known}
+use Rattle.libyaml_grammar.specs.cuts.CutTrees.{Place, declared, place_in_order, place_tokens}
+use Rattle.libyaml_grammar.specs.sentences.Sentences.{IsBeginning, IsSentence}
+use Rattle.libyaml_grammar.specs.cuts.Fits.{NodeBegins}
+use Rattle.libyaml_grammar.proofs.positions.Positions.{Position, done, due, position_in_order, position_rest, position_tokens, unopened}
+use Rattle.libyaml_grammar.proofs.positions.Reading.{Step, bad, checked, goes, is_legal, over, reads, reads_all, step, then_all}
+use Rattle.libyaml_grammar.proofs.trees.Append.{place_append}
+use Rattle.libyaml_grammar.proofs.trees.Cases.{IsTagHeld, TagGoes, step_tag}
+use Rattle.libyaml_grammar.proofs.trees.Completion.{append_nil, position_begins, read_order, reads_append, sentence_reads}
+use Rattle.libyaml_grammar.proofs.trees.Keeps.{feeds_keep}
+use Rattle.libyaml_grammar.proofs.runs.Orders.{reads_to}
+
+same_front : (a b : List Token) (x y : Token) → a ++ x ∷ [] ≡ b ++ y ∷ [] → (a ≡ b) × (x ≡ y)
+same_front [] [] x y e = (refl, cc)
+same_front [] (b ∷ []) x y e = cc
+same_front [] (b ∷ c ∷ r) x y e = cc
+same_front (a ∷ []) [] x y e = cc
+same_front (a ∷ c ∷ r) [] x y e = cc
+same_front (a ∷ s) (b ∷ r) x y e =
+    let h = same_front s r x y (tail e) in
+    (head e h.0, h.1)
+  where
+    tail : a ∷ (s ++ x ∷ []) ≡ b ∷ (r ++ y ∷ []) → s ++ x ∷ [] ≡ r ++ y ∷ []
+    tail e = cc
+
+    head : a ∷ (s ++ x ∷ []) ≡ b ∷ (r ++ y ∷ []) → s ≡ r → a ∷ s ≡ b ∷ r
+    head e f = cc
+
+goes_before : (s : Step) (f : Position → Step) (p : Position) → then_all s f ≡ goes p → (q : Position) × (s ≡ goes q) × (f q ≡ goes p)
+goes_before (goes q) f p e = (q, refl, e)
+goes_before (bad c) f p e = cc
+goes_before over f p e = cc
+
+beginning_reads : (l : List Token) → IsBeginning l → (q : Position) × (reads_all l unopened ≡ goes q)
+beginning_reads l h =
+    let (q, e, f) = goes_before (reads_all l unopened) (reads_all h.rest) (done h.sentence.tree) (sym (reads_append l h.rest unopened)
+    ∙ sentence_reads (l ++ h.rest) h.sentence) in
+    (q, e)
+
+legal_step : (s : Step) (b : Bool) (p : Position) → checked s b ≡ goes p → s ≡ goes p
+legal_step (goes q) true p e = e
+legal_step (goes q) false p e = cc
+legal_step (bad c) b p e = cc
+legal_step over b p e = cc
+
+module _ (l : List Token) (m : Marks) (s : List ℕ) where
+  abbrev whole_tag : TagName
+  whole_tag = record { handle = []; suffix = s }
+
+  same_tag : (h : TagName) (n : Marks) → tok (Tag h) n ≡ tok (Tag whole_tag) m → h ≡ whole_tag
+  same_tag h n e = inside h whole_tag (ap (λ (t : Token). t.content) e)
+    where
+      inside : (h k : TagName) → Tag h ≡ Tag k → h ≡ k
+      inside h k e = cc
+
+  -- the position behind the TAG holds it
+  held : (x : Position) (b : Bool) → IsTagHeld x b m → position_tokens x [] ≡ l ++ tok (Tag whole_tag) m ∷ [] → position_in_order x true ≡ true → (p : Place)
+      × NodeBegins l p
+  held (due p (Some (tag h n))) b w e o =
+      let f = same_front (place_tokens p []) l (tok (Tag h) n) (tok (Tag whole_tag) m) (sym (place_append p [] (tok (Tag h) n ∷ [])) ∙ e) in
+      (p, (subst (λ (t : TagName). place_in_order p (both (is_known (declared p) t.handle) true) ≡ true) (same_tag h n f.1) o, inl f.0))
+  held (due p (Some (anchor_tag a k h n))) b w e o =
+      let f = same_front (place_tokens p (tok (Anchor a) k ∷ [])) l (tok (Tag h) n) (tok (Tag whole_tag) m)
+      (sym (place_append p (tok (Anchor a) k ∷ []) (tok (Tag h) n ∷ [])) ∙ e) in
+      (p, (subst (λ (t : TagName). place_in_order p (both (is_known (declared p) t.handle) true) ≡ true) (same_tag h n f.1) o, inr (a, k, f.0)))
+  held _ b w e o = absurd w
+
+  node_begins : IsBeginning (l ++ tok (Tag whole_tag) m ∷ []) → (p : Place) × NodeBegins l p
+  node_begins h =
+      let (x, e) = beginning_reads (l ++ tok (Tag whole_tag) m ∷ []) h in
+      let (q, f, g) = goes_before (reads_all l unopened) (reads_all (tok (Tag whole_tag) m ∷ [])) x (sym (reads_append l (tok (Tag whole_tag) m ∷ []) unopened)
+      ∙ e) in
+      let (y, u, v) = goes_before (reads q (tok (Tag whole_tag) m)) (reads_all []) x g in
+      let w = legal_step (step q (Tag whole_tag) m) (is_legal q (Tag whole_tag)) x (u ∙ v) in
+      held x (is_legal q (Tag whole_tag)) (subst (λ (z : Step). TagGoes z (is_legal q (Tag whole_tag)) m) w (step_tag q whole_tag m))
+      (feeds_keep (l ++ tok (Tag whole_tag) m ∷ []) unopened x (reads_to (l ++ tok (Tag whole_tag) m ∷ []) unopened x e).0 []
+      ∙ append_nil (l ++ tok (Tag whole_tag) m ∷ [])) (read_order (l ++ tok (Tag whole_tag) m ∷ []) x e)
+
+  behind_front : (a r : List Token) (t : Token) → a ++ t ∷ r ≡ (a ++ t ∷ []) ++ r
+  behind_front [] r t = refl
+  behind_front (x ∷ a) r t = ap (λ (z : List Token). x ∷ z) (behind_front a r t)
+
+  tag_goes_on : (p : Place) → NodeBegins l p → IsBeginning (l ++ tok (Tag whole_tag) m ∷ [])
+  tag_goes_on p (o, inl e) =
+      let r = position_rest zero_marks (due p (Some (tag whole_tag m))) in
+      record {
+        rest = r;
+        sentence = subst IsSentence (place_append p [] (tok (Tag whole_tag) m ∷ r)
+            ∙ (ap (λ (z : List Token). z ++ tok (Tag whole_tag) m ∷ r) e ∙ behind_front l r (tok (Tag whole_tag) m)))
+            (position_begins zero_marks (due p (Some (tag whole_tag m))) o);
+      }
+  tag_goes_on p (o, inr (a, n, e)) =
+      let r = position_rest zero_marks (due p (Some (anchor_tag a n whole_tag m))) in
+      record {
+        rest = r;
+        sentence = subst IsSentence (place_append p (tok (Anchor a) n ∷ []) (tok (Tag whole_tag) m ∷ r)
+            ∙ (ap (λ (z : List Token). z ++ tok (Tag whole_tag) m ∷ r) e ∙ behind_front l r (tok (Tag whole_tag) m)))
+            (position_begins zero_marks (due p (Some (anchor_tag a n whole_tag m))) o);
+      }
+
+  pub tag_places_proof : IsBeginning (l ++ tok (Tag (record { handle = []; suffix = s })) m ∷ []) ↔ ((p : Place) × NodeBegins l p)
+  tag_places_proof = (node_begins, λ h. tag_goes_on h.0 h.1)

@@ -1,0 +1,164 @@
+-- No collection's tokens begin those of another, and no sentence another.
+use Rattle.std.proofs.Common.{◌≡◌, ℕ, zero, suc, List, [], ◌∷◌, ◌++◌, Option, Some, None, refl, sym, ap, ◌∙◌, subst}
+use Rattle.std.proofs.lemmas.List.{append_cancel_left}
+use Rattle.libyaml_grammar.specs.sentences.Tokens.{BlockEnd, BlockEntry, BlockMappingStart, BlockSequenceStart, Content, FlowEntry, FlowMappingEnd}
+use Rattle.libyaml_grammar.specs.sentences.Tokens.{FlowMappingStart, FlowSequenceEnd, FlowSequenceStart, Marks, Scalar, Token, tok}
+use Rattle.libyaml_grammar.specs.sentences.Trees.{BlockItems, BlockNode, BlockSlot, FlowItems, FlowLast, FlowMember, FlowNode, FlowSlot, FlowValue}
+use Rattle.libyaml_grammar.specs.sentences.Trees.{IsCollection, Parts, Properties, Role, Slot, Sort, alias, alone, anchor, anchor_tag, block_mapping}
+use Rattle.libyaml_grammar.specs.sentences.Trees.{block_node_tokens, block_sequence, block_slot_tokens, closing, collection, empty, flow, flow_items_tokens}
+use Rattle.libyaml_grammar.specs.sentences.Trees.{flow_last_tokens, flow_member_tokens, flow_node, flow_node_tokens, flow_nothing, flow_slot_tokens}
+use Rattle.libyaml_grammar.specs.sentences.Trees.{flow_value_tokens, indentless, item, items_tokens, key, last, mapping, more_items, no_items, no_last}
+use Rattle.libyaml_grammar.specs.sentences.Trees.{no_parts, no_value, node, nothing, opening, option_tokens, pair, part, parts_tokens, properties_tokens}
+use Rattle.libyaml_grammar.specs.sentences.Trees.{role_token, scalar, sequence, single, slot_of, slot_tokens, tag, tag_anchor, value, with_value}
+use Rattle.libyaml_grammar.specs.sentences.Sentences.{IsSentence}
+use Rattle.libyaml_grammar.specs.runs.StreamEnds.{up_to_end}
+use Rattle.libyaml_grammar.proofs.positions.Positions.{done, unopened}
+use Rattle.libyaml_grammar.proofs.trees.Completion.{sentence_reads}
+use Rattle.libyaml_grammar.proofs.trees.Productions.{block_node_law}
+use Rattle.libyaml_grammar.proofs.runs.Running.{up_to_read}
+use Rattle.libyaml_grammar.proofs.runs.StreamEnds.{sentence_has_end}
+
+-- what stands behind the closing token of the collection around, where n collections more are open within it
+abbrev closed : ℕ → List Token → (ℕ → List Token) → List Token
+closed zero l f = l
+closed (suc n) l f = f n
+
+abbrev turned : Content → ℕ → List Token → (ℕ → List Token) → List Token
+turned BlockSequenceStart n l f = f (suc n)
+turned BlockMappingStart n l f = f (suc n)
+turned FlowSequenceStart n l f = f (suc n)
+turned FlowMappingStart n l f = f (suc n)
+turned BlockEnd n l f = closed n l f
+turned FlowSequenceEnd n l f = closed n l f
+turned FlowMappingEnd n l f = closed n l f
+turned _ n l f = f n
+
+abbrev behind_inner : List Token → ℕ → List Token
+behind_inner [] n = []
+behind_inner (t ∷ l) n = turned t.content n l (behind_inner l)
+
+-- a part leaves no collection open
+properties_inner : (p : Properties) (r : List Token) (n : ℕ) → behind_inner (properties_tokens p r) n ≡ behind_inner r n
+properties_inner (anchor x m) r n = refl
+properties_inner (tag x m) r n = refl
+properties_inner (anchor_tag x m y k) r n = refl
+properties_inner (tag_anchor x m y k) r n = refl
+
+option_inner : (o : Option Properties) (r : List Token) (n : ℕ) → behind_inner (option_tokens o r) n ≡ behind_inner r n
+option_inner None r n = refl
+option_inner (Some p) r n = properties_inner p r n
+
+opening_inner : (k : Sort) (m : Marks) (r : List Token) (n : ℕ) → behind_inner (tok (opening k) m ∷ r) n ≡ behind_inner r (suc n)
+opening_inner sequence m r n = refl
+opening_inner mapping m r n = refl
+
+closing_inner : (k : Sort) (m : Marks) (r : List Token) (n : ℕ) → behind_inner (tok (closing k) m ∷ r) n ≡ closed n r (behind_inner r)
+closing_inner sequence m r n = refl
+closing_inner mapping m r n = refl
+
+role_inner : (k : Role) (m : Marks) (r : List Token) (n : ℕ) → behind_inner (tok (role_token k) m ∷ r) n ≡ behind_inner r n
+role_inner key m r n = refl
+role_inner value m r n = refl
+
+mutual
+  flow_node_inner : (x : FlowNode) (r : List Token) (n : ℕ) → behind_inner (flow_node_tokens x r) n ≡ behind_inner r n
+  flow_node_inner (alias a m) r n = refl
+  flow_node_inner (alone p) r n = properties_inner p r n
+  flow_node_inner (scalar o v m) r n = option_inner o (tok (Scalar v) m ∷ r) n
+  flow_node_inner (collection o k m is l e) r n = option_inner o (tok (opening k) m ∷ flow_items_tokens is (flow_last_tokens l (tok (closing k) e ∷ r))) n
+      ∙ (opening_inner k m (flow_items_tokens is (flow_last_tokens l (tok (closing k) e ∷ r))) n
+      ∙ (flow_items_inner is (flow_last_tokens l (tok (closing k) e ∷ r)) (suc n)
+      ∙ (flow_last_inner l (tok (closing k) e ∷ r) (suc n) ∙ closing_inner k e r (suc n))))
+
+  flow_items_inner : (is : FlowItems) (r : List Token) (n : ℕ) → behind_inner (flow_items_tokens is r) n ≡ behind_inner r n
+  flow_items_inner no_items r n = refl
+  flow_items_inner (more_items is e m) r n = flow_items_inner is (flow_member_tokens e (tok FlowEntry m ∷ r)) n ∙ flow_member_inner e (tok FlowEntry m ∷ r) n
+
+  flow_last_inner : (l : FlowLast) (r : List Token) (n : ℕ) → behind_inner (flow_last_tokens l r) n ≡ behind_inner r n
+  flow_last_inner no_last r n = refl
+  flow_last_inner (last e) r n = flow_member_inner e r n
+
+  flow_member_inner : (e : FlowMember) (r : List Token) (n : ℕ) → behind_inner (flow_member_tokens e r) n ≡ behind_inner r n
+  flow_member_inner (single x) r n = flow_node_inner x r n
+  flow_member_inner (pair m k v) r n = flow_slot_inner k (flow_value_tokens v r) n ∙ flow_value_inner v r n
+
+  flow_slot_inner : (x : FlowSlot) (r : List Token) (n : ℕ) → behind_inner (flow_slot_tokens x r) n ≡ behind_inner r n
+  flow_slot_inner flow_nothing r n = refl
+  flow_slot_inner (flow_node x) r n = flow_node_inner x r n
+
+  flow_value_inner : (v : FlowValue) (r : List Token) (n : ℕ) → behind_inner (flow_value_tokens v r) n ≡ behind_inner r n
+  flow_value_inner no_value r n = refl
+  flow_value_inner (with_value m v) r n = flow_slot_inner v r n
+
+mutual
+  block_node_inner : (x : BlockNode) (r : List Token) (n : ℕ) → behind_inner (block_node_tokens x r) n ≡ behind_inner r n
+  block_node_inner (flow x) r n = flow_node_inner x r n
+  block_node_inner (block_sequence o m is e) r n = option_inner o (tok BlockSequenceStart m ∷ items_tokens is (tok BlockEnd e ∷ r)) n
+      ∙ items_inner is (tok BlockEnd e ∷ r) (suc n)
+  block_node_inner (block_mapping o m ps e) r n = option_inner o (tok BlockMappingStart m ∷ parts_tokens ps (tok BlockEnd e ∷ r)) n
+      ∙ parts_inner ps (tok BlockEnd e ∷ r) (suc n)
+
+  block_slot_inner : (x : BlockSlot) (r : List Token) (n : ℕ) → behind_inner (block_slot_tokens x r) n ≡ behind_inner r n
+  block_slot_inner nothing r n = refl
+  block_slot_inner (node x) r n = block_node_inner x r n
+
+  items_inner : (is : BlockItems) (r : List Token) (n : ℕ) → behind_inner (items_tokens is r) n ≡ behind_inner r n
+  items_inner empty r n = refl
+  items_inner (item is m x) r n = items_inner is (tok BlockEntry m ∷ block_slot_tokens x r) n ∙ block_slot_inner x r n
+
+  slot_inner : (x : Slot) (r : List Token) (n : ℕ) → behind_inner (slot_tokens x r) n ≡ behind_inner r n
+  slot_inner (slot_of x) r n = block_slot_inner x r n
+  slot_inner (indentless o is m x) r n = option_inner o (items_tokens is (tok BlockEntry m ∷ block_slot_tokens x r)) n
+      ∙ (items_inner is (tok BlockEntry m ∷ block_slot_tokens x r) n ∙ block_slot_inner x r n)
+
+  parts_inner : (ps : Parts) (r : List Token) (n : ℕ) → behind_inner (parts_tokens ps r) n ≡ behind_inner r n
+  parts_inner no_parts r n = refl
+  parts_inner (part ps k m x) r n = parts_inner ps (tok (role_token k) m ∷ slot_tokens x r) n ∙ (role_inner k m (slot_tokens x r) n ∙ slot_inner x r n)
+
+-- what stands behind the first collection of a list
+abbrev opened_by : Content → List Token → List Token → List Token
+opened_by BlockSequenceStart l r = behind_inner l 0
+opened_by BlockMappingStart l r = behind_inner l 0
+opened_by FlowSequenceStart l r = behind_inner l 0
+opened_by FlowMappingStart l r = behind_inner l 0
+opened_by _ l r = r
+
+abbrev behind_first : List Token → List Token
+behind_first [] = []
+behind_first (t ∷ l) = opened_by t.content l (behind_first l)
+
+option_first : (o : Option Properties) (r : List Token) → behind_first (option_tokens o r) ≡ behind_first r
+option_first None r = refl
+option_first (Some (anchor x m)) r = refl
+option_first (Some (tag x m)) r = refl
+option_first (Some (anchor_tag x m y k)) r = refl
+option_first (Some (tag_anchor x m y k)) r = refl
+
+opening_first : (k : Sort) (m : Marks) (r : List Token) → behind_first (tok (opening k) m ∷ r) ≡ behind_inner r 0
+opening_first sequence m r = refl
+opening_first mapping m r = refl
+
+collection_first : (x : BlockNode) (r : List Token) → IsCollection x → behind_first (block_node_tokens x r) ≡ r
+collection_first (flow (collection o k m is l e)) r h = option_first o (tok (opening k) m ∷ flow_items_tokens is (flow_last_tokens l (tok (closing k) e ∷ r)))
+    ∙ (opening_first k m (flow_items_tokens is (flow_last_tokens l (tok (closing k) e ∷ r)))
+    ∙ (flow_items_inner is (flow_last_tokens l (tok (closing k) e ∷ r)) 0 ∙ (flow_last_inner l (tok (closing k) e ∷ r) 0 ∙ closing_inner k e r 0)))
+collection_first (flow (alias a m)) r h = absurd h
+collection_first (flow (alone p)) r h = absurd h
+collection_first (flow (scalar o v m)) r h = absurd h
+collection_first (block_sequence o m is e) r h = option_first o (tok BlockSequenceStart m ∷ items_tokens is (tok BlockEnd e ∷ r))
+    ∙ items_inner is (tok BlockEnd e ∷ r) 0
+collection_first (block_mapping o m ps e) r h = option_first o (tok BlockMappingStart m ∷ parts_tokens ps (tok BlockEnd e ∷ r))
+    ∙ parts_inner ps (tok BlockEnd e ∷ r) 0
+
+pub collection_law : (s t : BlockNode) (a b : List Token) → IsCollection s → IsCollection t → block_node_tokens s a ≡ block_node_tokens t b → (s ≡ t) × (a ≡ b)
+collection_law s t a b g h e =
+    let f : a ≡ b = sym (collection_first s a g) ∙ (ap behind_first e ∙ collection_first t b h) in
+    (block_node_law s t b (subst (λ (x : List Token). block_node_tokens s x ≡ block_node_tokens t b) f e), f)
+
+up_to_sentence : (l r : List Token) → IsSentence l → up_to_end (l ++ r) ≡ l
+up_to_sentence l r h = up_to_read l unopened (done h.tree) r (sentence_reads l h) (sentence_has_end l h)
+
+pub sentence_law : (l m a b : List Token) → IsSentence l → IsSentence m → l ++ a ≡ m ++ b → (l ≡ m) × (a ≡ b)
+sentence_law l m a b g h e =
+    let f : l ≡ m = sym (up_to_sentence l a g) ∙ (ap up_to_end e ∙ up_to_sentence m b h) in
+    (f, append_cancel_left m a b (subst (λ (x : List Token). x ++ a ≡ m ++ b) f e))

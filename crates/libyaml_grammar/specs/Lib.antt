@@ -1,0 +1,4 @@
+pub mod sentences
+pub mod cuts
+pub mod runs
+pub mod rows

@@ -1,0 +1,63 @@
+-- The run over a list of tokens and a source's fault: all events, and how it ends (docs/DEFINITIONS.md, "Runs").
+use Rattle.std.specs.Prelude.{◌≡◌, List, [], ◌∷◌, ◌++◌, Bool, true, false}
+use Rattle.libyaml_grammar.specs.cuts.CutEvents.{cut_events}
+use Rattle.libyaml_grammar.specs.cuts.CutFaults.{fault}
+use Rattle.libyaml_grammar.specs.cuts.CutTrees.{Cut, at_tag, at_tag_behind}
+use Rattle.libyaml_grammar.specs.sentences.Events.{Event, events}
+use Rattle.libyaml_grammar.specs.runs.Fault.{Fault}
+use Rattle.libyaml_grammar.specs.cuts.Fits.{Fits}
+use Rattle.libyaml_grammar.specs.sentences.Order.{in_order}
+use Rattle.libyaml_grammar.specs.sentences.Sentences.{IsBeginning, has_end}
+use Rattle.libyaml_grammar.specs.cuts.Settled.{IsSettled}
+use Rattle.libyaml_grammar.specs.runs.StreamEnds.{up_to_end}
+use Rattle.libyaml_grammar.specs.sentences.Tokens.{Anchor, Content, Token}
+use Rattle.libyaml_grammar.specs.sentences.Trees.{Stream, tokens}
+
+-- a run ends with the stream, or fails
+pub data Ending : Type 0 where
+  Ends : Ending
+  Fails : Fault → Ending
+
+-- Whether a token stands behind the properties of the node at whose TAG a tree is cut, where l is what stands behind that
+-- TAG. The properties are the TAG, and an ANCHOR directly before it or else directly behind it.
+abbrev pub has_token : List Token → Bool
+has_token [] = false
+has_token (t ∷ l) = true
+
+abbrev pub is_behind : Content → List Token → Bool
+is_behind (Anchor a) l = has_token l
+is_behind k l = true
+
+abbrev pub is_behind_properties : Cut → List Token → Bool
+is_behind_properties (at_tag p) [] = false
+is_behind_properties (at_tag p) (t ∷ l) = is_behind t.content l
+is_behind_properties (at_tag_behind p a m) l = has_token l
+is_behind_properties c l = true
+
+-- The four cases: a sentence, which ends; a cut tree that fits, with its fault; a cut tree at a TAG behind whose node's
+-- properties no token stands, with the source's fault f; a beginning without STREAM-END, with f.
+pub data IsRun (l : List Token) (f : Fault) (e : List Event) (x : Ending) : Type 0 where
+  of_sentence : (t : Stream) → up_to_end l ≡ tokens t → in_order t ≡ true → e ≡ events t → x ≡ Ends → IsRun l f e x
+  of_cut_tree : (before : List Token) (token : Token) (behind : List Token) (c : Cut) → up_to_end l ≡ before ++ token ∷ behind → Fits before token c
+      → is_behind_properties c behind ≡ true → e ≡ cut_events c token → x ≡ Fails (fault c token.content token.start_mark) → IsRun l f e x
+  amid_properties : (before : List Token) (token : Token) (behind : List Token) (c : Cut) → up_to_end l ≡ before ++ token ∷ behind → Fits before token c
+      → is_behind_properties c behind ≡ false → e ≡ cut_events c token → x ≡ Fails f → IsRun l f e x
+  of_beginning : IsBeginning (up_to_end l) → has_end (up_to_end l) ≡ false → IsSettled (up_to_end l) e → x ≡ Fails f → IsRun l f e x
+
+-- a cut tree fits, with these events and this fault
+pub record HasFault (l : List Token) (e : List Event) (g : Fault) : Type 0 where
+  pub before : List Token
+  pub token : Token
+  pub behind : List Token
+  pub cut : Cut
+  pub all : l ≡ before ++ token ∷ behind
+  pub fits : Fits before token cut
+  pub given : e ≡ cut_events cut token
+  pub fails : g ≡ fault cut token.content token.start_mark
+
+-- The run of a list whose only STREAM-END is its last token: the events of its one tree, and the end; or the events of the
+-- one cut tree that fits, and its fault. The fault behind the list never shows.
+pub data RunsWhole (l : List Token) (f : Fault) : Type 0 where
+  to_its_end : (t : Stream) → in_order t ≡ true → l ≡ tokens t → IsRun l f (events t) Ends → RunsWhole l f
+  to_its_fault : (before : List Token) (token : Token) (behind : List Token) (c : Cut) → l ≡ before ++ token ∷ behind → Fits before token c
+      → IsRun l f (cut_events c token) (Fails (fault c token.content token.start_mark)) → RunsWhole l f

@@ -1,0 +1,141 @@
+//! Faults: why a source or a parser gave no more.
+
+ghost use Rattle.std.specs.Prelude.{◌≡◌};
+ghost use Rattle.std.specs.Option.{option_copied};
+ghost use Rattle.libyaml_grammar.specs.runs.Errors.{IsSourceError};
+
+use libyaml_types::{ZERO_MARK, yaml_error_type_t, yaml_mark_t};
+
+/// What a parser keeps of its fault. Before a fault it is `NO_FAULT`.
+///
+/// libyaml: `yaml_parser_t_prefix`.
+#[derive(Copy, Clone, PartialEq, Eq, Debug)]
+pub struct yaml_parser_t_prefix {
+    /// The kind of the fault.
+    pub error: yaml_error_type_t,
+    /// What went wrong, in words.
+    pub problem: Option<&'static str>,
+    /// How far the source had come, in units of its own.
+    pub problem_offset: u64,
+    /// The value that did not fit, or -1.
+    pub problem_value: i32,
+    /// Where it went wrong.
+    pub problem_mark: yaml_mark_t,
+    /// What was being read, in words.
+    pub context: Option<&'static str>,
+    /// Where that begins.
+    pub context_mark: yaml_mark_t,
+}
+
+/// The prefix of a parser that met no fault.
+pub const NO_FAULT: yaml_parser_t_prefix = yaml_parser_t_prefix {
+    error: yaml_error_type_t::YAML_NO_ERROR,
+    problem: None,
+    problem_offset: 0,
+    problem_value: 0,
+    problem_mark: ZERO_MARK,
+    context: None,
+    context_mark: ZERO_MARK,
+};
+
+/// The fault of a token source: want of memory, or a fault of its reader or scanner.
+#[derive(Copy, Clone, PartialEq, Eq, Debug)]
+pub struct yaml_source_fault_t {
+    prefix: yaml_parser_t_prefix,
+    ghost of_source: { IsSourceError prefix.error },
+}
+
+impl yaml_source_fault_t {
+    ghost use Rattle.libyaml_grammar.specs.runs.Fault.{source_fault, fault_of};
+
+    /// The fault of these fields. Takes no memory.
+    pub fn new(
+        error: yaml_error_type_t,
+        problem: Option<&'static str>,
+        problem_offset: u64,
+        problem_value: i32,
+        problem_mark: yaml_mark_t,
+        context: Option<&'static str>,
+        context_mark: yaml_mark_t,
+    ) -> Self
+        requires { IsSourceError error }
+        ensures { source_fault result ≡ record {
+          error = error;
+          problem = option_copied problem.entry;
+          problem_offset = problem_offset;
+          problem_value = problem_value;
+          problem_mark = problem_mark;
+          context = option_copied context.entry;
+          context_mark = context_mark;
+        } }
+    {
+        yaml_source_fault_t {
+            prefix: yaml_parser_t_prefix {
+                error,
+                problem,
+                problem_offset,
+                problem_value,
+                problem_mark,
+                context,
+                context_mark,
+            },
+        }
+    }
+
+    /// All fields, as a parser keeps them.
+    pub fn prefix(&self) -> yaml_parser_t_prefix
+        ensures { fault_of result ≡ source_fault self.now }
+    {
+        self.prefix
+    }
+
+    /// The kind of the fault.
+    pub fn error(&self) -> yaml_error_type_t
+        ensures value { result ≡ (source_fault self.now).error }
+        ensures of_source { IsSourceError result }
+    {
+        self.prefix.error
+    }
+
+    /// What went wrong, in words.
+    pub fn problem(&self) -> Option<&'static str>
+        ensures { option_copied result ≡ (source_fault self.now).problem }
+    {
+        self.prefix.problem
+    }
+
+    /// How far the source had come, in units of its own.
+    pub fn problem_offset(&self) -> u64
+        ensures { result ≡ (source_fault self.now).problem_offset }
+    {
+        self.prefix.problem_offset
+    }
+
+    /// The value that did not fit, or -1.
+    pub fn problem_value(&self) -> i32
+        ensures { result ≡ (source_fault self.now).problem_value }
+    {
+        self.prefix.problem_value
+    }
+
+    /// Where it went wrong.
+    pub fn problem_mark(&self) -> yaml_mark_t
+        ensures { result ≡ (source_fault self.now).problem_mark }
+    {
+        self.prefix.problem_mark
+    }
+
+    /// What was being read, in words.
+    pub fn context(&self) -> Option<&'static str>
+        ensures { option_copied result ≡ (source_fault self.now).context }
+    {
+        self.prefix.context
+    }
+
+    /// Where that begins.
+    pub fn context_mark(&self) -> yaml_mark_t
+        ensures { result ≡ (source_fault self.now).context_mark }
+    {
+        self.prefix.context_mark
+    }
+}
