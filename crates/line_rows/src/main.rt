@@ -6,6 +6,8 @@
 #![tactic(auto)]
 
 #[cfg(test)]
+mod calls;
+#[cfg(test)]
 mod reading;
 #[cfg(test)]
 mod refused;
@@ -16,7 +18,7 @@ mod runs;
 mod writing;
 
 use row_notation::{EVERY_CALL, LineCounter, PieceReader, PieceWriter, RepeatingReader};
-use rows::{LinesOf, RUNS, run};
+use rows::{Run, run, runs};
 use std::alloc::Global;
 use std::io;
 use token_lines::{Outcome, run_events};
@@ -24,19 +26,13 @@ use token_lines::{Outcome, run_events};
 /// How many bytes a call reads and writes at most.
 const PIECES: [usize; 4] = [1, 2, 7, 4096];
 
-/// Whether a run in these pieces writes these lines and ends so.
-fn gives(
-    alloc: Global,
-    of: LinesOf,
-    tokens: &str,
-    piece: usize,
-    lines: &str,
-    outcome: Outcome,
-) -> bool {
+/// Whether a run in these pieces writes the lines that it should, and ends so.
+fn is_right(alloc: Global, row: Run, piece: usize) -> bool {
+    let (of, tokens, lines, outcome) = row;
     let mut reader = PieceReader::new(tokens.as_bytes(), piece, EVERY_CALL);
     let mut writer = PieceWriter::new(alloc, piece, EVERY_CALL);
     let ended = run(of, alloc, &mut reader, &mut writer);
-    ended == outcome && writer.written() == lines.as_bytes()
+    [ended == outcome, writer.written() == lines.as_bytes()] == [true; 2]
 }
 
 /// Runs over the start of a stream and so many open sequences, and says what was written.
@@ -52,18 +48,19 @@ fn run_open_sequences(rt: &(impl Print + AllocGlobal), sequences: u64) -> io::Re
 }
 
 fn main(rt: HostRuntime) -> io::Result<()> {
-    let mut runs = 0u64;
+    let mut made = 0u64;
     let mut differ = 0u64;
-    for (of, tokens, lines, outcome) in RUNS {
+    for row in runs() {
         for piece in PIECES {
-            if !gives(rt.alloc(), of, tokens, piece, lines, outcome) {
+            if !is_right(rt.alloc(), *row, piece) {
+                let tokens = row.1;
                 println!(rt; "in pieces of {piece} this differs:\n{tokens}")?;
                 differ = differ.wrapping_add(1);
             }
-            runs = runs.wrapping_add(1);
+            made = made.wrapping_add(1);
         }
     }
-    println!(rt; "{runs} runs, {differ} differ")?;
+    println!(rt; "{made} runs, {differ} differ")?;
     run_open_sequences(&rt, 2)?;
     run_open_sequences(&rt, 1_000_000)
 }

@@ -4,15 +4,20 @@
 //! One growth is refused at most, and whatever met it is done again. So where nothing is refused, these
 //! tests pass only if each answer is the whole one.
 
-use crate::reading::assert_fault;
-use crate::rows::{RUNS, run};
+use crate::calls::{fault_behind, next_fault, next_type};
+use crate::rows::{Run, run, runs};
 use row_notation::FixedWriter;
-use std::process::Abort;
-use std::test::Fail;
+use std::alloc::Global;
 use token_lines::{MAX_TOKENS, Outcome, line_refusal_t, write_event, yaml_line_source_t};
 use unsafe_libyaml::{
-    ZERO_MARK, yaml_error_type_t, yaml_stream_end_event_initialize, yaml_token_source_t,
+    NO_FAULT, YAML_MEMORY_ERROR, YAML_READER_ERROR, yaml_event_t, yaml_parser_t_prefix,
+    yaml_stream_end_event_initialize, yaml_token_source_t,
 };
+
+/// How many of two tries met a refused growth; none where a try answered anything else.
+fn sum(first: Option<bool>, second: Option<bool>) -> Option<u8> {
+    Some(u8::from(first?).wrapping_add(u8::from(second?)))
+}
 
 /// Whether this is a front of the lines, cut behind an LF, and then the fault of a refused growth.
 fn is_front_and_fault(written: &str, lines: &str) -> bool {
@@ -22,86 +27,112 @@ fn is_front_and_fault(written: &str, lines: &str) -> bool {
     }
 }
 
-#[test]
-fn refused_growth_cuts_a_run_behind_a_line(rt: HostRuntime) -> Result<(), Fail> {
+/// Whether what a run wrote and answered shows a refused growth; none where it shows neither that nor
+/// the whole run.
+fn shows_refusal(written: &[u8], ended: Outcome, lines: &str, outcome: Outcome) -> Option<bool> {
+    let written = str::from_utf8(written).ok()?;
+    if written == lines {
+        (ended == outcome).then_some(false)
+    } else {
+        (ended == Outcome::Faulted && is_front_and_fault(written, lines)).then_some(true)
+    }
+}
+
+fn is_run_refused(alloc: Global, row: Run) -> Option<bool> {
+    let (of, tokens, lines, outcome) = row;
+    let mut reader = tokens.as_bytes();
+    let mut writer = FixedWriter::new();
+    let ended = run(of, alloc, &mut reader, &mut writer);
+    shows_refusal(writer.written(), ended, lines, outcome)
+}
+
+/// Places of runs with the events of a scalar, a fault with a context, and directives with a tag that is
+/// joined; with documents with directives, with pairs, and with a fault behind one.
+const GROWING: [usize; 6] = [0, 5, 6, 9, 10, 13];
+
+/// How often a growth was refused, each run being made twice; none where a run gave anything else.
+fn count_refused_runs(alloc: Global) -> Option<u8> {
     let mut refusals = 0u8;
-    // Events of a scalar, a fault with a context, and directives with a tag that is joined; documents with
-    // directives, with pairs, and with a fault behind one.
-    for row in [0usize, 5, 6, 9, 10, 13] {
-        let (of, tokens, lines, outcome) = *RUNS.get(row).expect(&rt, "a run");
-        for _ in 0..2u8 {
-            let mut reader = tokens.as_bytes();
-            let mut writer = FixedWriter::new();
-            let ended = run(of, rt.alloc(), &mut reader, &mut writer);
-            let written = str::from_utf8(writer.written())?;
-            if written == lines {
-                assert_eq!(rt; ended, outcome);
-            } else {
-                assert_eq!(rt; ended, Outcome::Faulted);
-                assert!(rt; is_front_and_fault(written, lines), "{written}");
-                refusals = refusals.wrapping_add(1);
-            }
+    for place in GROWING {
+        let row = *runs().get(place)?;
+        let refused = sum(is_run_refused(alloc, row), is_run_refused(alloc, row))?;
+        refusals = refusals.wrapping_add(refused);
+    }
+    Some(refusals)
+}
+
+#[test]
+fn refused_growth_cuts_a_run_behind_a_line(rt: HostRuntime) {
+    let refusals = count_refused_runs(rt.alloc());
+    assert!(rt; refusals.is_some() && refusals <= Some(1));
+}
+
+/// Whether a growth was refused in writing the event, of which then nothing is written. Else it is
+/// written whole. None where neither is so.
+fn is_line_refused(alloc: Global, event: &yaml_event_t, line: &[u8]) -> Option<bool> {
+    let mut writer = FixedWriter::new();
+    let answer = write_event(alloc, event, &mut writer);
+    let written = writer.written();
+    match answer {
+        Ok(()) => (written == line).then_some(false),
+        Err(refusal) => {
+            (refusal == line_refusal_t::Memory && written.is_empty()).then_some(true)
         }
     }
-    assert!(rt; refusals <= 1);
-    Ok(())
+}
+
+fn count_refused_lines(alloc: Global) -> Option<u8> {
+    let event = yaml_stream_end_event_initialize();
+    let line = b"STREAM-END 0:0:0 0:0:0\n";
+    sum(
+        is_line_refused(alloc, &event, line),
+        is_line_refused(alloc, &event, line),
+    )
 }
 
 #[test]
 fn refused_growth_writes_no_part_of_a_line(rt: HostRuntime) {
-    let event = yaml_stream_end_event_initialize();
-    let mut refusals = 0u8;
-    for _ in 0..2u8 {
-        let mut writer = FixedWriter::new();
-        match write_event(rt.alloc(), &event, &mut writer) {
-            Ok(()) => {
-                let line = b"STREAM-END 0:0:0 0:0:0\n".as_slice();
-                assert_eq!(rt; writer.written(), line);
-            }
-            Err(refusal) => {
-                assert_eq!(rt; refusal, line_refusal_t::Memory);
-                assert!(rt; writer.written().is_empty());
-                refusals = refusals.wrapping_add(1);
-            }
-        }
-    }
-    assert!(rt; refusals <= 1);
+    let refusals = count_refused_lines(rt.alloc());
+    assert!(rt; refusals.is_some() && refusals <= Some(1));
 }
 
 /// Lines whose tokens have a text, plain and with escapes, and two.
-const TEXTS: &[u8] =
-    b"TAG-DIRECTIVE 0:0:0 0:0:0 =!e! =p%20q\nANCHOR 0:0:0 0:0:0 =a\nTAG 0:0:0 0:0:0 =!e! =x\nSCALAR 0:0:0 0:0:0 =a%20text plain\nKEY 0:0:0 0:0:0\n";
+const TEXTS: &[u8] = b"TAG-DIRECTIVE 0:0:0 0:0:0 =!e! =p%20q\n\
+    ANCHOR 0:0:0 0:0:0 =a\n\
+    TAG 0:0:0 0:0:0 =!e! =x\n\
+    SCALAR 0:0:0 0:0:0 =a%20text plain\n\
+    KEY 0:0:0 0:0:0\n";
 
-/// Whether a source over `TEXTS` met a refused growth, which it then keeps. Else it gives all tokens.
-fn meets_a_refusal(rt: &(impl Abort + AllocGlobal)) -> bool {
-    let mut source = yaml_line_source_t::new(rt.alloc(), TEXTS, MAX_TOKENS);
+/// Whether each of five calls gives a token.
+fn gives_five<S: yaml_token_source_t>(source: &mut S) -> bool {
     let mut gives_all = true;
-    for _ in 0..5 {
-        gives_all &= source.next_token().is_ok();
+    for _ in 0..5u8 {
+        gives_all = next_type(source).is_some() && gives_all;
     }
-    let fault = source.next_token().err().expect(rt, "a fault");
-    if fault.error() != yaml_error_type_t::YAML_MEMORY_ERROR {
-        assert!(rt; gives_all);
-        let error = yaml_error_type_t::YAML_READER_ERROR;
-        assert_fault(rt, fault, error, "no more tokens", 5);
-        return false;
+    gives_all
+}
+
+/// Whether a source over `TEXTS` met a refused growth, which it then keeps. Else it gives all tokens and
+/// ends. None where neither is so.
+fn is_source_refused(alloc: Global) -> Option<bool> {
+    let mut source = yaml_line_source_t::new(alloc, TEXTS, MAX_TOKENS);
+    let gives_all = gives_five(&mut source);
+    let faults = [
+        next_fault(&mut source),
+        next_fault(&mut source),
+        next_fault(&mut source),
+    ];
+    let error = YAML_MEMORY_ERROR;
+    let refused = yaml_parser_t_prefix { error, ..NO_FAULT };
+    let ended = fault_behind(5, YAML_READER_ERROR, "no more tokens");
+    match faults == [Some(refused); 3] {
+        true => Some(true),
+        false => (gives_all && faults == [Some(ended); 3]).then_some(false),
     }
-    for _ in 0..2 {
-        let fault = source.next_token().err().expect(rt, "a refused growth");
-        assert_eq!(rt; fault.error(), yaml_error_type_t::YAML_MEMORY_ERROR);
-        assert_eq!(rt; fault.problem(), None);
-        assert_eq!(rt; fault.problem_offset(), 0);
-        assert_eq!(rt; fault.problem_value(), 0);
-        assert_eq!(rt; fault.problem_mark(), ZERO_MARK);
-        assert_eq!(rt; fault.context(), None);
-        assert_eq!(rt; fault.context_mark(), ZERO_MARK);
-    }
-    true
 }
 
 #[test]
 fn refused_growth_is_kept_by_a_source(rt: HostRuntime) {
-    let first = meets_a_refusal(&rt);
-    let second = meets_a_refusal(&rt);
-    assert!(rt; !(first && second));
+    let refusals = sum(is_source_refused(rt.alloc()), is_source_refused(rt.alloc()));
+    assert!(rt; refusals.is_some() && refusals <= Some(1));
 }

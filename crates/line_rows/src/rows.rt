@@ -38,7 +38,39 @@ pub const ONE_SCALAR_NODES: &str = "DOCUMENT 2:0:2 4:0:4 1 1 - 0\n\
     1 SCALAR 2:0:2 3:0:3 =tag:yaml.org,2002:str =a plain\n";
 
 /// What a run writes lines of, what it reads, what it writes, and how it ends.
-pub const RUNS: [(LinesOf, &str, &str, Outcome); 17] = [
+pub type Run = (LinesOf, &'static str, &'static str, Outcome);
+
+/// Two documents, of which the first has directives.
+const TWO_DOCUMENTS: Run = (
+    LinesOf::Documents,
+    "STREAM-START 0:0:0 1:0:1 utf8\n\
+     TAG-DIRECTIVE 2:0:2 3:0:3 =!! =p:\n\
+     DOCUMENT-START 4:0:4 5:0:5\n\
+     TAG 6:0:6 7:0:7 =!! =x\n\
+     SCALAR 8:0:8 9:0:9 =a plain\n\
+     DOCUMENT-START 10:0:10 11:0:11\n\
+     TAG 12:0:12 13:0:13 =!! =y\n\
+     SCALAR 14:0:14 15:0:15 =b plain\n\
+     STREAM-END 16:0:16 17:0:17\n",
+    "DOCUMENT 2:0:2 10:0:10 0 1 - 1 =!! =p:\n\
+     1 SCALAR 6:0:6 9:0:9 =p:x =a plain\n\
+     DOCUMENT 10:0:10 16:0:16 0 1 - 0\n\
+     1 SCALAR 12:0:12 15:0:15 =tag:yaml.org,2002:y =b plain\n",
+    Outcome::Ended,
+);
+
+/// The runs, so that no loop over them has their texts in its proof.
+pub fn runs() -> &'static [Run] {
+    &RUNS
+}
+
+/// The run of two documents, of which the first has directives.
+#[cfg(test)]
+pub fn two_documents() -> Run {
+    TWO_DOCUMENTS
+}
+
+const RUNS: [Run; 17] = [
     (
         LinesOf::Events,
         ONE_SCALAR,
@@ -136,24 +168,7 @@ pub const RUNS: [(LinesOf, &str, &str, Outcome); 17] = [
         "STREAM-START 0:0:0 0:0:0 utf8\nSTREAM-END 2:0:2 3:0:3\n",
         Outcome::Ended,
     ),
-    // Two documents, of which the first has directives.
-    (
-        LinesOf::Documents,
-        "STREAM-START 0:0:0 1:0:1 utf8\n\
-         TAG-DIRECTIVE 2:0:2 3:0:3 =!! =p:\n\
-         DOCUMENT-START 4:0:4 5:0:5\n\
-         TAG 6:0:6 7:0:7 =!! =x\n\
-         SCALAR 8:0:8 9:0:9 =a plain\n\
-         DOCUMENT-START 10:0:10 11:0:11\n\
-         TAG 12:0:12 13:0:13 =!! =y\n\
-         SCALAR 14:0:14 15:0:15 =b plain\n\
-         STREAM-END 16:0:16 17:0:17\n",
-        "DOCUMENT 2:0:2 10:0:10 0 1 - 1 =!! =p:\n\
-         1 SCALAR 6:0:6 9:0:9 =p:x =a plain\n\
-         DOCUMENT 10:0:10 16:0:16 0 1 - 0\n\
-         1 SCALAR 12:0:12 15:0:15 =tag:yaml.org,2002:y =b plain\n",
-        Outcome::Ended,
-    ),
+    TWO_DOCUMENTS,
     // Pairs, of which one lacks its value.
     (
         LinesOf::Documents,

@@ -1,7 +1,10 @@
 //! Whole runs: where the reader or the writer fails, lines that are alone, the ends of lines, and
 //! the longest line.
 
-use crate::rows::{LinesOf, ONE_SCALAR, ONE_SCALAR_EVENTS, ONE_SCALAR_NODES, RUNS, run};
+use crate::calls::next_event;
+use crate::rows::{
+    LinesOf, ONE_SCALAR, ONE_SCALAR_EVENTS, ONE_SCALAR_NODES, Run, run, runs, two_documents,
+};
 use row_notation::{EVERY_CALL, PieceReader, PieceWriter};
 use std::alloc::{AllocError, Global};
 use std::test::Fail;
@@ -9,16 +12,24 @@ use token_lines::{
     MAX_LINE, MAX_TOKENS, Outcome, run_events, write_events, write_nodes, yaml_line_source_t,
 };
 use unsafe_libyaml::{
-    yaml_event_type_t, yaml_parser_initialize, yaml_parser_load, yaml_parser_parse,
+    YAML_DOCUMENT_END_EVENT, YAML_DOCUMENT_START_EVENT, YAML_NO_EVENT, YAML_SCALAR_EVENT,
+    YAML_STREAM_END_EVENT, yaml_event_type_t, yaml_parser_initialize, yaml_parser_load,
 };
 
-/// What a run writes of these token lines, and how it ends.
-fn run_over(alloc: Global, of: LinesOf, tokens: &str) -> Result<(String, Outcome), Fail> {
+/// What a run writes of these token lines.
+fn written_of(alloc: Global, of: LinesOf, tokens: &str) -> Vec<u8> {
+    let mut written = Vec::new(alloc);
+    let mut input = tokens.as_bytes();
+    run(of, alloc, &mut input, &mut written);
+    written
+}
+
+/// How a run over these token lines ends that writes these lines; none where it writes others.
+fn end_behind(alloc: Global, of: LinesOf, tokens: &str, lines: &str) -> Option<Outcome> {
     let mut written = Vec::new(alloc);
     let mut input = tokens.as_bytes();
     let ended = run(of, alloc, &mut input, &mut written);
-    let text = str::from_utf8(written.as_slice())?;
-    Ok((String::from_str(alloc, text)?, ended))
+    (written.as_slice() == lines.as_bytes()).then_some(ended)
 }
 
 /// The first so many lines, each with its LF.
@@ -30,16 +41,30 @@ fn first_lines(text: &str, lines: usize) -> &str {
     text.get(..end).unwrap_or(text)
 }
 
+fn count_lines(text: &[u8]) -> usize {
+    text.iter().filter(|byte| **byte == b'\n').count()
+}
+
+/// Whether a run over this input writes the events of `ONE_SCALAR`, and what follows stays.
+fn leaves_junk(alloc: Global, input: &[u8]) -> [bool; 3] {
+    let mut bytes = input;
+    let mut written = Vec::new(alloc);
+    let ended = run_events(alloc, &mut bytes, &mut written);
+    [
+        ended == Outcome::Ended,
+        written.as_slice() == ONE_SCALAR_EVENTS.as_bytes(),
+        bytes == b"junk".as_slice(),
+    ]
+}
+
+fn leaves_what_follows(alloc: Global) -> Result<[bool; 3], AllocError> {
+    let input = [ONE_SCALAR.as_bytes(), b"junk"].concat(alloc)?;
+    Ok(leaves_junk(alloc, input.as_slice()))
+}
+
 #[test]
 fn bytes_behind_the_stream_end_stay(rt: HostRuntime) -> Result<(), Fail> {
-    let mut input = String::from_str(rt.alloc(), ONE_SCALAR)?;
-    input.push_str("junk")?;
-    let mut bytes = input.as_bytes();
-    let mut written = Vec::new(rt.alloc());
-    let ended = run_events(rt.alloc(), &mut bytes, &mut written);
-    assert_eq!(rt; ended, Outcome::Ended);
-    assert_eq!(rt; written.as_slice(), ONE_SCALAR_EVENTS.as_bytes());
-    assert_eq!(rt; bytes, b"junk".as_slice());
+    assert_eq!(rt; leaves_what_follows(rt.alloc())?, [true; 3]);
     Ok(())
 }
 
@@ -59,125 +84,196 @@ const FRONTS: [(usize, &str); 3] = [
     ),
 ];
 
-#[test]
-fn fronts_of_lines(rt: HostRuntime) -> Result<(), Fail> {
+/// The first of the fronts that gives anything else, if any.
+fn first_other_front(alloc: Global) -> Option<usize> {
     for (lines, want) in FRONTS {
-        let (written, ended) = run_over(
-            rt.alloc(),
-            LinesOf::Events,
-            first_lines(ONE_SCALAR, lines),
-        )?;
-        assert_eq!(rt; written.as_str(), want);
-        assert_eq!(rt; ended, Outcome::Faulted);
+        let front = first_lines(ONE_SCALAR, lines);
+        if end_behind(alloc, LinesOf::Events, front, want) != Some(Outcome::Faulted) {
+            return Some(lines);
+        }
     }
-    Ok(())
-}
-
-/// What a run writes whose reader fails behind so many lines: that of a reader that ends there, with the
-/// other problem.
-fn failing_behind(alloc: Global, of: LinesOf, tokens: &str, lines: usize) -> Result<String, Fail> {
-    let (front, _) = run_over(alloc, of, first_lines(tokens, lines))?;
-    let ended = front
-        .strip_suffix("no more tokens\n")
-        .ok_or("another fault")?;
-    let mut failed = String::from_str(alloc, ended)?;
-    failed.push_str("read failed\n")?;
-    Ok(failed)
+    None
 }
 
 #[test]
-fn each_read_failing_in_turn(rt: HostRuntime) -> Result<(), Fail> {
-    let alloc = rt.alloc();
-    for (of, tokens, text, outcome) in RUNS {
-        let mut came_through = false;
-        // A call for each byte, and one for the end.
-        for calls in 0..tokens.len().saturating_add(2) {
-            let mut reader = PieceReader::new(tokens.as_bytes(), 1, calls);
-            let mut writer = PieceWriter::new(alloc, 4096, EVERY_CALL);
-            let ended = run(of, alloc, &mut reader, &mut writer);
-            if writer.written() == text.as_bytes() {
-                assert_eq!(rt; ended, outcome);
-                came_through = true;
-                break;
-            }
-            assert_eq!(rt; ended, Outcome::Faulted, "the call {calls}");
-            let read = tokens.as_bytes().get(..calls).unwrap_or(tokens.as_bytes());
-            let lines = read.iter().filter(|byte| **byte == b'\n').count();
-            let want = failing_behind(alloc, of, tokens, lines)?;
-            assert_eq!(rt; writer.written(), want.as_bytes(), "the call {calls}");
+fn fronts_of_lines(rt: HostRuntime) {
+    assert_eq!(rt; first_other_front(rt.alloc()), None);
+}
+
+/// Whether a run whose reader failed wrote what it writes where the reader ends, with the other problem.
+fn are_same_but_the_problem(failed: &[u8], ended: &[u8]) -> bool {
+    match (str::from_utf8(failed), str::from_utf8(ended)) {
+        (Ok(failed), Ok(ended)) => {
+            let front = failed.strip_suffix("read failed\n");
+            front.is_some() && front == ended.strip_suffix("no more tokens\n")
         }
-        assert!(rt; came_through);
+        _ => false,
     }
-    Ok(())
+}
+
+/// Whether this is what a run writes whose reader fails behind so many bytes of the tokens.
+fn is_cut_front(alloc: Global, of: LinesOf, tokens: &str, bytes: usize, written: &[u8]) -> bool {
+    let read = tokens.as_bytes().get(..bytes).unwrap_or(tokens.as_bytes());
+    let front = written_of(alloc, of, first_lines(tokens, count_lines(read)));
+    are_same_but_the_problem(written, front.as_slice())
+}
+
+/// Whether a run whose reader fails behind so many bytes came through by what it wrote and answered; none
+/// where it wrote neither all nor the front before the failed read.
+fn came_through(
+    alloc: Global,
+    row: Run,
+    bytes: usize,
+    written: &[u8],
+    ended: Outcome,
+) -> Option<bool> {
+    let (of, tokens, lines, outcome) = row;
+    if written == lines.as_bytes() {
+        (ended == outcome).then_some(true)
+    } else {
+        (ended == Outcome::Faulted && is_cut_front(alloc, of, tokens, bytes, written)).then_some(
+            false,
+        )
+    }
+}
+
+/// The same of a run whose reader hands out a byte a call, and fails behind so many calls.
+fn comes_through(alloc: Global, row: Run, calls: usize) -> Option<bool> {
+    let (of, tokens, _, _) = row;
+    let mut reader = PieceReader::new(tokens.as_bytes(), 1, calls);
+    let mut writer = PieceWriter::new(alloc, 4096, EVERY_CALL);
+    let ended = run(of, alloc, &mut reader, &mut writer);
+    came_through(alloc, row, calls, writer.written(), ended)
+}
+
+/// Whether a run is cut at each read that fails, and at last comes through. There is a call for each byte,
+/// and one for the end.
+fn is_cut_at_each_read(alloc: Global, row: Run) -> bool {
+    let (_, tokens, _, _) = row;
+    for calls in 0..tokens.len().saturating_add(2) {
+        match comes_through(alloc, row, calls) {
+            Some(false) => {}
+            through => return through.is_some(),
+        }
+    }
+    false
+}
+
+/// The tokens of the first run that a failing read cuts anywhere else, if any.
+fn first_misread(alloc: Global) -> Option<&'static str> {
+    for row in runs() {
+        if !is_cut_at_each_read(alloc, *row) {
+            return Some(row.1);
+        }
+    }
+    None
 }
 
 #[test]
-fn each_write_and_flush_failing_in_turn(rt: HostRuntime) -> Result<(), Fail> {
-    let alloc = rt.alloc();
-    for (of, tokens, want, outcome) in RUNS {
-        // A write for each byte, and a flush: with one call fewer the run fails, and with these it doesn't.
-        for calls in 0..want.len().saturating_add(1) {
-            let mut reader = tokens.as_bytes();
-            let mut writer = PieceWriter::new(alloc, 1, calls);
-            let ended = run(of, alloc, &mut reader, &mut writer);
-            assert_eq!(rt; ended, Outcome::OutputFailed, "after {calls} calls");
-            let front = want.as_bytes().get(..calls).unwrap_or(want.as_bytes());
-            assert_eq!(rt; writer.written(), front);
-        }
-        let mut reader = tokens.as_bytes();
-        let mut writer = PieceWriter::new(alloc, 1, want.len().saturating_add(1));
-        assert_eq!(rt; run(of, alloc, &mut reader, &mut writer), outcome);
-        assert_eq!(rt; writer.written(), want.as_bytes());
-    }
-    Ok(())
+fn each_read_failing_in_turn(rt: HostRuntime) {
+    assert_eq!(rt; first_misread(rt.alloc()), None);
 }
 
-/// The events of `ONE_SCALAR`, and what comes behind them.
-const ONE_SCALAR_TYPES: [yaml_event_type_t; 6] = [
-    yaml_event_type_t::YAML_STREAM_START_EVENT,
-    yaml_event_type_t::YAML_DOCUMENT_START_EVENT,
-    yaml_event_type_t::YAML_SCALAR_EVENT,
-    yaml_event_type_t::YAML_DOCUMENT_END_EVENT,
-    yaml_event_type_t::YAML_STREAM_END_EVENT,
-    yaml_event_type_t::YAML_NO_EVENT,
+/// Whether a run fails where a writer of so many calls does, which takes a byte a call, and has written all
+/// before. With a call for each byte and one for the flush it doesn't fail.
+fn is_cut_at_write(alloc: Global, row: Run, calls: usize) -> bool {
+    let (of, tokens, lines, outcome) = row;
+    let mut reader = tokens.as_bytes();
+    let mut writer = PieceWriter::new(alloc, 1, calls);
+    let ended = run(of, alloc, &mut reader, &mut writer);
+    let want = if calls > lines.len() {
+        outcome
+    } else {
+        Outcome::OutputFailed
+    };
+    let front = lines.as_bytes().get(..calls).unwrap_or(lines.as_bytes());
+    [ended == want, writer.written() == front] == [true; 2]
+}
+
+fn is_cut_at_each_write(alloc: Global, row: Run) -> bool {
+    let (_, _, lines, _) = row;
+    for calls in 0..lines.len().saturating_add(2) {
+        if !is_cut_at_write(alloc, row, calls) {
+            return false;
+        }
+    }
+    true
+}
+
+/// The tokens of the first run that a failing write cuts anywhere else, if any.
+fn first_miswritten(alloc: Global) -> Option<&'static str> {
+    for row in runs() {
+        if !is_cut_at_each_write(alloc, *row) {
+            return Some(row.1);
+        }
+    }
+    None
+}
+
+#[test]
+fn each_write_and_flush_failing_in_turn(rt: HostRuntime) {
+    assert_eq!(rt; first_miswritten(rt.alloc()), None);
+}
+
+/// What a writer that fails behind so many lines of `ONE_SCALAR` leaves: the outcome, how many lines are
+/// written, and the event that the parser gives next.
+fn behind_a_failed_write(
+    alloc: Global,
+    lines: usize,
+) -> (Outcome, usize, Option<yaml_event_type_t>) {
+    let source = yaml_line_source_t::new(alloc, ONE_SCALAR.as_bytes(), MAX_TOKENS);
+    let mut parser = yaml_parser_initialize(alloc, source);
+    let mut writer = PieceWriter::new(alloc, 4096, lines);
+    let outcome = write_events(alloc, &mut parser, &mut writer);
+    (
+        outcome,
+        count_lines(writer.written()),
+        next_event(&mut parser),
+    )
+}
+
+/// The event that comes next, by the number of lines that are written before.
+const NEXT: [yaml_event_type_t; 6] = [
+    YAML_DOCUMENT_START_EVENT,
+    YAML_SCALAR_EVENT,
+    YAML_DOCUMENT_END_EVENT,
+    YAML_STREAM_END_EVENT,
+    YAML_NO_EVENT,
+    YAML_NO_EVENT,
 ];
 
-#[test]
-fn no_event_is_parsed_behind_a_failed_write(rt: HostRuntime) -> Result<(), Fail> {
-    let alloc = rt.alloc();
-    for lines in 0..ONE_SCALAR_TYPES.len() {
-        let source = yaml_line_source_t::new(alloc, ONE_SCALAR.as_bytes(), MAX_TOKENS);
-        let mut parser = yaml_parser_initialize(alloc, source);
-        let mut writer = PieceWriter::new(alloc, 4096, lines);
-        let outcome = write_events(alloc, &mut parser, &mut writer);
-        assert_eq!(rt; outcome, Outcome::OutputFailed);
-        let written = writer
-            .written()
-            .iter()
-            .filter(|byte| **byte == b'\n')
-            .count();
-        assert_eq!(rt; written, lines);
-        let Ok(next) = yaml_parser_parse(&mut parser) else {
-            panic!(rt; "no event behind line {lines}");
-        };
-        assert_eq!(rt; next.type_(), ONE_SCALAR_TYPES[(lines + 1).min(5)]);
+/// The first number of lines behind which a failed write leaves anything else, if any.
+fn first_other_rest(alloc: Global) -> Option<usize> {
+    for (lines, next) in NEXT.iter().enumerate() {
+        let left = (Outcome::OutputFailed, lines, Some(*next));
+        if behind_a_failed_write(alloc, lines) != left {
+            return Some(lines);
+        }
     }
-    Ok(())
+    None
 }
 
 #[test]
-fn the_events_of_a_parser_are_written_once(rt: HostRuntime) -> Result<(), Fail> {
-    let alloc = rt.alloc();
+fn no_event_is_parsed_behind_a_failed_write(rt: HostRuntime) {
+    assert_eq!(rt; first_other_rest(rt.alloc()), None);
+}
+
+/// Whether the events of a parser are written, and nothing the second time.
+fn writes_once(alloc: Global) -> [bool; 4] {
     let source = yaml_line_source_t::new(alloc, ONE_SCALAR.as_bytes(), MAX_TOKENS);
     let mut parser = yaml_parser_initialize(alloc, source);
     let mut written = Vec::new(alloc);
-    // The second time nothing is left.
-    for _ in 0..2 {
-        let outcome = write_events(alloc, &mut parser, &mut written);
-        assert_eq!(rt; outcome, Outcome::Ended);
-        assert_eq!(rt; written.as_slice(), ONE_SCALAR_EVENTS.as_bytes());
-    }
-    Ok(())
+    [
+        write_events(alloc, &mut parser, &mut written) == Outcome::Ended,
+        written.as_slice() == ONE_SCALAR_EVENTS.as_bytes(),
+        write_events(alloc, &mut parser, &mut written) == Outcome::Ended,
+        written.as_slice() == ONE_SCALAR_EVENTS.as_bytes(),
+    ]
+}
+
+#[test]
+fn the_events_of_a_parser_are_written_once(rt: HostRuntime) {
+    assert_eq!(rt; writes_once(rt.alloc()), [true; 4]);
 }
 
 /// Lines that are alone in a run, and what it writes of each.
@@ -210,14 +306,23 @@ const LINES: [(&str, &str); 8] = [
     ),
 ];
 
-#[test]
-fn lines_that_are_alone(rt: HostRuntime) -> Result<(), Fail> {
-    for (line, fault) in LINES {
-        let (written, ended) = run_over(rt.alloc(), LinesOf::Events, line)?;
-        assert_eq!(rt; ended, Outcome::Faulted, "{line}");
-        assert_eq!(rt; written.as_str(), fault, "{line}");
+fn lines() -> &'static [(&'static str, &'static str)] {
+    &LINES
+}
+
+/// The first of the lines that gives anything else, if any.
+fn first_line_otherwise(alloc: Global) -> Option<&'static str> {
+    for (line, fault) in lines() {
+        if end_behind(alloc, LinesOf::Events, line, fault) != Some(Outcome::Faulted) {
+            return Some(line);
+        }
     }
-    Ok(())
+    None
+}
+
+#[test]
+fn lines_that_are_alone(rt: HostRuntime) {
+    assert_eq!(rt; first_line_otherwise(rt.alloc()), None);
 }
 
 /// The lines of `ONE_SCALAR` with a CR before each LF.
@@ -230,22 +335,30 @@ fn with_returns(alloc: Global) -> Result<String, AllocError> {
     Ok(returns)
 }
 
-/// Whether a run takes a last line without LF, and no line with a CR.
-fn takes_ends_of_lines(alloc: Global, of: LinesOf, text: &str) -> Result<bool, Fail> {
-    let (whole, ended) = run_over(alloc, of, ONE_SCALAR.trim_end())?;
-    let (fault, faulted) = run_over(alloc, of, with_returns(alloc)?.as_str())?;
-    Ok(
-        ended == Outcome::Ended
-            && whole.as_str() == text
-            && faulted == Outcome::Faulted
-            && fault.as_str() == "FAULT scanner 0:0:0 bad token line\n",
-    )
+/// Whether a run takes a last line without LF.
+fn takes_a_last_line(alloc: Global, of: LinesOf, text: &str) -> bool {
+    end_behind(alloc, of, ONE_SCALAR.trim_end(), text) == Some(Outcome::Ended)
+}
+
+/// Whether a run takes no line with a CR.
+fn refuses_returns(alloc: Global, of: LinesOf) -> Result<bool, AllocError> {
+    let fault = "FAULT scanner 0:0:0 bad token line\n";
+    let returns = with_returns(alloc)?;
+    Ok(end_behind(alloc, of, returns.as_str(), fault) == Some(Outcome::Faulted))
+}
+
+fn takes_ends_of_lines(alloc: Global) -> Result<[bool; 4], AllocError> {
+    Ok([
+        takes_a_last_line(alloc, LinesOf::Events, ONE_SCALAR_EVENTS),
+        refuses_returns(alloc, LinesOf::Events)?,
+        takes_a_last_line(alloc, LinesOf::Documents, ONE_SCALAR_NODES),
+        refuses_returns(alloc, LinesOf::Documents)?,
+    ])
 }
 
 #[test]
 fn ends_of_lines(rt: HostRuntime) -> Result<(), Fail> {
-    assert!(rt; takes_ends_of_lines(rt.alloc(), LinesOf::Events, ONE_SCALAR_EVENTS)?);
-    assert!(rt; takes_ends_of_lines(rt.alloc(), LinesOf::Documents, ONE_SCALAR_NODES)?);
+    assert_eq!(rt; takes_ends_of_lines(rt.alloc())?, [true; 4]);
     Ok(())
 }
 
@@ -268,102 +381,107 @@ fn long_scalar(alloc: Global, len: usize) -> Result<String, AllocError> {
 /// How many bytes of a scalar the longest line has, which is of 1,048,576 bytes.
 const LONGEST_SCALAR: usize = 1_048_550;
 
-#[test]
-fn the_longest_line(rt: HostRuntime) -> Result<(), Fail> {
-    let alloc = rt.alloc();
-    let longest = long_scalar(alloc, LONGEST_SCALAR)?;
+/// The events of a scalar with the longest line.
+fn longest_events(alloc: Global) -> Result<String, AllocError> {
     let front = "STREAM-START 0:0:0 0:0:0 utf8\nDOCUMENT-START 2:0:2 2:0:2 1 - 0\n\
         SCALAR 2:0:2 3:0:3 - - =";
     let rest = " 1 0 plain\nDOCUMENT-END 4:0:4 4:0:4 1\nSTREAM-END 4:0:4 5:0:5\n";
-    let events = around(alloc, front, LONGEST_SCALAR, rest)?;
-    let too_long = long_scalar(alloc, LONGEST_SCALAR + 1)?;
-    let fault = "STREAM-START 0:0:0 0:0:0 utf8\nFAULT reader 1:1:0 line too long\n";
-    for piece in [4093, 65_536, usize::MAX] {
-        let mut reader = PieceReader::new(longest.as_bytes(), piece, EVERY_CALL);
-        let mut written = Vec::new(alloc);
-        let ended = run_events(alloc, &mut reader, &mut written);
-        assert_eq!(rt; ended, Outcome::Ended, "in pieces of {piece}");
-        assert!(rt;
-            written.as_slice() == events.as_bytes(),
-            "in pieces of {piece}"
-        );
+    around(alloc, front, LONGEST_SCALAR, rest)
+}
 
-        let mut reader = PieceReader::new(too_long.as_bytes(), piece, EVERY_CALL);
-        let mut written = Vec::new(alloc);
-        let ended = run_events(alloc, &mut reader, &mut written);
-        assert_eq!(rt; ended, Outcome::Faulted, "in pieces of {piece}");
-        assert_eq!(rt;
-            written.as_slice(),
-            fault.as_bytes(),
-            "in pieces of {piece}"
-        );
+/// How a run over these token lines in pieces ends that writes these events; none where it writes others.
+fn end_in_pieces(alloc: Global, tokens: &str, piece: usize, events: &str) -> Option<Outcome> {
+    let mut reader = PieceReader::new(tokens.as_bytes(), piece, EVERY_CALL);
+    let mut written = Vec::new(alloc);
+    let ended = run_events(alloc, &mut reader, &mut written);
+    (written.as_slice() == events.as_bytes()).then_some(ended)
+}
+
+fn takes_longest_line(alloc: Global, piece: usize) -> Result<bool, AllocError> {
+    let tokens = long_scalar(alloc, LONGEST_SCALAR)?;
+    let events = longest_events(alloc)?;
+    let ended = end_in_pieces(alloc, tokens.as_str(), piece, events.as_str());
+    Ok(ended == Some(Outcome::Ended))
+}
+
+fn refuses_longer_line(alloc: Global, piece: usize) -> Result<bool, AllocError> {
+    let tokens = long_scalar(alloc, LONGEST_SCALAR + 1)?;
+    let fault = "STREAM-START 0:0:0 0:0:0 utf8\nFAULT reader 1:1:0 line too long\n";
+    let ended = end_in_pieces(alloc, tokens.as_str(), piece, fault);
+    Ok(ended == Some(Outcome::Faulted))
+}
+
+/// The first length of pieces in which the longest line is not taken, or a longer one is, if any.
+fn first_other_bound(alloc: Global) -> Result<Option<usize>, AllocError> {
+    for piece in [4093, 65_536, usize::MAX] {
+        if !takes_longest_line(alloc, piece)? || !refuses_longer_line(alloc, piece)? {
+            return Ok(Some(piece));
+        }
     }
+    Ok(None)
+}
+
+#[test]
+fn the_longest_line(rt: HostRuntime) -> Result<(), Fail> {
+    assert_eq!(rt; first_other_bound(rt.alloc())?, None);
     Ok(())
 }
 
-/// Whether a run over documents takes the longest line, and none that is longer.
-fn takes_longest_node(alloc: Global) -> Result<bool, Fail> {
+fn takes_longest_node(alloc: Global) -> Result<bool, AllocError> {
     let front = "DOCUMENT 2:0:2 4:0:4 1 1 - 0\n1 SCALAR 2:0:2 3:0:3 =tag:yaml.org,2002:str =";
     let nodes = around(alloc, front, LONGEST_SCALAR, " plain\n")?;
-    let longest = long_scalar(alloc, LONGEST_SCALAR)?;
-    let (whole, ended) = run_over(alloc, LinesOf::Documents, longest.as_str())?;
-    let too_long = long_scalar(alloc, LONGEST_SCALAR + 1)?;
-    let (fault, faulted) = run_over(alloc, LinesOf::Documents, too_long.as_str())?;
-    Ok(
-        ended == Outcome::Ended
-            && whole.as_str() == nodes.as_str()
-            && faulted == Outcome::Faulted
-            && fault.as_str() == "FAULT reader 1:1:0 line too long\n",
-    )
+    let tokens = long_scalar(alloc, LONGEST_SCALAR)?;
+    let ended = end_behind(alloc, LinesOf::Documents, tokens.as_str(), nodes.as_str());
+    Ok(ended == Some(Outcome::Ended))
+}
+
+fn refuses_longer_node(alloc: Global) -> Result<bool, AllocError> {
+    let tokens = long_scalar(alloc, LONGEST_SCALAR + 1)?;
+    let fault = "FAULT reader 1:1:0 line too long\n";
+    let ended = end_behind(alloc, LinesOf::Documents, tokens.as_str(), fault);
+    Ok(ended == Some(Outcome::Faulted))
 }
 
 #[test]
 fn the_longest_node(rt: HostRuntime) -> Result<(), Fail> {
     assert!(rt; takes_longest_node(rt.alloc())?);
+    assert!(rt; refuses_longer_node(rt.alloc())?);
     Ok(())
 }
 
-/// Whether a parser is lent to `write_nodes` behind its first document, and gives the second and nothing
-/// twice.
-fn writes_the_rest(alloc: Global) -> Result<bool, Fail> {
-    let (_, tokens, text, _) = RUNS[9];
+/// Whether a parser that is lent to `write_nodes` behind its first document gives the second, and nothing
+/// the second time.
+fn writes_the_rest(alloc: Global) -> [bool; 5] {
+    let (_, tokens, text, _) = two_documents();
     let source = yaml_line_source_t::new(alloc, tokens.as_bytes(), MAX_TOKENS);
     let mut parser = yaml_parser_initialize(alloc, source);
-    if yaml_parser_load(&mut parser).is_err() {
-        return Ok(false);
-    }
     let mut written = Vec::new(alloc);
-    let first = write_nodes(alloc, &mut parser, &mut written);
-    let second = write_nodes(alloc, &mut parser, &mut written);
-    let rest = str::from_utf8(written.as_slice())?;
-    Ok(
-        first == Outcome::Ended
-            && second == Outcome::Ended
-            && text.ends_with(rest)
-            && rest.starts_with("DOCUMENT 10:0:10 "),
-    )
+    [
+        yaml_parser_load(&mut parser).is_ok(),
+        write_nodes(alloc, &mut parser, &mut written) == Outcome::Ended,
+        write_nodes(alloc, &mut parser, &mut written) == Outcome::Ended,
+        text.as_bytes().ends_with(written.as_slice()),
+        written.starts_with(b"DOCUMENT 10:0:10 "),
+    ]
 }
 
 /// Whether a fault that a parser keeps is written again.
-fn writes_a_fault_again(alloc: Global) -> Result<bool, Fail> {
+fn writes_a_fault_again(alloc: Global) -> [bool; 3] {
     let source = yaml_line_source_t::new(alloc, b"".as_slice(), MAX_TOKENS);
     let mut parser = yaml_parser_initialize(alloc, source);
     let mut written = Vec::new(alloc);
-    let first = write_nodes(alloc, &mut parser, &mut written);
-    let second = write_nodes(alloc, &mut parser, &mut written);
     let twice = b"FAULT reader 0:0:0 no more tokens\nFAULT reader 0:0:0 no more tokens\n";
-    Ok(
-        first == Outcome::Faulted
-            && second == Outcome::Faulted
-            && written.as_slice() == twice.as_slice(),
-    )
+    [
+        write_nodes(alloc, &mut parser, &mut written) == Outcome::Faulted,
+        write_nodes(alloc, &mut parser, &mut written) == Outcome::Faulted,
+        written.as_slice() == twice.as_slice(),
+    ]
 }
 
 #[test]
-fn the_documents_of_a_parser(rt: HostRuntime) -> Result<(), Fail> {
-    assert!(rt; writes_the_rest(rt.alloc())?);
-    assert!(rt; writes_a_fault_again(rt.alloc())?);
-    Ok(())
+fn the_documents_of_a_parser(rt: HostRuntime) {
+    assert_eq!(rt; writes_the_rest(rt.alloc()), [true; 5]);
+    assert_eq!(rt; writes_a_fault_again(rt.alloc()), [true; 3]);
 }
 
 #[test]
