@@ -8,7 +8,7 @@ use mathlib.Core.Bool.{true≢false}
 use denote.Enum.Bare.{sameb, same_true, true_same}
 use Rattle.libyaml_documents.proofs.Choices.{both, through}
 use Rattle.libyaml_documents.specs.declared.pairs.yaml_node_pair_t.{yaml_node_pair_t}
-use Rattle.libyaml_documents.specs.Pairs.{same_pair}
+use Rattle.libyaml_documents.specs.contracts.pairs.yaml_node_pair_tPartialEq.TheImpl as pair_eq
 use Rattle.std.specs.Ordering.{int_eq}
 use Rattle.libyaml_types.specs.declared.enums.yaml_encoding_t.{yaml_encoding_t}
 use Rattle.libyaml_types.specs.contracts.enums.yaml_encoding_t as encoding
@@ -22,8 +22,8 @@ use Rattle.libyaml_types.specs.declared.directive.yaml_tag_directive_t.{yaml_tag
 use Rattle.libyaml_types.specs.declared.directive.yaml_version_directive_t.{yaml_version_directive_t}
 use Rattle.libyaml_types.specs.declared.mark.yaml_mark_t.{yaml_mark_t}
 use Rattle.libyaml_types.specs.contracts.directive.yaml_version_directive_tPartialEq.TheImpl as version_eq
+use Rattle.libyaml_types.specs.contracts.directive.yaml_tag_directive_tPartialEq.TheImpl as directive_eq
 use Rattle.libyaml_types.specs.contracts.mark.yaml_mark_tPartialEq.TheImpl as mark_eq
-use Rattle.libyaml_types.specs.Equal.{directive_eq}
 
 pub option_decides : {A : Type 0} (E : A → A → Bool) → ((x y : A) → Decides (E x y) (x ≡ y)) → (a b : Option A) → Decides (option_eq E a b) (a ≡ b)
 option_decides E decides None None = (λ e. refl, λ e. refl)
@@ -58,7 +58,7 @@ version_decides a b =
     (λ p i. record { major = p.0 i; minor = p.1 i })
     (λ e. (ap (λ (x : yaml_version_directive_t). x.major) e, ap (λ (x : yaml_version_directive_t). x.minor) e))
 
-directive_decides : (a b : yaml_tag_directive_t) → Decides (directive_eq a b) (a ≡ b)
+directive_decides : (a b : yaml_tag_directive_t) → Decides ((directive_eq.ghosts).eq a b) (a ≡ b)
 directive_decides a b =
     through (both (bytes_decides a.handle b.handle) (bytes_decides a.prefix b.prefix))
     (λ p i. record { handle = p.0 i; prefix = p.1 i })
@@ -67,18 +67,18 @@ directive_decides a b =
 pub versions_decide : (a b : Option yaml_version_directive_t) → Decides (option_eq ((version_eq.ghosts).eq) a b) (a ≡ b)
 versions_decide = option_decides ((version_eq.ghosts).eq) version_decides
 
-pub directives_decide : (a b : List yaml_tag_directive_t) → Decides (pointwise directive_eq a b) (a ≡ b)
+pub directives_decide : (a b : List yaml_tag_directive_t) → Decides (pointwise (directive_eq.ghosts).eq a b) (a ≡ b)
 directives_decide = pointwise_decides directive_decides
 
 -- the children of nodes
 pub items_decide : (a b : List ℤ) → Decides (pointwise int_eq a b) (a ≡ b)
 items_decide = pointwise_decides signed_Decides
 
-pair_decides : (a b : yaml_node_pair_t) → Decides (same_pair a b) (a ≡ b)
+pair_decides : (a b : yaml_node_pair_t) → Decides ((pair_eq.ghosts).eq a b) (a ≡ b)
 pair_decides a b =
     through (both (signed_Decides a.key b.key) (signed_Decides a.value b.value))
     (λ p i. record { key = p.0 i; value = p.1 i })
     (λ e. (ap (λ (x : yaml_node_pair_t). x.key) e, ap (λ (x : yaml_node_pair_t). x.value) e))
 
-pub pairs_decide : (a b : List yaml_node_pair_t) → Decides (pointwise same_pair a b) (a ≡ b)
+pub pairs_decide : (a b : List yaml_node_pair_t) → Decides (pointwise (pair_eq.ghosts).eq a b) (a ≡ b)
 pairs_decide = pointwise_decides pair_decides

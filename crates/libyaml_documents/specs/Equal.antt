@@ -5,23 +5,28 @@ use Rattle.std.specs.Option.{option_eq}
 use Rattle.std.specs.Cmp.{IsEquivalence, and_equiv, on_equiv, bool_eq_equiv}
 use Rattle.std.specs.Cmp.Lexicographic.{pointwise, lists_equiv, options_equiv}
 use Rattle.libyaml_types.specs.declared.directive.yaml_version_directive_t.{yaml_version_directive_t}
+use Rattle.libyaml_types.specs.declared.directive.yaml_tag_directive_t.{yaml_tag_directive_t}
 use Rattle.libyaml_types.specs.declared.mark.yaml_mark_t.{yaml_mark_t}
 use Rattle.libyaml_types.specs.contracts.directive.yaml_version_directive_tPartialEq.TheImpl as version_eq
 use Rattle.libyaml_types.specs.contracts.directive.yaml_version_directive_tEq.TheImpl.Laws as version_laws
+use Rattle.libyaml_types.specs.contracts.directive.yaml_tag_directive_tPartialEq.TheImpl as directive_eq
+use Rattle.libyaml_types.specs.contracts.directive.yaml_tag_directive_tEq.TheImpl.Laws as directive_laws
 use Rattle.libyaml_types.specs.contracts.mark.yaml_mark_tPartialEq.TheImpl as mark_eq
 use Rattle.libyaml_types.specs.contracts.mark.yaml_mark_tEq.TheImpl.Laws as mark_laws
-use Rattle.libyaml_types.specs.Equal.{directive_eq, directives_equiv}
 use Rattle.libyaml_documents.specs.declared.node.yaml_node_t.{yaml_node_t}
 use Rattle.libyaml_documents.specs.contracts.node.yaml_node_tPartialEq.TheImpl as node_eq
 use Rattle.libyaml_documents.specs.contracts.node.yaml_node_tEq.TheImpl.Laws as node_laws
 use Rattle.libyaml_documents.specs.Documents.{Document}
 
--- what `==` says of two nodes, two versions and two marks
+-- what `==` says of two nodes, two versions, two directives and two marks
 abbrev pub same_node : yaml_node_t → yaml_node_t → Bool
 same_node = (node_eq.ghosts).eq
 
 abbrev pub same_version : yaml_version_directive_t → yaml_version_directive_t → Bool
 same_version = (version_eq.ghosts).eq
+
+abbrev pub same_directive : yaml_tag_directive_t → yaml_tag_directive_t → Bool
+same_directive = (directive_eq.ghosts).eq
 
 abbrev pub same_mark : yaml_mark_t → yaml_mark_t → Bool
 same_mark = (mark_eq.ghosts).eq
@@ -29,7 +34,7 @@ same_mark = (mark_eq.ghosts).eq
 abbrev pub same_document : Document → Document → Bool
 same_document d e =
     pointwise same_node d.nodes e.nodes && (option_eq same_version d.version_directive e.version_directive
-    && (pointwise directive_eq d.tag_directives e.tag_directives
+    && (pointwise same_directive d.tag_directives e.tag_directives
     && (beq d.start_implicit e.start_implicit && (beq d.end_implicit e.end_implicit
     && (same_mark d.start_mark e.start_mark && same_mark d.end_mark e.end_mark)))))
 
@@ -37,7 +42,7 @@ pub same_document_equiv : IsEquivalence same_document
 same_document_equiv =
     and_equiv (on_equiv (λ d. d.nodes) (lists_equiv node_laws.laws-law))
     (and_equiv (on_equiv (λ d. d.version_directive) (options_equiv version_laws.laws-law))
-    (and_equiv (on_equiv (λ d. d.tag_directives) directives_equiv)
+    (and_equiv (on_equiv (λ d. d.tag_directives) (lists_equiv directive_laws.laws-law))
     (and_equiv (on_equiv (λ d. d.start_implicit) bool_eq_equiv)
     (and_equiv (on_equiv (λ d. d.end_implicit) bool_eq_equiv)
     (and_equiv (on_equiv (λ d. d.start_mark) mark_laws.laws-law)

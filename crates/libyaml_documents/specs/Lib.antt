@@ -2,4 +2,3 @@ pub mod Documents
 pub mod Equal
 pub mod LoadedNodes
 pub mod Nodes
-pub mod Pairs

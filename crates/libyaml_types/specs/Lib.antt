@@ -1,4 +1,3 @@
-pub mod Equal
 pub mod Events
 pub mod Numbers
 pub mod Texts

@@ -6,6 +6,7 @@ pub mod directive;
 pub mod enums;
 pub mod event;
 pub mod laws;
+pub mod list;
 pub mod mark;
 pub mod refusal;
 pub mod text;
@@ -31,6 +32,7 @@ pub use event::{
     unnamed_yaml_event_t_data_mapping_start, unnamed_yaml_event_t_data_scalar,
     unnamed_yaml_event_t_data_sequence_start, unnamed_yaml_event_t_data_stream_start, yaml_event_t,
 };
+pub use list::ListOf;
 pub use mark::{ZERO_MARK, yaml_mark_t};
 pub use refusal::yaml_refusal_t;
 pub use text::Text;
