@@ -3,9 +3,12 @@
 
 pub mod laws;
 mod list_source;
+mod next;
+mod node_head;
+mod node_place;
 mod parse;
 mod parser;
-mod progress;
+mod pending;
 mod slot;
 mod source;
 mod states;

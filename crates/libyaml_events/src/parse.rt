@@ -20,8 +20,9 @@ ghost use Rattle.libyaml_grammar.specs.sentences.Nesting.{NestsSoFar};
 ghost use Rattle.libyaml_events.specs.sources.Parsing.{CarriesOn, FailsBy};
 ghost use Rattle.libyaml_events.specs.sources.RunToCome.{RunToCome, UnlessBroken};
 
+use crate::next::Next;
 use crate::parser::yaml_parser_t;
-use crate::progress::{Next, Pending};
+use crate::pending::Pending;
 use crate::source::yaml_token_source_t;
 use libyaml_types::{ZERO_MARK, unnamed_yaml_event_t_data, yaml_error_type_t, yaml_event_t};
 

@@ -3,7 +3,8 @@ ghost use Rattle.std.specs.Prelude.{◌≡◌, IfSome};
 ghost use Rattle.libyaml_types.specs.Numbers.{parser_state_number};
 ghost use Rattle.libyaml_events.specs.machine.State.{IsBackByte};
 
-use crate::progress::{NodePlace, Pending};
+use crate::node_place::NodePlace;
+use crate::pending::Pending;
 use libyaml_types::{unnamed_yaml_token_t_data, yaml_mark_t, yaml_parser_state_t, yaml_token_t};
 
 /// A place where a node may be nothing (docs/DEFINITIONS.md, "Where a node may be nothing").

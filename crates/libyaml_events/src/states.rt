@@ -1,13 +1,14 @@
 //! The states: each takes a token, and gives an event, wants a further token, or faults.
 ghost use Rattle.std.specs.Prelude.{◌≡◌, Ok, Err, OnOk, OnErr, true, is_some};
 ghost use Rattle.libyaml_grammar.specs.cuts.FaultTexts.{memory_fault};
+ghost use Rattle.libyaml_grammar.specs.sentences.Events.{event};
 ghost use Rattle.libyaml_events.specs.machine.Config.{with_config, with_fault, at, pushed_mark};
 ghost use Rattle.libyaml_events.specs.machine.Machine.{step, at_state, process_empty_scalar};
 ghost use Rattle.libyaml_events.specs.machine.Machine.{close_collection};
 ghost use Rattle.libyaml_events.specs.machine.Steps.{Steps};
 ghost use Rattle.libyaml_events.specs.machine.Slots.{at_slot, state_behind, entered};
 ghost use Rattle.libyaml_events.specs.machine.Answers.{answer, wanted};
-ghost use Rattle.libyaml_events.specs.declared.progress.Progress.TheVariants.{Given};
+ghost use Rattle.libyaml_events.specs.declared.next.Progress.TheVariants.{Given};
 ghost use Rattle.libyaml_events.specs.machine.Growth.{enters, may_grow, may_grow_at};
 
 mod block;
@@ -15,14 +16,33 @@ mod documents;
 mod flow;
 mod nodes;
 
+use crate::next::Next;
+use crate::node_place::NodePlace;
 use crate::parser::yaml_parser_t;
-use crate::progress::{Next, NodePlace, Pending, give};
+use crate::pending::Pending;
 use crate::slot::Slot;
 use crate::states::nodes::plain_scalar;
 use libyaml_types::{
     Text, unnamed_yaml_event_t_data, yaml_error_type_t, yaml_event_t, yaml_mark_t,
     yaml_parser_state_t, yaml_token_t,
 };
+
+/// Puts an event with these marks into `out`.
+#[inline(always)]
+fn give(
+    out: &mut yaml_event_t,
+    content: unnamed_yaml_event_t_data,
+    start_mark: yaml_mark_t,
+    end_mark: yaml_mark_t,
+)
+    ensures { out.new ≡ event content start_mark end_mark }
+{
+    *out = yaml_event_t {
+        content,
+        start_mark,
+        end_mark,
+    };
+}
 
 impl<S> yaml_parser_t<S> {
     /// One token, and what it is wanted for.

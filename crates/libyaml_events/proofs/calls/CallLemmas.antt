@@ -13,9 +13,9 @@ use Rattle.libyaml_events.specs.machine.Machine.{step}
 use Rattle.libyaml_events.specs.machine.Steps.{Steps}
 use Rattle.libyaml_events.specs.sources.Calls.{EventOrError, Gave, held, Fetches, FetchesFrom, Then, Calls, RefusedAt, Refused, Parses, ParsesIf, AreOfSource}
 use Rattle.libyaml_events.specs.sources.Calls.{Call}
-use Rattle.libyaml_events.specs.declared.progress.Want.{Want}
-use Rattle.libyaml_events.specs.declared.progress.Want.TheVariants.{AtState}
-use Rattle.libyaml_events.specs.declared.progress.Progress.TheVariants.{Given, Wants}
+use Rattle.libyaml_events.specs.declared.next.Want.{Want}
+use Rattle.libyaml_events.specs.declared.next.Want.TheVariants.{AtState}
+use Rattle.libyaml_events.specs.declared.next.Progress.TheVariants.{Given, Wants}
 
 Gave-snoc : {S : Type 0} (gives : S → Answer → S → Type 0) (s : S) (asked : List Answer) (m : S) (a : Answer) (t : S) → Gave gives s asked m → gives m a t
     → Gave gives s (asked ++ a ∷ []) t

@@ -35,17 +35,17 @@ use Rattle.libyaml_events.specs.machine.Machine.{tag_behind, content_behind, con
 use Rattle.libyaml_events.specs.machine.Machine.{parse_implicit_document_start, parse_document_start, behind_properties, at_state, machine, resolve}
 use Rattle.libyaml_events.specs.sources.Calls.{EventOrError, Calls, Then}
 use Rattle.libyaml_events.specs.sources.History.{Ran, begins, goes_on}
-use Rattle.libyaml_events.specs.declared.progress.DirectivesRead.{DirectivesRead}
-use Rattle.libyaml_events.specs.declared.progress.NodeHead.{NodeHead}
-use Rattle.libyaml_events.specs.declared.progress.NodePlace.{NodePlace}
-use Rattle.libyaml_events.specs.declared.progress.NodePlace.TheVariants.{Block, BlockOrIndentlessSequence, Flow}
-use Rattle.libyaml_events.specs.declared.progress.PropertiesRead.{PropertiesRead}
-use Rattle.libyaml_events.specs.declared.progress.TagRead.{TagRead}
-use Rattle.libyaml_events.specs.declared.progress.Want.{Want}
-use Rattle.libyaml_events.specs.declared.progress.Want.TheVariants.{AtState, BehindDirective, BehindProperties, BehindBlockEntry, BehindIndentlessEntry}
-use Rattle.libyaml_events.specs.declared.progress.Want.TheVariants.{BehindKey, BehindValue, BehindFlowSequenceEntry, BehindFlowSequenceValue}
-use Rattle.libyaml_events.specs.declared.progress.Want.TheVariants.{BehindFlowMappingEntry, BehindFlowMappingKey, BehindFlowMappingValue}
-use Rattle.libyaml_events.specs.declared.progress.Progress.TheVariants.{Given, Wants}
+use Rattle.libyaml_events.specs.declared.pending.DirectivesRead.{DirectivesRead}
+use Rattle.libyaml_events.specs.declared.node_head.NodeHead.{NodeHead}
+use Rattle.libyaml_events.specs.declared.node_place.NodePlace.{NodePlace}
+use Rattle.libyaml_events.specs.declared.node_place.NodePlace.TheVariants.{Block, BlockOrIndentlessSequence, Flow}
+use Rattle.libyaml_events.specs.declared.node_head.PropertiesRead.{PropertiesRead}
+use Rattle.libyaml_events.specs.declared.node_head.TagRead.{TagRead}
+use Rattle.libyaml_events.specs.declared.next.Want.{Want}
+use Rattle.libyaml_events.specs.declared.next.Want.TheVariants.{AtState, BehindDirective, BehindProperties, BehindBlockEntry, BehindIndentlessEntry}
+use Rattle.libyaml_events.specs.declared.next.Want.TheVariants.{BehindKey, BehindValue, BehindFlowSequenceEntry, BehindFlowSequenceValue}
+use Rattle.libyaml_events.specs.declared.next.Want.TheVariants.{BehindFlowMappingEntry, BehindFlowMappingKey, BehindFlowMappingValue}
+use Rattle.libyaml_events.specs.declared.next.Progress.TheVariants.{Given, Wants}
 
 -- whether the state is amid a collection whose start is on the stack
 abbrev pub owns : yaml_parser_state_t → Bool

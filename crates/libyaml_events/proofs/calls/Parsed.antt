@@ -19,8 +19,8 @@ use Rattle.libyaml_events.specs.sources.History.{goes_on, History, answers}
 use Rattle.libyaml_events.specs.sources.Needs.{EachNeeded}
 use Rattle.libyaml_events.specs.sources.Parsing as pub_
 use Rattle.libyaml_events.specs.sources.Parsing.{CarriesOn, HasFailed, StopsShort, behind_beginning, Cause, of_memory, of_grammar, of_source, FailsBy}
-use Rattle.libyaml_events.specs.declared.progress.Want.{Want}
-use Rattle.libyaml_events.specs.declared.progress.Want.TheVariants.{AtState}
+use Rattle.libyaml_events.specs.declared.next.Want.{Want}
+use Rattle.libyaml_events.specs.declared.next.Want.TheVariants.{AtState}
 use Rattle.libyaml_grammar.proofs.trees.Completion.{reached_begins}
 use Rattle.libyaml_grammar.proofs.trees.Fitting.{stops_fits}
 use Rattle.libyaml_grammar.proofs.runs.Fronts.{front}

@@ -39,17 +39,17 @@ use Rattle.libyaml_events.specs.sources.Calls.{EventOrError, Calls, CallsUnlessR
 use Rattle.libyaml_events.specs.sources.History.{History, Ran}
 use Rattle.libyaml_events.specs.parsers.Pops.{raised, PopsNothingBelow}
 use Rattle.libyaml_events.specs.parsers.Stages.{Stage, stage_of}
-use Rattle.libyaml_events.specs.declared.progress.DirectivesRead.{DirectivesRead}
-use Rattle.libyaml_events.specs.declared.progress.NodeHead.{NodeHead}
-use Rattle.libyaml_events.specs.declared.progress.NodePlace.{NodePlace}
-use Rattle.libyaml_events.specs.declared.progress.NodePlace.TheVariants.{Block, BlockOrIndentlessSequence, Flow}
-use Rattle.libyaml_events.specs.declared.progress.PropertiesRead.{PropertiesRead}
-use Rattle.libyaml_events.specs.declared.progress.TagRead.{TagRead}
-use Rattle.libyaml_events.specs.declared.progress.Want.{Want}
-use Rattle.libyaml_events.specs.declared.progress.Want.TheVariants.{AtState, BehindDirective, BehindProperties, BehindBlockEntry, BehindIndentlessEntry}
-use Rattle.libyaml_events.specs.declared.progress.Want.TheVariants.{BehindKey, BehindValue, BehindFlowSequenceEntry, BehindFlowSequenceValue}
-use Rattle.libyaml_events.specs.declared.progress.Want.TheVariants.{BehindFlowMappingEntry, BehindFlowMappingKey, BehindFlowMappingValue}
-use Rattle.libyaml_events.specs.declared.progress.Progress.TheVariants.{Given, Wants}
+use Rattle.libyaml_events.specs.declared.pending.DirectivesRead.{DirectivesRead}
+use Rattle.libyaml_events.specs.declared.node_head.NodeHead.{NodeHead}
+use Rattle.libyaml_events.specs.declared.node_place.NodePlace.{NodePlace}
+use Rattle.libyaml_events.specs.declared.node_place.NodePlace.TheVariants.{Block, BlockOrIndentlessSequence, Flow}
+use Rattle.libyaml_events.specs.declared.node_head.PropertiesRead.{PropertiesRead}
+use Rattle.libyaml_events.specs.declared.node_head.TagRead.{TagRead}
+use Rattle.libyaml_events.specs.declared.next.Want.{Want}
+use Rattle.libyaml_events.specs.declared.next.Want.TheVariants.{AtState, BehindDirective, BehindProperties, BehindBlockEntry, BehindIndentlessEntry}
+use Rattle.libyaml_events.specs.declared.next.Want.TheVariants.{BehindKey, BehindValue, BehindFlowSequenceEntry, BehindFlowSequenceValue}
+use Rattle.libyaml_events.specs.declared.next.Want.TheVariants.{BehindFlowMappingEntry, BehindFlowMappingKey, BehindFlowMappingValue}
+use Rattle.libyaml_events.specs.declared.next.Progress.TheVariants.{Given, Wants}
 use Rattle.libyaml_events.proofs.calls.Staging.{IsStack, NodeDue, Good, GoodAt, GoodOn, good_on}
 use Rattle.libyaml_events.proofs.calls.Staged.{ran_staged, retake}
 use Rattle.libyaml_events.proofs.calls.Marked.{OneMore, MarksFit, IsMarked, MarkedOn, marked_on, ran_marked}

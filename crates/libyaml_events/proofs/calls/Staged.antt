@@ -7,7 +7,7 @@ use Rattle.std.specs.FinMap.{get}
 use Rattle.libyaml_types.specs.declared.directive.yaml_tag_directive_t.{yaml_tag_directive_t}
 use Rattle.libyaml_types.specs.declared.directive.yaml_version_directive_t.{yaml_version_directive_t}
 use Rattle.libyaml_grammar.specs.sentences.Order.{is_version}
-use Rattle.libyaml_events.specs.declared.progress.DirectivesRead.{DirectivesRead}
+use Rattle.libyaml_events.specs.declared.pending.DirectivesRead.{DirectivesRead}
 use Rattle.libyaml_events.specs.machine.Machine.{Progressed, step, first_version, version_directive, tag_directive, explicit_document, further_document_end}
 use Rattle.libyaml_events.specs.machine.Machine.{parse_implicit_document_start, parse_document_start, no_directives, parse_stream_start, parse_document_end}
 use Rattle.libyaml_events.specs.machine.Machine.{at_state}
@@ -45,9 +45,9 @@ use Rattle.libyaml_events.proofs.machine.Link.{config_of, member_state, state_pl
 use Rattle.libyaml_grammar.proofs.runs.Orders.{reads_to}
 use Rattle.libyaml_grammar.proofs.trees.Splits.{position_splits}
 use Rattle.libyaml_events.proofs.machine.Stand.{Links, amid_token, at_position}
-use Rattle.libyaml_events.specs.declared.progress.Want.{Want}
-use Rattle.libyaml_events.specs.declared.progress.Want.TheVariants.{AtState, BehindDirective}
-use Rattle.libyaml_events.specs.declared.progress.Progress.TheVariants.{Given, Wants}
+use Rattle.libyaml_events.specs.declared.next.Want.{Want}
+use Rattle.libyaml_events.specs.declared.next.Want.TheVariants.{AtState, BehindDirective}
+use Rattle.libyaml_events.specs.declared.next.Progress.TheVariants.{Given, Wants}
 use Rattle.libyaml_types.specs.declared.enums.yaml_parser_state_t.TheVariants.{YAML_PARSE_BLOCK_MAPPING_KEY_STATE, YAML_PARSE_BLOCK_MAPPING_VALUE_STATE}
 use Rattle.libyaml_types.specs.declared.enums.yaml_parser_state_t.TheVariants.{YAML_PARSE_BLOCK_NODE_OR_INDENTLESS_SEQUENCE_STATE}
 use Rattle.libyaml_types.specs.declared.enums.yaml_parser_state_t.TheVariants.{YAML_PARSE_BLOCK_NODE_STATE, YAML_PARSE_BLOCK_SEQUENCE_ENTRY_STATE}

@@ -12,17 +12,17 @@ use Rattle.libyaml_grammar.specs.sentences.Tokens.{Alias, Anchor, BlockEnd, Bloc
 use Rattle.libyaml_grammar.specs.sentences.Tokens.{DocumentStart, FlowEntry, FlowMappingEnd, FlowMappingStart, FlowSequenceEnd, FlowSequenceStart, Key, Mark}
 use Rattle.libyaml_grammar.specs.sentences.Tokens.{Scalar, StreamEnd, StreamStart, Tag, TagDirective, Token, Value, VersionDirective}
 use Rattle.libyaml_events.specs.machine.Config.{Config, below, pushed, top}
-use Rattle.libyaml_events.specs.declared.progress.Want.{Want}
-use Rattle.libyaml_events.specs.declared.progress.NodePlace.{NodePlace}
-use Rattle.libyaml_events.specs.declared.progress.PropertiesRead.{PropertiesRead}
-use Rattle.libyaml_events.specs.declared.progress.TagRead.{TagRead}
-use Rattle.libyaml_events.specs.declared.progress.DirectivesRead.{DirectivesRead}
-use Rattle.libyaml_events.specs.declared.progress.NodeHead.{NodeHead}
-use Rattle.libyaml_events.specs.declared.progress.Want.TheVariants.{AtState, BehindDirective, BehindProperties, BehindBlockEntry, BehindIndentlessEntry}
-use Rattle.libyaml_events.specs.declared.progress.Want.TheVariants.{BehindKey, BehindValue, BehindFlowSequenceEntry, BehindFlowSequenceValue}
-use Rattle.libyaml_events.specs.declared.progress.Want.TheVariants.{BehindFlowMappingEntry, BehindFlowMappingKey, BehindFlowMappingValue}
-use Rattle.libyaml_events.specs.declared.progress.Progress.TheVariants.{Given, Wants}
-use Rattle.libyaml_events.specs.declared.progress.NodePlace.TheVariants.{Block, BlockOrIndentlessSequence, Flow}
+use Rattle.libyaml_events.specs.declared.next.Want.{Want}
+use Rattle.libyaml_events.specs.declared.node_place.NodePlace.{NodePlace}
+use Rattle.libyaml_events.specs.declared.node_head.PropertiesRead.{PropertiesRead}
+use Rattle.libyaml_events.specs.declared.node_head.TagRead.{TagRead}
+use Rattle.libyaml_events.specs.declared.pending.DirectivesRead.{DirectivesRead}
+use Rattle.libyaml_events.specs.declared.node_head.NodeHead.{NodeHead}
+use Rattle.libyaml_events.specs.declared.next.Want.TheVariants.{AtState, BehindDirective, BehindProperties, BehindBlockEntry, BehindIndentlessEntry}
+use Rattle.libyaml_events.specs.declared.next.Want.TheVariants.{BehindKey, BehindValue, BehindFlowSequenceEntry, BehindFlowSequenceValue}
+use Rattle.libyaml_events.specs.declared.next.Want.TheVariants.{BehindFlowMappingEntry, BehindFlowMappingKey, BehindFlowMappingValue}
+use Rattle.libyaml_events.specs.declared.next.Progress.TheVariants.{Given, Wants}
+use Rattle.libyaml_events.specs.declared.node_place.NodePlace.TheVariants.{Block, BlockOrIndentlessSequence, Flow}
 use Rattle.libyaml_types.specs.declared.enums.yaml_parser_state_t.TheVariants.{YAML_PARSE_BLOCK_MAPPING_FIRST_KEY_STATE, YAML_PARSE_BLOCK_MAPPING_KEY_STATE}
 use Rattle.libyaml_types.specs.declared.enums.yaml_parser_state_t.TheVariants.{YAML_PARSE_BLOCK_MAPPING_VALUE_STATE}
 use Rattle.libyaml_types.specs.declared.enums.yaml_parser_state_t.TheVariants.{YAML_PARSE_BLOCK_NODE_OR_INDENTLESS_SEQUENCE_STATE}

@@ -8,9 +8,9 @@ use Rattle.libyaml_types.specs.declared.token.unnamed_yaml_token_t_data_tag.{unn
 use Rattle.libyaml_types.specs.declared.token.unnamed_yaml_token_t_data.TheVariants as tok
 use Rattle.libyaml_events.specs.machine.Config.{Config}
 use Rattle.libyaml_events.specs.machine.Machine.{anchor_behind, tag_behind, content_behind, behind_properties}
-use Rattle.libyaml_events.specs.declared.progress.NodePlace.{NodePlace}
-use Rattle.libyaml_events.specs.declared.progress.TagRead.{TagRead}
-use Rattle.libyaml_events.specs.declared.progress.PropertiesRead.{PropertiesRead}
+use Rattle.libyaml_events.specs.declared.node_place.NodePlace.{NodePlace}
+use Rattle.libyaml_events.specs.declared.node_head.TagRead.{TagRead}
+use Rattle.libyaml_events.specs.declared.node_head.PropertiesRead.{PropertiesRead}
 
 module _ (p : NodePlace) (r : PropertiesRead) (c : Config) (t : yaml_token_t) where
   second_anchor : (anchor : Option (List ℕ)) (a : unnamed_yaml_token_t_data_anchor) → is_some anchor ≡ true

@@ -31,9 +31,9 @@ use Rattle.libyaml_events.proofs.machine.Declared.{resolve_is, tag_after, versio
 use Rattle.libyaml_events.proofs.machine.Link.{End, after, config, config_of, emit, ends, free_config, handles_of, headed_config, kind, marks_block}
 use Rattle.libyaml_events.proofs.machine.Link.{marks_place, node_config, read_of, spends, states_block, states_place, step_ends, tag_read, waits, want_of}
 use Rattle.libyaml_grammar.proofs.trees.StepsMeet.{IsDue, IsEntry, IsMet}
-use Rattle.libyaml_events.specs.declared.progress.NodeHead.{NodeHead}
-use Rattle.libyaml_events.specs.declared.progress.Want.TheVariants.{AtState}
-use Rattle.libyaml_events.specs.declared.progress.Progress.TheVariants.{Given}
+use Rattle.libyaml_events.specs.declared.node_head.NodeHead.{NodeHead}
+use Rattle.libyaml_events.specs.declared.next.Want.TheVariants.{AtState}
+use Rattle.libyaml_events.specs.declared.next.Progress.TheVariants.{Given}
 use Rattle.libyaml_types.specs.declared.enums.yaml_parser_state_t.TheVariants.{YAML_PARSE_BLOCK_MAPPING_KEY_STATE, YAML_PARSE_BLOCK_SEQUENCE_ENTRY_STATE}
 use Rattle.libyaml_types.specs.declared.enums.yaml_parser_state_t.TheVariants.{YAML_PARSE_DOCUMENT_START_STATE, YAML_PARSE_FLOW_MAPPING_KEY_STATE}
 use Rattle.libyaml_types.specs.declared.enums.yaml_parser_state_t.TheVariants.{YAML_PARSE_FLOW_SEQUENCE_ENTRY_STATE}

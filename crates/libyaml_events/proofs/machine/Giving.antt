@@ -15,9 +15,9 @@ use Rattle.libyaml_grammar.proofs.Lists.{assoc}
 use Rattle.libyaml_grammar.proofs.runs.Orders.{reads_to}
 use Rattle.libyaml_grammar.proofs.trees.Run.{given_append, given_shown}
 use Rattle.libyaml_grammar.proofs.trees.StepsMeet.{IsMet, Meets, step_met}
-use Rattle.libyaml_events.specs.declared.progress.Want.{Want}
-use Rattle.libyaml_events.specs.declared.progress.Want.TheVariants.{AtState}
-use Rattle.libyaml_events.specs.declared.progress.Progress.TheVariants.{Given, Wants}
+use Rattle.libyaml_events.specs.declared.next.Want.{Want}
+use Rattle.libyaml_events.specs.declared.next.Want.TheVariants.{AtState}
+use Rattle.libyaml_events.specs.declared.next.Progress.TheVariants.{Given, Wants}
 
 -- events are given before those that come behind
 after_split : (n : ℕ) (o : Progressed) (r : List Event)

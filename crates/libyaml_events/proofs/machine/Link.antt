@@ -18,16 +18,16 @@ use Rattle.libyaml_grammar.proofs.positions.Positions.{in_sequence, unopened}
 use Rattle.libyaml_grammar.proofs.positions.Reading.{Step, bad, goes, keeps_order, over, pending, step}
 use Rattle.libyaml_events.specs.machine.Config.{Config, Handles, no_handles, taken}
 use Rattle.libyaml_events.specs.machine.Machine.{Progressed, machine}
-use Rattle.libyaml_events.specs.declared.progress.Want.{Want}
-use Rattle.libyaml_events.specs.declared.progress.NodePlace.{NodePlace}
-use Rattle.libyaml_events.specs.declared.progress.PropertiesRead.{PropertiesRead}
-use Rattle.libyaml_events.specs.declared.progress.TagRead.{TagRead}
-use Rattle.libyaml_events.specs.declared.progress.DirectivesRead.{DirectivesRead}
-use Rattle.libyaml_events.specs.declared.progress.Want.TheVariants.{AtState, BehindDirective, BehindProperties, BehindBlockEntry, BehindIndentlessEntry}
-use Rattle.libyaml_events.specs.declared.progress.Want.TheVariants.{BehindKey, BehindValue, BehindFlowSequenceEntry, BehindFlowSequenceValue}
-use Rattle.libyaml_events.specs.declared.progress.Want.TheVariants.{BehindFlowMappingEntry, BehindFlowMappingKey, BehindFlowMappingValue}
-use Rattle.libyaml_events.specs.declared.progress.Progress.TheVariants.{Given, Wants}
-use Rattle.libyaml_events.specs.declared.progress.NodePlace.TheVariants.{Block, BlockOrIndentlessSequence, Flow}
+use Rattle.libyaml_events.specs.declared.next.Want.{Want}
+use Rattle.libyaml_events.specs.declared.node_place.NodePlace.{NodePlace}
+use Rattle.libyaml_events.specs.declared.node_head.PropertiesRead.{PropertiesRead}
+use Rattle.libyaml_events.specs.declared.node_head.TagRead.{TagRead}
+use Rattle.libyaml_events.specs.declared.pending.DirectivesRead.{DirectivesRead}
+use Rattle.libyaml_events.specs.declared.next.Want.TheVariants.{AtState, BehindDirective, BehindProperties, BehindBlockEntry, BehindIndentlessEntry}
+use Rattle.libyaml_events.specs.declared.next.Want.TheVariants.{BehindKey, BehindValue, BehindFlowSequenceEntry, BehindFlowSequenceValue}
+use Rattle.libyaml_events.specs.declared.next.Want.TheVariants.{BehindFlowMappingEntry, BehindFlowMappingKey, BehindFlowMappingValue}
+use Rattle.libyaml_events.specs.declared.next.Progress.TheVariants.{Given, Wants}
+use Rattle.libyaml_events.specs.declared.node_place.NodePlace.TheVariants.{Block, BlockOrIndentlessSequence, Flow}
 use Rattle.libyaml_types.specs.declared.enums.yaml_parser_state_t.TheVariants.{YAML_PARSE_BLOCK_MAPPING_KEY_STATE, YAML_PARSE_BLOCK_MAPPING_VALUE_STATE}
 use Rattle.libyaml_types.specs.declared.enums.yaml_parser_state_t.TheVariants.{YAML_PARSE_BLOCK_NODE_STATE, YAML_PARSE_BLOCK_SEQUENCE_ENTRY_STATE}
 use Rattle.libyaml_types.specs.declared.enums.yaml_parser_state_t.TheVariants.{YAML_PARSE_DOCUMENT_CONTENT_STATE, YAML_PARSE_DOCUMENT_END_STATE}

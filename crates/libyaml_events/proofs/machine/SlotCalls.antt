@@ -8,10 +8,10 @@ use Rattle.libyaml_events.specs.machine.Config.{Config, Parser}
 use Rattle.libyaml_events.specs.machine.Machine.{Progressed, step}
 use Rattle.libyaml_events.specs.machine.Steps.{Steps}
 use Rattle.libyaml_events.specs.machine.Answers.{wanted, answer}
-use Rattle.libyaml_events.specs.declared.progress.Next.{Next}
-use Rattle.libyaml_events.specs.declared.progress.Next.TheVariants as next
-use Rattle.libyaml_events.specs.declared.progress.Pending.{Pending}
-use Rattle.libyaml_events.specs.declared.progress.Want.{Want}
+use Rattle.libyaml_events.specs.declared.next.Next.{Next}
+use Rattle.libyaml_events.specs.declared.next.Next.TheVariants as next
+use Rattle.libyaml_events.specs.declared.pending.Pending.{Pending}
+use Rattle.libyaml_events.specs.declared.next.Want.{Want}
 use Rattle.libyaml_events.proofs.calls.CallLemmas.{Reading, InHand, wants_more}
 
 pub wants_next : {S : Type 0} (gives : S → Answer → S

@@ -9,9 +9,9 @@ use Rattle.libyaml_types.specs.declared.token.unnamed_yaml_token_t_data.TheVaria
 use Rattle.libyaml_events.specs.machine.Config.{Config, Parser, with_config}
 use Rattle.libyaml_events.specs.machine.Machine.{Progressed, parse_node}
 use Rattle.libyaml_events.specs.machine.Steps.{Steps}
-use Rattle.libyaml_events.specs.declared.progress.NodePlace.{NodePlace}
-use Rattle.libyaml_events.specs.declared.progress.Progress.{Progress}
-use Rattle.libyaml_events.specs.declared.progress.Progress.TheVariants.{Given, Wants}
+use Rattle.libyaml_events.specs.declared.node_place.NodePlace.{NodePlace}
+use Rattle.libyaml_events.specs.declared.next.Progress.{Progress}
+use Rattle.libyaml_events.specs.declared.next.Progress.TheVariants.{Given, Wants}
 use Rattle.libyaml_events.specs.machine.Slots.{is_nothing_before, state_behind, entered, place, at_slot}
 use Rattle.libyaml_events.specs.declared.slot.Slot.{Slot}
 use Rattle.libyaml_events.specs.declared.slot.Slot.TheVariants.{BlockEntry, IndentlessEntry, BlockKey, BlockValue, Document, PairKey, PairValue, FlowKey}

@@ -16,12 +16,12 @@ use Rattle.libyaml_events.specs.machine.Config.{Config, Handles}
 use Rattle.libyaml_events.specs.machine.Machine.{or_default}
 use Rattle.libyaml_grammar.specs.sentences.Order.{negated}
 use Rattle.libyaml_events.specs.machine.Slots.{is_nothing_before}
-use Rattle.libyaml_events.specs.declared.progress.PropertiesRead.{PropertiesRead}
-use Rattle.libyaml_events.specs.declared.progress.TagRead.{TagRead}
-use Rattle.libyaml_events.specs.declared.progress.Want.{Want}
-use Rattle.libyaml_events.specs.declared.progress.Want.TheVariants.{AtState, BehindDirective, BehindProperties, BehindBlockEntry, BehindIndentlessEntry}
-use Rattle.libyaml_events.specs.declared.progress.Want.TheVariants.{BehindKey, BehindValue, BehindFlowSequenceEntry, BehindFlowSequenceValue}
-use Rattle.libyaml_events.specs.declared.progress.Want.TheVariants.{BehindFlowMappingEntry, BehindFlowMappingKey, BehindFlowMappingValue}
+use Rattle.libyaml_events.specs.declared.node_head.PropertiesRead.{PropertiesRead}
+use Rattle.libyaml_events.specs.declared.node_head.TagRead.{TagRead}
+use Rattle.libyaml_events.specs.declared.next.Want.{Want}
+use Rattle.libyaml_events.specs.declared.next.Want.TheVariants.{AtState, BehindDirective, BehindProperties, BehindBlockEntry, BehindIndentlessEntry}
+use Rattle.libyaml_events.specs.declared.next.Want.TheVariants.{BehindKey, BehindValue, BehindFlowSequenceEntry, BehindFlowSequenceValue}
+use Rattle.libyaml_events.specs.declared.next.Want.TheVariants.{BehindFlowMappingEntry, BehindFlowMappingKey, BehindFlowMappingValue}
 use Rattle.libyaml_events.specs.declared.slot.Slot.{Slot}
 use Rattle.libyaml_events.specs.declared.slot.Slot.TheVariants.{BlockEntry, IndentlessEntry, BlockKey, BlockValue, Document, PairKey, PairValue, FlowKey}
 use Rattle.libyaml_events.specs.declared.slot.Slot.TheVariants.{FlowValue}

@@ -16,8 +16,8 @@ use Rattle.libyaml_events.specs.machine.Config.{Config, pushed}
 use Rattle.libyaml_events.specs.machine.Machine.{Progressed, behind_block_entry, behind_indentless_entry, behind_block_indicator, parse_document_content}
 use Rattle.libyaml_events.specs.machine.Machine.{parse_flow_sequence_entry_mapping_key, behind_flow_sequence_value, behind_flow_mapping_key}
 use Rattle.libyaml_events.specs.machine.Machine.{behind_flow_mapping_value}
-use Rattle.libyaml_events.specs.declared.progress.NodePlace.{NodePlace}
-use Rattle.libyaml_events.specs.declared.progress.NodePlace.TheVariants.{Block, BlockOrIndentlessSequence, Flow}
+use Rattle.libyaml_events.specs.declared.node_place.NodePlace.{NodePlace}
+use Rattle.libyaml_events.specs.declared.node_place.NodePlace.TheVariants.{Block, BlockOrIndentlessSequence, Flow}
 use Rattle.libyaml_events.specs.declared.slot.Slot.{Slot}
 use Rattle.libyaml_events.specs.declared.slot.Slot.TheVariants.{BlockEntry, IndentlessEntry, BlockKey, BlockValue, Document, PairKey, PairValue, FlowKey}
 use Rattle.libyaml_events.specs.declared.slot.Slot.TheVariants.{FlowValue}

@@ -9,9 +9,9 @@ use Rattle.libyaml_grammar.specs.cuts.FaultTexts.{memory_fault, tag_fault}
 use Rattle.libyaml_events.specs.machine.Config.{Config, Parser, with_config, with_fault}
 use Rattle.libyaml_events.specs.machine.Growth.{has_prefix}
 use Rattle.libyaml_events.specs.machine.Machine.{Progressed, resolve}
-use Rattle.libyaml_events.specs.declared.progress.TagRead.{TagRead}
-use Rattle.libyaml_events.specs.declared.progress.Progress.{Progress}
-use Rattle.libyaml_events.specs.declared.progress.Progress.TheVariants.{Given, Wants}
+use Rattle.libyaml_events.specs.declared.node_head.TagRead.{TagRead}
+use Rattle.libyaml_events.specs.declared.next.Progress.{Progress}
+use Rattle.libyaml_events.specs.declared.next.Progress.TheVariants.{Given, Wants}
 
 -- the machine's fault, or else a growth was refused, which is kept by its error alone
 abbrev pub FailsAs : Config → Progressed → yaml_error_type_t → Type 0

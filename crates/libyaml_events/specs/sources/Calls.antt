@@ -10,9 +10,9 @@ use Rattle.libyaml_grammar.specs.runs.Errors.{IsSourceError}
 use Rattle.libyaml_events.specs.machine.Config.{Config, Parser, with_config, with_fault, taken, ended_or_failed}
 use Rattle.libyaml_events.specs.machine.Growth.{may_grow}
 use Rattle.libyaml_events.specs.machine.Machine.{Progressed, step}
-use Rattle.libyaml_events.specs.declared.progress.Want.{Want}
-use Rattle.libyaml_events.specs.declared.progress.Want.TheVariants.{AtState}
-use Rattle.libyaml_events.specs.declared.progress.Progress.TheVariants.{Given, Wants}
+use Rattle.libyaml_events.specs.declared.next.Want.{Want}
+use Rattle.libyaml_events.specs.declared.next.Want.TheVariants.{AtState}
+use Rattle.libyaml_events.specs.declared.next.Progress.TheVariants.{Given, Wants}
 
 -- what a call of the parser answers
 abbrev pub EventOrError : Type 0

@@ -7,8 +7,8 @@ ghost use Rattle.libyaml_events.specs.machine.Config.{with_config, with_fault, d
 ghost use Rattle.libyaml_events.specs.machine.Machine.{undeclared_prefix, or_default};
 ghost use Rattle.libyaml_events.specs.machine.Steps.{Resolves};
 
+use crate::node_head::TagRead;
 use crate::parser::yaml_parser_t;
-use crate::progress::TagRead;
 use libyaml_types::{Text, yaml_error_type_t, yaml_mark_t};
 use std::alloc::{AllocError, Global};
 use std::collections::BTreeMap;

@@ -14,8 +14,10 @@ ghost use Rattle.libyaml_events.specs.machine.Machine.{behind_block_indicator};
 ghost use Rattle.libyaml_events.specs.machine.Steps.{Steps};
 ghost use Rattle.libyaml_events.specs.machine.Answers.{answer};
 
+use crate::next::Next;
 use crate::parser::yaml_parser_t;
-use crate::progress::{Next, Pending, give};
+use crate::pending::Pending;
+use crate::states::give;
 use libyaml_types::{
     unnamed_yaml_event_t_data, unnamed_yaml_token_t_data, yaml_error_type_t, yaml_event_t,
     yaml_mark_t, yaml_parser_state_t, yaml_token_t,

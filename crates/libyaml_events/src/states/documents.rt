@@ -12,11 +12,13 @@ ghost use Rattle.libyaml_events.specs.machine.Machine.{parse_document_end};
 ghost use Rattle.libyaml_events.specs.machine.Growth.{grows_at_directive, grows_at_document};
 ghost use Rattle.libyaml_events.specs.machine.Steps.{Steps};
 ghost use Rattle.libyaml_events.specs.machine.Answers.{answer};
-ghost use Rattle.libyaml_events.specs.declared.progress.Progress.TheVariants.{Given};
+ghost use Rattle.libyaml_events.specs.declared.next.Progress.TheVariants.{Given};
 ghost use Rattle.std.specs.FinMap.{get};
 
+use crate::next::Next;
 use crate::parser::yaml_parser_t;
-use crate::progress::{DirectivesRead, Next, Pending, give};
+use crate::pending::{DirectivesRead, Pending};
+use crate::states::give;
 use libyaml_types::{
     TagDirectives, unnamed_yaml_event_t_data, unnamed_yaml_event_t_data_document_end,
     unnamed_yaml_event_t_data_document_start, unnamed_yaml_event_t_data_stream_start,

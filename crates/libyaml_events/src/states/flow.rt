@@ -17,10 +17,13 @@ ghost use Rattle.libyaml_events.specs.machine.Machine.{parse_flow_mapping_empty_
 ghost use Rattle.libyaml_events.specs.machine.Growth.{enters_sequence_entry, enters_mapping_entry};
 ghost use Rattle.libyaml_events.specs.machine.Steps.{Steps};
 ghost use Rattle.libyaml_events.specs.machine.Answers.{answer};
-ghost use Rattle.libyaml_events.specs.declared.progress.Progress.TheVariants.{Given};
+ghost use Rattle.libyaml_events.specs.declared.next.Progress.TheVariants.{Given};
 
+use crate::next::Next;
+use crate::node_place::NodePlace;
 use crate::parser::yaml_parser_t;
-use crate::progress::{Next, NodePlace, Pending, give};
+use crate::pending::Pending;
+use crate::states::give;
 use crate::states::nodes::mapping_start;
 use libyaml_types::{
     unnamed_yaml_event_t_data, unnamed_yaml_token_t_data, yaml_error_type_t, yaml_event_t,

@@ -12,12 +12,16 @@ ghost use Rattle.libyaml_events.specs.machine.Machine.{parse_node};
 ghost use Rattle.libyaml_events.specs.machine.Growth.{joins, joins_before};
 ghost use Rattle.libyaml_events.specs.machine.Steps.{Steps};
 ghost use Rattle.libyaml_events.specs.machine.Answers.{answer, given};
-ghost use Rattle.libyaml_events.specs.declared.progress.Progress.TheVariants.{Given};
+ghost use Rattle.libyaml_events.specs.declared.next.Progress.TheVariants.{Given};
 ghost use Rattle.libyaml_events.specs.machine.Config.{with_config, with_fault};
 ghost use Rattle.libyaml_grammar.specs.cuts.FaultTexts.{content_fault};
 
+use crate::next::Next;
+use crate::node_head::{NodeHead, PropertiesRead, TagRead};
+use crate::node_place::NodePlace;
 use crate::parser::yaml_parser_t;
-use crate::progress::{Next, NodeHead, NodePlace, Pending, PropertiesRead, TagRead, give};
+use crate::pending::Pending;
+use crate::states::give;
 use libyaml_types::{
     Text, unnamed_yaml_event_t_data, unnamed_yaml_event_t_data_alias,
     unnamed_yaml_event_t_data_mapping_start, unnamed_yaml_event_t_data_scalar,

@@ -1,0 +1,49 @@
+//! What the parser has of a document or node amid a call.
+
+use crate::node_head::PropertiesRead;
+use crate::node_place::NodePlace;
+use libyaml_types::{TagDirectives, ZERO_MARK, yaml_mark_t, yaml_version_directive_t};
+use std::alloc::Global;
+
+/// The directives of a document, read so far.
+#[derive(Drop)]
+pub struct DirectivesRead {
+    /// The start of the first.
+    pub start_mark: yaml_mark_t,
+    pub version: Option<yaml_version_directive_t>,
+    /// In the order of their tokens.
+    pub tag_directives: TagDirectives,
+}
+
+/// What the parser has of a document or node, where a further token is wanted.
+#[derive(Drop)]
+pub struct Pending {
+    /// The end of the token behind which it is wanted.
+    pub mark: yaml_mark_t,
+    /// Where the node stands whose properties were read.
+    pub place: NodePlace,
+    pub properties: PropertiesRead,
+    pub directives: DirectivesRead,
+}
+
+impl Pending {
+    /// Nothing read.
+    #[inline(always)]
+    pub fn new(alloc: Global) -> Self {
+        Pending {
+            mark: ZERO_MARK,
+            place: NodePlace::Block,
+            properties: PropertiesRead {
+                anchor: None,
+                tag: None,
+                start_mark: ZERO_MARK,
+                end_mark: ZERO_MARK,
+            },
+            directives: DirectivesRead {
+                start_mark: ZERO_MARK,
+                version: None,
+                tag_directives: TagDirectives::new(alloc),
+            },
+        }
+    }
+}
