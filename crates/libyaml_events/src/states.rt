@@ -1,4 +1,8 @@
 //! The states: each takes a token, and gives an event, wants a further token, or faults.
+//!
+//! A function of libyaml's reads up to three tokens. Here each function takes one: the parser's
+//! state leads to it, or else what the token before wants (`Next`). The files below begin with
+//! their productions; the numbers beneath the tokens are the functions that take these.
 ghost use Rattle.std.specs.Prelude.{◌≡◌, Ok, Err, OnOk, OnErr, true, is_some};
 ghost use Rattle.libyaml_grammar.specs.cuts.FaultTexts.{memory_fault};
 ghost use Rattle.libyaml_grammar.specs.sentences.Events.{event};

@@ -1,4 +1,33 @@
-//! Block collections.
+//! Block collections, behind their start events (`open_collection`).
+//!
+//! ```text
+//! block_sequence ::= BLOCK-SEQUENCE-START (BLOCK-ENTRY block_node?)* BLOCK-END
+//!                    1                     2           3             2
+//!   1 parse_first_block_sequence_entry   YAML_PARSE_BLOCK_SEQUENCE_FIRST_ENTRY_STATE
+//!   2 parse_block_sequence_entry         YAML_PARSE_BLOCK_SEQUENCE_ENTRY_STATE
+//!   3 parse_slot(Slot::BlockEntry)       Next::BehindBlockEntry
+//!   libyaml: yaml_parser_parse_block_sequence_entry
+//!
+//! indentless_sequence ::= (BLOCK-ENTRY block_node?)+
+//!                          1           2
+//!   1 parse_indentless_sequence_entry    YAML_PARSE_INDENTLESS_SEQUENCE_ENTRY_STATE
+//!   2 parse_slot(Slot::IndentlessEntry)  Next::BehindIndentlessEntry
+//!   libyaml: yaml_parser_parse_indentless_sequence_entry
+//!   At any other token 1 ends the sequence, and the token stays.
+//!
+//! block_mapping ::= BLOCK-MAPPING-START ((KEY node?)? (VALUE node?)?)* BLOCK-END
+//!                   1                     2   3        4     5         2
+//! node ::= block_node | indentless_sequence
+//!   1 parse_first_block_mapping_key      YAML_PARSE_BLOCK_MAPPING_FIRST_KEY_STATE
+//!   2 parse_block_mapping_key            YAML_PARSE_BLOCK_MAPPING_KEY_STATE
+//!   3 parse_slot(Slot::BlockKey)         Next::BehindKey
+//!   libyaml: yaml_parser_parse_block_mapping_key
+//!   4 parse_block_mapping_value          YAML_PARSE_BLOCK_MAPPING_VALUE_STATE
+//!   5 parse_slot(Slot::BlockValue)       Next::BehindValue
+//!   libyaml: yaml_parser_parse_block_mapping_value
+//!   At a VALUE without KEY, 2 gives the empty key, and the token stays for 4.
+//!   At a token other than VALUE, 4 gives the empty value, and the token stays for 2.
+//! ```
 ghost use Rattle.std.specs.Prelude.{◌≡◌, IfErr};
 ghost use Rattle.libyaml_types.specs.Numbers.{parser_state_number};
 ghost use Rattle.libyaml_events.specs.machine.State.{IsBackByte};

@@ -1,4 +1,27 @@
 //! Stream and documents.
+//!
+//! ```text
+//! stream            ::= STREAM-START (implicit_document | explicit_document)* STREAM-END
+//!                       1             2                   2 or 3              2 or 3
+//! implicit_document ::= block_node DOCUMENT-END*
+//!                       5          7, then 2
+//! explicit_document ::= DIRECTIVE* DOCUMENT-START block_node? DOCUMENT-END*
+//!                       4          4              6           7, then 2
+//!   1 parse_stream_start             YAML_PARSE_STREAM_START_STATE
+//!   libyaml: yaml_parser_parse_stream_start
+//!   2 parse_implicit_document_start  YAML_PARSE_IMPLICIT_DOCUMENT_START_STATE
+//!   3 parse_document_start           YAML_PARSE_DOCUMENT_START_STATE
+//!   4 parse_explicit_document        Next::BehindDirective
+//!   libyaml: yaml_parser_parse_document_start, yaml_parser_process_directives
+//!   5 parse_node(NodePlace::Block)   YAML_PARSE_BLOCK_NODE_STATE
+//!   6 parse_slot(Slot::Document)     YAML_PARSE_DOCUMENT_CONTENT_STATE
+//!   libyaml: yaml_parser_parse_node, yaml_parser_parse_document_content
+//!   7 parse_document_end             YAML_PARSE_DOCUMENT_END_STATE
+//!   libyaml: yaml_parser_parse_document_end
+//!   2 stands at the stream's start and behind DOCUMENT-END, 3 behind a document without one,
+//!   where the next is explicit. A document's first token is theirs; an implicit one's stays for 5.
+//!   At a token other than DOCUMENT-END, 7 ends the document, and the token stays for 3.
+//! ```
 ghost use Rattle.std.specs.Prelude.{◌≡◌, Ok, Err, OnOk, OnErr, IfErr, true};
 ghost use Rattle.libyaml_grammar.specs.cuts.FaultTexts.{memory_fault};
 ghost use Rattle.libyaml_events.specs.machine.Config.{with_config, with_fault};

@@ -1,4 +1,43 @@
-//! Flow collections.
+//! Flow collections, behind their start events (`open_collection`).
+//!
+//! ```text
+//! flow_sequence ::= FLOW-SEQUENCE-START (entry FLOW-ENTRY)* entry? FLOW-SEQUENCE-END
+//!                   1                    2     3            2      2 or 3
+//! entry ::= flow_node | pair
+//!           2           2
+//!   1 parse_first_flow_sequence_entry   YAML_PARSE_FLOW_SEQUENCE_FIRST_ENTRY_STATE
+//!   2 parse_behind_flow_sequence_entry  Next::BehindFlowSequenceEntry
+//!   3 parse_flow_sequence_entry         YAML_PARSE_FLOW_SEQUENCE_ENTRY_STATE
+//!   libyaml: yaml_parser_parse_flow_sequence_entry
+//!
+//! pair ::= KEY flow_node? (VALUE flow_node?)?
+//!          2   4           5     6           7
+//!   4 parse_slot(Slot::PairKey)                YAML_PARSE_FLOW_SEQUENCE_ENTRY_MAPPING_KEY_STATE
+//!   libyaml: yaml_parser_parse_flow_sequence_entry_mapping_key
+//!   5 parse_flow_sequence_entry_mapping_value  YAML_PARSE_FLOW_SEQUENCE_ENTRY_MAPPING_VALUE_STATE
+//!   6 parse_slot(Slot::PairValue)              Next::BehindFlowSequenceValue
+//!   libyaml: yaml_parser_parse_flow_sequence_entry_mapping_value
+//!   7 parse_flow_sequence_entry_mapping_end    YAML_PARSE_FLOW_SEQUENCE_ENTRY_MAPPING_END_STATE
+//!   libyaml: yaml_parser_parse_flow_sequence_entry_mapping_end
+//!   At a token other than VALUE, 5 gives the empty value, and the token stays for 7.
+//!   7 ends the pair at the token behind it, which stays for 3.
+//!
+//! flow_mapping ::= FLOW-MAPPING-START (entry FLOW-ENTRY)* entry? FLOW-MAPPING-END
+//!                  1                   2     3            2      2 or 3
+//! entry ::= flow_node | KEY flow_node? (VALUE flow_node?)?
+//!           2        7  2   4           5     6
+//!   1 parse_first_flow_mapping_key     YAML_PARSE_FLOW_MAPPING_FIRST_KEY_STATE
+//!   2 parse_behind_flow_mapping_entry  Next::BehindFlowMappingEntry
+//!   3 parse_flow_mapping_key           YAML_PARSE_FLOW_MAPPING_KEY_STATE
+//!   4 parse_slot(Slot::FlowKey)        Next::BehindFlowMappingKey
+//!   libyaml: yaml_parser_parse_flow_mapping_key
+//!   5 parse_flow_mapping_value         YAML_PARSE_FLOW_MAPPING_VALUE_STATE
+//!   6 parse_slot(Slot::FlowValue)      Next::BehindFlowMappingValue
+//!   7 parse_flow_mapping_empty_value   YAML_PARSE_FLOW_MAPPING_EMPTY_VALUE_STATE
+//!   libyaml: yaml_parser_parse_flow_mapping_value
+//!   At a token other than VALUE, 5 gives the empty value, and the token stays for 3.
+//!   7 gives the empty value of a node without KEY at the token behind it, which stays for 3.
+//! ```
 ghost use Rattle.std.specs.Prelude.{◌≡◌, Ok, Err, IfErr, true};
 ghost use Rattle.libyaml_events.specs.machine.Machine.{first_flow_sequence_entry};
 ghost use Rattle.libyaml_events.specs.machine.Machine.{parse_flow_sequence_entry};

@@ -1,4 +1,19 @@
 //! Nodes: properties and content.
+//!
+//! ```text
+//! node       ::= ALIAS | properties content? | content
+//!                1       1, 2       2          1
+//! properties ::= ANCHOR TAG? | TAG ANCHOR?
+//!                1      2      1   2
+//! content    ::= SCALAR | flow_sequence | flow_mapping
+//!              | block_sequence | block_mapping | indentless_sequence
+//!   1 parse_node               from a state, `parse_slot` or an entry of a flow collection
+//!   2 parse_behind_properties  Next::BehindProperties
+//!   libyaml: yaml_parser_parse_node
+//!   `NodePlace` says which contents may stand at a place. A content's first token goes on to
+//!   `parse_node_content`, or to `bare_scalar` where it is the whole node. The token behind
+//!   properties alone goes there too, and stays.
+//! ```
 ghost use Rattle.std.specs.Prelude.{◌≡◌, Ok, Err, IfErr, None, false, true};
 ghost use Rattle.libyaml_types.specs.declared.event.unnamed_yaml_event_t_data_scalar.{unnamed_yaml_event_t_data_scalar};
 ghost use Rattle.libyaml_types.specs.declared.enums.yaml_scalar_style_t.TheVariants.{YAML_PLAIN_SCALAR_STYLE};
