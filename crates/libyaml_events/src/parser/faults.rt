@@ -9,7 +9,7 @@ use libyaml_grammar::{NO_FAULT, yaml_parser_t_prefix};
 use libyaml_types::{yaml_error_type_t, yaml_mark_t};
 
 impl<S> yaml_parser_t<S> {
-    pub(crate) fn set_prefix(&mut self, prefix: yaml_parser_t_prefix)
+    fn set_prefix(&mut self, prefix: yaml_parser_t_prefix)
         ensures { self.new ≡ with_config self.old (with_fault self.old.config (fault_of prefix)) }
     {
         self.prefix = prefix;

@@ -37,9 +37,9 @@ fn joined(alloc: Global, prefix: &str, suffix: &str) -> Result<Text, AllocError>
 }
 
 impl<S> yaml_parser_t<S> {
-    #[tactic(auto, using(crate::proofs::code::HandleLemmas::get_handle))]
     /// The prefix that the document declares for a handle, or else its default one.
-    pub(crate) fn prefix_of(&self, handle: &Text) -> Option<&str>
+    #[tactic(auto, using(crate::proofs::code::HandleLemmas::get_handle))]
+    fn prefix_of(&self, handle: &Text) -> Option<&str>
         ensures { option_copied result ≡ or_default (map.get self.now.config.handles handle.now) handle.now }
     {
         match self.handles.get(handle) {

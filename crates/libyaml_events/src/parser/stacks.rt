@@ -43,8 +43,8 @@ impl<S> yaml_parser_t<S> {
         self.state = state;
     }
 
-    #[tactic(auto, using(crate::proofs::code::Stacks::stack_push))]
     /// Puts a state on the stack, to go back to. Keeps want of memory where the growth is refused.
+    #[tactic(auto, using(crate::proofs::code::Stacks::stack_push))]
     pub(crate) fn push_state(&mut self, state: yaml_parser_state_t) -> Result<(), yaml_error_type_t>
         requires { IsBackByte (parser_state_number state) }
         ensures ok { OnOk result (self.new ≡ with_config self.old (pushed state self.old.config)) }
@@ -57,8 +57,8 @@ impl<S> yaml_parser_t<S> {
         Ok(())
     }
 
-    #[tactic(auto, using(crate::proofs::code::Stacks::stack_pop))]
     /// Goes back to the state on top of the stack.
+    #[tactic(auto, using(crate::proofs::code::Stacks::stack_pop))]
     pub(crate) fn pop_state(&mut self)
         ensures { self.new ≡ with_config self.old (popped self.old.config) }
     {
@@ -68,8 +68,8 @@ impl<S> yaml_parser_t<S> {
         };
     }
 
-    #[tactic(auto, using(crate::proofs::code::Stacks::reverse_push))]
     /// Puts the start of a collection on the stack. Keeps want of memory where the growth is refused.
+    #[tactic(auto, using(crate::proofs::code::Stacks::reverse_push))]
     pub(crate) fn push_mark(&mut self, mark: yaml_mark_t) -> Result<(), yaml_error_type_t>
         ensures ok { OnOk result (self.new ≡ with_config self.old (pushed_mark mark self.old.config)) }
         ensures err { OnErr result ((result ≡ Err yaml_error_type_t.YAML_MEMORY_ERROR)
@@ -81,8 +81,8 @@ impl<S> yaml_parser_t<S> {
         Ok(())
     }
 
-    #[tactic(auto, using(crate::proofs::code::Stacks::reverse_pop))]
     /// Takes the start of the innermost collection off the stack.
+    #[tactic(auto, using(crate::proofs::code::Stacks::reverse_pop))]
     pub(crate) fn pop_mark(&mut self) -> yaml_mark_t
         ensures mark { result ≡ top_mark self.old.config.marks }
         ensures rest { self.new ≡ with_config self.old (popped_mark self.old.config) }

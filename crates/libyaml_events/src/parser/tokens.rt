@@ -44,8 +44,8 @@ impl<S: yaml_token_source_t> yaml_parser_t<S> {
         }
     }
 
-    #[tactic(auto, using(crate::proofs::code::SourceErrors::source_error_is_fault))]
     /// The token that stayed, or else the source's next one, whose fault is kept for good.
+    #[tactic(auto, using(crate::proofs::code::SourceErrors::source_error_is_fault))]
     pub(crate) fn next_token(&mut self) -> Result<yaml_token_t, yaml_error_type_t>
         ensures fetches { Fetches S.gives self.old result self.new }
         ensures error { IfErr result (λ e. is_fault e ≡ true) }
