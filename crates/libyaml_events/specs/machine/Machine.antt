@@ -187,13 +187,13 @@ no_content p None None h c t = Err (content_fault (is_block_place p) t.start_mar
 no_content p None (Some tag) h c t = only_properties h c t
 no_content p (Some anchor) tag h c t = only_properties h c t
 
--- a collection begins, at the token that opens it
-abbrev pub open_collection : unnamed_yaml_event_t_data → yaml_parser_state_t → NodeHead → Config → yaml_token_t → Progressed
-open_collection content state h c t = give content h.start_mark t.end_mark (keep t (at state c))
+-- a collection begins at `start`; the token that opens it stays for the collection's first state
+abbrev pub open_collection : unnamed_yaml_event_t_data → yaml_parser_state_t → yaml_mark_t → Config → yaml_token_t → Progressed
+open_collection content state start c t = give content start t.end_mark (keep t (at state c))
 
 -- or where it may not stand here, no content comes
 abbrev pub may_open : Bool → unnamed_yaml_event_t_data → yaml_parser_state_t → NodePlace → NodeHead → Config → yaml_token_t → Progressed
-may_open true content state p h c t = open_collection content state h c t
+may_open true content state p h c t = open_collection content state h.start_mark c t
 may_open false content state p h c t = no_content p h.anchor h.tag h c t
 
 abbrev pub scalar_content : NodeHead → Config → unnamed_yaml_token_t_data_scalar → yaml_mark_t → Progressed
@@ -202,8 +202,9 @@ scalar_content h c s end = give (scalar h.anchor h.tag s.value (plain_flag h.tag
 abbrev pub node_content : NodePlace → NodeHead → Config → yaml_token_t → unnamed_yaml_token_t_data → Progressed
 node_content p h c t (tok.Scalar s) = scalar_content h c s t.end_mark
 node_content p h c t tok.FlowSequenceStart
-    = open_collection (sequence_start h.anchor h.tag YAML_FLOW_SEQUENCE_STYLE) YAML_PARSE_FLOW_SEQUENCE_FIRST_ENTRY_STATE h c t
-node_content p h c t tok.FlowMappingStart = open_collection (mapping_start h.anchor h.tag YAML_FLOW_MAPPING_STYLE) YAML_PARSE_FLOW_MAPPING_FIRST_KEY_STATE h c t
+    = open_collection (sequence_start h.anchor h.tag YAML_FLOW_SEQUENCE_STYLE) YAML_PARSE_FLOW_SEQUENCE_FIRST_ENTRY_STATE h.start_mark c t
+node_content p h c t tok.FlowMappingStart
+    = open_collection (mapping_start h.anchor h.tag YAML_FLOW_MAPPING_STYLE) YAML_PARSE_FLOW_MAPPING_FIRST_KEY_STATE h.start_mark c t
 node_content p h c t tok.BlockSequenceStart
     = may_open (is_block_place p) (sequence_start h.anchor h.tag YAML_BLOCK_SEQUENCE_STYLE) YAML_PARSE_BLOCK_SEQUENCE_FIRST_ENTRY_STATE p h c t
 node_content p h c t tok.BlockMappingStart

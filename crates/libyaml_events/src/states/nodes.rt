@@ -322,46 +322,35 @@ impl<S> yaml_parser_t<S> {
             unnamed_yaml_token_t_data::Scalar(scalar) => {
                 self.scalar_content(head, scalar, end_mark, out)
             }
-            unnamed_yaml_token_t_data::FlowSequenceStart => self.open_sequence(
-                yaml_sequence_style_t::YAML_FLOW_SEQUENCE_STYLE,
-                yaml_parser_state_t::YAML_PARSE_FLOW_SEQUENCE_FIRST_ENTRY_STATE,
-                head,
-                token,
-                out,
-            ),
-            unnamed_yaml_token_t_data::FlowMappingStart => self.open_mapping(
-                yaml_mapping_style_t::YAML_FLOW_MAPPING_STYLE,
-                yaml_parser_state_t::YAML_PARSE_FLOW_MAPPING_FIRST_KEY_STATE,
-                head,
-                token,
-                out,
-            ),
+            unnamed_yaml_token_t_data::FlowSequenceStart => {
+                let style = yaml_sequence_style_t::YAML_FLOW_SEQUENCE_STYLE;
+                let content = sequence_start(head.anchor, head.tag, style);
+                let state = yaml_parser_state_t::YAML_PARSE_FLOW_SEQUENCE_FIRST_ENTRY_STATE;
+                self.open_collection(content, state, head.start_mark, token, out)
+            }
+            unnamed_yaml_token_t_data::FlowMappingStart => {
+                let style = yaml_mapping_style_t::YAML_FLOW_MAPPING_STYLE;
+                let content = mapping_start(head.anchor, head.tag, style);
+                let state = yaml_parser_state_t::YAML_PARSE_FLOW_MAPPING_FIRST_KEY_STATE;
+                self.open_collection(content, state, head.start_mark, token, out)
+            }
             unnamed_yaml_token_t_data::BlockSequenceStart if place.is_block() => {
-                self.open_sequence(
-                    yaml_sequence_style_t::YAML_BLOCK_SEQUENCE_STYLE,
-                    yaml_parser_state_t::YAML_PARSE_BLOCK_SEQUENCE_FIRST_ENTRY_STATE,
-                    head,
-                    token,
-                    out,
-                )
+                let style = yaml_sequence_style_t::YAML_BLOCK_SEQUENCE_STYLE;
+                let content = sequence_start(head.anchor, head.tag, style);
+                let state = yaml_parser_state_t::YAML_PARSE_BLOCK_SEQUENCE_FIRST_ENTRY_STATE;
+                self.open_collection(content, state, head.start_mark, token, out)
             }
             unnamed_yaml_token_t_data::BlockMappingStart if place.is_block() => {
-                self.open_mapping(
-                    yaml_mapping_style_t::YAML_BLOCK_MAPPING_STYLE,
-                    yaml_parser_state_t::YAML_PARSE_BLOCK_MAPPING_FIRST_KEY_STATE,
-                    head,
-                    token,
-                    out,
-                )
+                let style = yaml_mapping_style_t::YAML_BLOCK_MAPPING_STYLE;
+                let content = mapping_start(head.anchor, head.tag, style);
+                let state = yaml_parser_state_t::YAML_PARSE_BLOCK_MAPPING_FIRST_KEY_STATE;
+                self.open_collection(content, state, head.start_mark, token, out)
             }
             unnamed_yaml_token_t_data::BlockEntry if place.may_be_indentless() => {
-                self.open_sequence(
-                    yaml_sequence_style_t::YAML_BLOCK_SEQUENCE_STYLE,
-                    yaml_parser_state_t::YAML_PARSE_INDENTLESS_SEQUENCE_ENTRY_STATE,
-                    head,
-                    token,
-                    out,
-                )
+                let style = yaml_sequence_style_t::YAML_BLOCK_SEQUENCE_STYLE;
+                let content = sequence_start(head.anchor, head.tag, style);
+                let state = yaml_parser_state_t::YAML_PARSE_INDENTLESS_SEQUENCE_ENTRY_STATE;
+                self.open_collection(content, state, head.start_mark, token, out)
             }
             _ => return self.parse_no_content(place, head, token, out),
         }
@@ -395,42 +384,24 @@ impl<S> yaml_parser_t<S> {
         );
     }
 
-    /// The start of a sequence, at the token that opens it, which stays for `state`.
-    fn open_sequence(
+    /// The start of a collection, at the token that opens it. As in libyaml, that token is seen twice: here
+    /// its event is given, and it stays for `state`, the collection's first, which keeps the token's start
+    /// for faults. What opens an indentless sequence is its first BLOCK-ENTRY.
+    fn open_collection(
         &mut self,
-        style: yaml_sequence_style_t,
+        content: unnamed_yaml_event_t_data,
         state: yaml_parser_state_t,
-        head: NodeHead,
+        start_mark: yaml_mark_t,
         token: yaml_token_t,
         out: &mut yaml_event_t,
     )
-        ensures { Steps (open_collection (sequence_start head.anchor head.tag style) state head
-            self.old.config token) self.old (Ok (Given out.new)) self.new }
+        ensures { Steps (open_collection content state start_mark self.old.config token) self.old
+            (Ok (Given out.new)) self.new }
     {
         let end_mark = token.end_mark;
         self.set_state(state);
         self.keep(token);
-        let event = sequence_start(head.anchor, head.tag, style);
-        give(out, event, head.start_mark, end_mark);
-    }
-
-    /// The start of a mapping, at the token that opens it, which stays for `state`.
-    fn open_mapping(
-        &mut self,
-        style: yaml_mapping_style_t,
-        state: yaml_parser_state_t,
-        head: NodeHead,
-        token: yaml_token_t,
-        out: &mut yaml_event_t,
-    )
-        ensures { Steps (open_collection (mapping_start head.anchor head.tag style) state head self.old.config
-            token) self.old (Ok (Given out.new)) self.new }
-    {
-        let end_mark = token.end_mark;
-        self.set_state(state);
-        self.keep(token);
-        let event = mapping_start(head.anchor, head.tag, style);
-        give(out, event, head.start_mark, end_mark);
+        give(out, content, start_mark, end_mark);
     }
 
     /// No content comes: properties alone are an empty scalar, and without these a fault is kept.
