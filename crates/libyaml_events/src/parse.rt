@@ -1,5 +1,5 @@
 //! One call of the parser.
-ghost use Rattle.std.specs.Prelude.{◌≡◌, ◌≤◌, ◌<◌, ◌+◌, ◌++◌, ◌*◌, ◌∷◌, List, [], length, Ok, Err};
+ghost use Rattle.std.specs.Prelude.{◌≡◌, ◌≤◌, ◌<◌, ◌+◌, ◌++◌, ◌*◌, List, [], length, Ok, Err};
 ghost use Rattle.std.specs.Prelude.{true, false, IfOk, IfErr};
 ghost use Rattle.libyaml_types.specs.declared.token.yaml_token_t.{yaml_token_t};
 ghost use Rattle.libyaml_types.specs.declared.event.yaml_event_t.{yaml_event_t};
@@ -11,14 +11,15 @@ ghost use Rattle.libyaml_grammar.specs.runs.Fault.{Fault};
 ghost use Rattle.libyaml_grammar.specs.cuts.Settled.{Begins, BeginsEach};
 ghost use Rattle.libyaml_grammar.specs.runs.Runs.{Ending, Ends, Fails, IsRun};
 ghost use Rattle.libyaml_events.specs.parsers.Stages.{stage_of, open_collections, is_outside};
-ghost use Rattle.libyaml_events.specs.sources.History.{History, is_over, kept_fault};
+ghost use Rattle.libyaml_events.specs.sources.History.{ForHistory, is_over, kept_fault};
 ghost use Rattle.libyaml_events.specs.sources.History.{between_documents, stack_depth};
 ghost use Rattle.libyaml_events.specs.parsers.Lookahead.{HoldsLast};
 ghost use Rattle.libyaml_events.specs.parsers.Pops.{PopsNothingBelow};
 ghost use Rattle.libyaml_events.specs.parsers.EventsLeft.{events_left};
 ghost use Rattle.libyaml_grammar.specs.sentences.Nesting.{NestsSoFar};
 ghost use Rattle.libyaml_events.specs.sources.Parsing.{CarriesOn, FailsBy};
-ghost use Rattle.libyaml_events.specs.sources.RunToCome.{RunToCome, UnlessBroken};
+ghost use Rattle.libyaml_events.specs.sources.RunToCome.{RunToCome, ForRun, ForNextEvent};
+ghost use Rattle.libyaml_events.specs.sources.RunToCome.{UnlessBroken};
 
 use crate::next::Next;
 use crate::parser::yaml_parser_t;
@@ -75,46 +76,36 @@ pub fn yaml_parser_parse<S: yaml_token_source_t>(
     ensures bound { parser.new.max_entries ≡ parser.old.max_entries }
     // over every source, by the tokens that were asked for and the events that were given
     ensures carries_on { is_over parser.old ≡ false
-        → IfOk result (λ e. (asked : List yaml_token_t) (given : List yaml_event_t)
-        → History parser.old asked given → CarriesOn S.gives parser.old e parser.new asked given) }
-    ensures fails { IfErr result (λ _. (asked : List yaml_token_t) (given : List yaml_event_t)
-        → History parser.old asked given → FailsBy S.gives parser.old parser.new asked given) }
-    ensures begins { (asked : List yaml_token_t) (given : List yaml_event_t) → History parser.new asked given
-        → BeginsEach asked given }
-    ensures begins_run { (asked : List yaml_token_t) (given : List yaml_event_t)
-        → History parser.new asked given
-        → (rest : List yaml_token_t) (f : Fault) (e : List yaml_event_t) (x : Ending)
-        → IsRun (asked ++ rest) f e x → Begins given e }
-    ensures nests { (asked : List yaml_token_t) (given : List yaml_event_t) → History parser.new asked given
-        → NestsSoFar given }
-    ensures between { (asked : List yaml_token_t) (given : List yaml_event_t) → History parser.new asked given
-        → between_documents parser.new ≡ is_outside (stage_of given) }
+        → IfOk result (λ e. ForHistory parser.old (CarriesOn S.gives parser.old e parser.new)) }
+    ensures fails { IfErr result (λ _. ForHistory parser.old (FailsBy S.gives parser.old parser.new)) }
+    ensures begins { ForHistory parser.new BeginsEach }
+    ensures begins_run { ForHistory parser.new (λ asked given.
+        (rest : List yaml_token_t) (f : Fault) (e : List yaml_event_t) (x : Ending)
+        → IsRun (asked ++ rest) f e x → Begins given e) }
+    ensures nests { ForHistory parser.new (λ _ given. NestsSoFar given) }
+    ensures between { ForHistory parser.new (λ _ given. between_documents parser.new
+        ≡ is_outside (stage_of given)) }
     ensures outside { IfOk result (λ e. is_outside_event e.content ≡ true
         → between_documents parser.new ≡ true) }
-    ensures at_most_four { (asked : List yaml_token_t) (given : List yaml_event_t)
-        → History parser.new asked given → length given ≤ 4 * length asked }
-    ensures depth { (asked : List yaml_token_t) (given : List yaml_event_t) → History parser.new asked given
-        → stack_depth parser.new ≤ open_collections (stage_of given) + 1 }
-    ensures pops { (asked : List yaml_token_t) (given : List yaml_event_t) → History parser.old asked given
-        → PopsNothingBelow S.gives parser.old result parser.new }
-    ensures one_ahead { (asked : List yaml_token_t) (given : List yaml_event_t)
-        → History parser.new asked given → HoldsLast parser.new asked }
+    ensures at_most_four { ForHistory parser.new (λ asked given. length given ≤ 4 * length asked) }
+    ensures depth { ForHistory parser.new (λ _ given. stack_depth parser.new
+        ≤ open_collections (stage_of given) + 1) }
+    ensures pops { ForHistory parser.old (λ _ _. PopsNothingBelow S.gives parser.old result parser.new) }
+    ensures one_ahead { ForHistory parser.new (λ asked _. HoldsLast parser.new asked) }
     // so a loop over the events ends
     ensures falls { is_over parser.old ≡ false
         → IfOk result (λ _. events_left S.bound parser.new < events_left S.bound parser.old) }
     // over a source that knows its tokens, by the run that is to come
-    ensures next_of_run { (e : yaml_event_t) (later : List yaml_event_t) (ending : Ending)
-        → RunToCome S.known parser.old (e ∷ later) ending
-        → UnlessBroken S.may_break result parser.new ((result ≡ Ok e)
-        × RunToCome S.known parser.new later ending) }
-    ensures not_ended { (e : yaml_event_t) (later : List yaml_event_t) (ending : Ending)
-        → RunToCome S.known parser.old (e ∷ later) ending → is_over parser.old ≡ false }
+    ensures next_of_run { ForNextEvent S.known parser.old (λ e later ending.
+        UnlessBroken S.may_break result parser.new ((result ≡ Ok e)
+        × RunToCome S.known parser.new later ending)) }
+    ensures not_ended { ForNextEvent S.known parser.old (λ _ _ _. is_over parser.old ≡ false) }
     ensures end_of_run { RunToCome S.known parser.old [] Ends → (result ≡ Ok empty_event)
         × (parser.new ≡ parser.old) }
     ensures fault_of_run { (f : Fault) → RunToCome S.known parser.old [] (Fails f)
         → UnlessBroken S.may_break result parser.new ((result ≡ Err f.error) × (kept_fault parser.new ≡ f)) }
-    ensures nothing_behind_end { is_over parser.new ≡ true → (later : List yaml_event_t) (ending : Ending)
-        → RunToCome S.known parser.new later ending → (later ≡ []) × (ending ≡ Ends) }
+    ensures nothing_behind_end { is_over parser.new ≡ true
+        → ForRun S.known parser.new (λ later ending. (later ≡ []) × (ending ≡ Ends)) }
 {
     parser.next_event()
 }

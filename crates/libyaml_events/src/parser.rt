@@ -6,9 +6,10 @@ ghost use Rattle.libyaml_events.specs.machine.Config.{with_config, marked_ended,
 ghost use Rattle.libyaml_events.specs.sources.Source.{Coming, coming};
 ghost use Rattle.libyaml_grammar.specs.runs.Runs.{Ending, IsRun};
 ghost use Rattle.libyaml_events.specs.parsers.Stages.{is_outside, stage_of};
-ghost use Rattle.libyaml_events.specs.sources.History.{History, new_parser, is_over, has_failed};
-ghost use Rattle.libyaml_events.specs.sources.History.{kept_fault, keeping, between_documents};
-ghost use Rattle.libyaml_events.specs.sources.RunToCome.{RunToCome};
+ghost use Rattle.libyaml_events.specs.sources.History.{History, ForHistory, new_parser};
+ghost use Rattle.libyaml_events.specs.sources.History.{is_over, has_failed, kept_fault, keeping};
+ghost use Rattle.libyaml_events.specs.sources.History.{between_documents};
+ghost use Rattle.libyaml_events.specs.sources.RunToCome.{RunToCome, ForRun};
 ghost use Rattle.libyaml_types.specs.declared.token.yaml_token_t.{yaml_token_t};
 ghost use Rattle.libyaml_types.specs.declared.event.yaml_event_t.{yaml_event_t};
 
@@ -115,8 +116,7 @@ pub fn yaml_parser_delete<S>(parser: yaml_parser_t<S>) -> S
 pub fn yaml_parser_between_documents<S>(parser: &yaml_parser_t<S>) -> bool
     ensures value { result ≡ between_documents parser.now }
     ensures failed { has_failed parser.now ≡ true → result ≡ true }
-    ensures by_events { (asked : List yaml_token_t) (given : List yaml_event_t)
-        → History parser.now asked given → result ≡ is_outside (stage_of given) }
+    ensures by_events { ForHistory parser.now (λ _ given. result ≡ is_outside (stage_of given)) }
 {
     parser.stands_between_documents()
 }
@@ -127,10 +127,9 @@ pub fn yaml_parser_set_max_entries<S>(parser: &mut yaml_parser_t<S>, n: i32)
     requires between { between_documents parser.old ≡ true }
     ensures bound { parser.new ≡ record parser.old { max_entries = n } }
     // the history and the run stay
-    ensures history { (asked : List yaml_token_t) (given : List yaml_event_t) → History parser.old asked given
-        → History parser.new asked given }
-    ensures run_to_come { (known : S → Option Coming) (events : List yaml_event_t) (ending : Ending)
-        → RunToCome known parser.old events ending → RunToCome known parser.new events ending }
+    ensures history { ForHistory parser.old (History parser.new) }
+    ensures run_to_come { (known : S → Option Coming)
+        → ForRun known parser.old (RunToCome known parser.new) }
 {
     parser.max_entries = n;
 }
@@ -142,8 +141,7 @@ impl<S> yaml_parser_t<S> {
     pub fn prefix(&self) -> &yaml_parser_t_prefix
         ensures kept { fault_of result.now ≡ kept_fault self.now }
         // before a fault it is that of no fault
-        ensures before_fault { (asked : List yaml_token_t) (given : List yaml_event_t)
-            → History self.now asked given → fault_of result.now ≡ no_fault }
+        ensures before_fault { ForHistory self.now (λ _ _. fault_of result.now ≡ no_fault) }
     {
         &self.prefix
     }

@@ -25,6 +25,10 @@ pub data Ran : Config → List Token → List Event → Type 0 where
 abbrev pub History : {S : Type 0} → Parser S → List Token → List Event → Type 0
 History p asked given = Ran p.config asked given
 
+-- P holds of every history of the parser
+abbrev pub ForHistory : {S : Type 0} → Parser S → (List Token → List Event → Type 0) → Type 0
+ForHistory p P = (asked : List Token) (given : List Event) → History p asked given → P asked given
+
 -- the parser gave the stream end event, or keeps a fault
 abbrev pub is_over : {S : Type 0} → Parser S → Bool
 is_over p = ended_or_failed p.config

@@ -1,5 +1,5 @@
 -- The run that a parser over a known source still has before it (docs/DEFINITIONS.md, "Runs").
-use Rattle.std.specs.Prelude.{◌≡◌, ◌++◌, List, Option, Some, Err}
+use Rattle.std.specs.Prelude.{◌≡◌, ◌++◌, ◌∷◌, List, Option, Some, Err}
 use Rattle.libyaml_types.specs.declared.enums.yaml_error_type_t.TheVariants.{YAML_MEMORY_ERROR}
 use Rattle.libyaml_grammar.specs.runs.Fault.{Fault}
 use Rattle.libyaml_grammar.specs.cuts.FaultTexts.{memory_fault}
@@ -21,6 +21,14 @@ pub record RunToCome {S : Type 0} (known : S → Option Coming) (p : Parser S) (
   pub history : History p asked given
   pub knows : known p.source ≡ Some (coming rest fault)
   pub run : IsRun (asked ++ rest) fault (given ++ to_come) ending
+
+-- P holds of every run that the parser has before it, with its ending
+abbrev pub ForRun : {S : Type 0} → (S → Option Coming) → Parser S → (List Event → Ending → Type 0) → Type 0
+ForRun known p P = (to_come : List Event) (ending : Ending) → RunToCome known p to_come ending → P to_come ending
+
+-- likewise where an event is to come: P holds of it, of the events behind it and of the ending
+abbrev pub ForNextEvent : {S : Type 0} → (S → Option Coming) → Parser S → (Event → List Event → Ending → Type 0) → Type 0
+ForNextEvent known p P = (next : Event) (later : List Event) (ending : Ending) → RunToCome known p (next ∷ later) ending → P next later ending
 
 -- What the run says; or a growth was refused; or the source broke off, by a fault that it names as possible where it then
 -- stands.
