@@ -5,14 +5,8 @@ use Rattle.libyaml_types.specs.declared.enums.yaml_error_type_t.TheVariants.{YAM
 use Rattle.libyaml_grammar.specs.runs.Fault.{Fault}
 use Rattle.libyaml_types.specs.Events.{zero_mark}
 use Rattle.libyaml_grammar.specs.cuts.FaultTexts.{memory_fault}
-use Rattle.line_reading.specs.declared.token_error.TokenLineError.{TokenLineError}
-use Rattle.line_reading.specs.declared.token_error.TokenLineError.TheVariants as error
 use Rattle.line_reading.specs.declared.line_problem.LineProblem.{LineProblem}
 use Rattle.line_reading.specs.declared.line_problem.LineProblem.TheVariants.{Memory, ReadFailed, LineTooLong, BadTokenLine, TooManyTokens, NoMoreTokens}
-
-abbrev pub problem_of : TokenLineError → LineProblem
-problem_of error.BadLine = BadTokenLine
-problem_of error.Memory = Memory
 
 -- A problem of the source that has given n tokens: the mark's line is the line's place, counted from 0
 abbrev pub problem_at : yaml_error_type_t → List ℕ → ℕ → Fault

@@ -1,7 +1,6 @@
 -- What one line of a reader gives, where its bytes are known.
-use Rattle.std.specs.Prelude.{◌≡◌, ◌<◌, ◌≤◌, ◌⊎◌, ℕ, List, [], ◌∷◌, length, Option, Some, None, Result, Ok, Err}
+use Rattle.std.specs.Prelude.{◌≡◌, ◌<◌, ◌≤◌, ◌⊎◌, ℕ, List, [], ◌∷◌, length, Option, Some, None, Ok, Err}
 use Rattle.std.specs.Io.KnownBytes.{Consumes}
-use Rattle.libyaml_types.specs.declared.token.yaml_token_t.{yaml_token_t}
 use Rattle.libyaml_grammar.specs.runs.Fault.{Fault, Answer}
 use Rattle.line_reading.specs.declared.line_problem.LineProblem.{LineProblem}
 use Rattle.line_reading.specs.declared.line_problem.LineProblem.TheVariants.{Memory, ReadFailed, LineTooLong, BadTokenLine, TooManyTokens, NoMoreTokens}
@@ -70,8 +69,3 @@ LineAnswer (Some bytes) n answer after = KnownAnswer bytes n answer after
 -- the problems of reading itself
 abbrev pub IsReadProblem : LineProblem → Type 0
 IsReadProblem problem = (problem ≡ Memory) ⊎ (problem ≡ ReadFailed)
-
--- a token, or the fault of a problem where n tokens were given
-abbrev pub answer_by : ℕ → Result yaml_token_t LineProblem → Answer
-answer_by n (Ok token) = Ok token
-answer_by n (Err problem) = Err (line_fault problem n)

@@ -4,9 +4,9 @@ ghost use Rattle.line_reading.specs.Field.{version_of, utf8_text, text_of, encod
 ghost use Rattle.percent_encoding.specs.Percent as percent;
 ghost use Rattle.line_reading.specs.Reading.{IsReadAs};
 
+use crate::line_problem::LineProblem;
 use crate::number::read_signed;
 use crate::parts::Parts;
-use crate::token_error::TokenLineError;
 use byte_words::is_clean;
 use libyaml_types::{
     Text, unnamed_yaml_token_t_data_version_directive, yaml_encoding_t, yaml_scalar_style_t,
@@ -31,17 +31,17 @@ pub fn read_version(field: &[u8]) -> Option<unnamed_yaml_token_t_data_version_di
 }
 
 /// `=` and an escaped text.
-pub fn read_text(alloc: Global, field: &[u8]) -> Result<Text, TokenLineError>
+pub fn read_text(alloc: Global, field: &[u8]) -> Result<Text, LineProblem>
     ensures { IsReadAs result (text_of field.now) }
 {
     let [b'=', escaped @ ..] = field else {
-        return Err(TokenLineError::BadLine);
+        return Err(LineProblem::BadTokenLine);
     };
     escaped_text(alloc, escaped)
 }
 
 #[tactic(auto, using(crate::proofs::Texts::clean_text))]
-fn escaped_text(alloc: Global, escaped: &[u8]) -> Result<Text, TokenLineError>
+fn escaped_text(alloc: Global, escaped: &[u8]) -> Result<Text, LineProblem>
     ensures { IsReadAs result (utf8_text (percent.percent_decode escaped.now)) }
 {
     if is_clean(escaped) {
@@ -51,14 +51,14 @@ fn escaped_text(alloc: Global, escaped: &[u8]) -> Result<Text, TokenLineError>
     }
 }
 
-fn decoded_text(alloc: Global, escaped: &[u8]) -> Result<Text, TokenLineError>
+fn decoded_text(alloc: Global, escaped: &[u8]) -> Result<Text, LineProblem>
     ensures { IsReadAs result (utf8_text (percent.percent_decode escaped.now)) }
 {
     let mut bytes = Vec::with_capacity(alloc, escaped.len())?;
     percent_decode(escaped).append_to(&mut bytes)?;
     match String::from_utf8(bytes) {
         Ok(text) => Ok(Text::from(text)),
-        Err(_) => Err(TokenLineError::BadLine),
+        Err(_) => Err(LineProblem::BadTokenLine),
     }
 }
 

@@ -10,7 +10,6 @@ mod line_source;
 mod number;
 mod parts;
 mod search;
-mod token_error;
 mod token_line;
 mod token_name;
 mod token_reader;

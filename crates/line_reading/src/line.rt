@@ -30,7 +30,7 @@ pub fn read_line<R: BufRead>(reader: &mut R, line: &mut Vec<u8>) -> Result<(), L
 
 /// How a line ended.
 #[derive(Copy, Clone)]
-pub enum LineEnd {
+enum LineEnd {
     LineFeed,
     End,
     TooLong,
@@ -93,10 +93,7 @@ fn take_part<R: BufRead>(
     ensures end { result ≡ Ok Part.End → line.new.items ≡ line.old.items }
     ensures problem { IfErr result IsReadProblem }
 {
-    let available = match reader.fill_buf() {
-        Ok(available) => available,
-        Err(_) => return Err(LineProblem::ReadFailed),
-    };
+    let available = reader.fill_buf()?;
     if available.is_empty() {
         return Ok(Part::End);
     }
@@ -118,8 +115,5 @@ fn append(line: &mut Vec<u8>, part: &[u8]) -> Result<(), LineProblem>
     ensures err { OnErr result (line.new.items ≡ line.old.items) }
     ensures problem { IfErr result (λ problem. problem ≡ LineProblem.Memory) }
 {
-    match line.extend_from_slice(part) {
-        Ok(()) => Ok(()),
-        Err(_) => Err(LineProblem::Memory),
-    }
+    Ok(line.extend_from_slice(part)?)
 }

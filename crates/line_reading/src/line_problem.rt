@@ -5,9 +5,10 @@ ghost use Rattle.libyaml_grammar.specs.runs.Fault.{source_fault};
 ghost use Rattle.libyaml_grammar.specs.cuts.FaultTexts.{memory_fault};
 ghost use Rattle.line_reading.specs.LineFault.{problem_at, line_fault};
 
-use crate::token_error::TokenLineError;
 use libyaml_events::yaml_source_fault_t;
 use libyaml_types::{ZERO_MARK, yaml_error_type_t, yaml_mark_t};
+use std::alloc::AllocError;
+use std::io;
 
 /// Why a line source gave no token.
 #[derive(Copy, Clone, PartialEq, Eq, Debug)]
@@ -26,17 +27,25 @@ pub enum LineProblem {
     NoMoreTokens,
 }
 
-impl From<TokenLineError> for LineProblem {
+impl From<AllocError> for LineProblem {
     ghost use Rattle.std.specs.Prelude.{◌≡◌};
-    ghost use Rattle.line_reading.specs.LineFault.{problem_of};
+    ghost use Rattle.line_reading.specs.declared.line_problem.LineProblem.TheVariants.{Memory};
 
-    ghost from_gives = { λ error problem. problem ≡ problem_of error };
+    ghost from_gives = { λ _ problem. problem ≡ Memory };
 
-    fn from(error: TokenLineError) -> LineProblem {
-        match error {
-            TokenLineError::BadLine => LineProblem::BadTokenLine,
-            TokenLineError::Memory => LineProblem::Memory,
-        }
+    fn from(_: AllocError) -> Self {
+        Self::Memory
+    }
+}
+
+impl From<io::Error> for LineProblem {
+    ghost use Rattle.std.specs.Prelude.{◌≡◌};
+    ghost use Rattle.line_reading.specs.declared.line_problem.LineProblem.TheVariants.{ReadFailed};
+
+    ghost from_gives = { λ _ problem. problem ≡ ReadFailed };
+
+    fn from(_: io::Error) -> Self {
+        Self::ReadFailed
     }
 }
 

@@ -7,9 +7,9 @@ ghost use Rattle.line_reading.specs.Reading.{IsReadAs};
 
 use crate::field::{read_encoding, read_scalar_style, read_text, read_version};
 use crate::front::read_mark;
+use crate::line_problem::LineProblem;
 use crate::parts::Parts;
 use crate::search::len_before;
-use crate::token_error::TokenLineError;
 use crate::token_name::read_token_type;
 use libyaml_types::{
     ZERO_MARK, unnamed_yaml_token_t_data, unnamed_yaml_token_t_data_alias,
@@ -20,30 +20,30 @@ use libyaml_types::{
 use std::alloc::Global;
 
 /// The token of a line, which has no LF. Only the token's texts take memory.
-pub fn read_token_line(alloc: Global, line: &[u8]) -> Result<yaml_token_t, TokenLineError>
+pub fn read_token_line(alloc: Global, line: &[u8]) -> Result<yaml_token_t, LineProblem>
     ensures { IsReadAs result (token_of_line line.now) }
 {
     take_token(alloc, line)
 }
 
 /// The same, from the front of the line.
-fn take_token(alloc: Global, line: &[u8]) -> Result<yaml_token_t, TokenLineError>
+fn take_token(alloc: Global, line: &[u8]) -> Result<yaml_token_t, LineProblem>
     ensures { IsReadAs result (token_at line.now) }
 {
     let name = len_before(line, b' ');
     if name == line.len() {
-        return Err(TokenLineError::BadLine);
+        return Err(LineProblem::BadTokenLine);
     }
-    let type_ = read_token_type(&line[..name]).ok_or(TokenLineError::BadLine)?;
+    let type_ = read_token_type(&line[..name]).ok_or(LineProblem::BadTokenLine)?;
     let mut start_mark = ZERO_MARK;
     let start = read_mark(line, name + 1, &mut start_mark);
     if start == 0 || start == line.len() {
-        return Err(TokenLineError::BadLine);
+        return Err(LineProblem::BadTokenLine);
     }
     let mut end_mark = ZERO_MARK;
     let end = read_mark(line, start + 1, &mut end_mark);
     if end == 0 {
-        return Err(TokenLineError::BadLine);
+        return Err(LineProblem::BadTokenLine);
     }
     let content = read_content(alloc, type_, Parts::behind(fields_behind(line, end), b' '))?;
     Ok(yaml_token_t::new(content, start_mark, end_mark))
@@ -67,7 +67,7 @@ fn read_content(
     alloc: Global,
     type_: yaml_token_type_t,
     mut fields: Parts,
-) -> Result<unnamed_yaml_token_t_data, TokenLineError>
+) -> Result<unnamed_yaml_token_t_data, LineProblem>
     ensures { IsReadAs result (content_of type_ fields.entry) }
 {
     let Some(first) = fields.next() else {
@@ -77,12 +77,12 @@ fn read_content(
         return read_content_of_one(alloc, type_, first);
     };
     if fields.next().is_some() {
-        return Err(TokenLineError::BadLine);
+        return Err(LineProblem::BadTokenLine);
     }
     read_content_of_two(alloc, type_, first, second)
 }
 
-fn read_bare_content(type_: yaml_token_type_t) -> Result<unnamed_yaml_token_t_data, TokenLineError>
+fn read_bare_content(type_: yaml_token_type_t) -> Result<unnamed_yaml_token_t_data, LineProblem>
     ensures { IsReadAs result (bare_content type_) }
 {
     match type_ {
@@ -115,7 +115,7 @@ fn read_bare_content(type_: yaml_token_type_t) -> Result<unnamed_yaml_token_t_da
         yaml_token_type_t::YAML_FLOW_ENTRY_TOKEN => Ok(unnamed_yaml_token_t_data::FlowEntry),
         yaml_token_type_t::YAML_KEY_TOKEN => Ok(unnamed_yaml_token_t_data::Key),
         yaml_token_type_t::YAML_VALUE_TOKEN => Ok(unnamed_yaml_token_t_data::Value),
-        _ => Err(TokenLineError::BadLine),
+        _ => Err(LineProblem::BadTokenLine),
     }
 }
 
@@ -123,18 +123,18 @@ fn read_content_of_one(
     alloc: Global,
     type_: yaml_token_type_t,
     field: &[u8],
-) -> Result<unnamed_yaml_token_t_data, TokenLineError>
+) -> Result<unnamed_yaml_token_t_data, LineProblem>
     ensures { IsReadAs result (content_of_one type_ field.now) }
 {
     match type_ {
         yaml_token_type_t::YAML_STREAM_START_TOKEN => {
-            let encoding = read_encoding(field).ok_or(TokenLineError::BadLine)?;
+            let encoding = read_encoding(field).ok_or(LineProblem::BadTokenLine)?;
             Ok(unnamed_yaml_token_t_data::StreamStart(unnamed_yaml_token_t_data_stream_start {
                 encoding,
             }))
         }
         yaml_token_type_t::YAML_VERSION_DIRECTIVE_TOKEN => {
-            let version = read_version(field).ok_or(TokenLineError::BadLine)?;
+            let version = read_version(field).ok_or(LineProblem::BadTokenLine)?;
             Ok(unnamed_yaml_token_t_data::VersionDirective(version))
         }
         yaml_token_type_t::YAML_ALIAS_TOKEN => {
@@ -145,7 +145,7 @@ fn read_content_of_one(
             let value = read_text(alloc, field)?;
             Ok(unnamed_yaml_token_t_data::Anchor(unnamed_yaml_token_t_data_anchor { value }))
         }
-        _ => Err(TokenLineError::BadLine),
+        _ => Err(LineProblem::BadTokenLine),
     }
 }
 
@@ -154,7 +154,7 @@ fn read_content_of_two(
     type_: yaml_token_type_t,
     first: &[u8],
     second: &[u8],
-) -> Result<unnamed_yaml_token_t_data, TokenLineError>
+) -> Result<unnamed_yaml_token_t_data, LineProblem>
     ensures { IsReadAs result (content_of_two type_ first.now second.now) }
 {
     match type_ {
@@ -173,9 +173,9 @@ fn read_content_of_two(
         }
         yaml_token_type_t::YAML_SCALAR_TOKEN => {
             let value = read_text(alloc, first)?;
-            let style = read_scalar_style(second).ok_or(TokenLineError::BadLine)?;
+            let style = read_scalar_style(second).ok_or(LineProblem::BadTokenLine)?;
             Ok(unnamed_yaml_token_t_data::Scalar(unnamed_yaml_token_t_data_scalar { value, style }))
         }
-        _ => Err(TokenLineError::BadLine),
+        _ => Err(LineProblem::BadTokenLine),
     }
 }

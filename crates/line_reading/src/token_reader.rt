@@ -64,7 +64,7 @@ impl TokenReader {
                 self.given += 1;
                 Ok(token)
             }
-            Err(error) => Err(self.keep(LineProblem::from(error))),
+            Err(problem) => Err(self.keep(problem)),
         }
     }
 
