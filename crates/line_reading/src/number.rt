@@ -3,7 +3,7 @@ ghost use Rattle.std.specs.Prelude.{◌≡◌};
 ghost use Rattle.line_reading.specs.Number.{value_of, number_of, signed_of};
 
 /// The number that the digits write: no sign, no leading zero, within 64 bits.
-pub fn read_number(digits: &[u8]) -> Option<u64>
+fn read_number(digits: &[u8]) -> Option<u64>
     ensures { result ≡ number_of digits.now }
 {
     match digits {

@@ -53,7 +53,7 @@ impl<'a> Parts<'a> {
 }
 
 /// What stands before the first `separator`, and what stands behind it, if it is there.
-pub fn cut(text: &[u8], separator: u8) -> (&[u8], Option<&[u8]>)
+fn cut(text: &[u8], separator: u8) -> (&[u8], Option<&[u8]>)
     ensures before { result.0.now ≡ before_byte separator text.now }
     ensures behind { option_copied result.1 ≡ behind_byte separator text.now }
 {

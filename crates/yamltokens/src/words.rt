@@ -7,10 +7,10 @@ use std::io::{BufRead, Write};
 use token_lines::{Outcome, run_events, run_nodes};
 
 /// The exit status of words that ask for nothing, or that can't be read.
-pub const WRONG_WORDS: u8 = 2;
+const WRONG_WORDS: u8 = 2;
 
 /// The exit status where a write or a flush failed, or where no memory was found for a buffer.
-pub const OUTPUT_FAILED: u8 = 3;
+const OUTPUT_FAILED: u8 = 3;
 
 /// What the program is asked to write.
 #[derive(Copy, Clone)]
