@@ -10,7 +10,7 @@ use Rattle.std.proofs.Math.Nat.{pow-suc, pow-le-pow_right}
 use Rattle.std.proofs.Math.Numerals.{add-one}
 use Rattle.std.specs.Char.{is_ascii_digit}
 use Rattle.line_reading.specs.Number.{value_after, value_of, number_of}
-use Rattle.line_reading.specs.Front.{digits_of, behind_digits, number_at}
+use Rattle.line_reading.specs.Front.{digits_of, behind_digits, number_at, HasDigits}
 use Rattle.line_reading.proofs.Numerals.{value_after-end, value_after-digit, value_after-large}
 
 -- the first i bytes are digits of this value
@@ -64,28 +64,23 @@ read_too_much bytes i n h small d large =
     rw (no_value (digits_of bytes) none) refl
 
 -- the digits end at i
-pub record EndsAt (bytes : List ℕ) (i n : ℕ) : Type 0 where
-  pub digits : digits_of bytes ≡ take i bytes
-  pub behind : behind_digits bytes ≡ drop i bytes
-  pub value : value_of (take i bytes) ≡ Some n
-
-ends : (bytes : List ℕ) (i n : ℕ) → HasRead bytes i n → digits_of (drop i bytes) ≡ [] → behind_digits (drop i bytes) ≡ drop i bytes → EndsAt bytes i n
+ends : (bytes : List ℕ) (i n : ℕ) → HasRead bytes i n → digits_of (drop i bytes) ≡ [] → behind_digits (drop i bytes) ≡ drop i bytes → HasDigits bytes i n
 ends bytes i n h none rest =
     let all : digits_of bytes ≡ take i bytes = h.front ∙ ap (λ x. take i bytes ++ x) none ∙ append-nil (take i bytes) in
     record {
       digits = all;
       behind = h.behind ∙ rest;
-      value = ap value_of (sym all) ∙ h.value ∙ ap (value_after n) none ∙ value_after-end n h.fits;
+      value_is = ap value_of (sym all) ∙ h.value ∙ ap (value_after n) none ∙ value_after-end n h.fits;
     }
 
-pub ends_at_other : (bytes : List ℕ) (i n : ℕ) → HasRead bytes i n → i < length bytes → is_ascii_digit (get_or bytes i 0) ≡ false → EndsAt bytes i n
+pub ends_at_other : (bytes : List ℕ) (i n : ℕ) → HasRead bytes i n → i < length bytes → is_ascii_digit (get_or bytes i 0) ≡ false → HasDigits bytes i n
 ends_at_other bytes i n h small d =
     let b = get_or bytes i 0 in
     let r = drop (i + 1) bytes in
     let whole : drop i bytes ≡ b ∷ r = at_drop_more (λ x. x) bytes i 0 small in
     ends bytes i n h (ap digits_of whole ∙ digits-no b r d) (ap behind_digits whole ∙ behind-no b r d ∙ sym whole)
 
-pub ends_at_end : (bytes : List ℕ) (i n : ℕ) → HasRead bytes i n → length bytes ≤ i → EndsAt bytes i n
+pub ends_at_end : (bytes : List ℕ) (i n : ℕ) → HasRead bytes i n → length bytes ≤ i → HasDigits bytes i n
 ends_at_end bytes i n h large =
     let none : drop i bytes ≡ [] = at_drop_all (λ x. x) bytes i large in
     ends bytes i n h (ap digits_of none) (ap behind_digits none ∙ sym none)
@@ -111,25 +106,24 @@ too_much_within bytes k i n h small d large =
     read_too_much bytes i n h place.0 (rw (sym place.1) d) (rw (sym place.1) large)
 
 pub ends_within : (bytes : List ℕ) (k i n : ℕ) → HasRead bytes i n → i < length (take k bytes) → is_ascii_digit (get_or (take k bytes) i 0) ≡ false
-    → EndsAt bytes i n
+    → HasDigits bytes i n
 ends_within bytes k i n h small d =
     let place = front_place bytes k i small in
     ends_at_other bytes i n h place.0 (rw (sym place.1) d)
 
-pub ends_with_line : (line : List ℕ) (at i n : ℕ) → HasRead (drop at line) i n → i ≤ length (take (length line - at) (drop at line))
-    → length (take (length line - at) (drop at line)) ≤ i → EndsAt (drop at line) (length line - at) n
-ends_with_line line at i n h most least =
-    let size : length (take (length line - at) (drop at line)) ≡ length line - at = length-take (length line - at) (drop at line)
-    ∙ omega (arith, length-drop at line) in
-    let all : i ≡ length line - at = omega (arith, most, least, size) in
-    rw (← all) (ends_at_end (drop at line) i n h (omega (arith, all, length-drop at line)))
+pub ends_with_line : (line : List ℕ) (at end i n : ℕ) → end ≡ length line → HasRead (drop at line) i n → i ≤ length (take (end - at) (drop at line))
+    → length (take (end - at) (drop at line)) ≤ i → HasDigits (drop at line) (end - at) n
+ends_with_line line at end i n e h most least =
+    let size : length (take (end - at) (drop at line)) ≡ end - at = length-take (end - at) (drop at line) ∙ omega (arith, e, length-drop at line) in
+    let all : i ≡ end - at = omega (arith, most, least, size) in
+    rw (← all) (ends_at_end (drop at line) i n h (omega (arith, all, e, length-drop at line)))
 
 -- the number that stands there, or that there is none
 
-pub ended_none : (bytes : List ℕ) (i n : ℕ) → EndsAt bytes i n → number_of (take i bytes) ≡ None → number_at bytes ≡ None
+pub ended_none : (bytes : List ℕ) (i n : ℕ) → HasDigits bytes i n → number_of (take i bytes) ≡ None → number_at bytes ≡ None
 ended_none bytes i n h e = rw (h.digits, e) refl
 
-pub ended_some : (line : List ℕ) (at i n v end : ℕ) → EndsAt (drop at line) i n → number_of (take i (drop at line)) ≡ Some n → v ≡ n → end ≡ at + i
+pub ended_some : (line : List ℕ) (at i n v end : ℕ) → HasDigits (drop at line) i n → number_of (take i (drop at line)) ≡ Some n → v ≡ n → end ≡ at + i
     → number_at (drop at line) ≡ Some (v, drop end line)
 ended_some line at i n v end h e same place = rw (h.digits, e, h.behind, same, place, drop-drop i at line) refl
 

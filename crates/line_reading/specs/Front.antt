@@ -1,9 +1,9 @@
 -- How a line is read from its front. That this gives what `token_of_line` says is a lemma (proofs/FrontTokens).
-use Rattle.std.specs.Prelude.{ℕ, List, [], ◌∷◌, ◌==◌, Option, Some, None, option_map, if◌then◌else◌}
+use Rattle.std.specs.Prelude.{◌≡◌, ℕ, List, [], ◌∷◌, ◌==◌, take, drop, Option, Some, None, option_map, if◌then◌else◌}
 use Rattle.std.specs.Char.{is_ascii_digit}
 use Rattle.libyaml_types.specs.declared.mark.yaml_mark_t.{yaml_mark_t}
 use Rattle.libyaml_types.specs.declared.token.yaml_token_t.{yaml_token_t}
-use Rattle.line_reading.specs.Number.{number_of}
+use Rattle.line_reading.specs.Number.{value_of, number_of}
 use Rattle.line_reading.specs.Field.{◌>>=◌}
 use Rattle.line_reading.specs.Parts.{parts_of}
 use Rattle.line_reading.specs.TokenName.{token_type_of}
@@ -17,6 +17,12 @@ digits_of (b ∷ bs) = if is_ascii_digit b then b ∷ digits_of bs else []
 abbrev pub behind_digits : List ℕ → List ℕ
 behind_digits [] = []
 behind_digits (b ∷ bs) = if is_ascii_digit b then behind_digits bs else b ∷ bs
+
+-- so many digits are at the front, and no digit behind them, and this is their value
+pub record HasDigits (bytes : List ℕ) (len value : ℕ) : Type 0 where
+  pub digits : digits_of bytes ≡ take len bytes
+  pub behind : behind_digits bytes ≡ drop len bytes
+  pub value_is : value_of (take len bytes) ≡ Some value
 
 -- what stands before a byte, and what stands behind it, if it is there
 abbrev pub before_byte : ℕ → List ℕ → List ℕ

@@ -1,7 +1,7 @@
 //! Numbers and marks at places of a line.
-ghost use Rattle.std.specs.Prelude.{◌≡◌, ◌+◌, ◌≤◌, ◌<◌, Some, None, true, false, length, take, drop};
+ghost use Rattle.std.specs.Prelude.{◌≡◌, ◌+◌, ◌≤◌, ◌<◌, Some, None, true, false, length, drop};
 ghost use Rattle.line_reading.specs.Front.{behind_first, behind_field, further, number_at, mark_at};
-ghost use Rattle.line_reading.specs.Number.{value_of, number_of};
+ghost use Rattle.line_reading.specs.Front.{HasDigits};
 
 use libyaml_types::yaml_mark_t;
 
@@ -84,20 +84,17 @@ fn read_number(line: &[u8], at: usize) -> NumberRead
     if line.len() - at < FEW {
         return read_last_number(line, at);
     }
-    let mut value = 0u64;
-    for (len, digit) in line[at..at + FEW].iter().enumerate() {
-        if !digit.is_ascii_digit() {
-            return ended_number(line, at, len, value);
-        }
-        value = value * 10 + u64::from(*digit - b'0');
+    let digits = read_few_digits(line, at, at + FEW);
+    if digits.len == FEW {
+        return read_any_number(line, at);
     }
-    read_any_number(line, at)
+    ended_number(line, at, digits)
 }
 
 /// So many bytes are looked at without a look at the line's end, and so many digits are within 64 bits.
 const FEW: usize = 8;
 
-/// The same, where the line has few bytes left.
+/// The number at a place, where the line has few bytes left.
 #[inline(never)]
 fn read_last_number(line: &[u8], at: usize) -> NumberRead
     requires within { at ≤ length line.now }
@@ -109,17 +106,40 @@ fn read_last_number(line: &[u8], at: usize) -> NumberRead
       drop result.end line.now,
     ) }
 {
+    ended_number(line, at, read_few_digits(line, at, line.len()))
+}
+
+/// Digits that were read: how many, and their value.
+#[derive(Copy, Clone)]
+struct DigitsRead {
+    len: usize,
+    value: u64,
+}
+
+/// The digits at a place, up to `end` at most: too few for a value above 64 bits.
+#[inline(always)]
+fn read_few_digits(line: &[u8], at: usize, end: usize) -> DigitsRead
+    requires order { at ≤ end }
+    requires within { end ≤ length line.now }
+    requires few { end ≤ at + 19 }
+    ensures within { at + result.len ≤ end }
+    ensures before { at + result.len < end → HasDigits (drop at line.now) result.len result.value }
+    ensures at_end { end ≡ length line.now → HasDigits (drop at line.now) result.len result.value }
+{
     let mut value = 0u64;
-    for (len, digit) in line[at..].iter().enumerate() {
+    for (len, digit) in line[at..end].iter().enumerate() {
         if !digit.is_ascii_digit() {
-            return ended_number(line, at, len, value);
+            return DigitsRead { len, value };
         }
         value = value * 10 + u64::from(*digit - b'0');
     }
-    ended_number(line, at, line.len() - at, value)
+    DigitsRead {
+        len: end - at,
+        value,
+    }
 }
 
-/// The same, of any length.
+/// The number at a place, of any length.
 #[cold]
 #[inline(never)]
 fn read_any_number(line: &[u8], at: usize) -> NumberRead
@@ -134,7 +154,7 @@ fn read_any_number(line: &[u8], at: usize) -> NumberRead
     let mut value = 0u64;
     for (len, digit) in line[at..].iter().enumerate() {
         if !digit.is_ascii_digit() {
-            return ended_number(line, at, len, value);
+            return ended_number(line, at, DigitsRead { len, value });
         }
         let Some(tens) = value.checked_mul(10) else {
             return NO_NUMBER;
@@ -144,25 +164,29 @@ fn read_any_number(line: &[u8], at: usize) -> NumberRead
         };
         value = more;
     }
-    ended_number(line, at, line.len() - at, value)
+    let len = line.len() - at;
+    ended_number(line, at, DigitsRead { len, value })
 }
 
-/// The number of so many digits, whose value is known.
+/// The number that these digits at a place are.
 #[inline(always)]
-fn ended_number(line: &[u8], at: usize, len: usize, value: u64) -> NumberRead
-    requires within { at + len ≤ length line.now }
-    requires digits { value_of (take len (drop at line.now)) ≡ Some value }
-    ensures none { result.end ≡ 0 → number_of (take len (drop at line.now)) ≡ None }
-    ensures some { 0 < result.end → number_of (take len (drop at line.now)) ≡ Some value }
-    ensures value { 0 < result.end → result.value ≡ value }
-    ensures end { 0 < result.end → result.end ≡ at + len }
+fn ended_number(line: &[u8], at: usize, digits: DigitsRead) -> NumberRead
+    requires within { at + digits.len ≤ length line.now }
+    requires digits { HasDigits (drop at line.now) digits.len digits.value }
+    ensures within { result.end ≤ length line.now }
+    ensures none { result.end ≡ 0 → number_at (drop at line.now) ≡ None }
+    ensures some { 0 < result.end → number_at (drop at line.now) ≡ Some (
+      result.value,
+      drop result.end line.now,
+    ) }
 {
-    match &line[at..at + len] {
+    let end = at + digits.len;
+    match &line[at..end] {
         [] => NO_NUMBER,
         [b'0', _, ..] => NO_NUMBER,
         _ => NumberRead {
-            value,
-            end: at + len,
+            value: digits.value,
+            end,
         },
     }
 }

@@ -1,5 +1,5 @@
-use Rattle.std.proofs.Common.{◌≡◌, ◌+◌, ◌-◌, ◌*◌, slice_index_or, length, take, sym, drop, arith}
-use Rattle.line_reading.proofs.Fronts.{none_read, more_within, too_much_within, ends_within, ends_with_line, ended_none, ended_some}
+use Rattle.std.proofs.Common.{◌≡◌, ◌+◌, ◌-◌, ◌*◌, slice_index_or, length, take, sym, drop, refl, arith}
+use Rattle.line_reading.proofs.Fronts.{none_read, more_within, too_much_within, ends_within, ends_with_line}
 use Rattle.line_reading.proofs.front.read_any_number.Goals as goal
 
 pub loop-len-init : goal.loop-len-init
@@ -7,18 +7,7 @@ loop-len-init c = none_read (drop c.args.at c.args.line.now)
 
 pub ended_number-requires-clause-digits : goal.ended_number-requires-clause-digits
 ended_number-requires-clause-digits c =
-    let ends = ends_within _ _ c.loop-len.len c.loop-len.value c.loop-len.invariant c.loop-len-test.true (sym c.if-not-is_ascii_digit.ensures.value) in
-    ends.value
-
-pub returns-then-not-is_ascii_digit-clause-none : goal.returns-then-not-is_ascii_digit-clause-none
-returns-then-not-is_ascii_digit-clause-none c =
-    let ends = ends_within _ _ c.loop-len.len c.loop-len.value c.loop-len.invariant c.loop-len-test.true (sym c.if-not-is_ascii_digit.ensures.value) in
-    λ e. ended_none _ _ _ ends (c.ended_number.ensures.none e)
-
-pub returns-then-not-is_ascii_digit-clause-some : goal.returns-then-not-is_ascii_digit-clause-some
-returns-then-not-is_ascii_digit-clause-some c =
-    let ends = ends_within _ _ c.loop-len.len c.loop-len.value c.loop-len.invariant c.loop-len-test.true (sym c.if-not-is_ascii_digit.ensures.value) in
-    λ e. ended_some c.args.line.now c.args.at _ _ _ _ ends (c.ended_number.ensures.some e) (c.ended_number.ensures.value e) (c.ended_number.ensures.end e)
+    ends_within _ _ c.loop-len.len c.loop-len.value c.loop-len.invariant c.loop-len-test.true (sym c.if-not-is_ascii_digit.ensures.value)
 
 pub returns-in_default-clause-none : goal.returns-in_default-clause-none
 returns-in_default-clause-none c =
@@ -53,15 +42,4 @@ loop-len-preserved c =
 
 pub ended_number-requires-2-clause-digits : goal.ended_number-requires-2-clause-digits
 ended_number-requires-2-clause-digits c =
-    let ends = ends_with_line c.args.line.now c.args.at _ _ c.loop-len.invariant c.loop-len.auto.len-end c.loop-len-test.false in
-    ends.value
-
-pub returns-clause-none : goal.returns-clause-none
-returns-clause-none c =
-    let ends = ends_with_line c.args.line.now c.args.at _ _ c.loop-len.invariant c.loop-len.auto.len-end c.loop-len-test.false in
-    λ e. ended_none _ _ _ ends (c.ended_number-2.ensures.none e)
-
-pub returns-clause-some : goal.returns-clause-some
-returns-clause-some c =
-    let ends = ends_with_line c.args.line.now c.args.at _ _ c.loop-len.invariant c.loop-len.auto.len-end c.loop-len-test.false in
-    λ e. ended_some c.args.line.now c.args.at _ _ _ _ ends (c.ended_number-2.ensures.some e) (c.ended_number-2.ensures.value e) (c.ended_number-2.ensures.end e)
+    ends_with_line c.args.line.now c.args.at _ _ _ refl c.loop-len.invariant c.loop-len.auto.len-end c.loop-len-test.false
