@@ -22,9 +22,9 @@ pub record IsNamed (line : List ℕ) (n : ℕ) : Type 0 where
   pub name : before_byte 32 line ≡ take n line
   pub marks : behind_byte 32 line ≡ Some (drop (n + 1) line)
 
-pub named : (line : List ℕ) (n : ℕ) → n < length line → All (λ x. x ≢ 32) (take n line) → get_or line n 0 ≡ 32 → IsNamed line n
+pub named : (line : List ℕ) (n : ℕ) → n < length line → All (λ x. x ≢ 32) (take n line) → (n < length line → get_or line n 0 ≡ 32) → IsNamed line n
 named line n small clean found =
-    let both = cut_here 32 line n small clean found in
+    let both = cut_here 32 line n small clean (found small) in
     record { name = sym both.0; marks = sym both.1 }
 
 pub no_marks : (line : List ℕ) (n : ℕ) → length line ≤ n → All (λ x. x ≢ 32) (take n line) → token_at line ≡ None
