@@ -188,3 +188,14 @@ module _ {S : Type 0} (gives : S → Answer → S → Type 0) (known : S → Opt
       → NodeSteps known MayBreak (magnitude z) s q b c events ending)
       → (events : List yaml_event_t) (ending : Ending) → RunToCome known p events ending → NodeSteps known MayBreak (magnitude w) s q b c events ending
   steps_at steps events ending run = subst (λ (y : ℤ). NodeSteps known MayBreak (magnitude y) s q b c events ending) same (steps events ending run)
+
+pub last_load_at : {S W : Type 0} (gives : S → Answer → S → Type 0) (known : S → Option Coming) (MayBreak : S → Fault → Type 0) (contents : W
+    → Option (List ℕ)) (outcome : Outcome) (s : Step) (first p q : Parser S) (writer : W) (a c d : Option (List ℕ)) (asked : List yaml_token_t)
+    (given : List yaml_event_t) → p.max_entries ≡ first.max_entries
+    → AllLoaded gives (magnitude first.max_entries) first p a (contents writer) asked given
+    → (has_failed p ≡ false → LoadTurn gives known MayBreak (magnitude p.max_entries) s p q (contents writer) c)
+    → ((r : DocumentOrError) → StepForLoad s r (kept_fault q) (contents writer) c → WroteForLoad outcome r (kept_fault q) (contents writer) d)
+    → LastLoad gives known MayBreak contents (magnitude first.max_entries) outcome first q a d asked given
+last_load_at gives known MayBreak contents outcome s first p q writer a c d asked given bound earlier turns wrote =
+    last_load gives known MayBreak (magnitude first.max_entries) contents outcome s first p q writer a c d asked given earlier
+    (turn_at gives known MayBreak s p q (contents writer) c p.max_entries first.max_entries bound turns) wrote

@@ -8,7 +8,7 @@ use Rattle.line_writing.specs.FaultText.{fault_text}
 use Rattle.token_lines.specs.declared.run.Step.TheVariants as step
 use Rattle.token_lines.specs.NodeRun.{loads_ending, loads_lines}
 use Rattle.token_lines.proofs.NodeRunLemmas.{loads_fail, loads_last, loads_more, loads_none}
-use Rattle.token_lines.proofs.NodeTurnLemmas.{last_load, loads_end, loads_failed, loads_output, none_loaded, not_ended_is, one_loaded, steps_at, turn_at}
+use Rattle.token_lines.proofs.NodeTurnLemmas.{last_load_at, loads_end, loads_failed, loads_output, none_loaded, not_ended_is, one_loaded, steps_at, turn_at}
 use Rattle.token_lines.proofs.RunLemmas.{writes_ended, writes_faulted}
 use Rattle.token_lines.proofs.run.nodes.write_nodes.Goals as goal
 
@@ -100,41 +100,22 @@ returns-in-Failed-clause-kept g c failed =
 pub returns-in-Ended-clause-in_turn : goal.returns-in-Ended-clause-in_turn
 returns-in-Ended-clause-in_turn g c asked given history =
     let t = g.S.yaml_token_source_t in
-    let contents = g.W.Write.contents in
-    let p = c.loop-writer.parser in
-    let q = c.write_next.new.parser in
-    let n = magnitude c.args.parser.now.max_entries in
-    let turns = turn_at t.gives t.known t.may_break step.Ended p q (contents c.loop-writer.writer) (contents c.write_next.new.writer) _ _
-    c.loop-writer.invariant.bound c.in-Ended.ensures.turn in
-    last_load t.gives t.known t.may_break n contents c.flushed.result step.Ended c.args.parser.now p q c.loop-writer.writer (contents c.args.writer.now)
-    (contents c.write_next.new.writer) (contents c.flushed.new.writer) asked given (c.loop-writer.invariant.in_turn asked given history) turns
-    (loads_end c.flushed.result (kept_fault q) (contents c.loop-writer.writer) (contents c.write_next.new.writer) (contents c.flushed.new.writer)
-    c.flushed.ensures.outcome c.flushed.ensures.keeps)
+    let at = c.loop-writer in
+    last_load_at t.gives t.known t.may_break g.W.Write.contents c.flushed.result step.Ended c.args.parser.now at.parser c.write_next.new.parser at.writer _ _ _
+    asked given at.invariant.bound (at.invariant.in_turn asked given history) c.in-Ended.ensures.turn
+    (loads_end c.flushed.result _ _ _ _ c.flushed.ensures.outcome c.flushed.ensures.keeps)
 
 pub returns-in-Failed-clause-in_turn : goal.returns-in-Failed-clause-in_turn
 returns-in-Failed-clause-in_turn g c asked given history =
     let t = g.S.yaml_token_source_t in
-    let contents = g.W.Write.contents in
-    let p = c.loop-writer.parser in
-    let q = c.write_next.new.parser in
-    let n = magnitude c.args.parser.now.max_entries in
-    let turns = turn_at t.gives t.known t.may_break (step.Failed c.in-Failed.fault) p q (contents c.loop-writer.writer) (contents c.write_next.new.writer) _ _
-    c.loop-writer.invariant.bound c.in-Failed.ensures.turn in
-    last_load t.gives t.known t.may_break n contents c.faulted.result (step.Failed c.in-Failed.fault) c.args.parser.now p q c.loop-writer.writer
-    (contents c.args.writer.now) (contents c.write_next.new.writer) (contents c.faulted.new.writer) asked given
-    (c.loop-writer.invariant.in_turn asked given history) turns
-    (loads_failed c.faulted.result c.in-Failed.fault (kept_fault q) (contents c.loop-writer.writer) (contents c.write_next.new.writer)
-    (contents c.faulted.new.writer) c.faulted.ensures.not_ended c.faulted.ensures.writes)
+    let at = c.loop-writer in
+    last_load_at t.gives t.known t.may_break g.W.Write.contents c.faulted.result (step.Failed c.in-Failed.fault) c.args.parser.now at.parser
+    c.write_next.new.parser at.writer _ _ _ asked given at.invariant.bound (at.invariant.in_turn asked given history) c.in-Failed.ensures.turn
+    (loads_failed c.faulted.result c.in-Failed.fault _ _ _ _ c.faulted.ensures.not_ended c.faulted.ensures.writes)
 
 pub returns-in-OutputFailed-clause-in_turn : goal.returns-in-OutputFailed-clause-in_turn
 returns-in-OutputFailed-clause-in_turn g c asked given history =
     let t = g.S.yaml_token_source_t in
-    let contents = g.W.Write.contents in
-    let p = c.loop-writer.parser in
-    let q = c.write_next.new.parser in
-    let n = magnitude c.args.parser.now.max_entries in
-    let turns = turn_at t.gives t.known t.may_break step.OutputFailed p q (contents c.loop-writer.writer) (contents c.write_next.new.writer) _ _
-    c.loop-writer.invariant.bound c.in-OutputFailed.ensures.turn in
-    last_load t.gives t.known t.may_break n contents _ step.OutputFailed c.args.parser.now p q c.loop-writer.writer (contents c.args.writer.now)
-    (contents c.write_next.new.writer) (contents c.write_next.new.writer) asked given (c.loop-writer.invariant.in_turn asked given history) turns
-    (loads_output (kept_fault q) (contents c.loop-writer.writer) (contents c.write_next.new.writer) (contents c.write_next.new.writer))
+    let at = c.loop-writer in
+    last_load_at t.gives t.known t.may_break g.W.Write.contents _ step.OutputFailed c.args.parser.now at.parser c.write_next.new.parser at.writer _ _ _
+    asked given at.invariant.bound (at.invariant.in_turn asked given history) c.in-OutputFailed.ensures.turn (loads_output _ _ _ _)
