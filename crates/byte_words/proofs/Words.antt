@@ -21,26 +21,28 @@ word f (b ∷ bs) = word f bs * 2 ^ 8 + f b
 abbrev KeepsBytes : (ℕ → ℕ) → Type 0
 KeepsBytes f = (b : ℕ) → b < 2 ^ 8 → f b < 2 ^ 8
 
+-- an operation that works on the low eight bits for themselves
+abbrev WorksByBytes : (ℕ → ℕ → ℕ) → Type 0
+WorksByBytes op = (a b x y : ℕ) → x < 2 ^ 8 → y < 2 ^ 8 → op (a * 2 ^ 8 + x) (b * 2 ^ 8 + y) ≡ op a b * 2 ^ 8 + op x y
+
+on_word : (op : ℕ → ℕ → ℕ) → WorksByBytes op → op 0 0 ≡ 0 → (f g : ℕ → ℕ) → KeepsBytes f → KeepsBytes g → (bs : List ℕ) → AreBytes bs
+    → op (word f bs) (word g bs) ≡ word (λ b. op (f b) (g b)) bs
+on_word op works none f g F G [] h = none
+on_word op works none f g F G (b ∷ bs) h =
+    works (word f bs) (word g bs) (f b) (g b) (F b h.0) (G b h.0)
+    ∙ ap (λ w. w * 2 ^ 8 + op (f b) (g b)) (on_word op works none f g F G bs h.1)
+
 and_word : (f g : ℕ → ℕ) → KeepsBytes f → KeepsBytes g → (bs : List ℕ) → AreBytes bs
     → bit_and (word f bs) (word g bs) ≡ word (λ b. bit_and (f b) (g b)) bs
-and_word f g F G [] h = refl
-and_word f g F G (b ∷ bs) h =
-    and_block 8 (word f bs) (word g bs) (f b) (g b) (F b h.0) (G b h.0)
-    ∙ ap (λ w. w * 2 ^ 8 + bit_and (f b) (g b)) (and_word f g F G bs h.1)
+and_word = on_word bit_and (and_block 8) refl
 
 or_word : (f g : ℕ → ℕ) → KeepsBytes f → KeepsBytes g → (bs : List ℕ) → AreBytes bs
     → bit_or (word f bs) (word g bs) ≡ word (λ b. bit_or (f b) (g b)) bs
-or_word f g F G [] h = refl
-or_word f g F G (b ∷ bs) h =
-    or_block 8 (word f bs) (word g bs) (f b) (g b) (F b h.0) (G b h.0)
-    ∙ ap (λ w. w * 2 ^ 8 + bit_or (f b) (g b)) (or_word f g F G bs h.1)
+or_word = on_word bit_or (or_block 8) refl
 
 xor_word : (f g : ℕ → ℕ) → KeepsBytes f → KeepsBytes g → (bs : List ℕ) → AreBytes bs
     → bit_xor (word f bs) (word g bs) ≡ word (λ b. bit_xor (f b) (g b)) bs
-xor_word f g F G [] h = refl
-xor_word f g F G (b ∷ bs) h =
-    xor_block 8 (word f bs) (word g bs) (f b) (g b) (F b h.0) (G b h.0)
-    ∙ ap (λ w. w * 2 ^ 8 + bit_xor (f b) (g b)) (xor_word f g F G bs h.1)
+xor_word = on_word bit_xor (xor_block 8) refl
 
 add_word : (f g : ℕ → ℕ) → (bs : List ℕ) → word f bs + word g bs ≡ word (λ b. f b + g b) bs
 add_word f g [] = refl
