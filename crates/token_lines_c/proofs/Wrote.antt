@@ -2,7 +2,7 @@
 use Rattle.std.proofs.Common.{◌≡◌, ℕ, List, Option, length, ap, ◌∙◌, subst, inl, inr}
 use Rattle.libyaml_grammar.specs.runs.Fault.{Fault}
 use Rattle.libyaml_grammar.specs.runs.Runs.{Ending}
-use Rattle.token_lines.specs.LineRun.{Writes, WritesFault, whole, broken_off}
+use Rattle.token_lines.specs.LineRun.{Writes, whole, broken_off}
 use Rattle.token_lines.specs.declared.run.Outcome.{Outcome}
 use Rattle.token_lines.specs.declared.run.Outcome.TheVariants.{Ended, Faulted, OutputFailed}
 use Rattle.token_lines_c.specs.InMemory.{Fills, WritesInto, status_of}

@@ -1,5 +1,5 @@
 -- A run over bytes in memory (docs/DEFINITIONS.md, "Runs from C").
-use Rattle.std.specs.Prelude.{◌≡◌, ◌++◌, ℕ, List, [], Option, Some, length, take, drop}
+use Rattle.std.specs.Prelude.{◌≡◌, ◌++◌, ℕ, List, [], Some, length, take, drop}
 use Rattle.libyaml_grammar.specs.runs.Fault.{Fault}
 use Rattle.line_reading.specs.NextLine.{BreaksOffAt}
 use Rattle.token_lines.specs.declared.run.Outcome.{Outcome}
