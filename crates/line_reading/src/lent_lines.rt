@@ -1,4 +1,8 @@
 //! A source of tokens over the lines of a reader that is lent to it.
+//!
+//! It stands beside `yaml_line_source_t` because a run's contract names what is left in its caller's
+//! reader. A source that owns a `&mut R` couldn't tell that: std's `BufRead for &mut B` says what is left
+//! to read, but not that it stays the same loan.
 ghost use Rattle.std.specs.Prelude.{◌≡◌, ◌-◌, None};
 ghost use Rattle.libyaml_grammar.specs.runs.Fault.{answer_of};
 ghost use Rattle.line_reading.specs.LentLines.{lines_of, GivesLent};
