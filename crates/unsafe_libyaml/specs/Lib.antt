@@ -44,7 +44,6 @@ pub use Rattle.libyaml_grammar.specs.sentences.Trees
 pub use Rattle.libyaml_documents.specs.Documents
 pub use Rattle.libyaml_documents.specs.LoadedNodes
 pub use Rattle.libyaml_documents.specs.Nodes
-pub use Rattle.libyaml_documents.specs.Pairs
 pub use Rattle.libyaml_graphs.specs.Graphs
 pub use Rattle.libyaml_graphs.specs.Parts
 pub use Rattle.libyaml_graphs.specs.ComposerFaults
