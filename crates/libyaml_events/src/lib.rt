@@ -24,11 +24,12 @@ pub use source::yaml_token_source_t;
 pub use libyaml_grammar::{NO_FAULT, yaml_error_words, yaml_parser_t_prefix, yaml_source_fault_t};
 // The tokens, events and other types of the calls.
 pub use libyaml_types::{
-    TagDirectives, Text, ZERO_MARK, unnamed_yaml_event_t_data, unnamed_yaml_event_t_data_alias,
-    unnamed_yaml_event_t_data_document_end, unnamed_yaml_event_t_data_document_start,
-    unnamed_yaml_event_t_data_mapping_start, unnamed_yaml_event_t_data_scalar,
-    unnamed_yaml_event_t_data_sequence_start, unnamed_yaml_event_t_data_stream_start,
-    unnamed_yaml_token_t_data, unnamed_yaml_token_t_data_alias, unnamed_yaml_token_t_data_anchor,
+    ListOf, TagDirectives, Text, ZERO_MARK, unnamed_yaml_event_t_data,
+    unnamed_yaml_event_t_data_alias, unnamed_yaml_event_t_data_document_end,
+    unnamed_yaml_event_t_data_document_start, unnamed_yaml_event_t_data_mapping_start,
+    unnamed_yaml_event_t_data_scalar, unnamed_yaml_event_t_data_sequence_start,
+    unnamed_yaml_event_t_data_stream_start, unnamed_yaml_token_t_data,
+    unnamed_yaml_token_t_data_alias, unnamed_yaml_token_t_data_anchor,
     unnamed_yaml_token_t_data_scalar, unnamed_yaml_token_t_data_stream_start,
     unnamed_yaml_token_t_data_tag, unnamed_yaml_token_t_data_tag_directive,
     unnamed_yaml_token_t_data_version_directive, yaml_alias_event_initialize, yaml_break_t,

@@ -8,7 +8,7 @@ ghost use Rattle.line_writing.specs.FaultText.{context_line, fault_text};
 
 use crate::field_text::ABSENT;
 use crate::refusal::line_refusal_t;
-use libyaml_events::yaml_parser_t_prefix;
+use libyaml_grammar::yaml_parser_t_prefix;
 use libyaml_types::{yaml_error_type_t, yaml_mark_t};
 use std::io::Write;
 

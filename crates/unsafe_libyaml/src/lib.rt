@@ -23,11 +23,12 @@ pub use libyaml_events::{
 pub use libyaml_graphs::laws as graph_laws;
 pub use libyaml_loader::yaml_parser_load;
 pub use libyaml_types::{
-    TagDirectives, Text, ZERO_MARK, unnamed_yaml_event_t_data, unnamed_yaml_event_t_data_alias,
-    unnamed_yaml_event_t_data_document_end, unnamed_yaml_event_t_data_document_start,
-    unnamed_yaml_event_t_data_mapping_start, unnamed_yaml_event_t_data_scalar,
-    unnamed_yaml_event_t_data_sequence_start, unnamed_yaml_event_t_data_stream_start,
-    unnamed_yaml_token_t_data, unnamed_yaml_token_t_data_alias, unnamed_yaml_token_t_data_anchor,
+    ListOf, TagDirectives, Text, ZERO_MARK, unnamed_yaml_event_t_data,
+    unnamed_yaml_event_t_data_alias, unnamed_yaml_event_t_data_document_end,
+    unnamed_yaml_event_t_data_document_start, unnamed_yaml_event_t_data_mapping_start,
+    unnamed_yaml_event_t_data_scalar, unnamed_yaml_event_t_data_sequence_start,
+    unnamed_yaml_event_t_data_stream_start, unnamed_yaml_token_t_data,
+    unnamed_yaml_token_t_data_alias, unnamed_yaml_token_t_data_anchor,
     unnamed_yaml_token_t_data_scalar, unnamed_yaml_token_t_data_stream_start,
     unnamed_yaml_token_t_data_tag, unnamed_yaml_token_t_data_tag_directive,
     unnamed_yaml_token_t_data_version_directive, yaml_alias_event_initialize, yaml_break_t,
