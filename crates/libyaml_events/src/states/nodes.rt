@@ -21,6 +21,7 @@ ghost use Rattle.libyaml_grammar.specs.sentences.Events.{is_plain, plain_flag, q
 ghost use Rattle.libyaml_events.specs.machine.Machine.{scalar, sequence_start, mapping_start};
 ghost use Rattle.libyaml_events.specs.machine.Machine.{only_properties, no_content};
 ghost use Rattle.libyaml_events.specs.machine.Machine.{open_collection, scalar_content};
+ghost use Rattle.libyaml_events.specs.machine.Collections.{collection_start};
 ghost use Rattle.libyaml_events.specs.machine.Machine.{is_block_place, node_content};
 ghost use Rattle.libyaml_events.specs.machine.Machine.{content_behind, behind_properties};
 ghost use Rattle.libyaml_events.specs.machine.Machine.{parse_node};
@@ -44,6 +45,13 @@ use libyaml_types::{
     unnamed_yaml_token_t_data_scalar, yaml_error_type_t, yaml_event_t, yaml_mapping_style_t,
     yaml_mark_t, yaml_parser_state_t, yaml_scalar_style_t, yaml_sequence_style_t, yaml_token_t,
 };
+
+/// A kind of collection, and its style.
+#[derive(Copy, Clone)]
+enum CollectionStyle {
+    Sequence(yaml_sequence_style_t),
+    Mapping(yaml_mapping_style_t),
+}
 
 fn is_plain(style: yaml_scalar_style_t) -> bool
     ensures { result ≡ is_plain style }
@@ -323,34 +331,37 @@ impl<S> yaml_parser_t<S> {
                 self.scalar_content(head, scalar, end_mark, out)
             }
             unnamed_yaml_token_t_data::FlowSequenceStart => {
-                let style = yaml_sequence_style_t::YAML_FLOW_SEQUENCE_STYLE;
-                let content = sequence_start(head.anchor, head.tag, style);
+                let style = CollectionStyle::Sequence(
+                    yaml_sequence_style_t::YAML_FLOW_SEQUENCE_STYLE,
+                );
                 let state = yaml_parser_state_t::YAML_PARSE_FLOW_SEQUENCE_FIRST_ENTRY_STATE;
-                self.open_collection(content, state, head.start_mark, token, out)
+                self.open_collection(style, state, head, token, out)
             }
             unnamed_yaml_token_t_data::FlowMappingStart => {
-                let style = yaml_mapping_style_t::YAML_FLOW_MAPPING_STYLE;
-                let content = mapping_start(head.anchor, head.tag, style);
+                let style = CollectionStyle::Mapping(yaml_mapping_style_t::YAML_FLOW_MAPPING_STYLE);
                 let state = yaml_parser_state_t::YAML_PARSE_FLOW_MAPPING_FIRST_KEY_STATE;
-                self.open_collection(content, state, head.start_mark, token, out)
+                self.open_collection(style, state, head, token, out)
             }
             unnamed_yaml_token_t_data::BlockSequenceStart if place.is_block() => {
-                let style = yaml_sequence_style_t::YAML_BLOCK_SEQUENCE_STYLE;
-                let content = sequence_start(head.anchor, head.tag, style);
+                let style = CollectionStyle::Sequence(
+                    yaml_sequence_style_t::YAML_BLOCK_SEQUENCE_STYLE,
+                );
                 let state = yaml_parser_state_t::YAML_PARSE_BLOCK_SEQUENCE_FIRST_ENTRY_STATE;
-                self.open_collection(content, state, head.start_mark, token, out)
+                self.open_collection(style, state, head, token, out)
             }
             unnamed_yaml_token_t_data::BlockMappingStart if place.is_block() => {
-                let style = yaml_mapping_style_t::YAML_BLOCK_MAPPING_STYLE;
-                let content = mapping_start(head.anchor, head.tag, style);
+                let style = CollectionStyle::Mapping(
+                    yaml_mapping_style_t::YAML_BLOCK_MAPPING_STYLE,
+                );
                 let state = yaml_parser_state_t::YAML_PARSE_BLOCK_MAPPING_FIRST_KEY_STATE;
-                self.open_collection(content, state, head.start_mark, token, out)
+                self.open_collection(style, state, head, token, out)
             }
             unnamed_yaml_token_t_data::BlockEntry if place.may_be_indentless() => {
-                let style = yaml_sequence_style_t::YAML_BLOCK_SEQUENCE_STYLE;
-                let content = sequence_start(head.anchor, head.tag, style);
+                let style = CollectionStyle::Sequence(
+                    yaml_sequence_style_t::YAML_BLOCK_SEQUENCE_STYLE,
+                );
                 let state = yaml_parser_state_t::YAML_PARSE_INDENTLESS_SEQUENCE_ENTRY_STATE;
-                self.open_collection(content, state, head.start_mark, token, out)
+                self.open_collection(style, state, head, token, out)
             }
             _ => return self.parse_no_content(place, head, token, out),
         }
@@ -389,19 +400,23 @@ impl<S> yaml_parser_t<S> {
     /// for faults. What opens an indentless sequence is its first BLOCK-ENTRY.
     fn open_collection(
         &mut self,
-        content: unnamed_yaml_event_t_data,
+        style: CollectionStyle,
         state: yaml_parser_state_t,
-        start_mark: yaml_mark_t,
+        head: NodeHead,
         token: yaml_token_t,
         out: &mut yaml_event_t,
     )
-        ensures { Steps (open_collection content state start_mark self.old.config token) self.old
-            (Ok (Given out.new)) self.new }
+        ensures { Steps (open_collection (collection_start head.anchor head.tag style) state head.start_mark
+            self.old.config token) self.old (Ok (Given out.new)) self.new }
     {
         let end_mark = token.end_mark;
         self.set_state(state);
         self.keep(token);
-        give(out, content, start_mark, end_mark);
+        let content = match style {
+            CollectionStyle::Sequence(style) => sequence_start(head.anchor, head.tag, style),
+            CollectionStyle::Mapping(style) => mapping_start(head.anchor, head.tag, style),
+        };
+        give(out, content, head.start_mark, end_mark);
     }
 
     /// No content comes: properties alone are an empty scalar, and without these a fault is kept.
