@@ -26,7 +26,7 @@ digits_cond : (t : Bool) (b : ℕ) (bs : List ℕ) → bs ≡ digits_of bs ++ be
 digits_cond true b bs h = ap (λ x. b ∷ x) h
 digits_cond false b bs h = refl
 
-digits_behind : (bs : List ℕ) → bs ≡ digits_of bs ++ behind_digits bs
+pub digits_behind : (bs : List ℕ) → bs ≡ digits_of bs ++ behind_digits bs
 digits_behind [] = refl
 digits_behind (b ∷ bs) = digits_cond (is_ascii_digit b) b bs (digits_behind bs)
 
@@ -43,7 +43,7 @@ digits_clean c other [] = All-nil (λ x. x ≢ c)
 digits_clean c other (b ∷ bs) = clean_cond c (is_ascii_digit b) b bs (ne_digit c b other) (digits_clean c other bs)
 
 -- no digit stands behind the digits
-abbrev BeginsOther : List ℕ → Type 0
+abbrev pub BeginsOther : List ℕ → Type 0
 BeginsOther [] = Unit {0}
 BeginsOther (b ∷ bs) = is_ascii_digit b ≡ false
 
@@ -51,7 +51,7 @@ other_cond : (t : Bool) (b : ℕ) (bs : List ℕ) → is_ascii_digit b ≡ t →
 other_cond true b bs e h = h
 other_cond false b bs e h = e
 
-begins_other : (bs : List ℕ) → BeginsOther (behind_digits bs)
+pub begins_other : (bs : List ℕ) → BeginsOther (behind_digits bs)
 begins_other [] = tt
 begins_other (b ∷ bs) = other_cond (is_ascii_digit b) b bs refl (begins_other bs)
 
@@ -98,11 +98,11 @@ past_digits (b ∷ d) x y clean e =
     let h = past_digits d x y (All-tail (λ b. (b == 58) ≡ false) b d clean) e in
     rw (All-head (λ b. (b == 58) ≡ false) b d clean, h.1.1) (h.0, (h.1.0, refl))
 
-not_all_digits : (d : List ℕ) (x : ℕ) (g : List ℕ) → is_ascii_digit x ≡ false → all_ascii_digits (d ++ x ∷ g) ≡ false
+pub not_all_digits : (d : List ℕ) (x : ℕ) (g : List ℕ) → is_ascii_digit x ≡ false → all_ascii_digits (d ++ x ∷ g) ≡ false
 not_all_digits [] x g e = and_left (is_ascii_digit x) (all_ascii_digits g) e
 not_all_digits (b ∷ d) x g e = and_right (is_ascii_digit b) (all_ascii_digits (d ++ x ∷ g)) (not_all_digits d x g e)
 
-no_number : (p : List ℕ) → all_ascii_digits p ≡ false → number_of p ≡ None
+pub no_number : (p : List ℕ) → all_ascii_digits p ≡ false → number_of p ≡ None
 no_number p e = no_value p (rw e refl)
 
 -- what stands behind the digits
@@ -179,7 +179,7 @@ with_last K (p ∷ []) = number_of p >>= K
 with_last K (p ∷ q ∷ ps) = None
 
 -- a number, and what stands behind it
-abbrev with_rest : Option ℕ → List ℕ → Option (ℕ × List ℕ)
+abbrev pub with_rest : Option ℕ → List ℕ → Option (ℕ × List ℕ)
 with_rest o t = option_map (λ n. (n, t)) o
 
 -- no further number

@@ -6,3 +6,4 @@ pub mod LinesLemmas
 pub mod Fronts
 pub mod FrontTokens
 pub mod Marks
+pub mod WholeNumbers

@@ -63,16 +63,16 @@ fn ends_field(line: &[u8], at: usize) -> bool
 
 /// A number, and where its digits end: 0 where there is no number.
 #[derive(Copy, Clone)]
-struct NumberRead {
-    value: u64,
-    end: usize,
+pub struct NumberRead {
+    pub value: u64,
+    pub end: usize,
 }
 
 const NO_NUMBER: NumberRead = NumberRead { value: 0, end: 0 };
 
 /// The number at a place.
 #[inline(always)]
-fn read_number(line: &[u8], at: usize) -> NumberRead
+pub fn read_number(line: &[u8], at: usize) -> NumberRead
     requires { at ≤ length line.now }
     ensures within { result.end ≤ length line.now }
     ensures none { result.end ≡ 0 → number_at (drop at line.now) ≡ None }

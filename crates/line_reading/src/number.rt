@@ -1,32 +1,21 @@
 //! Numbers in decimal digits.
 ghost use Rattle.std.specs.Prelude.{◌≡◌};
-ghost use Rattle.line_reading.specs.Number.{value_of, number_of, signed_of};
+ghost use Rattle.line_reading.specs.Number.{number_of, signed_of};
+
+use crate::front::read_number;
 
 /// The number that the digits write: no sign, no leading zero, within 64 bits.
-fn read_number(digits: &[u8]) -> Option<u64>
+fn whole_number(digits: &[u8]) -> Option<u64>
     ensures { result ≡ number_of digits.now }
 {
-    match digits {
-        [] => None,
-        [b'0', _, ..] => None,
-        _ => decimal_value(digits),
+    let number = read_number(digits, 0);
+    if number.end == 0 {
+        return None;
     }
-}
-
-/// The value of decimal digits, where that is within 64 bits.
-fn decimal_value(digits: &[u8]) -> Option<u64>
-    ensures { result ≡ value_of digits.now }
-{
-    let mut value = 0u64;
-    for digit in digits {
-        if !digit.is_ascii_digit() {
-            return None;
-        }
-        value = value
-            .checked_mul(10)?
-            .checked_add(u64::from(*digit - b'0'))?;
+    if number.end < digits.len() {
+        return None;
     }
-    Some(value)
+    Some(number.value)
 }
 
 /// A number, or `-` and a number other than 0, within 32 bits.
@@ -35,12 +24,12 @@ pub fn read_signed(field: &[u8]) -> Option<i32>
 {
     match field {
         [b'-', digits @ ..] => {
-            let size = read_number(digits)?;
+            let size = whole_number(digits)?;
             if size == 0 {
                 return None;
             }
             i32::try_from(-i128::from(size)).ok()
         }
-        _ => i32::try_from(read_number(field)?).ok(),
+        _ => i32::try_from(whole_number(field)?).ok(),
     }
 }
