@@ -1,6 +1,5 @@
 -- How the fields and lines that are appended one by one make a document's text.
-use Rattle.std.proofs.Common.{◌≡◌, ◌++◌, ◌+◌, ◌<◌, ℕ, List, [], ◌∷◌, length, get_or, take, drop, map, codes, refl, ap, ◌∙◌, sym, subst, arith, append_assoc}
-use Rattle.std.proofs.Common.{Option, Result, Ok, Err, OnOk, is_ok, if◌then◌else◌}
+use Rattle.std.proofs.Common.{◌≡◌, ◌++◌, ◌+◌, ◌<◌, ℕ, List, [], ◌∷◌, length, get_or, take, drop, map, refl, ap, ◌∙◌, sym, arith, Option}
 use Rattle.std.specs.List.{concat}
 use Rattle.std.specs.Io.KnownBytes.{Appends}
 use Rattle.std.proofs.KnownBytes.{Appends-nil, Appends-trans}
@@ -8,8 +7,8 @@ use Rattle.std.proofs.lemmas.List.{append-nil, length-take-le, take_more, map-ap
 use Rattle.std.proofs.lemmas.List.Folds.{concat-append}
 use Rattle.libyaml_documents.specs.declared.node.yaml_node_t.{yaml_node_t}
 use Rattle.line_writing.specs.DocumentText.{WroteBefore, node_line, node_lines}
-use Rattle.line_writing.specs.FieldTexts.{line_text, behind_spaces}
-use Rattle.line_writing.proofs.SpacedLemmas.{behind_spaces-append, line_text-spaced}
+use Rattle.line_writing.specs.FieldTexts.{behind_spaces}
+use Rattle.line_writing.proofs.SpacedLemmas.{behind_spaces-append}
 
 -- one more of the fields that a list gives
 pub fields_more : {X : Type 0} (f : X → List ℕ) (xs : List X) (i : ℕ) (d : X) → i < length xs
@@ -18,34 +17,6 @@ fields_more f xs i d within =
     ap (λ l. behind_spaces (map f l)) (take_more xs i d within)
     ∙ ap behind_spaces (map-append f (take i xs) (get_or xs i d ∷ []))
     ∙ behind_spaces-append (map f (take i xs)) (f (get_or xs i d) ∷ [])
-
-regroup : (old id name marks tag fields end : List ℕ)
-    → (((((old ++ id) ++ name) ++ marks) ++ tag) ++ fields) ++ end ≡ old ++ (id ++ ((name ++ (marks ++ (tag ++ fields))) ++ end))
-regroup old id name marks tag fields end = simp append_assoc
-
-spaced : (name m1 m2 tag : List ℕ) (fields : List (List ℕ))
-    → behind_spaces (name ∷ []) ++ (behind_spaces (m1 ∷ m2 ∷ []) ++ (behind_spaces (tag ∷ []) ++ behind_spaces fields))
-    ≡ behind_spaces (name ∷ m1 ∷ m2 ∷ tag ∷ fields)
-spaced name m1 m2 tag fields =
-    ap (λ l. behind_spaces (name ∷ []) ++ (behind_spaces (m1 ∷ m2 ∷ []) ++ l)) (sym (behind_spaces-append (tag ∷ []) fields))
-    ∙ ap (λ l. behind_spaces (name ∷ []) ++ l) (sym (behind_spaces-append (m1 ∷ m2 ∷ []) (tag ∷ fields)))
-    ∙ sym (behind_spaces-append (name ∷ []) (m1 ∷ m2 ∷ tag ∷ fields))
-
--- an id, a name, two marks, a tag, the other fields and a line feed, one behind the other
-pub node_appended : {X E : Type 0} (old l1 l2 l3 l4 l5 l6 id name m1 m2 tag : List ℕ) (fields : List (List ℕ)) (r : Result X E) → l1 ≡ old ++ id
-    → l2 ≡ l1 ++ behind_spaces (name ∷ [])
-    → l3 ≡ l2 ++ behind_spaces (m1 ∷ m2 ∷ []) → l4 ≡ l3 ++ behind_spaces (tag ∷ []) → l5 ≡ l4 ++ behind_spaces fields
-    → l6 ≡ (if is_ok r then l5 ++ codes "\n" else l5)
-    → OnOk r (l6 ≡ old ++ line_text (id ∷ name ∷ m1 ∷ m2 ∷ tag ∷ fields))
-node_appended old l1 l2 l3 l4 l5 l6 id name m1 m2 tag fields (Err e) e1 e2 e3 e4 e5 e6 = tt
-node_appended old l1 l2 l3 l4 l5 l6 id name m1 m2 tag fields (Ok x) e1 e2 e3 e4 e5 e6 =
-    e6
-    ∙ ap (λ l. l ++ codes "\n") (e5
-    ∙ ap (λ l. l ++ behind_spaces fields) (e4
-    ∙ ap (λ l. l ++ behind_spaces (tag ∷ [])) (e3 ∙ ap (λ l. l ++ behind_spaces (m1 ∷ m2 ∷ [])) (e2 ∙ ap (λ l. l ++ behind_spaces (name ∷ [])) e1))))
-    ∙ regroup old id (behind_spaces (name ∷ [])) (behind_spaces (m1 ∷ m2 ∷ [])) (behind_spaces (tag ∷ [])) (behind_spaces fields) (codes "\n")
-    ∙ ap (λ l. old ++ (id ++ (l ++ codes "\n"))) (spaced name m1 m2 tag fields)
-    ∙ ap (λ l. old ++ l) (sym (line_text-spaced id (name ∷ m1 ∷ m2 ∷ tag ∷ fields)))
 
 -- the lines of some nodes, and then of others
 lines_then : (id : ℕ) (xs ys : List yaml_node_t) → node_lines id (xs ++ ys) ≡ node_lines id xs ++ node_lines (id + length xs) ys

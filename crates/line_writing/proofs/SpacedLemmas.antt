@@ -1,10 +1,9 @@
 -- How fields that are appended one by one make a line.
-use Rattle.std.proofs.Common.{◌≡◌, ◌++◌, ◌+◌, ◌<◌, ℕ, List, [], ◌∷◌, length, get_or, take, codes, refl, ap, ◌∙◌, sym, append_assoc, Result, Ok, Err, OnOk}
-use Rattle.std.proofs.Common.{is_ok, if◌then◌else◌}
+use Rattle.std.proofs.Common.{◌≡◌, ◌++◌, ◌+◌, ◌<◌, ℕ, List, [], ◌∷◌, length, get_or, take, codes, refl, ap, ◌∙◌, sym, append_assoc}
 use Rattle.std.specs.List.{join_with_byte}
 use Rattle.std.proofs.lemmas.List.{append-nil, take_more}
 use Rattle.libyaml_types.specs.declared.directive.yaml_tag_directive_t.{yaml_tag_directive_t}
-use Rattle.line_writing.specs.FieldTexts.{line_text, behind_spaces, directive_texts, string_text}
+use Rattle.line_writing.specs.FieldTexts.{line_text, line_rest, behind_spaces, directive_texts, string_text}
 
 pub join-spaced : (x : List ℕ) (xs : List (List ℕ)) → join_with_byte 0x20 (x ∷ xs) ≡ x ++ behind_spaces xs
 join-spaced x [] = sym (append-nil x)
@@ -31,17 +30,17 @@ directive_texts-more ds i d within =
     ∙ ap behind_spaces (directive_texts-append (take i ds) (get_or ds i d ∷ []))
     ∙ behind_spaces-append (directive_texts (take i ds)) (string_text (get_or ds i d).handle ∷ string_text (get_or ds i d).prefix ∷ [])
 
-regroup : (old name marks fields end : List ℕ) → (((old ++ name) ++ marks) ++ fields) ++ end ≡ old ++ (name ++ ((marks ++ fields) ++ end))
-regroup old name marks fields end = simp append_assoc
+regroup : (old first front middle rest end : List ℕ)
+    → ((old ++ (first ++ front)) ++ middle) ++ (rest ++ end) ≡ old ++ (first ++ ((front ++ (middle ++ rest)) ++ end))
+regroup old first front middle rest end = simp append_assoc
 
--- a name, two marks, the other fields and a line feed, one behind the other
-pub line_appended : {X E : Type 0} (old l1 l2 l3 l4 name m1 m2 : List ℕ) (fields : List (List ℕ)) (r : Result X E) → l1 ≡ old ++ name
-    → l2 ≡ l1 ++ behind_spaces (m1 ∷ m2 ∷ []) → l3 ≡ l2 ++ behind_spaces fields → l4 ≡ (if is_ok r then l3 ++ codes "\n" else l3)
-    → OnOk r (l4 ≡ old ++ line_text (name ∷ m1 ∷ m2 ∷ fields))
-line_appended old l1 l2 l3 l4 name m1 m2 fields (Err e) e1 e2 e3 e4 = tt
-line_appended old l1 l2 l3 l4 name m1 m2 fields (Ok x) e1 e2 e3 e4 =
-    e4
-    ∙ ap (λ l. l ++ codes "\n") (e3 ∙ ap (λ l. l ++ behind_spaces fields) (e2 ∙ ap (λ l. l ++ behind_spaces (m1 ∷ m2 ∷ [])) e1))
-    ∙ regroup old name (behind_spaces (m1 ∷ m2 ∷ [])) (behind_spaces fields) (codes "\n")
-    ∙ ap (λ l. old ++ (name ++ (l ++ codes "\n"))) (sym (behind_spaces-append (m1 ∷ m2 ∷ []) fields))
-    ∙ ap (λ l. old ++ l) (sym (line_text-spaced name (m1 ∷ m2 ∷ fields)))
+-- the first fields of a line, some others, and the rest with the line feed, one behind the other
+pub line_appended : (old l1 l2 l3 first : List ℕ) (front middle rest : List (List ℕ)) → l1 ≡ old ++ (first ++ behind_spaces front)
+    → l2 ≡ l1 ++ behind_spaces middle → l3 ≡ l2 ++ line_rest rest
+    → l3 ≡ old ++ line_text (first ∷ (front ++ (middle ++ rest)))
+line_appended old l1 l2 l3 first front middle rest e1 e2 e3 =
+    e3 ∙ ap (λ l. l ++ line_rest rest) (e2 ∙ ap (λ l. l ++ behind_spaces middle) e1)
+    ∙ regroup old first (behind_spaces front) (behind_spaces middle) (behind_spaces rest) (codes "\n")
+    ∙ ap (λ l. old ++ (first ++ ((behind_spaces front ++ l) ++ codes "\n"))) (sym (behind_spaces-append middle rest))
+    ∙ ap (λ l. old ++ (first ++ (l ++ codes "\n"))) (sym (behind_spaces-append front (middle ++ rest)))
+    ∙ ap (λ l. old ++ l) (sym (line_text-spaced first (front ++ (middle ++ rest))))

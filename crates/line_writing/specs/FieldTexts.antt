@@ -26,6 +26,10 @@ abbrev pub behind_spaces : List (List ℕ) → List ℕ
 behind_spaces [] = []
 behind_spaces (f ∷ fs) = 0x20 ∷ (f ++ behind_spaces fs)
 
+-- the last fields of a line, each behind a space, and the line feed that ends it
+abbrev pub line_rest : List (List ℕ) → List ℕ
+line_rest fields = behind_spaces fields ++ codes "\n"
+
 -- a field that is absent
 abbrev pub absent : List ℕ
 absent = codes "-"

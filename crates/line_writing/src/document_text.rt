@@ -6,14 +6,15 @@ ghost use Rattle.std.specs.Io.KnownBytes.{Appends};
 ghost use Rattle.line_writing.specs.DocumentText.{WroteBefore, document_fields, document_line};
 ghost use Rattle.line_writing.specs.DocumentText.{document_lines, node_fields, node_line};
 ghost use Rattle.line_writing.specs.DocumentText.{node_lines, node_name, pair_text};
-ghost use Rattle.line_writing.specs.FieldTexts.{behind_spaces};
+ghost use Rattle.line_writing.specs.FieldTexts.{behind_spaces, line_rest, string_text};
 
 use crate::event_line::write_line;
 use crate::field_text::{
-    append_directives, append_field, append_mapping_style, append_number, append_scalar_style,
+    append_directives, append_field, append_mapping_style, append_number, append_scalar_end,
     append_sequence_style, append_string, append_two_flags, append_version,
 };
 use crate::marks::append_marks;
+use crate::node_front::append_front;
 use crate::refusal::line_refusal_t;
 use itoa::Buffer;
 use libyaml_documents::{
@@ -70,58 +71,62 @@ fn append_document(line: &mut String, document: &yaml_document_t) -> Result<(), 
 {
     line.push_str("DOCUMENT")?;
     append_marks(line, &document.start_mark(), &document.end_mark())?;
-    append_document_fields(line, document)?;
-    line.push_str("\n")
+    append_document_rest(line, document)
 }
 
-/// Appends the fields of a document behind its marks.
-fn append_document_fields(line: &mut String, document: &yaml_document_t) -> Result<(), AllocError>
+/// Appends the fields of a document behind its marks, and the line feed.
+fn append_document_rest(line: &mut String, document: &yaml_document_t) -> Result<(), AllocError>
     ensures { OnOk result (string_bytes line.new ≡ string_bytes line.old
-        ++ behind_spaces (document_fields document.now)) }
+        ++ line_rest (document_fields document.now)) }
 {
     let directives = document.tag_directives();
     append_two_flags(line, document.start_implicit(), document.end_implicit())?;
     append_version(line, document.version_directive())?;
     append_number(line, directives.len())?;
-    append_directives(line, directives)
+    append_directives(line, directives)?;
+    line.push_str("\n")
 }
 
 /// Appends the line of the node of this id.
 fn append_node(line: &mut String, id: usize, node: &yaml_node_t) -> Result<(), AllocError>
     ensures { OnOk result (string_bytes line.new ≡ string_bytes line.old ++ node_line id node.now) }
 {
-    line.push_str(Buffer::new().format(id))?;
-    append_node_name(line, &node.content)?;
-    append_marks(line, &node.start_mark, &node.end_mark)?;
-    append_string(line, &node.tag)?;
-    append_node_fields(line, &node.content)?;
+    append_front(line, id, node)?;
+    append_tag(line, node)?;
+    append_node_rest(line, &node.content)
+}
+
+/// Appends the tag, the default of the node's kind by one constant.
+fn append_tag(line: &mut String, node: &yaml_node_t) -> Result<(), AllocError>
+    ensures { OnOk result (string_bytes line.new ≡ string_bytes line.old
+        ++ behind_spaces (string_text node.now.tag ∷ [])) }
+{
+    let tag = node.tag.as_str();
+    match node.content {
+        unnamed_yaml_node_t_data::Scalar(_) if tag == "tag:yaml.org,2002:str" => {
+            line.push_str(" =tag:yaml.org,2002:str")
+        }
+        unnamed_yaml_node_t_data::Sequence(_) if tag == "tag:yaml.org,2002:seq" => {
+            line.push_str(" =tag:yaml.org,2002:seq")
+        }
+        unnamed_yaml_node_t_data::Mapping(_) if tag == "tag:yaml.org,2002:map" => {
+            line.push_str(" =tag:yaml.org,2002:map")
+        }
+        _ => append_string(line, &node.tag),
+    }
+}
+
+/// Appends the fields of a node behind its tag, and the line feed.
+fn append_node_rest(line: &mut String, content: &unnamed_yaml_node_t_data) -> Result<(), AllocError>
+    ensures { OnOk result (string_bytes line.new ≡ string_bytes line.old
+        ++ line_rest (node_fields content.now)) }
+{
+    match content {
+        unnamed_yaml_node_t_data::Scalar(scalar) => return append_scalar_node(line, scalar),
+        unnamed_yaml_node_t_data::Sequence(sequence) => append_sequence_node(line, sequence)?,
+        unnamed_yaml_node_t_data::Mapping(mapping) => append_mapping_node(line, mapping)?,
+    }
     line.push_str("\n")
-}
-
-fn append_node_name(line: &mut String, content: &unnamed_yaml_node_t_data) -> Result<(), AllocError>
-    ensures { OnOk result (string_bytes line.new ≡ string_bytes line.old
-        ++ behind_spaces (node_name content.now ∷ [])) }
-{
-    match content {
-        unnamed_yaml_node_t_data::Scalar(_) => line.push_str(" SCALAR"),
-        unnamed_yaml_node_t_data::Sequence(_) => line.push_str(" SEQUENCE"),
-        unnamed_yaml_node_t_data::Mapping(_) => line.push_str(" MAPPING"),
-    }
-}
-
-/// Appends the fields of a node behind its tag.
-fn append_node_fields(
-    line: &mut String,
-    content: &unnamed_yaml_node_t_data,
-) -> Result<(), AllocError>
-    ensures { OnOk result (string_bytes line.new ≡ string_bytes line.old
-        ++ behind_spaces (node_fields content.now)) }
-{
-    match content {
-        unnamed_yaml_node_t_data::Scalar(scalar) => append_scalar_node(line, scalar),
-        unnamed_yaml_node_t_data::Sequence(sequence) => append_sequence_node(line, sequence),
-        unnamed_yaml_node_t_data::Mapping(mapping) => append_mapping_node(line, mapping),
-    }
 }
 
 fn append_scalar_node(
@@ -129,10 +134,10 @@ fn append_scalar_node(
     scalar: &unnamed_yaml_node_t_data_scalar,
 ) -> Result<(), AllocError>
     ensures { OnOk result (string_bytes line.new ≡ string_bytes line.old
-        ++ behind_spaces (node_fields (unnamed_yaml_node_t_data.Scalar scalar.now))) }
+        ++ line_rest (node_fields (unnamed_yaml_node_t_data.Scalar scalar.now))) }
 {
     append_string(line, &scalar.value)?;
-    append_scalar_style(line, scalar.style)
+    append_scalar_end(line, scalar.style)
 }
 
 fn append_sequence_node(

@@ -2,12 +2,12 @@
 ghost use Rattle.std.specs.Prelude.{◌≡◌, ◌++◌, [], ◌∷◌, OnOk, Err, IsOkUnless, string_bytes};
 ghost use Rattle.std.specs.Io.KnownBytes.{Appends};
 ghost use Rattle.line_writing.specs.EventText.{event_name, event_fields, event_line};
-ghost use Rattle.line_writing.specs.FieldTexts.{behind_spaces, directive_texts};
+ghost use Rattle.line_writing.specs.FieldTexts.{behind_spaces, directive_texts, line_rest};
 ghost use Rattle.line_writing.specs.FieldTexts.{optional_version_text, flag_text};
 
 use crate::field_text::{
     append_directives, append_encoding, append_flag, append_mapping_style, append_number,
-    append_properties, append_scalar_style, append_sequence_style, append_string, append_two_flags,
+    append_properties, append_scalar_end, append_sequence_style, append_string, append_two_flags,
     append_version,
 };
 use crate::marks::append_marks;
@@ -55,8 +55,7 @@ pub fn append_event(line: &mut String, event: &yaml_event_t) -> Result<(), Alloc
 {
     append_name(line, &event.content)?;
     append_marks(line, &event.start_mark, &event.end_mark)?;
-    append_fields(line, &event.content)?;
-    line.push_str("\n")
+    append_rest(line, &event.content)
 }
 
 fn append_name(line: &mut String, content: &unnamed_yaml_event_t_data) -> Result<(), AllocError>
@@ -77,24 +76,25 @@ fn append_name(line: &mut String, content: &unnamed_yaml_event_t_data) -> Result
     }
 }
 
-/// Appends the fields behind the marks.
-fn append_fields(line: &mut String, content: &unnamed_yaml_event_t_data) -> Result<(), AllocError>
+/// Appends the fields behind the marks, and the line feed.
+fn append_rest(line: &mut String, content: &unnamed_yaml_event_t_data) -> Result<(), AllocError>
     ensures { OnOk result (string_bytes line.new ≡ string_bytes line.old
-        ++ behind_spaces (event_fields content.now)) }
+        ++ line_rest (event_fields content.now)) }
 {
     match content {
-        unnamed_yaml_event_t_data::StreamStart(start) => append_encoding(line, start.encoding),
-        unnamed_yaml_event_t_data::DocumentStart(start) => append_document_start(line, start),
-        unnamed_yaml_event_t_data::DocumentEnd(end) => append_flag(line, end.implicit),
-        unnamed_yaml_event_t_data::Alias(alias) => append_string(line, &alias.anchor),
-        unnamed_yaml_event_t_data::Scalar(scalar) => append_scalar(line, scalar),
-        unnamed_yaml_event_t_data::SequenceStart(start) => append_sequence_start(line, start),
-        unnamed_yaml_event_t_data::MappingStart(start) => append_mapping_start(line, start),
+        unnamed_yaml_event_t_data::StreamStart(start) => append_encoding(line, start.encoding)?,
+        unnamed_yaml_event_t_data::DocumentStart(start) => append_document_start(line, start)?,
+        unnamed_yaml_event_t_data::DocumentEnd(end) => append_flag(line, end.implicit)?,
+        unnamed_yaml_event_t_data::Alias(alias) => append_string(line, &alias.anchor)?,
+        unnamed_yaml_event_t_data::Scalar(scalar) => return append_scalar(line, scalar),
+        unnamed_yaml_event_t_data::SequenceStart(start) => append_sequence_start(line, start)?,
+        unnamed_yaml_event_t_data::MappingStart(start) => append_mapping_start(line, start)?,
         unnamed_yaml_event_t_data::NoEvent
         | unnamed_yaml_event_t_data::StreamEnd
         | unnamed_yaml_event_t_data::SequenceEnd
-        | unnamed_yaml_event_t_data::MappingEnd => Ok(()),
+        | unnamed_yaml_event_t_data::MappingEnd => {}
     }
+    line.push_str("\n")
 }
 
 fn append_document_start(
@@ -116,12 +116,12 @@ fn append_scalar(
     scalar: &unnamed_yaml_event_t_data_scalar,
 ) -> Result<(), AllocError>
     ensures { OnOk result (string_bytes line.new ≡ string_bytes line.old
-        ++ behind_spaces (event_fields (unnamed_yaml_event_t_data.Scalar scalar.now))) }
+        ++ line_rest (event_fields (unnamed_yaml_event_t_data.Scalar scalar.now))) }
 {
     append_properties(line, &scalar.anchor, &scalar.tag)?;
     append_string(line, &scalar.value)?;
     append_two_flags(line, scalar.plain_implicit, scalar.quoted_implicit)?;
-    append_scalar_style(line, scalar.style)
+    append_scalar_end(line, scalar.style)
 }
 
 fn append_sequence_start(

@@ -3,7 +3,7 @@ ghost use Rattle.std.specs.Prelude.{◌≡◌, ◌++◌, [], ◌∷◌, OnOk, st
 ghost use Rattle.line_writing.specs.FieldTexts.{behind_spaces, optional_version_text, flag_text};
 ghost use Rattle.line_writing.specs.FieldTexts.{string_text, optional_string_text, directive_texts};
 ghost use Rattle.line_writing.specs.FieldTexts.{encoding_text, scalar_style_text};
-ghost use Rattle.line_writing.specs.FieldTexts.{sequence_style_text, mapping_style_text};
+ghost use Rattle.line_writing.specs.FieldTexts.{sequence_style_text, mapping_style_text, line_rest};
 
 use crate::escape::append_escaped;
 use itoa::Buffer;
@@ -138,20 +138,21 @@ pub(crate) fn append_encoding(
     }
 }
 
-pub(crate) fn append_scalar_style(
+/// Appends the last field of a scalar's line, and the line feed with it.
+pub(crate) fn append_scalar_end(
     line: &mut String,
     style: yaml_scalar_style_t,
 ) -> Result<(), AllocError>
     ensures { OnOk result (string_bytes line.new ≡ string_bytes line.old
-        ++ behind_spaces (scalar_style_text style ∷ [])) }
+        ++ line_rest (scalar_style_text style ∷ [])) }
 {
     match style {
-        yaml_scalar_style_t::YAML_ANY_SCALAR_STYLE => line.push_str(" any"),
-        yaml_scalar_style_t::YAML_PLAIN_SCALAR_STYLE => line.push_str(" plain"),
-        yaml_scalar_style_t::YAML_SINGLE_QUOTED_SCALAR_STYLE => line.push_str(" single"),
-        yaml_scalar_style_t::YAML_DOUBLE_QUOTED_SCALAR_STYLE => line.push_str(" double"),
-        yaml_scalar_style_t::YAML_LITERAL_SCALAR_STYLE => line.push_str(" literal"),
-        yaml_scalar_style_t::YAML_FOLDED_SCALAR_STYLE => line.push_str(" folded"),
+        yaml_scalar_style_t::YAML_ANY_SCALAR_STYLE => line.push_str(" any\n"),
+        yaml_scalar_style_t::YAML_PLAIN_SCALAR_STYLE => line.push_str(" plain\n"),
+        yaml_scalar_style_t::YAML_SINGLE_QUOTED_SCALAR_STYLE => line.push_str(" single\n"),
+        yaml_scalar_style_t::YAML_DOUBLE_QUOTED_SCALAR_STYLE => line.push_str(" double\n"),
+        yaml_scalar_style_t::YAML_LITERAL_SCALAR_STYLE => line.push_str(" literal\n"),
+        yaml_scalar_style_t::YAML_FOLDED_SCALAR_STYLE => line.push_str(" folded\n"),
     }
 }
 

@@ -9,7 +9,7 @@ use percent_encoding::ascii_str;
 use std::alloc::AllocError;
 
 /// Two marks take at most this many bytes: six numbers, and a byte before each.
-const TWO_MARKS: usize = 126;
+pub(crate) const TWO_MARKS: usize = 126;
 
 /// Appends two marks, each behind a space.
 pub(crate) fn append_marks(
@@ -27,7 +27,7 @@ pub(crate) fn append_marks(
 }
 
 /// Writes a space and the mark before `end`, and returns where they start.
-fn write_mark(mark: &yaml_mark_t, text: &mut [u8], end: usize) -> usize
+pub(crate) fn write_mark(mark: &yaml_mark_t, text: &mut [u8], end: usize) -> usize
     requires { (63 ≤ end) × (end ≤ length text.old) }
     ensures start { (result < end) × (end ≤ result + 63) }
     ensures written { drop result text.new ≡ behind_spaces (mark_text mark.now ∷ []) ++ drop end text.old }
