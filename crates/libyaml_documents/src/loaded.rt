@@ -18,6 +18,7 @@ use libyaml_types::{
 use std::alloc::{AllocError, Global};
 
 /// The tag of a loaded node: the given one, but `default` where none is given, or `!`.
+#[inline(always)]
 fn tag_of(alloc: Global, tag: Option<Text>, default: &str) -> Result<Text, AllocError>
     ensures ok { IfOk result (λ text. text ≡ loaded_tag default.now tag) }
     ensures refused { OnErr result (takes_default tag ≡ true) }

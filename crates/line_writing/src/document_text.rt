@@ -1,11 +1,11 @@
 //! Documents as lines.
 ghost use Rattle.std.specs.Prelude.{◌≡◌, ◌++◌, [], ◌∷◌, OnOk, Err, map, string_bytes};
 ghost use Rattle.std.specs.List.{concat};
-ghost use Rattle.std.specs.Fmt.{decimal, signed_decimal};
+ghost use Rattle.std.specs.Fmt.{signed_decimal};
 ghost use Rattle.std.specs.Io.KnownBytes.{Appends};
 ghost use Rattle.line_writing.specs.DocumentText.{WroteBefore, document_fields, document_line};
 ghost use Rattle.line_writing.specs.DocumentText.{document_lines, node_fields, node_line};
-ghost use Rattle.line_writing.specs.DocumentText.{node_lines, node_name, pair_text};
+ghost use Rattle.line_writing.specs.DocumentText.{node_lines, pair_text};
 ghost use Rattle.line_writing.specs.FieldTexts.{behind_spaces, line_rest, string_text};
 
 use crate::event_line::write_line;
@@ -186,6 +186,7 @@ fn append_pairs(line: &mut String, pairs: &[yaml_node_pair_t]) -> Result<(), All
     Ok(())
 }
 
+#[inline(always)]
 fn append_id(line: &mut String, id: yaml_node_item_t) -> Result<(), AllocError>
     ensures { OnOk result (string_bytes line.new ≡ string_bytes line.old
         ++ behind_spaces (signed_decimal id ∷ [])) }

@@ -1,9 +1,8 @@
 //! Events as lines.
-ghost use Rattle.std.specs.Prelude.{◌≡◌, ◌++◌, [], ◌∷◌, OnOk, Err, IsOkUnless, string_bytes};
+ghost use Rattle.std.specs.Prelude.{◌≡◌, ◌++◌, OnOk, Err, IsOkUnless, string_bytes};
 ghost use Rattle.std.specs.Io.KnownBytes.{Appends};
 ghost use Rattle.line_writing.specs.EventText.{event_name, event_fields, event_line};
-ghost use Rattle.line_writing.specs.FieldTexts.{behind_spaces, directive_texts, line_rest};
-ghost use Rattle.line_writing.specs.FieldTexts.{optional_version_text, flag_text};
+ghost use Rattle.line_writing.specs.FieldTexts.{behind_spaces, line_rest};
 
 use crate::field_text::{
     append_directives, append_encoding, append_flag, append_mapping_style, append_number,

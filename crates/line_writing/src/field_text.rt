@@ -24,6 +24,7 @@ pub(crate) fn append_field(line: &mut String, field: &str) -> Result<(), AllocEr
     line.push_str(field)
 }
 
+#[inline(always)]
 pub(crate) fn append_number(line: &mut String, number: usize) -> Result<(), AllocError>
     ensures { OnOk result (string_bytes line.new ≡ string_bytes line.old
         ++ behind_spaces (decimal number ∷ [])) }
