@@ -61,17 +61,29 @@ fn construct(alloc: Global, constructor: Constructor) -> Result<yaml_event_t, ya
     }
 }
 
-/// What a constructor gives, asked again where it answers `Memory`.
-///
-/// Errors: want of memory beside that, and another refusal.
-pub fn constructed(alloc: Global, constructor: Constructor) -> Result<String> {
-    let event = match construct(alloc, constructor) {
-        Err(yaml_refusal_t::Memory) => construct(alloc, constructor)?,
-        answer => answer?,
-    };
+/// What a constructor gives, called again where it answers `Memory`.
+fn construct_again(
+    alloc: Global,
+    constructor: Constructor,
+) -> Result<yaml_event_t, yaml_refusal_t> {
+    match construct(alloc, constructor) {
+        Err(yaml_refusal_t::Memory) => construct(alloc, constructor),
+        answer => answer,
+    }
+}
+
+fn shown_event(alloc: Global, event: &yaml_event_t) -> Result<String> {
     let mut shown = String::new(alloc);
-    show_event(&mut shown, &event)?;
+    show_event(&mut shown, event)?;
     Ok(shown)
+}
+
+/// The event of a constructor, shown.
+///
+/// Errors: want of memory beside the constructor's first call, and another refusal.
+pub fn constructed(alloc: Global, constructor: Constructor) -> Result<String> {
+    let event = construct_again(alloc, constructor)?;
+    shown_event(alloc, &event)
 }
 
 /// A call on a document. The ids are those that earlier calls answered.
@@ -104,6 +116,10 @@ const CALLS: [Call; 17] = [
     Call::Sequence,
     Call::Scalar,
 ];
+
+fn calls() -> &'static [Call] {
+    &CALLS
+}
 
 /// Whether a node of this type has this id.
 pub fn is_at(document: &yaml_document_t, id: i32, wanted: yaml_node_type_t) -> bool
@@ -146,32 +162,59 @@ fn begin(alloc: Global) -> Result<yaml_document_t, yaml_refusal_t> {
     yaml_document_initialize(alloc, None, DIRECTIVES.as_slice(), true, false)
 }
 
-/// Makes a call, again where it answers `Memory`, which has to leave the document as it was.
-fn make_again(alloc: Global, document: &mut yaml_document_t, call: Call) -> Result<()> {
-    let mut before = String::new(alloc);
-    show_document(&mut before, document)?;
-    if let Err(refusal) = make(document, call) {
-        ensure!(refusal == yaml_refusal_t::Memory, "another refusal");
-        let mut after = String::new(alloc);
-        show_document(&mut after, document)?;
-        ensure!(after == before, "a refused call changed the document");
-        make(document, call)?;
+fn begin_again(alloc: Global) -> Result<yaml_document_t, yaml_refusal_t> {
+    match begin(alloc) {
+        Err(yaml_refusal_t::Memory) => begin(alloc),
+        answer => answer,
     }
+}
+
+fn shown_document(alloc: Global, document: &yaml_document_t) -> Result<String> {
+    let mut shown = String::new(alloc);
+    show_document(&mut shown, document)?;
+    Ok(shown)
+}
+
+fn is_shown_so(alloc: Global, document: &yaml_document_t, text: &str) -> Result<bool> {
+    let shown = shown_document(alloc, document)?;
+    Ok(shown.as_str() == text)
+}
+
+/// Makes a call, again where it answers `Memory`, which has to leave the document as it was shown before.
+fn make_behind(
+    alloc: Global,
+    document: &mut yaml_document_t,
+    call: Call,
+    before: &str,
+) -> Result<()> {
+    let Err(refusal) = make(document, call) else {
+        return Ok(());
+    };
+    ensure!(refusal == yaml_refusal_t::Memory, "another refusal");
+    ensure!(
+        is_shown_so(alloc, document, before)?,
+        "a refused call changed the document"
+    );
+    make(document, call)?;
     Ok(())
+}
+
+fn make_again(alloc: Global, document: &mut yaml_document_t, call: Call) -> Result<()> {
+    let before = shown_document(alloc, document)?;
+    make_behind(alloc, document, call, before.as_str())
+}
+
+fn make_all(alloc: Global, document: &mut yaml_document_t) -> Result<String> {
+    for call in calls() {
+        make_again(alloc, document, *call)?;
+    }
+    shown_document(alloc, document)
 }
 
 /// The document behind all calls, each made again where it answers `Memory`.
 ///
 /// Errors: want of memory beside that, another refusal, and a refused call that changed the document.
 pub fn built(alloc: Global) -> Result<String> {
-    let mut document = match begin(alloc) {
-        Err(yaml_refusal_t::Memory) => begin(alloc)?,
-        answer => answer?,
-    };
-    for call in CALLS {
-        make_again(alloc, &mut document, call)?;
-    }
-    let mut shown = String::new(alloc);
-    show_document(&mut shown, &document)?;
-    Ok(shown)
+    let mut document = begin_again(alloc)?;
+    make_all(alloc, &mut document)
 }

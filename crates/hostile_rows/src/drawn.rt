@@ -4,77 +4,85 @@
 //! 3 + (x / 65536) mod 19 and whose texts have x mod 70 bytes joins the list, where parsing the list with it
 //! behind ends in the source's fault; then x becomes (1103515245 x + 12345) mod 2147483648.
 
+use crate::readings::next_nodes;
 use anyhow::Result;
 use row_notation::{EVERY_CALL, PieceReader, end_of_row, source_of, tokens_of};
 use std::alloc::Global;
 use std::fmt::Write;
-use token_lines::{Outcome, run_events, write_events};
+use token_lines::{Outcome, run_events, run_nodes, write_events, write_nodes};
 use unsafe_libyaml::{
-    YAML_MEMORY_ERROR, YAML_READER_ERROR, ZERO_MARK, yaml_error_type_t, yaml_list_source_t,
-    yaml_mark_t, yaml_parser_between_documents, yaml_parser_initialize, yaml_parser_load,
-    yaml_parser_parse_all, yaml_source_fault_t,
+    YAML_COMPOSER_ERROR, YAML_READER_ERROR, ZERO_MARK, yaml_error_type_t, yaml_list_source_t,
+    yaml_mark_t, yaml_parser_initialize, yaml_parser_parse_all, yaml_parser_t, yaml_source_fault_t,
+    yaml_token_source_t,
 };
 
 /// How many tokens are drawn for a list.
 const DRAWN: u32 = 200;
+
+/// A token's name, and what stands behind it in a row, and behind its marks in a line, with `@` for a text.
+type Kind = (&'static str, &'static str, &'static str);
+
+/// The tokens that are drawn, in the order of their types' numbers from 3.
+const KINDS: [Kind; 19] = [
+    ("VERSION-DIRECTIVE", "(1,1)", " 1.1"),
+    ("TAG-DIRECTIVE", "(@,@)", " =@ =@"),
+    ("DOCUMENT-START", "", ""),
+    ("DOCUMENT-END", "", ""),
+    ("BLOCK-SEQUENCE-START", "", ""),
+    ("BLOCK-MAPPING-START", "", ""),
+    ("BLOCK-END", "", ""),
+    ("FLOW-SEQUENCE-START", "", ""),
+    ("FLOW-SEQUENCE-END", "", ""),
+    ("FLOW-MAPPING-START", "", ""),
+    ("FLOW-MAPPING-END", "", ""),
+    ("BLOCK-ENTRY", "", ""),
+    ("FLOW-ENTRY", "", ""),
+    ("KEY", "", ""),
+    ("VALUE", "", ""),
+    ("ALIAS", "(@)", " =@"),
+    ("ANCHOR", "(@)", " =@"),
+    ("TAG", "(,@)", " = =@"),
+    ("SCALAR", "(@)", " =@ plain"),
+];
+
+fn kinds() -> &'static [Kind] {
+    &KINDS
+}
+
+/// The longest text, of 69 bytes.
+const LONGEST: &str = "aaaaaaaaaaaaaaaaaaaaaaaaaaaaaaaaaaaaaaaaaaaaaaaaaaaaaaaaaaaaaaaaaaaaa";
+
+/// A token: its kind, and its texts.
+#[derive(Copy, Clone)]
+struct Token {
+    kind: Kind,
+    text: &'static str,
+}
+
+impl Token {
+    /// The token that is drawn by x; none behind the last number of a type.
+    fn drawn(x: u64) -> Option<Self> {
+        let kind = *kinds().get(((x / 65536) % 19) as usize)?;
+        let text = LONGEST.get(..(x % 70) as usize)?;
+        Some(Token { kind, text })
+    }
+}
 
 /// The number that is drawn behind x.
 fn next_number(x: u64) -> u64 {
     x.wrapping_mul(1_103_515_245).wrapping_add(12345) % 2_147_483_648
 }
 
-/// A token's name, by the number of its type.
-fn name_of(number: u64) -> &'static str {
-    match number {
-        3 => "VERSION-DIRECTIVE",
-        4 => "TAG-DIRECTIVE",
-        5 => "DOCUMENT-START",
-        6 => "DOCUMENT-END",
-        7 => "BLOCK-SEQUENCE-START",
-        8 => "BLOCK-MAPPING-START",
-        9 => "BLOCK-END",
-        10 => "FLOW-SEQUENCE-START",
-        11 => "FLOW-SEQUENCE-END",
-        12 => "FLOW-MAPPING-START",
-        13 => "FLOW-MAPPING-END",
-        14 => "BLOCK-ENTRY",
-        15 => "FLOW-ENTRY",
-        16 => "KEY",
-        17 => "VALUE",
-        18 => "ALIAS",
-        19 => "ANCHOR",
-        20 => "TAG",
-        _ => "SCALAR",
-    }
-}
-
-/// What stands behind a token's name in a row, and behind its marks in a line, where each text is `text`.
-fn payloads(alloc: Global, name: &str, text: &str) -> Result<(String, String)> {
-    Ok(match name {
-        "VERSION-DIRECTIVE" => (
-            String::from_str(alloc, "(1,1)")?,
-            String::from_str(alloc, " 1.1")?,
-        ),
-        "TAG-DIRECTIVE" => {
-            (
-                format!(in alloc; "({text},{text})")?,
-                format!(in alloc; " ={text} ={text}")?,
-            )
+/// Writes a payload with this text for each `@`.
+fn put(out: &mut String, payload: &str, text: &str) -> Result<()> {
+    for letter in payload.chars() {
+        if letter == '@' {
+            out.push_str(text)?;
+        } else {
+            out.push(letter)?;
         }
-        "ALIAS" | "ANCHOR" => (
-            format!(in alloc; "({text})")?,
-            format!(in alloc; " ={text}")?,
-        ),
-        "TAG" => (
-            format!(in alloc; "(,{text})")?,
-            format!(in alloc; " = ={text}")?,
-        ),
-        "SCALAR" => (
-            format!(in alloc; "({text})")?,
-            format!(in alloc; " ={text} plain")?,
-        ),
-        _ => (String::new(alloc), String::new(alloc)),
-    })
+    }
+    Ok(())
 }
 
 /// A list of tokens as a row, and as token lines.
@@ -83,46 +91,72 @@ struct Drawn {
     tokens: u64,
     row: String,
     lines: String,
+    /// The row with the token behind it that was drawn last.
+    tried: String,
 }
 
 impl Drawn {
-    fn begun(alloc: Global) -> Result<Self> {
-        Ok(Drawn {
-            tokens: 1,
-            row: String::from_str(alloc, "STREAM-START")?,
-            lines: String::from_str(alloc, "STREAM-START 0:0:0 1:0:1 utf8\n")?,
-        })
+    /// No list yet.
+    fn new(alloc: Global) -> Self {
+        Drawn {
+            tokens: 0,
+            row: String::new(alloc),
+            lines: String::new(alloc),
+            tried: String::new(alloc),
+        }
     }
 
-    /// Appends the token that is drawn by this number, where the list can go on behind it.
-    fn draw(&mut self, alloc: Global, x: u64) -> Result<()> {
-        let name = name_of((x / 65536) % 19 + 3);
-        let text = "a".repeat(alloc, (x % 70) as usize)?;
-        let (in_row, in_line) = payloads(alloc, name, text.as_str())?;
-        let before = self.row.as_str();
-        let row = format!(in alloc; "{before} {name}{in_row}")?;
-        if parsing_ends_by(alloc, row.as_str())? == YAML_READER_ERROR {
-            let start = self.tokens.wrapping_mul(2);
-            let end = start.wrapping_add(1);
-            writeln!(
-                self.lines,
-                "{name} {start}:0:{start} {end}:0:{end}{in_line}"
-            )?;
-            self.row = row;
+    /// Makes it the list of STREAM-START alone.
+    fn begin(&mut self) -> Result<()> {
+        self.tokens = 1;
+        self.row.push_str("STREAM-START")?;
+        self.lines.push_str("STREAM-START 0:0:0 1:0:1 utf8\n")?;
+        Ok(())
+    }
+
+    /// Makes `tried` the row with this token behind it.
+    fn put_in_row(&mut self, token: Token) -> Result<()> {
+        let (name, payload, _) = token.kind;
+        self.tried.clear();
+        self.tried.push_str(self.row.as_str())?;
+        self.tried.push_str(" ")?;
+        self.tried.push_str(name)?;
+        put(&mut self.tried, payload, token.text)
+    }
+
+    fn put_in_lines(&mut self, token: Token) -> Result<()> {
+        let (name, _, payload) = token.kind;
+        let start = self.tokens.wrapping_mul(2);
+        let end = start.wrapping_add(1);
+        write!(self.lines, "{name} {start}:0:{start} {end}:0:{end}")?;
+        put(&mut self.lines, payload, token.text)?;
+        self.lines.push_str("\n")?;
+        Ok(())
+    }
+
+    /// Appends a token, where the list can go on behind it.
+    fn append(&mut self, alloc: Global, token: Token) -> Result<()> {
+        self.put_in_row(token)?;
+        if parsing_ends_by(alloc, self.tried.as_str())? == YAML_READER_ERROR {
+            self.put_in_lines(token)?;
             self.tokens = self.tokens.wrapping_add(1);
+            self.row.clear();
+            self.row.push_str(self.tried.as_str())?;
         }
         Ok(())
     }
 
-    /// The list of this number.
-    fn list(alloc: Global, number: u64) -> Result<Self> {
-        let mut drawn = Drawn::begun(alloc)?;
+    /// Draws the list of this number.
+    fn draw(&mut self, alloc: Global, number: u64) -> Result<()> {
+        self.begin()?;
         let mut x = number;
         for _ in 0..DRAWN {
-            drawn.draw(alloc, x)?;
+            if let Some(token) = Token::drawn(x) {
+                self.append(alloc, token)?;
+            }
             x = next_number(x);
         }
-        Ok(drawn)
+        Ok(())
     }
 
     /// The fault of a line source behind this list's lines.
@@ -144,54 +178,101 @@ impl Drawn {
         )
     }
 
-    /// What a run writes of the list's tokens, given as a list.
-    fn events_of_tokens(&self, alloc: Global) -> Result<Vec<u8>> {
+    /// The list's tokens, as a line source ends them.
+    fn source(&self, alloc: Global) -> Result<yaml_list_source_t> {
         let tokens = tokens_of(alloc, self.row.as_str())?;
-        let source = yaml_list_source_t::new(tokens, self.end_of_lines());
-        let mut parser = yaml_parser_initialize(alloc, source);
+        Ok(yaml_list_source_t::new(tokens, self.end_of_lines()))
+    }
+
+    /// What a run writes of the events of the list's tokens.
+    fn events_of_tokens(&self, alloc: Global) -> Result<Vec<u8>> {
+        let mut parser = yaml_parser_initialize(alloc, self.source(alloc)?);
         let mut written = Vec::new(alloc);
         write_events(alloc, &mut parser, &mut written);
         Ok(written)
     }
 
-    /// Whether the list's lines, read in pieces of three bytes, give what its tokens give.
-    fn is_same_by_lines(&self, alloc: Global) -> Result<bool> {
-        let mut reader = PieceReader::new(self.lines.as_bytes(), 3, EVERY_CALL);
+    /// What a run writes of the documents of the list's tokens.
+    fn nodes_of_tokens(&self, alloc: Global) -> Result<Vec<u8>> {
+        let mut parser = yaml_parser_initialize(alloc, self.source(alloc)?);
         let mut written = Vec::new(alloc);
-        let ended = run_events(alloc, &mut reader, &mut written);
-        let expected = self.events_of_tokens(alloc)?;
-        Ok(ended == Outcome::Faulted && written == expected)
+        write_nodes(alloc, &mut parser, &mut written);
+        Ok(written)
     }
 
-    /// Whether neither parsing nor loading the list ends for want of memory, and its lines give what its
-    /// tokens give.
+    /// A reader of the list's lines, three bytes at a time.
+    fn reader(&self) -> PieceReader<'_> {
+        PieceReader::new(self.lines.as_bytes(), 3, EVERY_CALL)
+    }
+
+    /// Whether a run over the list's lines writes these lines of events.
+    fn gives_events(&self, alloc: Global, lines: &[u8]) -> bool {
+        let mut written = Vec::new(alloc);
+        let ended = run_events(alloc, &mut self.reader(), &mut written);
+        [ended == Outcome::Faulted, written.as_slice() == lines] == [true; 2]
+    }
+
+    /// Whether a run over the list's lines writes these lines of documents.
+    fn gives_nodes(&self, alloc: Global, lines: &[u8]) -> bool {
+        let mut written = Vec::new(alloc);
+        let ended = run_nodes(alloc, &mut self.reader(), &mut written);
+        [ended == Outcome::Faulted, written.as_slice() == lines] == [true; 2]
+    }
+
+    /// Whether the list's lines give the events that its tokens give.
+    fn has_same_events(&self, alloc: Global) -> Result<bool> {
+        let lines = self.events_of_tokens(alloc)?;
+        Ok(self.gives_events(alloc, lines.as_slice()))
+    }
+
+    /// Whether the list's lines give the documents that its tokens give.
+    fn has_same_nodes(&self, alloc: Global) -> Result<bool> {
+        let lines = self.nodes_of_tokens(alloc)?;
+        Ok(self.gives_nodes(alloc, lines.as_slice()))
+    }
+
+    /// Whether parsing the list ends by its source, and loading it by that or by the composer, and its lines
+    /// give what its tokens give.
     fn is_right(&self, alloc: Global) -> Result<bool> {
         Ok(
-            parsing_ends_by(alloc, self.row.as_str())? == YAML_READER_ERROR
-                && loading_ends_by(alloc, self.row.as_str())? != YAML_MEMORY_ERROR
-                && self.is_same_by_lines(alloc)?,
+            [
+                parsing_ends_by(alloc, self.row.as_str())? == YAML_READER_ERROR,
+                loads_to_an_end(alloc, self.row.as_str())?,
+                self.has_same_events(alloc)?,
+                self.has_same_nodes(alloc)?,
+            ] == [true; 4],
         )
+    }
+
+    /// Draws the list of this number, and says how many tokens it has, and whether it is right.
+    fn try_list(&mut self, alloc: Global, number: u64) -> Result<(u64, bool)> {
+        self.draw(alloc, number)?;
+        Ok((self.tokens, self.is_right(alloc)?))
     }
 }
 
 /// The error that parsing a row ends by.
 fn parsing_ends_by(alloc: Global, row: &str) -> Result<yaml_error_type_t> {
     let run = yaml_parser_parse_all(alloc, source_of(alloc, row)?)?;
-    Ok(run.fault.map_or(end_of_row().error(), |fault| fault.error))
+    Ok(run.fault.unwrap_or(end_of_row().prefix()).error)
 }
 
-/// The error that loading a row ends by.
-fn loading_ends_by(alloc: Global, row: &str) -> Result<yaml_error_type_t> {
-    let mut parser = yaml_parser_initialize(alloc, source_of(alloc, row)?);
+/// Whether loads end by the source or by the composer, between documents.
+fn ends<S: yaml_token_source_t>(parser: &mut yaml_parser_t<S>) -> bool {
     for _ in 0..10_000u32 {
-        if !yaml_parser_between_documents(&parser) {
-            break;
-        }
-        if let Err(error) = yaml_parser_load(&mut parser) {
-            return Ok(error);
+        match next_nodes(parser) {
+            Some(Ok(_)) => {}
+            Some(Err(error)) => return error == YAML_READER_ERROR || error == YAML_COMPOSER_ERROR,
+            None => return false,
         }
     }
-    Ok(YAML_MEMORY_ERROR)
+    false
+}
+
+/// Whether loading a row ends so.
+fn loads_to_an_end(alloc: Global, row: &str) -> Result<bool> {
+    let mut parser = yaml_parser_initialize(alloc, source_of(alloc, row)?);
+    Ok(ends(&mut parser))
 }
 
 /// How many lists were drawn, how many tokens they have, and how many give something else than they should.
@@ -202,6 +283,11 @@ pub struct DrawnLists {
     pub wrong: u64,
 }
 
+fn try_list(alloc: Global, number: u64) -> Result<(u64, bool)> {
+    let mut drawn = Drawn::new(alloc);
+    drawn.try_list(alloc, number)
+}
+
 /// Draws the lists of the numbers from 0.
 ///
 /// Errors: want of memory.
@@ -209,9 +295,9 @@ pub fn draw_lists(alloc: Global, lists: u64) -> Result<DrawnLists> {
     let mut tokens = 0u64;
     let mut wrong = 0u64;
     for number in 0..lists {
-        let drawn = Drawn::list(alloc, number)?;
-        tokens = tokens.saturating_add(drawn.tokens);
-        wrong = wrong.saturating_add(u64::from(!drawn.is_right(alloc)?));
+        let (more, is_right) = try_list(alloc, number)?;
+        tokens = tokens.saturating_add(more);
+        wrong = wrong.saturating_add(u64::from(!is_right));
     }
     Ok(DrawnLists {
         lists,

@@ -1,80 +1,117 @@
 //! Work that takes no more memory where there is more of it (`examples/flat_memory.sh`).
 
+use crate::readings::{is_event, next_nodes};
 use computed_tokens::{ComputedTokens, GrowingList};
-use row_notation::{end_of_row, is_empty};
+use row_notation::end_of_row;
 use std::alloc::{AllocError, Global};
 use unsafe_libyaml::{
     Text, YAML_ANY_SCALAR_STYLE, ZERO_MARK, unnamed_yaml_token_t_data,
-    unnamed_yaml_token_t_data_anchor, yaml_event_delete, yaml_parser_between_documents,
-    yaml_parser_delete, yaml_parser_initialize, yaml_parser_load, yaml_parser_parse,
+    unnamed_yaml_token_t_data_anchor, yaml_event_delete, yaml_parser_delete,
+    yaml_parser_initialize, yaml_parser_parse, yaml_parser_t, yaml_refusal_t,
     yaml_scalar_event_initialize, yaml_token_delete, yaml_token_t,
 };
 
-/// Parses n documents of one list, and counts the events.
-pub fn parse_documents(alloc: Global, n: u32) -> u64 {
+fn documents(alloc: Global, n: u32) -> yaml_parser_t<ComputedTokens> {
     let source = ComputedTokens::new(alloc, GrowingList::Documents, n, end_of_row());
-    let mut parser = yaml_parser_initialize(alloc, source);
+    yaml_parser_initialize(alloc, source)
+}
+
+/// Whether an event comes, and not the empty one.
+fn parses(parser: &mut yaml_parser_t<ComputedTokens>) -> bool {
+    let answer = yaml_parser_parse(parser);
+    is_event(&answer)
+}
+
+fn count_events(parser: &mut yaml_parser_t<ComputedTokens>) -> u64 {
     let mut events = 0u64;
     for _ in 0..u64::MAX {
-        match yaml_parser_parse(&mut parser) {
-            Ok(event) if !is_empty(&event) => events = events.saturating_add(1),
-            _ => break,
+        if !parses(parser) {
+            break;
         }
+        events = events.saturating_add(1);
     }
     events
 }
 
-/// Loads n documents of one list, and counts their nodes.
-pub fn load_documents(alloc: Global, n: u32) -> u64 {
-    let source = ComputedTokens::new(alloc, GrowingList::Documents, n, end_of_row());
-    let mut parser = yaml_parser_initialize(alloc, source);
+/// Parses n documents of one list, and counts the events.
+pub fn parse_documents(alloc: Global, n: u32) -> u64 {
+    let mut parser = documents(alloc, n);
+    count_events(&mut parser)
+}
+
+fn count_nodes(parser: &mut yaml_parser_t<ComputedTokens>) -> u64 {
     let mut nodes = 0u64;
     for _ in 0..u64::MAX {
-        if !yaml_parser_between_documents(&parser) {
-            break;
-        }
-        match yaml_parser_load(&mut parser) {
-            Ok(document) if !document.nodes().is_empty() => {
-                nodes = nodes.saturating_add(document.nodes().len() as u64);
-            }
+        match next_nodes(parser) {
+            Some(Ok(more)) if more > 0 => nodes = nodes.saturating_add(more as u64),
             _ => break,
         }
     }
     nodes
 }
 
-/// Begins n runs over ten open sequences, and deletes each parser in the middle; counts the events.
-pub fn leave_runs(alloc: Global, n: u32) -> u64 {
+/// Loads n documents of one list, and counts their nodes.
+pub fn load_documents(alloc: Global, n: u32) -> u64 {
+    let mut parser = documents(alloc, n);
+    count_nodes(&mut parser)
+}
+
+fn parse_some(parser: &mut yaml_parser_t<ComputedTokens>) -> u64 {
     let mut events = 0u64;
-    for _ in 0..n {
-        let source = ComputedTokens::new(alloc, GrowingList::NestedSequences, 10, end_of_row());
-        let mut parser = yaml_parser_initialize(alloc, source);
-        for _ in 0..8u8 {
-            events = events.saturating_add(u64::from(yaml_parser_parse(&mut parser).is_ok()));
-        }
-        yaml_parser_delete(parser);
+    for _ in 0..8u8 {
+        events = events.saturating_add(u64::from(parses(parser)));
     }
     events
 }
 
-/// Makes and deletes n tokens and n events with a text of a thousand bytes.
+/// Begins a run over ten open sequences, and deletes its parser in the middle; counts the events.
+fn leave_run(alloc: Global) -> u64 {
+    let source = ComputedTokens::new(alloc, GrowingList::NestedSequences, 10, end_of_row());
+    let mut parser = yaml_parser_initialize(alloc, source);
+    let events = parse_some(&mut parser);
+    yaml_parser_delete(parser);
+    events
+}
+
+/// Begins and leaves n runs, and counts the events.
+pub fn leave_runs(alloc: Global, n: u32) -> u64 {
+    let mut events = 0u64;
+    for _ in 0..n {
+        events = events.saturating_add(leave_run(alloc));
+    }
+    events
+}
+
+fn delete_token(alloc: Global, text: &str) -> Result<(), AllocError> {
+    let value = Text::from_str(alloc, text)?;
+    let content = unnamed_yaml_token_t_data::Anchor(unnamed_yaml_token_t_data_anchor { value });
+    let mut token = yaml_token_t::new(content, ZERO_MARK, ZERO_MARK);
+    yaml_token_delete(&mut token);
+    Ok(())
+}
+
+fn delete_event(alloc: Global, text: &str) -> Result<(), yaml_refusal_t> {
+    let bytes = text.as_bytes();
+    let style = YAML_ANY_SCALAR_STYLE;
+    let mut event = yaml_scalar_event_initialize(alloc, None, None, bytes, true, true, style)?;
+    yaml_event_delete(&mut event);
+    Ok(())
+}
+
+/// Makes and deletes n tokens and n events with this text, and counts the events.
+fn delete_all(alloc: Global, text: &str, n: u32) -> Result<u64, AllocError> {
+    let mut deleted = 0u64;
+    for _ in 0..n {
+        delete_token(alloc, text)?;
+        deleted = deleted.saturating_add(u64::from(delete_event(alloc, text).is_ok()));
+    }
+    Ok(deleted)
+}
+
+/// Makes and deletes n tokens and n events with a text of a thousand bytes, and counts the events.
 ///
 /// Errors: want of memory.
 pub fn delete_tokens_and_events(alloc: Global, n: u32) -> Result<u64, AllocError> {
     let text = "a".repeat(alloc, 1000)?;
-    let mut deleted = 0u64;
-    for _ in 0..n {
-        let value = Text::from_str(alloc, text.as_str())?;
-        let content = unnamed_yaml_token_t_data::Anchor(unnamed_yaml_token_t_data_anchor { value });
-        let mut token = yaml_token_t::new(content, ZERO_MARK, ZERO_MARK);
-        yaml_token_delete(&mut token);
-        let bytes = text.as_bytes();
-        let style = YAML_ANY_SCALAR_STYLE;
-        let event = yaml_scalar_event_initialize(alloc, None, None, bytes, true, true, style);
-        if let Ok(mut event) = event {
-            yaml_event_delete(&mut event);
-            deleted = deleted.saturating_add(1);
-        }
-    }
-    Ok(deleted)
+    delete_all(alloc, text.as_str(), n)
 }

@@ -1,16 +1,13 @@
 //! Each front of a row with each error of a source behind it, parsed and loaded.
 
-use crate::loads::{is_loaded, show_loads};
-use anyhow::{Result, ensure};
-use row_notation::{end_of_row, mark, show_fault, show_run, tokens_of};
+use crate::readings::{Reading, shown};
+use anyhow::Result;
+use row_notation::{end_of_row, ends_of_sources, is_front, shown_end, tokens_of};
 use std::alloc::Global;
-use unsafe_libyaml::{
-    YAML_MEMORY_ERROR, YAML_READER_ERROR, YAML_SCANNER_ERROR, yaml_list_source_t,
-    yaml_parser_initialize, yaml_source_fault_t,
-};
+use unsafe_libyaml::{yaml_list_source_t, yaml_source_fault_t};
 
 /// Rows of tokens. What each gives as a whole, the other programs of rows say.
-pub const ROWS: [&str; 41] = [
+const ROWS: [&str; 41] = [
     "STREAM-START STREAM-END",
     "STREAM-START SCALAR(a) STREAM-END",
     "STREAM-START DOCUMENT-START DOCUMENT-END DOCUMENT-END STREAM-END",
@@ -54,6 +51,11 @@ pub const ROWS: [&str; 41] = [
     "STREAM-START SCALAR(a) DOCUMENT-END BLOCK-END STREAM-END",
 ];
 
+/// The rows, so that no loop over them has their texts in its proof.
+pub fn rows() -> &'static [&'static str] {
+    &ROWS
+}
+
 /// Fronts of rows, and their documents before the fault of the source.
 const LOADED_FRONTS: [(&str, &str); 5] = [
     ("STREAM-START", ""),
@@ -69,16 +71,13 @@ const LOADED_FRONTS: [(&str, &str); 5] = [
     ("STREAM-START TAG(!e!,x)", ""),
 ];
 
-/// How a row is read.
-#[derive(Copy, Clone)]
-pub enum Reading {
-    Events,
-    Documents,
+fn loaded_fronts() -> &'static [(&'static str, &'static str)] {
+    &LOADED_FRONTS
 }
 
-/// What so many of a row's tokens give, with this fault behind them. The answer has to be kept, by loads too.
+/// What so many of a row's tokens give, with this fault behind them.
 ///
-/// Errors: want of memory, and an answer that isn't kept.
+/// Errors: those of `tokens_of` and of `shown`.
 pub fn shown_front(
     alloc: Global,
     row: &str,
@@ -88,66 +87,62 @@ pub fn shown_front(
 ) -> Result<String> {
     let mut tokens = tokens_of(alloc, row)?;
     tokens.truncate(most);
-    let mut parser = yaml_parser_initialize(alloc, yaml_list_source_t::new(tokens, end));
-    let shown = match reading {
-        Reading::Events => show_run(alloc, &mut parser)?,
-        Reading::Documents => show_loads(alloc, &mut parser)?,
-    };
-    ensure!(is_loaded(&mut parser), "{row}: more behind the end");
-    Ok(shown)
+    shown(alloc, yaml_list_source_t::new(tokens, end), reading)
 }
 
-/// The faults by which a source may end, in the order of their numbers.
-fn ends_of_sources() -> [yaml_source_fault_t; 3] {
-    let problem = Some("the source broke off");
-    let context = Some("while giving a row");
-    let at = mark(99);
-    let began = mark(98);
-    [
-        yaml_source_fault_t::new(YAML_MEMORY_ERROR, None, 1, -1, at, context, began),
-        yaml_source_fault_t::new(YAML_READER_ERROR, problem, 2, -3, at, context, began),
-        yaml_source_fault_t::new(YAML_SCANNER_ERROR, problem, 3, -2, at, None, began),
-    ]
-}
-
-/// Whether `front` is the beginning of `whole`, cut behind an event, a document or a line, with this
-/// fault behind it.
-pub fn is_cut(front: &str, fault: &str, whole: &str) -> bool {
-    let Some(given) = front.strip_suffix(fault) else {
-        return false;
-    };
-    match whole.strip_prefix(given.trim_end()) {
-        Some(rest) => given.is_empty() || rest.is_empty() || rest.starts_with([' ', '\n']),
-        None => false,
-    }
-}
-
-/// Whether each front of a row, read so and with this fault behind it, gives what begins the row and then the
-/// fault; or what the whole row gives.
-fn fronts_begin(
-    alloc: Global,
-    row: &str,
+/// The fronts of a row with this fault behind them, and how the fault is shown.
+#[derive(Copy, Clone)]
+struct Fronts<'a> {
+    row: &'a str,
     end: yaml_source_fault_t,
-    reading: Reading,
-) -> Result<bool> {
-    let mut fault = String::new(alloc);
-    show_fault(&mut fault, end.error(), &end.prefix())?;
-    let len = tokens_of(alloc, row)?.len();
-    let whole = shown_front(alloc, row, len, end, reading)?;
-    for most in 0..len {
-        let front = shown_front(alloc, row, most, end, reading)?;
-        if front != whole && !is_cut(front.as_str(), fault.as_str(), whole.as_str()) {
-            return Ok(false);
-        }
+    fault: &'a str,
+}
+
+impl Fronts<'_> {
+    /// What so many tokens give.
+    fn shown(self, alloc: Global, most: usize, reading: Reading) -> Result<String> {
+        shown_front(alloc, self.row, most, self.end, reading)
     }
-    Ok(true)
+
+    /// Whether so many tokens give what begins `whole` and then the fault; or `whole`.
+    fn is_front(self, alloc: Global, most: usize, reading: Reading, whole: &str) -> Result<bool> {
+        let front = self.shown(alloc, most, reading)?;
+        Ok(is_front(front.as_str(), whole, self.fault))
+    }
+
+    /// Whether each front, so read, gives that.
+    fn are_fronts(self, alloc: Global, reading: Reading, whole: &str) -> Result<bool> {
+        for most in 0..self.row.split(' ').count() {
+            if !self.is_front(alloc, most, reading, whole)? {
+                return Ok(false);
+            }
+        }
+        Ok(true)
+    }
+
+    /// Whether each front, so read, gives what begins the row's and then the fault; or what the row gives.
+    fn are_right(self, alloc: Global, reading: Reading) -> Result<bool> {
+        let whole = self.shown(alloc, usize::MAX, reading)?;
+        self.are_fronts(alloc, reading, whole.as_str())
+    }
+}
+
+/// Whether a row's fronts with this fault behind them are right, read as events and as documents.
+fn are_fronts_right(alloc: Global, row: &str, end: yaml_source_fault_t) -> Result<bool> {
+    let text = shown_end(alloc, &end)?;
+    let fault = text.as_str();
+    let fronts = Fronts { row, end, fault };
+    Ok(
+        [
+            fronts.are_right(alloc, Reading::Events)?,
+            fronts.are_right(alloc, Reading::Documents)?,
+        ] == [true; 2],
+    )
 }
 
 fn is_row_right(alloc: Global, row: &str) -> Result<bool> {
     for end in ends_of_sources() {
-        if !fronts_begin(alloc, row, end, Reading::Events)?
-            || !fronts_begin(alloc, row, end, Reading::Documents)?
-        {
+        if !are_fronts_right(alloc, row, end)? {
             return Ok(false);
         }
     }
@@ -158,7 +153,7 @@ fn is_row_right(alloc: Global, row: &str) -> Result<bool> {
 ///
 /// Errors: those of `shown_front`.
 pub fn first_wrong_front(alloc: Global) -> Result<Option<&'static str>> {
-    for row in ROWS {
+    for row in rows() {
         if !is_row_right(alloc, row)? {
             return Ok(Some(row));
         }
@@ -166,16 +161,25 @@ pub fn first_wrong_front(alloc: Global) -> Result<Option<&'static str>> {
     Ok(None)
 }
 
+/// Whether loading a row gives these documents and then the fault of the source.
+fn is_load_right(alloc: Global, row: &str, documents: &str) -> Result<bool> {
+    let shown = shown_front(alloc, row, usize::MAX, end_of_row(), Reading::Documents)?;
+    ends_by_source(alloc, shown.as_str(), documents)
+}
+
+/// Whether these documents are shown, and then the fault of the source.
+fn ends_by_source(alloc: Global, shown: &str, documents: &str) -> Result<bool> {
+    let fault = shown_end(alloc, &end_of_row())?;
+    let before = shown.strip_suffix(fault.as_str());
+    Ok(before.map(|before| before.trim_end()) == Some(documents))
+}
+
 /// The first of the loaded fronts that gives anything else, if there is one.
 ///
 /// Errors: those of `shown_front`.
 pub fn first_wrong_load(alloc: Global) -> Result<Option<&'static str>> {
-    for (row, documents) in LOADED_FRONTS {
-        let end = end_of_row();
-        let mut expected = String::from_str(alloc, documents)?;
-        show_fault(&mut expected, end.error(), &end.prefix())?;
-        let shown = shown_front(alloc, row, usize::MAX, end, Reading::Documents)?;
-        if shown != expected {
+    for (row, documents) in loaded_fronts() {
+        if !is_load_right(alloc, row, documents)? {
             return Ok(Some(row));
         }
     }

@@ -1,14 +1,14 @@
 //! Lists that grow by a number, over the source that computes them and over a list of the same tokens.
 
-use crate::in_step::{Counted, EVERY_CALL, Shape, count_documents, count_events};
-use crate::loads::is_loaded;
-use anyhow::{Result, ensure};
+use crate::in_step::{Counted, EVERY_CALL, Shape, count_all};
+use crate::readings::{Reading, shown};
+use anyhow::Result;
 use computed_tokens::{ComputedTokens, GrowingList};
-use row_notation::{end_of_row, is_over, show_run};
+use row_notation::end_of_row;
 use std::alloc::{AllocError, Global};
 use unsafe_libyaml::{
     unnamed_yaml_node_t_data, yaml_document_t, yaml_list_source_t, yaml_node_t,
-    yaml_parser_initialize, yaml_token_source_t,
+    yaml_parser_initialize, yaml_token_source_t, yaml_token_t,
 };
 
 /// A list at a number n, as the shape of its documents.
@@ -27,44 +27,38 @@ impl Grown {
     fn listed(self, alloc: Global) -> Result<yaml_list_source_t, AllocError> {
         let mut source = self.computed(alloc);
         let mut tokens = Vec::new(alloc);
-        for _ in 0..EVERY_CALL {
-            match source.next_token() {
-                Ok(token) => tokens.push(token)?,
-                Err(_) => break,
-            }
-        }
-        Ok(yaml_list_source_t::new(tokens, end_of_row()))
+        let taken = take_all(&mut source, &mut tokens);
+        taken.and(Ok(yaml_list_source_t::new(tokens, end_of_row())))
     }
 
-    /// The events of the list; None where the two sources differ, or where more comes behind the end.
-    pub fn parsed(self, alloc: Global) -> Result<Option<Counted>> {
+    /// The events or documents of the list; None where the two sources differ, where a document has another
+    /// shape, or where more comes behind the end.
+    ///
+    /// Errors: want of memory.
+    pub fn counted(self, alloc: Global, reading: Reading) -> Result<Option<Counted>, AllocError> {
+        let listed = self.listed(alloc)?;
         let mut one = yaml_parser_initialize(alloc, self.computed(alloc));
-        let mut other = yaml_parser_initialize(alloc, self.listed(alloc)?);
-        let counted = count_events(&mut one, &mut other);
-        let are_over = is_over(&mut one) && is_over(&mut other);
-        Ok(counted.filter(|_| are_over))
+        let mut other = yaml_parser_initialize(alloc, listed);
+        Ok(count_all(&mut one, &mut other, reading, &self))
     }
 
-    /// The documents of the list; None where the two sources differ, or where a document has another shape.
-    pub fn loaded(self, alloc: Global) -> Result<Option<Counted>> {
-        let mut one = yaml_parser_initialize(alloc, self.computed(alloc));
-        let mut other = yaml_parser_initialize(alloc, self.listed(alloc)?);
-        let counted = count_documents(&mut one, &mut other, &self);
-        let again = count_documents(&mut one, &mut other, &self);
-        let are_over = again.is_some_and(|again| again.count == 0);
-        Ok(counted.filter(|_| are_over))
+    /// The events of the list, over the source that computes them, and the fault behind them.
+    ///
+    /// Errors: those of `shown`.
+    pub fn shown(self, alloc: Global) -> Result<String> {
+        shown(alloc, self.computed(alloc), Reading::Events)
     }
 }
 
-/// The events of a list, over the source that computes them, and the fault behind them. They have to be
-/// the last, and the fault has to be kept.
-///
-/// Errors: want of memory, and an answer that isn't kept.
-pub fn show_grown(alloc: Global, grown: Grown) -> Result<String> {
-    let mut parser = yaml_parser_initialize(alloc, grown.computed(alloc));
-    let shown = show_run(alloc, &mut parser)?;
-    ensure!(is_loaded(&mut parser), "more behind the end");
-    Ok(shown)
+/// Puts all tokens of a source into a list.
+fn take_all(source: &mut ComputedTokens, tokens: &mut Vec<yaml_token_t>) -> Result<(), AllocError> {
+    for _ in 0..EVERY_CALL {
+        match source.next_token() {
+            Ok(token) => tokens.push(token)?,
+            Err(_) => break,
+        }
+    }
+    Ok(())
 }
 
 impl Shape for Grown {

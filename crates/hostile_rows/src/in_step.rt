@@ -1,9 +1,10 @@
 //! Two parsers over the same tokens, whose answers are compared one by one.
 
-use row_notation::{are_same_faults, is_empty};
+use crate::readings::{Loaded, Reading, is_event};
+use row_notation::{are_same_faults, is_over};
 use unsafe_libyaml::{
-    yaml_document_t, yaml_error_type_t, yaml_event_t, yaml_parser_between_documents,
-    yaml_parser_load, yaml_parser_parse, yaml_parser_t, yaml_parser_t_prefix, yaml_token_source_t,
+    yaml_document_t, yaml_parser_between_documents, yaml_parser_load, yaml_parser_parse,
+    yaml_parser_t, yaml_parser_t_prefix, yaml_token_source_t,
 };
 
 /// More calls than any list here takes.
@@ -16,71 +17,94 @@ pub struct Counted {
     pub fault: yaml_parser_t_prefix,
 }
 
-/// The next event of both parsers, or the error of both; None where they differ.
+/// What is asked of each document with a root.
+pub trait Shape {
+    fn is_shape_of(&self, document: &yaml_document_t) -> bool;
+}
+
+/// Whether both parsers give an event, and not the empty one; None where they differ.
 fn next_event<S: yaml_token_source_t, T: yaml_token_source_t>(
     one: &mut yaml_parser_t<S>,
     other: &mut yaml_parser_t<T>,
-) -> Option<Result<yaml_event_t, yaml_error_type_t>> {
+) -> Option<bool> {
     let answer = yaml_parser_parse(one);
     let again = yaml_parser_parse(other);
-    let is_same = answer == again && are_same_faults(one.prefix(), other.prefix());
-    is_same.then_some(answer)
+    let is_event = is_event(&answer);
+    (answer == again).then_some(is_event)
 }
 
-/// Counts the events of two parsers; None where an event or a fault of theirs differs.
-pub fn count_events<S: yaml_token_source_t, T: yaml_token_source_t>(
-    one: &mut yaml_parser_t<S>,
-    other: &mut yaml_parser_t<T>,
-) -> Option<Counted> {
-    let mut count = 0u64;
-    for _ in 0..EVERY_CALL {
-        match next_event(one, other)? {
-            Ok(event) if !is_empty(&event) => count = count.saturating_add(1),
-            _ => break,
-        }
+/// Whether both answers are a document with a root; None where they differ, or where it is not of the shape.
+fn compare(answer: &Loaded, again: &Loaded, shape: &impl Shape) -> Option<bool> {
+    if answer != again {
+        return None;
     }
-    let fault = *one.prefix();
-    Some(Counted { count, fault })
+    match answer {
+        Ok(document) if !document.nodes().is_empty() => {
+            shape.is_shape_of(document).then_some(true)
+        }
+        _ => Some(false),
+    }
 }
 
-/// The next document of both parsers, or the error of both; None where they differ.
+/// Whether both parsers load a document with a root; None where they differ, or where it is not of the shape.
 fn next_document<S: yaml_token_source_t, T: yaml_token_source_t>(
     one: &mut yaml_parser_t<S>,
     other: &mut yaml_parser_t<T>,
-) -> Option<Result<yaml_document_t, yaml_error_type_t>> {
+    shape: &impl Shape,
+) -> Option<bool> {
     if !yaml_parser_between_documents(one) || !yaml_parser_between_documents(other) {
         return None;
     }
     let answer = yaml_parser_load(one);
     let again = yaml_parser_load(other);
-    let is_same = answer == again && are_same_faults(one.prefix(), other.prefix());
-    is_same.then_some(answer)
+    compare(&answer, &again, shape)
 }
 
-/// What `count_documents` asks of each document with a root.
-pub trait Shape {
-    fn is_shape_of(&self, document: &yaml_document_t) -> bool;
-}
-
-/// Counts the documents with a root that two parsers load; None where a document or a fault of theirs
-/// differs, or where a document is not of the shape.
-pub fn count_documents<S: yaml_token_source_t, T: yaml_token_source_t>(
+/// Whether both parsers give one more of what is read; None where they or their faults differ, or where a
+/// document is not of the shape.
+fn next<S: yaml_token_source_t, T: yaml_token_source_t>(
     one: &mut yaml_parser_t<S>,
     other: &mut yaml_parser_t<T>,
+    reading: Reading,
+    shape: &impl Shape,
+) -> Option<bool> {
+    let is_more = match reading {
+        Reading::Events => next_event(one, other)?,
+        Reading::Documents => next_document(one, other, shape)?,
+    };
+    are_same_faults(one.prefix(), other.prefix()).then_some(is_more)
+}
+
+/// Counts what two parsers give; None where `next` answers so.
+fn count<S: yaml_token_source_t, T: yaml_token_source_t>(
+    one: &mut yaml_parser_t<S>,
+    other: &mut yaml_parser_t<T>,
+    reading: Reading,
     shape: &impl Shape,
 ) -> Option<Counted> {
     let mut count = 0u64;
     for _ in 0..EVERY_CALL {
-        match next_document(one, other)? {
-            Ok(document) if !document.nodes().is_empty() => {
-                if !shape.is_shape_of(&document) {
-                    return None;
-                }
-                count = count.saturating_add(1);
-            }
-            _ => break,
+        if !next(one, other, reading, shape)? {
+            break;
         }
+        count = count.saturating_add(1);
     }
     let fault = *one.prefix();
     Some(Counted { count, fault })
+}
+
+/// Counts the events or the documents with a root that two parsers give; None where an answer or a fault of
+/// theirs differs, where a document is not of the shape, or where more comes behind the end.
+pub fn count_all<S: yaml_token_source_t, T: yaml_token_source_t>(
+    one: &mut yaml_parser_t<S>,
+    other: &mut yaml_parser_t<T>,
+    reading: Reading,
+    shape: &impl Shape,
+) -> Option<Counted> {
+    let counted = count(one, other, reading, shape)?;
+    let are_over = match reading {
+        Reading::Events => is_over(one) && is_over(other),
+        Reading::Documents => next(one, other, reading, shape) == Some(false),
+    };
+    are_over.then_some(counted)
 }

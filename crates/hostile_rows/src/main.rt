@@ -12,7 +12,7 @@ mod flat;
 mod fronts;
 mod growing;
 mod in_step;
-mod loads;
+mod readings;
 mod refused;
 mod texts;
 
@@ -23,8 +23,8 @@ use drawn::draw_lists;
 use fronts::{first_wrong_front, first_wrong_load};
 use growing::Grown;
 use in_step::Counted;
+use readings::Reading;
 use std::env;
-use std::rt::Env;
 use texts::count_refused;
 
 /// How large and deep the lists are.
@@ -59,8 +59,12 @@ fn show_counted(rt: &impl Print, counted: Option<Counted>, what: &str) -> Result
 fn run_growing(rt: &(impl Print + AllocGlobal), name: &str, list: GrowingList) -> Result<()> {
     let grown = Grown { list, n: N };
     print!(rt; "{name}")?;
-    show_counted(rt, grown.parsed(rt.alloc())?, "events")?;
-    show_counted(rt, grown.loaded(rt.alloc())?, "documents")?;
+    show_counted(rt, grown.counted(rt.alloc(), Reading::Events)?, "events")?;
+    show_counted(
+        rt,
+        grown.counted(rt.alloc(), Reading::Documents)?,
+        "documents",
+    )?;
     println!(rt)?;
     Ok(())
 }
@@ -85,6 +89,12 @@ fn run_rows(rt: &(impl Print + AllocGlobal)) -> Result<()> {
     Ok(())
 }
 
+fn run_refused(rt: &(impl Print + AllocGlobal)) -> Result<()> {
+    let wrong = refused::count_wrong(rt.alloc());
+    println!(rt; "{wrong} wrong")?;
+    Ok(())
+}
+
 /// Does so much of the work that this word names, and says what it counted.
 fn run_work(rt: &(impl Print + AllocGlobal), word: &str, n: u32) -> Result<()> {
     let counted = match word {
@@ -98,24 +108,19 @@ fn run_work(rt: &(impl Print + AllocGlobal), word: &str, n: u32) -> Result<()> {
     Ok(())
 }
 
-fn run_words(rt: &(impl Print + Env + AllocGlobal)) -> Result<()> {
-    let words: Vec<String> = env::args(rt)?.skip(1).collect(rt.alloc())?;
-    match words.as_slice() {
+fn run_words(rt: &(impl Print + AllocGlobal), words: &[String]) -> Result<()> {
+    match words {
         [] => run_rows(rt),
-        [word] if word.as_str() == "refused" => {
-            let wrong = refused::count_wrong(rt.alloc());
-            println!(rt; "{wrong} wrong")?;
-            Ok(())
+        [word] if word.as_str() == "refused" => run_refused(rt),
+        [word, n] => {
+            let n = n.as_str().parse::<u32>().context("no number")?;
+            run_work(rt, word.as_str(), n)
         }
-        [word, n] => run_work(
-            rt,
-            word.as_str(),
-            n.as_str().parse::<u32>().context("no number")?,
-        ),
         _ => bail!("no such words"),
     }
 }
 
 fn main(rt: HostRuntime) -> Result<()> {
-    run_words(&rt)
+    let words: Vec<String> = env::args(&rt)?.skip(1).collect(rt.alloc())?;
+    run_words(&rt, words.as_slice())
 }

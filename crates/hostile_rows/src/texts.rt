@@ -1,5 +1,6 @@
 //! Texts of every length, in each call that copies texts.
 
+use crate::readings::Loaded;
 use anyhow::Result;
 use row_notation::source_of;
 use std::alloc::Global;
@@ -7,7 +8,7 @@ use unsafe_libyaml::{
     YAML_ANY_MAPPING_STYLE, YAML_ANY_SCALAR_STYLE, YAML_ANY_SEQUENCE_STYLE,
     yaml_alias_event_initialize, yaml_document_add_mapping, yaml_document_add_scalar,
     yaml_document_add_sequence, yaml_document_initialize, yaml_document_start_event_initialize,
-    yaml_mapping_start_event_initialize, yaml_parser_initialize, yaml_parser_load,
+    yaml_document_t, yaml_mapping_start_event_initialize, yaml_parser_initialize, yaml_parser_load,
     yaml_parser_parse_all, yaml_refusal_t, yaml_scalar_event_initialize,
     yaml_sequence_start_event_initialize,
 };
@@ -15,27 +16,45 @@ use unsafe_libyaml::{
 /// The length of the longest text.
 const LONG: usize = 65_536;
 
-/// Calls each constructor with this text in each place.
-fn construct(alloc: Global, text: &[u8]) -> Result<(), yaml_refusal_t> {
+/// Whether each constructor takes this text in each place.
+fn is_constructed(alloc: Global, text: &[u8]) -> bool {
     let some = Some(text);
     let directives: [(&[u8], &[u8]); 1] = [(text, text)];
-    yaml_document_start_event_initialize(alloc, None, directives.as_slice(), true)?;
-    yaml_alias_event_initialize(alloc, text)?;
-    yaml_scalar_event_initialize(alloc, some, some, text, true, true, YAML_ANY_SCALAR_STYLE)?;
-    yaml_sequence_start_event_initialize(alloc, some, some, true, YAML_ANY_SEQUENCE_STYLE)?;
-    yaml_mapping_start_event_initialize(alloc, some, some, true, YAML_ANY_MAPPING_STYLE)?;
+    let scalar_style = YAML_ANY_SCALAR_STYLE;
+    [
+        yaml_document_start_event_initialize(alloc, None, directives.as_slice(), true).is_ok(),
+        yaml_alias_event_initialize(alloc, text).is_ok(),
+        yaml_scalar_event_initialize(alloc, some, some, text, true, true, scalar_style).is_ok(),
+        yaml_sequence_start_event_initialize(
+            alloc,
+            some,
+            some,
+            true,
+            YAML_ANY_SEQUENCE_STYLE,
+        ).is_ok(),
+        yaml_mapping_start_event_initialize(
+            alloc,
+            some,
+            some,
+            true,
+            YAML_ANY_MAPPING_STYLE,
+        ).is_ok(),
+    ] == [true; 5]
+}
+
+/// Adds a node of each type with this text in each place.
+fn add_nodes(document: &mut yaml_document_t, text: &[u8]) -> Result<(), yaml_refusal_t> {
+    yaml_document_add_scalar(document, Some(text), text, YAML_ANY_SCALAR_STYLE)?;
+    yaml_document_add_sequence(document, Some(text), YAML_ANY_SEQUENCE_STYLE)?;
+    yaml_document_add_mapping(document, Some(text), YAML_ANY_MAPPING_STYLE)?;
     Ok(())
 }
 
 /// Makes a document by calls with this text in each place.
 fn build(alloc: Global, text: &[u8]) -> Result<(), yaml_refusal_t> {
-    let some = Some(text);
     let directives: [(&[u8], &[u8]); 1] = [(text, text)];
     let mut document = yaml_document_initialize(alloc, None, directives.as_slice(), true, true)?;
-    yaml_document_add_scalar(&mut document, some, text, YAML_ANY_SCALAR_STYLE)?;
-    yaml_document_add_sequence(&mut document, some, YAML_ANY_SEQUENCE_STYLE)?;
-    yaml_document_add_mapping(&mut document, some, YAML_ANY_MAPPING_STYLE)?;
-    Ok(())
+    add_nodes(&mut document, text)
 }
 
 /// A row with this text in each token that has one.
@@ -49,34 +68,57 @@ fn row_of(alloc: Global, text: &str) -> Result<String> {
 /// Whether this row gives its eight events.
 fn parses(alloc: Global, row: &str) -> Result<bool> {
     let run = yaml_parser_parse_all(alloc, source_of(alloc, row)?)?;
-    Ok(run.fault.is_none() && run.events.len() == 8)
+    Ok([run.fault.is_none(), run.events.len() == 8] == [true; 2])
+}
+
+/// Whether this is a document of two nodes, the first with a tag of so many bytes.
+fn is_tagged(loaded: &Loaded, tag: usize) -> bool {
+    match loaded {
+        Ok(document) => match document.nodes() {
+            [first, _] => first.tag.len() == tag,
+            _ => false,
+        },
+        Err(_) => false,
+    }
 }
 
 /// Whether this row gives a document of two nodes, the first with a tag of so many bytes.
 fn loads(alloc: Global, row: &str, tag: usize) -> Result<bool> {
     let mut parser = yaml_parser_initialize(alloc, source_of(alloc, row)?);
-    Ok(match yaml_parser_load(&mut parser) {
-        Ok(document) => {
-            let nodes = document.nodes();
-            nodes.len() == 2 && nodes.first().is_some_and(|node| node.tag.len() == tag)
-        }
-        Err(_) => false,
-    })
+    let loaded = yaml_parser_load(&mut parser);
+    Ok(is_tagged(&loaded, tag))
+}
+
+/// Whether the row of a text is parsed and loaded.
+fn is_read(alloc: Global, text: &str) -> Result<bool> {
+    let row = row_of(alloc, text)?;
+    is_row_read(alloc, row.as_str(), text.len().saturating_mul(2))
+}
+
+fn is_row_read(alloc: Global, row: &str, tag: usize) -> Result<bool> {
+    Ok([parses(alloc, row)?, loads(alloc, row, tag)?] == [true; 2])
+}
+
+/// Whether no call with this text is refused.
+fn is_text_taken(alloc: Global, text: &str) -> Result<bool> {
+    Ok(
+        [
+            is_constructed(alloc, text.as_bytes()),
+            build(alloc, text.as_bytes()).is_ok(),
+            is_read(alloc, text)?,
+        ] == [true; 3],
+    )
 }
 
 /// Whether no call with a text of this length is refused.
 fn is_taken(alloc: Global, len: usize) -> Result<bool> {
     let text = "a".repeat(alloc, len)?;
-    let row = row_of(alloc, text.as_str())?;
-    Ok(
-        construct(alloc, text.as_bytes()).is_ok()
-            && build(alloc, text.as_bytes()).is_ok()
-            && parses(alloc, row.as_str())?
-            && loads(alloc, row.as_str(), len.saturating_mul(2))?,
-    )
+    is_text_taken(alloc, text.as_str())
 }
 
 /// The lengths of 0 to 70 bytes, and a long one, that some call refuses: how many there are.
+///
+/// Errors: want of memory.
 pub fn count_refused(alloc: Global) -> Result<u64> {
     let mut refused = u64::from(!is_taken(alloc, LONG)?);
     for len in 0..=70usize {
