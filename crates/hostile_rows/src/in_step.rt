@@ -1,6 +1,6 @@
 //! Two parsers over the same tokens, whose answers are compared one by one.
 
-use crate::readings::{Loaded, Reading, is_event};
+use crate::readings::{Loaded, Parsed, Reading, is_event};
 use row_notation::{are_same_faults, is_over};
 use unsafe_libyaml::{
     yaml_document_t, yaml_parser_between_documents, yaml_parser_load, yaml_parser_parse,
@@ -22,6 +22,10 @@ pub trait Shape {
     fn is_shape_of(&self, document: &yaml_document_t) -> bool;
 }
 
+fn compare_events(answer: &Parsed, again: &Parsed) -> Option<bool> {
+    (answer == again).then_some(is_event(answer))
+}
+
 /// Whether both parsers give an event, and not the empty one; None where they differ.
 fn next_event<S: yaml_token_source_t, T: yaml_token_source_t>(
     one: &mut yaml_parser_t<S>,
@@ -29,12 +33,11 @@ fn next_event<S: yaml_token_source_t, T: yaml_token_source_t>(
 ) -> Option<bool> {
     let answer = yaml_parser_parse(one);
     let again = yaml_parser_parse(other);
-    let is_event = is_event(&answer);
-    (answer == again).then_some(is_event)
+    compare_events(&answer, &again)
 }
 
 /// Whether both answers are a document with a root; None where they differ, or where it is not of the shape.
-fn compare(answer: &Loaded, again: &Loaded, shape: &impl Shape) -> Option<bool> {
+fn compare_documents(answer: &Loaded, again: &Loaded, shape: &impl Shape) -> Option<bool> {
     if answer != again {
         return None;
     }
@@ -57,7 +60,7 @@ fn next_document<S: yaml_token_source_t, T: yaml_token_source_t>(
     }
     let answer = yaml_parser_load(one);
     let again = yaml_parser_load(other);
-    compare(&answer, &again, shape)
+    compare_documents(&answer, &again, shape)
 }
 
 /// Whether both parsers give one more of what is read; None where they or their faults differ, or where a

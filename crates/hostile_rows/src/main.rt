@@ -19,7 +19,7 @@ mod texts;
 use anyhow::{Context, Result, bail};
 use built::build_nested;
 use computed_tokens::GrowingList;
-use drawn::draw_lists;
+use drawn::{DrawnLists, draw_lists};
 use fronts::{first_wrong_front, first_wrong_load};
 use growing::Grown;
 use in_step::Counted;
@@ -69,24 +69,49 @@ fn run_growing(rt: &(impl Print + AllocGlobal), name: &str, list: GrowingList) -
     Ok(())
 }
 
-fn run_rows(rt: &(impl Print + AllocGlobal)) -> Result<()> {
+fn run_lists(rt: &(impl Print + AllocGlobal)) -> Result<()> {
     for (name, list) in LISTS {
         run_growing(rt, name, list)?;
     }
+    Ok(())
+}
+
+fn run_nested(rt: &(impl Print + AllocGlobal)) -> Result<()> {
     let nested = build_nested(rt.alloc(), N)?;
     println!(rt; "nested by calls: {nested} nodes")?;
-    let front = first_wrong_front(rt.alloc())?.unwrap_or("none");
-    println!(rt; "wrong fronts: {front}")?;
-    let load = first_wrong_load(rt.alloc())?.unwrap_or("none");
-    println!(rt; "wrong loads of fronts: {load}")?;
+    Ok(())
+}
+
+/// Names what is wrong, if anything is.
+fn show_wrong(rt: &impl Print, what: &str, wrong: Option<&'static str>) -> Result<()> {
+    let wrong = wrong.unwrap_or("none");
+    println!(rt; "{what}: {wrong}")?;
+    Ok(())
+}
+
+fn run_texts(rt: &(impl Print + AllocGlobal)) -> Result<()> {
     let refused = count_refused(rt.alloc())?;
     println!(rt; "lengths of texts that are refused: {refused}")?;
-    let drawn = draw_lists(rt.alloc(), 500)?;
-    let lists = drawn.lists;
-    let tokens = drawn.tokens;
-    let wrong = drawn.wrong;
+    Ok(())
+}
+
+fn run_drawn(rt: &(impl Print + AllocGlobal)) -> Result<()> {
+    let DrawnLists {
+        lists,
+        tokens,
+        wrong,
+    } = draw_lists(rt.alloc(), 500)?;
     println!(rt; "{lists} drawn lists of {tokens} tokens, {wrong} wrong")?;
     Ok(())
+}
+
+fn run_rows(rt: &(impl Print + AllocGlobal)) -> Result<()> {
+    run_lists(rt)?;
+    run_nested(rt)?;
+    show_wrong(rt, "wrong fronts", first_wrong_front(rt.alloc())?)?;
+    show_wrong(rt, "wrong loads of fronts", first_wrong_load(rt.alloc())?)?;
+    run_texts(rt)?;
+    run_drawn(rt)
 }
 
 fn run_refused(rt: &(impl Print + AllocGlobal)) -> Result<()> {
@@ -98,8 +123,8 @@ fn run_refused(rt: &(impl Print + AllocGlobal)) -> Result<()> {
 /// Does so much of the work that this word names, and says what it counted.
 fn run_work(rt: &(impl Print + AllocGlobal), word: &str, n: u32) -> Result<()> {
     let counted = match word {
-        "parsed" => flat::parse_documents(rt.alloc(), n),
-        "loaded" => flat::load_documents(rt.alloc(), n),
+        "parsed" => flat::read_documents(rt.alloc(), n, Reading::Events),
+        "loaded" => flat::read_documents(rt.alloc(), n, Reading::Documents),
         "left" => flat::leave_runs(rt.alloc(), n),
         "deleted" => flat::delete_tokens_and_events(rt.alloc(), n)?,
         _ => bail!("no such work: {word}"),

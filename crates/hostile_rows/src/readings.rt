@@ -1,8 +1,10 @@
-//! What a parser gives, read as events or as documents.
+//! What a parser or a run gives, read as events or as documents.
 
 use anyhow::{Result, ensure};
 use row_notation::{are_same_faults, is_empty, show_document, show_fault, show_run};
 use std::alloc::Global;
+use std::io::{BufRead, Write};
+use token_lines::{Outcome, run_events, run_nodes};
 use unsafe_libyaml::{
     YAML_NO_ERROR, yaml_document_t, yaml_error_type_t, yaml_event_t, yaml_parser_between_documents,
     yaml_parser_initialize, yaml_parser_load, yaml_parser_t, yaml_parser_t_prefix,
@@ -127,6 +129,19 @@ pub fn shown<S: yaml_token_source_t + Drop>(
 ) -> Result<String> {
     let mut parser = yaml_parser_initialize(alloc, source);
     let mut text = String::new(alloc);
-    show(&mut text, alloc, &mut parser, reading)?;
-    Ok(text)
+    let whole = show(&mut text, alloc, &mut parser, reading);
+    whole.and(Ok(text))
+}
+
+/// A run over lines, which writes the lines of what is read.
+pub fn run<R: BufRead, W: Write>(
+    alloc: Global,
+    reader: &mut R,
+    writer: &mut W,
+    reading: Reading,
+) -> Outcome {
+    match reading {
+        Reading::Events => run_events(alloc, reader, writer),
+        Reading::Documents => run_nodes(alloc, reader, writer),
+    }
 }

@@ -6,12 +6,11 @@
 use crate::calls::{CONSTRUCTORS, Constructor, built, constructed};
 use crate::fronts::{rows, shown_front};
 use crate::growing::Grown;
-use crate::readings::Reading;
+use crate::readings::{Reading, run};
 use anyhow::Result;
 use computed_tokens::GrowingList;
 use row_notation::{FixedWriter, end_of_row, is_front};
 use std::alloc::Global;
-use token_lines::{run_events, run_nodes};
 
 /// Token lines with a directive, a tag that is joined, an anchor, and collections that nest.
 const LINES: &str = "STREAM-START 0:0:0 1:0:1 utf8\n\
@@ -72,10 +71,7 @@ fn are_calls_right(alloc: Global) -> bool {
 fn written(alloc: Global, lines: &str, reading: Reading) -> FixedWriter {
     let mut reader = lines.as_bytes();
     let mut writer = FixedWriter::new();
-    match reading {
-        Reading::Events => run_events(alloc, &mut reader, &mut writer),
-        Reading::Documents => run_nodes(alloc, &mut reader, &mut writer),
-    };
+    run(alloc, &mut reader, &mut writer, reading);
     writer
 }
 

@@ -1,16 +1,15 @@
 //! Texts of every length, in each call that copies texts.
 
+use crate::calls::{CONSTRUCTORS, Constructor, Texts, construct};
 use crate::readings::Loaded;
 use anyhow::Result;
 use row_notation::source_of;
 use std::alloc::Global;
 use unsafe_libyaml::{
     YAML_ANY_MAPPING_STYLE, YAML_ANY_SCALAR_STYLE, YAML_ANY_SEQUENCE_STYLE,
-    yaml_alias_event_initialize, yaml_document_add_mapping, yaml_document_add_scalar,
-    yaml_document_add_sequence, yaml_document_initialize, yaml_document_start_event_initialize,
-    yaml_document_t, yaml_mapping_start_event_initialize, yaml_parser_initialize, yaml_parser_load,
-    yaml_parser_parse_all, yaml_refusal_t, yaml_scalar_event_initialize,
-    yaml_sequence_start_event_initialize,
+    yaml_document_add_mapping, yaml_document_add_scalar, yaml_document_add_sequence,
+    yaml_document_initialize, yaml_document_t, yaml_parser_initialize, yaml_parser_load,
+    yaml_parser_parse_all, yaml_refusal_t,
 };
 
 /// The length of the longest text.
@@ -18,28 +17,23 @@ const LONG: usize = 65_536;
 
 /// Whether each constructor takes this text in each place.
 fn is_constructed(alloc: Global, text: &[u8]) -> bool {
-    let some = Some(text);
     let directives: [(&[u8], &[u8]); 1] = [(text, text)];
-    let scalar_style = YAML_ANY_SCALAR_STYLE;
-    [
-        yaml_document_start_event_initialize(alloc, None, directives.as_slice(), true).is_ok(),
-        yaml_alias_event_initialize(alloc, text).is_ok(),
-        yaml_scalar_event_initialize(alloc, some, some, text, true, true, scalar_style).is_ok(),
-        yaml_sequence_start_event_initialize(
-            alloc,
-            some,
-            some,
-            true,
-            YAML_ANY_SEQUENCE_STYLE,
-        ).is_ok(),
-        yaml_mapping_start_event_initialize(
-            alloc,
-            some,
-            some,
-            true,
-            YAML_ANY_MAPPING_STYLE,
-        ).is_ok(),
-    ] == [true; 5]
+    let texts = Texts {
+        directives: directives.as_slice(),
+        anchor: text,
+        tag: text,
+        value: text,
+    };
+    for constructor in CONSTRUCTORS {
+        if !takes(alloc, constructor, texts) {
+            return false;
+        }
+    }
+    true
+}
+
+fn takes(alloc: Global, constructor: Constructor, texts: Texts<'_>) -> bool {
+    construct(alloc, constructor, texts).is_ok()
 }
 
 /// Adds a node of each type with this text in each place.
@@ -57,12 +51,28 @@ fn build(alloc: Global, text: &[u8]) -> Result<(), yaml_refusal_t> {
     add_nodes(&mut document, text)
 }
 
-/// A row with this text in each token that has one.
+/// A row with a text, for which `@` stands, in each token that has one.
+const ROW: &str = "STREAM-START TAG-DIRECTIVE(@,@) DOCUMENT-START ANCHOR(@) TAG(@,@) \
+    FLOW-SEQUENCE-START ALIAS(@) FLOW-ENTRY SCALAR(@,double) FLOW-SEQUENCE-END STREAM-END";
+
+/// Appends a pattern, with this text for each `@`.
+///
+/// Errors: want of memory.
+pub fn put(out: &mut String, pattern: &str, text: &str) -> Result<()> {
+    for letter in pattern.chars() {
+        if letter == '@' {
+            out.push_str(text)?;
+        } else {
+            out.push(letter)?;
+        }
+    }
+    Ok(())
+}
+
 fn row_of(alloc: Global, text: &str) -> Result<String> {
-    Ok(format!(in alloc;
-        "STREAM-START TAG-DIRECTIVE({text},{text}) DOCUMENT-START ANCHOR({text}) TAG({text},{text}) \
-         FLOW-SEQUENCE-START ALIAS({text}) FLOW-ENTRY SCALAR({text},double) FLOW-SEQUENCE-END STREAM-END"
-    )?)
+    let mut row = String::new(alloc);
+    let whole = put(&mut row, ROW, text);
+    whole.and(Ok(row))
 }
 
 /// Whether this row gives its eight events.
