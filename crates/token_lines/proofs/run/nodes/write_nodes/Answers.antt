@@ -52,29 +52,28 @@ pub returns-in-Ended-clause-writes : goal.returns-in-Ended-clause-writes
 returns-in-Ended-clause-writes g c events ending run =
     let t = g.S.yaml_token_source_t in
     let contents = g.W.Write.contents in
-    let p = c.loop-writer.parser in
-    let q = c.write_next.new.parser in
+    let at = c.loop-writer in
     let n = magnitude c.args.parser.now.max_entries in
     let loads = bounded_loads n events ending in
-    let steps = steps_at t.gives t.known t.may_break step.Ended p q (contents c.loop-writer.writer) (contents c.write_next.new.writer) _ _
-    c.loop-writer.invariant.bound c.in-Ended.ensures.step in
-    writes_ended (t.may_break q.source) c.flushed.result _ _ (loads_lines loads) (loads_ending loads) c.flushed.ensures.outcome
-    (loads_last t.known n (contents c.args.writer.now) (contents c.loop-writer.writer) (contents c.write_next.new.writer) (contents c.flushed.new.writer) p
-    events ending (c.loop-writer.invariant.came events ending run) steps c.flushed.ensures.keeps)
+    let steps = steps_at t.gives t.known t.may_break step.Ended at.parser c.write_next.new.parser (contents at.writer) (contents c.write_next.new.writer) _ _
+    at.invariant.bound c.in-Ended.ensures.step in
+    writes_ended (t.may_break c.write_next.new.parser.source) c.flushed.result _ _ (loads_lines loads) (loads_ending loads) c.flushed.ensures.outcome
+    (loads_last t.known n (contents c.args.writer.now) (contents at.writer) (contents c.write_next.new.writer) (contents c.flushed.new.writer) at.parser
+    events ending (at.invariant.came events ending run) steps c.flushed.ensures.keeps)
 
 pub returns-in-Failed-clause-writes : goal.returns-in-Failed-clause-writes
 returns-in-Failed-clause-writes g c events ending run =
     let t = g.S.yaml_token_source_t in
     let contents = g.W.Write.contents in
-    let p = c.loop-writer.parser in
-    let q = c.write_next.new.parser in
+    let at = c.loop-writer in
     let n = magnitude c.args.parser.now.max_entries in
     let loads = bounded_loads n events ending in
-    let steps = steps_at t.gives t.known t.may_break (step.Failed c.in-Failed.fault) p q (contents c.loop-writer.writer) (contents c.write_next.new.writer) _ _
-    c.loop-writer.invariant.bound c.in-Failed.ensures.step in
-    writes_faulted (t.may_break q.source) c.faulted.result _ _ (loads_lines loads) (loads_ending loads) c.faulted.ensures.not_ended
-    (λ faulted. loads_fail t.known n (t.may_break q.source) (contents c.args.writer.now) (contents c.loop-writer.writer) (contents c.write_next.new.writer)
-    (contents c.faulted.new.writer) p (fault_of c.in-Failed.fault) events ending (c.loop-writer.invariant.came events ending run) steps
+    let may_break = t.may_break c.write_next.new.parser.source in
+    let steps = steps_at t.gives t.known t.may_break (step.Failed c.in-Failed.fault) at.parser c.write_next.new.parser (contents at.writer)
+    (contents c.write_next.new.writer) _ _ at.invariant.bound c.in-Failed.ensures.step in
+    writes_faulted may_break c.faulted.result _ _ (loads_lines loads) (loads_ending loads) c.faulted.ensures.not_ended
+    (λ faulted. loads_fail t.known n may_break (contents c.args.writer.now) (contents at.writer) (contents c.write_next.new.writer)
+    (contents c.faulted.new.writer) at.parser (fault_of c.in-Failed.fault) events ending (at.invariant.came events ending run) steps
     (c.faulted.ensures.writes faulted))
 
 pub returns-in-Ended-clause-kept : goal.returns-in-Ended-clause-kept
@@ -117,5 +116,8 @@ pub returns-in-OutputFailed-clause-in_turn : goal.returns-in-OutputFailed-clause
 returns-in-OutputFailed-clause-in_turn g c asked given history =
     let t = g.S.yaml_token_source_t in
     let at = c.loop-writer in
-    last_load_at t.gives t.known t.may_break g.W.Write.contents _ step.OutputFailed c.args.parser.now at.parser c.write_next.new.parser at.writer _ _ _
-    asked given at.invariant.bound (at.invariant.in_turn asked given history) c.in-OutputFailed.ensures.turn (loads_output _ _ _ _)
+    let contents = g.W.Write.contents in
+    let q = c.write_next.new.parser in
+    last_load_at t.gives t.known t.may_break contents _ step.OutputFailed c.args.parser.now at.parser q at.writer (contents c.args.writer.now)
+    (contents c.write_next.new.writer) (contents c.write_next.new.writer) asked given at.invariant.bound (at.invariant.in_turn asked given history)
+    c.in-OutputFailed.ensures.turn (loads_output (kept_fault q) (contents at.writer) (contents c.write_next.new.writer) (contents c.write_next.new.writer))
