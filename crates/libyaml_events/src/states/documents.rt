@@ -19,7 +19,8 @@
 //!   7 parse_document_end             YAML_PARSE_DOCUMENT_END_STATE
 //!   libyaml: yaml_parser_parse_document_end
 //!   2 stands at the stream's start and behind DOCUMENT-END, 3 behind a document without one,
-//!   where the next is explicit. A document's first token is theirs; an implicit one's stays for 5.
+//!   where the next is explicit. They take a document's first token, which stays for 5 where
+//!   the document is implicit.
 //!   At a token other than DOCUMENT-END, 7 ends the document, and the token stays for 3.
 //! ```
 ghost use Rattle.std.specs.Prelude.{◌≡◌, Ok, Err, OnOk, OnErr, IfErr, true};
