@@ -59,29 +59,23 @@ pub fn construct(
     constructor: Constructor,
     texts: Texts<'_>,
 ) -> Result<yaml_event_t, yaml_refusal_t> {
-    let Texts {
-        directives,
-        anchor,
-        tag,
-        value,
-    } = texts;
-    let (some, tag) = (Some(anchor), Some(tag));
+    let (anchor, tag) = (Some(texts.anchor), Some(texts.tag));
     match constructor {
         Constructor::DocumentStart => {
-            yaml_document_start_event_initialize(alloc, None, directives, true)
+            yaml_document_start_event_initialize(alloc, None, texts.directives, true)
         }
-        Constructor::Alias => yaml_alias_event_initialize(alloc, anchor),
+        Constructor::Alias => yaml_alias_event_initialize(alloc, texts.anchor),
         Constructor::Scalar => {
             let style = YAML_ANY_SCALAR_STYLE;
-            yaml_scalar_event_initialize(alloc, some, tag, value, true, true, style)
+            yaml_scalar_event_initialize(alloc, anchor, tag, texts.value, true, true, style)
         }
         Constructor::SequenceStart => {
             let style = YAML_ANY_SEQUENCE_STYLE;
-            yaml_sequence_start_event_initialize(alloc, some, tag, true, style)
+            yaml_sequence_start_event_initialize(alloc, anchor, tag, true, style)
         }
         Constructor::MappingStart => {
             let style = YAML_ANY_MAPPING_STYLE;
-            yaml_mapping_start_event_initialize(alloc, some, tag, true, style)
+            yaml_mapping_start_event_initialize(alloc, anchor, tag, true, style)
         }
     }
 }

@@ -61,7 +61,7 @@ struct Token {
 }
 
 impl Token {
-    /// The token that is drawn by x; none behind the last number of a type.
+    /// The token that is drawn by x. None where a table above is too short, which none is.
     fn drawn(x: u64) -> Option<Self> {
         let kind = *kinds().get(((x / 65536) % 19) as usize)?;
         let text = LONGEST.get(..(x % 70) as usize)?;
@@ -227,6 +227,7 @@ fn loads_to_an_end(alloc: Global, row: &str) -> Result<bool> {
     Ok(ends_so(shown.as_str()))
 }
 
+/// Whether what is shown has the fault of the source or one of the composer.
 fn ends_so(shown: &str) -> bool {
     shown.contains("fault 2: no more tokens at 99") || shown.contains("fault 5: ")
 }

@@ -26,14 +26,22 @@ fn compare_events(answer: &Parsed, again: &Parsed) -> Option<bool> {
     (answer == again).then_some(is_event(answer))
 }
 
+/// Whether a parser answers so too, and with an event that isn't the empty one; None where it differs.
+fn parses_so<S: yaml_token_source_t>(
+    answer: &Parsed,
+    parser: &mut yaml_parser_t<S>,
+) -> Option<bool> {
+    let again = yaml_parser_parse(parser);
+    compare_events(answer, &again)
+}
+
 /// Whether both parsers give an event, and not the empty one; None where they differ.
 fn next_event<S: yaml_token_source_t, T: yaml_token_source_t>(
     one: &mut yaml_parser_t<S>,
     other: &mut yaml_parser_t<T>,
 ) -> Option<bool> {
     let answer = yaml_parser_parse(one);
-    let again = yaml_parser_parse(other);
-    compare_events(&answer, &again)
+    parses_so(&answer, other)
 }
 
 /// Whether both answers are a document with a root; None where they differ, or where it is not of the shape.
