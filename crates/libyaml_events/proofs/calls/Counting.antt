@@ -10,7 +10,7 @@ use Rattle.libyaml_grammar.specs.sentences.Events.{Event, events}
 use Rattle.libyaml_grammar.specs.cuts.Rest.{rest}
 use Rattle.libyaml_grammar.proofs.positions.Positions.{Position, unopened}
 use Rattle.libyaml_grammar.proofs.positions.Reading.{Step, bad, checked, feed, goes, is_legal, over, reads_all, then_all}
-use Rattle.libyaml_grammar.proofs.positions.Given.{given, gives, if_all}
+use Rattle.libyaml_grammar.proofs.positions.Given.{gives_all, gives, if_all}
 use Rattle.libyaml_grammar.specs.runs.Runs.{Ends, IsRun}
 use Rattle.libyaml_events.specs.machine.Config.{Config, taken}
 use Rattle.libyaml_events.specs.machine.Machine.{machine}
@@ -49,18 +49,18 @@ gives_count : (q : Position) (k : Content) (m : Marks) → IsMet q → length (g
 gives_count q k m w = subst (λ (x : List Event
     × End). length x.0 ≤ 4) (follows zero q k m [] w) (spends_count (suc (suc (suc (suc zero)))) (want_of q) (config_of q) k m)
 
-given_count : (l : List Token) (q p : Position) → IsMet q → reads_all l q ≡ goes p → length (given l q []) ≤ 4 * length l
+given_count : (l : List Token) (q p : Position) → IsMet q → reads_all l q ≡ goes p → length (gives_all l q []) ≤ 4 * length l
 given_count [] q p w e = omega arith
 given_count (t ∷ l) q p w e = go (λ (x : Position) (v : IsMet x) (h : reads_all l x ≡ goes p). given_count l x p v h) (feed q t) (is_legal q t.content)
     (step_met q t.content (marks_of t) w) e
   where
-    go : ((x : Position) → IsMet x → reads_all l x ≡ goes p → length (given l x []) ≤ 4 * length l) → (s : Step) (b : Bool) → Meets s b
-        → then_all (checked s b) (reads_all l) ≡ goes p → length (gives q t.content (marks_of t) (if_all s (given l) [])) ≤ 4 * suc (length l)
+    go : ((x : Position) → IsMet x → reads_all l x ≡ goes p → length (gives_all l x []) ≤ 4 * length l) → (s : Step) (b : Bool) → Meets s b
+        → then_all (checked s b) (reads_all l) ≡ goes p → length (gives q t.content (marks_of t) (if_all s (gives_all l) [])) ≤ 4 * suc (length l)
     go ih (goes x) true v h =
-        let a : length (given l x []) ≤ 4 * length l = ih x (v refl) h in
+        let a : length (gives_all l x []) ≤ 4 * length l = ih x (v refl) h in
         let b : length (gives q t.content (marks_of t) []) ≤ 4 = gives_count q t.content (marks_of t) w in
-        let c : length (gives q t.content (marks_of t) (given l x [])) ≡ length (gives q t.content (marks_of t) []) + length (given l x [])
-        = ap length (gives_split q t.content (marks_of t) (given l x []) w) ∙ length_append (gives q t.content (marks_of t) []) (given l x []) in
+        let c : length (gives q t.content (marks_of t) (gives_all l x [])) ≡ length (gives q t.content (marks_of t) []) + length (gives_all l x [])
+        = ap length (gives_split q t.content (marks_of t) (gives_all l x []) w) ∙ length_append (gives q t.content (marks_of t) []) (gives_all l x []) in
         omega arith
     go ih (goes x) false v h = absurd cc
     go ih (bad c) b v h = absurd cc
@@ -68,18 +68,18 @@ given_count (t ∷ l) q p w e = go (λ (x : Position) (v : IsMet x) (h : reads_a
 
 pub linked_count : (c : Config) (asked : List Token) (g : List Event) → Links c asked g → length g ≤ 4 * length asked
 linked_count c asked g (at_position q e v f h i) =
-    let a : length (given asked unopened []) ≤ 4 * length asked = given_count asked unopened q tt e in
-    let d : length g ≡ length (given asked unopened []) = ap length i in
+    let a : length (gives_all asked unopened []) ≤ 4 * length asked = given_count asked unopened q tt e in
+    let d : length g ≡ length (gives_all asked unopened []) = ap length i in
     omega arith
 linked_count c asked g (amid_token l t u q n e f h) =
-    let a : length (given l unopened []) ≤ 4 * length l = given_count l unopened q tt h.read in
+    let a : length (gives_all l unopened []) ≤ 4 * length l = given_count l unopened q tt h.read in
     let b : length (gives q t.content (marks_of t) []) ≤ 4 = gives_count q t.content (marks_of t) h.met in
     let d : length asked ≡ length l + 1 = ap length e ∙ length_append l (t ∷ []) in
     let k : length g + length (spends n AtState (taken c) u.content (marks_of u) []).0
-    ≡ length (given l unopened []) + length (gives q t.content (marks_of t) [])
+    ≡ length (gives_all l unopened []) + length (gives q t.content (marks_of t) [])
     = sym (length_append g (spends n AtState (taken c) u.content (marks_of u) []).0)
     ∙ (ap length h.gives_so ∙ (ap length (given_split l unopened q tt h.read (gives q t.content (marks_of t) []))
-    ∙ length_append (given l unopened []) (gives q t.content (marks_of t) []))) in
+    ∙ length_append (gives_all l unopened []) (gives q t.content (marks_of t) []))) in
     omega arith
 
 -- what was given begins the events of every sentence that begins with the tokens asked for

@@ -20,7 +20,7 @@ use Rattle.libyaml_grammar.specs.runs.StreamEnds.{up_to_end}
 use Rattle.libyaml_grammar.specs.cuts.Settled.{sure}
 use Rattle.libyaml_grammar.proofs.positions.Positions.{Position, unopened, done}
 use Rattle.libyaml_grammar.proofs.positions.Reading.{Step, feed, reads, reads_all, then_all, checked, is_legal, broken, goes, bad, over}
-use Rattle.libyaml_grammar.proofs.positions.Given.{gives, given, if_all}
+use Rattle.libyaml_grammar.proofs.positions.Given.{gives, gives_all, if_all}
 use Rattle.libyaml_grammar.specs.runs.Runs.{Ending, Ends, Fails, IsRun, of_sentence, of_cut_tree, amid_properties, of_beginning, is_behind}
 use Rattle.libyaml_grammar.specs.runs.Runs.{is_behind_properties, has_token}
 use Rattle.libyaml_events.specs.machine.Config.{Config, Parser, taken, ended_or_failed}
@@ -53,14 +53,14 @@ reads_given [] q r = r
 reads_given (t ∷ l) q r = gives q t.content (marks_of t) (if_all (reads q t) (reads_given l) r)
 
 -- a front that is read gives what it gives, and then the rest
-front_given : (l x : List Token) (q p : Position) → reads_all l q ≡ goes p → (r : List Event) → reads_given (l ++ x) q r ≡ given l q (reads_given x p r)
+front_given : (l x : List Token) (q p : Position) → reads_all l q ≡ goes p → (r : List Event) → reads_given (l ++ x) q r ≡ gives_all l q (reads_given x p r)
 front_given [] x q p e r = ap (λ (y : Position). reads_given x y r) (goes_same q p e)
 front_given (t ∷ l) x q p e r = go (λ (y : Position) (h : reads_all l y ≡ goes p). front_given l x y p h r) (feed q t) (is_legal q t.content) e
   where
-    go : ((y : Position) → reads_all l y ≡ goes p → reads_given (l ++ x) y r ≡ given l y (reads_given x p r)) → (s : Step) (b : Bool)
+    go : ((y : Position) → reads_all l y ≡ goes p → reads_given (l ++ x) y r ≡ gives_all l y (reads_given x p r)) → (s : Step) (b : Bool)
         → then_all (checked s b) (reads_all l) ≡ goes p
         → gives q t.content (marks_of t) (if_all (checked s b) (reads_given (l ++ x)) r)
-        ≡ gives q t.content (marks_of t) (if_all s (given l) (reads_given x p r))
+        ≡ gives q t.content (marks_of t) (if_all s (gives_all l) (reads_given x p r))
     go ih (goes y) true h = ap (gives q t.content (marks_of t)) (ih y h)
     go ih (goes y) false h = absurd cc
     go ih (bad c) b h = absurd cc
@@ -83,7 +83,7 @@ reached_met (t ∷ l) q p w e = go (λ (y : Position) (v : IsMet y) (h : reads_a
 cut_given : (l : List Token) (b : Token) (x : List Token) (q : Position) (c : Cut) → reads_all l unopened ≡ goes q → reads q b ≡ bad c
     → reads_given (l ++ b ∷ x) unopened [] ≡ cut_events c b
 cut_given l b x q c e f = front_given l (b ∷ x) unopened q e []
-    ∙ (ap (λ (s : Step). given l unopened (gives q b.content (marks_of b) (if_all s (reads_given x) []))) f
+    ∙ (ap (λ (s : Step). gives_all l unopened (gives q b.content (marks_of b) (if_all s (reads_given x) []))) f
     ∙ go (outcomes.does q b.content (marks_of b) (reached_met l unopened q tt e)))
   where
     not_good : (p : Position) → goes p ≡ bad c → ⊥
@@ -92,7 +92,7 @@ cut_given l b x q c e f = front_given l (b ∷ x) unopened q e []
     not_over : over ≡ bad c → ⊥
     not_over i = cc
 
-    go : Does q b.content (marks_of b) → given l unopened (gives q b.content (marks_of b) []) ≡ shown_cut c b.start_mark []
+    go : Does q b.content (marks_of b) → gives_all l unopened (gives q b.content (marks_of b) []) ≡ shown_cut c b.start_mark []
     go (is_good p x1 x2 x3 x4) = absurd
         (not_good p (sym (ap (λ (s : Step). checked s (is_legal q b.content)) x1 ∙ ap (λ (u : Bool). checked (goes p) u) x2) ∙ f))
     go (is_bad d x1 x2 x3) = sym (shown_given l q b.start_mark (gives q b.content (marks_of b) []) e)
@@ -129,7 +129,7 @@ run_given l f e x (of_sentence t a o g h) =
     let s = splits l in
     let r = sentence_reads (up_to_end l) (record { tree = t; all = a; order = o }) in
     g ∙ (shown_given (up_to_end l) (done t) zero_mark [] r
-    ∙ (sym (ap (given (up_to_end l) unopened) (done_gives s.after t))
+    ∙ (sym (ap (gives_all (up_to_end l) unopened) (done_gives s.after t))
     ∙ (sym (front_given (up_to_end l) s.after unopened (done t) r []) ∙ ap (λ (y : List Token). reads_given y unopened []) (sym s.all))))
 run_given l f e x (of_cut_tree before token behind c a i o g h) =
     let s = splits l in
@@ -142,7 +142,7 @@ run_given l f e x (amid_properties before token behind c a i o g h) =
 run_given l f e x (of_beginning b n i h) =
     let (q, g) = begin_reads (up_to_end l) b in
     let y = front_of (up_to_end l) q g (not_end_not_done (up_to_end l) q g n) in
-    let k : given (up_to_end l) unopened [] ≡ sure (front q) = gives_sure (up_to_end l) (front q) y [] ∙ nil_right (sure (front q)) in
+    let k : gives_all (up_to_end l) unopened [] ≡ sure (front q) = gives_sure (up_to_end l) (front q) y [] ∙ nil_right (sure (front q)) in
     one_settled_proof (up_to_end l) e (sure (front q)) i (front_settles (up_to_end l) (front q) y)
     ∙ (sym k ∙ (sym (front_given (up_to_end l) [] unopened q g [])
     ∙ ap (λ (z : List Token). reads_given z unopened []) (nil_right (up_to_end l) ∙ whole l n)))
@@ -171,8 +171,8 @@ linked_begins c asked g rest (amid_token l t u q n e f h)
       ap (λ (y : List Token). reads_given y unopened []) (ap (λ (y : List Token). y ++ rest) e ∙ assoc l (t ∷ []) rest)
           ∙ (front_given l (t ∷ rest) unopened q h.read []
           ∙ (given_split l unopened q tt h.read (gives q t.content (marks_of t) later)
-          ∙ (ap (λ (y : List Event). given l unopened [] ++ y) (gives_split q t.content (marks_of t) later h.met)
-          ∙ (sym (assoc (given l unopened []) (gives q t.content (marks_of t) []) later)
+          ∙ (ap (λ (y : List Event). gives_all l unopened [] ++ y) (gives_split q t.content (marks_of t) later h.met)
+          ∙ (sym (assoc (gives_all l unopened []) (gives q t.content (marks_of t) []) later)
           ∙ (ap (λ (y : List Event). y ++ later) (sym (given_split l unopened q tt h.read (gives q t.content (marks_of t) [])) ∙ sym h.gives_so)
           ∙ assoc g es later))))),
     )

@@ -9,7 +9,7 @@ use Rattle.libyaml_grammar.specs.sentences.Trees.{Stream}
 use Rattle.libyaml_grammar.specs.sentences.Events.{Event}
 use Rattle.libyaml_grammar.proofs.positions.Positions.{Position, done, unopened}
 use Rattle.libyaml_grammar.proofs.positions.Reading.{goes, reads_all}
-use Rattle.libyaml_grammar.proofs.positions.Given.{given}
+use Rattle.libyaml_grammar.proofs.positions.Given.{gives_all}
 use Rattle.libyaml_grammar.specs.cuts.Settled.{IsFront, sure}
 use Rattle.libyaml_events.proofs.calls.Calling.{Standing}
 use Rattle.libyaml_grammar.proofs.trees.Fitting.{stops_fits}
@@ -20,7 +20,7 @@ use Rattle.libyaml_events.proofs.machine.Waiting.{still_waits}
 
 -- behind a beginning that is no sentence the next event is not settled
 pub open_there : (a : List Token) (p : Position) → reads_all a unopened ≡ goes p → ((t : Stream) → p ≡ done t → ⊥) → IsFront a (front p)
-    × (given a unopened [] ≡ sure (front p))
+    × (gives_all a unopened [] ≡ sure (front p))
 open_there a p e n =
     let f = front_of a p e (not_the_end p n) in
     (f, gives_sure a (front p) f [] ∙ nil_right (sure (front p)))

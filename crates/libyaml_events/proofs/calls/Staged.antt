@@ -22,7 +22,7 @@ use Rattle.libyaml_grammar.specs.cuts.CutTrees.{open_collection}
 use Rattle.libyaml_events.specs.sources.Calls.{held}
 use Rattle.libyaml_grammar.proofs.Lists.{nil_right}
 use Rattle.libyaml_grammar.proofs.positions.Reading.{reads_all, goes}
-use Rattle.libyaml_events.specs.parsers.Stages.{Stage, at_start, before_root, within, after, is_event, is_outside, is_at_end, stage_from, stage_of}
+use Rattle.libyaml_events.specs.parsers.Stages.{Stage, at_start, before_root, within_root, after, is_event, is_outside, is_at_end, stage_from, stage_of}
 use Rattle.libyaml_events.specs.parsers.Stages.{open_collections, is_quiet, ends_quietly, takes_no_memory}
 use Rattle.libyaml_grammar.specs.sentences.Events.{events}
 use Rattle.libyaml_grammar.specs.runs.Fault.{Answer, Fault}
@@ -338,16 +338,16 @@ leads_to_end st e h = go e.content st h
     go (ev.Scalar a) before_root h = refl
     go (ev.Scalar a) st h = h
     go (ev.SequenceStart s) before_root h = refl
-    go (ev.SequenceStart s) (within n) h = refl
+    go (ev.SequenceStart s) (within_root n) h = refl
     go (ev.SequenceStart s) st h = h
-    go ev.SequenceEnd (within zero) h = refl
-    go ev.SequenceEnd (within (suc n)) h = refl
+    go ev.SequenceEnd (within_root zero) h = refl
+    go ev.SequenceEnd (within_root (suc n)) h = refl
     go ev.SequenceEnd st h = h
     go (ev.MappingStart s) before_root h = refl
-    go (ev.MappingStart s) (within n) h = refl
+    go (ev.MappingStart s) (within_root n) h = refl
     go (ev.MappingStart s) st h = h
-    go ev.MappingEnd (within zero) h = refl
-    go ev.MappingEnd (within (suc n)) h = refl
+    go ev.MappingEnd (within_root zero) h = refl
+    go ev.MappingEnd (within_root (suc n)) h = refl
     go ev.MappingEnd st h = h
 
 -- where a call takes no memory

@@ -7,7 +7,7 @@ use Rattle.libyaml_events.specs.machine.Machine as mach
 use Rattle.libyaml_events.specs.machine.Machine.{Progressed, may_open, first_version, version_directive, further_document_end, anchor_behind, tag_behind}
 use Rattle.libyaml_events.specs.machine.Machine.{content_behind, content_resolved, node_content, no_content, parse_node, explicit_document}
 use Rattle.libyaml_events.specs.machine.Machine.{parse_implicit_document_start, parse_document_start, behind_properties, at_state, machine, resolve, give}
-use Rattle.libyaml_events.specs.parsers.Stages.{Stage, at_start, outside, before_root, within, behind_root, at_end, leaf, opened, closed, after, is_event}
+use Rattle.libyaml_events.specs.parsers.Stages.{Stage, at_start, outside, before_root, within_root, behind_root, at_end, leaf, opened, closed, after, is_event}
 use Rattle.libyaml_grammar.specs.sentences.Tokens.{Alias, Anchor, BlockEnd, BlockEntry, BlockMappingStart, BlockSequenceStart, Content, DocumentEnd}
 use Rattle.libyaml_grammar.specs.sentences.Tokens.{DocumentStart, FlowEntry, FlowMappingEnd, FlowMappingStart, FlowSequenceEnd, FlowSequenceStart, Key, Mark}
 use Rattle.libyaml_grammar.specs.sentences.Tokens.{Scalar, StreamEnd, StreamStart, Tag, TagDirective, Token, Value, VersionDirective}
@@ -70,10 +70,10 @@ IsStack (s ∷ ss) = ⊥
 
 -- amid a collection, with this stack below; or amid a pair of a flow sequence
 abbrev pub Inside : List yaml_parser_state_t → Stage → Type 0
-Inside ss st = IsStack ss × (st ≡ within (around ss))
+Inside ss st = IsStack ss × (st ≡ within_root (around ss))
 
 abbrev pub InPair : List yaml_parser_state_t → Stage → Type 0
-InPair ss st = IsStack ss × (st ≡ within (suc (around ss)))
+InPair ss st = IsStack ss × (st ≡ within_root (suc (around ss)))
 
 -- where a node is due, behind which the stack goes on
 abbrev pub NodeDue : List yaml_parser_state_t → Stage → Type 0

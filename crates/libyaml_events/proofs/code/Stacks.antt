@@ -1,14 +1,10 @@
 -- a stack whose top is the last of a `Vec`, seen with its top first
-use Rattle.std.proofs.Common.{◌≡◌, ◌++◌, ◌∷◌, List, [], ℕ, map, reverse, ap, refl, ◌∙◌}
-use Rattle.std.proofs.lemmas.List.{reverse-append}
+use Rattle.std.proofs.Common.{◌≡◌, ◌++◌, ◌∷◌, List, [], ℕ, map, reverse, ap, ◌∙◌}
+use Rattle.std.proofs.lemmas.List.{map-append, reverse-append}
 use Rattle.libyaml_events.specs.machine.State.{stack_of, back_state}
 
-map_push : {A B : Type 0} (f : A → B) (xs : List A) (x : A) → map f (xs ++ x ∷ []) ≡ map f xs ++ f x ∷ []
-map_push f [] x = refl
-map_push f (y ∷ ys) x = ap (λ zs. f y ∷ zs) (map_push f ys x)
-
 pub stack_push : (bytes : List ℕ) (b : ℕ) → stack_of (bytes ++ b ∷ []) ≡ back_state b ∷ stack_of bytes
-stack_push bytes b = ap reverse (map_push back_state bytes b) ∙ reverse-append (map back_state bytes) (back_state b ∷ [])
+stack_push bytes b = ap reverse (map-append back_state bytes (b ∷ [])) ∙ reverse-append (map back_state bytes) (back_state b ∷ [])
 
 pub stack_pop : (old new : List ℕ) (b : ℕ) → old ≡ new ++ b ∷ [] → stack_of old ≡ back_state b ∷ stack_of new
 stack_pop old new b e = ap stack_of e ∙ stack_push new b

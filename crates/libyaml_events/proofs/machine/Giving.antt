@@ -5,7 +5,7 @@ use Rattle.libyaml_grammar.specs.sentences.Tokens.{Content, Mark, Marks, Token, 
 use Rattle.libyaml_grammar.specs.sentences.Events.{Event}
 use Rattle.libyaml_grammar.proofs.positions.Positions.{Position, shown, unopened}
 use Rattle.libyaml_grammar.proofs.positions.Reading.{Step, bad, checked, feed, goes, is_legal, over, reads_all, then_all}
-use Rattle.libyaml_grammar.proofs.positions.Given.{given, gives, if_all}
+use Rattle.libyaml_grammar.proofs.positions.Given.{gives_all, gives, if_all}
 use Rattle.libyaml_events.specs.machine.Config.{Config, taken}
 use Rattle.libyaml_events.specs.machine.Machine.{machine}
 use Rattle.libyaml_grammar.proofs.trees.Completion.{reads_append}
@@ -39,27 +39,27 @@ pub gives_split : (q : Position) (k : Content) (m : Marks) (r : List Event) → 
 gives_split q k m r w = ap (λ (x : List Event × End). x.0) (sym (follows zero q k m r w))
     ∙ (spends_split (suc (suc (suc (suc zero)))) (want_of q) (config_of q) k m r ∙ ap (λ (x : List Event × End). x.0 ++ r) (follows zero q k m [] w))
 
-pub given_split : (l : List Token) (q p : Position) → IsMet q → reads_all l q ≡ goes p → (r : List Event) → given l q r ≡ given l q [] ++ r
+pub given_split : (l : List Token) (q p : Position) → IsMet q → reads_all l q ≡ goes p → (r : List Event) → gives_all l q r ≡ gives_all l q [] ++ r
 given_split [] q p w e r = refl
 given_split (t ∷ l) q p w e r = go (λ (x : Position) (v : IsMet x) (h : reads_all l x ≡ goes p). given_split l x p v h r) (feed q t) (is_legal q t.content)
     (step_met q t.content (marks_of t) w) e
   where
-    go : ((x : Position) → IsMet x → reads_all l x ≡ goes p → given l x r ≡ given l x [] ++ r) → (s : Step) (b : Bool) → Meets s b
+    go : ((x : Position) → IsMet x → reads_all l x ≡ goes p → gives_all l x r ≡ gives_all l x [] ++ r) → (s : Step) (b : Bool) → Meets s b
         → then_all (checked s b) (reads_all l) ≡ goes p
-        → gives q t.content (marks_of t) (if_all s (given l) r) ≡ gives q t.content (marks_of t) (if_all s (given l) []) ++ r
-    go ih (goes x) true v h = gives_split q t.content (marks_of t) (given l x r) w
+        → gives q t.content (marks_of t) (if_all s (gives_all l) r) ≡ gives q t.content (marks_of t) (if_all s (gives_all l) []) ++ r
+    go ih (goes x) true v h = gives_split q t.content (marks_of t) (gives_all l x r) w
         ∙ (ap (λ (y : List Event). gives q t.content (marks_of t) [] ++ y) (ih x (v refl) h)
-        ∙ (sym (assoc (gives q t.content (marks_of t) []) (given l x []) r)
-        ∙ ap (λ (y : List Event). y ++ r) (sym (gives_split q t.content (marks_of t) (given l x []) w))))
+        ∙ (sym (assoc (gives q t.content (marks_of t) []) (gives_all l x []) r)
+        ∙ ap (λ (y : List Event). y ++ r) (sym (gives_split q t.content (marks_of t) (gives_all l x []) w))))
     go ih (goes x) false v h = absurd cc
     go ih (bad c) b v h = absurd cc
     go ih over b v h = absurd cc
 
 -- one token more
 pub given_snoc : (l : List Token) (q p : Position) (t : Token) → reads_all l unopened ≡ goes q → feed q t ≡ goes p
-    → given (l ++ t ∷ []) unopened [] ≡ given l unopened (gives q t.content (marks_of t) [])
+    → gives_all (l ++ t ∷ []) unopened [] ≡ gives_all l unopened (gives q t.content (marks_of t) [])
 given_snoc l q p t e f = given_append l (t ∷ []) unopened q (reads_to l unopened q e).0 []
-    ∙ ap (λ (s : Step). given l unopened (gives q t.content (marks_of t) (if_all s (given []) []))) f
+    ∙ ap (λ (s : Step). gives_all l unopened (gives q t.content (marks_of t) (if_all s (gives_all []) []))) f
 
 pub reads_snoc : (l : List Token) (q p : Position) (t : Token) → reads_all l unopened ≡ goes q → feed q t ≡ goes p → is_legal q t.content ≡ true
     → reads_all (l ++ t ∷ []) unopened ≡ goes p
@@ -67,5 +67,5 @@ reads_snoc l q p t e f g = reads_append l (t ∷ []) unopened
     ∙ (ap (λ (s : Step). then_all s (reads_all (t ∷ []))) e
     ∙ (ap (λ (s : Step). then_all (checked s (is_legal q t.content)) (reads_all [])) f ∙ ap (λ (b : Bool). then_all (checked (goes p) b) (reads_all [])) g))
 
-pub shown_given : (l : List Token) (q : Position) (m : Mark) (r : List Event) → reads_all l unopened ≡ goes q → shown q m r ≡ given l unopened r
+pub shown_given : (l : List Token) (q : Position) (m : Mark) (r : List Event) → reads_all l unopened ≡ goes q → shown q m r ≡ gives_all l unopened r
 shown_given l q m r e = given_shown l unopened q (reads_to l unopened q e).0 m r

@@ -20,7 +20,7 @@ use Rattle.libyaml_grammar.specs.cuts.CutEvents.{shown_cut}
 use Rattle.libyaml_grammar.specs.cuts.CutFaults.{fault}
 use Rattle.libyaml_grammar.proofs.positions.Positions.{Position, done, due, headed, unopened}
 use Rattle.libyaml_grammar.proofs.positions.Reading.{Step, bad, broken, checked, goes, is_legal, over, pending, reads, reads_all}
-use Rattle.libyaml_grammar.proofs.positions.Given.{given, gives}
+use Rattle.libyaml_grammar.proofs.positions.Given.{gives_all, gives}
 use Rattle.libyaml_grammar.specs.runs.Runs.{is_behind_properties}
 use Rattle.libyaml_events.specs.machine.Config.{Config, taken}
 use Rattle.libyaml_grammar.proofs.trees.Fitting.{NotTag, NotTagCut, not_tag, open_or_done, over_done}
@@ -38,7 +38,7 @@ use Rattle.libyaml_types.specs.declared.enums.yaml_parser_state_t.TheVariants.{Y
 
 -- amid a call, behind tokens that are all consumed: at a position, or behind a bad TAG, while waiting
 pub data Stood (l : List Token) (events : List Event) (w : Want) (c : Config) : Type 0 where
-  at_place : (q : Position) → reads_all l unopened ≡ goes q → IsMet q → w ≡ want_of q → c ≡ config_of q → events ≡ given l unopened [] → Stood l events w c
+  at_place : (q : Position) → reads_all l unopened ≡ goes q → IsMet q → w ≡ want_of q → c ≡ config_of q → events ≡ gives_all l unopened [] → Stood l events w c
   amid_node : (before : List Token) (b : Token) (later : List Token) (q : Position) (x : Cut) (p : Position) → l ≡ before ++ b ∷ later
       → reads_all before unopened ≡ goes q → reads q b ≡ bad x → events ≡ shown_cut x b.start_mark [] → Waits x b later p → w ≡ want_of p → c ≡ config_of p
       → Stood l events w c
@@ -53,11 +53,11 @@ pub record Amid (l : List Token) (t : Token) (q : Position) (events : List Event
   pub met : IsMet q
   pub more_due : (x : Stream) → q ≡ done x → ⊥
   pub ends_so : (spends n w c u.content (marks_of u) []).1 ≡ ends q t.content (marks_of t)
-  pub gives_so : events ++ (spends n w c u.content (marks_of u) []).0 ≡ given l unopened (gives q t.content (marks_of t) [])
+  pub gives_so : events ++ (spends n w c u.content (marks_of u) []).0 ≡ gives_all l unopened (gives q t.content (marks_of t) [])
 
 -- between calls: all tokens are consumed, or one is held that has more to give
 pub data Links (c : Config) (asked : List Token) (events : List Event) : Type 0 where
-  at_position : (q : Position) → reads_all asked unopened ≡ goes q → IsMet q → want_of q ≡ AtState → c ≡ config_of q → events ≡ given asked unopened []
+  at_position : (q : Position) → reads_all asked unopened ≡ goes q → IsMet q → want_of q ≡ AtState → c ≡ config_of q → events ≡ gives_all asked unopened []
       → Links c asked events
   amid_token : (l : List Token) (t u : Token) (q : Position) (n : ℕ) → asked ≡ l ++ t ∷ [] → c.lookahead ≡ Some u → Amid l t q events n AtState (taken c) u
       → Links c asked events
@@ -163,7 +163,7 @@ not_done q w c e g t f = g (ap (λ (x : Config). x.state) e ∙ at_end_state q t
 
 module _ (l : List Token) (t : Token) (q : Position) (more_due : (x : Stream) → q ≡ done x → ⊥) (events : List Event) (e : reads_all l unopened ≡ goes q) where
   -- the machine fails
-  err_case : (f : Fault) → fails f ≡ ends q t.content (marks_of t) → events ++ [] ≡ given l unopened (gives q t.content (marks_of t) [])
+  err_case : (f : Fault) → fails f ≡ ends q t.content (marks_of t) → events ++ [] ≡ gives_all l unopened (gives q t.content (marks_of t) [])
       → Does q t.content (marks_of t) → Fails (l ++ t ∷ []) events f
   err_case f g h (is_good p x1 x2 x3 x4) = absurd (fails_not_waits (want_of p) (config_of p) f (g ∙ x4))
   err_case f g h (is_bad c x1 x2 x3) = record {
@@ -183,7 +183,7 @@ module _ (l : List Token) (t : Token) (q : Position) (more_due : (x : Stream) �
   err_case f g h (is_over x) = let (s, i) = over_done q t.content (marks_of t) x in absurd (more_due s i)
 
   -- the machine wants another
-  wants_case : (w : Want) (c : Config) → waits w c ≡ ends q t.content (marks_of t) → events ++ [] ≡ given l unopened (gives q t.content (marks_of t) [])
+  wants_case : (w : Want) (c : Config) → waits w c ≡ ends q t.content (marks_of t) → events ++ [] ≡ gives_all l unopened (gives q t.content (marks_of t) [])
       → Does q t.content (marks_of t) → Stood (l ++ t ∷ []) events w c
   wants_case w c g h (is_good p x1 x2 x3 x4)
       = at_place p (reads_snoc l q p t e x1 x2) x3 (waits_want w (want_of p) c (config_of p) (g ∙ x4)) (waits_config w (want_of p) c (config_of p) (g ∙ x4))
@@ -201,7 +201,7 @@ module _ (l : List Token) (t : Token) (q : Position) (more_due : (x : Stream) �
 
   -- the machine gives an event, and the token is spent
   spent_case : (x : Event) (c : Config) → waits AtState c ≡ ends q t.content (marks_of t)
-      → events ++ x ∷ [] ≡ given l unopened (gives q t.content (marks_of t) []) → Does q t.content (marks_of t) → Links c (l ++ t ∷ []) (events ++ x ∷ [])
+      → events ++ x ∷ [] ≡ gives_all l unopened (gives q t.content (marks_of t) []) → Does q t.content (marks_of t) → Links c (l ++ t ∷ []) (events ++ x ∷ [])
   spent_case x c g h (is_good p x1 x2 x3 x4)
       = at_position p (reads_snoc l q p t e x1 x2) x3 (sym (waits_want AtState (want_of p) c (config_of p) (g ∙ x4)))
       (waits_config AtState (want_of p) c (config_of p) (g ∙ x4)) (h ∙ sym (given_snoc l q p t e x1))
@@ -225,7 +225,8 @@ amid_leads l t q events (suc n) w c u on h = go (mach.step w c u) (not_over w c 
     k = does q t.content (marks_of t) h.met
 
     keeps : (x : Event) (d : Config) (o : Option Token) → d.lookahead ≡ o → (emit x (keeps_on d o (more n []) [])).1 ≡ ends q t.content (marks_of t)
-        → events ++ (emit x (keeps_on d o (more n []) [])).0 ≡ given l unopened (gives q t.content (marks_of t) []) → Links d (l ++ t ∷ []) (events ++ x ∷ [])
+        → events ++ (emit x (keeps_on d o (more n []) [])).0 ≡ gives_all l unopened (gives q t.content (marks_of t) [])
+        → Links d (l ++ t ∷ []) (events ++ x ∷ [])
     keeps x d None y g i = spent_case l t q h.more_due events h.read x d g i k
     keeps x d (Some v) y g i = amid_token l t v q n refl y
         (record {
@@ -238,14 +239,14 @@ amid_leads l t q events (suc n) w c u on h = go (mach.step w c u) (not_over w c 
         })
 
     go : (o : Progressed) → NotOver o → (after o (more n []) []).1 ≡ ends q t.content (marks_of t)
-        → events ++ (after o (more n []) []).0 ≡ given l unopened (gives q t.content (marks_of t) []) → Leads o (l ++ t ∷ []) events
+        → events ++ (after o (more n []) []).0 ≡ gives_all l unopened (gives q t.content (marks_of t) []) → Leads o (l ++ t ∷ []) events
     go (Err f) z g i = err_case l t q h.more_due events h.read f g i k
     go (Ok (Wants w', d)) z g i = record { stood = wants_case l t q h.more_due events h.read w' d g i k; goes_on = z }
     go (Ok (Given x, d)) z g i = keeps x d d.lookahead refl g i
 
 -- at a position
 place_amid : (l : List Token) (t : Token) (q : Position) (events : List Event) → reads_all l unopened ≡ goes q → IsMet q → ((x : Stream) → q ≡ done x → ⊥)
-    → events ≡ given l unopened [] → Amid l t q events (suc (suc (suc (suc zero)))) (want_of q) (config_of q) t
+    → events ≡ gives_all l unopened [] → Amid l t q events (suc (suc (suc (suc zero)))) (want_of q) (config_of q) t
 place_amid l t q events e v d f =
     let s = follows zero q t.content (marks_of t) [] v in
     record {
@@ -254,7 +255,7 @@ place_amid l t q events e v d f =
       more_due = d;
       ends_so = ap (λ (x : List Event × End). x.1) s;
       gives_so = ap (λ (y : List Event). y ++ (spends (suc (suc (suc (suc zero)))) (want_of q) (config_of q) t.content (marks_of t) []).0) f
-          ∙ (ap (λ (x : List Event × End). given l unopened [] ++ x.0) s ∙ sym (given_split l unopened q tt e (gives q t.content (marks_of t) [])));
+          ∙ (ap (λ (x : List Event × End). gives_all l unopened [] ++ x.0) s ∙ sym (given_split l unopened q tt e (gives q t.content (marks_of t) [])));
     }
 
 list_assoc : (a : List Token) (b : Token) (c : List Token) (t : Token) → a ++ b ∷ (c ++ t ∷ []) ≡ (a ++ b ∷ c) ++ t ∷ []

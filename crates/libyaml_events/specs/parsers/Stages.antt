@@ -5,11 +5,11 @@ use Rattle.libyaml_types.specs.declared.event.unnamed_yaml_event_t_data.TheVaria
 use Rattle.libyaml_grammar.specs.sentences.Events.{Event}
 use Rattle.libyaml_grammar.specs.sentences.Tokens.{Content, Token, StreamEnd, VersionDirective}
 
--- Before the stream; outside a document; in a document before its root, within one open collection and so many more, or
--- behind its root; behind the stream.
+-- Before the stream; outside a document; in a document before its root, within its root, a collection, and so many collections
+-- more, or behind its root; behind the stream.
 pub data Stage : Type 0 where
   at_start outside before_root : Stage
-  within : ℕ → Stage
+  within_root : ℕ → Stage
   behind_root at_end : Stage
 
 -- a whole node
@@ -19,14 +19,14 @@ leaf st = st
 
 -- a collection's start
 abbrev pub opened : Stage → Stage
-opened before_root = within zero
-opened (within n) = within (suc n)
+opened before_root = within_root zero
+opened (within_root n) = within_root (suc n)
 opened st = st
 
 -- a collection's end
 abbrev pub closed : Stage → Stage
-closed (within zero) = behind_root
-closed (within (suc n)) = within n
+closed (within_root zero) = behind_root
+closed (within_root (suc n)) = within_root n
 closed st = st
 
 abbrev pub after : Stage → unnamed_yaml_event_t_data → Stage
@@ -52,7 +52,7 @@ stage_of events = stage_from at_start events
 
 -- how many collections are open
 abbrev pub open_collections : Stage → ℕ
-open_collections (within n) = suc n
+open_collections (within_root n) = suc n
 open_collections _ = zero
 
 -- whether no document is open
@@ -60,7 +60,7 @@ abbrev pub is_outside : Stage → Bool
 is_outside at_start = true
 is_outside outside = true
 is_outside before_root = false
-is_outside (within n) = false
+is_outside (within_root n) = false
 is_outside behind_root = false
 is_outside at_end = true
 

@@ -169,6 +169,6 @@ abbrev pub if_all : Step → (Position → List Event → List Event) → List E
 if_all (goes q) f r = f q r
 if_all s f r = r
 
-abbrev pub given : List Token → Position → List Event → List Event
-given [] q r = r
-given (t ∷ l) q r = gives q t.content (marks_of t) (if_all (feed q t) (given l) r)
+abbrev pub gives_all : List Token → Position → List Event → List Event
+gives_all [] q r = r
+gives_all (t ∷ l) q r = gives q t.content (marks_of t) (if_all (feed q t) (gives_all l) r)

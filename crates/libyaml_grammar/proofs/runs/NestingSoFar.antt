@@ -7,7 +7,7 @@ use Rattle.libyaml_grammar.specs.cuts.CutTrees.{open_collection, part_due, separ
 use Rattle.libyaml_grammar.specs.sentences.Events.{Event, document_end_at, documents_events, end_at, event, events, member_end, missing_value, start_at}
 use Rattle.libyaml_grammar.specs.sentences.Events.{stream_end_at, stream_start_at}
 use Rattle.libyaml_grammar.specs.runs.Fault.{Fault}
-use Rattle.libyaml_grammar.proofs.positions.Given.{given}
+use Rattle.libyaml_grammar.proofs.positions.Given.{gives_all}
 use Rattle.libyaml_grammar.specs.sentences.Nesting.{BeginsValue, IsNested, IsOpenDocument, NestsSoFar, Texts, TextsHavePairs, Value, Values, alias_value}
 use Rattle.libyaml_grammar.specs.sentences.Nesting.{collection_value, first_value, has_begun, no_texts, no_values, none_open, not_begun, one_open}
 use Rattle.libyaml_grammar.specs.sentences.Nesting.{scalar_value, text_behind, texts_events, value_events, values_events, whole}
@@ -46,7 +46,7 @@ abbrev GoesOn : Cut → Mark → Type 0
 GoesOn c m = (t : Stream) × (later : List Event) × (events t ≡ shown_cut c m later)
 
 -- the tree that completes a position, and the events of what completes it
-completed : (m : Marks) (q : Position) → (t : Stream) × (events t ≡ shown q (first_mark (position_rest m q) m.start) (given (position_rest m q) q []))
+completed : (m : Marks) (q : Position) → (t : Stream) × (events t ≡ shown q (first_mark (position_rest m q) m.start) (gives_all (position_rest m q) q []))
 completed m q = let e = position_ends m q in (e.0, given_shown (position_rest m q) q (done e.0) e.1 m.start [])
 
 goes_on : (c : Cut) (m : Marks) → GoesOn c m.start

@@ -6,7 +6,7 @@ use Rattle.libyaml_grammar.specs.sentences.Events.{Event}
 use Rattle.libyaml_grammar.specs.cuts.CutTrees.{open_collection, part_place}
 use Rattle.libyaml_grammar.proofs.positions.Positions.{Position, between, done, due, flow_behind, flow_due, flow_keyed, headed, in_indentless, in_mapping}
 use Rattle.libyaml_grammar.proofs.positions.Positions.{in_sequence, position_rest, unopened}
-use Rattle.libyaml_grammar.proofs.positions.Given.{given}
+use Rattle.libyaml_grammar.proofs.positions.Given.{gives_all}
 use Rattle.libyaml_grammar.specs.cuts.Settled.{next_event}
 
 same_start : (x y : Event) → Some x ≡ Some y → x.start_mark ≡ y.start_mark
@@ -23,7 +23,7 @@ same_end x y h = ap (λ (e : Event). e.end_mark) (inside x y h)
 
 -- two completions of one position differ in their first event
 abbrev Differ : Position → Marks → Marks → Type 0
-Differ q m n = next_event (given (position_rest m q) q []) ≡ next_event (given (position_rest n q) q []) → ⊥
+Differ q m n = next_event (gives_all (position_rest m q) q []) ≡ next_event (gives_all (position_rest n q) q []) → ⊥
 
 module _ (m n : Marks) (s : m.start ≡ n.start → ⊥) (e : m.end ≡ n.end → ⊥) where
   pub differ : (q : Position) → ((t : Stream) → q ≡ done t → ⊥) → Differ q m n

@@ -7,7 +7,7 @@ use Rattle.libyaml_grammar.specs.cuts.CutTrees.{implicit_root, indentless_entry,
 use Rattle.libyaml_grammar.specs.sentences.Events.{Event, events, first_block, first_flow}
 use Rattle.libyaml_types.specs.Events.{zero_mark}
 use Rattle.libyaml_grammar.specs.cuts.Fits.{last_empty}
-use Rattle.libyaml_grammar.proofs.positions.Given.{given}
+use Rattle.libyaml_grammar.proofs.positions.Given.{gives_all}
 use Rattle.libyaml_grammar.specs.sentences.Order.{in_order}
 use Rattle.libyaml_grammar.proofs.positions.Positions.{Position, done, position_rest, shown, unopened}
 use Rattle.libyaml_grammar.proofs.positions.Reading.{Step, bad, feed, feeds, goes, over, then_all}
@@ -81,7 +81,7 @@ sure_shows (separator_due c (pair x y (with_value v flow_nothing))) m p e = absu
 sure_shows (separator_due c (pair x y (with_value v (flow_node n)))) m p e = flow_edge_shows (flow_value c x y v) n m
 
 -- what the tokens give stands before all that tokens behind them give
-pub gives_sure : (l : List Token) (c : Cut) → IsFront l c → (r : List Event) → given l unopened r ≡ sure c ++ r
+pub gives_sure : (l : List Token) (c : Cut) → IsFront l c → (r : List Event) → gives_all l unopened r ≡ sure c ++ r
 gives_sure l c f r =
     let e = (reads_to l unopened (reached c) (front_reads l c f)).0 in
     sym (given_shown l unopened (reached c) e zero_mark r)
@@ -89,8 +89,8 @@ gives_sure l c f r =
 
 begins_each : (l : List Token) (c : Cut) → IsFront l c → BeginsEach l (sure c)
 begins_each l c f = λ t rest o e. (
-  given rest (reached c) [],
-  begin_events l rest (reached c) t (reads_to l unopened (reached c) (front_reads l c f)).0 (sym e) ∙ gives_sure l c f (given rest (reached c) []),
+  gives_all rest (reached c) [],
+  begin_events l rest (reached c) t (reads_to l unopened (reached c) (front_reads l c f)).0 (sym e) ∙ gives_sure l c f (gives_all rest (reached c) []),
 )
 
 -- lists of events
@@ -152,16 +152,16 @@ front_open l c f =
       second = t.tree;
       first_rest = position_rest (marks_at 0) (reached c);
       second_rest = position_rest (marks_at 1) (reached c);
-      first_events = given (position_rest (marks_at 0) (reached c)) (reached c) [];
-      second_events = given (position_rest (marks_at 1) (reached c)) (reached c) [];
+      first_events = gives_all (position_rest (marks_at 0) (reached c)) (reached c) [];
+      second_events = gives_all (position_rest (marks_at 1) (reached c)) (reached c) [];
       first_order = s.order;
       second_order = t.order;
       first_tokens = g;
       second_tokens = h;
       first_goes_on = begin_events l (position_rest (marks_at 0) (reached c)) (reached c) s.tree k (sym g)
-          ∙ gives_sure l c f (given (position_rest (marks_at 0) (reached c)) (reached c) []);
+          ∙ gives_sure l c f (gives_all (position_rest (marks_at 0) (reached c)) (reached c) []);
       second_goes_on = begin_events l (position_rest (marks_at 1) (reached c)) (reached c) t.tree k (sym h)
-          ∙ gives_sure l c f (given (position_rest (marks_at 1) (reached c)) (reached c) []);
+          ∙ gives_sure l c f (gives_all (position_rest (marks_at 1) (reached c)) (reached c) []);
       differ = differ (marks_at 0) (marks_at 1) marks_differ marks_differ (reached c) (front_not_done l c f);
     }
 
