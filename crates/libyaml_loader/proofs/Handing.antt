@@ -1,6 +1,6 @@
 -- A child handed to the innermost open collection, as the code does it.
 use Rattle.std.proofs.Common.{◌≡◌, ◌∷◌, List, [], ℕ, zero, suc, ℤ, pos, negsuc, ◌≤ℤ◌, nat_lt, arith, ap, refl, sym, subst, ◌∙◌, Option, Some, None, Result}
-use Rattle.std.proofs.Common.{Ok, Err, OnOk, Bool, false}
+use Rattle.std.proofs.Common.{Ok, Err, OnOk, Bool, true, false}
 use Rattle.std.proofs.lemmas.Int.{ints}
 use Rattle.libyaml_types.specs.declared.enums.yaml_node_type_t.{yaml_node_type_t}
 use Rattle.libyaml_types.specs.declared.enums.yaml_node_type_t.TheVariants.{YAML_SEQUENCE_NODE, YAML_MAPPING_NODE}
@@ -124,14 +124,21 @@ no_child n zero k i (x ∷ xs) h g = go x.content h g
     go (Mapping s) h g = absurd (g refl)
 no_child n (suc p) k i (x ∷ xs) h g = let y = no_child n p k i xs h g in (ap (λ (l : List yaml_node_t). x ∷ l) y.0, y.1, y.2)
 
+abbrev pub is_collection : yaml_node_type_t → Bool
+is_collection YAML_SEQUENCE_NODE = true
+is_collection YAML_MAPPING_NODE = true
+is_collection _ = false
+
+no : true ≡ false → ⊥
+no h = cc
+
 pub hands_nothing : (n : ℕ) (p : Open) (child : NodeId) (s : List machine.Open) (nodes : List yaml_node_t) → Some (open_of p) ≡ innermost s
-    → (type_at nodes p.node.number ≡ YAML_SEQUENCE_NODE → ⊥) → (type_at nodes p.node.number ≡ YAML_MAPPING_NODE → ⊥)
-    → Hands n (id_of child) s nodes nodes s false
-hands_nothing n p child s nodes top h g =
+    → (t : yaml_node_type_t) → is_collection t ≡ false → t ≡ type_at nodes p.node.number → Hands n (id_of child) s nodes nodes s false
+hands_nothing n p child s nodes top t leaf is =
     let o = open_of p in
-    let z = place_number p.node in
-    let y = no_child n o.place o.key (id_of child) nodes (λ (t : type_at nodes (pos (suc o.place)) ≡ YAML_SEQUENCE_NODE). h (ap (type_at nodes) z ∙ t))
-    (λ (t : type_at nodes (pos (suc o.place)) ≡ YAML_MAPPING_NODE). g (ap (type_at nodes) z ∙ t)) in
+    let other : (u : yaml_node_type_t) → is_collection u ≡ true → type_at nodes (pos (suc o.place)) ≡ u → ⊥ = λ u collection e. no (sym collection
+    ∙ (ap is_collection (sym (is ∙ (ap (type_at nodes) (place_number p.node) ∙ e))) ∙ leaf)) in
+    let y = no_child n o.place o.key (id_of child) nodes (other YAML_SEQUENCE_NODE refl) (other YAML_MAPPING_NODE refl) in
     subst (λ (q : List machine.Open). Hands n (id_of child) q nodes nodes q false) (top_first s o top) (record {
       nodes_are = y.0;
       stack_is = ap (λ (k : Option ℕ). record { place = o.place; key = k } ∷ outer s) y.1;

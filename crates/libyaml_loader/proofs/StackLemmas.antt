@@ -1,18 +1,14 @@
 -- The stack of open collections, by the list of its `Vec`.
 use Rattle.std.proofs.Common.{◌≡◌, ◌++◌, ◌∷◌, List, [], ℕ, zero, suc, arith, map, reverse, get_or, set, length, ap, refl, sym, ◌∙◌, Option}
-use Rattle.std.proofs.lemmas.List.{reverse-append}
+use Rattle.std.proofs.lemmas.List.{map-append, reverse-append}
 use Rattle.libyaml_graphs.specs.Loader as machine
 use Rattle.libyaml_loader.specs.declared.ids.NodeId.{NodeId}
 use Rattle.libyaml_loader.specs.declared.ids.Open.{Open}
 use Rattle.libyaml_loader.specs.Ids.{key_of, open_of, place_of}
 use Rattle.libyaml_loader.specs.Stack.{stack_of, with_key}
 
-map_push : {A B : Type 0} (f : A → B) (xs : List A) (x : A) → map f (xs ++ x ∷ []) ≡ map f xs ++ f x ∷ []
-map_push f [] x = refl
-map_push f (y ∷ ys) x = ap (λ zs. f y ∷ zs) (map_push f ys x)
-
 pub stack_push : (items : List Open) (o : Open) → stack_of (items ++ o ∷ []) ≡ open_of o ∷ stack_of items
-stack_push items o = ap reverse (map_push open_of items o) ∙ reverse-append (map open_of items) (open_of o ∷ [])
+stack_push items o = ap reverse (map-append open_of items (o ∷ [])) ∙ reverse-append (map open_of items) (open_of o ∷ [])
 
 pub stack_pop : (old new : List Open) (o : Open) → old ≡ new ++ o ∷ [] → stack_of old ≡ open_of o ∷ stack_of new
 stack_pop old new o e = ap stack_of e ∙ stack_push new o

@@ -3,24 +3,32 @@ use Rattle.libyaml_events.specs.parsers.Stages.{is_event}
 use Rattle.libyaml_loader.proofs.Outside.{behind_all, behind_close}
 use Rattle.libyaml_loader.proofs.Stepping.{loader_fails, steps_err, takes}
 use Rattle.libyaml_loader.proofs.Taking.{Called, finds_end, parser_fails, running}
+use Rattle.libyaml_loader.proofs.load.compose_next.Given as given
 use Rattle.libyaml_loader.proofs.load.compose_next.Goals as goal
+use Rattle.libyaml_loader.proofs.load.compose_next.Goals.{After-yaml_parser_parse}
+
+-- the clauses of the parser's call
+called_by : (g : given.Over) (c : After-yaml_parser_parse g)
+    → Called g.S.yaml_token_source_t.gives g.S.yaml_token_source_t.known g.S.yaml_token_source_t.may_break c.args.parser.now c.yaml_parser_parse.new.parser
+    c.yaml_parser_parse.result
+called_by g c =
+    let clauses = c.yaml_parser_parse.ensures in
+    record {
+      ended = clauses.ended;
+      carries_on = clauses.carries_on;
+      fails = clauses.fails;
+      between = clauses.between;
+      next = clauses.next_of_run;
+      end = clauses.end_of_run;
+      fault = clauses.fault_of_run;
+      nothing = clauses.nothing_behind_end;
+    }
 
 pub returns-in_err-content-clause-steps : goal.returns-in_err-content-clause-steps
 returns-in_err-content-clause-steps g c =
     let t = g.S.yaml_token_source_t in
     let call = c.yaml_parser_parse in
-    let called : Called t.gives t.known t.may_break c.args.parser.now call.new.parser call.result
-    = record {
-      ended = call.ensures.ended;
-      carries_on = call.ensures.carries_on;
-      fails = call.ensures.fails;
-      between = call.ensures.between;
-      next
-          = call.ensures.next_of_run;
-      end = call.ensures.end_of_run;
-      fault = call.ensures.fault_of_run;
-      nothing = call.ensures.nothing_behind_end;
-    } in
+    let called = called_by g (goal.at.returns-in_err-content-clause-steps g c).After-yaml_parser_parse in
     let e : c.from_residual.result ≡ Err c.in_err-content.field-0.0 = search rules in
     steps_err t.gives t.known t.may_break c.from_residual.result c.in_err-content.field-0.0 _ _ _ _ e
     (parser_fails t.gives t.known t.may_break c.args.parser.now call.new.parser call.result called c.in_err-content.field-0.0 c.in_err-content.was)
@@ -29,18 +37,7 @@ pub returns-then-not-is_event-clause-steps : goal.returns-then-not-is_event-clau
 returns-then-not-is_event-clause-steps g c =
     let t = g.S.yaml_token_source_t in
     let call = c.yaml_parser_parse in
-    let called : Called t.gives t.known t.may_break c.args.parser.now call.new.parser call.result
-    = record {
-      ended = call.ensures.ended;
-      carries_on = call.ensures.carries_on;
-      fails = call.ensures.fails;
-      between = call.ensures.between;
-      next
-          = call.ensures.next_of_run;
-      end = call.ensures.end_of_run;
-      fault = call.ensures.fault_of_run;
-      nothing = call.ensures.nothing_behind_end;
-    } in
+    let called = called_by g (goal.at.returns-then-not-is_event-clause-steps g c).After-yaml_parser_parse in
     let empty : is_event c.in_ok-content.field-0.content ≡ false = sym c.is_event.ensures ∙ c.if-not-is_event.true in
     finds_end t.gives t.known t.may_break c.args.parser.now call.new.parser call.result called c.in_ok-content.field-0 c.in_ok-content.was empty
 
@@ -48,18 +45,7 @@ pub returns-in-Some-clause-steps : goal.returns-in-Some-clause-steps
 returns-in-Some-clause-steps g c =
     let t = g.S.yaml_token_source_t in
     let call = c.yaml_parser_parse in
-    let called : Called t.gives t.known t.may_break c.args.parser.now call.new.parser call.result
-    = record {
-      ended = call.ensures.ended;
-      carries_on = call.ensures.carries_on;
-      fails = call.ensures.fails;
-      between = call.ensures.between;
-      next
-          = call.ensures.next_of_run;
-      end = call.ensures.end_of_run;
-      fault = call.ensures.fault_of_run;
-      nothing = call.ensures.nothing_behind_end;
-    } in
+    let called = called_by g (goal.at.returns-in-Some-clause-steps g c).After-yaml_parser_parse in
     let event = c.in_ok-content.field-0 in
     let an_event : is_event c.in_ok-content.field-0.content ≡ true = sym c.is_event.ensures ∙ c.if-not-is_event.false in
     let closes = sym c.in-Some.ensures in
@@ -69,18 +55,7 @@ pub returns-in-Ok-clause-steps : goal.returns-in-Ok-clause-steps
 returns-in-Ok-clause-steps g c =
     let t = g.S.yaml_token_source_t in
     let call = c.yaml_parser_parse in
-    let called : Called t.gives t.known t.may_break c.args.parser.now call.new.parser call.result
-    = record {
-      ended = call.ensures.ended;
-      carries_on = call.ensures.carries_on;
-      fails = call.ensures.fails;
-      between = call.ensures.between;
-      next
-          = call.ensures.next_of_run;
-      end = call.ensures.end_of_run;
-      fault = call.ensures.fault_of_run;
-      nothing = call.ensures.nothing_behind_end;
-    } in
+    let called = called_by g (goal.at.returns-in-Ok-clause-steps g c).After-yaml_parser_parse in
     let event = c.in_ok-content.field-0 in
     let an_event : is_event c.in_ok-content.field-0.content ≡ true = sym c.is_event.ensures ∙ c.if-not-is_event.false in
     let no_end = sym c.in-None.ensures in
@@ -90,18 +65,7 @@ pub returns-in-Err-clause-steps : goal.returns-in-Err-clause-steps
 returns-in-Err-clause-steps g c =
     let t = g.S.yaml_token_source_t in
     let call = c.yaml_parser_parse in
-    let called : Called t.gives t.known t.may_break c.args.parser.now call.new.parser call.result
-    = record {
-      ended = call.ensures.ended;
-      carries_on = call.ensures.carries_on;
-      fails = call.ensures.fails;
-      between = call.ensures.between;
-      next
-          = call.ensures.next_of_run;
-      end = call.ensures.end_of_run;
-      fault = call.ensures.fault_of_run;
-      nothing = call.ensures.nothing_behind_end;
-    } in
+    let called = called_by g (goal.at.returns-in-Err-clause-steps g c).After-yaml_parser_parse in
     let event = c.in_ok-content.field-0 in
     let an_event : is_event c.in_ok-content.field-0.content ≡ true = sym c.is_event.ensures ∙ c.if-not-is_event.false in
     let no_end = sym c.in-None.ensures in
@@ -112,18 +76,7 @@ pub returns-in-Some-clause-falls : goal.returns-in-Some-clause-falls
 returns-in-Some-clause-falls g c =
     let t = g.S.yaml_token_source_t in
     let call = c.yaml_parser_parse in
-    let called : Called t.gives t.known t.may_break c.args.parser.now call.new.parser call.result
-    = record {
-      ended = call.ensures.ended;
-      carries_on = call.ensures.carries_on;
-      fails = call.ensures.fails;
-      between = call.ensures.between;
-      next
-          = call.ensures.next_of_run;
-      end = call.ensures.end_of_run;
-      fault = call.ensures.fault_of_run;
-      nothing = call.ensures.nothing_behind_end;
-    } in
+    let called = called_by g (goal.at.returns-in-Some-clause-falls g c).After-yaml_parser_parse in
     let an_event : is_event c.in_ok-content.field-0.content ≡ true = sym c.is_event.ensures ∙ c.if-not-is_event.false in
     let run = running t.gives t.known t.may_break c.args.parser.now call.new.parser call.result called c.in_ok-content.field-0 c.in_ok-content.was an_event in
     inr (rw c.in_ok-content.was at (call.ensures.falls run))
@@ -132,18 +85,7 @@ pub returns-in-Ok-clause-falls : goal.returns-in-Ok-clause-falls
 returns-in-Ok-clause-falls g c =
     let t = g.S.yaml_token_source_t in
     let call = c.yaml_parser_parse in
-    let called : Called t.gives t.known t.may_break c.args.parser.now call.new.parser call.result
-    = record {
-      ended = call.ensures.ended;
-      carries_on = call.ensures.carries_on;
-      fails = call.ensures.fails;
-      between = call.ensures.between;
-      next
-          = call.ensures.next_of_run;
-      end = call.ensures.end_of_run;
-      fault = call.ensures.fault_of_run;
-      nothing = call.ensures.nothing_behind_end;
-    } in
+    let called = called_by g (goal.at.returns-in-Ok-clause-falls g c).After-yaml_parser_parse in
     let an_event : is_event c.in_ok-content.field-0.content ≡ true = sym c.is_event.ensures ∙ c.if-not-is_event.false in
     let run = running t.gives t.known t.may_break c.args.parser.now call.new.parser call.result called c.in_ok-content.field-0 c.in_ok-content.was an_event in
     inr (rw c.in_ok-content.was at (call.ensures.falls run))

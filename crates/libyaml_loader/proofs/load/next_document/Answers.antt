@@ -12,24 +12,32 @@ use Rattle.libyaml_loader.proofs.Falling.{falls_later, stays_since}
 use Rattle.libyaml_loader.proofs.Outside.{behind_all}
 use Rattle.libyaml_loader.proofs.Stepping.{skips_none, skips_end, skips_fail, skips_more, skips_opens}
 use Rattle.libyaml_loader.proofs.Taking.{Called, ended_between, finds_end, parser_fails, running}
+use Rattle.libyaml_loader.proofs.load.next_document.Given as given
 use Rattle.libyaml_loader.proofs.load.next_document.Goals as goal
+use Rattle.libyaml_loader.proofs.load.next_document.Goals.{After-yaml_parser_parse}
+
+-- the clauses of the parser's call
+called_by : (g : given.Over) (c : After-yaml_parser_parse g)
+    → Called g.S.yaml_token_source_t.gives g.S.yaml_token_source_t.known g.S.yaml_token_source_t.may_break c.loop-content.parser c.yaml_parser_parse.new.parser
+    c.yaml_parser_parse.result
+called_by g c =
+    let clauses = c.yaml_parser_parse.ensures in
+    record {
+      ended = clauses.ended;
+      carries_on = clauses.carries_on;
+      fails = clauses.fails;
+      between = clauses.between;
+      next = clauses.next_of_run;
+      end = clauses.end_of_run;
+      fault = clauses.fault_of_run;
+      nothing = clauses.nothing_behind_end;
+    }
 
 pub returns-in_err-content-clause-loads : goal.returns-in_err-content-clause-loads
 returns-in_err-content-clause-loads g c =
     let t = g.S.yaml_token_source_t in
     let call = c.yaml_parser_parse in
-    let called : Called t.gives t.known t.may_break c.loop-content.parser call.new.parser call.result
-    = record {
-      ended = call.ensures.ended;
-      carries_on = call.ensures.carries_on;
-      fails = call.ensures.fails;
-      between = call.ensures.between;
-      next
-          = call.ensures.next_of_run;
-      end = call.ensures.end_of_run;
-      fault = call.ensures.fault_of_run;
-      nothing = call.ensures.nothing_behind_end;
-    } in
+    let called = called_by g (goal.at.returns-in_err-content-clause-loads g c).After-yaml_parser_parse in
     let e : c.from_residual.result ≡ Err c.in_err-content.field-0.0 = search rules in
     skips_fail t.gives t.known t.may_break (magnitude c.args.parser.now.max_entries) c.args.parser.now c.loop-content.parser call.new.parser
     c.from_residual.result c.in_err-content.field-0.0 e c.loop-content.invariant.0
@@ -39,18 +47,7 @@ pub returns-then-not-is_event-clause-loads : goal.returns-then-not-is_event-clau
 returns-then-not-is_event-clause-loads g c =
     let t = g.S.yaml_token_source_t in
     let call = c.yaml_parser_parse in
-    let called : Called t.gives t.known t.may_break c.loop-content.parser call.new.parser call.result
-    = record {
-      ended = call.ensures.ended;
-      carries_on = call.ensures.carries_on;
-      fails = call.ensures.fails;
-      between = call.ensures.between;
-      next
-          = call.ensures.next_of_run;
-      end = call.ensures.end_of_run;
-      fault = call.ensures.fault_of_run;
-      nothing = call.ensures.nothing_behind_end;
-    } in
+    let called = called_by g (goal.at.returns-then-not-is_event-clause-loads g c).After-yaml_parser_parse in
     let empty : is_event c.in_ok-content.field-0.content ≡ false = sym c.is_event.ensures ∙ c.if-not-is_event.true in
     skips_end t.gives t.known t.may_break (magnitude c.args.parser.now.max_entries) c.args.parser.now c.loop-content.parser call.new.parser
     c.without_root.result c.loop-content.invariant.0
@@ -61,18 +58,7 @@ pub returns-in-Some-clause-loads : goal.returns-in-Some-clause-loads
 returns-in-Some-clause-loads g c =
     let t = g.S.yaml_token_source_t in
     let call = c.yaml_parser_parse in
-    let called : Called t.gives t.known t.may_break c.loop-content.parser call.new.parser call.result
-    = record {
-      ended = call.ensures.ended;
-      carries_on = call.ensures.carries_on;
-      fails = call.ensures.fails;
-      between = call.ensures.between;
-      next
-          = call.ensures.next_of_run;
-      end = call.ensures.end_of_run;
-      fault = call.ensures.fault_of_run;
-      nothing = call.ensures.nothing_behind_end;
-    } in
+    let called = called_by g (goal.at.returns-in-Some-clause-loads g c).After-yaml_parser_parse in
     let an_event : is_event c.in_ok-content.field-0.content ≡ true = sym c.is_event.ensures ∙ c.if-not-is_event.false in
     let load = c.yaml_parser_load_document in
     let same : call.new.parser.max_entries ≡ c.args.parser.now.max_entries = call.ensures.bound ∙ c.loop-content.invariant.0.most in
@@ -86,18 +72,7 @@ pub loop-content-smaller : goal.loop-content-smaller
 loop-content-smaller g c =
     let t = g.S.yaml_token_source_t in
     let call = c.yaml_parser_parse in
-    let called : Called t.gives t.known t.may_break c.loop-content.parser call.new.parser call.result
-    = record {
-      ended = call.ensures.ended;
-      carries_on = call.ensures.carries_on;
-      fails = call.ensures.fails;
-      between = call.ensures.between;
-      next
-          = call.ensures.next_of_run;
-      end = call.ensures.end_of_run;
-      fault = call.ensures.fault_of_run;
-      nothing = call.ensures.nothing_behind_end;
-    } in
+    let called = called_by g (goal.at.loop-content-smaller g c).After-yaml_parser_parse in
     let an_event : is_event c.in_ok-content.field-0.content ≡ true = sym c.is_event.ensures ∙ c.if-not-is_event.false in
     let run = running t.gives t.known t.may_break c.loop-content.parser call.new.parser call.result called c.in_ok-content.field-0 c.in_ok-content.was an_event
     in
@@ -107,18 +82,7 @@ pub loop-content-preserved : goal.loop-content-preserved
 loop-content-preserved g c =
     let t = g.S.yaml_token_source_t in
     let call = c.yaml_parser_parse in
-    let called : Called t.gives t.known t.may_break c.loop-content.parser call.new.parser call.result
-    = record {
-      ended = call.ensures.ended;
-      carries_on = call.ensures.carries_on;
-      fails = call.ensures.fails;
-      between = call.ensures.between;
-      next
-          = call.ensures.next_of_run;
-      end = call.ensures.end_of_run;
-      fault = call.ensures.fault_of_run;
-      nothing = call.ensures.nothing_behind_end;
-    } in
+    let called = called_by g (goal.at.loop-content-preserved g c).After-yaml_parser_parse in
     let an_event : is_event c.in_ok-content.field-0.content ≡ true = sym c.is_event.ensures ∙ c.if-not-is_event.false in
     let run = running t.gives t.known t.may_break c.loop-content.parser call.new.parser call.result called c.in_ok-content.field-0 c.in_ok-content.was an_event
     in
@@ -144,18 +108,7 @@ pub returns-in-Some-clause-falls : goal.returns-in-Some-clause-falls
 returns-in-Some-clause-falls g c =
     let t = g.S.yaml_token_source_t in
     let call = c.yaml_parser_parse in
-    let called : Called t.gives t.known t.may_break c.loop-content.parser call.new.parser call.result
-    = record {
-      ended = call.ensures.ended;
-      carries_on = call.ensures.carries_on;
-      fails = call.ensures.fails;
-      between = call.ensures.between;
-      next
-          = call.ensures.next_of_run;
-      end = call.ensures.end_of_run;
-      fault = call.ensures.fault_of_run;
-      nothing = call.ensures.nothing_behind_end;
-    } in
+    let called = called_by g (goal.at.returns-in-Some-clause-falls g c).After-yaml_parser_parse in
     let an_event : is_event c.in_ok-content.field-0.content ≡ true = sym c.is_event.ensures ∙ c.if-not-is_event.false in
     let run = running t.gives t.known t.may_break c.loop-content.parser call.new.parser call.result called c.in_ok-content.field-0 c.in_ok-content.was an_event
     in
@@ -190,18 +143,7 @@ pub returns-in-Some-clause-ended : goal.returns-in-Some-clause-ended
 returns-in-Some-clause-ended g c ended =
     let t = g.S.yaml_token_source_t in
     let call = c.yaml_parser_parse in
-    let called : Called t.gives t.known t.may_break c.loop-content.parser call.new.parser call.result
-    = record {
-      ended = call.ensures.ended;
-      carries_on = call.ensures.carries_on;
-      fails = call.ensures.fails;
-      between = call.ensures.between;
-      next
-          = call.ensures.next_of_run;
-      end = call.ensures.end_of_run;
-      fault = call.ensures.fault_of_run;
-      nothing = call.ensures.nothing_behind_end;
-    } in
+    let called = called_by g (goal.at.returns-in-Some-clause-ended g c).After-yaml_parser_parse in
     let an_event : is_event c.in_ok-content.field-0.content ≡ true = sym c.is_event.ensures ∙ c.if-not-is_event.false in
     let run = running t.gives t.known t.may_break c.loop-content.parser call.new.parser call.result called c.in_ok-content.field-0 c.in_ok-content.was an_event
     in

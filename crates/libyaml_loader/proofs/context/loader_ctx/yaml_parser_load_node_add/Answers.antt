@@ -1,6 +1,5 @@
-use Rattle.std.proofs.Common.{◌≡◌, ◌∙◌, sym}
-use Rattle.libyaml_types.specs.declared.enums.yaml_node_type_t.TheVariants.{YAML_SEQUENCE_NODE, YAML_MAPPING_NODE}
-use Rattle.libyaml_documents.specs.Nodes.{type_at}
+use Rattle.std.proofs.Common.{◌∙◌, refl, sym}
+use Rattle.libyaml_types.specs.declared.enums.yaml_node_type_t.TheVariants.{YAML_NO_NODE, YAML_SCALAR_NODE}
 use Rattle.libyaml_loader.proofs.Handing.{handed_by, hands_item, hands_key, hands_nothing, hands_value, on_ok}
 use Rattle.libyaml_loader.proofs.context.loader_ctx.yaml_parser_load_node_add.Goals as goal
 
@@ -42,32 +41,24 @@ returns-in-None-clause-room c =
 
 pub returns-in-YAML_SCALAR_NODE-clause-ok : goal.returns-in-YAML_SCALAR_NODE-clause-ok
 returns-in-YAML_SCALAR_NODE-clause-ok c =
-    let h = hands_nothing c.args.self.now.max_entries c.in-Some.parent c.args.child c.args.self.now.stack c.args.self.now.document.nodes c.in-Some.ensures
-    (λ (e : type_at c.args.self.now.document.nodes c.in-Some.parent.node.number ≡ YAML_SEQUENCE_NODE). let f
-    = c.in-YAML_SCALAR_NODE.ensures in cc) (λ (e : type_at c.args.self.now.document.nodes c.in-Some.parent.node.number ≡ YAML_MAPPING_NODE). let f
-    = c.in-YAML_SCALAR_NODE.ensures in cc) in
+    let h = hands_nothing c.args.self.now.max_entries c.in-Some.parent c.args.child c.args.self.now.stack c.args.self.now.document.nodes
+    c.in-Some.ensures YAML_SCALAR_NODE refl c.in-YAML_SCALAR_NODE.ensures in
     handed_by _ _ c.args.self.now _ _ _ h
 
 pub returns-in-YAML_SCALAR_NODE-clause-room : goal.returns-in-YAML_SCALAR_NODE-clause-room
 returns-in-YAML_SCALAR_NODE-clause-room c =
-    let h = hands_nothing c.args.self.now.max_entries c.in-Some.parent c.args.child c.args.self.now.stack c.args.self.now.document.nodes c.in-Some.ensures
-    (λ (e : type_at c.args.self.now.document.nodes c.in-Some.parent.node.number ≡ YAML_SEQUENCE_NODE). let f
-    = c.in-YAML_SCALAR_NODE.ensures in cc) (λ (e : type_at c.args.self.now.document.nodes c.in-Some.parent.node.number ≡ YAML_MAPPING_NODE). let f
-    = c.in-YAML_SCALAR_NODE.ensures in cc) in
+    let h = hands_nothing c.args.self.now.max_entries c.in-Some.parent c.args.child c.args.self.now.stack c.args.self.now.document.nodes
+    c.in-Some.ensures YAML_SCALAR_NODE refl c.in-YAML_SCALAR_NODE.ensures in
     h.full_is
 
 pub returns-in-YAML_NO_NODE-clause-ok : goal.returns-in-YAML_NO_NODE-clause-ok
 returns-in-YAML_NO_NODE-clause-ok c =
-    let h = hands_nothing c.args.self.now.max_entries c.in-Some.parent c.args.child c.args.self.now.stack c.args.self.now.document.nodes c.in-Some.ensures
-    (λ (e : type_at c.args.self.now.document.nodes c.in-Some.parent.node.number ≡ YAML_SEQUENCE_NODE). let f
-    = c.in-YAML_NO_NODE.ensures in cc) (λ (e : type_at c.args.self.now.document.nodes c.in-Some.parent.node.number ≡ YAML_MAPPING_NODE). let f
-    = c.in-YAML_NO_NODE.ensures in cc) in
+    let h = hands_nothing c.args.self.now.max_entries c.in-Some.parent c.args.child c.args.self.now.stack c.args.self.now.document.nodes
+    c.in-Some.ensures YAML_NO_NODE refl c.in-YAML_NO_NODE.ensures in
     handed_by _ _ c.args.self.now _ _ _ h
 
 pub returns-in-YAML_NO_NODE-clause-room : goal.returns-in-YAML_NO_NODE-clause-room
 returns-in-YAML_NO_NODE-clause-room c =
-    let h = hands_nothing c.args.self.now.max_entries c.in-Some.parent c.args.child c.args.self.now.stack c.args.self.now.document.nodes c.in-Some.ensures
-    (λ (e : type_at c.args.self.now.document.nodes c.in-Some.parent.node.number ≡ YAML_SEQUENCE_NODE). let f
-    = c.in-YAML_NO_NODE.ensures in cc) (λ (e : type_at c.args.self.now.document.nodes c.in-Some.parent.node.number ≡ YAML_MAPPING_NODE). let f
-    = c.in-YAML_NO_NODE.ensures in cc) in
+    let h = hands_nothing c.args.self.now.max_entries c.in-Some.parent c.args.child c.args.self.now.stack c.args.self.now.document.nodes
+    c.in-Some.ensures YAML_NO_NODE refl c.in-YAML_NO_NODE.ensures in
     h.full_is
