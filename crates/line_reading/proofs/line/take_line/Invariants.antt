@@ -1,13 +1,14 @@
-use Rattle.std.proofs.Common.{◌≢◌, ◌≤◌, ◌-◌, All, length}
+use Rattle.std.proofs.Common.{◌≢◌, ◌≤◌, ◌+◌, ◌-◌, All, length}
 use Rattle.std.specs.Io.KnownBytes.{Consumes}
+use Rattle.line_reading.specs.ReadLines.{longest_line}
 use Rattle.line_reading.proofs.line.take_line.Given as goal
 
 abbrev pub invariant-loop-line : goal.invariant-loop-line
 invariant-loop-line g l = record {
   taken : Consumes (g.R.Read.remaining l.fn.reader) (g.R.Read.remaining l.reader) l.line.items;
   clean : All (λ x. x ≢ 10) l.line.items;
-  fits : length l.line.items ≤ 1048577;
+  fits : length l.line.items ≤ longest_line + 1;
 }
 
 abbrev pub decreases-loop-line : goal.decreases-loop-line
-decreases-loop-line g l = 1048577 - length l.line.items
+decreases-loop-line g l = (longest_line + 1) - length l.line.items
