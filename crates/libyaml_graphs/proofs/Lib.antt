@@ -10,6 +10,6 @@ pub mod Ids
 pub mod OneLoad
 pub mod Roots
 pub mod Room
-pub mod Unmet
+pub mod BoundedFronts
 pub mod RunLoads
 pub mod LoadRows

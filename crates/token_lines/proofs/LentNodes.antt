@@ -19,7 +19,8 @@ use Rattle.token_lines.specs.declared.run.Outcome.{Outcome}
 use Rattle.token_lines.specs.EventRun.{IsRunOf}
 use Rattle.token_lines.specs.LastLoad.{LastLoad, most_entries}
 use Rattle.token_lines.specs.NodeRun.{WritesLoads, WritesNodesOf}
-use Rattle.token_lines.proofs.NoBound.{front_of_loads, writes_all}
+use Rattle.libyaml_graphs.proofs.BoundedFronts.{front_of_loads}
+use Rattle.token_lines.proofs.NoBound.{writes_all}
 use Rattle.token_lines.proofs.LentRun.{fails_seen, gave_loan, gave_seen, over}
 
 -- what a source over a lent reader knows, and how it may break off

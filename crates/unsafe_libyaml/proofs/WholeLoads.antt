@@ -29,7 +29,7 @@ use Rattle.libyaml_graphs.specs.GraphLaws.{RootsFollow}
 use Rattle.libyaml_graphs.specs.Loads.{IsLoads, Load, last_load, left_over, loads, loads_of}
 use Rattle.libyaml_graphs.proofs.Roots.{earlier_of, fault_of, last_of, left_roots, roots_follow}
 use Rattle.libyaml_graphs.proofs.RunLoads.{sentence_loads}
-use Rattle.libyaml_graphs.proofs.Unmet.{unmet_loads}
+use Rattle.libyaml_graphs.proofs.BoundedFronts.{unmet_loads}
 use Rattle.libyaml_loader.specs.Ids.{magnitude}
 use Rattle.libyaml_loader.specs.Loading.{DocumentOrError, LoadsFrom, at_end, whole}
 use Rattle.libyaml_loader.specs.NextLoad.{Answers, UnlessBroken, breaks, does, no_memory}
