@@ -43,13 +43,17 @@ pub enum Constructor {
     MappingStart,
 }
 
-pub const CONSTRUCTORS: [Constructor; 5] = [
+const CONSTRUCTORS: [Constructor; 5] = [
     Constructor::DocumentStart,
     Constructor::Alias,
     Constructor::Scalar,
     Constructor::SequenceStart,
     Constructor::MappingStart,
 ];
+
+pub fn constructors() -> &'static [Constructor] {
+    &CONSTRUCTORS
+}
 
 /// Calls a constructor with these texts.
 ///

@@ -125,19 +125,23 @@ impl Fronts<'_> {
         let whole = self.shown(alloc, usize::MAX, reading)?;
         self.are_fronts(alloc, reading, whole.as_str())
     }
+
+    /// Whether that holds of both readings.
+    fn are_both_right(self, alloc: Global) -> Result<bool> {
+        Ok(
+            [
+                self.are_right(alloc, Reading::Events)?,
+                self.are_right(alloc, Reading::Documents)?,
+            ] == [true; 2],
+        )
+    }
 }
 
 /// Whether a row's fronts with this fault behind them are right, read as events and as documents.
 fn are_fronts_right(alloc: Global, row: &str, end: yaml_source_fault_t) -> Result<bool> {
     let text = shown_end(alloc, &end)?;
     let fault = text.as_str();
-    let fronts = Fronts { row, end, fault };
-    Ok(
-        [
-            fronts.are_right(alloc, Reading::Events)?,
-            fronts.are_right(alloc, Reading::Documents)?,
-        ] == [true; 2],
-    )
+    Fronts { row, end, fault }.are_both_right(alloc)
 }
 
 fn is_row_right(alloc: Global, row: &str) -> Result<bool> {
@@ -170,8 +174,15 @@ fn is_load_right(alloc: Global, row: &str, documents: &str) -> Result<bool> {
 /// Whether these documents are shown, and then the fault of the source.
 fn ends_by_source(alloc: Global, shown: &str, documents: &str) -> Result<bool> {
     let fault = shown_end(alloc, &end_of_row())?;
-    let before = shown.strip_suffix(fault.as_str());
-    Ok(before.map(|before| before.trim_end()) == Some(documents))
+    Ok(is_ended(shown, documents, fault.as_str()))
+}
+
+/// Whether these documents are shown, and then this fault.
+fn is_ended(shown: &str, documents: &str, fault: &str) -> bool {
+    match shown.strip_suffix(fault) {
+        Some(before) => before.trim_end() == documents,
+        None => false,
+    }
 }
 
 /// The first of the loaded fronts that gives anything else, if there is one.

@@ -1,6 +1,6 @@
 //! Lists that grow by a number, over the source that computes them and over a list of the same tokens.
 
-use crate::in_step::{Counted, EVERY_CALL, Shape, count_all};
+use crate::in_step::{Counted, EVERY_CALL, count_all};
 use crate::readings::{Reading, shown};
 use anyhow::Result;
 use computed_tokens::{ComputedTokens, GrowingList};
@@ -39,7 +39,25 @@ impl Grown {
         let listed = self.listed(alloc)?;
         let mut one = yaml_parser_initialize(alloc, self.computed(alloc));
         let mut other = yaml_parser_initialize(alloc, listed);
-        Ok(count_all(&mut one, &mut other, reading, &self))
+        Ok(count_all(&mut one, &mut other, reading, self))
+    }
+
+    /// Whether a document with a root has the list's shape.
+    pub fn is_shape_of(self, document: &yaml_document_t) -> bool {
+        let nodes = document.nodes();
+        let n = self.n as usize;
+        match self.list {
+            GrowingList::NestedSequences => nodes.len() == n && is_chain(nodes),
+            GrowingList::NestedPairs => nodes.len() == 3 * n + 1,
+            GrowingList::Aliases => match nodes {
+                [node] => is_all_root(node, n),
+                _ => false,
+            },
+            _ => match nodes {
+                [node] => is_empty_scalar(node),
+                _ => false,
+            },
+        }
     }
 
     /// The events of the list, over the source that computes them, and the fault behind them.
@@ -59,20 +77,6 @@ fn take_all(source: &mut ComputedTokens, tokens: &mut Vec<yaml_token_t>) -> Resu
         }
     }
     Ok(())
-}
-
-impl Shape for Grown {
-    fn is_shape_of(&self, document: &yaml_document_t) -> bool {
-        let nodes = document.nodes();
-        let n = self.n as usize;
-        match self.list {
-            GrowingList::NestedSequences => nodes.len() == n && is_chain(nodes),
-            GrowingList::NestedPairs => nodes.len() == 3 * n + 1,
-            GrowingList::Aliases => nodes.len() == 1
-                && nodes.iter().all(|node| is_all_root(node, n)),
-            _ => nodes.len() == 1 && nodes.iter().all(is_empty_scalar),
-        }
-    }
 }
 
 /// The ids in a sequence.

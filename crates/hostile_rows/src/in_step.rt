@@ -1,10 +1,11 @@
 //! Two parsers over the same tokens, whose answers are compared one by one.
 
+use crate::growing::Grown;
 use crate::readings::{Loaded, Parsed, Reading, is_event};
 use row_notation::{are_same_faults, is_over};
 use unsafe_libyaml::{
-    yaml_document_t, yaml_parser_between_documents, yaml_parser_load, yaml_parser_parse,
-    yaml_parser_t, yaml_parser_t_prefix, yaml_token_source_t,
+    yaml_parser_between_documents, yaml_parser_load, yaml_parser_parse, yaml_parser_t,
+    yaml_parser_t_prefix, yaml_token_source_t,
 };
 
 /// More calls than any list here takes.
@@ -15,11 +16,6 @@ pub const EVERY_CALL: u32 = 100_000_000;
 pub struct Counted {
     pub count: u64,
     pub fault: yaml_parser_t_prefix,
-}
-
-/// What is asked of each document with a root.
-pub trait Shape {
-    fn is_shape_of(&self, document: &yaml_document_t) -> bool;
 }
 
 fn compare_events(answer: &Parsed, again: &Parsed) -> Option<bool> {
@@ -44,44 +40,44 @@ fn next_event<S: yaml_token_source_t, T: yaml_token_source_t>(
     parses_so(&answer, other)
 }
 
-/// Whether both answers are a document with a root; None where they differ, or where it is not of the shape.
-fn compare_documents(answer: &Loaded, again: &Loaded, shape: &impl Shape) -> Option<bool> {
+/// Whether both answers are a document with a root; None where they differ, or where it has not the list's shape.
+fn compare_documents(answer: &Loaded, again: &Loaded, grown: Grown) -> Option<bool> {
     if answer != again {
         return None;
     }
     match answer {
         Ok(document) if !document.nodes().is_empty() => {
-            shape.is_shape_of(document).then_some(true)
+            grown.is_shape_of(document).then_some(true)
         }
         _ => Some(false),
     }
 }
 
-/// Whether both parsers load a document with a root; None where they differ, or where it is not of the shape.
+/// Whether both parsers load a document with a root; None where they differ, or where it has not the list's shape.
 fn next_document<S: yaml_token_source_t, T: yaml_token_source_t>(
     one: &mut yaml_parser_t<S>,
     other: &mut yaml_parser_t<T>,
-    shape: &impl Shape,
+    grown: Grown,
 ) -> Option<bool> {
     if !yaml_parser_between_documents(one) || !yaml_parser_between_documents(other) {
         return None;
     }
     let answer = yaml_parser_load(one);
     let again = yaml_parser_load(other);
-    compare_documents(&answer, &again, shape)
+    compare_documents(&answer, &again, grown)
 }
 
 /// Whether both parsers give one more of what is read; None where they or their faults differ, or where a
-/// document is not of the shape.
+/// document has not the list's shape.
 fn next<S: yaml_token_source_t, T: yaml_token_source_t>(
     one: &mut yaml_parser_t<S>,
     other: &mut yaml_parser_t<T>,
     reading: Reading,
-    shape: &impl Shape,
+    grown: Grown,
 ) -> Option<bool> {
     let is_more = match reading {
         Reading::Events => next_event(one, other)?,
-        Reading::Documents => next_document(one, other, shape)?,
+        Reading::Documents => next_document(one, other, grown)?,
     };
     are_same_faults(one.prefix(), other.prefix()).then_some(is_more)
 }
@@ -91,11 +87,11 @@ fn count<S: yaml_token_source_t, T: yaml_token_source_t>(
     one: &mut yaml_parser_t<S>,
     other: &mut yaml_parser_t<T>,
     reading: Reading,
-    shape: &impl Shape,
+    grown: Grown,
 ) -> Option<Counted> {
     let mut count = 0u64;
     for _ in 0..EVERY_CALL {
-        if !next(one, other, reading, shape)? {
+        if !next(one, other, reading, grown)? {
             break;
         }
         count = count.saturating_add(1);
@@ -105,17 +101,17 @@ fn count<S: yaml_token_source_t, T: yaml_token_source_t>(
 }
 
 /// Counts the events or the documents with a root that two parsers give; None where an answer or a fault of
-/// theirs differs, where a document is not of the shape, or where more comes behind the end.
+/// theirs differs, where a document has not the list's shape, or where more comes behind the end.
 pub fn count_all<S: yaml_token_source_t, T: yaml_token_source_t>(
     one: &mut yaml_parser_t<S>,
     other: &mut yaml_parser_t<T>,
     reading: Reading,
-    shape: &impl Shape,
+    grown: Grown,
 ) -> Option<Counted> {
-    let counted = count(one, other, reading, shape)?;
+    let counted = count(one, other, reading, grown)?;
     let are_over = match reading {
         Reading::Events => is_over(one) && is_over(other),
-        Reading::Documents => next(one, other, reading, shape) == Some(false),
+        Reading::Documents => next(one, other, reading, grown) == Some(false),
     };
     are_over.then_some(counted)
 }

@@ -40,6 +40,10 @@ const LISTS: [(&str, GrowingList); 6] = [
     ("tag directives", GrowingList::TagDirectives),
 ];
 
+fn lists() -> &'static [(&'static str, GrowingList)] {
+    &LISTS
+}
+
 /// Shows what was counted over both sources, and the fault that ended it.
 fn show_counted(rt: &impl Print, counted: Option<Counted>, what: &str) -> Result<()> {
     match counted {
@@ -70,8 +74,8 @@ fn run_growing(rt: &(impl Print + AllocGlobal), name: &str, list: GrowingList) -
 }
 
 fn run_lists(rt: &(impl Print + AllocGlobal)) -> Result<()> {
-    for (name, list) in LISTS {
-        run_growing(rt, name, list)?;
+    for (name, list) in lists() {
+        run_growing(rt, name, *list)?;
     }
     Ok(())
 }

@@ -103,17 +103,29 @@ fn show_loads<S: yaml_token_source_t>(
     Ok(())
 }
 
-/// Shows what a parser gives, and the fault behind it, which has to be kept, by loads too.
-fn show<S: yaml_token_source_t>(
-    shown: &mut String,
+fn shown_loads<S: yaml_token_source_t>(
+    alloc: Global,
+    parser: &mut yaml_parser_t<S>,
+) -> Result<String> {
+    let mut shown = String::new(alloc);
+    let whole = show_loads(&mut shown, parser);
+    whole.and(Ok(shown))
+}
+
+/// What a parser gives, and the fault behind it.
+fn shown_all<S: yaml_token_source_t>(
     alloc: Global,
     parser: &mut yaml_parser_t<S>,
     reading: Reading,
-) -> Result<()> {
+) -> Result<String> {
     match reading {
-        Reading::Events => shown.push_str(show_run(alloc, parser)?.as_str())?,
-        Reading::Documents => show_loads(shown, parser)?,
+        Reading::Events => show_run(alloc, parser),
+        Reading::Documents => shown_loads(alloc, parser),
     }
+}
+
+/// Errors: an answer behind the end that `is_loaded` refuses.
+fn check_end<S: yaml_token_source_t>(parser: &mut yaml_parser_t<S>) -> Result<()> {
     ensure!(is_loaded(parser), "more behind the end");
     Ok(())
 }
@@ -128,9 +140,9 @@ pub fn shown<S: yaml_token_source_t + Drop>(
     reading: Reading,
 ) -> Result<String> {
     let mut parser = yaml_parser_initialize(alloc, source);
-    let mut text = String::new(alloc);
-    let whole = show(&mut text, alloc, &mut parser, reading);
-    whole.and(Ok(text))
+    let shown = shown_all(alloc, &mut parser, reading);
+    let end = check_end(&mut parser);
+    end.and(shown)
 }
 
 /// A run over lines, which writes the lines of what is read.

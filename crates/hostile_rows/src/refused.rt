@@ -3,7 +3,7 @@
 //! `examples/refused_growths.sh` runs this with the first allocation refused, then the second, and so on
 //! until nothing is refused.
 
-use crate::calls::{CONSTRUCTORS, Constructor, built, constructed};
+use crate::calls::{Constructor, built, constructed, constructors};
 use crate::fronts::{rows, shown_front};
 use crate::growing::Grown;
 use crate::readings::{Reading, run};
@@ -40,31 +40,37 @@ fn are_same_or_cut(one: Option<&str>, other: Option<&str>) -> bool {
     }
 }
 
-fn are_right<F: Fn() -> Result<String>>(run: F) -> bool
-    requires { F.IsAlwaysCallable run }
-{
-    let one = run().ok();
-    let other = run().ok();
-    are_same_or_cut(one.as_deref(), other.as_deref())
+/// What is run twice.
+#[derive(Copy, Clone)]
+enum Run<'a> {
+    Row(&'a str, Reading),
+    /// Over a source that computes its tokens and needs memory for their texts, and has to keep what it answers.
+    Computed(GrowingList),
+    // These answer the refused growth and are called again: nothing is cut.
+    Constructor(Constructor),
+    Calls,
 }
 
-fn is_row_right(alloc: Global, row: &str, reading: Reading) -> bool {
-    are_right(|| shown_front(alloc, row, usize::MAX, end_of_row(), reading))
-}
+impl Run<'_> {
+    fn shown(self, alloc: Global) -> Result<String> {
+        match self {
+            Run::Row(row, reading) => shown_front(alloc, row, usize::MAX, end_of_row(), reading),
+            Run::Computed(list) => Grown { list, n: 3 }.shown(alloc),
+            Run::Constructor(constructor) => constructed(alloc, constructor),
+            Run::Calls => built(alloc),
+        }
+    }
 
-/// Whether a source that computes its tokens, and needs memory for their texts, keeps what it answers.
-fn is_computed_right(alloc: Global, list: GrowingList) -> bool {
-    are_right(|| Grown { list, n: 3 }.shown(alloc))
-}
+    fn is_right(self, alloc: Global) -> bool {
+        let one = self.shown(alloc).ok();
+        let other = self.shown(alloc).ok();
+        are_same_or_cut(one.as_deref(), other.as_deref())
+    }
 
-// A constructor, and a call on a document, answers the refused growth and is called again: nothing is cut.
-
-fn is_constructor_right(alloc: Global, constructor: Constructor) -> bool {
-    are_right(|| constructed(alloc, constructor))
-}
-
-fn are_calls_right(alloc: Global) -> bool {
-    are_right(|| built(alloc))
+    /// 1 where it is wrong.
+    fn wrong(self, alloc: Global) -> u64 {
+        u64::from(!self.is_right(alloc))
+    }
 }
 
 /// What a run writes of these lines, by a writer that takes no memory.
@@ -107,25 +113,22 @@ fn count_wrong_lines(alloc: Global) -> u64 {
 fn count_wrong_rows(alloc: Global) -> u64 {
     let mut wrong = 0u64;
     for row in rows() {
-        let events = is_row_right(alloc, row, Reading::Events);
-        let documents = is_row_right(alloc, row, Reading::Documents);
-        wrong = wrong.saturating_add(u64::from(!(events && documents)));
+        wrong = wrong
+            .saturating_add(Run::Row(row, Reading::Events).wrong(alloc))
+            .saturating_add(Run::Row(row, Reading::Documents).wrong(alloc));
     }
     wrong
 }
 
 fn count_wrong_computed(alloc: Global) -> u64 {
-    let mut wrong = 0u64;
-    for list in [GrowingList::Aliases, GrowingList::TagDirectives] {
-        wrong = wrong.saturating_add(u64::from(!is_computed_right(alloc, list)));
-    }
-    wrong
+    let aliases = Run::Computed(GrowingList::Aliases).wrong(alloc);
+    aliases.saturating_add(Run::Computed(GrowingList::TagDirectives).wrong(alloc))
 }
 
 fn count_wrong_constructors(alloc: Global) -> u64 {
     let mut wrong = 0u64;
-    for constructor in CONSTRUCTORS {
-        wrong = wrong.saturating_add(u64::from(!is_constructor_right(alloc, constructor)));
+    for constructor in constructors() {
+        wrong = wrong.saturating_add(Run::Constructor(*constructor).wrong(alloc));
     }
     wrong
 }
@@ -133,7 +136,7 @@ fn count_wrong_constructors(alloc: Global) -> u64 {
 /// How many of all that is run gave something else than what it gives, or its front and the refused growth.
 pub fn count_wrong(alloc: Global) -> u64 {
     count_wrong_lines(alloc)
-        .saturating_add(u64::from(!are_calls_right(alloc)))
+        .saturating_add(Run::Calls.wrong(alloc))
         .saturating_add(count_wrong_computed(alloc))
         .saturating_add(count_wrong_constructors(alloc))
         .saturating_add(count_wrong_rows(alloc))

@@ -1,6 +1,6 @@
 //! Texts of every length, in each call that copies texts.
 
-use crate::calls::{CONSTRUCTORS, Constructor, Texts, construct};
+use crate::calls::{Constructor, Texts, construct, constructors};
 use crate::readings::Loaded;
 use anyhow::Result;
 use row_notation::source_of;
@@ -24,8 +24,8 @@ fn is_constructed(alloc: Global, text: &[u8]) -> bool {
         tag: text,
         value: text,
     };
-    for constructor in CONSTRUCTORS {
-        if !takes(alloc, constructor, texts) {
+    for constructor in constructors() {
+        if !takes(alloc, *constructor, texts) {
             return false;
         }
     }
