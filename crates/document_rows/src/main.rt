@@ -9,8 +9,6 @@ mod drained;
 #[cfg(test)]
 mod loads;
 #[cfg(test)]
-mod refused;
-#[cfg(test)]
 mod whole_loads;
 #[cfg(test)]
 mod whole_runs;
