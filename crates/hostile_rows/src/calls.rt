@@ -97,8 +97,8 @@ fn construct_again(
 
 fn shown_event(alloc: Global, event: &yaml_event_t) -> Result<String> {
     let mut shown = String::new(alloc);
-    show_event(&mut shown, event)?;
-    Ok(shown)
+    let whole = show_event(&mut shown, event);
+    whole.and(Ok(shown))
 }
 
 /// The event of a constructor, shown.
@@ -191,18 +191,17 @@ fn make(document: &mut yaml_document_t, call: Call) -> Result<(), yaml_refusal_t
     match call {
         Call::Scalar => {
             let (tag, value) = (Some(SHORT.tag), SHORT.value);
-            yaml_document_add_scalar(document, tag, value, YAML_ANY_SCALAR_STYLE)?;
+            yaml_document_add_scalar(document, tag, value, YAML_ANY_SCALAR_STYLE).and(Ok(()))
         }
         Call::Sequence => {
-            yaml_document_add_sequence(document, None, YAML_ANY_SEQUENCE_STYLE)?;
+            yaml_document_add_sequence(document, None, YAML_ANY_SEQUENCE_STYLE).and(Ok(()))
         }
         Call::Mapping => {
-            yaml_document_add_mapping(document, None, YAML_ANY_MAPPING_STYLE)?;
+            yaml_document_add_mapping(document, None, YAML_ANY_MAPPING_STYLE).and(Ok(()))
         }
-        Call::Item(sequence, item) => append_item(document, sequence, item)?,
-        Call::Pair(mapping, key, value) => append_pair(document, mapping, key, value)?,
+        Call::Item(sequence, item) => append_item(document, sequence, item),
+        Call::Pair(mapping, key, value) => append_pair(document, mapping, key, value),
     }
-    Ok(())
 }
 
 fn begin(alloc: Global) -> Result<yaml_document_t, yaml_refusal_t> {
@@ -218,8 +217,8 @@ fn begin_again(alloc: Global) -> Result<yaml_document_t, yaml_refusal_t> {
 
 fn shown_document(alloc: Global, document: &yaml_document_t) -> Result<String> {
     let mut shown = String::new(alloc);
-    show_document(&mut shown, document)?;
-    Ok(shown)
+    let whole = show_document(&mut shown, document);
+    whole.and(Ok(shown))
 }
 
 fn is_shown_so(alloc: Global, document: &yaml_document_t, text: &str) -> Result<bool> {

@@ -12,9 +12,9 @@ use std::alloc::Global;
 use std::fmt::Write;
 use token_lines::{Outcome, write_events, write_nodes};
 use unsafe_libyaml::{
-    YAML_READER_ERROR, ZERO_MARK, yaml_error_type_t, yaml_list_source_t, yaml_mark_t,
-    yaml_parser_between_documents, yaml_parser_initialize, yaml_parser_parse_all, yaml_parser_t,
-    yaml_source_fault_t, yaml_token_source_t,
+    YAML_NO_ERROR, YAML_READER_ERROR, ZERO_MARK, yaml_error_type_t, yaml_list_source_t,
+    yaml_mark_t, yaml_parser_between_documents, yaml_parser_initialize, yaml_parser_parse_all,
+    yaml_parser_t, yaml_parser_t_prefix, yaml_source_fault_t, yaml_token_source_t,
 };
 
 /// How many tokens are drawn for a list.
@@ -117,7 +117,8 @@ impl Drawn {
         let (name, _, payload) = token.kind;
         let start = self.tokens.wrapping_mul(2);
         let end = start.wrapping_add(1);
-        write!(self.lines, "{name} {start}:0:{start} {end}:0:{end}")?;
+        write!(self.lines, "{name} {start}:0:{start}")?;
+        write!(self.lines, " {end}:0:{end}")?;
         put(&mut self.lines, payload, token.text)?;
         self.lines.push_str("\n")?;
         Ok(())
@@ -218,7 +219,15 @@ impl Drawn {
 /// The error that parsing a row ends by.
 fn parsing_ends_by(alloc: Global, row: &str) -> Result<yaml_error_type_t> {
     let run = yaml_parser_parse_all(alloc, source_of(alloc, row)?)?;
-    Ok(run.fault.unwrap_or(end_of_row().prefix()).error)
+    Ok(error_of(&run.fault))
+}
+
+/// The error of a run's fault, or none.
+fn error_of(fault: &Option<yaml_parser_t_prefix>) -> yaml_error_type_t {
+    match fault {
+        Some(fault) => fault.error,
+        None => YAML_NO_ERROR,
+    }
 }
 
 /// Whether loading a row ends by the source or by the composer.

@@ -68,12 +68,22 @@ impl Grown {
     }
 }
 
+/// Puts the next token of a source into a list, and says whether there was one.
+fn take(source: &mut ComputedTokens, tokens: &mut Vec<yaml_token_t>) -> Result<bool, AllocError> {
+    match source.next_token() {
+        Ok(token) => {
+            tokens.push(token)?;
+            Ok(true)
+        }
+        Err(_) => Ok(false),
+    }
+}
+
 /// Puts all tokens of a source into a list.
 fn take_all(source: &mut ComputedTokens, tokens: &mut Vec<yaml_token_t>) -> Result<(), AllocError> {
     for _ in 0..EVERY_CALL {
-        match source.next_token() {
-            Ok(token) => tokens.push(token)?,
-            Err(_) => break,
+        if !take(source, tokens)? {
+            break;
         }
     }
     Ok(())
@@ -106,9 +116,18 @@ pub fn is_chain(nodes: &[yaml_node_t]) -> bool {
 /// Whether this is a sequence of so many items, all of them the root.
 fn is_all_root(node: &yaml_node_t, len: usize) -> bool {
     match items_of(node) {
-        Some(items) => items.len() == len && items.iter().all(|item| *item == 1),
+        Some(items) => items.len() == len && are_root(items),
         None => false,
     }
+}
+
+fn are_root(items: &[i32]) -> bool {
+    for item in items {
+        if *item != 1 {
+            return false;
+        }
+    }
+    true
 }
 
 fn is_empty_scalar(node: &yaml_node_t) -> bool {

@@ -1,11 +1,11 @@
 //! Two parsers over the same tokens, whose answers are compared one by one.
 
 use crate::growing::Grown;
-use crate::readings::{Loaded, Parsed, Reading, is_event};
-use row_notation::{are_same_faults, is_over};
+use crate::readings::{Loaded, Parsed, Reading};
+use row_notation::{are_same_faults, is_empty, is_over};
 use unsafe_libyaml::{
-    yaml_parser_between_documents, yaml_parser_load, yaml_parser_parse, yaml_parser_t,
-    yaml_parser_t_prefix, yaml_token_source_t,
+    yaml_document_t, yaml_parser_between_documents, yaml_parser_load, yaml_parser_parse,
+    yaml_parser_t, yaml_parser_t_prefix, yaml_token_source_t,
 };
 
 /// More calls than any list here takes.
@@ -19,7 +19,11 @@ pub struct Counted {
 }
 
 fn compare_events(answer: &Parsed, again: &Parsed) -> Option<bool> {
-    (answer == again).then_some(is_event(answer))
+    match (answer, again) {
+        (Ok(event), Ok(other)) => (event == other).then_some(!is_empty(event)),
+        (Err(error), Err(other)) => (error == other).then_some(false),
+        _ => None,
+    }
 }
 
 /// Whether a parser answers so too, and with an event that isn't the empty one; None where it differs.
@@ -42,15 +46,23 @@ fn next_event<S: yaml_token_source_t, T: yaml_token_source_t>(
 
 /// Whether both answers are a document with a root; None where they differ, or where it has not the list's shape.
 fn compare_documents(answer: &Loaded, again: &Loaded, grown: Grown) -> Option<bool> {
-    if answer != again {
+    match (answer, again) {
+        (Ok(document), Ok(other)) => compare_loaded(document, other, grown),
+        (Err(error), Err(other)) => (error == other).then_some(false),
+        _ => None,
+    }
+}
+
+fn compare_loaded(
+    document: &yaml_document_t,
+    other: &yaml_document_t,
+    grown: Grown,
+) -> Option<bool> {
+    let is_whole = !document.nodes().is_empty();
+    if document != other || (is_whole && !grown.is_shape_of(document)) {
         return None;
     }
-    match answer {
-        Ok(document) if !document.nodes().is_empty() => {
-            grown.is_shape_of(document).then_some(true)
-        }
-        _ => Some(false),
-    }
+    Some(is_whole)
 }
 
 /// Whether both parsers load a document with a root; None where they differ, or where it has not the list's shape.

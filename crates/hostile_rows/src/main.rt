@@ -24,8 +24,10 @@ use fronts::{first_wrong_front, first_wrong_load};
 use growing::Grown;
 use in_step::Counted;
 use readings::Reading;
+use std::alloc::Global;
 use std::env;
 use texts::count_refused;
+use unsafe_libyaml::yaml_parser_t_prefix;
 
 /// How large and deep the lists are.
 const N: u32 = 100_000;
@@ -48,14 +50,21 @@ fn lists() -> &'static [(&'static str, GrowingList)] {
 fn show_counted(rt: &impl Print, counted: Option<Counted>, what: &str) -> Result<()> {
     match counted {
         None => print!(rt; ", {what} differ")?,
-        Some(counted) => {
-            let count = counted.count;
-            print!(rt; ", {count} {what}")?;
-            if let Some(problem) = counted.fault.problem {
-                let index = counted.fault.problem_mark.index;
-                print!(rt; " and {problem} at {index}")?;
-            }
-        }
+        Some(counted) => show_count(rt, &counted, what)?,
+    }
+    Ok(())
+}
+
+fn show_count(rt: &impl Print, counted: &Counted, what: &str) -> Result<()> {
+    let count = counted.count;
+    print!(rt; ", {count} {what}")?;
+    show_end(rt, &counted.fault)
+}
+
+fn show_end(rt: &impl Print, fault: &yaml_parser_t_prefix) -> Result<()> {
+    if let Some(problem) = fault.problem {
+        let index = fault.problem_mark.index;
+        print!(rt; " and {problem} at {index}")?;
     }
     Ok(())
 }
@@ -124,15 +133,19 @@ fn run_refused(rt: &(impl Print + AllocGlobal)) -> Result<()> {
     Ok(())
 }
 
-/// Does so much of the work that this word names, and says what it counted.
+/// Does so much of the work that this word names, and counts it.
+fn count_work(alloc: Global, word: &str, n: u32) -> Result<u64> {
+    Ok(match word {
+        "parsed" => flat::read_documents(alloc, n, Reading::Events),
+        "loaded" => flat::read_documents(alloc, n, Reading::Documents),
+        "left" => flat::leave_runs(alloc, n),
+        "deleted" => flat::delete_tokens_and_events(alloc, n)?,
+        _ => bail!("no such work"),
+    })
+}
+
 fn run_work(rt: &(impl Print + AllocGlobal), word: &str, n: u32) -> Result<()> {
-    let counted = match word {
-        "parsed" => flat::read_documents(rt.alloc(), n, Reading::Events),
-        "loaded" => flat::read_documents(rt.alloc(), n, Reading::Documents),
-        "left" => flat::leave_runs(rt.alloc(), n),
-        "deleted" => flat::delete_tokens_and_events(rt.alloc(), n)?,
-        _ => bail!("no such work: {word}"),
-    };
+    let counted = count_work(rt.alloc(), word, n)?;
     println!(rt; "{counted}")?;
     Ok(())
 }

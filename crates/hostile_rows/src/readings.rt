@@ -67,14 +67,21 @@ fn is_loaded<S: yaml_token_source_t>(parser: &mut yaml_parser_t<S>) -> bool {
     true
 }
 
+/// Shows a document with a root, and says whether it has one.
+fn show_rooted(shown: &mut String, document: &yaml_document_t) -> Result<bool> {
+    let is_rooted = !document.nodes().is_empty();
+    if is_rooted {
+        show_document(shown, document)?;
+    }
+    Ok(is_rooted)
+}
+
 /// Shows what a load answers, and says whether more may come.
 fn show_loaded(shown: &mut String, answer: &Loaded, fault: &yaml_parser_t_prefix) -> Result<bool> {
     match answer {
-        Ok(document) if document.nodes().is_empty() => return Ok(false),
-        Ok(document) => show_document(shown, document)?,
-        Err(error) => show_fault(shown, *error, fault)?,
+        Ok(document) => show_rooted(shown, document),
+        Err(error) => show_fault(shown, *error, fault).and(Ok(false)),
     }
-    Ok(answer.is_ok())
 }
 
 /// Shows what one load gives behind what was shown before, and says whether more may come.

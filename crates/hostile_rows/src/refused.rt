@@ -73,12 +73,10 @@ impl Run<'_> {
     }
 }
 
-/// What a run writes of these lines, by a writer that takes no memory.
-fn written(alloc: Global, lines: &str, reading: Reading) -> FixedWriter {
-    let mut reader = lines.as_bytes();
-    let mut writer = FixedWriter::new();
-    run(alloc, &mut reader, &mut writer, reading);
-    writer
+/// Writes what a run gives of the lines, by a writer that takes no memory.
+fn write(alloc: Global, writer: &mut FixedWriter, reading: Reading) {
+    let mut reader = LINES.as_bytes();
+    run(alloc, &mut reader, writer, reading);
 }
 
 /// Whether lines are the same as others, or their front, cut behind an LF, and then the fault.
@@ -99,8 +97,10 @@ fn are_same_or_cut_lines(one: &[u8], other: &[u8]) -> bool {
 }
 
 fn are_lines_right(alloc: Global, reading: Reading) -> bool {
-    let one = written(alloc, LINES, reading);
-    let other = written(alloc, LINES, reading);
+    let mut one = FixedWriter::new();
+    let mut other = FixedWriter::new();
+    write(alloc, &mut one, reading);
+    write(alloc, &mut other, reading);
     are_same_or_cut_lines(one.written(), other.written())
 }
 

@@ -4,12 +4,12 @@ use crate::calls::{Constructor, Texts, construct, constructors};
 use crate::readings::Loaded;
 use anyhow::Result;
 use row_notation::source_of;
-use std::alloc::Global;
+use std::alloc::{AllocError, Global};
 use unsafe_libyaml::{
     YAML_ANY_MAPPING_STYLE, YAML_ANY_SCALAR_STYLE, YAML_ANY_SEQUENCE_STYLE,
     yaml_document_add_mapping, yaml_document_add_scalar, yaml_document_add_sequence,
-    yaml_document_initialize, yaml_document_t, yaml_parser_initialize, yaml_parser_load,
-    yaml_parser_parse_all, yaml_refusal_t,
+    yaml_document_initialize, yaml_document_t, yaml_event_delete, yaml_node_t,
+    yaml_parser_initialize, yaml_parser_load, yaml_parser_parse_all, yaml_refusal_t, yaml_run_t,
 };
 
 /// The length of the longest text.
@@ -25,15 +25,21 @@ fn is_constructed(alloc: Global, text: &[u8]) -> bool {
         value: text,
     };
     for constructor in constructors() {
-        if !takes(alloc, *constructor, texts) {
+        if make_and_delete(alloc, *constructor, texts).is_err() {
             return false;
         }
     }
     true
 }
 
-fn takes(alloc: Global, constructor: Constructor, texts: Texts<'_>) -> bool {
-    construct(alloc, constructor, texts).is_ok()
+fn make_and_delete(
+    alloc: Global,
+    constructor: Constructor,
+    texts: Texts<'_>,
+) -> Result<(), yaml_refusal_t> {
+    let mut event = construct(alloc, constructor, texts)?;
+    yaml_event_delete(&mut event);
+    Ok(())
 }
 
 /// Adds a node of each type with this text in each place.
@@ -60,13 +66,17 @@ const ROW: &str = "STREAM-START TAG-DIRECTIVE(@,@) DOCUMENT-START ANCHOR(@) TAG(
 /// Errors: want of memory.
 pub fn put(out: &mut String, pattern: &str, text: &str) -> Result<()> {
     for letter in pattern.chars() {
-        if letter == '@' {
-            out.push_str(text)?;
-        } else {
-            out.push(letter)?;
-        }
+        put_letter(out, letter, text)?;
     }
     Ok(())
+}
+
+fn put_letter(out: &mut String, letter: char, text: &str) -> Result<(), AllocError> {
+    if letter == '@' {
+        out.push_str(text)
+    } else {
+        out.push(letter)
+    }
 }
 
 fn row_of(alloc: Global, text: &str) -> Result<String> {
@@ -78,17 +88,26 @@ fn row_of(alloc: Global, text: &str) -> Result<String> {
 /// Whether this row gives its eight events.
 fn parses(alloc: Global, row: &str) -> Result<bool> {
     let run = yaml_parser_parse_all(alloc, source_of(alloc, row)?)?;
-    Ok([run.fault.is_none(), run.events.len() == 8] == [true; 2])
+    Ok(is_whole(&run))
+}
+
+fn is_whole(run: &yaml_run_t) -> bool {
+    run.fault.is_none() && run.events.len() == 8
 }
 
 /// Whether this is a document of two nodes, the first with a tag of so many bytes.
 fn is_tagged(loaded: &Loaded, tag: usize) -> bool {
     match loaded {
-        Ok(document) => match document.nodes() {
-            [first, _] => first.tag.len() == tag,
-            _ => false,
-        },
+        Ok(document) => are_tagged(document.nodes(), tag),
         Err(_) => false,
+    }
+}
+
+/// Whether these are two nodes, the first with a tag of so many bytes.
+fn are_tagged(nodes: &[yaml_node_t], tag: usize) -> bool {
+    match nodes {
+        [first, _] => first.tag.len() == tag,
+        _ => false,
     }
 }
 
