@@ -1,20 +1,34 @@
 //! What single calls of a source and of a parser answer.
 
 use unsafe_libyaml::{
-    ZERO_MARK, yaml_error_type_t, yaml_event_type_t, yaml_mark_t, yaml_parser_parse, yaml_parser_t,
-    yaml_parser_t_prefix, yaml_source_fault_t, yaml_token_source_t, yaml_token_type_t,
+    ZERO_MARK, yaml_error_type_t, yaml_event_t, yaml_event_type_t, yaml_mark_t, yaml_parser_parse,
+    yaml_parser_t, yaml_parser_t_prefix, yaml_source_fault_t, yaml_token_source_t, yaml_token_t,
+    yaml_token_type_t,
 };
 
-/// The type of the next token, if there is one.
-pub fn next_type<S: yaml_token_source_t>(source: &mut S) -> Option<yaml_token_type_t> {
-    match source.next_token() {
+/// What a check that has no rows answers.
+pub fn unless(holds: bool, what: &'static str) -> Option<&'static str> {
+    (!holds).then_some(what)
+}
+
+/// What a source answers.
+pub type Answer = Result<yaml_token_t, yaml_source_fault_t>;
+
+fn type_of(answer: &Answer) -> Option<yaml_token_type_t> {
+    match answer {
         Ok(token) => Some(token.type_()),
         Err(_) => None,
     }
 }
 
+/// The type of the next token, if there is one.
+pub fn next_type<S: yaml_token_source_t>(source: &mut S) -> Option<yaml_token_type_t> {
+    let answer = source.next_token();
+    type_of(&answer)
+}
+
 /// All that a fault shows.
-fn fields_of(fault: yaml_source_fault_t) -> yaml_parser_t_prefix {
+fn fields_of(fault: &yaml_source_fault_t) -> yaml_parser_t_prefix {
     yaml_parser_t_prefix {
         error: fault.error(),
         problem: fault.problem(),
@@ -26,12 +40,17 @@ fn fields_of(fault: yaml_source_fault_t) -> yaml_parser_t_prefix {
     }
 }
 
-/// All that the next fault shows, if there is one.
-pub fn next_fault<S: yaml_token_source_t>(source: &mut S) -> Option<yaml_parser_t_prefix> {
-    match source.next_token() {
+fn fault_of(answer: &Answer) -> Option<yaml_parser_t_prefix> {
+    match answer {
         Ok(_) => None,
         Err(fault) => Some(fields_of(fault)),
     }
+}
+
+/// All that the next fault shows, if there is one.
+pub fn next_fault<S: yaml_token_source_t>(source: &mut S) -> Option<yaml_parser_t_prefix> {
+    let answer = source.next_token();
+    fault_of(&answer)
 }
 
 /// The fault of a line source that has given so many tokens.
@@ -55,12 +74,17 @@ pub fn fault_behind(
     }
 }
 
+fn type_of_event(answer: &Result<yaml_event_t, yaml_error_type_t>) -> Option<yaml_event_type_t> {
+    match answer {
+        Ok(event) => Some(event.type_()),
+        Err(_) => None,
+    }
+}
+
 /// The type of the next event, if there is one.
 pub fn next_event<S: yaml_token_source_t>(
     parser: &mut yaml_parser_t<S>,
 ) -> Option<yaml_event_type_t> {
-    match yaml_parser_parse(parser) {
-        Ok(event) => Some(event.type_()),
-        Err(_) => None,
-    }
+    let answer = yaml_parser_parse(parser);
+    type_of_event(&answer)
 }

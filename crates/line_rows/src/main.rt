@@ -1,38 +1,53 @@
 //! Rows of lines: token lines as they are read, lines of events and documents as they are written, and
 //! whole runs.
 //!
-//! The program makes each run of `rows` through readers and writers that cut their bytes, and says how
-//! many differ from what is expected. Then it runs over more lines than are read.
+//! The program makes the checks of each module and names what is wrong. Then it runs over more lines than
+//! are read. `line_rows refused` makes the checks of `refused` alone.
 #![tactic(auto)]
 
-#[cfg(test)]
 mod calls;
-#[cfg(test)]
 mod reading;
-#[cfg(test)]
 mod refused;
 mod rows;
-#[cfg(test)]
 mod runs;
-#[cfg(test)]
 mod writing;
 
-use row_notation::{EVERY_CALL, LineCounter, PieceReader, PieceWriter, RepeatingReader};
-use rows::{Run, run, runs};
-use std::alloc::Global;
-use std::io;
-use token_lines::{Outcome, run_events};
+use row_notation::{LineCounter, RepeatingReader};
+use rows::{is_right, runs};
+use std::{env, io};
+use token_lines::run_events;
 
 /// How many bytes a call reads and writes at most.
 const PIECES: [usize; 4] = [1, 2, 7, 4096];
 
-/// Whether a run in these pieces writes the lines that it should, and ends so.
-fn is_right(alloc: Global, row: Run, piece: usize) -> bool {
-    let (of, tokens, lines, outcome) = row;
-    let mut reader = PieceReader::new(tokens.as_bytes(), piece, EVERY_CALL);
-    let mut writer = PieceWriter::new(alloc, piece, EVERY_CALL);
-    let ended = run(of, alloc, &mut reader, &mut writer);
-    [ended == outcome, writer.written() == lines.as_bytes()] == [true; 2]
+/// Makes each run of `rows` through readers and writers that cut their bytes.
+fn show_runs(rt: &(impl Print + AllocGlobal)) -> io::Result<()> {
+    let mut made = 0u64;
+    let mut differ = 0u64;
+    for row in runs() {
+        for piece in PIECES {
+            if !is_right(rt.alloc(), *row, piece) {
+                let tokens = row.1;
+                println!(rt; "in pieces of {piece} this differs:\n{tokens}")?;
+                differ = differ.wrapping_add(1);
+            }
+            made = made.wrapping_add(1);
+        }
+    }
+    println!(rt; "{made} runs, {differ} differ")
+}
+
+/// Names what is wrong, and counts the checks, of which each answers that.
+fn show_checks(rt: &impl Print, of: &str, checks: &[Option<&'static str>]) -> io::Result<()> {
+    let mut differ = 0u64;
+    for check in checks {
+        if let Some(what) = check {
+            println!(rt; "{of}: this differs: {what}")?;
+            differ = differ.wrapping_add(1);
+        }
+    }
+    let made = checks.len();
+    println!(rt; "{of}: {made} checks, {differ} differ")
 }
 
 /// Runs over the start of a stream and so many open sequences, and says what was written.
@@ -47,20 +62,25 @@ fn run_open_sequences(rt: &(impl Print + AllocGlobal), sequences: u64) -> io::Re
     print!(rt; "{sequences} sequences, {lines} lines, {ended:?}: {last}")
 }
 
+fn show_refused(rt: &(impl Print + AllocGlobal)) -> io::Result<()> {
+    show_checks(rt, "refused growths", &refused::checks(rt.alloc()))
+}
+
+fn show_all(rt: &(impl Print + AllocGlobal)) -> io::Result<()> {
+    show_runs(rt)?;
+    show_checks(rt, "lines read", &reading::checks(rt.alloc()))?;
+    show_checks(rt, "lines written", &writing::checks(rt.alloc()))?;
+    show_checks(rt, "whole runs", &runs::checks(rt.alloc()))?;
+    show_refused(rt)?;
+    run_open_sequences(rt, 2)?;
+    run_open_sequences(rt, 1_000_000)
+}
+
 fn main(rt: HostRuntime) -> io::Result<()> {
-    let mut made = 0u64;
-    let mut differ = 0u64;
-    for row in runs() {
-        for piece in PIECES {
-            if !is_right(rt.alloc(), *row, piece) {
-                let tokens = row.1;
-                println!(rt; "in pieces of {piece} this differs:\n{tokens}")?;
-                differ = differ.wrapping_add(1);
-            }
-            made = made.wrapping_add(1);
-        }
+    let words = env::args(&rt)?.count();
+    if words > 1 {
+        show_refused(&rt)
+    } else {
+        show_all(&rt)
     }
-    println!(rt; "{made} runs, {differ} differ")?;
-    run_open_sequences(&rt, 2)?;
-    run_open_sequences(&rt, 1_000_000)
 }

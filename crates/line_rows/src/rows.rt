@@ -1,5 +1,6 @@
 //! Whole runs, from token lines to the lines of events or of documents.
 
+use row_notation::{EVERY_CALL, PieceReader, PieceWriter};
 use std::alloc::Global;
 use std::io::{BufRead, Write};
 use token_lines::{Outcome, run_events, run_nodes};
@@ -34,14 +35,23 @@ pub const ONE_SCALAR_EVENTS: &str = "STREAM-START 0:0:0 0:0:0 utf8\n\
     DOCUMENT-END 4:0:4 4:0:4 1\n\
     STREAM-END 4:0:4 5:0:5\n";
 
-pub const ONE_SCALAR_NODES: &str = "DOCUMENT 2:0:2 4:0:4 1 1 - 0\n\
+const ONE_SCALAR_NODES: &str = "DOCUMENT 2:0:2 4:0:4 1 1 - 0\n\
     1 SCALAR 2:0:2 3:0:3 =tag:yaml.org,2002:str =a plain\n";
 
 /// What a run writes lines of, what it reads, what it writes, and how it ends.
-pub type Run = (LinesOf, &'static str, &'static str, Outcome);
+pub type Run<'a> = (LinesOf, &'a str, &'a str, Outcome);
+
+/// Whether a run in pieces of so many bytes writes the lines that it should, and ends so.
+pub fn is_right(alloc: Global, row: Run<'_>, piece: usize) -> bool {
+    let (of, tokens, lines, outcome) = row;
+    let mut reader = PieceReader::new(tokens.as_bytes(), piece, EVERY_CALL);
+    let mut writer = PieceWriter::new(alloc, piece, EVERY_CALL);
+    let ended = run(of, alloc, &mut reader, &mut writer);
+    [ended == outcome, writer.written() == lines.as_bytes()] == [true; 2]
+}
 
 /// Two documents, of which the first has directives.
-const TWO_DOCUMENTS: Run = (
+pub const TWO_DOCUMENTS: Run<'static> = (
     LinesOf::Documents,
     "STREAM-START 0:0:0 1:0:1 utf8\n\
      TAG-DIRECTIVE 2:0:2 3:0:3 =!! =p:\n\
@@ -60,17 +70,11 @@ const TWO_DOCUMENTS: Run = (
 );
 
 /// The runs, so that no loop over them has their texts in its proof.
-pub fn runs() -> &'static [Run] {
+pub fn runs() -> &'static [Run<'static>] {
     &RUNS
 }
 
-/// The run of two documents, of which the first has directives.
-#[cfg(test)]
-pub fn two_documents() -> Run {
-    TWO_DOCUMENTS
-}
-
-const RUNS: [Run; 17] = [
+const RUNS: [Run<'static>; 31] = [
     (
         LinesOf::Events,
         ONE_SCALAR,
@@ -259,6 +263,104 @@ const RUNS: [Run; 17] = [
         LinesOf::Documents,
         "STREAM-START 0:0:0 1:0:1 utf8\nSCALAR 2:0:2 3:0:3 a plain\n",
         "FAULT scanner 1:1:0 bad token line\n",
+        Outcome::Faulted,
+    ),
+    // Fronts of `ONE_SCALAR`.
+    (
+        LinesOf::Events,
+        "STREAM-START 0:0:0 1:0:1 utf8\n",
+        "STREAM-START 0:0:0 0:0:0 utf8\nFAULT reader 1:1:0 no more tokens\n",
+        Outcome::Faulted,
+    ),
+    (
+        LinesOf::Events,
+        "STREAM-START 0:0:0 1:0:1 utf8\nSCALAR 2:0:2 3:0:3 =a plain\n",
+        "STREAM-START 0:0:0 0:0:0 utf8\n\
+         DOCUMENT-START 2:0:2 2:0:2 1 - 0\n\
+         SCALAR 2:0:2 3:0:3 - - =a 1 0 plain\n\
+         FAULT reader 2:2:0 no more tokens\n",
+        Outcome::Faulted,
+    ),
+    // Lines that are alone.
+    (
+        LinesOf::Events,
+        "\n",
+        "FAULT scanner 0:0:0 bad token line\n",
+        Outcome::Faulted,
+    ),
+    (
+        LinesOf::Events,
+        "KEY  0:0:0 0:0:0\n",
+        "FAULT scanner 0:0:0 bad token line\n",
+        Outcome::Faulted,
+    ),
+    (
+        LinesOf::Events,
+        "KEY 0:0:18446744073709551616 1:0:1\n",
+        "FAULT scanner 0:0:0 bad token line\n",
+        Outcome::Faulted,
+    ),
+    (
+        LinesOf::Events,
+        "VERSION-DIRECTIVE 0:0:0 1:0:1 1.-0\n",
+        "FAULT scanner 0:0:0 bad token line\n",
+        Outcome::Faulted,
+    ),
+    (
+        LinesOf::Events,
+        "SCALAR 0:0:0 1:0:1 =%ED%A0%80 plain\n",
+        "FAULT scanner 0:0:0 bad token line\n",
+        Outcome::Faulted,
+    ),
+    (
+        LinesOf::Events,
+        "VERSION-DIRECTIVE 0:0:0 1:0:1 -1.1\n",
+        "FAULT parser 0:0:0 did not find expected <stream-start>\n",
+        Outcome::Faulted,
+    ),
+    (
+        LinesOf::Events,
+        "KEY 0:0:18446744073709551615 0:0:0\n",
+        "FAULT parser 0:0:18446744073709551615 did not find expected <stream-start>\n",
+        Outcome::Faulted,
+    ),
+    (
+        LinesOf::Events,
+        "NO-TOKEN 0:0:0 0:0:0\n",
+        "FAULT parser 0:0:0 did not find expected <stream-start>\n",
+        Outcome::Faulted,
+    ),
+    // A last line without LF, and a CR before each LF.
+    (
+        LinesOf::Events,
+        "STREAM-START 0:0:0 1:0:1 utf8\n\
+         SCALAR 2:0:2 3:0:3 =a plain\n\
+         STREAM-END 4:0:4 5:0:5",
+        ONE_SCALAR_EVENTS,
+        Outcome::Ended,
+    ),
+    (
+        LinesOf::Events,
+        "STREAM-START 0:0:0 1:0:1 utf8\r\n\
+         SCALAR 2:0:2 3:0:3 =a plain\r\n\
+         STREAM-END 4:0:4 5:0:5\r\n",
+        "FAULT scanner 0:0:0 bad token line\n",
+        Outcome::Faulted,
+    ),
+    (
+        LinesOf::Documents,
+        "STREAM-START 0:0:0 1:0:1 utf8\n\
+         SCALAR 2:0:2 3:0:3 =a plain\n\
+         STREAM-END 4:0:4 5:0:5",
+        ONE_SCALAR_NODES,
+        Outcome::Ended,
+    ),
+    (
+        LinesOf::Documents,
+        "STREAM-START 0:0:0 1:0:1 utf8\r\n\
+         SCALAR 2:0:2 3:0:3 =a plain\r\n\
+         STREAM-END 4:0:4 5:0:5\r\n",
+        "FAULT scanner 0:0:0 bad token line\n",
         Outcome::Faulted,
     ),
 ];

@@ -1,8 +1,8 @@
 //! Events, faults and documents, written as lines.
 
+use crate::calls::unless;
 use row_notation::{PieceWriter, mark};
 use std::alloc::{AllocError, Global};
-use std::test::Fail;
 use token_lines::{line_refusal_t, write_document, write_event, write_fault};
 use unsafe_libyaml::{
     NO_FAULT, YAML_ANY_ENCODING, YAML_ANY_MAPPING_STYLE, YAML_ANY_SCALAR_STYLE,
@@ -73,78 +73,17 @@ fn construct(alloc: Global, event: Event) -> Result<yaml_event_t, yaml_refusal_t
     }
 }
 
-/// Writes the line of an event from one mark to another.
-fn write_marked(
-    alloc: Global,
-    event: yaml_event_t,
-    start: yaml_mark_t,
-    end: yaml_mark_t,
-    written: &mut Vec<u8>,
-) -> Result<(), line_refusal_t> {
-    let mut event = event;
-    event.start_mark = start;
-    event.end_mark = end;
-    write_event(alloc, &event, written)
-}
-
-/// Whether this is the line of the event from place 2 to place 3.
-fn gives_line(alloc: Global, event: yaml_event_t, line: &[u8]) -> bool {
+/// Whether this is the line of the event.
+fn gives_line(alloc: Global, event: &yaml_event_t, line: &[u8]) -> bool {
     let mut written = Vec::new(alloc);
-    let answer = write_marked(alloc, event, mark(2), mark(3), &mut written);
+    let answer = write_event(alloc, event, &mut written);
     [answer == Ok(()), written.as_slice() == line] == [true; 2]
 }
 
-/// The first of these lines that its event doesn't give, if any.
-fn first_written_otherwise(
-    alloc: Global,
-    rows: &[(Event, &'static str)],
-) -> Result<Option<&'static str>, yaml_refusal_t> {
-    for (event, line) in rows {
-        if !gives_line(alloc, construct(alloc, *event)?, line.as_bytes()) {
-            return Ok(Some(line));
-        }
-    }
-    Ok(None)
-}
+/// An event, and its line from place 2 to place 3.
+type Row = (Event, &'static str);
 
-/// The events of a stream, each with the places where it starts and ends.
-const ONE_SCALAR: [(Event, u64, u64); 5] = [
-    (Event::StreamStart(YAML_UTF8_ENCODING), 0, 0),
-    (Event::ImplicitDocumentStart, 2, 2),
-    (Event::Scalar("a", YAML_PLAIN_SCALAR_STYLE), 2, 3),
-    (Event::DocumentEnd(true), 4, 4),
-    (Event::StreamEnd, 4, 5),
-];
-
-const ONE_SCALAR_LINES: &[u8] = b"STREAM-START 0:0:0 0:0:0 utf8\n\
-    DOCUMENT-START 2:0:2 2:0:2 1 - 0\n\
-    SCALAR 2:0:2 3:0:3 - - =a 1 0 plain\n\
-    DOCUMENT-END 4:0:4 4:0:4 1\n\
-    STREAM-END 4:0:4 5:0:5\n";
-
-/// Writes the lines of the stream, where nothing is refused.
-fn write_stream(alloc: Global, written: &mut Vec<u8>) -> Option<()> {
-    for (event, start, end) in ONE_SCALAR {
-        let event = construct(alloc, event).ok()?;
-        write_marked(alloc, event, mark(start), mark(end), written).ok()?;
-    }
-    Some(())
-}
-
-fn writes_stream(alloc: Global) -> [bool; 2] {
-    let mut written = Vec::new(alloc);
-    [
-        write_stream(alloc, &mut written).is_some(),
-        written.as_slice() == ONE_SCALAR_LINES,
-    ]
-}
-
-#[test]
-fn lines_of_a_stream_with_one_scalar(rt: HostRuntime) {
-    assert_eq!(rt; writes_stream(rt.alloc()), [true; 2]);
-}
-
-const EACH_EVENT: [(Event, &str); 7] = [
+const ROWS: [Row; 23] = [
     (Event::None, "NO-EVENT 2:0:2 3:0:3\n"),
     (Event::DocumentEnd(false), "DOCUMENT-END 2:0:2 3:0:3 0\n"),
     (Event::Alias("a b"), "ALIAS 2:0:2 3:0:3 =a%20b\n"),
@@ -158,15 +97,6 @@ const EACH_EVENT: [(Event, &str); 7] = [
         "MAPPING-START 2:0:2 3:0:3 - =! 0 flow\n",
     ),
     (Event::MappingEnd, "MAPPING-END 2:0:2 3:0:3\n"),
-];
-
-#[test]
-fn names_and_fields_of_each_event(rt: HostRuntime) -> Result<(), Fail> {
-    assert_eq!(rt; first_written_otherwise(rt.alloc(), &EACH_EVENT)?, None);
-    Ok(())
-}
-
-const ENCODINGS_AND_STYLES: [(Event, &str); 12] = [
     (
         Event::StreamStart(YAML_ANY_ENCODING),
         "STREAM-START 2:0:2 3:0:3 any\n",
@@ -215,18 +145,6 @@ const ENCODINGS_AND_STYLES: [(Event, &str); 12] = [
         Event::MappingStart(None, None, YAML_BLOCK_MAPPING_STYLE),
         "MAPPING-START 2:0:2 3:0:3 - - 1 block\n",
     ),
-];
-
-#[test]
-fn encodings_and_styles(rt: HostRuntime) -> Result<(), Fail> {
-    assert_eq!(rt;
-        first_written_otherwise(rt.alloc(), &ENCODINGS_AND_STYLES)?,
-        None
-    );
-    Ok(())
-}
-
-const ESCAPES: [(Event, &str); 4] = [
     (
         Event::Scalar("\u{e9} %", YAML_PLAIN_SCALAR_STYLE),
         "SCALAR 2:0:2 3:0:3 - - =%C3%A9%20%25 1 0 plain\n",
@@ -245,10 +163,67 @@ const ESCAPES: [(Event, &str); 4] = [
     ),
 ];
 
-#[test]
-fn escapes_in_a_scalar(rt: HostRuntime) -> Result<(), Fail> {
-    assert_eq!(rt; first_written_otherwise(rt.alloc(), &ESCAPES)?, None);
-    Ok(())
+fn writes(alloc: Global, event: Event, line: &str) -> Result<bool, yaml_refusal_t> {
+    let mut event = construct(alloc, event)?;
+    event.start_mark = mark(2);
+    event.end_mark = mark(3);
+    Ok(gives_line(alloc, &event, line.as_bytes()))
+}
+
+/// The first of the rows whose event gives another line, if any.
+fn first_written_otherwise(alloc: Global, rows: &[Row]) -> Option<&'static str> {
+    for (event, line) in rows {
+        if !writes(alloc, *event, line).unwrap_or(false) {
+            return Some(line);
+        }
+    }
+    None
+}
+
+fn first_of_rows(alloc: Global) -> Option<&'static str> {
+    first_written_otherwise(alloc, &ROWS)
+}
+
+/// The events of a stream, each with the places where it starts and ends.
+const ONE_SCALAR: [(Event, u64, u64); 5] = [
+    (Event::StreamStart(YAML_UTF8_ENCODING), 0, 0),
+    (Event::ImplicitDocumentStart, 2, 2),
+    (Event::Scalar("a", YAML_PLAIN_SCALAR_STYLE), 2, 3),
+    (Event::DocumentEnd(true), 4, 4),
+    (Event::StreamEnd, 4, 5),
+];
+
+const ONE_SCALAR_LINES: &[u8] = b"STREAM-START 0:0:0 0:0:0 utf8\n\
+    DOCUMENT-START 2:0:2 2:0:2 1 - 0\n\
+    SCALAR 2:0:2 3:0:3 - - =a 1 0 plain\n\
+    DOCUMENT-END 4:0:4 4:0:4 1\n\
+    STREAM-END 4:0:4 5:0:5\n";
+
+/// Writes the line of an event from one place to another, where nothing is refused.
+fn write_at(
+    alloc: Global,
+    (event, start, end): (Event, u64, u64),
+    written: &mut Vec<u8>,
+) -> Option<()> {
+    let mut event = construct(alloc, event).ok()?;
+    event.start_mark = mark(start);
+    event.end_mark = mark(end);
+    write_event(alloc, &event, written).ok()
+}
+
+fn write_stream(alloc: Global, written: &mut Vec<u8>) -> Option<()> {
+    for event in &ONE_SCALAR {
+        write_at(alloc, *event, written)?;
+    }
+    Some(())
+}
+
+fn writes_stream(alloc: Global) -> bool {
+    let mut written = Vec::new(alloc);
+    [
+        write_stream(alloc, &mut written).is_some(),
+        written.as_slice() == ONE_SCALAR_LINES,
+    ] == [true; 2]
 }
 
 const DIRECTIVES: [(&[u8], &[u8]); 2] = [(b"!e!", b"p:"), (b"!!", b"q r")];
@@ -264,33 +239,23 @@ fn start_with_directives(alloc: Global) -> Result<yaml_event_t, yaml_refusal_t> 
 
 fn writes_directives(alloc: Global) -> Result<bool, yaml_refusal_t> {
     let line = b"DOCUMENT-START 2:0:2 3:0:3 0 1.-2 2 =!e! =p: =!! =q%20r\n";
-    Ok(gives_line(alloc, start_with_directives(alloc)?, line))
+    let mut start = start_with_directives(alloc)?;
+    start.start_mark = mark(2);
+    start.end_mark = mark(3);
+    Ok(gives_line(alloc, &start, line))
 }
 
-#[test]
-fn directives_of_an_explicit_document(rt: HostRuntime) -> Result<(), Fail> {
-    assert!(rt; writes_directives(rt.alloc())?);
-    Ok(())
-}
-
-fn writes_greatest_numbers(alloc: Global) -> [bool; 2] {
+fn writes_greatest_numbers(alloc: Global) -> bool {
     let last = yaml_mark_t {
         index: u64::MAX,
         line: u64::MAX,
         column: 0,
     };
     let line = b"STREAM-END 18446744073709551615:18446744073709551615:0 0:0:0\n";
-    let mut written = Vec::new(alloc);
-    let end = yaml_stream_end_event_initialize();
-    [
-        write_marked(alloc, end, last, ZERO_MARK, &mut written) == Ok(()),
-        written.as_slice() == line.as_slice(),
-    ]
-}
-
-#[test]
-fn greatest_numbers_in_a_mark(rt: HostRuntime) {
-    assert_eq!(rt; writes_greatest_numbers(rt.alloc()), [true; 2]);
+    let mut end = yaml_stream_end_event_initialize();
+    end.start_mark = last;
+    end.end_mark = ZERO_MARK;
+    gives_line(alloc, &end, line)
 }
 
 /// A fault of a parser, and its lines.
@@ -309,9 +274,9 @@ const CONTENT_FAULT_LINES: &[u8] = b"FAULT parser 2:0:2 did not find expected no
     CONTEXT 1:0:1 while parsing a block node\n";
 
 /// Whether these are the lines of the fault.
-fn gives_fault(alloc: Global, fault: yaml_parser_t_prefix, lines: &[u8]) -> bool {
+fn gives_fault(alloc: Global, fault: &yaml_parser_t_prefix, lines: &[u8]) -> bool {
     let mut written = Vec::new(alloc);
-    let answer = write_fault(&fault, &mut written);
+    let answer = write_fault(fault, &mut written);
     [answer == Ok(()), written.as_slice() == lines] == [true; 2]
 }
 
@@ -326,21 +291,23 @@ const ERRORS: [(yaml_error_type_t, &str); 8] = [
     (YAML_EMITTER_ERROR, "FAULT emitter 0:0:0 -\n"),
 ];
 
+fn errors() -> &'static [(yaml_error_type_t, &'static str)] {
+    &ERRORS
+}
+
+fn gives_error(alloc: Global, error: yaml_error_type_t, line: &str) -> bool {
+    let fault = yaml_parser_t_prefix { error, ..NO_FAULT };
+    gives_fault(alloc, &fault, line.as_bytes())
+}
+
 /// The first of the errors whose fault gives another line, if any.
 fn first_error_otherwise(alloc: Global) -> Option<&'static str> {
-    for (error, line) in ERRORS {
-        let fault = yaml_parser_t_prefix { error, ..NO_FAULT };
-        if !gives_fault(alloc, fault, line.as_bytes()) {
+    for (error, line) in errors() {
+        if !gives_error(alloc, *error, line) {
             return Some(line);
         }
     }
     None
-}
-
-#[test]
-fn lines_of_faults(rt: HostRuntime) {
-    assert_eq!(rt; first_error_otherwise(rt.alloc()), None);
-    assert!(rt; gives_fault(rt.alloc(), content_fault(), CONTENT_FAULT_LINES));
 }
 
 /// Whether a fault's lines are cut where a writer of so many calls, a byte each, fails.
@@ -354,14 +321,14 @@ fn cuts_fault(alloc: Global, calls: usize) -> bool {
     ] == [true; 2]
 }
 
-/// The first number of calls behind which a fault's lines are not cut, if any.
-fn first_fault_uncut(alloc: Global) -> Option<usize> {
+/// Whether a fault's lines are cut behind each number of calls.
+fn cuts_fault_at_each_write(alloc: Global) -> bool {
     for calls in 0..CONTENT_FAULT_LINES.len() {
         if !cuts_fault(alloc, calls) {
-            return Some(calls);
+            return false;
         }
     }
-    None
+    true
 }
 
 /// Whether writing an event fails where a writer of so many calls, a byte each, does.
@@ -370,44 +337,37 @@ fn fails_to_write(alloc: Global, event: &yaml_event_t, calls: usize) -> bool {
     write_event(alloc, event, &mut writer) == Err(line_refusal_t::Output)
 }
 
-/// The first number of calls, of fewer than 23, behind which writing the event doesn't fail, if any.
-fn first_write_unfailed(alloc: Global, event: &yaml_event_t) -> Option<usize> {
+/// Whether writing the event fails behind each number of calls of fewer than 23.
+fn fails_at_each_write(alloc: Global, event: &yaml_event_t) -> bool {
     for calls in 0..23usize {
         if !fails_to_write(alloc, event, calls) {
-            return Some(calls);
+            return false;
         }
     }
-    None
+    true
 }
 
 /// The same of the end of a stream from place 4 to place 5, whose line has 23 bytes.
-fn first_stream_end_unfailed(alloc: Global) -> Option<usize> {
+fn cuts_stream_end_at_each_write(alloc: Global) -> bool {
     let mut end = yaml_stream_end_event_initialize();
     end.start_mark = mark(4);
     end.end_mark = mark(5);
-    first_write_unfailed(alloc, &end)
+    fails_at_each_write(alloc, &end)
 }
 
-#[test]
-fn each_write_failing_in_turn(rt: HostRuntime) {
-    assert_eq!(rt; first_fault_uncut(rt.alloc()), None);
-    assert_eq!(rt; first_stream_end_unfailed(rt.alloc()), None);
-}
-
-/// { "a b": &list [ "a b", *list ], *list : itself }, with directives.
-fn document_with_each_node(alloc: Global) -> Result<yaml_document_t, yaml_refusal_t> {
-    let version = Some(yaml_version_directive_t { major: 1, minor: 2 });
-    let pairs: [(&[u8], &[u8]); 1] = [(b"!!", b"p:")];
-    let mut document = yaml_document_initialize(alloc, version, &pairs, false, true)?;
-    let map = yaml_document_add_mapping(&mut document, None, YAML_FLOW_MAPPING_STYLE)?;
+/// Makes the document { "a b": &list [ "a b", *list ], *list : itself }, and says which calls for a pair or
+/// an item were taken.
+fn add_each_node(document: &mut yaml_document_t) -> Result<[bool; 4], yaml_refusal_t> {
+    let map = yaml_document_add_mapping(document, None, YAML_FLOW_MAPPING_STYLE)?;
     let style = YAML_PLAIN_SCALAR_STYLE;
-    let key = yaml_document_add_scalar(&mut document, Some(b"!"), b"a b", style)?;
-    let list = yaml_document_add_sequence(&mut document, None, YAML_BLOCK_SEQUENCE_STYLE)?;
-    yaml_document_append_sequence_item(&mut document, list, key)?;
-    yaml_document_append_sequence_item(&mut document, list, list)?;
-    yaml_document_append_mapping_pair(&mut document, map, key, list)?;
-    yaml_document_append_mapping_pair(&mut document, map, list, map)?;
-    Ok(document)
+    let key = yaml_document_add_scalar(document, Some(b"!"), b"a b", style)?;
+    let list = yaml_document_add_sequence(document, None, YAML_BLOCK_SEQUENCE_STYLE)?;
+    Ok([
+        yaml_document_append_sequence_item(document, list, key).is_ok(),
+        yaml_document_append_sequence_item(document, list, list).is_ok(),
+        yaml_document_append_mapping_pair(document, map, key, list).is_ok(),
+        yaml_document_append_mapping_pair(document, map, list, map).is_ok(),
+    ])
 }
 
 const DOCUMENT_LINES: &[u8] = b"DOCUMENT 0:0:0 0:0:0 0 1 1.2 1 =!! =p:\n\
@@ -422,15 +382,18 @@ fn gives_document(alloc: Global, document: &yaml_document_t, lines: &[u8]) -> bo
     [answer == Ok(()), written.as_slice() == lines] == [true; 2]
 }
 
+/// Whether a document with directives and each node gives its lines.
 fn writes_document(alloc: Global) -> Result<bool, yaml_refusal_t> {
-    let document = document_with_each_node(alloc)?;
-    Ok(gives_document(alloc, &document, DOCUMENT_LINES))
-}
-
-#[test]
-fn lines_of_a_document(rt: HostRuntime) -> Result<(), Fail> {
-    assert!(rt; writes_document(rt.alloc())?);
-    Ok(())
+    let version = Some(yaml_version_directive_t { major: 1, minor: 2 });
+    let pairs: [(&[u8], &[u8]); 1] = [(b"!!", b"p:")];
+    let mut document = yaml_document_initialize(alloc, version, &pairs, false, true)?;
+    let added = add_each_node(&mut document).unwrap_or([false; 4]);
+    Ok(
+        [
+            added == [true; 4],
+            gives_document(alloc, &document, DOCUMENT_LINES),
+        ] == [true; 2],
+    )
 }
 
 /// Whether the refusal is told so.
@@ -438,14 +401,37 @@ fn is_told(alloc: Global, refusal: line_refusal_t, text: &str) -> Result<bool, A
     Ok(refusal.to_string(alloc)?.as_str() == text)
 }
 
-#[test]
-fn texts_and_numbers_of_refusals(rt: HostRuntime) -> Result<(), Fail> {
-    assert!(rt; is_told(rt.alloc(), line_refusal_t::Memory, "out of memory")?);
-    assert!(rt; is_told(rt.alloc(), line_refusal_t::Output, "output failed")?);
-    let numbers = [
-        line_refusal_t::Memory.number(),
-        line_refusal_t::Output.number(),
-    ];
-    assert_eq!(rt; numbers, [1, 2]);
-    Ok(())
+fn are_told(alloc: Global) -> bool {
+    [
+        is_told(alloc, line_refusal_t::Memory, "out of memory") == Ok(true),
+        is_told(alloc, line_refusal_t::Output, "output failed") == Ok(true),
+        line_refusal_t::Memory.number() == 1,
+        line_refusal_t::Output.number() == 2,
+    ] == [true; 4]
+}
+
+/// What is wrong of each check of this module.
+pub fn checks(alloc: Global) -> [Option<&'static str>; 10] {
+    let content_fault = gives_fault(alloc, &content_fault(), CONTENT_FAULT_LINES);
+    [
+        unless(writes_stream(alloc), "a stream with one scalar"),
+        first_of_rows(alloc),
+        unless(writes_directives(alloc).unwrap_or(false), "directives"),
+        unless(
+            writes_greatest_numbers(alloc),
+            "the greatest numbers in a mark",
+        ),
+        first_error_otherwise(alloc),
+        unless(content_fault, "a fault with a context"),
+        unless(
+            cuts_fault_at_each_write(alloc),
+            "a write of a fault that fails",
+        ),
+        unless(
+            cuts_stream_end_at_each_write(alloc),
+            "a write of an event that fails",
+        ),
+        unless(writes_document(alloc).unwrap_or(false), "a document"),
+        unless(are_told(alloc), "refusals"),
+    ]
 }
