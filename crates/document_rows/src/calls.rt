@@ -2,11 +2,11 @@
 
 ghost use Rattle.std.specs.Prelude.{◌≡◌, [], IfOk};
 
+use crate::checks::{unless, unless_made};
 use crate::words::document_of_words;
 use anyhow::Result;
 use row_notation::show_document;
 use std::alloc::Global;
-use std::test::Fail;
 use unsafe_libyaml::{
     YAML_ANY_MAPPING_STYLE, YAML_ANY_SEQUENCE_STYLE, YAML_BLOCK_MAPPING_STYLE,
     YAML_BLOCK_SEQUENCE_STYLE, YAML_DOUBLE_QUOTED_SCALAR_STYLE, YAML_PLAIN_SCALAR_STYLE,
@@ -31,13 +31,24 @@ fn word(alloc: Global) -> Result<yaml_document_t, yaml_refusal_t> {
     Ok(document)
 }
 
-/// Whether a document was made, and is shown so.
-fn shows(alloc: Global, made: Result<yaml_document_t, yaml_refusal_t>, wanted: &str) -> bool {
+type Made = Result<yaml_document_t, yaml_refusal_t>;
+
+fn is_shown(alloc: Global, document: &yaml_document_t, wanted: &str) -> bool {
     let mut shown = String::new(alloc);
+    let is_whole = show_document(&mut shown, document).is_ok();
+    [is_whole, shown.as_str() == wanted] == [true; 2]
+}
+
+fn is_made(alloc: Global, made: &Made, wanted: &str) -> bool {
     match made {
-        Ok(document) => show_document(&mut shown, &document).is_ok() && shown.as_str() == wanted,
+        Ok(document) => is_shown(alloc, document, wanted),
         Err(_) => false,
     }
+}
+
+/// Whether a document was made, and is shown so.
+fn shows(alloc: Global, made: Made, wanted: &str) -> bool {
+    is_made(alloc, &made, wanted)
 }
 
 fn is_built(alloc: Global) -> bool {
@@ -46,45 +57,31 @@ fn is_built(alloc: Global) -> bool {
     shows(alloc, document_of_words(alloc), wanted)
 }
 
-fn is_deleted(alloc: Global) -> bool {
-    match document_of_words(alloc) {
-        Ok(document) => {
-            yaml_document_delete(document);
-            true
-        }
-        Err(_) => false,
-    }
+fn is_deleted(alloc: Global) -> Result<bool> {
+    yaml_document_delete(document_of_words(alloc)?);
+    Ok(true)
 }
 
-#[test]
-fn a_small_document_is_built_and_read_back(rt: HostRuntime) {
-    assert!(rt; is_built(rt.alloc()));
-    assert!(rt; is_deleted(rt.alloc()));
-}
-
-fn has_no_root(alloc: Global) -> Result<bool, yaml_refusal_t> {
+fn has_no_root(alloc: Global) -> Result<bool> {
     let document = empty(alloc)?;
     Ok(yaml_document_get_root_node(&document).is_none())
 }
 
 /// What the ids -1 to 2 name, and the root, in a document of one node.
-fn knows_its_node(alloc: Global) -> Result<[bool; 5], yaml_refusal_t> {
-    let document = word(alloc)?;
-    let node = yaml_document_get_node(&document, 1);
-    Ok([
-        yaml_document_get_node(&document, -1).is_none(),
-        yaml_document_get_node(&document, 0).is_none(),
+fn knows_only_its_node(document: &yaml_document_t) -> bool {
+    let node = yaml_document_get_node(document, 1);
+    [
+        yaml_document_get_node(document, -1).is_none(),
+        yaml_document_get_node(document, 0).is_none(),
         node.map(|node| node.type_()) == Some(YAML_SCALAR_NODE),
-        node == yaml_document_get_root_node(&document),
-        yaml_document_get_node(&document, 2).is_none(),
-    ])
+        node == yaml_document_get_root_node(document),
+        yaml_document_get_node(document, 2).is_none(),
+    ] == [true; 5]
 }
 
-#[test]
-fn get_node_knows_ids_from_one(rt: HostRuntime) -> Result<(), Fail> {
-    assert!(rt; has_no_root(rt.alloc())?);
-    assert_eq!(rt; knows_its_node(rt.alloc())?, [true; 5]);
-    Ok(())
+fn knows_its_node(alloc: Global) -> Result<bool> {
+    let document = word(alloc)?;
+    Ok(knows_only_its_node(&document))
 }
 
 fn list_of_two(alloc: Global) -> Result<yaml_document_t, yaml_refusal_t> {
@@ -134,30 +131,18 @@ fn given_tags_stay(alloc: Global) -> bool {
     shows(alloc, with_given_tags(alloc), wanted)
 }
 
-#[test]
-fn calls_put_nodes_items_and_pairs_in(rt: HostRuntime) {
-    assert!(rt; items_are_in_order(rt.alloc()));
-    assert!(rt; a_pair_is_in_order(rt.alloc()));
-    assert!(rt; given_tags_stay(rt.alloc()));
-}
-
-/// A document to which a mapping wasn't added, its tag being no text; `NotUtf8` where it was.
-fn behind_a_refusal(alloc: Global) -> Result<yaml_document_t, yaml_refusal_t> {
-    let mut document = empty(alloc)?;
-    match yaml_document_add_mapping(&mut document, Some(&[0xff]), YAML_ANY_MAPPING_STYLE) {
-        Err(yaml_refusal_t::NotUtf8) => Ok(document),
-        Err(refusal) => Err(refusal),
-        Ok(_) => Err(yaml_refusal_t::NotUtf8),
+fn refuses_a_tag(document: &mut yaml_document_t) -> bool {
+    match yaml_document_add_mapping(document, Some(&[0xff]), YAML_ANY_MAPPING_STYLE) {
+        Ok(_) => false,
+        Err(refusal) => refusal == yaml_refusal_t::NotUtf8,
     }
 }
 
-fn adds_no_node(alloc: Global) -> bool {
-    shows(alloc, behind_a_refusal(alloc), "+Di(0) -Di(0)")
-}
-
-#[test]
-fn a_tag_that_is_not_utf8_adds_no_node(rt: HostRuntime) {
-    assert!(rt; adds_no_node(rt.alloc()));
+fn adds_no_node(alloc: Global) -> Result<bool> {
+    let mut document = empty(alloc)?;
+    let is_refused = refuses_a_tag(&mut document);
+    let is_empty = is_shown(alloc, &document, "+Di(0) -Di(0)");
+    Ok([is_refused, is_empty] == [true; 2])
 }
 
 fn with_directives(alloc: Global) -> Result<yaml_document_t, yaml_refusal_t> {
@@ -177,16 +162,34 @@ fn directives_are_shown(alloc: Global) -> bool {
     )
 }
 
-fn refuses_a_surrogate(alloc: Global) -> bool {
-    let hostile: [(&[u8], &[u8]); 1] = [(b"!e!", &[0xed, 0xa0, 0x80])];
-    match yaml_document_initialize(alloc, None, hostile.as_slice(), true, true) {
+fn is_no_text(made: &Made) -> bool {
+    match made {
         Ok(_) => false,
-        Err(refusal) => refusal == yaml_refusal_t::NotUtf8,
+        Err(refusal) => *refusal == yaml_refusal_t::NotUtf8,
     }
 }
 
-#[test]
-fn a_new_document_shows_its_directives(rt: HostRuntime) {
-    assert!(rt; directives_are_shown(rt.alloc()));
-    assert!(rt; refuses_a_surrogate(rt.alloc()));
+fn refuses_a_surrogate(alloc: Global) -> bool {
+    let hostile: [(&[u8], &[u8]); 1] = [(b"!e!", &[0xed, 0xa0, 0x80])];
+    let made = yaml_document_initialize(alloc, None, hostile.as_slice(), true, true);
+    is_no_text(&made)
+}
+
+/// What is wrong with calls on documents.
+pub fn checks(alloc: Global) -> [Option<&'static str>; 10] {
+    [
+        unless(is_built(alloc), "a small document is built and read back"),
+        unless_made(is_deleted(alloc), "a document is deleted"),
+        unless_made(has_no_root(alloc), "an empty document has no root"),
+        unless_made(knows_its_node(alloc), "ids count from one"),
+        unless(items_are_in_order(alloc), "items are put in"),
+        unless(a_pair_is_in_order(alloc), "a pair is put in"),
+        unless(given_tags_stay(alloc), "given tags stay"),
+        unless_made(adds_no_node(alloc), "a tag that is not UTF-8 adds no node"),
+        unless(
+            directives_are_shown(alloc),
+            "a new document shows its directives",
+        ),
+        unless(refuses_a_surrogate(alloc), "a surrogate is refused"),
+    ]
 }

@@ -1,17 +1,16 @@
 //! What loading each row gives: documents, and the fault that ends them.
 
+use crate::checks::{is_text, unless_made};
 use anyhow::{Context, Result};
 use row_notation::{
-    are_same_faults, ends_of_sources, is_front, show_document, show_event, show_fault, shown_end,
-    source_of, tokens_of,
+    ends_of_sources, is_front, show_document, show_event, show_fault, shown_end, source_of,
+    tokens_of,
 };
 use std::alloc::Global;
-use std::test::Fail;
 use unsafe_libyaml::{
-    NO_FAULT, YAML_MEMORY_ERROR, YAML_NO_ERROR, yaml_error_type_t, yaml_list_source_t,
+    yaml_document_t, yaml_error_type_t, yaml_event_t, yaml_list_source_t,
     yaml_parser_between_documents, yaml_parser_initialize, yaml_parser_load, yaml_parser_parse,
     yaml_parser_set_max_entries, yaml_parser_t, yaml_parser_t_prefix, yaml_source_fault_t,
-    yaml_token_source_t,
 };
 
 /// The bound that a parser begins with.
@@ -185,204 +184,212 @@ const ROWS: [(&str, &str, i32, &str); 27] = [
 ];
 
 /// The rows, so that no loop over them has their texts in its proof.
-fn rows() -> &'static [(&'static str, &'static str, i32, &'static str)] {
+pub fn rows() -> &'static [(&'static str, &'static str, i32, &'static str)] {
     &ROWS
 }
 
-/// What one load gives behind what was shown before, and whether more loads may give another answer.
-fn show_load<S: yaml_token_source_t>(
+type Parser = yaml_parser_t<yaml_list_source_t>;
+
+/// Shows what a load answered, and tells whether more loads may give another answer.
+fn show_answer(
     shown: &mut String,
-    parser: &mut yaml_parser_t<S>,
+    answer: &Result<yaml_document_t, yaml_error_type_t>,
+    kept: &yaml_parser_t_prefix,
 ) -> Result<bool> {
-    if !yaml_parser_between_documents(parser) {
-        shown.push_str(" amid a document")?;
-        return Ok(false);
-    }
-    match yaml_parser_load(parser) {
+    match answer {
         Ok(document) => {
-            show_document(shown, &document)?;
+            show_document(shown, document)?;
             Ok(!document.nodes().is_empty())
         }
         Err(error) => {
-            show_fault(shown, error, parser.prefix())?;
+            show_fault(shown, *error, kept)?;
             Ok(false)
         }
     }
 }
 
-/// The documents of a parser up to the one without root or the fault, which has to come again.
-fn show_loads<S: yaml_token_source_t>(
-    alloc: Global,
-    parser: &mut yaml_parser_t<S>,
-) -> Result<String> {
-    let mut shown = String::new(alloc);
+/// What one load gives behind what was shown before, and whether more loads may give another answer.
+fn show_load(shown: &mut String, parser: &mut Parser) -> Result<bool> {
+    if !yaml_parser_between_documents(parser) {
+        shown.push_str(" amid a document")?;
+        return Ok(false);
+    }
+    let answer = yaml_parser_load(parser);
+    show_answer(shown, &answer, parser.prefix())
+}
+
+/// The documents of a parser up to the one without root or the fault.
+fn show_documents(shown: &mut String, parser: &mut Parser) -> Result<()> {
     for _ in 0..10_000u32 {
-        if !show_load(&mut shown, parser)? {
+        if !show_load(shown, parser)? {
             break;
         }
     }
-    for _ in 0..2u8 {
-        let mut again = String::new(alloc);
-        show_load(&mut again, parser)?;
-        if !shown.as_str().ends_with(again.as_str()) {
-            shown.push_str(" and then ")?;
-            shown.push_str(again.as_str())?;
-        }
+    Ok(())
+}
+
+fn show_other(shown: &mut String, again: &str) -> Result<()> {
+    if !shown.as_str().ends_with(again) {
+        shown.push_str(" and then ")?;
+        shown.push_str(again)?;
     }
+    Ok(())
+}
+
+/// Shows the next load where it gives anything else than the last one.
+fn show_again(alloc: Global, shown: &mut String, parser: &mut Parser) -> Result<()> {
+    let mut again = String::new(alloc);
+    let load = show_load(&mut again, parser);
+    let other = show_other(shown, again.as_str());
+    load.and(other)
+}
+
+/// The documents of a parser up to the one without root or the fault, which has to come again.
+fn show_loads(alloc: Global, shown: &mut String, parser: &mut Parser) -> Result<()> {
+    show_documents(shown, parser)?;
+    show_again(alloc, shown, parser)?;
+    show_again(alloc, shown, parser)
+}
+
+/// A row, the bound on each list of a document, and the fault that stands behind its tokens.
+#[derive(Copy, Clone)]
+struct Loading<'a> {
+    row: &'a str,
+    bound: i32,
+    end: yaml_source_fault_t,
+}
+
+/// Shows what loading so many of a row's tokens gives.
+fn show_loaded(alloc: Global, shown: &mut String, of: Loading<'_>, most: usize) -> Result<()> {
+    let mut tokens = tokens_of(alloc, of.row)?;
+    tokens.truncate(most);
+    let source = yaml_list_source_t::new(tokens, of.end);
+    let mut parser = yaml_parser_initialize(alloc, source);
+    yaml_parser_set_max_entries(&mut parser, of.bound.max(1));
+    show_loads(alloc, shown, &mut parser)
+}
+
+/// What loading so many of a row's tokens gives.
+fn loaded(alloc: Global, of: Loading<'_>, most: usize) -> Result<String> {
+    let mut shown = String::new(alloc);
+    show_loaded(alloc, &mut shown, of, most)?;
     Ok(shown)
 }
 
-/// What loading so many of a row's tokens gives within a bound, with this fault behind them.
-fn loaded(
-    alloc: Global,
-    row: &str,
-    most: usize,
-    bound: i32,
-    end: yaml_source_fault_t,
-) -> Result<String> {
-    let mut tokens = tokens_of(alloc, row)?;
-    tokens.truncate(most);
-    let source = yaml_list_source_t::new(tokens, end);
-    let mut parser = yaml_parser_initialize(alloc, source);
-    yaml_parser_set_max_entries(&mut parser, bound.max(1));
-    show_loads(alloc, &mut parser)
+fn gives(alloc: Global, of: Loading<'_>, documents: &str) -> bool {
+    let shown = loaded(alloc, of, usize::MAX);
+    is_text(&shown, documents)
 }
 
 /// The name of the first row that loading gives other documents, if any.
-fn first_loaded_otherwise(alloc: Global) -> Result<Option<&'static str>> {
+fn first_loaded_otherwise(alloc: Global) -> Option<&'static str> {
     let [_, end, _] = ends_of_sources();
     for (name, row, bound, documents) in rows() {
-        let shown = loaded(alloc, row, usize::MAX, *bound, end)?;
-        if shown.as_str() != *documents {
-            return Ok(Some(name));
+        let bound = *bound;
+        if !gives(alloc, Loading { row, bound, end }, documents) {
+            return Some(*name);
         }
     }
-    Ok(None)
+    None
 }
 
-#[test]
-fn rows_give_their_documents(rt: HostRuntime) -> Result<(), Fail> {
-    assert_eq!(rt; first_loaded_otherwise(rt.alloc())?, None);
-    Ok(())
+fn is_front_text(front: &Result<String>, whole: &str, fault: &str) -> bool {
+    match front {
+        Ok(front) => is_front(front.as_str(), whole, fault),
+        Err(_) => false,
+    }
+}
+
+fn begins(alloc: Global, of: Loading<'_>, most: usize, whole: &str, fault: &str) -> bool {
+    let front = loaded(alloc, of, most);
+    is_front_text(&front, whole, fault)
+}
+
+fn each_begins(alloc: Global, of: Loading<'_>, len: usize, whole: &str, fault: &str) -> bool {
+    for most in 0..len {
+        if !begins(alloc, of, most, whole, fault) {
+            return false;
+        }
+    }
+    true
+}
+
+fn each_begins_the_row(alloc: Global, of: Loading<'_>, fault: &str) -> Result<bool> {
+    let len = tokens_of(alloc, of.row)?.len();
+    let whole = loaded(alloc, of, len)?;
+    Ok(each_begins(alloc, of, len, whole.as_str(), fault))
 }
 
 /// Whether each front of a row gives documents that begin the row's, and then either this fault, which stands
 /// behind the front, or what ends the row.
-fn each_begins(alloc: Global, row: &str, bound: i32, end: yaml_source_fault_t) -> Result<bool> {
-    let len = tokens_of(alloc, row)?.len();
-    let fault = shown_end(alloc, &end)?;
-    let whole = loaded(alloc, row, len, bound, end)?;
-    for most in 0..len {
-        let front = loaded(alloc, row, most, bound, end)?;
-        if !is_front(front.as_str(), whole.as_str(), fault.as_str()) {
-            return Ok(false);
-        }
-    }
-    Ok(true)
+fn are_fronts_right(alloc: Global, of: Loading<'_>) -> Result<bool> {
+    let fault = shown_end(alloc, &of.end)?;
+    each_begins_the_row(alloc, of, fault.as_str())
 }
 
-#[test]
-fn fronts_of_rows_begin_their_documents(rt: HostRuntime) -> Result<(), Fail> {
+/// Whether the fronts of a row are right, whichever fault stands behind them.
+fn are_all_fronts_right(alloc: Global, row: &str, bound: i32) -> bool {
+    for end in ends_of_sources() {
+        if !matches!(
+            are_fronts_right(alloc, Loading { row, bound, end }),
+            Ok(true)
+        ) {
+            return false;
+        }
+    }
+    true
+}
+
+/// The name of the first row with a front that gives other documents, if any.
+fn first_wrong_front(alloc: Global) -> Option<&'static str> {
     for (name, row, bound, _) in rows() {
-        for end in ends_of_sources() {
-            assert!(rt; each_begins(rt.alloc(), row, *bound, end)?, "{name}");
+        if !are_all_fronts_right(alloc, row, *bound) {
+            return Some(*name);
         }
     }
-    Ok(())
+    None
 }
 
-/// The first document of a row and the event behind it, and whether the parser then stands between documents.
-fn document_and_event(alloc: Global, row: &str) -> Result<(String, bool)> {
-    let mut parser = yaml_parser_initialize(alloc, source_of(alloc, row)?);
+fn show_event_of(
+    shown: &mut String,
+    answer: &Result<yaml_event_t, yaml_error_type_t>,
+) -> Result<()> {
+    match answer {
+        Ok(event) => show_event(shown, event),
+        Err(_) => Ok(()),
+    }
+}
+
+/// Shows the next document, and the event behind it.
+fn show_document_and_event(shown: &mut String, parser: &mut Parser) -> Result<()> {
+    show_load(shown, parser)?;
+    let answer = yaml_parser_parse(parser);
+    show_event_of(shown, &answer)
+}
+
+/// Whether the next document and event are shown so, and the parser then stands in a document.
+fn goes_on(alloc: Global, parser: &mut Parser, wanted: &str) -> bool {
     let mut shown = String::new(alloc);
-    show_load(&mut shown, &mut parser)?;
-    if let Ok(event) = yaml_parser_parse(&mut parser) {
-        show_event(&mut shown, &event)?;
-    }
-    Ok((shown, yaml_parser_between_documents(&parser)))
+    let is_whole = show_document_and_event(&mut shown, parser).is_ok();
+    [
+        is_whole,
+        shown.as_str() == wanted,
+        !yaml_parser_between_documents(parser),
+    ] == [true; 3]
 }
 
-fn events_go_on(alloc: Global) -> Result<[bool; 2]> {
+fn events_go_on(alloc: Global) -> Result<bool> {
     let (_, row, _, _) = rows().get(2).context("no row")?;
-    let (shown, is_between) = document_and_event(alloc, row)?;
-    Ok([
-        shown.as_str() == "+De%!!=p:(2) <p:x>=a(6,9) -Di(10) +De(10,11)",
-        !is_between,
-    ])
+    let mut parser = yaml_parser_initialize(alloc, source_of(alloc, row)?);
+    let wanted = "+De%!!=p:(2) <p:x>=a(6,9) -Di(10) +De(10,11)";
+    Ok(goes_on(alloc, &mut parser, wanted))
 }
 
-#[test]
-fn events_go_on_behind_a_load(rt: HostRuntime) -> Result<(), Fail> {
-    assert_eq!(rt; events_go_on(rt.alloc())?, [true; 2]);
-    Ok(())
-}
-
-/// Whether the next load gives a document with nodes, or its error.
-fn load_of<S: yaml_token_source_t>(
-    parser: &mut yaml_parser_t<S>,
-) -> Result<bool, yaml_error_type_t> {
-    if !yaml_parser_between_documents(parser) {
-        return Err(YAML_NO_ERROR);
-    }
-    match yaml_parser_load(parser) {
-        Ok(document) => Ok(!document.nodes().is_empty()),
-        Err(error) => Err(error),
-    }
-}
-
-/// Whether this load met a refused growth, which the parser then keeps by its error alone. Else a
-/// document comes, with nodes where it is wanted so. None where neither is so.
-fn is_refused<S: yaml_token_source_t>(
-    parser: &mut yaml_parser_t<S>,
-    is_wanted: bool,
-) -> Option<bool> {
-    let error = YAML_MEMORY_ERROR;
-    let kept = yaml_parser_t_prefix { error, ..NO_FAULT };
-    match load_of(parser) {
-        Ok(has_nodes) => (has_nodes == is_wanted).then_some(false),
-        Err(answered) => {
-            (answered == error && are_same_faults(parser.prefix(), &kept)).then_some(true)
-        }
-    }
-}
-
-/// Whether a growth was refused, in making the source or in loading it, and then in each further load.
-/// Else so many documents come, and then the one without root. None where neither is so.
-fn meets_a_refusal(alloc: Global, row: &str, documents: usize) -> Option<bool> {
-    let Ok(source) = source_of(alloc, row) else {
-        return Some(true);
-    };
-    let mut parser = yaml_parser_initialize(alloc, source);
-    let mut was_refused = false;
-    for place in 0..6usize {
-        let refused = is_refused(&mut parser, place < documents)?;
-        if was_refused && !refused {
-            return None;
-        }
-        was_refused = refused;
-    }
-    Some(was_refused)
-}
-
-/// Places of rows with nothing to fault, and how many documents each has.
-const GROWING: [(usize, usize); 4] = [(2, 2), (4, 1), (6, 1), (13, 1)];
-
-/// How often a growth was refused, each row being loaded twice; none where a load answered anything else.
-fn count_refusals(alloc: Global) -> Option<u8> {
-    let mut refusals = 0u8;
-    for (place, documents) in GROWING {
-        let (_, row, _, _) = rows().get(place)?;
-        for _ in 0..2u8 {
-            if meets_a_refusal(alloc, row, documents)? {
-                refusals = refusals.wrapping_add(1);
-            }
-        }
-    }
-    Some(refusals)
-}
-
-#[test]
-fn refused_growth_is_kept_by_a_load(rt: HostRuntime) {
-    let refusals = count_refusals(rt.alloc());
-    assert!(rt; refusals.is_some() && refusals <= Some(1));
+/// What is wrong with loads.
+pub fn checks(alloc: Global) -> [Option<&'static str>; 3] {
+    [
+        first_loaded_otherwise(alloc),
+        first_wrong_front(alloc),
+        unless_made(events_go_on(alloc), "events go on behind a load"),
+    ]
 }

@@ -1,39 +1,95 @@
 //! Documents, and all that a user of `unsafe_libyaml` alone writes with them.
 //!
-//! The program counts the events of a list of tokens, and shows a document that is built by calls.
+//! The program counts the events of a list of tokens, and shows a document that is built by calls. Then it
+//! makes the checks of each module and names what is wrong. `document_rows refused` makes the checks of
+//! refused growths alone.
 #![tactic(auto)]
 
-#[cfg(test)]
 mod calls;
+mod checks;
 mod drained;
-#[cfg(test)]
 mod loads;
-#[cfg(test)]
+mod refused;
 mod whole_loads;
-#[cfg(test)]
 mod whole_runs;
 mod words;
 
 use anyhow::Result;
 use drained::count_events;
 use row_notation::{show_document, source_of};
-use unsafe_libyaml::yaml_parser_initialize;
+use std::alloc::Global;
+use std::env;
+use unsafe_libyaml::{yaml_document_t, yaml_list_source_t, yaml_parser_initialize};
 use words::{document_of_words, first_word};
 
-fn main(rt: HostRuntime) -> Result<()> {
-    let source = source_of(
-        rt.alloc(),
-        "STREAM-START DOCUMENT-START SCALAR(a) STREAM-END",
-    )?;
-    let mut parser = yaml_parser_initialize(rt.alloc(), source);
-    let events = count_events(&mut parser);
-    println!(rt; "{events} events")?;
+fn count_all(alloc: Global, source: yaml_list_source_t) -> u64 {
+    let mut parser = yaml_parser_initialize(alloc, source);
+    count_events(&mut parser)
+}
 
-    let document = document_of_words(rt.alloc())?;
-    let mut shown = String::new(rt.alloc());
-    show_document(&mut shown, &document)?;
+fn show_count(rt: &(impl Print + AllocGlobal)) -> Result<()> {
+    let row = "STREAM-START DOCUMENT-START SCALAR(a) STREAM-END";
+    let events = count_all(rt.alloc(), source_of(rt.alloc(), row)?);
+    println!(rt; "{events} events")?;
+    Ok(())
+}
+
+fn show_lines(rt: &impl Print, shown: &str, word: &str) -> Result<()> {
     println!(rt; "{shown}")?;
-    let word = first_word(&document).unwrap_or("none");
     println!(rt; "{word}")?;
     Ok(())
+}
+
+/// Shows a document and its first word.
+fn show_read(rt: &(impl Print + AllocGlobal), document: &yaml_document_t) -> Result<()> {
+    let mut shown = String::new(rt.alloc());
+    let made = show_document(&mut shown, document);
+    let word = first_word(document).unwrap_or("none");
+    made.and(show_lines(rt, shown.as_str(), word))
+}
+
+fn show_words(rt: &(impl Print + AllocGlobal)) -> Result<()> {
+    let document = document_of_words(rt.alloc())?;
+    show_read(rt, &document)
+}
+
+/// Names what is wrong, and counts the checks, of which each answers that.
+fn show_checks(rt: &impl Print, of: &str, checks: &[Option<&'static str>]) -> Result<()> {
+    let mut differ = 0u64;
+    for check in checks {
+        if let Some(what) = check {
+            println!(rt; "{of}: this differs: {what}")?;
+            differ = differ.wrapping_add(1);
+        }
+    }
+    let made = checks.len();
+    println!(rt; "{of}: {made} checks, {differ} differ")?;
+    Ok(())
+}
+
+fn show_refused(rt: &(impl Print + AllocGlobal)) -> Result<()> {
+    show_checks(rt, "refused growths", &refused::checks(rt.alloc()))
+}
+
+fn show_all(rt: &(impl Print + AllocGlobal)) -> Result<()> {
+    show_count(rt)?;
+    show_words(rt)?;
+    show_checks(rt, "calls", &calls::checks(rt.alloc()))?;
+    show_checks(rt, "loads", &loads::checks(rt.alloc()))?;
+    show_checks(
+        rt,
+        "all documents at once",
+        &whole_loads::checks(rt.alloc()),
+    )?;
+    show_checks(rt, "all events at once", &whole_runs::checks(rt.alloc()))?;
+    show_refused(rt)
+}
+
+fn main(rt: HostRuntime) -> Result<()> {
+    let words = env::args(&rt)?.count();
+    if words > 1 {
+        show_refused(&rt)
+    } else {
+        show_all(&rt)
+    }
 }

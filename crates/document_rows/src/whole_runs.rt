@@ -1,9 +1,9 @@
 //! The README's example of a whole run.
 
-use anyhow::Result;
+use crate::checks::{is_text, unless_made};
+use anyhow::{Error, Result};
 use row_notation::tokens_of;
 use std::alloc::Global;
-use std::test::Fail;
 use unsafe_libyaml::{
     YAML_DOCUMENT_END_EVENT, YAML_READER_ERROR, YAML_STREAM_END_EVENT, ZERO_MARK,
     yaml_event_type_t, yaml_list_source_t, yaml_parser_parse_all, yaml_source_fault_t,
@@ -35,43 +35,46 @@ fn types_of(
     Ok(types)
 }
 
-fn gives_all_events(alloc: Global) -> Result<[bool; 3]> {
-    let types = types_of(
-        alloc,
-        tokens_of(alloc, "STREAM-START SCALAR(a) STREAM-END")?,
-    )?;
-    Ok([
+fn gives_all_events(alloc: Global) -> Result<bool> {
+    let tokens = tokens_of(alloc, "STREAM-START SCALAR(a) STREAM-END")?;
+    let types = types_of(alloc, tokens)?;
+    let facts = [
         types.len() == 5,
         types.get(3).copied() == Some(YAML_DOCUMENT_END_EVENT),
         types.last().copied() == Some(YAML_STREAM_END_EVENT),
-    ])
+    ];
+    Ok(facts == [true; 3])
 }
 
-#[test]
-fn all_events_of_a_list(rt: HostRuntime) -> Result<(), Fail> {
-    assert_eq!(rt; gives_all_events(rt.alloc())?, [true; 3]);
-    Ok(())
+fn is_said(alloc: Global, error: &Error, text: &str) -> bool {
+    let said = format!(in alloc; "{error}");
+    is_text(&said, text)
+}
+
+fn is_error(alloc: Global, answer: &Result<Vec<yaml_event_type_t>>, text: &str) -> bool {
+    match answer {
+        Ok(_) => false,
+        Err(error) => is_said(alloc, error, text),
+    }
 }
 
 /// Whether these tokens have a fault that is told so.
-fn is_told(alloc: Global, tokens: Vec<yaml_token_t>, told: &str) -> Result<bool> {
-    let Err(fault) = types_of(alloc, tokens) else {
-        return Ok(false);
-    };
-    let mut words = String::new(alloc);
-    write!(words, "{fault}")?;
-    Ok(words.as_str() == told)
+fn is_told(alloc: Global, tokens: Vec<yaml_token_t>, told: &str) -> bool {
+    let answer = types_of(alloc, tokens);
+    is_error(alloc, &answer, told)
 }
 
 fn tells_a_fault(alloc: Global) -> Result<bool> {
     let row = "STREAM-START FLOW-SEQUENCE-START SCALAR(a) FLOW-MAPPING-END STREAM-END";
     let told = "did not find expected ',' or ']' at line 1, column 7; \
                 while parsing a flow sequence at line 1, column 3";
-    is_told(alloc, tokens_of(alloc, row)?, told)
+    Ok(is_told(alloc, tokens_of(alloc, row)?, told))
 }
 
-#[test]
-fn a_fault_in_words(rt: HostRuntime) -> Result<(), Fail> {
-    assert!(rt; tells_a_fault(rt.alloc())?);
-    Ok(())
+/// What is wrong with the example.
+pub fn checks(alloc: Global) -> [Option<&'static str>; 2] {
+    [
+        unless_made(gives_all_events(alloc), "all events of a list"),
+        unless_made(tells_a_fault(alloc), "a fault in words"),
+    ]
 }

@@ -1,46 +1,60 @@
 //! Rows of types and events, and lists of tokens with the events that they give.
 //!
-//! The program parses each list that `names` names, whole and each front of it, and says where that differs
-//! from what is expected.
+//! The program makes the checks of each module and names what is wrong. Then it parses each list that `names`
+//! names, whole and each front of it, and says where that differs from what is expected. `yaml_rows refused`
+//! makes the checks of refused growths alone.
 #![tactic(auto)]
 
-#[cfg(test)]
+mod checks;
 mod events;
 mod fronts;
 mod lists;
-#[cfg(test)]
 mod types;
 
 use anyhow::Result;
+use events::{calls, completed, counted, faults, parsing};
 use fronts::each_front_begins;
 use lists::{gives_lines, keeps_its_end};
 use std::alloc::Global;
-use std::fs;
 use std::rt::Files;
+use std::{env, fs};
+use types::{collections, values};
 
-/// What is wrong with the list `name`, if anything is.
-fn difference(rt: &(impl Files + AllocGlobal), name: &str) -> Result<Option<&'static str>> {
-    let alloc: Global = rt.alloc();
-    let tokens = fs::read_to_string(rt, format!(in alloc; "{name}.tokens")?)?;
-    let events = fs::read_to_string(rt, format!(in alloc; "{name}.events")?)?;
-    if !gives_lines(alloc, tokens.as_str(), events.as_str()) {
+/// What is wrong with these token lines and event lines, if anything is.
+fn difference(alloc: Global, tokens: &str, events: &str) -> Result<Option<&'static str>> {
+    if !gives_lines(alloc, tokens, events) {
         return Ok(Some("other lines"));
     }
-    if !keeps_its_end(alloc, tokens.as_str()) {
+    if !keeps_its_end(alloc, tokens) {
         return Ok(Some("another end"));
     }
-    if !each_front_begins(alloc, tokens.as_str())? {
+    if !each_front_begins(alloc, tokens)? {
         return Ok(Some("another front"));
     }
     Ok(None)
 }
 
-fn main(rt: HostRuntime) -> Result<()> {
-    let names = fs::read_to_string(&rt, "names")?;
+/// The same for these token lines and the events that `name` names.
+fn difference_of_tokens(
+    rt: &(impl Files + AllocGlobal),
+    name: &str,
+    tokens: &str,
+) -> Result<Option<&'static str>> {
+    let events = fs::read_to_string(rt, format!(in rt.alloc(); "{name}.events")?)?;
+    difference(rt.alloc(), tokens, events.as_str())
+}
+
+/// What is wrong with the list `name`, if anything is.
+fn difference_of(rt: &(impl Files + AllocGlobal), name: &str) -> Result<Option<&'static str>> {
+    let tokens = fs::read_to_string(rt, format!(in rt.alloc(); "{name}.tokens")?)?;
+    difference_of_tokens(rt, name, tokens.as_str())
+}
+
+fn show_each(rt: &(impl Files + Print + AllocGlobal), names: &str) -> Result<()> {
     let mut lists = 0u64;
     let mut differ = 0u64;
     for name in names.lines() {
-        if let Some(what) = difference(&rt, name)? {
+        if let Some(what) = difference_of(rt, name)? {
             println!(rt; "{name}: {what}")?;
             differ = differ.wrapping_add(1);
         }
@@ -48,4 +62,74 @@ fn main(rt: HostRuntime) -> Result<()> {
     }
     println!(rt; "{lists} lists, {differ} differ")?;
     Ok(())
+}
+
+fn show_lists(rt: &(impl Files + Print + AllocGlobal)) -> Result<()> {
+    let names = fs::read_to_string(rt, "names")?;
+    show_each(rt, names.as_str())
+}
+
+/// Names what is wrong, and counts the checks, of which each answers that.
+fn show_checks(rt: &impl Print, of: &str, checks: &[Option<&'static str>]) -> Result<()> {
+    let mut differ = 0u64;
+    for check in checks {
+        if let Some(what) = check {
+            println!(rt; "{of}: this differs: {what}")?;
+            differ = differ.wrapping_add(1);
+        }
+    }
+    let made = checks.len();
+    println!(rt; "{of}: {made} checks, {differ} differ")?;
+    Ok(())
+}
+
+fn show_refused(rt: &(impl Print + AllocGlobal)) -> Result<()> {
+    show_checks(
+        rt,
+        "refused growths of types",
+        &types::refused::checks(rt.alloc()),
+    )?;
+    show_checks(
+        rt,
+        "refused growths of parsers",
+        &events::refused::checks(rt.alloc()),
+    )
+}
+
+fn show_types(rt: &(impl Print + AllocGlobal)) -> Result<()> {
+    show_checks(
+        rt,
+        "numbers, texts and comparisons",
+        &values::checks(rt.alloc()),
+    )?;
+    show_checks(rt, "texts and directives", &collections::checks(rt.alloc()))?;
+    show_checks(
+        rt,
+        "events and tokens by calls",
+        &types::events::checks(rt.alloc()),
+    )
+}
+
+fn show_events(rt: &(impl Print + AllocGlobal)) -> Result<()> {
+    show_checks(rt, "calls on a parser", &calls::checks(rt.alloc()))?;
+    show_checks(rt, "completed rows", &completed::checks(rt.alloc()))?;
+    show_checks(rt, "tokens asked for", &counted::checks(rt.alloc()))?;
+    show_checks(rt, "what faults say", &faults::checks(rt.alloc()))?;
+    show_checks(rt, "rows in no list", &parsing::checks(rt.alloc()))
+}
+
+fn show_all(rt: &(impl Files + Print + AllocGlobal)) -> Result<()> {
+    show_types(rt)?;
+    show_events(rt)?;
+    show_refused(rt)?;
+    show_lists(rt)
+}
+
+fn main(rt: HostRuntime) -> Result<()> {
+    let words = env::args(&rt)?.count();
+    if words > 1 {
+        show_refused(&rt)
+    } else {
+        show_all(&rt)
+    }
 }

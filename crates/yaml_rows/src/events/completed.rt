@@ -1,7 +1,8 @@
 //! Rows with a fault, with their bad token and all behind it replaced by an end.
 
+use crate::checks::first_wrong;
 use row_notation::first_parsed_otherwise;
-use std::test::Fail;
+use std::alloc::Global;
 
 /// A name, the tokens before the bad one with an end, and what parsing gives.
 const ROWS: [(&str, &str, &str); 7] = [
@@ -42,8 +43,11 @@ const ROWS: [(&str, &str, &str); 7] = [
     ),
 ];
 
-#[test]
-fn what_stands_before_a_bad_token_can_be_completed(rt: HostRuntime) -> Result<(), Fail> {
-    assert_eq!(rt; first_parsed_otherwise(rt.alloc(), &ROWS)?, None);
-    Ok(())
+fn rows() -> &'static [(&'static str, &'static str, &'static str)] {
+    &ROWS
+}
+
+/// What is wrong where what stands before a bad token is completed.
+pub fn checks(alloc: Global) -> [Option<&'static str>; 1] {
+    [first_wrong(first_parsed_otherwise(alloc, rows()), "rows")]
 }

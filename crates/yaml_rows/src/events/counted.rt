@@ -4,14 +4,15 @@ ghost use Rattle.std.specs.Prelude.{◌≡◌, None, length};
 ghost use Rattle.unsafe_libyaml.specs.Source.{coming, list_answer, rest_of_list};
 ghost use Rattle.unsafe_libyaml.specs.ListLaws.{list_falls, list_repeats};
 
+use crate::checks::first_wrong;
 use anyhow::Result;
 use row_notation::{is_empty, source_of};
 use std::alloc::Global;
 use std::fmt::Write;
-use std::test::Fail;
 use unsafe_libyaml::{
-    yaml_list_source_t, yaml_parser_delete, yaml_parser_initialize, yaml_parser_parse,
-    yaml_source_fault_t, yaml_token_source_t, yaml_token_t,
+    yaml_error_type_t, yaml_event_t, yaml_list_source_t, yaml_parser_delete,
+    yaml_parser_initialize, yaml_parser_parse, yaml_parser_t, yaml_source_fault_t,
+    yaml_token_source_t, yaml_token_t,
 };
 
 /// A list source that doesn't make its list known, and counts how often it was asked.
@@ -58,24 +59,42 @@ const COUNTS: [(&str, &str, u64); 3] = [
     ),
 ];
 
+fn counts() -> &'static [(&'static str, &'static str, u64)] {
+    &COUNTS
+}
+
+fn is_event(answer: &Result<yaml_event_t, yaml_error_type_t>) -> bool {
+    match answer {
+        Ok(event) => !is_empty(event),
+        Err(_) => false,
+    }
+}
+
+fn gives_event(parser: &mut yaml_parser_t<CountedSource>) -> bool {
+    let answer = yaml_parser_parse(parser);
+    is_event(&answer)
+}
+
+/// Whether the last of so many calls gives an event.
+fn last_gives_event(parser: &mut yaml_parser_t<CountedSource>, calls: u64) -> bool {
+    let mut gave = false;
+    for _ in 0..calls {
+        gave = gives_event(parser);
+    }
+    gave
+}
+
 /// The tokens asked for by so many calls over a row, and whether the last of them gave an event.
 fn asked_by(alloc: Global, row: &str, calls: u64) -> Result<(u64, bool)> {
     let list = source_of(alloc, row)?;
     let mut parser = yaml_parser_initialize(alloc, CountedSource { list, asked: 0 });
-    let mut gave = false;
-    for _ in 0..calls {
-        gave = match yaml_parser_parse(&mut parser) {
-            Ok(event) => !is_empty(&event),
-            Err(_) => false,
-        };
-    }
+    let gave = last_gives_event(&mut parser, calls);
     let source = yaml_parser_delete(parser);
     Ok((source.asked, gave))
 }
 
-/// The tokens asked for when each event came.
-fn shown_counts(alloc: Global, row: &str) -> Result<String> {
-    let mut shown = String::new(alloc);
+/// Shows the tokens asked for when each event came.
+fn show_counts(alloc: Global, shown: &mut String, row: &str) -> Result<()> {
     for calls in 1..100u64 {
         let (asked, gave) = asked_by(alloc, row, calls)?;
         if !gave {
@@ -83,23 +102,27 @@ fn shown_counts(alloc: Global, row: &str) -> Result<String> {
         }
         write!(shown, "{asked} ")?;
     }
-    Ok(shown)
-}
-
-fn is_asked_late(alloc: Global, row: &str, expected: &str, in_all: u64) -> Result<[bool; 2]> {
-    let (asked, _) = asked_by(alloc, row, 100)?;
-    let shown = shown_counts(alloc, row)?;
-    Ok([shown.as_str() == expected, asked == in_all])
-}
-
-#[test]
-fn no_token_is_asked_for_early(rt: HostRuntime) -> Result<(), Fail> {
-    for (row, expected, in_all) in COUNTS {
-        assert_eq!(rt;
-            is_asked_late(rt.alloc(), row, expected, in_all)?,
-            [true; 2],
-            "{row}"
-        );
-    }
     Ok(())
+}
+
+fn is_counted(alloc: Global, row: &str, expected: &str) -> bool {
+    let mut shown = String::new(alloc);
+    let is_whole = show_counts(alloc, &mut shown, row).is_ok();
+    [is_whole, shown.as_str() == expected] == [true; 2]
+}
+
+/// The first row of which a token is asked for early, if any.
+fn first_asked_early(alloc: Global) -> Result<Option<&'static str>> {
+    for (row, expected, in_all) in counts() {
+        let (asked, _) = asked_by(alloc, row, 100)?;
+        if [is_counted(alloc, row, expected), asked == *in_all] != [true; 2] {
+            return Ok(Some(*row));
+        }
+    }
+    Ok(None)
+}
+
+/// What is wrong with the tokens that are asked for.
+pub fn checks(alloc: Global) -> [Option<&'static str>; 1] {
+    [first_wrong(first_asked_early(alloc), "rows")]
 }

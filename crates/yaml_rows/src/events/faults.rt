@@ -1,18 +1,23 @@
 //! What a fault says, and that `?` takes it.
 
-use anyhow::Result;
+use crate::checks::{is_text, unless};
+use anyhow::{Error, Result};
 use row_notation::source_of;
 use std::alloc::Global;
-use std::test::Fail;
-use unsafe_libyaml::yaml_parser_parse_all;
+use unsafe_libyaml::{yaml_parser_parse_all, yaml_parser_t_prefix};
+
+/// This count, unless there is a fault.
+fn unless_fault(count: usize, fault: Option<yaml_parser_t_prefix>) -> Result<usize> {
+    if let Some(fault) = fault {
+        Err(fault)?;
+    }
+    Ok(count)
+}
 
 /// How many events a row has, or its fault.
 fn count_events(alloc: Global, row: &str) -> Result<usize> {
     let run = yaml_parser_parse_all(alloc, source_of(alloc, row)?)?;
-    if let Some(fault) = run.fault {
-        Err(fault)?;
-    }
-    Ok(run.events.len())
+    unless_fault(run.events.len(), run.fault)
 }
 
 /// A row, and what its fault says of lines and columns, which count from 1.
@@ -31,20 +36,48 @@ const FAULTS: [(&str, &str); 3] = [
     ),
 ];
 
-fn is_told(alloc: Global, row: &str, text: &str) -> Result<bool> {
-    let Err(error) = count_events(alloc, row) else {
-        return Ok(false);
-    };
-    let said = format!(in alloc; "{error}")?;
-    Ok(said.as_str() == text)
+fn faults() -> &'static [(&'static str, &'static str)] {
+    &FAULTS
 }
 
-#[test]
-fn faults_say_where_they_stand(rt: HostRuntime) -> Result<(), Fail> {
-    for (row, text) in FAULTS {
-        assert!(rt; is_told(rt.alloc(), row, text)?, "{row}");
+fn is_said(alloc: Global, error: &Error, text: &str) -> bool {
+    let said = format!(in alloc; "{error}");
+    is_text(&said, text)
+}
+
+fn is_error(alloc: Global, answer: &Result<usize>, text: &str) -> bool {
+    match answer {
+        Ok(_) => false,
+        Err(error) => is_said(alloc, error, text),
     }
-    let events = count_events(rt.alloc(), "STREAM-START SCALAR(a) STREAM-END")?;
-    assert_eq!(rt; events, 5);
-    Ok(())
+}
+
+fn is_told(alloc: Global, row: &str, text: &str) -> bool {
+    let answer = count_events(alloc, row);
+    is_error(alloc, &answer, text)
+}
+
+/// The first row whose fault is told otherwise, if any.
+fn first_told_otherwise(alloc: Global) -> Option<&'static str> {
+    for (row, text) in faults() {
+        if !is_told(alloc, row, text) {
+            return Some(*row);
+        }
+    }
+    None
+}
+
+fn counts_events(alloc: Global) -> bool {
+    matches!(
+        count_events(alloc, "STREAM-START SCALAR(a) STREAM-END"),
+        Ok(5)
+    )
+}
+
+/// What is wrong with what faults say.
+pub fn checks(alloc: Global) -> [Option<&'static str>; 2] {
+    [
+        first_told_otherwise(alloc),
+        unless(counts_events(alloc), "a row without fault has its events"),
+    ]
 }

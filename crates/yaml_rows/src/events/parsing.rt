@@ -1,11 +1,12 @@
 //! Rows that stand in no list: what parsing each gives.
 
+use crate::checks::{first_wrong, unless};
 use anyhow::Result;
 use row_notation::{first_parsed_otherwise, mark, show_event, show_fault, source_of};
 use std::alloc::Global;
-use std::test::Fail;
 use unsafe_libyaml::{
-    YAML_MEMORY_ERROR, yaml_list_source_t, yaml_parser_parse_all, yaml_source_fault_t,
+    YAML_MEMORY_ERROR, yaml_event_t, yaml_list_source_t, yaml_parser_parse_all,
+    yaml_parser_t_prefix, yaml_source_fault_t,
 };
 
 /// A name, the tokens, and what parsing gives.
@@ -27,35 +28,47 @@ const ROWS: [(&str, &str, &str); 3] = [
     ),
 ];
 
-/// What parsing a row at once gives.
-fn parsed_at_once(alloc: Global, row: &str) -> Result<String> {
+/// The rows, so that no loop over them has their texts in its proof.
+fn rows() -> &'static [(&'static str, &'static str, &'static str)] {
+    &ROWS
+}
+
+fn show_events(shown: &mut String, events: &[yaml_event_t]) -> Result<()> {
+    for event in events {
+        show_event(shown, event)?;
+    }
+    Ok(())
+}
+
+fn show_end(shown: &mut String, fault: Option<yaml_parser_t_prefix>) -> Result<()> {
+    match fault {
+        Some(fault) => show_fault(shown, fault.error, &fault),
+        None => Ok(()),
+    }
+}
+
+/// Shows what parsing a row at once gives.
+fn show_at_once(alloc: Global, shown: &mut String, row: &str) -> Result<()> {
     let run = yaml_parser_parse_all(alloc, source_of(alloc, row)?)?;
+    let events = show_events(shown, run.events.as_slice());
+    let end = show_end(shown, run.fault);
+    events.and(end)
+}
+
+fn is_parsed_at_once(alloc: Global, row: &str, events: &str) -> bool {
     let mut shown = String::new(alloc);
-    for event in run.events.as_slice() {
-        show_event(&mut shown, event)?;
-    }
-    if let Some(fault) = run.fault {
-        show_fault(&mut shown, fault.error, &fault)?;
-    }
-    Ok(shown)
+    let is_whole = show_at_once(alloc, &mut shown, row).is_ok();
+    [is_whole, shown.as_str() == events] == [true; 2]
 }
 
 /// The name of the first row that parsing at once gives other events, if any.
-fn first_otherwise_at_once(alloc: Global) -> Result<Option<&'static str>> {
-    for (name, tokens, events) in ROWS {
-        let shown = parsed_at_once(alloc, tokens)?;
-        if shown.as_str() != events {
-            return Ok(Some(name));
+fn first_otherwise_at_once(alloc: Global) -> Option<&'static str> {
+    for (name, tokens, events) in rows() {
+        if !is_parsed_at_once(alloc, tokens, events) {
+            return Some(*name);
         }
     }
-    Ok(None)
-}
-
-#[test]
-fn rows_give_their_events(rt: HostRuntime) -> Result<(), Fail> {
-    assert_eq!(rt; first_parsed_otherwise(rt.alloc(), &ROWS)?, None);
-    assert_eq!(rt; first_otherwise_at_once(rt.alloc())?, None);
-    Ok(())
+    None
 }
 
 fn parses_nothing(alloc: Global) -> bool {
@@ -64,7 +77,14 @@ fn parses_nothing(alloc: Global) -> bool {
     yaml_parser_parse_all(alloc, source).is_err()
 }
 
-#[test]
-fn a_source_without_memory_gives_no_run(rt: HostRuntime) {
-    assert!(rt; parses_nothing(rt.alloc()));
+/// What is wrong with rows parsed in turn and at once.
+pub fn checks(alloc: Global) -> [Option<&'static str>; 3] {
+    [
+        first_wrong(first_parsed_otherwise(alloc, rows()), "rows"),
+        first_otherwise_at_once(alloc),
+        unless(
+            parses_nothing(alloc),
+            "a source without memory gives no run",
+        ),
+    ]
 }

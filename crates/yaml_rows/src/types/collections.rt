@@ -1,35 +1,45 @@
 //! What a `Text` and `TagDirectives` can do.
+use crate::checks::{is_text, unless_made};
 use anyhow::Result;
 use std::alloc::Global;
 use std::cmp::Ordering;
-use std::test::Fail;
 use unsafe_libyaml::{TagDirectives, Text, yaml_refusal_t, yaml_tag_directive_t};
 
 fn word(alloc: Global) -> Result<Text> {
     Ok(Text::from(String::from_str(alloc, "ä\n")?))
 }
 
-fn reads_a_word(alloc: Global) -> Result<[bool; 6]> {
+fn reads_a_word(alloc: Global) -> Result<bool> {
     let text = word(alloc)?;
-    Ok([
+    let facts = [
         text.as_str() == "ä\n",
         text.as_bytes() == b"\xc3\xa4\n".as_slice(),
         text.len() == 3,
         !text.is_empty(),
         Text::new(alloc).is_empty(),
         Text::from_utf8(alloc, b"\xc3") == Err(yaml_refusal_t::NotUtf8),
-    ])
+    ];
+    Ok(facts == [true; 6])
+}
+
+fn are_same<E, F>(one: &Result<Text, E>, other: &Result<Text, F>) -> bool {
+    match (one, other) {
+        (Ok(one), Ok(other)) => one == other,
+        _ => false,
+    }
 }
 
 fn copies_a_word(alloc: Global) -> Result<bool> {
-    let copy = word(alloc)?.clone()?;
-    Ok(Text::from_utf8(alloc, b"\xc3\xa4\n") == Ok(copy))
+    let text = word(alloc)?;
+    let copy: Result<_, _> = text.clone();
+    let read = Text::from_utf8(alloc, b"\xc3\xa4\n");
+    Ok(are_same(&copy, &read))
 }
 
 fn shows_a_word(alloc: Global) -> Result<bool> {
     let text = word(alloc)?;
-    let shown = format!(in alloc; "{text} {text:?}")?;
-    Ok(shown.as_str() == "ä\n \"ä\\n\"")
+    let shown = format!(in alloc; "{text} {text:?}");
+    Ok(is_text(&shown, "ä\n \"ä\\n\""))
 }
 
 fn gives_a_word_back(alloc: Global) -> Result<bool> {
@@ -37,34 +47,21 @@ fn gives_a_word_back(alloc: Global) -> Result<bool> {
     Ok(string.as_str() == "ä\n")
 }
 
-#[test]
-fn a_text_is_its_string(rt: HostRuntime) -> Result<(), Fail> {
-    let alloc = rt.alloc();
-    assert_eq!(rt; reads_a_word(alloc)?, [true; 6]);
-    assert!(rt; copies_a_word(alloc)?);
-    assert!(rt; shows_a_word(alloc)?);
-    assert!(rt; gives_a_word_back(alloc)?);
-    Ok(())
-}
-
 /// Whether the one text is less, how they are ordered, and whether they are equal.
-fn compared(alloc: Global, one: &str, other: &str) -> Result<(bool, Ordering, bool)> {
-    let one = Text::from_str(alloc, one)?;
-    let other = Text::from_str(alloc, other)?;
-    Ok((one < other, one.cmp(&other), one == other))
+fn compared(one: &Text, other: &Text) -> (bool, Ordering, bool) {
+    (one < other, one.cmp(other), one == other)
 }
 
-#[test]
-fn texts_are_ordered_by_their_bytes(rt: HostRuntime) -> Result<(), Fail> {
-    assert_eq!(rt;
-        compared(rt.alloc(), "a", "ab")?,
-        (true, Ordering::Less, false)
-    );
-    assert_eq!(rt;
-        compared(rt.alloc(), "ä", "ab")?,
-        (false, Ordering::Greater, false)
-    );
-    Ok(())
+fn is_first(alloc: Global) -> Result<bool> {
+    let one = Text::from_str(alloc, "a")?;
+    let other = Text::from_str(alloc, "ab")?;
+    Ok(compared(&one, &other) == (true, Ordering::Less, false))
+}
+
+fn is_last(alloc: Global) -> Result<bool> {
+    let one = Text::from_str(alloc, "ä")?;
+    let other = Text::from_str(alloc, "ab")?;
+    Ok(compared(&one, &other) == (false, Ordering::Greater, false))
 }
 
 fn directive(alloc: Global, handle: &str, prefix: &str) -> Result<yaml_tag_directive_t> {
@@ -81,25 +78,30 @@ fn pushed(alloc: Global) -> Result<TagDirectives> {
     Ok(list)
 }
 
-fn keeps_their_order(alloc: Global) -> Result<[bool; 3]> {
-    let list = pushed(alloc)?;
-    let first = list.as_slice().first().map(|first| first.handle.as_str());
-    Ok([
-        TagDirectives::new(alloc).is_empty(),
-        list.len() == 2,
-        first == Some("!a!"),
-    ])
+fn first_handle(list: &TagDirectives) -> Option<&str> {
+    Some(list.as_slice().first()?.handle.as_str())
 }
 
-fn are_taken(alloc: Global) -> Result<[bool; 3]> {
+fn keeps_their_order(alloc: Global) -> Result<bool> {
+    let list = pushed(alloc)?;
+    let facts = [
+        TagDirectives::new(alloc).is_empty(),
+        list.len() == 2,
+        first_handle(&list) == Some("!a!"),
+    ];
+    Ok(facts == [true; 3])
+}
+
+fn are_taken(alloc: Global) -> Result<bool> {
     let mut list = pushed(alloc)?;
     let taken = list.take();
     let pairs: [(&[u8], &[u8]); 2] = [(b"!a!", b"p:"), (b"!b!", b"q:")];
-    Ok([
+    let facts = [
         list.is_empty(),
         taken != list,
         TagDirectives::from_pairs(alloc, &pairs) == Ok(taken),
-    ])
+    ];
+    Ok(facts == [true; 3])
 }
 
 /// The last directive and those before it.
@@ -111,22 +113,31 @@ fn split(alloc: Global) -> Result<(Option<yaml_tag_directive_t>, TagDirectives)>
 
 fn gives_the_last(alloc: Global) -> Result<bool> {
     let wanted = directive(alloc, "!b!", "q:")?;
-    let (last, _) = split(alloc)?;
+    let last = split(alloc)?.0;
     Ok(last == Some(wanted))
 }
 
 fn shows_the_first(alloc: Global) -> Result<bool> {
     let (_, first) = split(alloc)?;
-    let shown = format!(in alloc; "{first:?}")?;
-    Ok(shown.as_str() == r#"[yaml_tag_directive_t { handle: "!a!", prefix: "p:" }]"#)
+    let shown = format!(in alloc; "{first:?}");
+    Ok(is_text(
+        &shown,
+        r#"[yaml_tag_directive_t { handle: "!a!", prefix: "p:" }]"#,
+    ))
 }
 
-#[test]
-fn directives_keep_their_order(rt: HostRuntime) -> Result<(), Fail> {
-    let alloc = rt.alloc();
-    assert_eq!(rt; keeps_their_order(alloc)?, [true; 3]);
-    assert_eq!(rt; are_taken(alloc)?, [true; 3]);
-    assert!(rt; gives_the_last(alloc)?);
-    assert!(rt; shows_the_first(alloc)?);
-    Ok(())
+/// What is wrong with a text and with a list of directives.
+pub fn checks(alloc: Global) -> [Option<&'static str>; 10] {
+    [
+        unless_made(reads_a_word(alloc), "a text is read"),
+        unless_made(copies_a_word(alloc), "a text is copied"),
+        unless_made(shows_a_word(alloc), "a text is shown"),
+        unless_made(gives_a_word_back(alloc), "a text gives its string back"),
+        unless_made(is_first(alloc), "a text comes before a longer one"),
+        unless_made(is_last(alloc), "a text comes behind one with a lesser byte"),
+        unless_made(keeps_their_order(alloc), "directives keep their order"),
+        unless_made(are_taken(alloc), "directives are taken"),
+        unless_made(gives_the_last(alloc), "the last directive"),
+        unless_made(shows_the_first(alloc), "directives are shown"),
+    ]
 }

@@ -1,7 +1,8 @@
 //! Each call that makes or empties an event or a token. In texts, the zero byte inside counts.
+use crate::checks::{unless, unless_made};
+use anyhow::Result;
 use row_notation::show_event;
 use std::alloc::Global;
-use std::test::Fail;
 use unsafe_libyaml::{
     TagDirectives, Text, YAML_ANY_MAPPING_STYLE, YAML_ANY_SEQUENCE_STYLE, YAML_BLOCK_MAPPING_STYLE,
     YAML_BLOCK_SEQUENCE_STYLE, YAML_DOUBLE_QUOTED_SCALAR_STYLE, YAML_FLOW_MAPPING_STYLE,
@@ -26,13 +27,24 @@ fn unmarked(content: unnamed_yaml_event_t_data) -> yaml_event_t {
     }
 }
 
-/// Whether an event was made, and is shown so.
-fn shows(alloc: Global, made: Result<yaml_event_t, yaml_refusal_t>, wanted: &str) -> bool {
+type Made = Result<yaml_event_t, yaml_refusal_t>;
+
+fn is_shown(alloc: Global, event: &yaml_event_t, wanted: &str) -> bool {
     let mut shown = String::new(alloc);
+    let is_whole = show_event(&mut shown, event).is_ok();
+    [is_whole, shown.as_str() == wanted] == [true; 2]
+}
+
+fn is_made(alloc: Global, made: &Made, wanted: &str) -> bool {
     match made {
-        Ok(event) => show_event(&mut shown, &event).is_ok() && shown.as_str() == wanted,
+        Ok(event) => is_shown(alloc, event, wanted),
         Err(_) => false,
     }
+}
+
+/// Whether an event was made, and is shown so.
+fn shows(alloc: Global, made: Made, wanted: &str) -> bool {
+    is_made(alloc, &made, wanted)
 }
 
 fn encoding_of(event: &yaml_event_t) -> Option<yaml_encoding_t> {
@@ -44,10 +56,11 @@ fn encoding_of(event: &yaml_event_t) -> Option<yaml_encoding_t> {
 
 fn keeps_an_encoding() -> bool {
     let encoding = yaml_encoding_t::YAML_UTF16BE_ENCODING;
-    encoding_of(&yaml_stream_start_event_initialize(encoding)) == Some(encoding)
+    let event = yaml_stream_start_event_initialize(encoding);
+    encoding_of(&event) == Some(encoding)
 }
 
-fn shows_constants(alloc: Global) -> [bool; 6] {
+fn shows_constants(alloc: Global) -> bool {
     let start = yaml_stream_start_event_initialize(yaml_encoding_t::YAML_UTF16BE_ENCODING);
     [
         shows(alloc, Ok(start), "+S(0,0)"),
@@ -64,13 +77,7 @@ fn shows_constants(alloc: Global) -> [bool; 6] {
         ),
         shows(alloc, Ok(yaml_sequence_end_event_initialize()), "-Q(0,0)"),
         shows(alloc, Ok(yaml_mapping_end_event_initialize()), "-M(0,0)"),
-    ]
-}
-
-#[test]
-fn calls_that_always_answer(rt: HostRuntime) {
-    assert!(rt; keeps_an_encoding());
-    assert_eq!(rt; shows_constants(rt.alloc()), [true; 6]);
+    ] == [true; 6]
 }
 
 fn shows_alias(alloc: Global) -> bool {
@@ -81,7 +88,7 @@ fn shows_alias(alloc: Global) -> bool {
     )
 }
 
-fn shows_scalars(alloc: Global) -> [bool; 3] {
+fn shows_scalars(alloc: Global) -> bool {
     let literal = YAML_LITERAL_SCALAR_STYLE;
     let with_tag: Option<&[u8]> = Some(b"!t");
     let tagged = yaml_scalar_event_initialize(
@@ -109,10 +116,10 @@ fn shows_scalars(alloc: Global) -> [bool; 3] {
         shows(alloc, tagged, "=v&a\0b<!t>literal(0,0)"),
         shows(alloc, untagged, "=a\0b/00folded(0,0)"),
         shows(alloc, zeros, "=a\0b&a\0b<a\0b>/01double(0,0)"),
-    ]
+    ] == [true; 3]
 }
 
-fn shows_sequences(alloc: Global) -> [bool; 2] {
+fn shows_sequences(alloc: Global) -> bool {
     let style = YAML_FLOW_SEQUENCE_STYLE;
     let with_tag: Option<&[u8]> = Some(b"!t");
     let tagged = yaml_sequence_start_event_initialize(alloc, Some(ZERO), with_tag, false, style);
@@ -121,10 +128,10 @@ fn shows_sequences(alloc: Global) -> [bool; 2] {
     [
         shows(alloc, tagged, "+[&a\0b<!t>/0(0,0)"),
         shows(alloc, zeros, "+Q&a\0b<a\0b>(0,0)"),
-    ]
+    ] == [true; 2]
 }
 
-fn shows_mappings(alloc: Global) -> [bool; 2] {
+fn shows_mappings(alloc: Global) -> bool {
     let style = YAML_BLOCK_MAPPING_STYLE;
     let tagged = yaml_mapping_start_event_initialize(alloc, None, Some(ZERO), true, style);
     let style = YAML_FLOW_MAPPING_STYLE;
@@ -132,10 +139,10 @@ fn shows_mappings(alloc: Global) -> [bool; 2] {
     [
         shows(alloc, tagged, "+M<a\0b>(0,0)"),
         shows(alloc, zeros, "+{&a\0b<a\0b>/0(0,0)"),
-    ]
+    ] == [true; 2]
 }
 
-fn shows_document_starts(alloc: Global) -> [bool; 2] {
+fn shows_document_starts(alloc: Global) -> bool {
     let version = yaml_version_directive_t { major: 1, minor: 2 };
     let pairs: [(&[u8], &[u8]); 2] = [(b"!e!", ZERO), (b"", b"p:")];
     let two = yaml_document_start_event_initialize(alloc, Some(version), &pairs, true);
@@ -143,31 +150,27 @@ fn shows_document_starts(alloc: Global) -> [bool; 2] {
     [
         shows(alloc, two, "+Di%1.2%!e!=a\0b%=p:(0,0)"),
         shows(alloc, zeros, "+De%a\0b=a\0b(0,0)"),
-    ]
+    ] == [true; 2]
 }
 
-fn directive_keeps_zeros(alloc: Global) -> Result<bool, yaml_refusal_t> {
+fn are_first_texts(list: &TagDirectives, handle: &[u8], prefix: &[u8]) -> bool {
+    match list.as_slice().first() {
+        Some(first) => {
+            [
+                first.handle.as_bytes() == handle,
+                first.prefix.as_bytes() == prefix,
+            ] == [true; 2]
+        }
+        None => false,
+    }
+}
+
+fn directive_keeps_zeros(alloc: Global) -> Result<bool> {
     let list = TagDirectives::from_pairs(alloc, &[(ZERO, ZERO)])?;
-    let texts = list
-        .as_slice()
-        .first()
-        .map(|it| (it.handle.as_bytes(), it.prefix.as_bytes()));
-    Ok(texts == Some((ZERO, ZERO)))
+    Ok(are_first_texts(&list, ZERO, ZERO))
 }
 
-#[test]
-fn calls_make_their_events(rt: HostRuntime) -> Result<(), Fail> {
-    let alloc = rt.alloc();
-    assert!(rt; directive_keeps_zeros(alloc)?);
-    assert!(rt; shows_alias(alloc));
-    assert_eq!(rt; shows_scalars(alloc), [true; 3]);
-    assert_eq!(rt; shows_sequences(alloc), [true; 2]);
-    assert_eq!(rt; shows_mappings(alloc), [true; 2]);
-    assert_eq!(rt; shows_document_starts(alloc), [true; 2]);
-    Ok(())
-}
-
-fn scalar(alloc: Global, value: &[u8]) -> Result<yaml_event_t, yaml_refusal_t> {
+fn scalar(alloc: Global, value: &[u8]) -> Made {
     let style = YAML_FOLDED_SCALAR_STYLE;
     yaml_scalar_event_initialize(alloc, None, None, value, false, false, style)
 }
@@ -176,22 +179,31 @@ fn is_scalar(event: &yaml_event_t) -> bool {
     event.type_() == yaml_event_type_t::YAML_SCALAR_EVENT
 }
 
-fn takes(alloc: Global, value: &[u8]) -> bool {
-    match scalar(alloc, value) {
-        Ok(event) => is_scalar(&event),
+fn is_made_scalar(made: &Made) -> bool {
+    match made {
+        Ok(event) => is_scalar(event),
         Err(_) => false,
     }
 }
 
-/// Whether a call answered that its bytes are no text.
-pub(super) fn is_no_text(answer: Result<yaml_event_t, yaml_refusal_t>) -> bool {
-    match answer {
+fn takes(alloc: Global, value: &[u8]) -> bool {
+    let made = scalar(alloc, value);
+    is_made_scalar(&made)
+}
+
+fn is_refused_text(made: &Made) -> bool {
+    match made {
         Ok(_) => false,
-        Err(refusal) => refusal == yaml_refusal_t::NotUtf8,
+        Err(refusal) => *refusal == yaml_refusal_t::NotUtf8,
     }
 }
 
-fn refuses(alloc: Global, bytes: &[u8]) -> [bool; 5] {
+/// Whether a call answered that its bytes are no text.
+pub(super) fn is_no_text(answer: Made) -> bool {
+    is_refused_text(&answer)
+}
+
+fn refuses(alloc: Global, bytes: &[u8]) -> bool {
     let sequence = YAML_ANY_SEQUENCE_STYLE;
     let mapping = YAML_ANY_MAPPING_STYLE;
     let anchor: Option<&[u8]> = Some(b"a");
@@ -208,7 +220,7 @@ fn refuses(alloc: Global, bytes: &[u8]) -> [bool; 5] {
         )),
         is_no_text(yaml_mapping_start_event_initialize(alloc, Some(bytes), None, true, mapping)),
         is_no_text(yaml_document_start_event_initialize(alloc, None, &pairs, false)),
-    ]
+    ] == [true; 5]
 }
 
 const TEXTS: [&[u8]; 4] = [b"", b"\xed\x9f\xbf", b"\xee\x80\x80", b"\xf4\x8f\xbf\xbf"];
@@ -223,40 +235,52 @@ const NO_TEXTS: [&[u8]; 5] = [
     b"a\xe2\x9d",
 ];
 
-#[test]
-fn only_utf8_is_taken(rt: HostRuntime) {
-    for value in TEXTS {
-        assert!(rt; takes(rt.alloc(), value));
-    }
-    for bytes in NO_TEXTS {
-        assert_eq!(rt; refuses(rt.alloc(), bytes), [true; 5]);
-    }
+fn texts() -> &'static [&'static [u8]] {
+    &TEXTS
 }
 
-fn empties(mut event: yaml_event_t) -> [bool; 4] {
-    yaml_event_delete(&mut event);
-    let is_empty = event == unmarked(unnamed_yaml_event_t_data::NoEvent);
-    let has_no_type = event.type_() == yaml_event_type_t::YAML_NO_EVENT;
-    yaml_event_delete(&mut event);
+fn no_texts() -> &'static [&'static [u8]] {
+    &NO_TEXTS
+}
+
+fn takes_each_text(alloc: Global) -> bool {
+    for value in texts() {
+        if !takes(alloc, value) {
+            return false;
+        }
+    }
+    true
+}
+
+fn refuses_all_else(alloc: Global) -> bool {
+    for bytes in no_texts() {
+        if !refuses(alloc, bytes) {
+            return false;
+        }
+    }
+    true
+}
+
+fn is_empty(event: &yaml_event_t) -> bool {
+    let empty = unmarked(unnamed_yaml_event_t_data::NoEvent);
     [
-        is_empty,
-        has_no_type,
-        event == unmarked(unnamed_yaml_event_t_data::NoEvent),
+        *event == empty,
         event.type_() == yaml_event_type_t::YAML_NO_EVENT,
-    ]
+    ] == [true; 2]
 }
 
-fn is_emptied_twice(alloc: Global) -> Result<[bool; 4], yaml_refusal_t> {
+fn empties(mut event: yaml_event_t) -> bool {
+    yaml_event_delete(&mut event);
+    let is_emptied = is_empty(&event);
+    yaml_event_delete(&mut event);
+    [is_emptied, is_empty(&event)] == [true; 2]
+}
+
+fn is_emptied_twice(alloc: Global) -> Result<bool> {
     Ok(empties(scalar(alloc, b"x")?))
 }
 
-#[test]
-fn an_event_may_be_emptied_twice(rt: HostRuntime) -> Result<(), Fail> {
-    assert_eq!(rt; is_emptied_twice(rt.alloc())?, [true; 4]);
-    Ok(())
-}
-
-fn anchor(alloc: Global) -> Result<yaml_token_t, yaml_refusal_t> {
+fn anchor(alloc: Global) -> Result<yaml_token_t> {
     let mark = yaml_mark_t {
         index: 3,
         line: 1,
@@ -271,27 +295,40 @@ fn no_token() -> yaml_token_t {
     yaml_token_t::new(unnamed_yaml_token_t_data::NoToken, ZERO_MARK, ZERO_MARK)
 }
 
-fn empties_token(mut token: yaml_token_t) -> [bool; 5] {
-    let is_anchor = token.type_() == yaml_token_type_t::YAML_ANCHOR_TOKEN;
-    yaml_token_delete(&mut token);
-    let is_empty = token == no_token();
-    let has_no_type = token.type_() == yaml_token_type_t::YAML_NO_TOKEN;
-    yaml_token_delete(&mut token);
+fn is_empty_token(token: &yaml_token_t) -> bool {
+    let empty = no_token();
     [
-        is_anchor,
-        is_empty,
-        has_no_type,
-        token == no_token(),
+        *token == empty,
         token.type_() == yaml_token_type_t::YAML_NO_TOKEN,
-    ]
+    ] == [true; 2]
 }
 
-fn is_token_emptied_twice(alloc: Global) -> Result<[bool; 5], yaml_refusal_t> {
+fn empties_token(mut token: yaml_token_t) -> bool {
+    let is_anchor = token.type_() == yaml_token_type_t::YAML_ANCHOR_TOKEN;
+    yaml_token_delete(&mut token);
+    let is_emptied = is_empty_token(&token);
+    yaml_token_delete(&mut token);
+    [is_anchor, is_emptied, is_empty_token(&token)] == [true; 3]
+}
+
+fn is_token_emptied_twice(alloc: Global) -> Result<bool> {
     Ok(empties_token(anchor(alloc)?))
 }
 
-#[test]
-fn a_token_may_be_emptied_twice(rt: HostRuntime) -> Result<(), Fail> {
-    assert_eq!(rt; is_token_emptied_twice(rt.alloc())?, [true; 5]);
-    Ok(())
+/// What is wrong with the calls that make or empty events and tokens.
+pub fn checks(alloc: Global) -> [Option<&'static str>; 12] {
+    [
+        unless(keeps_an_encoding(), "the encoding of a stream's start"),
+        unless(shows_constants(alloc), "calls that always answer"),
+        unless_made(directive_keeps_zeros(alloc), "a directive"),
+        unless(shows_alias(alloc), "an alias"),
+        unless(shows_scalars(alloc), "scalars"),
+        unless(shows_sequences(alloc), "starts of sequences"),
+        unless(shows_mappings(alloc), "starts of mappings"),
+        unless(shows_document_starts(alloc), "starts of documents"),
+        unless(takes_each_text(alloc), "texts are taken"),
+        unless(refuses_all_else(alloc), "what is no text is refused"),
+        unless_made(is_emptied_twice(alloc), "an event is emptied twice"),
+        unless_made(is_token_emptied_twice(alloc), "a token is emptied twice"),
+    ]
 }

@@ -2,6 +2,7 @@
 //! (`examples/refused_growths.sh`). One growth is refused at most, and whatever met it is done again.
 
 use super::events::is_no_text;
+use crate::checks::unless;
 use std::alloc::Global;
 use unsafe_libyaml::{
     TagDirectives, Text, yaml_alias_event_initialize, yaml_document_start_event_initialize,
@@ -45,35 +46,40 @@ fn event_of(alloc: Global, kind: yaml_event_type_t) -> Result<yaml_event_t, yaml
     }
 }
 
-/// Whether a growth was refused. Else an event of this type was made.
-fn is_refused(alloc: Global, kind: yaml_event_type_t) -> Option<bool> {
-    match event_of(alloc, kind) {
+fn is_growth_refused(
+    made: &Result<yaml_event_t, yaml_refusal_t>,
+    kind: yaml_event_type_t,
+) -> Option<bool> {
+    match made {
         Ok(event) => (event.type_() == kind).then_some(false),
         Err(yaml_refusal_t::Memory) => Some(true),
         Err(_) => None,
     }
 }
 
-/// How often a growth was refused, each call being made twice; none where a call answered anything else.
-fn count_refusals(alloc: Global) -> Option<u8> {
-    let mut refusals = 0u8;
+/// Whether a growth was refused. Else an event of this type was made.
+fn is_refused(alloc: Global, kind: yaml_event_type_t) -> Option<bool> {
+    let made = event_of(alloc, kind);
+    is_growth_refused(&made, kind)
+}
+
+/// How often a growth was refused in this call, which is made twice; none where it answered anything else.
+fn refusals_of(alloc: Global, kind: yaml_event_type_t) -> Option<usize> {
+    let first = is_refused(alloc, kind)?;
+    let second = is_refused(alloc, kind)?;
+    Some(usize::from(first).wrapping_add(usize::from(second)))
+}
+
+/// How often a growth was refused in all; none where a call answered anything else.
+fn count_refusals(alloc: Global) -> Option<usize> {
+    let mut refusals = 0usize;
     for kind in GROWING {
-        for _ in 0..2u8 {
-            if is_refused(alloc, kind)? {
-                refusals = refusals.wrapping_add(1);
-            }
-        }
+        refusals = refusals.wrapping_add(refusals_of(alloc, kind)?);
     }
     Some(refusals)
 }
 
-#[test]
-fn refused_growth_is_answered_by_each_constructor(rt: HostRuntime) {
-    let refusals = count_refusals(rt.alloc());
-    assert!(rt; refusals.is_some() && refusals <= Some(1));
-}
-
-fn refuses_bytes_first(alloc: Global) -> [bool; 2] {
+fn refuses_bytes_first(alloc: Global) -> bool {
     let style = yaml_scalar_style_t::YAML_ANY_SCALAR_STYLE;
     let anchor: Option<&[u8]> = Some(b"a");
     let tag: Option<&[u8]> = Some(b"t");
@@ -82,12 +88,7 @@ fn refuses_bytes_first(alloc: Global) -> [bool; 2] {
     [
         is_no_text(yaml_scalar_event_initialize(alloc, anchor, tag, value, true, true, style)),
         is_no_text(yaml_document_start_event_initialize(alloc, None, &pairs, true)),
-    ]
-}
-
-#[test]
-fn refused_growth_comes_behind_bytes_that_are_no_text(rt: HostRuntime) {
-    assert_eq!(rt; refuses_bytes_first(rt.alloc()), [true; 2]);
+    ] == [true; 2]
 }
 
 fn empty_directive(alloc: Global) -> yaml_tag_directive_t {
@@ -97,14 +98,13 @@ fn empty_directive(alloc: Global) -> yaml_tag_directive_t {
     }
 }
 
-/// How many of so many pushes were refused; none where a list has another length than it was pushed.
-fn count_refused_pushes(alloc: Global, pushes: usize) -> Option<usize> {
-    let mut list = TagDirectives::new(alloc);
+/// How many of so many pushes to an empty list were refused; none where it has another length than it was
+/// pushed.
+fn refused_pushes(alloc: Global, list: &mut TagDirectives, pushes: usize) -> Option<usize> {
     let mut pushed = 0usize;
     for _ in 0..pushes {
-        if list.push(empty_directive(alloc)).is_ok() {
-            pushed = pushed.wrapping_add(1);
-        }
+        let is_pushed = list.push(empty_directive(alloc)).is_ok();
+        pushed = pushed.wrapping_add(usize::from(is_pushed));
         if list.len() != pushed {
             return None;
         }
@@ -112,8 +112,29 @@ fn count_refused_pushes(alloc: Global, pushes: usize) -> Option<usize> {
     Some(pushes.wrapping_sub(pushed))
 }
 
-#[test]
-fn refused_growth_leaves_the_list(rt: HostRuntime) {
-    let refusals = count_refused_pushes(rt.alloc(), 41);
-    assert!(rt; refusals.is_some() && refusals <= Some(1));
+fn count_refused_pushes(alloc: Global, pushes: usize) -> Option<usize> {
+    let mut list = TagDirectives::new(alloc);
+    refused_pushes(alloc, &mut list, pushes)
+}
+
+/// Whether at most one growth was refused.
+fn is_refused_once(refusals: Option<usize>) -> bool {
+    matches!(refusals, Some(0 | 1))
+}
+
+/// What is wrong with calls whose growth is refused.
+pub fn checks(alloc: Global) -> [Option<&'static str>; 3] {
+    let refusals = count_refusals(alloc);
+    let pushes = count_refused_pushes(alloc, 41);
+    [
+        unless(
+            is_refused_once(refusals),
+            "constructors answer a refused growth",
+        ),
+        unless(
+            refuses_bytes_first(alloc),
+            "bytes that are no text come first",
+        ),
+        unless(is_refused_once(pushes), "a refused growth leaves the list"),
+    ]
 }

@@ -1,8 +1,8 @@
 //! Numbers, texts and comparisons.
+use crate::checks::{first_wrong, is_text, unless, unless_made};
 use anyhow::Result;
 use std::alloc::Global;
 use std::cmp::Ordering;
-use std::test::Fail;
 use unsafe_libyaml::{
     TagDirectives, Text, ZERO_MARK, unnamed_yaml_event_t_data, unnamed_yaml_event_t_data_alias,
     unnamed_yaml_token_t_data, unnamed_yaml_token_t_data_scalar,
@@ -25,11 +25,6 @@ fn last_numbers() -> [u32; 10] {
         yaml_node_type_t::YAML_MAPPING_NODE.number(),
         yaml_parser_state_t::YAML_PARSE_END_STATE.number(),
     ]
-}
-
-#[test]
-fn last_numbers_of_enums(rt: HostRuntime) {
-    assert_eq!(rt; last_numbers(), [3, 3, 7, 5, 2, 2, 21, 10, 3, 23]);
 }
 
 /// In the order of their numbers.
@@ -86,11 +81,21 @@ const STATES: [yaml_parser_state_t; 24] = [
     yaml_parser_state_t::YAML_PARSE_END_STATE,
 ];
 
+fn token_types() -> &'static [yaml_token_type_t] {
+    &TOKEN_TYPES
+}
+
+fn states() -> &'static [yaml_parser_state_t] {
+    &STATES
+}
+
 fn is_token_type_in_order(one: yaml_token_type_t) -> bool {
-    for other in &TOKEN_TYPES {
-        if one.cmp(other) != one.number().cmp(&other.number())
-            || (one == *other) != (one.number() == other.number())
-        {
+    for other in token_types() {
+        let facts = [
+            one.cmp(other) == one.number().cmp(&other.number()),
+            (one == *other) == (one.number() == other.number()),
+        ];
+        if facts != [true; 2] {
             return false;
         }
     }
@@ -99,8 +104,8 @@ fn is_token_type_in_order(one: yaml_token_type_t) -> bool {
 
 fn are_token_types_in_order() -> bool {
     let mut place = 0u32;
-    for one in TOKEN_TYPES {
-        if one.number() != place || !is_token_type_in_order(one) {
+    for one in token_types() {
+        if [one.number() == place, is_token_type_in_order(*one)] != [true; 2] {
             return false;
         }
         place = place.wrapping_add(1);
@@ -109,10 +114,12 @@ fn are_token_types_in_order() -> bool {
 }
 
 fn is_state_in_order(one: yaml_parser_state_t) -> bool {
-    for other in &STATES {
-        if one.cmp(other) != one.number().cmp(&other.number())
-            || (one == *other) != (one.number() == other.number())
-        {
+    for other in states() {
+        let facts = [
+            one.cmp(other) == one.number().cmp(&other.number()),
+            (one == *other) == (one.number() == other.number()),
+        ];
+        if facts != [true; 2] {
             return false;
         }
     }
@@ -121,8 +128,8 @@ fn is_state_in_order(one: yaml_parser_state_t) -> bool {
 
 fn are_states_in_order() -> bool {
     let mut place = 0u32;
-    for one in STATES {
-        if one.number() != place || !is_state_in_order(one) {
+    for one in states() {
+        if [one.number() == place, is_state_in_order(*one)] != [true; 2] {
             return false;
         }
         place = place.wrapping_add(1);
@@ -130,16 +137,12 @@ fn are_states_in_order() -> bool {
     true
 }
 
-#[test]
-fn order_is_that_of_numbers(rt: HostRuntime) {
-    assert!(rt; are_token_types_in_order());
-    assert!(rt; are_states_in_order());
+fn are_styles_in_order() -> bool {
     let plain = yaml_scalar_style_t::YAML_PLAIN_SCALAR_STYLE;
-    let order = plain.cmp(&yaml_scalar_style_t::YAML_FOLDED_SCALAR_STYLE);
-    assert_eq!(rt; order, Ordering::Less);
+    plain.cmp(&yaml_scalar_style_t::YAML_FOLDED_SCALAR_STYLE) == Ordering::Less
 }
 
-fn is_told(alloc: Global, refusal: yaml_refusal_t, wanted: &str) -> Result<bool> {
+fn is_told(alloc: Global, refusal: &yaml_refusal_t, wanted: &str) -> Result<bool> {
     let text = format!(in alloc; "{refusal}")?;
     Ok(text.as_str() == wanted)
 }
@@ -149,21 +152,29 @@ fn is_named(alloc: Global, refusal: yaml_refusal_t, wanted: &str) -> Result<bool
     Ok(text.as_str() == wanted)
 }
 
-#[test]
-fn texts_of_refusals(rt: HostRuntime) -> Result<(), Fail> {
-    for (refusal, number, wanted) in [
-        (yaml_refusal_t::NotUtf8, 1, "text is not UTF-8"),
-        (yaml_refusal_t::Memory, 2, "out of memory"),
-        (yaml_refusal_t::TooManyNodes, 3, "too many nodes"),
-    ] {
-        assert_eq!(rt; refusal.number(), number);
-        assert!(rt; is_told(rt.alloc(), refusal, wanted)?);
-    }
-    assert!(rt; is_named(rt.alloc(), yaml_refusal_t::NotUtf8, "NotUtf8")?);
-    Ok(())
+/// The refusals, with their numbers and texts.
+const REFUSALS: [(yaml_refusal_t, u32, &str); 3] = [
+    (yaml_refusal_t::NotUtf8, 1, "text is not UTF-8"),
+    (yaml_refusal_t::Memory, 2, "out of memory"),
+    (yaml_refusal_t::TooManyNodes, 3, "too many nodes"),
+];
+
+fn refusals() -> &'static [(yaml_refusal_t, u32, &'static str)] {
+    &REFUSALS
 }
 
-/// Where no event or token of these tests stands.
+/// The text of the first refusal that is told otherwise, or has another number.
+fn first_told_otherwise(alloc: Global) -> Result<Option<&'static str>> {
+    for (refusal, number, wanted) in refusals() {
+        let is_told = is_told(alloc, refusal, wanted)?;
+        if [is_told, refusal.number() == *number] != [true; 2] {
+            return Ok(Some(*wanted));
+        }
+    }
+    Ok(None)
+}
+
+/// Where no other event or token stands.
 const ONE: yaml_mark_t = yaml_mark_t {
     index: 1,
     line: 0,
@@ -185,18 +196,28 @@ fn scalar_token(
     ))
 }
 
+type Token = Result<yaml_token_t, yaml_refusal_t>;
+
+fn is_same_token(one: &Token, other: Token) -> bool {
+    *one == other
+}
+
+fn is_other_token(one: &Token, other: Token) -> bool {
+    *one != other
+}
+
 /// One of these tokens with itself and with the others.
-fn compares_tokens(alloc: Global) -> [bool; 5] {
+fn compares_tokens(alloc: Global) -> bool {
     let plain = yaml_scalar_style_t::YAML_PLAIN_SCALAR_STYLE;
     let literal = yaml_scalar_style_t::YAML_LITERAL_SCALAR_STYLE;
     let token = scalar_token(alloc, "x", plain, ZERO_MARK);
     [
         token.is_ok(),
-        token == scalar_token(alloc, "x", plain, ZERO_MARK),
-        token != scalar_token(alloc, "y", plain, ZERO_MARK),
-        token != scalar_token(alloc, "x", literal, ZERO_MARK),
-        token != scalar_token(alloc, "x", plain, ONE),
-    ]
+        is_same_token(&token, scalar_token(alloc, "x", plain, ZERO_MARK)),
+        is_other_token(&token, scalar_token(alloc, "y", plain, ZERO_MARK)),
+        is_other_token(&token, scalar_token(alloc, "x", literal, ZERO_MARK)),
+        is_other_token(&token, scalar_token(alloc, "x", plain, ONE)),
+    ] == [true; 5]
 }
 
 fn shows_token(alloc: Global) -> Result<bool> {
@@ -206,17 +227,10 @@ fn shows_token(alloc: Global) -> Result<bool> {
         yaml_scalar_style_t::YAML_PLAIN_SCALAR_STYLE,
         ZERO_MARK,
     )?;
-    let text = format!(in alloc; "{:?}", token.content)?;
+    let text = format!(in alloc; "{:?}", token.content);
     let wanted =
         r#"Scalar(unnamed_yaml_token_t_data_scalar { value: "x", style: YAML_PLAIN_SCALAR_STYLE })"#;
-    Ok(text.as_str() == wanted)
-}
-
-#[test]
-fn tokens_are_compared_by_content_and_marks(rt: HostRuntime) -> Result<(), Fail> {
-    assert_eq!(rt; compares_tokens(rt.alloc()), [true; 5]);
-    assert!(rt; shows_token(rt.alloc())?);
-    Ok(())
+    Ok(is_text(&text, wanted))
 }
 
 fn alias(
@@ -233,31 +247,37 @@ fn alias(
     })
 }
 
+type Event = Result<yaml_event_t, yaml_refusal_t>;
+
+fn is_same_event(one: &Event, other: Event) -> bool {
+    *one == other
+}
+
+fn is_other_event(one: &Event, other: Event) -> bool {
+    *one != other
+}
+
 /// One of these events with itself and with the others.
-fn compares_events(alloc: Global) -> [bool; 4] {
+fn compares_events(alloc: Global) -> bool {
     let event = alias(alloc, "a", ZERO_MARK);
     [
         event.is_ok(),
-        event == alias(alloc, "a", ZERO_MARK),
-        event != alias(alloc, "b", ZERO_MARK),
-        event != alias(alloc, "a", ONE),
-    ]
+        is_same_event(&event, alias(alloc, "a", ZERO_MARK)),
+        is_other_event(&event, alias(alloc, "b", ZERO_MARK)),
+        is_other_event(&event, alias(alloc, "a", ONE)),
+    ] == [true; 4]
 }
 
 fn shows_alias(alloc: Global) -> Result<bool> {
     let event = alias(alloc, "a", ZERO_MARK)?;
-    let text = format!(in alloc; "{:?}", event.content)?;
-    Ok(text.as_str() == r#"Alias(unnamed_yaml_event_t_data_alias { anchor: "a" })"#)
+    let text = format!(in alloc; "{:?}", event.content);
+    Ok(is_text(
+        &text,
+        r#"Alias(unnamed_yaml_event_t_data_alias { anchor: "a" })"#,
+    ))
 }
 
-#[test]
-fn events_are_compared_by_content_and_marks(rt: HostRuntime) -> Result<(), Fail> {
-    assert_eq!(rt; compares_events(rt.alloc()), [true; 4]);
-    assert!(rt; shows_alias(rt.alloc())?);
-    Ok(())
-}
-
-fn holds_what_it_is_given() -> [bool; 3] {
+fn holds_what_it_is_given() -> bool {
     let start = yaml_mark_t {
         index: 5,
         line: 1,
@@ -281,10 +301,24 @@ fn holds_what_it_is_given() -> [bool; 3] {
         token.start_mark == start,
         token.end_mark.column == 6,
         token.type_() == yaml_token_type_t::YAML_VERSION_DIRECTIVE_TOKEN,
-    ]
+    ] == [true; 3]
 }
 
-#[test]
-fn a_token_holds_what_it_is_given(rt: HostRuntime) {
-    assert_eq!(rt; holds_what_it_is_given(), [true; 3]);
+/// What is wrong with numbers, texts and comparisons.
+pub fn checks(alloc: Global) -> [Option<&'static str>; 11] {
+    let numbers = last_numbers() == [3, 3, 7, 5, 2, 2, 21, 10, 3, 23];
+    let named = is_named(alloc, yaml_refusal_t::NotUtf8, "NotUtf8");
+    [
+        unless(numbers, "the last numbers of enums"),
+        unless(are_token_types_in_order(), "the order of types of tokens"),
+        unless(are_states_in_order(), "the order of states"),
+        unless(are_styles_in_order(), "the order of styles"),
+        first_wrong(first_told_otherwise(alloc), "texts of refusals"),
+        unless_made(named, "the name of a refusal"),
+        unless(compares_tokens(alloc), "tokens are compared"),
+        unless_made(shows_token(alloc), "a token is shown"),
+        unless(compares_events(alloc), "events are compared"),
+        unless_made(shows_alias(alloc), "an alias is shown"),
+        unless(holds_what_it_is_given(), "a token holds what it is given"),
+    ]
 }
