@@ -2,10 +2,9 @@
 
 ghost use Rattle.std.specs.Prelude.{◌≡◌, [], IfOk};
 
-use crate::checks::{unless, unless_made};
 use crate::words::document_of_words;
 use anyhow::Result;
-use row_notation::show_document;
+use row_notation::{show_document, unless, unless_made};
 use std::alloc::Global;
 use unsafe_libyaml::{
     YAML_ANY_MAPPING_STYLE, YAML_ANY_SEQUENCE_STYLE, YAML_BLOCK_MAPPING_STYLE,

@@ -1,10 +1,9 @@
 //! What loading each row gives: documents, and the fault that ends them.
 
-use crate::checks::{is_text, unless_made};
 use anyhow::{Context, Result};
 use row_notation::{
-    ends_of_sources, is_front, show_document, show_event, show_fault, shown_end, source_of,
-    tokens_of,
+    ends_of_sources, is_front, is_text, show_document, show_event, show_fault, shown_end,
+    source_of, tokens_of, unless_made,
 };
 use std::alloc::Global;
 use unsafe_libyaml::{

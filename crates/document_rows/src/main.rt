@@ -6,7 +6,6 @@
 #![tactic(auto)]
 
 mod calls;
-mod checks;
 mod drained;
 mod loads;
 mod refused;
@@ -16,9 +15,9 @@ mod words;
 
 use anyhow::Result;
 use drained::count_events;
-use row_notation::{show_document, source_of};
+use row_notation::{show_checks, show_document, source_of};
 use std::alloc::Global;
-use std::env;
+use std::{env, io};
 use unsafe_libyaml::{yaml_document_t, yaml_list_source_t, yaml_parser_initialize};
 use words::{document_of_words, first_word};
 
@@ -53,21 +52,7 @@ fn show_words(rt: &(impl Print + AllocGlobal)) -> Result<()> {
     show_read(rt, &document)
 }
 
-/// Names what is wrong, and counts the checks, of which each answers that.
-fn show_checks(rt: &impl Print, of: &str, checks: &[Option<&'static str>]) -> Result<()> {
-    let mut differ = 0u64;
-    for check in checks {
-        if let Some(what) = check {
-            println!(rt; "{of}: this differs: {what}")?;
-            differ = differ.wrapping_add(1);
-        }
-    }
-    let made = checks.len();
-    println!(rt; "{of}: {made} checks, {differ} differ")?;
-    Ok(())
-}
-
-fn show_refused(rt: &(impl Print + AllocGlobal)) -> Result<()> {
+fn show_refused(rt: &(impl Print + AllocGlobal)) -> io::Result<()> {
     show_checks(rt, "refused growths", &refused::checks(rt.alloc()))
 }
 
@@ -82,14 +67,16 @@ fn show_all(rt: &(impl Print + AllocGlobal)) -> Result<()> {
         &whole_loads::checks(rt.alloc()),
     )?;
     show_checks(rt, "all events at once", &whole_runs::checks(rt.alloc()))?;
-    show_refused(rt)
+    show_refused(rt)?;
+    Ok(())
 }
 
 fn main(rt: HostRuntime) -> Result<()> {
     let words = env::args(&rt)?.count();
     if words > 1 {
-        show_refused(&rt)
+        show_refused(&rt)?;
     } else {
-        show_all(&rt)
+        show_all(&rt)?;
     }
+    Ok(())
 }

@@ -1,9 +1,8 @@
 //! Each growth of a load refused in turn: run with the Nth allocation failing, for each N
 //! (`examples/refused_growths.sh`). One growth is refused at most, and whatever met it is done again.
 
-use crate::checks::unless;
 use crate::loads::rows;
-use row_notation::{are_same_faults, source_of};
+use row_notation::{are_same_faults, source_of, unless};
 use std::alloc::Global;
 use unsafe_libyaml::{
     NO_FAULT, YAML_MEMORY_ERROR, YAML_NO_ERROR, yaml_document_t, yaml_error_type_t,

@@ -1,8 +1,7 @@
 //! The README's example of a whole run.
 
-use crate::checks::{is_text, unless_made};
 use anyhow::{Error, Result};
-use row_notation::tokens_of;
+use row_notation::{is_text, tokens_of, unless_made};
 use std::alloc::Global;
 use unsafe_libyaml::{
     YAML_DOCUMENT_END_EVENT, YAML_READER_ERROR, YAML_STREAM_END_EVENT, ZERO_MARK,

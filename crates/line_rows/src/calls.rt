@@ -6,11 +6,6 @@ use unsafe_libyaml::{
     yaml_token_type_t,
 };
 
-/// What a check that has no rows answers.
-pub fn unless(holds: bool, what: &'static str) -> Option<&'static str> {
-    (!holds).then_some(what)
-}
-
 /// What a source answers.
 pub type Answer = Result<yaml_token_t, yaml_source_fault_t>;
 

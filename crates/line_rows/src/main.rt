@@ -12,7 +12,7 @@ mod rows;
 mod runs;
 mod writing;
 
-use row_notation::{LineCounter, RepeatingReader};
+use row_notation::{LineCounter, RepeatingReader, show_checks};
 use rows::{is_right, runs};
 use std::{env, io};
 use token_lines::run_events;
@@ -35,19 +35,6 @@ fn show_runs(rt: &(impl Print + AllocGlobal)) -> io::Result<()> {
         }
     }
     println!(rt; "{made} runs, {differ} differ")
-}
-
-/// Names what is wrong, and counts the checks, of which each answers that.
-fn show_checks(rt: &impl Print, of: &str, checks: &[Option<&'static str>]) -> io::Result<()> {
-    let mut differ = 0u64;
-    for check in checks {
-        if let Some(what) = check {
-            println!(rt; "{of}: this differs: {what}")?;
-            differ = differ.wrapping_add(1);
-        }
-    }
-    let made = checks.len();
-    println!(rt; "{of}: {made} checks, {differ} differ")
 }
 
 /// Runs over the start of a stream and so many open sequences, and says what was written.

@@ -1,7 +1,7 @@
 //! Token lines, read one by one.
 
-use crate::calls::{Answer, fault_behind, next_event, next_fault, next_type, unless};
-use row_notation::{EVERY_CALL, PieceReader, mark};
+use crate::calls::{Answer, fault_behind, next_event, next_fault, next_type};
+use row_notation::{EVERY_CALL, PieceReader, mark, unless};
 use std::alloc::Global;
 use token_lines::{MAX_TOKENS, yaml_line_source_t};
 use unsafe_libyaml::{

@@ -3,9 +3,9 @@
 //! `examples/refused_growths.sh line_rows` runs this with the first allocation refused, then the second, and
 //! so on until nothing is refused. Where nothing is, a check holds only if each answer is the whole one.
 
-use crate::calls::{fault_behind, next_fault, next_type, unless};
+use crate::calls::{fault_behind, next_fault, next_type};
 use crate::rows::{Run, run, runs};
-use row_notation::FixedWriter;
+use row_notation::{FixedWriter, unless};
 use std::alloc::Global;
 use token_lines::{MAX_TOKENS, Outcome, line_refusal_t, write_event, yaml_line_source_t};
 use unsafe_libyaml::{

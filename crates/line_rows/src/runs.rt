@@ -1,10 +1,10 @@
 //! Whole runs: where the reader or the writer fails, what stays behind them, and the longest line.
 
-use crate::calls::{next_event, unless};
+use crate::calls::next_event;
 use crate::rows::{
     LinesOf, ONE_SCALAR, ONE_SCALAR_EVENTS, Run, TWO_DOCUMENTS, is_right, run, runs,
 };
-use row_notation::{EVERY_CALL, PieceReader, PieceWriter};
+use row_notation::{EVERY_CALL, PieceReader, PieceWriter, unless};
 use std::alloc::{AllocError, Global};
 use token_lines::{
     MAX_LINE, MAX_TOKENS, Outcome, run_events, write_events, write_nodes, yaml_line_source_t,

@@ -1,7 +1,6 @@
 //! Events, faults and documents, written as lines.
 
-use crate::calls::unless;
-use row_notation::{PieceWriter, mark};
+use row_notation::{PieceWriter, mark, unless};
 use std::alloc::{AllocError, Global};
 use token_lines::{line_refusal_t, write_document, write_event, write_fault};
 use unsafe_libyaml::{

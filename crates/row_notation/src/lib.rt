@@ -20,6 +20,7 @@
 //! value of the problem, where they are not those of a fault without them.
 #![tactic(auto)]
 
+mod checks;
 mod documents;
 mod events;
 mod faults;
@@ -28,6 +29,7 @@ mod pieces;
 mod runs;
 mod tokens;
 
+pub use checks::{first_wrong, is_text, show_checks, unless, unless_made};
 pub use documents::show_document;
 pub use events::{mark, show_event};
 pub use faults::{are_same_faults, show_fault};

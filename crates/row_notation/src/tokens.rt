@@ -12,15 +12,15 @@ use unsafe_libyaml::{
     yaml_source_fault_t, yaml_token_t,
 };
 
-fn style_of(name: &str) -> Result<yaml_scalar_style_t> {
-    Ok(match name {
-        "" | "plain" => yaml_scalar_style_t::YAML_PLAIN_SCALAR_STYLE,
-        "single" => yaml_scalar_style_t::YAML_SINGLE_QUOTED_SCALAR_STYLE,
-        "double" => yaml_scalar_style_t::YAML_DOUBLE_QUOTED_SCALAR_STYLE,
-        "literal" => yaml_scalar_style_t::YAML_LITERAL_SCALAR_STYLE,
-        "folded" => yaml_scalar_style_t::YAML_FOLDED_SCALAR_STYLE,
-        _ => None.context("no scalar style")?,
-    })
+fn style_named(name: &str) -> Option<yaml_scalar_style_t> {
+    match name {
+        "" | "plain" => Some(yaml_scalar_style_t::YAML_PLAIN_SCALAR_STYLE),
+        "single" => Some(yaml_scalar_style_t::YAML_SINGLE_QUOTED_SCALAR_STYLE),
+        "double" => Some(yaml_scalar_style_t::YAML_DOUBLE_QUOTED_SCALAR_STYLE),
+        "literal" => Some(yaml_scalar_style_t::YAML_LITERAL_SCALAR_STYLE),
+        "folded" => Some(yaml_scalar_style_t::YAML_FOLDED_SCALAR_STYLE),
+        _ => None,
+    }
 }
 
 /// The content of a token with payload.
@@ -57,7 +57,7 @@ fn payload_of(
         }),
         "SCALAR" => unnamed_yaml_token_t_data::Scalar(unnamed_yaml_token_t_data_scalar {
             value: Text::from_str(alloc, first)?,
-            style: style_of(second)?,
+            style: style_named(second).context("no scalar style")?,
         }),
         _ => None.context("no token with a payload")?,
     })

@@ -5,7 +5,6 @@
 //! makes the checks of refused growths alone.
 #![tactic(auto)]
 
-mod checks;
 mod events;
 mod fronts;
 mod lists;
@@ -15,9 +14,10 @@ use anyhow::Result;
 use events::{calls, completed, counted, faults, parsing};
 use fronts::each_front_begins;
 use lists::{gives_lines, keeps_its_end};
+use row_notation::show_checks;
 use std::alloc::Global;
 use std::rt::Files;
-use std::{env, fs};
+use std::{env, fs, io};
 use types::{collections, values};
 
 /// What is wrong with these token lines and event lines, if anything is.
@@ -69,21 +69,7 @@ fn show_lists(rt: &(impl Files + Print + AllocGlobal)) -> Result<()> {
     show_each(rt, names.as_str())
 }
 
-/// Names what is wrong, and counts the checks, of which each answers that.
-fn show_checks(rt: &impl Print, of: &str, checks: &[Option<&'static str>]) -> Result<()> {
-    let mut differ = 0u64;
-    for check in checks {
-        if let Some(what) = check {
-            println!(rt; "{of}: this differs: {what}")?;
-            differ = differ.wrapping_add(1);
-        }
-    }
-    let made = checks.len();
-    println!(rt; "{of}: {made} checks, {differ} differ")?;
-    Ok(())
-}
-
-fn show_refused(rt: &(impl Print + AllocGlobal)) -> Result<()> {
+fn show_refused(rt: &(impl Print + AllocGlobal)) -> io::Result<()> {
     show_checks(
         rt,
         "refused growths of types",
@@ -96,7 +82,7 @@ fn show_refused(rt: &(impl Print + AllocGlobal)) -> Result<()> {
     )
 }
 
-fn show_types(rt: &(impl Print + AllocGlobal)) -> Result<()> {
+fn show_types(rt: &(impl Print + AllocGlobal)) -> io::Result<()> {
     show_checks(
         rt,
         "numbers, texts and comparisons",
@@ -110,7 +96,7 @@ fn show_types(rt: &(impl Print + AllocGlobal)) -> Result<()> {
     )
 }
 
-fn show_events(rt: &(impl Print + AllocGlobal)) -> Result<()> {
+fn show_events(rt: &(impl Print + AllocGlobal)) -> io::Result<()> {
     show_checks(rt, "calls on a parser", &calls::checks(rt.alloc()))?;
     show_checks(rt, "completed rows", &completed::checks(rt.alloc()))?;
     show_checks(rt, "tokens asked for", &counted::checks(rt.alloc()))?;
@@ -128,8 +114,9 @@ fn show_all(rt: &(impl Files + Print + AllocGlobal)) -> Result<()> {
 fn main(rt: HostRuntime) -> Result<()> {
     let words = env::args(&rt)?.count();
     if words > 1 {
-        show_refused(&rt)
+        show_refused(&rt)?;
     } else {
-        show_all(&rt)
+        show_all(&rt)?;
     }
+    Ok(())
 }

@@ -1,8 +1,7 @@
 //! A parser between documents, with a bound for its loader, and taken apart.
 
-use crate::checks::unless_made;
 use anyhow::Result;
-use row_notation::{is_over, mark, show_fault, source_of};
+use row_notation::{is_over, mark, show_fault, source_of, unless_made};
 use std::alloc::Global;
 use unsafe_libyaml::{
     NO_FAULT, YAML_COMPOSER_ERROR, YAML_DOCUMENT_END_EVENT, YAML_DOCUMENT_START_EVENT,

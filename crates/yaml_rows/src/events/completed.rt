@@ -1,7 +1,6 @@
 //! Rows with a fault, with their bad token and all behind it replaced by an end.
 
-use crate::checks::first_wrong;
-use row_notation::first_parsed_otherwise;
+use row_notation::{first_parsed_otherwise, first_wrong};
 use std::alloc::Global;
 
 /// A name, the tokens before the bad one with an end, and what parsing gives.

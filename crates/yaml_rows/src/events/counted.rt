@@ -4,9 +4,8 @@ ghost use Rattle.std.specs.Prelude.{◌≡◌, None, length};
 ghost use Rattle.unsafe_libyaml.specs.Source.{coming, list_answer, rest_of_list};
 ghost use Rattle.unsafe_libyaml.specs.ListLaws.{list_falls, list_repeats};
 
-use crate::checks::first_wrong;
 use anyhow::Result;
-use row_notation::{is_empty, source_of};
+use row_notation::{first_wrong, is_empty, source_of};
 use std::alloc::Global;
 use std::fmt::Write;
 use unsafe_libyaml::{

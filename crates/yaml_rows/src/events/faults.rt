@@ -1,8 +1,7 @@
 //! What a fault says, and that `?` takes it.
 
-use crate::checks::{is_text, unless};
 use anyhow::{Error, Result};
-use row_notation::source_of;
+use row_notation::{is_text, source_of, unless};
 use std::alloc::Global;
 use unsafe_libyaml::{yaml_parser_parse_all, yaml_parser_t_prefix};
 

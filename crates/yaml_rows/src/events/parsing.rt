@@ -1,8 +1,9 @@
 //! Rows that stand in no list: what parsing each gives.
 
-use crate::checks::{first_wrong, unless};
 use anyhow::Result;
-use row_notation::{first_parsed_otherwise, mark, show_event, show_fault, source_of};
+use row_notation::{
+    first_parsed_otherwise, first_wrong, mark, show_event, show_fault, source_of, unless,
+};
 use std::alloc::Global;
 use unsafe_libyaml::{
     YAML_MEMORY_ERROR, yaml_event_t, yaml_list_source_t, yaml_parser_parse_all,

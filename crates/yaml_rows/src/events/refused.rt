@@ -1,8 +1,7 @@
 //! Each growth of a parser refused in turn: run with the Nth allocation failing, for each N
 //! (`examples/refused_growths.sh`). One growth is refused at most, and whatever met it is done again.
 
-use crate::checks::unless;
-use row_notation::{are_same_faults, is_over, source_of};
+use row_notation::{are_same_faults, is_over, source_of, unless};
 use std::alloc::Global;
 use unsafe_libyaml::{
     NO_FAULT, YAML_MEMORY_ERROR, yaml_error_type_t, yaml_event_t, yaml_list_source_t,

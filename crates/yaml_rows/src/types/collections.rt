@@ -1,6 +1,6 @@
 //! What a `Text` and `TagDirectives` can do.
-use crate::checks::{is_text, unless_made};
 use anyhow::Result;
+use row_notation::{is_text, unless_made};
 use std::alloc::Global;
 use std::cmp::Ordering;
 use unsafe_libyaml::{TagDirectives, Text, yaml_refusal_t, yaml_tag_directive_t};

@@ -1,7 +1,6 @@
 //! Each call that makes or empties an event or a token. In texts, the zero byte inside counts.
-use crate::checks::{unless, unless_made};
 use anyhow::Result;
-use row_notation::show_event;
+use row_notation::{show_event, unless, unless_made};
 use std::alloc::Global;
 use unsafe_libyaml::{
     TagDirectives, Text, YAML_ANY_MAPPING_STYLE, YAML_ANY_SEQUENCE_STYLE, YAML_BLOCK_MAPPING_STYLE,

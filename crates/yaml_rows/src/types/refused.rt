@@ -2,7 +2,7 @@
 //! (`examples/refused_growths.sh`). One growth is refused at most, and whatever met it is done again.
 
 use super::events::is_no_text;
-use crate::checks::unless;
+use row_notation::unless;
 use std::alloc::Global;
 use unsafe_libyaml::{
     TagDirectives, Text, yaml_alias_event_initialize, yaml_document_start_event_initialize,

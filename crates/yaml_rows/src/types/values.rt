@@ -1,6 +1,6 @@
 //! Numbers, texts and comparisons.
-use crate::checks::{first_wrong, is_text, unless, unless_made};
 use anyhow::Result;
+use row_notation::{first_wrong, is_text, unless, unless_made};
 use std::alloc::Global;
 use std::cmp::Ordering;
 use unsafe_libyaml::{

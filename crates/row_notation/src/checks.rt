@@ -1,6 +1,7 @@
-//! What a check answers: what is wrong, if anything is.
+//! What a check of a program of rows answers: what is wrong, if anything is.
 
 use anyhow::Result;
+use std::io;
 
 /// What a check without rows answers.
 pub fn unless(holds: bool, what: &'static str) -> Option<&'static str> {
@@ -29,4 +30,17 @@ pub fn is_text<E>(made: &Result<String, E>, wanted: &str) -> bool {
         Ok(text) => text.as_str() == wanted,
         Err(_) => false,
     }
+}
+
+/// Names what is wrong, and counts the checks, of which each answers that.
+pub fn show_checks(rt: &impl Print, of: &str, checks: &[Option<&'static str>]) -> io::Result<()> {
+    let mut differ = 0u64;
+    for check in checks {
+        if let Some(what) = check {
+            println!(rt; "{of}: this differs: {what}")?;
+            differ = differ.wrapping_add(1);
+        }
+    }
+    let made = checks.len();
+    println!(rt; "{of}: {made} checks, {differ} differ")
 }
