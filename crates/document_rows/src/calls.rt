@@ -4,7 +4,7 @@ ghost use Rattle.std.specs.Prelude.{◌≡◌, [], IfOk};
 
 use crate::words::document_of_words;
 use anyhow::Result;
-use row_notation::{show_document, unless, unless_made};
+use row_notation::{is_text, shown_document, unless, unless_made};
 use std::alloc::Global;
 use unsafe_libyaml::{
     YAML_ANY_MAPPING_STYLE, YAML_ANY_SEQUENCE_STYLE, YAML_BLOCK_MAPPING_STYLE,
@@ -33,9 +33,7 @@ fn word(alloc: Global) -> Result<yaml_document_t, yaml_refusal_t> {
 type Made = Result<yaml_document_t, yaml_refusal_t>;
 
 fn is_shown(alloc: Global, document: &yaml_document_t, wanted: &str) -> bool {
-    let mut shown = String::new(alloc);
-    let is_whole = show_document(&mut shown, document).is_ok();
-    [is_whole, shown.as_str() == wanted] == [true; 2]
+    is_text(&shown_document(alloc, document), wanted)
 }
 
 fn is_made(alloc: Global, made: &Made, wanted: &str) -> bool {

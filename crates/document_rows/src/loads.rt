@@ -2,7 +2,7 @@
 
 use anyhow::{Context, Result};
 use row_notation::{
-    ends_of_sources, is_front, is_text, show_document, show_event, show_fault, shown_end,
+    ends_of_sources, is_front_shown, is_text, show_document, show_event, show_fault, shown_end,
     source_of, tokens_of, unless_made,
 };
 use std::alloc::Global;
@@ -292,16 +292,9 @@ fn first_loaded_otherwise(alloc: Global) -> Option<&'static str> {
     None
 }
 
-fn is_front_text(front: &Result<String>, whole: &str, fault: &str) -> bool {
-    match front {
-        Ok(front) => is_front(front.as_str(), whole, fault),
-        Err(_) => false,
-    }
-}
-
 fn begins(alloc: Global, of: Loading<'_>, most: usize, whole: &str, fault: &str) -> bool {
     let front = loaded(alloc, of, most);
-    is_front_text(&front, whole, fault)
+    is_front_shown(&front, whole, fault)
 }
 
 fn each_begins(alloc: Global, of: Loading<'_>, len: usize, whole: &str, fault: &str) -> bool {

@@ -1,9 +1,9 @@
 //! All documents of a list at once.
 
 use anyhow::Result;
-use row_notation::{show_document, show_fault, source_of};
+use row_notation::{show_document, show_end, source_of};
 use std::alloc::Global;
-use unsafe_libyaml::{yaml_document_t, yaml_parser_load_all, yaml_parser_t_prefix};
+use unsafe_libyaml::{yaml_document_t, yaml_parser_load_all};
 
 /// A name, the tokens, and their documents with the fault behind them, if there is one.
 const ROWS: [(&str, &str, &str); 3] = [
@@ -29,13 +29,6 @@ fn show_documents(shown: &mut String, documents: &[yaml_document_t]) -> Result<(
         show_document(shown, document)?;
     }
     Ok(())
-}
-
-fn show_end(shown: &mut String, fault: Option<yaml_parser_t_prefix>) -> Result<()> {
-    match fault {
-        Some(fault) => show_fault(shown, fault.error, &fault),
-        None => Ok(()),
-    }
 }
 
 fn show_loaded(alloc: Global, shown: &mut String, tokens: &str) -> Result<()> {

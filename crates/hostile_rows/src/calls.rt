@@ -4,7 +4,7 @@ ghost use Rattle.std.specs.Prelude.{◌≡◌, IsTrue};
 ghost use Rattle.unsafe_libyaml.specs.Nodes.{type_at};
 
 use anyhow::{Result, ensure};
-use row_notation::{show_document, show_event};
+use row_notation::{shown_document, shown_event};
 use std::alloc::Global;
 use unsafe_libyaml::{
     YAML_ANY_MAPPING_STYLE, YAML_ANY_SCALAR_STYLE, YAML_ANY_SEQUENCE_STYLE, YAML_MAPPING_NODE,
@@ -93,12 +93,6 @@ fn construct_again(
         Err(yaml_refusal_t::Memory) => construct(alloc, constructor, SHORT),
         answer => answer,
     }
-}
-
-fn shown_event(alloc: Global, event: &yaml_event_t) -> Result<String> {
-    let mut shown = String::new(alloc);
-    let whole = show_event(&mut shown, event);
-    whole.and(Ok(shown))
 }
 
 /// The event of a constructor, shown.
@@ -213,12 +207,6 @@ fn begin_again(alloc: Global) -> Result<yaml_document_t, yaml_refusal_t> {
         Err(yaml_refusal_t::Memory) => begin(alloc),
         answer => answer,
     }
-}
-
-fn shown_document(alloc: Global, document: &yaml_document_t) -> Result<String> {
-    let mut shown = String::new(alloc);
-    let whole = show_document(&mut shown, document);
-    whole.and(Ok(shown))
 }
 
 fn is_shown_so(alloc: Global, document: &yaml_document_t, text: &str) -> Result<bool> {

@@ -2,6 +2,7 @@
 
 use crate::events::{document_end, show_directives, show_mark, show_marks, word_of_style};
 use anyhow::Result;
+use std::alloc::Global;
 use std::fmt::Write;
 use unsafe_libyaml::{
     unnamed_yaml_node_t_data, unnamed_yaml_node_t_data_mapping, unnamed_yaml_node_t_data_sequence,
@@ -96,4 +97,13 @@ pub fn show_document(shown: &mut String, document: &yaml_document_t) -> Result<(
     show_mark(shown, document.end_mark())?;
     shown.push_str(")")?;
     Ok(())
+}
+
+/// A document, shown alone.
+///
+/// Errors: want of memory.
+pub fn shown_document(alloc: Global, document: &yaml_document_t) -> Result<String> {
+    let mut shown = String::new(alloc);
+    let whole = show_document(&mut shown, document);
+    whole.and(Ok(shown))
 }

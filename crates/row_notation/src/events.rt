@@ -1,6 +1,7 @@
 //! Marks and events, shown.
 
 use anyhow::Result;
+use std::alloc::Global;
 use std::fmt::Write;
 use unsafe_libyaml::{
     Text, unnamed_yaml_event_t_data, unnamed_yaml_event_t_data_document_start,
@@ -173,4 +174,13 @@ pub fn show_event(shown: &mut String, event: &yaml_event_t) -> Result<()> {
     }
     show_content(shown, &event.content)?;
     show_marks(shown, event.start_mark, event.end_mark)
+}
+
+/// An event, shown alone.
+///
+/// Errors: want of memory.
+pub fn shown_event(alloc: Global, event: &yaml_event_t) -> Result<String> {
+    let mut shown = String::new(alloc);
+    let whole = show_event(&mut shown, event);
+    whole.and(Ok(shown))
 }

@@ -51,3 +51,13 @@ pub fn show_fault(
     }
     Ok(())
 }
+
+/// The fault that ended a whole run, if one did, behind what was shown before.
+///
+/// Errors: want of memory.
+pub fn show_end(shown: &mut String, fault: Option<yaml_parser_t_prefix>) -> Result<()> {
+    match fault {
+        Some(fault) => show_fault(shown, fault.error, &fault),
+        None => Ok(()),
+    }
+}

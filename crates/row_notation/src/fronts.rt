@@ -54,3 +54,11 @@ pub fn is_front(front: &str, whole: &str, fault: &str) -> bool {
         None => front == whole,
     }
 }
+
+/// The same of what was shown of a front, if it could be.
+pub fn is_front_shown(front: &Result<String>, whole: &str, fault: &str) -> bool {
+    match front {
+        Ok(front) => is_front(front.as_str(), whole, fault),
+        Err(_) => false,
+    }
+}

@@ -30,10 +30,10 @@ mod runs;
 mod tokens;
 
 pub use checks::{first_wrong, is_text, show_checks, unless, unless_made};
-pub use documents::show_document;
-pub use events::{mark, show_event};
-pub use faults::{are_same_faults, show_fault};
-pub use fronts::{ends_of_sources, is_front, shown_end};
+pub use documents::{show_document, shown_document};
+pub use events::{mark, show_event, shown_event};
+pub use faults::{are_same_faults, show_end, show_fault};
+pub use fronts::{ends_of_sources, is_front, is_front_shown, shown_end};
 pub use pieces::{EVERY_CALL, FixedWriter, LineCounter, PieceReader, PieceWriter, RepeatingReader};
 pub use runs::{first_parsed_otherwise, is_empty, is_over, parsed, show_run};
 pub use tokens::{end_of_row, source_of, tokens_of};

@@ -1,7 +1,7 @@
 //! The fronts of a list of tokens, with each error of a source behind them.
 
 use anyhow::Result;
-use row_notation::{ends_of_sources, is_front, show_run, shown_end};
+use row_notation::{ends_of_sources, is_front_shown, show_run, shown_end};
 use std::alloc::Global;
 use token_lines::{MAX_TOKENS, yaml_line_source_t};
 use unsafe_libyaml::{
@@ -67,16 +67,9 @@ fn parsed_front(alloc: Global, of: Ended<'_>, most: usize) -> Result<String> {
     show_run(alloc, &mut parser)
 }
 
-fn is_front_text(front: &Result<String>, whole: &str, fault: &str) -> bool {
-    match front {
-        Ok(front) => is_front(front.as_str(), whole, fault),
-        Err(_) => false,
-    }
-}
-
 fn begins(alloc: Global, of: Ended<'_>, most: usize, whole: &str, fault: &str) -> bool {
     let front = parsed_front(alloc, of, most);
-    is_front_text(&front, whole, fault)
+    is_front_shown(&front, whole, fault)
 }
 
 fn each_begins(alloc: Global, of: Ended<'_>, tokens: usize, whole: &str, fault: &str) -> bool {

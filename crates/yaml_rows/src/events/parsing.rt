@@ -2,12 +2,11 @@
 
 use anyhow::Result;
 use row_notation::{
-    first_parsed_otherwise, first_wrong, mark, show_event, show_fault, source_of, unless,
+    first_parsed_otherwise, first_wrong, mark, show_end, show_event, source_of, unless,
 };
 use std::alloc::Global;
 use unsafe_libyaml::{
-    YAML_MEMORY_ERROR, yaml_event_t, yaml_list_source_t, yaml_parser_parse_all,
-    yaml_parser_t_prefix, yaml_source_fault_t,
+    YAML_MEMORY_ERROR, yaml_event_t, yaml_list_source_t, yaml_parser_parse_all, yaml_source_fault_t,
 };
 
 /// A name, the tokens, and what parsing gives.
@@ -39,13 +38,6 @@ fn show_events(shown: &mut String, events: &[yaml_event_t]) -> Result<()> {
         show_event(shown, event)?;
     }
     Ok(())
-}
-
-fn show_end(shown: &mut String, fault: Option<yaml_parser_t_prefix>) -> Result<()> {
-    match fault {
-        Some(fault) => show_fault(shown, fault.error, &fault),
-        None => Ok(()),
-    }
 }
 
 /// Shows what parsing a row at once gives.

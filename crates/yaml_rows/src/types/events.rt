@@ -1,6 +1,6 @@
 //! Each call that makes or empties an event or a token. In texts, the zero byte inside counts.
 use anyhow::Result;
-use row_notation::{show_event, unless, unless_made};
+use row_notation::{is_text, shown_event, unless, unless_made};
 use std::alloc::Global;
 use unsafe_libyaml::{
     TagDirectives, Text, YAML_ANY_MAPPING_STYLE, YAML_ANY_SEQUENCE_STYLE, YAML_BLOCK_MAPPING_STYLE,
@@ -28,15 +28,9 @@ fn unmarked(content: unnamed_yaml_event_t_data) -> yaml_event_t {
 
 type Made = Result<yaml_event_t, yaml_refusal_t>;
 
-fn is_shown(alloc: Global, event: &yaml_event_t, wanted: &str) -> bool {
-    let mut shown = String::new(alloc);
-    let is_whole = show_event(&mut shown, event).is_ok();
-    [is_whole, shown.as_str() == wanted] == [true; 2]
-}
-
 fn is_made(alloc: Global, made: &Made, wanted: &str) -> bool {
     match made {
-        Ok(event) => is_shown(alloc, event, wanted),
+        Ok(event) => is_text(&shown_event(alloc, event), wanted),
         Err(_) => false,
     }
 }
