@@ -32,13 +32,15 @@ const ROWS: [(&str, &str, i32, &str); 27] = [
     ),
     (
         "redeclared_secondary_handle",
-        "STREAM-START TAG-DIRECTIVE(!!,p:) DOCUMENT-START TAG(!!,x) SCALAR(a) DOCUMENT-START TAG(!!,y) SCALAR(b) STREAM-END",
+        "STREAM-START TAG-DIRECTIVE(!!,p:) DOCUMENT-START TAG(!!,x) SCALAR(a) DOCUMENT-START TAG(!!,y) \
+            SCALAR(b) STREAM-END",
         NO_BOUND,
         "+De%!!=p:(2) <p:x>=a(6,9) -Di(10) +De(10) !!y=b(12,15) -Di(16) +De(0) -De(0)",
     ),
     (
         "version_and_handle",
-        "STREAM-START VERSION-DIRECTIVE(1,2) TAG-DIRECTIVE(!e!,p:) DOCUMENT-START TAG(!e!,x) SCALAR(a) STREAM-END",
+        "STREAM-START VERSION-DIRECTIVE(1,2) TAG-DIRECTIVE(!e!,p:) DOCUMENT-START TAG(!e!,x) SCALAR(a) \
+            STREAM-END",
         NO_BOUND,
         "+De%1.2%!e!=p:(2) <p:x>=a(8,11) -Di(12) +De(0) -De(0)",
     ),
@@ -50,25 +52,31 @@ const ROWS: [(&str, &str, i32, &str); 27] = [
     ),
     (
         "repeated_anchor",
-        "STREAM-START FLOW-SEQUENCE-START ANCHOR(a) SCALAR(x) FLOW-ENTRY ANCHOR(a) ALIAS(b) FLOW-SEQUENCE-END STREAM-END",
+        "STREAM-START FLOW-SEQUENCE-START ANCHOR(a) SCALAR(x) FLOW-ENTRY ANCHOR(a) ALIAS(b) \
+            FLOW-SEQUENCE-END STREAM-END",
         NO_BOUND,
         "fault 5: second occurrence at 10, found duplicate anchor; first occurrence at 4",
     ),
     (
         "flow_mapping_with_a_lone_key",
-        "STREAM-START FLOW-MAPPING-START KEY SCALAR(a) VALUE SCALAR(b) FLOW-ENTRY SCALAR(c) FLOW-MAPPING-END STREAM-END",
+        "STREAM-START FLOW-MAPPING-START KEY SCALAR(a) VALUE SCALAR(b) FLOW-ENTRY SCALAR(c) \
+            FLOW-MAPPING-END STREAM-END",
         NO_BOUND,
-        "+Di(2) !!map{2:3 4:5}(2,17) !!str=a(6,7) !!str=b(10,11) !!str=c(14,15) !!str=(16,16) -Di(18) +De(0) -De(0)",
+        "+Di(2) !!map{2:3 4:5}(2,17) !!str=a(6,7) !!str=b(10,11) !!str=c(14,15) !!str=(16,16) -Di(18) \
+            +De(0) -De(0)",
     ),
     (
         "as_many_nodes_as_are_allowed",
-        "STREAM-START FLOW-MAPPING-START KEY SCALAR(a) VALUE SCALAR(b) FLOW-ENTRY SCALAR(c) FLOW-MAPPING-END STREAM-END",
+        "STREAM-START FLOW-MAPPING-START KEY SCALAR(a) VALUE SCALAR(b) FLOW-ENTRY SCALAR(c) \
+            FLOW-MAPPING-END STREAM-END",
         5,
-        "+Di(2) !!map{2:3 4:5}(2,17) !!str=a(6,7) !!str=b(10,11) !!str=c(14,15) !!str=(16,16) -Di(18) +De(0) -De(0)",
+        "+Di(2) !!map{2:3 4:5}(2,17) !!str=a(6,7) !!str=b(10,11) !!str=c(14,15) !!str=(16,16) -Di(18) \
+            +De(0) -De(0)",
     ),
     (
         "one_node_more_than_is_allowed",
-        "STREAM-START FLOW-MAPPING-START KEY SCALAR(a) VALUE SCALAR(b) FLOW-ENTRY SCALAR(c) FLOW-MAPPING-END STREAM-END",
+        "STREAM-START FLOW-MAPPING-START KEY SCALAR(a) VALUE SCALAR(b) FLOW-ENTRY SCALAR(c) \
+            FLOW-MAPPING-END STREAM-END",
         4,
         "fault 1",
     ),
@@ -98,55 +106,64 @@ const ROWS: [(&str, &str, i32, &str); 27] = [
     ),
     (
         "two_aliases_of_one_sequence",
-        "STREAM-START ANCHOR(a) FLOW-SEQUENCE-START ALIAS(a) FLOW-ENTRY ALIAS(a) FLOW-SEQUENCE-END STREAM-END",
+        "STREAM-START ANCHOR(a) FLOW-SEQUENCE-START ALIAS(a) FLOW-ENTRY ALIAS(a) FLOW-SEQUENCE-END \
+            STREAM-END",
         NO_BOUND,
         "+Di(2) !!seq[1 1](2,13) -Di(14) +De(0) -De(0)",
     ),
     (
         "one_item_more_than_is_allowed",
-        "STREAM-START ANCHOR(a) FLOW-SEQUENCE-START ALIAS(a) FLOW-ENTRY ALIAS(a) FLOW-SEQUENCE-END STREAM-END",
+        "STREAM-START ANCHOR(a) FLOW-SEQUENCE-START ALIAS(a) FLOW-ENTRY ALIAS(a) FLOW-SEQUENCE-END \
+            STREAM-END",
         1,
         "fault 1",
     ),
     (
         "undefined_alias_before_the_bound_on_items",
-        "STREAM-START ANCHOR(a) FLOW-SEQUENCE-START ALIAS(a) FLOW-ENTRY ALIAS(b) FLOW-SEQUENCE-END STREAM-END",
+        "STREAM-START ANCHOR(a) FLOW-SEQUENCE-START ALIAS(a) FLOW-ENTRY ALIAS(b) FLOW-SEQUENCE-END \
+            STREAM-END",
         1,
         "fault 5: found undefined alias at 10",
     ),
     (
         "nested_sequence_in_itself_and_outside",
-        "STREAM-START FLOW-SEQUENCE-START ANCHOR(a) FLOW-SEQUENCE-START ALIAS(a) FLOW-SEQUENCE-END FLOW-ENTRY ALIAS(a) FLOW-SEQUENCE-END STREAM-END",
+        "STREAM-START FLOW-SEQUENCE-START ANCHOR(a) FLOW-SEQUENCE-START ALIAS(a) FLOW-SEQUENCE-END \
+            FLOW-ENTRY ALIAS(a) FLOW-SEQUENCE-END STREAM-END",
         NO_BOUND,
         "+Di(2) !!seq[2 2](2,17) !!seq[2](4,11) -Di(18) +De(0) -De(0)",
     ),
     (
         "repeated_anchor_of_the_third_node",
-        "STREAM-START FLOW-SEQUENCE-START ANCHOR(a) SCALAR(x) FLOW-ENTRY ANCHOR(a) SCALAR(y) FLOW-SEQUENCE-END STREAM-END",
+        "STREAM-START FLOW-SEQUENCE-START ANCHOR(a) SCALAR(x) FLOW-ENTRY ANCHOR(a) SCALAR(y) \
+            FLOW-SEQUENCE-END STREAM-END",
         3,
         "fault 5: second occurrence at 10, found duplicate anchor; first occurrence at 4",
     ),
     (
         "bound_on_nodes_before_the_repeated_anchor",
-        "STREAM-START FLOW-SEQUENCE-START ANCHOR(a) SCALAR(x) FLOW-ENTRY ANCHOR(a) SCALAR(y) FLOW-SEQUENCE-END STREAM-END",
+        "STREAM-START FLOW-SEQUENCE-START ANCHOR(a) SCALAR(x) FLOW-ENTRY ANCHOR(a) SCALAR(y) \
+            FLOW-SEQUENCE-END STREAM-END",
         2,
         "fault 1",
     ),
     (
         "pairs_are_full_at_a_key",
-        "STREAM-START ANCHOR(a) FLOW-MAPPING-START KEY ALIAS(a) VALUE ALIAS(a) FLOW-ENTRY KEY ALIAS(a) VALUE ALIAS(b) FLOW-MAPPING-END STREAM-END",
+        "STREAM-START ANCHOR(a) FLOW-MAPPING-START KEY ALIAS(a) VALUE ALIAS(a) FLOW-ENTRY KEY ALIAS(a) \
+            VALUE ALIAS(b) FLOW-MAPPING-END STREAM-END",
         1,
         "fault 1",
     ),
     (
         "undefined_alias_as_a_value",
-        "STREAM-START ANCHOR(a) FLOW-MAPPING-START KEY ALIAS(a) VALUE ALIAS(a) FLOW-ENTRY KEY ALIAS(a) VALUE ALIAS(b) FLOW-MAPPING-END STREAM-END",
+        "STREAM-START ANCHOR(a) FLOW-MAPPING-START KEY ALIAS(a) VALUE ALIAS(a) FLOW-ENTRY KEY ALIAS(a) \
+            VALUE ALIAS(b) FLOW-MAPPING-END STREAM-END",
         2,
         "fault 5: found undefined alias at 22",
     ),
     (
         "undefined_alias_before_the_bound_on_pairs",
-        "STREAM-START ANCHOR(a) FLOW-MAPPING-START KEY ALIAS(a) VALUE ALIAS(a) FLOW-ENTRY KEY ALIAS(b) VALUE ALIAS(a) FLOW-MAPPING-END STREAM-END",
+        "STREAM-START ANCHOR(a) FLOW-MAPPING-START KEY ALIAS(a) VALUE ALIAS(a) FLOW-ENTRY KEY ALIAS(b) \
+            VALUE ALIAS(a) FLOW-MAPPING-END STREAM-END",
         1,
         "fault 5: found undefined alias at 18",
     ),
@@ -166,7 +183,8 @@ const ROWS: [(&str, &str, i32, &str); 27] = [
         "block_end_in_an_implicit_document",
         "STREAM-START SCALAR(a) DOCUMENT-END BLOCK-END STREAM-END",
         NO_BOUND,
-        "+Di(2) !!str=a(2,3) -De(5) fault 4: did not find expected node content at 6, while parsing a block node at 6",
+        "+Di(2) !!str=a(2,3) -De(5) fault 4: did not find expected node content at 6, while parsing a \
+            block node at 6",
     ),
     (
         "implicit_document_behind_a_document_end",

@@ -44,7 +44,8 @@ fn next_event<S: yaml_token_source_t, T: yaml_token_source_t>(
     parses_so(&answer, other)
 }
 
-/// Whether both answers are a document with a root; None where they differ, or where it has not the list's shape.
+/// Whether both answers are a document with a root; None where they differ, or where it has not the list's
+/// shape.
 fn compare_documents(answer: &Loaded, again: &Loaded, grown: Grown) -> Option<bool> {
     match (answer, again) {
         (Ok(document), Ok(other)) => compare_loaded(document, other, grown),
@@ -65,7 +66,8 @@ fn compare_loaded(
     Some(is_whole)
 }
 
-/// Whether both parsers load a document with a root; None where they differ, or where it has not the list's shape.
+/// Whether both parsers load a document with a root; None where they differ, or where it has not the
+/// list's shape.
 fn next_document<S: yaml_token_source_t, T: yaml_token_source_t>(
     one: &mut yaml_parser_t<S>,
     other: &mut yaml_parser_t<T>,

@@ -44,7 +44,8 @@ fn are_same_or_cut(one: Option<&str>, other: Option<&str>) -> bool {
 #[derive(Copy, Clone)]
 enum Run<'a> {
     Row(&'a str, Reading),
-    /// Over a source that computes its tokens and needs memory for their texts, and has to keep what it answers.
+    /// Over a source that computes its tokens and needs memory for their texts, and has to keep what it
+    /// answers.
     Computed(GrowingList),
     // These answer the refused growth and are called again: nothing is cut.
     Constructor(Constructor),

@@ -27,7 +27,8 @@ const ROWS: [(&str, &str, &str); 7] = [
     ),
     (
         "alias_behind_an_anchor",
-        "STREAM-START FLOW-SEQUENCE-START ANCHOR(a) SCALAR(x) FLOW-ENTRY ANCHOR(a) FLOW-SEQUENCE-END STREAM-END",
+        "STREAM-START FLOW-SEQUENCE-START ANCHOR(a) SCALAR(x) FLOW-ENTRY ANCHOR(a) FLOW-SEQUENCE-END \
+            STREAM-END",
         "+S(0,0) +Di(2,2) +[(2,3) =x&a(4,7) =&a(10,11) -Q(12,13) -Di(14,14) -S(14,15)",
     ),
     (

@@ -23,7 +23,8 @@ fn count_events(alloc: Global, row: &str) -> Result<usize> {
 const FAULTS: [(&str, &str); 3] = [
     (
         "STREAM-START FLOW-SEQUENCE-START SCALAR(a) SCALAR(b)",
-        "did not find expected ',' or ']' at line 1, column 7; while parsing a flow sequence at line 1, column 3",
+        "did not find expected ',' or ']' at line 1, column 7; while parsing a flow sequence at line 1, \
+            column 3",
     ),
     (
         "SCALAR(a)",

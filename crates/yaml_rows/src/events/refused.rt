@@ -10,7 +10,8 @@ use unsafe_libyaml::{
 
 /// A handle that is kept, a tag that is joined in a collection, and two collections that nest.
 const GROWING: &str =
-    "STREAM-START TAG-DIRECTIVE(!e!,p:) DOCUMENT-START TAG(!e!,t) BLOCK-SEQUENCE-START BLOCK-ENTRY FLOW-SEQUENCE-START TAG(!e!,t) FLOW-SEQUENCE-END BLOCK-END STREAM-END";
+    "STREAM-START TAG-DIRECTIVE(!e!,p:) DOCUMENT-START TAG(!e!,t) BLOCK-SEQUENCE-START BLOCK-ENTRY \
+        FLOW-SEQUENCE-START TAG(!e!,t) FLOW-SEQUENCE-END BLOCK-END STREAM-END";
 
 /// The events that it gives.
 const EVENTS: u8 = 9;
