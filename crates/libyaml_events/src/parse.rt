@@ -1,6 +1,6 @@
 //! One call of the parser.
 ghost use Rattle.std.specs.Prelude.{◌≡◌, ◌≤◌, ◌<◌, ◌+◌, ◌++◌, ◌*◌, List, [], length, Ok, Err};
-ghost use Rattle.std.specs.Prelude.{true, false, IfOk, IfErr};
+ghost use Rattle.std.specs.Prelude.{true, false, IfOk, IfErr, MatchResult};
 ghost use Rattle.libyaml_types.specs.declared.token.yaml_token_t.{yaml_token_t};
 ghost use Rattle.libyaml_types.specs.declared.event.yaml_event_t.{yaml_event_t};
 ghost use Rattle.libyaml_events.specs.machine.Config.{ended_or_failed};
@@ -48,11 +48,29 @@ impl<S: yaml_token_source_t> yaml_parser_t<S> {
             start_mark: ZERO_MARK,
             end_mark: ZERO_MARK,
         };
+        self.fill(&mut pending, &mut event)?;
+        Ok(event)
+    }
+
+    /// Takes tokens until the event is given.
+    #[inline(always)]
+    fn fill(
+        &mut self,
+        pending: &mut Pending,
+        event: &mut yaml_event_t,
+    ) -> Result<(), yaml_error_type_t>
+        requires { ended_or_failed self.old.config ≡ false }
+        ensures kept { IfErr result (λ e. (e ≡ self.new.config.fault.error)
+            × (ended_or_failed self.new.config ≡ true)) }
+        ensures bound { self.new.max_entries ≡ self.old.max_entries }
+        ensures call { MatchResult result (λ _. Call S.gives self.old (Ok event.new) self.new)
+            (λ e. Call S.gives self.old (Err e) self.new) }
+    {
         let mut next = Next::AtState;
         loop {
             let token = self.next_token()?;
-            match self.step(next, token, &mut pending, &mut event)? {
-                Next::Given => return Ok(event),
+            match self.step(next, token, pending, event)? {
+                Next::Given => return Ok(()),
                 wanted => next = wanted,
             }
         }

@@ -3,8 +3,10 @@
 //! A function of libyaml's reads up to three tokens. Here each function takes one: the parser's
 //! state leads to it, or else what the token before wants (`Next`). The files below begin with
 //! their productions; the numbers beneath the tokens are the functions that take these.
-ghost use Rattle.std.specs.Prelude.{◌≡◌, Ok, Err, OnOk, OnErr, true, is_some};
-ghost use Rattle.libyaml_grammar.specs.cuts.FaultTexts.{memory_fault};
+//!
+//! A function that is done with its token skips it there, so that none ends holding it on some ways alone.
+ghost use Rattle.std.specs.Prelude.{◌≡◌, Ok, Err, OnOk, OnErr, IfErr, true, is_some};
+ghost use Rattle.libyaml_grammar.specs.cuts.FaultTexts.{memory_fault, document_start_fault};
 ghost use Rattle.libyaml_grammar.specs.sentences.Events.{event};
 ghost use Rattle.libyaml_events.specs.machine.Config.{with_config, with_fault, at, pushed_mark};
 ghost use Rattle.libyaml_events.specs.machine.Machine.{step, at_state, process_empty_scalar};
@@ -30,6 +32,12 @@ use libyaml_types::{
     Text, unnamed_yaml_event_t_data, yaml_error_type_t, yaml_event_t, yaml_mark_t,
     yaml_parser_state_t, yaml_token_t,
 };
+
+/// Done with the token.
+///
+/// libyaml: `SKIP_TOKEN`.
+#[inline(always)]
+fn skip(token: yaml_token_t) {}
 
 /// Puts an event with these marks into `out`.
 #[inline(always)]
@@ -100,9 +108,11 @@ impl<S> yaml_parser_t<S> {
             → may_grow_at self.old.config.state self.old.config token.content ≡ true }
     {
         match self.state() {
-            yaml_parser_state_t::YAML_PARSE_STREAM_START_STATE => self.parse_stream_start(
-                token, pending, out,
-            ),
+            yaml_parser_state_t::YAML_PARSE_STREAM_START_STATE => {
+                let led = self.parse_stream_start(&token, pending, out);
+                skip(token);
+                led
+            }
             yaml_parser_state_t::YAML_PARSE_IMPLICIT_DOCUMENT_START_STATE => {
                 self.parse_implicit_document_start(token, pending, out)
             }
@@ -126,16 +136,18 @@ impl<S> yaml_parser_t<S> {
                 self.parse_node(NodePlace::Flow, token, pending, out)
             }
             yaml_parser_state_t::YAML_PARSE_BLOCK_SEQUENCE_FIRST_ENTRY_STATE => {
-                self.parse_first_block_sequence_entry(&token, pending, out)
+                self.parse_first_block_sequence_entry(token, pending, out)
             }
             yaml_parser_state_t::YAML_PARSE_BLOCK_SEQUENCE_ENTRY_STATE => {
-                self.parse_block_sequence_entry(token, pending, out)
+                let led = self.parse_block_sequence_entry(&token, pending, out);
+                skip(token);
+                led
             }
             yaml_parser_state_t::YAML_PARSE_INDENTLESS_SEQUENCE_ENTRY_STATE => {
                 self.parse_indentless_sequence_entry(token, pending, out)
             }
             yaml_parser_state_t::YAML_PARSE_BLOCK_MAPPING_FIRST_KEY_STATE => {
-                self.parse_first_block_mapping_key(&token, pending, out)
+                self.parse_first_block_mapping_key(token, pending, out)
             }
             yaml_parser_state_t::YAML_PARSE_BLOCK_MAPPING_KEY_STATE => {
                 self.parse_block_mapping_key(token, pending, out)
@@ -144,10 +156,12 @@ impl<S> yaml_parser_t<S> {
                 self.parse_block_mapping_value(token, pending, out)
             }
             yaml_parser_state_t::YAML_PARSE_FLOW_SEQUENCE_FIRST_ENTRY_STATE => {
-                self.parse_first_flow_sequence_entry(&token, pending, out)
+                self.parse_first_flow_sequence_entry(token, pending, out)
             }
             yaml_parser_state_t::YAML_PARSE_FLOW_SEQUENCE_ENTRY_STATE => {
-                self.parse_flow_sequence_entry(token, pending, out)
+                let led = self.parse_flow_sequence_entry(&token, pending, out);
+                skip(token);
+                led
             }
             yaml_parser_state_t::YAML_PARSE_FLOW_SEQUENCE_ENTRY_MAPPING_KEY_STATE => {
                 self.parse_slot(Slot::PairKey, token, pending, out)
@@ -160,10 +174,12 @@ impl<S> yaml_parser_t<S> {
                 Ok(Next::Given)
             }
             yaml_parser_state_t::YAML_PARSE_FLOW_MAPPING_FIRST_KEY_STATE => {
-                self.parse_first_flow_mapping_key(&token, pending, out)
+                self.parse_first_flow_mapping_key(token, pending, out)
             }
             yaml_parser_state_t::YAML_PARSE_FLOW_MAPPING_KEY_STATE => {
-                self.parse_flow_mapping_key(token, pending, out)
+                let led = self.parse_flow_mapping_key(&token, pending, out);
+                skip(token);
+                led
             }
             yaml_parser_state_t::YAML_PARSE_FLOW_MAPPING_VALUE_STATE => {
                 self.parse_flow_mapping_value(token, pending, out)
@@ -172,11 +188,23 @@ impl<S> yaml_parser_t<S> {
                 self.parse_flow_mapping_empty_value(token, out);
                 Ok(Next::Given)
             }
-            yaml_parser_state_t::YAML_PARSE_END_STATE => Err(self.set_parser_error(
-                "did not find expected <document start>",
-                token.start_mark,
-            )),
+            yaml_parser_state_t::YAML_PARSE_END_STATE => self.parse_at_end(token, pending, out),
         }
+    }
+
+    /// No token comes behind the stream's end.
+    #[cold]
+    fn parse_at_end(
+        &mut self,
+        token: yaml_token_t,
+        pending: &mut Pending,
+        out: &mut yaml_event_t,
+    ) -> Result<Next, yaml_error_type_t>
+        ensures steps { Steps (Err (document_start_fault token.start_mark)) self.old
+            (answer result pending.new out.new) self.new }
+        ensures error { IfErr result (λ e. e ≡ yaml_error_type_t.YAML_PARSER_ERROR) }
+    {
+        Err(self.set_parser_error("did not find expected <document start>", token.start_mark))
     }
 
     /// A node, or nothing before a token that the place's row names.

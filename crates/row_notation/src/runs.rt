@@ -6,8 +6,8 @@ use crate::tokens::source_of;
 use anyhow::Result;
 use std::alloc::Global;
 use unsafe_libyaml::{
-    ZERO_MARK, unnamed_yaml_event_t_data, yaml_event_t, yaml_parser_initialize, yaml_parser_parse,
-    yaml_parser_t, yaml_token_source_t,
+    ZERO_MARK, unnamed_yaml_event_t_data, yaml_error_type_t, yaml_event_t, yaml_parser_initialize,
+    yaml_parser_parse, yaml_parser_t, yaml_parser_t_prefix, yaml_token_source_t,
 };
 
 /// Whether this is the empty event, without marks.
@@ -21,15 +21,59 @@ pub fn is_empty(event: &yaml_event_t) -> bool {
 pub fn is_over<S: yaml_token_source_t>(parser: &mut yaml_parser_t<S>) -> bool {
     let kept = *parser.prefix();
     for _ in 0..3u8 {
-        match yaml_parser_parse(parser) {
-            Ok(event) if is_empty(&event) => {}
-            _ => return false,
-        }
-        if !are_same_faults(&kept, parser.prefix()) {
+        if !gives_end(parser) || !are_same_faults(&kept, parser.prefix()) {
             return false;
         }
     }
     true
+}
+
+fn gives_end<S: yaml_token_source_t>(parser: &mut yaml_parser_t<S>) -> bool {
+    let answer = yaml_parser_parse(parser);
+    is_end(&answer)
+}
+
+fn is_end(answer: &Result<yaml_event_t, yaml_error_type_t>) -> bool {
+    match answer {
+        Ok(event) => is_empty(event),
+        Err(_) => false,
+    }
+}
+
+/// Shows what a call of the parser answers, and says whether more may come.
+fn show_answer(
+    shown: &mut String,
+    answer: &Result<yaml_event_t, yaml_error_type_t>,
+    fault: &yaml_parser_t_prefix,
+) -> Result<bool> {
+    match answer {
+        Ok(event) if is_empty(event) => Ok(false),
+        Ok(event) => show_event(shown, event).and(Ok(true)),
+        Err(error) => show_fault(shown, *error, fault).and(Ok(false)),
+    }
+}
+
+fn show_next<S: yaml_token_source_t>(
+    shown: &mut String,
+    parser: &mut yaml_parser_t<S>,
+) -> Result<bool> {
+    let answer = yaml_parser_parse(parser);
+    show_answer(shown, &answer, parser.prefix())
+}
+
+fn show_all<S: yaml_token_source_t>(
+    shown: &mut String,
+    parser: &mut yaml_parser_t<S>,
+) -> Result<()> {
+    for _ in 0..10_000u32 {
+        if !show_next(shown, parser)? {
+            break;
+        }
+    }
+    if !is_over(parser) {
+        shown.push_str(" more")?;
+    }
+    Ok(())
 }
 
 /// The events of a parser and the fault behind them, if there is one; then ` more` where anything but
@@ -41,20 +85,8 @@ pub fn show_run<S: yaml_token_source_t>(
     parser: &mut yaml_parser_t<S>,
 ) -> Result<String> {
     let mut shown = String::new(alloc);
-    for _ in 0..10_000u32 {
-        match yaml_parser_parse(parser) {
-            Ok(event) if is_empty(&event) => break,
-            Ok(event) => show_event(&mut shown, &event)?,
-            Err(error) => {
-                show_fault(&mut shown, error, parser.prefix())?;
-                break;
-            }
-        }
-    }
-    if !is_over(parser) {
-        shown.push_str(" more")?;
-    }
-    Ok(shown)
+    let whole = show_all(&mut shown, parser);
+    whole.and(Ok(shown))
 }
 
 /// What parsing a row gives.

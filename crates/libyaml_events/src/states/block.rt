@@ -46,7 +46,7 @@ ghost use Rattle.libyaml_events.specs.machine.Answers.{answer};
 use crate::next::Next;
 use crate::parser::yaml_parser_t;
 use crate::pending::Pending;
-use crate::states::give;
+use crate::states::{give, skip};
 use libyaml_types::{
     unnamed_yaml_event_t_data, unnamed_yaml_token_t_data, yaml_error_type_t, yaml_event_t,
     yaml_mark_t, yaml_parser_state_t, yaml_token_t,
@@ -56,35 +56,39 @@ impl<S> yaml_parser_t<S> {
     /// At BLOCK-SEQUENCE-START, whose start is kept.
     pub(super) fn parse_first_block_sequence_entry(
         &mut self,
-        token: &yaml_token_t,
+        token: yaml_token_t,
         pending: &mut Pending,
         out: &mut yaml_event_t,
     ) -> Result<Next, yaml_error_type_t>
-        ensures { Steps (first_block_sequence_entry self.old.config token.now) self.old
+        ensures { Steps (first_block_sequence_entry self.old.config token) self.old
             (answer result pending.new out.new) self.new }
     {
-        let state = yaml_parser_state_t::YAML_PARSE_BLOCK_SEQUENCE_ENTRY_STATE;
-        self.open(token.start_mark, state)?;
+        let start_mark = token.start_mark;
+        skip(token);
+        self.open(
+            start_mark,
+            yaml_parser_state_t::YAML_PARSE_BLOCK_SEQUENCE_ENTRY_STATE,
+        )?;
         Ok(Next::AtState)
     }
 
     pub(super) fn parse_block_sequence_entry(
         &mut self,
-        token: yaml_token_t,
+        token: &yaml_token_t,
         pending: &mut Pending,
         out: &mut yaml_event_t,
     ) -> Result<Next, yaml_error_type_t>
-        ensures steps { Steps (parse_block_sequence_entry self.old.config token token.content) self.old
+        ensures steps { Steps (parse_block_sequence_entry self.old.config token.now token.now.content) self.old
             (answer result pending.new out.new) self.new }
         ensures error { IfErr result (λ e. e ≡ yaml_error_type_t.YAML_PARSER_ERROR) }
     {
-        match token.content {
+        match &token.content {
             unnamed_yaml_token_t_data::BlockEntry => {
                 pending.mark = token.end_mark;
                 Ok(Next::BehindBlockEntry)
             }
             unnamed_yaml_token_t_data::BlockEnd => {
-                self.close(unnamed_yaml_event_t_data::SequenceEnd, &token, out);
+                self.close(unnamed_yaml_event_t_data::SequenceEnd, token, out);
                 Ok(Next::Given)
             }
             _ => {
@@ -112,6 +116,7 @@ impl<S> yaml_parser_t<S> {
         match token.content {
             unnamed_yaml_token_t_data::BlockEntry => {
                 pending.mark = token.end_mark;
+                skip(token);
                 Ok(Next::BehindIndentlessEntry)
             }
             _ => {
@@ -127,15 +132,19 @@ impl<S> yaml_parser_t<S> {
     /// At BLOCK-MAPPING-START, whose start is kept.
     pub(super) fn parse_first_block_mapping_key(
         &mut self,
-        token: &yaml_token_t,
+        token: yaml_token_t,
         pending: &mut Pending,
         out: &mut yaml_event_t,
     ) -> Result<Next, yaml_error_type_t>
-        ensures { Steps (first_block_mapping_key self.old.config token.now) self.old
+        ensures { Steps (first_block_mapping_key self.old.config token) self.old
             (answer result pending.new out.new) self.new }
     {
-        let state = yaml_parser_state_t::YAML_PARSE_BLOCK_MAPPING_KEY_STATE;
-        self.open(token.start_mark, state)?;
+        let start_mark = token.start_mark;
+        skip(token);
+        self.open(
+            start_mark,
+            yaml_parser_state_t::YAML_PARSE_BLOCK_MAPPING_KEY_STATE,
+        )?;
         Ok(Next::AtState)
     }
 
@@ -153,6 +162,7 @@ impl<S> yaml_parser_t<S> {
         match token.content {
             unnamed_yaml_token_t_data::Key => {
                 pending.mark = token.end_mark;
+                skip(token);
                 Ok(Next::BehindKey)
             }
             unnamed_yaml_token_t_data::Value => {
@@ -162,15 +172,18 @@ impl<S> yaml_parser_t<S> {
             }
             unnamed_yaml_token_t_data::BlockEnd => {
                 self.close(unnamed_yaml_event_t_data::MappingEnd, &token, out);
+                skip(token);
                 Ok(Next::Given)
             }
             _ => {
+                let mark = token.start_mark;
+                skip(token);
                 let opened = self.pop_mark();
                 Err(self.set_parser_error_context(
                     "while parsing a block mapping",
                     opened,
                     "did not find expected key",
-                    token.start_mark,
+                    mark,
                 ))
             }
         }
@@ -190,6 +203,7 @@ impl<S> yaml_parser_t<S> {
         match token.content {
             unnamed_yaml_token_t_data::Value => {
                 pending.mark = token.end_mark;
+                skip(token);
                 Ok(Next::BehindValue)
             }
             _ => {

@@ -42,7 +42,7 @@ ghost use Rattle.std.specs.FinMap.{get};
 use crate::next::Next;
 use crate::parser::yaml_parser_t;
 use crate::pending::{DirectivesRead, Pending};
-use crate::states::give;
+use crate::states::{give, skip};
 use libyaml_types::{
     TagDirectives, unnamed_yaml_event_t_data, unnamed_yaml_event_t_data_document_end,
     unnamed_yaml_event_t_data_document_start, unnamed_yaml_event_t_data_stream_start,
@@ -55,16 +55,16 @@ use std::mem;
 impl<S> yaml_parser_t<S> {
     pub(super) fn parse_stream_start(
         &mut self,
-        token: yaml_token_t,
+        token: &yaml_token_t,
         pending: &mut Pending,
         out: &mut yaml_event_t,
     ) -> Result<Next, yaml_error_type_t>
-        ensures steps { Steps (parse_stream_start self.old.config token token.content) self.old
+        ensures steps { Steps (parse_stream_start self.old.config token.now token.now.content) self.old
             (answer result pending.new out.new) self.new }
         ensures error { IfErr result (λ e. e ≡ yaml_error_type_t.YAML_PARSER_ERROR) }
     {
         let mark = token.start_mark;
-        match token.content {
+        match &token.content {
             unnamed_yaml_token_t_data::StreamStart(start) => {
                 self.set_state(yaml_parser_state_t::YAML_PARSE_IMPLICIT_DOCUMENT_START_STATE);
                 let event = unnamed_yaml_event_t_data_stream_start {
@@ -267,6 +267,7 @@ impl<S> yaml_parser_t<S> {
         match token.content {
             unnamed_yaml_token_t_data::StreamEnd => {
                 self.end_stream(&token, out);
+                skip(token);
                 Ok(Next::Given)
             }
             unnamed_yaml_token_t_data::VersionDirective(_)
@@ -276,6 +277,7 @@ impl<S> yaml_parser_t<S> {
             ),
             unnamed_yaml_token_t_data::DocumentEnd => {
                 if self.behind_document_end() {
+                    skip(token);
                     Ok(Next::AtState)
                 } else {
                     self.begin_implicit_document(token, pending, out)
@@ -300,6 +302,7 @@ impl<S> yaml_parser_t<S> {
         match token.content {
             unnamed_yaml_token_t_data::StreamEnd => {
                 self.end_stream(&token, out);
+                skip(token);
                 Ok(Next::Given)
             }
             _ => self.begin_explicit_document(token, pending, out),

@@ -62,8 +62,8 @@ use crate::next::Next;
 use crate::node_place::NodePlace;
 use crate::parser::yaml_parser_t;
 use crate::pending::Pending;
-use crate::states::give;
 use crate::states::nodes::mapping_start;
+use crate::states::{give, skip};
 use libyaml_types::{
     unnamed_yaml_event_t_data, unnamed_yaml_token_t_data, yaml_error_type_t, yaml_event_t,
     yaml_mapping_style_t, yaml_parser_state_t, yaml_token_t,
@@ -73,32 +73,36 @@ impl<S> yaml_parser_t<S> {
     /// At FLOW-SEQUENCE-START, whose start is kept.
     pub(super) fn parse_first_flow_sequence_entry(
         &mut self,
-        token: &yaml_token_t,
+        token: yaml_token_t,
         pending: &mut Pending,
         out: &mut yaml_event_t,
     ) -> Result<Next, yaml_error_type_t>
-        ensures { Steps (first_flow_sequence_entry self.old.config token.now) self.old
+        ensures { Steps (first_flow_sequence_entry self.old.config token) self.old
             (answer result pending.new out.new) self.new }
     {
-        let state = yaml_parser_state_t::YAML_PARSE_FLOW_SEQUENCE_ENTRY_STATE;
-        self.open(token.start_mark, state)?;
+        let start_mark = token.start_mark;
+        skip(token);
+        self.open(
+            start_mark,
+            yaml_parser_state_t::YAML_PARSE_FLOW_SEQUENCE_ENTRY_STATE,
+        )?;
         Ok(Next::BehindFlowSequenceEntry)
     }
 
     pub(super) fn parse_flow_sequence_entry(
         &mut self,
-        token: yaml_token_t,
+        token: &yaml_token_t,
         pending: &mut Pending,
         out: &mut yaml_event_t,
     ) -> Result<Next, yaml_error_type_t>
-        ensures steps { Steps (parse_flow_sequence_entry self.old.config token token.content) self.old
+        ensures steps { Steps (parse_flow_sequence_entry self.old.config token.now token.now.content) self.old
             (answer result pending.new out.new) self.new }
         ensures error { IfErr result (λ e. e ≡ yaml_error_type_t.YAML_PARSER_ERROR) }
     {
-        match token.content {
+        match &token.content {
             unnamed_yaml_token_t_data::FlowEntry => { Ok(Next::BehindFlowSequenceEntry) }
             unnamed_yaml_token_t_data::FlowSequenceEnd => {
-                self.close(unnamed_yaml_event_t_data::SequenceEnd, &token, out);
+                self.close(unnamed_yaml_event_t_data::SequenceEnd, token, out);
                 Ok(Next::Given)
             }
             _ => {
@@ -129,6 +133,7 @@ impl<S> yaml_parser_t<S> {
         match token.content {
             unnamed_yaml_token_t_data::FlowSequenceEnd => {
                 self.close(unnamed_yaml_event_t_data::SequenceEnd, &token, out);
+                skip(token);
                 Ok(Next::Given)
             }
             unnamed_yaml_token_t_data::Key => {
@@ -141,6 +146,7 @@ impl<S> yaml_parser_t<S> {
                     yaml_mapping_style_t::YAML_FLOW_MAPPING_STYLE,
                 );
                 give(out, event, token.start_mark, token.end_mark);
+                skip(token);
                 Ok(Next::Given)
             }
             _ => {
@@ -161,7 +167,10 @@ impl<S> yaml_parser_t<S> {
         ensures error { IfErr result (λ e. e ≡ yaml_error_type_t.YAML_PARSER_ERROR) }
     {
         match token.content {
-            unnamed_yaml_token_t_data::Value => Ok(Next::BehindFlowSequenceValue),
+            unnamed_yaml_token_t_data::Value => {
+                skip(token);
+                Ok(Next::BehindFlowSequenceValue)
+            }
             _ => {
                 self.set_state(
                     yaml_parser_state_t::YAML_PARSE_FLOW_SEQUENCE_ENTRY_MAPPING_END_STATE,
@@ -190,32 +199,36 @@ impl<S> yaml_parser_t<S> {
     /// At FLOW-MAPPING-START, whose start is kept.
     pub(super) fn parse_first_flow_mapping_key(
         &mut self,
-        token: &yaml_token_t,
+        token: yaml_token_t,
         pending: &mut Pending,
         out: &mut yaml_event_t,
     ) -> Result<Next, yaml_error_type_t>
-        ensures { Steps (first_flow_mapping_key self.old.config token.now) self.old
+        ensures { Steps (first_flow_mapping_key self.old.config token) self.old
             (answer result pending.new out.new) self.new }
     {
-        let state = yaml_parser_state_t::YAML_PARSE_FLOW_MAPPING_KEY_STATE;
-        self.open(token.start_mark, state)?;
+        let start_mark = token.start_mark;
+        skip(token);
+        self.open(
+            start_mark,
+            yaml_parser_state_t::YAML_PARSE_FLOW_MAPPING_KEY_STATE,
+        )?;
         Ok(Next::BehindFlowMappingEntry)
     }
 
     pub(super) fn parse_flow_mapping_key(
         &mut self,
-        token: yaml_token_t,
+        token: &yaml_token_t,
         pending: &mut Pending,
         out: &mut yaml_event_t,
     ) -> Result<Next, yaml_error_type_t>
-        ensures steps { Steps (parse_flow_mapping_key self.old.config token token.content) self.old
+        ensures steps { Steps (parse_flow_mapping_key self.old.config token.now token.now.content) self.old
             (answer result pending.new out.new) self.new }
         ensures error { IfErr result (λ e. e ≡ yaml_error_type_t.YAML_PARSER_ERROR) }
     {
-        match token.content {
+        match &token.content {
             unnamed_yaml_token_t_data::FlowEntry => { Ok(Next::BehindFlowMappingEntry) }
             unnamed_yaml_token_t_data::FlowMappingEnd => {
-                self.close(unnamed_yaml_event_t_data::MappingEnd, &token, out);
+                self.close(unnamed_yaml_event_t_data::MappingEnd, token, out);
                 Ok(Next::Given)
             }
             _ => {
@@ -245,9 +258,13 @@ impl<S> yaml_parser_t<S> {
         match token.content {
             unnamed_yaml_token_t_data::FlowMappingEnd => {
                 self.close(unnamed_yaml_event_t_data::MappingEnd, &token, out);
+                skip(token);
                 Ok(Next::Given)
             }
-            unnamed_yaml_token_t_data::Key => Ok(Next::BehindFlowMappingKey),
+            unnamed_yaml_token_t_data::Key => {
+                skip(token);
+                Ok(Next::BehindFlowMappingKey)
+            }
             _ => {
                 self.push_state(yaml_parser_state_t::YAML_PARSE_FLOW_MAPPING_EMPTY_VALUE_STATE)?;
                 self.parse_node(NodePlace::Flow, token, pending, out)
@@ -267,7 +284,10 @@ impl<S> yaml_parser_t<S> {
         ensures error { IfErr result (λ e. e ≡ yaml_error_type_t.YAML_PARSER_ERROR) }
     {
         match token.content {
-            unnamed_yaml_token_t_data::Value => Ok(Next::BehindFlowMappingValue),
+            unnamed_yaml_token_t_data::Value => {
+                skip(token);
+                Ok(Next::BehindFlowMappingValue)
+            }
             _ => {
                 self.set_state(yaml_parser_state_t::YAML_PARSE_FLOW_MAPPING_KEY_STATE);
                 self.process_empty_scalar(token.start_mark, token, out);
