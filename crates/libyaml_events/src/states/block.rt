@@ -78,8 +78,8 @@ impl<S> yaml_parser_t<S> {
         pending: &mut Pending,
         out: &mut yaml_event_t,
     ) -> Result<Next, yaml_error_type_t>
-        ensures steps { Steps (parse_block_sequence_entry self.old.config token.now token.now.content) self.old
-            (answer result pending.new out.new) self.new }
+        ensures steps { Steps (parse_block_sequence_entry self.old.config token.now token.now.content)
+            self.old (answer result pending.new out.new) self.new }
         ensures error { IfErr result (λ e. e ≡ yaml_error_type_t.YAML_PARSER_ERROR) }
     {
         match &token.content {
