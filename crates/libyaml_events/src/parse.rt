@@ -1,5 +1,6 @@
 //! One call of the parser.
-ghost use Rattle.std.specs.Prelude.{◌≡◌, ◌≤◌, ◌<◌, ◌+◌, ◌++◌, ◌*◌, List, [], length, Ok, Err};
+ghost use Rattle.std.specs.Prelude.{◌≡◌, ◌≤◌, ◌<◌, ◌+◌, ◌++◌, ◌*◌};
+ghost use Rattle.std.specs.Prelude.{List, [], length, Ok, Err};
 ghost use Rattle.std.specs.Prelude.{true, false, IfOk, IfErr, MatchResult};
 ghost use Rattle.libyaml_types.specs.declared.token.yaml_token_t.{yaml_token_t};
 ghost use Rattle.libyaml_types.specs.declared.event.yaml_event_t.{yaml_event_t};
