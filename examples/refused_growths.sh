@@ -5,7 +5,7 @@
 #
 #     examples/refused_growths.sh [CRATE..]
 #
-# Without words: hostile_rows line_rows yaml_rows document_rows.
+# Without words: hostile_rows large_rows call_rows line_rows.
 set -u
 cd "$(dirname "$0")/.." || exit 2
 
@@ -34,7 +34,7 @@ no growth refused" ] || status=1
 status=0
 shim=$(mktemp) || exit 2
 cc -O2 -fPIC -shared -o "$shim" examples/refuse.c || exit 2
-for crate in ${*:-hostile_rows line_rows yaml_rows document_rows}; do
+for crate in ${*:-hostile_rows large_rows call_rows line_rows}; do
     refuse_in_turn "$crate"
 done
 rm -f "$shim"

@@ -201,7 +201,7 @@ const ROWS: [(&str, &str, i32, &str); 27] = [
 ];
 
 /// The rows, so that no loop over them has their texts in its proof.
-pub fn rows() -> &'static [(&'static str, &'static str, i32, &'static str)] {
+fn rows() -> &'static [(&'static str, &'static str, i32, &'static str)] {
     &ROWS
 }
 

@@ -1,14 +1,12 @@
 //! Documents, and all that a user of `unsafe_libyaml` alone writes with them.
 //!
 //! The program counts the events of a list of tokens, and shows a document that is built by calls. Then it
-//! makes the checks of each module and names what is wrong. `document_rows refused` makes the checks of
-//! refused growths alone.
+//! makes the checks of each module and names what is wrong.
 #![tactic(auto)]
 
 mod calls;
 mod drained;
 mod loads;
-mod refused;
 mod whole_loads;
 mod whole_runs;
 mod words;
@@ -17,7 +15,6 @@ use anyhow::Result;
 use drained::count_events;
 use row_notation::{show_checks, show_document, source_of};
 use std::alloc::Global;
-use std::{env, io};
 use unsafe_libyaml::{yaml_document_t, yaml_list_source_t, yaml_parser_initialize};
 use words::{document_of_words, first_word};
 
@@ -52,10 +49,6 @@ fn show_words(rt: &(impl Print + AllocGlobal)) -> Result<()> {
     show_read(rt, &document)
 }
 
-fn show_refused(rt: &(impl Print + AllocGlobal)) -> io::Result<()> {
-    show_checks(rt, "refused growths", &refused::checks(rt.alloc()))
-}
-
 fn show_all(rt: &(impl Print + AllocGlobal)) -> Result<()> {
     show_count(rt)?;
     show_words(rt)?;
@@ -67,16 +60,9 @@ fn show_all(rt: &(impl Print + AllocGlobal)) -> Result<()> {
         &whole_loads::checks(rt.alloc()),
     )?;
     show_checks(rt, "all events at once", &whole_runs::checks(rt.alloc()))?;
-    show_refused(rt)?;
     Ok(())
 }
 
 fn main(rt: HostRuntime) -> Result<()> {
-    let words = env::args(&rt)?.count();
-    if words > 1 {
-        show_refused(&rt)?;
-    } else {
-        show_all(&rt)?;
-    }
-    Ok(())
+    show_all(&rt)
 }

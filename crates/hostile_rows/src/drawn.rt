@@ -4,17 +4,15 @@
 //! 3 + (x / 65536) mod 19 and whose texts have x mod 70 bytes joins the list, where parsing the list with it
 //! behind ends in the source's fault; then x becomes (1103515245 x + 12345) mod 2147483648.
 
-use crate::readings::{Reading, run, shown};
-use crate::texts::put;
 use anyhow::Result;
-use row_notation::{EVERY_CALL, PieceReader, end_of_row, source_of, tokens_of};
+use row_notation::{EVERY_CALL, PieceReader, Reading, put_text, shown, source_of, tokens_of};
 use std::alloc::Global;
 use std::fmt::Write;
-use token_lines::{Outcome, write_events, write_nodes};
+use token_lines::{Outcome, run_events, run_nodes, write_events, write_nodes};
 use unsafe_libyaml::{
     YAML_NO_ERROR, YAML_READER_ERROR, ZERO_MARK, yaml_error_type_t, yaml_list_source_t,
     yaml_mark_t, yaml_parser_between_documents, yaml_parser_initialize, yaml_parser_parse_all,
-    yaml_parser_t, yaml_parser_t_prefix, yaml_source_fault_t, yaml_token_source_t,
+    yaml_parser_t, yaml_parser_t_prefix, yaml_source_fault_t,
 };
 
 /// How many tokens are drawn for a list.
@@ -110,16 +108,23 @@ impl Drawn {
         self.tried.push_str(self.row.as_str())?;
         self.tried.push_str(" ")?;
         self.tried.push_str(name)?;
-        put(&mut self.tried, payload, token.text)
+        put_text(&mut self.tried, payload, token.text)
+    }
+
+    /// Puts the mark of this index in the lines.
+    fn put_mark(&mut self, index: u64) -> Result<()> {
+        write!(self.lines, " {index}:0:{index}")?;
+        Ok(())
     }
 
     fn put_in_lines(&mut self, token: Token) -> Result<()> {
         let (name, _, payload) = token.kind;
         let start = self.tokens.wrapping_mul(2);
         let end = start.wrapping_add(1);
-        write!(self.lines, "{name} {start}:0:{start}")?;
-        write!(self.lines, " {end}:0:{end}")?;
-        put(&mut self.lines, payload, token.text)?;
+        self.lines.push_str(name)?;
+        self.put_mark(start)?;
+        self.put_mark(end)?;
+        put_text(&mut self.lines, payload, token.text)?;
         self.lines.push_str("\n")?;
         Ok(())
     }
@@ -128,11 +133,17 @@ impl Drawn {
     fn append(&mut self, alloc: Global, token: Token) -> Result<()> {
         self.put_in_row(token)?;
         if parsing_ends_by(alloc, self.tried.as_str())? == YAML_READER_ERROR {
-            self.put_in_lines(token)?;
-            self.tokens = self.tokens.wrapping_add(1);
-            self.row.clear();
-            self.row.push_str(self.tried.as_str())?;
+            self.keep(token)?;
         }
+        Ok(())
+    }
+
+    /// Makes it the list that was tried.
+    fn keep(&mut self, token: Token) -> Result<()> {
+        self.put_in_lines(token)?;
+        self.tokens = self.tokens.wrapping_add(1);
+        self.row.clear();
+        self.row.push_str(self.tried.as_str())?;
         Ok(())
     }
 
@@ -176,9 +187,9 @@ impl Drawn {
 
     /// What a run writes of the list's tokens.
     fn lines_of_tokens(&self, alloc: Global, reading: Reading) -> Result<Vec<u8>> {
-        let mut parser = yaml_parser_initialize(alloc, self.source(alloc)?);
+        let source = self.source(alloc)?;
         let mut written = Vec::new(alloc);
-        write(alloc, &mut parser, &mut written, reading);
+        write_source(alloc, source, &mut written, reading);
         Ok(written)
     }
 
@@ -241,10 +252,33 @@ fn ends_so(shown: &str) -> bool {
     shown.contains("fault 2: no more tokens at 99") || shown.contains("fault 5: ")
 }
 
-/// Writes what a parser gives as lines.
-fn write<S: yaml_token_source_t>(
+/// A run over lines, which writes the lines of what is read.
+fn run(
     alloc: Global,
-    parser: &mut yaml_parser_t<S>,
+    reader: &mut PieceReader<'_>,
+    written: &mut Vec<u8>,
+    reading: Reading,
+) -> Outcome {
+    match reading {
+        Reading::Events => run_events(alloc, reader, written),
+        Reading::Documents => run_nodes(alloc, reader, written),
+    }
+}
+
+/// Writes what a source gives as lines.
+fn write_source(
+    alloc: Global,
+    source: yaml_list_source_t,
+    written: &mut Vec<u8>,
+    reading: Reading,
+) {
+    let mut parser = yaml_parser_initialize(alloc, source);
+    write(alloc, &mut parser, written, reading);
+}
+
+fn write(
+    alloc: Global,
+    parser: &mut yaml_parser_t<yaml_list_source_t>,
     written: &mut Vec<u8>,
     reading: Reading,
 ) {

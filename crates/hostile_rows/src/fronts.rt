@@ -1,13 +1,14 @@
 //! Each front of a row with each error of a source behind it, parsed and loaded.
 
-use crate::readings::{Reading, shown};
 use anyhow::Result;
-use row_notation::{end_of_row, ends_of_sources, is_front, shown_end, tokens_of};
+use row_notation::{
+    Reading, end_of_row, ends_of_sources, first_wrong, is_front, shown, shown_end, tokens_of,
+};
 use std::alloc::Global;
 use unsafe_libyaml::{yaml_list_source_t, yaml_source_fault_t};
 
 /// Rows of tokens. What each gives as a whole, the other programs of rows say.
-const ROWS: [&str; 41] = [
+const ROWS: [&str; 42] = [
     "STREAM-START STREAM-END",
     "STREAM-START SCALAR(a) STREAM-END",
     "STREAM-START DOCUMENT-START DOCUMENT-END DOCUMENT-END STREAM-END",
@@ -57,6 +58,9 @@ const ROWS: [&str; 41] = [
     "STREAM-START ANCHOR(a) FLOW-SEQUENCE-START ALIAS(a) FLOW-ENTRY ALIAS(a) FLOW-SEQUENCE-END STREAM-END",
     "STREAM-START ANCHOR(a) FLOW-SEQUENCE-START ALIAS(a) FLOW-ENTRY ALIAS(b) FLOW-SEQUENCE-END STREAM-END",
     "STREAM-START SCALAR(a) DOCUMENT-END BLOCK-END STREAM-END",
+    // A handle that is kept, tags that are joined, and collections that nest.
+    "STREAM-START TAG-DIRECTIVE(!e!,p:) DOCUMENT-START TAG(!e!,t) BLOCK-SEQUENCE-START BLOCK-ENTRY \
+        FLOW-SEQUENCE-START TAG(!e!,t) FLOW-SEQUENCE-END BLOCK-END STREAM-END",
 ];
 
 /// The rows, so that no loop over them has their texts in its proof.
@@ -164,7 +168,7 @@ fn is_row_right(alloc: Global, row: &str) -> Result<bool> {
 /// The first row with a front that gives anything else, if there is one.
 ///
 /// Errors: those of `shown_front`.
-pub fn first_wrong_front(alloc: Global) -> Result<Option<&'static str>> {
+fn first_wrong_front(alloc: Global) -> Result<Option<&'static str>> {
     for row in rows() {
         if !is_row_right(alloc, row)? {
             return Ok(Some(row));
@@ -196,11 +200,19 @@ fn is_ended(shown: &str, documents: &str, fault: &str) -> bool {
 /// The first of the loaded fronts that gives anything else, if there is one.
 ///
 /// Errors: those of `shown_front`.
-pub fn first_wrong_load(alloc: Global) -> Result<Option<&'static str>> {
+fn first_wrong_load(alloc: Global) -> Result<Option<&'static str>> {
     for (row, documents) in loaded_fronts() {
         if !is_load_right(alloc, row, documents)? {
             return Ok(Some(row));
         }
     }
     Ok(None)
+}
+
+/// What is wrong with fronts of rows.
+pub fn checks(alloc: Global) -> [Option<&'static str>; 2] {
+    [
+        first_wrong(first_wrong_front(alloc), "fronts"),
+        first_wrong(first_wrong_load(alloc), "loads of fronts"),
+    ]
 }

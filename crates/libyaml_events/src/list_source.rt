@@ -1,5 +1,5 @@
 //! A source over a list.
-ghost use Rattle.std.specs.Prelude.{◌≡◌, ℕ, List, length, Some};
+ghost use Rattle.std.specs.Prelude.{◌≡◌, List, length, Some};
 ghost use Rattle.libyaml_grammar.specs.runs.Fault.{source_fault};
 ghost use Rattle.libyaml_events.specs.sources.Source.{coming, list_answer, rest_of_list};
 ghost use Rattle.libyaml_events.specs.sources.ListLaws.{list_falls, list_follows, list_repeats};

@@ -1,5 +1,5 @@
 //! Where a parser's tokens come from.
-ghost use Rattle.std.specs.Prelude.{◌≡◌, ℕ, ◌+◌, Option, Ok, Err, OnOk, None, Some};
+ghost use Rattle.std.specs.Prelude.{◌≡◌, ℕ, ◌+◌, Option, Ok, Err};
 ghost use Rattle.libyaml_types.specs.declared.token.yaml_token_t.{yaml_token_t};
 ghost use Rattle.libyaml_grammar.specs.runs.Fault.{Fault, Answer, answer_of};
 ghost use Rattle.libyaml_events.specs.sources.Source.{Coming, Follows};

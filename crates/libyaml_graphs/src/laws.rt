@@ -4,7 +4,7 @@
 pub mod machine;
 pub mod rows;
 
-ghost use Rattle.std.specs.Prelude.{◌≡◌, ◌≢◌, ◌++◌, ◌↔◌, ℕ, suc, List, [], ◌∷◌, Option, None, true};
+ghost use Rattle.std.specs.Prelude.{◌≡◌, ◌≢◌, ◌++◌, ◌↔◌, ℕ, suc, List, [], ◌∷◌, None, true};
 ghost use Rattle.std.specs.Prelude.{false, Ok, Err};
 ghost use Rattle.libyaml_grammar.specs.cuts.CutEvents.{cut_events};
 ghost use Rattle.libyaml_grammar.specs.cuts.CutFaults.{fault};

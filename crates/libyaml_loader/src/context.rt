@@ -1,6 +1,6 @@
 //! A document on the way: its nodes so far, its open collections and its anchors.
 
-ghost use Rattle.std.specs.Prelude.{◌≡◌, ◌≤◌, ◌⊎◌, suc, [], length, nat_lt, false, Some, None};
+ghost use Rattle.std.specs.Prelude.{◌≡◌, ◌≤◌, suc, [], length, nat_lt, false, Some, None};
 ghost use Rattle.std.specs.Prelude.{IfOk, IfErr, OnOk};
 ghost use Rattle.libyaml_documents.specs.Documents.{with_changed_node};
 ghost use Rattle.libyaml_documents.specs.LoadedNodes.{begun_document, children_at, ended_document};
@@ -8,11 +8,11 @@ ghost use Rattle.libyaml_documents.specs.LoadedNodes.{mapping_loaded, scalar_loa
 ghost use Rattle.libyaml_documents.specs.LoadedNodes.{sequence_loaded};
 ghost use Rattle.libyaml_documents.specs.Nodes.{ids_of, type_at, with_item, with_pair};
 ghost use Rattle.libyaml_graphs.specs.Loader.{no_anchors, parent_full, register, registered};
-ghost use Rattle.libyaml_graphs.specs.Parts.{alias_part, end_part, leaf_part, part_in, start_part};
+ghost use Rattle.libyaml_graphs.specs.Parts.{alias_part, leaf_part, part_in, start_part};
 ghost use Rattle.libyaml_loader.specs.Context.{AllOpenIn, Composed, IdsAreIn, NodeLoaded, Refuses};
 ghost use Rattle.libyaml_loader.specs.Context.{RefusesAnchor, closed, handed_to, loader_of};
 ghost use Rattle.libyaml_loader.specs.Ids.{id_of};
-ghost use Rattle.libyaml_loader.specs.Stack.{opened, with_key};
+ghost use Rattle.libyaml_loader.specs.Stack.{with_key};
 
 use crate::anchors::Anchors;
 use crate::ids::{Carrier, NodeId};

@@ -1,6 +1,6 @@
 //! One line of a reader.
-ghost use Rattle.std.specs.Prelude.{◌≡◌, ◌≢◌, ◌≤◌, ◌<◌, ◌+◌, ◌++◌, ◌↔◌, [], All, drop, take};
-ghost use Rattle.std.specs.Prelude.{length, vec_len, IfOk, IfErr, OnOk, OnErr, OnSome, Ok, IsOk};
+ghost use Rattle.std.specs.Prelude.{◌≡◌, ◌≢◌, ◌≤◌, ◌<◌, ◌+◌, ◌++◌, ◌↔◌, [], All, take};
+ghost use Rattle.std.specs.Prelude.{length, IfOk, IfErr, OnOk, OnErr, OnSome, Ok, IsOk};
 ghost use Rattle.std.specs.Io.KnownBytes.{Consumes, Keeps, IsAtEnd};
 ghost use Rattle.line_reading.specs.Line.{ended_by, appended, line_feed};
 ghost use Rattle.line_reading.specs.ReadLines.{longest_line};

@@ -46,9 +46,10 @@ fn run_refusals(alloc: Global, row: Run<'_>) -> u8 {
     )
 }
 
-/// Places of runs with the events of a scalar, a fault with a context, and directives with a tag that is
-/// joined; with documents with directives, with pairs, and with a fault behind one.
-const GROWING: [usize; 6] = [0, 5, 6, 9, 10, 13];
+/// Places of runs with the events of a scalar, texts with escapes, a fault with a context, directives with a
+/// tag that is joined, and an alias; with documents with directives, with pairs, with an alias, and with a
+/// fault behind one.
+const GROWING: [usize; 9] = [0, 3, 5, 6, 7, 9, 10, 11, 13];
 
 /// How often a growth was refused in the run at this place, which is made twice.
 fn place_refusals(alloc: Global, place: usize) -> u8 {

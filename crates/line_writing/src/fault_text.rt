@@ -1,9 +1,8 @@
 //! Faults as lines.
-ghost use Rattle.std.specs.Prelude.{◌≡◌, ◌++◌, OnOk, IsOkUnless, Some};
+ghost use Rattle.std.specs.Prelude.{◌≡◌, OnOk, IsOkUnless, Some};
 ghost use Rattle.std.specs.Io.KnownBytes.{Appends};
 ghost use Rattle.libyaml_grammar.specs.runs.Fault.{fault_of};
-ghost use Rattle.line_writing.specs.FieldTexts.{mark_text};
-ghost use Rattle.line_writing.specs.FaultText.{fault_kind, problem_text, problem_line};
+ghost use Rattle.line_writing.specs.FaultText.{fault_kind, problem_line};
 ghost use Rattle.line_writing.specs.FaultText.{context_line, fault_text};
 
 use crate::field_text::ABSENT;

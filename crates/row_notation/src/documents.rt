@@ -107,3 +107,27 @@ pub fn shown_document(alloc: Global, document: &yaml_document_t) -> Result<Strin
     let whole = show_document(&mut shown, document);
     whole.and(Ok(shown))
 }
+
+/// The ids in a sequence; None of another node.
+pub fn items_of(node: &yaml_node_t) -> Option<&[i32]> {
+    match &node.content {
+        unnamed_yaml_node_t_data::Sequence(sequence) => Some(sequence.items.as_slice()),
+        _ => None,
+    }
+}
+
+/// Whether each node is a sequence with the next as its only item, and the last is empty.
+pub fn is_chain(nodes: &[yaml_node_t]) -> bool {
+    for (index, node) in nodes.iter().enumerate() {
+        let next = index.saturating_add(2);
+        let is_link = match items_of(node) {
+            Some([]) => next > nodes.len(),
+            Some([item]) => usize::try_from(*item).ok() == Some(next),
+            _ => false,
+        };
+        if !is_link {
+            return false;
+        }
+    }
+    true
+}

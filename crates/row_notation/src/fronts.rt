@@ -62,3 +62,21 @@ pub fn is_front_shown(front: &Result<String>, whole: &str, fault: &str) -> bool 
         Err(_) => false,
     }
 }
+
+/// How a refused growth is shown.
+const REFUSED: &str = "fault 1";
+
+/// Whether two runs show the same, or one of them is the other's beginning with a refused growth behind it.
+/// An error is a growth that was refused beside the run, and only one of the two can have met it.
+pub fn are_same_or_cut(one: &Result<String>, other: &Result<String>) -> bool {
+    match (one, other) {
+        (Ok(one), Ok(other)) => is_cut(one.as_str(), other.as_str()),
+        (Err(_), Err(_)) => false,
+        _ => true,
+    }
+}
+
+/// Whether one of these is the other's beginning with a refused growth behind it, or they are the same.
+fn is_cut(one: &str, other: &str) -> bool {
+    is_front(one, other, REFUSED) || is_front(other, one, REFUSED)
+}

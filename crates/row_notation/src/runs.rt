@@ -61,7 +61,11 @@ fn show_next<S: yaml_token_source_t>(
     show_answer(shown, &answer, parser.prefix())
 }
 
-fn show_all<S: yaml_token_source_t>(
+/// The events of a parser and the fault behind them, if there is one, behind what was shown before; then
+/// ` more` where anything but the empty event follows.
+///
+/// Errors: want of memory.
+pub fn show_events<S: yaml_token_source_t>(
     shown: &mut String,
     parser: &mut yaml_parser_t<S>,
 ) -> Result<()> {
@@ -76,8 +80,7 @@ fn show_all<S: yaml_token_source_t>(
     Ok(())
 }
 
-/// The events of a parser and the fault behind them, if there is one; then ` more` where anything but
-/// the empty event follows.
+/// What `show_events` shows, alone.
 ///
 /// Errors: want of memory.
 pub fn show_run<S: yaml_token_source_t>(
@@ -85,7 +88,7 @@ pub fn show_run<S: yaml_token_source_t>(
     parser: &mut yaml_parser_t<S>,
 ) -> Result<String> {
     let mut shown = String::new(alloc);
-    let whole = show_all(&mut shown, parser);
+    let whole = show_events(&mut shown, parser);
     whole.and(Ok(shown))
 }
 

@@ -2,7 +2,7 @@
 
 use crate::events::mark;
 use anyhow::{Context, Result};
-use std::alloc::Global;
+use std::alloc::{AllocError, Global};
 use unsafe_libyaml::{
     Text, unnamed_yaml_token_t_data, unnamed_yaml_token_t_data_alias,
     unnamed_yaml_token_t_data_anchor, unnamed_yaml_token_t_data_scalar,
@@ -126,4 +126,22 @@ pub fn end_of_row() -> yaml_source_fault_t {
 /// Errors: those of `tokens_of`.
 pub fn source_of(alloc: Global, row: &str) -> Result<yaml_list_source_t> {
     Ok(yaml_list_source_t::new(tokens_of(alloc, row)?, end_of_row()))
+}
+
+/// Appends a pattern, with this text for each `@`.
+///
+/// Errors: want of memory.
+pub fn put_text(out: &mut String, pattern: &str, text: &str) -> Result<()> {
+    for letter in pattern.chars() {
+        put_letter(out, letter, text)?;
+    }
+    Ok(())
+}
+
+fn put_letter(out: &mut String, letter: char, text: &str) -> Result<(), AllocError> {
+    if letter == '@' {
+        out.push_str(text)
+    } else {
+        out.push(letter)
+    }
 }

@@ -1,8 +1,7 @@
 //! Rows of types and events, and lists of tokens with the events that they give.
 //!
 //! The program makes the checks of each module and names what is wrong. Then it parses each list that `names`
-//! names, whole and each front of it, and says where that differs from what is expected. `yaml_rows refused`
-//! makes the checks of refused growths alone.
+//! names, whole and each front of it, and says where that differs from what is expected.
 #![tactic(auto)]
 
 mod events;
@@ -17,7 +16,7 @@ use lists::{gives_lines, keeps_its_end};
 use row_notation::show_checks;
 use std::alloc::Global;
 use std::rt::Files;
-use std::{env, fs, io};
+use std::{fs, io};
 use types::{collections, values};
 
 /// What is wrong with these token lines and event lines, if anything is.
@@ -69,19 +68,6 @@ fn show_lists(rt: &(impl Files + Print + AllocGlobal)) -> Result<()> {
     show_each(rt, names.as_str())
 }
 
-fn show_refused(rt: &(impl Print + AllocGlobal)) -> io::Result<()> {
-    show_checks(
-        rt,
-        "refused growths of types",
-        &types::refused::checks(rt.alloc()),
-    )?;
-    show_checks(
-        rt,
-        "refused growths of parsers",
-        &events::refused::checks(rt.alloc()),
-    )
-}
-
 fn show_types(rt: &(impl Print + AllocGlobal)) -> io::Result<()> {
     show_checks(
         rt,
@@ -107,16 +93,9 @@ fn show_events(rt: &(impl Print + AllocGlobal)) -> io::Result<()> {
 fn show_all(rt: &(impl Files + Print + AllocGlobal)) -> Result<()> {
     show_types(rt)?;
     show_events(rt)?;
-    show_refused(rt)?;
     show_lists(rt)
 }
 
 fn main(rt: HostRuntime) -> Result<()> {
-    let words = env::args(&rt)?.count();
-    if words > 1 {
-        show_refused(&rt)?;
-    } else {
-        show_all(&rt)?;
-    }
-    Ok(())
+    show_all(&rt)
 }

@@ -29,17 +29,12 @@
 //!   At a token other than VALUE, 4 gives the empty value, and the token stays for 2.
 //! ```
 ghost use Rattle.std.specs.Prelude.{◌≡◌, IfErr};
-ghost use Rattle.libyaml_types.specs.Numbers.{parser_state_number};
-ghost use Rattle.libyaml_events.specs.machine.State.{IsBackByte};
 ghost use Rattle.libyaml_events.specs.machine.Machine.{first_block_sequence_entry};
 ghost use Rattle.libyaml_events.specs.machine.Machine.{parse_block_sequence_entry};
-ghost use Rattle.libyaml_events.specs.machine.Machine.{behind_block_entry};
 ghost use Rattle.libyaml_events.specs.machine.Machine.{parse_indentless_sequence_entry};
-ghost use Rattle.libyaml_events.specs.machine.Machine.{behind_indentless_entry};
 ghost use Rattle.libyaml_events.specs.machine.Machine.{first_block_mapping_key};
 ghost use Rattle.libyaml_events.specs.machine.Machine.{parse_block_mapping_key};
 ghost use Rattle.libyaml_events.specs.machine.Machine.{parse_block_mapping_value};
-ghost use Rattle.libyaml_events.specs.machine.Machine.{behind_block_indicator};
 ghost use Rattle.libyaml_events.specs.machine.Steps.{Steps};
 ghost use Rattle.libyaml_events.specs.machine.Answers.{answer};
 
@@ -49,7 +44,7 @@ use crate::pending::Pending;
 use crate::states::{give, skip};
 use libyaml_types::{
     unnamed_yaml_event_t_data, unnamed_yaml_token_t_data, yaml_error_type_t, yaml_event_t,
-    yaml_mark_t, yaml_parser_state_t, yaml_token_t,
+    yaml_parser_state_t, yaml_token_t,
 };
 
 impl<S> yaml_parser_t<S> {

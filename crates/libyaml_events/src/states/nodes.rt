@@ -19,7 +19,7 @@ ghost use Rattle.libyaml_types.specs.declared.event.unnamed_yaml_event_t_data_sc
 ghost use Rattle.libyaml_types.specs.declared.enums.yaml_scalar_style_t.TheVariants.{YAML_PLAIN_SCALAR_STYLE};
 ghost use Rattle.libyaml_grammar.specs.sentences.Events.{is_plain, plain_flag, quoted_flag, is_missing};
 ghost use Rattle.libyaml_events.specs.machine.Machine.{scalar, sequence_start, mapping_start};
-ghost use Rattle.libyaml_events.specs.machine.Machine.{only_properties, no_content};
+ghost use Rattle.libyaml_events.specs.machine.Machine.{no_content};
 ghost use Rattle.libyaml_events.specs.machine.Machine.{open_collection, scalar_content};
 ghost use Rattle.libyaml_events.specs.machine.Collections.{collection_start};
 ghost use Rattle.libyaml_events.specs.machine.Machine.{is_block_place, node_content};

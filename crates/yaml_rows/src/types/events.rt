@@ -192,7 +192,7 @@ fn is_refused_text(made: &Made) -> bool {
 }
 
 /// Whether a call answered that its bytes are no text.
-pub(super) fn is_no_text(answer: Made) -> bool {
+fn is_no_text(answer: Made) -> bool {
     is_refused_text(&answer)
 }
 

@@ -4,12 +4,12 @@ use row_notation::{first_wrong, is_text, unless, unless_made};
 use std::alloc::Global;
 use std::cmp::Ordering;
 use unsafe_libyaml::{
-    TagDirectives, Text, ZERO_MARK, unnamed_yaml_event_t_data, unnamed_yaml_event_t_data_alias,
+    Text, ZERO_MARK, unnamed_yaml_event_t_data, unnamed_yaml_event_t_data_alias,
     unnamed_yaml_token_t_data, unnamed_yaml_token_t_data_scalar,
     unnamed_yaml_token_t_data_version_directive, yaml_break_t, yaml_encoding_t, yaml_error_type_t,
     yaml_event_t, yaml_event_type_t, yaml_mapping_style_t, yaml_mark_t, yaml_node_type_t,
-    yaml_parser_state_t, yaml_refusal_t, yaml_scalar_style_t, yaml_sequence_style_t,
-    yaml_tag_directive_t, yaml_token_t, yaml_token_type_t,
+    yaml_parser_state_t, yaml_refusal_t, yaml_scalar_style_t, yaml_sequence_style_t, yaml_token_t,
+    yaml_token_type_t,
 };
 
 fn last_numbers() -> [u32; 10] {

@@ -1,13 +1,13 @@
 //! Work that takes no more memory where there is more of it (`examples/flat_memory.sh`).
 
-use crate::readings::{Reading, is_event, next_nodes};
 use computed_tokens::{ComputedTokens, GrowingList};
-use row_notation::end_of_row;
+use row_notation::{Reading, end_of_row, is_empty};
 use std::alloc::{AllocError, Global};
 use unsafe_libyaml::{
     Text, YAML_ANY_SCALAR_STYLE, ZERO_MARK, unnamed_yaml_token_t_data,
-    unnamed_yaml_token_t_data_anchor, yaml_event_delete, yaml_parser_delete,
-    yaml_parser_initialize, yaml_parser_parse, yaml_parser_t, yaml_refusal_t,
+    unnamed_yaml_token_t_data_anchor, yaml_document_t, yaml_error_type_t, yaml_event_delete,
+    yaml_event_t, yaml_parser_between_documents, yaml_parser_delete, yaml_parser_initialize,
+    yaml_parser_load, yaml_parser_parse, yaml_parser_t, yaml_refusal_t,
     yaml_scalar_event_initialize, yaml_token_delete, yaml_token_t,
 };
 
@@ -17,14 +17,34 @@ fn parses(parser: &mut yaml_parser_t<ComputedTokens>) -> bool {
     is_event(&answer)
 }
 
+fn is_event(answer: &Result<yaml_event_t, yaml_error_type_t>) -> bool {
+    match answer {
+        Ok(event) => !is_empty(event),
+        Err(_) => false,
+    }
+}
+
+/// How many nodes the next document has; 0 where none comes.
+fn next_nodes(parser: &mut yaml_parser_t<ComputedTokens>) -> u64 {
+    if !yaml_parser_between_documents(parser) {
+        return 0;
+    }
+    let answer = yaml_parser_load(parser);
+    count_nodes(&answer)
+}
+
+fn count_nodes(answer: &Result<yaml_document_t, yaml_error_type_t>) -> u64 {
+    match answer {
+        Ok(document) => document.nodes().len() as u64,
+        Err(_) => 0,
+    }
+}
+
 /// How many events or nodes one more call gives.
 fn next(parser: &mut yaml_parser_t<ComputedTokens>, reading: Reading) -> u64 {
     match reading {
         Reading::Events => u64::from(parses(parser)),
-        Reading::Documents => match next_nodes(parser) {
-            Some(Ok(nodes)) => nodes as u64,
-            _ => 0,
-        },
+        Reading::Documents => next_nodes(parser),
     }
 }
 

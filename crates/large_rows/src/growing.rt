@@ -1,10 +1,8 @@
 //! Lists that grow by a number, over the source that computes them and over a list of the same tokens.
 
-use crate::in_step::{Counted, EVERY_CALL, count_all};
-use crate::readings::{Reading, shown};
 use anyhow::Result;
 use computed_tokens::{ComputedTokens, GrowingList};
-use row_notation::end_of_row;
+use row_notation::{end_of_row, is_chain, items_of, show_run};
 use std::alloc::{AllocError, Global};
 use unsafe_libyaml::{
     unnamed_yaml_node_t_data, yaml_document_t, yaml_list_source_t, yaml_node_t,
@@ -19,27 +17,19 @@ pub struct Grown {
 }
 
 impl Grown {
-    fn computed(self, alloc: Global) -> ComputedTokens {
+    /// The source that computes the tokens.
+    pub fn computed(self, alloc: Global) -> ComputedTokens {
         ComputedTokens::new(alloc, self.list, self.n, end_of_row())
     }
 
     /// A list source of the same tokens.
-    fn listed(self, alloc: Global) -> Result<yaml_list_source_t, AllocError> {
+    ///
+    /// Errors: want of memory.
+    pub fn listed(self, alloc: Global) -> Result<yaml_list_source_t, AllocError> {
         let mut source = self.computed(alloc);
         let mut tokens = Vec::new(alloc);
         let taken = take_all(&mut source, &mut tokens);
         taken.and(Ok(yaml_list_source_t::new(tokens, end_of_row())))
-    }
-
-    /// The events or documents of the list; None where the two sources differ, where a document has another
-    /// shape, or where more comes behind the end.
-    ///
-    /// Errors: want of memory.
-    pub fn counted(self, alloc: Global, reading: Reading) -> Result<Option<Counted>, AllocError> {
-        let listed = self.listed(alloc)?;
-        let mut one = yaml_parser_initialize(alloc, self.computed(alloc));
-        let mut other = yaml_parser_initialize(alloc, listed);
-        Ok(count_all(&mut one, &mut other, reading, self))
     }
 
     /// Whether a document with a root has the list's shape.
@@ -62,9 +52,10 @@ impl Grown {
 
     /// The events of the list, over the source that computes them, and the fault behind them.
     ///
-    /// Errors: those of `shown`.
+    /// Errors: want of memory.
     pub fn shown(self, alloc: Global) -> Result<String> {
-        shown(alloc, self.computed(alloc), Reading::Events)
+        let mut parser = yaml_parser_initialize(alloc, self.computed(alloc));
+        show_run(alloc, &mut parser)
     }
 }
 
@@ -81,36 +72,12 @@ fn take(source: &mut ComputedTokens, tokens: &mut Vec<yaml_token_t>) -> Result<b
 
 /// Puts all tokens of a source into a list.
 fn take_all(source: &mut ComputedTokens, tokens: &mut Vec<yaml_token_t>) -> Result<(), AllocError> {
-    for _ in 0..EVERY_CALL {
+    for _ in 0..u64::MAX {
         if !take(source, tokens)? {
             break;
         }
     }
     Ok(())
-}
-
-/// The ids in a sequence.
-fn items_of(node: &yaml_node_t) -> Option<&[i32]> {
-    match &node.content {
-        unnamed_yaml_node_t_data::Sequence(sequence) => Some(sequence.items.as_slice()),
-        _ => None,
-    }
-}
-
-/// Whether each node is a sequence with the next as its only item, and the last is empty.
-pub fn is_chain(nodes: &[yaml_node_t]) -> bool {
-    for (index, node) in nodes.iter().enumerate() {
-        let next = index.saturating_add(2);
-        let is_link = match items_of(node) {
-            Some([]) => next > nodes.len(),
-            Some([item]) => usize::try_from(*item).ok() == Some(next),
-            _ => false,
-        };
-        if !is_link {
-            return false;
-        }
-    }
-    true
 }
 
 /// Whether this is a sequence of so many items, all of them the root.

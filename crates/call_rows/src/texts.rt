@@ -1,15 +1,13 @@
 //! Texts of every length, in each call that copies texts.
 
 use crate::calls::{Constructor, Texts, construct, constructors};
-use crate::readings::Loaded;
 use anyhow::Result;
-use row_notation::source_of;
-use std::alloc::{AllocError, Global};
+use row_notation::{Reading, put_text, shown, source_of};
+use std::alloc::Global;
 use unsafe_libyaml::{
     YAML_ANY_MAPPING_STYLE, YAML_ANY_SCALAR_STYLE, YAML_ANY_SEQUENCE_STYLE,
     yaml_document_add_mapping, yaml_document_add_scalar, yaml_document_add_sequence,
-    yaml_document_initialize, yaml_document_t, yaml_event_delete, yaml_node_t,
-    yaml_parser_initialize, yaml_parser_load, yaml_parser_parse_all, yaml_refusal_t, yaml_run_t,
+    yaml_document_initialize, yaml_document_t, yaml_event_delete, yaml_refusal_t,
 };
 
 /// The length of the longest text.
@@ -61,71 +59,61 @@ fn build(alloc: Global, text: &[u8]) -> Result<(), yaml_refusal_t> {
 const ROW: &str = "STREAM-START TAG-DIRECTIVE(@,@) DOCUMENT-START ANCHOR(@) TAG(@,@) \
     FLOW-SEQUENCE-START ALIAS(@) FLOW-ENTRY SCALAR(@,double) FLOW-SEQUENCE-END STREAM-END";
 
-/// Appends a pattern, with this text for each `@`.
-///
-/// Errors: want of memory.
-pub fn put(out: &mut String, pattern: &str, text: &str) -> Result<()> {
-    for letter in pattern.chars() {
-        put_letter(out, letter, text)?;
-    }
-    Ok(())
-}
+/// The row's events.
+const EVENTS: &str = "+S(0,0) +De%@=@(2,5) +[&@<@@>/0(6,11) *@(12,13) =@/01double(16,17) -Q(18,19) \
+    -Di(20,20) -S(20,21)";
 
-fn put_letter(out: &mut String, letter: char, text: &str) -> Result<(), AllocError> {
-    if letter == '@' {
-        out.push_str(text)
+/// Those of the empty text: an empty tag leaves the sequence its implicit flag.
+const EMPTY_EVENTS: &str = "+S(0,0) +De%=(2,5) +[&<>(6,11) *(12,13) =/01double(16,17) -Q(18,19) \
+    -Di(20,20) -S(20,21)";
+
+/// The row's document.
+const DOCUMENT: &str = "+De%@=@(2) <@@>[1 2](6,19) double!!str=@(16,17) -Di(20)";
+
+fn events_of(text: &str) -> &'static str {
+    if text.is_empty() {
+        EMPTY_EVENTS
     } else {
-        out.push(letter)
+        EVENTS
     }
 }
 
-fn row_of(alloc: Global, text: &str) -> Result<String> {
-    let mut row = String::new(alloc);
-    let whole = put(&mut row, ROW, text);
-    whole.and(Ok(row))
+/// A pattern with this text for each `@`.
+fn with_text(alloc: Global, pattern: &str, text: &str) -> Result<String> {
+    let mut whole = String::new(alloc);
+    let put = put_text(&mut whole, pattern, text);
+    put.and(Ok(whole))
 }
 
-/// Whether this row gives its eight events.
-fn parses(alloc: Global, row: &str) -> Result<bool> {
-    let run = yaml_parser_parse_all(alloc, source_of(alloc, row)?)?;
-    Ok(is_whole(&run))
+/// What the row with a text gives.
+fn shown_row(alloc: Global, text: &str, reading: Reading) -> Result<String> {
+    let row = with_text(alloc, ROW, text)?;
+    shown_as(alloc, row.as_str(), reading)
 }
 
-fn is_whole(run: &yaml_run_t) -> bool {
-    run.fault.is_none() && run.events.len() == 8
+fn shown_as(alloc: Global, row: &str, reading: Reading) -> Result<String> {
+    shown(alloc, source_of(alloc, row)?, reading)
 }
 
-/// Whether this is a document of two nodes, the first with a tag of so many bytes.
-fn is_tagged(loaded: &Loaded, tag: usize) -> bool {
-    match loaded {
-        Ok(document) => are_tagged(document.nodes(), tag),
-        Err(_) => false,
-    }
+/// Whether the row with a text gives this pattern with the text.
+fn is_read_so(alloc: Global, text: &str, reading: Reading, pattern: &str) -> Result<bool> {
+    let wanted = with_text(alloc, pattern, text)?;
+    is_shown(alloc, text, reading, wanted.as_str())
 }
 
-/// Whether these are two nodes, the first with a tag of so many bytes.
-fn are_tagged(nodes: &[yaml_node_t], tag: usize) -> bool {
-    match nodes {
-        [first, _] => first.tag.len() == tag,
-        _ => false,
-    }
+fn is_shown(alloc: Global, text: &str, reading: Reading, wanted: &str) -> Result<bool> {
+    let given = shown_row(alloc, text, reading)?;
+    Ok(given.as_str() == wanted)
 }
 
-/// Whether this row gives a document of two nodes, the first with a tag of so many bytes.
-fn loads(alloc: Global, row: &str, tag: usize) -> Result<bool> {
-    let mut parser = yaml_parser_initialize(alloc, source_of(alloc, row)?);
-    let loaded = yaml_parser_load(&mut parser);
-    Ok(is_tagged(&loaded, tag))
-}
-
-/// Whether the row of a text is parsed and loaded.
+/// Whether the row of a text gives its events and its document, with the text in each place.
 fn is_read(alloc: Global, text: &str) -> Result<bool> {
-    let row = row_of(alloc, text)?;
-    is_row_read(alloc, row.as_str(), text.len().saturating_mul(2))
-}
-
-fn is_row_read(alloc: Global, row: &str, tag: usize) -> Result<bool> {
-    Ok([parses(alloc, row)?, loads(alloc, row, tag)?] == [true; 2])
+    Ok(
+        [
+            is_read_so(alloc, text, Reading::Events, events_of(text))?,
+            is_read_so(alloc, text, Reading::Documents, DOCUMENT)?,
+        ] == [true; 2],
+    )
 }
 
 /// Whether no call with this text is refused.

@@ -1,36 +1,25 @@
 //! What a parser or a run gives, read as events or as documents.
 
+use crate::documents::show_document;
+use crate::faults::{are_same_faults, show_fault};
+use crate::runs::show_events;
 use anyhow::{Result, ensure};
-use row_notation::{are_same_faults, is_empty, show_document, show_fault, show_run};
 use std::alloc::Global;
-use std::io::{BufRead, Write};
-use token_lines::{Outcome, run_events, run_nodes};
 use unsafe_libyaml::{
-    YAML_NO_ERROR, yaml_document_t, yaml_error_type_t, yaml_event_t, yaml_parser_between_documents,
+    YAML_NO_ERROR, yaml_document_t, yaml_error_type_t, yaml_parser_between_documents,
     yaml_parser_initialize, yaml_parser_load, yaml_parser_t, yaml_parser_t_prefix,
     yaml_token_source_t,
 };
 
-/// What is read.
+/// What of a run is read.
 #[derive(Copy, Clone)]
 pub enum Reading {
     Events,
     Documents,
 }
 
-/// What parsing answers.
-pub type Parsed = Result<yaml_event_t, yaml_error_type_t>;
-
 /// What loading answers.
-pub type Loaded = Result<yaml_document_t, yaml_error_type_t>;
-
-/// Whether an event is answered, and not the empty one.
-pub fn is_event(answer: &Parsed) -> bool {
-    match answer {
-        Ok(event) => !is_empty(event),
-        Err(_) => false,
-    }
-}
+type Loaded = Result<yaml_document_t, yaml_error_type_t>;
 
 fn count_nodes(answer: &Loaded) -> Result<usize, yaml_error_type_t> {
     match answer {
@@ -40,7 +29,7 @@ fn count_nodes(answer: &Loaded) -> Result<usize, yaml_error_type_t> {
 }
 
 /// How many nodes the next document has; None where the parser stands amid a document.
-pub fn next_nodes<S: yaml_token_source_t>(
+fn next_nodes<S: yaml_token_source_t>(
     parser: &mut yaml_parser_t<S>,
 ) -> Option<Result<usize, yaml_error_type_t>> {
     if !yaml_parser_between_documents(parser) {
@@ -110,31 +99,37 @@ fn show_loads<S: yaml_token_source_t>(
     Ok(())
 }
 
-fn shown_loads<S: yaml_token_source_t>(
-    alloc: Global,
-    parser: &mut yaml_parser_t<S>,
-) -> Result<String> {
-    let mut shown = String::new(alloc);
-    let whole = show_loads(&mut shown, parser);
-    whole.and(Ok(shown))
-}
-
-/// What a parser gives, and the fault behind it.
-fn shown_all<S: yaml_token_source_t>(
-    alloc: Global,
+/// Shows what a parser gives, and the fault behind it.
+fn show_reading<S: yaml_token_source_t>(
+    shown: &mut String,
     parser: &mut yaml_parser_t<S>,
     reading: Reading,
-) -> Result<String> {
+) -> Result<()> {
     match reading {
-        Reading::Events => show_run(alloc, parser),
-        Reading::Documents => shown_loads(alloc, parser),
+        Reading::Events => show_events(shown, parser),
+        Reading::Documents => show_loads(shown, parser),
     }
 }
 
-/// Errors: an answer behind the end that `is_loaded` refuses.
-fn check_end<S: yaml_token_source_t>(parser: &mut yaml_parser_t<S>) -> Result<()> {
+/// Shows the same, behind which nothing else may come.
+fn show_whole<S: yaml_token_source_t>(
+    shown: &mut String,
+    parser: &mut yaml_parser_t<S>,
+    reading: Reading,
+) -> Result<()> {
+    show_reading(shown, parser, reading)?;
     ensure!(is_loaded(parser), "more behind the end");
     Ok(())
+}
+
+fn show_source<S: yaml_token_source_t + Drop>(
+    alloc: Global,
+    shown: &mut String,
+    source: S,
+    reading: Reading,
+) -> Result<()> {
+    let mut parser = yaml_parser_initialize(alloc, source);
+    show_whole(shown, &mut parser, reading)
 }
 
 /// What a source gives, and the fault behind it. That has to be the end, and the fault has to be kept, by
@@ -146,21 +141,7 @@ pub fn shown<S: yaml_token_source_t + Drop>(
     source: S,
     reading: Reading,
 ) -> Result<String> {
-    let mut parser = yaml_parser_initialize(alloc, source);
-    let shown = shown_all(alloc, &mut parser, reading);
-    let end = check_end(&mut parser);
-    end.and(shown)
-}
-
-/// A run over lines, which writes the lines of what is read.
-pub fn run<R: BufRead, W: Write>(
-    alloc: Global,
-    reader: &mut R,
-    writer: &mut W,
-    reading: Reading,
-) -> Outcome {
-    match reading {
-        Reading::Events => run_events(alloc, reader, writer),
-        Reading::Documents => run_nodes(alloc, reader, writer),
-    }
+    let mut shown = String::new(alloc);
+    let whole = show_source(alloc, &mut shown, source, reading);
+    whole.and(Ok(shown))
 }

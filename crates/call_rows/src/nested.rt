@@ -1,7 +1,7 @@
 //! Deep documents, built by calls.
 
 use crate::calls::append_item;
-use crate::growing::is_chain;
+use row_notation::is_chain;
 use std::alloc::Global;
 use unsafe_libyaml::{
     YAML_FLOW_SEQUENCE_STYLE, yaml_document_add_sequence, yaml_document_initialize,
