@@ -1,7 +1,7 @@
 #!/bin/sh
 # Shows that memory goes back: does each work of `large_rows` so many times and ten times as often, and writes what it
-# counted and the largest resident size of the run in KB. The two sizes have to be the same but for a tenth: a body that
-# never frees passes every proof. The program has to be built (`rt run` in crates/large_rows) and GNU time be there.
+# counted and the largest resident size of the run in KB. The second may be 512 KB more at most: a body that never frees
+# passes every proof. The program has to be built (`rt run` in crates/large_rows) and GNU time be there.
 #
 #     examples/flat_memory.sh
 set -u
@@ -20,7 +20,7 @@ for work in 'parsed 100000' 'loaded 10000' 'left 10000' 'deleted 10000'; do
     size "$1" "$2"
     few=$kb
     size "$1" "${2}0"
-    [ "$kb" -le $((few + few / 10)) ] || { echo "$1: not flat"; status=1; }
+    [ "$kb" -le $((few + 512)) ] || { echo "$1: not flat"; status=1; }
 done
 rm -f time.txt
 exit $status

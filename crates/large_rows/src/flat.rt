@@ -1,28 +1,14 @@
 //! Work that takes no more memory where there is more of it (`examples/flat_memory.sh`).
 
 use computed_tokens::{ComputedTokens, GrowingList};
-use row_notation::{Reading, end_of_row, is_empty};
+use row_notation::{Reading, end_of_row, gives_event};
 use std::alloc::{AllocError, Global};
 use unsafe_libyaml::{
     Text, YAML_ANY_SCALAR_STYLE, ZERO_MARK, unnamed_yaml_token_t_data,
     unnamed_yaml_token_t_data_anchor, yaml_document_t, yaml_error_type_t, yaml_event_delete,
-    yaml_event_t, yaml_parser_between_documents, yaml_parser_delete, yaml_parser_initialize,
-    yaml_parser_load, yaml_parser_parse, yaml_parser_t, yaml_refusal_t,
-    yaml_scalar_event_initialize, yaml_token_delete, yaml_token_t,
+    yaml_parser_between_documents, yaml_parser_delete, yaml_parser_initialize, yaml_parser_load,
+    yaml_parser_t, yaml_refusal_t, yaml_scalar_event_initialize, yaml_token_delete, yaml_token_t,
 };
-
-/// Whether an event comes, and not the empty one.
-fn parses(parser: &mut yaml_parser_t<ComputedTokens>) -> bool {
-    let answer = yaml_parser_parse(parser);
-    is_event(&answer)
-}
-
-fn is_event(answer: &Result<yaml_event_t, yaml_error_type_t>) -> bool {
-    match answer {
-        Ok(event) => !is_empty(event),
-        Err(_) => false,
-    }
-}
 
 /// How many nodes the next document has; 0 where none comes.
 fn next_nodes(parser: &mut yaml_parser_t<ComputedTokens>) -> u64 {
@@ -43,7 +29,7 @@ fn count_nodes(answer: &Result<yaml_document_t, yaml_error_type_t>) -> u64 {
 /// How many events or nodes one more call gives.
 fn next(parser: &mut yaml_parser_t<ComputedTokens>, reading: Reading) -> u64 {
     match reading {
-        Reading::Events => u64::from(parses(parser)),
+        Reading::Events => u64::from(gives_event(parser)),
         Reading::Documents => next_nodes(parser),
     }
 }
@@ -70,7 +56,7 @@ pub fn read_documents(alloc: Global, n: u32, reading: Reading) -> u64 {
 fn parse_some(parser: &mut yaml_parser_t<ComputedTokens>) -> u64 {
     let mut events = 0u64;
     for _ in 0..8u8 {
-        events = events.saturating_add(u64::from(parses(parser)));
+        events = events.saturating_add(u64::from(gives_event(parser)));
     }
     events
 }

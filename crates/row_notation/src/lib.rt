@@ -37,5 +37,7 @@ pub use faults::{are_same_faults, show_end, show_fault};
 pub use fronts::{are_same_or_cut, ends_of_sources, is_front, is_front_shown, shown_end};
 pub use pieces::{EVERY_CALL, FixedWriter, LineCounter, PieceReader, PieceWriter, RepeatingReader};
 pub use readings::{Reading, shown};
-pub use runs::{first_parsed_otherwise, is_empty, is_over, parsed, show_events, show_run};
+pub use runs::{
+    first_parsed_otherwise, gives_event, is_empty, is_over, parsed, show_events, show_run,
+};
 pub use tokens::{end_of_row, put_text, source_of, tokens_of};

@@ -21,23 +21,29 @@ pub fn is_empty(event: &yaml_event_t) -> bool {
 pub fn is_over<S: yaml_token_source_t>(parser: &mut yaml_parser_t<S>) -> bool {
     let kept = *parser.prefix();
     for _ in 0..3u8 {
-        if !gives_end(parser) || !are_same_faults(&kept, parser.prefix()) {
+        if gives_empty(parser) != Some(true) || !are_same_faults(&kept, parser.prefix()) {
             return false;
         }
     }
     true
 }
 
-fn gives_end<S: yaml_token_source_t>(parser: &mut yaml_parser_t<S>) -> bool {
+/// Whether the next event is the empty one; None where the call fails.
+fn gives_empty<S: yaml_token_source_t>(parser: &mut yaml_parser_t<S>) -> Option<bool> {
     let answer = yaml_parser_parse(parser);
-    is_end(&answer)
+    is_answer_empty(&answer)
 }
 
-fn is_end(answer: &Result<yaml_event_t, yaml_error_type_t>) -> bool {
+fn is_answer_empty(answer: &Result<yaml_event_t, yaml_error_type_t>) -> Option<bool> {
     match answer {
-        Ok(event) => is_empty(event),
-        Err(_) => false,
+        Ok(event) => Some(is_empty(event)),
+        Err(_) => None,
     }
+}
+
+/// Whether the next call gives an event, and not the empty one.
+pub fn gives_event<S: yaml_token_source_t>(parser: &mut yaml_parser_t<S>) -> bool {
+    gives_empty(parser) == Some(false)
 }
 
 /// Shows what a call of the parser answers, and says whether more may come.

@@ -10,12 +10,11 @@ use unsafe_libyaml::{
 
 /// How a run ends that writes these lines.
 fn wanted_end(lines: &str) -> Outcome {
-    for line in lines.lines() {
-        if line.starts_with("FAULT ") {
-            return Outcome::Faulted;
-        }
+    if lines.starts_with("FAULT ") || lines.contains("\nFAULT ") {
+        Outcome::Faulted
+    } else {
+        Outcome::Ended
     }
-    Outcome::Ended
 }
 
 /// Whether a run over these token lines writes these lines, and says so by its outcome.

@@ -49,14 +49,20 @@ fn difference_of(rt: &(impl Files + AllocGlobal), name: &str) -> Result<Option<&
     difference_of_tokens(rt, name, tokens.as_str())
 }
 
+/// Says what is wrong with the list `name`, if anything is.
+fn show_difference(rt: &(impl Files + Print + AllocGlobal), name: &str) -> Result<bool> {
+    let difference = difference_of(rt, name)?;
+    if let Some(what) = difference {
+        println!(rt; "{name}: {what}")?;
+    }
+    Ok(difference.is_some())
+}
+
 fn show_each(rt: &(impl Files + Print + AllocGlobal), names: &str) -> Result<()> {
     let mut lists = 0u64;
     let mut differ = 0u64;
     for name in names.lines() {
-        if let Some(what) = difference_of(rt, name)? {
-            println!(rt; "{name}: {what}")?;
-            differ = differ.wrapping_add(1);
-        }
+        differ = differ.wrapping_add(u64::from(show_difference(rt, name)?));
         lists = lists.wrapping_add(1);
     }
     println!(rt; "{lists} lists, {differ} differ")?;

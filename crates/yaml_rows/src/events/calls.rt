@@ -47,31 +47,41 @@ fn shows_fault(
     [is_whole, shown.as_str() == wanted] == [true; 2]
 }
 
+/// Whether these are the steps of a scalar.
+fn steps_by_a_scalar(parser: &mut Parser) -> bool {
+    let facts = [
+        yaml_parser_between_documents(parser),
+        step(parser) == Some((YAML_STREAM_START_EVENT, true)),
+        step(parser) == Some((YAML_DOCUMENT_START_EVENT, false)),
+        step(parser) == Some((YAML_SCALAR_EVENT, false)),
+        step(parser) == Some((YAML_DOCUMENT_END_EVENT, true)),
+        step(parser) == Some((YAML_STREAM_END_EVENT, true)),
+        is_over(parser),
+    ];
+    facts == [true; 7]
+}
+
 fn parses_a_scalar(alloc: Global) -> Result<bool> {
     let mut parser = parser_of(alloc, "STREAM-START SCALAR(a) STREAM-END")?;
+    Ok(steps_by_a_scalar(&mut parser))
+}
+
+/// Whether the fourth call fails, between documents then.
+fn steps_to_a_fault(parser: &mut Parser) -> bool {
     let facts = [
-        yaml_parser_between_documents(&parser),
-        step(&mut parser) == Some((YAML_STREAM_START_EVENT, true)),
-        step(&mut parser) == Some((YAML_DOCUMENT_START_EVENT, false)),
-        step(&mut parser) == Some((YAML_SCALAR_EVENT, false)),
-        step(&mut parser) == Some((YAML_DOCUMENT_END_EVENT, true)),
-        step(&mut parser) == Some((YAML_STREAM_END_EVENT, true)),
-        is_over(&mut parser),
+        step(parser).is_some(),
+        step(parser).is_some(),
+        step(parser).is_some(),
+        !yaml_parser_between_documents(parser),
+        step(parser).is_none(),
+        yaml_parser_between_documents(parser),
     ];
-    Ok(facts == [true; 7])
+    facts == [true; 6]
 }
 
 fn faults_in_a_document(alloc: Global) -> Result<bool> {
     let mut parser = parser_of(alloc, "STREAM-START FLOW-SEQUENCE-START FLOW-ENTRY")?;
-    let facts = [
-        step(&mut parser).is_some(),
-        step(&mut parser).is_some(),
-        step(&mut parser).is_some(),
-        !yaml_parser_between_documents(&parser),
-        step(&mut parser).is_none(),
-        yaml_parser_between_documents(&parser),
-    ];
-    Ok(facts == [true; 6])
+    Ok(steps_to_a_fault(&mut parser))
 }
 
 fn keeps_a_bound_and_a_fault(alloc: Global) -> Result<bool> {

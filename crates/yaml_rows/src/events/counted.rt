@@ -5,13 +5,12 @@ ghost use Rattle.unsafe_libyaml.specs.Source.{coming, list_answer, rest_of_list}
 ghost use Rattle.unsafe_libyaml.specs.ListLaws.{list_falls, list_repeats};
 
 use anyhow::Result;
-use row_notation::{first_wrong, is_empty, source_of};
+use row_notation::{first_wrong, gives_event, source_of};
 use std::alloc::Global;
 use std::fmt::Write;
 use unsafe_libyaml::{
-    yaml_error_type_t, yaml_event_t, yaml_list_source_t, yaml_parser_delete,
-    yaml_parser_initialize, yaml_parser_parse, yaml_parser_t, yaml_source_fault_t,
-    yaml_token_source_t, yaml_token_t,
+    yaml_list_source_t, yaml_parser_delete, yaml_parser_initialize, yaml_parser_t,
+    yaml_source_fault_t, yaml_token_source_t, yaml_token_t,
 };
 
 /// A list source that doesn't make its list known, and counts how often it was asked.
@@ -60,18 +59,6 @@ const COUNTS: [(&str, &str, u64); 3] = [
 
 fn counts() -> &'static [(&'static str, &'static str, u64)] {
     &COUNTS
-}
-
-fn is_event(answer: &Result<yaml_event_t, yaml_error_type_t>) -> bool {
-    match answer {
-        Ok(event) => !is_empty(event),
-        Err(_) => false,
-    }
-}
-
-fn gives_event(parser: &mut yaml_parser_t<CountedSource>) -> bool {
-    let answer = yaml_parser_parse(parser);
-    is_event(&answer)
 }
 
 /// Whether the last of so many calls gives an event.
