@@ -2,11 +2,11 @@
 
 use anyhow::Result;
 use computed_tokens::{ComputedTokens, GrowingList};
-use row_notation::{end_of_row, is_chain, items_of, show_run};
+use row_notation::{Reading, end_of_row, is_chain, items_of, shown};
 use std::alloc::{AllocError, Global};
 use unsafe_libyaml::{
     unnamed_yaml_node_t_data, yaml_document_t, yaml_list_source_t, yaml_node_t,
-    yaml_parser_initialize, yaml_token_source_t, yaml_token_t,
+    yaml_token_source_t, yaml_token_t,
 };
 
 /// A list at a number n, as the shape of its documents.
@@ -52,10 +52,9 @@ impl Grown {
 
     /// The events of the list, over the source that computes them, and the fault behind them.
     ///
-    /// Errors: want of memory.
+    /// Errors: those of `shown`.
     pub fn shown(self, alloc: Global) -> Result<String> {
-        let mut parser = yaml_parser_initialize(alloc, self.computed(alloc));
-        show_run(alloc, &mut parser)
+        shown(alloc, self.computed(alloc), Reading::Events)
     }
 }
 
