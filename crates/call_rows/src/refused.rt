@@ -8,8 +8,8 @@ use crate::calls::{Constructor, built, constructed, constructors};
 use row_notation::{are_same_or_cut, unless};
 use std::alloc::Global;
 use unsafe_libyaml::{
-    TagDirectives, Text, YAML_ANY_SCALAR_STYLE, yaml_document_start_event_initialize, yaml_event_t,
-    yaml_refusal_t, yaml_scalar_event_initialize, yaml_tag_directive_t,
+    YAML_ANY_SCALAR_STYLE, yaml_document_start_event_initialize, yaml_event_t, yaml_refusal_t,
+    yaml_scalar_event_initialize, yaml_tag_directive_t,
 };
 
 fn is_constructor_right(alloc: Global, constructor: Constructor) -> bool {
@@ -66,14 +66,18 @@ fn refuses_directive_first(alloc: Global) -> bool {
 
 fn empty_directive(alloc: Global) -> yaml_tag_directive_t {
     yaml_tag_directive_t {
-        handle: Text::new(alloc),
-        prefix: Text::new(alloc),
+        handle: String::new(alloc),
+        prefix: String::new(alloc),
     }
 }
 
 /// How many of so many pushes to an empty list were refused; none where it has another length than it was
 /// pushed.
-fn refused_pushes(alloc: Global, list: &mut TagDirectives, pushes: usize) -> Option<usize> {
+fn refused_pushes(
+    alloc: Global,
+    list: &mut Vec<yaml_tag_directive_t>,
+    pushes: usize,
+) -> Option<usize> {
     let mut pushed = 0usize;
     for _ in 0..pushes {
         let is_pushed = list.push(empty_directive(alloc)).is_ok();
@@ -86,7 +90,7 @@ fn refused_pushes(alloc: Global, list: &mut TagDirectives, pushes: usize) -> Opt
 }
 
 fn count_refused_pushes(alloc: Global, pushes: usize) -> Option<usize> {
-    let mut list = TagDirectives::new(alloc);
+    let mut list = Vec::new(alloc);
     refused_pushes(alloc, &mut list, pushes)
 }
 

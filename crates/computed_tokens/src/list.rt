@@ -5,7 +5,7 @@ ghost use Rattle.computed_tokens.specs.ComputedTokens.{length_of};
 
 use std::alloc::{AllocError, Global};
 use unsafe_libyaml::{
-    Text, YAML_ALIAS_TOKEN, YAML_ANCHOR_TOKEN, YAML_DOCUMENT_END_TOKEN, YAML_DOCUMENT_START_TOKEN,
+    YAML_ALIAS_TOKEN, YAML_ANCHOR_TOKEN, YAML_DOCUMENT_END_TOKEN, YAML_DOCUMENT_START_TOKEN,
     YAML_FLOW_ENTRY_TOKEN, YAML_FLOW_SEQUENCE_END_TOKEN, YAML_FLOW_SEQUENCE_START_TOKEN,
     YAML_KEY_TOKEN, YAML_STREAM_END_TOKEN, YAML_STREAM_START_TOKEN, YAML_TAG_DIRECTIVE_TOKEN,
     YAML_UTF8_ENCODING, unnamed_yaml_token_t_data, unnamed_yaml_token_t_data_alias,
@@ -151,15 +151,15 @@ fn content_of(
         YAML_FLOW_ENTRY_TOKEN => unnamed_yaml_token_t_data::FlowEntry,
         YAML_KEY_TOKEN => unnamed_yaml_token_t_data::Key,
         YAML_ANCHOR_TOKEN => unnamed_yaml_token_t_data::Anchor(unnamed_yaml_token_t_data_anchor {
-            value: Text::from_str(alloc, "a")?,
+            value: String::from_str(alloc, "a")?,
         }),
         YAML_ALIAS_TOKEN => unnamed_yaml_token_t_data::Alias(unnamed_yaml_token_t_data_alias {
-            value: Text::from_str(alloc, "a")?,
+            value: String::from_str(alloc, "a")?,
         }),
         YAML_TAG_DIRECTIVE_TOKEN => {
             unnamed_yaml_token_t_data::TagDirective(unnamed_yaml_token_t_data_tag_directive {
-                handle: Text::from_string(format!(in alloc; "!{number}!")?),
-                prefix: Text::from_str(alloc, "p:")?,
+                handle: format!(in alloc; "!{number}!")?,
+                prefix: String::from_str(alloc, "p:")?,
             })
         }
         _ => unnamed_yaml_token_t_data::NoToken,

@@ -4,9 +4,8 @@ use anyhow::{Error, Result};
 use row_notation::{is_text, tokens_of, unless_made};
 use std::alloc::Global;
 use unsafe_libyaml::{
-    YAML_DOCUMENT_END_EVENT, YAML_READER_ERROR, YAML_STREAM_END_EVENT, ZERO_MARK,
-    yaml_event_type_t, yaml_list_source_t, yaml_parser_parse_all, yaml_source_fault_t,
-    yaml_token_t,
+    YAML_DOCUMENT_END_EVENT, YAML_STREAM_END_EVENT, yaml_event_type_t, yaml_list_source_t,
+    yaml_parser_parse_all, yaml_token_t,
 };
 
 /// The types of the events of these tokens, or their fault.
@@ -14,16 +13,7 @@ fn types_of(
     alloc: Global,
     tokens: Vec<yaml_token_t>,
 ) -> Result<Vec<yaml_event_type_t>, anyhow::Error> {
-    let end = yaml_source_fault_t::new(
-        YAML_READER_ERROR,
-        Some("no more tokens"),
-        0,
-        0,
-        ZERO_MARK,
-        None,
-        ZERO_MARK,
-    );
-    let run = yaml_parser_parse_all(alloc, yaml_list_source_t::new(tokens, end))?;
+    let run = yaml_parser_parse_all(alloc, yaml_list_source_t::from(tokens))?;
     if let Some(fault) = run.fault {
         return Err(fault.into());
     }

@@ -4,7 +4,7 @@ use computed_tokens::{ComputedTokens, GrowingList};
 use row_notation::{Reading, end_of_row, gives_event};
 use std::alloc::{AllocError, Global};
 use unsafe_libyaml::{
-    Text, YAML_ANY_SCALAR_STYLE, ZERO_MARK, unnamed_yaml_token_t_data,
+    YAML_ANY_SCALAR_STYLE, ZERO_MARK, unnamed_yaml_token_t_data,
     unnamed_yaml_token_t_data_anchor, yaml_document_t, yaml_error_type_t, yaml_event_delete,
     yaml_parser_between_documents, yaml_parser_delete, yaml_parser_initialize, yaml_parser_load,
     yaml_parser_t, yaml_refusal_t, yaml_scalar_event_initialize, yaml_token_delete, yaml_token_t,
@@ -80,7 +80,7 @@ pub fn leave_runs(alloc: Global, n: u32) -> u64 {
 }
 
 fn delete_token(alloc: Global, text: &str) -> Result<(), AllocError> {
-    let value = Text::from_str(alloc, text)?;
+    let value = String::from_str(alloc, text)?;
     let content = unnamed_yaml_token_t_data::Anchor(unnamed_yaml_token_t_data_anchor { value });
     let mut token = yaml_token_t::new(content, ZERO_MARK, ZERO_MARK);
     yaml_token_delete(&mut token);

@@ -117,6 +117,10 @@ type-changed_at zero (suc k) f (node ∷ nodes) keeps = refl
 type-changed_at (suc n) zero f (node ∷ nodes) keeps = refl
 type-changed_at (suc n) (suc k) f (node ∷ nodes) keeps = type-changed_at n k f nodes keeps
 
+pub KeepsTypes-pushed : (grown : Bool) (nodes new : List yaml_node_t) (node : yaml_node_t) → new ≡ cond grown (nodes ++ node ∷ []) nodes → KeepsTypes nodes new
+KeepsTypes-pushed false nodes new node is = subst (KeepsTypes nodes) (sym is) (λ id h. refl)
+KeepsTypes-pushed true nodes new node is = subst (KeepsTypes nodes) (sym is) (KeepsTypes-push nodes node)
+
 pub KeepsTypes-changed_at : (n : ℕ) (f : yaml_node_t → yaml_node_t) (nodes : List yaml_node_t)
     → ((node : yaml_node_t) → node_type (f node).content ≡ node_type node.content) → KeepsTypes nodes (changed_at n f nodes)
 KeepsTypes-changed_at n f nodes keeps (negsuc k) h = refl

@@ -5,16 +5,16 @@ use Rattle.std.specs.Cmp.Lexicographic.{bytes_decides}
 use Rattle.libyaml_documents.proofs.Choices.{both, through, one_field, enum_decides}
 use Rattle.libyaml_documents.proofs.Fields.{mark_decides, scalar_style_decides, sequence_style_decides, mapping_style_decides, items_decide, pairs_decide}
 use Rattle.libyaml_documents.specs.declared.node.unnamed_yaml_node_t_data_scalar.{unnamed_yaml_node_t_data_scalar}
-use Rattle.libyaml_documents.specs.contracts.node.unnamed_yaml_node_t_data_scalarPartialEq.TheImpl as scalar_eq
+use Rattle.libyaml_documents.specs.contracts.node.Unnamed_yaml_node_t_data_scalarPartialEq.TheImpl as scalar_eq
 use Rattle.libyaml_documents.specs.declared.node.unnamed_yaml_node_t_data_sequence.{unnamed_yaml_node_t_data_sequence}
-use Rattle.libyaml_documents.specs.contracts.node.unnamed_yaml_node_t_data_sequencePartialEq.TheImpl as sequence_eq
+use Rattle.libyaml_documents.specs.contracts.node.Unnamed_yaml_node_t_data_sequencePartialEq.TheImpl as sequence_eq
 use Rattle.libyaml_documents.specs.declared.node.unnamed_yaml_node_t_data_mapping.{unnamed_yaml_node_t_data_mapping}
-use Rattle.libyaml_documents.specs.contracts.node.unnamed_yaml_node_t_data_mappingPartialEq.TheImpl as mapping_eq
+use Rattle.libyaml_documents.specs.contracts.node.Unnamed_yaml_node_t_data_mappingPartialEq.TheImpl as mapping_eq
 use Rattle.libyaml_documents.specs.declared.node.unnamed_yaml_node_t_data.{unnamed_yaml_node_t_data}
 use Rattle.libyaml_documents.specs.contracts.node.unnamed_yaml_node_t_data.{enum}
 use Rattle.libyaml_documents.specs.contracts.node.unnamed_yaml_node_t_dataPartialEq.TheImpl as content_eq
 use Rattle.libyaml_documents.specs.declared.node.yaml_node_t.{yaml_node_t}
-use Rattle.libyaml_documents.specs.contracts.node.yaml_node_tPartialEq.TheImpl as node_eq
+use Rattle.libyaml_documents.specs.contracts.node.Yaml_node_tPartialEq.TheImpl as node_eq
 
 scalar_decides : (a b : unnamed_yaml_node_t_data_scalar) → Decides ((scalar_eq.ghosts).eq a b) (a ≡ b)
 scalar_decides a b =

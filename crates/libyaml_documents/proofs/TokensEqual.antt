@@ -10,15 +10,15 @@ use Rattle.libyaml_types.specs.contracts.token.unnamed_yaml_token_t_data_stream_
 use Rattle.libyaml_types.specs.declared.token.unnamed_yaml_token_t_data_version_directive.{unnamed_yaml_token_t_data_version_directive}
 use Rattle.libyaml_types.specs.contracts.token.unnamed_yaml_token_t_data_version_directivePartialEq.TheImpl as version_directive_eq
 use Rattle.libyaml_types.specs.declared.token.unnamed_yaml_token_t_data_tag_directive.{unnamed_yaml_token_t_data_tag_directive}
-use Rattle.libyaml_types.specs.contracts.token.unnamed_yaml_token_t_data_tag_directivePartialEq.TheImpl as tag_directive_eq
+use Rattle.libyaml_types.specs.contracts.token.Unnamed_yaml_token_t_data_tag_directivePartialEq.TheImpl as tag_directive_eq
 use Rattle.libyaml_types.specs.declared.token.unnamed_yaml_token_t_data_alias.{unnamed_yaml_token_t_data_alias}
-use Rattle.libyaml_types.specs.contracts.token.unnamed_yaml_token_t_data_aliasPartialEq.TheImpl as alias_eq
+use Rattle.libyaml_types.specs.contracts.token.Unnamed_yaml_token_t_data_aliasPartialEq.TheImpl as alias_eq
 use Rattle.libyaml_types.specs.declared.token.unnamed_yaml_token_t_data_anchor.{unnamed_yaml_token_t_data_anchor}
-use Rattle.libyaml_types.specs.contracts.token.unnamed_yaml_token_t_data_anchorPartialEq.TheImpl as anchor_eq
+use Rattle.libyaml_types.specs.contracts.token.Unnamed_yaml_token_t_data_anchorPartialEq.TheImpl as anchor_eq
 use Rattle.libyaml_types.specs.declared.token.unnamed_yaml_token_t_data_tag.{unnamed_yaml_token_t_data_tag}
-use Rattle.libyaml_types.specs.contracts.token.unnamed_yaml_token_t_data_tagPartialEq.TheImpl as tag_eq
+use Rattle.libyaml_types.specs.contracts.token.Unnamed_yaml_token_t_data_tagPartialEq.TheImpl as tag_eq
 use Rattle.libyaml_types.specs.declared.token.unnamed_yaml_token_t_data_scalar.{unnamed_yaml_token_t_data_scalar}
-use Rattle.libyaml_types.specs.contracts.token.unnamed_yaml_token_t_data_scalarPartialEq.TheImpl as scalar_eq
+use Rattle.libyaml_types.specs.contracts.token.Unnamed_yaml_token_t_data_scalarPartialEq.TheImpl as scalar_eq
 use Rattle.libyaml_types.specs.declared.token.unnamed_yaml_token_t_data.{unnamed_yaml_token_t_data}
 use Rattle.libyaml_types.specs.contracts.token.unnamed_yaml_token_t_data.{enum}
 use Rattle.libyaml_types.specs.contracts.token.unnamed_yaml_token_t_dataPartialEq.TheImpl as content_eq

@@ -9,13 +9,13 @@ use Rattle.libyaml_types.specs.declared.directive.yaml_tag_directive_t.{yaml_tag
 use Rattle.libyaml_types.specs.declared.mark.yaml_mark_t.{yaml_mark_t}
 use Rattle.libyaml_types.specs.contracts.directive.yaml_version_directive_tPartialEq.TheImpl as version_eq
 use Rattle.libyaml_types.specs.contracts.directive.yaml_version_directive_tEq.TheImpl.Laws as version_laws
-use Rattle.libyaml_types.specs.contracts.directive.yaml_tag_directive_tPartialEq.TheImpl as directive_eq
-use Rattle.libyaml_types.specs.contracts.directive.yaml_tag_directive_tEq.TheImpl.Laws as directive_laws
+use Rattle.libyaml_types.specs.contracts.directive.Yaml_tag_directive_tPartialEq.TheImpl as directive_eq
+use Rattle.libyaml_types.specs.contracts.directive.Yaml_tag_directive_tEq.TheImpl.Laws as directive_laws
 use Rattle.libyaml_types.specs.contracts.mark.yaml_mark_tPartialEq.TheImpl as mark_eq
 use Rattle.libyaml_types.specs.contracts.mark.yaml_mark_tEq.TheImpl.Laws as mark_laws
 use Rattle.libyaml_documents.specs.declared.node.yaml_node_t.{yaml_node_t}
-use Rattle.libyaml_documents.specs.contracts.node.yaml_node_tPartialEq.TheImpl as node_eq
-use Rattle.libyaml_documents.specs.contracts.node.yaml_node_tEq.TheImpl.Laws as node_laws
+use Rattle.libyaml_documents.specs.contracts.node.Yaml_node_tPartialEq.TheImpl as node_eq
+use Rattle.libyaml_documents.specs.contracts.node.Yaml_node_tEq.TheImpl.Laws as node_laws
 use Rattle.libyaml_documents.specs.Documents.{Document}
 
 -- what `==` says of two nodes, two versions, two directives and two marks

@@ -15,7 +15,7 @@ pub use add::{yaml_document_add_mapping, yaml_document_add_scalar, yaml_document
 pub use append::{yaml_document_append_mapping_pair, yaml_document_append_sequence_item};
 pub use building::{append_node, begin_document, children_count, end_document, set_end_mark};
 pub use initialize::yaml_document_initialize;
-use libyaml_types::{TagDirectives, yaml_mark_t, yaml_tag_directive_t, yaml_version_directive_t};
+use libyaml_types::{yaml_mark_t, yaml_tag_directive_t, yaml_version_directive_t};
 use std::marker::Model;
 
 /// A document: nodes, which are named by ids from 1 on, and the fields of its start and end.
@@ -27,7 +27,7 @@ use std::marker::Model;
 pub struct yaml_document_t {
     nodes: Vec<yaml_node_t>,
     version_directive: Option<yaml_version_directive_t>,
-    tag_directives: TagDirectives,
+    tag_directives: Vec<yaml_tag_directive_t>,
     start_implicit: bool,
     end_implicit: bool,
     start_mark: yaml_mark_t,
@@ -42,7 +42,7 @@ impl Model for yaml_document_t {
     ghost view = { λ d. record {
       nodes = d.nodes.items;
       version_directive = d.version_directive;
-      tag_directives = d.tag_directives;
+      tag_directives = d.tag_directives.items;
       start_implicit = d.start_implicit;
       end_implicit = d.end_implicit;
       start_mark = d.start_mark;

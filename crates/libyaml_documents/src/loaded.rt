@@ -1,35 +1,34 @@
 //! Nodes made of events, by the rule of a load: no tag, or `!`, is the tag of the node's kind.
 
-ghost use Rattle.std.specs.Prelude.{◌≡◌, [], true, IfOk, OnErr};
+ghost use Rattle.std.specs.Prelude.{◌≡◌, [], true, IfOk, OnErr, option_map, string_bytes};
 ghost use Rattle.libyaml_documents.specs.LoadedNodes.{loaded_tag, mapping_loaded, scalar_loaded};
 ghost use Rattle.libyaml_documents.specs.LoadedNodes.{sequence_loaded, takes_default};
 ghost use Rattle.libyaml_documents.specs.Nodes.{ids_of};
 
-use crate::items::NodeItems;
 use crate::node::{
     unnamed_yaml_node_t_data, unnamed_yaml_node_t_data_mapping, unnamed_yaml_node_t_data_scalar,
     unnamed_yaml_node_t_data_sequence, yaml_node_t,
 };
-use crate::pairs::NodePairs;
 use libyaml_types::{
-    Text, unnamed_yaml_event_t_data_mapping_start, unnamed_yaml_event_t_data_scalar,
+    unnamed_yaml_event_t_data_mapping_start, unnamed_yaml_event_t_data_scalar,
     unnamed_yaml_event_t_data_sequence_start, yaml_mark_t,
 };
 use std::alloc::{AllocError, Global};
 
 /// The tag of a loaded node: the given one, but `default` where none is given, or `!`.
 #[inline(always)]
-fn tag_of(alloc: Global, tag: Option<Text>, default: &str) -> Result<Text, AllocError>
-    ensures ok { IfOk result (λ text. text ≡ loaded_tag default.now tag) }
-    ensures refused { OnErr result (takes_default tag ≡ true) }
+fn tag_of(alloc: Global, tag: Option<String>, default: &str) -> Result<String, AllocError>
+    ensures ok { IfOk result (λ text. string_bytes text
+        ≡ loaded_tag default.now (option_map string_bytes tag)) }
+    ensures refused { OnErr result (takes_default (option_map string_bytes tag) ≡ true) }
 {
     match tag {
         Some(tag) => if tag.as_str() == "!" {
-            Text::from_str(alloc, default)
+            String::from_str(alloc, default)
         } else {
             Ok(tag)
         },
-        None => Text::from_str(alloc, default),
+        None => String::from_str(alloc, default),
     }
 }
 
@@ -79,7 +78,7 @@ pub fn sequence_of_event(
 {
     let tag = tag_of(alloc, start.tag, "tag:yaml.org,2002:seq")?;
     let content = unnamed_yaml_node_t_data_sequence {
-        items: NodeItems::new(alloc),
+        items: Vec::new(alloc),
         style: start.style,
     };
     Ok(yaml_node_t {
@@ -108,7 +107,7 @@ pub fn mapping_of_event(
 {
     let tag = tag_of(alloc, start.tag, "tag:yaml.org,2002:map")?;
     let content = unnamed_yaml_node_t_data_mapping {
-        pairs: NodePairs::new(alloc),
+        pairs: Vec::new(alloc),
         style: start.style,
     };
     Ok(yaml_node_t {

@@ -2,39 +2,130 @@
 
 ghost use Rattle.std.specs.Prelude.{◌≡◌, OnOk, OnErr};
 
-use crate::items::{NodeItems, yaml_node_item_t};
-use crate::pairs::{NodePairs, yaml_node_pair_t};
+use crate::items::yaml_node_item_t;
+use crate::pairs::yaml_node_pair_t;
 use libyaml_types::{
-    Text, yaml_mapping_style_t, yaml_mark_t, yaml_node_type_t, yaml_scalar_style_t,
-    yaml_sequence_style_t,
+    yaml_mapping_style_t, yaml_mark_t, yaml_node_type_t, yaml_scalar_style_t, yaml_sequence_style_t,
 };
 use std::alloc::AllocError;
+use std::marker::Model;
 
 /// The value of a scalar node, and how it is written.
 ///
 /// libyaml: `unnamed_yaml_node_t_data_scalar`.
-#[derive(PartialEq, Eq, Debug, Drop)]
+#[derive(Debug, Drop)]
 pub struct unnamed_yaml_node_t_data_scalar {
-    pub value: Text,
+    pub value: String,
     pub style: yaml_scalar_style_t,
+}
+
+impl Model for unnamed_yaml_node_t_data_scalar {
+    ghost use Rattle.std.specs.Prelude.{string_bytes};
+    ghost use Rattle.libyaml_documents.specs.Models.{ScalarNode};
+
+    ghost Value = { ScalarNode };
+
+    ghost view = { λ n. record {
+      value = string_bytes n.value;
+      style = n.style;
+    } };
+}
+
+impl PartialEq for unnamed_yaml_node_t_data_scalar {
+    ghost use Rattle.std.specs.Cmp.{partial_equiv_from_equiv};
+    ghost use Rattle.libyaml_documents.specs.EqualPayloads.{same_scalar_node, same_scalar_node_equiv};
+
+    ghost eq = { same_scalar_node };
+
+    ghost laws = { partial_equiv_from_equiv same_scalar_node_equiv };
+
+    fn eq(&self, other: &Self) -> bool {
+        self.value == other.value && self.style == other.style
+    }
+}
+
+impl Eq for unnamed_yaml_node_t_data_scalar {
+    ghost use Rattle.libyaml_documents.specs.EqualPayloads.{same_scalar_node_equiv};
+
+    ghost laws = { same_scalar_node_equiv };
 }
 
 /// The items of a sequence node, and how it is written.
 ///
 /// libyaml: `unnamed_yaml_node_t_data_sequence`.
-#[derive(PartialEq, Eq, Debug, Drop)]
+#[derive(Debug, Drop)]
 pub struct unnamed_yaml_node_t_data_sequence {
-    pub items: NodeItems,
+    pub items: Vec<yaml_node_item_t>,
     pub style: yaml_sequence_style_t,
+}
+
+impl Model for unnamed_yaml_node_t_data_sequence {
+    ghost use Rattle.libyaml_documents.specs.Models.{SequenceNode};
+
+    ghost Value = { SequenceNode };
+
+    ghost view = { λ n. record {
+      items = n.items.items;
+      style = n.style;
+    } };
+}
+
+impl PartialEq for unnamed_yaml_node_t_data_sequence {
+    ghost use Rattle.std.specs.Cmp.{partial_equiv_from_equiv};
+    ghost use Rattle.libyaml_documents.specs.EqualPayloads.{same_sequence_node, same_sequence_node_equiv};
+
+    ghost eq = { same_sequence_node };
+
+    ghost laws = { partial_equiv_from_equiv same_sequence_node_equiv };
+
+    fn eq(&self, other: &Self) -> bool {
+        self.items == other.items && self.style == other.style
+    }
+}
+
+impl Eq for unnamed_yaml_node_t_data_sequence {
+    ghost use Rattle.libyaml_documents.specs.EqualPayloads.{same_sequence_node_equiv};
+
+    ghost laws = { same_sequence_node_equiv };
 }
 
 /// The pairs of a mapping node, and how it is written.
 ///
 /// libyaml: `unnamed_yaml_node_t_data_mapping`.
-#[derive(PartialEq, Eq, Debug, Drop)]
+#[derive(Debug, Drop)]
 pub struct unnamed_yaml_node_t_data_mapping {
-    pub pairs: NodePairs,
+    pub pairs: Vec<yaml_node_pair_t>,
     pub style: yaml_mapping_style_t,
+}
+
+impl Model for unnamed_yaml_node_t_data_mapping {
+    ghost use Rattle.libyaml_documents.specs.Models.{MappingNode};
+
+    ghost Value = { MappingNode };
+
+    ghost view = { λ n. record {
+      pairs = n.pairs.items;
+      style = n.style;
+    } };
+}
+
+impl PartialEq for unnamed_yaml_node_t_data_mapping {
+    ghost use Rattle.std.specs.Cmp.{partial_equiv_from_equiv};
+    ghost use Rattle.libyaml_documents.specs.EqualPayloads.{same_mapping_node, same_mapping_node_equiv};
+
+    ghost eq = { same_mapping_node };
+
+    ghost laws = { partial_equiv_from_equiv same_mapping_node_equiv };
+
+    fn eq(&self, other: &Self) -> bool {
+        self.pairs == other.pairs && self.style == other.style
+    }
+}
+
+impl Eq for unnamed_yaml_node_t_data_mapping {
+    ghost use Rattle.libyaml_documents.specs.EqualPayloads.{same_mapping_node_equiv};
+
+    ghost laws = { same_mapping_node_equiv };
 }
 
 /// What a node is, with its payload.
@@ -50,12 +141,48 @@ pub enum unnamed_yaml_node_t_data {
 /// A node with its tag and the places at which it begins and ends.
 ///
 /// libyaml: `yaml_node_t`.
-#[derive(PartialEq, Eq, Debug, Drop)]
+#[derive(Debug, Drop)]
 pub struct yaml_node_t {
-    pub tag: Text,
+    pub tag: String,
     pub content: unnamed_yaml_node_t_data,
     pub start_mark: yaml_mark_t,
     pub end_mark: yaml_mark_t,
+}
+
+impl Model for yaml_node_t {
+    ghost use Rattle.std.specs.Prelude.{string_bytes};
+    ghost use Rattle.libyaml_documents.specs.Node.{Node};
+
+    ghost Value = { Node };
+
+    ghost view = { λ n. record {
+      tag = string_bytes n.tag;
+      content = n.content;
+      start_mark = n.start_mark;
+      end_mark = n.end_mark;
+    } };
+}
+
+impl PartialEq for yaml_node_t {
+    ghost use Rattle.std.specs.Cmp.{partial_equiv_from_equiv};
+    ghost use Rattle.libyaml_documents.specs.EqualNodes.{same_node, same_node_equiv};
+
+    ghost eq = { same_node };
+
+    ghost laws = { partial_equiv_from_equiv same_node_equiv };
+
+    fn eq(&self, other: &Self) -> bool {
+        self.tag == other.tag
+            && self.content == other.content
+            && self.start_mark == other.start_mark
+            && self.end_mark == other.end_mark
+    }
+}
+
+impl Eq for yaml_node_t {
+    ghost use Rattle.libyaml_documents.specs.EqualNodes.{same_node_equiv};
+
+    ghost laws = { same_node_equiv };
 }
 
 impl yaml_node_t {
@@ -93,7 +220,10 @@ impl yaml_node_t {
         ensures err { OnErr result (self.new ≡ self.old) }
     {
         match &mut self.content {
-            unnamed_yaml_node_t_data::Sequence(sequence) => sequence.items.push(item),
+            unnamed_yaml_node_t_data::Sequence(sequence) => {
+                sequence.items.push(item)?;
+                Ok(())
+            }
             _ => unreachable!(),
         }
     }
@@ -105,7 +235,10 @@ impl yaml_node_t {
         ensures err { OnErr result (self.new ≡ self.old) }
     {
         match &mut self.content {
-            unnamed_yaml_node_t_data::Mapping(mapping) => mapping.pairs.push(pair),
+            unnamed_yaml_node_t_data::Mapping(mapping) => {
+                mapping.pairs.push(pair)?;
+                Ok(())
+            }
             _ => unreachable!(),
         }
     }
@@ -114,9 +247,22 @@ impl yaml_node_t {
 /// An anchor, the id of the node that carries it, and the place where that node begins.
 ///
 /// libyaml: `yaml_alias_data_t`.
-#[derive(PartialEq, Eq, Debug, Drop)]
+#[derive(Debug, Drop)]
 pub struct yaml_alias_data_t {
-    pub anchor: Text,
+    pub anchor: String,
     pub index: i32,
     pub mark: yaml_mark_t,
+}
+
+impl Model for yaml_alias_data_t {
+    ghost use Rattle.std.specs.Prelude.{string_bytes};
+    ghost use Rattle.libyaml_documents.specs.Models.{AliasData};
+
+    ghost Value = { AliasData };
+
+    ghost view = { λ n. record {
+      anchor = string_bytes n.anchor;
+      index = n.index;
+      mark = n.mark;
+    } };
 }

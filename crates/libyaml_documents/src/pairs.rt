@@ -1,7 +1,5 @@
 //! The pairs of a mapping.
 
-use libyaml_types::ListOf;
-
 /// A pair of a mapping: the ids of the key's node and of the value's node.
 ///
 /// libyaml: `yaml_node_pair_t`.
@@ -10,8 +8,3 @@ pub struct yaml_node_pair_t {
     pub key: i32,
     pub value: i32,
 }
-
-/// The pairs of a mapping, in their order.
-///
-/// libyaml: the pointers `start` and `top` of a node's pairs.
-pub type NodePairs = ListOf<yaml_node_pair_t>;

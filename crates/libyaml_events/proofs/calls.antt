@@ -4,6 +4,7 @@ pub mod CallLemmas
 pub mod Needed
 pub mod Parsed
 pub mod KnownRuns
+pub mod ParsesNext
 pub mod NotOver
 pub mod Counting
 pub mod Falling
@@ -13,5 +14,6 @@ pub mod Raised
 pub mod Staging
 pub mod Staged
 pub mod LeadsOut
+pub mod NeededInTurn
 pub mod CallsInTurn
 pub mod NextEvents

@@ -1,3 +1,4 @@
+pub mod Read
 pub mod Config
 pub mod State
 pub mod Machine

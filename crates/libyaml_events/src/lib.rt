@@ -14,27 +14,26 @@ mod source;
 mod states;
 
 pub use list_source::yaml_list_source_t;
-pub use parse::yaml_parser_parse;
+pub use parse::{yaml_parser_parse, yaml_parser_parse_into};
 pub use parser::{
     yaml_parser_between_documents, yaml_parser_delete, yaml_parser_initialize,
     yaml_parser_set_max_entries, yaml_parser_t,
 };
 pub use source::yaml_token_source_t;
 // What a fault says.
-pub use libyaml_grammar::{NO_FAULT, yaml_error_words, yaml_parser_t_prefix, yaml_source_fault_t};
+pub use libyaml_grammar::{NO_FAULT, yaml_parser_t_prefix, yaml_source_fault_t};
 // The tokens, events and other types of the calls.
 pub use libyaml_types::{
-    ListOf, TagDirectives, Text, ZERO_MARK, unnamed_yaml_event_t_data,
-    unnamed_yaml_event_t_data_alias, unnamed_yaml_event_t_data_document_end,
-    unnamed_yaml_event_t_data_document_start, unnamed_yaml_event_t_data_mapping_start,
-    unnamed_yaml_event_t_data_scalar, unnamed_yaml_event_t_data_sequence_start,
-    unnamed_yaml_event_t_data_stream_start, unnamed_yaml_token_t_data,
-    unnamed_yaml_token_t_data_alias, unnamed_yaml_token_t_data_anchor,
+    ZERO_MARK, unnamed_yaml_event_t_data, unnamed_yaml_event_t_data_alias,
+    unnamed_yaml_event_t_data_document_end, unnamed_yaml_event_t_data_document_start,
+    unnamed_yaml_event_t_data_mapping_start, unnamed_yaml_event_t_data_scalar,
+    unnamed_yaml_event_t_data_sequence_start, unnamed_yaml_event_t_data_stream_start,
+    unnamed_yaml_token_t_data, unnamed_yaml_token_t_data_alias, unnamed_yaml_token_t_data_anchor,
     unnamed_yaml_token_t_data_scalar, unnamed_yaml_token_t_data_stream_start,
     unnamed_yaml_token_t_data_tag, unnamed_yaml_token_t_data_tag_directive,
     unnamed_yaml_token_t_data_version_directive, yaml_alias_event_initialize, yaml_break_t,
     yaml_document_end_event_initialize, yaml_document_start_event_initialize, yaml_encoding_t,
-    yaml_error_type_t, yaml_event_delete, yaml_event_t, yaml_event_type_t,
+    yaml_error_type_t, yaml_error_words, yaml_event_delete, yaml_event_t, yaml_event_type_t,
     yaml_mapping_end_event_initialize, yaml_mapping_start_event_initialize, yaml_mapping_style_t,
     yaml_mark_t, yaml_node_type_t, yaml_parser_state_t, yaml_refusal_t,
     yaml_scalar_event_initialize, yaml_scalar_style_t, yaml_sequence_end_event_initialize,

@@ -1,12 +1,12 @@
 //! A source over a list.
 ghost use Rattle.std.specs.Prelude.{◌≡◌, List, length, Some};
 ghost use Rattle.libyaml_grammar.specs.runs.Fault.{source_fault};
-ghost use Rattle.libyaml_events.specs.sources.Source.{coming, list_answer, rest_of_list};
+ghost use Rattle.libyaml_events.specs.sources.Source.{coming, list_answer, no_more_tokens, rest_of_list};
 ghost use Rattle.libyaml_events.specs.sources.ListLaws.{list_falls, list_follows, list_repeats};
 
 use crate::source::yaml_token_source_t;
 use libyaml_grammar::yaml_source_fault_t;
-use libyaml_types::yaml_token_t;
+use libyaml_types::{ZERO_MARK, yaml_error_type_t, yaml_token_t};
 use std::marker::Model;
 use std::vec::IntoIter;
 
@@ -28,6 +28,7 @@ impl Model for yaml_list_source_t {
 }
 
 impl yaml_list_source_t {
+    /// The source of these tokens, which ends by this fault. Takes no memory.
     pub fn new(tokens: Vec<yaml_token_t>, fault: yaml_source_fault_t) -> Self
         ensures { result ≡ coming tokens.items (source_fault fault) }
     {
@@ -36,6 +37,25 @@ impl yaml_list_source_t {
             fault,
         }
     }
+}
+
+/// The source of a list that ends itself: behind its last token, which is STREAM-END, nothing is asked for.
+/// A list that ends too soon ends by `no more tokens`.
+impl From<Vec<yaml_token_t>> for yaml_list_source_t {
+    ghost from_gives = { λ tokens source. source ≡ coming tokens.items no_more_tokens };
+
+    fn from(tokens: Vec<yaml_token_t>) -> Self {
+        yaml_list_source_t::new(tokens, no_more_tokens())
+    }
+}
+
+/// The fault of a list that ends before its STREAM-END.
+fn no_more_tokens() -> yaml_source_fault_t
+    ensures { source_fault result ≡ no_more_tokens }
+{
+    let error = yaml_error_type_t::YAML_READER_ERROR;
+    let problem = Some("no more tokens");
+    yaml_source_fault_t::new(error, problem, 0, -1, ZERO_MARK, None, ZERO_MARK)
 }
 
 impl yaml_token_source_t for yaml_list_source_t {

@@ -2,7 +2,7 @@
 ghost use Rattle.std.specs.Prelude.{◌≡◌, ◌⊎◌, [], pos, ◌≤ℤ◌, true, false, List, Option, Some};
 ghost use Rattle.libyaml_grammar.specs.runs.Fault.{Fault, fault_of};
 ghost use Rattle.libyaml_grammar.specs.cuts.FaultTexts.{no_fault};
-ghost use Rattle.libyaml_events.specs.machine.Config.{with_config, marked_ended, ended_or_failed};
+ghost use Rattle.libyaml_events.specs.machine.Config.{with_config, with_fault, marked_ended, ended_or_failed};
 ghost use Rattle.libyaml_events.specs.sources.Source.{Coming, coming};
 ghost use Rattle.libyaml_grammar.specs.runs.Runs.{Ending, IsRun};
 ghost use Rattle.libyaml_events.specs.parsers.Stages.{is_outside, stage_of};
@@ -18,8 +18,9 @@ mod handles;
 mod stacks;
 mod tokens;
 
+use crate::pending::Pending;
 use libyaml_grammar::{NO_FAULT, yaml_parser_t_prefix};
-use libyaml_types::{Text, yaml_error_type_t, yaml_mark_t, yaml_parser_state_t, yaml_token_t};
+use libyaml_types::{yaml_error_type_t, yaml_mark_t, yaml_parser_state_t, yaml_token_t};
 use std::alloc::Global;
 use std::collections::BTreeMap;
 use std::marker::Model;
@@ -29,25 +30,43 @@ use std::marker::Model;
 /// libyaml: `yaml_parser_t`.
 #[derive(Drop)]
 pub struct yaml_parser_t<S> {
+    pub(crate) machine: Machine<S>,
+    /// Lies here, and isn't made anew in each call. What it holds between calls has no meaning.
+    pub(crate) pending: Pending,
+}
+
+impl<S> Model for yaml_parser_t<S> {
+    ghost use Rattle.std.specs.Coded.{codes};
+    ghost use Rattle.libyaml_events.specs.machine.Config.{Parser, handles_code};
+
+    ghost Value = { Parser S };
+
+    ghost coded = { Prim.hlevel (codes, handles_code) };
+
+    ghost view = { λ p. p.machine };
+}
+
+/// A parser without what it has amid a call.
+#[derive(Drop)]
+pub struct Machine<S> {
     source: S,
     lookahead: Option<yaml_token_t>,
     state: yaml_parser_state_t,
     states: Vec<u8>,
     marks: Vec<yaml_mark_t>,
-    handles: BTreeMap<Text, Text>,
+    handles: BTreeMap<String, String>,
     behind_document_end: bool,
     prefix: yaml_parser_t_prefix,
     max_entries: i32,
     alloc: Global,
 }
 
-impl<S> Model for yaml_parser_t<S> {
+impl<S> Model for Machine<S> {
     ghost use Rattle.std.specs.Prelude.{ℕ, All, reverse};
-    ghost use Rattle.std.specs.FinMap.{from_entries};
     ghost use Rattle.std.specs.Coded.{codes};
     ghost use Rattle.libyaml_grammar.specs.runs.Fault.{fault_of};
     ghost use Rattle.libyaml_events.specs.machine.State.{stack_of, IsBackByte};
-    ghost use Rattle.libyaml_events.specs.machine.Config.{Parser, handles_code};
+    ghost use Rattle.libyaml_events.specs.machine.Config.{Parser, handles_code, handles_of};
 
     ghost Value = { Parser S };
 
@@ -60,7 +79,7 @@ impl<S> Model for yaml_parser_t<S> {
         state = p.state;
         states = stack_of p.states.items;
         marks = reverse p.marks.items;
-        handles = from_entries p.handles.entries;
+        handles = handles_of p.handles.entries;
         behind_document_end = p.behind_document_end;
         fault = fault_of p.prefix;
       };
@@ -87,16 +106,19 @@ pub fn yaml_parser_initialize<S>(alloc: Global, source: S) -> yaml_parser_t<S>
         → IsRun tokens f events ending → RunToCome known result events ending }
 {
     yaml_parser_t {
-        source,
-        lookahead: None,
-        state: yaml_parser_state_t::YAML_PARSE_STREAM_START_STATE,
-        states: Vec::new(alloc),
-        marks: Vec::new(alloc),
-        handles: BTreeMap::new(alloc),
-        behind_document_end: false,
-        prefix: NO_FAULT,
-        max_entries: i32::MAX,
-        alloc,
+        machine: Machine {
+            source,
+            lookahead: None,
+            state: yaml_parser_state_t::YAML_PARSE_STREAM_START_STATE,
+            states: Vec::new(alloc),
+            marks: Vec::new(alloc),
+            handles: BTreeMap::new(alloc),
+            behind_document_end: false,
+            prefix: NO_FAULT,
+            max_entries: i32::MAX,
+            alloc,
+        },
+        pending: Pending::new(alloc),
     }
 }
 
@@ -107,7 +129,8 @@ pub fn yaml_parser_initialize<S>(alloc: Global, source: S) -> yaml_parser_t<S>
 pub fn yaml_parser_delete<S>(parser: yaml_parser_t<S>) -> S
     ensures { result ≡ parser.source }
 {
-    let yaml_parser_t { source, .. } = parser;
+    let yaml_parser_t { machine, .. } = parser;
+    let Machine { source, .. } = machine;
     source
 }
 
@@ -118,7 +141,7 @@ pub fn yaml_parser_between_documents<S>(parser: &yaml_parser_t<S>) -> bool
     ensures failed { has_failed parser.now ≡ true → result ≡ true }
     ensures by_events { ForHistory parser.now (λ _ given. result ≡ is_outside (stage_of given)) }
 {
-    parser.stands_between_documents()
+    parser.machine.stands_between_documents()
 }
 
 /// Sets how many entries each list of a loaded document may have, between documents.
@@ -131,7 +154,7 @@ pub fn yaml_parser_set_max_entries<S>(parser: &mut yaml_parser_t<S>, n: i32)
     ensures run_to_come { (known : S → Option Coming)
         → ForRun known parser.old (RunToCome known parser.new) }
 {
-    parser.max_entries = n;
+    parser.machine.max_entries = n;
 }
 
 impl<S> yaml_parser_t<S> {
@@ -143,14 +166,14 @@ impl<S> yaml_parser_t<S> {
         // before a fault it is that of no fault
         ensures before_fault { ForHistory self.now (λ _ _. fault_of result.now ≡ no_fault) }
     {
-        &self.prefix
+        self.machine.kept_prefix()
     }
 
     /// How many entries each list of a loaded document may have: 2147483647 unless set.
     pub fn max_entries(&self) -> i32
         ensures { result ≡ self.now.max_entries }
     {
-        self.max_entries
+        self.machine.max_entries
     }
 
     /// Keeps a fault of the loader for good: want of memory, or a fault of the composer, where no fault
@@ -163,11 +186,30 @@ impl<S> yaml_parser_t<S> {
         ensures fault { kept_fault self.new ≡ fault_of fault }
         ensures ended { is_over self.new ≡ true }
     {
-        self.prefix = fault;
+        self.machine.keep_prefix(fault);
     }
 
     /// Where the parser takes its memory from.
     pub fn allocator(&self) -> Global {
+        self.machine.alloc
+    }
+}
+
+impl<S> Machine<S> {
+    fn kept_prefix(&self) -> &yaml_parser_t_prefix
+        ensures { fault_of result.now ≡ self.now.config.fault }
+    {
+        &self.prefix
+    }
+
+    fn keep_prefix(&mut self, fault: yaml_parser_t_prefix)
+        ensures { self.new ≡ with_config self.old (with_fault self.old.config (fault_of fault)) }
+    {
+        self.prefix = fault;
+    }
+
+    /// Where the parser takes its memory from.
+    pub(crate) fn allocator(&self) -> Global {
         self.alloc
     }
 

@@ -2,8 +2,9 @@
 
 use crate::node_head::PropertiesRead;
 use crate::node_place::NodePlace;
-use libyaml_types::{TagDirectives, ZERO_MARK, yaml_mark_t, yaml_version_directive_t};
+use libyaml_types::{ZERO_MARK, yaml_mark_t, yaml_tag_directive_t, yaml_version_directive_t};
 use std::alloc::Global;
+use std::marker::Model;
 
 /// The directives of a document, read so far.
 #[derive(Drop)]
@@ -12,7 +13,19 @@ pub struct DirectivesRead {
     pub start_mark: yaml_mark_t,
     pub version: Option<yaml_version_directive_t>,
     /// In the order of their tokens.
-    pub tag_directives: TagDirectives,
+    pub tag_directives: Vec<yaml_tag_directive_t>,
+}
+
+impl Model for DirectivesRead {
+    ghost use Rattle.libyaml_events.specs.machine.Read.{Directives};
+
+    ghost Value = { Directives };
+
+    ghost view = { λ d. record {
+      start_mark = d.start_mark;
+      version = d.version;
+      tag_directives = d.tag_directives.items;
+    } };
 }
 
 /// What the parser has of a document or node, where a further token is wanted.
@@ -42,7 +55,7 @@ impl Pending {
             directives: DirectivesRead {
                 start_mark: ZERO_MARK,
                 version: None,
-                tag_directives: TagDirectives::new(alloc),
+                tag_directives: Vec::new(alloc),
             },
         }
     }

@@ -21,6 +21,7 @@ pub trait yaml_token_source_t {
     /// The faults by which it may have broken off, where it now stands so.
     ghost may_break: { Self → Fault → Type 0 };
 
+    /// Returns the next token, or the fault that ends the tokens.
     fn next_token(&mut self) -> Result<yaml_token_t, yaml_source_fault_t>
         ensures { gives self.old (answer_of result) self.new };
 

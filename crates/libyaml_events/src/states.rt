@@ -24,13 +24,13 @@ mod nodes;
 
 use crate::next::Next;
 use crate::node_place::NodePlace;
-use crate::parser::yaml_parser_t;
+use crate::parser::Machine;
 use crate::pending::Pending;
 use crate::slot::Slot;
 use crate::states::nodes::plain_scalar;
 use libyaml_types::{
-    Text, unnamed_yaml_event_t_data, yaml_error_type_t, yaml_event_t, yaml_mark_t,
-    yaml_parser_state_t, yaml_token_t,
+    unnamed_yaml_event_t_data, yaml_error_type_t, yaml_event_t, yaml_mark_t, yaml_parser_state_t,
+    yaml_token_t,
 };
 
 /// Done with the token.
@@ -56,7 +56,7 @@ fn give(
     };
 }
 
-impl<S> yaml_parser_t<S> {
+impl<S> Machine<S> {
     /// One token, and what it is wanted for.
     ///
     /// libyaml: `yaml_parser_state_machine`.
@@ -260,7 +260,7 @@ impl<S> yaml_parser_t<S> {
             self.new }
     {
         self.keep(token);
-        let text = Text::new(self.allocator());
+        let text = String::new(self.allocator());
         give(out, plain_scalar(None, None, text, true), mark, mark);
     }
 

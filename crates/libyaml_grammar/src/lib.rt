@@ -7,4 +7,3 @@ pub mod laws;
 mod message;
 
 pub use fault::{NO_FAULT, yaml_parser_t_prefix, yaml_source_fault_t};
-pub use message::yaml_error_words;

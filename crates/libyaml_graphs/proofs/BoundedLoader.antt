@@ -5,12 +5,12 @@ use Rattle.libyaml_grammar.specs.sentences.Events.{Event}
 use Rattle.libyaml_grammar.specs.runs.Fault.{Fault}
 use Rattle.libyaml_grammar.specs.runs.Runs.{Ending}
 use Rattle.libyaml_documents.specs.declared.node.yaml_node_t.{yaml_node_t}
-use Rattle.libyaml_graphs.specs.Bounds.{bounded_loads, bounded_loads_behind, first_stop, if_above, if_wrong, list_sizes, next_bounded, one_above, stop_at}
+use Rattle.libyaml_graphs.specs.Bounds.{first_stop, if_above, if_wrong, list_sizes, next_bounded, one_above, stop_at}
 use Rattle.libyaml_graphs.specs.ComposerFaults.{part_fault}
 use Rattle.libyaml_graphs.specs.Graphs.{Start}
-use Rattle.libyaml_graphs.specs.Loader.{Anchors, Loader, Loading, between, bounded_all, bounded_option, bounded_part, failed, fresh, going, if_child_fits}
+use Rattle.libyaml_graphs.specs.Loader.{Anchors, Loader, Loading, between, bounded_option, bounded_part, failed, fresh, going, if_child_fits}
 use Rattle.libyaml_graphs.specs.Loader.{if_going, list_full, load_from, load_part, no_anchors, nodes_full, unless_full, within}
-use Rattle.libyaml_graphs.specs.Loads.{Load, answer, document, document_end, last_load, load_then}
+use Rattle.libyaml_graphs.specs.Loads.{Load, answer, document, document_end, last_load}
 use Rattle.libyaml_graphs.specs.Parts.{Closing, Opening, Part, alias_part, behind, closing_of, end_part, graph, leaf_part, opening_of, part_of, parts}
 use Rattle.libyaml_graphs.specs.Parts.{start_part, with_part}
 use Rattle.libyaml_graphs.proofs.Built.{BeginsEmpty, Built, Held, build, build_finished, finished, finished_none, graph_nodes, held_graph, nodes_in, unbuilt}
@@ -97,76 +97,6 @@ step n p es F b xs w N K X e s h ih = first (nat_lt n (length (behind p es))) re
         (nodes_grow p n es b xs s.stands.size s.few ∙ q)
         ∙ (second (load_part (loader_of b xs) p) q (part_follows p es b xs s.stands h)
         ∙ ap (λ (c : Bool). settled w (if_above c (if_wrong (part_fault es p) (if_above (one_above n (list_sizes [] (F ++ p ∷ []))) X))) N) (sym q))
-
--- All loads.
-abbrev all_answers : Option Closing → Opening → Ending → List Load → Answering (List Load)
-all_answers c o x l = record { of_fault = λ (f : Fault). Err f ∷ []; of_nodes = λ (nodes : List yaml_node_t). load_then None c o nodes (last_load x) l }
-
-abbrev all_bounded : ℕ → Option Closing → Opening → Ending → List Load → List Start → List Part → List Part → List Load
-all_bounded n c o x l es F P = settled (all_answers c o x l) (first_stop n es F P) (graph [] (F ++ P))
-
-all_event : (n : ℕ) (e : Event) (r : List Event) (es : List Start) (F : List Part) (o : Opening) (b : Built) (xs : Anchors) (x : Ending) → Within n es F b
-    → Agrees es xs → bounded_all n between r x ≡ bounded_loads n r x
-    → ((fs : List Start) (G : List Part) (c : Built) (ys : Anchors) → Within n fs G c → Agrees fs ys
-    → bounded_all n (within o (loader_of c ys)) r x ≡ all_bounded n (document_end r) o x (bounded_loads_behind n r x) fs G (parts r))
-    → bounded_all n (within o (loader_of b xs)) (e ∷ r) x ≡ all_bounded n (document_end (e ∷ r)) o x (bounded_loads_behind n (e ∷ r) x) es F (parts (e ∷ r))
-all_event n e r es F o b xs x s h next ih = go (closing_of e) (part_of e) (begins_empty e.content e.start_mark e.end_mark)
-  where
-    part_or : (q : Option Part) → IfBeginsEmpty q
-        → if_going (λ (f : Fault). Err f ∷ []) (bounded_option n (loader_of b xs) q) (λ (k : Loader). bounded_all n (within o k) r x)
-        ≡ all_bounded n (document_end r) o x (bounded_loads_behind n r x) es F (with_part q (parts r))
-    part_or None u = ih es F b xs s h
-    part_or (Some p) u = step n p es F b xs (all_answers (document_end r) o x (bounded_loads_behind n r x)) (graph [] (F ++ p ∷ parts r))
-        (λ (k : Loader). bounded_all n (within o k) r x) (first_stop n (behind p es) (F ++ p ∷ []) (parts r)) u s h
-        (λ ys t a. ih (behind p es) (F ++ p ∷ []) (build es p b) ys t a
-        ∙ ap (λ (Q : List Part). settled (all_answers (document_end r) o x (bounded_loads_behind n r x))
-        (first_stop n (behind p es) (F ++ p ∷ []) (parts r)) (graph [] Q)) (append_assoc F (p ∷ []) (parts r)))
-
-    go : (c : Option Closing) (q : Option Part) → IfBeginsEmpty q
-        → elim c [
-          | Some d ↦ Ok (document o (nodes_in b.held) d) ∷ bounded_all n between r x
-          | None ↦ if_going (λ (f : Fault). Err f ∷ []) (bounded_option n (loader_of b xs) q) (λ (k : Loader). bounded_all n (within o k) r x)
-        ]
-        ≡ all_bounded n (elim c [ Some d ↦ Some d | None ↦ document_end r ]) o x (elim c [ Some d ↦ bounded_loads n r x | None ↦ bounded_loads_behind n r x ])
-        es F (elim c [ Some d ↦ [] | None ↦ with_part q (parts r) ])
-    go (Some d) q u =
-        ap (λ (l : List Load). Ok (document o (nodes_in b.held) d) ∷ l) next
-        ∙ ap (λ (nodes : List yaml_node_t). Ok (document o nodes d) ∷ bounded_loads n r x) (nodes_so_far n es F b s ∙ ap (graph []) (sym (append-nil F)))
-    go None q u = part_or q u
-
-all_other : (n : ℕ) (e : Event) (r : List Event) (x : Ending) → bounded_all n between r x ≡ bounded_loads n r x
-    → ((o : Opening) → bounded_all n (within o fresh) r x
-    ≡ load_then (first_stop n [] [] (parts r)) (document_end r) o (graph [] (parts r)) (last_load x) (bounded_loads_behind n r x))
-    → bounded_all n between (e ∷ r) x ≡ bounded_loads n (e ∷ r) x
-all_other n e r x next ih = go (opening_of e)
-  where
-    go : (c : Option Opening)
-        → ◌≡◌ {A = List Load} (elim c [ None ↦ bounded_all n between r x | Some o ↦ bounded_all n (within o fresh) r x ])
-        (elim c [
-          | None ↦ bounded_loads n r x
-          | Some o ↦ load_then (first_stop n [] [] (parts r)) (document_end r) o (graph [] (parts r)) (last_load x) (bounded_loads_behind n r x)
-        ])
-    go None = next
-    go (Some o) = ih o
-
-then_all : (f : Option Fault) (c : Option Closing) (o : Opening) (nodes : List yaml_node_t) (x : Ending) (l : List Load)
-    → settled (all_answers c o x l) f nodes ≡ load_then f c o nodes (last_load x) l
-then_all (Some f) c o nodes x l = refl
-then_all None c o nodes x l = refl
-
-mutual
-  pub between_bounded : (r : List Event) (x : Ending) (n : ℕ) → bounded_all n between r x ≡ bounded_loads n r x
-  between_bounded [] x n = refl
-  between_bounded (e ∷ r) x n = all_other n e r x (between_bounded r x n)
-      (λ (o : Opening). within_bounded r n [] [] o unbuilt no_anchors x (within_unbuilt n) none_known
-      ∙ then_all (first_stop n [] [] (parts r)) (document_end r) o (graph [] (parts r)) x (bounded_loads_behind n r x))
-
-  within_bounded : (r : List Event) (n : ℕ) (es : List Start) (F : List Part) (o : Opening) (b : Built) (xs : Anchors) (x : Ending) → Within n es F b
-      → Agrees es xs → bounded_all n (within o (loader_of b xs)) r x ≡ all_bounded n (document_end r) o x (bounded_loads_behind n r x) es F (parts r)
-  within_bounded [] n es F o b xs x s h = refl
-  within_bounded (e ∷ r) n es F o b xs x s h
-      = all_event n e r es F o b xs x s h (between_bounded r x n)
-      (λ (fs : List Start) (G : List Part) (c : Built) (ys : Anchors) (t : Within n fs G c) (a : Agrees fs ys). within_bounded r n fs G o c ys x t a)
 
 -- One load.
 abbrev one_answer : Option Closing → Opening → Ending → Answering Load

@@ -156,10 +156,6 @@ abbrev pub bounded_part : ℕ → Loader → Part → Loading
 bounded_part n l p = unless_full (nodes_full n l p) (if_child_fits (list_full n l p) (load_part l p))
 
 -- an event that is no part of a document leaves all as it is
-abbrev pub load_option : Loader → Option Part → Loading
-load_option l None = going l
-load_option l (Some p) = load_part l p
-
 abbrev pub bounded_option : ℕ → Loader → Option Part → Loading
 bounded_option n l None = going l
 bounded_option n l (Some p) = bounded_part n l p
@@ -187,22 +183,3 @@ load_from n (within o l) (e ∷ r) x
 abbrev pub left_from : State → List Event → List Event
 left_from between r = left_over r
 left_from (within o l) r = behind_document r
-
--- All loads, one after the other, without a bound and with the bound n.
-abbrev pub load_all : State → List Event → Ending → List Load
-load_all s [] x = last_load x ∷ []
-load_all between (e ∷ r) x = elim (opening_of e) [ None ↦ load_all between r x | Some o ↦ load_all (within o fresh) r x ]
-load_all (within o l) (e ∷ r) x
-    = elim (closing_of e) [
-      | Some c ↦ Ok (document o l.nodes c) ∷ load_all between r x
-      | None ↦ if_going (λ (f : Fault). Err f ∷ []) (load_option l (part_of e)) (λ (k : Loader). load_all (within o k) r x)
-    ]
-
-abbrev pub bounded_all : ℕ → State → List Event → Ending → List Load
-bounded_all n s [] x = last_load x ∷ []
-bounded_all n between (e ∷ r) x = elim (opening_of e) [ None ↦ bounded_all n between r x | Some o ↦ bounded_all n (within o fresh) r x ]
-bounded_all n (within o l) (e ∷ r) x
-    = elim (closing_of e) [
-      | Some c ↦ Ok (document o l.nodes c) ∷ bounded_all n between r x
-      | None ↦ if_going (λ (f : Fault). Err f ∷ []) (bounded_option n l (part_of e)) (λ (k : Loader). bounded_all n (within o k) r x)
-    ]

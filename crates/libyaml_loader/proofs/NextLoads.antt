@@ -3,17 +3,17 @@ use Rattle.std.proofs.Common.{◌≡◌, ◌++◌, ◌∷◌, List, [], Option, 
 use Rattle.std.proofs.Common.{length-append, append-nil}
 use Rattle.libyaml_types.specs.declared.enums.yaml_error_type_t.{yaml_error_type_t}
 use Rattle.libyaml_documents.specs.Documents.{Document}
-use Rattle.libyaml_events.specs.machine.Config.{Parser, is_fault}
+use Rattle.libyaml_events.specs.machine.Config.{Parser}
 use Rattle.libyaml_grammar.specs.sentences.Events.{Event}
 use Rattle.libyaml_grammar.specs.runs.Fault.{Answer, Fault}
 use Rattle.libyaml_grammar.specs.cuts.FaultTexts.{memory_fault}
-use Rattle.libyaml_events.specs.sources.History.{is_over, has_failed, kept_fault}
+use Rattle.libyaml_events.specs.sources.History.{ForHistory, is_over, has_failed, kept_fault}
+use Rattle.libyaml_grammar.specs.sentences.Tokens.{Token}
 use Rattle.libyaml_grammar.specs.runs.Runs.{Ending}
-use Rattle.libyaml_events.specs.sources.RunToCome.{RunToCome}
+use Rattle.libyaml_events.specs.sources.RunToCome.{FailsHere, RunToCome}
 use Rattle.libyaml_events.specs.sources.Source.{Coming}
-use Rattle.libyaml_events.proofs.calls.Staged.{ran_staged}
 use Rattle.libyaml_graphs.specs.Loads.{Load, last_load}
-use Rattle.libyaml_loader.specs.Loading.{DocumentOrError, FailsHere, LeftOf, LoadsFrom, at_end, by_loader, by_memory, by_parser, whole}
+use Rattle.libyaml_loader.specs.Loading.{DocumentOrError, LeftOf, LoadsFrom, at_end, by_loader, by_memory, by_parser, whole}
 use Rattle.libyaml_loader.specs.NextLoad.{Answers, UnlessBroken, breaks, does, no_memory}
 
 nothing_more : (a b : List Event) → a ++ b ≡ a → b ≡ []
@@ -23,10 +23,11 @@ nothing_more a (x ∷ b) e = absurd (omega (arith, ap length e, length-append a 
 module _ {S : Type 0} (gives : S → Answer → S → Type 0) (known : S → Option Coming) (MayBreak : S → Fault → Type 0) (load : List Event → Ending
     → Load) (left : List Event → List Event) where
   pub next_load : (old new : Parser S) (r : DocumentOrError) → IfErr r (λ (x : yaml_error_type_t). (x ≡ (kept_fault new).error) × (is_over new ≡ true))
+      → ForHistory old (λ (asked : List Token) (given : List Event). has_failed old ≡ false)
       → (has_failed old ≡ false → LoadsFrom gives known MayBreak load left old r new)
       → (events : List Event) (ending : Ending) → RunToCome known old events ending
       → UnlessBroken MayBreak r new (Answers known (load events ending) r new (left events) ending)
-  next_load old new r kept loads events ending run = go r kept (loads (ap (λ (f : Fault). is_fault f.error) (ran_staged run.history).no_fault_kept))
+  next_load old new r kept no_fault loads events ending run = go r kept (loads (no_fault run.asked run.given run.history))
     where
       answered : (l : Load) (q : DocumentOrError) → load events ending ≡ l → Answers known l q new (left events) ending
           → UnlessBroken MayBreak q new (Answers known (load events ending) q new (left events) ending)

@@ -7,14 +7,13 @@ use Rattle.libyaml_documents.specs.Documents.{Document, empty_document}
 use Rattle.libyaml_documents.specs.LoadedNodes.{begun_document, ended_document}
 use Rattle.libyaml_documents.specs.declared.node.yaml_node_t.{yaml_node_t}
 use Rattle.libyaml_events.specs.sources.Calls.{EventOrError}
-use Rattle.libyaml_events.specs.machine.Config.{Parser, is_fault}
+use Rattle.libyaml_events.specs.machine.Config.{Parser}
 use Rattle.libyaml_grammar.specs.sentences.Events.{Event}
 use Rattle.libyaml_grammar.specs.runs.Fault.{Answer, Fault}
 use Rattle.libyaml_events.specs.sources.History.{History, has_failed, keeping}
 use Rattle.libyaml_events.specs.sources.Source.{Coming}
 use Rattle.libyaml_events.specs.parsers.Stages.{is_event}
 use Rattle.libyaml_grammar.specs.sentences.Tokens.{Token}
-use Rattle.libyaml_events.proofs.calls.Staged.{ran_staged}
 use Rattle.libyaml_graphs.specs.Loader.{Loader, Open, Loading, State, between, bounded_option, failed, fresh, going, left_from, load_from, no_anchors, within}
 use Rattle.libyaml_graphs.specs.Loader as machine
 use Rattle.libyaml_grammar.specs.runs.Runs.{Ending}
@@ -72,7 +71,7 @@ module _ {S : Type 0} (gives : S → Answer → S → Type 0) (known : S → Opt
     no_end = no_end;
     fault = fault_by f;
     keeps = λ (asked : List Token) (given : List Event) (h : History mid asked given). keeps
-        (ap (λ (x : Fault). is_fault x.error) (ran_staged h).no_fault_kept);
+        (c.no_fault mid asked given h);
     why = ⊎_elim (λ (m : f ≡ Memory). inl (ap fault_by m))
         (λ (w : bounded_option before.max_entries (loader_of before) (part_of e) ≡ failed (fault_by f)). inr w) refuses;
   }

@@ -12,8 +12,8 @@ use Rattle.libyaml_events.specs.sources.CallsInTurn.{CarriedOn}
 use Rattle.libyaml_events.specs.machine.Config.{Parser, is_between, is_end_state, is_fault}
 use Rattle.libyaml_grammar.specs.sentences.Events.{Event}
 use Rattle.libyaml_grammar.specs.runs.Fault.{Answer, Fault}
-use Rattle.libyaml_events.specs.sources.History.{History, between_documents, is_over, kept_fault}
-use Rattle.libyaml_events.specs.sources.Parsing.{CarriesOn, FailsBy}
+use Rattle.libyaml_events.specs.sources.History.{ForHistory, History, between_documents, has_failed, is_over, kept_fault}
+use Rattle.libyaml_events.specs.sources.Parsing.{CarriesOn, FailsBy, IsWhole}
 use Rattle.libyaml_events.specs.sources.RunToCome.{RunToCome, UnlessBroken}
 use Rattle.libyaml_grammar.specs.runs.Runs.{Ending, Ends, Fails}
 use Rattle.libyaml_events.specs.sources.Source.{Coming}
@@ -68,7 +68,7 @@ module _ {S : Type 0} (gives : S → Answer → S → Type 0) (known : S → Opt
   }
 
   module _ (old new : Parser S) (r : EventOrError) where
-    -- the clauses of a call
+    -- the clauses of a call, and the laws of histories
     pub record Called : Type 0 where
       pub ended : is_over old ≡ true → (r ≡ Ok empty_event) × (new ≡ old)
       pub carries_on : is_over old ≡ false
@@ -80,6 +80,8 @@ module _ {S : Type 0} (gives : S → Answer → S → Type 0) (known : S → Opt
       pub end : RunToCome known old [] Ends → (r ≡ Ok empty_event) × (new ≡ old)
       pub fault : (f : Fault) → RunToCome known old [] (Fails f) → UnlessBroken MayBreak r new ((r ≡ Err f.error) × (kept_fault new ≡ f))
       pub nothing : is_over new ≡ true → (later : List Event) (ending : Ending) → RunToCome known new later ending → (later ≡ []) × (ending ≡ Ends)
+      pub no_fault : (p : Parser S) → ForHistory p (λ (asked : List Token) (given : List Event). has_failed p ≡ false)
+      pub whole : (p : Parser S) → is_over p ≡ true → ForHistory p IsWhole
 
     says : Called → Says known MayBreak old new r
     says c = record { next = c.next; end = c.end; fault = c.fault }
@@ -142,7 +144,9 @@ module _ {S : Type 0} (gives : S → Answer → S → Type 0) (known : S → Opt
             c.nothing (ap is_over s ∙ h) events ending (subst (λ (p : Parser S). RunToCome known p events ending) (sym s) run);
         stands = λ (asked : List Token) (given : List Event) (history : History old asked given).
             let h = over empty asked given history in
-            ended_between new (ap is_over (c.ended h).1 ∙ h);
+            let s = (c.ended h).1 in
+            let over : is_over new ≡ true = ap is_over s ∙ h in
+            record { over = over; no_fault = ap has_failed s ∙ c.no_fault old asked given history; whole = c.whole new over };
       }
 
     pub parser_fails : Called → (x : yaml_error_type_t) → r ≡ Err x → ParserFails gives known MayBreak old new

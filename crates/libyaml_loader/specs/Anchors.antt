@@ -1,5 +1,5 @@
 -- The anchors of a document, by the entries of their map.
-use Rattle.std.specs.Prelude.{ℕ, List, [], ◌∷◌, refl}
+use Rattle.std.specs.Prelude.{ℕ, List, [], ◌∷◌, String, string_bytes, refl}
 use Rattle.std.specs.FinMap.{from_entries, code}
 use Rattle.std.specs.Coded.{Coded, code_by, coded_ℕ, coded_list, coded×}
 use Rattle.libyaml_graphs.specs.Graphs as graphs
@@ -17,9 +17,9 @@ carrier_code =
 abbrev pub anchors_code : Coded machine.Anchors
 anchors_code = code (coded_list coded_ℕ) carrier_code
 
-abbrev pub carriers_of : List (List ℕ × Carrier) → List (List ℕ × graphs.Carrier)
+abbrev pub carriers_of : {Y : Type 0} → List (String Y × Carrier) → List (List ℕ × graphs.Carrier)
 carriers_of [] = []
-carriers_of (e ∷ es) = (e.0, carrier_of e.1) ∷ carriers_of es
+carriers_of (e ∷ es) = (string_bytes e.0, carrier_of e.1) ∷ carriers_of es
 
-abbrev pub anchors_of : List (List ℕ × Carrier) → machine.Anchors
+abbrev pub anchors_of : {Y : Type 0} → List (String Y × Carrier) → machine.Anchors
 anchors_of es = from_entries (carriers_of es)

@@ -1,5 +1,5 @@
 -- What a load asked for, took and answered (docs/DEFINITIONS.md, "Loads of a parser").
-use Rattle.std.specs.Prelude.{◌≡◌, ◌++◌, ◌⊎◌, List, [], Option, None, Result, Ok, Err, true, false}
+use Rattle.std.specs.Prelude.{◌≡◌, ◌++◌, List, [], Option, None, Result, Ok, Err, true, false}
 use Rattle.libyaml_types.specs.declared.enums.yaml_error_type_t.{yaml_error_type_t}
 use Rattle.libyaml_documents.specs.Documents.{Document, empty_document}
 use Rattle.libyaml_events.specs.sources.CallsInTurn.{CarriedOn}
@@ -7,10 +7,10 @@ use Rattle.libyaml_events.specs.machine.Config.{Parser}
 use Rattle.libyaml_grammar.specs.sentences.Events.{Event}
 use Rattle.libyaml_grammar.specs.runs.Fault.{Answer, Fault}
 use Rattle.libyaml_grammar.specs.cuts.FaultTexts.{memory_fault}
-use Rattle.libyaml_events.specs.sources.History.{History, between_documents, kept_fault, keeping}
-use Rattle.libyaml_events.specs.sources.Parsing.{FailsBy}
-use Rattle.libyaml_grammar.specs.runs.Runs.{Ending, Ends, Fails}
-use Rattle.libyaml_events.specs.sources.RunToCome.{RunToCome}
+use Rattle.libyaml_events.specs.sources.History.{ForHistory, History, between_documents, has_failed, is_over, kept_fault, keeping}
+use Rattle.libyaml_events.specs.sources.Parsing.{FailsBy, IsWhole}
+use Rattle.libyaml_grammar.specs.runs.Runs.{Ending, Ends}
+use Rattle.libyaml_events.specs.sources.RunToCome.{FailsHere, RunToCome}
 use Rattle.libyaml_events.specs.sources.Source.{Coming}
 use Rattle.libyaml_grammar.specs.sentences.Tokens.{Token}
 use Rattle.libyaml_graphs.specs.Loads.{Load, last_load}
@@ -31,10 +31,6 @@ pub record Took {S : Type 0} (gives : S → Answer → S → Type 0) (known : S 
   pub history : (asked : List Token) (given : List Event) → History old asked given → CarriedOn gives old new asked given taken
   pub runs : (events : List Event) (ending : Ending) → RunToCome known old events ending → LeftOf known new taken events ending
 
--- the run fails here by this fault; or a growth was refused, or the source broke off
-abbrev pub FailsHere : (MayBreak : Fault → Type 0) → Fault → List Event → Ending → Type 0
-FailsHere MayBreak f events ending = ((events ≡ []) × (ending ≡ Fails f)) ⊎ ((f ≡ memory_fault) ⊎ MayBreak f)
-
 -- a call of the parser failed
 pub record ParserFails {S : Type 0} (gives : S → Answer → S → Type 0) (known : S → Option Coming) (MayBreak : S → Fault
     → Type 0) (old new : Parser S) : Type 0 where
@@ -45,8 +41,14 @@ pub record ParserFails {S : Type 0} (gives : S → Answer → S → Type 0) (kno
 abbrev pub KeptBy : {S : Type 0} → Fault → (parser new : Parser S) → Type 0
 KeptBy f parser new = (asked : List Token) (given : List Event) → History parser asked given → new ≡ keeping f parser
 
+-- The parser has ended without a fault: it asked for the tokens of a whole tree, and gave the tree's events.
+pub record HasEnded {S : Type 0} (p : Parser S) : Type 0 where
+  pub over : is_over p ≡ true
+  pub no_fault : has_failed p ≡ false
+  pub whole : ForHistory p IsWhole
+
 -- A load that answered a document: it took the events up to a document's end, which have that document whatever stands
--- behind them; or all events up to the stream's end, and the document is that without root.
+-- behind them; or all events up to the stream's end, where the parser has ended, and the document is that without root.
 pub data Loads {S : Type 0} (gives : S → Answer → S → Type 0) (known : S → Option Coming) (load : List Event → Ending → Load) (left : List Event
     → List Event) (old new : Parser S) (d : Document) : Type 0 where
   whole : (taken : List Event) → Took gives known old new taken → ((rest : List Event) (x : Ending) → load (taken ++ rest) x ≡ Ok d)
@@ -55,7 +57,7 @@ pub data Loads {S : Type 0} (gives : S → Answer → S → Type 0) (known : S �
   at_end : (taken : List Event) → Took gives known old new taken → ((x : Ending) → load taken x ≡ last_load x) → (left taken ≡ [])
       → ((events : List Event) (ending : Ending) → RunToCome known old events ending → (events ≡ taken) × (ending ≡ Ends))
       → d ≡ empty_document None [] false false
-      → ((asked : List Token) (given : List Event) → History old asked given → between_documents new ≡ true) → Loads gives known load left old new d
+      → ((asked : List Token) (given : List Event) → History old asked given → HasEnded new) → Loads gives known load left old new d
 
 -- A load that failed: behind the events that it took the parser did, and these have no fault of a load; or these have one,
 -- which the parser keeps; or a growth was refused.

@@ -19,7 +19,7 @@ use Rattle.libyaml_loader.specs.declared.load.Closing.{Closing}
 use Rattle.libyaml_loader.specs.declared.load.Opening.{Opening}
 use Rattle.libyaml_loader.specs.declared.load.Step.{Step}
 use Rattle.libyaml_loader.specs.declared.load.Step.TheVariants as step
-use Rattle.libyaml_loader.specs.Loading.{KeptBy, ParserFails, Took}
+use Rattle.libyaml_loader.specs.Loading.{HasEnded, KeptBy, ParserFails, Took}
 
 abbrev pub closing : Closing → parts.Closing
 closing c = record { is_implicit = c.implicit; mark = c.mark }
@@ -46,7 +46,7 @@ pub record TakesEvent {S : Type 0} (gives : S → Answer → S → Type 0) (know
 pub record FindsEnd {S : Type 0} (gives : S → Answer → S → Type 0) (known : S → Option Coming) (old new : Parser S) : Type 0 where
   pub took : Took gives known old new []
   pub ends : (events : List Event) (ending : Ending) → RunToCome known old events ending → (events ≡ []) × (ending ≡ Ends)
-  pub stands : (asked : List Token) (given : List Event) → History old asked given → between_documents new ≡ true
+  pub stands : (asked : List Token) (given : List Event) → History old asked given → HasEnded new
 
 -- the next event was taken and refused
 pub record LoaderFails {S : Type 0} (gives : S → Answer → S → Type 0) (known : S → Option Coming) (old new : Parser S) (before : loader_ctx) : Type 0 where

@@ -1,13 +1,12 @@
 //! The anchors of a document on the way.
 
-ghost use Rattle.std.specs.Prelude.{◌≡◌, IfOk, OnOk};
+ghost use Rattle.std.specs.Prelude.{◌≡◌, IfOk, OnOk, string_bytes};
 ghost use Rattle.std.specs.Option.{option_map};
 ghost use Rattle.std.specs.FinMap.{get, insert};
 ghost use Rattle.libyaml_graphs.specs.Loader.{no_anchors};
 ghost use Rattle.libyaml_loader.specs.Ids.{carrier_of};
 
 use crate::ids::Carrier;
-use libyaml_types::Text;
 use std::alloc::{AllocError, Global};
 use std::collections::BTreeMap;
 use std::marker::Model;
@@ -17,7 +16,7 @@ use std::marker::Model;
 /// libyaml: the parser's field `aliases`.
 #[derive(Drop)]
 pub struct Anchors {
-    inner: BTreeMap<Text, Carrier>,
+    inner: BTreeMap<String, Carrier>,
 }
 
 impl Model for Anchors {
@@ -43,7 +42,7 @@ impl Anchors {
 
     /// The carrier of this anchor.
     #[tactic(auto, using(crate::proofs::AnchorLemmas::get_anchor))]
-    pub fn find(&self, anchor: &Text) -> Option<Carrier>
+    pub fn find(&self, anchor: &str) -> Option<Carrier>
         ensures { option_map carrier_of result ≡ get self.now anchor.now }
     {
         self.inner.get(anchor).copied()
@@ -52,11 +51,13 @@ impl Anchors {
     /// Puts down the carrier of this anchor, and answers the one that it had before.
     pub fn register(
         &mut self,
-        anchor: Text,
+        anchor: String,
         carrier: Carrier,
     ) -> Result<Option<Carrier>, AllocError>
-        ensures earlier { IfOk result (λ earlier. option_map carrier_of earlier ≡ get self.old anchor) }
-        ensures registered { OnOk result (self.new ≡ insert self.old anchor (carrier_of carrier)) }
+        ensures earlier { IfOk result (λ earlier. option_map carrier_of earlier ≡
+            get self.old (string_bytes anchor)) }
+        ensures registered { OnOk result (self.new
+            ≡ insert self.old (string_bytes anchor) (carrier_of carrier)) }
     {
         Ok(self.inner.insert(anchor, carrier)?)
     }

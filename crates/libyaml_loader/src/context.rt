@@ -1,7 +1,7 @@
 //! A document on the way: its nodes so far, its open collections and its anchors.
 
 ghost use Rattle.std.specs.Prelude.{◌≡◌, ◌≤◌, suc, [], length, nat_lt, false, Some, None};
-ghost use Rattle.std.specs.Prelude.{IfOk, IfErr, OnOk};
+ghost use Rattle.std.specs.Prelude.{IfOk, IfErr, OnOk, option_map, string_bytes};
 ghost use Rattle.libyaml_documents.specs.Documents.{with_changed_node};
 ghost use Rattle.libyaml_documents.specs.LoadedNodes.{begun_document, children_at, ended_document};
 ghost use Rattle.libyaml_documents.specs.LoadedNodes.{mapping_loaded, scalar_loaded};
@@ -27,7 +27,7 @@ use libyaml_documents::{
     yaml_document_t, yaml_node_t,
 };
 use libyaml_types::{
-    Text, unnamed_yaml_event_t_data, unnamed_yaml_event_t_data_document_start,
+    unnamed_yaml_event_t_data, unnamed_yaml_event_t_data_document_start,
     unnamed_yaml_event_t_data_mapping_start, unnamed_yaml_event_t_data_scalar,
     unnamed_yaml_event_t_data_sequence_start, yaml_mark_t, yaml_node_type_t,
 };
@@ -135,7 +135,7 @@ impl loader_ctx {
     /// libyaml: `yaml_parser_load_alias`.
     fn yaml_parser_load_alias(
         &mut self,
-        anchor: &Text,
+        anchor: &str,
         start_mark: yaml_mark_t,
     ) -> Result<(), Refusal>
         requires { IdsAreIn (loader_of self.old) }
@@ -220,12 +220,12 @@ impl loader_ctx {
 
     /// Puts a node without children behind the others and into the innermost open collection, and
     /// answers its id.
-    fn load_node(&mut self, anchor: Option<Text>, node: yaml_node_t) -> Result<NodeId, Refusal>
+    fn load_node(&mut self, anchor: Option<String>, node: yaml_node_t) -> Result<NodeId, Refusal>
         requires ids { IdsAreIn (loader_of self.old) }
         requires childless { ids_of node.content ≡ [] }
-        ensures ok { IfOk result (λ id. NodeLoaded self.old self.new id anchor node) }
+        ensures ok { IfOk result (λ id. NodeLoaded self.old self.new id (option_map string_bytes anchor) node) }
         ensures err { IfErr result (λ r. RefusesAnchor
-            (register anchor (suc (length self.old.document.nodes)) node.start_mark self.old.anchors)
+            (register (option_map string_bytes anchor) (suc (length self.old.document.nodes)) node.start_mark self.old.anchors)
             node.start_mark r) }
     {
         let mark = node.start_mark;
@@ -240,14 +240,15 @@ impl loader_ctx {
     /// libyaml: `yaml_parser_register_anchor`.
     fn yaml_parser_register_anchor(
         &mut self,
-        anchor: Option<Text>,
+        anchor: Option<String>,
         carrier: Carrier,
     ) -> Result<(), Refusal>
-        ensures ok { OnOk result (register anchor (id_of carrier.node) carrier.mark self.old.anchors
-            ≡ registered self.new.anchors) }
+        ensures ok { OnOk result (register (option_map string_bytes anchor) (id_of carrier.node) carrier.mark
+            self.old.anchors ≡ registered self.new.anchors) }
         ensures rest { OnOk result (self.new ≡ record self.old { anchors = self.new.anchors }) }
         ensures err { IfErr result (λ r. RefusesAnchor
-            (register anchor (id_of carrier.node) carrier.mark self.old.anchors) carrier.mark r) }
+            (register (option_map string_bytes anchor) (id_of carrier.node) carrier.mark self.old.anchors)
+            carrier.mark r) }
     {
         let Some(anchor) = anchor else {
             return Ok(());

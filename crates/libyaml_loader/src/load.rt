@@ -24,9 +24,10 @@ use crate::context::loader_ctx;
 use crate::refusal::{has_failed, keep_refusal};
 use libyaml_documents::building::begin_document;
 use libyaml_documents::yaml_document_t;
+use libyaml_events::laws::calls::of_history;
 use libyaml_events::{yaml_parser_parse, yaml_parser_t, yaml_token_source_t};
 use libyaml_types::{
-    TagDirectives, ZERO_MARK, unnamed_yaml_event_t_data, unnamed_yaml_event_t_data_document_start,
+    ZERO_MARK, unnamed_yaml_event_t_data, unnamed_yaml_event_t_data_document_start,
     yaml_error_type_t, yaml_event_t, yaml_mark_t,
 };
 use std::alloc::Global;
@@ -74,6 +75,7 @@ pub fn yaml_parser_load<S: yaml_token_source_t>(
     ensures ended { is_over parser.old ≡ true → has_failed parser.old ≡ false
         → (result ≡ Ok (empty_document None [] false false)) × (parser.new ≡ parser.old) }
     ensures fails { IfErr result (λ x. (x ≡ (kept_fault parser.new).error) × (is_over parser.new ≡ true)) }
+    ensures failed { IfErr result (λ _. has_failed parser.new ≡ true) }
     ensures bound { parser.new.max_entries ≡ parser.old.max_entries }
     ensures between { between_documents parser.new ≡ true }
     // so a loop over the documents ends
@@ -90,6 +92,7 @@ pub fn yaml_parser_load<S: yaml_token_source_t>(
         (Answers S.known (next_bounded (magnitude parser.old.max_entries) events ending) result parser.new
         (left_over events) ending) }
 {
+    of_history::<S>();
     if has_failed(parser) {
         return Err(parser.prefix().error);
     }
@@ -105,11 +108,13 @@ fn next_document<S: yaml_token_source_t>(
     ensures falls { IfOk result (λ d. (d ≡ empty_document None [] false false)
         ⊎ (events_left S.bound parser.new < events_left S.bound parser.old)) }
     ensures fails { IfErr result (λ x. (x ≡ (kept_fault parser.new).error) × (is_over parser.new ≡ true)) }
+    ensures failed { IfErr result (λ _. has_failed parser.new ≡ true) }
     ensures bound { parser.new.max_entries ≡ parser.old.max_entries }
     ensures between { between_documents parser.new ≡ true }
     ensures loads { LoadsFrom S.gives S.known S.may_break (next_bounded (magnitude parser.old.max_entries))
         left_over parser.old result parser.new }
 {
+    of_history::<S>();
     loop {
         let yaml_event_t {
             content,
@@ -132,7 +137,7 @@ fn without_root(alloc: Global) -> yaml_document_t
 {
     let start = unnamed_yaml_event_t_data_document_start {
         version_directive: None,
-        tag_directives: TagDirectives::new(alloc),
+        tag_directives: Vec::new(alloc),
         implicit: false,
     };
     begin_document(alloc, start, ZERO_MARK)
@@ -156,6 +161,7 @@ fn yaml_parser_load_document<S: yaml_token_source_t>(
     ensures falls { IfOk result (λ d. (d ≡ empty_document None [] false false)
         ⊎ (events_left S.bound parser.new < events_left S.bound parser.old)) }
     ensures fails { IfErr result (λ x. (x ≡ (kept_fault parser.new).error) × (is_over parser.new ≡ true)) }
+    ensures failed { IfErr result (λ _. has_failed parser.new ≡ true) }
     ensures bound { parser.new.max_entries ≡ parser.old.max_entries }
     ensures between { between_documents parser.new ≡ true }
     ensures loads { LoadsFrom S.gives S.known S.may_break
@@ -179,6 +185,7 @@ fn yaml_parser_load_nodes<S: yaml_token_source_t>(
     ensures falls { IfOk result (λ d. (d ≡ empty_document None [] false false)
         ⊎ (events_left S.bound parser.new < events_left S.bound parser.old)) }
     ensures fails { IfErr result (λ x. (x ≡ (kept_fault parser.new).error) × (is_over parser.new ≡ true)) }
+    ensures failed { IfErr result (λ _. has_failed parser.new ≡ true) }
     ensures bound { parser.new.max_entries ≡ parser.old.max_entries }
     ensures between { between_documents parser.new ≡ true }
     ensures loads { (o : parts.Opening)
@@ -205,10 +212,12 @@ fn compose_next<S: yaml_token_source_t>(
     ensures falls { IfOk result (λ s. (s ≡ Step.Ended)
         ⊎ (events_left S.bound parser.new < events_left S.bound parser.old)) }
     ensures fails { IfErr result (λ x. (x ≡ (kept_fault parser.new).error) × (is_over parser.new ≡ true)) }
+    ensures failed { IfErr result (λ _. has_failed parser.new ≡ true) }
     ensures bound { parser.new.max_entries ≡ parser.old.max_entries }
     ensures between { IfOk result (λ s. (s ≡ Step.Composed) ⊎ (between_documents parser.new ≡ true)) }
     ensures steps { ComposesBy S.gives S.known S.may_break result parser.old parser.new ctx.old ctx.new }
 {
+    of_history::<S>();
     let yaml_event_t {
         content,
         start_mark,

@@ -51,6 +51,7 @@ pub fn has_failed<S>(parser: &yaml_parser_t<S>) -> bool
 pub fn keep_refusal<S>(parser: &mut yaml_parser_t<S>, refusal: Refusal) -> yaml_error_type_t
     ensures kept { has_failed parser.old ≡ false → parser.new ≡ keeping (fault_by refusal) parser.old }
     ensures error { result ≡ (kept_fault parser.new).error }
+    ensures failed { has_failed parser.new ≡ true }
     ensures ended { is_over parser.new ≡ true }
     ensures bound { parser.new.max_entries ≡ parser.old.max_entries }
 {

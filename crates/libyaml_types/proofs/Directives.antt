@@ -4,7 +4,7 @@ use Rattle.std.specs.Bool.{Decides}
 use Rattle.std.specs.Cmp.{first_so, second_so}
 use Rattle.std.specs.Cmp.Lexicographic.{pointwise, pointwise_decides, bytes_decides}
 use Rattle.libyaml_types.specs.declared.directive.yaml_tag_directive_t.{yaml_tag_directive_t}
-use Rattle.libyaml_types.specs.contracts.directive.yaml_tag_directive_tPartialEq.TheImpl as directive_eq
+use Rattle.libyaml_types.specs.contracts.directive.Yaml_tag_directive_tPartialEq.TheImpl as directive_eq
 
 -- what `==` says of two directives
 abbrev pub same_directive : yaml_tag_directive_t → yaml_tag_directive_t → Bool

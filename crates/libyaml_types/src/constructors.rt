@@ -9,7 +9,7 @@ ghost use Rattle.libyaml_types.specs.Events.{sequence_start_event, sequence_end_
 ghost use Rattle.libyaml_types.specs.Events.{mapping_start_event, mapping_end_event, unmarked};
 ghost use Rattle.libyaml_types.specs.Texts.{PropertiesAreUtf8, PairsAreUtf8, ScalarIsUtf8, directive_of};
 
-use crate::directive::{TagDirectives, yaml_version_directive_t};
+use crate::directive::{directives_of_pairs, yaml_version_directive_t};
 use crate::enums::{
     yaml_encoding_t, yaml_mapping_style_t, yaml_scalar_style_t, yaml_sequence_style_t,
 };
@@ -21,9 +21,8 @@ use crate::event::{
 };
 use crate::mark::ZERO_MARK;
 use crate::refusal::yaml_refusal_t;
-use crate::text::Text;
 use crate::token::{unnamed_yaml_token_t_data, yaml_token_t};
-use crate::utf8::{checked, checked_option, copied_option};
+use crate::utf8::{checked, checked_option, copied, copied_option};
 use std::alloc::Global;
 
 /// The event of this content, with zero marks.
@@ -79,7 +78,7 @@ pub fn yaml_document_start_event_initialize(
 {
     let start = unnamed_yaml_event_t_data_document_start {
         version_directive,
-        tag_directives: TagDirectives::from_pairs(alloc, tag_directives)?,
+        tag_directives: directives_of_pairs(alloc, tag_directives)?,
         implicit,
     };
     Ok(unmarked_event(unnamed_yaml_event_t_data::DocumentStart(start)))
@@ -112,7 +111,7 @@ pub fn yaml_alias_event_initialize(
     ensures errors { IfErr result (λ e. (e ≡ yaml_refusal_t.NotUtf8) ⊎ (e ≡ yaml_refusal_t.Memory)) }
 {
     let alias = unnamed_yaml_event_t_data_alias {
-        anchor: Text::from_utf8(alloc, anchor)?,
+        anchor: copied(alloc, anchor)?,
     };
     Ok(unmarked_event(unnamed_yaml_event_t_data::Alias(alias)))
 }
@@ -150,7 +149,7 @@ pub fn yaml_scalar_event_initialize(
     let scalar = unnamed_yaml_event_t_data_scalar {
         anchor: copied_option(alloc, anchor)?,
         tag: copied_option(alloc, tag)?,
-        value: Text::from_str(alloc, value)?,
+        value: String::from_str(alloc, value)?,
         plain_implicit,
         quoted_implicit,
         style,

@@ -2,13 +2,13 @@
 
 ghost use Rattle.std.specs.Prelude.{◌≡◌};
 
-use crate::directive::{TagDirectives, yaml_version_directive_t};
+use crate::directive::{yaml_tag_directive_t, yaml_version_directive_t};
 use crate::enums::{
     yaml_encoding_t, yaml_event_type_t, yaml_mapping_style_t, yaml_scalar_style_t,
     yaml_sequence_style_t,
 };
 use crate::mark::yaml_mark_t;
-use crate::text::Text;
+use std::marker::Model;
 
 /// The start of a stream, in an encoding.
 ///
@@ -21,11 +21,44 @@ pub struct unnamed_yaml_event_t_data_stream_start {
 /// The start of a document: its directives, and whether no DOCUMENT-START stands there.
 ///
 /// libyaml: `unnamed_yaml_event_t_data_document_start`.
-#[derive(PartialEq, Eq, Debug, Drop)]
+#[derive(Debug, Drop)]
 pub struct unnamed_yaml_event_t_data_document_start {
     pub version_directive: Option<yaml_version_directive_t>,
-    pub tag_directives: TagDirectives,
+    pub tag_directives: Vec<yaml_tag_directive_t>,
     pub implicit: bool,
+}
+
+impl Model for unnamed_yaml_event_t_data_document_start {
+    ghost use Rattle.libyaml_types.specs.Models.{DocumentStart};
+
+    ghost Value = { DocumentStart };
+
+    ghost view = { λ s. record {
+      version_directive = s.version_directive;
+      tag_directives = s.tag_directives.items;
+      implicit = s.implicit;
+    } };
+}
+
+impl PartialEq for unnamed_yaml_event_t_data_document_start {
+    ghost use Rattle.std.specs.Cmp.{partial_equiv_from_equiv};
+    ghost use Rattle.libyaml_types.specs.Equal.{same_document_start, same_document_start_equiv};
+
+    ghost eq = { same_document_start };
+
+    ghost laws = { partial_equiv_from_equiv same_document_start_equiv };
+
+    fn eq(&self, other: &Self) -> bool {
+        self.version_directive == other.version_directive
+            && self.tag_directives == other.tag_directives
+            && self.implicit == other.implicit
+    }
+}
+
+impl Eq for unnamed_yaml_event_t_data_document_start {
+    ghost use Rattle.libyaml_types.specs.Equal.{same_document_start_equiv};
+
+    ghost laws = { same_document_start_equiv };
 }
 
 /// The end of a document: whether no DOCUMENT-END stands there.
@@ -39,45 +72,187 @@ pub struct unnamed_yaml_event_t_data_document_end {
 /// An alias of the node with this anchor.
 ///
 /// libyaml: `unnamed_yaml_event_t_data_alias`.
-#[derive(PartialEq, Eq, Debug, Drop)]
+#[derive(Debug, Drop)]
 pub struct unnamed_yaml_event_t_data_alias {
-    pub anchor: Text,
+    pub anchor: String,
+}
+
+impl Model for unnamed_yaml_event_t_data_alias {
+    ghost use Rattle.std.specs.Prelude.{string_bytes};
+    ghost use Rattle.libyaml_types.specs.Models.{Alias};
+
+    ghost Value = { Alias };
+
+    ghost view = { λ s. record {
+      anchor = string_bytes s.anchor;
+    } };
+}
+
+impl PartialEq for unnamed_yaml_event_t_data_alias {
+    ghost use Rattle.std.specs.Cmp.{partial_equiv_from_equiv};
+    ghost use Rattle.libyaml_types.specs.Equal.{same_alias, same_alias_equiv};
+
+    ghost eq = { same_alias };
+
+    ghost laws = { partial_equiv_from_equiv same_alias_equiv };
+
+    fn eq(&self, other: &Self) -> bool {
+        self.anchor == other.anchor
+    }
+}
+
+impl Eq for unnamed_yaml_event_t_data_alias {
+    ghost use Rattle.libyaml_types.specs.Equal.{same_alias_equiv};
+
+    ghost laws = { same_alias_equiv };
 }
 
 /// A scalar: `plain_implicit` where its tag may be left out if it is written plain,
 /// `quoted_implicit` if it is written otherwise.
 ///
 /// libyaml: `unnamed_yaml_event_t_data_scalar`.
-#[derive(PartialEq, Eq, Debug, Drop)]
+#[derive(Debug, Drop)]
 pub struct unnamed_yaml_event_t_data_scalar {
-    pub anchor: Option<Text>,
-    pub tag: Option<Text>,
-    pub value: Text,
+    pub anchor: Option<String>,
+    pub tag: Option<String>,
+    pub value: String,
     pub plain_implicit: bool,
     pub quoted_implicit: bool,
     pub style: yaml_scalar_style_t,
 }
 
+impl Model for unnamed_yaml_event_t_data_scalar {
+    ghost use Rattle.std.specs.Prelude.{option_map, string_bytes};
+    ghost use Rattle.libyaml_types.specs.Models.{Scalar};
+
+    ghost Value = { Scalar };
+
+    ghost view = { λ s. record {
+      anchor = option_map string_bytes s.anchor;
+      tag = option_map string_bytes s.tag;
+      value = string_bytes s.value;
+      plain_implicit = s.plain_implicit;
+      quoted_implicit = s.quoted_implicit;
+      style = s.style;
+    } };
+}
+
+impl PartialEq for unnamed_yaml_event_t_data_scalar {
+    ghost use Rattle.std.specs.Cmp.{partial_equiv_from_equiv};
+    ghost use Rattle.libyaml_types.specs.Equal.{same_scalar, same_scalar_equiv};
+
+    ghost eq = { same_scalar };
+
+    ghost laws = { partial_equiv_from_equiv same_scalar_equiv };
+
+    fn eq(&self, other: &Self) -> bool {
+        self.anchor == other.anchor
+            && self.tag == other.tag
+            && self.value == other.value
+            && self.plain_implicit == other.plain_implicit
+            && self.quoted_implicit == other.quoted_implicit
+            && self.style == other.style
+    }
+}
+
+impl Eq for unnamed_yaml_event_t_data_scalar {
+    ghost use Rattle.libyaml_types.specs.Equal.{same_scalar_equiv};
+
+    ghost laws = { same_scalar_equiv };
+}
+
 /// The start of a sequence: `implicit` where its tag may be left out.
 ///
 /// libyaml: `unnamed_yaml_event_t_data_sequence_start`.
-#[derive(PartialEq, Eq, Debug, Drop)]
+#[derive(Debug, Drop)]
 pub struct unnamed_yaml_event_t_data_sequence_start {
-    pub anchor: Option<Text>,
-    pub tag: Option<Text>,
+    pub anchor: Option<String>,
+    pub tag: Option<String>,
     pub implicit: bool,
     pub style: yaml_sequence_style_t,
+}
+
+impl Model for unnamed_yaml_event_t_data_sequence_start {
+    ghost use Rattle.std.specs.Prelude.{option_map, string_bytes};
+    ghost use Rattle.libyaml_types.specs.Models.{SequenceStart};
+
+    ghost Value = { SequenceStart };
+
+    ghost view = { λ s. record {
+      anchor = option_map string_bytes s.anchor;
+      tag = option_map string_bytes s.tag;
+      implicit = s.implicit;
+      style = s.style;
+    } };
+}
+
+impl PartialEq for unnamed_yaml_event_t_data_sequence_start {
+    ghost use Rattle.std.specs.Cmp.{partial_equiv_from_equiv};
+    ghost use Rattle.libyaml_types.specs.Equal.{same_sequence_start, same_sequence_start_equiv};
+
+    ghost eq = { same_sequence_start };
+
+    ghost laws = { partial_equiv_from_equiv same_sequence_start_equiv };
+
+    fn eq(&self, other: &Self) -> bool {
+        self.anchor == other.anchor
+            && self.tag == other.tag
+            && self.implicit == other.implicit
+            && self.style == other.style
+    }
+}
+
+impl Eq for unnamed_yaml_event_t_data_sequence_start {
+    ghost use Rattle.libyaml_types.specs.Equal.{same_sequence_start_equiv};
+
+    ghost laws = { same_sequence_start_equiv };
 }
 
 /// The start of a mapping: `implicit` where its tag may be left out.
 ///
 /// libyaml: `unnamed_yaml_event_t_data_mapping_start`.
-#[derive(PartialEq, Eq, Debug, Drop)]
+#[derive(Debug, Drop)]
 pub struct unnamed_yaml_event_t_data_mapping_start {
-    pub anchor: Option<Text>,
-    pub tag: Option<Text>,
+    pub anchor: Option<String>,
+    pub tag: Option<String>,
     pub implicit: bool,
     pub style: yaml_mapping_style_t,
+}
+
+impl Model for unnamed_yaml_event_t_data_mapping_start {
+    ghost use Rattle.std.specs.Prelude.{option_map, string_bytes};
+    ghost use Rattle.libyaml_types.specs.Models.{MappingStart};
+
+    ghost Value = { MappingStart };
+
+    ghost view = { λ s. record {
+      anchor = option_map string_bytes s.anchor;
+      tag = option_map string_bytes s.tag;
+      implicit = s.implicit;
+      style = s.style;
+    } };
+}
+
+impl PartialEq for unnamed_yaml_event_t_data_mapping_start {
+    ghost use Rattle.std.specs.Cmp.{partial_equiv_from_equiv};
+    ghost use Rattle.libyaml_types.specs.Equal.{same_mapping_start, same_mapping_start_equiv};
+
+    ghost eq = { same_mapping_start };
+
+    ghost laws = { partial_equiv_from_equiv same_mapping_start_equiv };
+
+    fn eq(&self, other: &Self) -> bool {
+        self.anchor == other.anchor
+            && self.tag == other.tag
+            && self.implicit == other.implicit
+            && self.style == other.style
+    }
+}
+
+impl Eq for unnamed_yaml_event_t_data_mapping_start {
+    ghost use Rattle.libyaml_types.specs.Equal.{same_mapping_start_equiv};
+
+    ghost laws = { same_mapping_start_equiv };
 }
 
 /// What an event is, with its payload.

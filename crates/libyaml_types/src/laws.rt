@@ -7,13 +7,12 @@ ghost use Rattle.libyaml_types.specs.Numbers.{scalar_style_number, sequence_styl
 ghost use Rattle.libyaml_types.specs.Numbers.{mapping_style_number, event_type_number};
 ghost use Rattle.libyaml_types.specs.Numbers.{node_type_number};
 
-use crate::directive::{TagDirectives, yaml_version_directive_t};
+use crate::directive::{yaml_tag_directive_t, yaml_version_directive_t};
 use crate::enums::{
     yaml_break_t, yaml_encoding_t, yaml_error_type_t, yaml_event_type_t, yaml_mapping_style_t,
     yaml_node_type_t, yaml_scalar_style_t, yaml_sequence_style_t,
 };
 use crate::mark::yaml_mark_t;
-use crate::text::Text;
 use std::cmp::Ordering;
 
 /// `yaml_encoding_t` is ordered as its numbers are.
@@ -98,15 +97,11 @@ pub fn equality_of_versions(
     version == other
 }
 
-/// Two of `Text` are equal exactly where their bytes are.
-pub fn equality_of_texts(text: &Text, other: &Text) -> bool
-    ensures { IsTrue result ↔ (text.now ≡ other.now) }
-{
-    text == other
-}
-
-/// Two of `TagDirectives` are equal exactly where their members are, in order.
-pub fn equality_of_directives(directives: &TagDirectives, other: &TagDirectives) -> bool
+/// Two lists of `yaml_tag_directive_t` are equal exactly where their members are, in order.
+pub fn equality_of_directives(
+    directives: &[yaml_tag_directive_t],
+    other: &[yaml_tag_directive_t],
+) -> bool
     ensures { IsTrue result ↔ (directives.now ≡ other.now) }
 {
     directives == other

@@ -6,12 +6,11 @@ pub mod directive;
 pub mod enums;
 pub mod event;
 pub mod laws;
-pub mod list;
 pub mod mark;
 pub mod refusal;
-pub mod text;
 pub mod token;
 pub mod utf8;
+mod words;
 
 pub use constructors::{
     yaml_alias_event_initialize, yaml_document_end_event_initialize,
@@ -20,7 +19,7 @@ pub use constructors::{
     yaml_sequence_end_event_initialize, yaml_sequence_start_event_initialize,
     yaml_stream_end_event_initialize, yaml_stream_start_event_initialize, yaml_token_delete,
 };
-pub use directive::{TagDirectives, yaml_tag_directive_t, yaml_version_directive_t};
+pub use directive::{yaml_tag_directive_t, yaml_version_directive_t};
 pub use enums::{
     yaml_break_t, yaml_encoding_t, yaml_error_type_t, yaml_event_type_t, yaml_mapping_style_t,
     yaml_node_type_t, yaml_parser_state_t, yaml_scalar_style_t, yaml_sequence_style_t,
@@ -32,13 +31,12 @@ pub use event::{
     unnamed_yaml_event_t_data_mapping_start, unnamed_yaml_event_t_data_scalar,
     unnamed_yaml_event_t_data_sequence_start, unnamed_yaml_event_t_data_stream_start, yaml_event_t,
 };
-pub use list::ListOf;
 pub use mark::{ZERO_MARK, yaml_mark_t};
 pub use refusal::yaml_refusal_t;
-pub use text::Text;
 pub use token::{
     unnamed_yaml_token_t_data, unnamed_yaml_token_t_data_alias, unnamed_yaml_token_t_data_anchor,
     unnamed_yaml_token_t_data_scalar, unnamed_yaml_token_t_data_stream_start,
     unnamed_yaml_token_t_data_tag, unnamed_yaml_token_t_data_tag_directive,
     unnamed_yaml_token_t_data_version_directive, yaml_token_t,
 };
+pub use words::yaml_error_words;

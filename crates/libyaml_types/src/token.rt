@@ -4,7 +4,7 @@ ghost use Rattle.std.specs.Prelude.{◌≡◌};
 
 use crate::enums::{yaml_encoding_t, yaml_scalar_style_t, yaml_token_type_t};
 use crate::mark::yaml_mark_t;
-use crate::text::Text;
+use std::marker::Model;
 
 /// STREAM-START: the encoding of the stream.
 ///
@@ -26,44 +26,197 @@ pub struct unnamed_yaml_token_t_data_version_directive {
 /// TAG-DIRECTIVE: `%TAG`, with its handle and prefix.
 ///
 /// libyaml: `unnamed_yaml_token_t_data_tag_directive`.
-#[derive(PartialEq, Eq, Debug, Drop)]
+#[derive(Debug, Drop)]
 pub struct unnamed_yaml_token_t_data_tag_directive {
-    pub handle: Text,
-    pub prefix: Text,
+    pub handle: String,
+    pub prefix: String,
+}
+
+impl Model for unnamed_yaml_token_t_data_tag_directive {
+    ghost use Rattle.std.specs.Prelude.{string_bytes};
+    ghost use Rattle.libyaml_types.specs.Models.{TagDirectiveToken};
+
+    ghost Value = { TagDirectiveToken };
+
+    ghost view = { λ s. record {
+      handle = string_bytes s.handle;
+      prefix = string_bytes s.prefix;
+    } };
+}
+
+impl PartialEq for unnamed_yaml_token_t_data_tag_directive {
+    ghost use Rattle.std.specs.Cmp.{partial_equiv_from_equiv};
+    ghost use Rattle.libyaml_types.specs.Equal.{same_tag_directive_token, same_tag_directive_token_equiv};
+
+    ghost eq = { same_tag_directive_token };
+
+    ghost laws = { partial_equiv_from_equiv same_tag_directive_token_equiv };
+
+    fn eq(&self, other: &Self) -> bool {
+        self.handle == other.handle && self.prefix == other.prefix
+    }
+}
+
+impl Eq for unnamed_yaml_token_t_data_tag_directive {
+    ghost use Rattle.libyaml_types.specs.Equal.{same_tag_directive_token_equiv};
+
+    ghost laws = { same_tag_directive_token_equiv };
 }
 
 /// ALIAS: `*`, with the anchor that it names.
 ///
 /// libyaml: `unnamed_yaml_token_t_data_alias`.
-#[derive(PartialEq, Eq, Debug, Drop)]
+#[derive(Debug, Drop)]
 pub struct unnamed_yaml_token_t_data_alias {
-    pub value: Text,
+    pub value: String,
+}
+
+impl Model for unnamed_yaml_token_t_data_alias {
+    ghost use Rattle.std.specs.Prelude.{string_bytes};
+    ghost use Rattle.libyaml_types.specs.Models.{AliasToken};
+
+    ghost Value = { AliasToken };
+
+    ghost view = { λ s. record {
+      value = string_bytes s.value;
+    } };
+}
+
+impl PartialEq for unnamed_yaml_token_t_data_alias {
+    ghost use Rattle.std.specs.Cmp.{partial_equiv_from_equiv};
+    ghost use Rattle.libyaml_types.specs.Equal.{same_alias_token, same_alias_token_equiv};
+
+    ghost eq = { same_alias_token };
+
+    ghost laws = { partial_equiv_from_equiv same_alias_token_equiv };
+
+    fn eq(&self, other: &Self) -> bool {
+        self.value == other.value
+    }
+}
+
+impl Eq for unnamed_yaml_token_t_data_alias {
+    ghost use Rattle.libyaml_types.specs.Equal.{same_alias_token_equiv};
+
+    ghost laws = { same_alias_token_equiv };
 }
 
 /// ANCHOR: `&`, with its name.
 ///
 /// libyaml: `unnamed_yaml_token_t_data_anchor`.
-#[derive(PartialEq, Eq, Debug, Drop)]
+#[derive(Debug, Drop)]
 pub struct unnamed_yaml_token_t_data_anchor {
-    pub value: Text,
+    pub value: String,
+}
+
+impl Model for unnamed_yaml_token_t_data_anchor {
+    ghost use Rattle.std.specs.Prelude.{string_bytes};
+    ghost use Rattle.libyaml_types.specs.Models.{AnchorToken};
+
+    ghost Value = { AnchorToken };
+
+    ghost view = { λ s. record {
+      value = string_bytes s.value;
+    } };
+}
+
+impl PartialEq for unnamed_yaml_token_t_data_anchor {
+    ghost use Rattle.std.specs.Cmp.{partial_equiv_from_equiv};
+    ghost use Rattle.libyaml_types.specs.Equal.{same_anchor_token, same_anchor_token_equiv};
+
+    ghost eq = { same_anchor_token };
+
+    ghost laws = { partial_equiv_from_equiv same_anchor_token_equiv };
+
+    fn eq(&self, other: &Self) -> bool {
+        self.value == other.value
+    }
+}
+
+impl Eq for unnamed_yaml_token_t_data_anchor {
+    ghost use Rattle.libyaml_types.specs.Equal.{same_anchor_token_equiv};
+
+    ghost laws = { same_anchor_token_equiv };
 }
 
 /// TAG: `!`, with its handle, which may be empty, and its suffix.
 ///
 /// libyaml: `unnamed_yaml_token_t_data_tag`.
-#[derive(PartialEq, Eq, Debug, Drop)]
+#[derive(Debug, Drop)]
 pub struct unnamed_yaml_token_t_data_tag {
-    pub handle: Text,
-    pub suffix: Text,
+    pub handle: String,
+    pub suffix: String,
+}
+
+impl Model for unnamed_yaml_token_t_data_tag {
+    ghost use Rattle.std.specs.Prelude.{string_bytes};
+    ghost use Rattle.libyaml_types.specs.Models.{TagToken};
+
+    ghost Value = { TagToken };
+
+    ghost view = { λ s. record {
+      handle = string_bytes s.handle;
+      suffix = string_bytes s.suffix;
+    } };
+}
+
+impl PartialEq for unnamed_yaml_token_t_data_tag {
+    ghost use Rattle.std.specs.Cmp.{partial_equiv_from_equiv};
+    ghost use Rattle.libyaml_types.specs.Equal.{same_tag_token, same_tag_token_equiv};
+
+    ghost eq = { same_tag_token };
+
+    ghost laws = { partial_equiv_from_equiv same_tag_token_equiv };
+
+    fn eq(&self, other: &Self) -> bool {
+        self.handle == other.handle && self.suffix == other.suffix
+    }
+}
+
+impl Eq for unnamed_yaml_token_t_data_tag {
+    ghost use Rattle.libyaml_types.specs.Equal.{same_tag_token_equiv};
+
+    ghost laws = { same_tag_token_equiv };
 }
 
 /// SCALAR: a text and its style.
 ///
 /// libyaml: `unnamed_yaml_token_t_data_scalar`.
-#[derive(PartialEq, Eq, Debug, Drop)]
+#[derive(Debug, Drop)]
 pub struct unnamed_yaml_token_t_data_scalar {
-    pub value: Text,
+    pub value: String,
     pub style: yaml_scalar_style_t,
+}
+
+impl Model for unnamed_yaml_token_t_data_scalar {
+    ghost use Rattle.std.specs.Prelude.{string_bytes};
+    ghost use Rattle.libyaml_types.specs.Models.{ScalarToken};
+
+    ghost Value = { ScalarToken };
+
+    ghost view = { λ s. record {
+      value = string_bytes s.value;
+      style = s.style;
+    } };
+}
+
+impl PartialEq for unnamed_yaml_token_t_data_scalar {
+    ghost use Rattle.std.specs.Cmp.{partial_equiv_from_equiv};
+    ghost use Rattle.libyaml_types.specs.Equal.{same_scalar_token, same_scalar_token_equiv};
+
+    ghost eq = { same_scalar_token };
+
+    ghost laws = { partial_equiv_from_equiv same_scalar_token_equiv };
+
+    fn eq(&self, other: &Self) -> bool {
+        self.value == other.value && self.style == other.style
+    }
+}
+
+impl Eq for unnamed_yaml_token_t_data_scalar {
+    ghost use Rattle.libyaml_types.specs.Equal.{same_scalar_token_equiv};
+
+    ghost laws = { same_scalar_token_equiv };
 }
 
 /// What a token is, with its payload.

@@ -1,11 +1,11 @@
 //! Which bytes are texts, and their copies.
 
 ghost use Rattle.std.specs.Prelude.{◌≡◌, Err, IfOk, IfSome, IsTrue, IsUtf8, OnErr, OnOk, ◌↔◌};
+ghost use Rattle.std.specs.Prelude.{IsErrOf, IfErr, ◌⊎◌, option_map, string_bytes};
 ghost use Rattle.std.specs.Option.{option_copied};
 ghost use Rattle.libyaml_types.specs.Texts.{PairIsUtf8, PairsAreUtf8};
 
 use crate::refusal::yaml_refusal_t;
-use crate::text::Text;
 use std::alloc::{AllocError, Global};
 
 /// The text of these bytes. Takes no memory.
@@ -49,8 +49,23 @@ fn is_utf8_pair(pair: &(&[u8], &[u8])) -> bool
 /// A copy of this text, where it is given.
 ///
 /// Answers `AllocError` where the memory for it is refused.
-pub fn copied_option(alloc: Global, text: Option<&str>) -> Result<Option<Text>, AllocError>
-    ensures { IfOk result (λ copy. copy ≡ option_copied text.entry) }
+pub fn copied_option(alloc: Global, text: Option<&str>) -> Result<Option<String>, AllocError>
+    ensures { IfOk result (λ copy. option_map string_bytes copy ≡ option_copied text.entry) }
 {
-    text.map(|text| Text::from_str(alloc, text)).transpose()
+    text.map(|text| String::from_str(alloc, text)).transpose()
+}
+
+/// A copy of these bytes.
+///
+/// Refuses bytes that aren't UTF-8 as `NotUtf8`, before memory is asked for, and answers `Memory`
+/// where the memory for the copy is refused.
+pub fn copied(alloc: Global, bytes: &[u8]) -> Result<String, yaml_refusal_t>
+    ensures ok { IfOk result (λ text. string_bytes text ≡ bytes.now) }
+    ensures utf8 { OnOk result (IsUtf8 bytes.now) }
+    ensures memory { IsErrOf result yaml_refusal_t.Memory → IsUtf8 bytes.now }
+    ensures not_utf8 { IsErrOf result yaml_refusal_t.NotUtf8 ↔ ¬ IsUtf8 bytes.now }
+    ensures errors { IfErr result (λ e. (e ≡ yaml_refusal_t.NotUtf8) ⊎ (e ≡ yaml_refusal_t.Memory)) }
+{
+    let text = checked(bytes)?;
+    Ok(String::from_str(alloc, text)?)
 }

@@ -10,6 +10,5 @@ pub mod Front
 pub mod ReadLines
 pub mod NextLine
 pub mod LineSource
-pub mod LentLines
 pub mod LineLaws
 pub mod LineSourceLaws

@@ -2,14 +2,14 @@
 ghost use Rattle.std.specs.Prelude.{◌≡◌};
 ghost use Rattle.line_reading.specs.Field.{version_of, utf8_text, text_of, encoding_of, scalar_style_of};
 ghost use Rattle.percent_encoding.specs.Percent as percent;
-ghost use Rattle.line_reading.specs.Reading.{IsReadAs};
+ghost use Rattle.line_reading.specs.Reading.{IsTextReadAs};
 
 use crate::line_problem::LineProblem;
 use crate::number::read_signed;
 use crate::parts::Parts;
 use byte_words::is_clean;
 use libyaml_types::{
-    Text, unnamed_yaml_token_t_data_version_directive, yaml_encoding_t, yaml_scalar_style_t,
+    unnamed_yaml_token_t_data_version_directive, yaml_encoding_t, yaml_scalar_style_t,
 };
 use percent_encoding::{ascii_str, percent_decode};
 use std::alloc::Global;
@@ -31,8 +31,8 @@ pub fn read_version(field: &[u8]) -> Option<unnamed_yaml_token_t_data_version_di
 }
 
 /// `=` and an escaped text.
-pub fn read_text(alloc: Global, field: &[u8]) -> Result<Text, LineProblem>
-    ensures { IsReadAs result (text_of field.now) }
+pub fn read_text(alloc: Global, field: &[u8]) -> Result<String, LineProblem>
+    ensures { IsTextReadAs result (text_of field.now) }
 {
     let [b'=', escaped @ ..] = field else {
         return Err(LineProblem::BadTokenLine);
@@ -41,23 +41,23 @@ pub fn read_text(alloc: Global, field: &[u8]) -> Result<Text, LineProblem>
 }
 
 #[tactic(auto, using(crate::proofs::Texts::clean_text))]
-fn escaped_text(alloc: Global, escaped: &[u8]) -> Result<Text, LineProblem>
-    ensures { IsReadAs result (utf8_text (percent.percent_decode escaped.now)) }
+fn escaped_text(alloc: Global, escaped: &[u8]) -> Result<String, LineProblem>
+    ensures { IsTextReadAs result (utf8_text (percent.percent_decode escaped.now)) }
 {
     if is_clean(escaped) {
-        Ok(Text::from_str(alloc, ascii_str(escaped))?)
+        Ok(String::from_str(alloc, ascii_str(escaped))?)
     } else {
         decoded_text(alloc, escaped)
     }
 }
 
-fn decoded_text(alloc: Global, escaped: &[u8]) -> Result<Text, LineProblem>
-    ensures { IsReadAs result (utf8_text (percent.percent_decode escaped.now)) }
+fn decoded_text(alloc: Global, escaped: &[u8]) -> Result<String, LineProblem>
+    ensures { IsTextReadAs result (utf8_text (percent.percent_decode escaped.now)) }
 {
     let mut bytes = Vec::with_capacity(alloc, escaped.len())?;
     percent_decode(escaped).append_to(&mut bytes)?;
     match String::from_utf8(bytes) {
-        Ok(text) => Ok(Text::from(text)),
+        Ok(text) => Ok(text),
         Err(_) => Err(LineProblem::BadTokenLine),
     }
 }

@@ -3,7 +3,6 @@
 
 mod field;
 mod front;
-mod lent_lines;
 mod line;
 mod line_problem;
 mod line_source;
@@ -14,7 +13,6 @@ mod token_line;
 mod token_name;
 mod token_reader;
 
-pub use lent_lines::LentLines;
 pub use line_source::yaml_line_source_t;
 
 /// A token line has at most this many bytes, its LF not counted.

@@ -5,7 +5,7 @@ use row_notation::{EVERY_CALL, PieceReader, mark, unless};
 use std::alloc::Global;
 use token_lines::{MAX_TOKENS, yaml_line_source_t};
 use unsafe_libyaml::{
-    Text, YAML_ALIAS_TOKEN, YAML_ANCHOR_TOKEN, YAML_ANY_ENCODING, YAML_ANY_SCALAR_STYLE,
+    YAML_ALIAS_TOKEN, YAML_ANCHOR_TOKEN, YAML_ANY_ENCODING, YAML_ANY_SCALAR_STYLE,
     YAML_BLOCK_END_TOKEN, YAML_BLOCK_ENTRY_TOKEN, YAML_BLOCK_MAPPING_START_TOKEN,
     YAML_BLOCK_SEQUENCE_START_TOKEN, YAML_DOCUMENT_END_TOKEN, YAML_DOCUMENT_START_TOKEN,
     YAML_DOUBLE_QUOTED_SCALAR_STYLE, YAML_FLOW_ENTRY_TOKEN, YAML_FLOW_MAPPING_END_TOKEN,
@@ -39,7 +39,7 @@ enum Payload<'a> {
     Scalar(&'a str, yaml_scalar_style_t),
 }
 
-fn texts_of<'a>(first: &'a Text, second: &'a Text) -> Payload<'a> {
+fn texts_of<'a>(first: &'a String, second: &'a String) -> Payload<'a> {
     Payload::Texts(first.as_str(), second.as_str())
 }
 

@@ -1,5 +1,5 @@
 //! The fields of a line as they are written, each behind a space.
-ghost use Rattle.std.specs.Prelude.{◌≡◌, ◌++◌, [], ◌∷◌, OnOk, string_bytes, decimal};
+ghost use Rattle.std.specs.Prelude.{◌≡◌, ◌++◌, [], ◌∷◌, OnOk, string_bytes, decimal, option_map};
 ghost use Rattle.line_writing.specs.FieldTexts.{behind_spaces, optional_version_text, flag_text};
 ghost use Rattle.line_writing.specs.FieldTexts.{string_text, optional_string_text, directive_texts};
 ghost use Rattle.line_writing.specs.FieldTexts.{encoding_text, scalar_style_text};
@@ -8,7 +8,7 @@ ghost use Rattle.line_writing.specs.FieldTexts.{sequence_style_text, mapping_sty
 use crate::escape::append_escaped;
 use itoa::Buffer;
 use libyaml_types::{
-    Text, yaml_encoding_t, yaml_mapping_style_t, yaml_scalar_style_t, yaml_sequence_style_t,
+    yaml_encoding_t, yaml_mapping_style_t, yaml_scalar_style_t, yaml_sequence_style_t,
     yaml_tag_directive_t, yaml_version_directive_t,
 };
 use std::alloc::AllocError;
@@ -72,20 +72,20 @@ pub(crate) fn append_two_flags(
     })
 }
 
-pub(crate) fn append_string(line: &mut String, text: &Text) -> Result<(), AllocError>
+pub(crate) fn append_string(line: &mut String, text: &str) -> Result<(), AllocError>
     ensures { OnOk result (string_bytes line.new ≡ string_bytes line.old
         ++ behind_spaces (string_text text.now ∷ [])) }
 {
     line.push_str(" =")?;
-    append_escaped(line, text.as_str())
+    append_escaped(line, text)
 }
 
 pub(crate) fn append_optional_string(
     line: &mut String,
-    text: &Option<Text>,
+    text: &Option<String>,
 ) -> Result<(), AllocError>
     ensures { OnOk result (string_bytes line.new ≡ string_bytes line.old
-        ++ behind_spaces (optional_string_text text.now ∷ [])) }
+        ++ behind_spaces (optional_string_text (option_map string_bytes text.now) ∷ [])) }
 {
     match text {
         Some(text) => append_string(line, text),
@@ -96,11 +96,12 @@ pub(crate) fn append_optional_string(
 /// Appends the anchor and the tag of a node. Most nodes have neither.
 pub(crate) fn append_properties(
     line: &mut String,
-    anchor: &Option<Text>,
-    tag: &Option<Text>,
+    anchor: &Option<String>,
+    tag: &Option<String>,
 ) -> Result<(), AllocError>
     ensures { OnOk result (string_bytes line.new ≡ string_bytes line.old
-        ++ behind_spaces (optional_string_text anchor.now ∷ optional_string_text tag.now ∷ [])) }
+        ++ behind_spaces (optional_string_text (option_map string_bytes anchor.now)
+        ∷ optional_string_text (option_map string_bytes tag.now) ∷ [])) }
 {
     if anchor.is_none() && tag.is_none() {
         return line.push_str(" - -");

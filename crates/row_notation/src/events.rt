@@ -4,7 +4,7 @@ use anyhow::Result;
 use std::alloc::Global;
 use std::fmt::Write;
 use unsafe_libyaml::{
-    Text, unnamed_yaml_event_t_data, unnamed_yaml_event_t_data_document_start,
+    unnamed_yaml_event_t_data, unnamed_yaml_event_t_data_document_start,
     unnamed_yaml_event_t_data_mapping_start, unnamed_yaml_event_t_data_scalar,
     unnamed_yaml_event_t_data_sequence_start, yaml_event_t, yaml_mapping_style_t, yaml_mark_t,
     yaml_scalar_style_t, yaml_sequence_style_t, yaml_tag_directive_t, yaml_version_directive_t,
@@ -80,7 +80,7 @@ pub(crate) fn word_of_style(style: yaml_scalar_style_t) -> &'static str {
     }
 }
 
-fn show_properties(shown: &mut String, anchor: Option<&Text>, tag: Option<&Text>) -> Result<()> {
+fn show_properties(shown: &mut String, anchor: Option<&String>, tag: Option<&String>) -> Result<()> {
     if let Some(anchor) = anchor {
         write!(shown, "&{anchor}")?;
     }

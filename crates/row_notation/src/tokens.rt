@@ -4,7 +4,7 @@ use crate::events::mark;
 use anyhow::{Context, Result};
 use std::alloc::{AllocError, Global};
 use unsafe_libyaml::{
-    Text, unnamed_yaml_token_t_data, unnamed_yaml_token_t_data_alias,
+    unnamed_yaml_token_t_data, unnamed_yaml_token_t_data_alias,
     unnamed_yaml_token_t_data_anchor, unnamed_yaml_token_t_data_scalar,
     unnamed_yaml_token_t_data_stream_start, unnamed_yaml_token_t_data_tag,
     unnamed_yaml_token_t_data_tag_directive, unnamed_yaml_token_t_data_version_directive,
@@ -41,22 +41,22 @@ fn payload_of(
         }
         "TAG-DIRECTIVE" => {
             unnamed_yaml_token_t_data::TagDirective(unnamed_yaml_token_t_data_tag_directive {
-                handle: Text::from_str(alloc, first)?,
-                prefix: Text::from_str(alloc, second)?,
+                handle: String::from_str(alloc, first)?,
+                prefix: String::from_str(alloc, second)?,
             })
         }
         "ALIAS" => unnamed_yaml_token_t_data::Alias(unnamed_yaml_token_t_data_alias {
-            value: Text::from_str(alloc, first)?,
+            value: String::from_str(alloc, first)?,
         }),
         "ANCHOR" => unnamed_yaml_token_t_data::Anchor(unnamed_yaml_token_t_data_anchor {
-            value: Text::from_str(alloc, first)?,
+            value: String::from_str(alloc, first)?,
         }),
         "TAG" => unnamed_yaml_token_t_data::Tag(unnamed_yaml_token_t_data_tag {
-            handle: Text::from_str(alloc, first)?,
-            suffix: Text::from_str(alloc, second)?,
+            handle: String::from_str(alloc, first)?,
+            suffix: String::from_str(alloc, second)?,
         }),
         "SCALAR" => unnamed_yaml_token_t_data::Scalar(unnamed_yaml_token_t_data_scalar {
-            value: Text::from_str(alloc, first)?,
+            value: String::from_str(alloc, first)?,
             style: style_named(second).context("no scalar style")?,
         }),
         _ => None.context("no token with a payload")?,

@@ -9,8 +9,7 @@ use Rattle.libyaml_events.specs.sources.History.{is_stream_end, kept_fault}
 use Rattle.libyaml_grammar.specs.runs.Fault.{Fault, Answer, fault_of}
 use Rattle.libyaml_grammar.specs.cuts.FaultTexts.{memory_fault}
 use Rattle.libyaml_events.specs.sources.Parsing.{CarriesOn, FailsBy}
-use Rattle.libyaml_events.proofs.calls.NextEvents.{FailsHere}
-use Rattle.libyaml_events.specs.sources.RunToCome.{RunToCome}
+use Rattle.libyaml_events.specs.sources.RunToCome.{FailsHere, RunToCome}
 use Rattle.libyaml_grammar.specs.runs.Runs.{Ending, Ends}
 use Rattle.libyaml_events.specs.sources.Source.{Coming}
 use Rattle.token_lines.specs.declared.run.Step.{Step}

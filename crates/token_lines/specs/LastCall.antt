@@ -71,12 +71,11 @@ pub record StartsAt {R : Type 0} (reader : R) (p : Parser (LineSource R)) : Type
   pub begins : History p [] []
 
 -- A run over a reader's lines, by a parser that started there: what it wrote, where its source may have broken off as it
--- then stood; each line in its turn; and the reader is left as the parser's last call left it.
+-- then stood; and each line in its turn.
 pub record RunsOver {R W : Type 0} (remaining : R → Option (List ℕ)) (contents : W
-    → Option (List ℕ)) (old new : R) (outcome : Outcome) (before after : Option (List ℕ)) : Type 0 where
+    → Option (List ℕ)) (reader : R) (outcome : Outcome) (before after : Option (List ℕ)) : Type 0 where
   pub first : Parser (LineSource R)
   pub last : Parser (LineSource R)
-  pub starts : StartsAt old first
-  pub writes : WritesRunOf (remaining old) (BreaksOff last.source) outcome before after
+  pub starts : StartsAt reader first
+  pub writes : WritesRunOf (remaining reader) (BreaksOff last.source) outcome before after
   pub in_turn : LastCall (Gives remaining) contents outcome first last before after [] []
-  pub left : new ≡ last.source.reader

@@ -77,12 +77,11 @@ abbrev pub most_entries : ℕ
 most_entries = 2147483647
 
 -- A run over a reader's lines, by a parser that started there: what it wrote, where its source may have broken off as it
--- then stood; each document in its turn; and the reader is left as the parser's last load left it.
+-- then stood; and each document in its turn.
 pub record NodesOver {R W : Type 0} (remaining : R → Option (List ℕ)) (contents : W
-    → Option (List ℕ)) (old new : R) (outcome : Outcome) (before after : Option (List ℕ)) : Type 0 where
+    → Option (List ℕ)) (reader : R) (outcome : Outcome) (before after : Option (List ℕ)) : Type 0 where
   pub first : Parser (LineSource R)
   pub last : Parser (LineSource R)
-  pub starts : StartsAt old first
-  pub writes : WritesNodesOf (remaining old) (BreaksOff last.source) outcome before after
+  pub starts : StartsAt reader first
+  pub writes : WritesNodesOf (remaining reader) (BreaksOff last.source) outcome before after
   pub in_turn : LastLoad (Gives remaining) (known_of remaining) BreaksOff contents most_entries outcome first last before after [] []
-  pub left : new ≡ last.source.reader

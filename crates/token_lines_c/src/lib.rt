@@ -23,9 +23,8 @@ pub extern "C" fn token_lines_run_events(
 ) -> u32
     ensures { WritesInto (writes_events tokens.now) out.old out.new wanted.new result }
 {
-    let mut reader = tokens;
     let mut written = Vec::new(alloc);
-    let outcome = run_events(alloc, &mut reader, &mut written);
+    let outcome = run_events(alloc, tokens, &mut written);
     *wanted = fill(out, written.as_slice());
     status_of(outcome)
 }
@@ -40,9 +39,8 @@ pub extern "C" fn token_lines_run_nodes(
 ) -> u32
     ensures { WritesInto (writes_nodes tokens.now) out.old out.new wanted.new result }
 {
-    let mut reader = tokens;
     let mut written = Vec::new(alloc);
-    let outcome = run_nodes(alloc, &mut reader, &mut written);
+    let outcome = run_nodes(alloc, tokens, &mut written);
     *wanted = fill(out, written.as_slice());
     status_of(outcome)
 }

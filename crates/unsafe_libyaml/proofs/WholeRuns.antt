@@ -14,12 +14,12 @@ use Rattle.libyaml_grammar.proofs.runs.Running.{sentence_run}
 use Rattle.libyaml_grammar.specs.runs.Fault.{Fault, Answer, fault_of}
 use Rattle.libyaml_events.specs.sources.History.{History, is_over, is_stream_end, kept_fault}
 use Rattle.libyaml_events.specs.sources.Parsing.{CarriesOn}
-use Rattle.libyaml_events.specs.sources.RunToCome.{RunToCome}
+use Rattle.libyaml_events.specs.sources.RunToCome.{FailsHere, RunToCome}
 use Rattle.libyaml_grammar.specs.runs.Runs.{Ending, Ends, Fails, IsRun}
 use Rattle.libyaml_events.specs.sources.Source.{Coming, coming}
 use Rattle.libyaml_grammar.specs.sentences.Tokens.{Token}
 use Rattle.libyaml_grammar.specs.declared.fault.yaml_parser_t_prefix.{yaml_parser_t_prefix}
-use Rattle.libyaml_events.proofs.calls.NextEvents.{Says, FailsHere, fails_here, first_event}
+use Rattle.libyaml_events.proofs.calls.NextEvents.{Says, fails_here, first_event}
 use Rattle.unsafe_libyaml.specs.WholeRun.{RunsTo, whole, broken_off, ending_of}
 use Rattle.unsafe_libyaml.specs.declared.parse_all.yaml_run_t.{yaml_run_t}
 

@@ -17,7 +17,7 @@ use row_notation::show_checks;
 use std::alloc::Global;
 use std::rt::Files;
 use std::{fs, io};
-use types::{collections, values};
+use types::values;
 
 /// What is wrong with these token lines and event lines, if anything is.
 fn difference(alloc: Global, tokens: &str, events: &str) -> Result<Option<&'static str>> {
@@ -80,7 +80,6 @@ fn show_types(rt: &(impl Print + AllocGlobal)) -> io::Result<()> {
         "numbers, texts and comparisons",
         &values::checks(rt.alloc()),
     )?;
-    show_checks(rt, "texts and directives", &collections::checks(rt.alloc()))?;
     show_checks(
         rt,
         "events and tokens by calls",

@@ -1,4 +1,3 @@
 //! What no clause says: that calls succeed where memory is found, and what texts look like.
-pub mod collections;
 pub mod events;
 pub mod values;

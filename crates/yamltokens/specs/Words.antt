@@ -22,14 +22,14 @@ status_of Faulted = 1
 status_of OutputFailed = 3
 
 -- the run was over a reader's lines, and wrote what it writes
-abbrev pub WasOver : {R W : Type 0} → Run → (remaining : R → Option (List ℕ)) → (contents : W → Option (List ℕ)) → (old new : R) → Outcome
+abbrev pub WasOver : {R W : Type 0} → Run → (remaining : R → Option (List ℕ)) → (contents : W → Option (List ℕ)) → R → Outcome
     → (before after : Option (List ℕ)) → Type 0
-WasOver Events remaining contents old new outcome before after = RunsOver remaining contents old new outcome before after
-WasOver Nodes remaining contents old new outcome before after = NodesOver remaining contents old new outcome before after
+WasOver Events remaining contents reader outcome before after = RunsOver remaining contents reader outcome before after
+WasOver Nodes remaining contents reader outcome before after = NodesOver remaining contents reader outcome before after
 
 -- such a run, and this status says how it ended
 pub record RunsWith {R W : Type 0} (run : Run) (remaining : R → Option (List ℕ)) (contents : W
-    → Option (List ℕ)) (old new : R) (status : ℕ) (before after : Option (List ℕ)) : Type 0 where
+    → Option (List ℕ)) (reader : R) (status : ℕ) (before after : Option (List ℕ)) : Type 0 where
   pub outcome : Outcome
   pub status_is : status ≡ status_of outcome
-  pub over : WasOver run remaining contents old new outcome before after
+  pub over : WasOver run remaining contents reader outcome before after

@@ -20,19 +20,13 @@ fn main(rt: HostRuntime) -> ExitCode {
     let Ok(words) = read_words(&rt) else {
         return ExitCode::from(refuse_words(&mut errors));
     };
-    let Ok(mut reader) = BufReader::with_capacity(alloc, BUFFER_SIZE, rt.stdin()) else {
+    let Ok(reader) = BufReader::with_capacity(alloc, BUFFER_SIZE, rt.stdin()) else {
         return ExitCode::from(no_memory(&mut errors));
     };
     let Ok(mut output) = BufWriter::with_capacity(alloc, BUFFER_SIZE, rt.stdout()) else {
         return ExitCode::from(no_memory(&mut errors));
     };
-    ExitCode::from(run_words(
-        alloc,
-        words.as_slice(),
-        &mut reader,
-        &mut output,
-        &mut errors,
-    ))
+    ExitCode::from(run_words(alloc, words.as_slice(), reader, &mut output, &mut errors))
 }
 
 /// The arguments behind the program's name.

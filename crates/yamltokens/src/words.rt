@@ -25,18 +25,17 @@ pub enum Run {
 /// exit status. The words are looked at before anything is read.
 ///
 /// A line for the user goes to `errors`; if it can't be written, the status stays.
-pub fn run_words<R: BufRead, W: Write, E: Write>(
+pub fn run_words<R: BufRead + Drop, W: Write, E: Write>(
     alloc: Global,
     words: &[String],
-    reader: &mut R,
+    reader: R,
     output: &mut W,
     errors: &mut E,
 ) -> u8
     ensures runs { (run : Run) → asked_run (map string_bytes words.now) ≡ Some run
-        → RunsWith run R.remaining W.contents reader.old reader.new result (W.contents output.old)
+        → RunsWith run R.remaining W.contents reader result (W.contents output.old)
         (W.contents output.new) }
-    ensures refused { asked_run (map string_bytes words.now) ≡ None → (result ≡ 2) × (output.new ≡ output.old)
-        × (reader.new ≡ reader.old) }
+    ensures refused { asked_run (map string_bytes words.now) ≡ None → (result ≡ 2) × (output.new ≡ output.old) }
     ensures quiet { result < 2 → errors.new ≡ errors.old }
 {
     let outcome = match asked_run(words) {

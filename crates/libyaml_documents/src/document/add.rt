@@ -9,15 +9,13 @@ ghost use Rattle.libyaml_documents.specs.Nodes.{KeepsTypes, scalar_node, sequenc
 ghost use Rattle.libyaml_documents.specs.Nodes.{mapping_node};
 
 use super::yaml_document_t;
-use crate::items::NodeItems;
 use crate::node::{
     unnamed_yaml_node_t_data, unnamed_yaml_node_t_data_mapping, unnamed_yaml_node_t_data_scalar,
     unnamed_yaml_node_t_data_sequence, yaml_node_t,
 };
-use crate::pairs::NodePairs;
 use libyaml_types::utf8::checked;
 use libyaml_types::{
-    Text, ZERO_MARK, yaml_mapping_style_t, yaml_node_type_t, yaml_refusal_t, yaml_scalar_style_t,
+    ZERO_MARK, yaml_mapping_style_t, yaml_node_type_t, yaml_refusal_t, yaml_scalar_style_t,
     yaml_sequence_style_t,
 };
 use std::alloc::{AllocError, Global};
@@ -60,7 +58,7 @@ fn new_node(
     ensures err { OnErr result (result ≡ Err yaml_refusal_t.Memory) }
 {
     Ok(yaml_node_t {
-        tag: Text::from_str(alloc, tag)?,
+        tag: String::from_str(alloc, tag)?,
         content,
         start_mark: ZERO_MARK,
         end_mark: ZERO_MARK,
@@ -122,7 +120,7 @@ pub fn yaml_document_add_scalar(
     let value = checked(value)?;
     let alloc = *document.nodes.allocator();
     let scalar = unnamed_yaml_node_t_data_scalar {
-        value: Text::from_str(alloc, value)?,
+        value: String::from_str(alloc, value)?,
         style,
     };
     let node = new_node(alloc, tag, unnamed_yaml_node_t_data::Scalar(scalar))?;
@@ -163,7 +161,7 @@ pub fn yaml_document_add_sequence(
     let tag = checked_tag(tag, "tag:yaml.org,2002:seq")?;
     let alloc = *document.nodes.allocator();
     let sequence = unnamed_yaml_node_t_data_sequence {
-        items: NodeItems::new(alloc),
+        items: Vec::new(alloc),
         style,
     };
     let node = new_node(alloc, tag, unnamed_yaml_node_t_data::Sequence(sequence))?;
@@ -203,7 +201,7 @@ pub fn yaml_document_add_mapping(
     let tag = checked_tag(tag, "tag:yaml.org,2002:map")?;
     let alloc = *document.nodes.allocator();
     let mapping = unnamed_yaml_node_t_data_mapping {
-        pairs: NodePairs::new(alloc),
+        pairs: Vec::new(alloc),
         style,
     };
     let node = new_node(alloc, tag, unnamed_yaml_node_t_data::Mapping(mapping))?;

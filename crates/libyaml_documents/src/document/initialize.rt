@@ -5,7 +5,8 @@ ghost use Rattle.libyaml_types.specs.Texts.{PairsAreUtf8, directive_of};
 ghost use Rattle.libyaml_documents.specs.Documents.{empty_document};
 
 use super::yaml_document_t;
-use libyaml_types::{TagDirectives, ZERO_MARK, yaml_refusal_t, yaml_version_directive_t};
+use libyaml_types::directive::directives_of_pairs;
+use libyaml_types::{ZERO_MARK, yaml_refusal_t, yaml_version_directive_t};
 use std::alloc::Global;
 
 /// A document without nodes, with this version and these tag directives, each a handle and its
@@ -35,7 +36,7 @@ pub fn yaml_document_initialize(
     Ok(yaml_document_t {
         nodes: Vec::new(alloc),
         version_directive,
-        tag_directives: TagDirectives::from_pairs(alloc, tag_directives)?,
+        tag_directives: directives_of_pairs(alloc, tag_directives)?,
         start_implicit,
         end_implicit,
         start_mark: ZERO_MARK,

@@ -434,10 +434,10 @@ module _ {S : Type 0} (gives_to : S → Answer → S → Type 0) (known : S → 
             no : Ends ≡ Fails h.fault → ⊥
             no z = cc
 
-    -- and the call gives the empty event, and changes nothing
-    pub over_call : (r : EventOrError) → Call gives_to old r new → new.max_entries ≡ old.max_entries → RunToCome known old [] Ends → (r ≡ Ok empty_event)
-        × (new ≡ old)
-    over_call r call bound h = go (ended_or_failed old.config) (end_of_run h) call.does
+    -- a call of a parser that has ended or failed gives the empty event, and changes nothing
+    pub ended_call : (r : EventOrError) → Call gives_to old r new → new.max_entries ≡ old.max_entries → ended_or_failed old.config ≡ true
+        → (r ≡ Ok empty_event) × (new ≡ old)
+    ended_call r call bound ended = go (ended_or_failed old.config) ended call.does
       where
         go : (b : Bool) → b ≡ true → ParsesIf b old.config call.asked r new.config → (r ≡ Ok empty_event) × (new ≡ old)
         go false e k = absurd cc
@@ -448,6 +448,10 @@ module _ {S : Type 0} (gives_to : S → Answer → S → Type 0) (known : S → 
               ∙ (ap (λ (x : Config). let y : Parser S = record { source = old.source; config = x; max_entries = new.max_entries } in y) k
               ∙ ap (λ (x : ℤ). let y : Parser S = record { source = old.source; config = old.config; max_entries = x } in y) bound),
         )
+
+    pub over_call : (r : EventOrError) → Call gives_to old r new → new.max_entries ≡ old.max_entries → RunToCome known old [] Ends → (r ≡ Ok empty_event)
+        × (new ≡ old)
+    over_call r call bound h = ended_call r call bound (end_of_run h)
 
 -- a parser that has given the stream end event has nothing more of its run before it
 pub nothing_behind_end : {S : Type 0} (known : S → Option Coming) (p : Parser S) → is_over p ≡ true → (later : List Event) (ending : Ending)

@@ -8,14 +8,10 @@ use Rattle.libyaml_events.specs.machine.Config.{Parser}
 use Rattle.libyaml_grammar.specs.runs.Fault.{Fault}
 use Rattle.libyaml_grammar.specs.cuts.FaultTexts.{memory_fault}
 use Rattle.libyaml_events.specs.sources.History.{kept_fault}
-use Rattle.libyaml_events.specs.sources.RunToCome.{RunToCome, UnlessBroken, does, no_memory, breaks}
+use Rattle.libyaml_events.specs.sources.RunToCome.{FailsHere, RunToCome, UnlessBroken, does, no_memory, breaks}
 use Rattle.libyaml_grammar.specs.runs.Runs.{Ending, Ends, Fails}
 use Rattle.libyaml_events.specs.sources.Source.{Coming}
 use Rattle.libyaml_events.specs.parsers.Stages.{is_event}
-
--- the run fails by this fault, or it was broken off
-abbrev pub FailsHere : (MayBreak : Fault → Type 0) → Fault → List yaml_event_t → Ending → Type 0
-FailsHere MayBreak f events ending = ((events ≡ []) × (ending ≡ Fails f)) ⊎ ((f ≡ memory_fault) ⊎ MayBreak f)
 
 no : true ≡ false → ⊥
 no h = cc

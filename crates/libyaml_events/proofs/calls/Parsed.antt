@@ -15,8 +15,8 @@ use Rattle.libyaml_grammar.proofs.positions.Reading.{reads, reads_all, goes, bad
 use Rattle.libyaml_events.specs.machine.Config.{Config, Parser, taken, ended_or_failed}
 use Rattle.libyaml_types.specs.Events.{empty_event}
 use Rattle.libyaml_events.specs.sources.Calls.{EventOrError, Gave, held, Calls, CallsUnlessRefused, ParsesIf, Parses, AreOfSource, Call, Refused}
-use Rattle.libyaml_events.specs.sources.History.{goes_on, History, answers}
-use Rattle.libyaml_events.specs.sources.Needs.{EachNeeded}
+use Rattle.libyaml_events.specs.sources.History.{Ran, begins, goes_on, History, answers}
+use Rattle.libyaml_events.specs.sources.Needs.{EachNeeded, EachWasNeeded}
 use Rattle.libyaml_events.specs.sources.Parsing as pub_
 use Rattle.libyaml_events.specs.sources.Parsing.{CarriesOn, HasFailed, StopsShort, behind_beginning, Cause, of_memory, of_grammar, of_source, FailsBy}
 use Rattle.libyaml_events.specs.declared.next.Want.{Want}
@@ -33,6 +33,7 @@ use Rattle.libyaml_events.proofs.calls.Asking.{Asks, calls_ask, refused_ask, Are
 use Rattle.libyaml_events.proofs.calls.Calling.{Answered, gave, failed, faulted, call_answers, call_gives, ran_links, asks_stand, Starts, ready, holding}
 use Rattle.libyaml_events.proofs.calls.Calling.{starts}
 use Rattle.libyaml_events.proofs.calls.Needed.{open_there, standing_needs}
+use Rattle.libyaml_events.proofs.calls.NeededInTurn.{both_needed, none_needed, one_needed}
 use Rattle.libyaml_events.proofs.calls.Staged.{Staged, call_staged, ran_staged, stage_snoc, staged_over, staged_whole, leads_to_end, refused_stage}
 use Rattle.libyaml_events.specs.parsers.Lookahead.{HoldsLast, tokens_held}
 use Rattle.libyaml_events.specs.parsers.Stages.{at_start, is_event, is_at_end, stage_of, takes_no_memory}
@@ -244,3 +245,12 @@ module _ {S : Type 0} (gives : S → Answer → S → Type 0) (old new : Parser 
       → IfErr r (λ x. (asked : List Token) (g : List Event) → History old asked g → FailsBy gives old new asked g)
   failed_by (Ok e) call = tt
   failed_by (Err x) call = fails x call
+
+-- each token of a history was needed
+pub ran_needed : {c : Config} {asked : List Token} {g : List Event} → Ran c asked g → EachWasNeeded [] asked [] g
+ran_needed begins = none_needed [] []
+ran_needed (goes_on c asked g more e {d} {asked'} {given'} ran running calls i j)
+    = subst (λ (l : List Token). EachWasNeeded [] l [] given') (sym i)
+    (subst (EachWasNeeded [] (asked ++ more) []) (sym j)
+    (both_needed [] asked more [] g (e ∷ []) (ran_needed ran) (one_needed asked more g e
+    (each_needed c asked g (answers more []) (Ok e) d (ran_links ran) running calls))))

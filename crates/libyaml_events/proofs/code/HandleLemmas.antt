@@ -1,23 +1,42 @@
 -- the map of handles, by its entries
-use Rattle.std.proofs.Common.{◌≡◌, ℕ, List, [], ◌∷◌, Some, cond, nat_cmp, refl, ap, sym, ◌∙◌}
+use Rattle.std.proofs.Common.{◌≡◌, ℕ, List, [], ◌∷◌, Option, Some, None, Bool, true, false, cond, nat_cmp, refl, ap, sym, ◌∙◌, option_map, is_some, String, string_bytes}
 use Rattle.std.specs.Cmp.{eq_by_cmp_equiv}
 use Rattle.std.specs.Cmp.Lexicographic.{slice_cmp, nat_list_cmp_total}
-use Rattle.std.specs.BTreeMap.{is_at}
+use Rattle.std.specs.BTreeMap.{BTreeMap, is_at, get_by_text, UpdatesBy}
 use Rattle.std.specs.Map.{lookup}
-use Rattle.std.specs.FinMap.{from_entries, find, get, insert, get-from_entries, get-insert, same_map}
+use Rattle.std.specs.Str.{bytes_eq}
+use Rattle.std.specs.String.{string_cmp}
+use Rattle.std.specs.FinMap.{find, get, insert, get-from_entries, get-insert, same_map}
 use Rattle.std.proofs.lemmas.Map.Lookups.{exact_bytes}
+use Rattle.std.proofs.lemmas.Map.Text.{btree_map_updates_text, is_eq-slice_cmp}
+use Rattle.libyaml_events.specs.machine.Config.{handles_of, text_entries}
 
-find_handle : (es : List (List ℕ × List ℕ)) (q : List ℕ) → find (slice_cmp nat_cmp) q es ≡ lookup (is_at (slice_cmp nat_cmp q)) es
-find_handle [] q = refl
-find_handle (e ∷ es) q = ap (cond (is_at (slice_cmp nat_cmp q) e.0) (Some e.1)) (find_handle es q)
+module _ {Y : Type 0} where
+  mapped : (b : Bool) (p : String Y) (o : Option (String Y)) → cond b (Some (string_bytes p)) (option_map string_bytes o) ≡ option_map string_bytes (cond b (Some p) o)
+  mapped true p o = refl
+  mapped false p o = refl
 
-pub get_handle : (es : List (List ℕ × List ℕ)) (q : List ℕ) → get (from_entries {R = slice_cmp nat_cmp} es) q ≡ lookup (is_at (slice_cmp nat_cmp q)) es
-get_handle es q = get-from_entries nat_list_cmp_total es q ∙ find_handle es q
+  find_handle : (es : List (String Y × String Y)) (q : List ℕ)
+      → find (slice_cmp nat_cmp) q (text_entries es) ≡ option_map string_bytes (lookup (is_at (λ k. slice_cmp nat_cmp q (string_bytes k))) es)
+  find_handle [] q = refl
+  find_handle (e ∷ es) q = ap (cond (is_at (slice_cmp nat_cmp q) (string_bytes e.0)) (Some (string_bytes e.1))) (find_handle es q) ∙ mapped _ e.1 _
 
--- entries that differ at one handle make maps that differ there
-pub one_declared : (es fs : List (List ℕ × List ℕ)) (h p : List ℕ)
-    → ((q : List ℕ) → lookup (is_at (slice_cmp nat_cmp q)) fs ≡ cond (is_at (slice_cmp nat_cmp h) q) (Some p) (lookup (is_at (slice_cmp nat_cmp q)) es))
-    → from_entries {R = slice_cmp nat_cmp} fs ≡ insert (from_entries es) h p
-one_declared es fs h p at = same_map nat_list_cmp_total exact_bytes _ _ (λ q.
-    get_handle fs q ∙ at q ∙ ap (λ b. cond b (Some p) (lookup (is_at (slice_cmp nat_cmp q)) es)) ((eq_by_cmp_equiv nat_list_cmp_total).symm h q)
-    ∙ sym (get-insert nat_list_cmp_total (from_entries es) h p q ∙ ap (cond (is_at (slice_cmp nat_cmp q) h) (Some p)) (get_handle es q)))
+  pub get_handle : (m : BTreeMap (String Y) (String Y)) (q : List ℕ) → get (handles_of m.entries) q ≡ option_map string_bytes (get_by_text m q)
+  get_handle m q = get-from_entries nat_list_cmp_total (text_entries m.entries) q ∙ find_handle m.entries q
+
+  some_mapped : (o : Option (String Y)) → is_some o ≡ is_some (option_map string_bytes o)
+  some_mapped None = refl
+  some_mapped (Some p) = refl
+
+  pub is_declared : (m : BTreeMap (String Y) (String Y)) (h : String Y) → is_some (get_by_text m (string_bytes h)) ≡ is_some (get (handles_of m.entries) (string_bytes h))
+  is_declared m h = some_mapped (get_by_text m (string_bytes h)) ∙ ap is_some (sym (get_handle m (string_bytes h)))
+
+  -- maps that differ at one handle are seen so
+  pub one_declared : (m n : BTreeMap (String Y) (String Y)) (h p : String Y) → UpdatesBy string_cmp (string_cmp h) m n (Some p)
+      → handles_of n.entries ≡ insert (handles_of m.entries) (string_bytes h) (string_bytes p)
+  one_declared m n h p updates = same_map nat_list_cmp_total exact_bytes _ _ (λ q.
+      get_handle n q ∙ ap (option_map string_bytes) (btree_map_updates_text (string_bytes h) m n (Some p) updates q)
+      ∙ sym (mapped (bytes_eq (string_bytes h) q) p (get_by_text m q))
+      ∙ sym (get-insert nat_list_cmp_total (handles_of m.entries) (string_bytes h) (string_bytes p) q
+      ∙ ap (λ b. cond b (Some (string_bytes p)) (get (handles_of m.entries) q)) ((eq_by_cmp_equiv nat_list_cmp_total).symm q (string_bytes h) ∙ is_eq-slice_cmp (string_bytes h) q)
+      ∙ ap (cond (bytes_eq (string_bytes h) q) (Some (string_bytes p))) (get_handle m q)))

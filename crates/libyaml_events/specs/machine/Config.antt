@@ -1,5 +1,5 @@
 -- What a parser is, whatever keeps it (docs/DEFINITIONS.md, "The parser as a machine").
-use Rattle.std.specs.Prelude.{◌∷◌, ◌||◌, ℕ, ℤ, List, [], Option, None, Some, Bool, true, false}
+use Rattle.std.specs.Prelude.{◌∷◌, ◌||◌, ℕ, ℤ, List, [], Option, None, Some, Bool, true, false, map, String, string_bytes}
 use Rattle.std.specs.FinMap.{FinMap, from_entries, code, insert}
 use Rattle.std.specs.Coded.{Coded, coded_ℕ, coded_list}
 use Rattle.std.specs.Cmp.Lexicographic.{slice_cmp}
@@ -22,6 +22,13 @@ Handles = FinMap (slice_cmp nat_cmp) (List ℕ)
 
 abbrev pub handles_code : Coded Handles
 handles_code = code (coded_list coded_ℕ) (coded_list coded_ℕ)
+
+-- the map of these entries, by their bytes
+abbrev pub text_entries : {Y : Type 0} → List (String Y × String Y) → List (List ℕ × List ℕ)
+text_entries = map (λ e. (string_bytes e.0, string_bytes e.1))
+
+abbrev pub handles_of : {Y : Type 0} → List (String Y × String Y) → Handles
+handles_of entries = from_entries (text_entries entries)
 
 abbrev pub no_handles : Handles
 no_handles = from_entries []

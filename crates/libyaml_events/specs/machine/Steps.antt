@@ -1,5 +1,5 @@
 -- How the code of a step does what the machine does.
-use Rattle.std.specs.Prelude.{◌≡◌, ℕ, List, Bool, true, Option, Some, None, Result, Ok, Err}
+use Rattle.std.specs.Prelude.{◌≡◌, ℕ, List, Bool, true, Option, Some, None, Result, Ok, Err, String, string_bytes}
 use Rattle.libyaml_types.specs.declared.enums.yaml_error_type_t.{yaml_error_type_t}
 use Rattle.libyaml_types.specs.declared.enums.yaml_error_type_t.TheVariants.{YAML_NO_ERROR, YAML_MEMORY_ERROR, YAML_READER_ERROR, YAML_SCANNER_ERROR}
 use Rattle.libyaml_types.specs.declared.enums.yaml_error_type_t.TheVariants.{YAML_PARSER_ERROR, YAML_COMPOSER_ERROR, YAML_WRITER_ERROR, YAML_EMITTER_ERROR}
@@ -31,14 +31,14 @@ Steps out old (Ok (Wants w)) new = (out ≡ Ok (Wants w, new.config)) × (new.so
     × (new.config.lookahead ≡ old.config.lookahead)
 Steps out old (Err e) new = FailsAs new.config out e × (new.source ≡ old.source) × (new.max_entries ≡ old.max_entries)
 
-abbrev pub ResolvesTo : {S : Type 0} → (joined : Bool) → Option (List ℕ) → Fault → Parser S → Result (List ℕ) yaml_error_type_t → Parser S → Type 0
-ResolvesTo joined tag f old (Ok text) new = (tag ≡ Some text) × (new ≡ old)
+abbrev pub ResolvesTo : {S Y : Type 0} → (joined : Bool) → Option (List ℕ) → Fault → Parser S → Result (String Y) yaml_error_type_t → Parser S → Type 0
+ResolvesTo joined tag f old (Ok text) new = (tag ≡ Some (string_bytes text)) × (new ≡ old)
 ResolvesTo joined tag f old (Err YAML_MEMORY_ERROR) new = (joined ≡ true) × (new ≡ with_config old (with_fault old.config memory_fault))
 ResolvesTo joined tag f old (Err YAML_PARSER_ERROR) new = (tag ≡ None) × (new ≡ with_config old (with_fault old.config f))
 ResolvesTo joined tag f old (Err _) new = ⊥
 
 -- the tag in full, or the fault of a handle that is not defined, in a node that begins at `start`; or, where the tag is
 -- joined, a growth was refused
-abbrev pub Resolves : {S : Type 0} → TagRead → yaml_mark_t → Parser S → Result (List ℕ) yaml_error_type_t → Parser S → Type 0
+abbrev pub Resolves : {S Y : Type 0} → TagRead → yaml_mark_t → Parser S → Result (String Y) yaml_error_type_t → Parser S → Type 0
 Resolves g start old r new = ResolvesTo (has_prefix old.config.handles g.handle) (resolve old.config.handles g.handle g.suffix) (tag_fault start g.mark) old r
     new

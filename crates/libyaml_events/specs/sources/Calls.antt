@@ -18,6 +18,11 @@ use Rattle.libyaml_events.specs.declared.next.Progress.TheVariants.{Given, Wants
 abbrev pub EventOrError : Type 0
 EventOrError = Result yaml_event_t yaml_error_type_t
 
+-- the answer of a call that put its event into a slot
+abbrev pub answered : Result (Unit {0}) yaml_error_type_t → yaml_event_t → EventOrError
+answered (Ok u) e = Ok e
+answered (Err x) e = Err x
+
 -- the source gave these answers, one after another
 abbrev pub Gave : {S : Type 0} → (S → Answer → S → Type 0) → S → List Answer → S → Type 0
 Gave gives s [] t = t ≡ s

@@ -7,11 +7,14 @@ use Rattle.libyaml_grammar.specs.sentences.Events.{Event}
 use Rattle.libyaml_events.specs.machine.Config.{Parser}
 use Rattle.libyaml_events.specs.sources.Calls.{Gave}
 use Rattle.libyaml_events.specs.sources.History.{History, answers}
+use Rattle.libyaml_events.specs.sources.Needs.{EachWasNeeded}
 
--- From the one parser to the other the source gave some tokens more, and the history went on by them and these events.
+-- From the one parser to the other the source gave some tokens more, each of which was needed, and the history went on by
+-- them and these events.
 pub record CarriedOn {S : Type 0} (gives : S → Answer → S → Type 0) (old new : Parser S) (asked : List Token) (given events : List Event) : Type 0 where
   pub more : List Token
   pub gave : Gave gives old.source (answers more []) new.source
+  pub needed : EachWasNeeded asked more given events
   pub history : History new (asked ++ more) (given ++ events)
 
 -- the source knows what stands in the list behind these tokens, and the fault that ends it

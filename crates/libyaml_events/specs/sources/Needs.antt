@@ -30,3 +30,16 @@ pub data NeedsMore (asked : List Token) (given : List Event) : Type 0 where
 abbrev pub EachNeeded : List Token → List Answer → List Event → Type 0
 EachNeeded asked more given = (front : List Token) (x : Answer) (behind : List Answer) → more ≡ answers front (x ∷ behind) → (has_end (asked ++ front) ≡ false)
     × NeedsMore (asked ++ front) given
+
+-- A further token was needed behind these: when it was asked for, the first of these events had been given.
+pub record WasNeeded (asked : List Token) (given events : List Event) : Type 0 where
+  pub before : List Event
+  pub later : List Event
+  pub all : events ≡ before ++ later
+  pub running : has_end asked ≡ false
+  pub needs : NeedsMore asked (given ++ before)
+
+-- each of these tokens, which were asked for one by one behind those before, was needed while these events were given
+abbrev pub EachWasNeeded : (asked more : List Token) → (given events : List Event) → Type 0
+EachWasNeeded asked more given events = (front : List Token) (t : Token) (behind : List Token) → more ≡ front ++ t ∷ behind
+    → WasNeeded (asked ++ front) given events

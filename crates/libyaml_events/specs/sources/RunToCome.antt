@@ -1,12 +1,12 @@
 -- The run that a parser over a known source still has before it (docs/DEFINITIONS.md, "Runs").
-use Rattle.std.specs.Prelude.{◌≡◌, ◌++◌, ◌∷◌, List, Option, Some, Err}
+use Rattle.std.specs.Prelude.{◌≡◌, ◌++◌, ◌∷◌, ◌⊎◌, List, [], Option, Some, Err}
 use Rattle.libyaml_types.specs.declared.enums.yaml_error_type_t.TheVariants.{YAML_MEMORY_ERROR}
 use Rattle.libyaml_grammar.specs.runs.Fault.{Fault}
 use Rattle.libyaml_grammar.specs.cuts.FaultTexts.{memory_fault}
 use Rattle.libyaml_events.specs.sources.Source.{Coming, coming}
 use Rattle.libyaml_grammar.specs.sentences.Tokens.{Token}
 use Rattle.libyaml_grammar.specs.sentences.Events.{Event}
-use Rattle.libyaml_grammar.specs.runs.Runs.{Ending, IsRun}
+use Rattle.libyaml_grammar.specs.runs.Runs.{Ending, Fails, IsRun}
 use Rattle.libyaml_events.specs.machine.Config.{Parser}
 use Rattle.libyaml_events.specs.sources.Calls.{EventOrError}
 use Rattle.libyaml_events.specs.sources.History.{History, kept_fault}
@@ -36,3 +36,7 @@ pub data UnlessBroken {S : Type 0} (MayBreak : S → Fault → Type 0) (r : Even
   does : Does → UnlessBroken MayBreak r new Does
   no_memory : r ≡ Err YAML_MEMORY_ERROR → kept_fault new ≡ memory_fault → UnlessBroken MayBreak r new Does
   breaks : (f : Fault) → MayBreak new.source f → r ≡ Err f.error → kept_fault new ≡ f → UnlessBroken MayBreak r new Does
+
+-- the run fails here by this fault; or a growth was refused, or the source broke off
+abbrev pub FailsHere : (MayBreak : Fault → Type 0) → Fault → List Event → Ending → Type 0
+FailsHere MayBreak f events ending = ((events ≡ []) × (ending ≡ Fails f)) ⊎ ((f ≡ memory_fault) ⊎ MayBreak f)

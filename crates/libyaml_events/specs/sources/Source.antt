@@ -1,7 +1,9 @@
 -- what a source that knows its tokens may answer
-use Rattle.std.specs.Prelude.{◌≡◌, List, [], ◌∷◌, Option, Some, None, Ok, Err, ◌⊎◌}
+use Rattle.std.specs.Prelude.{◌≡◌, List, [], ◌∷◌, Option, Some, None, Ok, Err, ◌⊎◌, negsuc, codes}
+use Rattle.libyaml_types.specs.declared.enums.yaml_error_type_t.TheVariants.{YAML_READER_ERROR}
 use Rattle.libyaml_types.specs.declared.token.yaml_token_t.{yaml_token_t}
 use Rattle.libyaml_grammar.specs.runs.Fault.{Fault, Answer}
+use Rattle.libyaml_grammar.specs.cuts.FaultTexts.{no_fault}
 
 -- the tokens to come, and the fault that ends them
 pub record Coming : Type 0 where
@@ -21,6 +23,10 @@ FollowsList MayBreak (t ∷ ts) f (Err e) after = MayBreak e × (after ≡ Some 
 abbrev pub Follows : (Fault → Type 0) → Option Coming → Answer → Option Coming → Type 0
 Follows MayBreak None answer after = Unit {0}
 Follows MayBreak (Some c) answer after = FollowsList MayBreak c.tokens c.fault answer after
+
+-- the fault of a list that ends before its STREAM-END
+abbrev pub no_more_tokens : Fault
+no_more_tokens = record no_fault { error = YAML_READER_ERROR; problem = Some (codes "no more tokens"); problem_value = negsuc 0 }
 
 -- the answer of a list with no break
 abbrev pub list_answer : List yaml_token_t → Fault → Answer

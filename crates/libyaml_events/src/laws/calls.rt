@@ -1,15 +1,20 @@
 //! The laws of calls in turn: what a loop over the events of a parser carries on.
 
-ghost use Rattle.std.specs.Prelude.{◌≡◌, ◌++◌, ◌∷◌, List, [], Some};
+ghost use Rattle.std.specs.Prelude.{◌≡◌, ◌≤◌, ◌+◌, ◌*◌, ◌++◌, ◌∷◌, List, [], Some, length, true, false};
 ghost use Rattle.libyaml_events.specs.sources.Calls.{Gave};
 ghost use Rattle.libyaml_events.specs.sources.CallsInTurn.{CarriedOn, KnowsRest};
 ghost use Rattle.libyaml_events.specs.machine.Config.{Parser};
 ghost use Rattle.libyaml_grammar.specs.sentences.Events.{Event};
 ghost use Rattle.libyaml_grammar.specs.runs.Fault.{Fault, Answer};
-ghost use Rattle.libyaml_events.specs.sources.History.{History, answers};
-ghost use Rattle.libyaml_events.specs.sources.Parsing.{CarriesOn};
+ghost use Rattle.libyaml_events.specs.sources.History.{ForHistory, History, answers, has_failed, is_over};
+ghost use Rattle.libyaml_events.specs.sources.History.{stack_depth};
+ghost use Rattle.libyaml_events.specs.sources.Needs.{EachWasNeeded};
+ghost use Rattle.libyaml_events.specs.parsers.Lookahead.{HoldsLast};
+ghost use Rattle.libyaml_grammar.specs.cuts.Settled.{BeginsEach};
+ghost use Rattle.libyaml_grammar.specs.sentences.Nesting.{NestsSoFar};
+ghost use Rattle.libyaml_events.specs.sources.Parsing.{CarriesOn, IsWhole};
 ghost use Rattle.libyaml_events.specs.sources.Source.{coming};
-ghost use Rattle.libyaml_events.specs.parsers.Stages.{after, stage_from, stage_of};
+ghost use Rattle.libyaml_events.specs.parsers.Stages.{after, open_collections, stage_from, stage_of};
 ghost use Rattle.libyaml_grammar.specs.sentences.Tokens.{Token};
 
 use crate::source::yaml_token_source_t;
@@ -41,4 +46,17 @@ pub fn calls_in_turn<S: yaml_token_source_t>()
 pub fn source_left<S: yaml_token_source_t>()
     ensures { (s t : S) (more list : List Token) (f : Fault) → S.known s ≡ Some (coming list f)
         → Gave S.gives s (answers more []) t → KnowsRest S.known more list f t }
+{}
+
+/// What each history of a parser says, whichever call led there.
+pub fn of_history<S: yaml_token_source_t>()
+    ensures no_fault { (p : Parser S) → ForHistory p (λ _ _. has_failed p ≡ false) }
+    ensures begins { (p : Parser S) → ForHistory p BeginsEach }
+    ensures nests { (p : Parser S) → ForHistory p (λ _ given. NestsSoFar given) }
+    ensures at_most_four { (p : Parser S) → ForHistory p (λ asked given. length given ≤ 4 * length asked) }
+    ensures depth { (p : Parser S) → ForHistory p (λ _ given. stack_depth p
+        ≤ open_collections (stage_of given) + 1) }
+    ensures one_ahead { (p : Parser S) → ForHistory p (λ asked _. HoldsLast p asked) }
+    ensures needed { (p : Parser S) → ForHistory p (λ asked given. EachWasNeeded [] asked [] given) }
+    ensures whole { (p : Parser S) → is_over p ≡ true → ForHistory p IsWhole }
 {}

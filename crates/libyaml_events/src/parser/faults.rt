@@ -4,11 +4,11 @@ ghost use Rattle.libyaml_grammar.specs.runs.Fault.{fault_of};
 ghost use Rattle.libyaml_grammar.specs.cuts.FaultTexts.{memory_fault, parser_fault, parser_fault_in};
 ghost use Rattle.libyaml_events.specs.machine.Config.{with_config, with_fault};
 
-use crate::parser::yaml_parser_t;
+use crate::parser::Machine;
 use libyaml_grammar::{NO_FAULT, yaml_parser_t_prefix};
 use libyaml_types::{yaml_error_type_t, yaml_mark_t};
 
-impl<S> yaml_parser_t<S> {
+impl<S> Machine<S> {
     fn set_prefix(&mut self, prefix: yaml_parser_t_prefix)
         ensures { self.new ≡ with_config self.old (with_fault self.old.config (fault_of prefix)) }
     {

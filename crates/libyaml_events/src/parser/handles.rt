@@ -1,5 +1,5 @@
 //! The tag handles of a document.
-ghost use Rattle.std.specs.Prelude.{◌≡◌, ◌++◌, Err, OnOk, OnErr, IfOk, is_some};
+ghost use Rattle.std.specs.Prelude.{◌≡◌, ◌++◌, Err, OnOk, OnErr, IfOk, is_some, string_bytes};
 ghost use Rattle.std.specs.Option.{option_copied};
 ghost use Rattle.std.specs.FinMap as map;
 ghost use Rattle.libyaml_grammar.specs.cuts.FaultTexts.{memory_fault};
@@ -8,8 +8,8 @@ ghost use Rattle.libyaml_events.specs.machine.Machine.{undeclared_prefix, or_def
 ghost use Rattle.libyaml_events.specs.machine.Steps.{Resolves};
 
 use crate::node_head::TagRead;
-use crate::parser::yaml_parser_t;
-use libyaml_types::{Text, yaml_error_type_t, yaml_mark_t};
+use crate::parser::Machine;
+use libyaml_types::{yaml_error_type_t, yaml_mark_t};
 use std::alloc::{AllocError, Global};
 use std::collections::BTreeMap;
 
@@ -27,34 +27,30 @@ fn default_prefix_of(handle: &str) -> Option<&'static str>
 }
 
 /// Both texts in one, by one allocation.
-fn joined(alloc: Global, prefix: &str, suffix: &str) -> Result<Text, AllocError>
-    ensures { IfOk result (λ text. text ≡ prefix.now ++ suffix.now) }
+fn joined(alloc: Global, prefix: &str, suffix: &str) -> Result<String, AllocError>
+    ensures { IfOk result (λ text. string_bytes text ≡ prefix.now ++ suffix.now) }
 {
     let mut text = String::with_capacity(alloc, prefix.len().saturating_add(suffix.len()))?;
     text.push_str(prefix)?;
     text.push_str(suffix)?;
-    Ok(Text::from_string(text))
+    Ok(text)
 }
 
-impl<S> yaml_parser_t<S> {
+impl<S> Machine<S> {
     /// The prefix that the document declares for a handle, or else its default one.
     #[tactic(auto, using(crate::proofs::code::HandleLemmas::get_handle))]
-    fn prefix_of(&self, handle: &Text) -> Option<&str>
+    fn prefix_of(&self, handle: &str) -> Option<&str>
         ensures { option_copied result ≡ or_default (map.get self.now.config.handles handle.now) handle.now }
     {
         match self.handles.get(handle) {
             Some(prefix) => Some(prefix.as_str()),
-            None => default_prefix_of(handle.as_str()),
+            None => default_prefix_of(handle),
         }
     }
 
     /// Declares a handle, and answers whether it was declared before. Keeps want of memory where it is
     /// refused.
-    pub(crate) fn declare(
-        &mut self,
-        handle: &Text,
-        prefix: &Text,
-    ) -> Result<bool, yaml_error_type_t>
+    pub(crate) fn declare(&mut self, handle: &str, prefix: &str) -> Result<bool, yaml_error_type_t>
         ensures before { IfOk result (λ was_declared. was_declared
             ≡ is_some (map.get self.old.config.handles handle.now)) }
         ensures ok { OnOk result (self.new
@@ -62,10 +58,10 @@ impl<S> yaml_parser_t<S> {
         ensures err { OnErr result ((result ≡ Err yaml_error_type_t.YAML_MEMORY_ERROR)
             × (self.new ≡ with_config self.old (with_fault self.old.config memory_fault))) }
     {
-        let Ok(handle) = handle.clone() else {
+        let Ok(handle) = String::from_str(self.alloc, handle) else {
             return Err(self.out_of_memory());
         };
-        let Ok(prefix) = prefix.clone() else {
+        let Ok(prefix) = String::from_str(self.alloc, prefix) else {
             return Err(self.out_of_memory());
         };
         match self.handles.insert(handle, prefix) {
@@ -87,7 +83,7 @@ impl<S> yaml_parser_t<S> {
         &mut self,
         tag: TagRead,
         start_mark: yaml_mark_t,
-    ) -> Result<Text, yaml_error_type_t>
+    ) -> Result<String, yaml_error_type_t>
         ensures { Resolves tag start_mark self.old result self.new }
     {
         if tag.handle.is_empty() {

@@ -6,7 +6,7 @@ ghost use Rattle.libyaml_events.specs.machine.State.{IsBackByte, back_state};
 ghost use Rattle.libyaml_events.specs.machine.Config.{with_config, with_fault, at, pushed, popped};
 ghost use Rattle.libyaml_events.specs.machine.Config.{pushed_mark, popped_mark, top_mark};
 
-use crate::parser::yaml_parser_t;
+use crate::parser::Machine;
 use libyaml_types::{ZERO_MARK, yaml_error_type_t, yaml_mark_t, yaml_parser_state_t};
 
 /// The state that a byte of the stack stands for.
@@ -30,7 +30,7 @@ fn state_of_byte(byte: u8) -> yaml_parser_state_t
     }
 }
 
-impl<S> yaml_parser_t<S> {
+impl<S> Machine<S> {
     pub(crate) fn state(&self) -> yaml_parser_state_t
         ensures { result ≡ self.now.config.state }
     {

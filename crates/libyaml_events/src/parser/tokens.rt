@@ -4,11 +4,11 @@ ghost use Rattle.libyaml_events.specs.machine.Config.{with_config, with_fault, k
 ghost use Rattle.libyaml_grammar.specs.runs.Errors.{IsSourceError};
 ghost use Rattle.libyaml_events.specs.sources.Calls.{Fetches};
 
-use crate::parser::yaml_parser_t;
+use crate::parser::Machine;
 use crate::source::yaml_token_source_t;
 use libyaml_types::{yaml_error_type_t, yaml_token_t};
 
-impl<S> yaml_parser_t<S> {
+impl<S> Machine<S> {
     /// The token stays, to be looked at again.
     pub(crate) fn keep(&mut self, token: yaml_token_t)
         ensures { self.new ≡ with_config self.old (keep token self.old.config) }
@@ -24,7 +24,7 @@ impl<S> yaml_parser_t<S> {
     }
 }
 
-impl<S: yaml_token_source_t> yaml_parser_t<S> {
+impl<S: yaml_token_source_t> Machine<S> {
     /// Asks the source for a token, and keeps its fault for good.
     fn ask(&mut self) -> Result<yaml_token_t, yaml_error_type_t>
         ensures error { IfErr result IsSourceError }

@@ -39,7 +39,7 @@ ghost use Rattle.libyaml_events.specs.machine.Steps.{Steps};
 ghost use Rattle.libyaml_events.specs.machine.Answers.{answer};
 
 use crate::next::Next;
-use crate::parser::yaml_parser_t;
+use crate::parser::Machine;
 use crate::pending::Pending;
 use crate::states::{give, skip};
 use libyaml_types::{
@@ -47,7 +47,7 @@ use libyaml_types::{
     yaml_parser_state_t, yaml_token_t,
 };
 
-impl<S> yaml_parser_t<S> {
+impl<S> Machine<S> {
     /// At BLOCK-SEQUENCE-START, whose start is kept.
     pub(super) fn parse_first_block_sequence_entry(
         &mut self,

@@ -40,11 +40,11 @@ ghost use Rattle.libyaml_events.specs.declared.next.Progress.TheVariants.{Given}
 ghost use Rattle.std.specs.FinMap.{get};
 
 use crate::next::Next;
-use crate::parser::yaml_parser_t;
+use crate::parser::Machine;
 use crate::pending::{DirectivesRead, Pending};
 use crate::states::{give, skip};
 use libyaml_types::{
-    TagDirectives, unnamed_yaml_event_t_data, unnamed_yaml_event_t_data_document_end,
+    unnamed_yaml_event_t_data, unnamed_yaml_event_t_data_document_end,
     unnamed_yaml_event_t_data_document_start, unnamed_yaml_event_t_data_stream_start,
     unnamed_yaml_token_t_data, unnamed_yaml_token_t_data_tag_directive, yaml_error_type_t,
     yaml_event_t, yaml_mark_t, yaml_parser_state_t, yaml_tag_directive_t, yaml_token_t,
@@ -52,7 +52,7 @@ use libyaml_types::{
 };
 use std::mem;
 
-impl<S> yaml_parser_t<S> {
+impl<S> Machine<S> {
     pub(super) fn parse_stream_start(
         &mut self,
         token: &yaml_token_t,
@@ -109,7 +109,7 @@ impl<S> yaml_parser_t<S> {
         self.keep(token);
         let event = unnamed_yaml_event_t_data_document_start {
             version_directive: None,
-            tag_directives: TagDirectives::new(self.allocator()),
+            tag_directives: Vec::new(self.allocator()),
             implicit: true,
         };
         give(
@@ -194,7 +194,7 @@ impl<S> yaml_parser_t<S> {
             }
             unnamed_yaml_token_t_data::DocumentStart => {
                 self.begin_document(yaml_parser_state_t::YAML_PARSE_DOCUMENT_CONTENT_STATE)?;
-                let none = TagDirectives::new(self.allocator());
+                let none = Vec::new(self.allocator());
                 let event = unnamed_yaml_event_t_data_document_start {
                     version_directive: pending.directives.version.take(),
                     tag_directives: mem::replace(&mut pending.directives.tag_directives, none),
@@ -219,7 +219,7 @@ impl<S> yaml_parser_t<S> {
         DirectivesRead {
             start_mark: mark,
             version: None,
-            tag_directives: TagDirectives::new(self.allocator()),
+            tag_directives: Vec::new(self.allocator()),
         }
     }
 

@@ -56,7 +56,7 @@ ghost use Rattle.libyaml_events.specs.declared.next.Progress.TheVariants.{Given}
 
 use crate::next::Next;
 use crate::node_place::NodePlace;
-use crate::parser::yaml_parser_t;
+use crate::parser::Machine;
 use crate::pending::Pending;
 use crate::states::nodes::mapping_start;
 use crate::states::{give, skip};
@@ -65,7 +65,7 @@ use libyaml_types::{
     yaml_mapping_style_t, yaml_parser_state_t, yaml_token_t,
 };
 
-impl<S> yaml_parser_t<S> {
+impl<S> Machine<S> {
     /// At FLOW-SEQUENCE-START, whose start is kept.
     pub(super) fn parse_first_flow_sequence_entry(
         &mut self,

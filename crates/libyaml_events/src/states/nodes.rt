@@ -14,7 +14,7 @@
 //!   `parse_node_content`, or to `bare_scalar` where it is the whole node. The token behind
 //!   properties alone goes there too, and stays.
 //! ```
-ghost use Rattle.std.specs.Prelude.{◌≡◌, Ok, Err, IfErr, None, false, true};
+ghost use Rattle.std.specs.Prelude.{◌≡◌, Ok, Err, IfErr, None, false, true, option_map, string_bytes};
 ghost use Rattle.libyaml_types.specs.declared.event.unnamed_yaml_event_t_data_scalar.{unnamed_yaml_event_t_data_scalar};
 ghost use Rattle.libyaml_types.specs.declared.enums.yaml_scalar_style_t.TheVariants.{YAML_PLAIN_SCALAR_STYLE};
 ghost use Rattle.libyaml_grammar.specs.sentences.Events.{is_plain, plain_flag, quoted_flag, is_missing};
@@ -35,11 +35,11 @@ ghost use Rattle.libyaml_grammar.specs.cuts.FaultTexts.{content_fault};
 use crate::next::Next;
 use crate::node_head::{NodeHead, PropertiesRead, TagRead};
 use crate::node_place::NodePlace;
-use crate::parser::yaml_parser_t;
+use crate::parser::Machine;
 use crate::pending::Pending;
 use crate::states::give;
 use libyaml_types::{
-    Text, unnamed_yaml_event_t_data, unnamed_yaml_event_t_data_alias,
+    unnamed_yaml_event_t_data, unnamed_yaml_event_t_data_alias,
     unnamed_yaml_event_t_data_mapping_start, unnamed_yaml_event_t_data_scalar,
     unnamed_yaml_event_t_data_sequence_start, unnamed_yaml_token_t_data,
     unnamed_yaml_token_t_data_scalar, yaml_error_type_t, yaml_event_t, yaml_mapping_style_t,
@@ -67,8 +67,8 @@ fn is_plain(style: yaml_scalar_style_t) -> bool
 }
 
 /// Whether a scalar's tag may be left out where it is written plain.
-fn is_plain_implicit(tag: &Option<Text>, style: yaml_scalar_style_t) -> bool
-    ensures { result ≡ plain_flag tag.now style }
+fn is_plain_implicit(tag: &Option<String>, style: yaml_scalar_style_t) -> bool
+    ensures { result ≡ plain_flag (option_map string_bytes tag.now) style }
 {
     match tag {
         None => is_plain(style),
@@ -77,8 +77,8 @@ fn is_plain_implicit(tag: &Option<Text>, style: yaml_scalar_style_t) -> bool
 }
 
 /// Whether a scalar's tag may be left out where it is not written plain.
-fn is_quoted_implicit(tag: &Option<Text>, style: yaml_scalar_style_t) -> bool
-    ensures { result ≡ quoted_flag tag.now style }
+fn is_quoted_implicit(tag: &Option<String>, style: yaml_scalar_style_t) -> bool
+    ensures { result ≡ quoted_flag (option_map string_bytes tag.now) style }
 {
     match tag {
         None => !is_plain(style),
@@ -87,8 +87,8 @@ fn is_quoted_implicit(tag: &Option<Text>, style: yaml_scalar_style_t) -> bool
 }
 
 /// Whether there is no tag, or an empty one.
-fn is_missing(tag: &Option<Text>) -> bool
-    ensures { result ≡ is_missing tag.now }
+fn is_missing(tag: &Option<String>) -> bool
+    ensures { result ≡ is_missing (option_map string_bytes tag.now) }
 {
     match tag {
         None => true,
@@ -98,12 +98,13 @@ fn is_missing(tag: &Option<Text>) -> bool
 
 /// A plain scalar whose tag may be left out only where it is written plain.
 pub(super) fn plain_scalar(
-    anchor: Option<Text>,
-    tag: Option<Text>,
-    value: Text,
+    anchor: Option<String>,
+    tag: Option<String>,
+    value: String,
     plain_implicit: bool,
 ) -> unnamed_yaml_event_t_data
-    ensures { result ≡ scalar anchor tag value plain_implicit false YAML_PLAIN_SCALAR_STYLE }
+    ensures { result ≡ scalar (option_map string_bytes anchor) (option_map string_bytes tag)
+        (string_bytes value) plain_implicit false YAML_PLAIN_SCALAR_STYLE }
 {
     unnamed_yaml_event_t_data::Scalar(unnamed_yaml_event_t_data_scalar {
         anchor,
@@ -116,11 +117,11 @@ pub(super) fn plain_scalar(
 }
 
 fn sequence_start(
-    anchor: Option<Text>,
-    tag: Option<Text>,
+    anchor: Option<String>,
+    tag: Option<String>,
     style: yaml_sequence_style_t,
 ) -> unnamed_yaml_event_t_data
-    ensures { result ≡ sequence_start anchor tag style }
+    ensures { result ≡ sequence_start (option_map string_bytes anchor) (option_map string_bytes tag) style }
 {
     let implicit = is_missing(&tag);
     unnamed_yaml_event_t_data::SequenceStart(unnamed_yaml_event_t_data_sequence_start {
@@ -132,11 +133,11 @@ fn sequence_start(
 }
 
 pub(super) fn mapping_start(
-    anchor: Option<Text>,
-    tag: Option<Text>,
+    anchor: Option<String>,
+    tag: Option<String>,
     style: yaml_mapping_style_t,
 ) -> unnamed_yaml_event_t_data
-    ensures { result ≡ mapping_start anchor tag style }
+    ensures { result ≡ mapping_start (option_map string_bytes anchor) (option_map string_bytes tag) style }
 {
     let implicit = is_missing(&tag);
     unnamed_yaml_event_t_data::MappingStart(unnamed_yaml_event_t_data_mapping_start {
@@ -147,9 +148,8 @@ pub(super) fn mapping_start(
     })
 }
 
-impl<S> yaml_parser_t<S> {
+impl<S> Machine<S> {
     /// A node at its first token, where it may not be empty.
-    #[inline(always)]
     pub(super) fn parse_node(
         &mut self,
         place: NodePlace,
@@ -437,7 +437,7 @@ impl<S> yaml_parser_t<S> {
         self.pop_state();
         self.keep(token);
         let implicit = is_missing(&head.tag);
-        let text = Text::new(self.allocator());
+        let text = String::new(self.allocator());
         let event = plain_scalar(head.anchor, head.tag, text, implicit);
         give(out, event, head.start_mark, head.end_mark);
         Ok(())

@@ -15,35 +15,26 @@ ghost use Rattle.token_lines.specs.LineRun.{Writes};
 use super::{MEMORY_FAULT, Outcome, Step, faulted, flushed};
 use crate::MAX_TOKENS;
 use libyaml_events::{
-    yaml_parser_delete, yaml_parser_initialize, yaml_parser_parse, yaml_parser_t,
-    yaml_token_source_t,
+    yaml_parser_initialize, yaml_parser_parse_into, yaml_parser_t, yaml_token_source_t,
 };
-use libyaml_types::{unnamed_yaml_event_t_data, yaml_event_t};
-use line_reading::LentLines;
+use libyaml_types::{ZERO_MARK, unnamed_yaml_event_t_data, yaml_event_t};
+use line_reading::yaml_line_source_t;
 use line_writing::{append_event, write_line};
 use std::alloc::Global;
 use std::io::{BufRead, Write};
 
 /// Writes the line of each event of the token lines, before the next event is parsed, and then the
-/// text of the fault, if there is one. Reads at most `MAX_TOKENS` tokens, and leaves in the reader
-/// what follows the last line that it read.
+/// text of the fault, if there is one. Reads at most `MAX_TOKENS` tokens. A caller who needs the reader
+/// back, as the last line left it, calls `write_events` over a `yaml_line_source_t`.
 ///
 /// Want of memory for a line is written as the fault of a refused growth. The writer is flushed
 /// before `Ended` and `Faulted`; after `OutputFailed` nothing is said of it.
-pub fn run_events<R: BufRead, W: Write>(alloc: Global, reader: &mut R, writer: &mut W) -> Outcome
-    ensures { RunsOver R.remaining W.contents reader.old reader.new result (W.contents writer.old)
-        (W.contents writer.new) }
+pub fn run_events<R: BufRead + Drop, W: Write>(alloc: Global, reader: R, writer: &mut W) -> Outcome
+    ensures { RunsOver R.remaining W.contents reader result (W.contents writer.old) (W.contents writer.new) }
 {
-    let mut line = Vec::new(alloc);
-    let source = LentLines::new(alloc, reader, &mut line, MAX_TOKENS);
+    let source = yaml_line_source_t::new(alloc, reader, MAX_TOKENS);
     let mut parser = yaml_parser_initialize(alloc, source);
-    let outcome = write_events(alloc, &mut parser, writer);
-    // The loan of the reader ends here.
-    let LentLines {
-        reader: _reader,
-        ..
-    } = yaml_parser_delete(parser);
-    outcome
+    write_events(alloc, &mut parser, writer)
 }
 
 /// Writes the line of each event that is to come, before the next event is parsed, and then the text
@@ -72,8 +63,13 @@ pub fn write_events<S: yaml_token_source_t, W: Write>(
         (W.contents writer.new) asked given }
 {
     let mut line = String::new(alloc);
+    let mut event = yaml_event_t {
+        content: unnamed_yaml_event_t_data::NoEvent,
+        start_mark: ZERO_MARK,
+        end_mark: ZERO_MARK,
+    };
     loop {
-        match write_next(parser, &mut line, writer) {
+        match write_next(parser, &mut event, &mut line, writer) {
             Step::Written => {}
             Step::Ended => return flushed(Outcome::Ended, writer),
             Step::Failed(fault) => return faulted(&fault, writer),
@@ -82,9 +78,10 @@ pub fn write_events<S: yaml_token_source_t, W: Write>(
     }
 }
 
-/// Writes the line of the next event, whose text is made in `line`.
+/// Writes the line of the next event, which is put into `event`, and whose text is made in `line`.
 fn write_next<S: yaml_token_source_t, W: Write>(
     parser: &mut yaml_parser_t<S>,
+    event: &mut yaml_event_t,
     line: &mut String,
     writer: &mut W,
 ) -> Step
@@ -99,8 +96,8 @@ fn write_next<S: yaml_token_source_t, W: Write>(
         → StepsInRun S.known S.may_break result parser.new (W.contents writer.old) (W.contents writer.new)
         events ending }
 {
-    let parsed = yaml_parser_parse(parser);
-    let Ok(event) = &parsed else {
+    let parsed = yaml_parser_parse_into(parser, event);
+    let Ok(()) = parsed else {
         return Step::Failed(*parser.prefix());
     };
     if !is_event(event) {

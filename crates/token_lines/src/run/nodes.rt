@@ -14,35 +14,25 @@ ghost use Rattle.token_lines.specs.NodeStep.{IsKept, LoadTurn, NodeSteps};
 
 use super::{MEMORY_FAULT, Outcome, Step, faulted, flushed};
 use crate::MAX_TOKENS;
-use libyaml_events::{
-    yaml_parser_delete, yaml_parser_initialize, yaml_parser_t, yaml_token_source_t,
-};
+use libyaml_events::{yaml_parser_initialize, yaml_parser_t, yaml_token_source_t};
 use libyaml_loader::yaml_parser_load;
-use line_reading::LentLines;
+use line_reading::yaml_line_source_t;
 use line_writing::{line_refusal_t, write_document};
 use std::alloc::Global;
 use std::io::{BufRead, Write};
 
 /// Writes the text of each document of the token lines, before anything of the next is read, and then
-/// the text of the fault, if there is one. Reads at most `MAX_TOKENS` tokens, and leaves in the reader
-/// what follows the last line that it read.
+/// the text of the fault, if there is one. Reads at most `MAX_TOKENS` tokens. A caller who needs the reader
+/// back, as the last line left it, calls `write_nodes` over a `yaml_line_source_t`.
 ///
 /// Want of memory for a line is written as the fault of a refused growth, behind the lines before it. The
 /// writer is flushed before `Ended` and `Faulted`; after `OutputFailed` nothing is said of it.
-pub fn run_nodes<R: BufRead, W: Write>(alloc: Global, reader: &mut R, writer: &mut W) -> Outcome
-    ensures { NodesOver R.remaining W.contents reader.old reader.new result (W.contents writer.old)
-        (W.contents writer.new) }
+pub fn run_nodes<R: BufRead + Drop, W: Write>(alloc: Global, reader: R, writer: &mut W) -> Outcome
+    ensures { NodesOver R.remaining W.contents reader result (W.contents writer.old) (W.contents writer.new) }
 {
-    let mut line = Vec::new(alloc);
-    let source = LentLines::new(alloc, reader, &mut line, MAX_TOKENS);
+    let source = yaml_line_source_t::new(alloc, reader, MAX_TOKENS);
     let mut parser = yaml_parser_initialize(alloc, source);
-    let outcome = write_nodes(alloc, &mut parser, writer);
-    // The loan of the reader ends here.
-    let LentLines {
-        reader: _reader,
-        ..
-    } = yaml_parser_delete(parser);
-    outcome
+    write_nodes(alloc, &mut parser, writer)
 }
 
 /// Writes the text of each document that is to come, before the next is loaded, and then the text of the

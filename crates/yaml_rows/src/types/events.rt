@@ -3,7 +3,7 @@ use anyhow::Result;
 use row_notation::{is_text, shown_event, unless, unless_made};
 use std::alloc::Global;
 use unsafe_libyaml::{
-    TagDirectives, Text, YAML_ANY_MAPPING_STYLE, YAML_ANY_SEQUENCE_STYLE, YAML_BLOCK_MAPPING_STYLE,
+    YAML_ANY_MAPPING_STYLE, YAML_ANY_SEQUENCE_STYLE, YAML_BLOCK_MAPPING_STYLE,
     YAML_BLOCK_SEQUENCE_STYLE, YAML_DOUBLE_QUOTED_SCALAR_STYLE, YAML_FLOW_MAPPING_STYLE,
     YAML_FLOW_SEQUENCE_STYLE, YAML_FOLDED_SCALAR_STYLE, YAML_LITERAL_SCALAR_STYLE, ZERO_MARK,
     unnamed_yaml_event_t_data, unnamed_yaml_token_t_data, unnamed_yaml_token_t_data_anchor,
@@ -146,8 +146,11 @@ fn shows_document_starts(alloc: Global) -> bool {
     ] == [true; 2]
 }
 
-fn are_first_texts(list: &TagDirectives, handle: &[u8], prefix: &[u8]) -> bool {
-    match list.as_slice().first() {
+fn are_first_texts(content: &unnamed_yaml_event_t_data, handle: &[u8], prefix: &[u8]) -> bool {
+    let unnamed_yaml_event_t_data::DocumentStart(start) = content else {
+        return false;
+    };
+    match start.tag_directives.as_slice().first() {
         Some(first) => {
             [
                 first.handle.as_bytes() == handle,
@@ -159,8 +162,8 @@ fn are_first_texts(list: &TagDirectives, handle: &[u8], prefix: &[u8]) -> bool {
 }
 
 fn directive_keeps_zeros(alloc: Global) -> Result<bool> {
-    let list = TagDirectives::from_pairs(alloc, &[(ZERO, ZERO)])?;
-    Ok(are_first_texts(&list, ZERO, ZERO))
+    let event = yaml_document_start_event_initialize(alloc, None, &[(ZERO, ZERO)], true)?;
+    Ok(are_first_texts(&event.content, ZERO, ZERO))
 }
 
 fn scalar(alloc: Global, value: &[u8]) -> Made {
@@ -279,7 +282,7 @@ fn anchor(alloc: Global) -> Result<yaml_token_t> {
         line: 1,
         column: 2,
     };
-    let value = Text::from_str(alloc, "a")?;
+    let value = String::from_str(alloc, "a")?;
     let anchor = unnamed_yaml_token_t_data::Anchor(unnamed_yaml_token_t_data_anchor { value });
     Ok(yaml_token_t::new(anchor, mark, mark))
 }

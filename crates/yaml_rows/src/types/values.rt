@@ -4,7 +4,7 @@ use row_notation::{first_wrong, is_text, unless, unless_made};
 use std::alloc::Global;
 use std::cmp::Ordering;
 use unsafe_libyaml::{
-    Text, ZERO_MARK, unnamed_yaml_event_t_data, unnamed_yaml_event_t_data_alias,
+    ZERO_MARK, unnamed_yaml_event_t_data, unnamed_yaml_event_t_data_alias,
     unnamed_yaml_token_t_data, unnamed_yaml_token_t_data_scalar,
     unnamed_yaml_token_t_data_version_directive, yaml_break_t, yaml_encoding_t, yaml_error_type_t,
     yaml_event_t, yaml_event_type_t, yaml_mapping_style_t, yaml_mark_t, yaml_node_type_t,
@@ -187,7 +187,7 @@ fn scalar_token(
     style: yaml_scalar_style_t,
     end_mark: yaml_mark_t,
 ) -> Result<yaml_token_t, yaml_refusal_t> {
-    let value = Text::from_str(alloc, value)?;
+    let value = String::from_str(alloc, value)?;
     let scalar = unnamed_yaml_token_t_data_scalar { value, style };
     Ok(yaml_token_t::new(
         unnamed_yaml_token_t_data::Scalar(scalar),
@@ -238,7 +238,7 @@ fn alias(
     anchor: &str,
     start_mark: yaml_mark_t,
 ) -> Result<yaml_event_t, yaml_refusal_t> {
-    let anchor = Text::from_str(alloc, anchor)?;
+    let anchor = String::from_str(alloc, anchor)?;
     let content = unnamed_yaml_event_t_data::Alias(unnamed_yaml_event_t_data_alias { anchor });
     Ok(yaml_event_t {
         content,

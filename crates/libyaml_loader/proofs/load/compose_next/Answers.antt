@@ -22,6 +22,8 @@ called_by g c =
       end = clauses.end_of_run;
       fault = clauses.fault_of_run;
       nothing = clauses.nothing_behind_end;
+      no_fault = c.of_history.ensures.no_fault;
+      whole = c.of_history.ensures.whole;
     }
 
 pub returns-in_err-content-clause-steps : goal.returns-in_err-content-clause-steps

@@ -1,7 +1,4 @@
-use Rattle.std.proofs.Common.{◌≡◌, ap, sym, ◌∙◌, true, false}
-use Rattle.libyaml_events.specs.machine.Config.{is_fault}
-use Rattle.libyaml_grammar.specs.runs.Fault.{Fault}
-use Rattle.libyaml_events.proofs.calls.Staged.{ran_staged}
+use Rattle.std.proofs.Common.{◌≡◌, sym, ◌∙◌, true, false}
 use Rattle.libyaml_graphs.specs.Bounds.{next_bounded}
 use Rattle.libyaml_graphs.specs.Loads.{left_over}
 use Rattle.libyaml_loader.specs.Ids.{magnitude}
@@ -13,7 +10,7 @@ no h = cc
 
 pub returns-then-has_failed-clause-next_load : goal.returns-then-has_failed-clause-next_load
 returns-then-has_failed-clause-next_load g c events ending run =
-    absurd (no (sym c.if-has_failed.true ∙ c.has_failed.ensures ∙ ap (λ (f : Fault). is_fault f.error) (ran_staged run.history).no_fault_kept))
+    absurd (no (sym c.if-has_failed.true ∙ c.has_failed.ensures ∙ c.of_history.ensures.no_fault c.args.parser.now run.asked run.given run.history))
 
 pub returns-then-has_failed-clause-between : goal.returns-then-has_failed-clause-between
 returns-then-has_failed-clause-between g c = c.requires.between
@@ -23,7 +20,7 @@ returns-clause-next_load g c =
     let t = g.S.yaml_token_source_t in
     let call = c.next_document in
     next_load t.gives t.known t.may_break (next_bounded (magnitude c.args.parser.now.max_entries)) left_over c.args.parser.now call.new.parser call.result
-    call.ensures.fails (λ first. call.ensures.loads)
+    call.ensures.fails (c.of_history.ensures.no_fault c.args.parser.now) (λ first. call.ensures.loads)
 
 pub returns-then-has_failed-clause-ended : goal.returns-then-has_failed-clause-ended
 returns-then-has_failed-clause-ended g c ended none = absurd (no (sym c.if-has_failed.true ∙ c.has_failed.ensures ∙ none))

@@ -1,11 +1,11 @@
 use Rattle.std.proofs.Common.{rules}
 use Rattle.libyaml_types.proofs.constructors.yaml_document_start_event_initialize.Goals as goal
 
-pub returns-in_err-from_pairs-clause-memory : goal.returns-in_err-from_pairs-clause-memory
-returns-in_err-from_pairs-clause-memory c = search rules
+pub returns-in_err-directives_of_pairs-clause-memory : goal.returns-in_err-directives_of_pairs-clause-memory
+returns-in_err-directives_of_pairs-clause-memory c = search rules
 
-pub returns-in_err-from_pairs-clause-not_utf8 : goal.returns-in_err-from_pairs-clause-not_utf8
-returns-in_err-from_pairs-clause-not_utf8 c = search rules
+pub returns-in_err-directives_of_pairs-clause-not_utf8 : goal.returns-in_err-directives_of_pairs-clause-not_utf8
+returns-in_err-directives_of_pairs-clause-not_utf8 c = search rules
 
 pub returns-clause-ok : goal.returns-clause-ok
 returns-clause-ok c = search rules

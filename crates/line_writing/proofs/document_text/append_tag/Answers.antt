@@ -25,14 +25,14 @@ pushed old new read tag default text (Ok x) written equal is grown =
     grown ∙ ap (λ l. old ++ l) (sym written ∙ ap (λ t. behind_spaces (string_text t ∷ [])) (sym (same_text read default equal) ∙ is))
 
 pub returns-in-Scalar : goal.returns-in-Scalar
-returns-in-Scalar c = pushed _ _ _ _ _ _ c.push_str.result scalar_tag c.if-eq.ensures c.as_str-tag.ensures c.push_str.ensures.bytes
+returns-in-Scalar c = rw (← c.node.view_is) (pushed _ _ _ _ _ _ c.push_str.result scalar_tag c.if-eq.ensures c.as_str-tag.ensures.value c.push_str.ensures.bytes)
 
 pub returns-in-Sequence : goal.returns-in-Sequence
 returns-in-Sequence c =
     let push = c.push_str-in-Sequence in
-    pushed _ _ _ _ _ _ push.result sequence_tag c.if-eq-2.ensures c.as_str-tag.ensures push.ensures.bytes
+    rw (← c.node.view_is) (pushed _ _ _ _ _ _ push.result sequence_tag c.if-eq-2.ensures c.as_str-tag.ensures.value push.ensures.bytes)
 
 pub returns-in-Mapping : goal.returns-in-Mapping
 returns-in-Mapping c =
     let push = c.push_str-in-Mapping in
-    pushed _ _ _ _ _ _ push.result mapping_tag c.if-eq-3.ensures c.as_str-tag.ensures push.ensures.bytes
+    rw (← c.node.view_is) (pushed _ _ _ _ _ _ push.result mapping_tag c.if-eq-3.ensures c.as_str-tag.ensures.value push.ensures.bytes)

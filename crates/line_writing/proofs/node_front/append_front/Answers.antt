@@ -53,7 +53,7 @@ ascii_str-requires c =
     let id = c.write_digits-from in
     let text = gathered id.new.buf _ _ _ _ _ _ _ 155 id.result (omega (arith, id.auto.buf, name.auto.text, start.auto.text, end.auto.text)) id.ensures.written
     name.ensures.written start.ensures.written end.ensures.written in
-    subst IsAscii (sym text) (ascii_front _ _ _ _ small (ascii_name c.args.node.now.content) start.ensures.ascii end.ensures.ascii)
+    subst IsAscii (sym text) (ascii_front _ _ _ _ small (ascii_name c.node.inside.content) start.ensures.ascii end.ensures.ascii)
 
 pub returns : goal.returns
 returns c =
@@ -63,4 +63,4 @@ returns c =
     let id = c.write_digits-from in
     let text = gathered id.new.buf _ _ _ _ _ _ _ 155 id.result (omega (arith, id.auto.buf, name.auto.text, start.auto.text, end.auto.text)) id.ensures.written
     name.ensures.written start.ensures.written end.ensures.written in
-    pushed _ _ _ _ c.push_str.result (c.ascii_str.ensures ∙ text) c.push_str.ensures.bytes
+    rw (← c.node.view_is) (pushed _ _ _ _ c.push_str.result (c.ascii_str.ensures ∙ text) c.push_str.ensures.bytes)

@@ -1,6 +1,7 @@
 use Rattle.std.proofs.Common.{◌<◌, length, subst, sym, is_ok}
-use Rattle.libyaml_documents.proofs.Ids.{AreNodes-push}
+use Rattle.libyaml_documents.proofs.Ids.{AreNodes-push, KeepsTypes-pushed}
 use Rattle.libyaml_documents.specs.Documents.{Document, most_nodes}
+use Rattle.libyaml_documents.specs.Nodes.{KeepsTypes}
 use Rattle.libyaml_documents.proofs.document.add.push_node.Goals as goal
 
 pub invariant_of-document-2 : goal.invariant_of-document-2
@@ -9,3 +10,8 @@ invariant_of-document-2 c =
     c.push.ensures.items
     (subst (λ (d : Document). length d.nodes < most_nodes) (sym c.document.view_is) c.requires.room)
     c.requires.childless c.document.invariant
+
+pub returns-clause-types_kept : goal.returns-clause-types_kept
+returns-clause-types_kept c =
+    subst (λ (d : Document). KeepsTypes d.nodes c.push.new.self.items) c.document.view_is
+    (KeepsTypes-pushed (is_ok c.push.result) c.document.inside.nodes.items c.push.new.self.items c.args.node c.push.ensures.items)

@@ -6,10 +6,10 @@ use Rattle.libyaml_loader.proofs.anchors.Anchors.register.Goals as goal
 
 pub returns-clause-earlier : goal.returns-clause-earlier
 returns-clause-earlier c =
-    let found = ap (option_map carrier_of) c.in_ok-insert.ensures.old ∙ sym (get_anchor c.self.inside.inner.entries c.args.anchor) in
+    let found = ap (option_map carrier_of) c.in_ok-insert.ensures.old ∙ sym (get_anchor c.self.inside.inner _) in
     rw (← c.self.view_is) found
 
 pub returns-clause-registered : goal.returns-clause-registered
 returns-clause-registered c =
-    let made = one_registered c.self.inside.inner.entries c.insert.new.self.entries c.args.anchor c.args.carrier c.in_ok-insert.ensures.updates.0 in
+    let made = one_registered c.self.inside.inner c.insert.new.self c.args.anchor c.args.carrier c.in_ok-insert.ensures.updates in
     rw (← c.self.view_is) made

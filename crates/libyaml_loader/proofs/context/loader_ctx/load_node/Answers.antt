@@ -1,6 +1,9 @@
-use Rattle.std.proofs.Common.{◌∙◌, arith, rules, w32}
+use Rattle.std.proofs.Common.{◌∙◌, ap, sym, arith, rules, w32, option_map, string_bytes}
 use Rattle.std.proofs.lemmas.Int.{ints, to_z-of_z}
 use mir.Val.{SFits}
+use Rattle.libyaml_documents.specs.declared.node.yaml_node_t.{yaml_node_t}
+use Rattle.libyaml_graphs.specs.Loader.{register}
+use Rattle.libyaml_loader.specs.Ids.{id_of}
 use Rattle.libyaml_loader.proofs.Loading.{node_loaded, stack_behind}
 use Rattle.libyaml_loader.proofs.context.loader_ctx.load_node.Goals as goal
 
@@ -13,8 +16,10 @@ pub returns-clause-ok : goal.returns-clause-ok
 returns-clause-ok c =
     let fits : SFits w32 c.in_ok-append_node.field-0
     = first_of (search rules, grind (arith, ints, c.in_ok-append_node.ensures.id, c.in_ok-append_node.ensures.room)) in
+    let anchor = option_map string_bytes c.args.anchor in
+    let same = ap (λ (n : yaml_node_t). register anchor (id_of c.new-id.result) n.start_mark c.args.self.now.anchors) (sym c.node.view_is) in
     node_loaded c.args.self.now c.yaml_parser_register_anchor.new.self c.append_node.new.document c.args.node c.in_ok-append_node.ensures.added
     c.in_ok-yaml_parser_register_anchor.ensures.rest
-    c.yaml_parser_load_node_add.new.self c.new-id.result _ c.args.anchor c.new-id.ensures (to_z-of_z w32 _ fits
-    ∙ c.in_ok-append_node.ensures.id) c.in_ok-yaml_parser_register_anchor.ensures.ok c.in_ok-yaml_parser_load_node_add.ensures.ok
+    c.yaml_parser_load_node_add.new.self c.new-id.result _ anchor c.new-id.ensures (to_z-of_z w32 _ fits
+    ∙ c.in_ok-append_node.ensures.id) (same ∙ c.in_ok-yaml_parser_register_anchor.ensures.ok) c.in_ok-yaml_parser_load_node_add.ensures.ok
     c.in_ok-yaml_parser_load_node_add.ensures.room c.requires.ids.stack

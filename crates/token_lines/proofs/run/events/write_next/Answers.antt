@@ -1,7 +1,9 @@
 use Rattle.std.proofs.Common.{◌++◌, refl, ap, ◌∙◌, subst, sym}
 use Rattle.std.specs.Io.KnownBytes.{Appends}
+use Rattle.libyaml_events.specs.sources.Calls.{answered}
 use Rattle.libyaml_events.specs.sources.History.{is_over}
-use Rattle.libyaml_events.proofs.calls.NextEvents.{FailsHere, Says, fails_here, first_event}
+use Rattle.libyaml_events.specs.sources.RunToCome.{FailsHere}
+use Rattle.libyaml_events.proofs.calls.NextEvents.{Says, fails_here, first_event}
 use Rattle.token_lines.specs.declared.run.Step.TheVariants.{Written, Ended, OutputFailed}
 use Rattle.line_writing.specs.EventText.{event_line}
 use Rattle.token_lines.proofs.LastCallLemmas.{gave_one, failed_once}
@@ -12,18 +14,18 @@ use Rattle.token_lines.proofs.run.events.write_next.Goals as goal
 pub returns-in_default-clause-step : goal.returns-in_default-clause-step
 returns-in_default-clause-step g c events ending run =
     let t = g.S.yaml_token_source_t in
-    let call = c.yaml_parser_parse-parsed in
-    let says : Says t.known t.may_break c.args.parser.now call.new.parser call.result
+    let call = c.yaml_parser_parse_into-parsed in
+    let says : Says t.known t.may_break c.args.parser.now call.new.parser (answered call.result c.yaml_parser_parse_into-parsed.new.event)
     = record { next = call.ensures.next_of_run; end = call.ensures.end_of_run; fault = call.ensures.fault_of_run } in
-    let failed = fails_here t.known t.may_break c.args.parser.now call.new.parser call.result c.in_default.field-0 c.in_default.is says events ending run in
+    let failed = fails_here t.known t.may_break c.args.parser.now call.new.parser (answered call.result c.yaml_parser_parse_into-parsed.new.event) c.in_default.field-0 (ap (λ r. answered r c.yaml_parser_parse_into-parsed.new.event) c.in_default.is) says events ending run in
     (subst (λ f. FailsHere (t.may_break call.new.parser.source) f events ending) (sym c.prefix.ensures.kept) failed, Keeps-same _)
 
 pub returns-then-not-is_event-clause-step : goal.returns-then-not-is_event-clause-step
 returns-then-not-is_event-clause-step g c events ending run =
     let t = g.S.yaml_token_source_t in
-    let call = c.yaml_parser_parse-parsed in
+    let call = c.yaml_parser_parse_into-parsed in
     let empty = sym c.is_event.ensures ∙ c.if-not-is_event.true in
-    let ended = ended_by c.args.parser.now call.new.parser call.result c.in-Ok.event t.gives (is_over c.args.parser.now) refl c.in-Ok.is empty
+    let ended = ended_by c.args.parser.now call.new.parser (answered call.result c.yaml_parser_parse_into-parsed.new.event) c.yaml_parser_parse_into-parsed.new.event t.gives (is_over c.args.parser.now) refl (ap (λ r. answered r c.yaml_parser_parse_into-parsed.new.event) c.in-Ok.is) empty
     call.ensures.carries_on run.asked run.given run.history in
     let same = (call.ensures.ended ended).1 in
     nothing_left t.known t.may_break c.args.parser.now call.new.parser _ events ending run same (call.ensures.nothing_behind_end (ap is_over same ∙ ended))
@@ -31,71 +33,71 @@ returns-then-not-is_event-clause-step g c events ending run =
 pub returns-then-is_stream_end-clause-step : goal.returns-then-is_stream_end-clause-step
 returns-then-is_stream_end-clause-step g c events ending run =
     let t = g.S.yaml_token_source_t in
-    let call = c.yaml_parser_parse-parsed in
-    let says : Says t.known t.may_break c.args.parser.now call.new.parser call.result
+    let call = c.yaml_parser_parse_into-parsed in
+    let says : Says t.known t.may_break c.args.parser.now call.new.parser (answered call.result c.yaml_parser_parse_into-parsed.new.event)
     = record { next = call.ensures.next_of_run; end = call.ensures.end_of_run; fault = call.ensures.fault_of_run } in
     let an_event = sym c.is_event.ensures ∙ c.if-not-is_event.false in
-    let running = running_by c.args.parser.now call.new.parser call.result c.in-Ok.event (is_over c.args.parser.now) refl c.in-Ok.is an_event call.ensures.ended
+    let running = running_by c.args.parser.now call.new.parser (answered call.result c.yaml_parser_parse_into-parsed.new.event) c.yaml_parser_parse_into-parsed.new.event (is_over c.args.parser.now) refl (ap (λ r. answered r c.yaml_parser_parse_into-parsed.new.event) c.in-Ok.is) an_event call.ensures.ended
     in
     let on = (rw c.in-Ok.is at (call.ensures.carries_on running)) run.asked run.given run.history in
-    let first = first_event t.known t.may_break c.args.parser.now call.new.parser call.result c.in-Ok.event c.in-Ok.is an_event says events ending run in
-    let line = c.in-Ok-append_event.ensures ∙ ap (λ l. l ++ event_line c.in-Ok.event) c.clear.ensures.bytes in
+    let first = first_event t.known t.may_break c.args.parser.now call.new.parser (answered call.result c.yaml_parser_parse_into-parsed.new.event) c.yaml_parser_parse_into-parsed.new.event (ap (λ r. answered r c.yaml_parser_parse_into-parsed.new.event) c.in-Ok.is) an_event says events ending run in
+    let line = c.in-Ok-append_event.ensures ∙ ap (λ l. l ++ event_line c.yaml_parser_parse_into-parsed.new.event) c.clear.ensures.bytes in
     let ended = on.ends ∙ sym c.is_stream_end.ensures ∙ c.if-is_stream_end.true in
-    takes_last t.known t.may_break c.args.parser.now call.new.parser _ _ c.in-Ok.event events ending first (call.ensures.nothing_behind_end ended)
+    takes_last t.known t.may_break c.args.parser.now call.new.parser _ _ c.yaml_parser_parse_into-parsed.new.event events ending first (call.ensures.nothing_behind_end ended)
     (subst (Appends _ _) line c.in-Ok-write_line.ensures.ok)
 
-pub returns-clause-falls : goal.returns-clause-falls
-returns-clause-falls g c written =
-    let call = c.yaml_parser_parse-parsed in
+pub returns-else-is_stream_end-clause-falls : goal.returns-else-is_stream_end-clause-falls
+returns-else-is_stream_end-clause-falls g c written =
+    let call = c.yaml_parser_parse_into-parsed in
     let an_event = sym c.is_event.ensures ∙ c.if-not-is_event.false in
-    let running = running_by c.args.parser.now call.new.parser call.result c.in-Ok.event (is_over c.args.parser.now) refl c.in-Ok.is an_event call.ensures.ended
+    let running = running_by c.args.parser.now call.new.parser (answered call.result c.yaml_parser_parse_into-parsed.new.event) c.yaml_parser_parse_into-parsed.new.event (is_over c.args.parser.now) refl (ap (λ r. answered r c.yaml_parser_parse_into-parsed.new.event) c.in-Ok.is) an_event call.ensures.ended
     in
     rw c.in-Ok.is at (call.ensures.falls running)
 
-pub returns-clause-step : goal.returns-clause-step
-returns-clause-step g c events ending run =
+pub returns-else-is_stream_end-clause-step : goal.returns-else-is_stream_end-clause-step
+returns-else-is_stream_end-clause-step g c events ending run =
     let t = g.S.yaml_token_source_t in
-    let call = c.yaml_parser_parse-parsed in
-    let says : Says t.known t.may_break c.args.parser.now call.new.parser call.result
+    let call = c.yaml_parser_parse_into-parsed in
+    let says : Says t.known t.may_break c.args.parser.now call.new.parser (answered call.result c.yaml_parser_parse_into-parsed.new.event)
     = record { next = call.ensures.next_of_run; end = call.ensures.end_of_run; fault = call.ensures.fault_of_run } in
     let an_event = sym c.is_event.ensures ∙ c.if-not-is_event.false in
-    let first = first_event t.known t.may_break c.args.parser.now call.new.parser call.result c.in-Ok.event c.in-Ok.is an_event says events ending run in
-    let line = c.in-Ok-append_event.ensures ∙ ap (λ l. l ++ event_line c.in-Ok.event) c.clear.ensures.bytes in
-    takes_first t.known t.may_break c.args.parser.now call.new.parser _ _ c.in-Ok.event events ending first
+    let first = first_event t.known t.may_break c.args.parser.now call.new.parser (answered call.result c.yaml_parser_parse_into-parsed.new.event) c.yaml_parser_parse_into-parsed.new.event (ap (λ r. answered r c.yaml_parser_parse_into-parsed.new.event) c.in-Ok.is) an_event says events ending run in
+    let line = c.in-Ok-append_event.ensures ∙ ap (λ l. l ++ event_line c.yaml_parser_parse_into-parsed.new.event) c.clear.ensures.bytes in
+    takes_first t.known t.may_break c.args.parser.now call.new.parser _ _ c.yaml_parser_parse_into-parsed.new.event events ending first
     (subst (Appends _ _) line c.in-Ok-write_line.ensures.ok)
 
 pub returns-in_default-clause-turn : goal.returns-in_default-clause-turn
 returns-in_default-clause-turn g c running asked given h =
     let t = g.S.yaml_token_source_t in
-    let call = c.yaml_parser_parse-parsed in
-    failed_once t.gives _ _ _ _ _ call.result c.in_default.field-0 c.in_default.is call.ensures.fails (c.prefix.ensures.kept, Keeps-same _) asked given h
+    let call = c.yaml_parser_parse_into-parsed in
+    failed_once t.gives _ _ _ _ _ (answered call.result c.yaml_parser_parse_into-parsed.new.event) c.in_default.field-0 (ap (λ r. answered r c.yaml_parser_parse_into-parsed.new.event) c.in_default.is) call.ensures.fails (c.prefix.ensures.kept, Keeps-same _) asked given h
 
 pub returns-in_default-append_event-clause-turn : goal.returns-in_default-append_event-clause-turn
 returns-in_default-append_event-clause-turn g c running asked given h
-    = gave_one g.S.yaml_token_source_t.gives _ _ _ _ _ _ c.in-Ok.event c.in-Ok.is (c.yaml_parser_parse-parsed.ensures.carries_on running) (
+    = gave_one g.S.yaml_token_source_t.gives _ _ _ _ _ _ c.yaml_parser_parse_into-parsed.new.event (ap (λ r. answered r c.yaml_parser_parse_into-parsed.new.event) c.in-Ok.is) (c.yaml_parser_parse_into-parsed.ensures.carries_on running) (
       refl,
       Keeps-same _,
     ) asked given h
 
 pub returns-in_default-write_line-clause-turn : goal.returns-in_default-write_line-clause-turn
 returns-in_default-write_line-clause-turn g c running asked given h
-    = gave_one g.S.yaml_token_source_t.gives OutputFailed _ _ _ _ _ c.in-Ok.event c.in-Ok.is (c.yaml_parser_parse-parsed.ensures.carries_on running) tt asked
+    = gave_one g.S.yaml_token_source_t.gives OutputFailed _ _ _ _ _ c.yaml_parser_parse_into-parsed.new.event (ap (λ r. answered r c.yaml_parser_parse_into-parsed.new.event) c.in-Ok.is) (c.yaml_parser_parse_into-parsed.ensures.carries_on running) tt asked
     given h
 
 pub returns-then-is_stream_end-clause-turn : goal.returns-then-is_stream_end-clause-turn
 returns-then-is_stream_end-clause-turn g c running asked given h =
-    let line = c.in-Ok-append_event.ensures ∙ ap (λ l. l ++ event_line c.in-Ok.event) c.clear.ensures.bytes in
+    let line = c.in-Ok-append_event.ensures ∙ ap (λ l. l ++ event_line c.yaml_parser_parse_into-parsed.new.event) c.clear.ensures.bytes in
     let ended = sym c.is_stream_end.ensures ∙ c.if-is_stream_end.true in
-    gave_one g.S.yaml_token_source_t.gives Ended _ _ _ _ _ c.in-Ok.event c.in-Ok.is (c.yaml_parser_parse-parsed.ensures.carries_on running) (
+    gave_one g.S.yaml_token_source_t.gives Ended _ _ _ _ _ c.yaml_parser_parse_into-parsed.new.event (ap (λ r. answered r c.yaml_parser_parse_into-parsed.new.event) c.in-Ok.is) (c.yaml_parser_parse_into-parsed.ensures.carries_on running) (
       ended,
       subst (Appends _ _) line c.in-Ok-write_line.ensures.ok,
     ) asked given h
 
-pub returns-clause-turn : goal.returns-clause-turn
-returns-clause-turn g c running asked given h =
-    let line = c.in-Ok-append_event.ensures ∙ ap (λ l. l ++ event_line c.in-Ok.event) c.clear.ensures.bytes in
+pub returns-else-is_stream_end-clause-turn : goal.returns-else-is_stream_end-clause-turn
+returns-else-is_stream_end-clause-turn g c running asked given h =
+    let line = c.in-Ok-append_event.ensures ∙ ap (λ l. l ++ event_line c.yaml_parser_parse_into-parsed.new.event) c.clear.ensures.bytes in
     let more = sym c.is_stream_end.ensures ∙ c.if-is_stream_end.false in
-    gave_one g.S.yaml_token_source_t.gives Written _ _ _ _ _ c.in-Ok.event c.in-Ok.is (c.yaml_parser_parse-parsed.ensures.carries_on running) (
+    gave_one g.S.yaml_token_source_t.gives Written _ _ _ _ _ c.yaml_parser_parse_into-parsed.new.event (ap (λ r. answered r c.yaml_parser_parse_into-parsed.new.event) c.in-Ok.is) (c.yaml_parser_parse_into-parsed.ensures.carries_on running) (
       more,
       subst (Appends _ _) line c.in-Ok-write_line.ensures.ok,
     ) asked given h

@@ -1,5 +1,0 @@
-use Rattle.std.proofs.Common.{rules}
-use Rattle.libyaml_events.proofs.parser.yaml_parser_t.process_version_directive.Goals as goal
-
-pub returns-then-version-ne1-clause-steps : goal.returns-then-version-ne1-clause-steps
-returns-then-version-ne1-clause-steps g c = search rules

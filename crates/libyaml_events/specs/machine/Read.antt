@@ -1,0 +1,31 @@
+-- What the parser has read of a node or a document (docs/DEFINITIONS.md, "The parser as a machine").
+use Rattle.std.specs.Prelude.{ℕ, List, Option}
+use Rattle.libyaml_types.specs.declared.mark.yaml_mark_t.{yaml_mark_t}
+use Rattle.libyaml_types.specs.declared.directive.yaml_version_directive_t.{yaml_version_directive_t}
+use Rattle.libyaml_types.specs.declared.directive.yaml_tag_directive_t.{yaml_tag_directive_t}
+
+-- a tag as it is written
+pub record WrittenTag : Type 0 where
+  pub handle : List ℕ
+  pub suffix : List ℕ
+  pub mark : yaml_mark_t
+
+-- the properties of a node, read so far
+pub record Properties : Type 0 where
+  pub anchor : Option (List ℕ)
+  pub tag : Option WrittenTag
+  pub start_mark : yaml_mark_t
+  pub end_mark : yaml_mark_t
+
+-- what stands before a node's content
+pub record Head : Type 0 where
+  pub anchor : Option (List ℕ)
+  pub tag : Option (List ℕ)
+  pub start_mark : yaml_mark_t
+  pub end_mark : yaml_mark_t
+
+-- the directives of a document, read so far
+pub record Directives : Type 0 where
+  pub start_mark : yaml_mark_t
+  pub version : Option yaml_version_directive_t
+  pub tag_directives : List yaml_tag_directive_t

@@ -1,0 +1,36 @@
+//! What a kind of error says.
+ghost use Rattle.std.specs.Prelude.{◌≡◌, Some};
+ghost use Rattle.libyaml_types.specs.Words.{error_words};
+
+use crate::enums::yaml_error_type_t;
+use std::error::Error;
+use std::fmt;
+
+/// Returns the kind of an error in words.
+///
+/// libyaml: none; its tools name the kinds.
+pub fn yaml_error_words(error: yaml_error_type_t) -> &'static str
+    ensures { result.now ≡ error_words error }
+{
+    match error {
+        yaml_error_type_t::YAML_NO_ERROR => "no error",
+        yaml_error_type_t::YAML_MEMORY_ERROR => "out of memory",
+        yaml_error_type_t::YAML_READER_ERROR => "reader error",
+        yaml_error_type_t::YAML_SCANNER_ERROR => "scanner error",
+        yaml_error_type_t::YAML_PARSER_ERROR => "parser error",
+        yaml_error_type_t::YAML_COMPOSER_ERROR => "composer error",
+        yaml_error_type_t::YAML_WRITER_ERROR => "writer error",
+        yaml_error_type_t::YAML_EMITTER_ERROR => "emitter error",
+    }
+}
+
+/// Its words, as `yaml_error_words` returns them.
+impl fmt::Display for yaml_error_type_t {
+    ghost output = { λ e. Some (error_words e) };
+
+    fn fmt<W: fmt::Write>(&self, f: &mut fmt::Formatter<W>) -> fmt::Result {
+        f.write_str(yaml_error_words(*self))
+    }
+}
+
+impl Error for yaml_error_type_t {}
