@@ -16,7 +16,7 @@ use drained::count_events;
 use row_notation::{show_checks, show_document, source_of};
 use std::alloc::Global;
 use unsafe_libyaml::{yaml_document_t, yaml_list_source_t, yaml_parser_initialize};
-use words::{document_of_words, first_word};
+use words::{document_of_words, first_word, second_word};
 
 fn count_all(alloc: Global, source: yaml_list_source_t) -> u64 {
     let mut parser = yaml_parser_initialize(alloc, source);
@@ -30,18 +30,19 @@ fn show_count(rt: &(impl Print + AllocGlobal)) -> Result<()> {
     Ok(())
 }
 
-fn show_lines(rt: &impl Print, shown: &str, word: &str) -> Result<()> {
+fn show_lines(rt: &impl Print, shown: &str, first: &str, second: &str) -> Result<()> {
     println!(rt; "{shown}")?;
-    println!(rt; "{word}")?;
+    println!(rt; "{first} {second}")?;
     Ok(())
 }
 
-/// Shows a document and its first word.
+/// Shows a document and its words.
 fn show_read(rt: &(impl Print + AllocGlobal), document: &yaml_document_t) -> Result<()> {
     let mut shown = String::new(rt.alloc());
     let made = show_document(&mut shown, document);
-    let word = first_word(document).unwrap_or("none");
-    made.and(show_lines(rt, shown.as_str(), word))
+    let first = first_word(document).unwrap_or("none");
+    let second = second_word(document).unwrap_or("none");
+    made.and(show_lines(rt, shown.as_str(), first, second))
 }
 
 fn show_words(rt: &(impl Print + AllocGlobal)) -> Result<()> {
