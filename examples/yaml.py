@@ -28,6 +28,7 @@ sys.path = [folder for folder in sys.path if os.path.abspath(folder or os.curdir
 
 import codecs
 import ctypes
+import gc
 import re
 import shutil
 import subprocess
@@ -102,20 +103,21 @@ def scan(yaml, source):
     """The token lines of a text, and the fault's lines where its scanner or reader found one."""
     loader = getattr(yaml, "CLoader", yaml.Loader)
     makers = field_makers(yaml)
-    names = {}
+    directive = yaml.DirectiveToken
+    kinds = {}
     lines = []
     try:
         for token in yaml.scan(source, Loader=loader):
             kind = type(token)
             start, end = token.start_mark, token.end_mark
             marks = "%d:%d:%d %d:%d:%d" % (start.index, start.line, start.column, end.index, end.line, end.column)
-            if kind is yaml.DirectiveToken:
+            if kind is directive:
                 lines.append(directive_line(token, marks))
                 continue
-            if kind not in names:
-                names[kind] = line_name(kind)
-            maker = makers.get(kind)
-            lines.append("%s %s%s\n" % (names[kind], marks, maker(token) if maker else ""))
+            if kind not in kinds:
+                kinds[kind] = line_name(kind) + " ", makers.get(kind)
+            name, maker = kinds[kind]
+            lines.append(name + marks + (maker(token) if maker else "") + "\n")
     except yaml.reader.ReaderError as fault:
         return lines, "FAULT reader %s %s\n" % (reader_mark(source, fault), fault.reason)
     except yaml.MarkedYAMLError as fault:
@@ -225,6 +227,7 @@ def words(arguments):
 def run(arguments):
     """Writes what is asked for; raises a failure where it can't be had, or where the text has a fault."""
     mode, backend, path = words(arguments)
+    gc.disable()
     try:
         import yaml
     except ImportError:
