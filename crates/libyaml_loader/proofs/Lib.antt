@@ -10,3 +10,4 @@ pub mod Reaching
 pub mod Stepping
 pub mod NextLoads
 pub mod Outside
+pub mod Rootless
