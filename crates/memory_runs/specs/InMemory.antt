@@ -1,8 +1,7 @@
 -- A run over token lines in memory (docs/DEFINITIONS.md, "Runs over memory").
-use Rattle.std.specs.Prelude.{◌≡◌, ◌++◌, ℕ, List, length, min, take, drop}
+use Rattle.std.specs.Prelude.{◌≡◌, ◌++◌, ℕ, List, length, min, take, drop, codes}
 use Rattle.std.specs.List.{concat}
 use Rattle.libyaml_types.specs.declared.event.yaml_event_t.{yaml_event_t}
-use Rattle.libyaml_grammar.specs.cuts.FaultTexts.{memory_fault}
 use Rattle.libyaml_grammar.specs.runs.Fault.{Fault}
 use Rattle.libyaml_grammar.specs.runs.Runs.{Ending, Ends, Fails, IsRun}
 use Rattle.libyaml_graphs.specs.Loads.{IsLoads, Load}
@@ -16,7 +15,7 @@ use Rattle.memory_runs.specs.declared.run.memory_run_t.{memory_run_t}
 
 -- the text of the fault of a failed allocation
 abbrev pub memory_text : List ℕ
-memory_text = fault_text memory_fault
+memory_text = codes "FAULT memory 0:0:0 -\n"
 
 -- The bytes of a run that has these lines and this ending: all lines, where it ended; behind them the text of the run's own
 -- fault, where it failed; and where an allocation failed, the text of that fault alone.
