@@ -1,0 +1,2 @@
+mod ChildIds
+mod Numerals
