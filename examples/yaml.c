@@ -1,23 +1,83 @@
-/* YAML text to tokens, events or nodes: libyaml's scanner in front (Debian: libyaml-dev), Pokhvizi behind it.
- *
- *     yaml tokens FILE
- *     yaml events FILE
- *     yaml nodes FILE
- *
- * FILE - is standard input. `tokens` writes the token lines, for `yamltokens` to read. A fault stands in the last lines
- * that are written, those of a broken text too, and once more on standard error. `scripts/build_c.sh` builds it.
- *
- * Exit status: 0 the text was read, 1 it has a fault, 2 wrong words, 3 a file, the output or memory failed. */
+/* The tokens, the events or the nodes of a YAML file, as lines: libyaml's scanner in front (Debian: libyaml-dev), our
+ * static library behind it. `scripts/build_c.sh DIR` builds it; USAGE below says how it is called. */
 #include "token_lines.h"
-
 #include <errno.h>
-#include <stdarg.h>
+#include <signal.h>
 #include <stdio.h>
 #include <stdlib.h>
 #include <string.h>
 #include <yaml.h>
 
+static const char USAGE[] =
+    "usage: yaml tokens|events|nodes FILE\n"
+    "Writes the lines of a YAML file's tokens, events, or documents and nodes; FILE may be -, for standard input.\n"
+    "A fault of the YAML is the last of what is written: FAULT, who found it, its mark and its words, and maybe a\n"
+    "line CONTEXT. Marks are index:line:column, counted in characters from 0.\n"
+    "Exit status: 0 the file was read to its end, 1 it has a fault, 2 wrong words, 3 the file can't be read, the\n"
+    "output can't be written, or there is no memory.\n";
+
 enum { ENDED = 0, FAULTED = 1, WRONG_WORDS = 2, FAILED = 3 };
+
+typedef uint32_t run_t(const uint8_t *, size_t, uint8_t *, size_t, uint64_t, size_t *, size_t *);
+
+/* Bytes that grow. Once `failed` is set, memory was refused, and they are not to be used. */
+struct text {
+    unsigned char *bytes;
+    size_t length, room;
+    int failed;
+};
+
+static int fail(const char *what, const char *why)
+{
+    fprintf(stderr, "yaml: %s: %s\n", what, why);
+    return FAILED;
+}
+
+static int out_of_memory(void)
+{
+    fputs("yaml: out of memory\n", stderr);
+    return FAILED;
+}
+
+/* Makes room for so many bytes more; 0 where memory is refused. */
+static int reserve(struct text *text, size_t more)
+{
+    if (text->failed || more > SIZE_MAX / 2 - text->length)
+        return !(text->failed = 1);
+    if (text->length + more <= text->room)
+        return 1;
+    size_t room = 2 * (text->length + more);
+    unsigned char *bytes = realloc(text->bytes, room);
+    if (bytes == NULL)
+        return !(text->failed = 1);
+    text->bytes = bytes;
+    text->room = room;
+    return 1;
+}
+
+static void put(struct text *text, const void *bytes, size_t length)
+{
+    if (!reserve(text, length))
+        return;
+    if (length > 0)
+        memcpy(text->bytes + text->length, bytes, length);
+    text->length += length;
+}
+
+static void put_words(struct text *text, const char *words)
+{
+    put(text, words, strlen(words));
+}
+
+static void put_mark(struct text *text, yaml_mark_t mark)
+{
+    char digits[80];
+
+    snprintf(digits, sizeof digits, " %zu:%zu:%zu", mark.index, mark.line, mark.column);
+    put_words(text, digits);
+}
+
+/* ---- Token lines ---- */
 
 static const char *const NAMES[] = {
     "NO-TOKEN", "STREAM-START", "STREAM-END", "VERSION-DIRECTIVE", "TAG-DIRECTIVE", "DOCUMENT-START",
@@ -25,355 +85,288 @@ static const char *const NAMES[] = {
     "FLOW-SEQUENCE-END", "FLOW-MAPPING-START", "FLOW-MAPPING-END", "BLOCK-ENTRY", "FLOW-ENTRY", "KEY",
     "VALUE", "ALIAS", "ANCHOR", "TAG", "SCALAR",
 };
-static const char *const ENCODINGS[] = {"any", "utf8", "utf16le", "utf16be"};
-static const char *const STYLES[] = {"any", "plain", "single", "double", "literal", "folded"};
-
-/* Bytes that grow. Once an allocation failed, `failed` stays set and nothing more is put. */
-struct bytes {
-    char *data;
-    size_t length, room;
-    int failed;
-};
-
-static int fail(const char *format, ...)
-{
-    va_list words;
-
-    fputs("yaml: ", stderr);
-    va_start(words, format);
-    vfprintf(stderr, format, words);
-    va_end(words);
-    fputc('\n', stderr);
-    return FAILED;
-}
-
-/* Whether there is room for so many bytes more, and one. */
-static int reserve(struct bytes *bytes, size_t more)
-{
-    size_t room = bytes->room ? bytes->room : 4096;
-    char *data;
-
-    if (bytes->failed || more >= SIZE_MAX / 2 - bytes->length)
-        return !(bytes->failed = 1);
-    while (room <= bytes->length + more)
-        room *= 2;
-    if (room != bytes->room) {
-        data = realloc(bytes->data, room);
-        if (data == NULL)
-            return !(bytes->failed = 1);
-        bytes->data = data;
-        bytes->room = room;
-    }
-    return 1;
-}
-
-static void put(struct bytes *bytes, const char *format, ...)
-{
-    va_list words;
-    int length;
-
-    va_start(words, format);
-    length = vsnprintf(NULL, 0, format, words);
-    va_end(words);
-    if (length < 0) {
-        bytes->failed = 1;
-    } else if (reserve(bytes, (size_t)length)) {
-        va_start(words, format);
-        vsnprintf(bytes->data + bytes->length, (size_t)length + 1, format, words);
-        va_end(words);
-        bytes->length += (size_t)length;
-    }
-}
+static const char *const ENCODINGS[] = {" any", " utf8", " utf16le", " utf16be"};
+static const char *const STYLES[] = {" any", " plain", " single", " double", " literal", " folded"};
 
 /* A text field: `=` and the bytes, those that need it as `%` and two digits. */
-static void put_text(struct bytes *lines, const yaml_char_t *text, size_t length)
+static void put_bytes(struct text *text, const yaml_char_t *bytes, size_t length)
 {
-    static const char DIGITS[] = "0123456789ABCDEF";
+    char escape[4];
 
-    put(lines, " =");
-    if (length > SIZE_MAX / 8 || !reserve(lines, 3 * length)) {
-        lines->failed = 1;
-        return;
-    }
+    put_words(text, " =");
     for (size_t i = 0; i < length; i++) {
-        if (text[i] > 0x20 && text[i] < 0x7F && text[i] != '%') {
-            lines->data[lines->length++] = (char)text[i];
+        if (bytes[i] > 0x20 && bytes[i] < 0x7F && bytes[i] != '%') {
+            put(text, bytes + i, 1);
         } else {
-            lines->data[lines->length++] = '%';
-            lines->data[lines->length++] = DIGITS[text[i] >> 4];
-            lines->data[lines->length++] = DIGITS[text[i] & 15];
+            snprintf(escape, sizeof escape, "%%%02X", bytes[i]);
+            put(text, escape, 3);
         }
     }
 }
 
-static void put_string(struct bytes *lines, const yaml_char_t *text)
+static void put_string(struct text *text, const yaml_char_t *string)
 {
-    put_text(lines, text, strlen((const char *)text));
+    put_bytes(text, string, strlen((const char *)string));
 }
 
-static void put_fields(struct bytes *lines, const yaml_token_t *token)
+/* What stands behind a token's marks. */
+static void put_fields(struct text *text, const yaml_token_t *token)
 {
+    char version[32];
+
     switch (token->type) {
     case YAML_STREAM_START_TOKEN:
-        put(lines, " %s", ENCODINGS[token->data.stream_start.encoding]);
+        put_words(text, ENCODINGS[token->data.stream_start.encoding]);
         break;
     case YAML_VERSION_DIRECTIVE_TOKEN:
-        put(lines, " %d.%d", token->data.version_directive.major, token->data.version_directive.minor);
+        snprintf(version, sizeof version, " %d.%d", token->data.version_directive.major,
+                 token->data.version_directive.minor);
+        put_words(text, version);
         break;
     case YAML_TAG_DIRECTIVE_TOKEN:
-        put_string(lines, token->data.tag_directive.handle);
-        put_string(lines, token->data.tag_directive.prefix);
+        put_string(text, token->data.tag_directive.handle);
+        put_string(text, token->data.tag_directive.prefix);
         break;
     case YAML_ALIAS_TOKEN:
-        put_string(lines, token->data.alias.value);
+        put_string(text, token->data.alias.value);
         break;
     case YAML_ANCHOR_TOKEN:
-        put_string(lines, token->data.anchor.value);
+        put_string(text, token->data.anchor.value);
         break;
     case YAML_TAG_TOKEN:
-        put_string(lines, token->data.tag.handle);
-        put_string(lines, token->data.tag.suffix);
+        put_string(text, token->data.tag.handle);
+        put_string(text, token->data.tag.suffix);
         break;
     case YAML_SCALAR_TOKEN:
-        put_text(lines, token->data.scalar.value, token->data.scalar.length);
-        put(lines, " %s", STYLES[token->data.scalar.style]);
+        put_bytes(text, token->data.scalar.value, token->data.scalar.length);
+        put_words(text, STYLES[token->data.scalar.style]);
         break;
     default:
         break;
     }
 }
 
-static void put_token(struct bytes *lines, const yaml_token_t *token)
+static void put_token(struct text *text, const yaml_token_t *token)
 {
-    const yaml_mark_t start = token->start_mark, end = token->end_mark;
-
-    put(lines, "%s %zu:%zu:%zu %zu:%zu:%zu", NAMES[token->type], start.index, start.line, start.column, end.index,
-        end.line, end.column);
-    put_fields(lines, token);
-    put(lines, "\n");
+    put_words(text, NAMES[token->type]);
+    put_mark(text, token->start_mark);
+    put_mark(text, token->end_mark);
+    put_fields(text, token);
+    put_words(text, "\n");
 }
 
-/* The code point at the front of a text, and how many bytes it takes; what is no character counts as one byte. */
-static unsigned decode(const unsigned char *text, size_t length, yaml_encoding_t encoding, size_t *width)
-{
-    unsigned first = text[0], unit;
+/* ---- The scanner's faults ---- */
 
-    *width = 1;
+/* The character at a place, and how many bytes it has; the text is valid up to there. */
+static unsigned long character_at(const struct text *yaml, yaml_encoding_t encoding, size_t at, size_t *width)
+{
+    const unsigned char *b = yaml->bytes + at;
+    size_t left = yaml->length - at;
+
     if (encoding == YAML_UTF16LE_ENCODING || encoding == YAML_UTF16BE_ENCODING) {
-        if (length < 2)
-            return first;
-        unit = encoding == YAML_UTF16LE_ENCODING ? first | (unsigned)text[1] << 8 : first << 8 | text[1];
-        *width = (unit & 0xFC00) == 0xD800 && length >= 4 ? 4 : 2;
+        int low = encoding == YAML_UTF16BE_ENCODING;
+        unsigned long unit = left < 2 ? 0 : b[low] | (unsigned long)b[1 - low] << 8;
+        *width = (unit & 0xFC00) == 0xD800 ? 4 : 2;
         return unit;
     }
-    *width = first < 0xC0 ? 1 : first < 0xE0 ? 2 : first < 0xF0 ? 3 : 4;
-    if (*width > length)
-        *width = length;
-    for (size_t i = 1; i < *width; i++)
-        first = first << 6 | (text[i] & 0x3F);
-    return *width == 2 ? first & 0x7FF : first & 0xFFFF;
+    *width = b[0] < 0xC0 ? 1 : b[0] < 0xE0 ? 2 : b[0] < 0xF0 ? 3 : 4;
+    if (*width == 2 && left >= 2)
+        return (b[0] & 0x1FUL) << 6 | (b[1] & 0x3F);
+    if (*width == 3 && left >= 3)
+        return (b[0] & 0x0FUL) << 12 | (b[1] & 0x3FUL) << 6 | (b[2] & 0x3F);
+    return b[0];
 }
 
-/* Where in a text a reader's fault is, of which libyaml tells the byte. */
-static yaml_mark_t mark_of_byte(const struct bytes *text, size_t offset, yaml_encoding_t encoding)
+static size_t byte_order_mark(const struct text *yaml, yaml_encoding_t encoding)
+{
+    if (encoding != YAML_UTF8_ENCODING)
+        return yaml->length < 2 ? yaml->length : 2;
+    return yaml->length >= 3 && memcmp(yaml->bytes, "\xEF\xBB\xBF", 3) == 0 ? 3 : 0;
+}
+
+/* The mark of the character at a byte's offset: libyaml's reader tells the offset alone. */
+static yaml_mark_t mark_at(const struct text *yaml, yaml_encoding_t encoding, size_t offset)
 {
     yaml_mark_t mark = {0, 0, 0};
-    size_t at = encoding == YAML_UTF8_ENCODING ? 3 : 2, width;
-    unsigned last = 0, now;
+    size_t at = byte_order_mark(yaml, encoding), width;
 
-    if (encoding == YAML_UTF8_ENCODING && (text->length < 3 || memcmp(text->data, "\xEF\xBB\xBF", 3) != 0))
-        at = 0;
-    for (; at < offset && at < text->length; at += width) {
-        now = decode((const unsigned char *)text->data + at, text->length - at, encoding, &width);
+    while (at < yaml->length) {
+        unsigned long c = character_at(yaml, encoding, at, &width);
+        size_t next = at + width, unused;
+        if (next > offset)
+            break;
+        int before_lf = c == '\r' && next < yaml->length && character_at(yaml, encoding, next, &unused) == '\n';
         mark.index++;
-        if (now == '\n' && last == '\r')
+        mark.column++;
+        if ((c == '\r' && !before_lf) || c == '\n' || c == 0x85 || c == 0x2028 || c == 0x2029) {
+            mark.line++;
             mark.column = 0;
-        else if (now == '\n' || now == '\r' || now == 0x85 || now == 0x2028 || now == 0x2029)
-            mark.line++, mark.column = 0;
-        else
-            mark.column++;
-        last = now;
+        }
+        at = next;
     }
     return mark;
 }
 
-/* The lines of the fault that libyaml's scanner or reader found. */
-static void put_fault(struct bytes *fault, const yaml_parser_t *parser, const struct bytes *text)
+static void put_scanner_fault(struct text *text, const yaml_parser_t *parser, const struct text *yaml)
 {
-    yaml_mark_t mark = parser->problem_mark;
+    int reader = parser->error == YAML_READER_ERROR;
 
-    if (parser->error == YAML_MEMORY_ERROR) {
-        fault->failed = 1;
-        return;
+    put_words(text, reader ? "FAULT reader" : "FAULT scanner");
+    put_mark(text, reader ? mark_at(yaml, parser->encoding, parser->problem_offset) : parser->problem_mark);
+    put_words(text, " ");
+    put_words(text, parser->problem != NULL ? parser->problem : "-");
+    put_words(text, "\n");
+    if (parser->context != NULL) {
+        put_words(text, "CONTEXT");
+        put_mark(text, parser->context_mark);
+        put_words(text, " ");
+        put_words(text, parser->context);
+        put_words(text, "\n");
     }
-    if (parser->error == YAML_READER_ERROR)
-        mark = mark_of_byte(text, parser->problem_offset, parser->encoding);
-    put(fault, "FAULT %s %zu:%zu:%zu %s\n", parser->error == YAML_READER_ERROR ? "reader" : "scanner", mark.index,
-        mark.line, mark.column, parser->problem);
-    if (parser->context != NULL)
-        put(fault, "CONTEXT %zu:%zu:%zu %s\n", parser->context_mark.index, parser->context_mark.line,
-            parser->context_mark.column, parser->context);
 }
 
-/* Puts the token lines of a text, and the fault's lines where its scanner or reader found one. */
-static void scan(const struct bytes *text, struct bytes *lines, struct bytes *fault)
+/* What the scanner made of a text: token lines, how many, and the fault's text, which is empty where it has none. */
+struct scan {
+    struct text tokens, fault;
+    size_t count;
+};
+
+/* Scans a text; 0 where memory was refused. */
+static int scan(const struct text *yaml, struct scan *made)
 {
     yaml_parser_t parser;
     yaml_token_t token;
     int more = 1;
 
-    if (!yaml_parser_initialize(&parser)) {
-        fault->failed = 1;
-        return;
-    }
-    yaml_parser_set_input_string(&parser, (const unsigned char *)(text->data ? text->data : ""), text->length);
-    while (more && !lines->failed) {
-        if (!yaml_parser_scan(&parser, &token)) {
-            put_fault(fault, &parser, text);
-            break;
-        }
-        put_token(lines, &token);
-        more = token.type != YAML_STREAM_END_TOKEN;
+    if (!yaml_parser_initialize(&parser))
+        return 0;
+    yaml_parser_set_input_string(&parser, yaml->bytes, yaml->length);
+    while (more && yaml_parser_scan(&parser, &token)) {
+        put_token(&made->tokens, &token);
+        made->count++;
+        more = token.type != YAML_STREAM_END_TOKEN && !made->tokens.failed;
         yaml_token_delete(&token);
     }
+    int refused = parser.error == YAML_MEMORY_ERROR;
+    if (!refused && parser.error != YAML_NO_ERROR)
+        put_scanner_fault(&made->fault, &parser, yaml);
     yaml_parser_delete(&parser);
+    return !refused && !made->tokens.failed && !made->fault.failed && reserve(&made->tokens, 1);
 }
 
-typedef uint32_t run_function(const uint8_t *, size_t, uint64_t, uint8_t *, size_t, size_t *, size_t *);
+/* ---- Runs ---- */
 
-/* Puts what a run makes of these token lines. It is called again until its lines have room. */
-static void run(run_function *function, const struct bytes *tokens, struct bytes *lines)
+/* Runs over token lines until all bytes of the run had room, and says how the last run ended. */
+static uint32_t run_whole(run_t *run, const struct text *tokens, struct text *out)
 {
-    size_t room = 4096, written = 0, wanted = 0;
+    size_t wanted = 4096;
 
-    for (;;) {
-        if (!reserve(lines, room))
-            return;
-        if (function((const uint8_t *)(tokens->data ? tokens->data : ""), tokens->length, UINT64_MAX,
-                     (uint8_t *)lines->data, room, &written, &wanted) == TOKEN_LINES_NO_MEMORY) {
-            lines->failed = 1;
-            return;
-        }
-        if (wanted <= room) {
-            lines->length = written;
-            return;
-        }
-        room = wanted;
-    }
+    do {
+        out->length = 0;
+        if (!reserve(out, wanted))
+            return TOKEN_LINES_NO_MEMORY;
+        uint32_t outcome = run(tokens->bytes, tokens->length, out->bytes, out->room, UINT64_MAX, &out->length, &wanted);
+        if (out->length == wanted)
+            return outcome;
+    } while (1);
 }
 
-/* Where the last lines of a run begin, if these are a fault's, and else its end. */
-static size_t fault_start(const struct bytes *lines)
+/* Puts the scanner's fault in the place of `no more tokens`, where that is the last line. */
+static void tell_fault(struct text *out, const struct scan *made)
 {
-    size_t start = lines->length;
+    char line[120];
+    int length = snprintf(line, sizeof line, "FAULT reader %zu:%zu:0 no more tokens\n", made->count, made->count);
 
-    for (int i = 0; i < 2 && start > 0; i++) {
-        start--;
-        while (start > 0 && lines->data[start - 1] != '\n')
-            start--;
-        if (lines->length - start > 6 && memcmp(lines->data + start, "FAULT ", 6) == 0)
-            return start;
-    }
-    return lines->length;
-}
-
-/* Puts the scanner's fault in the place of the one that its missing tokens gave. */
-static void replace_fault(struct bytes *lines, const struct bytes *fault)
-{
-    static const char READER[] = "FAULT reader ", MISSING[] = " no more tokens\n";
-    size_t start = fault_start(lines), length = lines->length - start;
-
-    if (fault->length == 0 || length < sizeof MISSING + sizeof READER - 2
-        || memcmp(lines->data + start, READER, sizeof READER - 1) != 0
-        || memcmp(lines->data + lines->length - (sizeof MISSING - 1), MISSING, sizeof MISSING - 1) != 0)
+    if (made->fault.length == 0 || out->length < (size_t)length)
         return;
-    lines->length = start;
-    if (reserve(lines, fault->length)) {
-        memcpy(lines->data + start, fault->data, fault->length);
-        lines->length += fault->length;
+    if (memcmp(out->bytes + out->length - length, line, length) == 0) {
+        out->length -= length;
+        put(out, made->fault.bytes, made->fault.length);
     }
 }
 
-/* Tells the fault that these lines end with, if they do, on standard error. */
-static int tell_fault(const char *path, struct bytes *lines)
+/* Writes bytes to standard output, and all of them, or says why not. */
+static int write_out(const struct text *text)
 {
-    size_t start = fault_start(lines), line, column;
-    char kind[16], *end;
-    int words = 0;
-
-    if (start == lines->length || !reserve(lines, 1))
-        return ENDED;
-    lines->data[lines->length] = '\0';
-    if (sscanf(lines->data + start, "FAULT %15s %*u:%zu:%zu %n", kind, &line, &column, &words) < 3 || words == 0)
-        return ENDED;
-    end = strchr(lines->data + start, '\n');
-    fail("%s: line %zu, column %zu: %.*s (%s)", path, line + 1, column + 1,
-         end ? (int)(end - (lines->data + start + words)) : 0, lines->data + start + words, kind);
-    return FAULTED;
+    errno = 0;
+    if (fwrite(text->bytes, 1, text->length, stdout) != text->length || fflush(stdout) != 0 || fclose(stdout) != 0)
+        return fail("standard output", strerror(errno));
+    return ENDED;
 }
 
-/* Puts the bytes of a file, or of standard input. */
-static int read_file(const char *path, struct bytes *text)
+/* Makes the lines of a text, and writes them where memory was found for all. */
+static int write_lines(run_t *run, struct scan *made, struct text *out)
 {
-    FILE *file = strcmp(path, "-") == 0 ? stdin : fopen(path, "rb");
-    size_t count = 1;
+    int outcome = made->fault.length == 0 ? ENDED : FAULTED;
+
+    if (run == NULL) {
+        put(&made->tokens, made->fault.bytes, made->fault.length);
+        *out = made->tokens;
+        made->tokens.bytes = NULL;
+    } else {
+        uint32_t ended = run_whole(run, &made->tokens, out);
+        if (ended == TOKEN_LINES_NO_MEMORY)
+            return out_of_memory();
+        tell_fault(out, made);
+        outcome = ended == TOKEN_LINES_ENDED ? ENDED : FAULTED;
+    }
+    if (out->failed)
+        return out_of_memory();
+    int written = write_out(out);
+    return written != ENDED ? written : outcome;
+}
+
+/* Reads a whole file. */
+static int read_text(const char *name, struct text *yaml)
+{
+    int is_stdin = strcmp(name, "-") == 0;
+    FILE *file = is_stdin ? stdin : fopen(name, "rb");
+    size_t count;
 
     if (file == NULL)
-        return fail("%s: %s", path, strerror(errno));
-    while (count > 0 && reserve(text, 65536)) {
-        count = fread(text->data + text->length, 1, 65536, file);
-        text->length += count;
-    }
-    if (ferror(file))
-        return fail("%s: %s", path, strerror(errno));
-    if (file != stdin)
+        return fail(name, strerror(errno));
+    do {
+        if (!reserve(yaml, 65536)) {
+            if (!is_stdin)
+                fclose(file);
+            return out_of_memory();
+        }
+        errno = 0;
+        count = fread(yaml->bytes + yaml->length, 1, 65536, file);
+        yaml->length += count;
+    } while (count > 0);
+    int status = ferror(file) ? fail(is_stdin ? "standard input" : name, strerror(errno)) : ENDED;
+    if (!is_stdin)
         fclose(file);
-    return ENDED;
+    return status;
 }
 
-static int write_lines(const struct bytes *lines)
+static int show(run_t *run, const char *name)
 {
-    if (fwrite(lines->data ? lines->data : "", 1, lines->length, stdout) != lines->length || fflush(stdout) != 0)
-        return fail("the output failed: %s", strerror(errno));
-    return ENDED;
-}
+    struct text yaml = {0}, out = {0};
+    struct scan made = {0};
+    int status = read_text(name, &yaml);
 
-/* Writes what is asked for of a file, and tells its fault. */
-static int process(const char *mode, const char *path, struct bytes *text, struct bytes *tokens, struct bytes *fault,
-                   struct bytes *lines)
-{
-    int is_tokens = strcmp(mode, "tokens") == 0;
-
-    if (read_file(path, text) != ENDED)
-        return FAILED;
-    if (!text->failed)
-        scan(text, tokens, fault);
-    if (!is_tokens && !text->failed && !tokens->failed && !fault->failed) {
-        run(strcmp(mode, "events") == 0 ? token_lines_run_events : token_lines_run_nodes, tokens, lines);
-        if (!lines->failed)
-            replace_fault(lines, fault);
-    }
-    if (text->failed || tokens->failed || fault->failed || lines->failed)
-        return fail("out of memory");
-    if (write_lines(is_tokens ? tokens : lines) != ENDED)
-        return FAILED;
-    return tell_fault(path, is_tokens ? fault : lines);
+    if (status == ENDED)
+        status = scan(&yaml, &made) ? write_lines(run, &made, &out) : out_of_memory();
+    free(yaml.bytes);
+    free(made.tokens.bytes);
+    free(made.fault.bytes);
+    free(out.bytes);
+    return status;
 }
 
 int main(int count, char **words)
 {
-    struct bytes text = {0}, tokens = {0}, fault = {0}, lines = {0};
-    int status;
-
-    if (count != 3
-        || (strcmp(words[1], "tokens") != 0 && strcmp(words[1], "events") != 0 && strcmp(words[1], "nodes") != 0)) {
-        fputs("usage: yaml tokens|events|nodes FILE\n", stderr);
-        return WRONG_WORDS;
-    }
-    status = process(words[1], words[2], &text, &tokens, &fault, &lines);
-    free(text.data);
-    free(tokens.data);
-    free(fault.data);
-    free(lines.data);
-    return status;
+#ifdef SIGPIPE
+    signal(SIGPIPE, SIG_IGN);
+#endif
+    if (count == 3 && strcmp(words[1], "tokens") == 0)
+        return show(NULL, words[2]);
+    if (count == 3 && strcmp(words[1], "events") == 0)
+        return show(token_lines_run_events, words[2]);
+    if (count == 3 && strcmp(words[1], "nodes") == 0)
+        return show(token_lines_run_nodes, words[2]);
+    fputs(USAGE, stderr);
+    return WRONG_WORDS;
 }
