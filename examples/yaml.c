@@ -11,8 +11,8 @@
 static const char USAGE[] =
     "usage: yaml tokens|events|nodes FILE\n"
     "Writes the lines of a YAML file's tokens, events, or documents and nodes; FILE may be -, for standard input.\n"
-    "A fault of the YAML is the last of what is written: FAULT, who found it, its mark and its words, and maybe a\n"
-    "line CONTEXT. Marks are index:line:column, counted in characters from 0.\n"
+    "A fault of the YAML is the last of the events or nodes: FAULT, who found it, its mark and its words, and maybe a\n"
+    "line CONTEXT. Marks are index:line:column, counted in characters from 0. A fault is told on standard error too.\n"
     "Exit status: 0 the file was read to its end, 1 it has a fault, 2 wrong words, 3 the file can't be read, the\n"
     "output can't be written, or there is no memory.\n";
 
@@ -294,26 +294,50 @@ static int write_out(const struct text *text)
     return ENDED;
 }
 
-/* Makes the lines of a text, and writes them where memory was found for all. */
-static int write_lines(run_t *run, struct scan *made, struct text *out)
+/* Where the line before this place begins. */
+static size_t line_before(const struct text *text, size_t at)
 {
+    if (at > 0)
+        at--;
+    while (at > 0 && text->bytes[at - 1] != '\n')
+        at--;
+    return at;
+}
+
+/* Says on standard error the fault that a text ends with. A line of a context may stand behind it. */
+static int say_fault(const char *name, struct text *text)
+{
+    size_t start = line_before(text, text->length), line, column;
+    char finder[16], problem[256];
+
+    if (!reserve(text, 1))
+        return out_of_memory();
+    text->bytes[text->length] = '\0';
+    if (memcmp(text->bytes + start, "FAULT ", strlen("FAULT ")) != 0)
+        start = line_before(text, start);
+    if (sscanf((const char *)text->bytes + start, "FAULT %15s %*u:%zu:%zu %255[^\n]", finder, &line, &column, problem) == 4)
+        fprintf(stderr, "yaml: %s: line %zu, column %zu: %s (%s)\n", name, line + 1, column + 1, problem, finder);
+    return FAULTED;
+}
+
+/* Makes the lines of a text, and writes them where memory was found for all. Among tokens no fault stands. */
+static int write_lines(run_t *run, const char *name, struct scan *made, struct text *out)
+{
+    struct text *lines = &made->tokens, *fault = &made->fault;
     int outcome = made->fault.length == 0 ? ENDED : FAULTED;
 
-    if (run == NULL) {
-        put(&made->tokens, made->fault.bytes, made->fault.length);
-        *out = made->tokens;
-        made->tokens.bytes = NULL;
-    } else {
+    if (run != NULL) {
         uint32_t ended = run_whole(run, &made->tokens, out);
         if (ended == TOKEN_LINES_NO_MEMORY)
             return out_of_memory();
         tell_fault(out, made);
         outcome = ended == TOKEN_LINES_ENDED ? ENDED : FAULTED;
+        lines = fault = out;
     }
     if (out->failed)
         return out_of_memory();
-    int written = write_out(out);
-    return written != ENDED ? written : outcome;
+    int written = write_out(lines);
+    return written != ENDED || outcome == ENDED ? written : say_fault(name, fault);
 }
 
 /* Reads a whole file. */
@@ -348,7 +372,7 @@ static int show(run_t *run, const char *name)
     int status = read_text(name, &yaml);
 
     if (status == ENDED)
-        status = scan(&yaml, &made) ? write_lines(run, &made, &out) : out_of_memory();
+        status = scan(&yaml, &made) ? write_lines(run, name, &made, &out) : out_of_memory();
     free(yaml.bytes);
     free(made.tokens.bytes);
     free(made.fault.bytes);

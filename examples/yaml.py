@@ -177,7 +177,7 @@ def run_library(path, mode, tokens):
     while True:
         room = wanted.value
         out = ctypes.create_string_buffer(room)
-        outcome = function(tokens, size(len(tokens)), ctypes.c_uint64(MAX_TOKENS), out, size(room), ctypes.byref(written),
+        outcome = function(tokens, size(len(tokens)), out, size(room), ctypes.c_uint64(MAX_TOKENS), ctypes.byref(written),
                            ctypes.byref(wanted))
         if outcome not in (ENDED, FAULTED):
             raise MemoryError
