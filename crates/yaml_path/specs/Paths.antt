@@ -31,6 +31,10 @@ pairs_of (Mapping m) = m.pairs
 abbrev pub item_at : List yaml_node_t → ℤ → ℕ → Option ℤ
 item_at nodes id index = option_and_then (λ node. slice_get (items_of node.content) index) (node_at nodes id)
 
+-- the text of the node of this id, where that is a scalar
+abbrev pub scalar_at : List yaml_node_t → ℤ → Option (List ℕ)
+scalar_at nodes id = option_and_then (λ node. text_of node.content) (node_at nodes id)
+
 -- whether these are the same text
 abbrev pub is_text : List ℕ → Option (List ℕ) → Bool
 is_text text None = false
@@ -38,7 +42,7 @@ is_text text (Some other) = bytes_eq other text
 
 -- whether the node of this id is a scalar of exactly this text
 abbrev pub is_scalar_at : List yaml_node_t → List ℕ → ℤ → Bool
-is_scalar_at nodes text id = is_text text (option_and_then (λ node. text_of node.content) (node_at nodes id))
+is_scalar_at nodes text id = is_text text (scalar_at nodes id)
 
 -- the first pair whose key is a scalar of exactly this text
 abbrev pub pair_of : List yaml_node_t → List ℕ → List yaml_node_pair_t → Option yaml_node_pair_t
@@ -66,3 +70,7 @@ id_behind nodes id (word ∷ words) = option_and_then (λ child. id_behind nodes
 abbrev pub id_at : List yaml_node_t → List (List ℕ) → Option ℤ
 id_at [] words = None
 id_at (root ∷ nodes) words = id_behind (root ∷ nodes) (pos 1) words
+
+-- the text of the scalar at the end of a path
+abbrev pub text_at : List yaml_node_t → List (List ℕ) → Option (List ℕ)
+text_at nodes words = option_and_then (λ id. scalar_at nodes id) (id_at nodes words)

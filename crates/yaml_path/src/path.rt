@@ -1,9 +1,10 @@
 //! Paths: words that lead from the root to a node.
 ghost use Rattle.std.specs.Prelude.{◌≡◌, IfSome, length, map};
+ghost use Rattle.std.specs.Option.{option_copied};
 ghost use Rattle.libyaml_documents.specs.Nodes.{IsIdUpTo};
-ghost use Rattle.yaml_path.specs.Paths.{index_of, child_at, id_at};
+ghost use Rattle.yaml_path.specs.Paths.{index_of, child_at, id_at, text_at};
 
-use crate::step::{item_at, value_at};
+use crate::step::{as_str, item_at, node_of, value_at};
 use libyaml_documents::{yaml_document_get_root_node, yaml_document_t};
 
 /// The id of the root, where a document has one.
@@ -24,6 +25,15 @@ pub fn id_at(document: &yaml_document_t, path: &[&str]) -> Option<i32>
         id = child_at(document, id, word)?;
     }
     Some(id)
+}
+
+/// Returns the text of the scalar at the end of a path from the root, or `None` where the path leads nowhere
+/// or to a collection.
+pub fn text_at<'a>(document: &'a yaml_document_t, path: &[&str]) -> Option<&'a str>
+    ensures text { option_copied result ≡ text_at document.now.nodes (map (λ word. word.now) path.now) }
+{
+    let id = id_at(document, path)?;
+    as_str(node_of(document, id)?)
 }
 
 /// Returns the id of the child that a word of a path leads to.
