@@ -4,10 +4,10 @@ use computed_tokens::{ComputedTokens, GrowingList};
 use row_notation::{Reading, end_of_row, gives_event};
 use std::alloc::{AllocError, Global};
 use unsafe_libyaml::{
-    YAML_ANY_SCALAR_STYLE, ZERO_MARK, unnamed_yaml_token_t_data,
-    unnamed_yaml_token_t_data_anchor, yaml_document_t, yaml_error_type_t, yaml_event_delete,
-    yaml_parser_between_documents, yaml_parser_delete, yaml_parser_initialize, yaml_parser_load,
-    yaml_parser_t, yaml_refusal_t, yaml_scalar_event_initialize, yaml_token_delete, yaml_token_t,
+    YAML_ANY_SCALAR_STYLE, ZERO_MARK, unnamed_yaml_token_t_data, unnamed_yaml_token_t_data_anchor,
+    yaml_document_t, yaml_error_type_t, yaml_event_delete, yaml_parser_between_documents,
+    yaml_parser_delete, yaml_parser_initialize, yaml_parser_load, yaml_parser_t, yaml_refusal_t,
+    yaml_scalar_event_initialize, yaml_token_delete, yaml_token_t,
 };
 
 /// How many nodes the next document has; 0 where none comes.

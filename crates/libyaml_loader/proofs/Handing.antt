@@ -1,6 +1,6 @@
 -- A child handed to the innermost open collection, as the code does it.
 use Rattle.std.proofs.Common.{◌≡◌, ◌∷◌, List, [], ℕ, zero, suc, ℤ, pos, negsuc, ◌≤ℤ◌, nat_lt, arith, ap, refl, sym, subst, ◌∙◌, Option, Some, None, Result}
-use Rattle.std.proofs.Common.{Ok, Err, OnOk, Bool, true, false}
+use Rattle.std.proofs.Common.{Ok, Err, IfErr, OnOk, Bool, true, false}
 use Rattle.std.proofs.lemmas.Int.{ints}
 use Rattle.libyaml_types.specs.declared.enums.yaml_node_type_t.{yaml_node_type_t}
 use Rattle.libyaml_types.specs.declared.enums.yaml_node_type_t.TheVariants.{YAML_SEQUENCE_NODE, YAML_MAPPING_NODE}
@@ -22,6 +22,10 @@ use Rattle.libyaml_loader.specs.Stack.{innermost, with_key}
 pub on_ok : {A E P Q : Type 0} (r : Result A E) → (P → Q) → OnOk r P → OnOk r Q
 on_ok (Ok x) f h = f h
 on_ok (Err e) f h = tt
+
+pub on_err : {A E : Type 0} {P Q : E → Type 0} (r : Result A E) → ((e : E) → P e → Q e) → IfErr r P → IfErr r Q
+on_err (Ok x) f h = tt
+on_err (Err e) f h = f e h
 
 number_is : (z : ℤ) → pos 1 ≤ℤ z → z ≡ pos (suc (one_less (magnitude z)))
 number_is (pos zero) h = absurd (omega (arith, ints))
@@ -45,7 +49,7 @@ pub record Hands (n i : ℕ) (s : List machine.Open) (nodes new_nodes : List yam
   pub full_is : parent_full n s nodes ≡ full
 
 -- the stack by its innermost
-top_first : (s : List machine.Open) (o : machine.Open) → Some o ≡ innermost s → o ∷ outer s ≡ s
+pub top_first : (s : List machine.Open) (o : machine.Open) → Some o ≡ innermost s → o ∷ outer s ≡ s
 top_first [] o e = absurd cc
 top_first (p ∷ s) o e = ap (λ (q : machine.Open). q ∷ s) (same e)
   where

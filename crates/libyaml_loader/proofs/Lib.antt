@@ -1,6 +1,7 @@
 pub mod AnchorLemmas
 pub mod StackLemmas
 pub mod Handing
+pub mod Growing
 pub mod Ended
 pub mod Falling
 pub mod Loading
@@ -10,3 +11,4 @@ pub mod Reaching
 pub mod Stepping
 pub mod NextLoads
 pub mod Outside
+pub mod Rootless

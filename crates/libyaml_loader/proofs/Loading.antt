@@ -1,6 +1,6 @@
 -- A node put behind the others, registered and handed to its parent, as a step of the loader's machine.
 use Rattle.std.proofs.Common.{◌≡◌, ◌≤◌, ◌<◌, ◌+◌, ◌++◌, ℤ, pos, add-one, ◌∷◌, List, [], ℕ, zero, suc, length, arith, ap, refl, sym, subst, ◌∙◌, inl, inr}
-use Rattle.std.proofs.Common.{Option, Some, None, Bool, false, length-append}
+use Rattle.std.proofs.Common.{Option, Some, None, Bool, true, false, length-append}
 use Rattle.libyaml_documents.specs.declared.node.yaml_node_t.{yaml_node_t}
 use Rattle.libyaml_documents.specs.Documents.{Document, with_node}
 use Rattle.libyaml_graphs.specs.Loader.{Anchors, Loader, Open, Loading, Registered, failed, full_at, going, hand, handed, if_child_fits, known, on_node}
@@ -48,9 +48,9 @@ node_goes n l x opens a b r anchors p q e =
     ap (λ (c : Bool). after_node n l x opens c b r) p ∙ (ap (λ (c : Bool). after_node n l x opens false c r) q ∙ ap (after_node n l x opens false false) e)
 
 pub node_refused : (n : ℕ) (l : Loader) (x : yaml_node_t) (opens : List Open) (a b : Bool) (r : Registered) (f : Refusal) → a ≡ false
-    → RefusesAnchor r x.start_mark f → RefusedBy (after_node n l x opens a b r) f
-node_refused n l x opens a b (registered anchors) f p h = inl h
-node_refused n l x opens a b (known first) f p (inl h) = inl h
+    → RefusesAnchor r x.start_mark f → RefusedBy true (after_node n l x opens a b r) f
+node_refused n l x opens a b (registered anchors) f p h = inl (h, refl)
+node_refused n l x opens a b (known first) f p (inl h) = inl (h, refl)
 node_refused n l x opens a b (known first) f p (inr h)
     = inr (ap (λ (c : Bool). after_node n l x opens c b (known first)) p ∙ ap (λ (g : Refusal). failed (fault_by g)) (sym h))
 

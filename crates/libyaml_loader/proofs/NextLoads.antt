@@ -62,7 +62,7 @@ module _ {S : Type 0} (gives : S → Answer → S → Type 0) (known : S → Opt
           let m : kept_fault new ≡ f = ap (λ (p : Parser S). kept_fault p) (keeps l.run.asked l.run.given l.run.history) in
           answered (Err f) (Err y) (ap (λ (x : List Event). load x ending) l.all ∙ gives_it l.later ending)
           (ap (λ (x : yaml_error_type_t). Err x) (k.0 ∙ ap (λ (g : Fault). g.error) m), m)
-      go (Err y) k (by_memory taken parser took keeps) =
+      go (Err y) k (by_memory before e parser took keeps grows) =
           let l = took.runs events ending run in
           let m : kept_fault new ≡ memory_fault = ap (λ (p : Parser S). kept_fault p) (keeps l.run.asked l.run.given l.run.history) in
           no_memory (ap (λ (x : yaml_error_type_t). Err x) (k.0 ∙ ap (λ (g : Fault). g.error) m)) m

@@ -1,5 +1,5 @@
 -- How a load goes on by the events that it takes.
-use Rattle.std.proofs.Common.{◌≡◌, ◌⊎◌, ◌++◌, ◌∷◌, ℕ, List, [], Option, Some, None, Ok, Err, false, refl, sym, ap, ◌∙◌, subst, inl, inr, append_assoc}
+use Rattle.std.proofs.Common.{◌≡◌, ◌⊎◌, ◌++◌, ◌∷◌, ℕ, List, [], Option, Some, None, Ok, Err, true, false, refl, sym, ap, ◌∙◌, subst, inl, inr, append_assoc}
 use Rattle.libyaml_documents.specs.Documents.{Document, empty_document}
 use Rattle.libyaml_events.specs.machine.Config.{Parser}
 use Rattle.libyaml_grammar.specs.sentences.Events.{Event}
@@ -21,6 +21,7 @@ use Rattle.libyaml_loader.specs.declared.load.Closing.{Closing}
 use Rattle.libyaml_loader.specs.declared.load.Step.TheVariants as step
 use Rattle.libyaml_loader.specs.Loading.{DocumentOrError, KeptBy, LoadFails, Loads, LoadsFrom, ParserFails, Took, at_end, by_loader, by_memory, by_parser}
 use Rattle.libyaml_loader.specs.Loading.{whole}
+use Rattle.libyaml_loader.specs.Growth.{may_grow}
 use Rattle.libyaml_loader.specs.Steps.{FindsEnd, LoaderFails, TakesEvent, closing}
 use Rattle.libyaml_loader.proofs.Taking.{took_both, took_none}
 
@@ -81,7 +82,18 @@ module _ {S : Type 0} (gives : S → Answer → S → Type 0) (known : S → Opt
   behind s t old mid new a (Err y) took h (by_loader b p more f keeps loads) =
       by_loader (a ++ b) p (took_both gives known MayBreak old mid p a b took more) f keeps
       (λ (rest : List Event) (x : Ending). ap (λ (l : List Event). load_from n s l x) (append_assoc a b rest) ∙ h.load (b ++ rest) x ∙ loads rest x)
-  behind s t old mid new a (Err y) took h (by_memory b p more keeps) = by_memory (a ++ b) p (took_both gives known MayBreak old mid p a b took more) keeps
+  behind s t old mid new a (Err y) took h (by_memory b e p more keeps grows) =
+      by_memory (a ++ b) e p
+      (subst (λ (l : List Event). Took gives known old p l) (sym (append_assoc a b (e ∷ [])))
+      (took_both gives known MayBreak old mid p a (b ++ e ∷ []) took more)) keeps
+      (record {
+        most = grows.most;
+        opening = grows.opening;
+        loader = grows.loader;
+        stands = λ (rest : List Event) (x : Ending). ap (λ (l : List Event). load_from n s l x) (append_assoc a b rest) ∙ h.load (b ++ rest) x
+            ∙ grows.stands rest x;
+        grows = grows.grows;
+      })
 
   pub ended_load : (s : State) (old new : Parser S) (d : Document) → FindsEnd gives known old new → d ≡ empty_document None [] false false
       → Loads gives known (load_from n s) (left_from s) old new d
@@ -104,9 +116,11 @@ module _ {S : Type 0} (gives : S → Answer → S → Type 0) (known : S → Opt
       → LoadFails gives known MayBreak (load_from n (within o (loader_of before))) (left_from (within o (loader_of before))) old new
   loader_load o old new before bound h = go h.why
     where
-      go : (h.fault ≡ memory_fault) ⊎ (bounded_option before.max_entries (loader_of before) (part_of h.event) ≡ failed h.fault)
+      go : ((h.fault ≡ memory_fault) × (may_grow (loader_of before) (part_of h.event) ≡ true))
+          ⊎ (bounded_option before.max_entries (loader_of before) (part_of h.event) ≡ failed h.fault)
           → LoadFails gives known MayBreak (load_from n (within o (loader_of before))) (left_from (within o (loader_of before))) old new
-      go (inl m) = by_memory (h.event ∷ []) h.parser h.took (subst (λ (f : Fault). KeptBy f h.parser new) m h.keeps)
+      go (inl m) = by_memory [] h.event h.parser h.took (subst (λ (f : Fault). KeptBy f h.parser new) m.0 h.keeps)
+          (record { most = n; opening = o; loader = loader_of before; stands = λ (rest : List Event) (x : Ending). refl; grows = m.1 })
       go (inr w) = by_loader (h.event
           ∷ []) h.parser h.took h.fault h.keeps
           (refuses n o (loader_of before) h.event h.fault h.no_end (ap (λ (m : ℕ). bounded_option m (loader_of before) (part_of h.event)) (sym bound) ∙ w))
@@ -125,4 +139,11 @@ module _ {S : Type 0} (gives : S → Answer → S → Type 0) (known : S → Opt
   same_loads f g left old new (Err y) same (by_parser a p took fails loads) = by_parser a p took fails (λ (x : Ending). sym (same a x) ∙ loads x)
   same_loads f g left old new (Err y) same (by_loader a p took h keeps loads)
       = by_loader a p took h keeps (λ (rest : List Event) (x : Ending). sym (same (a ++ rest) x) ∙ loads rest x)
-  same_loads f g left old new (Err y) same (by_memory a p took keeps) = by_memory a p took keeps
+  same_loads f g left old new (Err y) same (by_memory a e p took keeps grows) = by_memory a e p took keeps
+      (record {
+        most = grows.most;
+        opening = grows.opening;
+        loader = grows.loader;
+        stands = λ (rest : List Event) (x : Ending). sym (same (a ++ rest) x) ∙ grows.stands rest x;
+        grows = grows.grows;
+      })

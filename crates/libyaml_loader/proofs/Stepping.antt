@@ -30,6 +30,7 @@ use Rattle.libyaml_loader.specs.declared.load.Step.TheVariants as step
 use Rattle.libyaml_loader.specs.declared.refusal.Refusal.{Refusal}
 use Rattle.libyaml_loader.specs.declared.refusal.Refusal.TheVariants.{Memory}
 use Rattle.libyaml_loader.specs.Loading.{DocumentOrError, LoadsFrom, ParserFails, Took}
+use Rattle.libyaml_loader.specs.Growth.{may_grow}
 use Rattle.libyaml_loader.specs.Refusals.{fault_by}
 use Rattle.libyaml_loader.specs.Steps.{FindsEnd, LoaderFails, StepBy, ComposesBy, TakesEvent, closing}
 use Rattle.libyaml_loader.proofs.IdsKept.{ids_fresh, ids_kept}
@@ -72,7 +73,7 @@ module _ {S : Type 0} (gives : S → Answer → S → Type 0) (known : S → Opt
     fault = fault_by f;
     keeps = λ (asked : List Token) (given : List Event) (h : History mid asked given). keeps
         (c.no_fault mid asked given h);
-    why = ⊎_elim (λ (m : f ≡ Memory). inl (ap fault_by m))
+    why = ⊎_elim (λ (m : (f ≡ Memory) × (may_grow (loader_of before) (part_of e) ≡ true)). inl (ap fault_by m.0, m.1))
         (λ (w : bounded_option before.max_entries (loader_of before) (part_of e) ≡ failed (fault_by f)). inr w) refuses;
   }
 

@@ -1,5 +1,5 @@
 -- The document on the way, and what the loader's steps make of it.
-use Rattle.std.specs.Prelude.{◌≡◌, ◌≤◌, ◌<◌, ◌++◌, ◌∷◌, ◌⊎◌, ℕ, suc, List, [], length, false, Option, Some, None}
+use Rattle.std.specs.Prelude.{◌≡◌, ◌≤◌, ◌<◌, ◌++◌, ◌∷◌, ◌⊎◌, ℕ, suc, List, [], length, Bool, true, false, Option, Some, None}
 use Rattle.std.specs.FinMap.{get}
 use Rattle.libyaml_types.specs.declared.mark.yaml_mark_t.{yaml_mark_t}
 use Rattle.libyaml_documents.specs.declared.node.yaml_node_t.{yaml_node_t}
@@ -12,6 +12,7 @@ use Rattle.libyaml_loader.specs.declared.context.loader_ctx.{loader_ctx}
 use Rattle.libyaml_loader.specs.declared.ids.NodeId.{NodeId}
 use Rattle.libyaml_loader.specs.declared.refusal.Refusal.{Refusal}
 use Rattle.libyaml_loader.specs.declared.refusal.Refusal.TheVariants.{Memory, RepeatedAnchor}
+use Rattle.libyaml_loader.specs.Growth.{may_grow, parent_grows}
 use Rattle.libyaml_loader.specs.Ids.{id_of}
 use Rattle.libyaml_loader.specs.Refusals.{fault_by}
 
@@ -66,9 +67,14 @@ pub record Composed (old new : loader_ctx) (p : Option Part) : Type 0 where
   pub document : new.document ≡ with_nodes new.document.nodes old.document
   pub bound : new.max_entries ≡ old.max_entries
 
--- a growth was refused, or the machine fails by this refusal
-abbrev pub RefusedBy : Loading → Refusal → Type 0
-RefusedBy o r = (r ≡ Memory) ⊎ (o ≡ failed (fault_by r))
+-- why a child is not put into its parent's list: this may grow, or is full
+abbrev pub ParentRefuses : loader_ctx → Refusal → Type 0
+ParentRefuses c r = (r ≡ Memory)
+    × ((parent_grows c.stack c.document.nodes ≡ true) ⊎ (parent_full c.max_entries c.stack c.document.nodes ≡ true))
+
+-- a growth was refused, where there may be one, or the machine fails by this refusal
+abbrev pub RefusedBy : (grows : Bool) → Loading → Refusal → Type 0
+RefusedBy grows o r = ((r ≡ Memory) × (grows ≡ true)) ⊎ (o ≡ failed (fault_by r))
 
 abbrev pub Refuses : loader_ctx → Option Part → Refusal → Type 0
-Refuses old p r = RefusedBy (bounded_option old.max_entries (loader_of old) p) r
+Refuses old p r = RefusedBy (may_grow (loader_of old) p) (bounded_option old.max_entries (loader_of old) p) r

@@ -1,4 +1,5 @@
 pub mod Anchors
+pub mod Growth
 pub mod Context
 pub mod Ids
 pub mod Refusals

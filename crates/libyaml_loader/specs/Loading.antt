@@ -1,5 +1,5 @@
 -- What a load asked for, took and answered (docs/DEFINITIONS.md, "Loads of a parser").
-use Rattle.std.specs.Prelude.{◌≡◌, ◌++◌, List, [], Option, None, Result, Ok, Err, true, false}
+use Rattle.std.specs.Prelude.{◌≡◌, ◌++◌, ◌∷◌, List, [], Option, None, Result, Ok, Err, true, false}
 use Rattle.libyaml_types.specs.declared.enums.yaml_error_type_t.{yaml_error_type_t}
 use Rattle.libyaml_documents.specs.Documents.{Document, empty_document}
 use Rattle.libyaml_events.specs.sources.CallsInTurn.{CarriedOn}
@@ -14,6 +14,7 @@ use Rattle.libyaml_events.specs.sources.RunToCome.{FailsHere, RunToCome}
 use Rattle.libyaml_events.specs.sources.Source.{Coming}
 use Rattle.libyaml_grammar.specs.sentences.Tokens.{Token}
 use Rattle.libyaml_graphs.specs.Loads.{Load, last_load}
+use Rattle.libyaml_loader.specs.Growth.{GrowsAt}
 
 -- what a load answers
 abbrev pub DocumentOrError : Type 0
@@ -60,15 +61,15 @@ pub data Loads {S : Type 0} (gives : S → Answer → S → Type 0) (known : S �
       → ((asked : List Token) (given : List Event) → History old asked given → HasEnded new) → Loads gives known load left old new d
 
 -- A load that failed: behind the events that it took the parser did, and these have no fault of a load; or these have one,
--- which the parser keeps; or a growth was refused.
+-- which the parser keeps; or a growth was refused at the last of them, where the load may take memory.
 pub data LoadFails {S : Type 0} (gives : S → Answer → S → Type 0) (known : S → Option Coming) (MayBreak : S → Fault → Type 0) (load : List Event → Ending
     → Load) (left : List Event → List Event) (old new : Parser S) : Type 0 where
   by_parser : (taken : List Event) (parser : Parser S) → Took gives known old parser taken → ParserFails gives known MayBreak parser new
       → ((x : Ending) → load taken x ≡ last_load x) → LoadFails gives known MayBreak load left old new
   by_loader : (taken : List Event) (parser : Parser S) → Took gives known old parser taken → (f : Fault) → KeptBy f parser new
       → ((rest : List Event) (x : Ending) → load (taken ++ rest) x ≡ Err f) → LoadFails gives known MayBreak load left old new
-  by_memory : (taken : List Event) (parser : Parser S) → Took gives known old parser taken → KeptBy memory_fault parser new
-      → LoadFails gives known MayBreak load left old new
+  by_memory : (before : List Event) (e : Event) (parser : Parser S) → Took gives known old parser (before ++ e ∷ []) → KeptBy memory_fault parser new
+      → GrowsAt load before e → LoadFails gives known MayBreak load left old new
 
 abbrev pub LoadsFrom : {S : Type 0} → (S → Answer → S → Type 0) → (S → Option Coming) → (S → Fault → Type 0) → (List Event → Ending → Load)
     → (List Event → List Event) → Parser S → DocumentOrError → Parser S → Type 0

@@ -14,6 +14,7 @@ use Rattle.libyaml_graphs.specs.Loader.{bounded_option, failed}
 use Rattle.libyaml_graphs.specs.Parts as parts
 use Rattle.libyaml_graphs.specs.Parts.{closing_of, part_of}
 use Rattle.libyaml_loader.specs.Context.{Composed, loader_of}
+use Rattle.libyaml_loader.specs.Growth.{may_grow}
 use Rattle.libyaml_loader.specs.declared.context.loader_ctx.{loader_ctx}
 use Rattle.libyaml_loader.specs.declared.load.Closing.{Closing}
 use Rattle.libyaml_loader.specs.declared.load.Opening.{Opening}
@@ -56,7 +57,8 @@ pub record LoaderFails {S : Type 0} (gives : S → Answer → S → Type 0) (kno
   pub no_end : closing_of event ≡ None
   pub fault : Fault
   pub keeps : KeptBy fault parser new
-  pub why : (fault ≡ memory_fault) ⊎ (bounded_option before.max_entries (loader_of before) (part_of event) ≡ failed fault)
+  pub why : ((fault ≡ memory_fault) × (may_grow (loader_of before) (part_of event) ≡ true))
+      ⊎ (bounded_option before.max_entries (loader_of before) (part_of event) ≡ failed fault)
 
 abbrev pub ComposesBy : {S : Type 0} → (S → Answer → S → Type 0) → (S → Option Coming) → (S → Fault → Type 0) → Result Step yaml_error_type_t
     → (old new : Parser S) → (before after : loader_ctx) → Type 0

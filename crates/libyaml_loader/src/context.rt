@@ -1,6 +1,6 @@
 //! A document on the way: its nodes so far, its open collections and its anchors.
 
-ghost use Rattle.std.specs.Prelude.{◌≡◌, ◌≤◌, suc, [], length, nat_lt, false, Some, None};
+ghost use Rattle.std.specs.Prelude.{◌≡◌, ◌≤◌, suc, [], length, nat_lt, true, false, Some, None};
 ghost use Rattle.std.specs.Prelude.{IfOk, IfErr, OnOk, option_map, string_bytes};
 ghost use Rattle.libyaml_documents.specs.Documents.{with_changed_node};
 ghost use Rattle.libyaml_documents.specs.LoadedNodes.{begun_document, children_at, ended_document};
@@ -10,7 +10,7 @@ ghost use Rattle.libyaml_documents.specs.Nodes.{ids_of, type_at, with_item, with
 ghost use Rattle.libyaml_graphs.specs.Loader.{no_anchors, parent_full, register, registered};
 ghost use Rattle.libyaml_graphs.specs.Parts.{alias_part, leaf_part, part_in, start_part};
 ghost use Rattle.libyaml_loader.specs.Context.{AllOpenIn, Composed, IdsAreIn, NodeLoaded, Refuses};
-ghost use Rattle.libyaml_loader.specs.Context.{RefusesAnchor, closed, handed_to, loader_of};
+ghost use Rattle.libyaml_loader.specs.Context.{ParentRefuses, RefusesAnchor, closed, handed_to, loader_of};
 ghost use Rattle.libyaml_loader.specs.Ids.{id_of};
 ghost use Rattle.libyaml_loader.specs.Stack.{with_key};
 
@@ -121,7 +121,8 @@ impl loader_ctx {
     /// Whether a list of this many entries may have one more.
     fn has_room(&self, entries: usize) -> Result<(), Refusal>
         ensures ok { OnOk result (nat_lt self.now.max_entries (suc entries) ≡ false) }
-        ensures err { IfErr result (λ r. r ≡ Refusal.Memory) }
+        ensures err { IfErr result (λ r. (r ≡ Refusal.Memory)
+            × (nat_lt self.now.max_entries (suc entries) ≡ true)) }
     {
         if entries < self.max_entries {
             Ok(())
@@ -280,7 +281,7 @@ impl loader_ctx {
         ensures ok { OnOk result (self.new ≡ handed_to (id_of child) self.old) }
         ensures room { OnOk result (parent_full self.old.max_entries self.old.stack self.old.document.nodes
             ≡ false) }
-        ensures err { IfErr result (λ r. r ≡ Refusal.Memory) }
+        ensures err { IfErr result (λ r. ParentRefuses self.old r) }
     {
         let Some(parent) = self.stack.innermost() else {
             return Ok(());
@@ -323,7 +324,9 @@ impl loader_ctx {
             ≡ record self.old { stack = with_key (Some (id_of key)) self.old.stack }) }
         ensures room { OnOk result (nat_lt self.old.max_entries
             (suc (children_at self.old.document.nodes mapping.number)) ≡ false) }
-        ensures err { IfErr result (λ r. r ≡ Refusal.Memory) }
+        ensures err { IfErr result (λ r. (r ≡ Refusal.Memory)
+            × (nat_lt self.old.max_entries (suc (children_at self.old.document.nodes mapping.number))
+            ≡ true)) }
     {
         self.has_room(children_count(&self.document, mapping.number))?;
         self.stack.set_key(Some(key));

@@ -9,14 +9,14 @@ ghost use Rattle.libyaml_events.specs.parsers.EventsLeft.{events_left};
 ghost use Rattle.libyaml_events.specs.parsers.Stages.{is_event};
 ghost use Rattle.libyaml_grammar.specs.runs.Runs.{Ending};
 ghost use Rattle.libyaml_events.specs.sources.RunToCome.{RunToCome};
-ghost use Rattle.libyaml_events.specs.sources.History.{between_documents, is_over, has_failed, kept_fault};
+ghost use Rattle.libyaml_events.specs.sources.History.{ForHistory, between_documents, is_over, has_failed, kept_fault};
 ghost use Rattle.libyaml_graphs.specs.Bounds.{next_bounded};
 ghost use Rattle.libyaml_graphs.specs.Loader as machine;
 ghost use Rattle.libyaml_graphs.specs.Loads.{left_over};
 ghost use Rattle.libyaml_graphs.specs.Parts as parts;
 ghost use Rattle.libyaml_loader.specs.Context.{IdsAreIn, loader_of, with_nodes};
 ghost use Rattle.libyaml_loader.specs.Ids.{magnitude};
-ghost use Rattle.libyaml_loader.specs.Loading.{LoadsFrom};
+ghost use Rattle.libyaml_loader.specs.Loading.{HasEnded, LoadsFrom};
 ghost use Rattle.libyaml_loader.specs.NextLoad.{Answers, UnlessBroken};
 ghost use Rattle.libyaml_loader.specs.Steps.{ComposesBy, closing, opening_at};
 
@@ -26,6 +26,7 @@ use libyaml_documents::building::begin_document;
 use libyaml_documents::yaml_document_t;
 use libyaml_events::laws::calls::of_history;
 use libyaml_events::{yaml_parser_parse, yaml_parser_t, yaml_token_source_t};
+use libyaml_graphs::laws::whole_documents_have_roots;
 use libyaml_types::{
     ZERO_MARK, unnamed_yaml_event_t_data, unnamed_yaml_event_t_data_document_start,
     yaml_error_type_t, yaml_event_t, yaml_mark_t,
@@ -85,6 +86,8 @@ pub fn yaml_parser_load<S: yaml_token_source_t>(
     ensures loads { has_failed parser.old ≡ false
         → LoadsFrom S.gives S.known S.may_break (next_bounded (magnitude parser.old.max_entries)) left_over
         parser.old result parser.new }
+    // a document without nodes is returned only where the parser has ended
+    ensures without_root { IfOk result (λ d. d.nodes ≡ [] → ForHistory parser.old (λ _ _. HasEnded parser.new)) }
     // over a source that knows its tokens, by the run that is to come
     ensures next_load { (events : List yaml_event_t) (ending : Ending)
         → RunToCome S.known parser.old events ending
@@ -93,6 +96,7 @@ pub fn yaml_parser_load<S: yaml_token_source_t>(
         (left_over events) ending) }
 {
     of_history::<S>();
+    whole_documents_have_roots();
     if has_failed(parser) {
         return Err(parser.prefix().error);
     }

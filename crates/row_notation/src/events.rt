@@ -80,7 +80,11 @@ pub(crate) fn word_of_style(style: yaml_scalar_style_t) -> &'static str {
     }
 }
 
-fn show_properties(shown: &mut String, anchor: Option<&String>, tag: Option<&String>) -> Result<()> {
+fn show_properties(
+    shown: &mut String,
+    anchor: Option<&String>,
+    tag: Option<&String>,
+) -> Result<()> {
     if let Some(anchor) = anchor {
         write!(shown, "&{anchor}")?;
     }

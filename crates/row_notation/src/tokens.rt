@@ -4,12 +4,11 @@ use crate::events::mark;
 use anyhow::{Context, Result};
 use std::alloc::{AllocError, Global};
 use unsafe_libyaml::{
-    unnamed_yaml_token_t_data, unnamed_yaml_token_t_data_alias,
-    unnamed_yaml_token_t_data_anchor, unnamed_yaml_token_t_data_scalar,
-    unnamed_yaml_token_t_data_stream_start, unnamed_yaml_token_t_data_tag,
-    unnamed_yaml_token_t_data_tag_directive, unnamed_yaml_token_t_data_version_directive,
-    yaml_encoding_t, yaml_error_type_t, yaml_list_source_t, yaml_scalar_style_t,
-    yaml_source_fault_t, yaml_token_t,
+    unnamed_yaml_token_t_data, unnamed_yaml_token_t_data_alias, unnamed_yaml_token_t_data_anchor,
+    unnamed_yaml_token_t_data_scalar, unnamed_yaml_token_t_data_stream_start,
+    unnamed_yaml_token_t_data_tag, unnamed_yaml_token_t_data_tag_directive,
+    unnamed_yaml_token_t_data_version_directive, yaml_encoding_t, yaml_error_type_t,
+    yaml_list_source_t, yaml_scalar_style_t, yaml_source_fault_t, yaml_token_t,
 };
 
 fn style_named(name: &str) -> Option<yaml_scalar_style_t> {

@@ -14,7 +14,7 @@ use Rattle.libyaml_documents.specs.Documents.{Document}
 use Rattle.libyaml_events.specs.machine.Config.{Parser, is_fault}
 use Rattle.libyaml_grammar.specs.declared.fault.yaml_parser_t_prefix.{yaml_parser_t_prefix}
 use Rattle.libyaml_grammar.specs.runs.Fault.{Answer, Fault, fault_of}
-use Rattle.libyaml_events.specs.sources.History.{History, has_failed, kept_fault}
+use Rattle.libyaml_events.specs.sources.History.{ForHistory, History, has_failed, kept_fault}
 use Rattle.libyaml_events.specs.sources.RunToCome.{RunToCome}
 use Rattle.libyaml_grammar.specs.runs.Runs.{Ending}
 use Rattle.libyaml_events.specs.sources.Source.{Coming}
@@ -23,7 +23,7 @@ use Rattle.libyaml_graphs.specs.Bounds.{bounded_loads, next_bounded}
 use Rattle.libyaml_graphs.specs.Loads.{Load, left_over}
 use Rattle.libyaml_graphs.proofs.Roots.{earlier_of}
 use Rattle.libyaml_loader.specs.Ids.{magnitude}
-use Rattle.libyaml_loader.specs.Loading.{DocumentOrError, LoadsFrom, at_end, whole}
+use Rattle.libyaml_loader.specs.Loading.{DocumentOrError, HasEnded, LoadsFrom, at_end, whole}
 use Rattle.line_writing.specs.DocumentText.{document_lines}
 use Rattle.line_writing.specs.FaultText.{fault_text}
 use Rattle.token_lines.specs.declared.run.Outcome.{Outcome}
@@ -53,9 +53,10 @@ keeps_both (Some x) (Some y) (Some z) h k = k ∙ h
 
 module _ {S : Type 0} (gives : S → Answer → S → Type 0) (known : S → Option Coming) (MayBreak : S → Fault → Type 0) (n : ℕ) where
   pub turn_of : (s : Step) (p q : Parser S) (b c : Option (List ℕ)) (r a : DocumentOrError) → r ≡ a
-      → LoadsFrom gives known MayBreak (next_bounded n) left_over p r q → StepForLoad s a (kept_fault q) b c → LoadTurn gives known MayBreak n s p q b c
-  turn_of s p q b c r a is load wrote
-      = record { answer = r; load = load; wrote = subst (λ (x : DocumentOrError). StepForLoad s x (kept_fault q) b c) (sym is) wrote }
+      → LoadsFrom gives known MayBreak (next_bounded n) left_over p r q → StepForLoad s a (kept_fault q) b c
+      → (s ≡ step.Ended → ForHistory p (λ _ _. HasEnded q)) → LoadTurn gives known MayBreak n s p q b c
+  turn_of s p q b c r a is load wrote ends
+      = record { answer = r; load = load; wrote = subst (λ (x : DocumentOrError). StepForLoad s x (kept_fault q) b c) (sym is) wrote; ends = ends }
 
   pub none_loaded : (p : Parser S) (x : Option (List ℕ)) (asked : List yaml_token_t) (given : List yaml_event_t) → History p asked given
       → AllLoaded gives n p p x x asked given
@@ -130,10 +131,18 @@ module _ {S : Type 0} (gives : S → Answer → S → Type 0) (known : S → Opt
       (given : List yaml_event_t) → AllLoaded gives n first p a (contents writer) asked given
       → (has_failed p ≡ false → LoadTurn gives known MayBreak n s p q (contents writer) c)
       → ((r : DocumentOrError) → StepForLoad s r (kept_fault q) (contents writer) c → WroteForLoad outcome r (kept_fault q) (contents writer) d)
-      → LastLoad gives known MayBreak contents n outcome first q a d asked given
-  last_load contents outcome s first p q writer a c d asked given w turns wrote =
+      → (outcome ≡ Ended → s ≡ step.Ended) → LastLoad gives known MayBreak contents n outcome first q a d asked given
+  last_load contents outcome s first p q writer a c d asked given w turns wrote ended =
       let turn = turns (running p (asked ++ w.more) (given ++ w.events) w.history) in
-      record { parser = p; writer = writer; earlier = w; answer = turn.answer; load = turn.load; wrote = wrote turn.answer turn.wrote }
+      record {
+        parser = p;
+        writer = writer;
+        earlier = w;
+        answer = turn.answer;
+        load = turn.load;
+        wrote = wrote turn.answer turn.wrote;
+        ends = λ (is : outcome ≡ Ended). turn.ends (ended is) (asked ++ w.more) (given ++ w.events) w.history;
+      }
 
 -- nothing more was written
 pub loads_end : (outcome : Outcome) (kept : Fault) (b c d : Option (List ℕ)) → (outcome ≡ Ended) ⊎ (outcome ≡ OutputFailed) → Keeps c d → (r : DocumentOrError)
@@ -195,7 +204,7 @@ pub last_load_at : {S W : Type 0} (gives : S → Answer → S → Type 0) (known
     → AllLoaded gives (magnitude first.max_entries) first p a (contents writer) asked given
     → (has_failed p ≡ false → LoadTurn gives known MayBreak (magnitude p.max_entries) s p q (contents writer) c)
     → ((r : DocumentOrError) → StepForLoad s r (kept_fault q) (contents writer) c → WroteForLoad outcome r (kept_fault q) (contents writer) d)
-    → LastLoad gives known MayBreak contents (magnitude first.max_entries) outcome first q a d asked given
-last_load_at gives known MayBreak contents outcome s first p q writer a c d asked given bound earlier turns wrote =
+    → (outcome ≡ Ended → s ≡ step.Ended) → LastLoad gives known MayBreak contents (magnitude first.max_entries) outcome first q a d asked given
+last_load_at gives known MayBreak contents outcome s first p q writer a c d asked given bound earlier turns wrote ended =
     last_load gives known MayBreak (magnitude first.max_entries) contents outcome s first p q writer a c d asked given earlier
-    (turn_at gives known MayBreak s p q (contents writer) c p.max_entries first.max_entries bound turns) wrote
+    (turn_at gives known MayBreak s p q (contents writer) c p.max_entries first.max_entries bound turns) wrote ended

@@ -15,7 +15,7 @@ use Rattle.libyaml_grammar.specs.runs.Runs.{Ending}
 use Rattle.libyaml_events.specs.sources.Source.{Coming}
 use Rattle.libyaml_graphs.specs.Bounds.{bounded_loads, next_bounded}
 use Rattle.libyaml_graphs.specs.Loads.{Load, left_over}
-use Rattle.libyaml_loader.specs.Loading.{DocumentOrError, LoadsFrom}
+use Rattle.libyaml_loader.specs.Loading.{DocumentOrError, HasEnded, LoadsFrom}
 use Rattle.line_reading.specs.LineSource.{LineSource, BreaksOff, Gives, known_of}
 use Rattle.line_writing.specs.DocumentText.{document_lines}
 use Rattle.line_writing.specs.FaultText.{fault_text}
@@ -65,6 +65,8 @@ pub record LastLoad {S W : Type 0} (gives : S → Answer → S → Type 0) (know
   pub answer : DocumentOrError
   pub load : LoadsFrom gives known MayBreak (next_bounded n) left_over parser answer last
   pub wrote : WroteForLoad outcome answer (kept_fault last) (contents writer) after
+  -- the run ends only where the parser has ended
+  pub ends : outcome ≡ Ended → HasEnded last
 
 -- a fault that the parser kept was written again
 pub record WritesKept {S : Type 0} (outcome : Outcome) (old new : Parser S) (before after : Option (List ℕ)) : Type 0 where

@@ -7,13 +7,13 @@ use Rattle.libyaml_documents.specs.Documents.{Document}
 use Rattle.libyaml_events.specs.machine.Config.{Parser}
 use Rattle.libyaml_grammar.specs.runs.Fault.{Answer, Fault, fault_of}
 use Rattle.libyaml_grammar.specs.cuts.FaultTexts.{memory_fault}
-use Rattle.libyaml_events.specs.sources.History.{kept_fault}
+use Rattle.libyaml_events.specs.sources.History.{ForHistory, kept_fault}
 use Rattle.libyaml_events.specs.sources.RunToCome.{RunToCome}
 use Rattle.libyaml_grammar.specs.runs.Runs.{Ending, Ends, Fails}
 use Rattle.libyaml_events.specs.sources.Source.{Coming}
 use Rattle.libyaml_graphs.specs.Bounds.{bounded_loads, next_bounded}
 use Rattle.libyaml_graphs.specs.Loads.{Load, left_over}
-use Rattle.libyaml_loader.specs.Loading.{DocumentOrError, LoadsFrom}
+use Rattle.libyaml_loader.specs.Loading.{DocumentOrError, HasEnded, LoadsFrom}
 use Rattle.line_writing.specs.DocumentText.{WroteBefore, document_lines}
 use Rattle.token_lines.specs.declared.run.Step.{Step}
 use Rattle.token_lines.specs.declared.run.Step.TheVariants.{Written, Ended, Failed, OutputFailed}
@@ -62,6 +62,7 @@ pub record LoadTurn {S : Type 0} (gives : S → Answer → S → Type 0) (known 
   pub answer : DocumentOrError
   pub load : LoadsFrom gives known MayBreak (next_bounded n) left_over old answer new
   pub wrote : StepForLoad step answer (kept_fault new) before after
+  pub ends : step ≡ Ended → ForHistory old (λ _ _. HasEnded new)
 
 -- a fault that the parser kept is the step's, and nothing changed
 abbrev pub IsKept : Step → Fault → Type 0

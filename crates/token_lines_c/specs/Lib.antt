@@ -1,1 +1,1 @@
-pub mod InMemory
+pub mod ForC

@@ -3,6 +3,7 @@ use Rattle.libyaml_graphs.specs.Bounds.{next_bounded}
 use Rattle.libyaml_graphs.specs.Loads.{left_over}
 use Rattle.libyaml_loader.specs.Ids.{magnitude}
 use Rattle.libyaml_loader.proofs.NextLoads.{next_load}
+use Rattle.libyaml_loader.proofs.Rootless.{rootless}
 use Rattle.libyaml_loader.proofs.load.yaml_parser_load.Goals as goal
 
 no : true ≡ false → ⊥
@@ -27,3 +28,11 @@ returns-then-has_failed-clause-ended g c ended none = absurd (no (sym c.if-has_f
 
 pub returns-clause-ended : goal.returns-clause-ended
 returns-clause-ended g c ended none = c.next_document.ensures.ended ended
+
+pub returns-clause-without_root : goal.returns-clause-without_root
+returns-clause-without_root g c =
+    let t = g.S.yaml_token_source_t in
+    let call = c.next_document in
+    let roots = c.whole_documents_have_roots.ensures in
+    rootless roots.roots_follow roots.without_nodes t.gives t.known t.may_break (magnitude c.args.parser.now.max_entries) c.args.parser.now call.new.parser
+    (c.of_history.ensures.nests call.new.parser) call.result call.ensures.loads

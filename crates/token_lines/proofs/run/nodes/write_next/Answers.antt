@@ -1,14 +1,21 @@
-use Rattle.std.proofs.Common.{Ok, Err, refl, sym, ap, ◌∙◌, subst}
+use Rattle.std.proofs.Common.{◌≡◌, Ok, Err, refl, sym, ap, ◌∙◌, subst}
+use Rattle.libyaml_grammar.specs.declared.fault.yaml_parser_t_prefix.{yaml_parser_t_prefix}
 use Rattle.libyaml_grammar.specs.runs.Fault.{Fault}
 use Rattle.libyaml_graphs.specs.Bounds.{bounded_loads}
 use Rattle.libyaml_loader.specs.Ids.{magnitude}
 use Rattle.line_writing.specs.declared.refusal.line_refusal_t.{line_refusal_t}
-use Rattle.token_lines.specs.declared.run.Step.TheVariants.{Written, Ended}
+use Rattle.token_lines.specs.declared.run.Step.TheVariants.{Ended, Failed, Written}
 use Rattle.token_lines.specs.NodeStep.{WritesFront}
 use Rattle.token_lines.proofs.NodeStepLemmas.{step_cut, step_ended, step_failed, step_written}
 use Rattle.token_lines.proofs.NodeTurnLemmas.{has_none, has_some, turn_of}
 use Rattle.token_lines.proofs.RunLemmas.{Keeps-same}
 use Rattle.token_lines.proofs.run.nodes.write_next.Goals as goal
+
+failed_is_no_end : {f : yaml_parser_t_prefix} {A : Type 0} → Failed f ≡ Ended → A
+failed_is_no_end h = cc
+
+written_is_no_end : {A : Type 0} → Written ≡ Ended → A
+written_is_no_end h = cc
 
 pub returns-in_default-clause-step : goal.returns-in_default-clause-step
 returns-in_default-clause-step g c events ending run =
@@ -49,7 +56,7 @@ returns-in_default-clause-turn g c running =
     let t = g.S.yaml_token_source_t in
     let call = c.yaml_parser_load-loaded in
     turn_of t.gives t.known t.may_break (magnitude c.args.parser.now.max_entries) _ c.args.parser.now call.new.parser _ _ call.result (Err c.in_default.field-0)
-    c.in_default.is (call.ensures.loads running) (c.prefix.ensures.kept, Keeps-same _)
+    c.in_default.is (call.ensures.loads running) (c.prefix.ensures.kept, Keeps-same _) failed_is_no_end
 
 pub returns-then-is_empty-clause-turn : goal.returns-then-is_empty-clause-turn
 returns-then-is_empty-clause-turn g c running =
@@ -57,7 +64,7 @@ returns-then-is_empty-clause-turn g c running =
     let call = c.yaml_parser_load-loaded in
     let none = has_none c.nodes.result.now c.in-Ok.document.nodes c.is_empty.result c.is_empty.ensures c.if-is_empty.true c.nodes.ensures.all in
     turn_of t.gives t.known t.may_break (magnitude c.args.parser.now.max_entries) Ended c.args.parser.now call.new.parser _ _ call.result (Ok c.in-Ok.document)
-    c.in-Ok.is (call.ensures.loads running) (none, Keeps-same _)
+    c.in-Ok.is (call.ensures.loads running) (none, Keeps-same _) (λ is. (rw c.in-Ok.is at call.ensures.without_root) none)
 
 pub returns-in-Ok-write_document-clause-turn : goal.returns-in-Ok-write_document-clause-turn
 returns-in-Ok-write_document-clause-turn g c running =
@@ -65,7 +72,7 @@ returns-in-Ok-write_document-clause-turn g c running =
     let call = c.yaml_parser_load-loaded in
     let some = has_some c.nodes.result.now c.in-Ok.document.nodes c.is_empty.result c.is_empty.ensures c.if-is_empty.false c.nodes.ensures.all in
     turn_of t.gives t.known t.may_break (magnitude c.args.parser.now.max_entries) Written c.args.parser.now call.new.parser _ _ call.result
-    (Ok c.in-Ok.document) c.in-Ok.is (call.ensures.loads running) (some, c.in-Ok-write_document.ensures.ok)
+    (Ok c.in-Ok.document) c.in-Ok.is (call.ensures.loads running) (some, c.in-Ok-write_document.ensures.ok) written_is_no_end
 
 pub returns-in-Err-Memory-clause-turn : goal.returns-in-Err-Memory-clause-turn
 returns-in-Err-Memory-clause-turn g c running =
@@ -75,4 +82,4 @@ returns-in-Err-Memory-clause-turn g c running =
     c.in-Ok.is (call.ensures.loads running) (
       refl,
       c.write_document.ensures.memory (c.in-Err-Memory.is ∙ ap (λ (x : line_refusal_t). Err x) c.in-Err-Memory.field-0-is),
-    )
+    ) failed_is_no_end

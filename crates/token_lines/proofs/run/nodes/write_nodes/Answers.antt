@@ -1,16 +1,20 @@
-use Rattle.std.proofs.Common.{refl, ap, ◌∙◌, subst}
+use Rattle.std.proofs.Common.{◌≡◌, refl, ap, ◌∙◌, subst}
 use Rattle.std.specs.Io.KnownBytes.{Appends}
 use Rattle.libyaml_grammar.specs.runs.Fault.{Fault, fault_of}
 use Rattle.libyaml_events.specs.sources.History.{has_failed, kept_fault}
 use Rattle.libyaml_graphs.specs.Bounds.{bounded_loads}
 use Rattle.libyaml_loader.specs.Ids.{magnitude}
 use Rattle.line_writing.specs.FaultText.{fault_text}
+use Rattle.token_lines.specs.declared.run.Outcome.TheVariants.{Ended, OutputFailed}
 use Rattle.token_lines.specs.declared.run.Step.TheVariants as step
 use Rattle.token_lines.specs.NodeRun.{loads_ending, loads_lines}
 use Rattle.token_lines.proofs.NodeRunLemmas.{loads_fail, loads_last, loads_more, loads_none}
 use Rattle.token_lines.proofs.NodeTurnLemmas.{last_load_at, loads_end, loads_failed, loads_output, none_loaded, not_ended_is, one_loaded, steps_at, turn_at}
 use Rattle.token_lines.proofs.RunLemmas.{writes_ended, writes_faulted}
 use Rattle.token_lines.proofs.run.nodes.write_nodes.Goals as goal
+
+output_is_no_end : OutputFailed ≡ Ended → step.OutputFailed ≡ step.Ended
+output_is_no_end h = cc
 
 pub loop-writer-init : goal.loop-writer-init
 loop-writer-init g c =
@@ -102,7 +106,7 @@ returns-in-Ended-clause-in_turn g c asked given history =
     let at = c.loop-writer in
     last_load_at t.gives t.known t.may_break g.W.Write.contents c.flushed.result step.Ended c.args.parser.now at.parser c.write_next.new.parser at.writer _ _ _
     asked given at.invariant.bound (at.invariant.in_turn asked given history) c.in-Ended.ensures.turn
-    (loads_end c.flushed.result _ _ _ _ c.flushed.ensures.outcome c.flushed.ensures.keeps)
+    (loads_end c.flushed.result _ _ _ _ c.flushed.ensures.outcome c.flushed.ensures.keeps) (λ is. refl)
 
 pub returns-in-Failed-clause-in_turn : goal.returns-in-Failed-clause-in_turn
 returns-in-Failed-clause-in_turn g c asked given history =
@@ -111,6 +115,7 @@ returns-in-Failed-clause-in_turn g c asked given history =
     last_load_at t.gives t.known t.may_break g.W.Write.contents c.faulted.result (step.Failed c.in-Failed.fault) c.args.parser.now at.parser
     c.write_next.new.parser at.writer _ _ _ asked given at.invariant.bound (at.invariant.in_turn asked given history) c.in-Failed.ensures.turn
     (loads_failed c.faulted.result c.in-Failed.fault _ _ _ _ c.faulted.ensures.not_ended c.faulted.ensures.writes)
+    (λ is. absurd (c.faulted.ensures.not_ended is))
 
 pub returns-in-OutputFailed-clause-in_turn : goal.returns-in-OutputFailed-clause-in_turn
 returns-in-OutputFailed-clause-in_turn g c asked given history =
@@ -121,3 +126,4 @@ returns-in-OutputFailed-clause-in_turn g c asked given history =
     last_load_at t.gives t.known t.may_break contents _ step.OutputFailed c.args.parser.now at.parser q at.writer (contents c.args.writer.now)
     (contents c.write_next.new.writer) (contents c.write_next.new.writer) asked given at.invariant.bound (at.invariant.in_turn asked given history)
     c.in-OutputFailed.ensures.turn (loads_output (kept_fault q) (contents at.writer) (contents c.write_next.new.writer) (contents c.write_next.new.writer))
+    output_is_no_end

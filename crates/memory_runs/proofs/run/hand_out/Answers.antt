@@ -1,0 +1,9 @@
+use Rattle.std.proofs.Common.{ℕ, List, sym, ◌∙◌, subst}
+use Rattle.memory_runs.specs.InMemory.{HandsOut, bytes_of}
+use Rattle.memory_runs.specs.declared.outcome.memory_outcome_t.{memory_outcome_t}
+use Rattle.memory_runs.proofs.run.hand_out.Goals as goal
+
+pub returns-in-OutOfMemory-clause-bytes : goal.returns-in-OutOfMemory-clause-bytes
+returns-in-OutOfMemory-clause-bytes c =
+    subst (λ (o : memory_outcome_t). HandsOut (bytes_of o c.args.bytes.now) c.args.out.now c.put.new.out c.put.result)
+    (sym (c.put.ensures.outcome ∙ c.in-OutOfMemory.is)) c.put.ensures.bytes

@@ -1,0 +1,21 @@
+-- How it is told from a run's bytes whether it was cut short.
+use Rattle.std.specs.Prelude.{◌≡◌, ◌++◌, ◌⊎◌, ℕ, List, codes}
+use Rattle.memory_runs.specs.InMemory.{memory_text}
+use Rattle.memory_runs.specs.declared.outcome.memory_outcome_t.{memory_outcome_t}
+use Rattle.memory_runs.specs.declared.outcome.memory_outcome_t.TheVariants as memory
+use Rattle.token_lines.specs.declared.run.Outcome.{Outcome}
+use Rattle.token_lines.specs.declared.run.Outcome.TheVariants.{Ended, Faulted, OutputFailed}
+
+abbrev pub EndsWith : (bytes end : List ℕ) → Type 0
+EndsWith bytes end = (front : List ℕ) × (bytes ≡ front ++ end)
+
+-- the last text is that of a failed allocation or of a failed read
+abbrev pub IsCutShort : List ℕ → Type 0
+IsCutShort bytes = EndsWith bytes memory_text ⊎ EndsWith bytes (codes "read failed\n")
+
+-- a run ended as it said, or wants memory, which nothing says of one that ended; a fault that is told did not cut it short
+abbrev pub EndsAs : Outcome → List ℕ → memory_outcome_t → Type 0
+EndsAs Ended bytes memory.Ended = Unit {0}
+EndsAs Faulted bytes memory.Faulted = IsCutShort bytes → ⊥
+EndsAs outcome bytes memory.OutOfMemory = Unit {0}
+EndsAs _ bytes _ = ⊥

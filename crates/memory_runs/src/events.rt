@@ -1,0 +1,27 @@
+//! The lines of events, in memory.
+ghost use Rattle.memory_runs.specs.InMemory.{InMemory, has_events};
+
+use crate::run::{hand_out, memory_run_t};
+use libyaml_events::yaml_parser_initialize;
+use std::alloc::Global;
+use token_lines::{write_events, yaml_line_source_t};
+
+/// Runs over these token lines, of which it reads at most `max_tokens`, and puts the lines of their events
+/// into `out`, and then the text of a fault, if there is one: as many bytes as `out` has room for. What
+/// stands behind them in `out` stays.
+///
+/// Where an allocation fails, the run's only text is that of this fault.
+pub fn events_in_memory(
+    alloc: Global,
+    tokens: &[u8],
+    out: &mut [u8],
+    max_tokens: u64,
+) -> memory_run_t
+    ensures { InMemory (has_events tokens.now max_tokens) out.old out.new result }
+{
+    let source = yaml_line_source_t::new(alloc, tokens, max_tokens);
+    let mut parser = yaml_parser_initialize(alloc, source);
+    let mut bytes = Vec::new(alloc);
+    let outcome = write_events(alloc, &mut parser, &mut bytes);
+    hand_out(outcome, bytes.as_slice(), out)
+}

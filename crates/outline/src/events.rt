@@ -1,0 +1,63 @@
+//! Events, one a line.
+
+use anyhow::Result;
+use std::alloc::Global;
+use std::fmt::Write;
+use unsafe_libyaml::{
+    unnamed_yaml_event_t_data, yaml_event_t, yaml_list_source_t, yaml_parser_initialize,
+    yaml_parser_parse, yaml_token_t,
+};
+
+/// How much deeper the events behind this one stand, and whether its own line does not.
+fn depth_change(event: &yaml_event_t) -> i8 {
+    match &event.content {
+        unnamed_yaml_event_t_data::SequenceStart(_)
+        | unnamed_yaml_event_t_data::MappingStart(_) => 1,
+        unnamed_yaml_event_t_data::SequenceEnd | unnamed_yaml_event_t_data::MappingEnd => -1,
+        _ => 0,
+    }
+}
+
+/// What is told of an event, or `None` of one that is not told.
+fn told(event: &yaml_event_t) -> Option<&str> {
+    match &event.content {
+        unnamed_yaml_event_t_data::Scalar(scalar) => Some(scalar.value.as_str()),
+        unnamed_yaml_event_t_data::Alias(alias) => Some(alias.anchor.as_str()),
+        unnamed_yaml_event_t_data::SequenceStart(_) => Some("sequence"),
+        unnamed_yaml_event_t_data::MappingStart(_) => Some("mapping"),
+        _ => None,
+    }
+}
+
+/// Writes the line of an event that stands this deep.
+fn write_line(outline: &mut String, event: &yaml_event_t, depth: u32) -> Result<()> {
+    if let Some(words) = told(event) {
+        for _ in 0..depth {
+            outline.push_str("  ")?;
+        }
+        writeln!(outline, "{words}")?;
+    }
+    Ok(())
+}
+
+/// Returns the outline of these tokens' events.
+///
+/// # Errors
+///
+/// The fault of the tokens, or that memory ran out.
+pub fn outline_of(alloc: Global, tokens: Vec<yaml_token_t>) -> Result<String> {
+    let mut parser = yaml_parser_initialize(alloc, yaml_list_source_t::from(tokens));
+    let mut outline = String::new(alloc);
+    let mut depth = 0u32;
+    for _ in 0..u64::MAX {
+        let Ok(event) = yaml_parser_parse(&mut parser) else {
+            return Err((*parser.prefix()).into());
+        };
+        if matches!(event.content, unnamed_yaml_event_t_data::StreamEnd) {
+            break;
+        }
+        write_line(&mut outline, &event, depth)?;
+        depth = depth.saturating_add_signed(i32::from(depth_change(&event)));
+    }
+    Ok(outline)
+}

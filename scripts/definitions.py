@@ -1,0 +1,129 @@
+#!/usr/bin/env python3
+"""Counts the lines of definitions that the clauses of the two whole runs cite, directly or through one another.
+
+    python3 scripts/definitions.py            prints the table of docs/HEADLINE.md
+    python3 scripts/definitions.py --check    fails where the page says something else
+    python3 scripts/definitions.py --write    puts the table into the page
+
+A definition is what stands in a file of `specs/` from one name at the left edge to the next, with the comment above it.
+"""
+import re
+import sys
+from pathlib import Path
+
+ROOT = Path(__file__).resolve().parent.parent
+PAGE = ROOT / "docs" / "HEADLINE.md"
+RUNS = [("parse_all", "yaml_parser_parse_all"), ("load_all", "yaml_parser_load_all")]
+WORD = re.compile(r"[^\s(){}\[\],;]+")
+USE = re.compile(r"^(?:ghost |pub )*use (Rattle\.[\w.]+?)(?:\.\{(.*)\})?(?: as (\w+))?;?$")
+HEAD = re.compile(r"^(?:(?:abbrev|unfoldable|pub|infix\w*) )*(?:(?:record|data) )?(mutual|[^\s:{(]+)")
+MEMBER = re.compile(r"^(?:pub )?(?:(?:data|record) )?([^\s:]+)\s*:?\s")
+
+
+def imports(text):
+    """For each name that a file imports, its module and its name there; for a module under an alias, no name."""
+    found = {}
+    for module, names, alias in (match.groups() for match in map(USE.match, text.split("\n")) if match):
+        for item in (names or "").split(","):
+            name, _, renamed = item.strip().partition(" as ")
+            if name:
+                found[renamed or name] = module, name
+        if names is None:
+            found[alias or module.split(".")[-1]] = module, None
+    return found
+
+
+class File:
+    """The definitions of one file of specs: their lines, and which of them has which name."""
+
+    def __init__(self, path):
+        self.imports = imports(path.read_text())
+        self.blocks, self.names, comment = [], {}, []
+        self.has_members = False
+        for line in path.read_text().split("\n"):
+            if line.startswith("--"):
+                comment.append(line)
+            elif line and not re.match(r"(pub )?(use|mod) ", line):
+                comment = self.add(line, comment)
+
+    def add(self, line, comment):
+        """Puts a line into the block that it belongs to, with the comment above it."""
+        if not line.startswith(" "):
+            name = HEAD.match(line).group(1)
+            self.has_members = self.has_members and name in self.names or re.search(r"^(pub )?data |mutual", line)
+            if self.names.get(name) != len(self.blocks) - 1 or name == "mutual":
+                self.blocks.append([])
+                self.names.setdefault(name, len(self.blocks) - 1)
+        elif self.has_members and (member := MEMBER.match(line.strip())):
+            self.names.setdefault(member.group(1), len(self.blocks) - 1)
+        self.blocks[-1] += comment + [line]
+        return []
+
+
+def read_specs():
+    files = {}
+    for path in ROOT.glob("crates/*/specs/**/*.antt"):
+        crate, _, *rest = path.relative_to(ROOT / "crates").with_suffix("").parts
+        files[".".join(["Rattle", crate, "specs", *rest])] = File(path)
+    return files
+
+
+def cited(words, module, file):
+    """Where the words of a text lead: to names of its own file, or to imported ones."""
+    for word in words:
+        first, _, rest = word.partition(".")
+        if word in file.names:
+            yield module, word
+        elif word in file.imports:
+            yield file.imports[word]
+        elif rest and first in file.imports:
+            yield file.imports[first][0], file.imports[first][1] or rest.split(".")[0]
+
+
+def closure(files, seeds):
+    """The blocks that these names stand for, and all that they cite."""
+    seen, left = set(), list(seeds)
+    while left:
+        module, name = left.pop()
+        file = files.get(module)
+        if file is None or name not in file.names or (module, file.names[name]) in seen:
+            continue
+        block = file.names[name]
+        seen.add((module, block))
+        text = "\n".join(line for line in file.blocks[block] if not line.lstrip().startswith("--"))
+        left += cited({word.strip(".,") for word in WORD.findall(text)}, module, file)
+    return seen
+
+
+def seeds_of(name, function):
+    """The names that the clauses of a function cite."""
+    text = (ROOT / "crates" / "unsafe_libyaml" / "src" / (name + ".rt")).read_text()
+    start = text.index("pub fn " + function)
+    clauses = re.sub(r"//.*", "", text[start : text.index("\n{", start)])
+    known = imports(text)
+    return [known[word] for word in {word.strip(".,") for word in WORD.findall(clauses)} if word in known]
+
+
+def table():
+    files = read_specs()
+    rows = ["| contract | lines | definitions | files |", "|---|---|---|---|"]
+    for name, function in RUNS:
+        seen = closure(files, seeds_of(name, function))
+        lines = sum(len(files[module].blocks[block]) for module, block in seen)
+        rows.append(f"| `{function}` | {lines} | {len(seen)} | {len({module for module, _ in seen})} |")
+    return "\n".join(rows) + "\n"
+
+
+def main():
+    counted, page = table(), PAGE.read_text()
+    shown = re.search(r"\| contract \| lines.*?\n\n|<!-- counted -->\n\n", page, re.DOTALL)
+    if "--write" in sys.argv:
+        PAGE.write_text(page[: shown.start()] + counted + "\n" + page[shown.end() :])
+    elif "--check" in sys.argv and shown.group().strip() != counted.strip():
+        sys.exit("docs/HEADLINE.md is stale: run python3 scripts/definitions.py --write")
+    else:
+        print(counted, end="")
+
+
+if __name__ == "__main__":
+    main()
