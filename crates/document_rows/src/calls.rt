@@ -49,8 +49,8 @@ fn shows(alloc: Global, made: Made, wanted: &str) -> bool {
 }
 
 fn is_built(alloc: Global) -> bool {
-    let wanted =
-        "+Di(0) !!map{2:3}(0,0) !!str=greeting(0,0) !!seq[4 4](0,0) !!str=hello(0,0) -Di(0)";
+    let wanted = "+Di(0) !!map{2:3}(0,0) !!str=greeting(0,0) !!seq[4 5](0,0) !!str=hello(0,0) \
+        !!str=world(0,0) -Di(0)";
     shows(alloc, document_of_words(alloc), wanted)
 }
 

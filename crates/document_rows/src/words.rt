@@ -4,8 +4,8 @@ use std::alloc::Global;
 use unsafe_libyaml::{
     YAML_FLOW_MAPPING_STYLE, YAML_FLOW_SEQUENCE_STYLE, YAML_PLAIN_SCALAR_STYLE,
     yaml_document_add_mapping, yaml_document_add_scalar, yaml_document_add_sequence,
-    yaml_document_append_mapping_pair, yaml_document_append_sequence_item, yaml_document_initialize,
-    yaml_document_t, yaml_refusal_t,
+    yaml_document_append_mapping_pair, yaml_document_append_sequence_item,
+    yaml_document_initialize, yaml_document_t, yaml_refusal_t,
 };
 use yaml_path::{as_str, item_at, node_of, text_at, value_at};
 
