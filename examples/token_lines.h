@@ -37,8 +37,8 @@
  * gives back what it allocates before it returns. Threads. Several may call at once, each with an `out`, `written` and
  * `wanted` of its own.
  *
- * Link `libtoken_lines_c.a` and behind it the toolchain's `liblibc_c.a`: scripts/build_c.sh makes one archive of the two,
- * which needs nothing but the C library and has no global names but these two functions.
+ * Link `libtoken_lines.a` or `libtoken_lines.so`, which scripts/build_c.sh makes of `crates/token_lines_c` and the
+ * toolchain's allocator: they need nothing but the C library, and hand out no names but these two functions.
  *
  * What the library does is proved; that the caller keeps to this is not:
  *

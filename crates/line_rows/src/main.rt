@@ -1,11 +1,12 @@
 //! Rows of lines: token lines as they are read, lines of events and documents as they are written, and
-//! whole runs.
+//! whole runs, over readers and over memory.
 //!
 //! The program makes the checks of each module and names what is wrong. Then it runs over more lines than
 //! are read. `line_rows refused` makes the checks of `refused` alone.
 #![tactic(auto)]
 
 mod calls;
+mod memory;
 mod reading;
 mod refused;
 mod rows;
@@ -58,6 +59,7 @@ fn show_all(rt: &(impl Print + AllocGlobal)) -> io::Result<()> {
     show_checks(rt, "lines read", &reading::checks(rt.alloc()))?;
     show_checks(rt, "lines written", &writing::checks(rt.alloc()))?;
     show_checks(rt, "whole runs", &runs::checks(rt.alloc()))?;
+    show_checks(rt, "runs over memory", &memory::checks(rt.alloc()))?;
     show_refused(rt)?;
     run_open_sequences(rt, 2)?;
     run_open_sequences(rt, 1_000_000)

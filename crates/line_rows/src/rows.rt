@@ -35,7 +35,7 @@ pub const ONE_SCALAR_EVENTS: &str = "STREAM-START 0:0:0 0:0:0 utf8\n\
     DOCUMENT-END 4:0:4 4:0:4 1\n\
     STREAM-END 4:0:4 5:0:5\n";
 
-const ONE_SCALAR_NODES: &str = "DOCUMENT 2:0:2 4:0:4 1 1 - 0\n\
+pub const ONE_SCALAR_NODES: &str = "DOCUMENT 2:0:2 4:0:4 1 1 - 0\n\
     1 SCALAR 2:0:2 3:0:3 =tag:yaml.org,2002:str =a plain\n";
 
 /// What a run writes lines of, what it reads, what it writes, and how it ends.
