@@ -80,4 +80,12 @@ impl yaml_token_source_t for yaml_list_source_t {
             None => Err(self.fault),
         }
     }
+
+    fn next_token_into(&mut self, token: &mut yaml_token_t) -> Result<(), yaml_source_fault_t> {
+        let Some(next) = self.tokens.next() else {
+            return Err(self.fault);
+        };
+        *token = next;
+        Ok(())
+    }
 }

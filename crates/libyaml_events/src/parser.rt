@@ -19,6 +19,7 @@ mod stacks;
 mod tokens;
 
 use crate::pending::Pending;
+use crate::source::yaml_token_source_t;
 use libyaml_grammar::{NO_FAULT, yaml_parser_t_prefix};
 use libyaml_types::{yaml_error_type_t, yaml_mark_t, yaml_parser_state_t, yaml_token_t};
 use std::alloc::Global;
@@ -187,6 +188,14 @@ impl<S> yaml_parser_t<S> {
         ensures ended { is_over self.new ≡ true }
     {
         self.machine.keep_prefix(fault);
+    }
+
+    /// Whether the source's next token may be long in coming (`yaml_token_source_t::may_wait`).
+    pub fn may_wait(&self) -> bool
+    where
+        S: yaml_token_source_t,
+    {
+        self.machine.source.may_wait()
     }
 
     /// Where the parser takes its memory from.

@@ -2,7 +2,7 @@
 ghost use Rattle.std.specs.Prelude.{◌≡◌, ℕ, ◌+◌, Option, Ok, Err};
 ghost use Rattle.libyaml_types.specs.declared.token.yaml_token_t.{yaml_token_t};
 ghost use Rattle.libyaml_grammar.specs.runs.Fault.{Fault, Answer, answer_of};
-ghost use Rattle.libyaml_events.specs.sources.Source.{Coming, Follows};
+ghost use Rattle.libyaml_events.specs.sources.Source.{Coming, Follows, answer_in};
 
 use libyaml_grammar::yaml_source_fault_t;
 use libyaml_types::yaml_token_t;
@@ -24,6 +24,20 @@ pub trait yaml_token_source_t {
     /// Returns the next token, or the fault that ends the tokens.
     fn next_token(&mut self) -> Result<yaml_token_t, yaml_source_fault_t>
         ensures { gives self.old (answer_of result) self.new };
+
+    /// The same into a slot: after a fault `token` is any token.
+    fn next_token_into(&mut self, token: &mut yaml_token_t) -> Result<(), yaml_source_fault_t>
+        ensures { gives self.old (answer_in result token.new) self.new }
+    {
+        *token = self.next_token()?;
+        Ok(())
+    }
+
+    /// Whether the next token may be long in coming, so that what is due should be shown first. Nothing
+    /// that is given depends on it.
+    fn may_wait(&self) -> bool {
+        false
+    }
 
     ghost falls: { (s t : Self) (token : yaml_token_t) → gives s (Ok token) t → bound s ≡ bound t + 1 };
 

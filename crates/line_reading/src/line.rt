@@ -12,15 +12,20 @@ use crate::search::len_before;
 use std::io::BufRead;
 
 /// Reads one line: what stands before an LF, or before the end where a byte stands there. Takes the line
-/// and its LF, and no byte behind them.
-pub fn read_line<R: BufRead>(reader: &mut R, line: &mut Vec<u8>) -> Result<(), LineProblem>
+/// and its LF, and no byte behind them. Where it took them, `left` is the number of bytes that stand in the
+/// reader's buffer behind them.
+pub fn read_line<R: BufRead>(
+    reader: &mut R,
+    line: &mut Vec<u8>,
+    left: &mut usize,
+) -> Result<(), LineProblem>
     ensures whole { OnOk result (TakesLine (R.remaining reader.old) line.new.items (R.remaining reader.new)) }
     ensures fits { OnOk result (length line.new.items ≤ longest_line) }
     ensures none { IfErr result (λ problem. TakesNoLine (R.remaining reader.old) problem) }
     ensures takes { TakesAtMost (longest_line + 1) (R.remaining reader.old) (R.remaining reader.new) }
 {
     line.clear();
-    match take_line(reader, line)? {
+    match take_line(reader, line, left)? {
         LineEnd::TooLong => Err(LineProblem::LineTooLong),
         LineEnd::End if line.is_empty() => Err(LineProblem::NoMoreTokens),
         LineEnd::End => Ok(()),
@@ -38,7 +43,11 @@ enum LineEnd {
 
 /// Takes a line into an empty `line`: up to an LF, which is taken too, or to the end, or to the byte that
 /// is too many.
-fn take_line<R: BufRead>(reader: &mut R, line: &mut Vec<u8>) -> Result<LineEnd, LineProblem>
+fn take_line<R: BufRead>(
+    reader: &mut R,
+    line: &mut Vec<u8>,
+    left: &mut usize,
+) -> Result<LineEnd, LineProblem>
     requires { line.old.items ≡ [] }
     ensures consumes { IfOk result
         (λ end. Consumes (R.remaining reader.old) (R.remaining reader.new) (line.new.items
@@ -54,7 +63,7 @@ fn take_line<R: BufRead>(reader: &mut R, line: &mut Vec<u8>) -> Result<LineEnd, 
 {
     while line.len() <= MAX_LINE {
         let room = MAX_LINE + 1 - line.len();
-        match take_part(reader, line, room)? {
+        match take_part(reader, line, room, left)? {
             Part::More => {}
             Part::LineFeed => return Ok(LineEnd::LineFeed),
             Part::End => return Ok(LineEnd::End),
@@ -76,6 +85,7 @@ fn take_part<R: BufRead>(
     reader: &mut R,
     line: &mut Vec<u8>,
     room: usize,
+    left: &mut usize,
 ) -> Result<Part, LineProblem>
     requires { 0 < room }
     ensures appends { line.new.items ≡ line.old.items ++ appended line.old.items line.new.items }
@@ -94,6 +104,7 @@ fn take_part<R: BufRead>(
     ensures problem { IfErr result IsReadProblem }
 {
     let available = reader.fill_buf()?;
+    *left = 0;
     if available.is_empty() {
         return Ok(Part::End);
     }
@@ -101,6 +112,7 @@ fn take_part<R: BufRead>(
     let len = len_before(front, b'\n');
     append(line, &front[..len])?;
     if len < front.len() {
+        *left = available.len() - (len + 1);
         reader.consume(len + 1);
         return Ok(Part::LineFeed);
     }

@@ -86,4 +86,9 @@ impl<R: BufRead> yaml_token_source_t for yaml_line_source_t<R> {
     {
         self.tokens.next_token(&mut self.reader, &mut self.line)
     }
+
+    /// Whether fewer than 1,024 bytes stand in the reader's buffer behind the last line.
+    fn may_wait(&self) -> bool {
+        self.tokens.is_low()
+    }
 }

@@ -20,8 +20,13 @@ pub(crate) struct TokenReader {
     given: u64,
     max_tokens: u64,
     problem: Option<LineProblem>,
+    /// How many bytes stood in the reader's buffer behind the last line.
+    left: usize,
     alloc: Global,
 }
+
+/// Fewer bytes than these behind a line may hold no token that brings an event: a read may follow, and wait.
+const FEW_BYTES: usize = 1024;
 
 impl TokenReader {
     /// One that gives `max_tokens` tokens at most.
@@ -34,6 +39,7 @@ impl TokenReader {
             given: 0,
             max_tokens,
             problem: None,
+            left: 0,
             alloc,
         }
     }
@@ -56,7 +62,7 @@ impl TokenReader {
         if self.given >= self.max_tokens {
             return Err(self.keep(LineProblem::TooManyTokens));
         }
-        if let Err(problem) = read_line(reader, line) {
+        if let Err(problem) = read_line(reader, line, &mut self.left) {
             return Err(self.keep(problem));
         }
         match read_token_line(self.alloc, line) {
@@ -66,6 +72,11 @@ impl TokenReader {
             }
             Err(problem) => Err(self.keep(problem)),
         }
+    }
+
+    /// Whether a read may follow before long.
+    pub(crate) fn is_low(&self) -> bool {
+        self.left < FEW_BYTES
     }
 
     /// Keeps a problem for good, as a fault.

@@ -8,10 +8,11 @@ mod events;
 mod nodes;
 
 pub use events::{run_events, write_events};
-use libyaml_events::{NO_FAULT, yaml_parser_t_prefix};
+use libyaml_events::{NO_FAULT, yaml_parser_t, yaml_parser_t_prefix, yaml_token_source_t};
 use libyaml_types::yaml_error_type_t;
 use line_writing::write_fault;
 pub use nodes::{run_nodes, write_nodes};
+use std::io;
 use std::io::Write;
 
 /// How a run came to its end.
@@ -54,6 +55,17 @@ fn faulted<W: Write>(prefix: &yaml_parser_t_prefix, writer: &mut W) -> Outcome
         Ok(()) => flushed(Outcome::Faulted, writer),
         Err(_) => Outcome::OutputFailed,
     }
+}
+
+/// Flushes the writer where the parser's next token may be long in coming, so that whoever reads what is
+/// written then has all of it.
+fn show<S: yaml_token_source_t, W: Write>(parser: &yaml_parser_t<S>, writer: &mut W) -> io::Result<()>
+    ensures { Keeps (W.contents writer.old) (W.contents writer.new) }
+{
+    if parser.may_wait() {
+        writer.flush()?;
+    }
+    Ok(())
 }
 
 /// Flushes the writer behind all that a run has written.

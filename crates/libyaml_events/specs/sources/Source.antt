@@ -1,9 +1,15 @@
 -- what a source that knows its tokens may answer
-use Rattle.std.specs.Prelude.{◌≡◌, List, [], ◌∷◌, Option, Some, None, Ok, Err, ◌⊎◌, negsuc, codes}
+use Rattle.std.specs.Prelude.{◌≡◌, List, [], ◌∷◌, Option, Some, None, Result, Ok, Err, ◌⊎◌, negsuc, codes}
 use Rattle.libyaml_types.specs.declared.enums.yaml_error_type_t.TheVariants.{YAML_READER_ERROR}
 use Rattle.libyaml_types.specs.declared.token.yaml_token_t.{yaml_token_t}
-use Rattle.libyaml_grammar.specs.runs.Fault.{Fault, Answer}
+use Rattle.libyaml_grammar.specs.declared.fault.yaml_source_fault_t.{yaml_source_fault_t}
+use Rattle.libyaml_grammar.specs.runs.Fault.{Fault, Answer, source_fault}
 use Rattle.libyaml_grammar.specs.cuts.FaultTexts.{no_fault}
+
+-- the answer of a call that puts its token into a slot
+abbrev pub answer_in : Result (Unit {0}) yaml_source_fault_t → yaml_token_t → Answer
+answer_in (Ok u) token = Ok token
+answer_in (Err fault) token = Err (source_fault fault)
 
 -- the tokens to come, and the fault that ends them
 pub record Coming : Type 0 where

@@ -12,7 +12,7 @@ ghost use Rattle.token_lines.specs.EventStep.{StepsInRun, Turn};
 ghost use Rattle.token_lines.specs.LastCall.{LastCall, NothingLeft, RunsOver};
 ghost use Rattle.token_lines.specs.LineRun.{Writes};
 
-use super::{MEMORY_FAULT, Outcome, Step, faulted, flushed};
+use super::{MEMORY_FAULT, Outcome, Step, faulted, flushed, show};
 use crate::MAX_TOKENS;
 use libyaml_events::{
     yaml_parser_initialize, yaml_parser_parse_into, yaml_parser_t, yaml_token_source_t,
@@ -111,10 +111,12 @@ fn write_next<S: yaml_token_source_t, W: Write>(
         return Step::OutputFailed;
     };
     if is_stream_end(event) {
-        Step::Ended
-    } else {
-        Step::Written
+        return Step::Ended;
     }
+    let Ok(()) = show(parser, writer) else {
+        return Step::OutputFailed;
+    };
+    Step::Written
 }
 
 /// Whether this is an event, and not the empty one.

@@ -12,7 +12,7 @@ ghost use Rattle.token_lines.specs.LastLoad.{LastLoad, NodesOver, WritesKept};
 ghost use Rattle.token_lines.specs.NodeRun.{WritesLoads};
 ghost use Rattle.token_lines.specs.NodeStep.{IsKept, LoadTurn, NodeSteps};
 
-use super::{MEMORY_FAULT, Outcome, Step, faulted, flushed};
+use super::{MEMORY_FAULT, Outcome, Step, faulted, flushed, show};
 use crate::MAX_TOKENS;
 use libyaml_events::{yaml_parser_initialize, yaml_parser_t, yaml_token_source_t};
 use libyaml_loader::yaml_parser_load;
@@ -99,8 +99,12 @@ fn write_next<S: yaml_token_source_t, W: Write>(
         return Step::Ended;
     }
     match write_document(alloc, document, writer) {
-        Ok(()) => Step::Written,
-        Err(line_refusal_t::Memory) => Step::Failed(MEMORY_FAULT),
-        Err(line_refusal_t::Output) => Step::OutputFailed,
+        Ok(()) => {}
+        Err(line_refusal_t::Memory) => return Step::Failed(MEMORY_FAULT),
+        Err(line_refusal_t::Output) => return Step::OutputFailed,
     }
+    let Ok(()) = show(parser, writer) else {
+        return Step::OutputFailed;
+    };
+    Step::Written
 }

@@ -1,5 +1,6 @@
 use Rattle.std.proofs.Common.{◌++◌, refl, ap, ◌∙◌, subst, sym}
 use Rattle.std.specs.Io.KnownBytes.{Appends}
+use Rattle.std.proofs.KnownBytes.{Appends-kept}
 use Rattle.libyaml_events.specs.sources.Calls.{answered}
 use Rattle.libyaml_events.specs.sources.History.{is_over}
 use Rattle.libyaml_events.specs.sources.RunToCome.{FailsHere}
@@ -46,16 +47,16 @@ returns-then-is_stream_end-clause-step g c events ending run =
     takes_last t.known t.may_break c.args.parser.now call.new.parser _ _ c.yaml_parser_parse_into-parsed.new.event events ending first (call.ensures.nothing_behind_end ended)
     (subst (Appends _ _) line c.in-Ok-write_line.ensures.ok)
 
-pub returns-else-is_stream_end-clause-falls : goal.returns-else-is_stream_end-clause-falls
-returns-else-is_stream_end-clause-falls g c written =
+pub returns-clause-falls : goal.returns-clause-falls
+returns-clause-falls g c written =
     let call = c.yaml_parser_parse_into-parsed in
     let an_event = sym c.is_event.ensures ∙ c.if-not-is_event.false in
     let running = running_by c.args.parser.now call.new.parser (answered call.result c.yaml_parser_parse_into-parsed.new.event) c.yaml_parser_parse_into-parsed.new.event (is_over c.args.parser.now) refl (ap (λ r. answered r c.yaml_parser_parse_into-parsed.new.event) c.in-Ok.is) an_event call.ensures.ended
     in
     rw c.in-Ok.is at (call.ensures.falls running)
 
-pub returns-else-is_stream_end-clause-step : goal.returns-else-is_stream_end-clause-step
-returns-else-is_stream_end-clause-step g c events ending run =
+pub returns-clause-step : goal.returns-clause-step
+returns-clause-step g c events ending run =
     let t = g.S.yaml_token_source_t in
     let call = c.yaml_parser_parse_into-parsed in
     let says : Says t.known t.may_break c.args.parser.now call.new.parser (answered call.result c.yaml_parser_parse_into-parsed.new.event)
@@ -64,7 +65,7 @@ returns-else-is_stream_end-clause-step g c events ending run =
     let first = first_event t.known t.may_break c.args.parser.now call.new.parser (answered call.result c.yaml_parser_parse_into-parsed.new.event) c.yaml_parser_parse_into-parsed.new.event (ap (λ r. answered r c.yaml_parser_parse_into-parsed.new.event) c.in-Ok.is) an_event says events ending run in
     let line = c.in-Ok-append_event.ensures ∙ ap (λ l. l ++ event_line c.yaml_parser_parse_into-parsed.new.event) c.clear.ensures.bytes in
     takes_first t.known t.may_break c.args.parser.now call.new.parser _ _ c.yaml_parser_parse_into-parsed.new.event events ending first
-    (subst (Appends _ _) line c.in-Ok-write_line.ensures.ok)
+    (Appends-kept _ _ _ _ (subst (Appends _ _) line c.in-Ok-write_line.ensures.ok) c.show.ensures)
 
 pub returns-in_default-clause-turn : goal.returns-in_default-clause-turn
 returns-in_default-clause-turn g c running asked given h =
@@ -93,11 +94,16 @@ returns-then-is_stream_end-clause-turn g c running asked given h =
       subst (Appends _ _) line c.in-Ok-write_line.ensures.ok,
     ) asked given h
 
-pub returns-else-is_stream_end-clause-turn : goal.returns-else-is_stream_end-clause-turn
-returns-else-is_stream_end-clause-turn g c running asked given h =
+pub returns-in_default-show-clause-turn : goal.returns-in_default-show-clause-turn
+returns-in_default-show-clause-turn g c running asked given h
+    = gave_one g.S.yaml_token_source_t.gives OutputFailed _ _ _ _ _ c.yaml_parser_parse_into-parsed.new.event (ap (λ r. answered r c.yaml_parser_parse_into-parsed.new.event) c.in-Ok.is) (c.yaml_parser_parse_into-parsed.ensures.carries_on running) tt asked
+    given h
+
+pub returns-clause-turn : goal.returns-clause-turn
+returns-clause-turn g c running asked given h =
     let line = c.in-Ok-append_event.ensures ∙ ap (λ l. l ++ event_line c.yaml_parser_parse_into-parsed.new.event) c.clear.ensures.bytes in
     let more = sym c.is_stream_end.ensures ∙ c.if-is_stream_end.false in
     gave_one g.S.yaml_token_source_t.gives Written _ _ _ _ _ c.yaml_parser_parse_into-parsed.new.event (ap (λ r. answered r c.yaml_parser_parse_into-parsed.new.event) c.in-Ok.is) (c.yaml_parser_parse_into-parsed.ensures.carries_on running) (
       more,
-      subst (Appends _ _) line c.in-Ok-write_line.ensures.ok,
+      Appends-kept _ _ _ _ (subst (Appends _ _) line c.in-Ok-write_line.ensures.ok) c.show.ensures,
     ) asked given h

@@ -1,4 +1,5 @@
 use Rattle.std.proofs.Common.{◌≡◌, Ok, Err, refl, sym, ap, ◌∙◌, subst}
+use Rattle.std.proofs.KnownBytes.{Appends-kept}
 use Rattle.libyaml_grammar.specs.declared.fault.yaml_parser_t_prefix.{yaml_parser_t_prefix}
 use Rattle.libyaml_grammar.specs.runs.Fault.{Fault}
 use Rattle.libyaml_graphs.specs.Bounds.{bounded_loads}
@@ -34,13 +35,14 @@ returns-then-is_empty-clause-step g c events ending run =
     step_ended t.known t.may_break (magnitude c.args.parser.now.max_entries) c.args.parser.now call.new.parser events ending run call.result
     (call.ensures.next_load events ending run) c.in-Ok.document c.in-Ok.is _ none
 
-pub returns-in-Ok-write_document-clause-step : goal.returns-in-Ok-write_document-clause-step
-returns-in-Ok-write_document-clause-step g c events ending run =
+pub returns-clause-step : goal.returns-clause-step
+returns-clause-step g c events ending run =
     let t = g.S.yaml_token_source_t in
     let call = c.yaml_parser_load-loaded in
     let some = has_some c.nodes.result.now c.in-Ok.document.nodes c.is_empty.result c.is_empty.ensures c.if-is_empty.false c.nodes.ensures.all in
     step_written t.known t.may_break (magnitude c.args.parser.now.max_entries) c.args.parser.now call.new.parser events ending run call.result
-    (call.ensures.next_load events ending run) c.in-Ok.document c.in-Ok.is _ _ some c.in-Ok-write_document.ensures.ok
+    (call.ensures.next_load events ending run) c.in-Ok.document c.in-Ok.is _ _ some
+    (Appends-kept _ _ _ _ c.in-Ok-write_document.ensures.ok c.show.ensures)
 
 pub returns-in-Err-Memory-clause-step : goal.returns-in-Err-Memory-clause-step
 returns-in-Err-Memory-clause-step g c events ending run =
@@ -66,13 +68,14 @@ returns-then-is_empty-clause-turn g c running =
     turn_of t.gives t.known t.may_break (magnitude c.args.parser.now.max_entries) Ended c.args.parser.now call.new.parser _ _ call.result (Ok c.in-Ok.document)
     c.in-Ok.is (call.ensures.loads running) (none, Keeps-same _) (λ is. (rw c.in-Ok.is at call.ensures.without_root) none)
 
-pub returns-in-Ok-write_document-clause-turn : goal.returns-in-Ok-write_document-clause-turn
-returns-in-Ok-write_document-clause-turn g c running =
+pub returns-clause-turn : goal.returns-clause-turn
+returns-clause-turn g c running =
     let t = g.S.yaml_token_source_t in
     let call = c.yaml_parser_load-loaded in
     let some = has_some c.nodes.result.now c.in-Ok.document.nodes c.is_empty.result c.is_empty.ensures c.if-is_empty.false c.nodes.ensures.all in
     turn_of t.gives t.known t.may_break (magnitude c.args.parser.now.max_entries) Written c.args.parser.now call.new.parser _ _ call.result
-    (Ok c.in-Ok.document) c.in-Ok.is (call.ensures.loads running) (some, c.in-Ok-write_document.ensures.ok) written_is_no_end
+    (Ok c.in-Ok.document) c.in-Ok.is (call.ensures.loads running)
+    (some, Appends-kept _ _ _ _ c.in-Ok-write_document.ensures.ok c.show.ensures) written_is_no_end
 
 pub returns-in-Err-Memory-clause-turn : goal.returns-in-Err-Memory-clause-turn
 returns-in-Err-Memory-clause-turn g c running =
