@@ -44,7 +44,7 @@ cut_short n front bytes f (inr (inl e)) wrote = inl (front, by_memory front byte
 cut_short n front bytes f (inr (inr e)) wrote = inr (
   front ++ failed_front n,
   wrote ∙ ap (λ (g : Fault). front ++ fault_text g) e ∙ ap (λ (l : List ℕ). front ++ l) (failed_text n)
-  ∙ sym (append_assoc front (failed_front n) (codes "read failed\n")),
+      ∙ sym (append_assoc front (failed_front n) (codes "read failed\n")),
 )
 
 has : (n : ℕ) (outcome : Outcome) (end : memory_outcome_t) (bytes : List ℕ) (lines : List (List ℕ)) (ending : Ending) → EndsAs outcome bytes end

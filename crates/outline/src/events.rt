@@ -11,8 +11,8 @@ use unsafe_libyaml::{
 /// How much deeper the events behind this one stand, and whether its own line does not.
 fn depth_change(event: &yaml_event_t) -> i8 {
     match &event.content {
-        unnamed_yaml_event_t_data::SequenceStart(_)
-        | unnamed_yaml_event_t_data::MappingStart(_) => 1,
+        unnamed_yaml_event_t_data::SequenceStart(_) | unnamed_yaml_event_t_data::MappingStart(_) =>
+            1,
         unnamed_yaml_event_t_data::SequenceEnd | unnamed_yaml_event_t_data::MappingEnd => -1,
         _ => 0,
     }

@@ -28,20 +28,14 @@ fn push(
 
 /// The content of a plain scalar.
 fn scalar(alloc: Global, text: &str) -> Result<unnamed_yaml_token_t_data, AllocError> {
-    Ok(unnamed_yaml_token_t_data::Scalar(
-        unnamed_yaml_token_t_data_scalar {
-            value: String::from_str(alloc, text)?,
-            style: YAML_PLAIN_SCALAR_STYLE,
-        },
-    ))
+    Ok(unnamed_yaml_token_t_data::Scalar(unnamed_yaml_token_t_data_scalar {
+        value: String::from_str(alloc, text)?,
+        style: YAML_PLAIN_SCALAR_STYLE,
+    }))
 }
 
 /// Puts the tokens of a key and of its value's beginning.
-fn push_key(
-    alloc: Global,
-    tokens: &mut Vec<yaml_token_t>,
-    key: &str,
-) -> Result<(), AllocError> {
+fn push_key(alloc: Global, tokens: &mut Vec<yaml_token_t>, key: &str) -> Result<(), AllocError> {
     push(tokens, unnamed_yaml_token_t_data::Key)?;
     push(tokens, scalar(alloc, key)?)?;
     push(tokens, unnamed_yaml_token_t_data::Value)
@@ -50,8 +44,8 @@ fn push_key(
 /// Returns the tokens, as a scanner gives them: a KEY before each key, a VALUE before each value.
 pub fn tokens_of_a_box(alloc: Global) -> Result<Vec<yaml_token_t>, AllocError> {
     use unnamed_yaml_token_t_data::{
-        FlowEntry, FlowMappingEnd, FlowMappingStart, FlowSequenceEnd, FlowSequenceStart,
-        StreamEnd, StreamStart,
+        FlowEntry, FlowMappingEnd, FlowMappingStart, FlowSequenceEnd, FlowSequenceStart, StreamEnd,
+        StreamStart,
     };
     let mut tokens = Vec::new(alloc);
     let encoding = YAML_UTF8_ENCODING;
