@@ -1,5 +1,5 @@
 #!/usr/bin/env python3
-"""Counts the lines of definitions that the clauses of the two whole runs cite, directly or through one another.
+"""Counts the lines of definitions that the headline's clauses of the two whole runs cite, directly or through one another.
 
     python3 scripts/definitions.py            prints the table of docs/HEADLINE.md
     python3 scripts/definitions.py --check    fails where the page says something else
@@ -99,7 +99,8 @@ def seeds_of(name, function):
     """The names that the clauses of a function cite."""
     text = (ROOT / "crates" / "unsafe_libyaml" / "src" / (name + ".rt")).read_text()
     start = text.index("pub fn " + function)
-    clauses = re.sub(r"//.*", "", text[start : text.index("\n{", start)])
+    clauses = re.split(r"(?=    ensures )", re.sub(r"//.*", "", text[start : text.index("\n{", start)]))
+    clauses = "".join(clause for clause in clauses if re.match(r" +ensures of_(cut_)?tree ", clause))
     known = imports(text)
     return [known[word] for word in {word.strip(".,") for word in WORD.findall(clauses)} if word in known]
 

@@ -13,6 +13,7 @@ use Rattle.libyaml_events.specs.machine.Config.{Parser, is_fault}
 use Rattle.libyaml_grammar.specs.sentences.Events.{Event, events}
 use Rattle.libyaml_grammar.specs.runs.Fault.{Answer, Fault}
 use Rattle.libyaml_grammar.specs.runs.Fault as faults
+use Rattle.libyaml_grammar.specs.cuts.FaultTexts.{memory_fault}
 use Rattle.libyaml_events.specs.sources.History.{History, between_documents, has_failed, kept_fault}
 use Rattle.libyaml_grammar.specs.sentences.Nesting.{IsNested}
 use Rattle.libyaml_grammar.specs.sentences.Order.{in_order}
@@ -29,7 +30,7 @@ use Rattle.libyaml_graphs.specs.GraphLaws.{RootsFollow}
 use Rattle.libyaml_graphs.specs.Loads.{IsLoads, Load, last_load, left_over, loads, loads_of}
 use Rattle.libyaml_graphs.proofs.Roots.{earlier_of, fault_of, last_of, left_roots, roots_follow}
 use Rattle.libyaml_graphs.proofs.RunLoads.{sentence_loads}
-use Rattle.libyaml_graphs.proofs.BoundedFronts.{unmet_loads}
+use Rattle.libyaml_graphs.proofs.BoundedFronts.{IsFront, front_of_loads, met, same, unmet_loads}
 use Rattle.libyaml_loader.specs.Ids.{magnitude}
 use Rattle.libyaml_loader.specs.Loading.{DocumentOrError, LoadsFrom, at_end, whole}
 use Rattle.libyaml_loader.specs.NextLoad.{Answers, UnlessBroken, breaks, does, no_memory}
@@ -77,6 +78,28 @@ roots_last (c ∷ ds) d h k = All-cons HasRoot c (ds ++ d ∷ []) (All-head HasR
 none_lacks : (ds : List Document) (l : List Load) → NoneLacksMemory l → NoneLacksMemory (oks ds ++ l)
 none_lacks [] l h = h
 none_lacks (d ∷ ds) l h = none_lacks ds l h
+
+-- the documents that were loaded are the first of the loads, also where the bound is met behind them
+same_document : (c d : Document) (a b : List Load) → ◌≡◌ {A = List Load} (Ok c ∷ a) (Ok d ∷ b) → c ≡ d
+same_document c d a b h = cc
+
+same_behind : (c d : Document) (a b : List Load) → ◌≡◌ {A = List Load} (Ok c ∷ a) (Ok d ∷ b) → a ≡ b
+same_behind c d a b h = cc
+
+oks_first : (loaded ds : List Document) (behind rest : List Load) → ◌≡◌ {A = List Load} (oks ds ++ (Err memory_fault ∷ [])) (oks loaded ++ behind)
+    → (t : List Load) × (oks ds ++ rest ≡ oks loaded ++ t)
+oks_first [] ds behind rest h = (oks ds ++ rest, refl)
+oks_first (d ∷ loaded) [] behind rest h = absurd cc
+oks_first (d ∷ loaded) (c ∷ ds) behind rest h =
+    let k = oks_first loaded ds behind rest (same_behind c d (oks ds ++ (Err memory_fault ∷ [])) (oks loaded ++ behind) h) in (
+      k.0,
+      ap₂ (λ (x : Document) (l : List Load). Ok x ∷ l) (same_document c d (oks ds ++ (Err memory_fault ∷ [])) (oks loaded ++ behind) h) k.1,
+    )
+
+loaded_first : (within all : List Load) → IsFront within all → (loaded : List Document) (behind : List Load) → within ≡ oks loaded ++ behind
+    → (t : List Load) × (all ≡ oks loaded ++ t)
+loaded_first within all (same e) loaded behind h = (behind, sym e ∙ h)
+loaded_first within all (met ds rest i j) loaded behind h = let k = oks_first loaded ds behind rest (sym i ∙ h) in (k.0, j ∙ k.1)
 
 ends_here : (x : Ending) (d : Document) → last_load x ≡ Ok d → Ends ≡ x
 ends_here Ends d h = refl
@@ -232,7 +255,10 @@ module _ {S : Type 0} (gives : S → Answer → S → Type 0) (known : S → Opt
         go : Failed (next_bounded most b.later x) → LoadsTo MayBreak all (loads h.events x)
         go (inl e) = told_all h.events x (Fails (kept_fault new)) b (fault_of b.later x most (kept_fault new) e) (no_want, tt) all items ends_so
         go (inr (inl m)) = absurd (no_want m)
-        go (inr (inr m)) = told.broken_off new.source (kept_fault new) m ends_so
+        go (inr (inr m)) =
+            let first = loaded_first (bounded_loads most h.events x) (loads h.events x) (front_of_loads h.events x most) loaded (bounded_loads most b.later x) b.all
+            in
+            told.broken_off new.source (kept_fault new) m ends_so first.0 (first.1 ∙ ap (λ (ds : List Document). oks ds ++ first.0) (sym items))
 
 -- a document whose nodes are counted
 pub bare : (ns : List yaml_node_t) → nat_eq (length ns) 0 ≡ true → ns ≡ []

@@ -5,22 +5,24 @@ use Rattle.std.proofs.lemmas.List.{append-nil}
 use Rattle.std.specs.declared.alloc.AllocError.{AllocError}
 use Rattle.libyaml_types.specs.declared.enums.yaml_error_type_t.{yaml_error_type_t}
 use Rattle.libyaml_types.specs.declared.enums.yaml_error_type_t.TheVariants.{YAML_MEMORY_ERROR}
-use Rattle.libyaml_events.specs.sources.Calls.{EventOrError}
+use Rattle.libyaml_events.specs.sources.Calls.{EventOrError, Gave}
 use Rattle.libyaml_events.specs.machine.Config.{Parser}
 use Rattle.libyaml_grammar.specs.sentences.Events.{Event, events}
+use Rattle.libyaml_grammar.specs.cuts.Settled.{BeginsEach}
+use Rattle.libyaml_grammar.specs.sentences.Nesting.{NestsSoFar}
 use Rattle.libyaml_grammar.specs.sentences.Order.{in_order}
 use Rattle.libyaml_grammar.specs.sentences.Trees.{Stream, tokens}
 use Rattle.libyaml_grammar.proofs.runs.Running.{sentence_run}
 use Rattle.libyaml_grammar.specs.runs.Fault.{Fault, Answer, fault_of}
-use Rattle.libyaml_events.specs.sources.History.{History, is_over, is_stream_end, kept_fault}
-use Rattle.libyaml_events.specs.sources.Parsing.{CarriesOn}
+use Rattle.libyaml_events.specs.sources.History.{ForHistory, History, answers, is_over, is_stream_end, kept_fault}
+use Rattle.libyaml_events.specs.sources.Parsing.{CarriesOn, FailsBy, IsWhole}
 use Rattle.libyaml_events.specs.sources.RunToCome.{FailsHere, RunToCome}
 use Rattle.libyaml_grammar.specs.runs.Runs.{Ending, Ends, Fails, IsRun}
 use Rattle.libyaml_events.specs.sources.Source.{Coming, coming}
 use Rattle.libyaml_grammar.specs.sentences.Tokens.{Token}
 use Rattle.libyaml_grammar.specs.declared.fault.yaml_parser_t_prefix.{yaml_parser_t_prefix}
 use Rattle.libyaml_events.proofs.calls.NextEvents.{Says, fails_here, first_event}
-use Rattle.unsafe_libyaml.specs.WholeRun.{RunsTo, whole, broken_off, ending_of}
+use Rattle.unsafe_libyaml.specs.WholeRun.{Gathers, RunsTo, whole, broken_off, ending_of}
 use Rattle.unsafe_libyaml.specs.declared.parse_all.yaml_run_t.{yaml_run_t}
 
 -- the events of the run that were not given yet
@@ -30,73 +32,122 @@ pub record Left {S : Type 0} (known : S → Option Coming) (p : Parser S) (given
   pub to_come : RunToCome known p later x
 
 -- amid the run over a source: the parser gave these events since it was made
-pub record Reached {S : Type 0} (known : S → Option Coming) (source : S) (p : Parser S) (given : List Event) : Type 0 where
+pub record Reached {S : Type 0} (gives : S → Answer → S → Type 0) (known : S → Option Coming) (source : S) (p : Parser S) (given : List Event) : Type 0 where
   pub asked : List Token
   pub history : History p asked given
+  pub gave : Gave gives source (answers asked []) p.source
   pub running : is_over p ≡ false
   pub left : (l : List Token) (f : Fault) (e : List Event) (x : Ending) → IsRun l f e x → known source ≡ Some (coming l f) → Left known p given e x
 
-module _ {S : Type 0} (known : S → Option Coming) (MayBreak : S → Fault → Type 0) (source : S) (old new : Parser S) where
-  pub reached_start : History new [] [] → is_over new ≡ false
+-- the source gave these answers behind those tokens
+gave_on : {S : Type 0} (gives : S → Answer → S → Type 0) (l : List Token) (r : List Answer) (a b c : S) → Gave gives a (answers l []) b → Gave gives b r c
+    → Gave gives a (answers l r) c
+gave_on gives [] r a b c h k = subst (λ x. Gave gives x r c) h k
+gave_on gives (t ∷ l) r a b c (mid, g, h) k = (mid, g, gave_on gives l r mid b c h k)
+
+answers_both : (l m : List Token) → answers l (answers m []) ≡ answers (l ++ m) []
+answers_both [] m = refl
+answers_both (t ∷ l) m = ap (λ (r : List Answer). Ok t ∷ r) (answers_both l m)
+
+module _ {S : Type 0} (gives : S → Answer → S → Type 0) (known : S → Option Coming) (MayBreak : S → Fault → Type 0) (source : S) (old new : Parser S) where
+  gave_more : (l m : List Token) (a b c : S) → Gave gives a (answers l []) b → Gave gives b (answers m []) c → Gave gives a (answers (l ++ m) []) c
+  gave_more l m a b c h k = subst (λ (r : List Answer). Gave gives a r c) (answers_both l m) (gave_on gives l (answers m []) a b c h k)
+
+  pub reached_start : History new [] [] → new.source ≡ source → is_over new ≡ false
       → ((l : List Token) (f : Fault) → known source ≡ Some (coming l f) → (e : List Event) (x : Ending) → IsRun l f e x → RunToCome known new e x)
-      → Reached known source new []
-  reached_start h running run = record {
+      → Reached gives known source new []
+  reached_start h at_source running run = record {
     asked = [];
     history = h;
+    gave = at_source;
     running = running;
     left
         = λ l f e x r k. record { later = e; all = refl; to_come = run l f k e x r };
   }
 
-  pub reached_as : (given all : List Event) → all ≡ given → Reached known source new given → Reached known source new all
-  reached_as given all h reached = subst (λ (l : List Event). Reached known source new l) (sym h) reached
+  pub reached_as : (given all : List Event) → all ≡ given → Reached gives known source new given → Reached gives known source new all
+  reached_as given all h reached = subst (λ (l : List Event). Reached gives known source new l) (sym h) reached
 
-  left_behind : (given : List Event) (r : EventOrError) (e : Event) → r ≡ Ok e → Says known MayBreak old new r → Reached known source old given
-      → (gives : S → Answer → S → Type 0) → (reached : Reached known source old given) → CarriesOn gives old e new reached.asked given
+  left_behind : (given : List Event) (r : EventOrError) (e : Event) → r ≡ Ok e → Says known MayBreak old new r
+      → (reached : Reached gives known source old given) → CarriesOn gives old e new reached.asked given
       → (l : List Token) (f : Fault) (es : List Event) (x : Ending) → IsRun l f es x → known source ≡ Some (coming l f)
       → Left known new (given ++ e ∷ []) es x
-  left_behind given r e is says _ gives reached on l f es x run k =
+  left_behind given r e is says reached on l f es x run k =
       let a = reached.left l f es x run k in
       let b = first_event known MayBreak old new r e is on.an_event says a.later x a.to_come in
       record { later = b.later; all = a.all ∙ (ap (λ t. given ++ t) b.first ∙ sym (append_assoc given (e ∷ []) b.later)); to_come = b.run }
 
-  pub reached_next : (given : List Event) (r : EventOrError) (e : Event) → r ≡ Ok e → Says known MayBreak old new r → (gives : S → Answer → S → Type 0)
-      → (reached : Reached known source old given) → CarriesOn gives old e new reached.asked given → is_stream_end e ≡ false
-      → Reached known source new (given ++ e ∷ [])
-  reached_next given r e is says gives reached on more = record {
+  pub reached_next : (given : List Event) (r : EventOrError) (e : Event) → r ≡ Ok e → Says known MayBreak old new r
+      → (reached : Reached gives known source old given) → CarriesOn gives old e new reached.asked given → is_stream_end e ≡ false
+      → Reached gives known source new (given ++ e ∷ [])
+  reached_next given r e is says reached on more = record {
     asked = reached.asked ++ on.more;
     history = on.history;
+    gave = gave_more reached.asked on.more source old.source new.source reached.gave on.gave;
     running = on.ends ∙ more;
-    left = left_behind given r e is says reached gives reached on;
+    left = left_behind given r e is says reached on;
   }
 
-  pub ran_to_end : (given : List Event) (r : EventOrError) (e : Event) → r ≡ Ok e → Says known MayBreak old new r → (gives : S → Answer → S → Type 0)
-      → (reached : Reached known source old given) → CarriesOn gives old e new reached.asked given → is_stream_end e ≡ true
+  pub ran_to_end : (given : List Event) (r : EventOrError) (e : Event) → r ≡ Ok e → Says known MayBreak old new r
+      → (reached : Reached gives known source old given) → CarriesOn gives old e new reached.asked given → is_stream_end e ≡ true
       → (is_over new ≡ true → (later : List Event) (x : Ending) → RunToCome known new later x → (later ≡ []) × (x ≡ Ends))
       → (run : yaml_run_t) → run.events.items ≡ given ++ e ∷ [] → run.fault ≡ None → (l : List Token) (f : Fault) (es : List Event) (x : Ending)
-      → IsRun l f es x → known source ≡ Some (coming l f) → RunsTo MayBreak run es x
-  ran_to_end given r e is says gives reached on last nothing run all no_fault l f es x is_run k =
-      let a = left_behind given r e is says reached gives reached on l f es x is_run k in
+      → IsRun l f es x → known source ≡ Some (coming l f) → RunsTo gives MayBreak source run es x
+  ran_to_end given r e is says reached on last nothing run all no_fault l f es x is_run k =
+      let a = left_behind given r e is says reached on l f es x is_run k in
       let b = nothing (on.ends ∙ last) a.later x a.to_come in
       whole (all ∙ (sym (append-nil (given ++ e ∷ [])) ∙ (ap (λ t. (given ++ e ∷ []) ++ t) (sym b.0) ∙ sym a.all))) (ap ending_of no_fault ∙ sym b.1)
 
   -- where the fault is not want of memory
   pub ran_to_fault : (given : List Event) (r : EventOrError) {x : yaml_error_type_t} → r ≡ Err x → Says known MayBreak old new r
-      → (reached : Reached known source old given)
+      → (reached : Reached gives known source old given) → FailsBy gives old new reached.asked given
       → (run : yaml_run_t) → run.events.items ≡ given → (p : yaml_parser_t_prefix) → fault_of p ≡ kept_fault new → run.fault ≡ Some p
       → p.error ≢ YAML_MEMORY_ERROR
-      → (l : List Token) (f : Fault) (es : List Event) (y : Ending) → IsRun l f es y → known source ≡ Some (coming l f) → RunsTo MayBreak run es y
-  ran_to_fault given r {x} failed says reached run all p kept fault other l f es y is_run k =
+      → (l : List Token) (f : Fault) (es : List Event) (y : Ending) → IsRun l f es y → known source ≡ Some (coming l f) → RunsTo gives MayBreak source run es y
+  ran_to_fault given r {x} failed says reached fails run all p kept fault other l f es y is_run k =
       let a = reached.left l f es y is_run k in
       go a (fails_here known MayBreak old new r x failed says a.later y a.to_come)
     where
       fault_is : ending_of run.fault ≡ Fails (kept_fault new)
       fault_is = ap ending_of fault ∙ ap Fails kept
 
-      go : (a : Left known old given es y) → FailsHere (MayBreak new.source) (kept_fault new) a.later y → RunsTo MayBreak run es y
+      go : (a : Left known old given es y) → FailsHere (MayBreak new.source) (kept_fault new) a.later y → RunsTo gives MayBreak source run es y
       go a (inl h) = whole (all ∙ (sym (append-nil given) ∙ (ap (λ t. given ++ t) (sym h.0) ∙ sym a.all))) (fault_is ∙ sym h.1)
       go a (inr (inl h)) = absurd (other (ap (λ (g : Fault). g.error) (kept ∙ h)))
-      go a (inr (inr h)) = broken_off new.source (kept_fault new) h fault_is
+      go a (inr (inr h)) =
+          broken_off (answers reached.asked fails.more) new.source (kept_fault new)
+          (gave_on gives reached.asked fails.more source old.source new.source reached.gave fails.gave) h fault_is
+          (a.later, a.all ∙ ap (λ t. t ++ a.later) (sym all))
+
+  -- over every source, by the laws of histories
+  module _ (begins : (p : Parser S) → ForHistory p BeginsEach)
+      (nests : (p : Parser S) → ForHistory p (λ (asked : List Token) (given : List Event). NestsSoFar given)) where
+    pub gathers_all : (given : List Event) (e : Event) (reached : Reached gives known source old given) → CarriesOn gives old e new reached.asked given
+        → is_stream_end e ≡ true → (run : yaml_run_t) → run.events.items ≡ given ++ e ∷ [] → Gathers gives source run
+    gathers_all given e reached on last run all = record {
+      asked = reached.asked ++ on.more;
+      last = [];
+      stands = new.source;
+      gave = gave_more reached.asked on.more source old.source new.source reached.gave on.gave;
+      begins = subst (BeginsEach (reached.asked ++ on.more)) (sym all) (begins new _ _ on.history);
+      nests = subst NestsSoFar (sym all) (nests new _ _ on.history);
+      whole = λ (no_fault : run.fault ≡ None). subst (IsWhole (reached.asked ++ on.more)) (sym all) (on.whole last);
+    }
+
+    pub gathers_some : (given : List Event) (reached : Reached gives known source old given) → FailsBy gives old new reached.asked given
+        → (run : yaml_run_t) → run.events.items ≡ given → (p : yaml_parser_t_prefix) → run.fault ≡ Some p → Gathers gives source run
+    gathers_some given reached fails run all p fault = record {
+      asked = reached.asked;
+      last = fails.more;
+      stands = new.source;
+      gave = gave_on gives reached.asked fails.more source old.source new.source reached.gave fails.gave;
+      begins = subst (BeginsEach reached.asked) (sym all) (begins old _ _ reached.history);
+      nests = subst NestsSoFar (sym all) (nests old _ _ reached.history);
+      whole = λ (no_fault : run.fault ≡ None). absurd (some_fault (sym fault ∙ no_fault));
+    }
+      where
+        some_fault : Some p ≡ None → ⊥
+        some_fault h = cc
 
 -- a run of any list is one of a tree's tokens, or of a cut tree's
 pub tree_runs : (t : Stream) (f : Fault) → in_order t ≡ true → IsRun (tokens t) f (events t) Ends

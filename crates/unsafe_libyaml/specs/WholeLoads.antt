@@ -11,7 +11,9 @@ use Rattle.unsafe_libyaml.specs.WholeRun.{ending_of}
 abbrev pub as_loads : List Document → Ending → List Load
 as_loads documents ending = map (λ (d : Document). Ok d) documents ++ last_load ending ∷ []
 
--- These loads; or the source broke off, by a fault that it names as possible where it then stood. A list never does.
+-- These loads; or the source broke off, by a fault that it names as possible where it then stood, and the documents are a prefix.
+-- A list never does.
 pub data LoadsTo {S : Type 0} (MayBreak : S → Fault → Type 0) (all : yaml_documents_t) (loads : List Load) : Type 0 where
   whole : as_loads all.documents.items (ending_of all.fault) ≡ loads → LoadsTo MayBreak all loads
-  broken_off : (s : S) (f : Fault) → MayBreak s f → ending_of all.fault ≡ Fails f → LoadsTo MayBreak all loads
+  broken_off : (s : S) (f : Fault) → MayBreak s f → ending_of all.fault ≡ Fails f
+      → (rest : List Load) → loads ≡ map (λ (d : Document). Ok d) all.documents.items ++ rest → LoadsTo MayBreak all loads

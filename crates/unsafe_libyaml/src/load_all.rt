@@ -1,5 +1,5 @@
 //! All documents of a source at once.
-ghost use Rattle.std.specs.Prelude.{◌≡◌, ◌≢◌, ◌++◌, ◌∷◌, List, [], All, Some, true, IfOk};
+ghost use Rattle.std.specs.Prelude.{◌≡◌, ◌≢◌, ◌++◌, ◌∷◌, List, [], All, Some, true, IfOk, IfErr};
 ghost use Rattle.libyaml_grammar.specs.cuts.CutEvents.{cut_events};
 ghost use Rattle.libyaml_grammar.specs.cuts.CutFaults.{fault};
 ghost use Rattle.libyaml_grammar.specs.cuts.CutTrees.{Cut};
@@ -85,8 +85,9 @@ fn failed_load(
     documents: Vec<yaml_document_t>,
     fault: yaml_parser_t_prefix,
 ) -> Result<yaml_documents_t, AllocError>
-    ensures { IfOk result (λ all. (all.documents ≡ documents) × (all.fault ≡ Some fault)
+    ensures ok { IfOk result (λ all. (all.documents ≡ documents) × (all.fault ≡ Some fault)
         × (fault.error ≢ yaml_error_type_t.YAML_MEMORY_ERROR)) }
+    ensures memory { IfErr result (λ _. fault.error ≡ yaml_error_type_t.YAML_MEMORY_ERROR) }
 {
     let fault = unless_memory(fault)?;
     Ok(yaml_documents_t {

@@ -1,5 +1,5 @@
 //! All events of a source at once.
-ghost use Rattle.std.specs.Prelude.{◌≡◌, ◌≢◌, ◌++◌, ◌∷◌, List, Some, true, IfOk};
+ghost use Rattle.std.specs.Prelude.{◌≡◌, ◌≢◌, ◌++◌, ◌∷◌, List, Some, true, IfOk, IfErr};
 ghost use Rattle.libyaml_grammar.specs.cuts.CutEvents.{cut_events};
 ghost use Rattle.libyaml_grammar.specs.cuts.CutFaults.{fault};
 ghost use Rattle.libyaml_grammar.specs.cuts.CutTrees.{Cut};
@@ -12,8 +12,9 @@ ghost use Rattle.libyaml_grammar.specs.runs.Runs.{Ending, Ends, Fails, IsRun, is
 ghost use Rattle.libyaml_events.specs.sources.Source.{coming};
 ghost use Rattle.libyaml_grammar.specs.sentences.Tokens.{Token};
 ghost use Rattle.libyaml_grammar.specs.sentences.Trees.{Stream, tokens};
-ghost use Rattle.unsafe_libyaml.specs.WholeRun.{RunsTo};
+ghost use Rattle.unsafe_libyaml.specs.WholeRun.{Gathers, RunsTo};
 
+use libyaml_events::laws::calls::of_history;
 use libyaml_events::{
     yaml_parser_initialize, yaml_parser_parse, yaml_parser_t_prefix, yaml_token_source_t,
 };
@@ -42,18 +43,21 @@ pub fn yaml_parser_parse_all<S: yaml_token_source_t + Drop>(
     // the tokens of a tree in order give its events, and the end
     ensures of_tree { (t : Stream) (f : Fault) → in_order t ≡ true
         → S.known source ≡ Some (coming (tokens t) f)
-        → IfOk result (λ run. RunsTo S.may_break run (events t) Ends) }
+        → IfOk result (λ run. RunsTo S.gives S.may_break source run (events t) Ends) }
     // a cut tree that fits gives its events, and its fault
     ensures of_cut_tree { (before : List Token) (token : Token) (behind : List Token) (c : Cut) (f : Fault)
         → Fits before token c
         → is_behind_properties c behind ≡ true → S.known source ≡ Some (coming (before ++ token ∷ behind) f)
-        → IfOk result (λ run. RunsTo S.may_break run (cut_events c token)
+        → IfOk result (λ run. RunsTo S.gives S.may_break source run (cut_events c token)
         (Fails (fault c token.content token.start_mark))) }
     // any list of tokens gives its run
     ensures of_list { (l : List Token) (f : Fault) (e : List Event) (x : Ending) → IsRun l f e x
         → S.known source ≡ Some (coming l f)
-        → IfOk result (λ run. RunsTo S.may_break run e x) }
+        → IfOk result (λ run. RunsTo S.gives S.may_break source run e x) }
+    // over every source, also one that does not know its tokens
+    ensures gathers { IfOk result (λ run. Gathers S.gives source run) }
 {
+    of_history::<S>();
     let mut parser = yaml_parser_initialize(alloc, source);
     let mut events = Vec::new(alloc);
     loop {
@@ -78,8 +82,9 @@ fn failed_run(
     events: Vec<yaml_event_t>,
     fault: yaml_parser_t_prefix,
 ) -> Result<yaml_run_t, AllocError>
-    ensures { IfOk result (λ run. (run.events ≡ events) × (run.fault ≡ Some fault)
+    ensures ok { IfOk result (λ run. (run.events ≡ events) × (run.fault ≡ Some fault)
         × (fault.error ≢ yaml_error_type_t.YAML_MEMORY_ERROR)) }
+    ensures memory { IfErr result (λ _. fault.error ≡ yaml_error_type_t.YAML_MEMORY_ERROR) }
 {
     let fault = unless_memory(fault)?;
     Ok(yaml_run_t {
@@ -90,7 +95,8 @@ fn failed_run(
 
 /// This fault, but want of memory is answered as such.
 pub fn unless_memory(fault: yaml_parser_t_prefix) -> Result<yaml_parser_t_prefix, AllocError>
-    ensures { IfOk result (λ f. (f ≡ fault) × (fault.error ≢ yaml_error_type_t.YAML_MEMORY_ERROR)) }
+    ensures ok { IfOk result (λ f. (f ≡ fault) × (fault.error ≢ yaml_error_type_t.YAML_MEMORY_ERROR)) }
+    ensures memory { IfErr result (λ _. fault.error ≡ yaml_error_type_t.YAML_MEMORY_ERROR) }
 {
     match fault.error {
         yaml_error_type_t::YAML_MEMORY_ERROR => Err(AllocError),

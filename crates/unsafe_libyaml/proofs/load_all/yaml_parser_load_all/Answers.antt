@@ -59,11 +59,11 @@ returns-in-Err-clause-of_list g c l f a h k =
     let fails = loaded_to_fault t.gives t.known t.may_break c.args.source c.loop-document.parser c.yaml_parser_load.new.parser c.yaml_parser_load.result
     (record { next = call.next_load; loads = call.loads; between = call.between; bound = call.bound }) c.loop-document.documents.items
     c.loop-document.invariant c.in-Err.field-0 c.in-Err.is in
-    if_loaded c.failed_load.result _ _ c.failed_load.ensures (λ all r. fails all (ap (λ v. v.items) r.0) _ c.prefix.ensures.kept r.1 r.2 l f a h k)
+    if_loaded c.failed_load.result _ _ c.failed_load.ensures.ok (λ all r. fails all (ap (λ v. v.items) r.0) _ c.prefix.ensures.kept r.1 r.2 l f a h k)
 
 pub returns-in-Err-clause-roots : goal.returns-in-Err-clause-roots
 returns-in-Err-clause-roots g c
-    = if_loaded c.failed_load.result _ _ c.failed_load.ensures
+    = if_loaded c.failed_load.result _ _ c.failed_load.ensures.ok
     (λ all r. subst (λ v. All (λ d. d.nodes ≢ []) v.items) (sym r.0) c.loop-document.invariant.roots)
 
 pub returns-in-Err-clause-of_tree : goal.returns-in-Err-clause-of_tree
