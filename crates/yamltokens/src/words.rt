@@ -35,7 +35,8 @@ pub fn run_words<R: BufRead + Drop, W: Write, E: Write>(
     ensures runs { (run : Run) → asked_run (map string_bytes words.now) ≡ Some run
         → RunsWith run R.remaining W.contents reader result (W.contents output.old)
         (W.contents output.new) }
-    ensures refused { asked_run (map string_bytes words.now) ≡ None → (result ≡ 2) × (output.new ≡ output.old) }
+    ensures refused { asked_run (map string_bytes words.now) ≡ None → (result ≡ 2)
+        × (output.new ≡ output.old) }
     ensures quiet { result < 2 → errors.new ≡ errors.old }
 {
     let outcome = match asked_run(words) {
