@@ -1,9 +1,9 @@
 #!/bin/sh
-# Refuses growths in turn: runs programs of rows with the word `refused`, each with its first allocation refused, then
-# with its second, and so on until nothing is refused. A program counts what gave a wrong answer. It has to be built
+# Makes allocations fail in turn: runs programs of rows with the word `refused`, each with its first allocation failed, then
+# with its second, and so on until none fails. A program counts what gave a wrong answer. It has to be built
 # (`rt run` in its folder); a C compiler and the GNU C library are needed.
 #
-#     examples/refused_growths.sh [CRATE..]
+#     scripts/allocation_failures.sh [CRATE..]
 #
 # Without words: hostile_rows large_rows call_rows line_rows.
 set -u
@@ -21,19 +21,19 @@ refuse_in_turn() {
     while :; do
         said=$(REFUSE=$n LD_PRELOAD=$shim "$program" refused 2>&1)
         case $said in
-        *"no growth refused") break ;;
+        *"no allocation failed") break ;;
         esac
         is_right "$said" || { echo "$1, allocation $n refused: $said"; status=1; }
         n=$((n + 1))
     done
     [ "$said" = "$whole
-no growth refused" ] || status=1
+no allocation failed" ] || status=1
     echo "$1: $((n - 1)) allocations refused in turn"
 }
 
 status=0
 shim=$(mktemp) || exit 2
-cc -O2 -fPIC -shared -o "$shim" examples/refuse.c || exit 2
+cc -O2 -fPIC -shared -o "$shim" scripts/fail_allocation.c || exit 2
 for crate in ${*:-hostile_rows large_rows call_rows line_rows}; do
     refuse_in_turn "$crate"
 done

@@ -1,7 +1,8 @@
-/* Refuses the Nth allocation of a program, for examples/refused_growths.sh. Where the program makes fewer, it says so.
+/* Makes the Nth allocation of a program fail, for scripts/allocation_failures.sh and scripts/c_checks.sh. Where the program
+ * makes fewer, it says so.
  *
- *     cc -O2 -fPIC -shared -o refuse.so refuse.c
- *     REFUSE=N LD_PRELOAD=./refuse.so PROGRAM
+ *     cc -O2 -fPIC -shared -o fail_allocation.so fail_allocation.c
+ *     REFUSE=N LD_PRELOAD=./fail_allocation.so PROGRAM
  */
 #include <stdlib.h>
 #include <unistd.h>
@@ -32,7 +33,7 @@ void *realloc(void *old, size_t size)
 
 __attribute__((destructor)) static void report(void)
 {
-    static const char text[] = "no growth refused\n";
+    static const char text[] = "no allocation failed\n";
     if (left != 0 && write(2, text, sizeof text - 1) < 0)
         return;
 }

@@ -3,7 +3,7 @@
 # counted and the largest resident size of the run in KB. The second may be 512 KB more at most: a body that never frees
 # passes every proof. The program has to be built (`rt run` in crates/large_rows) and GNU time be there.
 #
-#     examples/flat_memory.sh
+#     scripts/flat_memory.sh
 set -u
 cd "$(dirname "$0")/../crates/large_rows/out" || exit 2
 

@@ -1,15 +1,15 @@
 #!/bin/sh
 # Counts instructions over token lines of real files, by valgrind's callgrind: the counts repeat to a thousandth.
-# The lines are those of compose.yaml and list.yaml through libyaml's scanner (tokens.c; Debian: libyaml-dev,
-# valgrind), again and again, the first LINES of them. OTHER is any command that reads the same lines, as an
+# The lines are those of compose.yaml and list.yaml through libyaml's scanner (`yaml tokens`, which build_c.sh builds;
+# Debian: valgrind), again and again, the first LINES of them. OTHER is any command that reads the same lines, as an
 # earlier build of this program or libyaml's parser fed with them.
 #
-#     examples/instructions.sh PROGRAM [LINES [OTHER WORD..]]
+#     scripts/instructions.sh PROGRAM [LINES [OTHER WORD..]]
 set -eu
 program=$(realpath "$1")
 lines=${2:-60000}
 shift; [ $# -eq 0 ] || shift
-cd "$(dirname "$0")"
+cd "$(dirname "$0")/../examples"
 work=$(mktemp -d)
 trap 'rm -rf "$work"' EXIT
 
@@ -26,8 +26,10 @@ count() {
         sed -n 's/.*Collected : //p'
 }
 
-"${CC:-cc}" -O2 tokens.c -lyaml -o "$work/scan"
-repeat_files | "$work/scan" | head -n "$lines" > "$work/tokens"
+sh ../scripts/build_c.sh "$work/c"
+repeat_files > "$work/repeated"
+"$work/c/yaml" tokens "$work/repeated" > "$work/all"
+head -n "$lines" "$work/all" > "$work/tokens"
 echo "$(wc -l < "$work/tokens") lines, $(wc -c < "$work/tokens") bytes"
 echo "$program events: $(count "$program" events) instructions, $(cksum < "$work/out" | cut -d' ' -f1) the sum of its output"
 [ $# -eq 0 ] || echo "$*: $(count "$@") instructions, $(cksum < "$work/out" | cut -d' ' -f1) the sum of its output"
