@@ -1,266 +1,448 @@
 #!/usr/bin/env python3
-"""YAML text to tokens, events or nodes: PyYAML's scanner in front (Debian: python3-yaml), Pokhvizi behind it.
-
-    yaml.py tokens FILE
-    yaml.py events [--program PATH | --library PATH] FILE
-    yaml.py nodes [--program PATH | --library PATH] FILE
-
-FILE - is standard input. `tokens` writes the token lines, for `yamltokens` to read. `events` and `nodes` give them to
-the program `yamltokens`, found in PATH, in this repository or named by --program, or to the shared library that
-`scripts/build_c.sh` makes, named by --library. A fault stands in the last lines that are written, those of a broken
-text too, and once more on standard error.
-
-Exit status: 0 the text was read, 1 it has a fault, 2 wrong words, 3 a file, a module, the program, the output or memory
-failed, 130 interrupted.
-"""
+"""YAML text to lines of tokens, events or nodes: PyYAML's scanner in front, `yamltokens` or its library behind it."""
 import sys
 
-OLDEST = (3, 8)
-if sys.version_info < OLDEST:
-    sys.stderr.write("yaml.py: Python %d.%d or later is needed\n" % OLDEST)
+USAGE = """\
+usage: yaml.py tokens FILE
+       yaml.py events|nodes FILE [--program PATH | --library PATH]
+
+Reads a YAML text through PyYAML's scanner (Debian: python3-yaml), libyaml's where PyYAML has its C part.
+FILE - is standard input.
+
+  tokens   writes the scanner's tokens, as lines that `yamltokens` reads
+  events   writes the events
+  nodes    writes each document, and then its nodes
+
+Events and nodes are made by the program yamltokens, and are at most those of 1,000,000 tokens:
+
+  --program PATH   where it is; without it, crates/yamltokens/out/yamltokens or else the first in the path
+  --library PATH   the runs as a shared library in its place, with no limit of tokens
+
+A line of a token is 1,048,576 bytes at most, where each byte of a text that is no visible ASCII counts as three.
+
+Where the YAML has a fault, the last lines are the fault and its context. The first fault of the scanner, its reader,
+the parser and the composer counts. Marks are index, line and column in characters, from 0. Among tokens no fault
+stands. It is told in words on standard error too, with line and column from 1.
+
+exit status: 0 the text was read to its end, 1 it has a fault, 2 wrong words, 3 anything else (as a file that is not
+there, output that failed, no PyYAML or refused memory), 130 interrupted. Each but 0 comes with one message.
+"""
+
+if sys.version_info < (3, 8):
+    sys.stderr.write("yaml.py: needs Python 3.8 or later, and this is %d.%d\n" % sys.version_info[:2])
     sys.exit(3)
 
-import os
-
-# This file has the name of PyYAML's module, which must not be looked for in its folder.
-HERE = os.path.dirname(os.path.abspath(__file__))
-sys.path = [folder for folder in sys.path if os.path.abspath(folder or os.curdir) != HERE]
-
-import codecs
 import ctypes
-import gc
+import itertools
+import os
 import re
-import shutil
+import select
 import subprocess
 
+HERE = os.path.dirname(os.path.realpath(__file__))
+ENCODINGS = {"utf-8": "utf8", "utf-16-le": "utf16le", "utf-16-be": "utf16be"}
 STYLES = {None: "plain", "": "plain", "'": "single", '"': "double", "|": "literal", ">": "folded"}
-ENCODINGS = {None: "utf8", "utf-8": "utf8", "utf-16-le": "utf16le", "utf-16-be": "utf16be"}
-BYTE_ORDER_MARKS = [(codecs.BOM_UTF8, "utf-8"), (codecs.BOM_UTF16_LE, "utf-16-le"), (codecs.BOM_UTF16_BE, "utf-16-be")]
-NO_MORE_TOKENS = re.compile(rb"^FAULT reader \d+:\d+:0 no more tokens\n\Z", re.MULTILINE)
-FAULT = re.compile(rb"^FAULT (\w+) \d+:(\d+):(\d+) (.*)\n(?:CONTEXT .*\n)?\Z", re.MULTILINE)
-MAX_TOKENS = 1000000
-ENDED, FAULTED = 0, 1
+TOKENS_AT_ONCE = 2048
+BYTES_AT_ONCE = 1 << 16
+LONGEST_FAULT = 4096
+NO_MEMORY = 2
+NO_LIMIT = (1 << 64) - 1
+
+
+class WrongWords(Exception):
+    """The words of the command are not those of the usage."""
 
 
 class Failure(Exception):
-    """What ends the program: a message and an exit status."""
+    """What keeps the program from its work, other than a fault in the YAML."""
 
-    def __init__(self, message, status=3):
-        super().__init__(message)
-        self.status = status
-
-
-class Escapes(dict):
-    """The escape of each character, made when it is first asked for."""
-
-    def __missing__(self, character):
-        escape = "".join("%%%02X" % byte for byte in character.encode())
-        self[character] = escape
-        return escape
+    @classmethod
+    def of(cls, doing, error):
+        return cls("%s: %s" % (doing, error.strerror or error))
 
 
-ESCAPES = Escapes()
-NEEDS_ESCAPE = re.compile(r"[^!-$&-~]")
+class Place:
+    """Where a fault is: index, line and column in characters, from 0."""
+
+    def __init__(self, index, line, column):
+        self.index, self.line, self.column = index, line, column
+
+    def __str__(self):
+        return "line %d, column %d" % (self.line + 1, self.column + 1)
+
+    def field(self):
+        return "%d:%d:%d" % (self.index, self.line, self.column)
+
+
+class Fault:
+    """A fault in the YAML, or in the lines of its tokens."""
+
+    LINES = re.compile(rb"(?:\A|\n)FAULT (\w+) (\d+):(\d+):(\d+) ([^\n]*)\n"
+                       rb"(?:CONTEXT (\d+):(\d+):(\d+) ([^\n]*)\n)?\Z")
+    # Faults of the lines: the mark counts tokens.
+    OF_LINES = ("no more tokens", "too many tokens", "line too long", "bad token line", "read failed")
+
+    def __init__(self, kind, place, problem, context_place=None, context=None):
+        self.kind, self.place, self.problem = kind, place, problem
+        self.context_place, self.context = context_place, context
+
+    @classmethod
+    def at_end_of(cls, output):
+        """Returns the fault that is the last of an output, and where its text begins."""
+        found = cls.LINES.search(output)
+        if not found:
+            return None, len(output)
+        kind, problem, context = (found[n] and found[n].decode() for n in (1, 5, 9))
+        place = Place(*map(int, found.group(2, 3, 4)))
+        context_place = Place(*map(int, found.group(6, 7, 8))) if context else None
+        return cls(kind, place, problem, context_place, context), output.index(b"FAULT", found.start())
+
+    def is_of_lines(self):
+        return self.kind in ("reader", "scanner") and self.problem in self.OF_LINES
+
+    def lines(self):
+        text = "FAULT %s %s %s\n" % (self.kind, self.place.field(), self.problem)
+        if self.context:
+            text += "CONTEXT %s %s\n" % (self.context_place.field(), self.context)
+        return text.encode("utf-8", "backslashreplace")
+
+    def __str__(self):
+        if self.is_of_lines():
+            return "%s, after %d tokens (%s)" % (self.problem, self.place.index, self.kind)
+        return "%s: %s (%s)" % (self.place, self.problem, self.kind)
+
+
+class Output:
+    """Standard output; the last bytes are kept back until it is known which fault they end with."""
+
+    def __init__(self):
+        self.kept = b""
+
+    def write(self, piece):
+        piece = self.kept + piece
+        write_all(memoryview(piece)[:-LONGEST_FAULT])
+        self.kept = piece[-LONGEST_FAULT:]
+
+    def end(self, scanners):
+        """Writes the rest, with the scanner's fault where the tokens ran out by it; returns the fault that stands."""
+        fault, begin = Fault.at_end_of(self.kept)
+        if scanners and fault and fault.problem == "no more tokens":
+            fault, self.kept = scanners, self.kept[:begin] + scanners.lines()
+        write_all(memoryview(self.kept))
+        return fault
+
+
+def write_all(piece):
+    """Writes bytes to standard output."""
+    try:
+        while piece:
+            piece = piece[os.write(1, piece):]
+    except OSError as error:
+        raise Failure.of("output failed", error)
+
+
+class Tokens:
+    """No run: the token lines are written as they come."""
+
+    def give(self, lines):
+        write_all(memoryview(lines))
+        return True
+
+    def end(self, scanners):
+        return scanners
+
+    def close(self):
+        pass
+
+
+class Program:
+    """A run of `yamltokens` through pipes."""
+
+    def __init__(self, mode, path):
+        built = os.path.join(HERE, os.pardir, "crates", "yamltokens", "out", "yamltokens")
+        self.path = path or (os.path.normpath(built) if os.path.exists(built) else "yamltokens")
+        self.output = Output()
+        pipe = subprocess.PIPE
+        try:
+            self.process = subprocess.Popen([self.path, mode], bufsize=0, stdin=pipe, stdout=pipe,
+                                            stderr=subprocess.DEVNULL)
+        except OSError as error:
+            raise Failure.of("cannot run %s" % self.path, error)
+        self.into, self.out = self.process.stdin.fileno(), self.process.stdout.fileno()
+        os.set_blocking(self.into, False)
+
+    def take(self):
+        """Passes on what the run has written; returns whether there may be more."""
+        piece = os.read(self.out, BYTES_AT_ONCE)
+        self.output.write(piece)
+        return bool(piece)
+
+    def give(self, lines):
+        """Gives token lines to the run; returns whether it reads on."""
+        lines = memoryview(lines)
+        while lines:
+            readable, writable, _ = select.select([self.out], [self.into], [])
+            if readable and not self.take():
+                return False
+            try:
+                lines = lines[os.write(self.into, lines):] if writable else lines
+            except BrokenPipeError:
+                return False
+        return True
+
+    def end(self, scanners):
+        """Ends the tokens and passes on the rest; returns the fault that stands."""
+        self.process.stdin.close()
+        while self.take():
+            pass
+        status = self.process.wait()
+        fault = self.output.end(scanners)
+        if fault and fault.kind == "memory":
+            raise MemoryError
+        if status != (1 if fault else 0):
+            raise Failure("%s failed, with status %d" % (self.path, status))
+        return fault
+
+    def close(self):
+        self.process.kill()
+        self.process.wait()
+
+
+class Library:
+    """A run of the shared library, over all tokens at once."""
+
+    def __init__(self, mode, path):
+        try:
+            self.function = getattr(ctypes.CDLL(path), "token_lines_run_" + mode)
+        except (OSError, AttributeError) as error:
+            raise Failure("cannot use %s: %s" % (path, error))
+        size = ctypes.POINTER(ctypes.c_size_t)
+        self.function.argtypes = [ctypes.c_char_p, ctypes.c_size_t, ctypes.c_void_p, ctypes.c_size_t, ctypes.c_uint64,
+                                  size, size]
+        self.function.restype = ctypes.c_uint32
+        self.pieces = []
+
+    def give(self, lines):
+        self.pieces.append(lines)
+        return True
+
+    def end(self, scanners):
+        """Runs, with as much room as the run before wanted; returns the fault that stands."""
+        tokens = b"".join(self.pieces)
+        room = 2 * len(tokens) + LONGEST_FAULT
+        written, wanted = ctypes.c_size_t(), ctypes.c_size_t(room)
+        while True:
+            out = bytearray(room)
+            lent = (ctypes.c_char * room).from_buffer(out)
+            outcome = self.function(tokens, len(tokens), lent, room, NO_LIMIT, ctypes.byref(written),
+                                    ctypes.byref(wanted))
+            if outcome == NO_MEMORY or wanted.value <= room:
+                break
+            room = wanted.value
+        output = Output()
+        output.write(memoryview(out)[: written.value])
+        fault = output.end(scanners)
+        if outcome == NO_MEMORY:
+            raise MemoryError
+        return fault
+
+    def close(self):
+        pass
+
+
+UNSAFE = re.compile("[^!-$&-~]").search
+INVISIBLE = re.compile("[^!-~]+")
 
 
 def text(value):
-    """A text field: `=` and the UTF-8 bytes, those that need it as `%` and two digits."""
-    if NEEDS_ESCAPE.search(value) is None:
-        return "=" + value
-    return "=" + NEEDS_ESCAPE.sub(lambda found: ESCAPES[found.group()], value)
+    """Returns a text as a field: `=` and its UTF-8 bytes, those that need it as `%` and two digits."""
+    if UNSAFE(value):
+        value = value.replace("%", "%25").replace(" ", "%20")
+        value = INVISIBLE.sub(lambda run: "%" + run.group().encode().hex("%").upper(), value)
+    return "=" + value
+
+
+class Scanner:
+    """PyYAML's scanner over a text."""
+
+    def __init__(self, yaml, data):
+        self.yaml, self.data, self.loader, self.fault = yaml, data, None, None
+        self.forms = {kind: (line_name(kind), None) for kind in vars(yaml).values()
+                      if isinstance(kind, type) and issubclass(kind, yaml.Token) and kind is not yaml.DirectiveToken}
+        for kind, fields in (
+                (yaml.StreamStartToken, lambda token: ENCODINGS[token.encoding]),
+                (yaml.AliasToken, lambda token: text(token.value)),
+                (yaml.AnchorToken, lambda token: text(token.value)),
+                (yaml.TagToken, lambda token: text(token.value[0] or "") + " " + text(token.value[1])),
+                (yaml.ScalarToken, lambda token: text(token.value) + " " + STYLES[token.style])):
+            self.forms[kind] = line_name(kind), fields
+
+    def directive(self, token):
+        """Returns the form of a directive's line, which its name decides."""
+        if token.name == "YAML":
+            return "VERSION-DIRECTIVE", lambda token: "%d.%d" % token.value
+        if token.name == "TAG":
+            return "TAG-DIRECTIVE", lambda token: " ".join(map(text, token.value))
+        raise self.yaml.scanner.ScannerError("while scanning a directive", token.start_mark,
+                                             "found unknown directive name", token.end_mark)
+
+    def begin(self):
+        """Returns what gives the next token."""
+        loader = self.loader = getattr(self.yaml, "CSafeLoader", self.yaml.SafeLoader)(self.data)
+        if isinstance(loader, self.yaml.reader.Reader) and loader.peek() == "\ufeff":
+            loader.forward()
+            loader.index = 0  # as in libyaml, where a byte order mark is no character
+        return loader.get_token
+
+    def lines(self):
+        """Yields the line of each token, up to the fault that ends them, if any."""
+        try:
+            next_token, forms, last, kind = self.begin(), self.forms, self.yaml.StreamEndToken, None
+            index, mark = None, ""
+            while kind is not last:
+                token = next_token()
+                kind = type(token)
+                name, fields = forms.get(kind) or self.directive(token)
+                place = token.start_mark
+                if place.index != index:  # else it is the mark before, which most are
+                    index = place.index
+                    mark = "%s:%s:%s" % (index, place.line, place.column)
+                start, place = mark, token.end_mark
+                if place.index != index:
+                    index = place.index
+                    mark = "%s:%s:%s" % (index, place.line, place.column)
+                if fields is None:
+                    yield "%s %s %s\n" % (name, start, mark)
+                else:
+                    yield "%s %s %s %s\n" % (name, start, mark, fields(token))
+        except self.yaml.reader.ReaderError as error:
+            self.fault = Fault("reader", self.place_in_text(error), error.reason)
+        except self.yaml.MarkedYAMLError as error:
+            self.fault = Fault("scanner", place_of(error.problem_mark), error.problem,
+                               place_of(error.context_mark), error.context)
+        except (ValueError, OverflowError):  # of PyYAML without its C part, as by the escape "\UFFFFFFFF"
+            self.fault = Fault("scanner", place_of(self.loader.get_mark()), "found a character or number out of range")
+
+    def run(self, give):
+        """Gives the lines of the tokens, many at once, while they are taken; returns the fault that ended them."""
+        lines = self.lines()
+        while True:
+            piece = "".join(itertools.islice(lines, TOKENS_AT_ONCE)).encode()
+            if not piece or not give(piece):
+                return self.fault
+
+    def place_in_text(self, error):
+        """Returns where the reader's fault is: it says how many bytes or characters come before it."""
+        data, position = self.data, error.position
+        encoding = {b"\xff\xfe": "utf-16-le", b"\xfe\xff": "utf-16-be"}.get(data[:2], "utf-8")
+        if error.encoding == "unicode":
+            before = data.decode(encoding, "replace")[:position]
+        else:
+            before = data[:position].decode(encoding, "ignore")
+        before = before[1:] if before[:1] == "\ufeff" else before
+        lines = re.split("\r\n|[\r\n\x85\u2028\u2029]", before)
+        return Place(len(before), len(lines) - 1, len(lines[-1]))
+
+
+def place_of(mark):
+    return mark and Place(mark.index, mark.line, mark.column)
 
 
 def line_name(kind):
-    """The name in lines of a token class: `FlowSequenceStartToken` is `FLOW-SEQUENCE-START`."""
-    return re.sub(r"(?<!^)(?=[A-Z])", "-", kind.__name__[: -len("Token")]).upper()
+    """Returns the name in the lines of a kind of token: `FlowSequenceStartToken` is `FLOW-SEQUENCE-START`."""
+    return re.sub(r"\B([A-Z])", r"-\1", kind.__name__[:-len("Token")]).upper()
 
 
-def field_makers(yaml):
-    """For each token class that has fields behind its marks, what makes them."""
-    return {
-        yaml.StreamStartToken: lambda token: " " + ENCODINGS[token.encoding],
-        yaml.TagToken: lambda token: " %s %s" % (text(token.value[0] or ""), text(token.value[1])),
-        yaml.ScalarToken: lambda token: " %s %s" % (text(token.value), STYLES[token.style]),
-        yaml.AliasToken: lambda token: " " + text(token.value),
-        yaml.AnchorToken: lambda token: " " + text(token.value),
-    }
-
-
-def directive_line(token, marks):
-    """The line of a directive; none of one that YAML 1.1 reserves."""
-    if token.name == "YAML":
-        return "VERSION-DIRECTIVE %s %d.%d\n" % ((marks,) + token.value)
-    if token.name == "TAG":
-        return "TAG-DIRECTIVE %s %s %s\n" % ((marks,) + tuple(map(text, token.value)))
-    return ""
-
-
-def mark_text(mark):
-    return "%d:%d:%d" % (mark.index, mark.line, mark.column)
-
-
-def scan(yaml, source):
-    """The token lines of a text, and the fault's lines where its scanner or reader found one."""
-    loader = getattr(yaml, "CLoader", yaml.Loader)
-    makers = field_makers(yaml)
-    directive = yaml.DirectiveToken
-    kinds = {}
-    lines = []
-    try:
-        for token in yaml.scan(source, Loader=loader):
-            kind = type(token)
-            start, end = token.start_mark, token.end_mark
-            marks = "%d:%d:%d %d:%d:%d" % (start.index, start.line, start.column, end.index, end.line, end.column)
-            if kind is directive:
-                lines.append(directive_line(token, marks))
-                continue
-            if kind not in kinds:
-                kinds[kind] = line_name(kind) + " ", makers.get(kind)
-            name, maker = kinds[kind]
-            lines.append(name + marks + (maker(token) if maker else "") + "\n")
-    except yaml.reader.ReaderError as fault:
-        return lines, "FAULT reader %s %s\n" % (reader_mark(source, fault), fault.reason)
-    except yaml.MarkedYAMLError as fault:
-        return lines, marked_fault(fault)
-    return lines, ""
-
-
-def marked_fault(fault):
-    """The lines of a scanner's fault."""
-    lines = "FAULT scanner %s %s\n" % (mark_text(fault.problem_mark), fault.problem)
-    if fault.context is not None and fault.context_mark is not None:
-        lines += "CONTEXT %s %s\n" % (mark_text(fault.context_mark), fault.context)
-    return lines
-
-
-def reader_mark(source, fault):
-    """Where a reader's fault is, which PyYAML tells in bytes, or in characters of the text that it decoded."""
-    encoding = "utf-8"
-    for order_mark, its_encoding in BYTE_ORDER_MARKS:
-        if source.startswith(order_mark):
-            encoding = its_encoding
-    if fault.encoding == "unicode":
-        before = source.decode(encoding, "replace")[: fault.position]
-    else:
-        before = source[: fault.position].decode(encoding, "replace")
-    before = before[1:] if before.startswith("\ufeff") else before
-    lines = re.split("\r\n|[\r\n\x85\u2028\u2029]", before)
-    return "%d:%d:%d" % (len(before), len(lines) - 1, len(lines[-1]))
-
-
-def find_program():
-    """The program `yamltokens`: in PATH, or as it was built in this repository."""
-    folder = os.path.join(os.path.dirname(HERE), "crates", "yamltokens")
-    for program in (shutil.which("yamltokens"), os.path.join(folder, "out", "yamltokens")):
-        if program is not None and os.path.isfile(program):
-            return program
-    raise Failure("the program yamltokens is not built: run `rt run` in %s, or name it by --program" % folder)
-
-
-def run_program(program, mode, tokens):
-    """What the program writes of these token lines."""
-    done = subprocess.run([program or find_program(), mode], input=tokens, stdout=subprocess.PIPE, stderr=subprocess.PIPE)
-    if done.returncode not in (ENDED, FAULTED):
-        raise Failure("%s ended with status %d" % (program or "yamltokens", done.returncode))
-    return done.stdout
-
-
-def run_library(path, mode, tokens):
-    """What the shared library writes of these token lines. A run is called again until its lines have room."""
-    try:
-        function = getattr(ctypes.CDLL(os.path.abspath(path)), "token_lines_run_" + mode)
-    except (OSError, AttributeError) as fault:
-        raise Failure("%s is no library of ours: %s" % (path, fault))
-    function.restype = ctypes.c_uint32
-    size = ctypes.c_size_t
-    written, wanted = size(), size(2 * len(tokens) + 4096)
-    while True:
-        room = wanted.value
-        out = ctypes.create_string_buffer(room)
-        outcome = function(tokens, size(len(tokens)), out, size(room), ctypes.c_uint64(MAX_TOKENS), ctypes.byref(written),
-                           ctypes.byref(wanted))
-        if outcome not in (ENDED, FAULTED):
-            raise MemoryError
-        if wanted.value <= room:
-            return out.raw[: written.value]
-
-
-def parse(mode, backend, lines, fault):
-    """The lines of the events or nodes. The fault of a broken text stands in place of the missing tokens' own."""
-    run, path = backend
-    written = run(path, mode, "".join(lines).encode())
-    missing = NO_MORE_TOKENS.search(written)
-    if fault and missing:
-        written = written[: missing.start()] + fault.encode()
-    return written
-
-
-def read(path):
-    """The bytes of a file, or of standard input."""
-    if path == "-":
-        return sys.stdin.buffer.read()
-    with open(path, "rb") as file:
-        return file.read()
-
-
-def write(lines):
-    """Writes all of it to standard output; a failed write is told once, and not again when Python ends."""
-    try:
-        sys.stdout.buffer.write(lines)
-        sys.stdout.buffer.flush()
-    except OSError as fault:
-        os.dup2(os.open(os.devnull, os.O_WRONLY), 1)
-        raise Failure("the output failed: %s" % fault.strerror)
-
-
-def words(arguments):
-    """The mode, the program or library, and the file."""
-    if len(arguments) == 2 and arguments[0] in ("tokens", "events", "nodes"):
-        return arguments[0], (run_program, None), arguments[1]
-    backends = {"--program": run_program, "--library": run_library}
-    if len(arguments) == 4 and arguments[0] in ("events", "nodes") and arguments[1] in backends:
-        return arguments[0], (backends[arguments[1]], arguments[2]), arguments[3]
-    usage = "usage: yaml.py tokens FILE | yaml.py events|nodes [--program PATH | --library PATH] FILE"
-    raise Failure(usage, status=2)
-
-
-def run(arguments):
-    """Writes what is asked for; raises a failure where it can't be had, or where the text has a fault."""
-    mode, backend, path = words(arguments)
-    gc.disable()
+def import_yaml():
+    """Returns PyYAML, whose module has the name of this file."""
+    sys.path[:] = [path for path in sys.path if os.path.realpath(path) != HERE]
     try:
         import yaml
-    except ImportError:
-        raise Failure("PyYAML is needed (Debian: python3-yaml)")
-    lines, fault = scan(yaml, read(path))
-    if mode == "tokens":
-        written = "".join(lines).encode()
-        told = fault.encode()
-    else:
-        written = told = parse(mode, backend, lines, fault)
-    write(written)
-    found = FAULT.search(told)
-    if found:
-        kind, line, column, problem = found.groups()
-        place = "line %d, column %d" % (int(line) + 1, int(column) + 1)
-        raise Failure("%s: %s: %s (%s)" % (path, place, problem.decode(errors="replace"), kind.decode()), status=1)
+        yaml.SafeLoader, yaml.reader.ReaderError
+    except (ImportError, AttributeError) as error:
+        raise Failure("needs PyYAML (Debian: python3-yaml): %s" % error)
+    return yaml
 
 
-def main():
+def shown(name):
+    return "standard input" if name == "-" else name
+
+
+def read(name):
+    """Returns the bytes of a file or of standard input."""
     try:
-        run(sys.argv[1:])
-        return 0
+        with open(0 if name == "-" else name, "rb", closefd=name != "-") as file:
+            return file.read()
+    except OSError as error:
+        raise Failure.of(shown(name), error)
+
+
+def read_words(words):
+    """Returns the mode, the file's name, and what makes the run."""
+    options, names, words = {}, [], iter(words)
+    for word in words:
+        if word in ("--program", "--library"):
+            options[word] = next(words, None)
+        elif word[0:1] == "-" != word:
+            raise WrongWords
+        else:
+            names.append(word)
+    is_run = names[:1] in (["events"], ["nodes"])
+    if len(names) != 2 or len(options) > 1 or None in options.values() or not (is_run or names[0] == "tokens"):
+        raise WrongWords
+    if not is_run:
+        if options:
+            raise WrongWords
+        return names[1], Tokens
+    if "--library" in options:
+        return names[1], lambda: Library(names[0], options["--library"])
+    return names[1], lambda: Program(names[0], options.get("--program"))
+
+
+def main(words):
+    """Does what the words say; returns the exit status and the message."""
+    if words == ["--help"]:
+        write_all(memoryview(USAGE.encode()))
+        return 0, None
+    name, begin = read_words(words)
+    data, yaml = read(name), import_yaml()
+    run = begin()
+    try:
+        fault = run.end(Scanner(yaml, data).run(run.give))
+    finally:
+        run.close()
+    return (1, "%s: %s" % (shown(name), fault)) if fault else (0, None)
+
+
+def fill_closed():
+    """Opens the standard files that are closed, so that no other file gets their numbers and each use fails."""
+    for number, way in ((0, os.O_WRONLY), (1, os.O_RDONLY), (2, os.O_WRONLY)):
+        try:
+            os.fstat(number)
+        except OSError:
+            os.open(os.devnull, way)
+
+
+def told(words):
+    """Does what the words say, and tells on standard error what keeps it from that; returns the exit status."""
+    try:
+        status, message = main(words)
+    except WrongWords:
+        status, message = 2, "usage: yaml.py tokens|events|nodes FILE [--program PATH | --library PATH]; or --help"
     except Failure as failure:
-        message, status = str(failure), failure.status
-    except OSError as fault:
-        message, status = "%s: %s" % (fault.filename or "reading", fault.strerror), 3
+        status, message = 3, failure
     except MemoryError:
-        message, status = "out of memory", 3
+        status, message = 3, "out of memory"
     except KeyboardInterrupt:
-        message, status = "interrupted", 130
-    sys.stderr.write("yaml.py: %s\n" % message.replace("\n", " "))
+        status, message = 130, "interrupted"
+    if message:
+        try:
+            os.write(2, ("yaml.py: %s\n" % message).encode("utf-8", "backslashreplace"))
+        except OSError:
+            pass
     return status
 
 
 if __name__ == "__main__":
-    sys.exit(main())
+    fill_closed()
+    sys.exit(told(sys.argv[1:]))
