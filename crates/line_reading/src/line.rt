@@ -12,8 +12,8 @@ use crate::search::len_before;
 use std::io::BufRead;
 
 /// Reads one line: what stands before an LF, or before the end where a byte stands there. Takes the line
-/// and its LF, and no byte behind them. Where it took them, `left` is the number of bytes that stand in the
-/// reader's buffer behind them.
+/// and its LF, and no byte behind them. Behind an LF `left` is the number of bytes that still stand in the
+/// reader's buffer.
 pub fn read_line<R: BufRead>(
     reader: &mut R,
     line: &mut Vec<u8>,
@@ -104,7 +104,6 @@ fn take_part<R: BufRead>(
     ensures problem { IfErr result IsReadProblem }
 {
     let available = reader.fill_buf()?;
-    *left = 0;
     if available.is_empty() {
         return Ok(Part::End);
     }
