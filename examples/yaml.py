@@ -257,8 +257,9 @@ INVISIBLE = re.compile("[^!-~]+")
 def text(value):
     """Returns a text as a field: `=` and its UTF-8 bytes, those that need it as `%` and two digits."""
     if UNSAFE(value):
-        value = value.replace("%", "%25").replace(" ", "%20")
-        value = INVISIBLE.sub(lambda run: "%" + run.group().encode().hex("%").upper(), value)
+        value = value.replace("%", "%25").replace(" ", "%20").replace("\n", "%0A")
+        if not (value.isascii() and value.isprintable()):
+            value = INVISIBLE.sub(lambda run: "%" + run.group().encode().hex("%").upper(), value)
     return "=" + value
 
 
