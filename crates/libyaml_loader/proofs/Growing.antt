@@ -1,5 +1,5 @@
 -- Where a child's parent takes memory, by the parent's type, and how an alias is refused.
-use Rattle.std.proofs.Common.{◌≡◌, ◌⊎◌, ◌∷◌, [], List, ℕ, zero, suc, pos, Option, Some, None, Bool, true, false, ap, refl, sym, subst, ◌∙◌, inl, inr}
+use Rattle.std.proofs.Common.{◌≡◌, ◌⊎◌, ◌∷◌, [], List, ℕ, zero, suc, pos, Option, Some, Bool, true, ap, refl, sym, ◌∙◌, inl, inr}
 use Rattle.std.specs.FinMap.{get}
 use Rattle.libyaml_types.specs.declared.enums.yaml_node_type_t.TheVariants.{YAML_SEQUENCE_NODE, YAML_MAPPING_NODE}
 use Rattle.libyaml_types.specs.declared.mark.yaml_mark_t.{yaml_mark_t}
