@@ -1,7 +1,7 @@
 //! Growths refused in turn: each constructor and each call on a document is made again where its growth was
 //! refused, and what they make is made twice. At most one growth is refused.
 //!
-//! `examples/refused_growths.sh` runs this with the first allocation refused, then the second, and so on
+//! `scripts/allocation_failures.sh` runs this with the first allocation refused, then the second, and so on
 //! until nothing is refused.
 
 use crate::calls::{Constructor, built, constructed, constructors};

@@ -1,6 +1,6 @@
 //! Growths refused in turn: each row is run twice, and at most one of the two meets a refused growth.
 //!
-//! `examples/refused_growths.sh` runs this with the first allocation refused, then the second, and so on
+//! `scripts/allocation_failures.sh` runs this with the first allocation refused, then the second, and so on
 //! until nothing is refused.
 
 use crate::fronts::{rows, shown_front};

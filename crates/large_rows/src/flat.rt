@@ -1,4 +1,4 @@
-//! Work that takes no more memory where there is more of it (`examples/flat_memory.sh`).
+//! Work that takes no more memory where there is more of it (`scripts/flat_memory.sh`).
 
 use computed_tokens::{ComputedTokens, GrowingList};
 use row_notation::{Reading, end_of_row, gives_event};

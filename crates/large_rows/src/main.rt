@@ -2,7 +2,7 @@
 //! computes its tokens, and over a list of the same tokens.
 //!
 //! The program makes the checks of each module and names what is wrong. `large_rows refused` makes the checks
-//! of `refused` alone, and `large_rows WORK N` does the work of `examples/flat_memory.sh`.
+//! of `refused` alone, and `large_rows WORK N` does the work of `scripts/flat_memory.sh`.
 #![tactic(auto)]
 
 mod flat;

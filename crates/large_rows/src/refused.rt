@@ -1,7 +1,7 @@
 //! Growths refused in turn, over a source that computes its tokens, needs memory for their texts, and has to
 //! keep what it answers: whatever is run is run twice, and at most one of the two meets a refused growth.
 //!
-//! `examples/refused_growths.sh` runs this with the first allocation refused, then the second, and so on
+//! `scripts/allocation_failures.sh` runs this with the first allocation refused, then the second, and so on
 //! until nothing is refused.
 
 use crate::growing::Grown;

@@ -1,7 +1,7 @@
 //! Growths refused in turn: whatever is run is run twice, and at most one of the two meets a refused growth.
 //!
-//! `examples/refused_growths.sh line_rows` runs this with the first allocation refused, then the second, and
-//! so on until nothing is refused. Where nothing is, a check holds only if each answer is the whole one.
+//! `scripts/allocation_failures.sh line_rows` runs this with the first allocation refused, then the second,
+//! and so on until nothing is refused. Where nothing is, a check holds only if each answer is the whole one.
 
 use crate::calls::{fault_behind, next_fault, next_type};
 use crate::rows::{Run, run, runs};
