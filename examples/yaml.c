@@ -304,14 +304,13 @@ static size_t line_before(const struct text *text, size_t at)
     return at;
 }
 
-/* Says on standard error the fault that a text ends with. A line of a context may stand behind it. */
+/* Says on standard error the fault that a text ends with, which has room for a byte more. A line of a context may stand
+ * behind it. */
 static int say_fault(const char *name, struct text *text)
 {
     size_t start = line_before(text, text->length), line, column;
     char finder[16], problem[256];
 
-    if (!reserve(text, 1))
-        return out_of_memory();
     text->bytes[text->length] = '\0';
     if (memcmp(text->bytes + start, "FAULT ", strlen("FAULT ")) != 0)
         start = line_before(text, start);
@@ -334,7 +333,7 @@ static int write_lines(run_t *run, const char *name, struct scan *made, struct t
         outcome = ended == TOKEN_LINES_ENDED ? ENDED : FAULTED;
         lines = fault = out;
     }
-    if (out->failed)
+    if (out->failed || (outcome != ENDED && !reserve(fault, 1)))
         return out_of_memory();
     int written = write_out(lines);
     return written != ENDED || outcome == ENDED ? written : say_fault(name, fault);
