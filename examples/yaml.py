@@ -41,7 +41,8 @@ import subprocess
 
 HERE = os.path.dirname(os.path.realpath(__file__))
 ENCODINGS = {"utf-8": "utf8", "utf-16-le": "utf16le", "utf-16-be": "utf16be"}
-STYLES = {None: "plain", "": "plain", "'": "single", '"': "double", "|": "literal", ">": "folded"}
+STYLES = {None: " plain\n", "": " plain\n", "'": " single\n", '"': " double\n", "|": " literal\n", ">": " folded\n"}
+SMALL = [str(number) for number in range(1000)]
 TOKENS_AT_ONCE = 2048
 BYTES_AT_ONCE = 1 << 16
 LONGEST_FAULT = 4096
@@ -77,8 +78,8 @@ class Place:
 class Fault:
     """A fault in the YAML, or in the lines of its tokens."""
 
-    LINES = re.compile(rb"(?:\A|\n)FAULT (\w+) (\d+):(\d+):(\d+) ([^\n]*)\n"
-                       rb"(?:CONTEXT (\d+):(\d+):(\d+) ([^\n]*)\n)?\Z")
+    LINES = re.compile(br"(?:\A|\n)FAULT (\w+) (\d+):(\d+):(\d+) ([^\n]*)\n"
+                       br"(?:CONTEXT (\d+):(\d+):(\d+) ([^\n]*)\n)?\Z")
     # Faults of the lines: the mark counts tokens.
     OF_LINES = ("no more tokens", "too many tokens", "line too long", "bad token line", "read failed")
 
@@ -254,13 +255,14 @@ UNSAFE = re.compile("[^!-$&-~]").search
 INVISIBLE = re.compile("[^!-~]+")
 
 
-def text(value):
-    """Returns a text as a field: `=` and its UTF-8 bytes, those that need it as `%` and two digits."""
-    if UNSAFE(value):
-        value = value.replace("%", "%25").replace(" ", "%20").replace("\n", "%0A")
-        if not (value.isascii() and value.isprintable()):
-            value = INVISIBLE.sub(lambda run: "%" + run.group().encode().hex("%").upper(), value)
-    return "=" + value
+def escaped(value):
+    """Returns a text as a line has it: its UTF-8 bytes, those that need it as `%` and two digits."""
+    if not UNSAFE(value):
+        return value
+    value = value.replace("%", "%25").replace(" ", "%20").replace("\n", "%0A")
+    if value.isascii() and value.isprintable():
+        return value
+    return INVISIBLE.sub(lambda run: "%" + run.group().encode().hex("%").upper(), value)
 
 
 class Scanner:
@@ -268,22 +270,24 @@ class Scanner:
 
     def __init__(self, yaml, data):
         self.yaml, self.data, self.loader, self.fault = yaml, data, None, None
-        self.forms = {kind: (line_name(kind), None) for kind in vars(yaml).values()
+        points = yaml.BlockMappingStartToken, yaml.BlockSequenceStartToken, yaml.BlockEndToken
+        fields = {
+            yaml.StreamStartToken: lambda token: " %s\n" % ENCODINGS[token.encoding],
+            yaml.AliasToken: lambda token: " =%s\n" % escaped(token.value),
+            yaml.AnchorToken: lambda token: " =%s\n" % escaped(token.value),
+            yaml.TagToken: lambda token: " =%s =%s\n" % (escaped(token.value[0] or ""), escaped(token.value[1])),
+            yaml.ScalarToken: lambda token: " =%s%s" % (escaped(token.value), STYLES[token.style]),
+        }
+        # Of each kind of token: its name, what makes its fields, and whether it has no width.
+        self.forms = {kind: (line_name(kind), fields.get(kind), kind in points) for kind in vars(yaml).values()
                       if isinstance(kind, type) and issubclass(kind, yaml.Token) and kind is not yaml.DirectiveToken}
-        for kind, fields in (
-                (yaml.StreamStartToken, lambda token: ENCODINGS[token.encoding]),
-                (yaml.AliasToken, lambda token: text(token.value)),
-                (yaml.AnchorToken, lambda token: text(token.value)),
-                (yaml.TagToken, lambda token: text(token.value[0] or "") + " " + text(token.value[1])),
-                (yaml.ScalarToken, lambda token: text(token.value) + " " + STYLES[token.style])):
-            self.forms[kind] = line_name(kind), fields
 
     def directive(self, token):
         """Returns the form of a directive's line, which its name decides."""
         if token.name == "YAML":
-            return "VERSION-DIRECTIVE", lambda token: "%d.%d" % token.value
+            return "VERSION-DIRECTIVE", lambda token: " %d.%d\n" % token.value, False
         if token.name == "TAG":
-            return "TAG-DIRECTIVE", lambda token: " ".join(map(text, token.value))
+            return "TAG-DIRECTIVE", lambda token: " =%s =%s\n" % tuple(map(escaped, token.value)), False
         raise self.yaml.scanner.ScannerError("while scanning a directive", token.start_mark,
                                              "found unknown directive name", token.end_mark)
 
@@ -296,26 +300,34 @@ class Scanner:
         return loader.get_token
 
     def lines(self):
-        """Yields the line of each token, up to the fault that ends them, if any."""
+        """Yields the line of each token, up to the fault that ends them, if any.
+
+        Most of the time goes here. So a mark is made once for all neighbours that have it, and a line's number once.
+        """
         try:
             next_token, forms, last, kind = self.begin(), self.forms, self.yaml.StreamEndToken, None
-            index, mark = None, ""
+            index, line, line_text, mark = None, None, "", ""
             while kind is not last:
                 token = next_token()
                 kind = type(token)
-                name, fields = forms.get(kind) or self.directive(token)
+                name, fields, is_point = forms.get(kind) or self.directive(token)
                 place = token.start_mark
-                if place.index != index:  # else it is the mark before, which most are
-                    index = place.index
-                    mark = "%s:%s:%s" % (index, place.line, place.column)
-                start, place = mark, token.end_mark
                 if place.index != index:
-                    index = place.index
-                    mark = "%s:%s:%s" % (index, place.line, place.column)
-                if fields is None:
-                    yield "%s %s %s\n" % (name, start, mark)
-                else:
-                    yield "%s %s %s %s\n" % (name, start, mark, fields(token))
+                    index, column = place.index, place.column
+                    if place.line != line:
+                        line = place.line
+                        line_text = ":%s:" % line
+                    mark = "%s%s%s" % (index, line_text, SMALL[column] if column < len(SMALL) else column)
+                start = mark
+                if not is_point:
+                    place = token.end_mark
+                    if place.index != index:
+                        index, column = place.index, place.column
+                        if place.line != line:
+                            line = place.line
+                            line_text = ":%s:" % line
+                        mark = "%s%s%s" % (index, line_text, SMALL[column] if column < len(SMALL) else column)
+                yield "%s %s %s%s" % (name, start, mark, fields(token) if fields else "\n")
         except self.yaml.reader.ReaderError as error:
             self.fault = Fault("reader", self.place_in_text(error), error.reason)
         except self.yaml.MarkedYAMLError as error:
