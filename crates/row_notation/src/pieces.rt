@@ -66,7 +66,7 @@ impl BufRead for PieceReader<'_> {
     }
 }
 
-/// Takes at most `piece` bytes a call, and fails when no calls are left. A flush is a call.
+/// Takes at most `piece` bytes a call, and fails when no calls are left. A flush is no call, and fails then too.
 #[derive(Drop)]
 pub struct PieceWriter {
     written: Vec<u8>,
@@ -97,7 +97,10 @@ impl Write for PieceWriter {
     }
 
     fn flush(&mut self) -> io::Result<()> {
-        count(&mut self.calls_left)
+        if self.calls_left == 0 {
+            return Err(io::Error::from(ErrorKind::Other));
+        }
+        Ok(())
     }
 }
 
