@@ -130,7 +130,8 @@ fn first_misread(alloc: Global) -> Option<&'static str> {
     None
 }
 
-/// How a run ends whose writer takes a byte a call, and so many calls. The last flush fails with no call left.
+/// How a run ends whose writer takes a byte a call, and so many calls. The last flush fails with no call
+/// left.
 fn end_at_write(row: Run<'_>, calls: usize) -> Outcome {
     let (_, _, lines, outcome) = row;
     if calls > lines.len() {
@@ -187,7 +188,8 @@ fn behind_a_failed_write(
     )
 }
 
-/// The event that comes next, by the number of lines that are written before: each is flushed, and that fails.
+/// The event that comes next, by the number of lines that are written before. The flush behind the last of
+/// them fails.
 const NEXT: [yaml_event_type_t; 6] = [
     YAML_DOCUMENT_START_EVENT,
     YAML_DOCUMENT_START_EVENT,

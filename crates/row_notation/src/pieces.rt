@@ -66,7 +66,8 @@ impl BufRead for PieceReader<'_> {
     }
 }
 
-/// Takes at most `piece` bytes a call, and fails when no calls are left. A flush is no call, and fails then too.
+/// Takes at most `piece` bytes a call, and fails when no calls are left. A flush is no call, but fails then
+/// too.
 #[derive(Drop)]
 pub struct PieceWriter {
     written: Vec<u8>,
