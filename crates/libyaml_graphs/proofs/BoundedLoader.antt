@@ -10,7 +10,7 @@ use Rattle.libyaml_graphs.specs.ComposerFaults.{part_fault}
 use Rattle.libyaml_graphs.specs.Graphs.{Start}
 use Rattle.libyaml_graphs.specs.Loader.{Anchors, Loader, Loading, between, bounded_option, bounded_part, failed, fresh, going, if_child_fits}
 use Rattle.libyaml_graphs.specs.Loader.{if_going, list_full, load_from, load_part, no_anchors, nodes_full, unless_full, within}
-use Rattle.libyaml_graphs.specs.Loads.{Load, answer, document, document_end, last_load}
+use Rattle.libyaml_graphs.specs.Loads.{Load, answer, begun, begun_behind, document, document_end, last_load, next_by}
 use Rattle.libyaml_graphs.specs.Parts.{Closing, Opening, Part, alias_part, behind, closing_of, end_part, graph, leaf_part, opening_of, part_of, parts}
 use Rattle.libyaml_graphs.specs.Parts.{start_part, with_part}
 use Rattle.libyaml_graphs.proofs.Built.{BeginsEmpty, Built, Held, build, build_finished, finished, finished_none, graph_nodes, held_graph, nodes_in, unbuilt}
@@ -149,7 +149,7 @@ one_load (e ∷ r) x n = go (opening_of e) (one_load r x n)
   where
     go : (c : Option Opening) → load_from n between r x ≡ next_bounded n r x
         → ◌≡◌ {A = Load} (elim c [ None ↦ load_from n between r x | Some o ↦ load_from n (within o fresh) r x ])
-        (elim c [ None ↦ next_bounded n r x | Some o ↦ answer (first_stop n [] [] (parts r)) (document_end r) o (graph [] (parts r)) (last_load x) ])
+        (next_by (first_stop n [] []) x (elim c [ None ↦ begun r | Some o ↦ record { opening = o; rest = r } ∷ begun_behind r ]))
     go None h = h
     go (Some o) h = one_within r n [] [] o unbuilt no_anchors x (within_unbuilt n) none_known
         ∙ then_one (first_stop n [] [] (parts r)) (document_end r) o (graph [] (parts r)) x

@@ -10,9 +10,9 @@ use Rattle.libyaml_documents.specs.Nodes.{changed_at, type_at, with_changed, wit
 use Rattle.libyaml_documents.specs.declared.node.unnamed_yaml_node_t_data.{unnamed_yaml_node_t_data}
 use Rattle.libyaml_documents.specs.declared.node.unnamed_yaml_node_t_data.TheVariants.{Scalar, Sequence, Mapping}
 use Rattle.libyaml_documents.specs.declared.node.yaml_node_t.{yaml_node_t}
-use Rattle.libyaml_graphs.specs.Loader.{Loader, Open, Loading, State, between, bounded_option, bounded_part, failed, fresh, full_at, going, hand, handed}
+use Rattle.libyaml_graphs.specs.Loader.{Loader, Open, State, between, bounded_option, fresh, full_at, hand, handed}
 use Rattle.libyaml_graphs.specs.Loader.{if_going, key_at, left_from, load_from, parent_full, with_child, within}
-use Rattle.libyaml_graphs.specs.Loads.{Load, document, last_load}
+use Rattle.libyaml_graphs.specs.Loads.{Begun, Load, begun, begun_behind, document, last_load, left_by}
 use Rattle.libyaml_graphs.specs.Parts.{Closing, Opening, Part, closing_of, opening_of, part_of}
 
 -- One load, and what it leaves, by the kind of the next event.
@@ -24,15 +24,18 @@ nothing_left n (within o l) x = refl
 pub passes : (n : ℕ) (e : Event) (r : List Event) (x : Ending) → opening_of e ≡ None → load_from n between (e ∷ r) x ≡ load_from n between r x
 passes n e r x h = ap (λ (c : Option Opening). elim c [ None ↦ load_from n between r x | Some o ↦ load_from n (within o fresh) r x ]) h
 
+abbrev documents_at : List Event → Option Opening → List Begun
+documents_at r c = elim c [ None ↦ begun r | Some o ↦ record { opening = o; rest = r } ∷ begun_behind r ]
+
 pub passes_left : (e : Event) (r : List Event) → opening_of e ≡ None → left_from between (e ∷ r) ≡ left_from between r
-passes_left e r h = ap (λ (c : Option Opening). elim c [ None ↦ left_from between r | Some o ↦ left_from (within o fresh) r ]) h
+passes_left e r h = ap (λ (c : Option Opening). left_by (documents_at r c)) h
 
 pub opens : (n : ℕ) (e : Event) (r : List Event) (x : Ending) (o : Opening) → opening_of e ≡ Some o
     → load_from n between (e ∷ r) x ≡ load_from n (within o fresh) r x
 opens n e r x o h = ap (λ (c : Option Opening). elim c [ None ↦ load_from n between r x | Some p ↦ load_from n (within p fresh) r x ]) h
 
 pub opens_left : (e : Event) (r : List Event) (o : Opening) → opening_of e ≡ Some o → left_from between (e ∷ r) ≡ left_from (within o fresh) r
-opens_left e r o h = ap (λ (c : Option Opening). elim c [ None ↦ left_from between r | Some p ↦ left_from (within p fresh) r ]) h
+opens_left e r o h = ap (λ (c : Option Opening). left_by (documents_at r c)) h
 
 -- what an event within a document does, by its end of a document and its part
 abbrev pub within_event : ℕ → Opening → Loader → List Event → Ending → Option Closing → Option Part → Load
@@ -47,24 +50,6 @@ closes n o l e r x c h = ap (λ (d : Option Closing). within_event n o l r x d (
 
 pub closes_left : (o : Opening) (l : Loader) (e : Event) (r : List Event) (c : Closing) → closing_of e ≡ Some c → left_from (within o l) (e ∷ r) ≡ r
 closes_left o l e r c h = ap (λ (d : Option Closing). elim d [ Some y ↦ r | None ↦ left_from (within o l) r ]) h
-
-pub ignores : (n : ℕ) (o : Opening) (l : Loader) (e : Event) (r : List Event) (x : Ending) → closing_of e ≡ None → part_of e ≡ None
-    → load_from n (within o l) (e ∷ r) x ≡ load_from n (within o l) r x
-ignores n o l e r x h p = ap (λ (d : Option Closing). within_event n o l r x d (part_of e)) h ∙ ap (within_event n o l r x None) p
-
-pub steps : (n : ℕ) (o : Opening) (l k : Loader) (e : Event) (r : List Event) (x : Ending) (p : Part) → closing_of e ≡ None → part_of e ≡ Some p
-    → bounded_part n l p ≡ going k → load_from n (within o l) (e ∷ r) x ≡ load_from n (within o k) r x
-steps n o l k e r x p h q g =
-    ap (λ (d : Option Closing). within_event n o l r x d (part_of e)) h
-    ∙ (ap (within_event n o l r x None) q
-    ∙ ap (λ (u : Loading). if_going (λ (f : Fault). Err f) u (λ (j : Loader). load_from n (within o j) r x)) g)
-
-pub stops : (n : ℕ) (o : Opening) (l : Loader) (e : Event) (r : List Event) (x : Ending) (p : Part) (f : Fault) → closing_of e ≡ None → part_of e ≡ Some p
-    → bounded_part n l p ≡ failed f → load_from n (within o l) (e ∷ r) x ≡ Err f
-stops n o l e r x p f h q g =
-    ap (λ (d : Option Closing). within_event n o l r x d (part_of e)) h
-    ∙ (ap (within_event n o l r x None) q
-    ∙ ap (λ (u : Loading). if_going (λ (y : Fault). Err y) u (λ (j : Loader). load_from n (within o j) r x)) g)
 
 pub goes_on_left : (o : Opening) (l k : Loader) (e : Event) (r : List Event) → closing_of e ≡ None → left_from (within o l) (e ∷ r) ≡ left_from (within o k) r
 goes_on_left o l k e r h = ap (λ (d : Option Closing). elim d [ Some y ↦ r | None ↦ left_from (within o k) r ]) h

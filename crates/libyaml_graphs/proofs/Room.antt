@@ -8,13 +8,12 @@ use Rattle.libyaml_grammar.specs.runs.Fault.{Fault}
 use Rattle.libyaml_grammar.specs.runs.Runs.{Ending}
 use Rattle.libyaml_documents.specs.declared.node.unnamed_yaml_node_t_data.{unnamed_yaml_node_t_data}
 use Rattle.libyaml_documents.specs.declared.node.unnamed_yaml_node_t_data.TheVariants.{Scalar, Sequence, Mapping}
-use Rattle.libyaml_graphs.specs.Bounds.{StaysWithin, HasRoom, HasRoomBehind, bounded_loads, bounded_loads_behind, entries, first_stop, if_above, if_wrong}
+use Rattle.libyaml_graphs.specs.Bounds.{HasRoom, HaveRoom, StaysWithin, bounded_loads, entries, first_stop, if_above, if_wrong}
 use Rattle.libyaml_graphs.specs.Bounds.{list_sizes, next_bounded, one_above, pairs_begun}
 use Rattle.libyaml_graphs.specs.ComposerFaults.{composer_fault, or_else, part_fault}
 use Rattle.libyaml_graphs.specs.Graphs.{Start, carrier, id_or}
-use Rattle.libyaml_graphs.specs.Loads.{Load, answer, document_end, last_load, load_then, loads, loads_behind, next_load}
-use Rattle.libyaml_graphs.specs.Parts.{Closing, Opening, Part, alias_part, behind, children, closing_of, end_part, graph, if_outer, leaf_part, opening_of}
-use Rattle.libyaml_graphs.specs.Parts.{parts, start_of, start_part}
+use Rattle.libyaml_graphs.specs.Loads.{Begun, Load, answer, begun, document_end, last_load, load_then, loads, loads_by, next_by, next_load}
+use Rattle.libyaml_graphs.specs.Parts.{Closing, Part, alias_part, behind, children, end_part, graph, if_outer, leaf_part, parts, start_of, start_part}
 use Rattle.libyaml_graphs.proofs.Sizes.{either_false, either_none}
 
 outer_append : (d : ℕ) (is a x : List ℕ) → if_outer d is (a ++ x) ≡ if_outer d is a ++ x
@@ -115,81 +114,34 @@ none_above n (k ∷ ks) h = either_none _ _ (le-ltb n k (All-head (λ i. i ≤ n
 fits_stop : (r : List Part) (n : ℕ) → StaysWithin n r → first_stop n [] [] r ≡ composer_fault [] r
 fits_stop r n h = room r [] [] n (ap (nat_lt n) (graph_count r [] ∙ zero-add _) ∙ le-ltb n (length (graph [] r)) h.0) (none_above n (list_sizes [] r) h.1)
 
--- of a document
-text_room : (n : ℕ) (r : List Event) (x : Ending) (o : Opening) → StaysWithin n (parts r)
-    → (composer_fault [] (parts r) ≡ None → bounded_loads_behind n r x ≡ loads_behind r x)
-    → load_then (first_stop n [] [] (parts r)) (document_end r) o (graph [] (parts r)) (last_load x) (bounded_loads_behind n r x)
-    ≡ load_then (composer_fault [] (parts r)) (document_end r) o (graph [] (parts r)) (last_load x) (loads_behind r x)
-text_room n r x o f h =
-    ap (λ (g : Option Fault). load_then g (document_end r) o (graph [] (parts r)) (last_load x) (bounded_loads_behind n r x)) (fits_stop (parts r) n f)
-    ∙ go (composer_fault [] (parts r)) h (document_end r)
+-- so it is with the loads, up to the first composer error
+have_room : (bs : List Begun) (x : Ending) (n : ℕ) → HaveRoom n bs → loads_by (first_stop n [] []) x bs ≡ loads_by (composer_fault []) x bs
+have_room [] x n h = refl
+have_room (b ∷ bs) x n h =
+    let as_is : Option Fault → List Load → List Load
+    = λ (g : Option Fault) (l : List Load). load_then g (document_end b.rest) b.opening (graph [] (parts b.rest)) (last_load x) l in
+    ap (λ (g : Option Fault). as_is g (loads_by (first_stop n [] []) x bs)) (fits_stop (parts b.rest) n h.0)
+    ∙ go (composer_fault [] (parts b.rest)) (document_end b.rest) (λ e. have_room bs x n (h.1 e))
   where
-    go : (g : Option Fault) → (g ≡ None → bounded_loads_behind n r x ≡ loads_behind r x) → (c : Option Closing)
-        → load_then g c o (graph [] (parts r)) (last_load x) (bounded_loads_behind n r x)
-        ≡ load_then g c o (graph [] (parts r)) (last_load x) (loads_behind r x)
-    go (Some g) k c = refl
-    go None k (Some c) = ap (load_then None (Some c) o (graph [] (parts r)) (last_load x)) (k refl)
-    go None k None = refl
+    go : (g : Option Fault) (c : Option Closing) → (g ≡ None → loads_by (first_stop n [] []) x bs ≡ loads_by (composer_fault []) x bs)
+        → load_then g c b.opening (graph [] (parts b.rest)) (last_load x) (loads_by (first_stop n [] []) x bs)
+        ≡ load_then g c b.opening (graph [] (parts b.rest)) (last_load x) (loads_by (composer_fault []) x bs)
+    go (Some g) c k = refl
+    go None (Some c) k = ap (load_then None (Some c) b.opening (graph [] (parts b.rest)) (last_load x)) (k refl)
+    go None None k = refl
 
--- what HasRoom says of an event, by the document that it opens or ends
-abbrev RoomAt : ℕ → List Event → Option Opening → Type 0
-RoomAt n r c = elim c [ None ↦ HasRoom n r | Some o ↦ StaysWithin n (parts r) × (composer_fault [] (parts r) ≡ None → HasRoomBehind n r) ]
-
-abbrev RoomEndedAt : ℕ → List Event → Option Closing → Type 0
-RoomEndedAt n r c = elim c [ Some d ↦ HasRoom n r | None ↦ HasRoomBehind n r ]
-
-room_event : (e : Event) (r : List Event) (x : Ending) (n : ℕ) → HasRoom n (e ∷ r) → (HasRoom n r → bounded_loads n r x ≡ loads r x)
-    → (HasRoomBehind n r → bounded_loads_behind n r x ≡ loads_behind r x) → bounded_loads n (e ∷ r) x ≡ loads (e ∷ r) x
-room_event e r x n h next behind_it = go (opening_of e) h
-  where
-    go : (c : Option Opening) → RoomAt n r c
-        → ◌≡◌ {A = List Load} (elim c [
-          | None ↦ bounded_loads n r x
-          | Some o ↦ load_then (first_stop n [] [] (parts r)) (document_end r) o (graph [] (parts r)) (last_load x) (bounded_loads_behind n r x)
-        ])
-        (elim c [
-          | None ↦ loads r x
-          | Some o ↦ load_then (composer_fault [] (parts r)) (document_end r) o (graph [] (parts r)) (last_load x)
-              (loads_behind r x)
-        ])
-    go None k = next k
-    go (Some o) k = text_room n r x o k.0 (λ g. behind_it (k.1 g))
-
-behind_event : (e : Event) (r : List Event) (x : Ending) (n : ℕ) → HasRoomBehind n (e ∷ r) → (HasRoom n r → bounded_loads n r x ≡ loads r x)
-    → (HasRoomBehind n r → bounded_loads_behind n r x ≡ loads_behind r x) → bounded_loads_behind n (e ∷ r) x ≡ loads_behind (e ∷ r) x
-behind_event e r x n h next behind_it = go (closing_of e) h
-  where
-    go : (c : Option Closing) → RoomEndedAt n r c
-        → ◌≡◌ {A = List Load} (elim c [ Some d ↦ bounded_loads n r x | None ↦ bounded_loads_behind n r x ])
-        (elim c [ Some d ↦ loads r x | None ↦ loads_behind r x ])
-    go (Some d) k = next k
-    go None k = behind_it k
-
-mutual
-  pub room_loads : (r : List Event) (x : Ending) (n : ℕ) → HasRoom n r → bounded_loads n r x ≡ loads r x
-  room_loads [] x n h = refl
-  room_loads (e ∷ r) x n h = room_event e r x n h (λ (k : HasRoom n r). room_loads r x n k) (λ (k : HasRoomBehind n r). room_behind r x n k)
-
-  room_behind : (r : List Event) (x : Ending) (n : ℕ) → HasRoomBehind n r → bounded_loads_behind n r x ≡ loads_behind r x
-  room_behind [] x n h = refl
-  room_behind (e ∷ r) x n h = behind_event e r x n h (λ (k : HasRoom n r). room_loads r x n k) (λ (k : HasRoomBehind n r). room_behind r x n k)
+pub room_loads : (r : List Event) (x : Ending) (n : ℕ) → HasRoom n r → bounded_loads n r x ≡ loads r x
+room_loads r x n h = have_room (begun r) x n h
 
 -- and one load alone
 pub room_next : (r : List Event) (x : Ending) (n : ℕ) → HasRoom n r → next_bounded n r x ≡ next_load r x
-room_next [] x n h = refl
-room_next (e ∷ r) x n h = go (opening_of e) h (λ (k : HasRoom n r). room_next r x n k)
+room_next r x n h = go (begun r) h
   where
-    go : (c : Option Opening) → RoomAt n r c
-        → (HasRoom n r → next_bounded n r x ≡ next_load r x)
-        → ◌≡◌ {A = Load} (elim c [
-          | None ↦ next_bounded n r x
-          | Some o ↦ answer (first_stop n [] [] (parts r)) (document_end r) o (graph [] (parts r)) (last_load x)
-        ])
-        (elim c [ None ↦ next_load r x | Some o ↦ answer (composer_fault [] (parts r)) (document_end r) o (graph [] (parts r)) (last_load x) ])
-    go None k next = next k
-    go (Some o) k next = ap (λ (g : Option Fault). answer g (document_end r) o (graph [] (parts r)) (last_load x)) (fits_stop (parts r) n k.0)
+    go : (bs : List Begun) → HaveRoom n bs → next_by (first_stop n [] []) x bs ≡ next_by (composer_fault []) x bs
+    go [] k = refl
+    go (b ∷ bs) k = ap (λ (g : Option Fault). answer g (document_end b.rest) b.opening (graph [] (parts b.rest)) (last_load x)) (fits_stop (parts b.rest) n k.0)
 
--- a document that nothing stops has no composer fault, and its lists have room
+-- a document that nothing stops has no composer error, and its lists have room
 abbrev Unstopped : ℕ → List Start → List Part → List Part → Type 0
 Unstopped n es F P = (composer_fault es P ≡ None) × (nat_lt n (length (all_behind es P)) ≡ false) × (one_above n (list_sizes [] (F ++ P)) ≡ false)
 

@@ -11,12 +11,13 @@ use Rattle.libyaml_grammar.specs.runs.Runs.{Ending, Ends, Fails}
 use Rattle.libyaml_grammar.specs.sentences.Tokens.{Mark}
 use Rattle.libyaml_grammar.specs.sentences.Trees.{mapping, sequence}
 use Rattle.libyaml_documents.specs.Documents.{Document}
-use Rattle.libyaml_graphs.specs.Bounds.{bounded_loads, bounded_loads_behind, first_stop, if_above, next_bounded}
+use Rattle.libyaml_graphs.specs.Bounds.{bounded_loads, first_stop, if_above, next_bounded}
 use Rattle.libyaml_graphs.specs.GraphLaws.{BeginsNode, RootFollows, RootsFollow}
-use Rattle.libyaml_graphs.specs.Loads.{Load, answer, behind_document, document, document_end, last_load, left_over, load_then}
+use Rattle.libyaml_graphs.specs.Loads.{Begun, Load, answer, begun, begun_behind, behind_document, document, document_end, last_load, left_by, left_over}
+use Rattle.libyaml_graphs.specs.Loads.{load_then, loads_by, next_by}
 use Rattle.libyaml_graphs.specs.Parts.{Closing, Opening, Part, alias_part, closing_in, closing_of, end_part, graph, leaf_part, opening_of, part_in, part_of}
 use Rattle.libyaml_graphs.specs.Parts.{parts, start_part, with_part}
-use Rattle.libyaml_graphs.proofs.OneLoad.{bounded_left}
+use Rattle.libyaml_graphs.proofs.OneLoad.{Follow, follow}
 
 -- in events that nest as far as they go each document's root follows its start
 mutual
@@ -77,7 +78,8 @@ pub left_roots : (r : List Event) → RootsFollow r → RootsFollow (left_over r
 left_roots [] h = tt
 left_roots (e ∷ r) h = go (opening_of e) (left_roots r h.1)
   where
-    go : (o : Option Opening) → RootsFollow (left_over r) → RootsFollow (elim o [ None ↦ left_over r | Some y ↦ behind_document r ])
+    go : (o : Option Opening) → RootsFollow (left_over r)
+        → RootsFollow (left_by (elim o [ None ↦ begun r | Some y ↦ record { opening = y; rest = r } ∷ begun_behind r ]))
     go None k = k
     go (Some y) k = behind_roots r h.1
 
@@ -123,76 +125,67 @@ last_bare : (x : Ending) (d : Document) → last_load x ≡ Ok d → d.nodes ≡
 last_bare Ends d h = ap (λ (a : Document). a.nodes) (sym (ok _ d h))
 last_bare (Fails f) d h = absurd cc
 
+-- the root of the first document that begins follows
+abbrev FirstRoot : List Begun → Type 0
+FirstRoot [] = Unit {0}
+FirstRoot (b ∷ bs) = RootFollows (Some b.opening) b.rest
+
+first_root : (r : List Event) → RootsFollow r → FirstRoot (begun r)
+first_root [] h = tt
+first_root (e ∷ r) h = go (opening_of e) h.0 (first_root r h.1)
+  where
+    go : (o : Option Opening) → RootFollows o r → FirstRoot (begun r)
+        → FirstRoot (elim o [ None ↦ begun r | Some y ↦ record { opening = y; rest = r } ∷ begun_behind r ])
+    go None k f = f
+    go (Some y) k f = k
+
 -- The load without nodes is the last, and the run's end.
 pub last_of : (r : List Event) (x : Ending) (n : ℕ) (d : Document) → RootsFollow r → next_bounded n r x ≡ Ok d → d.nodes ≡ []
     → (bounded_loads n r x ≡ Ok d ∷ []) × (last_load x ≡ Ok d)
-last_of [] x n d h a e = (ap (λ (l : Load). l ∷ []) a, a)
-last_of (v ∷ r) x n d h a e = go (opening_of v) refl a (last_of r x n d h.1)
+last_of r x n d h a e = go (begun r) (first_root r h) a
   where
-    at : (o : Opening) (f : Option Fault) (c : Option Closing) → RootFollows (Some o) r → first_stop n [] [] (parts r) ≡ f → document_end r ≡ c
-        → answer f c o (graph [] (parts r)) (last_load x) ≡ Ok d
-        → (load_then f c o (graph [] (parts r)) (last_load x) (bounded_loads_behind n r x) ≡ Ok d ∷ []) × (last_load x ≡ Ok d)
-    at o (Some f) c root s t b = absurd cc
-    at o None (Some c) root s t b = absurd (has_nodes r o c n root s t (ap (λ (k : Document). k.nodes) (ok (document o (graph [] (parts r)) c) d b) ∙ e))
-    at o None None root s t b = (ap (λ (l : Load). l ∷ []) b, b)
+    go : (bs : List Begun) → FirstRoot bs → next_by (first_stop n [] []) x bs ≡ Ok d
+        → (loads_by (first_stop n [] []) x bs ≡ Ok d ∷ []) × (last_load x ≡ Ok d)
+    go [] root b = (ap (λ (l : Load). l ∷ []) b, b)
+    go (t ∷ ts) root b = at (first_stop n [] [] (parts t.rest)) (document_end t.rest) refl refl b
+      where
+        at : (f : Option Fault) (c : Option Closing) → first_stop n [] [] (parts t.rest) ≡ f → document_end t.rest ≡ c
+            → answer f c t.opening (graph [] (parts t.rest)) (last_load x) ≡ Ok d
+            → (load_then f c t.opening (graph [] (parts t.rest)) (last_load x) (loads_by (first_stop n [] []) x ts) ≡ Ok d ∷ []) × (last_load x ≡ Ok d)
+        at (Some f) c s u b = absurd cc
+        at None (Some c) s u b
+            = absurd (has_nodes t.rest t.opening c n root s u (ap (λ (k : Document). k.nodes) (ok (document t.opening (graph [] (parts t.rest)) c) d b) ∙ e))
+        at None None s u b = (ap (λ (l : Load). l ∷ []) b, b)
 
-    go : (o : Option Opening) → opening_of v ≡ o
-        → ◌≡◌ {A = Load} (elim o [
-          | None ↦ next_bounded n r x
-          | Some y ↦ answer (first_stop n [] [] (parts r)) (document_end r) y (graph [] (parts r)) (last_load x)
-        ]) (Ok d)
-        → (next_bounded n r x ≡ Ok d → d.nodes ≡ [] → (bounded_loads n r x ≡ Ok d ∷ []) × (last_load x ≡ Ok d))
-        → (◌≡◌ {A = List Load} (elim o [
-          | None ↦ bounded_loads n r x
-          | Some y ↦ load_then (first_stop n [] [] (parts r)) (document_end r) y (graph [] (parts r)) (last_load x) (bounded_loads_behind n r x)
-        ]) (Ok d
-        ∷ [])) × (last_load x ≡ Ok d)
-    go None is b k = k b e
-    go (Some o) is b k = at o (first_stop n [] [] (parts r)) (document_end r) (subst (λ (y : Option Opening). RootFollows y r) is h.0) refl refl b
-
--- Behind a load with nodes come the loads of the events that it leaves.
+-- After a load with nodes come the loads of the events that it leaves.
 pub earlier_of : (r : List Event) (x : Ending) (n : ℕ) (d : Document) → next_bounded n r x ≡ Ok d → d.nodes ≢ []
     → bounded_loads n r x ≡ Ok d ∷ bounded_loads n (left_over r) x
-earlier_of [] x n d a e = absurd (e (last_bare x d a))
-earlier_of (v ∷ r) x n d a e = go (opening_of v) a (earlier_of r x n d)
+earlier_of r x n d a e = go (begun r) (follow r) a
   where
-    at : (o : Opening) (f : Option Fault) (c : Option Closing) → answer f c o (graph [] (parts r)) (last_load x) ≡ Ok d
-        → load_then f c o (graph [] (parts r)) (last_load x) (bounded_loads_behind n r x) ≡ Ok d ∷ bounded_loads n (behind_document r) x
-    at o (Some f) c b = absurd cc
-    at o None (Some c) b = ap (λ (l : Load). l ∷ bounded_loads_behind n r x) b ∙ ap (λ (l : List Load). Ok d ∷ l) (bounded_left r x n)
-    at o None None b = absurd (e (last_bare x d b))
+    go : (bs : List Begun) → Follow bs → next_by (first_stop n [] []) x bs ≡ Ok d
+        → loads_by (first_stop n [] []) x bs ≡ Ok d ∷ loads_by (first_stop n [] []) x (begun (left_by bs))
+    go [] f b = absurd (e (last_bare x d b))
+    go (t ∷ ts) f b = at (first_stop n [] [] (parts t.rest)) (document_end t.rest) b
+      where
+        later : List Begun → List Load
+        later l = loads_by (first_stop n [] []) x l
 
-    go : (o : Option Opening) → ◌≡◌ {A
-        = Load} (elim o [ None ↦ next_bounded n r x | Some y ↦ answer (first_stop n [] [] (parts r)) (document_end r) y (graph [] (parts r)) (last_load x) ])
-        (Ok d)
-        → (next_bounded n r x ≡ Ok d → d.nodes ≢ [] → bounded_loads n r x ≡ Ok d ∷ bounded_loads n (left_over r) x)
-        → ◌≡◌ {A = List Load} (elim o [
-          | None ↦ bounded_loads n r x
-          | Some y ↦ load_then (first_stop n [] [] (parts r)) (document_end r) y (graph [] (parts r)) (last_load x) (bounded_loads_behind n r x)
-        ]) (Ok d
-        ∷ bounded_loads n (elim o [ None ↦ left_over r | Some y ↦ behind_document r ]) x)
-    go None b k = k b e
-    go (Some o) b k = at o (first_stop n [] [] (parts r)) (document_end r) b
+        at : (f : Option Fault) (c : Option Closing) → answer f c t.opening (graph [] (parts t.rest)) (last_load x) ≡ Ok d
+            → load_then f c t.opening (graph [] (parts t.rest)) (last_load x) (later ts) ≡ Ok d ∷ later (begun (behind_document t.rest))
+        at (Some f) c b = absurd cc
+        at None (Some c) b = ap (λ (l : Load). l ∷ later ts) b ∙ ap (λ (l : List Begun). Ok d ∷ later l) f
+        at None None b = absurd (e (last_bare x d b))
 
--- A fault is the last load.
+-- An error is the last load.
 pub fault_of : (r : List Event) (x : Ending) (n : ℕ) (f : Fault) → next_bounded n r x ≡ Err f → bounded_loads n r x ≡ Err f ∷ []
-fault_of [] x n f a = ap (λ (l : Load). l ∷ []) a
-fault_of (v ∷ r) x n f a = go (opening_of v) a (fault_of r x n f)
+fault_of r x n f a = go (begun r) a
   where
-    at : (o : Opening) (g : Option Fault) (c : Option Closing) → answer g c o (graph [] (parts r)) (last_load x) ≡ Err f
-        → load_then g c o (graph [] (parts r)) (last_load x) (bounded_loads_behind n r x) ≡ Err f ∷ []
-    at o (Some g) c b = ap (λ (l : Load). l ∷ []) b
-    at o None (Some c) b = absurd cc
-    at o None None b = ap (λ (l : Load). l ∷ []) b
-
-    go : (o : Option Opening) → ◌≡◌ {A
-        = Load} (elim o [ None ↦ next_bounded n r x | Some y ↦ answer (first_stop n [] [] (parts r)) (document_end r) y (graph [] (parts r)) (last_load x) ])
-        (Err f)
-        → (next_bounded n r x ≡ Err f → bounded_loads n r x ≡ Err f ∷ [])
-        → ◌≡◌ {A = List Load} (elim o [
-          | None ↦ bounded_loads n r x
-          | Some y ↦ load_then (first_stop n [] [] (parts r)) (document_end r) y (graph [] (parts r)) (last_load x) (bounded_loads_behind n r x)
-        ]) (Err f
-        ∷ [])
-    go None b k = k b
-    go (Some o) b k = at o (first_stop n [] [] (parts r)) (document_end r) b
+    go : (bs : List Begun) → next_by (first_stop n [] []) x bs ≡ Err f → loads_by (first_stop n [] []) x bs ≡ Err f ∷ []
+    go [] b = ap (λ (l : Load). l ∷ []) b
+    go (t ∷ ts) b = at (first_stop n [] [] (parts t.rest)) (document_end t.rest) b
+      where
+        at : (g : Option Fault) (c : Option Closing) → answer g c t.opening (graph [] (parts t.rest)) (last_load x) ≡ Err f
+            → load_then g c t.opening (graph [] (parts t.rest)) (last_load x) (loads_by (first_stop n [] []) x ts) ≡ Err f ∷ []
+        at (Some g) c b = ap (λ (l : Load). l ∷ []) b
+        at None (Some c) b = absurd cc
+        at None None b = ap (λ (l : Load). l ∷ []) b

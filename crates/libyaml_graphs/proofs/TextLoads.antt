@@ -16,7 +16,7 @@ use Rattle.libyaml_graphs.specs.Graphs.{nodes_of}
 use Rattle.libyaml_graphs.specs.GraphLaws.{NestedLoads, fault_or, open_load}
 use Rattle.libyaml_graphs.specs.GraphLaws as law
 use Rattle.libyaml_graphs.specs.Parts.{Closing, Opening, Part, closing_of, graph, part_of, parts, with_part}
-use Rattle.libyaml_graphs.specs.Loads.{Load, document_end, last_load, load_then, loads, loads_behind, loads_of}
+use Rattle.libyaml_graphs.specs.Loads.{Begun, Load, begun_behind, document_end, last_load, load_then, loads, loads_by, loads_of}
 use Rattle.libyaml_graphs.proofs.TreeGraphs.{value_graph}
 
 -- a value ends no document
@@ -32,15 +32,15 @@ mutual
   values_closing (first_value v vs) r = value_closing v (values_events vs r) ∙ values_closing vs r
 
 mutual
-  value_behind : (v : Value) (r : List Event) (x : Ending) → loads_behind (value_events v r) x ≡ loads_behind r x
-  value_behind (alias_value a m n) r x = refl
-  value_behind (scalar_value s m n) r x = refl
-  value_behind (collection_value sequence a t i s m n vs p q) r x = values_behind vs (end_at sequence p q ∷ r) x
-  value_behind (collection_value mapping a t i s m n vs p q) r x = values_behind vs (end_at mapping p q ∷ r) x
+  value_behind : (v : Value) (r : List Event) → begun_behind (value_events v r) ≡ begun_behind r
+  value_behind (alias_value a m n) r = refl
+  value_behind (scalar_value s m n) r = refl
+  value_behind (collection_value sequence a t i s m n vs p q) r = values_behind vs (end_at sequence p q ∷ r)
+  value_behind (collection_value mapping a t i s m n vs p q) r = values_behind vs (end_at mapping p q ∷ r)
 
-  values_behind : (vs : Values) (r : List Event) (x : Ending) → loads_behind (values_events vs r) x ≡ loads_behind r x
-  values_behind no_values r x = refl
-  values_behind (first_value v vs) r x = value_behind v (values_events vs r) x ∙ values_behind vs r x
+  values_behind : (vs : Values) (r : List Event) → begun_behind (values_events vs r) ≡ begun_behind r
+  values_behind no_values r = refl
+  values_behind (first_value v vs) r = value_behind v (values_events vs r) ∙ values_behind vs r
 
 -- the parts of a value hang on those behind it alone
 abbrev put : Part → List Part → List Part
@@ -73,12 +73,12 @@ text_loads d m n v i p q r x =
     let o : Opening = record { start = d; mark = m } in
     let w : List Event = document_end_at i p q ∷ r in
     let c : Closing = record { is_implicit = i; mark = q } in
-    ap (λ (l : List Part). load_then (composer_fault [] l) (document_end (value_events v w)) o (graph [] l) (last_load x) (loads_behind (value_events v w) x))
+    ap (λ (l : List Part). load_then (composer_fault [] l) (document_end (value_events v w)) o (graph [] l) (last_load x) (loads_by (composer_fault []) x (begun_behind (value_events v w))))
     (value_parts v w [] refl)
     ∙ (ap (λ (y : Option Closing). load_then (composer_fault [] (parts (value_events v []))) y o (graph [] (parts (value_events v []))) (last_load x)
-    (loads_behind (value_events v w) x)) (value_closing v w)
-    ∙ (ap (λ (l : List Load). load_then (composer_fault [] (parts (value_events v []))) (Some c) o (graph [] (parts (value_events v []))) (last_load x) l)
-    (value_behind v w x)
+    (loads_by (composer_fault []) x (begun_behind (value_events v w)))) (value_closing v w)
+    ∙ (ap (λ (l : List Begun). load_then (composer_fault [] (parts (value_events v []))) (Some c) o (graph [] (parts (value_events v []))) (last_load x)
+    (loads_by (composer_fault []) x l)) (value_behind v w)
     ∙ (ap (λ (ns : List yaml_node_t). load_then (composer_fault [] (parts (value_events v []))) (Some c) o ns (last_load x) (loads r x)) (value_graph v [] [])
     ∙ ends_itself (composer_fault [] (parts (value_events v []))) c o (nodes_of v [] []) (last_load x) (last_load Ends) (loads r x))))
 
@@ -109,10 +109,10 @@ open_loads : (d : unnamed_yaml_event_t_data_document_start) (m n : Mark) (f : Li
     → loads (event (ev.DocumentStart d) m n ∷ f) x ≡ open_load (event (ev.DocumentStart d) m n ∷ f) x ∷ []
 open_loads d m n f x e =
     ap (λ (c : Option Closing). load_then (composer_fault [] (parts f)) c (record { start = d; mark = m }) (graph [] (parts f)) (last_load x)
-    (loads_behind f x)) e
+    (loads_by (composer_fault []) x (begun_behind f))) e
     ∙ go (composer_fault [] (parts f))
   where
-    go : (g : Option Fault) → load_then g None (record { start = d; mark = m }) (graph [] (parts f)) (last_load x) (loads_behind f x) ≡ fault_or g (last_load x)
+    go : (g : Option Fault) → load_then g None (record { start = d; mark = m }) (graph [] (parts f)) (last_load x) (loads_by (composer_fault []) x (begun_behind f)) ≡ fault_or g (last_load x)
         ∷ []
     go (Some g) = refl
     go None = refl

@@ -5,14 +5,14 @@ use Rattle.libyaml_types.specs.declared.enums.yaml_error_type_t.TheVariants.{YAM
 use Rattle.libyaml_grammar.specs.sentences.Events.{Event, either}
 use Rattle.libyaml_grammar.specs.runs.Fault.{Fault}
 use Rattle.libyaml_grammar.specs.cuts.FaultTexts.{memory_fault}
-use Rattle.libyaml_grammar.specs.runs.Runs.{Ending, IsRun}
+use Rattle.libyaml_grammar.specs.runs.Runs.{Ending}
 use Rattle.libyaml_grammar.specs.sentences.Tokens.{Token}
 use Rattle.libyaml_documents.specs.declared.node.unnamed_yaml_node_t_data.{unnamed_yaml_node_t_data}
 use Rattle.libyaml_documents.specs.declared.node.unnamed_yaml_node_t_data.TheVariants.{Scalar, Sequence, Mapping}
 use Rattle.libyaml_graphs.specs.ComposerFaults.{composer_fault, part_fault}
 use Rattle.libyaml_graphs.specs.Graphs.{Start}
-use Rattle.libyaml_graphs.specs.Loads.{Load, answer, document_end, last_load, load_then}
-use Rattle.libyaml_graphs.specs.Parts.{Part, alias_part, behind, children, closing_of, end_part, graph, leaf_part, opening_of, parts, start_of, start_part}
+use Rattle.libyaml_graphs.specs.Loads.{AreLoads, Begun, Load, begun, loads_by, next_by}
+use Rattle.libyaml_graphs.specs.Parts.{Part, alias_part, behind, children, end_part, graph, leaf_part, parts, start_of, start_part}
 
 -- the pairs that children begin: one at each key, also where its value is still to come
 abbrev pub pairs_begun : List ℕ → ℕ
@@ -39,8 +39,8 @@ abbrev pub one_above : ℕ → List ℕ → Bool
 one_above n [] = false
 one_above n (k ∷ ks) = either (nat_lt n k) (one_above n ks)
 
--- What stops a load: the first part with which there are more than n nodes, else which has a composer fault, else with which
--- a node's list has more than n entries. The first and the last are want of memory. `before` are the parts before, and es
+-- What stops a load: the first part with which there are more than n nodes, else which has a composer error, else with which
+-- a node's list has more than n entries. The first and the last are reported as out of memory. `before` are the parts before, and es
 -- their starts.
 abbrev pub if_above : Bool → Option Fault → Option Fault
 if_above true o = Some memory_fault
@@ -57,49 +57,30 @@ abbrev pub first_stop : ℕ → List Start → (before : List Part) → List Par
 first_stop n es before [] = None
 first_stop n es before (p ∷ r) = stop_at n es before p (first_stop n (behind p es) (before ++ p ∷ []) r)
 
--- The loads of a run within the bound n.
-abbrev mutual
-  pub bounded_loads : ℕ → List Event → Ending → List Load
-  bounded_loads n [] x = last_load x ∷ []
-  bounded_loads n (e ∷ r) x = elim (opening_of e) [
-    | None ↦ bounded_loads n r x
-    | Some o ↦ load_then (first_stop n [] [] (parts r)) (document_end r) o (graph [] (parts r)) (last_load x) (bounded_loads_behind n r x)
-  ]
+-- The loads of a run within the bound n, and one of them. The events that it leaves are those that it leaves without a bound.
+abbrev pub bounded_loads : ℕ → List Event → Ending → List Load
+bounded_loads n e x = loads_by (first_stop n [] []) x (begun e)
 
-  pub bounded_loads_behind : ℕ → List Event → Ending → List Load
-  bounded_loads_behind n [] x = last_load x ∷ []
-  bounded_loads_behind n (e ∷ r) x = elim (closing_of e) [ Some c ↦ bounded_loads n r x | None ↦ bounded_loads_behind n r x ]
-
--- one load within the bound n; the events that it leaves are those that it leaves without a bound
 abbrev pub next_bounded : ℕ → List Event → Ending → Load
-next_bounded n [] x = last_load x
-next_bounded n (e ∷ r) x = elim (opening_of e) [
-  | None ↦ next_bounded n r x
-  | Some o ↦ answer (first_stop n [] [] (parts r)) (document_end r) o (graph [] (parts r)) (last_load x)
-]
+next_bounded n e x = next_by (first_stop n [] []) x (begun e)
 
--- the loads over a list of tokens with the source's fault f behind it
-pub record IsBoundedLoads (n : ℕ) (l : List Token) (f : Fault) (a : List Load) : Type 0 where
-  pub events : List Event
-  pub ending : Ending
-  pub run : IsRun l f events ending
-  pub all : a ≡ bounded_loads n events ending
+-- the loads over a list of tokens, after which the source fails with f
+abbrev pub IsBoundedLoads : ℕ → List Token → Fault → List Load → Type 0
+IsBoundedLoads n l f a = AreLoads (first_stop n [] []) l f a
 
 -- no list of these parts of a document needs more than n entries
 abbrev pub StaysWithin : ℕ → List Part → Type 0
 StaysWithin n l = (length (graph [] l) ≤ n) × All (λ k. k ≤ n) (list_sizes [] l)
 
--- nor does one of a document that a load begins: behind a composer fault no load begins one
-abbrev mutual
-  pub HasRoom : ℕ → List Event → Type 0
-  HasRoom n [] = Unit {0}
-  HasRoom n (e ∷ r) = elim (opening_of e) [ None ↦ HasRoom n r | Some o ↦ StaysWithin n (parts r) × (composer_fault [] (parts r) ≡ None → HasRoomBehind n r) ]
+-- nor does one of a document that a load begins: after a composer error no load begins one
+abbrev pub HaveRoom : ℕ → List Begun → Type 0
+HaveRoom n [] = Unit {0}
+HaveRoom n (b ∷ bs) = StaysWithin n (parts b.rest) × (composer_fault [] (parts b.rest) ≡ None → HaveRoom n bs)
 
-  pub HasRoomBehind : ℕ → List Event → Type 0
-  HasRoomBehind n [] = Unit {0}
-  HasRoomBehind n (e ∷ r) = elim (closing_of e) [ Some c ↦ HasRoom n r | None ↦ HasRoomBehind n r ]
+abbrev pub HasRoom : ℕ → List Event → Type 0
+HasRoom n e = HaveRoom n (begun e)
 
--- none of these loads is want of memory
+-- none of these loads is out of memory
 abbrev pub NoneLacksMemory : List Load → Type 0
 NoneLacksMemory [] = Unit {0}
 NoneLacksMemory (Ok d ∷ l) = NoneLacksMemory l

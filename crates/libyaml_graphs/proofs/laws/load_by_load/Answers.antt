@@ -1,14 +1,18 @@
-use Rattle.libyaml_graphs.proofs.OneLoad.{first_bounded, first_load, later_bounded, later_load}
+use Rattle.std.proofs.Common.{[]}
+use Rattle.libyaml_graphs.specs.Bounds.{first_stop}
+use Rattle.libyaml_graphs.specs.ComposerFaults.{composer_fault}
+use Rattle.libyaml_graphs.specs.Loads.{begun}
+use Rattle.libyaml_graphs.proofs.OneLoad.{first_load, follow, later_load}
 use Rattle.libyaml_graphs.proofs.laws.load_by_load.Goals as goal
 
 pub returns-clause-first : goal.returns-clause-first
-returns-clause-first c = first_load
+returns-clause-first c r = first_load (composer_fault []) (begun r)
 
 pub returns-clause-later : goal.returns-clause-later
-returns-clause-later c = later_load
+returns-clause-later c r x z n = later_load (composer_fault []) (begun r) x z n (follow r)
 
 pub returns-clause-first_bounded : goal.returns-clause-first_bounded
-returns-clause-first_bounded c = first_bounded
+returns-clause-first_bounded c r x z m = first_load (first_stop m [] []) (begun r) x z
 
 pub returns-clause-later_bounded : goal.returns-clause-later_bounded
-returns-clause-later_bounded c = later_bounded
+returns-clause-later_bounded c r x z m n = later_load (first_stop m [] []) (begun r) x z n (follow r)
