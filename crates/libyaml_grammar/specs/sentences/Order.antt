@@ -18,7 +18,7 @@ abbrev pub negated : Bool → Bool
 negated true = false
 negated false = true
 
--- A document asks for at most one version, and that is 1.1 or 1.2.
+-- A document asks for at most one version, and that is one that is accepted: 1.1 or 1.2 (`is_version`).
 abbrev pub no_version : Directives → Bool
 no_version no_directives = true
 no_version (directive ds (version v m)) = false
