@@ -4,7 +4,7 @@
 - a relative link to a missing file, or to a heading that its page does not have;
 - a path of this repository, in backticks or in a command, that does not exist (what a build makes is left out);
 - a heading of a page, as in `docs/DEFINITIONS.md, "Runs"`, that it does not have; comments of code are read for these too;
-- a Rust block that stands word for word in no file of crates/;
+- a Rust block that no file of crates/ has word for word;
 - a row of ARCHITECTURE's table of layers that is not as crates.txt has it, or that is missing (programs of rows are left out).
 
     python3 scripts/links.py
@@ -79,9 +79,13 @@ def missing_headings(text):
                 yield f'{name} has no heading "{heading}"'
 
 
+def unindented(code):
+    return re.sub(r"^ +", "", code, flags=re.M)
+
+
 def missing_blocks(text, code):
     for block in re.findall(r"^```rust\n(.*?)^```", text, flags=re.M | re.S):
-        if block.strip() not in code:
+        if unindented(block).strip() not in code:
             yield f"a Rust block that no file has: {block.strip().splitlines()[0]}"
 
 
@@ -109,7 +113,7 @@ def comments():
 
 
 def problems():
-    code = "\n".join(path.read_text() for path in TOP.glob("crates/*/src/**/*.rt"))
+    code = unindented("\n".join(path.read_text() for path in TOP.glob("crates/*/src/**/*.rt")))
     for page in PAGES:
         text = page.read_text()
         found = [*broken_links(page, text), *missing_paths(page, text), *missing_headings(text), *missing_blocks(text, code)]
