@@ -5,7 +5,7 @@
 - a path of this repository, in backticks or in a command, that does not exist (what a build makes is left out);
 - a heading of a page, as in `docs/DEFINITIONS.md, "Runs"`, that it does not have; comments of code are read for these too;
 - a Rust block that no file of crates/ has word for word;
-- a row of ARCHITECTURE's table of layers that is not as crates.txt has it, or that is missing (programs of rows are left out).
+- a row of ARCHITECTURE's table of layers, or a line "Stands on" of a crate's README, that is not as crates.txt has it.
 
     python3 scripts/links.py
 """
@@ -89,20 +89,31 @@ def missing_blocks(text, code):
             yield f"a Rust block that no file has: {block.strip().splitlines()[0]}"
 
 
-def crates_below():
-    """Each crate of crates.txt with the crates of this repository that it lists."""
+def crates_listed():
+    """Each crate of crates.txt with the crates that it lists."""
     lines = [line.split("#")[0].partition(":") for line in (TOP / "crates.txt").read_text().splitlines() if ":" in line]
-    names = [name.split()[0] for name, _, _ in lines]
-    return {name: {below for below in listed.split() if below in names} for name, (_, _, listed) in zip(names, lines)}
+    return {name.split()[0]: set(listed.split()) for name, _, listed in lines}
 
 
 def wrong_layers():
+    """Where the table of layers, of this repository's crates, differs from crates.txt; programs of rows have no row each."""
+    listed = crates_listed()
     rows = re.findall(r"^\| `(\w+)` \| [^|]* \| ([^|]*) \|$", (TOP / "docs" / "ARCHITECTURE.md").read_text(), flags=re.M)
     shown = {name: set(re.findall(r"`(\w+)`", below)) for name, below in rows}
-    for name, below in crates_below().items():
+    for name in listed:
+        below = listed[name] & set(listed)
         if shown.pop(name, below if name.startswith("row_") or name.endswith("_rows") else None) != below:
             yield f"row of {name} in the table of layers: crates.txt has {' '.join(sorted(below)) or 'nothing'}"
     yield from (f"row of {name} in the table of layers: no such crate" for name in shown)
+
+
+def wrong_readmes():
+    """Where a crate's README stands on other crates than crates.txt says."""
+    for name, below in crates_listed().items():
+        readme = TOP / "crates" / name / "README.md"
+        line = re.search(r"^\*\*Stands on\*\* .*$", readme.read_text(), flags=re.M) if readme.exists() else None
+        if line and set(re.findall(r"`(\w+)`", line.group())) != below:
+            yield f"crates/{name}/README.md: stands on other crates than crates.txt says"
 
 
 def comments():
@@ -119,6 +130,7 @@ def problems():
         found = [*broken_links(page, text), *missing_paths(page, text), *missing_headings(text), *missing_blocks(text, code)]
         yield from (f"{page.relative_to(TOP)}: {problem}" for problem in found)
     yield from (f"docs/ARCHITECTURE.md: {problem}" for problem in wrong_layers())
+    yield from wrong_readmes()
     for path, text in comments():
         yield from (f"{path.relative_to(TOP)}: {problem}" for problem in missing_headings(text))
 
