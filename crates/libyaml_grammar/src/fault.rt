@@ -38,7 +38,7 @@ pub const NO_FAULT: yaml_parser_t_prefix = yaml_parser_t_prefix {
     context_mark: ZERO_MARK,
 };
 
-/// The fault of a token source: want of memory, or a fault of its reader or scanner.
+/// The fault of a token source: out of memory, or a fault of its reader or scanner.
 #[derive(Copy, Clone, PartialEq, Eq, Debug)]
 pub struct yaml_source_fault_t {
     prefix: yaml_parser_t_prefix,

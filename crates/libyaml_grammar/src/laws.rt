@@ -35,12 +35,12 @@ pub fn one_tree()
     ensures { (s t : Stream) → tokens s ≡ tokens t → s ≡ t }
 {}
 
-/// At most one cut tree fits a list with the token behind it.
+/// At most one cut tree fits a list with the token after it.
 pub fn one_cut()
     ensures { (l : List Token) (b : Token) (c d : Cut) → Fits l b c → Fits l b d → c ≡ d }
 {}
 
-/// A list whose only STREAM-END is its last token is a sentence, or a cut tree fits a front of it, and not
+/// A list whose only STREAM-END is its last token is a sentence, or a cut tree fits a prefix of it, and not
 /// both. A list without STREAM-END is a beginning, or has such a cut tree, and not both.
 pub fn tree_or_cut()
     ensures with_end { (l : List Token) (m : Marks) → has_end l ≡ false
@@ -48,7 +48,7 @@ pub fn tree_or_cut()
     ensures without_end { (l : List Token) → has_end l ≡ false → EitherNotBoth (IsBeginning l) (HasCut l) }
 {}
 
-/// The tokens of a cut tree in order, with its rest behind them, are a sentence; so the token of a cut tree
+/// The tokens of a cut tree in order, with its rest after them, are a sentence; so the token of a cut tree
 /// that fits is the first with which no sentence goes on.
 pub fn cut_begins()
     ensures completed { (c : Cut) → cut_in_order c true ≡ true
@@ -73,23 +73,23 @@ pub fn settled()
     ensures of_nothing { (e : List Event) → IsSettled [] e ↔ (e ≡ []) }
 {}
 
-/// Behind a beginning without STREAM-END the next event hangs on tokens still to come: two sentences begin
+/// After a beginning without STREAM-END the next event depends on tokens still to come: two sentences begin
 /// with it whose events begin with those that it settles and differ in the next.
 pub fn next_is_open()
     ensures { (l : List Token) (e : List Event) → IsBeginning l → has_end l ≡ false → IsSettled l e
         → IsOpen l e }
 {}
 
-/// Each list of tokens has one run for each fault behind it.
+/// Each list of tokens has one run for each fault after it.
 pub fn one_run()
     ensures some { (l : List Token) (f : Fault) → (e : List Event) × (x : Ending) × IsRun l f e x }
     ensures one { (l : List Token) (f : Fault) (d e : List Event) (x y : Ending) → IsRun l f d x
         → IsRun l f e y → (d ≡ e) × (x ≡ y) }
 {}
 
-/// The run over a list that begins with a known tree's tokens: a sentence's with anything behind it, a
-/// cut tree's that fits with the token behind it and anything behind that, or a beginning's with nothing
-/// behind it.
+/// The run over a list that begins with a known tree's tokens: a sentence's with anything after it, a
+/// cut tree's that fits with the token after it and anything after that, or a beginning's with nothing
+/// after it.
 pub fn run_of_tree()
     ensures sentence { (t : Stream) (r : List Token) (f : Fault) → in_order t ≡ true
         → IsRun (tokens t ++ r) f (events t) Ends }
@@ -102,7 +102,7 @@ pub fn run_of_tree()
         → IsSettled l e → IsRun l f e (Fails f) }
 {}
 
-/// A run ends only over a sentence, with its tree's events. Where the fault behind the list is a source's, a
+/// A run ends only over a sentence, with its tree's events. Where the fault after the list is a source's, a
 /// run fails with a parser's error only where a cut tree fits, with its events and its fault.
 pub fn run_ends()
     ensures ended { (l : List Token) (f : Fault) (e : List Event) → IsRun l f e Ends → (t : Stream)
@@ -127,7 +127,7 @@ pub fn run_nests()
     ensures fronts { (l rest : List Event) → IsNested (l ++ rest) → NestsSoFar l }
 {}
 
-/// The events of a document's content hang on its own directives alone, whatever stands before it, and on
+/// The events of a document's content depend on its own directives alone, whatever stands before it, and on
 /// these only by the prefixes that they give.
 pub fn own_directives()
     ensures explicit { (ds : Directives) (s : Marks) (x : BlockSlot) (m : Mark) → (e : List Event)
@@ -144,7 +144,7 @@ pub fn own_directives()
         → block_slot_events ds x m r ≡ block_slot_events es x m r }
 {}
 
-/// A TAG that needs no handle goes on from a list exactly where a node may begin behind it, or behind the
+/// A TAG that needs no handle goes on from a list exactly where a node may begin after it, or after the
 /// ANCHOR that ends it: there a TAG is bad for its handle alone.
 pub fn tag_places()
     ensures { (l : List Token) (m : Marks) (s : List ℕ)

@@ -8,7 +8,7 @@ use libyaml_types::yaml_error_words;
 use std::error::Error;
 use std::fmt;
 
-/// The problem with its place, or else the kind of the fault; and behind it the context with its place, if
+/// The problem with its place, or else the kind of the fault; and after it the context with its place, if
 /// there is one.
 impl fmt::Display for yaml_parser_t_prefix {
     ghost output = { λ p. Some (message (fault_of p)) };

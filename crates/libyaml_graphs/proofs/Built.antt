@@ -178,7 +178,7 @@ applied_hold i (p ∷ s) f g hs e h =
     ap (λ (l : List Held). applied s (λ (d : ℕ). f (suc d)) l) (change_change p (f 0) (hold i) hs ∙ change_same p (λ (x : Held). f 0 (hold i x)) (g 0) hs e)
     ∙ applied_same s (λ (d : ℕ). f (suc d)) (λ (d : ℕ). g (suc d)) (change p (g 0) hs) h
 
--- children, one after the other: what a node holds behind them, and the key that waits then
+-- children, one after the other: what a node holds after them, and the key that waits then
 abbrev pub grown : Option ℕ → unnamed_yaml_node_t_data → List ℕ → unnamed_yaml_node_t_data
 grown k c [] = c
 grown k c (i ∷ is) = grown (key_behind k i c) (content_with k i c) is

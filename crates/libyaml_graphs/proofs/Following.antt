@@ -143,7 +143,7 @@ outer_built : (m : Mark) (s : List ℕ) (hs : List Held) → outer (stack_of s h
 outer_built m [] hs = refl
 outer_built m (p ∷ s) hs = sym (stack_ended s p m hs)
 
--- what is built behind the starts es of a document
+-- what is built after the starts es of a document
 pub record Stands (es : List Start) (b : Built) : Type 0 where
   pub size : length b.held ≡ length es
   pub there : AllHas b.places b.held
@@ -180,13 +180,13 @@ build_stands (start_part a x) es b s = record {
 build_stands (end_part n) es b s
     = record { size = length_end n b.places b.held ∙ s.size; there = all_end n b.places b.held s.there; falls = below_falls b.places s.falls }
 
--- the loader behind each part
+-- the loader after each part
 loader_same : (nodes ms : List yaml_node_t) (s t : List Open) (xs : Anchors) → nodes ≡ ms → s ≡ t
     → ◌≡◌ {A = Loader} (record { nodes = nodes; stack = s; anchors = xs }) (record { nodes = ms; stack = t; anchors = xs })
 loader_same nodes ms s t xs e h = ap (λ (l : List yaml_node_t). record { nodes = l; stack = s; anchors = xs }) e
     ∙ ap (λ (l : List Open). record { nodes = ms; stack = l; anchors = xs }) h
 
--- a node that is put behind the others and handed to its parent, with what the stack is then
+-- a node that is put after the others and handed to its parent, with what the stack is then
 put_nodes : (x : yaml_node_t) (es : List Start) (b : Built) → Stands es b
     → hand (suc (length (nodes_in b.held))) (stack_of b.places b.held) (nodes_in b.held ++ x ∷ [])
     ≡ nodes_in (hold_top (suc (length es)) b.places (b.held ++ bare x ∷ []))

@@ -70,7 +70,7 @@ abbrev AllUpTo : ℕ → List ℕ → Type 0
 AllUpTo n [] = Unit {0}
 AllUpTo n (i ∷ is) = IsUpTo n i × AllUpTo n is
 
--- where the composer finds no fault in values they have ids, and there is none in what stands behind them
+-- where the composer finds no fault in values they have ids, and there is none in what follows them
 mutual
   value_sound : (v : Value) (es : List Start) (r : List Event) → composer_fault es (parts (value_events v r)) ≡ None → (1 ≤ id_of v es)
       × (composer_fault (starts_behind v es) (parts r) ≡ None)
@@ -155,7 +155,7 @@ mutual
 node_count : (v : Value) → length (starts_behind v []) ≡ length (nodes_of v [] [])
 node_count v = sym (add-zero _) ∙ (nodes_count v [] [] ∙ zero-add _)
 
--- in a document without composer fault every id names a node
+-- in a document without composer error every id names a node
 pub every_id : (v : Value) → composer_fault [] (parts (value_events v [])) ≡ None → EveryIdNamesANode (nodes_of v [] [])
 every_id v e = value_ids v (length (nodes_of v [] [])) [] [] [] e (subst (λ (n : ℕ). length (starts_behind v []) ≤ n) (node_count v) (le_refl _))
     (All-nil (Ids (length (nodes_of v [] []))))
@@ -213,7 +213,7 @@ mutual
   all_later no_values n es h = tt
   all_later (first_value v vs) n es h = (is_later n v es h, children_later v es, all_later vs n (starts_behind v es) (le_trans h (starts_grow v es)))
 
--- the ends of collections have no composer fault
+-- the ends of collections have no composer error
 pub fault_of_heads : (P : List Part) (es : List Start) → composer_fault es P ≡ composer_fault es (heads P)
 fault_of_heads [] es = refl
 fault_of_heads (alias_part a m ∷ P) es = ap (or_else (part_fault es (alias_part a m))) (fault_of_heads P es)

@@ -1,4 +1,4 @@
--- The composer's faults (docs/DEFINITIONS.md, "Composer faults"): an alias whose anchor no earlier head carries, and an
+-- The composer errors (docs/DEFINITIONS.md, "Composer errors"): an alias whose anchor no earlier head carries, and an
 -- anchor that an earlier head carries.
 use Rattle.std.specs.Prelude.{ℕ, List, [], ◌∷◌, Option, Some, None, codes}
 use Rattle.libyaml_types.specs.declared.enums.yaml_error_type_t.TheVariants.{YAML_COMPOSER_ERROR}
@@ -48,7 +48,7 @@ part_fault es (leaf_part a x) = anchor_fault es a x.start_mark
 part_fault es (start_part a x) = anchor_fault es a x.start_mark
 part_fault es (end_part n) = None
 
--- the composer's fault: that of the first part which has one
+-- the composer error: that of the first part which has one
 abbrev pub or_else : Option Fault → Option Fault → Option Fault
 or_else None g = g
 or_else (Some f) g = Some f

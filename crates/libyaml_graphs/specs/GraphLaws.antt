@@ -60,18 +60,18 @@ EachIdNames [] = Unit {0}
 EachIdNames (Ok d ∷ l) = EveryIdNamesANode d.nodes × EachIdNames l
 EachIdNames (Err f ∷ l) = EachIdNames l
 
--- the load of a number, counted from 0: behind the last that one again and again, and z where there is none
+-- the load of a number, counted from 0: after the last that one again and again, and z where there is none
 abbrev pub load_at : Load → ℕ → List Load → Load
 load_at z n [] = z
 load_at z zero (a ∷ l) = a
 load_at z (suc n) (a ∷ l) = load_at a n l
 
--- a fault again and again, else what comes behind
+-- a fault again and again, else what comes after
 abbrev pub unless_fault : Load → Load → Load
 unless_fault (Ok d) b = b
 unless_fault (Err f) b = Err f
 
--- what the events of a document that is open at the end of a run give, if there is one: its composer fault, if it has one,
+-- what the events of a document that is open at the end of a run give, if there is one: its composer error, if it has one,
 -- and else how the run ends
 abbrev pub fault_or : Option Fault → Load → Load
 fault_or None z = z
@@ -94,12 +94,12 @@ RootFollows None r = Unit {0}
 RootFollows (Some o) [] = Unit {0}
 RootFollows (Some o) (e ∷ r) = BeginsNode (part_of e)
 
--- behind each document's start its root begins, unless the events stop there
+-- after each document's start its root begins, unless the events stop there
 abbrev pub RootsFollow : List Event → Type 0
 RootsFollow [] = Unit {0}
 RootsFollow (e ∷ r) = RootFollows (opening_of e) r × RootsFollow r
 
--- The loads of events that nest as far as they go: the graphs of the whole documents, up to the first composer fault, and
+-- The loads of events that nest as far as they go: the graphs of the whole documents, up to the first composer error, and
 -- then what the open document gives.
 pub data NestedLoads (e : List Event) (x : Ending) (a : List Load) : Type 0 where
   not_begun : e ≡ [] → a ≡ last_load x ∷ [] → NestedLoads e x a
@@ -107,8 +107,8 @@ pub data NestedLoads (e : List Event) (x : Ending) (a : List Load) : Type 0 wher
   whole : (n : IsNested e) → a ≡ loads_of n.texts (last_load x ∷ []) → NestedLoads e x a
 
 -- The loads over a list whose only STREAM-END is its last token: the graphs of its one tree's documents, up to the first
--- composer fault, and then the document without root; or those of the one cut tree that fits, and then the composer fault of
--- the document that is open in it, or the cut tree's own. The fault behind the list never shows.
+-- composer error, and then the document without root; or those of the one cut tree that fits, and then the composer error of
+-- the document that is open in it, or the cut tree's own. The fault after the list never shows.
 pub data LoadsWhole (l : List Token) (f : Fault) : Type 0 where
   to_its_end : (t : Stream) → in_order t ≡ true → l ≡ tokens t → (a : List Load) → IsLoads l f a → (n : IsNested (events t))
       → a ≡ loads_of n.texts (last_load Ends ∷ []) → LoadsWhole l f

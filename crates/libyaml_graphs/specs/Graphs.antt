@@ -47,7 +47,7 @@ abbrev pub collection_loaded : Sort → (tag : Option (List ℕ)) → Layout →
 collection_loaded sequence t s is m n = sequence_loaded t (sequence_style s) (items is) m n
 collection_loaded mapping t s is m n = mapping_loaded t (mapping_style s) (pairs is) m n
 
--- the starts behind a value, and behind values one after the other
+-- the starts after a value, and after values one after the other
 abbrev mutual
   pub starts_behind : Value → List Start → List Start
   starts_behind (alias_value a m n) es = es
@@ -68,7 +68,7 @@ abbrev pub ids_of_all : Values → List Start → List ℕ
 ids_of_all no_values es = []
 ids_of_all (first_value v vs) es = id_of v es ∷ ids_of_all vs (starts_behind v es)
 
--- The graph: the nodes of a value, each before its children, and behind them l. An anchor is known from its node's start
+-- The graph: the nodes of a value, each before its children, and after them l. An anchor is known from its node's start
 -- on, so a node may hold itself.
 abbrev mutual
   pub nodes_of : Value → List Start → List yaml_node_t → List yaml_node_t

@@ -1,4 +1,4 @@
--- Worked rows of loads (docs/DEFINITIONS.md, "Worked rows of loads"): lists of tokens with the answers of the loads over
+-- Worked rows of loads (docs/DEFINITIONS.md, "Worked rows of loads"): lists of tokens with the results of the loads over
 -- them, in the notation of libyaml_events' RowNotation: token k begins at index 2k and ends at 2k + 1.
 use Rattle.std.specs.Prelude.{◌∷◌, ℕ, pos, ℤ, List, [], None, Some, Option, Bool, true, false, Ok, Err, codes}
 use Rattle.libyaml_types.specs.declared.directive.yaml_tag_directive_t.{yaml_tag_directive_t}
@@ -82,7 +82,7 @@ block_mapping ps m n = record {
 abbrev pub pair : (key value : ℕ) → yaml_node_pair_t
 pair k v = record { key = pos k; value = pos v }
 
--- composer faults: an alias at an index that nothing carries, and the second of two carriers
+-- composer errors: an alias at an index that nothing carries, and the second of two carriers
 abbrev pub no_carrier : ℕ → Load
 no_carrier m = Err (record {
   error = YAML_COMPOSER_ERROR;
@@ -125,7 +125,7 @@ abbrev pub RowEmptyStream : Type 0
 RowEmptyStream = IsLoads (list (
     STREAM ∷ StreamEnd ∷ [])) no_more (no_root ∷ [])
 
--- no run has a document's end directly behind its start: there its root would lack
+-- no run has a document's end directly after its start: there its root would lack
 abbrev pub RowStartWithoutRoot : Type 0
 RowStartWithoutRoot = RootsFollow (document_start_at no_directives true (place 2) (place 2) ∷ document_end_at true (place 2) (place 2) ∷ []) → ⊥
 
@@ -193,7 +193,7 @@ RowItemTwice = IsLoads (list (
     FlowSequenceEnd ∷ StreamEnd ∷ [])) no_more (
     implicit 14 (flow_sequence (pos 1 ∷ pos 1 ∷ []) 2 13 ∷ []) ∷ no_root ∷ [])
 
--- a nested collection that holds itself, and stands a second time behind its end: `[ &a [ *a ], *a ]`
+-- a nested collection that holds itself, and stands a second time after its end: `[ &a [ *a ], *a ]`
 abbrev pub RowNestedHoldsItself : Type 0
 RowNestedHoldsItself = IsLoads (list (
     STREAM ∷ FlowSequenceStart ∷ ANCHOR (codes "a") ∷ FlowSequenceStart ∷ ALIAS (codes "a") ∷ FlowSequenceEnd ∷ FlowEntry ∷
@@ -222,7 +222,7 @@ RowSecondAnchor = IsLoads (list (
     STREAM ∷ FlowSequenceStart ∷ ANCHOR (codes "a") ∷ SCALAR (codes "x") ∷ FlowEntry ∷ ANCHOR (codes "a") ∷
     ALIAS (codes "b") ∷ FlowSequenceEnd ∷ StreamEnd ∷ [])) no_more (second_carrier 4 10 ∷ [])
 
--- Runs that a fault cuts off: the parser's, and the source's behind a whole document and amid one.
+-- Runs that a fault cuts off: the parser's, and the source's after a whole document and within one.
 abbrev pub RowParserFault : Type 0
 RowParserFault = IsLoads (list (
     STREAM ∷ DocumentStart ∷ SCALAR (codes "x") ∷ DocumentStart ∷ FlowSequenceStart ∷ SCALAR (codes "a") ∷
@@ -276,7 +276,7 @@ RowAliasBeforeBound = IsBoundedLoads 1 (list (
     FlowSequenceEnd ∷ StreamEnd ∷ [])) no_more (no_carrier 10 ∷ [])
 
 -- One pair is within 1, though its value comes where the list is full. The second is beyond it at its key, so that the
--- undefined alias behind it is never reached; within 2 it is.
+-- undefined alias after it is never reached; within 2 it is.
 abbrev pub RowPairInBound : Type 0
 RowPairInBound = IsBoundedLoads 1 (list (
     STREAM ∷ ANCHOR (codes "a") ∷ FlowMappingStart ∷ Key ∷ ALIAS (codes "a") ∷ Value ∷ ALIAS (codes "a") ∷

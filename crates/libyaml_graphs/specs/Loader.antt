@@ -44,7 +44,7 @@ pub data Loading : Type 0 where
   going : Loader → Loading
   failed : Fault → Loading
 
--- A child behind those of a node, where k is the key that waits: a sequence has one item more, a mapping a pair more or a key
+-- A child after those of a node, where k is the key that waits: a sequence has one item more, a mapping a pair more or a key
 -- that waits.
 abbrev pub content_with : Option ℕ → ℕ → unnamed_yaml_node_t_data → unnamed_yaml_node_t_data
 content_with k i (Scalar s) = Scalar s
@@ -66,7 +66,7 @@ key_at p k i [] = k
 key_at zero k i (x ∷ xs) = key_behind k i x.content
 key_at (suc p) k i (x ∷ xs) = key_at p k i xs
 
--- a child handed to the innermost open collection: the nodes and the stack behind it
+-- a child handed to the innermost open collection: the nodes and the stack after it
 abbrev pub hand : ℕ → List Open → List yaml_node_t → List yaml_node_t
 hand i [] nodes = nodes
 hand i (o ∷ s) nodes = changed_at o.place (with_child o.key i) nodes
@@ -97,7 +97,7 @@ abbrev pub on_alias : Option Carrier → Mark → Loader → Loading
 on_alias None m l = failed (undefined_alias m)
 on_alias (Some c) m l = going (record { nodes = hand c.id l.stack l.nodes; stack = handed c.id l.stack l.nodes; anchors = l.anchors })
 
--- a node is put behind the others and then handed to its parent; `opens` are the collections that it opens
+-- a node is put after the others and then handed to its parent; `opens` are the collections that it opens
 abbrev pub on_node : Registered → yaml_node_t → (opens : List Open) → Loader → Loading
 on_node (known m) x opens l = failed (repeated_anchor m x.start_mark)
 on_node (registered xs) x opens l
@@ -165,12 +165,12 @@ pub data State : Type 0 where
   between : State
   within : Opening → Loader → State
 
--- what comes of an outcome: its fault in the form of an answer, or what the loader goes on to
+-- what comes of an outcome: its fault in the form of a result, or what the loader goes on to
 abbrev pub if_going : {A : Type 0} → (Fault → A) → Loading → (Loader → A) → A
 if_going fault (going l) f = f l
 if_going fault (failed x) f = fault x
 
--- One load, over the events to come: its answer, and the events that it leaves.
+-- One load, over the events to come: its result, and the events that it leaves.
 abbrev pub load_from : ℕ → State → List Event → Ending → Load
 load_from n s [] x = last_load x
 load_from n between (e ∷ r) x = elim (opening_of e) [ None ↦ load_from n between r x | Some o ↦ load_from n (within o fresh) r x ]

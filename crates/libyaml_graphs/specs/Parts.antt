@@ -67,14 +67,14 @@ parts (e ∷ r) = elim (closing_of e) [ Some c ↦ [] | None ↦ with_part (part
 abbrev pub start_of : Option (List ℕ) → yaml_node_t → Start
 start_of a x = record { anchor = a; mark = x.start_mark }
 
--- the starts behind a part
+-- the starts after a part
 abbrev pub behind : Part → List Start → List Start
 behind (alias_part a m) es = es
 behind (leaf_part a x) es = start_of a x ∷ es
 behind (start_part a x) es = start_of a x ∷ es
 behind (end_part n) es = es
 
--- The ids directly in a collection, up to its end, among the parts behind its start; d collections are open in it.
+-- The ids directly in a collection, up to its end, among the parts after its start; d collections are open in it.
 abbrev pub if_outer : ℕ → List ℕ → List ℕ → List ℕ
 if_outer zero is r = is ++ r
 if_outer (suc d) is r = r

@@ -33,22 +33,22 @@ ghost use Rattle.libyaml_graphs.specs.Loads.{IsLoads, Load, last_load, left_over
 ghost use Rattle.libyaml_graphs.specs.Parts.{Part, graph, parts};
 
 /// The headline of loads: over a list whose only STREAM-END is its last token, the loads are the graphs of
-/// its one tree's documents, up to the first composer fault, and then the document without root; or those
-/// of the one cut tree that fits, and then the composer fault of the document that is open in it, or the
+/// its one tree's documents, up to the first composer error, and then the document without root; or those
+/// of the one cut tree that fits, and then the composer error of the document that is open in it, or the
 /// cut tree's own fault.
 pub fn headline()
     ensures { (l : List Token) (m : Marks) (f : Fault) → has_end l ≡ false
         → LoadsWhole (l ++ tok StreamEnd m ∷ []) f }
 {}
 
-/// Each list of tokens has one list of loads for each fault behind it.
+/// Each list of tokens has one list of loads for each fault after it.
 pub fn one_loads()
     ensures some { (l : List Token) (f : Fault) → (a : List Load) × IsLoads l f a }
     ensures one { (l : List Token) (f : Fault) (a b : List Load) → IsLoads l f a → IsLoads l f b → a ≡ b }
 {}
 
 /// The loads of a run, whatever cuts it off: the graphs of its whole documents, up to the first composer
-/// fault, and then the composer fault of the document that is open, if it has one, and else how the run
+/// fault, and then the composer error of the document that is open, if it has one, and else how the run
 /// ends.
 pub fn loads_of_run()
     ensures of_run { (l : List Token) (f : Fault) (a : List Load) (h : IsLoads l f a)
@@ -56,9 +56,9 @@ pub fn loads_of_run()
     ensures of_events { (l : List Event) (x : Ending) → NestsSoFar l → NestedLoads l x (loads l x) }
 {}
 
-/// The loads over a list that begins with a known tree's tokens: a sentence's with anything behind it, a
-/// cut tree's that fits with the token behind it and anything behind that, or a beginning's with nothing
-/// behind it.
+/// The loads over a list that begins with a known tree's tokens: a sentence's with anything after it, a
+/// cut tree's that fits with the token after it and anything after that, or a beginning's with nothing
+/// after it.
 pub fn loads_of_tree()
     ensures sentence { (t : Stream) (r : List Token) (f : Fault) → in_order t ≡ true
         → (n : IsNested (events t)) × IsLoads (tokens t ++ r) f (loads_of n.texts (last_load Ends ∷ [])) }
@@ -78,7 +78,7 @@ pub fn graph_of_tree()
         → graph es (parts (value_events v r)) ≡ nodes_of v es (graph (starts_behind v es) (parts r)) }
 {}
 
-/// The composer's fault is one of the heads alone.
+/// The composer error is one of the heads alone.
 pub fn fault_of_heads()
     ensures { (l : List Part) (es : List Start) → composer_fault es l ≡ composer_fault es (heads l) }
 {}
@@ -103,7 +103,7 @@ pub fn children_later()
     ensures { (v : Value) (es : List Start) → ChildrenAreLater v es }
 {}
 
-/// The first load is the next load's answer, and those behind it are its fault again and again, or the
+/// The first load is the next load's result, and those after it are its fault again and again, or the
 /// loads of the events that it leaves; the same holds within a bound.
 pub fn load_by_load()
     ensures first { (r : List Event) (x : Ending) (z : Load) → load_at z 0 (loads r x) ≡ next_load r x }
@@ -118,8 +118,8 @@ pub fn load_by_load()
         (load_at (next_bounded m r x) n (bounded_loads m (left_over r) x)) }
 {}
 
-/// In a run each document's root begins behind its start, and so it is in the events that a load leaves. So
-/// a document without nodes is the last load, at the run's end; behind one with nodes come the loads of
+/// In a run each document's root begins after its start, and so it is in the events that a load leaves. So
+/// a document without nodes is the last load, at the run's end; after one with nodes come the loads of
 /// the events that it leaves; and a fault is the last load.
 pub fn whole_documents_have_roots()
     ensures roots_follow { (l : List Event) → NestsSoFar l → RootsFollow l }
@@ -134,7 +134,7 @@ pub fn whole_documents_have_roots()
 {}
 
 /// Where no list of a document that a load begins needs more than n entries, the bound n changes nothing;
-/// nor does it where none of the loads within it is want of memory.
+/// nor does it where none of the loads within it is out of memory.
 pub fn enough_room()
     ensures all { (r : List Event) (x : Ending) (n : ℕ) → HasRoom n r → bounded_loads n r x ≡ loads r x }
     ensures next { (r : List Event) (x : Ending) (n : ℕ) → HasRoom n r → next_bounded n r x ≡ next_load r x }

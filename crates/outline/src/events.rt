@@ -8,7 +8,7 @@ use unsafe_libyaml::{
     yaml_parser_parse, yaml_token_t,
 };
 
-/// How much deeper the events behind this one stand, and whether its own line does not.
+/// Returns by how many levels the events after this one are deeper.
 fn depth_change(event: &yaml_event_t) -> i8 {
     match &event.content {
         unnamed_yaml_event_t_data::SequenceStart(_) | unnamed_yaml_event_t_data::MappingStart(_) =>
@@ -18,7 +18,7 @@ fn depth_change(event: &yaml_event_t) -> i8 {
     }
 }
 
-/// What is told of an event, or `None` of one that is not told.
+/// Returns the words of an event's line, or `None` for an event that has no line.
 fn told(event: &yaml_event_t) -> Option<&str> {
     match &event.content {
         unnamed_yaml_event_t_data::Scalar(scalar) => Some(scalar.value.as_str()),
@@ -29,7 +29,7 @@ fn told(event: &yaml_event_t) -> Option<&str> {
     }
 }
 
-/// Writes the line of an event that stands this deep.
+/// Writes the line of an event at this depth.
 fn write_line(outline: &mut String, event: &yaml_event_t, depth: u32) -> Result<()> {
     if let Some(words) = told(event) {
         for _ in 0..depth {

@@ -7,7 +7,7 @@ use unsafe_libyaml::{
     yaml_token_t,
 };
 
-/// Puts a token behind those that are there, one column each.
+/// Appends a token. Each token is one column wide here.
 fn push(
     tokens: &mut Vec<yaml_token_t>,
     content: unnamed_yaml_token_t_data,
@@ -26,7 +26,7 @@ fn push(
     Ok(())
 }
 
-/// The content of a plain scalar.
+/// Returns the content of a plain scalar.
 fn scalar(alloc: Global, text: &str) -> Result<unnamed_yaml_token_t_data, AllocError> {
     Ok(unnamed_yaml_token_t_data::Scalar(unnamed_yaml_token_t_data_scalar {
         value: String::from_str(alloc, text)?,
@@ -34,7 +34,7 @@ fn scalar(alloc: Global, text: &str) -> Result<unnamed_yaml_token_t_data, AllocE
     }))
 }
 
-/// Puts the tokens of a key and of its value's beginning.
+/// Appends the tokens of a key and the VALUE that begins its value.
 fn push_key(alloc: Global, tokens: &mut Vec<yaml_token_t>, key: &str) -> Result<(), AllocError> {
     push(tokens, unnamed_yaml_token_t_data::Key)?;
     push(tokens, scalar(alloc, key)?)?;

@@ -81,6 +81,6 @@ value_names nodes id key h =
     (values_hold P node.content k)))
     (node_holds Q nodes id h)
 
--- the same of an answer that is that item or value
+-- the same of a result that is that item or value
 pub answer_names : (nodes : List yaml_node_t) (o r : Option ℤ) → r ≡ o → IfSome o (IsIdUpTo (length nodes)) → IfSome r (IsIdUpTo (length nodes))
 answer_names nodes o r e h = subst (λ x. IfSome x (IsIdUpTo (length nodes))) (sym e) h

@@ -41,7 +41,7 @@ fn main(rt: HostRuntime) -> ExitCode {
     }
 }
 
-/// Returns the arguments behind the program's name.
+/// Returns the arguments after the program's name.
 fn read_words(rt: &(impl Env + AllocGlobal)) -> Result<Vec<String>> {
     Ok(env::args(rt)?.skip(1).collect(rt.alloc())?)
 }

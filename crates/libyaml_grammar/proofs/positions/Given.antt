@@ -17,7 +17,7 @@ use Rattle.libyaml_grammar.proofs.positions.Positions.{Position, between, done, 
 use Rattle.libyaml_grammar.proofs.positions.Positions.{in_sequence, unopened}
 use Rattle.libyaml_grammar.proofs.positions.Reading.{Step, behind_whole, feed, fill_flow, goes, leave}
 
--- behind what is whole
+-- after what is whole
 abbrev pub given_behind_documents : Content → Marks → List Event → List Event
 given_behind_documents DocumentStart m r = document_end_at true m.start m.start ∷ document_start_at no_directives false m.start m.end ∷ r
 given_behind_documents DocumentEnd m r = document_end_at false m.start m.end ∷ r

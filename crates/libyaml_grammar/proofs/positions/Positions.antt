@@ -1,4 +1,4 @@
--- Positions: what is known behind a list of tokens that begins a stream. It is the place on the right edge, with what is
+-- Positions: what is known after a list of tokens that begins a stream. It is the place on the right edge, with what is
 -- in hand there and the whole trees to the left of it. By positions the laws are proved, which speak of none.
 use Rattle.std.specs.Prelude.{List, [], ◌∷◌, Option, Some, None, Bool}
 use Rattle.libyaml_grammar.specs.sentences.Tokens.{BlockEnd, BlockEntry, BlockMappingStart, BlockSequenceStart, DocumentStart, Key, Mark, Marks, Scalar}
@@ -19,9 +19,9 @@ use Rattle.libyaml_grammar.specs.cuts.CutTrees.{part_place_tokens, place_in_orde
 use Rattle.libyaml_grammar.specs.cuts.CutEvents.{shown_block, shown_open, shown_part, shown_place, sort_of}
 use Rattle.libyaml_grammar.specs.cuts.Rest.{any_encoding, rest_block_place, rest_open, rest_place}
 
--- Before the stream; where a document or the end is due; behind a directive; where a node or the rest of it is due;
--- behind the start or a whole entry of a block collection, or behind a whole entry of a sequence without tokens of its
--- own; in a flow collection where an entry is due, behind a key with its KEY, or behind a whole entry; and behind the
+-- Before the stream; where a document or the end is expected; after a directive; where a node or the rest of it is expected;
+-- after the start or a whole entry of a block collection, or after a whole entry of a sequence without tokens of its
+-- own; in a flow collection where an entry is expected, after a key with its KEY, or after a whole entry; and after the
 -- stream's end.
 pub data Position : Type 0 where
   unopened : Position
@@ -36,7 +36,7 @@ pub data Position : Type 0 where
   flow_behind : Open → FlowMember → Position
   done : Stream → Position
 
--- the tokens up to a position, and behind them the list r
+-- the tokens up to a position, and after them the list r
 abbrev pub position_tokens : Position → List Token → List Token
 position_tokens unopened r = r
 position_tokens (between b) r = before_tokens b r
@@ -65,7 +65,7 @@ position_in_order (flow_keyed c k n) b = open_in_order c (flow_slot_in_order (de
 position_in_order (flow_behind c e) b = open_in_order c (flow_member_in_order (declared_open c) e b)
 position_in_order (done t) b = stream_in_order t b
 
--- the events up to a position, where m is the start of the token behind
+-- the events up to a position, where m is the start of the next token
 abbrev pub shown : Position → Mark → List Event → List Event
 shown unopened m r = r
 shown (between (free f)) m r = free_events f r

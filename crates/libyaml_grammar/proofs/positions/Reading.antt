@@ -1,6 +1,6 @@
 -- Reading: what one token makes of a position. It is taken, or it is bad at a place. A reading step takes one token and closes at
 -- most a node that is nothing or properties alone, a sequence without tokens of its own or a pair, and the collection
--- around it. A node is nothing exactly where the token is taken behind it.
+-- around it. A node is nothing exactly where the token is taken after it.
 use Rattle.std.specs.Prelude.{List, [], ◌∷◌, Option, Some, None, Bool, true, false}
 use Rattle.libyaml_grammar.specs.sentences.Tokens.{Alias, AliasName, Anchor, AnchorName, BlockEnd, BlockEntry, BlockMappingStart, BlockSequenceStart, Content}
 use Rattle.libyaml_grammar.specs.sentences.Tokens.{DocumentEnd, DocumentStart, FlowEntry, FlowMappingEnd, FlowMappingStart, FlowSequenceEnd}
@@ -20,7 +20,7 @@ use Rattle.libyaml_grammar.specs.cuts.CutTrees.{start_due}
 use Rattle.libyaml_grammar.proofs.positions.Positions.{Position, between, done, due, flow_behind, flow_due, flow_keyed, headed, in_indentless, in_mapping}
 use Rattle.libyaml_grammar.proofs.positions.Positions.{in_sequence, unopened}
 
--- The next position, or the place at which the token is bad; behind the stream end no token is looked at.
+-- The next position, or the place at which the token is bad; after the stream end no token is looked at.
 pub data Step : Type 0 where
   goes : Position → Step
   bad : Cut → Step
@@ -64,7 +64,7 @@ fill_flow p n = fill_flow_slot p (flow_node n)
 abbrev pub leave : Place → Position
 leave p = fill_flow_slot p flow_nothing
 
--- behind a whole entry of a collection, a whole root, and the like
+-- after a whole entry of a collection, a whole root, and the like
 abbrev pub behind_documents : Documents → Content → Marks → Step
 behind_documents d (VersionDirective a) m = goes (headed (behind d) no_directives (version a m))
 behind_documents d (TagDirective h) m = goes (headed (behind d) no_directives (tag_directive h m))
@@ -194,7 +194,7 @@ abbrev pub at_unopened : Content → Marks → Step
 at_unopened (StreamStart e) m = goes (between (free (opened e m)))
 at_unopened _ m = bad before_stream
 
--- where an entry of a flow collection, or its end, is due
+-- where an entry of a flow collection, or its end, is expected
 abbrev pub at_flow : Open → Content → Marks → Step
 at_flow c Key m = goes (due (flow_key c m) None)
 at_flow c FlowSequenceEnd m = close c no_last sequence m (content_due (flow_entry c))

@@ -42,7 +42,7 @@ join_pairs : (a b : Values) → AllHavePairs a → AllHavePairs b → AllHavePai
 join_pairs no_values b h k = k
 join_pairs (first_value v a) b h k = (h.0, join_pairs a b h.1 k)
 
--- evenness of what stands behind values, where b is that of the rest
+-- evenness of what follows values, where b is that of the rest
 abbrev pub turns : Values → Bool → Bool
 turns no_values b = b
 turns (first_value v a) b = negated (turns a b)
@@ -144,7 +144,7 @@ mutual
   flow_slot_gives ds flow_nothing m = empty_gives m
   flow_slot_gives ds (flow_node n) m = flow_node_gives ds n
 
--- parts of a block mapping: behind a key, an odd number of values
+-- parts of a block mapping: after a key, an odd number of values
 abbrev pub waits : Parts → Bool → Bool
 waits no_parts b = b
 waits (part ps key m x) b = negated b

@@ -22,7 +22,7 @@ use Rattle.libyaml_grammar.proofs.trees.Run.{first_mark, given_shown}
 use Rattle.libyaml_grammar.proofs.runs.Running.{ended_run}
 use Rattle.libyaml_grammar.proofs.trees.Splits.{Splits, behind_event, both_split, member_end_splits, missing_value_splits, position_splits}
 
--- what a cut tree shows stands before the events behind it
+-- what a cut tree shows stands before the events after it
 cut_splits : (c : Cut) (m : Mark) → Splits (shown_cut c m)
 cut_splits before_stream m = λ r. refl
 cut_splits (document_due d) m = both_split (documents_events d m) (λ (r : List Event). document_end_at true m m
@@ -108,7 +108,7 @@ mutual
   values_split no_values = λ r. refl
   values_split (first_value v vs) = both_split (value_events v) (values_events vs) (value_splits v) (values_split vs)
 
--- where a list ends that begins these documents and what stands behind them
+-- where a list ends that begins these documents and what follows them
 data EndsIn (l rest : List Event) (ts : Texts) (r : List Event) : Type 0 where
   among : (us : Texts) (o : List Event) → l ≡ texts_events us o → TextsHavePairs us → IsOpenDocument o → EndsIn l rest ts r
   past : (k : List Event) → l ≡ texts_events ts k → k ++ rest ≡ r → EndsIn l rest ts r

@@ -1,4 +1,4 @@
--- The events of a document hang on its own directives alone, and but for its start on the prefixes that these give.
+-- The events of a document depend on its own directives alone, and but for its start on the prefixes that these give.
 use Rattle.std.proofs.Common.{◌≡◌, ℕ, List, [], ◌∷◌, ◌++◌, Option, Some, None, true, false, refl, ap, ◌∙◌}
 use Rattle.libyaml_grammar.specs.sentences.Events.{Event, alone_of, anchor_of, before_events, before_part, block_layout, block_node_events, block_slot_events}
 use Rattle.libyaml_grammar.specs.sentences.Events.{document_start_at, documents_events, end_at, end_of, first_block, first_directive, first_entry, first_of}
@@ -60,7 +60,7 @@ module _ (ds es : Directives) (same : (h : List ℕ) → prefix_of ds h ≡ pref
   alone_alike p = ap (λ (t : Option (List ℕ)). scalar_at (anchor_of (Some p)) t [] (is_missing t) false YAML_PLAIN_SCALAR_STYLE (first_of_properties p)
       (last_of_properties p)) (tags_alike (Some p))
 
-  -- an event and what stands behind it
+  -- an event and what follows it
   behind_alike : (x y : Event) (l r : List Event) → x ≡ y → l ≡ r → x ∷ l ≡ y ∷ r
   behind_alike x y l r e f = ap (λ (z : Event). z ∷ l) e ∙ ap (λ (z : List Event). y ∷ z) f
 

@@ -85,7 +85,7 @@ none_left (x ∷ l) _ p d e = absurd d
 one_done : (x : Token) (q p : Position) → is_end x.content ≡ true → reads q x ≡ goes p → IsDone p
 one_done x q p e f = end_is_done (x ∷ []) q p (ap (λ (s : Step). then_all s goes) f) (ap (λ (b : Bool). either b false) e)
 
--- a list that is read to its STREAM-END is its own front
+-- a list that is read to its STREAM-END is its own prefix
 pub up_to_read : (l : List Token) (q p : Position) (r : List Token) → reads_all l q ≡ goes p → has_end l ≡ true → up_to_end (l ++ r) ≡ l
 up_to_read [] q p r e h = absurd cc
 up_to_read (x ∷ l) q p r e h = go (λ (y : Position) (f : reads_all l y ≡ goes p) (g : has_end l ≡ true). up_to_read l y p r f g) (is_end x.content) refl
@@ -214,7 +214,7 @@ only_over (goes p) false e = absurd cc
 only_over (bad c) b e = absurd cc
 only_over over b e = refl
 
--- a token behind a sentence is none of the front's
+-- a token after a sentence is none of the prefix's
 not_past : (l before : List Token) (token : Token) (behind : List Token) (q : Position) → up_to_end l ≡ before ++ token ∷ behind
     → reads_all before unopened ≡ goes q → reads q token ≡ over → ⊥
 not_past l before token behind q e g h =
@@ -256,7 +256,7 @@ cut_not_ended l b c f = go (has_end l) refl
     go true e = absurd (no (end_is_done l unopened (reached c) (fits_reach l b c f) e))
     go false e = e
 
--- what stands behind the token of a cut tree
+-- what follows the token of a cut tree
 behind_token : Token → List Token → List Token
 behind_token b r = elim (is_end b.content) [ true ↦ [] | false ↦ up_to_end r ]
 

@@ -80,7 +80,7 @@ sure_shows (separator_due c (pair x (flow_node n) no_value)) m p e = flow_edge_s
 sure_shows (separator_due c (pair x y (with_value v flow_nothing))) m p e = absurd cc
 sure_shows (separator_due c (pair x y (with_value v (flow_node n)))) m p e = flow_edge_shows (flow_value c x y v) n m
 
--- what the tokens give stands before all that tokens behind them give
+-- what the tokens give stands before all that later tokens give
 pub gives_sure : (l : List Token) (c : Cut) → IsFront l c → (r : List Event) → gives_all l unopened r ≡ sure c ++ r
 gives_sure l c f r =
     let e = (reads_to l unopened (reached c) (front_reads l c f)).0 in

@@ -107,7 +107,7 @@ key_shows c e n Value m = λ l r. refl
 key_shows c e n k m = reshown (behind_member c (pair e n no_value) k m) (flow_behind c (pair e n no_value)) (flow_keyed c e n) m
     (given_behind_member c (pair e n no_value) k m) (given_behind_member c (pair e n no_value) k m) (λ r. refl) (member_shows c (pair e n no_value) k m)
 
--- behind a whole node
+-- after a whole node
 whole_shows_block : (c : BlockPlace) (x : BlockNode) (k : Content) (m : Marks)
     → Shows (behind_whole (fill c x) k m) (fill c x) m (given_behind_whole (fill c x) k m)
 whole_shows_block (root (implicit_root f)) x k m = documents_show _ k m

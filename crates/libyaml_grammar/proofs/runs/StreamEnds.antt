@@ -15,7 +15,7 @@ use Rattle.libyaml_grammar.proofs.trees.Ending.{stays_open}
 use Rattle.libyaml_grammar.proofs.runs.Fronts.{IsNotDone}
 use Rattle.libyaml_grammar.proofs.trees.OneCut.{goes_same}
 
--- behind a STREAM-END nothing is read on
+-- after a STREAM-END nothing is read on
 abbrev IsLast : Step → Type 0
 IsLast (goes (done t)) = Unit {0}
 IsLast (goes q) = ⊥

@@ -1,4 +1,4 @@
--- A TAG goes on exactly where a node may begin, or behind an ANCHOR that begins one.
+-- A TAG goes on exactly where a node may begin, or after an ANCHOR that begins one.
 use Rattle.std.proofs.Common.{◌≡◌, ℕ, List, [], ◌∷◌, ◌++◌, Some, refl, sym, ap, ◌∙◌, subst, Bool, true, false, inl, inr, ◌↔◌}
 use Rattle.libyaml_grammar.specs.sentences.Tokens.{Anchor, Marks, Tag, TagName, Token, tok, zero_marks}
 use Rattle.libyaml_grammar.specs.sentences.Trees.{anchor_tag, tag}
@@ -57,7 +57,7 @@ module _ (l : List Token) (m : Marks) (s : List ℕ) where
       inside : (h k : TagName) → Tag h ≡ Tag k → h ≡ k
       inside h k e = cc
 
-  -- the position behind the TAG holds it
+  -- the position after the TAG holds it
   held : (x : Position) (b : Bool) → IsTagHeld x b m → position_tokens x [] ≡ l ++ tok (Tag whole_tag) m ∷ [] → position_in_order x true ≡ true → (p : Place)
       × NodeBegins l p
   held (due p (Some (tag h n))) b w e o =

@@ -1,4 +1,4 @@
--- The tokens of a part with a list behind them are its tokens followed by the list.
+-- The tokens of a part with a list after them are its tokens followed by the list.
 use Rattle.std.proofs.Common.{◌≡◌, List, [], ◌∷◌, ◌++◌, Option, Some, None, refl, ap, ◌∙◌}
 use Rattle.libyaml_grammar.specs.sentences.Tokens.{Anchor, BlockEnd, BlockEntry, BlockMappingStart, BlockSequenceStart, Content, DocumentEnd, DocumentStart}
 use Rattle.libyaml_grammar.specs.sentences.Tokens.{FlowEntry, Key, Marks, Scalar, Token, Value, tok}

@@ -1,5 +1,5 @@
 -- Reading is complete: fed with the tokens of a tree, a position leads to its place filled with that tree, wherever the
--- token behind is taken there. So a stream's tokens lead to the stream.
+-- next token is taken there. So a stream's tokens lead to the stream.
 use Rattle.std.proofs.Common.{◌≡◌, List, [], ◌∷◌, Option, Some, None, refl, sym, ap, ◌∙◌, subst}
 use Rattle.libyaml_grammar.specs.sentences.Tokens.{Alias, Anchor, BlockEnd, BlockEntry, BlockMappingStart, BlockSequenceStart, Content, DocumentEnd}
 use Rattle.libyaml_grammar.specs.sentences.Tokens.{DocumentStart, FlowEntry, FlowMappingEnd, FlowMappingStart, FlowSequenceEnd, FlowSequenceStart, Key, Marks}
@@ -112,7 +112,7 @@ never_indentless (part_place c x z ps y w) o is e n BlockSequenceStart m b h = h
 never_indentless (part_place c x z ps y w) o is e n BlockMappingStart m b h = h
 never_indentless (part_place c x z ps y w) o is e n k m b h = absurd b
 
--- no token that begins a node is taken behind a whole node, or behind nothing
+-- no token that begins a node is taken after a whole node, or after nothing
 pub never_block : (c : BlockPlace) (n : BlockNode) (k : Content) (m : Marks) → Begins k → Takes (behind_whole (fill c n) k m) → ⊥
 never_block (root (implicit_root f)) n k m b h = never_documents (implicit f n) k m b h
 never_block (root (explicit_root x ds s)) n k m b h = never_documents (explicit x ds s (node n)) k m b h
@@ -126,7 +126,7 @@ never_flow (flow_entry c) n k m b h = never_member c (single n) k m b h
 never_flow (flow_key c e) n k m b h = never_key c e (flow_node n) k m b h
 never_flow (flow_value c e x v) n k m b h = never_member c (pair e x (with_value v (flow_node n))) k m b h
 
--- behind a whole node the step is that of what is behind it
+-- after a whole node the step is that of what is after it
 pub whole_step : (p : Place) (n : FlowNode) (k : Content) (m : Marks) → step (fill_flow p n) k m ≡ behind_whole (fill_flow p n) k m
 whole_step (block (root (implicit_root f))) n k m = refl
 whole_step (block (root (explicit_root x ds s))) n k m = refl
@@ -170,7 +170,7 @@ or_bad_takes (goes x) c h = refl
 or_bad_takes (bad x) c h = absurd h
 or_bad_takes over c h = absurd h
 
--- nothing in a place: where the token is taken behind it, that is what the place does
+-- nothing in a place: where the token is taken after it, that is what the place does
 pub leaves_key : (c : Open) (e : Marks) (k : Content) (m : Marks) → Takes (behind_key c e flow_nothing k m)
     → on_due (flow_key c e) None k m ≡ behind_key c e flow_nothing k m
 leaves_key c e (Alias x1) m h = absurd h
@@ -343,7 +343,7 @@ mutual
   flow_value_reads flow_nothing c m k n r h = leave_feeds (flow_value c m k n) r h
   flow_value_reads (flow_node x) c m k n r h = flow_node_reads x (flow_value c m k n) r h
 
--- behind an indentless sequence the mapping goes on
+-- after an indentless sequence the mapping goes on
 pub indentless_step : (c : PartPlace) (o : Option Properties) (is : BlockItems) (e : Marks) (n : BlockSlot) (k : Content) (m : Marks)
     → Takes (step (fill_part c (indentless o is e n)) k m) → behind_indentless c o is e n k m ≡ step (fill_part c (indentless o is e n)) k m
 indentless_step (part_place c x s ps r v) o is e n BlockEntry m h = absurd h

@@ -18,7 +18,7 @@ use Rattle.libyaml_grammar.proofs.trees.Complete.{entries_read, flow_items_read,
 use Rattle.libyaml_grammar.proofs.trees.Complete.{option_feeds, parts_read, properties_begin, properties_begin_document, properties_feed, start_feeds}
 use Rattle.libyaml_grammar.proofs.trees.Complete.{start_ready}
 
--- the position behind the last token of a part on the right edge
+-- the position after the last token of a part on the right edge
 abbrev pub edge_flow : Place → FlowNode → Position
 edge_flow p (alone ps) = due p (Some ps)
 edge_flow p (alias a m) = fill_flow p (alias a m)
@@ -151,7 +151,7 @@ mutual
   open_reads : (c : Open) (r : List Token) → feeds (open_tokens c r) unopened ≡ feeds r (flow_due c)
   open_reads (open_collection p o k m is) r = place_reads p _ ∙ (home_collection o p k m _ ∙ flow_items_read is p o k m r)
 
--- the position behind the tokens of a cut tree
+-- the position after the tokens of a cut tree
 abbrev pub edge_documents : Documents → Position
 edge_documents (implicit f n) = edge_block (root (implicit_root f)) n
 edge_documents (explicit b ds m x) = edge_slot (root (explicit_root b ds m)) x

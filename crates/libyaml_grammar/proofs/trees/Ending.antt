@@ -1,4 +1,4 @@
--- STREAM-END alone leads behind the stream's end, so a list without it never stands there.
+-- STREAM-END alone leads past the stream's end, so a list without it never stands there.
 use Rattle.std.proofs.Common.{◌≡◌, List, [], ◌∷◌, Option, Some, None, refl, sym, ap, ◌∙◌, subst, Bool, true, false}
 use Rattle.libyaml_grammar.specs.sentences.Tokens.{Alias, Anchor, AnchorName, BlockEnd, BlockEntry, BlockMappingStart, BlockSequenceStart, Content}
 use Rattle.libyaml_grammar.specs.sentences.Tokens.{DocumentEnd, DocumentStart, FlowEntry, FlowMappingEnd, FlowMappingStart, FlowSequenceEnd}
@@ -182,7 +182,7 @@ checked_done over b x h = tt
 pub reads_done : (q : Position) (t : Token) → Done (reads q t) (is_end t.content)
 reads_done q t = checked_done (feed q t) (is_legal q t.content) (is_end t.content) (step_done q t.content (marks_of t))
 
--- a list without STREAM-END that is read from before the stream's end does not lead behind it
+-- a list without STREAM-END that is read from before the stream's end does not lead past it
 pub stays_open : (l : List Token) (q p : Position) → DoneAt q false → has_end l ≡ false → reads_all l q ≡ goes p → DoneAt p false
 stays_open [] q p d n e = subst (λ (s : Step). Done s false) e d
 stays_open (t ∷ l) q p d n e = go (λ (x : Position) (h : DoneAt x false) (m : has_end l ≡ false) (g : reads_all l x ≡ goes p). stays_open l x p h m g)
@@ -198,7 +198,7 @@ stays_open (t ∷ l) q p d n e = go (λ (x : Position) (h : DoneAt x false) (m :
     go ih false f (bad c) h g = cc
     go ih false f over h g = cc
 
--- STREAM-END leads behind the stream's end
+-- STREAM-END leads past the stream's end
 pub ends_done : (q p : Position) (m : Marks) → reads q (tok StreamEnd m) ≡ goes p → (t : Stream) × (p ≡ done t)
 ends_done q p m e = go p (subst (λ (s : Step). Done s true) e (reads_done q (tok StreamEnd m)))
   where

@@ -238,7 +238,7 @@ IsTagCut (at_tag p) = Unit {0}
 IsTagCut (at_tag_behind p a m) = Unit {0}
 IsTagCut _ = ⊥
 
--- which places a bad tag has: where a node is due, an unknown tag is at the tag
+-- which places a bad tag has: where a node is expected, an unknown tag is at the tag
 pub gives_tag : (l : List Token) (c : Cut) (k : Content) (m : Marks) → reads_all l unopened ≡ goes (reached c) → StopsAt c k m → IsUnknownTag l k → IsTagCut c
 gives_tag l c k m r e u = at (u.begins.1)
   where

@@ -85,7 +85,7 @@ stops_key : (c : Open) (e : Marks) (x : FlowSlot) (k : Content) (m : Marks) (es 
 stops_key c e x Value m es n = absurd (n _ refl)
 stops_key c e x k m es n = stops_member c (pair e x no_value) k m es n
 
--- the cut behind a whole node
+-- the cut after a whole node
 abbrev pub filled_block : BlockPlace → BlockNode → Cut
 filled_block (root (implicit_root f)) n = document_due (implicit f n)
 filled_block (root (explicit_root b ds m)) n = document_due (explicit b ds m (node n))
@@ -128,7 +128,7 @@ stops_filled (flow_entry c) x k m d n = stops_member c _ k m no_directives n
 stops_filled (flow_key c e) x k m d n = stops_key c e _ k m no_directives n
 stops_filled (flow_value c e y v) x k m d n = stops_member c _ k m no_directives n
 
--- behind properties alone; a tag may be unknown behind an anchor alone
+-- after properties alone; a tag may be unknown after an anchor alone
 abbrev NoTag : Place → Properties → Content → Type 0
 NoTag p (anchor a m) (Tag h) = is_known (declared p) h.handle ≡ false → ⊥
 NoTag p _ _ = Unit {0}
@@ -472,7 +472,7 @@ filled_order (flow_entry c) x r = refl
 filled_order (flow_key c e) x r = refl
 filled_order (flow_value c e y v) x r = refl
 
--- what the conditions say of a cut behind a whole node
+-- what the conditions say of a cut after a whole node
 record Given (l : List Token) (c : Cut) (k : Content) : Type 0 where
   same : cut_tokens c [] ≡ l
   good : cut_in_order c true ≡ true

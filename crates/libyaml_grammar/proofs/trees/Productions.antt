@@ -1,4 +1,4 @@
--- The tokens of each production determine it, with the same tokens behind: it is put into a stream.
+-- The tokens of each production determine it, with the same tokens after it: it is put into a stream.
 use Rattle.std.proofs.Common.{◌≡◌, List, [], ◌∷◌, ◌++◌, None, refl, sym, ap, ◌∙◌}
 use Rattle.std.proofs.lemmas.List.{append_cancel_right}
 use Rattle.libyaml_grammar.specs.sentences.Tokens.{BlockEnd, BlockMappingStart, BlockSequenceStart, DocumentStart, FlowSequenceEnd, FlowSequenceStart, Key}
@@ -144,7 +144,7 @@ directives_law s t r e =
         → s ≡ t
     inside e = cc
 
--- the place at which a node is due
+-- the place at which a node is expected
 abbrev place_at : Place → Position → Place
 place_at d (between (free f)) = block (root (implicit_root f))
 place_at d (flow_due c) = flow_entry c

@@ -1,4 +1,4 @@
--- What a part gives stands before the events behind it.
+-- What a part gives stands before the events after it.
 use Rattle.std.proofs.Common.{◌≡◌, List, [], ◌∷◌, ◌++◌, true, false, refl, sym, ap, ◌∙◌, append_assoc}
 use Rattle.libyaml_grammar.specs.cuts.CutEvents.{shown_block, shown_open, shown_part, shown_place, shown_root, sort_of}
 use Rattle.libyaml_grammar.specs.cuts.CutTrees.{BlockPlace, Open, PartPlace, Place, Root, block, declared, declared_block, declared_open, declared_part}

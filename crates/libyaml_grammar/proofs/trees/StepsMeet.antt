@@ -19,7 +19,7 @@ use Rattle.libyaml_grammar.proofs.positions.Reading.{behind_key, behind_member, 
 use Rattle.libyaml_grammar.proofs.positions.Reading.{keeps_order, leave, on_anchor, on_block_entry, on_block_mapping, on_block_sequence, on_due, on_tag}
 use Rattle.libyaml_grammar.proofs.positions.Reading.{or_bad, over, step, without}
 
--- where a node that is nothing is left behind, an entry lacks no value
+-- where a node that is nothing is left there, an entry lacks no value
 abbrev pub IsDue : Place → Type 0
 IsDue (flow_entry c) = ⊥
 IsDue (block c) = Unit {0}

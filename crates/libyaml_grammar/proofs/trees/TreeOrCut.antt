@@ -16,7 +16,7 @@ use Rattle.libyaml_grammar.proofs.trees.Fitting.{over_done, stops_fits}
 use Rattle.libyaml_grammar.proofs.trees.Keeps.{feeds_keep}
 use Rattle.libyaml_grammar.proofs.runs.Orders.{reads_to}
 
--- a front of a beginning is a beginning
+-- a prefix of a beginning is a beginning
 shift : (a b r : List Token) (t : Token) → (a ++ t ∷ []) ++ (b ++ r) ≡ (a ++ t ∷ b) ++ r
 shift [] b r t = refl
 shift (x ∷ a) b r t = ap (λ (l : List Token). x ∷ l) (shift a b r t)
@@ -76,7 +76,7 @@ false_either : (a b : Bool) → a ≡ false → b ≡ false → either a b ≡ f
 false_either true b e f = e
 false_either false b e f = f
 
--- a front of a list without STREAM-END has none
+-- a prefix of a list without STREAM-END has none
 front_open : (a b : List Token) → has_end (a ++ b) ≡ false → has_end a ≡ false
 front_open [] b e = refl
 front_open (t ∷ a) b e = false_either (is_end t.content) (has_end a) (either_left (is_end t.content) (has_end (a ++ b)) e)

@@ -18,7 +18,7 @@ use Rattle.libyaml_grammar.proofs.trees.Productions.{block_node_law}
 use Rattle.libyaml_grammar.proofs.runs.Running.{up_to_read}
 use Rattle.libyaml_grammar.proofs.runs.StreamEnds.{sentence_has_end}
 
--- what stands behind the closing token of the collection around, where n collections more are open within it
+-- what follows the closing token of the collection around, where n collections more are open within it
 abbrev closed : ℕ → List Token → (ℕ → List Token) → List Token
 closed zero l f = l
 closed (suc n) l f = f n
@@ -115,7 +115,7 @@ mutual
   parts_inner no_parts r n = refl
   parts_inner (part ps k m x) r n = parts_inner ps (tok (role_token k) m ∷ slot_tokens x r) n ∙ (role_inner k m (slot_tokens x r) n ∙ slot_inner x r n)
 
--- what stands behind the first collection of a list
+-- what follows the first collection of a list
 abbrev opened_by : Content → List Token → List Token → List Token
 opened_by BlockSequenceStart l r = behind_inner l 0
 opened_by BlockMappingStart l r = behind_inner l 0

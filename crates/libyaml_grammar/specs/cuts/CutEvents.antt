@@ -1,5 +1,5 @@
 -- The events of a cut tree (docs/DEFINITIONS.md, "Cut trees"): those of its whole parts and the start events of its
--- open ones. m is the start of the token behind, and r are the events behind.
+-- open ones. m is the start of the next token, and r are the events after it.
 use Rattle.std.specs.Prelude.{List, [], ◌∷◌, true, false}
 use Rattle.libyaml_grammar.specs.sentences.Tokens.{Mark, Token}
 use Rattle.libyaml_grammar.specs.sentences.Trees.{Sort, directive, mapping, no_directives, sequence}
@@ -59,6 +59,6 @@ shown_cut (part_due c o s ps) m r
     = shown_block c (first_of o s.start) (start_of (declared_block c) mapping block_layout o s ∷ parts_events (declared_block c) ps m (missing_value ps m r))
 shown_cut (separator_due c e) m r = shown_open c (flow_member_events (declared_open c) (sort_of c) e m (member_end (sort_of c) e m r))
 
--- the events of a cut tree with its bad token behind it
+-- the events of a cut tree with its bad token after it
 abbrev pub cut_events : Cut → Token → List Event
 cut_events c b = shown_cut c b.start_mark []

@@ -9,7 +9,7 @@ use Rattle.libyaml_grammar.specs.sentences.Order.{no_version}
 use Rattle.libyaml_grammar.specs.cuts.CutTrees.{Cut, Open, Place, at_directive, at_tag, at_tag_behind, before_stream, block, content_due, document_due}
 use Rattle.libyaml_grammar.specs.cuts.CutTrees.{entry_due, open_collection, part_due, separator_due, start_due}
 
--- of a directive behind others: a second version is a duplicate before its number is looked at
+-- of a directive after others: a second version is a duplicate before its number is looked at
 abbrev pub directive_fault : Directives → Content → Mark → Fault
 directive_fault ds (VersionDirective a) m = elim (no_version ds) [ true ↦ version_fault m | false ↦ duplicate_version_fault m ]
 directive_fault ds _ m = duplicate_tag_fault m

@@ -10,14 +10,14 @@ use Rattle.libyaml_grammar.specs.sentences.Trees.{option_tokens, parts_tokens, r
 use Rattle.libyaml_grammar.specs.sentences.Order.{admits, before_in_order, both, directives_in_order, documents_in_order, flow_items_in_order}
 use Rattle.libyaml_grammar.specs.sentences.Order.{flow_member_in_order, flow_slot_in_order, free_in_order, items_in_order, option_in_order, parts_in_order}
 
--- where a document's root is due: behind what stands before it, with its head if it has one
+-- where a document's root is expected: after what stands before it, with its head if it has one
 pub data Root : Type 0 where
   implicit_root : Free → Root
   explicit_root : Before → Directives → Marks → Root
 
 mutual
-  -- Where a block node, or nothing, is due: as a document's root, behind a BLOCK-ENTRY of a block sequence, as a key or
-  -- value of a block mapping, or behind a BLOCK-ENTRY of a sequence without tokens of its own. Each holds the place of
+  -- Where a block node, or nothing, is expected: as a document's root, after a BLOCK-ENTRY of a block sequence, as a key or
+  -- value of a block mapping, or after a BLOCK-ENTRY of a sequence without tokens of its own. Each holds the place of
   -- the collection around it, and what of that collection stands to the left.
   pub data BlockPlace : Type 0 where
     root : Root → BlockPlace
@@ -25,12 +25,12 @@ mutual
     slot : PartPlace → BlockPlace
     indentless_entry : PartPlace → Option Properties → BlockItems → Marks → BlockPlace
 
-  -- behind a KEY or VALUE of a block mapping
+  -- after a KEY or VALUE of a block mapping
   pub data PartPlace : Type 0 where
     part_place : BlockPlace → Option Properties → Marks → Parts → Role → Marks → PartPlace
 
 mutual
-  -- where a node of either kind is due; in flow as an entry, behind the KEY of a pair, or behind its VALUE
+  -- where a node of either kind is expected; in flow as an entry, after the KEY of a pair, or after its VALUE
   pub data Place : Type 0 where
     block : BlockPlace → Place
     flow_entry : Open → Place
@@ -41,10 +41,10 @@ mutual
   pub data Open : Type 0 where
     open_collection : Place → Option Properties → Sort → Marks → FlowItems → Open
 
--- The place at which the tree is broken off: before STREAM-START; where a document's start is due, behind a whole
--- document or behind a directive; at a directive; where a node's content is due, with no property before it; at a TAG
--- that begins a node, or behind an ANCHOR that begins one; and in a block sequence, a block mapping or a flow
--- collection behind its start or a whole entry.
+-- The place at which the tree is broken off: before STREAM-START; where a document's start is expected, after a whole
+-- document or after a directive; at a directive; where a node's content is expected, with no property before it; at a TAG
+-- that begins a node, or after an ANCHOR that begins one; and in a block sequence, a block mapping or a flow
+-- collection after its start or a whole entry.
 pub data Cut : Type 0 where
   before_stream : Cut
   document_due : Documents → Cut
@@ -57,7 +57,7 @@ pub data Cut : Type 0 where
   part_due : BlockPlace → Option Properties → Marks → Parts → Cut
   separator_due : Open → FlowMember → Cut
 
--- The tokens up to a place, and behind them the list r.
+-- The tokens up to a place, and after them the list r.
 abbrev pub root_tokens : Root → List Token → List Token
 root_tokens (implicit_root f) r = free_tokens f r
 root_tokens (explicit_root b ds m) r = before_tokens b (directives_tokens ds (tok DocumentStart m ∷ r))
@@ -82,7 +82,7 @@ abbrev mutual
   pub open_tokens : Open → List Token → List Token
   open_tokens (open_collection p o k m is) r = place_tokens p (option_tokens o (tok (opening k) m ∷ flow_items_tokens is r))
 
--- the tokens of a cut tree, and behind them the list r
+-- the tokens of a cut tree, and after them the list r
 abbrev pub cut_tokens : Cut → List Token → List Token
 cut_tokens before_stream r = r
 cut_tokens (document_due d) r = documents_tokens d r

@@ -18,7 +18,7 @@ no_fault = record {
       = zero_mark;
 }
 
--- a refused growth: its error alone
+-- a failed allocation: its error alone
 abbrev pub memory_fault : Fault
 memory_fault = record no_fault { error = YAML_MEMORY_ERROR }
 
@@ -36,7 +36,7 @@ stream_start_fault m = parser_fault (codes "did not find expected <stream-start>
 abbrev pub document_start_fault : yaml_mark_t → Fault
 document_start_fault m = parser_fault (codes "did not find expected <document start>") m
 
--- of a VERSION-DIRECTIVE behind another
+-- of a VERSION-DIRECTIVE after another
 abbrev pub duplicate_version_fault : yaml_mark_t → Fault
 duplicate_version_fault m = parser_fault (codes "found duplicate %YAML directive") m
 
@@ -44,7 +44,7 @@ duplicate_version_fault m = parser_fault (codes "found duplicate %YAML directive
 abbrev pub version_fault : yaml_mark_t → Fault
 version_fault m = parser_fault (codes "found incompatible YAML document") m
 
--- of a TAG-DIRECTIVE behind one of the same handle
+-- of a TAG-DIRECTIVE after one of the same handle
 abbrev pub duplicate_tag_fault : yaml_mark_t → Fault
 duplicate_tag_fault m = parser_fault (codes "found duplicate %TAG directive") m
 

@@ -1,4 +1,4 @@
--- When a cut tree fits a list with the token behind it (docs/DEFINITIONS.md, "When a cut tree fits").
+-- When a cut tree fits a list with the token after it (docs/DEFINITIONS.md, "When a cut tree fits").
 use Rattle.std.specs.Prelude.{◌≡◌, ◌⊎◌, List, [], ◌∷◌, ◌++◌, Option, Some, None, Bool, true, false}
 use Rattle.libyaml_grammar.specs.sentences.Tokens.{Anchor, AnchorName, BlockEnd, BlockEntry, Content, DocumentEnd, DocumentStart, FlowEntry, FlowMappingEnd}
 use Rattle.libyaml_grammar.specs.sentences.Tokens.{FlowSequenceEnd, Key, Marks, StreamEnd, Tag, TagDirective, Token, Value, VersionDirective, tok}
@@ -50,7 +50,7 @@ abbrev pub ends_empty_key : Open → Content → Bool
 ends_empty_key c Value = true
 ends_empty_key c k = ends_empty_value c k
 
--- the token may stand behind a node that is nothing, at this place; where a node is never nothing no token may
+-- the token may follow a node that is nothing, at this place; where a node is never nothing no token may
 abbrev pub ends_empty : Place → Content → Bool
 ends_empty (block (root (implicit_root f))) k = false
 ends_empty (block (root (explicit_root b ds m))) k = ends_empty_document k
@@ -61,7 +61,7 @@ ends_empty (flow_entry c) k = false
 ends_empty (flow_key c e) k = ends_empty_key c k
 ends_empty (flow_value c e x v) k = ends_empty_value c k
 
--- the place of a node that is nothing and ends the cut tree, so that no token of the tree stands behind it
+-- the place of a node that is nothing and ends the cut tree, so that no token of the tree follows it
 abbrev pub empty_root : Documents → Option Place
 empty_root (explicit b ds m nothing) = Some (block (root (explicit_root b ds m)))
 empty_root _ = None
@@ -92,12 +92,12 @@ last_empty (part_due c o m (part ps k v x)) = empty_part (part_place c o m ps k 
 last_empty (separator_due c e) = empty_member c e
 last_empty _ = None
 
--- a node that is nothing stands before a token that may stand behind it
+-- a node that is nothing stands before a token that may follow it
 abbrev pub EndsEmpty : Option Place → Content → Type 0
 EndsEmpty None k = Unit {0}
 EndsEmpty (Some p) k = ends_empty p k ≡ true
 
--- where content is due the token is none that leaves it nothing
+-- where content is expected the token is none that leaves it nothing
 abbrev pub WantsContent : Cut → Content → Type 0
 WantsContent (content_due p) k = ends_empty p k ≡ false
 WantsContent _ k = Unit {0}
@@ -116,7 +116,7 @@ abbrev pub IsUnknown : Directives → Content → Type 0
 IsUnknown ds (Tag t) = is_known ds t.handle ≡ false
 IsUnknown ds _ = ⊥
 
--- A node may begin at the place directly behind the list, or behind the ANCHOR that ends the list and begins the node.
+-- A node may begin at the place directly after the list, or after the ANCHOR that ends the list and begins the node.
 abbrev pub NodeBegins : List Token → Place → Type 0
 NodeBegins l p = (place_in_order p true ≡ true) × ((place_tokens p [] ≡ l) ⊎ ((a : AnchorName) × (m : Marks) × (place_tokens p (tok (Anchor a) m ∷ []) ≡ l)))
 
@@ -132,7 +132,7 @@ FitsTag l (at_tag p) k = IsUnknown (declared p) k
 FitsTag l (at_tag_behind p a m) k = IsUnknown (declared p) k
 FitsTag l _ k = IsUnknownTag l k → ⊥
 
--- The cut tree c fits the list l and the token b behind it: its tokens are l and its documents in order, no sentence
+-- The cut tree c fits the list l and the token b after it: its tokens are l and its documents in order, no sentence
 -- begins with l and b, and where several places would serve, the place is the one that the rules above name.
 pub record Fits (l : List Token) (b : Token) (c : Cut) : Type 0 where
   pub tokens : cut_tokens c [] ≡ l
@@ -143,7 +143,7 @@ pub record Fits (l : List Token) (b : Token) (c : Cut) : Type 0 where
   pub directive : FitsDirective c b.content
   pub tag : FitsTag l c b.content
 
--- a cut tree that fits a front of the list with the token behind it
+-- a cut tree that fits a prefix of the list with the token after it
 pub record HasCut (l : List Token) : Type 0 where
   pub before : List Token
   pub token : Token

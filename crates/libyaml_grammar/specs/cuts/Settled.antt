@@ -28,11 +28,12 @@ pub record IsSettled (l : List Token) (e : List Event) : Type 0 where
   pub begins_each : BeginsEach l e
   pub longest : (d : List Event) → BeginsEach l d → Begins d e
 
--- two sentences that begin with the tokens l, whose events begin with e and differ directly behind
+-- the first event of a list, if it has one
 abbrev pub next_event : List Event → Option Event
 next_event [] = None
 next_event (e ∷ r) = Some e
 
+-- two sentences that begin with the tokens l, whose events begin with e and differ directly after these
 pub record IsOpen (l : List Token) (e : List Event) : Type 0 where
   pub first : Stream
   pub second : Stream
@@ -62,8 +63,8 @@ pub record IsFront (l : List Token) (c : Cut) : Type 0 where
   pub place : IsFrontPlace c
   pub full : last_empty c ≡ None
 
--- What the front tree settles is all that it shows, except what hangs on the tokens behind: its mark, and properties alone
--- at its end, which may be those of a content behind them.
+-- What the front tree settles is all that it shows, except what depends on the tokens after it: its mark, and properties alone
+-- at its end, which may be those of a content after them.
 abbrev pub sure_flow_node : Directives → FlowNode → List Event
 sure_flow_node ds (alone p) = []
 sure_flow_node ds n = flow_node_events ds n []
@@ -102,7 +103,7 @@ sure_documents (implicit f n) = free_events f (document_start_at no_directives t
 sure_documents (explicit b ds s x)
     = before_events b (first_directive ds s.start) (document_start_at ds false (first_directive ds s.start) s.end ∷ sure_block_slot ds x)
 
--- an implicit document has not begun where its root is due
+-- an implicit document has not begun where its root is expected
 abbrev pub sure_place : Place → List Event
 sure_place (block (root (implicit_root f))) = free_events f []
 sure_place p = shown_place p zero_mark []

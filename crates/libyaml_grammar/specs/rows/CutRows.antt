@@ -1,4 +1,4 @@
--- Worked rows of lists that are no sentences: with a bad token, or with nothing behind a beginning (docs/DEFINITIONS.md,
+-- Worked rows of lists that are no sentences: with a bad token, or with nothing after a beginning (docs/DEFINITIONS.md,
 -- "Worked rows").
 use Rattle.std.specs.Prelude.{◌∷◌, [], None, Some, true, false, codes}
 use Rattle.libyaml_types.specs.declared.enums.yaml_scalar_style_t.TheVariants.{YAML_PLAIN_SCALAR_STYLE}
@@ -279,7 +279,7 @@ RowWrongEndOfFlowMapping = IsRun (list (
     at 0 0 stream ∷ at 2 2 document ∷ at 2 3 flow_mapping ∷ at 6 7 (text (codes "a")) ∷ at 10 11 (text (codes "b"))
     ∷ []) (Fails (says_while (codes "while parsing a flow mapping") 2 (codes "did not find expected ',' or '}'") 12))
 
--- What a beginning settles where the source fails behind it.
+-- What a beginning settles where the source fails after it.
 abbrev pub RowNoTokens : Type 0
 RowNoTokens = IsRun (list (
     [])) no_more (

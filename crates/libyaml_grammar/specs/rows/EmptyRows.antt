@@ -1,5 +1,5 @@
 -- The table of the places where a node may be nothing (docs/DEFINITIONS.md, "Where a node may be nothing"): of a list with
--- one token of each kind, those that may stand behind it.
+-- one token of each kind, those that may follow it.
 use Rattle.std.specs.Prelude.{◌≡◌, ◌∷◌, [], Option}
 use Rattle.libyaml_types.specs.declared.token.unnamed_yaml_token_t_data.TheVariants.{BlockEnd, BlockEntry, DocumentEnd, DocumentStart, FlowEntry}
 use Rattle.libyaml_types.specs.declared.token.unnamed_yaml_token_t_data.TheVariants.{FlowMappingEnd, FlowSequenceEnd, Key, StreamEnd, Value}

@@ -127,7 +127,7 @@ mapping_of a t i = ev.MappingStart (record { anchor = a; tag = t; implicit = i; 
 abbrev pub flow_mapping_of : (anchor tag : Option (List ℕ)) → (implicit : Bool) → unnamed_yaml_event_t_data
 flow_mapping_of a t i = ev.MappingStart (record { anchor = a; tag = t; implicit = i; style = YAML_FLOW_MAPPING_STYLE })
 
--- the source's fault behind each list
+-- the source's fault after each list
 abbrev pub no_more : Fault
 no_more = record {
   error = YAML_READER_ERROR;

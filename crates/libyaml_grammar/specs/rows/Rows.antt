@@ -272,7 +272,7 @@ RowFlowKeyWithoutValue = IsRun (list (
     at 12 13 (text (codes "b")) ∷ at 14 14 nothing ∷ at 14 15 ev.MappingEnd ∷ at 16 16 no_document_end ∷
     at 16 17 ev.StreamEnd ∷ []) Ends
 
--- Anchors and tags, and the flags that hang on them.
+-- Anchors and tags, and the flags that depend on them.
 abbrev pub RowScalarStyles : Type 0
 RowScalarStyles = IsRun (list (
     STREAM ∷ FlowSequenceStart ∷ SCALAR (codes "a") ∷ FlowEntry ∷

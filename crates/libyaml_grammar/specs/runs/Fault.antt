@@ -30,7 +30,7 @@ fault_of p = record {
 abbrev pub source_fault : yaml_source_fault_t → Fault
 source_fault f = fault_of f.prefix
 
--- a source's answer: a token or a fault
+-- a source's result: a token or a fault
 abbrev pub Answer : Type 0
 Answer = Result yaml_token_t Fault
 

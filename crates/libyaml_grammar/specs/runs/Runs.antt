@@ -18,23 +18,25 @@ pub data Ending : Type 0 where
   Ends : Ending
   Fails : Fault → Ending
 
--- Whether a token stands behind the properties of the node at whose TAG a tree is cut, where l is what stands behind that
--- TAG. The properties are the TAG, and an ANCHOR directly before it or else directly behind it.
+-- whether a list has a token
 abbrev pub has_token : List Token → Bool
 has_token [] = false
 has_token (t ∷ l) = true
 
+-- The token after a TAG has the content k, and l is what follows it. An ANCHOR is a property too: then l must have a token.
 abbrev pub is_behind : Content → List Token → Bool
 is_behind (Anchor a) l = has_token l
 is_behind k l = true
 
+-- Whether a token follows the properties of the node at whose TAG a tree is cut, where l is what follows that
+-- TAG. The properties are the TAG, and an ANCHOR directly before it or else directly after it.
 abbrev pub is_behind_properties : Cut → List Token → Bool
 is_behind_properties (at_tag p) [] = false
 is_behind_properties (at_tag p) (t ∷ l) = is_behind t.content l
 is_behind_properties (at_tag_behind p a m) l = has_token l
 is_behind_properties c l = true
 
--- The four cases: a sentence, which ends; a cut tree that fits, with its fault; a cut tree at a TAG behind whose node's
+-- The four cases: a sentence, which ends; a cut tree that fits, with its fault; a cut tree at a TAG after whose node's
 -- properties no token stands, with the source's fault f; a beginning without STREAM-END, with f.
 pub data IsRun (l : List Token) (f : Fault) (e : List Event) (x : Ending) : Type 0 where
   of_sentence : (t : Stream) → up_to_end l ≡ tokens t → in_order t ≡ true → e ≡ events t → x ≡ Ends → IsRun l f e x
@@ -56,7 +58,7 @@ pub record HasFault (l : List Token) (e : List Event) (g : Fault) : Type 0 where
   pub fails : g ≡ fault cut token.content token.start_mark
 
 -- The run of a list whose only STREAM-END is its last token: the events of its one tree, and the end; or the events of the
--- one cut tree that fits, and its fault. The fault behind the list never shows.
+-- one cut tree that fits, and its fault. The fault after the list never shows.
 pub data RunsWhole (l : List Token) (f : Fault) : Type 0 where
   to_its_end : (t : Stream) → in_order t ≡ true → l ≡ tokens t → IsRun l f (events t) Ends → RunsWhole l f
   to_its_fault : (before : List Token) (token : Token) (behind : List Token) (c : Cut) → l ≡ before ++ token ∷ behind → Fits before token c

@@ -1,4 +1,4 @@
--- The front of a list up to its first STREAM-END (docs/DEFINITIONS.md, "Runs").
+-- The prefix of a list up to its first STREAM-END (docs/DEFINITIONS.md, "Runs").
 use Rattle.std.specs.Prelude.{List, [], ◌∷◌, true, false}
 use Rattle.libyaml_grammar.specs.sentences.Sentences.{is_end}
 use Rattle.libyaml_grammar.specs.sentences.Tokens.{Token}

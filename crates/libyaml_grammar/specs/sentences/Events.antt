@@ -1,5 +1,5 @@
--- The events of a tree (docs/DEFINITIONS.md, "Events"). A mark m is the start of the first token behind the part,
--- and r are the events behind it.
+-- The events of a tree (docs/DEFINITIONS.md, "Events"). A mark m is the start of the first token after the part,
+-- and r are the events after it.
 use Rattle.std.specs.Prelude.{ℕ, List, [], ◌∷◌, ◌++◌, Option, Some, None, Bool, true, false, nat_eq, cond, codes}
 use Rattle.std.specs.Cmp.Lexicographic.{pointwise}
 use Rattle.libyaml_types.specs.declared.event.yaml_event_t.{yaml_event_t}
@@ -56,7 +56,7 @@ version_of (directive ds (tag_directive h m)) = version_of ds
 abbrev pub declaration : HandleDeclared → yaml_tag_directive_t
 declaration h = record { handle = h.handle; prefix = h.prefix }
 
--- the tag directives of a document in the order of their tokens, and behind them the list r
+-- the tag directives of a document in the order of their tokens, and after them the list r
 abbrev pub tag_directives_then : Directives → List yaml_tag_directive_t → List yaml_tag_directive_t
 tag_directives_then no_directives r = r
 tag_directives_then (directive ds (version v m)) r = tag_directives_then ds r
@@ -206,7 +206,7 @@ abbrev pub closes_single : Sort → Mark → List Event → List Event
 closes_single sequence m r = r
 closes_single mapping m r = empty_at m ∷ r
 
--- the events behind the nodes of an entry
+-- the events after the nodes of an entry
 abbrev pub member_end : Sort → FlowMember → Mark → List Event → List Event
 member_end k (single n) m r = closes_single k m r
 member_end k (pair s x no_value) m r = empty_at m ∷ closes_pair k m r
@@ -238,7 +238,7 @@ abbrev mutual
   flow_slot_events ds flow_nothing m r = empty_at m ∷ r
   flow_slot_events ds (flow_node n) m r = flow_node_events ds n r
 
--- A key with no value behind it lacks its value, and a value with no such key before it its key.
+-- A key with no value after it lacks its value, and a value with no such key before it its key.
 abbrev pub missing_value : Parts → Mark → List Event → List Event
 missing_value no_parts m r = r
 missing_value (part ps key v x) m r = empty_at m ∷ r

@@ -21,7 +21,7 @@ mutual
     no_values : Values
     first_value : Value → Values → Values
 
--- their events, and behind them r
+-- their events, and after them r
 abbrev mutual
   pub value_events : Value → List Event → List Event
   value_events (alias_value a m n) r = event (ev.Alias a) m n ∷ r

@@ -1,5 +1,5 @@
 -- Documents in order (YAML 1.1, 7.1 and 8.2; docs/DEFINITIONS.md, "Documents in order"): directives that agree with one another, and
--- tags whose handles are known. Each test answers what holds of its part and, as b, of what stands behind it.
+-- tags whose handles are known. Each test returns what holds of its part and, as b, of what follows it.
 use Rattle.std.specs.Prelude.{ℕ, ℤ, pos, List, [], ◌∷◌, Option, Some, None, Bool, true, false, codes}
 use Rattle.std.specs.Ordering.{int_eq}
 use Rattle.libyaml_grammar.specs.sentences.Trees.{Before, BlockItems, BlockNode, BlockSlot, Directive, Directives, Documents, Ended, FlowItems, FlowLast}
@@ -18,7 +18,7 @@ abbrev pub negated : Bool → Bool
 negated true = false
 negated false = true
 
--- A document asks for at most one version, and that is 1.1 or 1.2.
+-- A document asks for at most one version, and that is one that is accepted: 1.1 or 1.2 (`is_version`).
 abbrev pub no_version : Directives → Bool
 no_version no_directives = true
 no_version (directive ds (version v m)) = false
@@ -102,7 +102,7 @@ abbrev mutual
   parts_in_order ds no_parts b = b
   parts_in_order ds (part ps k m x) b = parts_in_order ds ps (slot_in_order ds x b)
 
--- Each directive is admitted behind those before it.
+-- Each directive is admitted after those before it.
 abbrev pub directives_in_order : Directives → Bool → Bool
 directives_in_order no_directives b = b
 directives_in_order (directive ds d) b = directives_in_order ds (both (admits ds d) b)

@@ -31,12 +31,12 @@ mutual
     scalar : Option Properties → ScalarText → Marks → FlowNode
     collection : Option Properties → Sort → Marks → FlowItems → FlowLast → Marks → FlowNode
 
-  -- entries, each with the FLOW-ENTRY behind it
+  -- entries, each with the FLOW-ENTRY after it
   pub data FlowItems : Type 0 where
     no_items : FlowItems
     more_items : FlowItems → FlowMember → Marks → FlowItems
 
-  -- a last entry with no FLOW-ENTRY behind it, or none
+  -- a last entry with no FLOW-ENTRY after it, or none
   pub data FlowLast : Type 0 where
     no_last : FlowLast
     last : FlowMember → FlowLast
@@ -77,8 +77,8 @@ mutual
     slot_of : BlockSlot → Slot
     indentless : Option Properties → BlockItems → Marks → BlockSlot → Slot
 
-  -- The keys and values of a block mapping, in any order. A value behind a key is that key's value. Any other
-  -- value has an empty key, and a key with no value behind it an empty value.
+  -- The keys and values of a block mapping, in any order. A value after a key is that key's value. Any other
+  -- value has an empty key, and a key with no value after it an empty value.
   pub data Parts : Type 0 where
     no_parts : Parts
     part : Parts → Role → Marks → Slot → Parts
@@ -125,7 +125,7 @@ mutual
 pub data Stream : Type 0 where
   whole : Before → Marks → Stream
 
--- The tokens of each part of a tree, and behind them the list r.
+-- The tokens of each part of a tree, and after them the list r.
 abbrev pub properties_tokens : Properties → List Token → List Token
 properties_tokens (anchor a m) r = tok (Anchor a) m ∷ r
 properties_tokens (tag h m) r = tok (Tag h) m ∷ r

@@ -1,5 +1,5 @@
-//! One law for each production of the grammar: its tokens, with the same tokens behind them, belong to one
-//! tree. A whole collection and a sentence need not even the same tokens behind.
+//! One law for each production of the grammar: its tokens, with the same tokens after them, belong to one
+//! tree. A whole collection and a sentence need not even the same tokens after them.
 
 ghost use Rattle.std.specs.Prelude.{◌≡◌, ◌++◌, List};
 ghost use Rattle.libyaml_grammar.specs.cuts.CutTrees.{Place, place_tokens};
@@ -34,7 +34,7 @@ pub fn one_flow_entry()
     ensures { (s t : FlowMember) (r : List Token) → flow_member_tokens s r ≡ flow_member_tokens t r → s ≡ t }
 {}
 
-/// The entries of a flow collection: those with a separator behind them, and a last one or none.
+/// The entries of a flow collection: those with a separator after them, and a last one or none.
 pub fn one_flow_collection()
     ensures { (s t : FlowItems) (u v : FlowLast) (r : List Token)
         → flow_items_tokens s (flow_last_tokens u r) ≡ flow_items_tokens t (flow_last_tokens v r) → (s ≡ t)
@@ -74,18 +74,18 @@ pub fn one_list_of_documents()
     ensures { (s t : Documents) (r : List Token) → documents_tokens s r ≡ documents_tokens t r → s ≡ t }
 {}
 
-/// No collection with an opening and a closing token begins another, whatever stands behind the two.
+/// No collection with an opening and a closing token begins another, whatever follows the two.
 pub fn one_collection()
     ensures { (s t : BlockNode) (a b : List Token) → IsCollection s → IsCollection t
         → block_node_tokens s a ≡ block_node_tokens t b → (s ≡ t) × (a ≡ b) }
 {}
 
-/// No sentence begins another, whatever stands behind the two.
+/// No sentence begins another, whatever follows the two.
 pub fn one_sentence()
     ensures { (l m a b : List Token) → IsSentence l → IsSentence m → l ++ a ≡ m ++ b → (l ≡ m) × (a ≡ b) }
 {}
 
-/// The place at which a node is due behind a list of tokens.
+/// The place at which a node is expected after a list of tokens.
 pub fn one_place()
     ensures { (p q : Place) (r : List Token) → place_tokens p r ≡ place_tokens q r → p ≡ q }
 {}

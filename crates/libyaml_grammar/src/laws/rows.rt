@@ -130,7 +130,7 @@ pub fn flow_collections()
     ensures flow_key_without_value { RowFlowKeyWithoutValue }
 {}
 
-/// Anchors and tags, and the flags that hang on them.
+/// Anchors and tags, and the flags that depend on them.
 pub fn properties()
     ensures scalar_styles { RowScalarStyles }
     ensures tag_that_is_an_exclamation_mark { RowTagThatIsAnExclamationMark }
@@ -195,7 +195,7 @@ pub fn faults()
     ensures wrong_end_of_flow_mapping { RowWrongEndOfFlowMapping }
 {}
 
-/// What a beginning settles where the source fails behind it.
+/// What a beginning settles where the source fails after it.
 pub fn beginnings()
     ensures no_tokens { RowNoTokens }
     ensures stream_begun { RowStreamBegun }
@@ -231,7 +231,7 @@ pub fn beginnings()
     ensures amid_tag_and_anchor { RowAmidTagAndAnchor }
 {}
 
-/// Which tokens may stand behind a node that is nothing, at each place.
+/// Which tokens may follow a node that is nothing, at each place.
 pub fn empty_places()
     ensures entry { RowEmptyEntry }
     ensures indentless_entry { RowEmptyIndentlessEntry }

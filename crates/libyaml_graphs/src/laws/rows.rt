@@ -1,4 +1,4 @@
-//! Worked rows of loads: lists of tokens with the answers of the loads over them. Each function does
+//! Worked rows of loads: lists of tokens with the results of the loads over them. Each function does
 //! nothing when it runs: its contract is the rows.
 
 ghost use Rattle.libyaml_graphs.specs.LoadRows.{RowAliasBeforeBound, RowAnchorOfDocumentBefore};
@@ -61,7 +61,7 @@ pub fn cut_off()
     ensures undefined_alias_before_source_ends { RowUndefinedAliasBeforeSourceEnds }
 {}
 
-/// Loads within a bound: its order against the composer's faults, and a pair that counts at its key.
+/// Loads within a bound: its order against the composer errors, and a pair that counts at its key.
 pub fn bounds()
     ensures nodes_in_bound { RowNodesInBound }
     ensures nodes_beyond_bound { RowNodesBeyondBound }

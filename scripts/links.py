@@ -1,0 +1,145 @@
+#!/usr/bin/env python3
+"""Fails where a page names what is not there:
+
+- a relative link to a missing file, or to a heading that its page does not have;
+- a path of this repository, in backticks or in a command, that does not exist (what a build makes is left out);
+- a heading of a page, as in `docs/DEFINITIONS.md, "Runs"`, that it does not have; comments of code are read for these too;
+- a Rust block that no file of crates/ has word for word;
+- a row of ARCHITECTURE's table of layers, or a line "Stands on" of a crate's README, that is not as crates.txt has it.
+
+    python3 scripts/links.py
+"""
+import re
+import sys
+from pathlib import Path
+
+TOP = Path(__file__).resolve().parent.parent
+PAGES = [*TOP.glob("*.md"), *TOP.glob("docs/*.md"), *TOP.glob("crates/*/README.md")]
+MADE = re.compile(r"(^|/)(out|build|my_project)(/|$)|^list\.tokens$|\b(NAME|FILE|DEST)\b")
+FILE = r"rt|antt|oantt|edit|md|py|sh|c|h|txt|yaml|tokens|events|nodes"
+PATH = re.compile(rf"[\w.*-]+(/[\w.*-]+)+/?|\w+\.({FILE})")
+IN_COMMAND = re.compile(r"(?<![\w./])(?:crates|docs|scripts|examples)/[\w./*-]*[\w*/]")
+LINK = re.compile(r"\[[^\]]*\]\(([^)\s]+)\)")
+HEADING = re.compile(r"(\w+\.md)\)?`?, (\"[^\"\n]+\"(?:(?:, | and |, and )\"[^\"\n]+\")*)")
+
+
+def is_kept(path):
+    """Whether this is a file or folder of the repository and no kept work of a check."""
+    return not {"out", "build", ".git"} & set(path.relative_to(TOP).parts)
+
+
+FILES = ["/" + str(path.relative_to(TOP)) for path in TOP.rglob("*") if is_kept(path)]
+
+
+def outside_code(text):
+    return re.sub(r"^```.*?^```", "", text, flags=re.M | re.S)
+
+
+def headings(page):
+    return [line.lstrip("#").strip() for line in outside_code(page.read_text()).splitlines() if line.startswith("#")]
+
+
+def anchor(heading):
+    """The name that a forge gives to a heading."""
+    return re.sub(r"[^\w\- ]", "", heading.lower()).replace(" ", "-")
+
+
+def is_there(name, page):
+    """Whether a path names something from the top, from the page's folder, or as the end of one path or more."""
+    name = name.rstrip("/")
+    pattern = re.escape(name).replace(r"\*", "[^/]*")
+    ends = re.compile(rf"/(.*/)?{pattern}(\.antt|\.rt)?$")
+    return (page.parent / name).exists() or any(ends.match(file) for file in FILES)
+
+
+def broken_links(page, text):
+    for target in LINK.findall(text):
+        if re.match(r"\w+:", target):
+            continue
+        path, _, name = target.partition("#")
+        other = page.parent / path if path else page
+        if not other.exists():
+            yield f"link to {target}"
+        elif name and name not in map(anchor, headings(other)):
+            yield f"link to {target}: no such heading"
+
+
+def missing_paths(page, text):
+    in_backticks = [name for name in re.findall(r"`([^`\n]+)`", outside_code(text)) if PATH.fullmatch(name)]
+    for name in sorted({*in_backticks, *IN_COMMAND.findall(text)}):
+        if not MADE.search(name) and not is_there(name, page):
+            yield f"path {name}"
+
+
+def missing_headings(text):
+    for name, quoted in HEADING.findall(text):
+        known = [heading.split(" (")[0] for other in PAGES if other.name == name for heading in headings(other)]
+        for heading in re.findall(r'"([^"]+)"', quoted):
+            if heading not in known:
+                yield f'{name} has no heading "{heading}"'
+
+
+def unindented(code):
+    return re.sub(r"^ +", "", code, flags=re.M)
+
+
+def missing_blocks(text, code):
+    for block in re.findall(r"^```rust\n(.*?)^```", text, flags=re.M | re.S):
+        if unindented(block).strip() not in code:
+            yield f"a Rust block that no file has: {block.strip().splitlines()[0]}"
+
+
+def crates_listed():
+    """Each crate of crates.txt with the crates that it lists."""
+    lines = [line.split("#")[0].partition(":") for line in (TOP / "crates.txt").read_text().splitlines() if ":" in line]
+    return {name.split()[0]: set(listed.split()) for name, _, listed in lines}
+
+
+def wrong_layers():
+    """Where the table of layers, of this repository's crates, differs from crates.txt; programs of rows have no row each."""
+    listed = crates_listed()
+    rows = re.findall(r"^\| `(\w+)` \| [^|]* \| ([^|]*) \|$", (TOP / "docs" / "ARCHITECTURE.md").read_text(), flags=re.M)
+    shown = {name: set(re.findall(r"`(\w+)`", below)) for name, below in rows}
+    for name in listed:
+        below = listed[name] & set(listed)
+        if shown.pop(name, below if name.startswith("row_") or name.endswith("_rows") else None) != below:
+            yield f"row of {name} in the table of layers: crates.txt has {' '.join(sorted(below)) or 'nothing'}"
+    yield from (f"row of {name} in the table of layers: no such crate" for name in shown)
+
+
+def wrong_readmes():
+    """Where a crate's README stands on other crates than crates.txt says."""
+    for name, below in crates_listed().items():
+        readme = TOP / "crates" / name / "README.md"
+        line = re.search(r"^\*\*Stands on\*\* .*$", readme.read_text(), flags=re.M) if readme.exists() else None
+        if line and set(re.findall(r"`(\w+)`", line.group())) != below:
+            yield f"crates/{name}/README.md: stands on other crates than crates.txt says"
+
+
+def comments():
+    """The files of code, definitions and examples, each with its comments, joined over the ends of lines."""
+    for path in [*TOP.glob("crates/**/*.rt"), *TOP.glob("crates/**/*.antt"), *TOP.glob("examples/*"), *TOP.glob("scripts/*.*")]:
+        if is_kept(path) and path.is_file() and path != Path(__file__).resolve():
+            yield path, re.sub(r"\n\s*(//[/!]?|--|\*|#) *", " ", path.read_text(errors="replace"))
+
+
+def problems():
+    code = unindented("\n".join(path.read_text() for path in TOP.glob("crates/*/src/**/*.rt")))
+    for page in PAGES:
+        text = page.read_text()
+        found = [*broken_links(page, text), *missing_paths(page, text), *missing_headings(text), *missing_blocks(text, code)]
+        yield from (f"{page.relative_to(TOP)}: {problem}" for problem in found)
+    yield from (f"docs/ARCHITECTURE.md: {problem}" for problem in wrong_layers())
+    yield from wrong_readmes()
+    for path, text in comments():
+        yield from (f"{path.relative_to(TOP)}: {problem}" for problem in missing_headings(text))
+
+
+def main():
+    found = list(problems())
+    if found:
+        sys.exit("\n".join(found))
+
+
+if __name__ == "__main__":
+    main()
