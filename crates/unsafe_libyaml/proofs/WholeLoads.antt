@@ -337,13 +337,15 @@ module _ {S : Type 0} (gives : S → Answer → S → Type 0) (known : S → Opt
       gave_to_fault : LoadFails gives known MayBreak (next_bounded most) left_over old new → GaveAll
       gave_to_fault (by_parser taken parser took fails last) =
           let k = carried parser taken took in
-          let call = fails.history _ _ k.history in
-          (answers (was.asked ++ k.more) call.more,
-           gave_on gives (was.asked ++ k.more) call.more source parser.source new.source (gave_all parser taken k) call.gave)
+          let call = fails.history _ _ k.history in (
+            answers (was.asked ++ k.more) call.more,
+            gave_on gives (was.asked ++ k.more) call.more source parser.source new.source (gave_all parser taken k) call.gave,
+          )
       gave_to_fault (by_loader taken parser took f keeps fails) =
-          let k = carried parser taken took in
-          (answers (was.asked ++ k.more) [],
-           subst (λ (q : Parser S). Gave gives source (answers (was.asked ++ k.more) []) q.source) (sym (keeps _ _ k.history)) (gave_all parser taken k))
+          let k = carried parser taken took in (
+            answers (was.asked ++ k.more) [],
+            subst (λ (q : Parser S). Gave gives source (answers (was.asked ++ k.more) []) q.source) (sym (keeps _ _ k.history)) (gave_all parser taken k),
+          )
       gave_to_fault (by_memory before e parser took keeps grows) =
           let k = carried parser (before ++ e ∷ []) took in
           absurd (has_memory (ap (λ (q : Parser S). (kept_fault q).error) (keeps _ _ k.history)))
