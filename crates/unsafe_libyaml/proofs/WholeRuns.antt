@@ -6,23 +6,24 @@ use Rattle.std.specs.declared.alloc.AllocError.{AllocError}
 use Rattle.libyaml_types.specs.declared.enums.yaml_error_type_t.{yaml_error_type_t}
 use Rattle.libyaml_types.specs.declared.enums.yaml_error_type_t.TheVariants.{YAML_MEMORY_ERROR}
 use Rattle.libyaml_events.specs.sources.Calls.{EventOrError, Gave}
-use Rattle.libyaml_events.specs.machine.Config.{Parser}
+use Rattle.libyaml_events.specs.machine.Config.{Config, Parser}
 use Rattle.libyaml_grammar.specs.sentences.Events.{Event, events}
 use Rattle.libyaml_grammar.specs.cuts.Settled.{BeginsEach}
 use Rattle.libyaml_grammar.specs.sentences.Nesting.{NestsSoFar}
 use Rattle.libyaml_grammar.specs.sentences.Order.{in_order}
 use Rattle.libyaml_grammar.specs.sentences.Trees.{Stream, tokens}
-use Rattle.libyaml_grammar.proofs.runs.Running.{sentence_run}
 use Rattle.libyaml_grammar.specs.runs.Fault.{Fault, Answer, fault_of}
-use Rattle.libyaml_events.specs.sources.History.{ForHistory, History, answers, is_over, is_stream_end, kept_fault}
-use Rattle.libyaml_events.specs.sources.Parsing.{CarriesOn, FailsBy, IsWhole}
+use Rattle.libyaml_events.specs.sources.History.{ForHistory, History, answers, has_failed, is_over, is_stream_end, kept_fault}
+use Rattle.libyaml_events.specs.sources.Needs.{EachNeeded, EachWasNeeded}
+use Rattle.libyaml_events.specs.sources.Parsing.{CarriesOn, Cause, FailsBy, IsWhole}
+use Rattle.libyaml_events.specs.sources.Parsing as cause
 use Rattle.libyaml_events.specs.sources.RunToCome.{FailsHere, RunToCome}
 use Rattle.libyaml_grammar.specs.runs.Runs.{Ending, Ends, Fails, IsRun}
 use Rattle.libyaml_events.specs.sources.Source.{Coming, coming}
 use Rattle.libyaml_grammar.specs.sentences.Tokens.{Token}
 use Rattle.libyaml_grammar.specs.declared.fault.yaml_parser_t_prefix.{yaml_parser_t_prefix}
 use Rattle.libyaml_events.proofs.calls.NextEvents.{Says, fails_here, first_event}
-use Rattle.unsafe_libyaml.specs.WholeRun.{Gathers, RunsTo, whole, broken_off, ending_of}
+use Rattle.unsafe_libyaml.specs.WholeRun.{Asked, Gathers, RunsTo, StoppedBy, whole, broken_off, ending_of, of_grammar, of_source}
 use Rattle.unsafe_libyaml.specs.declared.parse_all.yaml_run_t.{yaml_run_t}
 
 -- the events of the run that were not given yet
@@ -39,18 +40,69 @@ pub record Reached {S : Type 0} (gives : S → Answer → S → Type 0) (known :
   pub running : is_over p ≡ false
   pub left : (l : List Token) (f : Fault) (e : List Event) (x : Ending) → IsRun l f e x → known source ≡ Some (coming l f) → Left known p given e x
 
--- the source gave these results after those tokens
-gave_on : {S : Type 0} (gives : S → Answer → S → Type 0) (l : List Token) (r : List Answer) (a b c : S) → Gave gives a (answers l []) b → Gave gives b r c
+-- the source gave these answers after those tokens
+pub gave_on : {S : Type 0} (gives : S → Answer → S → Type 0) (l : List Token) (r : List Answer) (a b c : S) → Gave gives a (answers l []) b → Gave gives b r c
     → Gave gives a (answers l r) c
 gave_on gives [] r a b c h k = subst (λ x. Gave gives x r c) h k
 gave_on gives (t ∷ l) r a b c (mid, g, h) k = (mid, g, gave_on gives l r mid b c h k)
 
-answers_both : (l m : List Token) → answers l (answers m []) ≡ answers (l ++ m) []
+pub answers_both : (l m : List Token) → answers l (answers m []) ≡ answers (l ++ m) []
 answers_both [] m = refl
 answers_both (t ∷ l) m = ap (λ (r : List Answer). Ok t ∷ r) (answers_both l m)
 
+-- the laws of histories that the loops call
+pub record Laws (S : Type 0) : Type 0 where
+  pub no_fault : (p : Parser S) → ForHistory p (λ (asked : List Token) (given : List Event). has_failed p ≡ false)
+  pub begins : (p : Parser S) → ForHistory p BeginsEach
+  pub nests : (p : Parser S) → ForHistory p (λ (asked : List Token) (given : List Event). NestsSoFar given)
+  pub needed : (p : Parser S) → ForHistory p (λ (asked : List Token) (given : List Event). EachWasNeeded [] asked [] given)
+
+pub none_is_some : (p : yaml_parser_t_prefix) → ◌≡◌ {A = Option yaml_parser_t_prefix} None (Some p) → ⊥
+none_is_some p h = cc
+
+the_same : (p q : yaml_parser_t_prefix) → ◌≡◌ {A = Option yaml_parser_t_prefix} (Some p) (Some q) → p ≡ q
+the_same p q h = cc
+
+-- nothing that was asked for was not needed
+no_answer : (front : List Token) (x : Answer) (behind : List Answer) → ◌≡◌ {A = List Answer} [] (answers front (x ∷ behind)) → ⊥
+no_answer [] x behind h = cc
+no_answer (t ∷ l) x behind h = cc
+
+none_needed : (asked : List Token) (given : List Event) → EachNeeded asked [] given
+none_needed asked given front x behind h = absurd (no_answer front x behind h)
+
+stopped_by : (c : Config) (asked : List Token) (given : List Event) (more : List Answer) (f : Fault) → Cause c asked given more f
+    → f.error ≢ YAML_MEMORY_ERROR → StoppedBy asked more given f
+stopped_by c asked given more f (cause.of_memory l a b d e) other = absurd (other (ap (λ (g : Fault). g.error) e))
+stopped_by c asked given more f (cause.of_grammar l a b) other = of_grammar l a b
+stopped_by c asked given more f (cause.of_source l a b d) other = of_source l a b d
+
+-- what a source was asked for, by a parser's history, and until a call failed
+module _ {S : Type 0} {gives : S → Answer → S → Type 0} {source : S} where
+  pub asked_all : Laws S → (p : Parser S) (asked : List Token) (given : List Event) → History p asked given → Gave gives source (answers asked []) p.source
+      → Asked gives source asked [] given
+  asked_all laws p asked given h gave
+      = record { stands = p.source; gave = gave; needed = laws.needed p asked given h; needed_last = none_needed asked given }
+
+  pub asked_until : Laws S → (p new : Parser S) (asked : List Token) (given : List Event) → History p asked given
+      → Gave gives source (answers asked []) p.source → (fails : FailsBy gives p new asked given) → Asked gives source asked fails.more given
+  asked_until laws p new asked given h gave fails = record {
+    stands = new.source;
+    gave = gave_on gives asked fails.more source p.source new.source gave fails.gave;
+    needed = laws.needed p asked given h;
+    needed_last = fails.needed;
+  }
+
+-- the fault of a call that failed, which is not out of memory
+pub stopped_so : {S : Type 0} {gives : S → Answer → S → Type 0} {old new : Parser S} {asked : List Token} {given : List Event} (p f : yaml_parser_t_prefix)
+    → ◌≡◌ {A = Option yaml_parser_t_prefix} (Some p) (Some f) → fault_of p ≡ kept_fault new → p.error ≢ YAML_MEMORY_ERROR
+    → (fails : FailsBy gives old new asked given) → StoppedBy asked fails.more given (fault_of f)
+stopped_so {S} {gives} {old} {new} {asked} {given} p f is kept other fails =
+    subst (λ (q : Fault). StoppedBy asked fails.more given q) (sym kept ∙ ap fault_of (the_same p f is))
+    (stopped_by old.config asked given fails.more (kept_fault new) fails.cause (λ m. other (ap (λ (q : Fault). q.error) kept ∙ m)))
+
 module _ {S : Type 0} (gives : S → Answer → S → Type 0) (known : S → Option Coming) (MayBreak : S → Fault → Type 0) (source : S) (old new : Parser S) where
-  gave_more : (l m : List Token) (a b c : S) → Gave gives a (answers l []) b → Gave gives b (answers m []) c → Gave gives a (answers (l ++ m) []) c
+  pub gave_more : (l m : List Token) (a b c : S) → Gave gives a (answers l []) b → Gave gives b (answers m []) c → Gave gives a (answers (l ++ m) []) c
   gave_more l m a b c h k = subst (λ (r : List Answer). Gave gives a r c) (answers_both l m) (gave_on gives l (answers m []) a b c h k)
 
   pub reached_start : History new [] [] → new.source ≡ source → is_over new ≡ false
@@ -98,7 +150,7 @@ module _ {S : Type 0} (gives : S → Answer → S → Type 0) (known : S → Opt
       let b = nothing (on.ends ∙ last) a.later x a.to_come in
       whole (all ∙ (sym (append-nil (given ++ e ∷ [])) ∙ (ap (λ t. (given ++ e ∷ []) ++ t) (sym b.0) ∙ sym a.all))) (ap ending_of no_fault ∙ sym b.1)
 
-  -- where the fault is no memory fault
+  -- where the fault is not out of memory
   pub ran_to_fault : (given : List Event) (r : EventOrError) {x : yaml_error_type_t} → r ≡ Err x → Says known MayBreak old new r
       → (reached : Reached gives known source old given) → FailsBy gives old new reached.asked given
       → (run : yaml_run_t) → run.events.items ≡ given → (p : yaml_parser_t_prefix) → fault_of p ≡ kept_fault new → run.fault ≡ Some p
@@ -120,38 +172,43 @@ module _ {S : Type 0} (gives : S → Answer → S → Type 0) (known : S → Opt
           (a.later, a.all ∙ ap (λ t. t ++ a.later) (sym all))
 
   -- over every source, by the laws of histories
-  module _ (begins : (p : Parser S) → ForHistory p BeginsEach)
-      (nests : (p : Parser S) → ForHistory p (λ (asked : List Token) (given : List Event). NestsSoFar given)) where
-    pub gathers_all : (given : List Event) (e : Event) (reached : Reached gives known source old given) → CarriesOn gives old e new reached.asked given
-        → is_stream_end e ≡ true → (run : yaml_run_t) → run.events.items ≡ given ++ e ∷ [] → Gathers gives source run
-    gathers_all given e reached on last run all = record {
-      asked = reached.asked ++ on.more;
-      last = [];
-      stands = new.source;
-      gave = gave_more reached.asked on.more source old.source new.source reached.gave on.gave;
-      begins = subst (BeginsEach (reached.asked ++ on.more)) (sym all) (begins new _ _ on.history);
-      nests = subst NestsSoFar (sym all) (nests new _ _ on.history);
-      whole = λ (no_fault : run.fault ≡ None). subst (IsWhole (reached.asked ++ on.more)) (sym all) (on.whole last);
-    }
+  pub gathers_all : Laws S → (given : List Event) (e : Event) (reached : Reached gives known source old given)
+      → CarriesOn gives old e new reached.asked given → is_stream_end e ≡ true → (run : yaml_run_t) → run.events.items ≡ given ++ e ∷ [] → run.fault ≡ None
+      → Gathers gives source run
+  gathers_all laws given e reached on last run all no_fault = record {
+    asked = reached.asked ++ on.more;
+    last = [];
+    tokens
+        = subst (Asked gives source (reached.asked ++ on.more) []) (sym all)
+        (asked_all laws new _ _ on.history (gave_more reached.asked on.more source old.source new.source reached.gave on.gave));
+    begins = subst (BeginsEach (reached.asked ++ on.more)) (sym all) (laws.begins new _ _ on.history);
+    nests = subst NestsSoFar (sym all) (laws.nests new _ _ on.history);
+    whole = λ (h : run.fault ≡ None). subst (IsWhole (reached.asked ++ on.more)) (sym all) (on.whole last);
+    stopped = λ (f : yaml_parser_t_prefix) (h : run.fault ≡ Some f). absurd (none_is_some f (sym no_fault ∙ h));
+  }
 
-    pub gathers_some : (given : List Event) (reached : Reached gives known source old given) → FailsBy gives old new reached.asked given
-        → (run : yaml_run_t) → run.events.items ≡ given → (p : yaml_parser_t_prefix) → run.fault ≡ Some p → Gathers gives source run
-    gathers_some given reached fails run all p fault = record {
-      asked = reached.asked;
-      last = fails.more;
-      stands = new.source;
-      gave = gave_on gives reached.asked fails.more source old.source new.source reached.gave fails.gave;
-      begins = subst (BeginsEach reached.asked) (sym all) (begins old _ _ reached.history);
-      nests = subst NestsSoFar (sym all) (nests old _ _ reached.history);
-      whole = λ (no_fault : run.fault ≡ None). absurd (some_fault (sym fault ∙ no_fault));
-    }
-      where
-        some_fault : Some p ≡ None → ⊥
-        some_fault h = cc
+  -- where the fault is not out of memory
+  pub gathers_some : Laws S → (given : List Event) (reached : Reached gives known source old given) → FailsBy gives old new reached.asked given
+      → (run : yaml_run_t) → run.events.items ≡ given → (p : yaml_parser_t_prefix) → fault_of p ≡ kept_fault new → run.fault ≡ Some p
+      → p.error ≢ YAML_MEMORY_ERROR → Gathers gives source run
+  gathers_some laws given reached fails run all p kept fault other = record {
+    asked = reached.asked;
+    last = fails.more;
+    tokens
+        = subst (Asked gives source reached.asked fails.more) (sym all)
+        (asked_until laws old new _ _ reached.history reached.gave fails);
+    begins = subst (BeginsEach reached.asked) (sym all) (laws.begins old _ _ reached.history);
+    nests = subst NestsSoFar (sym all) (laws.nests old _ _ reached.history);
+    whole = λ (h : run.fault ≡ None). absurd (none_is_some p (sym h ∙ fault));
+    stopped
+        = λ (f : yaml_parser_t_prefix) (h : run.fault ≡ Some f). subst (λ (l : List Event). StoppedBy reached.asked fails.more l (fault_of f)) (sym all)
+        (stopped_so p f (sym fault ∙ h) kept other fails);
+  }
 
--- a run of any list is one of a tree's tokens, or of a cut tree's
-pub tree_runs : (t : Stream) (f : Fault) → in_order t ≡ true → IsRun (tokens t) f (events t) Ends
-tree_runs t f o = subst (λ (l : List Token). IsRun l f (events t) Ends) (append-nil (tokens t)) (sentence_run t [] f o)
+-- the run over a tree's tokens, by the law of the run over these and any others behind them
+pub tree_runs : ((t : Stream) (r : List Token) (f : Fault) → in_order t ≡ true → IsRun (tokens t ++ r) f (events t) Ends) → (t : Stream) (f : Fault)
+    → in_order t ≡ true → IsRun (tokens t) f (events t) Ends
+tree_runs law t f o = subst (λ (l : List Token). IsRun l f (events t) Ends) (append-nil (tokens t)) (law t [] f o)
 
 pub if_ok : (r : Result yaml_run_t AllocError) (P Q : yaml_run_t → Type 0) → IfOk r P → ((run : yaml_run_t) → P run → Q run) → IfOk r Q
 if_ok (Ok run) P Q h k = k run h

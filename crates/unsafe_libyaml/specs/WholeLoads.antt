@@ -1,19 +1,45 @@
 -- All documents of a source as a value (docs/DEFINITIONS.md, "Loads").
-use Rattle.std.specs.Prelude.{◌≡◌, ◌++◌, ◌∷◌, List, [], map, Ok}
+use Rattle.std.specs.Prelude.{◌≡◌, ◌⊎◌, ◌++◌, ◌∷◌, List, [], None, Some, map, Ok}
 use Rattle.libyaml_documents.specs.Documents.{Document}
-use Rattle.libyaml_grammar.specs.runs.Fault.{Fault}
+use Rattle.libyaml_grammar.specs.cuts.Settled.{BeginsEach}
+use Rattle.libyaml_grammar.specs.runs.Fault.{Answer, Fault, fault_of}
 use Rattle.libyaml_grammar.specs.runs.Runs.{Ending, Fails}
-use Rattle.libyaml_graphs.specs.Loads.{Load, last_load}
+use Rattle.libyaml_grammar.specs.sentences.Events.{Event}
+use Rattle.libyaml_grammar.specs.sentences.Nesting.{NestsSoFar}
+use Rattle.libyaml_grammar.specs.sentences.Tokens.{Token}
+use Rattle.libyaml_grammar.specs.declared.fault.yaml_parser_t_prefix.{yaml_parser_t_prefix}
+use Rattle.libyaml_events.specs.sources.Calls.{Gave}
+use Rattle.libyaml_events.specs.sources.Parsing.{IsWhole}
+use Rattle.libyaml_graphs.specs.Loads.{Load, last_load, loads}
 use Rattle.unsafe_libyaml.specs.declared.load_all.yaml_documents_t.{yaml_documents_t}
-use Rattle.unsafe_libyaml.specs.WholeRun.{ending_of}
+use Rattle.unsafe_libyaml.specs.WholeRun.{Asked, StoppedBy, ending_of}
 
 -- these documents, and after them the document without root or the fault
 abbrev pub as_loads : List Document → Ending → List Load
 as_loads documents ending = map (λ (d : Document). Ok d) documents ++ last_load ending ∷ []
 
--- These loads; or the source broke off, by a fault that it names as possible where it then stood, and the documents are a prefix.
--- A list never does.
-pub data LoadsTo {S : Type 0} (MayBreak : S → Fault → Type 0) (all : yaml_documents_t) (loads : List Load) : Type 0 where
-  whole : as_loads all.documents.items (ending_of all.fault) ≡ loads → LoadsTo MayBreak all loads
-  broken_off : (s : S) (f : Fault) → MayBreak s f → ending_of all.fault ≡ Fails f
-      → (rest : List Load) → loads ≡ map (λ (d : Document). Ok d) all.documents.items ++ rest → LoadsTo MayBreak all loads
+-- These loads; or the source broke off behind the answers that it gave, by a fault that it names as possible where it then
+-- stood, and the documents are a prefix. A list never does.
+pub data LoadsTo {S : Type 0} (gives : S → Answer → S → Type 0) (MayBreak : S → Fault → Type 0) (source : S) (all : yaml_documents_t) (loads : List Load)
+    : Type 0 where
+  whole : as_loads all.documents.items (ending_of all.fault) ≡ loads → LoadsTo gives MayBreak source all loads
+  broken_off : (given : List Answer) (s : S) (f : Fault) → Gave gives source given s → MayBreak s f → ending_of all.fault ≡ Fails f
+      → (rest : List Load) → loads ≡ map (λ (d : Document). Ok d) all.documents.items ++ rest → LoadsTo gives MayBreak source all loads
+
+-- these events have a composer error, whatever follows them: their loads are these documents and the fault
+abbrev pub ComposerError : List Event → yaml_documents_t → Type 0
+ComposerError taken all = (rest : List Event) (x : Ending) → loads (taken ++ rest) x ≡ as_loads all.documents.items (ending_of all.fault)
+
+-- The loads over any source, which took these events of the parser: the documents and the fault are the loads of these
+-- events. The events begin those of each sentence that begins with the tokens, and nest; without a fault they are a whole
+-- tree's, and so are the tokens; and a fault is the parser's, or a composer error of these events.
+pub record GathersLoads {S : Type 0} (gives : S → Answer → S → Type 0) (source : S) (all : yaml_documents_t) : Type 0 where
+  pub asked : List Token
+  pub last : List Answer
+  pub taken : List Event
+  pub tokens : Asked gives source asked last taken
+  pub begins : BeginsEach asked taken
+  pub nests : NestsSoFar taken
+  pub are_loads : as_loads all.documents.items (ending_of all.fault) ≡ loads taken (ending_of all.fault)
+  pub whole : all.fault ≡ None → IsWhole asked taken
+  pub stopped : (f : yaml_parser_t_prefix) → all.fault ≡ Some f → StoppedBy asked last taken (fault_of f) ⊎ ComposerError taken all

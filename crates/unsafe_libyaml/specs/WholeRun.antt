@@ -1,14 +1,16 @@
 -- A whole run as a value (docs/DEFINITIONS.md, "Runs").
-use Rattle.std.specs.Prelude.{◌≡◌, List, Option, Some, None}
+use Rattle.std.specs.Prelude.{◌≡◌, ◌++◌, ◌∷◌, List, [], Option, Some, None, Err}
 use Rattle.libyaml_grammar.specs.sentences.Events.{Event}
 use Rattle.libyaml_grammar.specs.runs.Fault.{Answer, Fault, fault_of}
+use Rattle.libyaml_grammar.specs.runs.Errors.{IsSourceError}
 use Rattle.libyaml_grammar.specs.runs.Runs.{Ending, Ends, Fails}
 use Rattle.libyaml_grammar.specs.cuts.Settled.{Begins, BeginsEach}
 use Rattle.libyaml_grammar.specs.sentences.Nesting.{NestsSoFar}
 use Rattle.libyaml_grammar.specs.sentences.Tokens.{Token}
 use Rattle.libyaml_events.specs.sources.Calls.{Gave}
 use Rattle.libyaml_events.specs.sources.History.{answers}
-use Rattle.libyaml_events.specs.sources.Parsing.{IsWhole}
+use Rattle.libyaml_events.specs.sources.Needs.{EachNeeded, EachWasNeeded}
+use Rattle.libyaml_events.specs.sources.Parsing.{HasFailed, IsWhole, StopsShort}
 use Rattle.libyaml_grammar.specs.declared.fault.yaml_parser_t_prefix.{yaml_parser_t_prefix}
 use Rattle.unsafe_libyaml.specs.declared.parse_all.yaml_run_t.{yaml_run_t}
 
@@ -25,13 +27,27 @@ pub data RunsTo {S : Type 0} (gives : S → Answer → S → Type 0) (MayBreak :
   broken_off : (given : List Answer) (s : S) (f : Fault) → Gave gives source given s → MayBreak s f → ending_of run.fault ≡ Fails f
       → Begins run.events.items events → RunsTo gives MayBreak source run events ending
 
--- A run over any source, which gave these tokens and then, where a call failed, what that call asked for: the events begin
--- those of each sentence that begins with the tokens, and nest; without a fault they are a whole tree's, and so are the tokens.
+-- What a source was asked for until a run stopped: it gave these tokens and then, where a call failed, what that call asked
+-- for. Each was needed when it was asked for.
+pub record Asked {S : Type 0} (gives : S → Answer → S → Type 0) (source : S) (asked : List Token) (last : List Answer) (given : List Event) : Type 0 where
+  pub stands : S
+  pub gave : Gave gives source (answers asked last) stands
+  pub needed : EachWasNeeded [] asked [] given
+  pub needed_last : EachNeeded asked last given
+
+-- Why the parser failed behind these tokens and events, in a call that asked for the answers `last`: by a fault of the
+-- grammar, or by the source's own, which is kept with all its fields.
+pub data StoppedBy (asked : List Token) (last : List Answer) (given : List Event) (f : Fault) : Type 0 where
+  of_grammar : (l : List Token) → last ≡ answers l [] → HasFailed (asked ++ l) given f → StoppedBy asked last given f
+  of_source : (l : List Token) → last ≡ answers l (Err f ∷ []) → IsSourceError f.error → StopsShort (asked ++ l) given → StoppedBy asked last given f
+
+-- A run over any source: the events begin those of each sentence that begins with the tokens, and nest; without a fault they
+-- are a whole tree's, and so are the tokens; and a fault came of these tokens.
 pub record Gathers {S : Type 0} (gives : S → Answer → S → Type 0) (source : S) (run : yaml_run_t) : Type 0 where
   pub asked : List Token
   pub last : List Answer
-  pub stands : S
-  pub gave : Gave gives source (answers asked last) stands
+  pub tokens : Asked gives source asked last run.events.items
   pub begins : BeginsEach asked run.events.items
   pub nests : NestsSoFar run.events.items
   pub whole : run.fault ≡ None → IsWhole asked run.events.items
+  pub stopped : (f : yaml_parser_t_prefix) → run.fault ≡ Some f → StoppedBy asked last run.events.items (fault_of f)

@@ -14,11 +14,14 @@ ghost use Rattle.libyaml_grammar.specs.sentences.Tokens.{Token};
 ghost use Rattle.libyaml_grammar.specs.sentences.Trees.{Stream, tokens};
 ghost use Rattle.libyaml_graphs.specs.GraphLaws.{NestedLoads};
 ghost use Rattle.libyaml_graphs.specs.Loads.{IsLoads, Load, last_load, loads_of};
-ghost use Rattle.unsafe_libyaml.specs.WholeLoads.{LoadsTo};
+ghost use Rattle.unsafe_libyaml.specs.WholeLoads.{GathersLoads, LoadsTo};
 
 use crate::parse_all::unless_memory;
 use libyaml_documents::yaml_document_t;
+use libyaml_events::laws::calls::of_history;
+use libyaml_events::laws::run_nests;
 use libyaml_events::{yaml_parser_initialize, yaml_parser_t_prefix, yaml_token_source_t};
+use libyaml_graphs::laws::{enough_room, loads_of_tree, whole_documents_have_roots};
 use libyaml_loader::yaml_parser_load;
 use libyaml_types::yaml_error_type_t;
 use std::alloc::{AllocError, Global};
@@ -32,11 +35,13 @@ pub struct yaml_documents_t {
     pub fault: Option<yaml_parser_t_prefix>,
 }
 
-/// All documents of a source, and how they ended: the calls of `yaml_parser_load` until the stream's end or
-/// a fault, as one value.
+/// Returns all documents of a source, and how they ended: the calls of `yaml_parser_load` until the stream's
+/// end or a fault, as one value.
 ///
-/// Returns `AllocError` where an allocation fails, where a list of a document would have more than
-/// 2,147,483,647 entries, or where the source's fault is that it is out of memory.
+/// # Errors
+///
+/// `AllocError` where an allocation fails, where a list of a document would have more than 2,147,483,647
+/// entries, or where the source's fault is out of memory.
 ///
 /// libyaml: a loop over `yaml_parser_load`.
 pub fn yaml_parser_load_all<S: yaml_token_source_t + Drop>(
@@ -47,21 +52,28 @@ pub fn yaml_parser_load_all<S: yaml_token_source_t + Drop>(
     ensures of_tree { (t : Stream) (f : Fault) → in_order t ≡ true
         → S.known source ≡ Some (coming (tokens t) f)
         → IfOk result (λ all. (n : IsNested (events t))
-        × LoadsTo S.may_break all (loads_of n.texts (last_load Ends ∷ []))) }
-    // a cut tree that fits gives those of its whole documents, and then the open one's composer error or
+        × LoadsTo S.gives S.may_break source all (loads_of n.texts (last_load Ends ∷ []))) }
+    // a cut tree that fits gives those of its whole documents, and then the open one's composer fault or
     // its own
     ensures of_cut_tree { (before : List Token) (token : Token) (behind : List Token) (c : Cut) (f : Fault)
         → Fits before token c
         → is_behind_properties c behind ≡ true → S.known source ≡ Some (coming (before ++ token ∷ behind) f)
         → IfOk result (λ all. (loads : List Load)
         × NestedLoads (cut_events c token) (Fails (fault c token.content token.start_mark)) loads
-        × LoadsTo S.may_break all loads) }
+        × LoadsTo S.gives S.may_break source all loads) }
     // any list of tokens gives its loads
     ensures of_list { (l : List Token) (f : Fault) (loads : List Load) → IsLoads l f loads
         → S.known source ≡ Some (coming l f)
-        → IfOk result (λ all. LoadsTo S.may_break all loads) }
+        → IfOk result (λ all. LoadsTo S.gives S.may_break source all loads) }
+    // over every source, also one that does not know its tokens
+    ensures gathers { IfOk result (λ all. GathersLoads S.gives source all) }
     ensures roots { IfOk result (λ all. All (λ d. d.nodes ≢ []) all.documents.items) }
 {
+    run_nests();
+    of_history::<S>();
+    whole_documents_have_roots();
+    enough_room();
+    loads_of_tree();
     let mut parser = yaml_parser_initialize(alloc, source);
     let mut documents = Vec::new(alloc);
     loop {
@@ -80,7 +92,7 @@ pub fn yaml_parser_load_all<S: yaml_token_source_t + Drop>(
     }
 }
 
-/// Returns these documents and the fault after them, or `AllocError` for a memory fault.
+/// Returns these documents and the fault after them, but out of memory as `AllocError`.
 fn failed_load(
     documents: Vec<yaml_document_t>,
     fault: yaml_parser_t_prefix,

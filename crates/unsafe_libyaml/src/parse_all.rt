@@ -15,6 +15,7 @@ ghost use Rattle.libyaml_grammar.specs.sentences.Trees.{Stream, tokens};
 ghost use Rattle.unsafe_libyaml.specs.WholeRun.{Gathers, RunsTo};
 
 use libyaml_events::laws::calls::of_history;
+use libyaml_events::laws::run_of_tree;
 use libyaml_events::{
     yaml_parser_initialize, yaml_parser_parse, yaml_parser_t_prefix, yaml_token_source_t,
 };
@@ -30,10 +31,12 @@ pub struct yaml_run_t {
     pub fault: Option<yaml_parser_t_prefix>,
 }
 
-/// All events of a source, and how they ended: the calls of `yaml_parser_parse` until the stream's end or a
-/// fault, as one value.
+/// Returns all events of a source, and how they ended: the calls of `yaml_parser_parse` until the stream's end
+/// or a fault, as one value.
 ///
-/// Returns `AllocError` where an allocation fails, or where the source's fault is that it is out of memory.
+/// # Errors
+///
+/// `AllocError` where an allocation fails, or where the source's fault is out of memory.
 ///
 /// libyaml: a loop over `yaml_parser_parse`.
 pub fn yaml_parser_parse_all<S: yaml_token_source_t + Drop>(
@@ -57,6 +60,7 @@ pub fn yaml_parser_parse_all<S: yaml_token_source_t + Drop>(
     // over every source, also one that does not know its tokens
     ensures gathers { IfOk result (λ run. Gathers S.gives source run) }
 {
+    run_of_tree();
     of_history::<S>();
     let mut parser = yaml_parser_initialize(alloc, source);
     let mut events = Vec::new(alloc);
@@ -77,7 +81,7 @@ pub fn yaml_parser_parse_all<S: yaml_token_source_t + Drop>(
     }
 }
 
-/// Returns the run of these events, which this fault ended, or `AllocError` for a memory fault.
+/// Returns the run of these events, which this fault ended, but out of memory as `AllocError`.
 fn failed_run(
     events: Vec<yaml_event_t>,
     fault: yaml_parser_t_prefix,
@@ -93,7 +97,7 @@ fn failed_run(
     })
 }
 
-/// Returns this fault, or `AllocError` for a memory fault.
+/// Returns this fault, but out of memory as `AllocError`.
 pub fn unless_memory(fault: yaml_parser_t_prefix) -> Result<yaml_parser_t_prefix, AllocError>
     ensures ok { IfOk result (λ f. (f ≡ fault) × (fault.error ≢ yaml_error_type_t.YAML_MEMORY_ERROR)) }
     ensures memory { IfErr result (λ _. fault.error ≡ yaml_error_type_t.YAML_MEMORY_ERROR) }
@@ -104,7 +108,7 @@ pub fn unless_memory(fault: yaml_parser_t_prefix) -> Result<yaml_parser_t_prefix
     }
 }
 
-/// Whether a stream ends with this event.
+/// Returns whether a stream ends with this event.
 fn is_stream_end(event: &yaml_event_t) -> bool
     ensures { result ≡ is_stream_end event.now }
 {
