@@ -1,4 +1,4 @@
--- The loads within a bound are a prefix of the loads, and then out of memory where the bound was met.
+-- The loads within a bound are a front of the loads, and then want of memory where the bound was met.
 use Rattle.std.proofs.Common.{◌≡◌, ◌⊎◌, ◌++◌, ◌∷◌, ℕ, List, [], length, map, nat_lt, Option, Some, None, Bool, true, false}
 use Rattle.std.proofs.Common.{Ok, Err, refl, sym, ap, subst, inl, inr}
 use Rattle.libyaml_documents.specs.Documents.{Document}
@@ -13,7 +13,7 @@ use Rattle.libyaml_graphs.specs.Loads.{Load, document, document_end, last_load, 
 use Rattle.libyaml_graphs.specs.Parts.{Closing, Opening, Part, behind, closing_of, graph, opening_of, parts}
 use Rattle.libyaml_graphs.proofs.Room.{bound_exact}
 
--- The loads within the bound are the loads; or they are the first of them, which are these documents, and out of memory.
+-- The loads within the bound are the loads; or they are the first of them, which are these documents, and want of memory.
 pub data IsFront (within all : List Load) : Type 0 where
   same : within ≡ all → IsFront within all
   met : (documents : List Document) (rest : List Load) → ◌≡◌ {A = List Load} within (map Ok documents ++ Err memory_fault ∷ [])
@@ -22,7 +22,7 @@ pub data IsFront (within all : List Load) : Type 0 where
 some_is : (f g : Fault) → ◌≡◌ {A = Option Fault} (Some g) (Some f) → f ≡ g
 some_is f g h = cc
 
--- what stops a load is that memory runs out, or its composer error
+-- what stops a load is want of memory, or its composer fault
 stop_or : (a b : Bool) (w o c : Option Fault) (f : Fault) → (o ≡ Some f → (f ≡ memory_fault) ⊎ (c ≡ Some f)) → if_above a (if_wrong w (if_above b o)) ≡ Some f
     → (f ≡ memory_fault) ⊎ (or_else w c ≡ Some f)
 stop_or true b w o c f k e = inl (some_is f memory_fault e)
@@ -101,7 +101,7 @@ mutual
   front_behind [] x n = same refl
   front_behind (e ∷ r) x n = behind_front e r x n (front_of_loads r x n) (front_behind r x n)
 
--- so where no load within the bound is out of memory, the bound was not met
+-- so where no load within the bound is want of memory, the bound was not met
 lacks_memory : (ds : List Document) → NoneLacksMemory (map Ok ds ++ Err memory_fault ∷ []) → ⊥
 lacks_memory [] h = h.0 refl
 lacks_memory (d ∷ ds) h = lacks_memory ds h

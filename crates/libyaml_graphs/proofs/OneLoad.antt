@@ -29,7 +29,7 @@ bounded_left (e ∷ r) x m = go (closing_of e) (bounded_left r x m)
     go (Some y) h = refl
     go None h = h
 
--- where a document has no end nothing follows it
+-- where a document has no end nothing stands behind it
 none_behind : (r : List Event) → document_end r ≡ None → behind_document r ≡ []
 none_behind [] h = refl
 none_behind (e ∷ r) h = go (closing_of e) h (none_behind r)
@@ -72,14 +72,14 @@ first_bounded (e ∷ r) x z m = go (opening_of e) (first_bounded r x z m)
     go None h = h
     go (Some o) h = first_of z (first_stop m [] [] (parts r)) (document_end r) o (graph [] (parts r)) (last_load x) (bounded_loads_behind m r x)
 
--- after the last load that one comes again and again
+-- behind the last load that one comes again and again
 at_last : (n : ℕ) (x : Ending) → last_load x ≡ unless_fault (last_load x) (load_at (last_load x) n (last_load x ∷ []))
 at_last zero Ends = refl
 at_last zero (Fails f) = refl
 at_last (suc n) Ends = refl
 at_last (suc n) (Fails f) = refl
 
--- the loads after the first are those of what it leaves, or its fault again
+-- the loads behind the first are those of what it leaves, or its fault again
 pub later_load : (r : List Event) (x : Ending) (z : Load) (n : ℕ)
     → load_at z (suc n) (loads r x) ≡ unless_fault (next_load r x) (load_at (next_load r x) n (loads (left_over r) x))
 later_load [] x z n = at_last n x

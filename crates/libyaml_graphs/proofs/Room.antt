@@ -189,7 +189,7 @@ room_next (e ∷ r) x n h = go (opening_of e) h (λ (k : HasRoom n r). room_next
     go None k next = next k
     go (Some o) k next = ap (λ (g : Option Fault). answer g (document_end r) o (graph [] (parts r)) (last_load x)) (fits_stop (parts r) n k.0)
 
--- a document that nothing stops has no composer error, and its lists have room
+-- a document that nothing stops has no composer fault, and its lists have room
 abbrev Unstopped : ℕ → List Start → List Part → List Part → Type 0
 Unstopped n es F P = (composer_fault es P ≡ None) × (nat_lt n (length (all_behind es P)) ≡ false) × (one_above n (list_sizes [] (F ++ P)) ≡ false)
 

@@ -150,7 +150,7 @@ last_of (v ∷ r) x n d h a e = go (opening_of v) refl a (last_of r x n d h.1)
     go None is b k = k b e
     go (Some o) is b k = at o (first_stop n [] [] (parts r)) (document_end r) (subst (λ (y : Option Opening). RootFollows y r) is h.0) refl refl b
 
--- After a load with nodes come the loads of the events that it leaves.
+-- Behind a load with nodes come the loads of the events that it leaves.
 pub earlier_of : (r : List Event) (x : Ending) (n : ℕ) (d : Document) → next_bounded n r x ≡ Ok d → d.nodes ≢ []
     → bounded_loads n r x ≡ Ok d ∷ bounded_loads n (left_over r) x
 earlier_of [] x n d a e = absurd (e (last_bare x d a))

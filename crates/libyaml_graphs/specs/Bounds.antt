@@ -39,8 +39,8 @@ abbrev pub one_above : ℕ → List ℕ → Bool
 one_above n [] = false
 one_above n (k ∷ ks) = either (nat_lt n k) (one_above n ks)
 
--- What stops a load: the first part with which there are more than n nodes, else which has a composer error, else with which
--- a node's list has more than n entries. The first and the last are out of memory. `before` are the parts before, and es
+-- What stops a load: the first part with which there are more than n nodes, else which has a composer fault, else with which
+-- a node's list has more than n entries. The first and the last are want of memory. `before` are the parts before, and es
 -- their starts.
 abbrev pub if_above : Bool → Option Fault → Option Fault
 if_above true o = Some memory_fault
@@ -78,7 +78,7 @@ next_bounded n (e ∷ r) x = elim (opening_of e) [
   | Some o ↦ answer (first_stop n [] [] (parts r)) (document_end r) o (graph [] (parts r)) (last_load x)
 ]
 
--- the loads over a list of tokens with the source's fault f after it
+-- the loads over a list of tokens with the source's fault f behind it
 pub record IsBoundedLoads (n : ℕ) (l : List Token) (f : Fault) (a : List Load) : Type 0 where
   pub events : List Event
   pub ending : Ending
@@ -89,7 +89,7 @@ pub record IsBoundedLoads (n : ℕ) (l : List Token) (f : Fault) (a : List Load)
 abbrev pub StaysWithin : ℕ → List Part → Type 0
 StaysWithin n l = (length (graph [] l) ≤ n) × All (λ k. k ≤ n) (list_sizes [] l)
 
--- nor does one of a document that a load begins: after a composer error no load begins one
+-- nor does one of a document that a load begins: behind a composer fault no load begins one
 abbrev mutual
   pub HasRoom : ℕ → List Event → Type 0
   HasRoom n [] = Unit {0}
@@ -99,7 +99,7 @@ abbrev mutual
   HasRoomBehind n [] = Unit {0}
   HasRoomBehind n (e ∷ r) = elim (closing_of e) [ Some c ↦ HasRoom n r | None ↦ HasRoomBehind n r ]
 
--- none of these loads is out of memory
+-- none of these loads is want of memory
 abbrev pub NoneLacksMemory : List Load → Type 0
 NoneLacksMemory [] = Unit {0}
 NoneLacksMemory (Ok d ∷ l) = NoneLacksMemory l

@@ -11,11 +11,11 @@ use Rattle.libyaml_graphs.specs.ComposerFaults.{composer_fault}
 use Rattle.libyaml_graphs.specs.Graphs.{nodes_of}
 use Rattle.libyaml_graphs.specs.Parts.{Closing, Opening, closing_of, graph, opening_of, parts}
 
--- what a load returns: a document, or a fault
+-- what a load answers: a document, or a fault
 abbrev pub Load : Type 0
 Load = Result Document Fault
 
--- after all documents: the document without root, or the fault that ended the run
+-- behind all documents: the document without root, or the fault that ended the run
 abbrev pub last_load : Ending → Load
 last_load Ends = Ok (empty_document None [] false false)
 last_load (Fails f) = Err f
@@ -31,7 +31,7 @@ document o nodes c = record {
   end_mark = c.mark;
 }
 
--- the end of the document that the events are in, if it comes, and the events after that end
+-- the end of the document that the events are in, if it comes, and the events behind that end
 abbrev pub document_end : List Event → Option Closing
 document_end [] = None
 document_end (e ∷ r) = elim (closing_of e) [ Some c ↦ Some c | None ↦ document_end r ]
@@ -46,7 +46,7 @@ answer (Some f) c o nodes last = Err f
 answer None (Some c) o nodes last = Ok (document o nodes c)
 answer None None o nodes last = last
 
--- and after it the loads l, where it is whole
+-- and behind it the loads l, where it is whole
 abbrev pub load_then : Option Fault → Option Closing → Opening → List yaml_node_t → (last : Load) → List Load → List Load
 load_then (Some f) c o nodes last l = Err f ∷ []
 load_then None (Some c) o nodes last l = Ok (document o nodes c) ∷ l
@@ -61,12 +61,12 @@ abbrev mutual
     | Some o ↦ load_then (composer_fault [] (parts r)) (document_end r) o (graph [] (parts r)) (last_load x) (loads_behind r x)
   ]
 
-  -- those of the events after the end of the document that the events are in
+  -- those of the events behind the end of the document that the events are in
   pub loads_behind : List Event → Ending → List Load
   loads_behind [] x = last_load x ∷ []
   loads_behind (e ∷ r) x = elim (closing_of e) [ Some c ↦ loads r x | None ↦ loads_behind r x ]
 
--- One load: its result, and the events that it leaves to the next.
+-- One load: its answer, and the events that it leaves to the next.
 abbrev pub next_load : List Event → Ending → Load
 next_load [] x = last_load x
 next_load (e ∷ r) x = elim (opening_of e) [
@@ -78,14 +78,14 @@ abbrev pub left_over : List Event → List Event
 left_over [] = []
 left_over (e ∷ r) = elim (opening_of e) [ None ↦ left_over r | Some o ↦ behind_document r ]
 
--- The loads of whole documents by the trees of their values, up to the first composer error, and after them l.
+-- The loads of whole documents by the trees of their values, up to the first composer fault, and behind them l.
 abbrev pub loads_of : Texts → List Load → List Load
 loads_of no_texts l = l
 loads_of (text_behind ts d m n v i p q) l
     = loads_of ts (load_then (composer_fault [] (parts (value_events v []))) (Some (record { is_implicit = i; mark = q })) (record { start = d; mark = m })
     (nodes_of v [] []) (last_load Ends) l)
 
--- the loads over a list of tokens with the source's fault f after it
+-- the loads over a list of tokens with the source's fault f behind it
 pub record IsLoads (l : List Token) (f : Fault) (a : List Load) : Type 0 where
   pub events : List Event
   pub ending : Ending

@@ -56,7 +56,7 @@ pub record Left {S : Type 0} (known : S → Option Coming) (p : Parser S) (loade
   pub roots : RootsFollow later
   pub to_come : RunToCome known p later x
 
--- within the loads over a source: the parser loaded these documents since it was made
+-- amid the loads over a source: the parser loaded these documents since it was made
 pub record Loaded {S : Type 0} (known : S → Option Coming) (source : S) (p : Parser S) (loaded : List Document) : Type 0 where
   pub asked : List Token
   pub given : List Event
@@ -79,7 +79,7 @@ none_lacks : (ds : List Document) (l : List Load) → NoneLacksMemory l → None
 none_lacks [] l h = h
 none_lacks (d ∷ ds) l h = none_lacks ds l h
 
--- the documents that were loaded are the first of the loads, also where the bound is met after them
+-- the documents that were loaded are the first of the loads, also where the bound is met behind them
 same_document : (c d : Document) (a b : List Load) → ◌≡◌ {A = List Load} (Ok c ∷ a) (Ok d ∷ b) → c ≡ d
 same_document c d a b h = cc
 
@@ -149,7 +149,7 @@ module _ {S : Type 0} (gives : S → Answer → S → Type 0) (known : S → Opt
       no_error : {z : yaml_error_type_t} → ◌≡◌ {A = DocumentOrError} (Ok d) (Err z) → ⊥
       no_error h = cc
 
-  -- a call that failed: by the run's own fault, out of memory, or where the source broke off
+  -- a call that failed: by the run's own fault, by want of memory, or where the source broke off
   abbrev Failed : Load → Type 0
   Failed a = (a ≡ Err (kept_fault new)) ⊎ (((kept_fault new).error ≡ YAML_MEMORY_ERROR) ⊎ MayBreak new.source (kept_fault new))
 
@@ -232,7 +232,7 @@ module _ {S : Type 0} (gives : S → Answer → S → Type 0) (known : S → Opt
         let last : bounded_loads most b.later x ≡ last_load Ends ∷ [] = z.0 ∙ ap (λ (t : Load). t ∷ []) (sym z.1 ∙ ap last_load (sym end)) in
         subst (λ (t : List Load). LoadsTo MayBreak all t) (sym h.all) (told_all h.events x Ends b last tt all items (ap ending_of no_fault))
 
-    -- where the fault is no memory fault
+    -- where the fault is not want of memory
     pub loaded_to_fault : (y : yaml_error_type_t) → r ≡ Err y → (all : yaml_documents_t) → all.documents.items ≡ loaded → (p : yaml_parser_t_prefix)
         → faults.fault_of p ≡ kept_fault new → all.fault ≡ Some p → p.error ≢ YAML_MEMORY_ERROR
         → (l : List Token) (f : Fault) (a : List Load) → IsLoads l f a → known source ≡ Some (coming l f) → LoadsTo MayBreak all a
@@ -269,7 +269,7 @@ pub rooted : (ns : List yaml_node_t) → nat_eq (length ns) 0 ≡ false → ns �
 rooted [] h e = absurd cc
 rooted (n ∷ ns) h e = cc
 
--- after a document with a root fewer events are left
+-- behind a document with a root fewer events are left
 pub fewer : (d : Document) (new old : ℕ) → (d ≡ empty_document None [] false false) ⊎ (new < old) → d.nodes ≢ [] → new < old
 fewer d new old (inl e) h = absurd (h (ap (λ (k : Document). k.nodes) e))
 fewer d new old (inr k) h = k

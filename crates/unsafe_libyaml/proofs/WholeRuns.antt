@@ -31,7 +31,7 @@ pub record Left {S : Type 0} (known : S → Option Coming) (p : Parser S) (given
   pub all : e ≡ given ++ later
   pub to_come : RunToCome known p later x
 
--- within the run over a source: the parser gave these events since it was made
+-- amid the run over a source: the parser gave these events since it was made
 pub record Reached {S : Type 0} (gives : S → Answer → S → Type 0) (known : S → Option Coming) (source : S) (p : Parser S) (given : List Event) : Type 0 where
   pub asked : List Token
   pub history : History p asked given
@@ -39,7 +39,7 @@ pub record Reached {S : Type 0} (gives : S → Answer → S → Type 0) (known :
   pub running : is_over p ≡ false
   pub left : (l : List Token) (f : Fault) (e : List Event) (x : Ending) → IsRun l f e x → known source ≡ Some (coming l f) → Left known p given e x
 
--- the source gave these results after those tokens
+-- the source gave these answers behind those tokens
 gave_on : {S : Type 0} (gives : S → Answer → S → Type 0) (l : List Token) (r : List Answer) (a b c : S) → Gave gives a (answers l []) b → Gave gives b r c
     → Gave gives a (answers l r) c
 gave_on gives [] r a b c h k = subst (λ x. Gave gives x r c) h k
@@ -98,7 +98,7 @@ module _ {S : Type 0} (gives : S → Answer → S → Type 0) (known : S → Opt
       let b = nothing (on.ends ∙ last) a.later x a.to_come in
       whole (all ∙ (sym (append-nil (given ++ e ∷ [])) ∙ (ap (λ t. (given ++ e ∷ []) ++ t) (sym b.0) ∙ sym a.all))) (ap ending_of no_fault ∙ sym b.1)
 
-  -- where the fault is no memory fault
+  -- where the fault is not want of memory
   pub ran_to_fault : (given : List Event) (r : EventOrError) {x : yaml_error_type_t} → r ≡ Err x → Says known MayBreak old new r
       → (reached : Reached gives known source old given) → FailsBy gives old new reached.asked given
       → (run : yaml_run_t) → run.events.items ≡ given → (p : yaml_parser_t_prefix) → fault_of p ≡ kept_fault new → run.fault ≡ Some p

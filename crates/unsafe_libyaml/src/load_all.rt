@@ -28,27 +28,27 @@ use std::alloc::{AllocError, Global};
 pub struct yaml_documents_t {
     /// The documents in their order. Each has a root.
     pub documents: Vec<yaml_document_t>,
-    /// The fault after them, or `None` where the stream ends after the last.
+    /// The fault behind them, or `None` where the stream ends behind the last.
     pub fault: Option<yaml_parser_t_prefix>,
 }
 
 /// All documents of a source, and how they ended: the calls of `yaml_parser_load` until the stream's end or
 /// a fault, as one value.
 ///
-/// Returns `AllocError` where an allocation fails, where a list of a document would have more than
-/// 2,147,483,647 entries, or where the source's fault is that it is out of memory.
+/// Answers `AllocError` where a growth is refused, where a list of a document would have more than
+/// 2,147,483,647 entries, or where the source's fault is want of memory.
 ///
 /// libyaml: a loop over `yaml_parser_load`.
 pub fn yaml_parser_load_all<S: yaml_token_source_t + Drop>(
     alloc: Global,
     source: S,
 ) -> Result<yaml_documents_t, AllocError>
-    // the tokens of a tree in order give its documents' graphs, up to the first composer error
+    // the tokens of a tree in order give its documents' graphs, up to the first composer fault
     ensures of_tree { (t : Stream) (f : Fault) → in_order t ≡ true
         → S.known source ≡ Some (coming (tokens t) f)
         → IfOk result (λ all. (n : IsNested (events t))
         × LoadsTo S.may_break all (loads_of n.texts (last_load Ends ∷ []))) }
-    // a cut tree that fits gives those of its whole documents, and then the open one's composer error or
+    // a cut tree that fits gives those of its whole documents, and then the open one's composer fault or
     // its own
     ensures of_cut_tree { (before : List Token) (token : Token) (behind : List Token) (c : Cut) (f : Fault)
         → Fits before token c
@@ -80,7 +80,7 @@ pub fn yaml_parser_load_all<S: yaml_token_source_t + Drop>(
     }
 }
 
-/// Returns these documents and the fault after them, or `AllocError` for a memory fault.
+/// These documents, behind which this fault came; but want of memory is answered as such.
 fn failed_load(
     documents: Vec<yaml_document_t>,
     fault: yaml_parser_t_prefix,

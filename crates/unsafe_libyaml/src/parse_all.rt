@@ -26,14 +26,14 @@ use std::alloc::{AllocError, Global};
 pub struct yaml_run_t {
     /// The events in their order.
     pub events: Vec<yaml_event_t>,
-    /// The fault after them, or `None` where the last is the stream's end.
+    /// The fault behind them, or `None` where the last is the stream's end.
     pub fault: Option<yaml_parser_t_prefix>,
 }
 
 /// All events of a source, and how they ended: the calls of `yaml_parser_parse` until the stream's end or a
 /// fault, as one value.
 ///
-/// Returns `AllocError` where an allocation fails, or where the source's fault is that it is out of memory.
+/// Answers `AllocError` where a growth is refused, or where the source's fault is want of memory.
 ///
 /// libyaml: a loop over `yaml_parser_parse`.
 pub fn yaml_parser_parse_all<S: yaml_token_source_t + Drop>(
@@ -77,7 +77,7 @@ pub fn yaml_parser_parse_all<S: yaml_token_source_t + Drop>(
     }
 }
 
-/// Returns the run of these events, which this fault ended, or `AllocError` for a memory fault.
+/// The run of these events, which this fault ended; but want of memory is answered as such.
 fn failed_run(
     events: Vec<yaml_event_t>,
     fault: yaml_parser_t_prefix,
@@ -93,7 +93,7 @@ fn failed_run(
     })
 }
 
-/// Returns this fault, or `AllocError` for a memory fault.
+/// This fault, but want of memory is answered as such.
 pub fn unless_memory(fault: yaml_parser_t_prefix) -> Result<yaml_parser_t_prefix, AllocError>
     ensures ok { IfOk result (λ f. (f ≡ fault) × (fault.error ≢ yaml_error_type_t.YAML_MEMORY_ERROR)) }
     ensures memory { IfErr result (λ _. fault.error ≡ yaml_error_type_t.YAML_MEMORY_ERROR) }
