@@ -4,7 +4,7 @@
 - a relative link to a missing file, or to a heading that its page does not have;
 - a path of this repository, in backticks or in a command, that does not exist (what a build makes is left out);
 - a heading of a page, as in `docs/DEFINITIONS.md, "Runs"`, that it does not have; comments of code are read for these too;
-- a Rust block that no file of crates/ has word for word;
+- a Rust block or a clause of a contract that no file of crates/ has word for word;
 - a row of ARCHITECTURE's table of layers, or a line "Stands on" of a crate's README, that is not as crates.txt has it.
 
     python3 scripts/links.py
@@ -87,6 +87,11 @@ def missing_blocks(text, code):
     for block in re.findall(r"^```rust\n(.*?)^```", text, flags=re.M | re.S):
         if unindented(block).strip() not in code:
             yield f"a Rust block that no file has: {block.strip().splitlines()[0]}"
+    packed = re.sub(r"\s", "", code)
+    for block in re.findall(r"^```\n(.*?)^```", text, flags=re.M | re.S):
+        for clause in re.findall(r"^ensures .*?(?=^//|^ensures |\Z)", block, flags=re.M | re.S):
+            if re.sub(r"\s", "", clause) not in packed:
+                yield f"a clause that no file has: {clause.splitlines()[0]}"
 
 
 def crates_listed():
