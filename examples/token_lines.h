@@ -1,12 +1,12 @@
 /* Token lines in, event lines or node lines out: the runs of `token_lines`, as a static library for C and C++.
  *
  * A run reads the token lines at `tokens` and makes the lines of its events, or of its documents and their nodes, and
- * behind them the text of a fault, if there is one. These are its bytes. On each return
+ * after them the text of a fault, if there is one. These are its bytes. On each return
  *
  * - the outcome is one of the three below: look at it first;
  * - `*wanted` is how many bytes the run has;
  * - `*written` is how many of them are at `out`: `*wanted`, or `out_length` where that is less. Read no byte of `out`
- *   behind these; they are as they were.
+ *   after these; they are as they were.
  *
  * So all bytes are there exactly where `*written == *wanted`. Where they aren't, run again with more room. A second run
  * over the same tokens may have another outcome and other bytes, since memory may run out in one and not in the other:
@@ -42,7 +42,7 @@
  *
  * What the library does is proved; that the caller keeps to this is not:
  *
- * - No pointer is null, also where its length is 0. `tokens` and `out` point to as many bytes as the length behind them
+ * - No pointer is null, also where its length is 0. `tokens` and `out` point to as many bytes as the length after them
  *   says, and `written` and `wanted` to a `size_t` each; no two of these overlap, and nobody else writes to them during
  *   the call.
  * - `malloc`, `realloc` and `free` are of one allocator, and align a block to each power of two up to 16 that divides

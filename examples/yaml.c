@@ -1,5 +1,5 @@
-/* The tokens, the events or the nodes of a YAML file, as lines: libyaml's scanner in front (Debian: libyaml-dev), our
- * static library behind it. `scripts/build_c.sh DIR` builds it; USAGE below says how it is called. */
+/* The tokens, the events or the nodes of a YAML file, as lines: libyaml's scanner (Debian: libyaml-dev), and then our
+ * static library. `scripts/build_c.sh DIR` builds it; USAGE below says how it is called. */
 #include "token_lines.h"
 #include <errno.h>
 #include <signal.h>
@@ -109,7 +109,7 @@ static void put_string(struct text *text, const yaml_char_t *string)
     put_bytes(text, string, strlen((const char *)string));
 }
 
-/* What stands behind a token's marks. */
+/* What follows a token's marks. */
 static void put_fields(struct text *text, const yaml_token_t *token)
 {
     char version[32];
@@ -304,8 +304,8 @@ static size_t line_before(const struct text *text, size_t at)
     return at;
 }
 
-/* Says on standard error the fault that a text ends with, which has room for a byte more. A line of a context may stand
- * behind it. */
+/* Says on standard error the fault that a text ends with, which has room for a byte more. A line of a context may
+ * follow it. */
 static int say_fault(const char *name, struct text *text)
 {
     size_t start = line_before(text, text->length), line, column;

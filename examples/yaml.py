@@ -1,5 +1,5 @@
 #!/usr/bin/env python3
-"""YAML text to lines of tokens, events or nodes: PyYAML's scanner in front, `yamltokens` or its library behind it."""
+"""YAML text to lines of tokens, events or nodes: by PyYAML's scanner, and then `yamltokens` or its library."""
 import sys
 
 USAGE = """\

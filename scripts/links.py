@@ -4,8 +4,9 @@
 - a relative link to a missing file, or to a heading that its page does not have;
 - a path of this repository, in backticks or in a command, that does not exist (what a build makes is left out);
 - a heading of a page, as in `docs/DEFINITIONS.md, "Runs"`, that it does not have; comments of code are read for these too;
-- a Rust block that no file of crates/ has word for word;
-- a row of ARCHITECTURE's table of layers, or a line "Stands on" of a crate's README, that is not as crates.txt has it.
+- a Rust block or a clause of a contract that no file of crates/ has word for word;
+- a row of ARCHITECTURE's table of layers, or a line "Stands on" of a crate's README, that is not as crates.txt has it;
+- a room of definitions or proofs in ARCHITECTURE that has other files than its folder.
 
     python3 scripts/links.py
 """
@@ -87,6 +88,11 @@ def missing_blocks(text, code):
     for block in re.findall(r"^```rust\n(.*?)^```", text, flags=re.M | re.S):
         if unindented(block).strip() not in code:
             yield f"a Rust block that no file has: {block.strip().splitlines()[0]}"
+    packed = re.sub(r"\s", "", code)
+    for block in re.findall(r"^```\n(.*?)^```", text, flags=re.M | re.S):
+        for clause in re.findall(r"^ensures .*?(?=^//|^ensures |\Z)", block, flags=re.M | re.S):
+            if re.sub(r"\s", "", clause) not in packed:
+                yield f"a clause that no file has: {clause.splitlines()[0]}"
 
 
 def crates_listed():
@@ -116,6 +122,21 @@ def wrong_readmes():
             yield f"crates/{name}/README.md: stands on other crates than crates.txt says"
 
 
+def wrong_rooms():
+    """Where ARCHITECTURE lists other files of a room than its folder has."""
+    top = None
+    for line in (TOP / "docs" / "ARCHITECTURE.md").read_text().splitlines():
+        if match := re.search(r"[Ii]n `(\w+/(?:specs|proofs))`:$", line):
+            top = TOP / "crates" / match[1]
+        match = re.match(r"\| `(\w+)`(?:: [^|]*)? \| ([^|]*) \|$", line)
+        if match and top and (top / match[1]).is_dir():
+            listed = set(re.findall(r"\b[A-Z]\w+", match[2].split(": ")[-1]))
+            there = {path.stem for path in (top / match[1]).glob("*.antt")} - {"Lib"}
+            for name in sorted(listed ^ there):
+                where = "is not there" if name in listed else "is not listed"
+                yield f"{(top / match[1]).relative_to(TOP)}: {name} {where}"
+
+
 def comments():
     """The files of code, definitions and examples, each with its comments, joined over the ends of lines."""
     for path in [*TOP.glob("crates/**/*.rt"), *TOP.glob("crates/**/*.antt"), *TOP.glob("examples/*"), *TOP.glob("scripts/*.*")]:
@@ -129,7 +150,7 @@ def problems():
         text = page.read_text()
         found = [*broken_links(page, text), *missing_paths(page, text), *missing_headings(text), *missing_blocks(text, code)]
         yield from (f"{page.relative_to(TOP)}: {problem}" for problem in found)
-    yield from (f"docs/ARCHITECTURE.md: {problem}" for problem in wrong_layers())
+    yield from (f"docs/ARCHITECTURE.md: {problem}" for problem in [*wrong_layers(), *wrong_rooms()])
     yield from wrong_readmes()
     for path, text in comments():
         yield from (f"{path.relative_to(TOP)}: {problem}" for problem in missing_headings(text))

@@ -17,8 +17,9 @@ USE = re.compile(r"pub use ([\w:]+?)(?:::\{([^}]*)\}| as (\w+))?;")
 
 HEAD = """# Every public item
 
-Made from the sources by `python3 scripts/surface.py --write`. A user names `unsafe_libyaml`, which passes on the crates of
-events, documents and loads, and `token_lines`, which passes on the crates of lines.
+Made from the sources by `python3 scripts/surface.py --write`. You name `unsafe_libyaml`, which re-exports the crates of
+events, documents and loads, and `token_lines`, which re-exports the crates of lines.
+[CALLING.md](CALLING.md) says how to use them.
 """
 
 
@@ -86,7 +87,7 @@ def names_passed_on(crate):
 
 
 def public_of(crate):
-    """Each public name of a crate: its item, or `None` where it is passed on from another crate."""
+    """Each public name of a crate: its item, or `None` where it is re-exported from another crate."""
     own = {}
     for path in sorted((TOP / "crates" / crate / "src").rglob("*.rt")):
         for item in items_of(path):
@@ -126,7 +127,7 @@ def page():
         if not rows:
             continue
         users = [user for user, names in passing.items() if crate != user and any(name in names for name, _ in rows)]
-        lines += ["", f"## `{crate}`" + (f", passed on by `{'` and `'.join(users)}`" if users else ""), ""]
+        lines += ["", f"## `{crate}`" + (f", re-exported by `{'` and `'.join(users)}`" if users else ""), ""]
         lines += table(rows)
         without += [f"{crate}: {name}" for name, item in rows if not item.says]
     return "\n".join(lines) + "\n", without

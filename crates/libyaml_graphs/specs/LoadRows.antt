@@ -200,7 +200,7 @@ RowNestedHoldsItself = IsLoads (list (
     ALIAS (codes "a") ∷ FlowSequenceEnd ∷ StreamEnd ∷ [])) no_more (
     implicit 18 (flow_sequence (pos 2 ∷ pos 2 ∷ []) 2 17 ∷ flow_sequence (pos 2 ∷ []) 4 11 ∷ []) ∷ no_root ∷ [])
 
--- Composer faults.
+-- Composer errors.
 abbrev pub RowUndefinedAlias : Type 0
 RowUndefinedAlias = IsLoads (list (
     STREAM ∷ FlowSequenceStart ∷ ALIAS (codes "b") ∷ FlowSequenceEnd ∷ StreamEnd ∷ [])) no_more (no_carrier 4 ∷ [])

@@ -32,7 +32,7 @@ pub record Left {S : Type 0} (known : S → Option Coming) (p : Parser S) (given
   pub all : e ≡ given ++ later
   pub to_come : RunToCome known p later x
 
--- within the run over a source: the parser gave these events since it was made
+-- amid the run over a source: the parser gave these events since it was made
 pub record Reached {S : Type 0} (gives : S → Answer → S → Type 0) (known : S → Option Coming) (source : S) (p : Parser S) (given : List Event) : Type 0 where
   pub asked : List Token
   pub history : History p asked given

@@ -14,7 +14,7 @@ use Rattle.libyaml_graphs.specs.Loads.{Load, last_load, loads}
 use Rattle.unsafe_libyaml.specs.declared.load_all.yaml_documents_t.{yaml_documents_t}
 use Rattle.unsafe_libyaml.specs.WholeRun.{Asked, StoppedBy, ending_of}
 
--- these documents, and after them the document without root or the fault
+-- these documents, and behind them the document without root or the fault
 abbrev pub as_loads : List Document → Ending → List Load
 as_loads documents ending = map (λ (d : Document). Ok d) documents ++ last_load ending ∷ []
 

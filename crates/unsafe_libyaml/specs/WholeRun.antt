@@ -14,12 +14,12 @@ use Rattle.libyaml_events.specs.sources.Parsing.{HasFailed, IsWhole, StopsShort}
 use Rattle.libyaml_grammar.specs.declared.fault.yaml_parser_t_prefix.{yaml_parser_t_prefix}
 use Rattle.unsafe_libyaml.specs.declared.parse_all.yaml_run_t.{yaml_run_t}
 
--- how a run ended, by the fault after its events
+-- how a run ended, by the fault behind its events
 abbrev pub ending_of : Option yaml_parser_t_prefix → Ending
 ending_of None = Ends
 ending_of (Some f) = Fails (fault_of f)
 
--- These events and this ending; or the source broke off after the results that it gave, by a fault that it names as possible
+-- These events and this ending; or the source broke off behind the answers that it gave, by a fault that it names as possible
 -- where it then stood, and the events are a prefix. A list never does.
 pub data RunsTo {S : Type 0} (gives : S → Answer → S → Type 0) (MayBreak : S → Fault → Type 0) (source : S) (run : yaml_run_t) (events : List Event)
     (ending : Ending) : Type 0 where

@@ -1,6 +1,6 @@
 //! YAML's parser and documents, under the names of `unsafe-libyaml`.
 //!
-//! A user names this crate alone: the crates below it are passed on.
+//! You only name this crate: it re-exports the crates below it.
 #![tactic(auto)]
 
 mod load_all;

@@ -31,7 +31,7 @@ use std::alloc::{AllocError, Global};
 pub struct yaml_documents_t {
     /// The documents in their order. Each has a root.
     pub documents: Vec<yaml_document_t>,
-    /// The fault after them, or `None` where the stream ends after the last.
+    /// The fault behind them, or `None` where the stream ends behind the last.
     pub fault: Option<yaml_parser_t_prefix>,
 }
 
@@ -48,7 +48,7 @@ pub fn yaml_parser_load_all<S: yaml_token_source_t + Drop>(
     alloc: Global,
     source: S,
 ) -> Result<yaml_documents_t, AllocError>
-    // the tokens of a tree in order give its documents' graphs, up to the first composer error
+    // the tokens of a tree in order give its documents' graphs, up to the first composer fault
     ensures of_tree { (t : Stream) (f : Fault) → in_order t ≡ true
         → S.known source ≡ Some (coming (tokens t) f)
         → IfOk result (λ all. (n : IsNested (events t))
