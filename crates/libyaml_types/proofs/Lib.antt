@@ -1,2 +1,3 @@
 mod Directives
 mod Pairs
+mod Places
