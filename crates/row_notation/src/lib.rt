@@ -36,7 +36,7 @@ pub use events::{mark, show_event, shown_event};
 pub use faults::{are_same_faults, show_end, show_fault};
 pub use fronts::{are_same_or_cut, ends_of_sources, is_front, is_front_shown, shown_end};
 pub use pieces::{EVERY_CALL, FixedWriter, LineCounter, PieceReader, PieceWriter, RepeatingReader};
-pub use readings::{Reading, shown};
+pub use readings::{Reading, is_loaded, shown};
 pub use runs::{
     first_parsed_otherwise, gives_event, is_empty, is_over, parsed, show_events, show_run,
 };

@@ -41,7 +41,7 @@ fn next_nodes<S: yaml_token_source_t>(
 
 /// Whether loads answer the fault that the parser keeps, again and again; or, where it keeps none, a document
 /// without root.
-fn is_loaded<S: yaml_token_source_t>(parser: &mut yaml_parser_t<S>) -> bool {
+pub fn is_loaded<S: yaml_token_source_t>(parser: &mut yaml_parser_t<S>) -> bool {
     let kept = *parser.prefix();
     for _ in 0..2u8 {
         let is_right = match next_nodes(parser) {

@@ -1,0 +1,128 @@
+//! Lists that are cut before each token, with each error of a source after the cut.
+
+use crate::reading::write_given;
+use crate::tables::Case;
+use crate::tokens::{end_of_lines, push_lines};
+use anyhow::Result;
+use row_notation::{are_same_faults, ends_of_sources};
+use std::alloc::Global;
+use token_lines::write_fault;
+use unsafe_libyaml::{
+    YAML_READER_ERROR, YAML_SCANNER_ERROR, yaml_list_source_t, yaml_parser_initialize,
+    yaml_parser_t_prefix, yaml_source_fault_t,
+};
+
+/// A list that is cut before a token, and the fault of its source after that.
+#[derive(Copy, Clone)]
+struct Cut {
+    tokens: usize,
+    end: yaml_source_fault_t,
+}
+
+/// What differs where a list is read call by call, whole or cut, if anything does.
+pub fn first_wrong_cut(alloc: Global, case: Case<'_>) -> Option<&'static str> {
+    let Ok((tokens, Some(end))) = end_of_lines(alloc, case.tokens) else {
+        return Some("its tokens have no end");
+    };
+    if !is_whole_right(alloc, case, Cut { tokens, end }) {
+        return Some("calls over a list give something else");
+    }
+    (!are_cuts_right(alloc, case, tokens)).then_some("a cut list gives something else")
+}
+
+/// Whether calls over all tokens, and then the lines' own fault, give exactly what is wanted.
+fn is_whole_right(alloc: Global, case: Case<'_>, whole: Cut) -> bool {
+    let mut out = Vec::new(alloc);
+    let kept = write_cut(alloc, case, whole, &mut out);
+    [
+        has_all_fields(&kept, &whole.end),
+        out.as_slice() == case.wanted.as_bytes(),
+    ] == [true; 2]
+}
+
+/// Writes what the tokens before a cut give, call by call, and returns the fault that is kept then.
+fn write_cut(
+    alloc: Global,
+    case: Case<'_>,
+    cut: Cut,
+    out: &mut Vec<u8>,
+) -> Result<yaml_parser_t_prefix> {
+    let mut tokens = Vec::new(alloc);
+    push_lines(alloc, &mut tokens, case.tokens, cut.tokens)?;
+    let mut parser = yaml_parser_initialize(alloc, yaml_list_source_t::new(tokens, cut.end));
+    write_given(alloc, &mut parser, case.given, out)
+}
+
+/// Whether a fault is that of the source in all fields, or none of a source.
+fn has_all_fields(kept: &Result<yaml_parser_t_prefix>, end: &yaml_source_fault_t) -> bool {
+    match kept {
+        Ok(kept) => are_same_faults(kept, &end.prefix()) || is_of_no_source(kept),
+        Err(_) => false,
+    }
+}
+
+/// Whether a fault is no source's, and has the offset and the value of such a fault, which no line shows.
+fn is_of_no_source(kept: &yaml_parser_t_prefix) -> bool {
+    [
+        kept.error == YAML_READER_ERROR,
+        kept.error == YAML_SCANNER_ERROR,
+        kept.problem_offset != 0,
+        kept.problem_value != 0,
+    ] == [false; 4]
+}
+
+fn are_cuts_right(alloc: Global, case: Case<'_>, tokens: usize) -> bool {
+    for end in ends_of_sources() {
+        if !are_cuts_with(alloc, case, Cut { tokens, end }) {
+            return false;
+        }
+    }
+    true
+}
+
+/// Whether the list is right with this fault after it, whole and cut before each token.
+fn are_cuts_with(alloc: Global, case: Case<'_>, whole: Cut) -> bool {
+    let mut fault = Vec::new(alloc);
+    let is_written = write_fault(&whole.end.prefix(), &mut fault).is_ok();
+    [
+        is_written,
+        is_each_right(alloc, case, whole, fault.as_slice()),
+    ] == [true; 2]
+}
+
+fn is_each_right(alloc: Global, case: Case<'_>, whole: Cut, fault: &[u8]) -> bool {
+    for tokens in 0..whole.tokens {
+        if !is_right(alloc, case, Cut { tokens, ..whole }, fault, false) {
+            return false;
+        }
+    }
+    is_right(alloc, case, whole, fault, true)
+}
+
+fn is_right(alloc: Global, case: Case<'_>, cut: Cut, fault: &[u8], is_whole: bool) -> bool {
+    let mut out = Vec::new(alloc);
+    let kept = write_cut(alloc, case, cut, &mut out);
+    [
+        has_all_fields(&kept, &cut.end),
+        ends_right(out.as_slice(), case.wanted.as_bytes(), fault, is_whole),
+    ] == [true; 2]
+}
+
+/// Whether what is given is wanted, up to the fault of the source where that comes. After the last token it
+/// comes only in place of the fault with which the lines end.
+fn ends_right(given: &[u8], wanted: &[u8], fault: &[u8], is_whole: bool) -> bool {
+    let Some(before) = given.strip_suffix(fault) else {
+        return given == wanted;
+    };
+    match wanted.strip_prefix(before) {
+        Some(rest) if is_whole => rest.starts_with(b"FAULT reader "),
+        Some(rest) => is_cut_between(before, rest),
+        None => false,
+    }
+}
+
+/// Whether the first part of a text ends where a line does, and the other begins no node's line.
+fn is_cut_between(before: &[u8], rest: &[u8]) -> bool {
+    let begins_node = rest.first().is_some_and(|byte| byte.is_ascii_digit());
+    [before.is_empty() || before.ends_with(b"\n"), !begins_node] == [true; 2]
+}

@@ -1,0 +1,120 @@
+//! Whole lists: over their lines, in pieces, and from a list of their tokens at once.
+
+use crate::tables::{Case, Given};
+use crate::tokens::push_lines;
+use anyhow::{Context, Result};
+use row_notation::{EVERY_CALL, PieceReader, PieceWriter};
+use std::alloc::Global;
+use token_lines::{
+    MAX_TOKENS, Outcome, run_events, run_nodes, write_document, write_event, write_fault,
+    write_nodes, yaml_line_source_t,
+};
+use unsafe_libyaml::{
+    yaml_document_t, yaml_documents_t, yaml_event_t, yaml_list_source_t, yaml_parser_initialize,
+    yaml_parser_load_all, yaml_parser_parse_all, yaml_parser_set_max_entries, yaml_parser_t_prefix,
+    yaml_run_t,
+};
+
+/// So many bytes are read and written at once.
+const PIECES: [usize; 5] = [1, 2, 3, 7, usize::MAX];
+
+/// Whether a run over a list's lines gives what is wanted, however the bytes are cut.
+pub fn are_given_in_pieces(alloc: Global, case: Case<'_>) -> bool {
+    for piece in PIECES {
+        if !is_given(alloc, case, piece) {
+            return false;
+        }
+    }
+    true
+}
+
+fn is_given(alloc: Global, case: Case<'_>, piece: usize) -> bool {
+    let mut writer = PieceWriter::new(alloc, piece, EVERY_CALL);
+    let ended = run(alloc, case, piece, &mut writer);
+    [
+        ended == wanted_end(case.wanted),
+        writer.written() == case.wanted.as_bytes(),
+    ] == [true; 2]
+}
+
+/// How a run ends that writes these lines.
+fn wanted_end(lines: &str) -> Outcome {
+    if lines.starts_with("FAULT ") || lines.contains("\nFAULT ") {
+        Outcome::Faulted
+    } else {
+        Outcome::Ended
+    }
+}
+
+fn run(alloc: Global, case: Case<'_>, piece: usize, writer: &mut PieceWriter) -> Outcome {
+    let reader = PieceReader::new(case.tokens.as_bytes(), piece, EVERY_CALL);
+    match case.given {
+        Given::Events => run_events(alloc, reader, writer),
+        Given::Nodes => run_nodes(alloc, reader, writer),
+        Given::NodesWithin(most) => run_within(alloc, reader, most, writer),
+    }
+}
+
+fn run_within(
+    alloc: Global,
+    reader: PieceReader<'_>,
+    most: i32,
+    writer: &mut PieceWriter,
+) -> Outcome {
+    let source = yaml_line_source_t::new(alloc, reader, MAX_TOKENS);
+    let mut parser = yaml_parser_initialize(alloc, source);
+    yaml_parser_set_max_entries(&mut parser, most.max(1));
+    write_nodes(alloc, &mut parser, writer)
+}
+
+/// Whether all that a list of the tokens gives as one value is what is wanted. None is given within a bound.
+pub fn are_given_at_once(alloc: Global, case: Case<'_>) -> bool {
+    let mut out = Vec::new(alloc);
+    let is_written = write_at_once(alloc, case, &mut out).is_ok();
+    [is_written, out.as_slice() == case.wanted.as_bytes()] == [true; 2]
+}
+
+fn write_at_once(alloc: Global, case: Case<'_>, out: &mut Vec<u8>) -> Result<()> {
+    match case.given {
+        Given::Events => {
+            let run = yaml_parser_parse_all(alloc, list_of(alloc, case.tokens)?)?;
+            write_run(alloc, &run, out)
+        }
+        Given::Nodes => {
+            let all = yaml_parser_load_all(alloc, list_of(alloc, case.tokens)?)?;
+            write_all(alloc, &all, out)
+        }
+        Given::NodesWithin(_) => {
+            out.extend_from_slice(case.wanted.as_bytes())?;
+            Ok(())
+        }
+    }
+}
+
+/// The tokens of these lines as a list, and after them the lines' own fault.
+fn list_of(alloc: Global, lines: &str) -> Result<yaml_list_source_t> {
+    let mut tokens = Vec::new(alloc);
+    let fault = push_lines(alloc, &mut tokens, lines, usize::MAX)?;
+    Ok(yaml_list_source_t::new(tokens, fault.context("lines have no end")?))
+}
+
+fn write_run(alloc: Global, run: &yaml_run_t, out: &mut Vec<u8>) -> Result<()> {
+    for event in run.events.iter() {
+        write_event(alloc, event, out)?;
+    }
+    write_end(run.fault, out)
+}
+
+fn write_all(alloc: Global, all: &yaml_documents_t, out: &mut Vec<u8>) -> Result<()> {
+    for document in all.documents.iter() {
+        write_document(alloc, document, out)?;
+    }
+    write_end(all.fault, out)
+}
+
+fn write_end(fault: Option<yaml_parser_t_prefix>, out: &mut Vec<u8>) -> Result<()> {
+    if let Some(fault) = fault {
+        write_fault(&fault, out)?;
+    }
+    Ok(())
+}

@@ -1,0 +1,100 @@
+//! Parsers between documents and after a load, and sources that have no memory.
+
+use anyhow::Result;
+use row_notation::{gives_event, mark, source_of, unless, unless_made};
+use std::alloc::Global;
+use token_lines::write_event;
+use unsafe_libyaml::{
+    YAML_MEMORY_ERROR, yaml_error_type_t, yaml_event_t, yaml_list_source_t,
+    yaml_parser_between_documents, yaml_parser_initialize, yaml_parser_load, yaml_parser_load_all,
+    yaml_parser_parse, yaml_parser_parse_all, yaml_parser_t, yaml_source_fault_t,
+};
+
+type Parser = yaml_parser_t<yaml_list_source_t>;
+
+/// Whether the parser stands between documents after the next event, if there is one.
+fn stands_between(parser: &mut Parser) -> Option<bool> {
+    gives_event(parser).then_some(yaml_parser_between_documents(parser))
+}
+
+/// Where a parser stands before the first and after each of five events.
+fn stands(parser: &mut Parser) -> [Option<bool>; 6] {
+    [
+        Some(yaml_parser_between_documents(parser)),
+        stands_between(parser),
+        stands_between(parser),
+        stands_between(parser),
+        stands_between(parser),
+        stands_between(parser),
+    ]
+}
+
+fn stands_between_documents(alloc: Global) -> Result<bool> {
+    let source = source_of(alloc, "STREAM-START SCALAR(a) STREAM-END")?;
+    let mut parser = yaml_parser_initialize(alloc, source);
+    let between = [true, true, false, false, true, true];
+    Ok(stands(&mut parser) == between.map(|between| Some(between)))
+}
+
+fn write_answer(
+    alloc: Global,
+    answer: &Result<yaml_event_t, yaml_error_type_t>,
+    line: &mut Vec<u8>,
+) -> bool {
+    match answer {
+        Ok(event) => write_event(alloc, event, line).is_ok(),
+        Err(_) => false,
+    }
+}
+
+fn writes_next_event(alloc: Global, parser: &mut Parser, line: &mut Vec<u8>) -> bool {
+    let answer = yaml_parser_parse(parser);
+    write_answer(alloc, &answer, line)
+}
+
+/// Whether this is the line of the next event, and the parser then stands in a document.
+fn goes_on(alloc: Global, parser: &mut Parser, wanted: &str) -> bool {
+    let mut line = Vec::new(alloc);
+    let is_written = writes_next_event(alloc, parser, &mut line);
+    [
+        is_written,
+        line.as_slice() == wanted.as_bytes(),
+        !yaml_parser_between_documents(parser),
+    ] == [true; 3]
+}
+
+fn goes_on_after_a_load(alloc: Global) -> Result<bool> {
+    let row = "STREAM-START TAG-DIRECTIVE(!!,p:) DOCUMENT-START TAG(!!,x) SCALAR(a) \
+        DOCUMENT-START TAG(!!,y) SCALAR(b) STREAM-END";
+    let mut parser = yaml_parser_initialize(alloc, source_of(alloc, row)?);
+    let is_loaded = yaml_parser_load(&mut parser).is_ok();
+    let wanted = "DOCUMENT-START 10:0:10 11:0:11 0 - 0\n";
+    Ok([is_loaded, goes_on(alloc, &mut parser, wanted)] == [true; 2])
+}
+
+/// A source that has no token and no memory.
+fn source_without_memory(alloc: Global) -> yaml_list_source_t {
+    let fault = yaml_source_fault_t::new(YAML_MEMORY_ERROR, None, 0, 0, mark(0), None, mark(0));
+    yaml_list_source_t::new(Vec::new(alloc), fault)
+}
+
+fn gives_nothing_at_once(alloc: Global) -> bool {
+    let run = yaml_parser_parse_all(alloc, source_without_memory(alloc)).is_err();
+    let all = yaml_parser_load_all(alloc, source_without_memory(alloc)).is_err();
+    [run, all] == [true; 2]
+}
+
+/// What is wrong with parsers.
+pub fn checks(alloc: Global) -> [Option<&'static str>; 3] {
+    [
+        unless_made(
+            stands_between_documents(alloc),
+            "a parser between documents and in one",
+        ),
+        unless_made(goes_on_after_a_load(alloc), "an event after a load"),
+        unless(
+            gives_nothing_at_once(alloc),
+            "a source without memory gives nothing at once",
+        ),
+    ]
+}
