@@ -9,13 +9,16 @@ use crate::next::Next;
 use crate::parser::{Machine, yaml_parser_t};
 use crate::pending::Pending;
 use crate::source::yaml_token_source_t;
-use libyaml_types::{ZERO_MARK, unnamed_yaml_event_t_data, yaml_error_type_t, yaml_event_t};
+use libyaml_types::{
+    ZERO_MARK, unnamed_yaml_event_t_data, yaml_error_type_t, yaml_event_t, yaml_token_t,
+};
 
 impl<S: yaml_token_source_t> Machine<S> {
     /// Takes tokens until the event is given.
     #[inline(always)]
     fn fill(
         &mut self,
+        token: &mut yaml_token_t,
         pending: &mut Pending,
         event: &mut yaml_event_t,
     ) -> Result<(), yaml_error_type_t>
@@ -29,7 +32,7 @@ impl<S: yaml_token_source_t> Machine<S> {
     {
         let mut next = Next::AtState;
         loop {
-            let token = self.next_token()?;
+            self.next_token(token)?;
             match self.step(next, token, pending, event)? {
                 Next::Given => return Ok(()),
                 wanted => next = wanted,
@@ -55,7 +58,7 @@ impl<S: yaml_token_source_t> yaml_parser_t<S> {
             };
             return Ok(());
         }
-        self.machine.fill(&mut self.pending, event)
+        self.machine.fill(&mut self.token, &mut self.pending, event)
     }
 
     /// The next event, as the machine gives it.

@@ -18,6 +18,7 @@ mod handles;
 mod stacks;
 mod tokens;
 
+use crate::parser::tokens::no_token;
 use crate::pending::Pending;
 use crate::source::yaml_token_source_t;
 use libyaml_grammar::{NO_FAULT, yaml_parser_t_prefix};
@@ -34,6 +35,9 @@ pub struct yaml_parser_t<S> {
     pub(crate) machine: Machine<S>,
     /// Lies here, and isn't made anew in each call. What it holds between calls has no meaning.
     pub(crate) pending: Pending,
+    /// The slot of the token that is looked at, in which the source makes it. What it holds between calls has
+    /// no meaning.
+    pub(crate) token: yaml_token_t,
 }
 
 impl<S> Model for yaml_parser_t<S> {
@@ -120,6 +124,7 @@ pub fn yaml_parser_initialize<S>(alloc: Global, source: S) -> yaml_parser_t<S>
             alloc,
         },
         pending: Pending::new(alloc),
+        token: no_token(),
     }
 }
 

@@ -4,7 +4,8 @@
 //! state leads to it, or else what the token before wants (`Next`). The files below begin with
 //! their productions; the numbers beneath the tokens are the functions that take these.
 //!
-//! A function that is done with its token skips it there, so that none ends holding it on some ways alone.
+//! The token lies in a slot. A function moves out of it what it keeps of the token, and the next token drops
+//! the rest.
 ghost use Rattle.std.specs.Prelude.{◌≡◌, Ok, Err, OnOk, OnErr, IfErr, true, is_some};
 ghost use Rattle.libyaml_grammar.specs.cuts.FaultTexts.{memory_fault, document_start_fault};
 ghost use Rattle.libyaml_grammar.specs.sentences.Events.{event};
@@ -33,12 +34,6 @@ use libyaml_types::{
     yaml_token_t,
 };
 
-/// Done with the token.
-///
-/// libyaml: `SKIP_TOKEN`.
-#[inline(always)]
-fn skip(token: yaml_token_t) {}
-
 /// Puts an event with these marks into `out`.
 #[inline(always)]
 fn give(
@@ -64,14 +59,14 @@ impl<S> Machine<S> {
     pub(crate) fn step(
         &mut self,
         next: Next,
-        token: yaml_token_t,
+        token: &mut yaml_token_t,
         pending: &mut Pending,
         out: &mut yaml_event_t,
     ) -> Result<Next, yaml_error_type_t>
-        ensures steps { Steps (step (wanted next pending.old) self.old.config token) self.old
+        ensures steps { Steps (step (wanted next pending.old) self.old.config token.old) self.old
             (answer result pending.new out.new) self.new }
         ensures grows { result ≡ Err yaml_error_type_t.YAML_MEMORY_ERROR
-            → may_grow (wanted next pending.old) self.old.config token.content ≡ true }
+            → may_grow (wanted next pending.old) self.old.config token.old.content ≡ true }
     {
         match next {
             Next::Given | Next::AtState => self.parse_at_state(token, pending, out),
@@ -98,20 +93,18 @@ impl<S> Machine<S> {
     #[inline(always)]
     fn parse_at_state(
         &mut self,
-        token: yaml_token_t,
+        token: &mut yaml_token_t,
         pending: &mut Pending,
         out: &mut yaml_event_t,
     ) -> Result<Next, yaml_error_type_t>
-        ensures steps { Steps (at_state self.old.config.state self.old.config token token.content) self.old
-            (answer result pending.new out.new) self.new }
+        ensures steps { Steps (at_state self.old.config.state self.old.config token.old token.old.content)
+            self.old (answer result pending.new out.new) self.new }
         ensures grows { result ≡ Err yaml_error_type_t.YAML_MEMORY_ERROR
-            → may_grow_at self.old.config.state self.old.config token.content ≡ true }
+            → may_grow_at self.old.config.state self.old.config token.old.content ≡ true }
     {
         match self.state() {
             yaml_parser_state_t::YAML_PARSE_STREAM_START_STATE => {
-                let led = self.parse_stream_start(&token, pending, out);
-                skip(token);
-                led
+                self.parse_stream_start(token, pending, out)
             }
             yaml_parser_state_t::YAML_PARSE_IMPLICIT_DOCUMENT_START_STATE => {
                 self.parse_implicit_document_start(token, pending, out)
@@ -139,9 +132,7 @@ impl<S> Machine<S> {
                 self.parse_first_block_sequence_entry(token, pending, out)
             }
             yaml_parser_state_t::YAML_PARSE_BLOCK_SEQUENCE_ENTRY_STATE => {
-                let led = self.parse_block_sequence_entry(&token, pending, out);
-                skip(token);
-                led
+                self.parse_block_sequence_entry(token, pending, out)
             }
             yaml_parser_state_t::YAML_PARSE_INDENTLESS_SEQUENCE_ENTRY_STATE => {
                 self.parse_indentless_sequence_entry(token, pending, out)
@@ -159,9 +150,7 @@ impl<S> Machine<S> {
                 self.parse_first_flow_sequence_entry(token, pending, out)
             }
             yaml_parser_state_t::YAML_PARSE_FLOW_SEQUENCE_ENTRY_STATE => {
-                let led = self.parse_flow_sequence_entry(&token, pending, out);
-                skip(token);
-                led
+                self.parse_flow_sequence_entry(token, pending, out)
             }
             yaml_parser_state_t::YAML_PARSE_FLOW_SEQUENCE_ENTRY_MAPPING_KEY_STATE => {
                 self.parse_slot(Slot::PairKey, token, pending, out)
@@ -177,9 +166,7 @@ impl<S> Machine<S> {
                 self.parse_first_flow_mapping_key(token, pending, out)
             }
             yaml_parser_state_t::YAML_PARSE_FLOW_MAPPING_KEY_STATE => {
-                let led = self.parse_flow_mapping_key(&token, pending, out);
-                skip(token);
-                led
+                self.parse_flow_mapping_key(token, pending, out)
             }
             yaml_parser_state_t::YAML_PARSE_FLOW_MAPPING_VALUE_STATE => {
                 self.parse_flow_mapping_value(token, pending, out)
@@ -196,11 +183,11 @@ impl<S> Machine<S> {
     #[cold]
     fn parse_at_end(
         &mut self,
-        token: yaml_token_t,
+        token: &yaml_token_t,
         pending: &mut Pending,
         out: &mut yaml_event_t,
     ) -> Result<Next, yaml_error_type_t>
-        ensures steps { Steps (Err (document_start_fault token.start_mark)) self.old
+        ensures steps { Steps (Err (document_start_fault token.now.start_mark)) self.old
             (answer result pending.new out.new) self.new }
         ensures error { IfErr result (λ e. e ≡ yaml_error_type_t.YAML_PARSER_ERROR) }
     {
@@ -212,20 +199,21 @@ impl<S> Machine<S> {
     fn parse_slot(
         &mut self,
         slot: Slot,
-        token: yaml_token_t,
+        token: &mut yaml_token_t,
         pending: &mut Pending,
         out: &mut yaml_event_t,
     ) -> Result<Next, yaml_error_type_t>
-        ensures steps { Steps (at_slot slot pending.old.mark self.old.config token token.content) self.old
-            (answer result pending.new out.new) self.new }
-        ensures grows { result ≡ Err yaml_error_type_t.YAML_MEMORY_ERROR → enters slot token.content ≡ true }
+        ensures steps { Steps (at_slot slot pending.old.mark self.old.config token.old token.old.content)
+            self.old (answer result pending.new out.new) self.new }
+        ensures grows { result ≡ Err yaml_error_type_t.YAML_MEMORY_ERROR
+            → enters slot token.old.content ≡ true }
     {
         if slot.is_nothing_before(&token.content) {
             match slot.state_behind() {
                 Some(state) => self.set_state(state),
                 None => self.pop_state(),
             }
-            self.process_empty_scalar(slot.empty_mark(pending, &token), token, out);
+            self.process_empty_scalar(slot.empty_mark(pending, token), token, out);
             return Ok(Next::Given);
         }
         self.push_state_behind(slot)?;
@@ -253,10 +241,10 @@ impl<S> Machine<S> {
     fn process_empty_scalar(
         &mut self,
         mark: yaml_mark_t,
-        token: yaml_token_t,
+        token: &mut yaml_token_t,
         out: &mut yaml_event_t,
     )
-        ensures { Steps (process_empty_scalar mark token self.old.config) self.old (Ok (Given out.new))
+        ensures { Steps (process_empty_scalar mark token.old self.old.config) self.old (Ok (Given out.new))
             self.new }
     {
         self.keep(token);

@@ -41,7 +41,7 @@ ghost use Rattle.libyaml_events.specs.machine.Answers.{answer};
 use crate::next::Next;
 use crate::parser::Machine;
 use crate::pending::Pending;
-use crate::states::{give, skip};
+use crate::states::give;
 use libyaml_types::{
     unnamed_yaml_event_t_data, unnamed_yaml_token_t_data, yaml_error_type_t, yaml_event_t,
     yaml_parser_state_t, yaml_token_t,
@@ -51,15 +51,14 @@ impl<S> Machine<S> {
     /// At BLOCK-SEQUENCE-START, whose start is kept.
     pub(super) fn parse_first_block_sequence_entry(
         &mut self,
-        token: yaml_token_t,
+        token: &yaml_token_t,
         pending: &mut Pending,
         out: &mut yaml_event_t,
     ) -> Result<Next, yaml_error_type_t>
-        ensures { Steps (first_block_sequence_entry self.old.config token) self.old
+        ensures { Steps (first_block_sequence_entry self.old.config token.now) self.old
             (answer result pending.new out.new) self.new }
     {
         let start_mark = token.start_mark;
-        skip(token);
         self.open(
             start_mark,
             yaml_parser_state_t::YAML_PARSE_BLOCK_SEQUENCE_ENTRY_STATE,
@@ -100,18 +99,17 @@ impl<S> Machine<S> {
 
     pub(super) fn parse_indentless_sequence_entry(
         &mut self,
-        token: yaml_token_t,
+        token: &mut yaml_token_t,
         pending: &mut Pending,
         out: &mut yaml_event_t,
     ) -> Result<Next, yaml_error_type_t>
-        ensures steps { Steps (parse_indentless_sequence_entry self.old.config token token.content) self.old
-            (answer result pending.new out.new) self.new }
+        ensures steps { Steps (parse_indentless_sequence_entry self.old.config token.old token.old.content)
+            self.old (answer result pending.new out.new) self.new }
         ensures error { IfErr result (λ e. e ≡ yaml_error_type_t.YAML_PARSER_ERROR) }
     {
         match token.content {
             unnamed_yaml_token_t_data::BlockEntry => {
                 pending.mark = token.end_mark;
-                skip(token);
                 Ok(Next::BehindIndentlessEntry)
             }
             _ => {
@@ -127,15 +125,14 @@ impl<S> Machine<S> {
     /// At BLOCK-MAPPING-START, whose start is kept.
     pub(super) fn parse_first_block_mapping_key(
         &mut self,
-        token: yaml_token_t,
+        token: &yaml_token_t,
         pending: &mut Pending,
         out: &mut yaml_event_t,
     ) -> Result<Next, yaml_error_type_t>
-        ensures { Steps (first_block_mapping_key self.old.config token) self.old
+        ensures { Steps (first_block_mapping_key self.old.config token.now) self.old
             (answer result pending.new out.new) self.new }
     {
         let start_mark = token.start_mark;
-        skip(token);
         self.open(
             start_mark,
             yaml_parser_state_t::YAML_PARSE_BLOCK_MAPPING_KEY_STATE,
@@ -146,18 +143,17 @@ impl<S> Machine<S> {
     /// An entry that begins with VALUE has an empty key.
     pub(super) fn parse_block_mapping_key(
         &mut self,
-        token: yaml_token_t,
+        token: &mut yaml_token_t,
         pending: &mut Pending,
         out: &mut yaml_event_t,
     ) -> Result<Next, yaml_error_type_t>
-        ensures steps { Steps (parse_block_mapping_key self.old.config token token.content) self.old
+        ensures steps { Steps (parse_block_mapping_key self.old.config token.old token.old.content) self.old
             (answer result pending.new out.new) self.new }
         ensures error { IfErr result (λ e. e ≡ yaml_error_type_t.YAML_PARSER_ERROR) }
     {
         match token.content {
             unnamed_yaml_token_t_data::Key => {
                 pending.mark = token.end_mark;
-                skip(token);
                 Ok(Next::BehindKey)
             }
             unnamed_yaml_token_t_data::Value => {
@@ -166,13 +162,11 @@ impl<S> Machine<S> {
                 Ok(Next::Given)
             }
             unnamed_yaml_token_t_data::BlockEnd => {
-                self.close(unnamed_yaml_event_t_data::MappingEnd, &token, out);
-                skip(token);
+                self.close(unnamed_yaml_event_t_data::MappingEnd, token, out);
                 Ok(Next::Given)
             }
             _ => {
                 let mark = token.start_mark;
-                skip(token);
                 let opened = self.pop_mark();
                 Err(self.set_parser_error_context(
                     "while parsing a block mapping",
@@ -187,18 +181,17 @@ impl<S> Machine<S> {
     /// Where no VALUE comes, the value is empty.
     pub(super) fn parse_block_mapping_value(
         &mut self,
-        token: yaml_token_t,
+        token: &mut yaml_token_t,
         pending: &mut Pending,
         out: &mut yaml_event_t,
     ) -> Result<Next, yaml_error_type_t>
-        ensures steps { Steps (parse_block_mapping_value self.old.config token token.content) self.old
+        ensures steps { Steps (parse_block_mapping_value self.old.config token.old token.old.content) self.old
             (answer result pending.new out.new) self.new }
         ensures error { IfErr result (λ e. e ≡ yaml_error_type_t.YAML_PARSER_ERROR) }
     {
         match token.content {
             unnamed_yaml_token_t_data::Value => {
                 pending.mark = token.end_mark;
-                skip(token);
                 Ok(Next::BehindValue)
             }
             _ => {

@@ -42,13 +42,12 @@ ghost use Rattle.std.specs.FinMap.{get};
 use crate::next::Next;
 use crate::parser::Machine;
 use crate::pending::{DirectivesRead, Pending};
-use crate::states::{give, skip};
+use crate::states::give;
 use libyaml_types::{
     unnamed_yaml_event_t_data, unnamed_yaml_event_t_data_document_end,
     unnamed_yaml_event_t_data_document_start, unnamed_yaml_event_t_data_stream_start,
-    unnamed_yaml_token_t_data, unnamed_yaml_token_t_data_tag_directive, yaml_error_type_t,
-    yaml_event_t, yaml_mark_t, yaml_parser_state_t, yaml_tag_directive_t, yaml_token_t,
-    yaml_version_directive_t,
+    unnamed_yaml_token_t_data, yaml_error_type_t, yaml_event_t, yaml_mark_t, yaml_parser_state_t,
+    yaml_tag_directive_t, yaml_token_t, yaml_version_directive_t,
 };
 use std::mem;
 
@@ -97,12 +96,12 @@ impl<S> Machine<S> {
     /// A document without DOCUMENT-START, at its first token.
     fn begin_implicit_document(
         &mut self,
-        token: yaml_token_t,
+        token: &mut yaml_token_t,
         pending: &mut Pending,
         out: &mut yaml_event_t,
     ) -> Result<Next, yaml_error_type_t>
-        ensures { Steps (implicit_document self.old.config token) self.old (answer result pending.new out.new)
-            self.new }
+        ensures { Steps (implicit_document self.old.config token.old) self.old
+            (answer result pending.new out.new) self.new }
     {
         self.begin_document(yaml_parser_state_t::YAML_PARSE_BLOCK_NODE_STATE)?;
         let mark = token.start_mark;
@@ -169,17 +168,17 @@ impl<S> Machine<S> {
     /// libyaml: `yaml_parser_process_directives`.
     pub(super) fn parse_explicit_document(
         &mut self,
-        token: yaml_token_t,
+        token: &mut yaml_token_t,
         pending: &mut Pending,
         out: &mut yaml_event_t,
     ) -> Result<Next, yaml_error_type_t>
-        ensures steps { Steps (explicit_document pending.old.directives self.old.config token token.content)
-            self.old (answer result pending.new out.new) self.new }
+        ensures steps { Steps (explicit_document pending.old.directives self.old.config token.old
+            token.old.content) self.old (answer result pending.new out.new) self.new }
         ensures grows { result ≡ Err yaml_error_type_t.YAML_MEMORY_ERROR
-            → grows_at_directive token.content ≡ true }
+            → grows_at_directive token.old.content ≡ true }
     {
         let mark = token.start_mark;
-        match token.content {
+        match &mut token.content {
             unnamed_yaml_token_t_data::VersionDirective(version) => {
                 let version = yaml_version_directive_t {
                     major: version.major,
@@ -188,8 +187,10 @@ impl<S> Machine<S> {
                 self.process_version_directive(version, mark, pending, out)
             }
             unnamed_yaml_token_t_data::TagDirective(directive) => {
-                let unnamed_yaml_token_t_data_tag_directive { handle, prefix } = directive;
-                let directive = yaml_tag_directive_t { handle, prefix };
+                let directive = yaml_tag_directive_t {
+                    handle: mem::replace(&mut directive.handle, String::new(self.allocator())),
+                    prefix: mem::replace(&mut directive.prefix, String::new(self.allocator())),
+                };
                 self.process_tag_directive(directive, mark, pending, out)
             }
             unnamed_yaml_token_t_data::DocumentStart => {
@@ -226,14 +227,14 @@ impl<S> Machine<S> {
     /// A document with DOCUMENT-START, at its first token.
     fn begin_explicit_document(
         &mut self,
-        token: yaml_token_t,
+        token: &mut yaml_token_t,
         pending: &mut Pending,
         out: &mut yaml_event_t,
     ) -> Result<Next, yaml_error_type_t>
-        ensures steps { Steps (explicit_document (no_directives token.start_mark) self.old.config token
-            token.content) self.old (answer result pending.new out.new) self.new }
+        ensures steps { Steps (explicit_document (no_directives token.old.start_mark) self.old.config
+            token.old token.old.content) self.old (answer result pending.new out.new) self.new }
         ensures grows { result ≡ Err yaml_error_type_t.YAML_MEMORY_ERROR
-            → grows_at_directive token.content ≡ true }
+            → grows_at_directive token.old.content ≡ true }
     {
         pending.directives = self.no_directives(token.start_mark);
         self.parse_explicit_document(token, pending, out)
@@ -255,19 +256,18 @@ impl<S> Machine<S> {
     /// DOCUMENT-END is skipped.
     pub(super) fn parse_implicit_document_start(
         &mut self,
-        token: yaml_token_t,
+        token: &mut yaml_token_t,
         pending: &mut Pending,
         out: &mut yaml_event_t,
     ) -> Result<Next, yaml_error_type_t>
-        ensures steps { Steps (parse_implicit_document_start self.old.config token token.content) self.old
-            (answer result pending.new out.new) self.new }
+        ensures steps { Steps (parse_implicit_document_start self.old.config token.old token.old.content)
+            self.old (answer result pending.new out.new) self.new }
         ensures grows { result ≡ Err yaml_error_type_t.YAML_MEMORY_ERROR
-            → grows_at_document self.old.config.behind_document_end token.content ≡ true }
+            → grows_at_document self.old.config.behind_document_end token.old.content ≡ true }
     {
         match token.content {
             unnamed_yaml_token_t_data::StreamEnd => {
-                self.end_stream(&token, out);
-                skip(token);
+                self.end_stream(token, out);
                 Ok(Next::Given)
             }
             unnamed_yaml_token_t_data::VersionDirective(_)
@@ -277,7 +277,6 @@ impl<S> Machine<S> {
             ),
             unnamed_yaml_token_t_data::DocumentEnd => {
                 if self.behind_document_end() {
-                    skip(token);
                     Ok(Next::AtState)
                 } else {
                     self.begin_implicit_document(token, pending, out)
@@ -290,19 +289,18 @@ impl<S> Machine<S> {
     /// Where a document must be explicit: behind one that no DOCUMENT-END ends.
     pub(super) fn parse_document_start(
         &mut self,
-        token: yaml_token_t,
+        token: &mut yaml_token_t,
         pending: &mut Pending,
         out: &mut yaml_event_t,
     ) -> Result<Next, yaml_error_type_t>
-        ensures steps { Steps (parse_document_start self.old.config token token.content) self.old
+        ensures steps { Steps (parse_document_start self.old.config token.old token.old.content) self.old
             (answer result pending.new out.new) self.new }
         ensures grows { result ≡ Err yaml_error_type_t.YAML_MEMORY_ERROR
-            → grows_at_directive token.content ≡ true }
+            → grows_at_directive token.old.content ≡ true }
     {
         match token.content {
             unnamed_yaml_token_t_data::StreamEnd => {
-                self.end_stream(&token, out);
-                skip(token);
+                self.end_stream(token, out);
                 Ok(Next::Given)
             }
             _ => self.begin_explicit_document(token, pending, out),
@@ -318,9 +316,9 @@ impl<S> Machine<S> {
         self.set_behind_document_end(behind_document_end);
     }
 
-    pub(super) fn parse_document_end(&mut self, token: yaml_token_t, out: &mut yaml_event_t)
-        ensures { Steps (parse_document_end self.old.config token token.content) self.old (Ok (Given out.new))
-            self.new }
+    pub(super) fn parse_document_end(&mut self, token: &mut yaml_token_t, out: &mut yaml_event_t)
+        ensures { Steps (parse_document_end self.old.config token.old token.old.content) self.old
+            (Ok (Given out.new)) self.new }
     {
         match token.content {
             unnamed_yaml_token_t_data::DocumentEnd => {

@@ -58,8 +58,8 @@ use crate::next::Next;
 use crate::node_place::NodePlace;
 use crate::parser::Machine;
 use crate::pending::Pending;
+use crate::states::give;
 use crate::states::nodes::mapping_start;
-use crate::states::{give, skip};
 use libyaml_types::{
     unnamed_yaml_event_t_data, unnamed_yaml_token_t_data, yaml_error_type_t, yaml_event_t,
     yaml_mapping_style_t, yaml_parser_state_t, yaml_token_t,
@@ -69,15 +69,14 @@ impl<S> Machine<S> {
     /// At FLOW-SEQUENCE-START, whose start is kept.
     pub(super) fn parse_first_flow_sequence_entry(
         &mut self,
-        token: yaml_token_t,
+        token: &yaml_token_t,
         pending: &mut Pending,
         out: &mut yaml_event_t,
     ) -> Result<Next, yaml_error_type_t>
-        ensures { Steps (first_flow_sequence_entry self.old.config token) self.old
+        ensures { Steps (first_flow_sequence_entry self.old.config token.now) self.old
             (answer result pending.new out.new) self.new }
     {
         let start_mark = token.start_mark;
-        skip(token);
         self.open(
             start_mark,
             yaml_parser_state_t::YAML_PARSE_FLOW_SEQUENCE_ENTRY_STATE,
@@ -117,19 +116,18 @@ impl<S> Machine<S> {
     /// the end.
     pub(super) fn parse_behind_flow_sequence_entry(
         &mut self,
-        token: yaml_token_t,
+        token: &mut yaml_token_t,
         pending: &mut Pending,
         out: &mut yaml_event_t,
     ) -> Result<Next, yaml_error_type_t>
-        ensures steps { Steps (behind_flow_sequence_entry self.old.config token token.content) self.old
-            (answer result pending.new out.new) self.new }
+        ensures steps { Steps (behind_flow_sequence_entry self.old.config token.old token.old.content)
+            self.old (answer result pending.new out.new) self.new }
         ensures grows { result ≡ Err yaml_error_type_t.YAML_MEMORY_ERROR
-            → enters_sequence_entry token.content ≡ true }
+            → enters_sequence_entry token.old.content ≡ true }
     {
         match token.content {
             unnamed_yaml_token_t_data::FlowSequenceEnd => {
-                self.close(unnamed_yaml_event_t_data::SequenceEnd, &token, out);
-                skip(token);
+                self.close(unnamed_yaml_event_t_data::SequenceEnd, token, out);
                 Ok(Next::Given)
             }
             unnamed_yaml_token_t_data::Key => {
@@ -142,7 +140,6 @@ impl<S> Machine<S> {
                     yaml_mapping_style_t::YAML_FLOW_MAPPING_STYLE,
                 );
                 give(out, event, token.start_mark, token.end_mark);
-                skip(token);
                 Ok(Next::Given)
             }
             _ => {
@@ -154,19 +151,16 @@ impl<S> Machine<S> {
 
     pub(super) fn parse_flow_sequence_entry_mapping_value(
         &mut self,
-        token: yaml_token_t,
+        token: &mut yaml_token_t,
         pending: &mut Pending,
         out: &mut yaml_event_t,
     ) -> Result<Next, yaml_error_type_t>
-        ensures steps { Steps (parse_flow_sequence_entry_mapping_value self.old.config token token.content)
-            self.old (answer result pending.new out.new) self.new }
+        ensures steps { Steps (parse_flow_sequence_entry_mapping_value self.old.config token.old
+            token.old.content) self.old (answer result pending.new out.new) self.new }
         ensures error { IfErr result (λ e. e ≡ yaml_error_type_t.YAML_PARSER_ERROR) }
     {
         match token.content {
-            unnamed_yaml_token_t_data::Value => {
-                skip(token);
-                Ok(Next::BehindFlowSequenceValue)
-            }
+            unnamed_yaml_token_t_data::Value => { Ok(Next::BehindFlowSequenceValue) }
             _ => {
                 self.set_state(
                     yaml_parser_state_t::YAML_PARSE_FLOW_SEQUENCE_ENTRY_MAPPING_END_STATE,
@@ -180,10 +174,10 @@ impl<S> Machine<S> {
     /// Behind a pair.
     pub(super) fn parse_flow_sequence_entry_mapping_end(
         &mut self,
-        token: yaml_token_t,
+        token: &mut yaml_token_t,
         out: &mut yaml_event_t,
     )
-        ensures { Steps (parse_flow_sequence_entry_mapping_end self.old.config token) self.old
+        ensures { Steps (parse_flow_sequence_entry_mapping_end self.old.config token.old) self.old
             (Ok (Given out.new)) self.new }
     {
         self.set_state(yaml_parser_state_t::YAML_PARSE_FLOW_SEQUENCE_ENTRY_STATE);
@@ -195,15 +189,14 @@ impl<S> Machine<S> {
     /// At FLOW-MAPPING-START, whose start is kept.
     pub(super) fn parse_first_flow_mapping_key(
         &mut self,
-        token: yaml_token_t,
+        token: &yaml_token_t,
         pending: &mut Pending,
         out: &mut yaml_event_t,
     ) -> Result<Next, yaml_error_type_t>
-        ensures { Steps (first_flow_mapping_key self.old.config token) self.old
+        ensures { Steps (first_flow_mapping_key self.old.config token.now) self.old
             (answer result pending.new out.new) self.new }
     {
         let start_mark = token.start_mark;
-        skip(token);
         self.open(
             start_mark,
             yaml_parser_state_t::YAML_PARSE_FLOW_MAPPING_KEY_STATE,
@@ -242,25 +235,21 @@ impl<S> Machine<S> {
     /// Behind FLOW-MAPPING-START or FLOW-ENTRY: an entry, or the end.
     pub(super) fn parse_behind_flow_mapping_entry(
         &mut self,
-        token: yaml_token_t,
+        token: &mut yaml_token_t,
         pending: &mut Pending,
         out: &mut yaml_event_t,
     ) -> Result<Next, yaml_error_type_t>
-        ensures steps { Steps (behind_flow_mapping_entry self.old.config token token.content) self.old
+        ensures steps { Steps (behind_flow_mapping_entry self.old.config token.old token.old.content) self.old
             (answer result pending.new out.new) self.new }
         ensures grows { result ≡ Err yaml_error_type_t.YAML_MEMORY_ERROR
-            → enters_mapping_entry token.content ≡ true }
+            → enters_mapping_entry token.old.content ≡ true }
     {
         match token.content {
             unnamed_yaml_token_t_data::FlowMappingEnd => {
-                self.close(unnamed_yaml_event_t_data::MappingEnd, &token, out);
-                skip(token);
+                self.close(unnamed_yaml_event_t_data::MappingEnd, token, out);
                 Ok(Next::Given)
             }
-            unnamed_yaml_token_t_data::Key => {
-                skip(token);
-                Ok(Next::BehindFlowMappingKey)
-            }
+            unnamed_yaml_token_t_data::Key => { Ok(Next::BehindFlowMappingKey) }
             _ => {
                 self.push_state(yaml_parser_state_t::YAML_PARSE_FLOW_MAPPING_EMPTY_VALUE_STATE)?;
                 self.parse_node(NodePlace::Flow, token, pending, out)
@@ -271,19 +260,16 @@ impl<S> Machine<S> {
     /// Where no VALUE comes, the value is empty.
     pub(super) fn parse_flow_mapping_value(
         &mut self,
-        token: yaml_token_t,
+        token: &mut yaml_token_t,
         pending: &mut Pending,
         out: &mut yaml_event_t,
     ) -> Result<Next, yaml_error_type_t>
-        ensures steps { Steps (parse_flow_mapping_value self.old.config token token.content) self.old
+        ensures steps { Steps (parse_flow_mapping_value self.old.config token.old token.old.content) self.old
             (answer result pending.new out.new) self.new }
         ensures error { IfErr result (λ e. e ≡ yaml_error_type_t.YAML_PARSER_ERROR) }
     {
         match token.content {
-            unnamed_yaml_token_t_data::Value => {
-                skip(token);
-                Ok(Next::BehindFlowMappingValue)
-            }
+            unnamed_yaml_token_t_data::Value => { Ok(Next::BehindFlowMappingValue) }
             _ => {
                 self.set_state(yaml_parser_state_t::YAML_PARSE_FLOW_MAPPING_KEY_STATE);
                 self.process_empty_scalar(token.start_mark, token, out);
@@ -295,11 +281,11 @@ impl<S> Machine<S> {
     /// Behind an entry without KEY: its value is empty.
     pub(super) fn parse_flow_mapping_empty_value(
         &mut self,
-        token: yaml_token_t,
+        token: &mut yaml_token_t,
         out: &mut yaml_event_t,
     )
-        ensures { Steps (parse_flow_mapping_empty_value self.old.config token) self.old (Ok (Given out.new))
-            self.new }
+        ensures { Steps (parse_flow_mapping_empty_value self.old.config token.old) self.old
+            (Ok (Given out.new)) self.new }
     {
         self.set_state(yaml_parser_state_t::YAML_PARSE_FLOW_MAPPING_KEY_STATE);
         self.process_empty_scalar(token.start_mark, token, out);

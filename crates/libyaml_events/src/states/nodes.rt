@@ -42,9 +42,12 @@ use libyaml_types::{
     unnamed_yaml_event_t_data, unnamed_yaml_event_t_data_alias,
     unnamed_yaml_event_t_data_mapping_start, unnamed_yaml_event_t_data_scalar,
     unnamed_yaml_event_t_data_sequence_start, unnamed_yaml_token_t_data,
-    unnamed_yaml_token_t_data_scalar, yaml_error_type_t, yaml_event_t, yaml_mapping_style_t,
-    yaml_mark_t, yaml_parser_state_t, yaml_scalar_style_t, yaml_sequence_style_t, yaml_token_t,
+    unnamed_yaml_token_t_data_scalar, unnamed_yaml_token_t_data_tag, yaml_error_type_t,
+    yaml_event_t, yaml_mapping_style_t, yaml_mark_t, yaml_parser_state_t, yaml_scalar_style_t,
+    yaml_sequence_style_t, yaml_token_t,
 };
+use std::alloc::Global;
+use std::mem;
 
 /// A kind of collection, and its style.
 #[derive(Copy, Clone)]
@@ -148,30 +151,91 @@ pub(super) fn mapping_start(
     })
 }
 
+/// The tag of a token that begins at `mark`, moved out of it.
+fn tag_read(alloc: Global, tag: &mut unnamed_yaml_token_t_data_tag, mark: yaml_mark_t) -> TagRead
+    ensures { result ≡ record { handle = tag.old.handle; suffix = tag.old.suffix; mark = mark } }
+{
+    TagRead {
+        handle: mem::replace(&mut tag.handle, String::new(alloc)),
+        suffix: mem::replace(&mut tag.suffix, String::new(alloc)),
+        mark,
+    }
+}
+
 impl<S> Machine<S> {
     /// A node at its first token, where it may not be empty.
+    #[inline(always)]
     pub(super) fn parse_node(
         &mut self,
         place: NodePlace,
-        token: yaml_token_t,
+        token: &mut yaml_token_t,
         pending: &mut Pending,
         out: &mut yaml_event_t,
     ) -> Result<Next, yaml_error_type_t>
-        ensures steps { Steps (parse_node place self.old.config token token.content) self.old
+        ensures steps { Steps (parse_node place self.old.config token.old token.old.content) self.old
+            (answer result pending.new out.new) self.new }
+        ensures error { IfErr result (λ e. e ≡ yaml_error_type_t.YAML_PARSER_ERROR) }
+    {
+        match &mut token.content {
+            unnamed_yaml_token_t_data::Scalar(scalar) => {
+                self.bare_scalar(scalar, &token.start_mark, &token.end_mark, out);
+                Ok(Next::Given)
+            }
+            _ => self.parse_other_node(place, token, pending, out),
+        }
+    }
+
+    /// A scalar without properties, which most nodes are.
+    #[inline(never)]
+    fn bare_scalar(
+        &mut self,
+        content: &mut unnamed_yaml_token_t_data_scalar,
+        start_mark: &yaml_mark_t,
+        end_mark: &yaml_mark_t,
+        out: &mut yaml_event_t,
+    )
+        ensures { Steps (scalar_content
+            (record { anchor = None; tag = None; start_mark = start_mark.now; end_mark = end_mark.now })
+            self.old.config content.old end_mark.now) self.old (Ok (Given out.new)) self.new }
+    {
+        self.pop_state();
+        let plain_implicit = is_plain(content.style);
+        let event = unnamed_yaml_event_t_data_scalar {
+            anchor: None,
+            tag: None,
+            value: mem::replace(&mut content.value, String::new(self.allocator())),
+            plain_implicit,
+            quoted_implicit: !plain_implicit,
+            style: content.style,
+        };
+        give(
+            out,
+            unnamed_yaml_event_t_data::Scalar(event),
+            *start_mark,
+            *end_mark,
+        );
+    }
+
+    /// A node at its first token, which may be any.
+    #[inline(never)]
+    fn parse_other_node(
+        &mut self,
+        place: NodePlace,
+        token: &mut yaml_token_t,
+        pending: &mut Pending,
+        out: &mut yaml_event_t,
+    ) -> Result<Next, yaml_error_type_t>
+        ensures steps { Steps (parse_node place self.old.config token.old token.old.content) self.old
             (answer result pending.new out.new) self.new }
         ensures error { IfErr result (λ e. e ≡ yaml_error_type_t.YAML_PARSER_ERROR) }
     {
         let start_mark = token.start_mark;
         let end_mark = token.end_mark;
-        match token.content {
-            unnamed_yaml_token_t_data::Scalar(scalar) => {
-                self.bare_scalar(scalar, start_mark, end_mark, out);
-                Ok(Next::Given)
-            }
+        match &mut token.content {
             unnamed_yaml_token_t_data::Alias(alias) => {
                 self.pop_state();
                 let event = unnamed_yaml_event_t_data_alias {
-                    anchor: alias.value,
+                    anchor: mem::replace(&mut alias.value, String::new(self.allocator())),
                 };
                 give(
                     out,
@@ -182,9 +246,10 @@ impl<S> Machine<S> {
                 Ok(Next::Given)
             }
             unnamed_yaml_token_t_data::Anchor(anchor) => {
+                let anchor = mem::replace(&mut anchor.value, String::new(self.allocator()));
                 pending.place = place;
                 pending.properties = PropertiesRead {
-                    anchor: Some(anchor.value),
+                    anchor: Some(anchor),
                     tag: None,
                     start_mark,
                     end_mark,
@@ -195,11 +260,7 @@ impl<S> Machine<S> {
                 pending.place = place;
                 pending.properties = PropertiesRead {
                     anchor: None,
-                    tag: Some(TagRead {
-                        handle: tag.handle,
-                        suffix: tag.suffix,
-                        mark: start_mark,
-                    }),
+                    tag: Some(tag_read(self.allocator(), tag, start_mark)),
                     start_mark,
                     end_mark,
                 };
@@ -218,63 +279,29 @@ impl<S> Machine<S> {
         }
     }
 
-    /// A scalar without properties, which most nodes are.
-    #[inline(always)]
-    fn bare_scalar(
-        &mut self,
-        content: unnamed_yaml_token_t_data_scalar,
-        start_mark: yaml_mark_t,
-        end_mark: yaml_mark_t,
-        out: &mut yaml_event_t,
-    )
-        ensures { Steps (scalar_content
-            (record { anchor = None; tag = None; start_mark = start_mark; end_mark = end_mark })
-            self.old.config content end_mark) self.old (Ok (Given out.new)) self.new }
-    {
-        self.pop_state();
-        let plain_implicit = is_plain(content.style);
-        let event = unnamed_yaml_event_t_data_scalar {
-            anchor: None,
-            tag: None,
-            value: content.value,
-            plain_implicit,
-            quoted_implicit: !plain_implicit,
-            style: content.style,
-        };
-        give(
-            out,
-            unnamed_yaml_event_t_data::Scalar(event),
-            start_mark,
-            end_mark,
-        );
-    }
-
     /// Behind properties: the other one, or what the node is.
     pub(super) fn parse_behind_properties(
         &mut self,
-        token: yaml_token_t,
+        token: &mut yaml_token_t,
         pending: &mut Pending,
         out: &mut yaml_event_t,
     ) -> Result<Next, yaml_error_type_t>
         ensures steps { Steps (behind_properties pending.old.place pending.old.properties self.old.config
-            token token.content) self.old (answer result pending.new out.new) self.new }
+            token.old token.old.content) self.old (answer result pending.new out.new) self.new }
         ensures grows { result ≡ Err yaml_error_type_t.YAML_MEMORY_ERROR
-            → joins_before pending.old.properties self.old.config.handles token.content ≡ true }
+            → joins_before pending.old.properties self.old.config.handles token.old.content ≡ true }
     {
         let start_mark = token.start_mark;
         let end_mark = token.end_mark;
-        match token.content {
+        match &mut token.content {
             unnamed_yaml_token_t_data::Anchor(anchor) if pending.properties.anchor.is_none() => {
-                pending.properties.anchor = Some(anchor.value);
+                let anchor = mem::replace(&mut anchor.value, String::new(self.allocator()));
+                pending.properties.anchor = Some(anchor);
                 pending.properties.end_mark = end_mark;
                 Ok(Next::BehindProperties)
             }
             unnamed_yaml_token_t_data::Tag(tag) if pending.properties.tag.is_none() => {
-                pending.properties.tag = Some(TagRead {
-                    handle: tag.handle,
-                    suffix: tag.suffix,
-                    mark: start_mark,
-                });
+                pending.properties.tag = Some(tag_read(self.allocator(), tag, start_mark));
                 pending.properties.end_mark = end_mark;
                 Ok(Next::BehindProperties)
             }
@@ -288,13 +315,13 @@ impl<S> Machine<S> {
     /// What the node is, behind its properties. A handle that is not defined is found here.
     fn parse_content_behind(
         &mut self,
-        token: yaml_token_t,
+        token: &mut yaml_token_t,
         pending: &mut Pending,
         out: &mut yaml_event_t,
     ) -> Result<(), yaml_error_type_t>
         ensures steps { Steps (content_behind pending.old.place pending.old.properties
-            pending.old.properties.tag self.old.config token token.content) self.old (given result out.new)
-            self.new }
+            pending.old.properties.tag self.old.config token.old token.old.content) self.old
+            (given result out.new) self.new }
         ensures grows { result ≡ Err yaml_error_type_t.YAML_MEMORY_ERROR
             → joins pending.old.properties.tag self.old.config.handles ≡ true }
     {
@@ -318,15 +345,15 @@ impl<S> Machine<S> {
         &mut self,
         place: NodePlace,
         head: NodeHead,
-        token: yaml_token_t,
+        token: &mut yaml_token_t,
         out: &mut yaml_event_t,
     ) -> Result<(), yaml_error_type_t>
-        ensures steps { Steps (node_content place head self.old.config token token.content) self.old
+        ensures steps { Steps (node_content place head self.old.config token.old token.old.content) self.old
             (given result out.new) self.new }
         ensures error { IfErr result (λ e. e ≡ yaml_error_type_t.YAML_PARSER_ERROR) }
     {
         let end_mark = token.end_mark;
-        match token.content {
+        match &mut token.content {
             unnamed_yaml_token_t_data::Scalar(scalar) => {
                 self.scalar_content(head, scalar, end_mark, out)
             }
@@ -371,12 +398,12 @@ impl<S> Machine<S> {
     fn scalar_content(
         &mut self,
         head: NodeHead,
-        content: unnamed_yaml_token_t_data_scalar,
+        content: &mut unnamed_yaml_token_t_data_scalar,
         end_mark: yaml_mark_t,
         out: &mut yaml_event_t,
     )
-        ensures { Steps (scalar_content head self.old.config content end_mark) self.old (Ok (Given out.new))
-            self.new }
+        ensures { Steps (scalar_content head self.old.config content.old end_mark) self.old
+            (Ok (Given out.new)) self.new }
     {
         self.pop_state();
         let event = unnamed_yaml_event_t_data_scalar {
@@ -384,7 +411,7 @@ impl<S> Machine<S> {
             quoted_implicit: is_quoted_implicit(&head.tag, content.style),
             anchor: head.anchor,
             tag: head.tag,
-            value: content.value,
+            value: mem::replace(&mut content.value, String::new(self.allocator())),
             style: content.style,
         };
         give(
@@ -403,11 +430,11 @@ impl<S> Machine<S> {
         style: CollectionStyle,
         state: yaml_parser_state_t,
         head: NodeHead,
-        token: yaml_token_t,
+        token: &mut yaml_token_t,
         out: &mut yaml_event_t,
     )
         ensures { Steps (open_collection (collection_start head.anchor head.tag style) state head.start_mark
-            self.old.config token) self.old (Ok (Given out.new)) self.new }
+            self.old.config token.old) self.old (Ok (Given out.new)) self.new }
     {
         let end_mark = token.end_mark;
         self.set_state(state);
@@ -424,10 +451,10 @@ impl<S> Machine<S> {
         &mut self,
         place: NodePlace,
         head: NodeHead,
-        token: yaml_token_t,
+        token: &mut yaml_token_t,
         out: &mut yaml_event_t,
     ) -> Result<(), yaml_error_type_t>
-        ensures steps { Steps (no_content place head.anchor head.tag head self.old.config token) self.old
+        ensures steps { Steps (no_content place head.anchor head.tag head self.old.config token.old) self.old
             (given result out.new) self.new }
         ensures error { IfErr result (λ e. e ≡ yaml_error_type_t.YAML_PARSER_ERROR) }
     {

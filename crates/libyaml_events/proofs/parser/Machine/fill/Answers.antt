@@ -3,28 +3,28 @@ use Rattle.libyaml_events.proofs.calls.CallLemmas.{fetched, faulted, gave_event,
 use Rattle.libyaml_events.proofs.machine.SlotCalls.{wants_next, leaves_source, takes_one}
 use Rattle.libyaml_events.proofs.parser.Machine.fill.Goals as goal
 
-pub returns-in_err-token-clause-call : goal.returns-in_err-token-clause-call
-returns-in_err-token-clause-call g c =
-    let e : c.from_residual.result ≡ Err c.in_err-token.field-0.0 = search rules in
-    rw e (faulted g.S.yaml_token_source_t.gives _ _ _ c.loop-token.invariant _ _ c.in_err-token.ensures.fetches)
+pub returns-in_err-next_token-clause-call : goal.returns-in_err-next_token-clause-call
+returns-in_err-next_token-clause-call g c =
+    let e : c.from_residual.result ≡ Err c.in_err-next_token.field-0.0 = search rules in
+    rw e (faulted g.S.yaml_token_source_t.gives _ _ _ c.loop-self.invariant _ _ c.in_err-next_token.ensures.fetches)
 
 pub returns-in_err-wanted-clause-call : goal.returns-in_err-wanted-clause-call
 returns-in_err-wanted-clause-call g c =
-    let hand = fetched g.S.yaml_token_source_t.gives _ _ _ c.loop-token.invariant _ _ c.in_ok-token.ensures.fetches in
+    let hand = fetched g.S.yaml_token_source_t.gives _ _ _ c.loop-self.invariant _ _ c.in_ok-next_token.ensures.fetches in
     let e : c.from_residual-in_err-wanted.result ≡ Err c.in_err-wanted.field-0.0 = search rules in
     rw e (gave_fault g.S.yaml_token_source_t.gives _ _ _ _ hand _ _ c.in_err-wanted.ensures.steps (λ m. c.in_err-wanted.ensures.grows (ap Err m)))
 
 pub returns-in-Given-clause-call : goal.returns-in-Given-clause-call
 returns-in-Given-clause-call g c =
-    let hand = fetched g.S.yaml_token_source_t.gives _ _ _ c.loop-token.invariant _ _ c.in_ok-token.ensures.fetches in
+    let hand = fetched g.S.yaml_token_source_t.gives _ _ _ c.loop-self.invariant _ _ c.in_ok-next_token.ensures.fetches in
     gave_event g.S.yaml_token_source_t.gives _ _ _ _ hand _ _ (rw c.in-Given.is at c.in_ok-wanted.ensures.steps)
 
-pub loop-token-preserved : goal.loop-token-preserved
-loop-token-preserved g c =
-    let hand = fetched g.S.yaml_token_source_t.gives _ _ _ c.loop-token.invariant _ _ c.in_ok-token.ensures.fetches in
+pub loop-self-preserved : goal.loop-self-preserved
+loop-self-preserved g c =
+    let hand = fetched g.S.yaml_token_source_t.gives _ _ _ c.loop-self.invariant _ _ c.in_ok-next_token.ensures.fetches in
     wants_next g.S.yaml_token_source_t.gives _ _ _ _ hand _ _ _ _ c.in_default.not-Given c.in_ok-wanted.ensures.steps
 
-pub loop-token-smaller : goal.loop-token-smaller
-loop-token-smaller g c = takes_one g.S.yaml_token_source_t.gives g.S.yaml_token_source_t.bound g.met.S.yaml_token_source_t.falls c.loop-token.self
-    c.next_token.new.self c.step.new.self _ c.in_ok-token.ensures.fetches
+pub loop-self-smaller : goal.loop-self-smaller
+loop-self-smaller g c = takes_one g.S.yaml_token_source_t.gives g.S.yaml_token_source_t.bound g.met.S.yaml_token_source_t.falls c.loop-self.self
+    c.next_token.new.self c.step.new.self _ c.in_ok-next_token.ensures.fetches
     (leaves_source _ c.next_token.new.self _ _ _ c.step.new.self c.in_default.not-Given c.in_ok-wanted.ensures.steps)
