@@ -1,3 +1,4 @@
+pub mod StepKinds
 pub mod Link
 pub mod Follow
 pub mod Declared

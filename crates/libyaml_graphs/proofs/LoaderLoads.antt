@@ -5,7 +5,6 @@ use Rattle.libyaml_types.specs.declared.event.unnamed_yaml_event_t_data.TheVaria
 use Rattle.libyaml_grammar.specs.runs.Fault.{Fault}
 use Rattle.libyaml_grammar.specs.sentences.Tokens.{Mark}
 use Rattle.libyaml_documents.specs.declared.node.yaml_node_t.{yaml_node_t}
-use Rattle.libyaml_graphs.specs.Loads.{document, loads}
 use Rattle.libyaml_graphs.specs.Parts.{Part, part_in}
 use Rattle.libyaml_graphs.proofs.Built.{BeginsEmpty}
 

@@ -1,5 +1,5 @@
 -- The loader as a machine, event by event: what whoever loops over events needs of it.
-use Rattle.std.proofs.Common.{◌≡◌, ℕ, zero, suc, pos, List, [], ◌∷◌, nat_lt, refl, ap, ◌∙◌, Option, Some, None, false, Ok, Err}
+use Rattle.std.proofs.Common.{◌≡◌, ℕ, zero, suc, pos, List, [], ◌∷◌, nat_lt, refl, ap, Option, Some, None, false, Ok, Err}
 use Rattle.libyaml_types.specs.declared.enums.yaml_node_type_t.{yaml_node_type_t}
 use Rattle.libyaml_types.specs.declared.enums.yaml_node_type_t.TheVariants.{YAML_SEQUENCE_NODE, YAML_MAPPING_NODE}
 use Rattle.libyaml_grammar.specs.sentences.Events.{Event}

@@ -1,15 +1,10 @@
 -- What the stage of a parser's events says of it.
-use Rattle.std.proofs.Common.{◌≡◌, ◌≤◌, ◌||◌, ◌⊎◌, inl, inr, Bool, ℕ, zero, suc, arith, List, [], ◌∷◌, ◌++◌, length, Option, Some, None, true, false, Ok, Err}
+use Rattle.std.proofs.Common.{◌≡◌, ◌≤◌, ◌||◌, Bool, ℕ, zero, suc, arith, List, [], ◌∷◌, ◌++◌, length, Option, Some, None, true, false, Ok, Err}
 use Rattle.std.proofs.Common.{refl, sym, ap, ◌∙◌, subst}
 use Rattle.libyaml_types.specs.declared.event.unnamed_yaml_event_t_data.{unnamed_yaml_event_t_data}
 use Rattle.libyaml_types.specs.declared.event.unnamed_yaml_event_t_data.TheVariants as ev
-use Rattle.std.specs.FinMap.{get}
-use Rattle.libyaml_types.specs.declared.directive.yaml_tag_directive_t.{yaml_tag_directive_t}
-use Rattle.libyaml_types.specs.declared.directive.yaml_version_directive_t.{yaml_version_directive_t}
-use Rattle.libyaml_grammar.specs.sentences.Order.{is_version}
-use Rattle.libyaml_events.specs.declared.pending.DirectivesRead.{DirectivesRead}
-use Rattle.libyaml_events.specs.machine.Machine.{Progressed, step, first_version, version_directive, tag_directive, explicit_document, further_document_end}
-use Rattle.libyaml_events.specs.machine.Machine.{parse_implicit_document_start, parse_document_start, no_directives, parse_stream_start, parse_document_end}
+use Rattle.libyaml_events.specs.machine.Machine.{Progressed, step}
+use Rattle.libyaml_events.specs.machine.Machine.{parse_stream_start, parse_document_end}
 use Rattle.libyaml_events.specs.machine.Machine.{at_state}
 use Rattle.libyaml_types.specs.Events.{zero_mark}
 use Rattle.libyaml_grammar.specs.cuts.FaultTexts.{no_fault}
@@ -17,7 +12,9 @@ use Rattle.libyaml_events.specs.machine.Config.{Config, taken, is_fault, is_end_
 use Rattle.libyaml_grammar.specs.sentences.Trees.{behind, whole}
 use Rattle.libyaml_events.specs.sources.History.{answers, is_stream_end, Ran, begins, goes_on}
 use Rattle.libyaml_events.specs.sources.Parsing.{IsWhole}
-use Rattle.libyaml_events.proofs.calls.Staging.{around, IsStack, Inside, InPair, NodeDue, Good, GoodAt, GoodOn, good_on}
+use Rattle.libyaml_events.proofs.calls.Staging.{DueOn, Good, GoodAt, GoodIn, GoodOn, InPair, Inside, IsStack, NodeDue, StackOn, around, deeper, good_on}
+use Rattle.libyaml_events.proofs.machine.StepKinds as kinds
+use Rattle.libyaml_events.proofs.machine.StepKinds.{Goes, Kind, StepKind, kind, kind_of, step_kind}
 use Rattle.libyaml_grammar.specs.cuts.CutTrees.{open_collection}
 use Rattle.libyaml_events.specs.sources.Calls.{held}
 use Rattle.libyaml_grammar.proofs.Lists.{nil_right}
@@ -26,7 +23,7 @@ use Rattle.libyaml_events.specs.parsers.Stages.{Stage, at_start, before_root, wi
 use Rattle.libyaml_events.specs.parsers.Stages.{open_collections, is_quiet, ends_quietly, takes_no_memory}
 use Rattle.libyaml_grammar.specs.sentences.Events.{events}
 use Rattle.libyaml_grammar.specs.runs.Fault.{Answer, Fault}
-use Rattle.libyaml_grammar.specs.sentences.Tokens.{Content, DocumentEnd, DocumentStart, Mark, StreamEnd, StreamStart, TagDirective, Token, VersionDirective}
+use Rattle.libyaml_grammar.specs.sentences.Tokens.{Content, DocumentEnd, StreamEnd, StreamStart, Token, VersionDirective}
 use Rattle.libyaml_grammar.specs.sentences.Trees.{FlowMember, Stream, free, key, mapping, no_parts, no_value, pair, part, sequence, single, value, with_value}
 use Rattle.libyaml_grammar.specs.sentences.Events.{Event, document_end_at, stream_end_at}
 use Rattle.libyaml_grammar.specs.cuts.CutTrees.{Open, Place, block, entry, explicit_root, flow_entry, flow_key, flow_value, implicit_root, indentless_entry}
@@ -48,25 +45,25 @@ use Rattle.libyaml_events.proofs.machine.Stand.{Links, amid_token, at_position}
 use Rattle.libyaml_events.specs.declared.next.Want.{Want}
 use Rattle.libyaml_events.specs.declared.next.Want.TheVariants.{AtState, BehindDirective}
 use Rattle.libyaml_events.specs.declared.next.Progress.TheVariants.{Given, Wants}
-use Rattle.libyaml_types.specs.declared.enums.yaml_parser_state_t.TheVariants.{YAML_PARSE_BLOCK_MAPPING_KEY_STATE, YAML_PARSE_BLOCK_MAPPING_VALUE_STATE}
 use Rattle.libyaml_types.specs.declared.enums.yaml_parser_state_t.TheVariants.{YAML_PARSE_BLOCK_NODE_OR_INDENTLESS_SEQUENCE_STATE}
-use Rattle.libyaml_types.specs.declared.enums.yaml_parser_state_t.TheVariants.{YAML_PARSE_BLOCK_NODE_STATE, YAML_PARSE_BLOCK_SEQUENCE_ENTRY_STATE}
+use Rattle.libyaml_types.specs.declared.enums.yaml_parser_state_t.TheVariants.{YAML_PARSE_BLOCK_NODE_STATE}
 use Rattle.libyaml_types.specs.declared.enums.yaml_parser_state_t.TheVariants.{YAML_PARSE_DOCUMENT_CONTENT_STATE, YAML_PARSE_DOCUMENT_END_STATE}
 use Rattle.libyaml_types.specs.declared.enums.yaml_parser_state_t.TheVariants.{YAML_PARSE_DOCUMENT_START_STATE, YAML_PARSE_END_STATE}
-use Rattle.libyaml_types.specs.declared.enums.yaml_parser_state_t.TheVariants.{YAML_PARSE_FLOW_MAPPING_EMPTY_VALUE_STATE, YAML_PARSE_FLOW_MAPPING_KEY_STATE}
-use Rattle.libyaml_types.specs.declared.enums.yaml_parser_state_t.TheVariants.{YAML_PARSE_FLOW_MAPPING_VALUE_STATE, YAML_PARSE_FLOW_NODE_STATE}
+use Rattle.libyaml_types.specs.declared.enums.yaml_parser_state_t.TheVariants.{YAML_PARSE_FLOW_NODE_STATE}
 use Rattle.libyaml_types.specs.declared.enums.yaml_parser_state_t.TheVariants.{YAML_PARSE_FLOW_SEQUENCE_ENTRY_MAPPING_END_STATE}
 use Rattle.libyaml_types.specs.declared.enums.yaml_parser_state_t.TheVariants.{YAML_PARSE_FLOW_SEQUENCE_ENTRY_MAPPING_KEY_STATE}
 use Rattle.libyaml_types.specs.declared.enums.yaml_parser_state_t.TheVariants.{YAML_PARSE_FLOW_SEQUENCE_ENTRY_MAPPING_VALUE_STATE}
-use Rattle.libyaml_types.specs.declared.enums.yaml_parser_state_t.TheVariants.{YAML_PARSE_FLOW_SEQUENCE_ENTRY_STATE, YAML_PARSE_IMPLICIT_DOCUMENT_START_STATE}
-use Rattle.libyaml_types.specs.declared.enums.yaml_parser_state_t.TheVariants.{YAML_PARSE_INDENTLESS_SEQUENCE_ENTRY_STATE, YAML_PARSE_STREAM_START_STATE}
+use Rattle.libyaml_types.specs.declared.enums.yaml_parser_state_t.TheVariants.{YAML_PARSE_IMPLICIT_DOCUMENT_START_STATE}
+use Rattle.libyaml_types.specs.declared.enums.yaml_parser_state_t.TheVariants.{YAML_PARSE_STREAM_START_STATE}
 use Rattle.libyaml_types.specs.declared.enums.yaml_parser_state_t.{yaml_parser_state_t}
 
 -- the lookahead matters at the end alone
 pub retake : (s : yaml_parser_state_t) (ss : List yaml_parser_state_t) (l : Option Token) (st : Stage) → GoodAt s ss l st → GoodAt s ss None st
-retake YAML_PARSE_END_STATE ss l st h = (h.0, h.1, refl)
-retake YAML_PARSE_STREAM_START_STATE ss l st h = h
-retake _ ss l st h = h
+retake s ss l st = go (kind s)
+  where
+    go : (k : Kind) → GoodIn k ss l st → GoodIn k ss None st
+    go kinds.stream_end h = (h.0, h.1, refl)
+    go _ h = h
 
 record Left (d : Config) (st : Stage) (e : Event) (c : Config) : Type 0 where
   good : Good AtState d (after st e.content)
@@ -115,46 +112,37 @@ ran_staged begins = record { good = (refl, refl); no_fault_kept = refl }
 ran_staged (goes_on c asked g more e {d} {asked'} {given'} run running call x y)
     = subst (λ (z : List Event). Staged d z) (sym y) (call_staged c g (ran_staged run) (held c ++ answers more []) e d call).0
 
--- the stream's end
-due_goes_on : (ss : List yaml_parser_state_t) (l : Option Token) (st : Stage) → NodeDue ss st → is_at_end st ≡ false
-due_goes_on [] l st h = absurd h
-due_goes_on (YAML_PARSE_DOCUMENT_END_STATE ∷ ss) l st h = ap is_at_end h.1
-due_goes_on (YAML_PARSE_BLOCK_SEQUENCE_ENTRY_STATE ∷ ss) l st h = ap is_at_end h.1
-due_goes_on (YAML_PARSE_INDENTLESS_SEQUENCE_ENTRY_STATE ∷ ss) l st h = ap is_at_end h.1
-due_goes_on (YAML_PARSE_BLOCK_MAPPING_KEY_STATE ∷ ss) l st h = ap is_at_end h.1
-due_goes_on (YAML_PARSE_BLOCK_MAPPING_VALUE_STATE ∷ ss) l st h = ap is_at_end h.1
-due_goes_on (YAML_PARSE_FLOW_SEQUENCE_ENTRY_STATE ∷ ss) l st h = ap is_at_end h.1
-due_goes_on (YAML_PARSE_FLOW_SEQUENCE_ENTRY_MAPPING_VALUE_STATE ∷ ss) l st h = ap is_at_end h.1
-due_goes_on (YAML_PARSE_FLOW_SEQUENCE_ENTRY_MAPPING_END_STATE ∷ ss) l st h = ap is_at_end h.1
-due_goes_on (YAML_PARSE_FLOW_MAPPING_KEY_STATE ∷ ss) l st h = ap is_at_end h.1
-due_goes_on (YAML_PARSE_FLOW_MAPPING_VALUE_STATE ∷ ss) l st h = ap is_at_end h.1
-due_goes_on (YAML_PARSE_FLOW_MAPPING_EMPTY_VALUE_STATE ∷ ss) l st h = ap is_at_end h.1
-due_goes_on (s ∷ ss) l st h = absurd h
+-- where a node is due a document is open
+due_stage : (ss : List yaml_parser_state_t) (st : Stage) → NodeDue ss st → (P : Stage → Type 0) → P before_root → ((n : ℕ) → P (within_root n)) → P st
+due_stage [] st h P b w = absurd h
+due_stage (s ∷ ss) st h P b w = go (kind s) h
+  where
+    go : (k : Kind) → DueOn k ss st → P st
+    go kinds.root_end h = subst P (sym h.1) b
+    go kinds.indentless h = subst P (sym h.1) (w _)
+    go kinds.inner h = subst P (sym h.1) (w _)
+    go kinds.pair h = subst P (sym h.1) (w _)
+    go _ h = absurd h
+
+due_goes_on : (ss : List yaml_parser_state_t) (st : Stage) → NodeDue ss st → is_at_end st ≡ false
+due_goes_on ss st h = due_stage ss st h (λ x. is_at_end x ≡ false) refl (λ n. refl)
 
 due_in_document : (ss : List yaml_parser_state_t) (st : Stage) → NodeDue ss st → is_outside st ≡ false
-due_in_document [] st h = absurd h
-due_in_document (YAML_PARSE_DOCUMENT_END_STATE ∷ ss) st h = ap is_outside h.1
-due_in_document (YAML_PARSE_BLOCK_SEQUENCE_ENTRY_STATE ∷ ss) st h = ap is_outside h.1
-due_in_document (YAML_PARSE_INDENTLESS_SEQUENCE_ENTRY_STATE ∷ ss) st h = ap is_outside h.1
-due_in_document (YAML_PARSE_BLOCK_MAPPING_KEY_STATE ∷ ss) st h = ap is_outside h.1
-due_in_document (YAML_PARSE_BLOCK_MAPPING_VALUE_STATE ∷ ss) st h = ap is_outside h.1
-due_in_document (YAML_PARSE_FLOW_SEQUENCE_ENTRY_STATE ∷ ss) st h = ap is_outside h.1
-due_in_document (YAML_PARSE_FLOW_SEQUENCE_ENTRY_MAPPING_VALUE_STATE ∷ ss) st h = ap is_outside h.1
-due_in_document (YAML_PARSE_FLOW_SEQUENCE_ENTRY_MAPPING_END_STATE ∷ ss) st h = ap is_outside h.1
-due_in_document (YAML_PARSE_FLOW_MAPPING_KEY_STATE ∷ ss) st h = ap is_outside h.1
-due_in_document (YAML_PARSE_FLOW_MAPPING_VALUE_STATE ∷ ss) st h = ap is_outside h.1
-due_in_document (YAML_PARSE_FLOW_MAPPING_EMPTY_VALUE_STATE ∷ ss) st h = ap is_outside h.1
-due_in_document (s ∷ ss) st h = absurd h
+due_in_document ss st h = due_stage ss st h (λ x. is_outside x ≡ false) refl (λ n. refl)
 
+due_takes : (ss : List yaml_parser_state_t) (st : Stage) (l : List Token) → NodeDue ss st → takes_no_memory st l ≡ false
+due_takes ss st l h = due_stage ss st h (λ x. takes_no_memory x l ≡ false) refl (λ n. refl)
+
+-- the stream's end
 end_stage : (s : yaml_parser_state_t) (ss : List yaml_parser_state_t) (l : Option Token) (st : Stage) → GoodAt s ss l st → is_end_state s ≡ is_at_end st
 end_stage YAML_PARSE_STREAM_START_STATE ss l st h = sym (ap is_at_end h.1)
 end_stage YAML_PARSE_IMPLICIT_DOCUMENT_START_STATE ss l st h = sym (ap is_at_end h.1)
 end_stage YAML_PARSE_DOCUMENT_START_STATE ss l st h = sym (ap is_at_end h.1)
-end_stage YAML_PARSE_DOCUMENT_CONTENT_STATE ss l st h = sym (due_goes_on ss l st h)
+end_stage YAML_PARSE_DOCUMENT_CONTENT_STATE ss l st h = sym (due_goes_on ss st h)
 end_stage YAML_PARSE_DOCUMENT_END_STATE ss l st h = sym (ap is_at_end h.1)
-end_stage YAML_PARSE_BLOCK_NODE_STATE ss l st h = sym (due_goes_on ss l st h)
-end_stage YAML_PARSE_BLOCK_NODE_OR_INDENTLESS_SEQUENCE_STATE ss l st h = sym (due_goes_on ss l st h)
-end_stage YAML_PARSE_FLOW_NODE_STATE ss l st h = sym (due_goes_on ss l st h)
+end_stage YAML_PARSE_BLOCK_NODE_STATE ss l st h = sym (due_goes_on ss st h)
+end_stage YAML_PARSE_BLOCK_NODE_OR_INDENTLESS_SEQUENCE_STATE ss l st h = sym (due_goes_on ss st h)
+end_stage YAML_PARSE_FLOW_NODE_STATE ss l st h = sym (due_goes_on ss st h)
 end_stage YAML_PARSE_END_STATE ss l st h = sym (ap is_at_end h.1)
 end_stage YAML_PARSE_FLOW_SEQUENCE_ENTRY_MAPPING_KEY_STATE ss l st h = sym (ap is_at_end h.1)
 end_stage YAML_PARSE_FLOW_SEQUENCE_ENTRY_MAPPING_VALUE_STATE ss l st h = sym (ap is_at_end h.1)
@@ -188,67 +176,47 @@ staged_between c g h = ap (λ (f : Fault). is_fault f.error || is_between c.stat
 -- the depth of the stack
 stack_depth : (ss : List yaml_parser_state_t) → IsStack ss → length ss ≤ suc (around ss)
 stack_depth [] h = absurd h
-stack_depth (YAML_PARSE_DOCUMENT_END_STATE ∷ ss) h = let e : length ss ≡ zero = ap length h in omega arith
-stack_depth (YAML_PARSE_BLOCK_SEQUENCE_ENTRY_STATE ∷ ss) h = let i = stack_depth ss h in omega arith
-stack_depth (YAML_PARSE_INDENTLESS_SEQUENCE_ENTRY_STATE ∷ ss) h = let i = stack_depth ss h in omega arith
-stack_depth (YAML_PARSE_BLOCK_MAPPING_KEY_STATE ∷ ss) h = let i = stack_depth ss h in omega arith
-stack_depth (YAML_PARSE_BLOCK_MAPPING_VALUE_STATE ∷ ss) h = let i = stack_depth ss h in omega arith
-stack_depth (YAML_PARSE_FLOW_SEQUENCE_ENTRY_STATE ∷ ss) h = let i = stack_depth ss h in omega arith
-stack_depth (YAML_PARSE_FLOW_SEQUENCE_ENTRY_MAPPING_VALUE_STATE ∷ ss) h = let i = stack_depth ss h in omega arith
-stack_depth (YAML_PARSE_FLOW_SEQUENCE_ENTRY_MAPPING_END_STATE ∷ ss) h = let i = stack_depth ss h in omega arith
-stack_depth (YAML_PARSE_FLOW_MAPPING_KEY_STATE ∷ ss) h = let i = stack_depth ss h in omega arith
-stack_depth (YAML_PARSE_FLOW_MAPPING_VALUE_STATE ∷ ss) h = let i = stack_depth ss h in omega arith
-stack_depth (YAML_PARSE_FLOW_MAPPING_EMPTY_VALUE_STATE ∷ ss) h = let i = stack_depth ss h in omega arith
-stack_depth (s ∷ ss) h = absurd h
+stack_depth (s ∷ ss) h = go (kind s) h (stack_depth ss)
+  where
+    go : (k : Kind) → StackOn k ss (IsStack ss) → (IsStack ss → length ss ≤ suc (around ss)) → suc (length ss) ≤ suc (deeper k (around ss))
+    go kinds.root_end e i = let f : length ss ≡ zero = ap length e in omega arith
+    go kinds.indentless e i = let j = i e in omega arith
+    go kinds.inner e i = let j = i e in omega arith
+    go kinds.pair e i = let j = i e in omega arith
+    go _ e i = absurd e
+
+inside_depth : (ss : List yaml_parser_state_t) (st : Stage) → Inside ss st → length ss ≤ open_collections st
+inside_depth ss st h = let i = stack_depth ss h.0 in let e : open_collections st ≡ suc (around ss) = ap open_collections h.1 in omega arith
+
+pair_depth : (ss : List yaml_parser_state_t) (st : Stage) → InPair ss st → length ss ≤ open_collections st
+pair_depth ss st h = let i = stack_depth ss h.0 in let e : open_collections st ≡ suc (suc (around ss)) = ap open_collections h.1 in omega arith
+
+empty_depth : (ss : List yaml_parser_state_t) (n : ℕ) → ss ≡ [] → length ss ≤ n
+empty_depth ss n h = let e : length ss ≡ zero = ap length h in omega arith
 
 due_depth : (ss : List yaml_parser_state_t) (st : Stage) → NodeDue ss st → length ss ≤ suc (open_collections st)
 due_depth [] st h = absurd h
-due_depth (YAML_PARSE_DOCUMENT_END_STATE ∷ ss) st h = let e : length ss ≡ zero = ap length h.0 in omega arith
-due_depth (YAML_PARSE_BLOCK_SEQUENCE_ENTRY_STATE ∷ ss) st h = let i = stack_depth ss h.0 in let e : open_collections st ≡ suc (around ss)
-    = ap open_collections h.1 in omega arith
-due_depth (YAML_PARSE_INDENTLESS_SEQUENCE_ENTRY_STATE ∷ ss) st h = let i = stack_depth ss h.0 in let e : open_collections st ≡ suc (around ss)
-    = ap open_collections h.1 in omega arith
-due_depth (YAML_PARSE_BLOCK_MAPPING_KEY_STATE ∷ ss) st h = let i = stack_depth ss h.0 in let e : open_collections st ≡ suc (around ss)
-    = ap open_collections h.1 in omega arith
-due_depth (YAML_PARSE_BLOCK_MAPPING_VALUE_STATE ∷ ss) st h = let i = stack_depth ss h.0 in let e : open_collections st ≡ suc (around ss)
-    = ap open_collections h.1 in omega arith
-due_depth (YAML_PARSE_FLOW_SEQUENCE_ENTRY_STATE ∷ ss) st h = let i = stack_depth ss h.0 in let e : open_collections st ≡ suc (around ss)
-    = ap open_collections h.1 in omega arith
-due_depth (YAML_PARSE_FLOW_SEQUENCE_ENTRY_MAPPING_VALUE_STATE ∷ ss) st h = let i = stack_depth ss h.0 in let e : open_collections st ≡ suc (suc (around ss))
-    = ap open_collections h.1 in omega arith
-due_depth (YAML_PARSE_FLOW_SEQUENCE_ENTRY_MAPPING_END_STATE ∷ ss) st h = let i = stack_depth ss h.0 in let e : open_collections st ≡ suc (suc (around ss))
-    = ap open_collections h.1 in omega arith
-due_depth (YAML_PARSE_FLOW_MAPPING_KEY_STATE ∷ ss) st h = let i = stack_depth ss h.0 in let e : open_collections st ≡ suc (around ss)
-    = ap open_collections h.1 in omega arith
-due_depth (YAML_PARSE_FLOW_MAPPING_VALUE_STATE ∷ ss) st h = let i = stack_depth ss h.0 in let e : open_collections st ≡ suc (around ss)
-    = ap open_collections h.1 in omega arith
-due_depth (YAML_PARSE_FLOW_MAPPING_EMPTY_VALUE_STATE ∷ ss) st h = let i = stack_depth ss h.0 in let e : open_collections st ≡ suc (around ss)
-    = ap open_collections h.1 in omega arith
-due_depth (s ∷ ss) st h = absurd h
-
-inside_depth : (ss : List yaml_parser_state_t) (st : Stage) → Inside ss st → length ss ≤ suc (open_collections st)
-inside_depth ss st h = let i = stack_depth ss h.0 in let e : open_collections st ≡ suc (around ss) = ap open_collections h.1 in omega arith
-
-pair_depth : (ss : List yaml_parser_state_t) (st : Stage) → InPair ss st → length ss ≤ suc (open_collections st)
-pair_depth ss st h = let i = stack_depth ss h.0 in let e : open_collections st ≡ suc (suc (around ss)) = ap open_collections h.1 in omega arith
-
-empty_depth : (ss : List yaml_parser_state_t) (n : ℕ) → ss ≡ [] → length ss ≤ suc n
-empty_depth ss n h = let e : length ss ≡ zero = ap length h in omega arith
+due_depth (s ∷ ss) st h = go (kind s) h
+  where
+    go : (k : Kind) → DueOn k ss st → suc (length ss) ≤ suc (open_collections st)
+    go kinds.root_end h = let e = empty_depth ss (open_collections st) h.0 in omega arith
+    go kinds.indentless h = let e = inside_depth ss st h in omega arith
+    go kinds.inner h = let e = inside_depth ss st h in omega arith
+    go kinds.pair h = let e = pair_depth ss st h in omega arith
+    go _ h = absurd h
 
 depth : (s : yaml_parser_state_t) (ss : List yaml_parser_state_t) (l : Option Token) (st : Stage) → GoodAt s ss l st → length ss ≤ suc (open_collections st)
-depth YAML_PARSE_STREAM_START_STATE ss l st h = empty_depth ss (open_collections st) h.0
-depth YAML_PARSE_IMPLICIT_DOCUMENT_START_STATE ss l st h = empty_depth ss (open_collections st) h.0
-depth YAML_PARSE_DOCUMENT_START_STATE ss l st h = empty_depth ss (open_collections st) h.0
-depth YAML_PARSE_DOCUMENT_CONTENT_STATE ss l st h = due_depth ss st h
-depth YAML_PARSE_DOCUMENT_END_STATE ss l st h = empty_depth ss (open_collections st) h.0
-depth YAML_PARSE_BLOCK_NODE_STATE ss l st h = due_depth ss st h
-depth YAML_PARSE_BLOCK_NODE_OR_INDENTLESS_SEQUENCE_STATE ss l st h = due_depth ss st h
-depth YAML_PARSE_FLOW_NODE_STATE ss l st h = due_depth ss st h
-depth YAML_PARSE_FLOW_SEQUENCE_ENTRY_MAPPING_KEY_STATE ss l st h = pair_depth ss st h
-depth YAML_PARSE_FLOW_SEQUENCE_ENTRY_MAPPING_VALUE_STATE ss l st h = pair_depth ss st h
-depth YAML_PARSE_FLOW_SEQUENCE_ENTRY_MAPPING_END_STATE ss l st h = pair_depth ss st h
-depth YAML_PARSE_END_STATE ss l st h = empty_depth ss (open_collections st) h.0
-depth _ ss l st h = inside_depth ss st h
+depth s ss l st = go (kind s)
+  where
+    go : (k : Kind) → GoodIn k ss l st → length ss ≤ suc (open_collections st)
+    go kinds.stream_start h = empty_depth ss _ h.0
+    go kinds.between h = empty_depth ss _ h.0
+    go kinds.node_due h = due_depth ss st h
+    go kinds.root_end h = empty_depth ss _ h.0
+    go kinds.pair_key h = let e = pair_depth ss st h in omega arith
+    go kinds.pair h = let e = pair_depth ss st h in omega arith
+    go kinds.stream_end h = empty_depth ss _ h.0
+    go _ h = let e = inside_depth ss st h in omega arith
 
 -- the stack holds at most one state more than there are open collections
 pub staged_depth : (c : Config) (g : List Event) → Staged c g → length c.states ≤ suc (open_collections (stage_of g))
@@ -350,76 +318,31 @@ leads_to_end st e h = go e.content st h
     go ev.MappingEnd (within_root (suc n)) h = refl
     go ev.MappingEnd st h = h
 
--- where a call takes no memory
-due_takes : (ss : List yaml_parser_state_t) (st : Stage) (l : List Token) → NodeDue ss st → takes_no_memory st l ≡ false
-due_takes [] st l h = absurd h
-due_takes (YAML_PARSE_DOCUMENT_END_STATE ∷ ss) st l h = ap (λ (x : Stage). takes_no_memory x l) h.1
-due_takes (YAML_PARSE_BLOCK_SEQUENCE_ENTRY_STATE ∷ ss) st l h = ap (λ (x : Stage). takes_no_memory x l) h.1
-due_takes (YAML_PARSE_INDENTLESS_SEQUENCE_ENTRY_STATE ∷ ss) st l h = ap (λ (x : Stage). takes_no_memory x l) h.1
-due_takes (YAML_PARSE_BLOCK_MAPPING_KEY_STATE ∷ ss) st l h = ap (λ (x : Stage). takes_no_memory x l) h.1
-due_takes (YAML_PARSE_BLOCK_MAPPING_VALUE_STATE ∷ ss) st l h = ap (λ (x : Stage). takes_no_memory x l) h.1
-due_takes (YAML_PARSE_FLOW_SEQUENCE_ENTRY_STATE ∷ ss) st l h = ap (λ (x : Stage). takes_no_memory x l) h.1
-due_takes (YAML_PARSE_FLOW_SEQUENCE_ENTRY_MAPPING_VALUE_STATE ∷ ss) st l h = ap (λ (x : Stage). takes_no_memory x l) h.1
-due_takes (YAML_PARSE_FLOW_SEQUENCE_ENTRY_MAPPING_END_STATE ∷ ss) st l h = ap (λ (x : Stage). takes_no_memory x l) h.1
-due_takes (YAML_PARSE_FLOW_MAPPING_KEY_STATE ∷ ss) st l h = ap (λ (x : Stage). takes_no_memory x l) h.1
-due_takes (YAML_PARSE_FLOW_MAPPING_VALUE_STATE ∷ ss) st l h = ap (λ (x : Stage). takes_no_memory x l) h.1
-due_takes (YAML_PARSE_FLOW_MAPPING_EMPTY_VALUE_STATE ∷ ss) st l h = ap (λ (x : Stage). takes_no_memory x l) h.1
-due_takes (s ∷ ss) st l h = absurd h
-
--- outside a document a call stays there until it gives an event
-abbrev IsOutsideAt : yaml_parser_state_t → Type 0
-IsOutsideAt s = (s ≡ YAML_PARSE_IMPLICIT_DOCUMENT_START_STATE) ⊎ (s ≡ YAML_PARSE_DOCUMENT_START_STATE)
-
+-- Where a call takes no memory: outside a document it stays there until it gives an event.
 abbrev IsOutside : Want → Config → Type 0
-IsOutside AtState c = IsOutsideAt c.state
-IsOutside (BehindDirective d) c = Unit {0}
-IsOutside _ c = ⊥
+IsOutside w c = kind_of w c ≡ kinds.between
 
 abbrev StaysOutside : Progressed → Type 0
 StaysOutside (Err f) = Unit {0}
 StaysOutside (Ok (Given e, c)) = Unit {0}
 StaysOutside (Ok (Wants w, c)) = IsOutside w c
 
-version_stays : (v : Option yaml_version_directive_t) (d : DirectivesRead) (c : Config) (m : Mark) (x : yaml_version_directive_t)
-    → StaysOutside (version_directive v d c m x)
-version_stays (Some earlier) d c m x = tt
-version_stays None d c m x = go (is_version x.major x.minor)
-  where
-    go : (b : Bool) → StaysOutside (first_version b d c m x)
-    go true = tt
-    go false = tt
-
-tag_stays : (o : Option (List ℕ)) (d : DirectivesRead) (c : Config) (m : Mark) (x : yaml_tag_directive_t) → StaysOutside (tag_directive o d c m x)
-tag_stays (Some earlier) d c m x = tt
-tag_stays None d c m x = tt
-
-explicit_stays : (d : DirectivesRead) (c : Config) (t : Token) (k : Content) → StaysOutside (explicit_document d c t k)
-explicit_stays d c t (VersionDirective v) = version_stays d.version d c t.start_mark (record { major = v.major; minor = v.minor })
-explicit_stays d c t (TagDirective g) = tag_stays (get c.handles g.handle) d c t.start_mark (record { handle = g.handle; prefix = g.prefix })
-explicit_stays d c t DocumentStart = tt
-explicit_stays d c t _ = tt
-
-further_stays : (b : Bool) (c : Config) (t : Token) → IsOutsideAt c.state → StaysOutside (further_document_end b c t)
-further_stays true c t o = o
-further_stays false c t o = tt
-
-implicit_stays : (c : Config) (t : Token) (k : Content) → IsOutsideAt c.state → StaysOutside (parse_implicit_document_start c t k)
-implicit_stays c t StreamEnd o = tt
-implicit_stays c t (VersionDirective v) o = explicit_stays (no_directives t.start_mark) c t (VersionDirective v)
-implicit_stays c t (TagDirective g) o = explicit_stays (no_directives t.start_mark) c t (TagDirective g)
-implicit_stays c t DocumentStart o = tt
-implicit_stays c t DocumentEnd o = further_stays c.behind_document_end c t o
-implicit_stays c t _ o = tt
-
-start_stays : (c : Config) (t : Token) (k : Content) → StaysOutside (parse_document_start c t k)
-start_stays c t StreamEnd = tt
-start_stays c t k = explicit_stays (no_directives t.start_mark) c t k
-
 stays_outside : (w : Want) (c : Config) (t : Token) → IsOutside w c → StaysOutside (step w c t)
-stays_outside AtState c t (inl e) = subst (λ (s : yaml_parser_state_t). StaysOutside (at_state s c t t.content)) (sym e) (implicit_stays c t t.content (inl e))
-stays_outside AtState c t (inr e) = subst (λ (s : yaml_parser_state_t). StaysOutside (at_state s c t t.content)) (sym e) (start_stays c t t.content)
-stays_outside (BehindDirective d) c t o = explicit_stays d c t t.content
-stays_outside _ c t o = absurd o
+stays_outside w c t = by _ _ _ (step_kind [] [] t w c t.content)
+  where
+    goes_elsewhere : (k k' : Kind) → Goes k k' → k ≡ kinds.between → ⊥
+    goes_elsewhere k k' kinds.in_indentless e = cc
+    goes_elsewhere k k' kinds.in_inner e = cc
+    goes_elsewhere k k' kinds.from_key e = cc
+    goes_elsewhere k k' kinds.in_pair e = cc
+
+    by : (k : Kind) (o o' : Progressed) → StepKind [] [] t c k o o' → k ≡ kinds.between → StaysOutside o
+    by k o o' (kinds.wants w i) e = i ∙ e
+    by k o o' (kinds.declares d x p) e = refl
+    by k o o' (kinds.enters w s i j) e = absurd cc
+    by k o o' (kinds.node n) e = absurd cc
+    by k o o' (kinds.entry s g n) e = absurd (goes_elsewhere k (kind s) g e)
+    by k o o' _ e = tt
 
 -- and there no memory is taken at the stream's end or at a version
 document_grows : (behind_document_end : Bool) (k : Content) → grows_at_document behind_document_end k ≡ true → is_quiet k ≡ false
@@ -433,10 +356,14 @@ directive_grows (VersionDirective v) h = absurd cc
 directive_grows _ h = refl
 
 outside_grows : (w : Want) (c : Config) (k : Content) → IsOutside w c → may_grow w c k ≡ true → is_quiet k ≡ false
-outside_grows AtState c k (inl e) h = document_grows c.behind_document_end k (sym (ap (λ (s : yaml_parser_state_t). may_grow_at s c k) e) ∙ h)
-outside_grows AtState c k (inr e) h = directive_grows k (sym (ap (λ (s : yaml_parser_state_t). may_grow_at s c k) e) ∙ h)
+outside_grows AtState c k o h = go c.state o h
+  where
+    go : (s : yaml_parser_state_t) → kind s ≡ kinds.between → may_grow_at s c k ≡ true → is_quiet k ≡ false
+    go YAML_PARSE_IMPLICIT_DOCUMENT_START_STATE o h = document_grows c.behind_document_end k h
+    go YAML_PARSE_DOCUMENT_START_STATE o h = directive_grows k h
+    go _ o h = absurd cc
 outside_grows (BehindDirective d) c k o h = directive_grows k h
-outside_grows _ c k o h = absurd o
+outside_grows _ c k o h = absurd cc
 
 not_quiet : (l : List Token) (w : Want) (c : Config) → IsOutside w c → Refused w c (answers l []) → ends_quietly l ≡ false
 not_quiet [] w c o h = absurd h
@@ -469,11 +396,11 @@ refused_end c t k More (x ∷ rest) h = h
 
 refused_at : (s : yaml_parser_state_t) (ss : List yaml_parser_state_t) (o : Option Token) (st : Stage) → GoodAt s ss o st
     → (c : Config) (t : Token) (k : Content) (More : Want → Config → Type 0) (rest : List Answer) → RefusedAt (may_grow_at s c k) (at_state s c t k) More rest
-    → (l : List Token) → (IsOutsideAt s → ends_quietly l ≡ false) → takes_no_memory st l ≡ false
+    → (l : List Token) → (kind s ≡ kinds.between → ends_quietly l ≡ false) → takes_no_memory st l ≡ false
 refused_at YAML_PARSE_STREAM_START_STATE ss o st g c t k More rest h l q = absurd (refused_start c t k More rest h)
 refused_at YAML_PARSE_DOCUMENT_END_STATE ss o st g c t k More rest h l q = absurd (refused_end c t k More rest h)
-refused_at YAML_PARSE_IMPLICIT_DOCUMENT_START_STATE ss o st g c t k More rest h l q = ap (λ (x : Stage). takes_no_memory x l) g.1 ∙ q (inl refl)
-refused_at YAML_PARSE_DOCUMENT_START_STATE ss o st g c t k More rest h l q = ap (λ (x : Stage). takes_no_memory x l) g.1 ∙ q (inr refl)
+refused_at YAML_PARSE_IMPLICIT_DOCUMENT_START_STATE ss o st g c t k More rest h l q = ap (λ (x : Stage). takes_no_memory x l) g.1 ∙ q refl
+refused_at YAML_PARSE_DOCUMENT_START_STATE ss o st g c t k More rest h l q = ap (λ (x : Stage). takes_no_memory x l) g.1 ∙ q refl
 refused_at YAML_PARSE_DOCUMENT_CONTENT_STATE ss o st g c t k More rest h l q = due_takes ss st l g
 refused_at YAML_PARSE_BLOCK_NODE_STATE ss o st g c t k More rest h l q = due_takes ss st l g
 refused_at YAML_PARSE_BLOCK_NODE_OR_INDENTLESS_SEQUENCE_STATE ss o st g c t k More rest h l q = due_takes ss st l g
