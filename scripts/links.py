@@ -6,7 +6,8 @@
 - a heading of a page, as in `docs/DEFINITIONS.md, "Runs"`, that it does not have; comments of code are read for these too;
 - a Rust block or a clause of a contract that no file of crates/ has word for word;
 - a row of ARCHITECTURE's table of layers, or a line "Stands on" of a crate's README, that is not as crates.txt has it;
-- a room of definitions or proofs in ARCHITECTURE that has other files than its folder.
+- a room of definitions or proofs in ARCHITECTURE that has other files than its folder;
+- an edit that WRONG_BODIES lists and no crate has, or the other way round.
 
     python3 scripts/links.py
 """
@@ -137,6 +138,12 @@ def wrong_rooms():
                 yield f"{(top / match[1]).relative_to(TOP)}: {name} {where}"
 
 
+def wrong_edits():
+    listed = set(re.findall(r"^- `([^`]+)`", (TOP / "docs" / "WRONG_BODIES.md").read_text(), flags=re.M))
+    there = {path.stem for path in TOP.glob("crates/*/must-fail/*.edit")}
+    yield from (f"docs/WRONG_BODIES.md: {name} is {'no edit' if name in listed else 'not listed'}" for name in sorted(listed ^ there))
+
+
 def comments():
     """The files of code, definitions and examples, each with its comments, joined over the ends of lines."""
     for path in [*TOP.glob("crates/**/*.rt"), *TOP.glob("crates/**/*.antt"), *TOP.glob("examples/*"), *TOP.glob("scripts/*.*")]:
@@ -151,7 +158,7 @@ def problems():
         found = [*broken_links(page, text), *missing_paths(page, text), *missing_headings(text), *missing_blocks(text, code)]
         yield from (f"{page.relative_to(TOP)}: {problem}" for problem in found)
     yield from (f"docs/ARCHITECTURE.md: {problem}" for problem in [*wrong_layers(), *wrong_rooms()])
-    yield from wrong_readmes()
+    yield from [*wrong_readmes(), *wrong_edits()]
     for path, text in comments():
         yield from (f"{path.relative_to(TOP)}: {problem}" for problem in missing_headings(text))
 
