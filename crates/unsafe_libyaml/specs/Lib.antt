@@ -1,55 +1,72 @@
 pub mod WholeRun
 pub mod WholeLoads
--- what the clauses of the crates below cite, so that a user names this crate alone
+-- what the public clauses reach, here and in the crates below (scripts/passed_on.py), so that a user names this crate alone
+pub use Rattle.libyaml_types.specs.Equal as EqualTypes
+pub use Rattle.libyaml_types.specs.Events as MadeEvents
+pub use Rattle.libyaml_types.specs.Models as TypeModels
 pub use Rattle.libyaml_types.specs.Numbers
 pub use Rattle.libyaml_types.specs.Texts
 pub use Rattle.libyaml_types.specs.Types
-pub use Rattle.libyaml_types.specs.Events as MadeEvents
-pub use Rattle.libyaml_events.specs.sources.Calls
-pub use Rattle.libyaml_events.specs.sources.CallsInTurn
-pub use Rattle.libyaml_events.specs.machine.Config
+pub use Rattle.libyaml_types.specs.Words
 pub use Rattle.libyaml_grammar.specs.cuts.CutEvents
 pub use Rattle.libyaml_grammar.specs.cuts.CutFaults
-pub use Rattle.libyaml_grammar.specs.rows.CutRows
 pub use Rattle.libyaml_grammar.specs.cuts.CutTrees
-pub use Rattle.libyaml_grammar.specs.rows.EmptyRows
-pub use Rattle.libyaml_grammar.specs.runs.Errors
-pub use Rattle.libyaml_grammar.specs.sentences.Events
-pub use Rattle.libyaml_events.specs.parsers.EventsLeft
-pub use Rattle.libyaml_grammar.specs.runs.Fault
 pub use Rattle.libyaml_grammar.specs.cuts.FaultTexts
 pub use Rattle.libyaml_grammar.specs.cuts.Fits
-pub use Rattle.libyaml_events.specs.sources.History
-pub use Rattle.libyaml_events.specs.sources.ListLaws
-pub use Rattle.libyaml_events.specs.parsers.Lookahead
-pub use Rattle.libyaml_events.specs.sources.Needs
-pub use Rattle.libyaml_grammar.specs.sentences.Nesting
-pub use Rattle.libyaml_grammar.specs.sentences.Order
-pub use Rattle.libyaml_events.specs.sources.Parsing
-pub use Rattle.libyaml_events.specs.parsers.Pops
 pub use Rattle.libyaml_grammar.specs.cuts.Rest
+pub use Rattle.libyaml_grammar.specs.cuts.Settled
+pub use Rattle.libyaml_grammar.specs.rows.CutRows
+pub use Rattle.libyaml_grammar.specs.rows.EmptyRows
 pub use Rattle.libyaml_grammar.specs.rows.RowNotation
 pub use Rattle.libyaml_grammar.specs.rows.Rows
-pub use Rattle.libyaml_events.specs.sources.RunToCome
+pub use Rattle.libyaml_grammar.specs.runs.Errors
+pub use Rattle.libyaml_grammar.specs.runs.Fault
+pub use Rattle.libyaml_grammar.specs.runs.Message
 pub use Rattle.libyaml_grammar.specs.runs.Runs
-pub use Rattle.libyaml_grammar.specs.sentences.Sentences
-pub use Rattle.libyaml_grammar.specs.cuts.Settled
-pub use Rattle.libyaml_events.specs.sources.Source
-pub use Rattle.libyaml_events.specs.rows.StackRows
-pub use Rattle.libyaml_events.specs.parsers.Stages
-pub use Rattle.libyaml_events.specs.machine.State
 pub use Rattle.libyaml_grammar.specs.runs.StreamEnds
+pub use Rattle.libyaml_grammar.specs.sentences.Events
+pub use Rattle.libyaml_grammar.specs.sentences.Nesting
+pub use Rattle.libyaml_grammar.specs.sentences.Order
+pub use Rattle.libyaml_grammar.specs.sentences.Sentences
 pub use Rattle.libyaml_grammar.specs.sentences.Tokens
 pub use Rattle.libyaml_grammar.specs.sentences.Trees
+pub use Rattle.libyaml_events.specs.machine.Config
+pub use Rattle.libyaml_events.specs.machine.Growth
+pub use Rattle.libyaml_events.specs.machine.Machine
+pub use Rattle.libyaml_events.specs.machine.Slots
+pub use Rattle.libyaml_events.specs.machine.State
+pub use Rattle.libyaml_events.specs.parsers.EventsLeft
+pub use Rattle.libyaml_events.specs.parsers.Lookahead
+pub use Rattle.libyaml_events.specs.parsers.OutsideEvents
+pub use Rattle.libyaml_events.specs.parsers.Pops
+pub use Rattle.libyaml_events.specs.parsers.Stages
+pub use Rattle.libyaml_events.specs.rows.StackRows
+pub use Rattle.libyaml_events.specs.sources.Calls
+pub use Rattle.libyaml_events.specs.sources.CallsInTurn
+pub use Rattle.libyaml_events.specs.sources.History
+pub use Rattle.libyaml_events.specs.sources.ListLaws
+pub use Rattle.libyaml_events.specs.sources.Needs
+pub use Rattle.libyaml_events.specs.sources.ParsesNext
+pub use Rattle.libyaml_events.specs.sources.Parsing
+pub use Rattle.libyaml_events.specs.sources.RunToCome
+pub use Rattle.libyaml_events.specs.sources.Source
 pub use Rattle.libyaml_documents.specs.Documents
+pub use Rattle.libyaml_documents.specs.Equal as EqualDocuments
+pub use Rattle.libyaml_documents.specs.EqualNodes
+pub use Rattle.libyaml_documents.specs.EqualPayloads
 pub use Rattle.libyaml_documents.specs.LoadedNodes
+pub use Rattle.libyaml_documents.specs.Models as DocumentModels
+pub use Rattle.libyaml_documents.specs.Node
 pub use Rattle.libyaml_documents.specs.Nodes
-pub use Rattle.libyaml_graphs.specs.Graphs
-pub use Rattle.libyaml_graphs.specs.Parts
-pub use Rattle.libyaml_graphs.specs.ComposerFaults
-pub use Rattle.libyaml_graphs.specs.Loads
 pub use Rattle.libyaml_graphs.specs.Bounds
+pub use Rattle.libyaml_graphs.specs.ComposerFaults
 pub use Rattle.libyaml_graphs.specs.GraphLaws
+pub use Rattle.libyaml_graphs.specs.Graphs
+pub use Rattle.libyaml_graphs.specs.LoadRows
+pub use Rattle.libyaml_graphs.specs.Loader
+pub use Rattle.libyaml_graphs.specs.Loads
+pub use Rattle.libyaml_graphs.specs.Parts
+pub use Rattle.libyaml_loader.specs.Growth as LoadGrowth
+pub use Rattle.libyaml_loader.specs.Ids
 pub use Rattle.libyaml_loader.specs.Loading
 pub use Rattle.libyaml_loader.specs.NextLoad
-pub use Rattle.libyaml_loader.specs.Ids

@@ -1,0 +1,28 @@
+//! The next event.
+
+ghost use Rattle.unsafe_libyaml.specs.Calls.{answered};
+ghost use Rattle.unsafe_libyaml.specs.ParsesNext.{ParsesNext};
+
+use unsafe_libyaml::{
+    yaml_error_type_t, yaml_event_t, yaml_parser_parse, yaml_parser_parse_into, yaml_parser_t,
+    yaml_token_source_t,
+};
+
+/// Returns the next event.
+pub fn next_event<S: yaml_token_source_t>(
+    parser: &mut yaml_parser_t<S>,
+) -> Result<yaml_event_t, yaml_error_type_t>
+    ensures { ParsesNext S.gives S.bound S.known S.may_break parser.old result parser.new }
+{
+    yaml_parser_parse(parser)
+}
+
+/// Puts the next event into `event`.
+pub fn next_event_into<S: yaml_token_source_t>(
+    parser: &mut yaml_parser_t<S>,
+    event: &mut yaml_event_t,
+) -> Result<(), yaml_error_type_t>
+    ensures { ParsesNext S.gives S.bound S.known S.may_break parser.old (answered result event.new) parser.new }
+{
+    yaml_parser_parse_into(parser, event)
+}

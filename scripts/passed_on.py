@@ -1,0 +1,169 @@
+#!/usr/bin/env python3
+"""Fails where a crate that stands for those below it doesn't pass on a module of `specs/` that its public clauses reach.
+
+    python3 scripts/passed_on.py              names what is missing
+    python3 scripts/passed_on.py CRATE        prints the modules that the crate's public clauses reach
+
+The public clauses are those of the items that the crate's root names, its own and those of the crates below; a clause reaches
+the modules of the words that it cites, and of the words in their definitions. Declared types are named by Rust's own paths.
+"""
+import re
+import sys
+from pathlib import Path
+
+from definitions import ROOT, WORD, closure, imports, read_specs
+
+FACADES = ["unsafe_libyaml", "token_lines"]
+CRATES = [line.split(":")[0].split()[0] for line in (ROOT / "crates.txt").read_text().splitlines() if line.strip()]
+ITEM = r"^pub (?:const )?(?:fn|struct|enum|trait|const|type) {}\b"
+REEXPORT = re.compile(r"^pub use ([\w:]+?)(?:::\{([^}]*)\})?(?: as (\w+))?;", re.MULTILINE)
+
+
+def sources(crate):
+    return sorted((ROOT / "crates" / crate / "src").rglob("*.rt"))
+
+
+def named_by(path):
+    """The items that a file names in public: of other crates, or of its own crate where the first word is no crate."""
+    for where, names, alias in REEXPORT.findall(path.read_text()):
+        if names:
+            yield from ((where.split("::")[0], where.split("::")[1:], name.strip()) for name in names.split(",") if name.strip())
+        else:
+            *first, last = where.split("::")
+            yield first[0], first[1:], last
+
+
+def module_files(crate, path):
+    """The file of a public module, and those of its public modules."""
+    if path.exists():
+        yield crate, path
+        for child in re.findall(r"^pub mod (\w+);", path.read_text(), re.MULTILINE):
+            yield from module_files(crate, path.with_suffix("") / (child + ".rt"))
+
+
+def items(crate, path):
+    """The crate, file and name of each item that the file declares or names in public."""
+    for name in re.findall(ITEM.format(r"(\w+)"), path.read_text(), re.MULTILINE):
+        yield crate, path, name
+    for first, _, name in named_by(path):
+        yield from resolved(first if first in CRATES else crate, name)
+
+
+def resolved(crate, name):
+    module = ROOT / "crates" / crate / "src" / (name + ".rt")
+    if re.search(rf"^pub mod {name};", (ROOT / "crates" / crate / "src" / "lib.rt").read_text(), re.MULTILINE):
+        for owner, path in module_files(crate, module):
+            yield from items(owner, path)
+        return
+    for path in sources(crate):
+        if re.search(ITEM.format(name), path.read_text(), re.MULTILINE):
+            yield crate, path, name
+            return
+    for path in sources(crate):
+        for first, _, other in named_by(path):
+            if other == name and first in CRATES and first != crate:
+                yield from resolved(first, name)
+                return
+
+
+def public_items(crate):
+    root = ROOT / "crates" / crate / "src" / "lib.rt"
+    found = set(items(crate, root))
+    for child in re.findall(r"^pub mod (\w+);", root.read_text(), re.MULTILINE):
+        for owner, path in module_files(crate, root.parent / (child + ".rt")):
+            found |= set(items(owner, path))
+    return found
+
+
+def header(text, start):
+    """A function's line and clauses, up to its body, or a method's up to its end."""
+    end = re.compile(r"\n\s*\{|\{\}|;\n|\{\n").search(text, start)
+    return text[start : end.start() if end else len(text)]
+
+
+def block(text, start):
+    """From the start of an item to its closing brace at the left edge."""
+    end = re.compile(r"^(\}|\{\})|;$", re.MULTILINE).search(text, start)
+    return text[start : end.end() if end else len(text)]
+
+
+def without_bodies(text):
+    return re.sub(r"(\n    \{| \{)\n(        .*\n|\n)*    \}", "", text)
+
+
+def of_impl(text, found):
+    """The clauses of an `impl` block: of its public functions, and all that stands in one of a trait."""
+    whole = text[found.start() : re.compile(r"^\}", re.MULTILINE).search(text, found.end()).end()]
+    if " for " in found.group():
+        yield text + re.sub(r"^ +", "", whole, flags=re.MULTILINE), without_bodies(whole)
+        return
+    for method in re.finditer(r"^    pub (const )?fn ", whole, re.MULTILINE):
+        yield text, header(whole, method.start())
+
+
+def clauses_of(crate, path, name):
+    """The texts of an item's clauses, each behind a text with the imports that it uses."""
+    text = path.read_text()
+    start = re.search(ITEM.format(name), text, re.MULTILINE)
+    if re.match(r"pub (const )?fn", start.group()):
+        yield text, header(text, start.start())
+        return
+    if "trait" in start.group():
+        yield text, block(text, start.start())
+    for file in sources(crate):
+        text = file.read_text()
+        for found in re.finditer(rf"^impl\b[^\n{{]*\b{name}\b[^\n]*\{{$", text, re.MULTILINE):
+            yield from of_impl(text, found)
+
+
+def reached(crate, files):
+    """The modules of specs/ that the public clauses of a crate reach."""
+    seeds = set()
+    for owner, path, name in sorted(public_items(crate)):
+        for text, clauses in clauses_of(owner, path, name):
+            known = imports(text)
+            for word in {word.strip(".,;") for word in WORD.findall(re.sub(r"//.*", "", clauses))}:
+                first, _, rest = word.partition(".")
+                if word in known and known[word][1]:
+                    seeds.add(known[word])
+                elif rest and first in known:
+                    seeds.add((known[first][0], rest.split(".")[0]))
+    modules = {module for module, _ in closure(files, seeds)} | {module for module, _ in seeds if module in files}
+    return sorted(modules)
+
+
+def passed_on(crate):
+    """The modules that a crate's specs/Lib.antt names, each under the name that a user writes."""
+    found = {}
+    for line in (ROOT / "crates" / crate / "specs" / "Lib.antt").read_text().splitlines():
+        if own := re.match(r"pub mod (\w+)", line):
+            found[f"Rattle.{crate}.specs.{own.group(1)}"] = own.group(1)
+        elif other := re.match(r"pub use (Rattle[\w.]+)(?: as (\w+))?", line):
+            found[other.group(1)] = other.group(2) or other.group(1).split(".")[-1]
+    return found
+
+
+def main():
+    files = read_specs()
+    if len(sys.argv) > 1:
+        print("\n".join(reached(sys.argv[1], files)))
+        return
+    failed = False
+    for crate in FACADES:
+        told = passed_on(crate)
+        for module in reached(crate, files):
+            if module not in told:
+                failed = True
+                print(f"crates/{crate}/specs/Lib.antt doesn't pass on {module}")
+        for name in {name for name in told.values() if list(told.values()).count(name) > 1}:
+            failed = True
+            print(f"crates/{crate}/specs/Lib.antt has two modules {name}")
+        for module in told:
+            if module not in files and not module.startswith("Rattle.std"):
+                failed = True
+                print(f"crates/{crate}/specs/Lib.antt names {module}, which there is not")
+    sys.exit(failed)
+
+
+if __name__ == "__main__":
+    main()
