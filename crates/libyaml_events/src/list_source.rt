@@ -39,7 +39,7 @@ impl yaml_list_source_t {
     }
 }
 
-/// The source of a list that ends itself: behind its last token, which is STREAM-END, nothing is asked for.
+/// The source of a list that ends itself: after its last token, which is STREAM-END, nothing is asked for.
 /// A list that ends too soon ends by `no more tokens`.
 impl From<Vec<yaml_token_t>> for yaml_list_source_t {
     ghost from_gives = { λ tokens source. source ≡ coming tokens.items no_more_tokens };

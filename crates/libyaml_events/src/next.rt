@@ -23,7 +23,7 @@ pub enum Next {
     BehindFlowMappingValue,
 }
 
-/// What the next token is looked at for. A mark is the end of the token behind which it is wanted.
+/// What the next token is looked at for. A mark is the end of the token after which it is wanted.
 ///
 /// Only contracts speak of it and of `Progress`: the code keeps a `Next`, and the rest in `Pending`.
 #[derive(Drop)]
@@ -36,10 +36,10 @@ pub enum Want {
     BehindIndentlessEntry(yaml_mark_t),
     BehindKey(yaml_mark_t),
     BehindValue(yaml_mark_t),
-    /// Behind FLOW-SEQUENCE-START or FLOW-ENTRY.
+    /// After FLOW-SEQUENCE-START or FLOW-ENTRY.
     BehindFlowSequenceEntry,
     BehindFlowSequenceValue,
-    /// Behind FLOW-MAPPING-START or FLOW-ENTRY.
+    /// After FLOW-MAPPING-START or FLOW-ENTRY.
     BehindFlowMappingEntry,
     BehindFlowMappingKey,
     BehindFlowMappingValue,

@@ -1,5 +1,6 @@
 //! One call of the parser.
 ghost use Rattle.std.specs.Prelude.{◌≡◌, Ok, Err, true, false, IfErr, MatchResult};
+ghost use Rattle.libyaml_types.specs.Events.{empty_event};
 ghost use Rattle.libyaml_events.specs.machine.Config.{ended_or_failed};
 ghost use Rattle.libyaml_events.specs.sources.Calls.{Call, answered};
 ghost use Rattle.libyaml_events.specs.sources.History.{has_failed};
@@ -51,11 +52,7 @@ impl<S: yaml_token_source_t> yaml_parser_t<S> {
         ensures call { Call S.gives self.old (answered result event.new) self.new }
     {
         if self.machine.is_over() {
-            *event = yaml_event_t {
-                content: unnamed_yaml_event_t_data::NoEvent,
-                start_mark: ZERO_MARK,
-                end_mark: ZERO_MARK,
-            };
+            clear(event);
             return Ok(());
         }
         self.machine.fill(&mut self.token, &mut self.pending, event)
@@ -79,7 +76,19 @@ impl<S: yaml_token_source_t> yaml_parser_t<S> {
     }
 }
 
-/// Returns the next event of the stream. Behind the stream's end or a fault it is the empty event: nothing
+/// Puts the empty event into `event`.
+#[cold]
+fn clear(event: &mut yaml_event_t)
+    ensures { event.new ≡ empty_event }
+{
+    *event = yaml_event_t {
+        content: unnamed_yaml_event_t_data::NoEvent,
+        start_mark: ZERO_MARK,
+        end_mark: ZERO_MARK,
+    };
+}
+
+/// Returns the next event of the stream. After the stream's end or a fault it is the empty event: nothing
 /// changes, and the source is asked for nothing.
 ///
 /// # Errors

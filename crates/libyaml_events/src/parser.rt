@@ -51,7 +51,7 @@ impl<S> Model for yaml_parser_t<S> {
     ghost view = { λ p. p.machine };
 }
 
-/// A parser without what it has amid a call.
+/// A parser without what it has within a call.
 #[derive(Drop)]
 pub struct Machine<S> {
     source: S,
@@ -105,7 +105,7 @@ pub fn yaml_parser_initialize<S>(alloc: Global, source: S) -> yaml_parser_t<S>
     ensures between { between_documents result ≡ true }
     ensures begins { History result [] [] }
     ensures running { is_over result ≡ false }
-    // over a source that knows its tokens and the fault behind them, their whole run is to come
+    // over a source that knows its tokens and the fault that follows them, their whole run is to come
     ensures run_to_come { (known : S → Option Coming) (tokens : List yaml_token_t) (f : Fault)
         → known source ≡ Some (coming tokens f) → (events : List yaml_event_t) (ending : Ending)
         → IsRun tokens f events ending → RunToCome known result events ending }
@@ -182,7 +182,7 @@ impl<S> yaml_parser_t<S> {
         self.machine.max_entries
     }
 
-    /// Keeps a fault of the loader for good: want of memory, or a fault of the composer, where no fault
+    /// Keeps a fault of the loader for good: out of memory, or a composer error, where no fault
     /// is kept.
     pub fn keep_fault(&mut self, fault: yaml_parser_t_prefix)
         requires first { has_failed self.old ≡ false }
@@ -246,7 +246,7 @@ impl<S> Machine<S> {
             )
     }
 
-    /// Whether nothing more comes: behind the stream's end or a fault.
+    /// Whether nothing more comes: after the stream's end or a fault.
     pub(crate) fn is_over(&self) -> bool
         ensures { result ≡ ended_or_failed self.now.config }
     {

@@ -1,4 +1,4 @@
-//! What the parser has of a document or node amid a call.
+//! What the parser has of a document or node within a call.
 
 use crate::node_head::PropertiesRead;
 use crate::node_place::NodePlace;
@@ -31,7 +31,7 @@ impl Model for DirectivesRead {
 /// What the parser has of a document or node, where a further token is wanted.
 #[derive(Drop)]
 pub struct Pending {
-    /// The end of the token behind which it is wanted.
+    /// The end of the token after which it is wanted.
     pub mark: yaml_mark_t,
     /// Where the node stands whose properties were read.
     pub place: NodePlace,

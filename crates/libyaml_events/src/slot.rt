@@ -78,7 +78,7 @@ impl Slot {
         }
     }
 
-    /// The state behind the node. A document's is on the stack already.
+    /// The state after the node. A document's is on the stack already.
     #[inline(always)]
     pub fn state_behind(self) -> Option<yaml_parser_state_t>
         ensures value { result ≡ state_behind self }
@@ -115,7 +115,7 @@ impl Slot {
         }
     }
 
-    /// Where the empty node stands: behind the indicator of a block collection, or before the next token.
+    /// Where the empty node stands: after the indicator of a block collection, or before the next token.
     #[inline(always)]
     pub fn empty_mark(self, pending: &Pending, token: &yaml_token_t) -> yaml_mark_t
         ensures { result ≡ empty_mark self pending.now.mark token.now.start_mark }

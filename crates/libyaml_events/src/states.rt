@@ -179,7 +179,7 @@ impl<S> Machine<S> {
         }
     }
 
-    /// No token comes behind the stream's end.
+    /// No token comes after the stream's end.
     #[cold]
     fn parse_at_end(
         &mut self,
@@ -220,7 +220,7 @@ impl<S> Machine<S> {
         self.parse_node(slot.place(), token, pending, out)
     }
 
-    /// The state behind the place's node goes on the stack. A document's is there already.
+    /// The state after the place's node goes on the stack. A document's is there already.
     #[inline(always)]
     fn push_state_behind(&mut self, slot: Slot) -> Result<(), yaml_error_type_t>
         ensures ok { OnOk result (self.new
@@ -238,6 +238,7 @@ impl<S> Machine<S> {
     /// An empty node at `mark`; the token stays.
     ///
     /// libyaml: `yaml_parser_process_empty_scalar`.
+    #[inline(never)]
     fn process_empty_scalar(
         &mut self,
         mark: yaml_mark_t,
@@ -269,6 +270,7 @@ impl<S> Machine<S> {
     }
 
     /// The end of the innermost collection, at the token that closes it.
+    #[inline(never)]
     fn close(
         &mut self,
         content: unnamed_yaml_event_t_data,

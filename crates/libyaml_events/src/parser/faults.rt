@@ -15,7 +15,8 @@ impl<S> Machine<S> {
         self.prefix = prefix;
     }
 
-    /// Keeps want of memory.
+    /// Keeps the fault of an allocation that failed.
+    #[cold]
     pub(crate) fn out_of_memory(&mut self) -> yaml_error_type_t
         ensures error { result ≡ yaml_error_type_t.YAML_MEMORY_ERROR }
         ensures kept { self.new ≡ with_config self.old (with_fault self.old.config memory_fault) }
@@ -30,6 +31,7 @@ impl<S> Machine<S> {
     /// Keeps a fault of the grammar, at the bad token.
     ///
     /// libyaml: `yaml_parser_set_parser_error`.
+    #[cold]
     pub(crate) fn set_parser_error(
         &mut self,
         problem: &'static str,
@@ -51,6 +53,7 @@ impl<S> Machine<S> {
     /// Keeps a fault of the grammar in what began at `context_mark`.
     ///
     /// libyaml: `yaml_parser_set_parser_error_context`.
+    #[cold]
     pub(crate) fn set_parser_error_context(
         &mut self,
         context: &'static str,

@@ -48,8 +48,8 @@ impl<S> Machine<S> {
         }
     }
 
-    /// Declares a handle, and answers whether it was declared before. Keeps want of memory where it is
-    /// refused.
+    /// Declares a handle, and returns whether it was declared before. An allocation that fails is kept as the
+    /// parser's fault.
     pub(crate) fn declare(&mut self, handle: &str, prefix: &str) -> Result<bool, yaml_error_type_t>
         ensures before { IfOk result (λ was_declared. was_declared
             ≡ is_some (map.get self.old.config.handles handle.now)) }
@@ -77,7 +77,7 @@ impl<S> Machine<S> {
         self.handles = BTreeMap::new(self.alloc);
     }
 
-    /// The tag in full: its suffix alone where its handle is empty, else behind the handle's prefix.
+    /// The tag in full: its suffix alone where its handle is empty, else after the handle's prefix.
     /// Keeps the fault of a handle that is not defined, in a node that begins at `start_mark`.
     pub(crate) fn resolve_tag(
         &mut self,

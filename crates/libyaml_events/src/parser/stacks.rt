@@ -43,8 +43,9 @@ impl<S> Machine<S> {
         self.state = state;
     }
 
-    /// Puts a state on the stack, to go back to. Keeps want of memory where the growth is refused.
+    /// Puts a state on the stack, to go back to. An allocation that fails is kept as the fault.
     #[tactic(auto, using(crate::proofs::code::Stacks::stack_push))]
+    #[inline(always)]
     pub(crate) fn push_state(&mut self, state: yaml_parser_state_t) -> Result<(), yaml_error_type_t>
         requires { IsBackByte (parser_state_number state) }
         ensures ok { OnOk result (self.new ≡ with_config self.old (pushed state self.old.config)) }
@@ -68,7 +69,7 @@ impl<S> Machine<S> {
         };
     }
 
-    /// Puts the start of a collection on the stack. Keeps want of memory where the growth is refused.
+    /// Puts the start of a collection on the stack. An allocation that fails is kept as the fault.
     #[tactic(auto, using(crate::proofs::code::Stacks::reverse_push))]
     pub(crate) fn push_mark(&mut self, mark: yaml_mark_t) -> Result<(), yaml_error_type_t>
         ensures ok { OnOk result (self.new ≡ with_config self.old (pushed_mark mark self.old.config)) }

@@ -21,6 +21,7 @@ pub(super) fn no_token() -> yaml_token_t {
 
 impl<S> Machine<S> {
     /// The token stays, to be looked at again: it is moved out of its slot.
+    #[inline(always)]
     pub(crate) fn keep(&mut self, token: &mut yaml_token_t)
         ensures { self.new ≡ with_config self.old (keep token.old self.old.config) }
     {

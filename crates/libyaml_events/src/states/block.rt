@@ -1,4 +1,4 @@
-//! Block collections, behind their start events (`open_collection`).
+//! Block collections, after their start events (`open_collection`).
 //!
 //! ```text
 //! block_sequence ::= BLOCK-SEQUENCE-START (BLOCK-ENTRY block_node?)* BLOCK-END
@@ -49,6 +49,7 @@ use libyaml_types::{
 
 impl<S> Machine<S> {
     /// At BLOCK-SEQUENCE-START, whose start is kept.
+    #[inline(never)]
     pub(super) fn parse_first_block_sequence_entry(
         &mut self,
         token: &yaml_token_t,
@@ -123,6 +124,7 @@ impl<S> Machine<S> {
     }
 
     /// At BLOCK-MAPPING-START, whose start is kept.
+    #[inline(never)]
     pub(super) fn parse_first_block_mapping_key(
         &mut self,
         token: &yaml_token_t,

@@ -18,7 +18,7 @@
 //!   libyaml: yaml_parser_parse_node, yaml_parser_parse_document_content
 //!   7 parse_document_end             YAML_PARSE_DOCUMENT_END_STATE
 //!   libyaml: yaml_parser_parse_document_end
-//!   2 stands at the stream's start and behind DOCUMENT-END, 3 behind a document without one,
+//!   2 stands at the stream's start and after DOCUMENT-END, 3 after a document without one,
 //!   where the next is explicit. They take a document's first token, which stays for 5 where
 //!   the document is implicit.
 //!   At a token other than DOCUMENT-END, 7 ends the document, and the token stays for 3.
@@ -52,6 +52,7 @@ use libyaml_types::{
 use std::mem;
 
 impl<S> Machine<S> {
+    #[inline(never)]
     pub(super) fn parse_stream_start(
         &mut self,
         token: &yaml_token_t,
@@ -81,7 +82,7 @@ impl<S> Machine<S> {
         }
     }
 
-    /// The document's root comes next, in `state`, and behind it the document's end.
+    /// The document's root comes next, in `state`, and after it the document's end.
     fn begin_document(&mut self, state: yaml_parser_state_t) -> Result<(), yaml_error_type_t>
         ensures ok { OnOk result (self.new ≡ with_config self.old (begin_document state self.old.config)) }
         ensures err { OnErr result ((result ≡ Err yaml_error_type_t.YAML_MEMORY_ERROR)
@@ -163,9 +164,10 @@ impl<S> Machine<S> {
         Ok(Next::BehindDirective)
     }
 
-    /// A directive or DOCUMENT-START, behind these directives.
+    /// A directive or DOCUMENT-START, after these directives.
     ///
     /// libyaml: `yaml_parser_process_directives`.
+    #[inline(never)]
     pub(super) fn parse_explicit_document(
         &mut self,
         token: &mut yaml_token_t,
@@ -252,8 +254,9 @@ impl<S> Machine<S> {
         );
     }
 
-    /// Where a document may be implicit: at the stream's start and behind DOCUMENT-END. A further
+    /// Where a document may be implicit: at the stream's start and after DOCUMENT-END. A further
     /// DOCUMENT-END is skipped.
+    #[inline(never)]
     pub(super) fn parse_implicit_document_start(
         &mut self,
         token: &mut yaml_token_t,
@@ -286,7 +289,8 @@ impl<S> Machine<S> {
         }
     }
 
-    /// Where a document must be explicit: behind one that no DOCUMENT-END ends.
+    /// Where a document must be explicit: after one that no DOCUMENT-END ends.
+    #[inline(never)]
     pub(super) fn parse_document_start(
         &mut self,
         token: &mut yaml_token_t,
@@ -316,6 +320,7 @@ impl<S> Machine<S> {
         self.set_behind_document_end(behind_document_end);
     }
 
+    #[inline(never)]
     pub(super) fn parse_document_end(&mut self, token: &mut yaml_token_t, out: &mut yaml_event_t)
         ensures { Steps (parse_document_end self.old.config token.old token.old.content) self.old
             (Ok (Given out.new)) self.new }

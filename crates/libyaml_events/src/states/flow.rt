@@ -1,4 +1,4 @@
-//! Flow collections, behind their start events (`open_collection`).
+//! Flow collections, after their start events (`open_collection`).
 //!
 //! ```text
 //! flow_sequence ::= FLOW-SEQUENCE-START (entry FLOW-ENTRY)* entry? FLOW-SEQUENCE-END
@@ -20,7 +20,7 @@
 //!   7 parse_flow_sequence_entry_mapping_end    YAML_PARSE_FLOW_SEQUENCE_ENTRY_MAPPING_END_STATE
 //!   libyaml: yaml_parser_parse_flow_sequence_entry_mapping_end
 //!   At a token other than VALUE, 5 gives the empty value, and the token stays for 7.
-//!   7 ends the pair at the token behind it, which stays for 3.
+//!   7 ends the pair at the token after it, which stays for 3.
 //!
 //! flow_mapping ::= FLOW-MAPPING-START (entry FLOW-ENTRY)* entry? FLOW-MAPPING-END
 //!                  1                   2     3            2      2 or 3
@@ -36,7 +36,7 @@
 //!   7 parse_flow_mapping_empty_value   YAML_PARSE_FLOW_MAPPING_EMPTY_VALUE_STATE
 //!   libyaml: yaml_parser_parse_flow_mapping_value
 //!   At a token other than VALUE, 5 gives the empty value, and the token stays for 3.
-//!   7 gives the empty value of a node without KEY at the token behind it, which stays for 3.
+//!   7 gives the empty value of a node without KEY at the token after it, which stays for 3.
 //! ```
 ghost use Rattle.std.specs.Prelude.{◌≡◌, Ok, Err, IfErr, true};
 ghost use Rattle.libyaml_events.specs.machine.Machine.{first_flow_sequence_entry};
@@ -67,6 +67,7 @@ use libyaml_types::{
 
 impl<S> Machine<S> {
     /// At FLOW-SEQUENCE-START, whose start is kept.
+    #[inline(never)]
     pub(super) fn parse_first_flow_sequence_entry(
         &mut self,
         token: &yaml_token_t,
@@ -112,8 +113,9 @@ impl<S> Machine<S> {
         }
     }
 
-    /// Behind FLOW-SEQUENCE-START or FLOW-ENTRY: an entry, which with KEY is a mapping of one pair, or
+    /// After FLOW-SEQUENCE-START or FLOW-ENTRY: an entry, which with KEY is a mapping of one pair, or
     /// the end.
+    #[inline(never)]
     pub(super) fn parse_behind_flow_sequence_entry(
         &mut self,
         token: &mut yaml_token_t,
@@ -149,6 +151,7 @@ impl<S> Machine<S> {
         }
     }
 
+    #[inline(never)]
     pub(super) fn parse_flow_sequence_entry_mapping_value(
         &mut self,
         token: &mut yaml_token_t,
@@ -171,7 +174,8 @@ impl<S> Machine<S> {
         }
     }
 
-    /// Behind a pair.
+    /// After a pair.
+    #[inline(never)]
     pub(super) fn parse_flow_sequence_entry_mapping_end(
         &mut self,
         token: &mut yaml_token_t,
@@ -187,6 +191,7 @@ impl<S> Machine<S> {
     }
 
     /// At FLOW-MAPPING-START, whose start is kept.
+    #[inline(never)]
     pub(super) fn parse_first_flow_mapping_key(
         &mut self,
         token: &yaml_token_t,
@@ -232,7 +237,8 @@ impl<S> Machine<S> {
         }
     }
 
-    /// Behind FLOW-MAPPING-START or FLOW-ENTRY: an entry, or the end.
+    /// After FLOW-MAPPING-START or FLOW-ENTRY: an entry, or the end.
+    #[inline(never)]
     pub(super) fn parse_behind_flow_mapping_entry(
         &mut self,
         token: &mut yaml_token_t,
@@ -278,7 +284,8 @@ impl<S> Machine<S> {
         }
     }
 
-    /// Behind an entry without KEY: its value is empty.
+    /// After an entry without KEY: its value is empty.
+    #[inline(never)]
     pub(super) fn parse_flow_mapping_empty_value(
         &mut self,
         token: &mut yaml_token_t,

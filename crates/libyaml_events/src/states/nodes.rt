@@ -11,7 +11,7 @@
 //!   2 parse_behind_properties  Next::BehindProperties
 //!   libyaml: yaml_parser_parse_node
 //!   `NodePlace` says which contents may stand at a place. A content's first token goes on to
-//!   `parse_node_content`, or to `bare_scalar` where it is the whole node. The token behind
+//!   `parse_node_content`, or to `bare_scalar` where it is the whole node. The token after
 //!   properties alone goes there too, and stays.
 //! ```
 ghost use Rattle.std.specs.Prelude.{◌≡◌, Ok, Err, IfErr, None, false, true, option_map, string_bytes};
@@ -23,6 +23,7 @@ ghost use Rattle.libyaml_events.specs.machine.Machine.{no_content};
 ghost use Rattle.libyaml_events.specs.machine.Machine.{open_collection, scalar_content};
 ghost use Rattle.libyaml_events.specs.machine.Collections.{collection_start};
 ghost use Rattle.libyaml_events.specs.machine.Machine.{is_block_place, node_content};
+ghost use Rattle.libyaml_events.specs.machine.Machine.{head, no_properties};
 ghost use Rattle.libyaml_events.specs.machine.Machine.{content_behind, behind_properties};
 ghost use Rattle.libyaml_events.specs.machine.Machine.{parse_node};
 ghost use Rattle.libyaml_events.specs.machine.Growth.{joins, joins_before};
@@ -181,7 +182,15 @@ impl<S> Machine<S> {
                 self.bare_scalar(scalar, &token.start_mark, &token.end_mark, out);
                 Ok(Next::Given)
             }
-            _ => self.parse_other_node(place, token, pending, out),
+            unnamed_yaml_token_t_data::Alias(_)
+            | unnamed_yaml_token_t_data::Anchor(_)
+            | unnamed_yaml_token_t_data::Tag(_) => {
+                self.parse_alias_or_property(place, token, pending, out)
+            }
+            _ => {
+                self.parse_bare_content(place, token, out)?;
+                Ok(Next::Given)
+            }
         }
     }
 
@@ -216,9 +225,9 @@ impl<S> Machine<S> {
         );
     }
 
-    /// A node at its first token, which may be any.
+    /// A node that begins with an alias or a property.
     #[inline(never)]
-    fn parse_other_node(
+    fn parse_alias_or_property(
         &mut self,
         place: NodePlace,
         token: &mut yaml_token_t,
@@ -267,19 +276,34 @@ impl<S> Machine<S> {
                 Ok(Next::BehindProperties)
             }
             _ => {
-                let head = NodeHead {
-                    anchor: None,
-                    tag: None,
-                    start_mark,
-                    end_mark,
-                };
-                self.parse_node_content(place, head, token, out)?;
+                self.parse_bare_content(place, token, out)?;
                 Ok(Next::Given)
             }
         }
     }
 
-    /// Behind properties: the other one, or what the node is.
+    /// A node without properties.
+    #[inline(never)]
+    fn parse_bare_content(
+        &mut self,
+        place: NodePlace,
+        token: &mut yaml_token_t,
+        out: &mut yaml_event_t,
+    ) -> Result<(), yaml_error_type_t>
+        ensures steps { Steps (node_content place (head (no_properties token.old) None) self.old.config
+            token.old token.old.content) self.old (given result out.new) self.new }
+        ensures error { IfErr result (λ e. e ≡ yaml_error_type_t.YAML_PARSER_ERROR) }
+    {
+        let head = NodeHead {
+            anchor: None,
+            tag: None,
+            start_mark: token.start_mark,
+            end_mark: token.end_mark,
+        };
+        self.parse_node_content(place, head, token, out)
+    }
+
+    /// After properties: the other one, or what the node is.
     pub(super) fn parse_behind_properties(
         &mut self,
         token: &mut yaml_token_t,
@@ -312,7 +336,7 @@ impl<S> Machine<S> {
         }
     }
 
-    /// What the node is, behind its properties. A handle that is not defined is found here.
+    /// What the node is, after its properties. A handle that is not defined is found here.
     fn parse_content_behind(
         &mut self,
         token: &mut yaml_token_t,
