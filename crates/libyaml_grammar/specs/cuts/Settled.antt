@@ -28,7 +28,6 @@ pub record IsSettled (l : List Token) (e : List Event) : Type 0 where
   pub begins_each : BeginsEach l e
   pub longest : (d : List Event) → BeginsEach l d → Begins d e
 
--- the first event of a list, if it has one
 abbrev pub next_event : List Event → Option Event
 next_event [] = None
 next_event (e ∷ r) = Some e

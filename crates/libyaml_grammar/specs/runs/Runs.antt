@@ -18,12 +18,10 @@ pub data Ending : Type 0 where
   Ends : Ending
   Fails : Fault → Ending
 
--- whether a list has a token
 abbrev pub has_token : List Token → Bool
 has_token [] = false
 has_token (t ∷ l) = true
 
--- The token after a TAG has the content k, and l is what follows it. An ANCHOR is a property too: then l must have a token.
 abbrev pub is_behind : Content → List Token → Bool
 is_behind (Anchor a) l = has_token l
 is_behind k l = true
