@@ -20,7 +20,7 @@ use token_lines::{Outcome, run_events, run_nodes, write_events, write_nodes};
 use unsafe_libyaml::{yaml_parser_t, yaml_token_source_t};
 
 /// Writes the lines of a reader's events.
-pub fn event_lines<R: BufRead + Drop, W: Write>(alloc: Global, reader: R, writer: &mut W) -> Outcome
+pub fn lines_of_reader<R: BufRead + Drop, W: Write>(alloc: Global, reader: R, writer: &mut W) -> Outcome
     ensures { RunsOver R.remaining W.contents reader result (W.contents writer.old) (W.contents writer.new) }
 {
     run_events(alloc, reader, writer)
@@ -38,7 +38,7 @@ pub fn texts_of_reader<R: BufRead + Drop, W: Write>(
 }
 
 /// Writes the lines of the events that are to come.
-pub fn texts_to_come<S: yaml_token_source_t, W: Write>(
+pub fn lines_to_come<S: yaml_token_source_t, W: Write>(
     alloc: Global,
     parser: &mut yaml_parser_t<S>,
     writer: &mut W,
@@ -57,7 +57,7 @@ pub fn texts_to_come<S: yaml_token_source_t, W: Write>(
 }
 
 /// Writes the texts of the documents that are to come.
-pub fn document_texts<S: yaml_token_source_t, W: Write>(
+pub fn texts_to_come<S: yaml_token_source_t, W: Write>(
     alloc: Global,
     parser: &mut yaml_parser_t<S>,
     writer: &mut W,
