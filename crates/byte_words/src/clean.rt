@@ -5,7 +5,7 @@ ghost use Rattle.byte_words.specs.Clean.{IsClean, is_odd_at};
 
 use crate::word::word_at;
 
-/// Whether each byte is a visible ASCII character other than `%`.
+/// Returns whether each byte is a visible ASCII character other than `%`.
 #[inline(always)]
 pub fn is_clean(bytes: &[u8]) -> bool
     ensures clean { result ≡ true → All IsClean bytes.now }

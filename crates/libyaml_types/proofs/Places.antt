@@ -17,7 +17,7 @@ use Rattle.libyaml_types.specs.declared.enums.yaml_parser_state_t.{yaml_parser_s
 use Rattle.libyaml_types.specs.declared.enums.yaml_parser_state_t.TheVariants as states
 use Rattle.libyaml_types.specs.Numbers.{token_type_number, parser_state_number}
 
--- where a variant stands among the others
+-- a variant's place among the others
 abbrev place : (Fss : List (List Field)) → Choice Fss → ℕ
 place Fss c = tag (rowss Fss) (intoss Fss c)
 

@@ -25,7 +25,7 @@ use crate::token::{unnamed_yaml_token_t_data, yaml_token_t};
 use crate::utf8::{checked, checked_option, copied, copied_option};
 use std::alloc::Global;
 
-/// The event of this content, with zero marks.
+/// Returns the event of this content, with zero marks.
 fn unmarked_event(content: unnamed_yaml_event_t_data) -> yaml_event_t
     ensures { result ≡ unmarked content }
 {
@@ -36,7 +36,7 @@ fn unmarked_event(content: unnamed_yaml_event_t_data) -> yaml_event_t
     }
 }
 
-/// The start of a stream in this encoding, with zero marks. Takes no memory.
+/// Returns the start of a stream in this encoding, with zero marks. Takes no memory.
 ///
 /// libyaml: `yaml_stream_start_event_initialize`.
 pub fn yaml_stream_start_event_initialize(encoding: yaml_encoding_t) -> yaml_event_t
@@ -46,7 +46,7 @@ pub fn yaml_stream_start_event_initialize(encoding: yaml_encoding_t) -> yaml_eve
     unmarked_event(unnamed_yaml_event_t_data::StreamStart(start))
 }
 
-/// The end of a stream, with zero marks. Takes no memory.
+/// Returns the end of a stream, with zero marks. Takes no memory.
 ///
 /// libyaml: `yaml_stream_end_event_initialize`.
 pub fn yaml_stream_end_event_initialize() -> yaml_event_t
@@ -55,12 +55,15 @@ pub fn yaml_stream_end_event_initialize() -> yaml_event_t
     unmarked_event(unnamed_yaml_event_t_data::StreamEnd)
 }
 
-/// The start of a document with this version and these tag directives, each a handle and its
+/// Returns the start of a document with this version and these tag directives, each a handle and its
 /// prefix, with zero marks.
 ///
-/// Refuses a handle or prefix that isn't UTF-8 as `NotUtf8`, before memory is asked for, and answers
-/// `Memory` where memory is refused. Nothing else is looked at: a handle may be any text, and stand
-/// there twice.
+/// A handle may be any text, and may be there twice.
+///
+/// # Errors
+///
+/// `NotUtf8`, where a handle or prefix isn't UTF-8, before anything is allocated; `Memory`, where an
+/// allocation fails. Nothing else is checked.
 ///
 /// libyaml: `yaml_document_start_event_initialize`.
 pub fn yaml_document_start_event_initialize(
@@ -84,7 +87,7 @@ pub fn yaml_document_start_event_initialize(
     Ok(unmarked_event(unnamed_yaml_event_t_data::DocumentStart(start)))
 }
 
-/// The end of a document, with zero marks. Takes no memory.
+/// Returns the end of a document, with zero marks. Takes no memory.
 ///
 /// libyaml: `yaml_document_end_event_initialize`.
 pub fn yaml_document_end_event_initialize(implicit: bool) -> yaml_event_t
@@ -94,10 +97,12 @@ pub fn yaml_document_end_event_initialize(implicit: bool) -> yaml_event_t
     unmarked_event(unnamed_yaml_event_t_data::DocumentEnd(end))
 }
 
-/// An alias of the node with this anchor, with zero marks.
+/// Returns an alias of the node with this anchor, with zero marks.
 ///
-/// Refuses an anchor that isn't UTF-8 as `NotUtf8`, before memory is asked for, and answers `Memory`
-/// where memory is refused.
+/// # Errors
+///
+/// `NotUtf8`, where the anchor isn't UTF-8, before anything is allocated; `Memory`, where an allocation
+/// fails.
 ///
 /// libyaml: `yaml_alias_event_initialize`.
 pub fn yaml_alias_event_initialize(
@@ -116,11 +121,14 @@ pub fn yaml_alias_event_initialize(
     Ok(unmarked_event(unnamed_yaml_event_t_data::Alias(alias)))
 }
 
-/// A scalar, with zero marks.
+/// Returns a scalar, with zero marks.
 ///
-/// Refuses a text that isn't UTF-8 as `NotUtf8`, before memory is asked for, and answers `Memory`
-/// where memory is refused. Nothing else is looked at: a scalar without tag may have both flags
-/// false.
+/// A scalar without tag may have both flags false.
+///
+/// # Errors
+///
+/// `NotUtf8`, where one of the texts isn't UTF-8, before anything is allocated; `Memory`, where an
+/// allocation fails. Nothing else is checked.
 ///
 /// libyaml: `yaml_scalar_event_initialize`.
 pub fn yaml_scalar_event_initialize(
@@ -157,10 +165,12 @@ pub fn yaml_scalar_event_initialize(
     Ok(unmarked_event(unnamed_yaml_event_t_data::Scalar(scalar)))
 }
 
-/// The start of a sequence, with zero marks.
+/// Returns the start of a sequence, with zero marks.
 ///
-/// Refuses an anchor or tag that isn't UTF-8 as `NotUtf8`, before memory is asked for, and answers
-/// `Memory` where memory is refused. Nothing else is looked at.
+/// # Errors
+///
+/// `NotUtf8`, where the anchor or tag isn't UTF-8, before anything is allocated; `Memory`, where an
+/// allocation fails. Nothing else is checked.
 ///
 /// libyaml: `yaml_sequence_start_event_initialize`.
 pub fn yaml_sequence_start_event_initialize(
@@ -191,7 +201,7 @@ pub fn yaml_sequence_start_event_initialize(
     Ok(unmarked_event(unnamed_yaml_event_t_data::SequenceStart(start)))
 }
 
-/// The end of a sequence, with zero marks. Takes no memory.
+/// Returns the end of a sequence, with zero marks. Takes no memory.
 ///
 /// libyaml: `yaml_sequence_end_event_initialize`.
 pub fn yaml_sequence_end_event_initialize() -> yaml_event_t
@@ -200,10 +210,12 @@ pub fn yaml_sequence_end_event_initialize() -> yaml_event_t
     unmarked_event(unnamed_yaml_event_t_data::SequenceEnd)
 }
 
-/// The start of a mapping, with zero marks.
+/// Returns the start of a mapping, with zero marks.
 ///
-/// Refuses an anchor or tag that isn't UTF-8 as `NotUtf8`, before memory is asked for, and answers
-/// `Memory` where memory is refused. Nothing else is looked at.
+/// # Errors
+///
+/// `NotUtf8`, where the anchor or tag isn't UTF-8, before anything is allocated; `Memory`, where an
+/// allocation fails. Nothing else is checked.
 ///
 /// libyaml: `yaml_mapping_start_event_initialize`.
 pub fn yaml_mapping_start_event_initialize(
@@ -234,7 +246,7 @@ pub fn yaml_mapping_start_event_initialize(
     Ok(unmarked_event(unnamed_yaml_event_t_data::MappingStart(start)))
 }
 
-/// The end of a mapping, with zero marks. Takes no memory.
+/// Returns the end of a mapping, with zero marks. Takes no memory.
 ///
 /// libyaml: `yaml_mapping_end_event_initialize`.
 pub fn yaml_mapping_end_event_initialize() -> yaml_event_t

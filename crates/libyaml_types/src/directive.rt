@@ -13,7 +13,9 @@ use std::marker::Model;
 /// libyaml: `yaml_version_directive_t`.
 #[derive(Copy, Clone, PartialEq, Eq, Debug)]
 pub struct yaml_version_directive_t {
+    /// The number before the point.
     pub major: i32,
+    /// The number after the point.
     pub minor: i32,
 }
 
@@ -22,7 +24,9 @@ pub struct yaml_version_directive_t {
 /// libyaml: `yaml_tag_directive_t`.
 #[derive(Debug, Drop)]
 pub struct yaml_tag_directive_t {
+    /// The handle, as `!!`.
     pub handle: String,
+    /// The prefix that replaces the handle.
     pub prefix: String,
 }
 
@@ -57,10 +61,12 @@ impl Eq for yaml_tag_directive_t {
     ghost laws = { same_directive_equiv };
 }
 
-/// The directives of these handles and prefixes.
+/// Returns the directives of these handles and prefixes.
 ///
-/// Refuses a handle or prefix that isn't UTF-8 as `NotUtf8`, before memory is asked for, and
-/// answers `Memory` where memory is refused.
+/// # Errors
+///
+/// `NotUtf8`, where a handle or prefix isn't UTF-8, before anything is allocated; `Memory`, where an
+/// allocation fails.
 pub fn directives_of_pairs(
     alloc: Global,
     pairs: &[(&[u8], &[u8])],

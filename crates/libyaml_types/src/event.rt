@@ -15,16 +15,20 @@ use std::marker::Model;
 /// libyaml: `unnamed_yaml_event_t_data_stream_start`.
 #[derive(PartialEq, Eq, Debug, Drop)]
 pub struct unnamed_yaml_event_t_data_stream_start {
+    /// The encoding of the stream.
     pub encoding: yaml_encoding_t,
 }
 
-/// The start of a document: its directives, and whether no DOCUMENT-START stands there.
+/// The start of a document: its directives, and whether it has no DOCUMENT-START.
 ///
 /// libyaml: `unnamed_yaml_event_t_data_document_start`.
 #[derive(Debug, Drop)]
 pub struct unnamed_yaml_event_t_data_document_start {
+    /// The version, where one is given.
     pub version_directive: Option<yaml_version_directive_t>,
+    /// The tag directives.
     pub tag_directives: Vec<yaml_tag_directive_t>,
+    /// Whether no `---` is written.
     pub implicit: bool,
 }
 
@@ -61,11 +65,12 @@ impl Eq for unnamed_yaml_event_t_data_document_start {
     ghost laws = { same_document_start_equiv };
 }
 
-/// The end of a document: whether no DOCUMENT-END stands there.
+/// The end of a document: whether it has no DOCUMENT-END.
 ///
 /// libyaml: `unnamed_yaml_event_t_data_document_end`.
 #[derive(PartialEq, Eq, Debug, Drop)]
 pub struct unnamed_yaml_event_t_data_document_end {
+    /// Whether no `...` is written.
     pub implicit: bool,
 }
 
@@ -74,6 +79,7 @@ pub struct unnamed_yaml_event_t_data_document_end {
 /// libyaml: `unnamed_yaml_event_t_data_alias`.
 #[derive(Debug, Drop)]
 pub struct unnamed_yaml_event_t_data_alias {
+    /// The name of the anchor.
     pub anchor: String,
 }
 
@@ -113,11 +119,17 @@ impl Eq for unnamed_yaml_event_t_data_alias {
 /// libyaml: `unnamed_yaml_event_t_data_scalar`.
 #[derive(Debug, Drop)]
 pub struct unnamed_yaml_event_t_data_scalar {
+    /// The name of its anchor, where it has one.
     pub anchor: Option<String>,
+    /// The tag, where one is given.
     pub tag: Option<String>,
+    /// The text.
     pub value: String,
+    /// Whether the tag may be left out where it is written plain.
     pub plain_implicit: bool,
+    /// Whether the tag may be left out where it is written in quotes.
     pub quoted_implicit: bool,
+    /// How it is written.
     pub style: yaml_scalar_style_t,
 }
 
@@ -166,9 +178,13 @@ impl Eq for unnamed_yaml_event_t_data_scalar {
 /// libyaml: `unnamed_yaml_event_t_data_sequence_start`.
 #[derive(Debug, Drop)]
 pub struct unnamed_yaml_event_t_data_sequence_start {
+    /// The name of its anchor, where it has one.
     pub anchor: Option<String>,
+    /// The tag, where one is given.
     pub tag: Option<String>,
+    /// Whether the tag may be left out.
     pub implicit: bool,
+    /// How it is written.
     pub style: yaml_sequence_style_t,
 }
 
@@ -213,9 +229,13 @@ impl Eq for unnamed_yaml_event_t_data_sequence_start {
 /// libyaml: `unnamed_yaml_event_t_data_mapping_start`.
 #[derive(Debug, Drop)]
 pub struct unnamed_yaml_event_t_data_mapping_start {
+    /// The name of its anchor, where it has one.
     pub anchor: Option<String>,
+    /// The tag, where one is given.
     pub tag: Option<String>,
+    /// Whether the tag may be left out.
     pub implicit: bool,
+    /// How it is written.
     pub style: yaml_mapping_style_t,
 }
 
@@ -260,16 +280,27 @@ impl Eq for unnamed_yaml_event_t_data_mapping_start {
 /// libyaml: the union `unnamed_yaml_event_t_data`.
 #[derive(PartialEq, Eq, Debug, Drop)]
 pub enum unnamed_yaml_event_t_data {
+    /// Nothing.
     NoEvent,
+    /// The start of the stream.
     StreamStart(unnamed_yaml_event_t_data_stream_start),
+    /// The end of the stream.
     StreamEnd,
+    /// The start of a document.
     DocumentStart(unnamed_yaml_event_t_data_document_start),
+    /// The end of a document.
     DocumentEnd(unnamed_yaml_event_t_data_document_end),
+    /// An alias.
     Alias(unnamed_yaml_event_t_data_alias),
+    /// A scalar.
     Scalar(unnamed_yaml_event_t_data_scalar),
+    /// The start of a sequence.
     SequenceStart(unnamed_yaml_event_t_data_sequence_start),
+    /// The end of a sequence.
     SequenceEnd,
+    /// The start of a mapping.
     MappingStart(unnamed_yaml_event_t_data_mapping_start),
+    /// The end of a mapping.
     MappingEnd,
 }
 
@@ -278,15 +309,18 @@ pub enum unnamed_yaml_event_t_data {
 /// libyaml: `yaml_event_t`.
 #[derive(PartialEq, Eq, Debug, Drop)]
 pub struct yaml_event_t {
+    /// What it holds.
     pub content: unnamed_yaml_event_t_data,
+    /// Where it begins.
     pub start_mark: yaml_mark_t,
+    /// Where it ends.
     pub end_mark: yaml_mark_t,
 }
 
 impl yaml_event_t {
     ghost use Rattle.libyaml_types.specs.Types.{event_type};
 
-    /// The type of the event.
+    /// Returns the type of the event.
     ///
     /// libyaml: the field `type`.
     pub fn type_(&self) -> yaml_event_type_t

@@ -9,13 +9,13 @@ use thiserror::Error;
 
 /// Why a constructor or a call on a document gives nothing.
 ///
-/// libyaml: none; its calls answer `FAIL`, or an id of 0, without a cause.
+/// libyaml: none; its calls return `FAIL`, or an id of 0, without a cause.
 #[derive(PartialEq, Eq, Debug, Drop, Error)]
 pub enum yaml_refusal_t {
     /// A text that isn't UTF-8.
     #[error("text is not UTF-8")]
     NotUtf8,
-    /// A growth that was refused.
+    /// An allocation failed.
     #[error("out of memory")]
     Memory,
     /// A document with as many nodes as an `i32` can number.
@@ -24,7 +24,7 @@ pub enum yaml_refusal_t {
 }
 
 impl yaml_refusal_t {
-    /// The number of this cause, from 1.
+    /// Returns the number of this cause, from 1.
     pub fn number(&self) -> u32
         ensures { result ≡ refusal_number self.now }
     {

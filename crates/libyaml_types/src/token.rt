@@ -11,6 +11,7 @@ use std::marker::Model;
 /// libyaml: `unnamed_yaml_token_t_data_stream_start`.
 #[derive(PartialEq, Eq, Debug, Drop)]
 pub struct unnamed_yaml_token_t_data_stream_start {
+    /// The encoding of the stream.
     pub encoding: yaml_encoding_t,
 }
 
@@ -19,7 +20,9 @@ pub struct unnamed_yaml_token_t_data_stream_start {
 /// libyaml: `unnamed_yaml_token_t_data_version_directive`.
 #[derive(PartialEq, Eq, Debug, Drop)]
 pub struct unnamed_yaml_token_t_data_version_directive {
+    /// The number before the point.
     pub major: i32,
+    /// The number after the point.
     pub minor: i32,
 }
 
@@ -28,7 +31,9 @@ pub struct unnamed_yaml_token_t_data_version_directive {
 /// libyaml: `unnamed_yaml_token_t_data_tag_directive`.
 #[derive(Debug, Drop)]
 pub struct unnamed_yaml_token_t_data_tag_directive {
+    /// The handle, as `!!`.
     pub handle: String,
+    /// The prefix that replaces the handle.
     pub prefix: String,
 }
 
@@ -68,6 +73,7 @@ impl Eq for unnamed_yaml_token_t_data_tag_directive {
 /// libyaml: `unnamed_yaml_token_t_data_alias`.
 #[derive(Debug, Drop)]
 pub struct unnamed_yaml_token_t_data_alias {
+    /// The name.
     pub value: String,
 }
 
@@ -106,6 +112,7 @@ impl Eq for unnamed_yaml_token_t_data_alias {
 /// libyaml: `unnamed_yaml_token_t_data_anchor`.
 #[derive(Debug, Drop)]
 pub struct unnamed_yaml_token_t_data_anchor {
+    /// The name.
     pub value: String,
 }
 
@@ -144,7 +151,9 @@ impl Eq for unnamed_yaml_token_t_data_anchor {
 /// libyaml: `unnamed_yaml_token_t_data_tag`.
 #[derive(Debug, Drop)]
 pub struct unnamed_yaml_token_t_data_tag {
+    /// The handle, as `!!`.
     pub handle: String,
+    /// What follows the handle.
     pub suffix: String,
 }
 
@@ -184,7 +193,9 @@ impl Eq for unnamed_yaml_token_t_data_tag {
 /// libyaml: `unnamed_yaml_token_t_data_scalar`.
 #[derive(Debug, Drop)]
 pub struct unnamed_yaml_token_t_data_scalar {
+    /// The text.
     pub value: String,
+    /// How it is written.
     pub style: yaml_scalar_style_t,
 }
 
@@ -224,27 +235,49 @@ impl Eq for unnamed_yaml_token_t_data_scalar {
 /// libyaml: the union `unnamed_yaml_token_t_data`.
 #[derive(PartialEq, Eq, Debug, Drop)]
 pub enum unnamed_yaml_token_t_data {
+    /// Nothing.
     NoToken,
+    /// The start of the stream.
     StreamStart(unnamed_yaml_token_t_data_stream_start),
+    /// The end of the stream.
     StreamEnd,
+    /// `%YAML`.
     VersionDirective(unnamed_yaml_token_t_data_version_directive),
+    /// `%TAG`.
     TagDirective(unnamed_yaml_token_t_data_tag_directive),
+    /// `---`.
     DocumentStart,
+    /// `...`.
     DocumentEnd,
+    /// The start of a block sequence.
     BlockSequenceStart,
+    /// The start of a block mapping.
     BlockMappingStart,
+    /// The end of a block sequence or mapping.
     BlockEnd,
+    /// `[`.
     FlowSequenceStart,
+    /// `]`.
     FlowSequenceEnd,
+    /// `{`.
     FlowMappingStart,
+    /// `}`.
     FlowMappingEnd,
+    /// `-`.
     BlockEntry,
+    /// `,`.
     FlowEntry,
+    /// A key: `?`, or none for a simple key.
     Key,
+    /// `:`.
     Value,
+    /// An alias.
     Alias(unnamed_yaml_token_t_data_alias),
+    /// An anchor.
     Anchor(unnamed_yaml_token_t_data_anchor),
+    /// A tag.
     Tag(unnamed_yaml_token_t_data_tag),
+    /// A scalar.
     Scalar(unnamed_yaml_token_t_data_scalar),
 }
 
@@ -253,15 +286,18 @@ pub enum unnamed_yaml_token_t_data {
 /// libyaml: `yaml_token_t`.
 #[derive(PartialEq, Eq, Debug, Drop)]
 pub struct yaml_token_t {
+    /// What it holds.
     pub content: unnamed_yaml_token_t_data,
+    /// Where it begins.
     pub start_mark: yaml_mark_t,
+    /// Where it ends.
     pub end_mark: yaml_mark_t,
 }
 
 impl yaml_token_t {
     ghost use Rattle.libyaml_types.specs.Types.{token_type};
 
-    /// The token of this content and these marks. Takes no memory.
+    /// Returns the token of this content and these marks. Takes no memory.
     pub fn new(
         content: unnamed_yaml_token_t_data,
         start_mark: yaml_mark_t,
@@ -276,7 +312,7 @@ impl yaml_token_t {
         }
     }
 
-    /// The type of the token.
+    /// Returns the type of the token.
     ///
     /// libyaml: the field `type`.
     pub fn type_(&self) -> yaml_token_type_t

@@ -8,9 +8,11 @@ ghost use Rattle.libyaml_types.specs.Texts.{PairIsUtf8, PairsAreUtf8};
 use crate::refusal::yaml_refusal_t;
 use std::alloc::{AllocError, Global};
 
-/// The text of these bytes. Takes no memory.
+/// Returns the text of these bytes. Takes no memory.
 ///
-/// Refuses bytes that aren't UTF-8 as `NotUtf8`.
+/// # Errors
+///
+/// `NotUtf8`, where the bytes aren't UTF-8.
 pub fn checked(bytes: &[u8]) -> Result<&str, yaml_refusal_t>
     ensures ok { IfOk result (λ text. text.now ≡ bytes.now) }
     ensures utf8 { OnOk result (IsUtf8 bytes.now) }
@@ -20,9 +22,11 @@ pub fn checked(bytes: &[u8]) -> Result<&str, yaml_refusal_t>
     simdutf8::compat::from_utf8(bytes).map_err(|_| yaml_refusal_t::NotUtf8)
 }
 
-/// The text of these bytes, where they are given. Takes no memory.
+/// Returns the text of these bytes, where they are given. Takes no memory.
 ///
-/// Refuses bytes that aren't UTF-8 as `NotUtf8`.
+/// # Errors
+///
+/// `NotUtf8`, where the bytes aren't UTF-8.
 pub fn checked_option(bytes: Option<&[u8]>) -> Result<Option<&str>, yaml_refusal_t>
     ensures ok { IfOk result (λ text. option_copied text ≡ option_copied bytes.entry) }
     ensures utf8 { OnOk result (IfSome (option_copied bytes.entry) IsUtf8) }
@@ -32,33 +36,36 @@ pub fn checked_option(bytes: Option<&[u8]>) -> Result<Option<&str>, yaml_refusal
     bytes.map(checked).transpose()
 }
 
-/// Whether all handles and prefixes are UTF-8. Takes no memory.
+/// Returns whether all handles and prefixes are UTF-8. Takes no memory.
 pub fn are_utf8_pairs(pairs: &[(&[u8], &[u8])]) -> bool
     ensures { IsTrue result ↔ PairsAreUtf8 pairs.now }
 {
     pairs.iter().all(is_utf8_pair)
 }
 
-/// Whether a handle and its prefix are both UTF-8.
+/// Returns whether a handle and its prefix are both UTF-8.
 fn is_utf8_pair(pair: &(&[u8], &[u8])) -> bool
     ensures { IsTrue result ↔ PairIsUtf8 pair.now }
 {
     checked(pair.0).is_ok() && checked(pair.1).is_ok()
 }
 
-/// A copy of this text, where it is given.
+/// Returns a copy of this text, where it is given.
 ///
-/// Answers `AllocError` where the memory for it is refused.
+/// # Errors
+///
+/// `AllocError`, where an allocation fails.
 pub fn copied_option(alloc: Global, text: Option<&str>) -> Result<Option<String>, AllocError>
     ensures { IfOk result (λ copy. option_map string_bytes copy ≡ option_copied text.entry) }
 {
     text.map(|text| String::from_str(alloc, text)).transpose()
 }
 
-/// A copy of these bytes.
+/// Returns a copy of these bytes.
 ///
-/// Refuses bytes that aren't UTF-8 as `NotUtf8`, before memory is asked for, and answers `Memory`
-/// where the memory for the copy is refused.
+/// # Errors
+///
+/// `NotUtf8`, where the bytes aren't UTF-8, before anything is allocated; `Memory`, where an allocation fails.
 pub fn copied(alloc: Global, bytes: &[u8]) -> Result<String, yaml_refusal_t>
     ensures ok { IfOk result (λ text. string_bytes text ≡ bytes.now) }
     ensures utf8 { OnOk result (IsUtf8 bytes.now) }

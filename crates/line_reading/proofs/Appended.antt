@@ -9,7 +9,7 @@ use Rattle.line_reading.specs.Line.{appended}
 pub appended_is : (old new part : List ℕ) → new ≡ old ++ part → appended old new ≡ part
 appended_is old new part e = drop-appended old new part e
 
--- the bytes of a part come behind those before it
+-- the bytes of a part come after those before it
 pub moved : (a b c : Option (List ℕ)) (old new : List ℕ) → new ≡ old ++ appended old new → Consumes a b old → Consumes b c (appended old new ++ [])
     → Consumes a c new
 moved a b c old new e h k = let more : Consumes b c (appended old new)

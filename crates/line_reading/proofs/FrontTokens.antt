@@ -1,4 +1,4 @@
--- a line read from its front is read by its description
+-- a line read by its prefixes is read by its description
 use Rattle.std.proofs.Common.{◌≡◌, ◌≢◌, ℕ, ◌==◌, All, Bool, true, false, cond, List, [], ◌∷◌, ◌++◌, Option, Some, None, option_map, refl, ap, sym, ◌∙◌, subst}
 use Rattle.std.proofs.Common.{inl, inr}
 use Rattle.std.proofs.lemmas.Bool.{cases_Bool, and_left, and_right, eqb-true}
@@ -20,7 +20,7 @@ use Rattle.line_reading.specs.Front.{digits_of, behind_digits, before_byte, behi
 use Rattle.line_reading.proofs.Fronts.{no_value}
 use Rattle.line_reading.proofs.Split.{no_separator, split_first, before-append, behind-append}
 
--- bytes are digits and what stands behind them
+-- bytes are digits and what follows them
 digits_cond : (t : Bool) (b : ℕ) (bs : List ℕ) → bs ≡ digits_of bs ++ behind_digits bs
     → b ∷ bs ≡ cond t (b ∷ digits_of bs) [] ++ cond t (behind_digits bs) (b ∷ bs)
 digits_cond true b bs h = ap (λ x. b ∷ x) h
@@ -42,7 +42,7 @@ digits_clean : (c : ℕ) → is_ascii_digit c ≡ false → (bs : List ℕ) → 
 digits_clean c other [] = All-nil (λ x. x ≢ c)
 digits_clean c other (b ∷ bs) = clean_cond c (is_ascii_digit b) b bs (ne_digit c b other) (digits_clean c other bs)
 
--- no digit stands behind the digits
+-- no digit follows the digits
 abbrev pub BeginsOther : List ℕ → Type 0
 BeginsOther [] = Unit {0}
 BeginsOther (b ∷ bs) = is_ascii_digit b ≡ false
@@ -66,7 +66,7 @@ pub record IsLast (bytes d t : List ℕ) : Type 0 where
   pub colon : behind_first 58 t ≡ None
   pub field : behind_field t ≡ Some (behind_byte 32 bytes)
 
--- they go on behind a colon
+-- they go on after a colon
 pub record GoesOn (bytes d t r : List ℕ) : Type 0 where
   pub parts : S (before_byte 32 bytes) ≡ d ∷ S (before_byte 32 r)
   pub colon : behind_first 58 t ≡ Some r
@@ -105,7 +105,7 @@ not_all_digits (b ∷ d) x g e = and_right (is_ascii_digit b) (all_ascii_digits 
 pub no_number : (p : List ℕ) → all_ascii_digits p ≡ false → number_of p ≡ None
 no_number p e = no_value p (rw e refl)
 
--- what stands behind the digits
+-- what follows the digits
 
 shape_end : (d : List ℕ) → All (λ x. x ≢ 32) d → All (λ x. x ≢ 58) d → Shape (d ++ []) d []
 shape_end d c32 c58 = last (record {
@@ -178,7 +178,7 @@ with_last K [] = None
 with_last K (p ∷ []) = number_of p >>= K
 with_last K (p ∷ q ∷ ps) = None
 
--- a number, and what stands behind it
+-- a number, and what follows it
 abbrev pub with_rest : Option ℕ → List ℕ → Option (ℕ × List ℕ)
 with_rest o t = option_map (λ n. (n, t)) o
 
@@ -301,7 +301,7 @@ numbers_with f (i ∷ l ∷ []) = two_too_few f (number_of i) (number_of l)
 numbers_with f (i ∷ l ∷ c ∷ []) = three f (number_of i) (number_of l) (number_of c)
 numbers_with f (i ∷ l ∷ c ∷ d ∷ more) = two_too_few f (number_of i) (number_of l)
 
--- the mark at the front is that of the first field
+-- the mark that begins the bytes is that of the first field
 mark_at-is : (bytes : List ℕ) → mark_at bytes ≡ with_further (mark_of (before_byte 32 bytes)) (behind_byte 32 bytes)
 mark_at-is bytes = index_at bytes ∙ numbers_with (behind_byte 32 bytes) (S (before_byte 32 bytes))
 

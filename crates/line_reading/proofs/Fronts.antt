@@ -1,4 +1,4 @@
--- a number at the front of some bytes
+-- a number that begins some bytes
 use Rattle.std.proofs.Common.{◌≡◌, leb, ◌==◌, ℕ, ◌+◌, ◌-◌, ◌*◌, ◌<◌, ◌≤◌, ◌^◌, true, false, List, [], ◌∷◌, ◌++◌, length, take, drop, get_or, Some, None, refl}
 use Rattle.std.proofs.Common.{ap, sym, ◌∙◌, arith}
 use Rattle.std.proofs.lemmas.Bool.{cond_both}
@@ -85,7 +85,7 @@ ends_at_end bytes i n h large =
     let none : drop i bytes ≡ [] = at_drop_all (λ x. x) bytes i large in
     ends bytes i n h (ap digits_of none) (ap behind_digits none ∙ sym none)
 
--- the same, where the bytes that are looked at are a front of those
+-- the same, where the bytes that are looked at are a prefix of those
 
 front_place : (bytes : List ℕ) (k i : ℕ) → i < length (take k bytes) → (i < length bytes) × (get_or (take k bytes) i 0 ≡ get_or bytes i 0)
 front_place bytes k i small =
@@ -118,7 +118,7 @@ ends_with_line line at end i n e h most least =
     let all : i ≡ end - at = omega (arith, most, least, size) in
     rw (← all) (ends_at_end (drop at line) i n h (omega (arith, all, e, length-drop at line)))
 
--- the number that stands there, or that there is none
+-- the number that is there, or that there is none
 
 pub ended_none : (bytes : List ℕ) (i n : ℕ) → HasDigits bytes i n → number_of (take i bytes) ≡ None → number_at bytes ≡ None
 ended_none bytes i n h e = rw (h.digits, e) refl
@@ -135,7 +135,7 @@ pub record HasReadFew (bytes : List ℕ) (i n : ℕ) : Type 0 where
 pub none_read_few : (bytes : List ℕ) → HasReadFew bytes 0 0
 none_read_few bytes = record { read = none_read bytes; below = omega arith }
 
--- so behind fewer than 19 digits one more fits into 64 bits
+-- so after fewer than 19 digits one more fits into 64 bits
 pub few_fit : (i n : ℕ) → n < 10 ^ i → i < 19 → n * 10 + 57 < 2 ^ 64
 few_fit i n h small =
     let most : 10 ^ i ≤ 10 ^ 18 = pow-le-pow_right {n = 10} (omega arith) {i = i} {j = 18} (omega arith) in

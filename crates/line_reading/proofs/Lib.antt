@@ -7,3 +7,4 @@ pub mod Fronts
 pub mod FrontTokens
 pub mod Marks
 pub mod WholeNumbers
+pub mod Problems

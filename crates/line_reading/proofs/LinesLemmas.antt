@@ -1,16 +1,18 @@
 -- what a part of an input says of its lines
 use Rattle.std.proofs.Common.{◌≡◌, ◌≢◌, ℕ, ◌+◌, ◌<◌, ◌≤◌, ◌==◌, All, List, [], ◌∷◌, ◌++◌, length, Option, Some, None, refl, ap, sym, ◌∙◌, arith, ne_eqb}
-use Rattle.std.proofs.Common.{append_assoc, OnSome}
-use Rattle.std.proofs.lemmas.List.{append-nil}
+use Rattle.std.proofs.Common.{append_assoc, OnSome, drop, subst}
+use Rattle.std.proofs.Transfers.{drop-appended}
+use Rattle.std.proofs.lemmas.List.{append-nil, length-append}
 use Rattle.std.proofs.lemmas.List.Elements.{All-head, All-tail}
 use Rattle.std.proofs.lemmas.List.Splits.{slice_split_at, slice_split_none}
 use Rattle.std.specs.List.{slice_split}
 use Rattle.std.specs.Io.KnownBytes.{Consumes, IsAtEnd}
 use Rattle.line_reading.specs.ReadLines.{longest_line, last_line, lines_of_parts, lines, behind_line}
-use Rattle.line_reading.specs.NextLine.{TakesLine, TakesNoLine, BeginsTooLong}
+use Rattle.line_reading.specs.NextLine.{TakesLine, TakesNoLine, BeginsTooLong, IsWithinLine}
+use Rattle.line_reading.specs.Front.{before_byte}
 use Rattle.line_reading.specs.declared.line_problem.LineProblem.TheVariants.{LineTooLong, NoMoreTokens}
 use Rattle.line_reading.specs.LineLaws.{has_parts, lines_of_more}
-use Rattle.line_reading.proofs.Split.{no_separator}
+use Rattle.line_reading.proofs.Split.{no_separator, before-append}
 
 -- a line and its LF
 lines-line : (l rest : List ℕ) → All (λ x. x ≢ 10) l → lines (l ++ 10 ∷ rest) ≡ l ∷ lines rest
@@ -34,7 +36,7 @@ last-some : (l : List ℕ) → 0 < length l → last_line l ≡ l ∷ []
 last-some [] h = absurd (omega (arith, h))
 last-some (b ∷ l) h = refl
 
--- a line of which a front is known
+-- a line of which a prefix is known
 LongPart : ℕ → List (List ℕ) → Type 0
 LongPart n parts = (f : List ℕ) × ((r : List (List ℕ)) × ((parts ≡ f ∷ r) × (n ≤ length f)))
 
@@ -85,3 +87,12 @@ takes_too_long (Some bytes) None l clean e h = absurd h
 takes_too_long (Some bytes) (Some rest) l clean e h =
     let whole : bytes ≡ l ++ rest = h ∙ ap (λ x. x ++ rest) (append-nil l) in
     rw whole (too_long l rest clean e)
+
+pub takes_within : (before after : Option (List ℕ)) (l : List ℕ) (n : ℕ) → All (λ x. x ≢ 10) l → length l ≡ n → Consumes before after (l ++ [])
+    → IsWithinLine n before after
+takes_within None after l n clean e h = tt
+takes_within (Some bytes) None l n clean e h = absurd h
+takes_within (Some bytes) (Some rest) l n clean e h =
+    let whole : bytes ≡ l ++ rest = h ∙ ap (λ x. x ++ rest) (append-nil l) in
+    let line : before_byte 10 bytes ≡ l ++ before_byte 10 rest = ap (before_byte 10) whole ∙ before-append 10 l rest clean in
+    (omega (arith, e, ap length line, length-append l (before_byte 10 rest)), ap Some (sym (ap (λ k. drop k bytes) (sym e) ∙ drop-appended l bytes rest whole)))

@@ -1,16 +1,21 @@
 -- a line's token from its name and from the marks at their places
-use Rattle.std.proofs.Common.{◌≡◌, ◌≢◌, ◌+◌, ◌<◌, ◌≤◌, ℕ, All, List, length, take, drop, get_or, Some, None, refl, ap, sym}
+use Rattle.std.proofs.Common.{◌≡◌, ◌≢◌, ◌+◌, ◌<◌, ◌≤◌, ℕ, All, List, length, take, drop, get_or, Option, Some, None, Result, Ok, Err, refl, ap, sym}
 use Rattle.std.proofs.lemmas.List.{at_drop_more, at_drop_all}
 use Rattle.libyaml_types.specs.declared.mark.yaml_mark_t.{yaml_mark_t}
 use Rattle.libyaml_types.specs.declared.enums.yaml_token_type_t.{yaml_token_type_t}
+use Rattle.libyaml_types.specs.declared.token.yaml_token_t.{yaml_token_t}
+use Rattle.libyaml_types.specs.declared.token.unnamed_yaml_token_t_data.{unnamed_yaml_token_t_data}
+use Rattle.line_reading.specs.declared.line_problem.LineProblem.{LineProblem}
+use Rattle.line_reading.specs.declared.line_problem.LineProblem.TheVariants.{Memory, ReadFailed, LineTooLong, BadTokenLine, TooManyTokens, NoMoreTokens}
 use Rattle.line_reading.specs.Field.{◌>>=◌}
+use Rattle.line_reading.specs.Reading.{IsReadInto}
 use Rattle.line_reading.specs.Parts.{parts_of}
 use Rattle.line_reading.specs.TokenName.{token_type_of}
 use Rattle.line_reading.specs.TokenLine.{content_of}
 use Rattle.line_reading.specs.Front.{behind_byte, before_byte, further, mark_at, token_at}
 use Rattle.line_reading.proofs.Split.{cut_here, cut_nowhere}
 
--- the fields behind one that ends at a place
+-- the fields after one that ends at a place
 pub none_further : (line : List ℕ) (at : ℕ) → length line ≤ at → further (drop at line) ≡ None
 none_further line at h = ap further (at_drop_all (λ x. x) line at h)
 
@@ -52,3 +57,16 @@ pub with_content : (line : List ℕ) (n a z : ℕ) (type : yaml_token_type_t) (s
     → token_at line ≡ (content_of type (parts_of 32 (further (drop z line)))
     >>= (λ content. Some (record { content = content; start_mark = start; end_mark = end })))
 with_content line n a z type start end h t s more e = rw (h.marks, h.name, t, s, some_further line a more, e) refl
+
+-- what is read of the content is read of the token
+pub with_marks : (result : Result (Unit {0}) LineProblem) (content : unnamed_yaml_token_t_data) (there : Option unnamed_yaml_token_t_data)
+    (start end : yaml_mark_t) → IsReadInto result content there
+    → IsReadInto {A = yaml_token_t} result (record { content = content; start_mark = start; end_mark = end })
+    (there >>= (λ content. Some (record { content = content; start_mark = start; end_mark = end })))
+with_marks (Ok u) content there start end h = rw h refl
+with_marks (Err BadTokenLine) content there start end h = rw h refl
+with_marks (Err Memory) content there start end h = tt
+with_marks (Err ReadFailed) content there start end h = h
+with_marks (Err LineTooLong) content there start end h = h
+with_marks (Err TooManyTokens) content there start end h = h
+with_marks (Err NoMoreTokens) content there start end h = h

@@ -10,7 +10,7 @@ use Rattle.line_reading.specs.Parts.{parts_of}
 pub no_separator : (c : ℕ) (bs : List ℕ) → All (λ x. x ≢ c) bs → All (λ x. (x == c) ≡ false) bs
 no_separator c bs h = All-weaker (λ x. x ≢ c) (λ x. (x == c) ≡ false) (λ x ne. ne_eqb x c ne) bs h
 
--- the parts are the first, and those behind it
+-- the parts are the first, and those after it
 split_cond : (t : Bool) (c b : ℕ) (bs : List ℕ) → slice_split (λ b. b == c) bs ≡ before_byte c bs ∷ parts_of c (behind_byte c bs)
     → cond t ([] ∷ slice_split (λ b. b == c) bs) (onto_first b (slice_split (λ b. b == c) bs)) ≡ cond t [] (b ∷ before_byte c bs)
     ∷ parts_of c (cond t (Some bs) (behind_byte c bs))
@@ -21,7 +21,7 @@ pub split_first : (c : ℕ) (bs : List ℕ) → slice_split (λ b. b == c) bs �
 split_first c [] = refl
 split_first c (b ∷ bs) = split_cond (b == c) c b bs (split_first c bs)
 
--- a front without the separator
+-- a prefix without the separator
 pub before-append : (c : ℕ) (l r : List ℕ) → All (λ x. x ≢ c) l → before_byte c (l ++ r) ≡ l ++ before_byte c r
 before-append c [] r clean = refl
 before-append c (b ∷ l) r clean = rw (ne_eqb b c (All-head (λ x. x ≢ c) b l clean)) (ap (λ x. b ∷ x) (before-append c l r (All-tail (λ x. x ≢ c) b l clean)))

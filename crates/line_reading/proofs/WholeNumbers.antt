@@ -15,7 +15,7 @@ some_there (Some n) t u v e =
     let same : ◌≡◌ {A = ℕ × List ℕ} (n, t) (v, u) = cc in
     (ap (λ (x : ℕ × List ℕ). Some x.0) same, ap (λ (x : ℕ × List ℕ). x.1) same)
 
--- digits, and behind them no digit
+-- digits, and after them no digit
 only_digits : (d t : List ℕ) → t ≡ [] → number_of (d ++ t) ≡ number_of d
 only_digits d t e = ap number_of (ap (λ x. d ++ x) e ∙ append-nil d)
 

@@ -1,4 +1,4 @@
--- How a line is read from its front. That this gives what `token_of_line` says is a lemma (proofs/FrontTokens).
+-- How a line is read by its prefixes. That this gives what `token_of_line` says is a lemma (proofs/FrontTokens).
 use Rattle.std.specs.Prelude.{◌≡◌, ℕ, List, [], ◌∷◌, ◌==◌, take, drop, Option, Some, None, option_map, if◌then◌else◌}
 use Rattle.std.specs.Char.{is_ascii_digit}
 use Rattle.libyaml_types.specs.declared.mark.yaml_mark_t.{yaml_mark_t}
@@ -9,7 +9,7 @@ use Rattle.line_reading.specs.Parts.{parts_of}
 use Rattle.line_reading.specs.TokenName.{token_type_of}
 use Rattle.line_reading.specs.TokenLine.{content_of}
 
--- the digits at the front, and what stands behind them
+-- the digits that begin the bytes, and what follows them
 abbrev pub digits_of : List ℕ → List ℕ
 digits_of [] = []
 digits_of (b ∷ bs) = if is_ascii_digit b then b ∷ digits_of bs else []
@@ -18,13 +18,13 @@ abbrev pub behind_digits : List ℕ → List ℕ
 behind_digits [] = []
 behind_digits (b ∷ bs) = if is_ascii_digit b then behind_digits bs else b ∷ bs
 
--- so many digits are at the front, and no digit behind them, and this is their value
+-- so many digits begin the bytes, no digit follows them, and this is their value
 pub record HasDigits (bytes : List ℕ) (len value : ℕ) : Type 0 where
   pub digits : digits_of bytes ≡ take len bytes
   pub behind : behind_digits bytes ≡ drop len bytes
   pub value_is : value_of (take len bytes) ≡ Some value
 
--- what stands before a byte, and what stands behind it, if it is there
+-- the bytes before a byte, and those after it, if it is there
 abbrev pub before_byte : ℕ → List ℕ → List ℕ
 before_byte c [] = []
 before_byte c (b ∷ bs) = if b == c then [] else b ∷ before_byte c bs
@@ -33,22 +33,22 @@ abbrev pub behind_byte : ℕ → List ℕ → Option (List ℕ)
 behind_byte c [] = None
 behind_byte c (b ∷ bs) = if b == c then Some bs else behind_byte c bs
 
--- what stands behind a byte that is the first
+-- what follows a byte that is the first
 abbrev pub behind_first : ℕ → List ℕ → Option (List ℕ)
 behind_first c [] = None
 behind_first c (b ∷ bs) = if b == c then Some bs else None
 
--- what stands behind a field that has ended: nothing, or a space and further fields
+-- what follows a field that has ended: nothing, or a space and further fields
 abbrev pub behind_field : List ℕ → Option (Option (List ℕ))
 behind_field [] = Some None
 behind_field (b ∷ bs) = if b == 32 then Some (Some bs) else None
 
--- the further fields behind a field that has ended
+-- the further fields after a field that has ended
 abbrev pub further : List ℕ → Option (List ℕ)
 further [] = None
 further (b ∷ bs) = Some bs
 
--- a number at the front, and what stands behind it
+-- a number that begins the bytes, and what follows it
 abbrev pub number_at : List ℕ → Option (ℕ × List ℕ)
 number_at bytes = option_map (λ n. (n, behind_digits bytes)) (number_of (digits_of bytes))
 

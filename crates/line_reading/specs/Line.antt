@@ -5,7 +5,7 @@ use Rattle.line_reading.specs.declared.line.Part.TheVariants.{More, LineFeed, En
 use Rattle.line_reading.specs.declared.line.LineEnd.{LineEnd}
 use Rattle.line_reading.specs.declared.line.LineEnd.TheVariants as end
 
--- what new has behind old
+-- what new has after old
 abbrev pub appended : List ℕ → List ℕ → List ℕ
 appended old new = drop (length old) new
 

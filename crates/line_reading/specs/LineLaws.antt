@@ -1,4 +1,4 @@
--- the first line of an input, and what stands behind it
+-- the first line of an input, and what follows it
 use Rattle.std.proofs.Common.{◌≡◌, ℕ, ◌==◌, Bool, true, false, cond, List, [], ◌∷◌, refl, ap, sym, ◌⊎◌, inl, inr}
 use Rattle.std.specs.List.{slice_split, onto_first}
 use Rattle.line_reading.specs.ReadLines.{last_line, lines_of_parts, lines, behind_line}

@@ -24,7 +24,7 @@ source_over reader tokens = record {
   fault = option_map (λ problem. line_fault problem tokens.given) tokens.problem;
 }
 
--- how many tokens, and which fault, an answer is
+-- how many tokens, and which fault, a result is
 abbrev pub tokens_in : Answer → ℕ
 tokens_in (Ok token) = 1
 tokens_in (Err fault) = 0
@@ -33,7 +33,7 @@ abbrev pub fault_in : Answer → Option Fault
 fault_in (Ok token) = None
 fault_in (Err fault) = Some fault
 
--- what a source that keeps no fault answers, and where that leaves it
+-- what a source that keeps no fault returns, and where that leaves it
 pub record GivesNext {R : Type 0} (remaining : R → Option (List ℕ)) (s : LineSource R) (answer : Answer) (t : LineSource R) : Type 0 where
   pub below : s.given < s.max_tokens → LineAnswer (remaining s.reader) s.given answer (remaining t.reader)
   pub at_bound : s.max_tokens ≤ s.given → answer ≡ Err (line_fault TooManyTokens s.given)
@@ -62,6 +62,6 @@ known_by (Some fault) bytes given max_tokens = Some (coming [] fault)
 abbrev pub known_of : {R : Type 0} → (R → Option (List ℕ)) → LineSource R → Option Coming
 known_of remaining s = known_by s.fault (remaining s.reader) s.given s.max_tokens
 
--- a source that has given so many tokens may have broken off for want of memory, or where a read failed
+-- a source that has given so many tokens may have broken off out of memory, or where a read failed
 abbrev pub BreaksOff : {R : Type 0} → LineSource R → Fault → Type 0
 BreaksOff s fault = BreaksOffAt s.given fault

@@ -1,9 +1,10 @@
 -- What one line of a reader gives, where its bytes are known.
-use Rattle.std.specs.Prelude.{◌≡◌, ◌<◌, ◌≤◌, ◌⊎◌, ℕ, List, [], ◌∷◌, length, Option, Some, None, Ok, Err}
+use Rattle.std.specs.Prelude.{◌≡◌, ◌<◌, ◌≤◌, ◌⊎◌, ℕ, List, [], ◌∷◌, drop, length, Option, Some, None, Ok, Err}
 use Rattle.std.specs.Io.KnownBytes.{Consumes}
 use Rattle.libyaml_grammar.specs.runs.Fault.{Fault, Answer}
 use Rattle.line_reading.specs.declared.line_problem.LineProblem.{LineProblem}
 use Rattle.line_reading.specs.declared.line_problem.LineProblem.TheVariants.{Memory, ReadFailed, LineTooLong, BadTokenLine, TooManyTokens, NoMoreTokens}
+use Rattle.line_reading.specs.Front.{before_byte}
 use Rattle.line_reading.specs.LineFault.{line_fault}
 use Rattle.line_reading.specs.ReadLines.{longest_line, lines, behind_line, line_answer}
 
@@ -11,12 +12,17 @@ use Rattle.line_reading.specs.ReadLines.{longest_line, lines, behind_line, line_
 abbrev pub TakesAtMost : ℕ → Option (List ℕ) → Option (List ℕ) → Type 0
 TakesAtMost n before after = (taken : List ℕ) × (length taken ≤ n) × Consumes before after taken
 
--- the reader is left behind its first line and the LF of it
+-- the reader is left after its first line and the LF of it
 abbrev pub IsBehindLine : Option (List ℕ) → Option (List ℕ) → Type 0
 IsBehindLine None after = Unit {0}
 IsBehindLine (Some bytes) after = after ≡ Some (behind_line bytes)
 
--- the line is the reader's first, and the reader is left behind it and its LF
+-- n bytes of the reader's first line are taken, and no other byte
+abbrev pub IsWithinLine : ℕ → Option (List ℕ) → Option (List ℕ) → Type 0
+IsWithinLine n None after = Unit {0}
+IsWithinLine n (Some bytes) after = (n ≤ length (before_byte 10 bytes)) × (after ≡ Some (drop n bytes))
+
+-- the line is the reader's first, and the reader is left after it and its LF
 abbrev pub TakesLine : Option (List ℕ) → List ℕ → Option (List ℕ) → Type 0
 TakesLine None line after = Unit {0}
 TakesLine (Some bytes) line after = (lines bytes ≡ line ∷ lines (behind_line bytes)) × (after ≡ Some (behind_line bytes))
@@ -52,12 +58,12 @@ BreaksOffAt n fault = (fault ≡ line_fault Memory n) ⊎ (fault ≡ line_fault 
 abbrev pub IsFaultAt : ℕ → Fault → Type 0
 IsFaultAt n fault = (problem : LineProblem) × (fault ≡ line_fault problem n)
 
--- an answer of a reader whose bytes are known: of its first line, or a fault that breaks off
+-- a result over a reader whose bytes are known: of its first line, or a fault that breaks off
 abbrev pub KnownAnswer : List ℕ → ℕ → Answer → Option (List ℕ) → Type 0
 KnownAnswer bytes n (Ok token) after = (first_answer n (lines bytes) ≡ Ok token) × (after ≡ Some (behind_line bytes))
 KnownAnswer bytes n (Err fault) after = (first_answer n (lines bytes) ≡ Err fault) ⊎ BreaksOffAt n fault
 
--- an answer of a reader whose bytes are not known
+-- a result over a reader whose bytes are not known
 abbrev pub UnknownAnswer : ℕ → Answer → Type 0
 UnknownAnswer n (Ok token) = Unit {0}
 UnknownAnswer n (Err fault) = IsFaultAt n fault

@@ -3,7 +3,7 @@ use Rattle.std.specs.Prelude.{ℕ, ℤ, pos, negsuc, List, [], ◌∷◌, not, �
 use Rattle.std.specs.Str.{all_ascii_digits}
 use Rattle.std.specs.Str.Parse.{digits_value_after}
 
--- the value of digits that stand behind digits of value n, within 64 bits
+-- the value of digits that follow digits of value n, within 64 bits
 abbrev pub value_after : ℕ → List ℕ → Option ℕ
 value_after n ds = if all_ascii_digits ds && nat_lt (digits_value_after 10 n ds) (2 ^ 64) then Some (digits_value_after 10 n ds) else None
 

@@ -12,7 +12,7 @@ use Rattle.line_reading.specs.TokenLine.{token_of_line}
 abbrev pub longest_line : ℕ
 longest_line = 1048576
 
--- what stands behind the last LF is a line where a byte stands there
+-- what follows the last LF is a line where there is a byte
 abbrev pub last_line : List ℕ → List (List ℕ)
 last_line [] = []
 last_line (b ∷ bs) = (b ∷ bs) ∷ []
@@ -22,11 +22,11 @@ lines_of_parts [] = []
 lines_of_parts (part ∷ []) = last_line part
 lines_of_parts (part ∷ next ∷ more) = part ∷ lines_of_parts (next ∷ more)
 
--- the lines of an input: what stands before an LF, or before its end
+-- the lines of an input: the bytes before an LF, or before its end
 abbrev pub lines : List ℕ → List (List ℕ)
 lines bytes = lines_of_parts (slice_split (λ b. b == 10) bytes)
 
--- what stands behind the first line and its LF
+-- what follows the first line and its LF
 abbrev pub behind_line : List ℕ → List ℕ
 behind_line [] = []
 behind_line (b ∷ bs) = if b == 10 then bs else behind_line bs
@@ -39,7 +39,7 @@ token_or_fault None n = Err (line_fault BadTokenLine n)
 abbrev pub line_answer : ℕ → List ℕ → Answer
 line_answer n line = if nat_lt longest_line (length line) then Err (line_fault LineTooLong n) else token_or_fault (token_of_line line) n
 
--- an answer, and what comes behind it: nothing behind a fault
+-- a result, and what comes after it: nothing after a fault
 abbrev pub coming_behind : Answer → Coming → Coming
 coming_behind (Ok token) behind = coming (token ∷ behind.tokens) behind.fault
 coming_behind (Err fault) behind = coming [] fault

@@ -1,14 +1,14 @@
--- What a reader that may run out of memory answers.
+-- What is read, where memory may run out.
 use Rattle.std.specs.Prelude.{◌≡◌, Option, Some, None, Result, Ok, Err, ℕ, List, String, string_bytes}
 use Rattle.line_reading.specs.declared.line_problem.LineProblem.{LineProblem}
 use Rattle.line_reading.specs.declared.line_problem.LineProblem.TheVariants.{Memory, BadTokenLine}
 
--- the value that stands there, or a refusal exactly where none does; a refused growth says nothing, and no other problem comes
-abbrev pub IsReadAs : {A : Type 0} → Result A LineProblem → Option A → Type 0
-IsReadAs (Ok x) there = there ≡ Some x
-IsReadAs (Err BadTokenLine) there = there ≡ None
-IsReadAs (Err Memory) there = Unit {0}
-IsReadAs (Err _) there = ⊥
+-- The slot holds the value that is read, or there is none exactly where `BadTokenLine` is returned. A failed allocation says nothing, and no other problem comes.
+abbrev pub IsReadInto : {A : Type 0} → Result (Unit {0}) LineProblem → A → Option A → Type 0
+IsReadInto (Ok u) slot there = there ≡ Some slot
+IsReadInto (Err BadTokenLine) slot there = there ≡ None
+IsReadInto (Err Memory) slot there = Unit {0}
+IsReadInto (Err _) slot there = ⊥
 
 -- the same of a text
 abbrev pub IsTextReadAs : {Y : Type 0} → Result (String Y) LineProblem → Option (List ℕ) → Type 0

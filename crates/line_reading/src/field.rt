@@ -14,7 +14,7 @@ use libyaml_types::{
 use percent_encoding::{ascii_str, percent_decode};
 use std::alloc::Global;
 
-/// Two signed numbers with a point between them.
+/// Reads two signed numbers with a point between them.
 pub fn read_version(field: &[u8]) -> Option<unnamed_yaml_token_t_data_version_directive>
     ensures { result ≡ version_of field.now }
 {
@@ -30,7 +30,11 @@ pub fn read_version(field: &[u8]) -> Option<unnamed_yaml_token_t_data_version_di
     })
 }
 
-/// `=` and an escaped text.
+/// Reads `=` and an escaped text.
+///
+/// # Errors
+///
+/// `BadTokenLine`, where it is none, and `Memory`, where an allocation fails.
 pub fn read_text(alloc: Global, field: &[u8]) -> Result<String, LineProblem>
     ensures { IsTextReadAs result (text_of field.now) }
 {
@@ -62,7 +66,7 @@ fn decoded_text(alloc: Global, escaped: &[u8]) -> Result<String, LineProblem>
     }
 }
 
-/// An encoding by its name.
+/// Returns an encoding by its name.
 pub fn read_encoding(name: &[u8]) -> Option<yaml_encoding_t>
     ensures { result ≡ encoding_of name.now }
 {
@@ -79,7 +83,7 @@ pub fn read_encoding(name: &[u8]) -> Option<yaml_encoding_t>
     }
 }
 
-/// A scalar style by its name.
+/// Returns a scalar style by its name.
 pub fn read_scalar_style(name: &[u8]) -> Option<yaml_scalar_style_t>
     ensures { result ≡ scalar_style_of name.now }
 {

@@ -5,7 +5,7 @@ ghost use Rattle.line_reading.specs.Front.{HasDigits};
 
 use libyaml_types::yaml_mark_t;
 
-/// Reads the mark that is the field at a place, and answers where that field ends: 0 where it is no mark.
+/// Reads the mark that is the field at a place, and returns where that field ends: 0 where it is no mark.
 #[inline(always)]
 pub fn read_mark(line: &[u8], at: usize, mark: &mut yaml_mark_t) -> usize
     requires { at ≤ length line.now }
@@ -40,7 +40,7 @@ pub fn read_mark(line: &[u8], at: usize, mark: &mut yaml_mark_t) -> usize
     column.end
 }
 
-/// Whether the byte stands at a place.
+/// Returns whether the byte is at a place.
 #[inline(always)]
 fn is_byte_at(line: &[u8], at: usize, byte: u8) -> bool
     requires { at ≤ length line.now }
@@ -51,7 +51,7 @@ fn is_byte_at(line: &[u8], at: usize, byte: u8) -> bool
     at < line.len() && line[at] == byte
 }
 
-/// Whether a field that goes up to a place ends there.
+/// Returns whether a field that goes up to a place ends there.
 #[inline(always)]
 fn ends_field(line: &[u8], at: usize) -> bool
     requires { at ≤ length line.now }
@@ -70,7 +70,7 @@ pub struct NumberRead {
 
 const NO_NUMBER: NumberRead = NumberRead { value: 0, end: 0 };
 
-/// The number at a place.
+/// Reads the number at a place.
 #[inline(always)]
 pub fn read_number(line: &[u8], at: usize) -> NumberRead
     requires { at ≤ length line.now }
@@ -91,10 +91,10 @@ pub fn read_number(line: &[u8], at: usize) -> NumberRead
     ended_number(line, at, digits)
 }
 
-/// So many bytes are looked at without a look at the line's end, and so many digits are within 64 bits.
+/// This many bytes are read without checking for the line's end; this many digits always fit in 64 bits.
 const FEW: usize = 8;
 
-/// The number at a place, where the line has few bytes left.
+/// Reads the number at a place, where the line has few bytes left.
 #[inline(never)]
 fn read_last_number(line: &[u8], at: usize) -> NumberRead
     requires within { at ≤ length line.now }
@@ -116,7 +116,7 @@ struct DigitsRead {
     value: u64,
 }
 
-/// The digits at a place, up to `end` at most: too few for a value above 64 bits.
+/// Reads the digits at a place, up to `end` at most: too few for a value above 64 bits.
 #[inline(always)]
 fn read_few_digits(line: &[u8], at: usize, end: usize) -> DigitsRead
     requires order { at ≤ end }
@@ -139,7 +139,7 @@ fn read_few_digits(line: &[u8], at: usize, end: usize) -> DigitsRead
     }
 }
 
-/// The number at a place, of any length.
+/// Reads the number at a place, of any length.
 #[cold]
 #[inline(never)]
 fn read_any_number(line: &[u8], at: usize) -> NumberRead
@@ -168,7 +168,7 @@ fn read_any_number(line: &[u8], at: usize) -> NumberRead
     ended_number(line, at, DigitsRead { len, value })
 }
 
-/// The number that these digits at a place are.
+/// Returns the number that these digits at a place are.
 #[inline(always)]
 fn ended_number(line: &[u8], at: usize, digits: DigitsRead) -> NumberRead
     requires within { at + digits.len ≤ length line.now }

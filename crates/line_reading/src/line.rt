@@ -1,19 +1,24 @@
 //! One line of a reader.
 ghost use Rattle.std.specs.Prelude.{◌≡◌, ◌≢◌, ◌≤◌, ◌<◌, ◌+◌, ◌++◌, ◌↔◌, [], All, take};
-ghost use Rattle.std.specs.Prelude.{length, IfOk, IfErr, OnOk, OnErr, OnSome, Ok, IsOk};
+ghost use Rattle.std.specs.Prelude.{length, IfOk, IfErr, IsErrOf, OnOk, OnErr, OnSome, Ok, IsOk};
 ghost use Rattle.std.specs.Io.KnownBytes.{Consumes, Keeps, IsAtEnd};
 ghost use Rattle.line_reading.specs.Line.{ended_by, appended, line_feed};
 ghost use Rattle.line_reading.specs.ReadLines.{longest_line};
 ghost use Rattle.line_reading.specs.NextLine.{TakesAtMost, TakesLine, TakesNoLine, IsReadProblem};
+ghost use Rattle.line_reading.specs.NextLine.{IsWithinLine};
 
 use crate::MAX_LINE;
 use crate::line_problem::LineProblem;
 use crate::search::len_before;
 use std::io::BufRead;
 
-/// Reads one line: what stands before an LF, or before the end where a byte stands there. Takes the line
-/// and its LF, and no byte behind them. Behind an LF `left` is the number of bytes that still stand in the
-/// reader's buffer.
+/// Reads one line: the bytes before an LF, or the last bytes, where none follows them. Takes the line and
+/// its LF, and no byte after them. After an LF `left` is the number of bytes that are still in the reader's
+/// buffer.
+///
+/// # Errors
+///
+/// `NoMoreTokens` at the end, `LineTooLong`, `ReadFailed`, and `Memory`, where an allocation fails.
 pub fn read_line<R: BufRead>(
     reader: &mut R,
     line: &mut Vec<u8>,
@@ -22,6 +27,8 @@ pub fn read_line<R: BufRead>(
     ensures whole { OnOk result (TakesLine (R.remaining reader.old) line.new.items (R.remaining reader.new)) }
     ensures fits { OnOk result (length line.new.items ≤ longest_line) }
     ensures none { IfErr result (λ problem. TakesNoLine (R.remaining reader.old) problem) }
+    ensures too_long { IsErrOf result LineProblem.LineTooLong
+        → IsWithinLine (longest_line + 1) (R.remaining reader.old) (R.remaining reader.new) }
     ensures takes { TakesAtMost (longest_line + 1) (R.remaining reader.old) (R.remaining reader.new) }
 {
     line.clear();
@@ -80,7 +87,7 @@ enum Part {
     End,
 }
 
-/// Moves bytes of one line, `room` with its LF at most, from the reader's buffer behind `line`.
+/// Moves bytes of one line, `room` with its LF at most, from the reader's buffer to the end of `line`.
 fn take_part<R: BufRead>(
     reader: &mut R,
     line: &mut Vec<u8>,

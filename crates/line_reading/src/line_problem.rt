@@ -13,9 +13,9 @@ use std::io;
 /// Why a line source gave no token.
 #[derive(Copy, Clone, PartialEq, Eq, Debug)]
 pub enum LineProblem {
-    /// A growth was refused.
+    /// An allocation failed.
     Memory,
-    /// The reader answered an error.
+    /// The reader returned an error.
     ReadFailed,
     /// The line has more than `MAX_LINE` bytes.
     LineTooLong,
@@ -50,7 +50,7 @@ impl From<io::Error> for LineProblem {
 }
 
 impl LineProblem {
-    /// The fault of a source that has given so many tokens.
+    /// Returns the fault of a source that has given so many tokens.
     pub fn fault(self, given: u64) -> yaml_source_fault_t
         ensures { source_fault result ≡ line_fault self given }
     {
@@ -81,7 +81,7 @@ fn memory_fault() -> yaml_source_fault_t
     )
 }
 
-/// The fault that the line behind so many tokens gives, without a context.
+/// Returns the fault of the line that follows so many tokens, without a context.
 fn fault_at(error: yaml_error_type_t, problem: &'static str, given: u64) -> yaml_source_fault_t
     requires { IsSourceError error }
     ensures { source_fault result ≡ problem_at error problem.entry.now given }

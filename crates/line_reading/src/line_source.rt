@@ -1,21 +1,24 @@
 //! A source of tokens over the lines of a reader.
-ghost use Rattle.std.specs.Prelude.{◌≡◌, ◌+◌, ◌-◌, IfOk, IfSome, Some, None};
+ghost use Rattle.std.specs.Prelude.{◌≡◌, ◌+◌, ◌-◌, IfOk, IfSome, Some, None, Err};
 ghost use Rattle.libyaml_grammar.specs.runs.Fault.{answer_of};
+ghost use Rattle.libyaml_events.specs.sources.Source.{answer_in};
 ghost use Rattle.line_reading.specs.LineSource.{Gives, known_of, BreaksOff};
 ghost use Rattle.line_reading.specs.LineSourceLaws.{source_falls, source_follows, source_repeats};
 ghost use Rattle.line_reading.specs.ReadLines.{longest_line, read_lines};
-ghost use Rattle.line_reading.specs.NextLine.{TakesAtMost, IsBehindLine};
+ghost use Rattle.line_reading.specs.NextLine.{TakesAtMost, IsBehindLine, IsWithinLine};
+ghost use Rattle.line_reading.specs.LineFault.{line_fault};
+ghost use Rattle.line_reading.specs.declared.line_problem.LineProblem.TheVariants.{BadTokenLine, LineTooLong};
 
 use crate::token_reader::TokenReader;
 use libyaml_events::{yaml_source_fault_t, yaml_token_source_t};
-use libyaml_types::yaml_token_t;
+use libyaml_types::{ZERO_MARK, unnamed_yaml_token_t_data, yaml_token_t};
 use std::alloc::Global;
 use std::io::BufRead;
 use std::marker::Model;
 
 /// The tokens of a reader's lines, and then a fault for good.
 ///
-/// Each call reads one line, and no byte behind it and its LF.
+/// Each call reads one line, and no byte after it and its LF.
 #[derive(Drop)]
 pub struct yaml_line_source_t<R> {
     reader: R,
@@ -32,7 +35,7 @@ impl<R> Model for yaml_line_source_t<R> {
 }
 
 impl<R: BufRead> yaml_line_source_t<R> {
-    /// A source that gives `max_tokens` tokens at most. Takes no memory.
+    /// Returns a source that gives `max_tokens` tokens at most. Takes no memory.
     pub fn new(alloc: Global, reader: R, max_tokens: u64) -> Self
         ensures value { result ≡ record {
           reader = reader;
@@ -75,19 +78,50 @@ impl<R: BufRead> yaml_token_source_t for yaml_line_source_t<R> {
 
     ghost repeats = { source_repeats R.remaining };
 
-    /// The token of the next line, or why there is none. A kept fault is given again; then `too many
-    /// tokens` comes before a line is read.
+    /// Returns the token of the next line.
+    ///
+    /// # Errors
+    ///
+    /// Why there is none. A kept fault is returned again; then `too many tokens` comes before a line is read.
     fn next_token(&mut self) -> Result<yaml_token_t, yaml_source_fault_t>
         ensures gives { Gives R.remaining self.old (answer_of result) self.new }
         ensures leaves { IfOk result (λ _. IsBehindLine (R.remaining self.old.reader)
             (R.remaining self.new.reader)) }
+        ensures bad_line { self.old.fault ≡ None
+            → answer_of result ≡ Err (line_fault BadTokenLine self.old.given)
+            → IsBehindLine (R.remaining self.old.reader) (R.remaining self.new.reader) }
+        ensures too_long { self.old.fault ≡ None
+            → answer_of result ≡ Err (line_fault LineTooLong self.old.given)
+            → IsWithinLine (longest_line + 1) (R.remaining self.old.reader)
+            (R.remaining self.new.reader) }
         ensures takes { TakesAtMost (longest_line + 1) (R.remaining self.old.reader)
             (R.remaining self.new.reader) }
     {
-        self.tokens.next_token(&mut self.reader, &mut self.line)
+        let mut token = yaml_token_t::new(unnamed_yaml_token_t_data::NoToken, ZERO_MARK, ZERO_MARK);
+        self.next_token_into(&mut token)?;
+        Ok(token)
     }
 
-    /// Whether fewer than 1,024 bytes stand in the reader's buffer behind the last line.
+    /// Puts the token of the next line straight into `token`, which after a fault is any token.
+    fn next_token_into(&mut self, token: &mut yaml_token_t) -> Result<(), yaml_source_fault_t>
+        ensures gives { Gives R.remaining self.old (answer_in result token.new) self.new }
+        ensures leaves { IfOk result (λ _. IsBehindLine (R.remaining self.old.reader)
+            (R.remaining self.new.reader)) }
+        ensures bad_line { self.old.fault ≡ None
+            → answer_in result token.new ≡ Err (line_fault BadTokenLine self.old.given)
+            → IsBehindLine (R.remaining self.old.reader) (R.remaining self.new.reader) }
+        ensures too_long { self.old.fault ≡ None
+            → answer_in result token.new ≡ Err (line_fault LineTooLong self.old.given)
+            → IsWithinLine (longest_line + 1) (R.remaining self.old.reader)
+            (R.remaining self.new.reader) }
+        ensures takes { TakesAtMost (longest_line + 1) (R.remaining self.old.reader)
+            (R.remaining self.new.reader) }
+    {
+        self.tokens
+            .next_token_into(&mut self.reader, &mut self.line, token)
+    }
+
+    /// Returns whether fewer than 1,024 bytes are in the reader's buffer after the last line.
     fn may_wait(&self) -> bool {
         self.tokens.is_low()
     }

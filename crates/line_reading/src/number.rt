@@ -4,7 +4,7 @@ ghost use Rattle.line_reading.specs.Number.{number_of, signed_of};
 
 use crate::front::read_number;
 
-/// The number that the digits write: no sign, no leading zero, within 64 bits.
+/// Returns the number that the digits write: no sign, no leading zero, within 64 bits.
 fn whole_number(digits: &[u8]) -> Option<u64>
     ensures { result ≡ number_of digits.now }
 {
@@ -18,7 +18,7 @@ fn whole_number(digits: &[u8]) -> Option<u64>
     Some(number.value)
 }
 
-/// A number, or `-` and a number other than 0, within 32 bits.
+/// Reads a number, or `-` and a number other than 0, within 32 bits.
 pub fn read_signed(field: &[u8]) -> Option<i32>
     ensures { result ≡ signed_of field.now }
 {

@@ -24,7 +24,7 @@ impl<'a> Model for Parts<'a> {
 }
 
 impl<'a> Parts<'a> {
-    /// The parts of `text` between the places of `separator`: one at least.
+    /// Returns the parts of `text` between the places of `separator`: one at least.
     pub fn new(text: &'a [u8], separator: u8) -> Self
         ensures { result ≡ slice_split (λ b. b == separator) text.now }
     {
@@ -34,14 +34,14 @@ impl<'a> Parts<'a> {
         }
     }
 
-    /// The parts of what stands behind a part, if it goes on there.
+    /// Returns the parts of what follows a part, if it goes on there.
     pub fn behind(rest: Option<&'a [u8]>, separator: u8) -> Self
         ensures { result ≡ parts_of separator (option_copied rest.entry) }
     {
         Parts { rest, separator }
     }
 
-    /// Takes the next part.
+    /// Takes the next part and returns it.
     pub fn next(&mut self) -> Option<&'a [u8]>
         ensures { MatchOption result ((self.old ≡ [])
             × (self.new ≡ [])) (λ part. self.old ≡ part.now ∷ self.new) }
@@ -52,7 +52,7 @@ impl<'a> Parts<'a> {
     }
 }
 
-/// What stands before the first `separator`, and what stands behind it, if it is there.
+/// Returns the bytes before the first `separator`, and those after it, if it is there.
 fn cut(text: &[u8], separator: u8) -> (&[u8], Option<&[u8]>)
     ensures before { result.0.now ≡ before_byte separator text.now }
     ensures behind { option_copied result.1 ≡ behind_byte separator text.now }

@@ -3,7 +3,7 @@ ghost use Rattle.std.specs.Prelude.{◌≡◌, ◌≤◌, drop, length, option_c
 ghost use Rattle.line_reading.specs.Front.{further, token_at};
 ghost use Rattle.line_reading.specs.TokenLine.{bare_content, content_of_one, content_of_two};
 ghost use Rattle.line_reading.specs.TokenLine.{content_of, token_of_line};
-ghost use Rattle.line_reading.specs.Reading.{IsReadAs};
+ghost use Rattle.line_reading.specs.Reading.{IsReadInto};
 
 use crate::field::{read_encoding, read_scalar_style, read_text, read_version};
 use crate::front::read_mark;
@@ -12,44 +12,51 @@ use crate::parts::Parts;
 use crate::search::len_before;
 use crate::token_name::read_token_type;
 use libyaml_types::{
-    ZERO_MARK, unnamed_yaml_token_t_data, unnamed_yaml_token_t_data_alias,
-    unnamed_yaml_token_t_data_anchor, unnamed_yaml_token_t_data_scalar,
-    unnamed_yaml_token_t_data_stream_start, unnamed_yaml_token_t_data_tag,
-    unnamed_yaml_token_t_data_tag_directive, yaml_token_t, yaml_token_type_t,
+    unnamed_yaml_token_t_data, unnamed_yaml_token_t_data_alias, unnamed_yaml_token_t_data_anchor,
+    unnamed_yaml_token_t_data_scalar, unnamed_yaml_token_t_data_stream_start,
+    unnamed_yaml_token_t_data_tag, unnamed_yaml_token_t_data_tag_directive, yaml_token_t,
+    yaml_token_type_t,
 };
 use std::alloc::Global;
 
-/// The token of a line, which has no LF. Only the token's texts take memory.
-pub fn read_token_line(alloc: Global, line: &[u8]) -> Result<yaml_token_t, LineProblem>
-    ensures { IsReadAs result (token_of_line line.now) }
+/// Reads the token of a line, which has no LF, into `token`. Only the token's texts take memory.
+///
+/// # Errors
+///
+/// `BadTokenLine`, where the line is no token line, and `Memory`, where an allocation fails. Then `token` is
+/// any token.
+pub fn read_token_line(
+    alloc: Global,
+    line: &[u8],
+    token: &mut yaml_token_t,
+) -> Result<(), LineProblem>
+    ensures { IsReadInto result token.new (token_of_line line.now) }
 {
-    take_token(alloc, line)
+    take_token(alloc, line, token)
 }
 
-/// The same, from the front of the line.
-fn take_token(alloc: Global, line: &[u8]) -> Result<yaml_token_t, LineProblem>
-    ensures { IsReadAs result (token_at line.now) }
+/// The same, by prefixes of the line.
+fn take_token(alloc: Global, line: &[u8], token: &mut yaml_token_t) -> Result<(), LineProblem>
+    ensures { IsReadInto result token.new (token_at line.now) }
 {
     let name = len_before(line, b' ');
     if name == line.len() {
         return Err(LineProblem::BadTokenLine);
     }
     let type_ = read_token_type(&line[..name]).ok_or(LineProblem::BadTokenLine)?;
-    let mut start_mark = ZERO_MARK;
-    let start = read_mark(line, name + 1, &mut start_mark);
+    let start = read_mark(line, name + 1, &mut token.start_mark);
     if start == 0 || start == line.len() {
         return Err(LineProblem::BadTokenLine);
     }
-    let mut end_mark = ZERO_MARK;
-    let end = read_mark(line, start + 1, &mut end_mark);
+    let end = read_mark(line, start + 1, &mut token.end_mark);
     if end == 0 {
         return Err(LineProblem::BadTokenLine);
     }
-    let content = read_content(alloc, type_, Parts::behind(fields_behind(line, end), b' '))?;
-    Ok(yaml_token_t::new(content, start_mark, end_mark))
+    let fields = Parts::behind(fields_behind(line, end), b' ');
+    read_content(alloc, type_, fields, &mut token.content)
 }
 
-/// The further fields behind one that ends at a place, if there are some.
+/// Returns the further fields after one that ends at a place, if there are some.
 #[inline(always)]
 fn fields_behind(line: &[u8], end: usize) -> Option<&[u8]>
     requires { end ≤ length line.now }
@@ -61,121 +68,122 @@ fn fields_behind(line: &[u8], end: usize) -> Option<&[u8]>
     Some(&line[end + 1..])
 }
 
-/// The content of a token of this type, from the fields behind its marks.
+/// Reads the content of a token of this type, from the fields that follow its marks.
 #[inline(always)]
 fn read_content(
     alloc: Global,
     type_: yaml_token_type_t,
     mut fields: Parts,
-) -> Result<unnamed_yaml_token_t_data, LineProblem>
-    ensures { IsReadAs result (content_of type_ fields.entry) }
+    content: &mut unnamed_yaml_token_t_data,
+) -> Result<(), LineProblem>
+    ensures { IsReadInto result content.new (content_of type_ fields.entry) }
 {
     let Some(first) = fields.next() else {
-        return read_bare_content(type_);
+        return read_bare_content(type_, content);
     };
     let Some(second) = fields.next() else {
-        return read_content_of_one(alloc, type_, first);
+        return read_content_of_one(alloc, type_, first, content);
     };
     if fields.next().is_some() {
         return Err(LineProblem::BadTokenLine);
     }
-    read_content_of_two(alloc, type_, first, second)
+    read_content_of_two(alloc, type_, first, second, content)
 }
 
-fn read_bare_content(type_: yaml_token_type_t) -> Result<unnamed_yaml_token_t_data, LineProblem>
-    ensures { IsReadAs result (bare_content type_) }
+/// Reads the content of a token that has no further field.
+fn read_bare_content(
+    type_: yaml_token_type_t,
+    content: &mut unnamed_yaml_token_t_data,
+) -> Result<(), LineProblem>
+    ensures { IsReadInto result content.new (bare_content type_) }
 {
-    match type_ {
-        yaml_token_type_t::YAML_NO_TOKEN => Ok(unnamed_yaml_token_t_data::NoToken),
-        yaml_token_type_t::YAML_STREAM_END_TOKEN => Ok(unnamed_yaml_token_t_data::StreamEnd),
-        yaml_token_type_t::YAML_DOCUMENT_START_TOKEN => Ok(
-            unnamed_yaml_token_t_data::DocumentStart,
-        ),
-        yaml_token_type_t::YAML_DOCUMENT_END_TOKEN => Ok(unnamed_yaml_token_t_data::DocumentEnd),
-        yaml_token_type_t::YAML_BLOCK_SEQUENCE_START_TOKEN => Ok(
+    *content = match type_ {
+        yaml_token_type_t::YAML_NO_TOKEN => unnamed_yaml_token_t_data::NoToken,
+        yaml_token_type_t::YAML_STREAM_END_TOKEN => unnamed_yaml_token_t_data::StreamEnd,
+        yaml_token_type_t::YAML_DOCUMENT_START_TOKEN => unnamed_yaml_token_t_data::DocumentStart,
+        yaml_token_type_t::YAML_DOCUMENT_END_TOKEN => unnamed_yaml_token_t_data::DocumentEnd,
+        yaml_token_type_t::YAML_BLOCK_SEQUENCE_START_TOKEN =>
             unnamed_yaml_token_t_data::BlockSequenceStart,
-        ),
-        yaml_token_type_t::YAML_BLOCK_MAPPING_START_TOKEN => Ok(
+        yaml_token_type_t::YAML_BLOCK_MAPPING_START_TOKEN =>
             unnamed_yaml_token_t_data::BlockMappingStart,
-        ),
-        yaml_token_type_t::YAML_BLOCK_END_TOKEN => Ok(unnamed_yaml_token_t_data::BlockEnd),
-        yaml_token_type_t::YAML_FLOW_SEQUENCE_START_TOKEN => Ok(
+        yaml_token_type_t::YAML_BLOCK_END_TOKEN => unnamed_yaml_token_t_data::BlockEnd,
+        yaml_token_type_t::YAML_FLOW_SEQUENCE_START_TOKEN =>
             unnamed_yaml_token_t_data::FlowSequenceStart,
-        ),
-        yaml_token_type_t::YAML_FLOW_SEQUENCE_END_TOKEN => Ok(
+        yaml_token_type_t::YAML_FLOW_SEQUENCE_END_TOKEN =>
             unnamed_yaml_token_t_data::FlowSequenceEnd,
-        ),
-        yaml_token_type_t::YAML_FLOW_MAPPING_START_TOKEN => Ok(
+        yaml_token_type_t::YAML_FLOW_MAPPING_START_TOKEN =>
             unnamed_yaml_token_t_data::FlowMappingStart,
-        ),
-        yaml_token_type_t::YAML_FLOW_MAPPING_END_TOKEN => Ok(
-            unnamed_yaml_token_t_data::FlowMappingEnd,
-        ),
-        yaml_token_type_t::YAML_BLOCK_ENTRY_TOKEN => Ok(unnamed_yaml_token_t_data::BlockEntry),
-        yaml_token_type_t::YAML_FLOW_ENTRY_TOKEN => Ok(unnamed_yaml_token_t_data::FlowEntry),
-        yaml_token_type_t::YAML_KEY_TOKEN => Ok(unnamed_yaml_token_t_data::Key),
-        yaml_token_type_t::YAML_VALUE_TOKEN => Ok(unnamed_yaml_token_t_data::Value),
-        _ => Err(LineProblem::BadTokenLine),
-    }
+        yaml_token_type_t::YAML_FLOW_MAPPING_END_TOKEN => unnamed_yaml_token_t_data::FlowMappingEnd,
+        yaml_token_type_t::YAML_BLOCK_ENTRY_TOKEN => unnamed_yaml_token_t_data::BlockEntry,
+        yaml_token_type_t::YAML_FLOW_ENTRY_TOKEN => unnamed_yaml_token_t_data::FlowEntry,
+        yaml_token_type_t::YAML_KEY_TOKEN => unnamed_yaml_token_t_data::Key,
+        yaml_token_type_t::YAML_VALUE_TOKEN => unnamed_yaml_token_t_data::Value,
+        _ => return Err(LineProblem::BadTokenLine),
+    };
+    Ok(())
 }
 
+/// Reads the content of a token that has one further field.
 fn read_content_of_one(
     alloc: Global,
     type_: yaml_token_type_t,
     field: &[u8],
-) -> Result<unnamed_yaml_token_t_data, LineProblem>
-    ensures { IsReadAs result (content_of_one type_ field.now) }
+    content: &mut unnamed_yaml_token_t_data,
+) -> Result<(), LineProblem>
+    ensures { IsReadInto result content.new (content_of_one type_ field.now) }
 {
-    match type_ {
+    *content = match type_ {
         yaml_token_type_t::YAML_STREAM_START_TOKEN => {
             let encoding = read_encoding(field).ok_or(LineProblem::BadTokenLine)?;
-            Ok(unnamed_yaml_token_t_data::StreamStart(unnamed_yaml_token_t_data_stream_start {
+            unnamed_yaml_token_t_data::StreamStart(unnamed_yaml_token_t_data_stream_start {
                 encoding,
-            }))
+            })
         }
         yaml_token_type_t::YAML_VERSION_DIRECTIVE_TOKEN => {
             let version = read_version(field).ok_or(LineProblem::BadTokenLine)?;
-            Ok(unnamed_yaml_token_t_data::VersionDirective(version))
+            unnamed_yaml_token_t_data::VersionDirective(version)
         }
         yaml_token_type_t::YAML_ALIAS_TOKEN => {
             let value = read_text(alloc, field)?;
-            Ok(unnamed_yaml_token_t_data::Alias(unnamed_yaml_token_t_data_alias { value }))
+            unnamed_yaml_token_t_data::Alias(unnamed_yaml_token_t_data_alias { value })
         }
         yaml_token_type_t::YAML_ANCHOR_TOKEN => {
             let value = read_text(alloc, field)?;
-            Ok(unnamed_yaml_token_t_data::Anchor(unnamed_yaml_token_t_data_anchor { value }))
+            unnamed_yaml_token_t_data::Anchor(unnamed_yaml_token_t_data_anchor { value })
         }
-        _ => Err(LineProblem::BadTokenLine),
-    }
+        _ => return Err(LineProblem::BadTokenLine),
+    };
+    Ok(())
 }
 
+/// Reads the content of a token that has two further fields.
 fn read_content_of_two(
     alloc: Global,
     type_: yaml_token_type_t,
     first: &[u8],
     second: &[u8],
-) -> Result<unnamed_yaml_token_t_data, LineProblem>
-    ensures { IsReadAs result (content_of_two type_ first.now second.now) }
+    content: &mut unnamed_yaml_token_t_data,
+) -> Result<(), LineProblem>
+    ensures { IsReadInto result content.new (content_of_two type_ first.now second.now) }
 {
-    match type_ {
+    *content = match type_ {
         yaml_token_type_t::YAML_TAG_DIRECTIVE_TOKEN => {
             let handle = read_text(alloc, first)?;
             let prefix = read_text(alloc, second)?;
-            Ok(unnamed_yaml_token_t_data::TagDirective(unnamed_yaml_token_t_data_tag_directive {
-                handle,
-                prefix,
-            }))
+            let directive = unnamed_yaml_token_t_data_tag_directive { handle, prefix };
+            unnamed_yaml_token_t_data::TagDirective(directive)
         }
         yaml_token_type_t::YAML_TAG_TOKEN => {
             let handle = read_text(alloc, first)?;
             let suffix = read_text(alloc, second)?;
-            Ok(unnamed_yaml_token_t_data::Tag(unnamed_yaml_token_t_data_tag { handle, suffix }))
+            unnamed_yaml_token_t_data::Tag(unnamed_yaml_token_t_data_tag { handle, suffix })
         }
         yaml_token_type_t::YAML_SCALAR_TOKEN => {
             let value = read_text(alloc, first)?;
             let style = read_scalar_style(second).ok_or(LineProblem::BadTokenLine)?;
-            Ok(unnamed_yaml_token_t_data::Scalar(unnamed_yaml_token_t_data_scalar { value, style }))
+            unnamed_yaml_token_t_data::Scalar(unnamed_yaml_token_t_data_scalar { value, style })
         }
-        _ => Err(LineProblem::BadTokenLine),
-    }
+        _ => return Err(LineProblem::BadTokenLine),
+    };
+    Ok(())
 }

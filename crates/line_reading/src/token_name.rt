@@ -4,7 +4,7 @@ ghost use Rattle.line_reading.specs.TokenName.{token_type_of};
 
 use libyaml_types::yaml_token_type_t;
 
-/// A token's type by its name in lines.
+/// Returns a token's type by its name in lines.
 pub fn read_token_type(name: &[u8]) -> Option<yaml_token_type_t>
     ensures { result ≡ token_type_of name.now }
 {

@@ -1,10 +1,11 @@
 //! The tokens of lines, one by one.
-ghost use Rattle.std.specs.Prelude.{◌≡◌, ◌+◌, IfOk};
-ghost use Rattle.libyaml_grammar.specs.runs.Fault.{answer_of, source_fault};
+ghost use Rattle.std.specs.Prelude.{◌≡◌, ◌+◌, IfOk, None, Err};
+ghost use Rattle.libyaml_grammar.specs.runs.Fault.{source_fault};
+ghost use Rattle.libyaml_events.specs.sources.Source.{answer_in};
 ghost use Rattle.line_reading.specs.LineFault.{line_fault};
 ghost use Rattle.line_reading.specs.LineSource.{Gives, source_over};
 ghost use Rattle.line_reading.specs.ReadLines.{longest_line};
-ghost use Rattle.line_reading.specs.NextLine.{TakesAtMost, IsBehindLine};
+ghost use Rattle.line_reading.specs.NextLine.{TakesAtMost, IsBehindLine, IsWithinLine};
 
 use crate::line::read_line;
 use crate::line_problem::LineProblem;
@@ -20,16 +21,16 @@ pub(crate) struct TokenReader {
     given: u64,
     max_tokens: u64,
     problem: Option<LineProblem>,
-    /// How many bytes stood in the reader's buffer behind the last line.
+    /// How many bytes were in the reader's buffer after the last line.
     left: usize,
     alloc: Global,
 }
 
-/// Fewer bytes than these behind a line may hold no token that brings an event: a read may follow, and wait.
+/// Fewer bytes than these after a line may hold no token that brings an event: a read may follow, and wait.
 const FEW_BYTES: usize = 1024;
 
 impl TokenReader {
-    /// One that gives `max_tokens` tokens at most.
+    /// Returns one that gives `max_tokens` tokens at most.
     pub(crate) fn new(alloc: Global, max_tokens: u64) -> TokenReader
         ensures given { result.given ≡ 0 }
         ensures max_tokens { result.max_tokens ≡ max_tokens }
@@ -44,16 +45,27 @@ impl TokenReader {
         }
     }
 
-    /// The token of the reader's next line, or why there is none. A kept problem is given again; then
-    /// `too many tokens` comes before a line is read.
-    pub(crate) fn next_token<R: BufRead>(
+    /// Reads the token of the reader's next line into `token`.
+    ///
+    /// # Errors
+    ///
+    /// Why there is none; then `token` is any token. A kept problem is returned again; then `too many tokens`
+    /// comes before a line is read.
+    pub(crate) fn next_token_into<R: BufRead>(
         &mut self,
         reader: &mut R,
         line: &mut Vec<u8>,
-    ) -> Result<yaml_token_t, yaml_source_fault_t>
-        ensures gives { Gives R.remaining (source_over reader.old self.old) (answer_of result)
+        token: &mut yaml_token_t,
+    ) -> Result<(), yaml_source_fault_t>
+        ensures gives { Gives R.remaining (source_over reader.old self.old) (answer_in result token.new)
             (source_over reader.new self.new) }
         ensures leaves { IfOk result (λ _. IsBehindLine (R.remaining reader.old) (R.remaining reader.new)) }
+        ensures bad_line { self.old.problem ≡ None
+            → answer_in result token.new ≡ Err (line_fault LineProblem.BadTokenLine self.old.given)
+            → IsBehindLine (R.remaining reader.old) (R.remaining reader.new) }
+        ensures too_long { self.old.problem ≡ None
+            → answer_in result token.new ≡ Err (line_fault LineProblem.LineTooLong self.old.given)
+            → IsWithinLine (longest_line + 1) (R.remaining reader.old) (R.remaining reader.new) }
         ensures takes { TakesAtMost (longest_line + 1) (R.remaining reader.old) (R.remaining reader.new) }
     {
         if let Some(problem) = self.problem {
@@ -65,21 +77,19 @@ impl TokenReader {
         if let Err(problem) = read_line(reader, line, &mut self.left) {
             return Err(self.keep(problem));
         }
-        match read_token_line(self.alloc, line) {
-            Ok(token) => {
-                self.given += 1;
-                Ok(token)
-            }
-            Err(problem) => Err(self.keep(problem)),
+        if let Err(problem) = read_token_line(self.alloc, line, token) {
+            return Err(self.keep(problem));
         }
+        self.given += 1;
+        Ok(())
     }
 
-    /// Whether a read may follow before long.
+    /// Returns whether a read may follow before long.
     pub(crate) fn is_low(&self) -> bool {
         self.left < FEW_BYTES
     }
 
-    /// Keeps a problem for good, as a fault.
+    /// Keeps a problem for good, and returns it as a fault.
     fn keep(&mut self, problem: LineProblem) -> yaml_source_fault_t
         ensures fault { source_fault result ≡ line_fault problem self.old.given }
         ensures kept { self.new ≡ record self.old { problem = Some problem } }

@@ -1,12 +1,18 @@
 use Rattle.std.proofs.Common.{◌<◌, length, sym, arith}
 use Rattle.std.proofs.lemmas.Bool.{eqb-false}
-use Rattle.line_reading.proofs.LinesLemmas.{takes_line, takes_last, takes_too_long}
+use Rattle.line_reading.proofs.LinesLemmas.{takes_line, takes_last, takes_too_long, takes_within}
 use Rattle.line_reading.proofs.line.read_line.Goals as goal
 
 pub returns-in-TooLong-clause-none : goal.returns-in-TooLong-clause-none
 returns-in-TooLong-clause-none g c =
     let h = rw c.in-TooLong.is at c.in_ok-take_line.ensures.consumes in
     takes_too_long _ (g.R.Read.remaining c.take_line.new.reader) c.take_line.new.line.items c.take_line.ensures.clean
+    (c.in_ok-take_line.ensures.too_long.0 (rw c.in-TooLong.is)).0 h
+
+pub returns-in-TooLong-clause-too_long : goal.returns-in-TooLong-clause-too_long
+returns-in-TooLong-clause-too_long g c e =
+    let h = rw c.in-TooLong.is at c.in_ok-take_line.ensures.consumes in
+    takes_within _ (g.R.Read.remaining c.take_line.new.reader) c.take_line.new.line.items _ c.take_line.ensures.clean
     (c.in_ok-take_line.ensures.too_long.0 (rw c.in-TooLong.is)).0 h
 
 pub returns-in-End-2-clause-whole : goal.returns-in-End-2-clause-whole

@@ -1,7 +1,7 @@
 use Rattle.std.proofs.Common.{rules, inl, inr, ◌≡◌, take, Some, None, arith}
 use Rattle.line_reading.specs.Front.{token_at}
 use Rattle.line_reading.specs.TokenName.{token_type_of}
-use Rattle.line_reading.proofs.Marks.{named, no_marks, no_type, no_start, no_end, bad_end, with_content}
+use Rattle.line_reading.proofs.Marks.{named, no_marks, no_type, no_start, no_end, bad_end, with_content, with_marks}
 use Rattle.line_reading.proofs.token_line.take_token.Goals as goal
 
 pub returns-then-name-line : goal.returns-then-name-line
@@ -36,16 +36,6 @@ returns-then-end-eq0 c =
     bad_end line _ _ _ _ here type (c.read_mark-start.ensures.some (omega (arith, c.if-start-eq0.false)))
     (omega (arith, c.read_mark-start.ensures.within, c.if-start-line.false)) (c.read_mark-end.ensures.none c.if-end-eq0.true)
 
-pub returns-in_err-content : goal.returns-in_err-content
-returns-in_err-content c =
-    let line = c.args.line.now in
-    let here = named line _ (omega (arith, c.len_before-name.ensures.bound, c.if-name-line.false)) c.len_before-name.ensures.before
-    c.len_before-name.ensures.found in
-    let type : token_type_of (take c.len_before-name.result line) ≡ Some c.in_ok-type_.type_ = search rules in
-    let all = with_content line _ _ _ _ _ _ here type (c.read_mark-start.ensures.some (omega (arith, c.if-start-eq0.false)))
-    (omega (arith, c.read_mark-start.ensures.within, c.if-start-line.false)) (c.read_mark-end.ensures.some (omega (arith, c.if-end-eq0.false))) in
-    rw (all, ← c.fields_behind.ensures, ← c.behind.ensures) (search rules)
-
 pub returns : goal.returns
 returns c =
     let line = c.args.line.now in
@@ -54,4 +44,4 @@ returns c =
     let type : token_type_of (take c.len_before-name.result line) ≡ Some c.in_ok-type_.type_ = search rules in
     let all = with_content line _ _ _ _ _ _ here type (c.read_mark-start.ensures.some (omega (arith, c.if-start-eq0.false)))
     (omega (arith, c.read_mark-start.ensures.within, c.if-start-line.false)) (c.read_mark-end.ensures.some (omega (arith, c.if-end-eq0.false))) in
-    rw (all, ← c.fields_behind.ensures, ← c.behind.ensures) (search rules)
+    rw (all, ← c.fields_behind.ensures, ← c.behind-fields.ensures) (with_marks _ _ _ _ _ c.read_content.ensures)
