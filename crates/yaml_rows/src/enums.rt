@@ -9,7 +9,7 @@ use unsafe_libyaml::{
     unnamed_yaml_token_t_data_scalar, yaml_parser_state_t, yaml_refusal_t, yaml_token_type_t,
 };
 
-/// In the order of their numbers.
+/// In order.
 const TOKEN_TYPES: [yaml_token_type_t; 22] = [
     yaml_token_type_t::YAML_NO_TOKEN,
     yaml_token_type_t::YAML_STREAM_START_TOKEN,
@@ -35,7 +35,7 @@ const TOKEN_TYPES: [yaml_token_type_t; 22] = [
     yaml_token_type_t::YAML_SCALAR_TOKEN,
 ];
 
-/// In the order of their numbers.
+/// In order.
 const STATES: [yaml_parser_state_t; 24] = [
     yaml_parser_state_t::YAML_PARSE_STREAM_START_STATE,
     yaml_parser_state_t::YAML_PARSE_IMPLICIT_DOCUMENT_START_STATE,
@@ -63,58 +63,26 @@ const STATES: [yaml_parser_state_t; 24] = [
     yaml_parser_state_t::YAML_PARSE_END_STATE,
 ];
 
-fn token_types() -> &'static [yaml_token_type_t] {
-    &TOKEN_TYPES
-}
-
-fn states() -> &'static [yaml_parser_state_t] {
-    &STATES
-}
-
-fn is_token_type_in_order(one: yaml_token_type_t) -> bool {
-    for other in token_types() {
-        let facts = [
-            one.cmp(other) == one.number().cmp(&other.number()),
-            (one == *other) == (one.number() == other.number()),
-        ];
-        if facts != [true; 2] {
+/// Whether these are in strict order.
+fn are_in_order<T: Ord>(all: &[T]) -> bool {
+    for (place, one) in all.iter().enumerate() {
+        if !is_in_order(all, one, place) {
             return false;
         }
     }
     true
 }
 
-fn are_token_types_in_order() -> bool {
-    let mut place = 0u32;
-    for one in token_types() {
-        if [one.number() == place, is_token_type_in_order(*one)] != [true; 2] {
+/// Whether one of these that has this place stands so to each.
+fn is_in_order<T: Ord>(all: &[T], one: &T, place: usize) -> bool {
+    for (at, other) in all.iter().enumerate() {
+        if [
+            one.cmp(other) == place.cmp(&at),
+            (one == other) == (place == at),
+        ] != [true; 2]
+        {
             return false;
         }
-        place = place.wrapping_add(1);
-    }
-    true
-}
-
-fn is_state_in_order(one: yaml_parser_state_t) -> bool {
-    for other in states() {
-        let facts = [
-            one.cmp(other) == one.number().cmp(&other.number()),
-            (one == *other) == (one.number() == other.number()),
-        ];
-        if facts != [true; 2] {
-            return false;
-        }
-    }
-    true
-}
-
-fn are_states_in_order() -> bool {
-    let mut place = 0u32;
-    for one in states() {
-        if [one.number() == place, is_state_in_order(*one)] != [true; 2] {
-            return false;
-        }
-        place = place.wrapping_add(1);
     }
     true
 }
@@ -186,8 +154,8 @@ fn numbers() -> [u32; 4] {
 pub fn checks(alloc: Global) -> [Option<&'static str>; 7] {
     [
         unless(numbers() == [21, 10, 23, 7], "numbers of enums"),
-        unless(are_token_types_in_order(), "the order of types of tokens"),
-        unless(are_states_in_order(), "the order of states"),
+        unless(are_in_order(&TOKEN_TYPES), "the order of types of tokens"),
+        unless(are_in_order(&STATES), "the order of states"),
         first_wrong(first_told_otherwise(alloc), "texts of refusals"),
         unless_made(
             is_named(alloc, yaml_refusal_t::NotUtf8, "NotUtf8"),

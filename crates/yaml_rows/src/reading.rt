@@ -30,13 +30,22 @@ pub fn write_given<S: yaml_token_source_t>(
         Given::Events => write_events(alloc, parser, out)?,
         Given::Nodes => write_documents(alloc, parser, out)?,
         Given::NodesWithin(most) => {
-            yaml_parser_set_max_entries(parser, most.max(1));
+            set_bound(parser, most)?;
             write_documents(alloc, parser, out)?;
         }
     }
     ensure!(is_over(parser), "an event after the end");
     ensure!(is_loaded(parser), "a load after the end");
     Ok(*parser.prefix())
+}
+
+fn set_bound<S>(parser: &mut yaml_parser_t<S>, most: i32) -> Result<()> {
+    ensure!(
+        yaml_parser_between_documents(parser),
+        "a bound would be set within a document"
+    );
+    yaml_parser_set_max_entries(parser, most.max(1));
+    Ok(())
 }
 
 fn write_events<S: yaml_token_source_t>(
