@@ -14,6 +14,7 @@ use libyaml_types::{
     unnamed_yaml_event_t_data_sequence_start, yaml_mark_t,
 };
 use std::alloc::{AllocError, Global};
+use std::mem;
 
 /// The tag of a loaded node: the given one, but `default` where none is given, or `!`.
 #[inline(always)]
@@ -32,24 +33,27 @@ fn tag_of(alloc: Global, tag: Option<String>, default: &str) -> Result<String, A
     }
 }
 
-/// The node of a scalar event that stands at these places. Its texts are moved, and its anchor is
-/// let go: a caller that wants it takes it out before.
+/// Returns the node of a scalar event that stands at these places. Its tag and value are moved out of the
+/// event.
 ///
-/// Without a tag, or with `!`, its tag is `tag:yaml.org,2002:str`, and only then memory is asked for.
-/// Answers `AllocError` where it is refused.
+/// Without a tag, or with `!`, its tag is `tag:yaml.org,2002:str`, and only then it allocates.
+///
+/// # Errors
+///
+/// `AllocError` where that allocation fails.
 pub fn scalar_of_event(
     alloc: Global,
-    scalar: unnamed_yaml_event_t_data_scalar,
+    scalar: &mut unnamed_yaml_event_t_data_scalar,
     start_mark: yaml_mark_t,
     end_mark: yaml_mark_t,
 ) -> Result<yaml_node_t, AllocError>
-    ensures ok { IfOk result (λ node. node ≡ scalar_loaded scalar start_mark end_mark) }
+    ensures ok { IfOk result (λ node. node ≡ scalar_loaded scalar.old start_mark end_mark) }
     ensures childless { IfOk result (λ node. ids_of node.content ≡ []) }
-    ensures refused { OnErr result (takes_default scalar.tag ≡ true) }
+    ensures refused { OnErr result (takes_default scalar.old.tag ≡ true) }
 {
-    let tag = tag_of(alloc, scalar.tag, "tag:yaml.org,2002:str")?;
+    let tag = tag_of(alloc, scalar.tag.take(), "tag:yaml.org,2002:str")?;
     let content = unnamed_yaml_node_t_data_scalar {
-        value: scalar.value,
+        value: mem::replace(&mut scalar.value, String::new(alloc)),
         style: scalar.style,
     };
     Ok(yaml_node_t {
@@ -60,23 +64,26 @@ pub fn scalar_of_event(
     })
 }
 
-/// The node, without items, of a sequence whose start event stands at these places. Its tag is
-/// moved, and its anchor is let go: a caller that wants it takes it out before. Its end mark is to be
-/// set when the sequence ends.
+/// Returns the node, without items, of a sequence whose start event stands at these places. Its tag is
+/// moved out of the event. Its end mark is to be set when the sequence ends.
 ///
-/// Without a tag, or with `!`, its tag is `tag:yaml.org,2002:seq`, and only then memory is asked for.
-/// Answers `AllocError` where it is refused.
+/// Without a tag, or with `!`, its tag is `tag:yaml.org,2002:seq`, and only then it allocates.
+///
+/// # Errors
+///
+/// `AllocError` where that allocation fails.
 pub fn sequence_of_event(
     alloc: Global,
-    start: unnamed_yaml_event_t_data_sequence_start,
+    start: &mut unnamed_yaml_event_t_data_sequence_start,
     start_mark: yaml_mark_t,
     end_mark: yaml_mark_t,
 ) -> Result<yaml_node_t, AllocError>
-    ensures ok { IfOk result (λ node. node ≡ sequence_loaded start.tag start.style [] start_mark end_mark) }
+    ensures ok { IfOk result (λ node. node
+        ≡ sequence_loaded start.old.tag start.old.style [] start_mark end_mark) }
     ensures childless { IfOk result (λ node. ids_of node.content ≡ []) }
-    ensures refused { OnErr result (takes_default start.tag ≡ true) }
+    ensures refused { OnErr result (takes_default start.old.tag ≡ true) }
 {
-    let tag = tag_of(alloc, start.tag, "tag:yaml.org,2002:seq")?;
+    let tag = tag_of(alloc, start.tag.take(), "tag:yaml.org,2002:seq")?;
     let content = unnamed_yaml_node_t_data_sequence {
         items: Vec::new(alloc),
         style: start.style,
@@ -89,23 +96,26 @@ pub fn sequence_of_event(
     })
 }
 
-/// The node, without pairs, of a mapping whose start event stands at these places. Its tag is moved,
-/// and its anchor is let go: a caller that wants it takes it out before. Its end mark is to be set
-/// when the mapping ends.
+/// Returns the node, without pairs, of a mapping whose start event stands at these places. Its tag is
+/// moved out of the event. Its end mark is to be set when the mapping ends.
 ///
-/// Without a tag, or with `!`, its tag is `tag:yaml.org,2002:map`, and only then memory is asked for.
-/// Answers `AllocError` where it is refused.
+/// Without a tag, or with `!`, its tag is `tag:yaml.org,2002:map`, and only then it allocates.
+///
+/// # Errors
+///
+/// `AllocError` where that allocation fails.
 pub fn mapping_of_event(
     alloc: Global,
-    start: unnamed_yaml_event_t_data_mapping_start,
+    start: &mut unnamed_yaml_event_t_data_mapping_start,
     start_mark: yaml_mark_t,
     end_mark: yaml_mark_t,
 ) -> Result<yaml_node_t, AllocError>
-    ensures ok { IfOk result (λ node. node ≡ mapping_loaded start.tag start.style [] start_mark end_mark) }
+    ensures ok { IfOk result (λ node. node
+        ≡ mapping_loaded start.old.tag start.old.style [] start_mark end_mark) }
     ensures childless { IfOk result (λ node. ids_of node.content ≡ []) }
-    ensures refused { OnErr result (takes_default start.tag ≡ true) }
+    ensures refused { OnErr result (takes_default start.old.tag ≡ true) }
 {
-    let tag = tag_of(alloc, start.tag, "tag:yaml.org,2002:map")?;
+    let tag = tag_of(alloc, start.tag.take(), "tag:yaml.org,2002:map")?;
     let content = unnamed_yaml_node_t_data_mapping {
         pairs: Vec::new(alloc),
         style: start.style,

@@ -8,7 +8,7 @@ ghost use Rattle.libyaml_documents.specs.LoadedNodes.{mapping_loaded, scalar_loa
 ghost use Rattle.libyaml_documents.specs.LoadedNodes.{sequence_loaded};
 ghost use Rattle.libyaml_documents.specs.Nodes.{ids_of, type_at, with_item, with_pair};
 ghost use Rattle.libyaml_graphs.specs.Loader.{no_anchors, parent_full, register, registered};
-ghost use Rattle.libyaml_graphs.specs.Parts.{alias_part, leaf_part, part_in, start_part};
+ghost use Rattle.libyaml_graphs.specs.Parts.{alias_part, leaf_part, part_of, start_part};
 ghost use Rattle.libyaml_loader.specs.Context.{AllOpenIn, Composed, IdsAreIn, NodeLoaded, Refuses};
 ghost use Rattle.libyaml_loader.specs.Context.{ParentRefuses, RefusesAnchor, closed, handed_to, loader_of};
 ghost use Rattle.libyaml_loader.specs.Ids.{id_of};
@@ -29,7 +29,7 @@ use libyaml_documents::{
 use libyaml_types::{
     unnamed_yaml_event_t_data, unnamed_yaml_event_t_data_document_start,
     unnamed_yaml_event_t_data_mapping_start, unnamed_yaml_event_t_data_scalar,
-    unnamed_yaml_event_t_data_sequence_start, yaml_mark_t, yaml_node_type_t,
+    unnamed_yaml_event_t_data_sequence_start, yaml_event_t, yaml_mark_t, yaml_node_type_t,
 };
 use std::alloc::Global;
 
@@ -86,18 +86,16 @@ impl loader_ctx {
         document
     }
 
-    /// Composes an event of the document. An event that is no part of its nodes changes nothing.
-    pub fn compose(
-        &mut self,
-        content: unnamed_yaml_event_t_data,
-        start_mark: yaml_mark_t,
-        end_mark: yaml_mark_t,
-    ) -> Result<(), Refusal>
+    /// Composes an event of the document, whose texts are moved out of it. An event that is no part of
+    /// the document's nodes changes nothing.
+    pub fn compose(&mut self, event: &mut yaml_event_t) -> Result<(), Refusal>
         requires { IdsAreIn (loader_of self.old) }
-        ensures ok { OnOk result (Composed self.old self.new (part_in content start_mark end_mark)) }
-        ensures err { IfErr result (λ r. Refuses self.old (part_in content start_mark end_mark) r) }
+        ensures ok { OnOk result (Composed self.old self.new (part_of event.old)) }
+        ensures err { IfErr result (λ r. Refuses self.old (part_of event.old) r) }
     {
-        match content {
+        let start_mark = event.start_mark;
+        let end_mark = event.end_mark;
+        match &mut event.content {
             unnamed_yaml_event_t_data::Alias(alias) => {
                 self.yaml_parser_load_alias(&alias.anchor, start_mark)
             }
@@ -154,15 +152,15 @@ impl loader_ctx {
     /// libyaml: `yaml_parser_load_scalar`.
     fn yaml_parser_load_scalar(
         &mut self,
-        mut scalar: unnamed_yaml_event_t_data_scalar,
+        scalar: &mut unnamed_yaml_event_t_data_scalar,
         start_mark: yaml_mark_t,
         end_mark: yaml_mark_t,
     ) -> Result<(), Refusal>
         requires { IdsAreIn (loader_of self.old) }
         ensures ok { OnOk result (Composed self.old self.new
-            (Some (leaf_part scalar.anchor (scalar_loaded scalar start_mark end_mark)))) }
+            (Some (leaf_part scalar.old.anchor (scalar_loaded scalar.old start_mark end_mark)))) }
         ensures err { IfErr result (λ r. Refuses self.old
-            (Some (leaf_part scalar.anchor (scalar_loaded scalar start_mark end_mark))) r) }
+            (Some (leaf_part scalar.old.anchor (scalar_loaded scalar.old start_mark end_mark))) r) }
     {
         self.has_room(self.document.nodes().len())?;
         let anchor = scalar.anchor.take();
@@ -176,15 +174,17 @@ impl loader_ctx {
     /// libyaml: `yaml_parser_load_sequence`.
     fn yaml_parser_load_sequence(
         &mut self,
-        mut start: unnamed_yaml_event_t_data_sequence_start,
+        start: &mut unnamed_yaml_event_t_data_sequence_start,
         start_mark: yaml_mark_t,
         end_mark: yaml_mark_t,
     ) -> Result<(), Refusal>
         requires { IdsAreIn (loader_of self.old) }
         ensures ok { OnOk result (Composed self.old self.new
-            (Some (start_part start.anchor (sequence_loaded start.tag start.style [] start_mark end_mark)))) }
+            (Some (start_part start.old.anchor
+            (sequence_loaded start.old.tag start.old.style [] start_mark end_mark)))) }
         ensures err { IfErr result (λ r. Refuses self.old
-            (Some (start_part start.anchor (sequence_loaded start.tag start.style [] start_mark end_mark)))
+            (Some (start_part start.old.anchor
+            (sequence_loaded start.old.tag start.old.style [] start_mark end_mark)))
             r) }
     {
         self.has_room(self.document.nodes().len())?;
@@ -200,15 +200,17 @@ impl loader_ctx {
     /// libyaml: `yaml_parser_load_mapping`.
     fn yaml_parser_load_mapping(
         &mut self,
-        mut start: unnamed_yaml_event_t_data_mapping_start,
+        start: &mut unnamed_yaml_event_t_data_mapping_start,
         start_mark: yaml_mark_t,
         end_mark: yaml_mark_t,
     ) -> Result<(), Refusal>
         requires { IdsAreIn (loader_of self.old) }
         ensures ok { OnOk result (Composed self.old self.new
-            (Some (start_part start.anchor (mapping_loaded start.tag start.style [] start_mark end_mark)))) }
+            (Some (start_part start.old.anchor
+            (mapping_loaded start.old.tag start.old.style [] start_mark end_mark)))) }
         ensures err { IfErr result (λ r. Refuses self.old
-            (Some (start_part start.anchor (mapping_loaded start.tag start.style [] start_mark end_mark)))
+            (Some (start_part start.old.anchor
+            (mapping_loaded start.old.tag start.old.style [] start_mark end_mark)))
             r) }
     {
         self.has_room(self.document.nodes().len())?;

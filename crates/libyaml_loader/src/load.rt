@@ -25,13 +25,14 @@ use crate::refusal::{has_failed, keep_refusal};
 use libyaml_documents::building::begin_document;
 use libyaml_documents::yaml_document_t;
 use libyaml_events::laws::calls::of_history;
-use libyaml_events::{yaml_parser_parse, yaml_parser_t, yaml_token_source_t};
+use libyaml_events::{yaml_parser_parse_into, yaml_parser_t, yaml_token_source_t};
 use libyaml_graphs::laws::whole_documents_have_roots;
 use libyaml_types::{
     ZERO_MARK, unnamed_yaml_event_t_data, unnamed_yaml_event_t_data_document_start,
     yaml_error_type_t, yaml_event_t, yaml_mark_t,
 };
 use std::alloc::Global;
+use std::mem;
 
 /// The start of a document.
 #[derive(Drop)]
@@ -119,17 +120,19 @@ fn next_document<S: yaml_token_source_t>(
         left_over parser.old result parser.new }
 {
     of_history::<S>();
+    let mut event = yaml_event_t {
+        content: unnamed_yaml_event_t_data::NoEvent,
+        start_mark: ZERO_MARK,
+        end_mark: ZERO_MARK,
+    };
     loop {
-        let yaml_event_t {
-            content,
-            start_mark,
-            ..
-        } = yaml_parser_parse(parser)?;
-        if !is_event(&content) {
+        yaml_parser_parse_into(parser, &mut event)?;
+        if !is_event(&event.content) {
             return Ok(without_root(parser.allocator()));
         }
-        match opening_of(content, start_mark) {
-            Some(opening) => return yaml_parser_load_document(parser, opening),
+        let content = mem::replace(&mut event.content, unnamed_yaml_event_t_data::NoEvent);
+        match opening_of(content, event.start_mark) {
+            Some(opening) => return yaml_parser_load_document(parser, opening, &mut event),
             None => {}
         }
     }
@@ -155,12 +158,14 @@ fn bound_of<S>(parser: &yaml_parser_t<S>) -> usize
     if most < 0 { 0 } else { most as usize }
 }
 
-/// The rest of the document that this start event begins.
+/// Returns the rest of the document that this start event begins. Its events come in `event`, one after
+/// another.
 ///
 /// libyaml: `yaml_parser_load_document`.
 fn yaml_parser_load_document<S: yaml_token_source_t>(
     parser: &mut yaml_parser_t<S>,
     opening: Opening,
+    event: &mut yaml_event_t,
 ) -> Result<yaml_document_t, yaml_error_type_t>
     ensures falls { IfOk result (λ d. (d ≡ empty_document None [] false false)
         ⊎ (events_left S.bound parser.new < events_left S.bound parser.old)) }
@@ -175,15 +180,16 @@ fn yaml_parser_load_document<S: yaml_token_source_t>(
 {
     let alloc = parser.allocator();
     let ctx = loader_ctx::new(alloc, bound_of(parser), opening.start, opening.mark);
-    yaml_parser_load_nodes(parser, ctx)
+    yaml_parser_load_nodes(parser, ctx, event)
 }
 
-/// The rest of a document on the way.
+/// Returns the rest of a document on the way. Its events come in `event`, one after another.
 ///
 /// libyaml: `yaml_parser_load_nodes`.
 fn yaml_parser_load_nodes<S: yaml_token_source_t>(
     parser: &mut yaml_parser_t<S>,
     mut ctx: loader_ctx,
+    event: &mut yaml_event_t,
 ) -> Result<yaml_document_t, yaml_error_type_t>
     requires ids { IdsAreIn (loader_of ctx) }
     ensures falls { IfOk result (λ d. (d ≡ empty_document None [] false false)
@@ -199,7 +205,7 @@ fn yaml_parser_load_nodes<S: yaml_token_source_t>(
         (machine.left_from (machine.within o (loader_of ctx))) parser.old result parser.new }
 {
     loop {
-        match compose_next(parser, &mut ctx)? {
+        match compose_next(parser, &mut ctx, event)? {
             Step::Composed => {}
             Step::Closed(closing) => return Ok(ctx.into_document(closing.implicit, closing.mark)),
             Step::Ended => return Ok(without_root(ctx.alloc)),
@@ -207,10 +213,11 @@ fn yaml_parser_load_nodes<S: yaml_token_source_t>(
     }
 }
 
-/// Composes the next event of a document.
+/// Composes the next event of a document, which comes in `event`.
 fn compose_next<S: yaml_token_source_t>(
     parser: &mut yaml_parser_t<S>,
     ctx: &mut loader_ctx,
+    event: &mut yaml_event_t,
 ) -> Result<Step, yaml_error_type_t>
     requires ids { IdsAreIn (loader_of ctx.old) }
     ensures falls { IfOk result (λ s. (s ≡ Step.Ended)
@@ -222,17 +229,13 @@ fn compose_next<S: yaml_token_source_t>(
     ensures steps { ComposesBy S.gives S.known S.may_break result parser.old parser.new ctx.old ctx.new }
 {
     of_history::<S>();
-    let yaml_event_t {
-        content,
-        start_mark,
-        end_mark,
-    } = yaml_parser_parse(parser)?;
-    if !is_event(&content) {
+    yaml_parser_parse_into(parser, event)?;
+    if !is_event(&event.content) {
         return Ok(Step::Ended);
     }
-    match closing_of(&content, end_mark) {
+    match closing_of(&event.content, event.end_mark) {
         Some(closing) => Ok(Step::Closed(closing)),
-        None => match ctx.compose(content, start_mark, end_mark) {
+        None => match ctx.compose(event) {
             Ok(()) => Ok(Step::Composed),
             Err(refusal) => Err(keep_refusal(parser, refusal)),
         },

@@ -5,11 +5,11 @@ use Rattle.libyaml_loader.specs.Ids.{magnitude}
 use Rattle.libyaml_loader.proofs.Stepping.{Skips}
 use Rattle.libyaml_loader.proofs.load.next_document.Given as goal
 
-abbrev pub invariant-loop-content : goal.invariant-loop-content
-invariant-loop-content g l = Skips g.S.yaml_token_source_t.gives g.S.yaml_token_source_t.known g.S.yaml_token_source_t.may_break
+abbrev pub invariant-loop-event : goal.invariant-loop-event
+invariant-loop-event g l = Skips g.S.yaml_token_source_t.gives g.S.yaml_token_source_t.known g.S.yaml_token_source_t.may_break
     (magnitude l.initial.parser.max_entries) l.initial.parser l.parser
     × (events_left g.S.yaml_token_source_t.bound l.parser ≤ events_left g.S.yaml_token_source_t.bound l.initial.parser)
     × (is_over l.initial.parser ≡ true → l.parser ≡ l.initial.parser)
 
-abbrev pub decreases-loop-content : goal.decreases-loop-content
-decreases-loop-content g l = events_left g.S.yaml_token_source_t.bound l.parser
+abbrev pub decreases-loop-event : goal.decreases-loop-event
+decreases-loop-event g l = events_left g.S.yaml_token_source_t.bound l.parser
