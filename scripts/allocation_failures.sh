@@ -1,41 +1,64 @@
 #!/bin/sh
-# Makes allocations fail in turn: runs programs of rows with the word `refused`, each with its first allocation failed, then
-# with its second, and so on until none fails. A program counts what gave a wrong answer. It has to be built
-# (`rt run` in its folder); a C compiler and the GNU C library are needed.
+# Makes allocations fail in turn: runs programs of rows with the word `failing`, each with its first allocation failed,
+# then with its second, and so on until none fails. Each run has to end with status 0 and to print what the run without
+# failure prints, where nothing differs. Or it was an allocation of the program's own, for its words or its rows: then it
+# prints that error and ends with status 1. Anything else is wrong: another text, another status, a signal.
+# The programs have to be built (`rt run` in their folders); a C compiler and the GNU C library are needed.
 #
 #     scripts/allocation_failures.sh [CRATE..]
 #
-# Without words: hostile_rows large_rows call_rows line_rows.
+# Without words: hostile_rows line_rows.
 set -u
 cd "$(dirname "$0")/.." || exit 2
+root=$PWD
+wrong=0
 
-# Whether each line says that nothing is wrong, or that the program's own arguments found no memory.
-is_right() {
-    ! printf '%s\n' "$1" | grep -Evq '(^|, )0 (wrong|differ)$|^Error: (out of memory|Kind\(OutOfMemory\))$'
+# Runs the program with its nth allocation failed.
+run() {
+    said=$(REFUSE=$n LD_PRELOAD=$shim "$program" failing 2>"$errors")
+    ended=$?
+    told=$(cat "$errors")
 }
 
-refuse_in_turn() {
-    program=crates/$1/out/$1
-    whole=$("$program" refused) || exit 2
+# Whether the run came to its end, or an allocation of the program's own failed, before which it said what it has to.
+is_right() {
+    case "$ended $told" in
+    '0 ') [ "$said" = "$whole" ] ;;
+    '1 Error: out of memory' | '1 Error: memory allocation failed')
+        own=$((own + 1))
+        [ "${whole#"$said"}" != "$whole" ] || [ -z "$said" ]
+        ;;
+    *) false ;;
+    esac
+}
+
+fail_in_turn() {
+    program=$root/crates/$1/out/$1
+    cd "$root/crates/$1/data" || exit 2
+    whole=$("$program" failing) || exit 2
+    if printf '%s\n' "$whole" | grep -Evq ' rows, 0 differ$'; then
+        printf '%s\n' "$1, no allocation failed:" "$whole"
+        wrong=$((wrong + 1))
+    fi
     n=1
-    while :; do
-        said=$(REFUSE=$n LD_PRELOAD=$shim "$program" refused 2>&1)
-        case $said in
-        *"no allocation failed") break ;;
-        esac
-        is_right "$said" || { echo "$1, allocation $n refused: $said"; status=1; }
+    own=0
+    while run; [ "$told" != 'no allocation failed' ]; do
+        if ! is_right; then
+            printf '%s\n' "$1, allocation $n failed: status $ended" "$said" "$told"
+            wrong=$((wrong + 1))
+        fi
         n=$((n + 1))
     done
-    [ "$said" = "$whole
-no allocation failed" ] || status=1
-    echo "$1: $((n - 1)) allocations refused in turn"
+    [ "$ended" = 0 ] && [ "$said" = "$whole" ] || wrong=$((wrong + 1))
+    printf '%s\n' "$whole" "$1: $((n - 1)) allocations failed in turn, $own of them the program's own"
 }
 
-status=0
 shim=$(mktemp) || exit 2
+errors=$(mktemp) || exit 2
 cc -O2 -fPIC -shared -o "$shim" scripts/fail_allocation.c || exit 2
-for crate in ${*:-hostile_rows large_rows call_rows line_rows}; do
-    refuse_in_turn "$crate"
+for crate in ${*:-hostile_rows line_rows}; do
+    fail_in_turn "$crate"
 done
-rm -f "$shim"
-exit $status
+rm -f "$shim" "$errors"
+echo "$wrong wrong"
+[ "$wrong" = 0 ]

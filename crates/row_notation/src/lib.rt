@@ -28,6 +28,7 @@ mod fronts;
 mod pieces;
 mod readings;
 mod runs;
+mod table;
 mod tokens;
 
 pub use checks::{first_wrong, is_text, show_checks, unless, unless_made};
@@ -40,4 +41,5 @@ pub use readings::{Reading, is_loaded, shown};
 pub use runs::{
     first_parsed_otherwise, gives_event, is_empty, is_over, parsed, show_events, show_run,
 };
+pub use table::Table;
 pub use tokens::{end_of_row, put_text, source_of, tokens_of};

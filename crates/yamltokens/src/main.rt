@@ -2,14 +2,11 @@
 //! documents on standard output.
 #![tactic(auto)]
 
-mod words;
-
 use std::io::{BufReader, BufWriter};
 use std::process::ExitCode;
 use std::rt::Env;
 use std::{env, io};
-pub use words::run_words;
-use words::{no_memory, refuse_words};
+use token_words::{no_memory, refuse_words, run_words};
 
 /// How many bytes are read or written at once.
 const BUFFER_SIZE: usize = 1 << 16;

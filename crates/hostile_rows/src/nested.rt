@@ -1,0 +1,43 @@
+//! A deep document, built by calls.
+
+use crate::calls::append_item;
+use row_notation::{Table, is_chain};
+use std::alloc::Global;
+use std::io;
+use unsafe_libyaml::{
+    YAML_FLOW_SEQUENCE_STYLE, yaml_document_add_sequence, yaml_document_initialize,
+    yaml_document_t, yaml_refusal_t,
+};
+
+/// How deep the document is.
+const N: usize = 100_000;
+
+/// Adds a sequence as an item of another, and returns its id.
+fn nest(document: &mut yaml_document_t, outer: i32) -> Result<i32, yaml_refusal_t> {
+    let inner = yaml_document_add_sequence(document, None, YAML_FLOW_SEQUENCE_STYLE)?;
+    append_item(document, outer, inner)?;
+    Ok(inner)
+}
+
+/// Adds N sequences, each the only item of the one before, and says whether they stand so.
+fn nest_all(document: &mut yaml_document_t) -> Result<bool, yaml_refusal_t> {
+    let mut innermost = yaml_document_add_sequence(document, None, YAML_FLOW_SEQUENCE_STYLE)?;
+    for _ in 1..N {
+        innermost = nest(document, innermost)?;
+    }
+    let nodes = document.nodes();
+    Ok(is_chain(nodes) && nodes.len() == N)
+}
+
+fn are_nested(alloc: Global) -> Result<bool, yaml_refusal_t> {
+    let mut document = yaml_document_initialize(alloc, None, &[], true, true)?;
+    nest_all(&mut document)
+}
+
+/// Shows the table of this module.
+pub fn show(rt: &(impl Print + AllocGlobal)) -> io::Result<()> {
+    let mut table = Table::new("deep documents, by calls");
+    let is_right = are_nested(rt.alloc()).unwrap_or(false);
+    table.count(rt, "sequences in sequences", is_right)?;
+    table.show(rt)
+}
