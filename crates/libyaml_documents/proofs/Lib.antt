@@ -3,5 +3,6 @@ mod DocumentsEqual
 mod EventsEqual
 mod Fields
 pub mod Ids
+pub mod Children
 mod NodesEqual
 mod TokensEqual

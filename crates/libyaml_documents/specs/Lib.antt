@@ -6,3 +6,4 @@ pub mod LoadedNodes
 pub mod Models
 pub mod Node
 pub mod Nodes
+pub mod Children

@@ -41,6 +41,7 @@ fn tag_of(alloc: Global, tag: Option<String>, default: &str) -> Result<String, A
 /// # Errors
 ///
 /// `AllocError` where that allocation fails.
+#[inline(always)]
 pub fn scalar_of_event(
     alloc: Global,
     scalar: &mut unnamed_yaml_event_t_data_scalar,
@@ -72,6 +73,7 @@ pub fn scalar_of_event(
 /// # Errors
 ///
 /// `AllocError` where that allocation fails.
+#[inline(always)]
 pub fn sequence_of_event(
     alloc: Global,
     start: &mut unnamed_yaml_event_t_data_sequence_start,
@@ -104,6 +106,7 @@ pub fn sequence_of_event(
 /// # Errors
 ///
 /// `AllocError` where that allocation fails.
+#[inline(always)]
 pub fn mapping_of_event(
     alloc: Global,
     start: &mut unnamed_yaml_event_t_data_mapping_start,

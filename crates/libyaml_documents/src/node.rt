@@ -1,6 +1,6 @@
 //! Nodes of a document.
 
-ghost use Rattle.std.specs.Prelude.{◌≡◌, OnOk, OnErr};
+ghost use Rattle.std.specs.Prelude.{◌≡◌, suc, nat_lt, true, false, IfOk, OnOk, OnErr};
 
 use crate::items::yaml_node_item_t;
 use crate::pairs::yaml_node_pair_t;
@@ -185,9 +185,35 @@ impl Eq for yaml_node_t {
     ghost laws = { same_node_equiv };
 }
 
+/// What a child is to the node that it was put into.
+#[derive(Copy, Clone)]
+pub enum ChildRole {
+    /// An item of a sequence.
+    Item,
+    /// A key of a mapping, which waits for its value.
+    Key,
+    /// The value of the key that waited.
+    Value,
+    /// No child of it: a scalar has none.
+    Ignored,
+}
+
+/// Whether a list of this many entries may have one more.
+#[inline(always)]
+fn has_room(entries: usize, most: usize) -> Result<(), AllocError>
+    ensures ok { OnOk result (nat_lt most (suc entries) ≡ false) }
+    ensures full { OnErr result (nat_lt most (suc entries) ≡ true) }
+{
+    if entries < most {
+        Ok(())
+    } else {
+        Err(AllocError)
+    }
+}
+
 impl yaml_node_t {
     ghost use Rattle.libyaml_documents.specs.Nodes.{node_type, IsSequence, IsMapping, with_item, with_pair};
-    ghost use Rattle.libyaml_documents.specs.LoadedNodes.{children_of};
+    ghost use Rattle.libyaml_documents.specs.Children.{MayRefuseChild, PushedAs};
 
     /// The type of the node, which is never `YAML_NO_NODE`.
     ///
@@ -202,14 +228,36 @@ impl yaml_node_t {
         }
     }
 
-    /// How many items or pairs the node has; a scalar has none.
-    pub(crate) fn children_count(&self) -> usize
-        ensures { result ≡ children_of self.now.content }
+    /// Puts a child after the others of this collection, whose list may have `most` entries: into a sequence
+    /// as an item; into a mapping as the value of the key that waits, or else as a key, which is only told.
+    #[inline(always)]
+    pub(crate) fn push_child(
+        &mut self,
+        key: Option<yaml_node_item_t>,
+        child: yaml_node_item_t,
+        most: usize,
+    ) -> Result<ChildRole, AllocError>
+        ensures ok { IfOk result (λ role. PushedAs role most key child self.old self.new) }
+        ensures refused { OnErr result (MayRefuseChild most key self.old) }
+        ensures unchanged { OnErr result (self.new ≡ self.old) }
     {
-        match &self.content {
-            unnamed_yaml_node_t_data::Scalar(_) => 0,
-            unnamed_yaml_node_t_data::Sequence(sequence) => sequence.items.len(),
-            unnamed_yaml_node_t_data::Mapping(mapping) => mapping.pairs.len(),
+        match &mut self.content {
+            unnamed_yaml_node_t_data::Scalar(_) => Ok(ChildRole::Ignored),
+            unnamed_yaml_node_t_data::Sequence(sequence) => {
+                has_room(sequence.items.len(), most)?;
+                sequence.items.push(child)?;
+                Ok(ChildRole::Item)
+            }
+            unnamed_yaml_node_t_data::Mapping(mapping) => match key {
+                Some(key) => {
+                    mapping.pairs.push(yaml_node_pair_t { key, value: child })?;
+                    Ok(ChildRole::Value)
+                }
+                None => {
+                    has_room(mapping.pairs.len(), most)?;
+                    Ok(ChildRole::Key)
+                }
+            },
         }
     }
 

@@ -2,6 +2,7 @@ pub mod AnchorLemmas
 pub mod StackLemmas
 pub mod Handing
 pub mod Growing
+pub mod Appending
 pub mod Ended
 pub mod Falling
 pub mod Loading

@@ -25,6 +25,10 @@ abbrev pub key_of : Option NodeId → Option ℕ
 key_of None = None
 key_of (Some i) = Some (id_of i)
 
+abbrev pub number_of : Option NodeId → Option ℤ
+number_of None = None
+number_of (Some i) = Some i.number
+
 abbrev pub open_of : Open → machine.Open
 open_of o = record { place = place_of o.node; key = key_of o.key }
 

@@ -2,34 +2,29 @@
 
 ghost use Rattle.std.specs.Prelude.{◌≡◌, ◌≤◌, suc, [], length, nat_lt, true, false, Some, None};
 ghost use Rattle.std.specs.Prelude.{IfOk, IfErr, OnOk, option_map, string_bytes};
-ghost use Rattle.libyaml_documents.specs.Documents.{with_changed_node};
-ghost use Rattle.libyaml_documents.specs.LoadedNodes.{begun_document, children_at, ended_document};
+ghost use Rattle.libyaml_documents.specs.LoadedNodes.{begun_document, ended_document};
 ghost use Rattle.libyaml_documents.specs.LoadedNodes.{mapping_loaded, scalar_loaded};
 ghost use Rattle.libyaml_documents.specs.LoadedNodes.{sequence_loaded};
-ghost use Rattle.libyaml_documents.specs.Nodes.{ids_of, type_at, with_item, with_pair};
+ghost use Rattle.libyaml_documents.specs.Nodes.{ids_of};
 ghost use Rattle.libyaml_graphs.specs.Loader.{no_anchors, parent_full, register, registered};
 ghost use Rattle.libyaml_graphs.specs.Parts.{alias_part, leaf_part, part_of, start_part};
 ghost use Rattle.libyaml_loader.specs.Context.{AllOpenIn, Composed, IdsAreIn, NodeLoaded, Refuses};
 ghost use Rattle.libyaml_loader.specs.Context.{ParentRefuses, RefusesAnchor, closed, handed_to, loader_of};
 ghost use Rattle.libyaml_loader.specs.Ids.{id_of};
-ghost use Rattle.libyaml_loader.specs.Stack.{with_key};
 
 use crate::anchors::Anchors;
 use crate::ids::{Carrier, NodeId};
 use crate::refusal::Refusal;
 use crate::stack::OpenCollections;
 use libyaml_documents::building::{
-    append_node, begin_document, children_count, end_document, mapping_of_event, scalar_of_event,
-    sequence_of_event, set_end_mark,
+    ChildRole, append_child, append_node, begin_document, end_document, mapping_of_event,
+    scalar_of_event, sequence_of_event, set_end_mark,
 };
-use libyaml_documents::{
-    yaml_document_append_mapping_pair, yaml_document_append_sequence_item, yaml_document_get_node,
-    yaml_document_t, yaml_node_t,
-};
+use libyaml_documents::{yaml_document_t, yaml_node_t};
 use libyaml_types::{
     unnamed_yaml_event_t_data, unnamed_yaml_event_t_data_document_start,
     unnamed_yaml_event_t_data_mapping_start, unnamed_yaml_event_t_data_scalar,
-    unnamed_yaml_event_t_data_sequence_start, yaml_event_t, yaml_mark_t, yaml_node_type_t,
+    unnamed_yaml_event_t_data_sequence_start, yaml_event_t, yaml_mark_t,
 };
 use std::alloc::Global;
 
@@ -43,16 +38,6 @@ pub struct loader_ctx {
     pub anchors: Anchors,
     pub max_entries: usize,
     pub alloc: Global,
-}
-
-/// The type of the node of this id.
-fn type_of(document: &yaml_document_t, id: NodeId) -> yaml_node_type_t
-    ensures { result ≡ type_at document.now.nodes id.number }
-{
-    match yaml_document_get_node(document, id.number) {
-        Some(node) => node.type_(),
-        None => yaml_node_type_t::YAML_NO_NODE,
-    }
 }
 
 impl loader_ctx {
@@ -223,6 +208,7 @@ impl loader_ctx {
 
     /// Puts a node without children behind the others and into the innermost open collection, and
     /// answers its id.
+    #[inline(always)]
     fn load_node(&mut self, anchor: Option<String>, node: yaml_node_t) -> Result<NodeId, Refusal>
         requires ids { IdsAreIn (loader_of self.old) }
         requires childless { ids_of node.content ≡ [] }
@@ -241,6 +227,7 @@ impl loader_ctx {
     /// Puts down that a node carries this anchor.
     ///
     /// libyaml: `yaml_parser_register_anchor`.
+    #[inline(always)]
     fn yaml_parser_register_anchor(
         &mut self,
         anchor: Option<String>,
@@ -277,6 +264,7 @@ impl loader_ctx {
     /// Puts a child into the innermost open collection, if there is one.
     ///
     /// libyaml: `yaml_parser_load_node_add`.
+    #[inline(always)]
     fn yaml_parser_load_node_add(&mut self, child: NodeId) -> Result<(), Refusal>
         requires stack { AllOpenIn (length self.old.document.nodes) self.old.stack }
         requires child { id_of child ≤ length self.old.document.nodes }
@@ -288,75 +276,20 @@ impl loader_ctx {
         let Some(parent) = self.stack.innermost() else {
             return Ok(());
         };
-        match type_of(&self.document, parent.node) {
-            yaml_node_type_t::YAML_SEQUENCE_NODE => self.add_item(parent.node, child),
-            yaml_node_type_t::YAML_MAPPING_NODE => match parent.key {
-                Some(key) => self.add_pair(parent.node, key, child),
-                None => self.add_key(parent.node, child),
-            },
-            yaml_node_type_t::YAML_SCALAR_NODE => Ok(()),
-            yaml_node_type_t::YAML_NO_NODE => Ok(()),
-        }
-    }
-
-    /// Puts an item behind the others of a sequence.
-    fn add_item(&mut self, sequence: NodeId, item: NodeId) -> Result<(), Refusal>
-        requires sequence { type_at self.old.document.nodes sequence.number
-            ≡ yaml_node_type_t.YAML_SEQUENCE_NODE }
-        requires item { id_of item ≤ length self.old.document.nodes }
-        ensures ok { OnOk result (self.new
-            ≡ record self.old {
-              document = with_changed_node self.old.document sequence.number
-                  (with_item item.number);
-            }) }
-        ensures room { OnOk result (nat_lt self.old.max_entries
-            (suc (children_at self.old.document.nodes sequence.number)) ≡ false) }
-        ensures err { IfErr result (λ r. r ≡ Refusal.Memory) }
-    {
-        self.has_room(children_count(&self.document, sequence.number))?;
-        yaml_document_append_sequence_item(&mut self.document, sequence.number, item.number)?;
-        Ok(())
-    }
-
-    /// Lets a key wait for its value in the innermost open collection, which is a mapping.
-    fn add_key(&mut self, mapping: NodeId, key: NodeId) -> Result<(), Refusal>
-        requires mapping { type_at self.old.document.nodes mapping.number
-            ≡ yaml_node_type_t.YAML_MAPPING_NODE }
-        ensures ok { OnOk result (self.new
-            ≡ record self.old { stack = with_key (Some (id_of key)) self.old.stack }) }
-        ensures room { OnOk result (nat_lt self.old.max_entries
-            (suc (children_at self.old.document.nodes mapping.number)) ≡ false) }
-        ensures err { IfErr result (λ r. (r ≡ Refusal.Memory)
-            × (nat_lt self.old.max_entries (suc (children_at self.old.document.nodes mapping.number))
-            ≡ true)) }
-    {
-        self.has_room(children_count(&self.document, mapping.number))?;
-        self.stack.set_key(Some(key));
-        Ok(())
-    }
-
-    /// Puts the pair of a key that waited behind the others of the innermost open collection, which is
-    /// a mapping.
-    fn add_pair(&mut self, mapping: NodeId, key: NodeId, value: NodeId) -> Result<(), Refusal>
-        requires mapping { type_at self.old.document.nodes mapping.number
-            ≡ yaml_node_type_t.YAML_MAPPING_NODE }
-        requires key { id_of key ≤ length self.old.document.nodes }
-        requires value { id_of value ≤ length self.old.document.nodes }
-        ensures ok { OnOk result (self.new
-            ≡ record self.old {
-              document = with_changed_node self.old.document mapping.number
-                  (with_pair key.number value.number);
-              stack = with_key None self.old.stack;
-            }) }
-        ensures err { IfErr result (λ r. r ≡ Refusal.Memory) }
-    {
-        yaml_document_append_mapping_pair(
+        let key = parent.key_number();
+        let number = child.number;
+        match append_child(
             &mut self.document,
-            mapping.number,
-            key.number,
-            value.number,
-        )?;
-        self.stack.set_key(None);
+            parent.node.number,
+            key,
+            number,
+            self.max_entries,
+        )? {
+            ChildRole::Item => {}
+            ChildRole::Ignored => {}
+            ChildRole::Key => self.stack.set_key(Some(child)),
+            ChildRole::Value => self.stack.set_key(None),
+        }
         Ok(())
     }
 }

@@ -3,7 +3,7 @@
 ghost use Rattle.std.specs.Prelude.{◌≡◌, [], ◌∷◌, OnOk};
 ghost use Rattle.std.specs.Option.{option_map};
 ghost use Rattle.libyaml_graphs.specs.Loader.{outer};
-ghost use Rattle.libyaml_loader.specs.Ids.{key_of, open_of};
+ghost use Rattle.libyaml_loader.specs.Ids.{key_of, number_of, open_of};
 ghost use Rattle.libyaml_loader.specs.Stack.{innermost, opened, with_key};
 
 use crate::ids::{NodeId, Open};
@@ -69,6 +69,19 @@ impl OpenCollections {
         let count = self.inner.len();
         if count > 0 {
             self.inner[count - 1].key = key;
+        }
+    }
+}
+
+impl Open {
+    /// Returns the number of the key that waits.
+    #[inline(always)]
+    pub fn key_number(&self) -> Option<i32>
+        ensures { result ≡ number_of self.now.key }
+    {
+        match self.key {
+            Some(key) => Some(key.number),
+            None => None,
         }
     }
 }

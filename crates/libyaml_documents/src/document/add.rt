@@ -66,6 +66,7 @@ fn new_node(
 }
 
 /// Puts a node without children behind the others, and gives its id.
+#[inline(always)]
 pub(super) fn push_node(
     document: &mut yaml_document_t,
     node: yaml_node_t,

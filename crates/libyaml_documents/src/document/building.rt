@@ -1,14 +1,16 @@
 //! The steps by which a loader builds a document of events.
 
 ghost use Rattle.std.specs.Prelude.{◌≡◌, ◌+◌, ◌<◌, ◌↔◌, ◌⊎◌, pos, [], Err, IfOk, OnOk, OnErr};
-ghost use Rattle.std.specs.Prelude.{IsErrOf, length};
+ghost use Rattle.std.specs.Prelude.{IfSome, IsErrOf, length};
 ghost use Rattle.libyaml_documents.specs.Documents.{most_nodes, with_node, with_changed_node};
-ghost use Rattle.libyaml_documents.specs.LoadedNodes.{begun_document, children_at, ended_document, with_end};
+ghost use Rattle.libyaml_documents.specs.Children.{AppendedAs, MayRefuseAt};
+ghost use Rattle.libyaml_documents.specs.LoadedNodes.{begun_document, ended_document, with_end};
 ghost use Rattle.libyaml_documents.specs.Nodes.{ids_of, node_type, type_at, IsIdUpTo, KeepsTypes};
 
 use super::add::{has_room, push_node};
 use super::{place_of, yaml_document_t};
-use crate::node::yaml_node_t;
+use crate::items::yaml_node_item_t;
+use crate::node::{ChildRole, yaml_node_t};
 use libyaml_types::{
     ZERO_MARK, unnamed_yaml_event_t_data_document_start, yaml_mark_t, yaml_refusal_t,
 };
@@ -48,6 +50,7 @@ pub fn end_document(document: &mut yaml_document_t, implicit: bool, end_mark: ya
 ///
 /// Answers `TooManyNodes` where 2147483647 nodes stand, else `Memory` where the growth is refused;
 /// the document is then as it was.
+#[inline(always)]
 pub fn append_node(document: &mut yaml_document_t, node: yaml_node_t) -> Result<i32, yaml_refusal_t>
     requires childless { ids_of node.content ≡ [] }
     ensures id { IfOk result (λ id. id ≡ pos (length document.old.nodes + 1)) }
@@ -80,10 +83,30 @@ pub fn set_end_mark(document: &mut yaml_document_t, id: i32, end_mark: yaml_mark
     document.nodes[place_of(id)].end_mark = end_mark;
 }
 
-/// How many items or pairs the node of this id has; a scalar has none. Takes no memory.
-pub fn children_count(document: &yaml_document_t, id: i32) -> usize
-    requires { IsIdUpTo (length document.now.nodes) id }
-    ensures { result ≡ children_at document.now.nodes id }
+/// Puts a child after the others of the node of this id, whose list may have `most` entries, in one look at
+/// that node, and returns what the child is to it: an item of a sequence; the value of `key` in a mapping,
+/// or, where no key waits, a key of it, which changes nothing; a scalar has no children.
+///
+/// # Errors
+///
+/// `Memory` where an item's list or a key's has `most` entries, or where it would grow and that allocation
+/// fails; the document is then as it was. A key allocates nothing.
+#[inline(always)]
+pub fn append_child(
+    document: &mut yaml_document_t,
+    parent: i32,
+    key: Option<yaml_node_item_t>,
+    child: yaml_node_item_t,
+    most: usize,
+) -> Result<ChildRole, yaml_refusal_t>
+    requires parent { IsIdUpTo (length document.old.nodes) parent }
+    requires key { IfSome key (IsIdUpTo (length document.old.nodes)) }
+    requires child { IsIdUpTo (length document.old.nodes) child }
+    ensures ok { IfOk result (λ role. AppendedAs role most parent key child document.old document.new) }
+    ensures error { OnErr result (result ≡ Err yaml_refusal_t.Memory) }
+    ensures refused { OnErr result (MayRefuseAt most parent key document.old.nodes) }
+    ensures unchanged { OnErr result (document.new ≡ document.old) }
 {
-    document.nodes[place_of(id)].children_count()
+    let node = &mut document.nodes[place_of(parent)];
+    Ok(node.push_child(key, child, most)?)
 }

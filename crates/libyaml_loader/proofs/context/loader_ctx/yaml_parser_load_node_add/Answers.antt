@@ -1,82 +1,58 @@
-use Rattle.std.proofs.Common.{◌∙◌, refl, sym, inl, inr}
-use Rattle.libyaml_types.specs.declared.enums.yaml_node_type_t.TheVariants.{YAML_NO_NODE, YAML_SCALAR_NODE}
-use Rattle.libyaml_loader.proofs.Growing.{pair_grows, sequence_grows}
-use Rattle.libyaml_loader.proofs.Handing.{handed_by, hands_item, hands_key, hands_nothing, hands_value, on_err, on_ok}
+use Rattle.std.proofs.Common.{◌≡◌, ◌∙◌, refl, sym, ap, inl, inr, rules, length}
+use Rattle.libyaml_documents.specs.Children.{AppendedAs, MayRefuseAt}
+use Rattle.libyaml_documents.specs.declared.node.ChildRole.{ChildRole}
+use Rattle.libyaml_documents.specs.declared.node.ChildRole.TheVariants as role
+use Rattle.libyaml_graphs.specs.Loader.{Open}
+use Rattle.libyaml_loader.proofs.Appending.{Handed, hands_at, on_memory, open_ids, refuses_by, waiting_is_id}
 use Rattle.libyaml_loader.proofs.context.loader_ctx.yaml_parser_load_node_add.Goals as goal
+use Rattle.libyaml_loader.proofs.context.loader_ctx.yaml_parser_load_node_add.Goals.{In_ok-append_child}
+use Rattle.std.specs.Prelude.{List}
 
-pub returns-in-YAML_SEQUENCE_NODE-clause-ok : goal.returns-in-YAML_SEQUENCE_NODE-clause-ok
-returns-in-YAML_SEQUENCE_NODE-clause-ok c =
-    let h = hands_item c.args.self.now.max_entries c.in-Some.parent c.args.child c.args.self.now.stack c.args.self.now.document.nodes c.in-Some.ensures
-    (sym c.in-YAML_SEQUENCE_NODE.ensures) in
-    on_ok c.add_item.result (λ made. made ∙ handed_by _ _ c.args.self.now _ _ _ h) c.add_item.ensures.ok
+pub append_child-requires-clause-key : goal.append_child-requires-clause-key
+append_child-requires-clause-key c =
+    waiting_is_id (length c.args.self.now.document.nodes) c.in-Some.parent c.args.self.now.stack c.in-Some.ensures c.requires.stack c.key_number-key.result
+    c.key_number-key.ensures
 
-pub returns-in-YAML_SEQUENCE_NODE-clause-room : goal.returns-in-YAML_SEQUENCE_NODE-clause-room
-returns-in-YAML_SEQUENCE_NODE-clause-room c =
-    let h = hands_item c.args.self.now.max_entries c.in-Some.parent c.args.child c.args.self.now.stack c.args.self.now.document.nodes c.in-Some.ensures
-    (sym c.in-YAML_SEQUENCE_NODE.ensures) in
-    on_ok c.add_item.result (λ room. h.full_is ∙ room) c.add_item.ensures.room
+-- what the call did, by what the child is to the node
+handed : (c : In_ok-append_child) (r : ChildRole) → c.in_ok-append_child.field-0 ≡ r
+    → Handed c.args.self.now c.in-Some.parent c.args.child c.in-Some.ensures r c.append_child.new.document
+handed c r is =
+    let put : AppendedAs c.in_ok-append_child.field-0 c.args.self.now.max_entries c.in-Some.parent.node.number c.key_number-key.result c.args.child.number
+    c.args.self.now.document c.append_child.new.document = search rules in
+    hands_at c.args.self.now c.in-Some.parent c.args.child c.in-Some.ensures c.in_ok-append_child.field-0 r c.in-Some.parent.node.number c.args.child.number
+    c.key_number-key.result c.append_child.new.document is refl refl c.key_number-key.ensures put
 
-pub returns-in-Some-key-clause-ok : goal.returns-in-Some-key-clause-ok
-returns-in-Some-key-clause-ok c =
-    let h = hands_value c.args.self.now.max_entries c.in-Some.parent c.in-Some-key.key c.args.child c.args.self.now.stack c.args.self.now.document.nodes
-    c.in-Some-key.is c.in-Some.ensures (sym c.in-YAML_MAPPING_NODE.ensures) in
-    on_ok c.add_pair.result (λ made. made ∙ handed_by _ _ c.args.self.now _ _ _ h) c.add_pair.ensures.ok
+pub returns-in-Item-clause-ok : goal.returns-in-Item-clause-ok
+returns-in-Item-clause-ok c = (handed (goal.at.returns-in-Item-clause-ok c).In_ok-append_child role.Item c.in-Item.is).context
 
-pub returns-in-Some-key-clause-room : goal.returns-in-Some-key-clause-room
-returns-in-Some-key-clause-room c =
-    let h = hands_value c.args.self.now.max_entries c.in-Some.parent c.in-Some-key.key c.args.child c.args.self.now.stack c.args.self.now.document.nodes
-    c.in-Some-key.is c.in-Some.ensures (sym c.in-YAML_MAPPING_NODE.ensures) in
-    on_ok c.add_pair.result (λ made. h.full_is) c.add_pair.ensures.ok
+pub returns-in-Item-clause-room : goal.returns-in-Item-clause-room
+returns-in-Item-clause-room c = (handed (goal.at.returns-in-Item-clause-room c).In_ok-append_child role.Item c.in-Item.is).room
 
-pub returns-in-None-clause-ok : goal.returns-in-None-clause-ok
-returns-in-None-clause-ok c =
-    let h = hands_key c.args.self.now.max_entries c.in-Some.parent c.args.child c.args.self.now.stack c.args.self.now.document.nodes c.in-None.is
-    c.in-Some.ensures (sym c.in-YAML_MAPPING_NODE.ensures) in
-    on_ok c.add_key.result (λ made. made ∙ handed_by _ _ c.args.self.now _ _ _ h) c.add_key.ensures.ok
+pub returns-in-Ignored-clause-ok : goal.returns-in-Ignored-clause-ok
+returns-in-Ignored-clause-ok c = (handed (goal.at.returns-in-Ignored-clause-ok c).In_ok-append_child role.Ignored c.in-Ignored.is).context
 
-pub returns-in-None-clause-room : goal.returns-in-None-clause-room
-returns-in-None-clause-room c =
-    let h = hands_key c.args.self.now.max_entries c.in-Some.parent c.args.child c.args.self.now.stack c.args.self.now.document.nodes c.in-None.is
-    c.in-Some.ensures (sym c.in-YAML_MAPPING_NODE.ensures) in
-    on_ok c.add_key.result (λ room. h.full_is ∙ room) c.add_key.ensures.room
+pub returns-in-Ignored-clause-room : goal.returns-in-Ignored-clause-room
+returns-in-Ignored-clause-room c = (handed (goal.at.returns-in-Ignored-clause-room c).In_ok-append_child role.Ignored c.in-Ignored.is).room
 
-pub returns-in-YAML_SCALAR_NODE-clause-ok : goal.returns-in-YAML_SCALAR_NODE-clause-ok
-returns-in-YAML_SCALAR_NODE-clause-ok c =
-    let h = hands_nothing c.args.self.now.max_entries c.in-Some.parent c.args.child c.args.self.now.stack c.args.self.now.document.nodes
-    c.in-Some.ensures YAML_SCALAR_NODE refl c.in-YAML_SCALAR_NODE.ensures in
-    handed_by _ _ c.args.self.now _ _ _ h
+pub returns-in-Key-clause-ok : goal.returns-in-Key-clause-ok
+returns-in-Key-clause-ok c =
+    ap (λ (s : List Open). record c.args.self.now { document = c.append_child.new.document; stack = s }) c.set_key.ensures
+    ∙ (handed (goal.at.returns-in-Key-clause-ok c).In_ok-append_child role.Key c.in-Key.is).context
 
-pub returns-in-YAML_SCALAR_NODE-clause-room : goal.returns-in-YAML_SCALAR_NODE-clause-room
-returns-in-YAML_SCALAR_NODE-clause-room c =
-    let h = hands_nothing c.args.self.now.max_entries c.in-Some.parent c.args.child c.args.self.now.stack c.args.self.now.document.nodes
-    c.in-Some.ensures YAML_SCALAR_NODE refl c.in-YAML_SCALAR_NODE.ensures in
-    h.full_is
+pub returns-in-Key-clause-room : goal.returns-in-Key-clause-room
+returns-in-Key-clause-room c = (handed (goal.at.returns-in-Key-clause-room c).In_ok-append_child role.Key c.in-Key.is).room
 
-pub returns-in-YAML_NO_NODE-clause-ok : goal.returns-in-YAML_NO_NODE-clause-ok
-returns-in-YAML_NO_NODE-clause-ok c =
-    let h = hands_nothing c.args.self.now.max_entries c.in-Some.parent c.args.child c.args.self.now.stack c.args.self.now.document.nodes
-    c.in-Some.ensures YAML_NO_NODE refl c.in-YAML_NO_NODE.ensures in
-    handed_by _ _ c.args.self.now _ _ _ h
+pub returns-in-Value-clause-ok : goal.returns-in-Value-clause-ok
+returns-in-Value-clause-ok c =
+    ap (λ (s : List Open). record c.args.self.now { document = c.append_child.new.document; stack = s }) c.set_key-in-Value.ensures
+    ∙ (handed (goal.at.returns-in-Value-clause-ok c).In_ok-append_child role.Value c.in-Value.is).context
 
-pub returns-in-YAML_NO_NODE-clause-room : goal.returns-in-YAML_NO_NODE-clause-room
-returns-in-YAML_NO_NODE-clause-room c =
-    let h = hands_nothing c.args.self.now.max_entries c.in-Some.parent c.args.child c.args.self.now.stack c.args.self.now.document.nodes
-    c.in-Some.ensures YAML_NO_NODE refl c.in-YAML_NO_NODE.ensures in
-    h.full_is
+pub returns-in-Value-clause-room : goal.returns-in-Value-clause-room
+returns-in-Value-clause-room c = (handed (goal.at.returns-in-Value-clause-room c).In_ok-append_child role.Value c.in-Value.is).room
 
-pub returns-in-YAML_SEQUENCE_NODE-clause-err : goal.returns-in-YAML_SEQUENCE_NODE-clause-err
-returns-in-YAML_SEQUENCE_NODE-clause-err c =
-    let grows = sequence_grows c.in-Some.parent c.args.self.now.stack c.args.self.now.document.nodes c.in-Some.ensures (sym c.in-YAML_SEQUENCE_NODE.ensures) in
-    on_err c.add_item.result (λ r is. (is, inl grows)) c.add_item.ensures.err
-
-pub returns-in-Some-key-clause-err : goal.returns-in-Some-key-clause-err
-returns-in-Some-key-clause-err c =
-    let grows = pair_grows c.in-Some.parent c.in-Some-key.key c.args.self.now.stack c.args.self.now.document.nodes c.in-Some-key.is c.in-Some.ensures
-    (sym c.in-YAML_MAPPING_NODE.ensures) in
-    on_err c.add_pair.result (λ r is. (is, inl grows)) c.add_pair.ensures.err
-
-pub returns-in-None-clause-err : goal.returns-in-None-clause-err
-returns-in-None-clause-err c =
-    let h = hands_key c.args.self.now.max_entries c.in-Some.parent c.args.child c.args.self.now.stack c.args.self.now.document.nodes c.in-None.is
-    c.in-Some.ensures (sym c.in-YAML_MAPPING_NODE.ensures) in
-    on_err c.add_key.result (λ r is. (is.0, inr (h.full_is ∙ is.1))) c.add_key.ensures.err
+pub returns-in_err-append_child-clause-err : goal.returns-in_err-append_child-clause-err
+returns-in_err-append_child-clause-err c =
+    let may : MayRefuseAt c.args.self.now.max_entries c.in-Some.parent.node.number c.key_number-key.result c.args.self.now.document.nodes = search rules in
+    let why = refuses_by c.args.self.now c.in-Some.parent c.args.child c.in-Some.ensures c.in-Some.parent.node.number c.key_number-key.result refl
+    c.key_number-key.ensures may in
+    on_memory c.from_residual.result c.from_residual.ensures why
