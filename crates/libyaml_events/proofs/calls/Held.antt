@@ -48,7 +48,7 @@ use Rattle.libyaml_events.specs.declared.next.Want.TheVariants.{AtState, BehindD
 use Rattle.libyaml_events.specs.declared.next.Want.TheVariants.{BehindKey, BehindValue, BehindFlowSequenceEntry, BehindFlowSequenceValue}
 use Rattle.libyaml_events.specs.declared.next.Want.TheVariants.{BehindFlowMappingEntry, BehindFlowMappingKey, BehindFlowMappingValue}
 use Rattle.libyaml_events.specs.declared.next.Progress.TheVariants.{Given, Wants}
-use Rattle.libyaml_grammar.proofs.Lists.{assoc}
+use Rattle.libyaml_grammar.proofs.lent.Lists.{assoc}
 
 -- a step by the token u keeps none or u
 abbrev HeldOn : Progressed → Token → Type 0

@@ -51,7 +51,7 @@ use Rattle.libyaml_events.specs.declared.next.Want.TheVariants.{BehindKey, Behin
 use Rattle.libyaml_events.specs.declared.next.Want.TheVariants.{BehindFlowMappingEntry, BehindFlowMappingKey, BehindFlowMappingValue}
 use Rattle.libyaml_events.specs.declared.next.Progress.TheVariants.{Given, Wants}
 use Rattle.libyaml_events.proofs.calls.Staging.{IsStack, NodeDue, Good, GoodAt, GoodOn, good_on}
-use Rattle.libyaml_events.proofs.calls.Staged.{ran_staged, retake}
+use Rattle.libyaml_events.proofs.lent.Staged.{ran_staged, retake}
 use Rattle.libyaml_events.proofs.calls.Marked.{OneMore, MarksFit, IsMarked, MarkedOn, marked_on, ran_marked}
 
 abbrev IsFull : {A : Type 0} → List A → Type 0
