@@ -1,3 +1,4 @@
 pub mod machine
 pub mod calls
 pub mod code
+pub mod lent

@@ -12,8 +12,5 @@ pub mod Held
 pub mod Marked
 pub mod Raised
 pub mod Staging
-pub mod Staged
 pub mod LeadsOut
 pub mod NeededInTurn
-pub mod CallsInTurn
-pub mod NextEvents

@@ -1,5 +1,4 @@
 pub mod trees
 pub mod runs
 pub mod rows
-pub mod Lists
-pub mod positions
+pub mod lent

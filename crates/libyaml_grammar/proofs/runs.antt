@@ -1,12 +1,3 @@
-pub mod Shows
-pub mod Orders
 pub mod Prompt
-pub mod Fronts
-pub mod Settling
-pub mod Running
-pub mod StreamEnds
-pub mod Headline
-pub mod Nesting
-pub mod NestingSoFar
 pub mod OwnDirectives
 pub mod TagPlaces

@@ -1,16 +1,8 @@
-pub mod Keeps
 pub mod Complete
-pub mod Completion
-pub mod Cases
-pub mod StepsMeet
-pub mod Run
 pub mod Edge
-pub mod OneCut
 pub mod Existence
-pub mod Fitting
 pub mod Ending
 pub mod TreeOrCut
 pub mod Append
 pub mod Productions
 pub mod WholeParts
-pub mod Splits

@@ -1,15 +1,12 @@
-pub mod Machine
 pub mod Built
 pub mod Following
 pub mod LoaderLoads
 pub mod Sizes
-pub mod BoundedLoader
 pub mod TreeGraphs
 pub mod TextLoads
 pub mod Ids
 pub mod OneLoad
-pub mod Roots
 pub mod Room
-pub mod BoundedFronts
 pub mod RunLoads
 pub mod LoadRows
+pub mod lent

@@ -6,15 +6,15 @@ use Rattle.libyaml_grammar.specs.cuts.CutFaults.{fault}
 use Rattle.libyaml_grammar.specs.cuts.CutTrees.{Cut}
 use Rattle.libyaml_grammar.specs.sentences.Events.{events}
 use Rattle.libyaml_grammar.specs.runs.Fault.{Fault}
-use Rattle.libyaml_grammar.proofs.positions.Positions.{Position, done, unopened}
-use Rattle.libyaml_grammar.proofs.positions.Reading.{bad, goes, reads, reads_all}
+use Rattle.libyaml_grammar.proofs.lent.Positions.{Position, done, unopened}
+use Rattle.libyaml_grammar.proofs.lent.Reading.{bad, goes, reads, reads_all}
 use Rattle.libyaml_grammar.specs.runs.Runs.{Ends, Fails, is_behind_properties}
 use Rattle.libyaml_grammar.specs.sentences.Sentences.{has_end}
 use Rattle.libyaml_grammar.specs.cuts.Settled.{sure}
 use Rattle.libyaml_grammar.specs.sentences.Tokens.{Token}
 use Rattle.libyaml_grammar.specs.sentences.Trees.{Stream}
-use Rattle.libyaml_grammar.proofs.runs.Fronts.{front}
-use Rattle.libyaml_grammar.proofs.rows.RowKinds.{begin_row, cut_row, sentence_row}
+use Rattle.libyaml_grammar.proofs.lent.Fronts.{front}
+use Rattle.libyaml_grammar.proofs.lent.RowKinds.{begin_row, cut_row, sentence_row}
 use Rattle.libyaml_graphs.specs.Bounds.{IsBoundedLoads, bounded_loads}
 use Rattle.libyaml_graphs.specs.Loads.{IsLoads, Load, loads}
 use Rattle.libyaml_graphs.specs.LoadRows.{RowAliasBeforeBound, RowAnchorOfDocumentBefore, RowBoundBeforeAnchor, RowBoundOfEachDocument, RowCollectionsInPairs}

@@ -14,10 +14,10 @@ use Rattle.libyaml_grammar.specs.sentences.Sentences.{IsBeginning, has_end}
 use Rattle.libyaml_grammar.specs.cuts.Settled.{IsSettled}
 use Rattle.libyaml_grammar.specs.sentences.Tokens.{Marks, StreamEnd, Token, tok}
 use Rattle.libyaml_grammar.specs.sentences.Trees.{Stream, tokens}
-use Rattle.libyaml_grammar.proofs.runs.Headline.{runs_whole}
-use Rattle.libyaml_grammar.proofs.runs.Nesting.{events_nest_proof}
-use Rattle.libyaml_grammar.proofs.runs.NestingSoFar.{run_nests_so_far}
-use Rattle.libyaml_grammar.proofs.runs.Running.{amid_run, begin_run, cut_run, one_run_proof, sentence_run, some_run_proof}
+use Rattle.libyaml_grammar.proofs.lent.Headline.{runs_whole}
+use Rattle.libyaml_grammar.proofs.lent.Nesting.{events_nest_proof}
+use Rattle.libyaml_grammar.proofs.lent.NestingSoFar.{run_nests_so_far}
+use Rattle.libyaml_grammar.proofs.lent.Running.{amid_run, begin_run, cut_run, one_run_proof, sentence_run, some_run_proof}
 use Rattle.libyaml_documents.specs.Nodes.{EveryIdNamesANode}
 use Rattle.libyaml_graphs.specs.ComposerFaults.{composer_fault}
 use Rattle.libyaml_graphs.specs.GraphLaws.{EachIdNames, LoadsWhole, NestedLoads, fault_or, has_begun, not_begun, open_load, whole}

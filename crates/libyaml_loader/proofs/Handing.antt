@@ -11,7 +11,7 @@ use Rattle.libyaml_documents.specs.declared.node.unnamed_yaml_node_t_data.TheVar
 use Rattle.libyaml_documents.specs.declared.node.yaml_node_t.{yaml_node_t}
 use Rattle.libyaml_graphs.specs.Loader as machine
 use Rattle.libyaml_graphs.specs.Loader.{full_at, hand, handed, key_at, outer, parent_full, with_child}
-use Rattle.libyaml_graphs.proofs.Machine.{hand_item, hand_key, hand_value, parent_full_item, parent_full_key, parent_full_value}
+use Rattle.libyaml_graphs.proofs.lent.Machine.{hand_item, hand_key, hand_value, parent_full_item, parent_full_key, parent_full_value}
 use Rattle.libyaml_loader.specs.declared.context.loader_ctx.{loader_ctx}
 use Rattle.libyaml_loader.specs.declared.ids.NodeId.{NodeId}
 use Rattle.libyaml_loader.specs.declared.ids.Open.{Open}

@@ -14,7 +14,7 @@ use Rattle.libyaml_graphs.specs.Loader.{Loader, Loading, State, between, bounded
 use Rattle.libyaml_graphs.specs.Loads.{Load, document}
 use Rattle.libyaml_graphs.specs.Parts as parts
 use Rattle.libyaml_graphs.specs.Parts.{Opening, closing_of, opening_of, part_of}
-use Rattle.libyaml_graphs.proofs.Machine.{closes, closes_left, goes_on_left, nothing_left, opens, opens_left, passes, passes_left, within_event}
+use Rattle.libyaml_graphs.proofs.lent.Machine.{closes, closes_left, goes_on_left, nothing_left, opens, opens_left, passes, passes_left, within_event}
 use Rattle.libyaml_loader.specs.Context.{loader_of}
 use Rattle.libyaml_loader.specs.declared.context.loader_ctx.{loader_ctx}
 use Rattle.libyaml_loader.specs.declared.load.Closing.{Closing}

@@ -18,7 +18,7 @@ use Rattle.libyaml_graphs.specs.Loader.{Loader, Open, Loading, State, between, b
 use Rattle.libyaml_graphs.specs.Loader as machine
 use Rattle.libyaml_grammar.specs.runs.Runs.{Ending}
 use Rattle.libyaml_graphs.specs.Bounds.{next_bounded}
-use Rattle.libyaml_graphs.proofs.BoundedLoader.{one_load}
+use Rattle.libyaml_graphs.proofs.lent.BoundedLoader.{one_load}
 use Rattle.libyaml_graphs.specs.Loads.{document, left_over}
 use Rattle.libyaml_graphs.specs.Parts as parts
 use Rattle.libyaml_graphs.specs.Parts.{Part, closing_in, closing_of, opening_in, opening_of, part_in, part_of}

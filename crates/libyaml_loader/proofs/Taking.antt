@@ -19,8 +19,8 @@ use Rattle.libyaml_grammar.specs.runs.Runs.{Ending, Ends, Fails}
 use Rattle.libyaml_events.specs.sources.Source.{Coming}
 use Rattle.libyaml_events.specs.parsers.Stages.{Stage, after, at_start, is_event, is_outside, stage_of}
 use Rattle.libyaml_grammar.specs.sentences.Tokens.{Token}
-use Rattle.libyaml_events.proofs.calls.CallsInTurn.{both_calls, no_call, one_call, stage_more}
-use Rattle.libyaml_events.proofs.calls.NextEvents.{Says, fails_here, first_event}
+use Rattle.libyaml_events.proofs.lent.CallsInTurn.{both_calls, no_call, one_call, stage_more}
+use Rattle.libyaml_events.proofs.lent.NextEvents.{Says, fails_here, first_event}
 use Rattle.libyaml_graphs.specs.Parts.{Closing, closing_in, closing_of}
 use Rattle.libyaml_loader.specs.Loading.{ParserFails, Took}
 use Rattle.libyaml_loader.specs.Steps.{FindsEnd}

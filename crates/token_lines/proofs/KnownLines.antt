@@ -7,13 +7,13 @@ use Rattle.libyaml_grammar.specs.runs.Runs.{Ending, IsRun}
 use Rattle.libyaml_events.specs.sources.Source.{coming}
 use Rattle.libyaml_graphs.specs.Bounds.{bounded_loads}
 use Rattle.libyaml_graphs.specs.Loads.{Load}
-use Rattle.libyaml_graphs.proofs.BoundedFronts.{front_of_loads}
+use Rattle.libyaml_graphs.proofs.lent.BoundedFronts.{front_of_loads}
 use Rattle.line_reading.specs.LineSource.{coming_of}
 use Rattle.token_lines.specs.declared.run.Outcome.{Outcome}
 use Rattle.token_lines.specs.EventRun.{IsRunOf, most_tokens}
 use Rattle.token_lines.specs.LastLoad.{most_entries}
 use Rattle.token_lines.specs.NodeRun.{WritesLoads, WritesNodesOf}
-use Rattle.token_lines.proofs.NoBound.{writes_all}
+use Rattle.token_lines.proofs.lent.NoBound.{writes_all}
 
 -- what is written of every run of a known input's lines
 pub writes_of_lines : (bytes : Option (List ℕ)) (Wrote : List yaml_event_t → Ending → Type 0)

@@ -10,7 +10,7 @@ use Rattle.percent_encoding.proofs.PercentLemmas.{IsByte}
 use Rattle.line_reading.specs.Field.{text_of, utf8_text}
 use Rattle.line_writing.specs.Escape.{escaped, written_byte}
 use Rattle.line_writing.specs.FieldTexts.{string_text}
-use Rattle.line_writing.proofs.EscapeLemmas.{percent_decode-escaped}
+use Rattle.line_writing.proofs.lent.EscapeLemmas.{percent_decode-escaped}
 
 pub string_reads_back : (string : List ℕ) → All IsByte string → is_utf8 string ≡ true → text_of (string_text string) ≡ Some string
 string_reads_back string small utf8 =

@@ -16,7 +16,7 @@ use Rattle.libyaml_events.specs.sources.RunToCome.{RunToCome}
 use Rattle.libyaml_grammar.specs.runs.Runs.{Ending, Ends}
 use Rattle.libyaml_events.specs.sources.Source.{Coming}
 use Rattle.libyaml_events.specs.parsers.Stages.{is_event}
-use Rattle.libyaml_events.proofs.calls.NextEvents.{First}
+use Rattle.libyaml_events.proofs.lent.NextEvents.{First}
 use Rattle.token_lines.specs.EventRun.{event_lines}
 use Rattle.line_writing.specs.EventText.{event_line}
 use Rattle.token_lines.specs.EventStep.{TakesFirst}

@@ -30,7 +30,7 @@ use Rattle.libyaml_grammar.specs.declared.fault.yaml_parser_t_prefix.{yaml_parse
 use Rattle.libyaml_graphs.specs.Bounds.{NoneLacksMemory, bounded_loads, next_bounded}
 use Rattle.libyaml_graphs.specs.GraphLaws.{RootsFollow}
 use Rattle.libyaml_graphs.specs.Loads.{IsLoads, Load, last_load, left_over, loads, loads_of}
-use Rattle.libyaml_graphs.proofs.BoundedFronts.{IsFront, front_of_loads, met, same}
+use Rattle.libyaml_graphs.proofs.lent.BoundedFronts.{IsFront, front_of_loads, met, same}
 use Rattle.libyaml_loader.specs.Ids.{magnitude}
 use Rattle.libyaml_loader.specs.Loading.{DocumentOrError, KeptBy, LoadFails, Loads, LoadsFrom, ParserFails, Took, at_end, by_loader}
 use Rattle.libyaml_loader.specs.Loading.{by_memory, by_parser, whole}

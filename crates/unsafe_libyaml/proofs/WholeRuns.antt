@@ -22,7 +22,7 @@ use Rattle.libyaml_grammar.specs.runs.Runs.{Ending, Ends, Fails, IsRun}
 use Rattle.libyaml_events.specs.sources.Source.{Coming, coming}
 use Rattle.libyaml_grammar.specs.sentences.Tokens.{Token}
 use Rattle.libyaml_grammar.specs.declared.fault.yaml_parser_t_prefix.{yaml_parser_t_prefix}
-use Rattle.libyaml_events.proofs.calls.NextEvents.{Says, fails_here, first_event}
+use Rattle.libyaml_events.proofs.lent.NextEvents.{Says, fails_here, first_event}
 use Rattle.unsafe_libyaml.specs.WholeRun.{Asked, Gathers, RunsTo, StoppedBy, whole, broken_off, ending_of, of_grammar, of_source}
 use Rattle.unsafe_libyaml.specs.declared.parse_all.yaml_run_t.{yaml_run_t}
 

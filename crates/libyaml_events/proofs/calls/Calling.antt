@@ -3,12 +3,12 @@ use Rattle.std.proofs.Common.{◌≡◌, List, [], ◌∷◌, ◌++◌, ◌||◌
 use Rattle.libyaml_events.specs.machine.Machine.{Progressed, step}
 use Rattle.libyaml_grammar.specs.sentences.Trees.{behind, whole}
 use Rattle.libyaml_events.specs.sources.History.{Ran, begins, goes_on}
-use Rattle.libyaml_grammar.proofs.Lists.{nil_right, assoc}
+use Rattle.libyaml_grammar.proofs.lent.Lists.{nil_right, assoc}
 use Rattle.libyaml_grammar.specs.runs.Fault.{Answer, Fault}
 use Rattle.libyaml_grammar.specs.sentences.Tokens.{Token}
 use Rattle.libyaml_grammar.specs.sentences.Trees.{free}
 use Rattle.libyaml_grammar.specs.sentences.Events.{Event, events}
-use Rattle.libyaml_grammar.proofs.positions.Positions.{Position, between, done, due, headed, position_rest, unopened}
+use Rattle.libyaml_grammar.proofs.lent.Positions.{Position, between, done, due, headed, position_rest, unopened}
 use Rattle.libyaml_events.specs.machine.Config.{Config, taken, is_fault, is_end_state, ended_or_failed}
 use Rattle.libyaml_events.specs.sources.Calls.{Calls, EventOrError, Then, held, held_token}
 use Rattle.libyaml_events.specs.sources.History.{answers}

@@ -8,9 +8,9 @@ use Rattle.libyaml_grammar.specs.sentences.Tokens.{Content, Marks, Token, marks_
 use Rattle.libyaml_grammar.specs.sentences.Trees.{tokens}
 use Rattle.libyaml_grammar.specs.sentences.Events.{Event, events}
 use Rattle.libyaml_grammar.specs.cuts.Rest.{rest}
-use Rattle.libyaml_grammar.proofs.positions.Positions.{Position, unopened}
-use Rattle.libyaml_grammar.proofs.positions.Reading.{Step, bad, checked, feed, goes, is_legal, over, reads_all, then_all}
-use Rattle.libyaml_grammar.proofs.positions.Given.{gives_all, gives, if_all}
+use Rattle.libyaml_grammar.proofs.lent.Positions.{Position, unopened}
+use Rattle.libyaml_grammar.proofs.lent.Reading.{Step, bad, checked, feed, goes, is_legal, over, reads_all, then_all}
+use Rattle.libyaml_grammar.proofs.lent.Given.{gives_all, gives, if_all}
 use Rattle.libyaml_grammar.specs.runs.Runs.{Ends, IsRun}
 use Rattle.libyaml_events.specs.machine.Config.{Config, taken}
 use Rattle.libyaml_events.specs.machine.Machine.{machine}
@@ -19,10 +19,10 @@ use Rattle.libyaml_events.proofs.machine.Follow.{follows, more}
 use Rattle.libyaml_events.proofs.machine.Giving.{given_split, gives_split}
 use Rattle.libyaml_events.proofs.calls.KnownRuns.{linked_begins, run_given}
 use Rattle.libyaml_events.proofs.machine.Link.{End, config_of, emit, keeps_on, spends, want_of}
-use Rattle.libyaml_grammar.proofs.Lists.{nil_right}
-use Rattle.libyaml_grammar.proofs.runs.Running.{sentence_run}
+use Rattle.libyaml_grammar.proofs.lent.Lists.{nil_right}
+use Rattle.libyaml_grammar.proofs.lent.Running.{sentence_run}
 use Rattle.libyaml_events.proofs.machine.Stand.{Links, amid_token, at_position}
-use Rattle.libyaml_grammar.proofs.trees.StepsMeet.{IsMet, Meets, step_met}
+use Rattle.libyaml_grammar.proofs.lent.StepsMeet.{IsMet, Meets, step_met}
 use Rattle.libyaml_events.specs.declared.next.Want.{Want}
 use Rattle.libyaml_events.specs.declared.next.Want.TheVariants.{AtState}
 use Rattle.libyaml_events.specs.declared.next.Progress.TheVariants.{Given, Wants}

@@ -5,7 +5,7 @@ use Rattle.libyaml_types.specs.declared.enums.yaml_error_type_t.{yaml_error_type
 use Rattle.libyaml_grammar.specs.runs.Fault.{Answer}
 use Rattle.libyaml_grammar.specs.sentences.Events.{Event}
 use Rattle.libyaml_grammar.specs.sentences.Tokens.{Content, Token}
-use Rattle.libyaml_grammar.proofs.Lists.{assoc}
+use Rattle.libyaml_grammar.proofs.lent.Lists.{assoc}
 use Rattle.libyaml_events.specs.declared.next.Want.{Want}
 use Rattle.libyaml_events.specs.declared.next.Want.TheVariants.{AtState}
 use Rattle.libyaml_events.specs.declared.next.Progress.TheVariants.{Given, Wants}

@@ -3,7 +3,7 @@ use Rattle.std.proofs.Common.{◌≡◌, ◌⊎◌, inl, inr, ℤ, List, [], ◌
 use Rattle.libyaml_events.specs.sources.Parsing as pars
 use Rattle.libyaml_events.specs.sources.Parsing.{HasFailed, StopsShort, behind_beginning, Cause, of_memory, of_grammar, of_source, FailsBy}
 use Rattle.libyaml_events.proofs.calls.Parsed.{running_does, fails}
-use Rattle.libyaml_events.proofs.calls.Staged.{ran_staged, staged_over, staged_whole, tree_ends}
+use Rattle.libyaml_events.proofs.lent.Staged.{ran_staged, staged_over, staged_whole, tree_ends}
 use Rattle.libyaml_events.specs.parsers.Stages.{is_at_end, stage_of}
 use Rattle.libyaml_types.specs.declared.enums.yaml_error_type_t.{yaml_error_type_t}
 use Rattle.libyaml_grammar.specs.runs.Fault.{Fault, Answer}
@@ -18,9 +18,9 @@ use Rattle.libyaml_grammar.specs.cuts.CutFaults.{fault}
 use Rattle.libyaml_grammar.specs.sentences.Sentences.{is_end, has_end}
 use Rattle.libyaml_grammar.specs.runs.StreamEnds.{up_to_end}
 use Rattle.libyaml_grammar.specs.cuts.Settled.{sure}
-use Rattle.libyaml_grammar.proofs.positions.Positions.{Position, unopened, done}
-use Rattle.libyaml_grammar.proofs.positions.Reading.{Step, feed, reads, reads_all, then_all, checked, is_legal, broken, goes, bad, over}
-use Rattle.libyaml_grammar.proofs.positions.Given.{gives, gives_all, if_all}
+use Rattle.libyaml_grammar.proofs.lent.Positions.{Position, unopened, done}
+use Rattle.libyaml_grammar.proofs.lent.Reading.{Step, feed, reads, reads_all, then_all, checked, is_legal, broken, goes, bad, over}
+use Rattle.libyaml_grammar.proofs.lent.Given.{gives, gives_all, if_all}
 use Rattle.libyaml_grammar.specs.runs.Runs.{Ending, Ends, Fails, IsRun, of_sentence, of_cut_tree, amid_properties, of_beginning, is_behind}
 use Rattle.libyaml_grammar.specs.runs.Runs.{is_behind_properties, has_token}
 use Rattle.libyaml_events.specs.machine.Config.{Config, Parser, taken, ended_or_failed}
@@ -30,18 +30,18 @@ use Rattle.libyaml_events.specs.sources.History.{goes_on, is_over, answers, kept
 use Rattle.libyaml_events.specs.sources.CallsInTurn.{KnowsRest}
 use Rattle.libyaml_events.specs.sources.RunToCome.{RunToCome, UnlessBroken, does, no_memory, breaks}
 use Rattle.libyaml_events.specs.declared.next.Want.TheVariants.{AtState}
-use Rattle.libyaml_grammar.proofs.Lists.{nil_right, assoc}
-use Rattle.libyaml_grammar.proofs.trees.Completion.{sentence_reads}
-use Rattle.libyaml_grammar.proofs.runs.Fronts.{front, front_of, begin_reads}
+use Rattle.libyaml_grammar.proofs.lent.Lists.{nil_right, assoc}
+use Rattle.libyaml_grammar.proofs.lent.Completion.{sentence_reads}
+use Rattle.libyaml_grammar.proofs.lent.Fronts.{front, front_of, begin_reads}
 use Rattle.libyaml_events.proofs.machine.Link.{spends}
-use Rattle.libyaml_grammar.proofs.trees.OneCut.{fits_reach, fits_stop, goes_same, bad_same}
+use Rattle.libyaml_grammar.proofs.lent.OneCut.{fits_reach, fits_stop, goes_same, bad_same}
 use Rattle.libyaml_events.proofs.machine.Outcomes.{Does, is_good, is_bad, is_doomed, is_over as is_over_there}
 use Rattle.libyaml_events.proofs.machine.Outcomes as outcomes
-use Rattle.libyaml_grammar.proofs.runs.Running.{one_run_proof, sentence_run, cut_run, amid_run, begin_run}
-use Rattle.libyaml_grammar.proofs.runs.Settling.{front_settles, gives_sure, one_settled_proof}
-use Rattle.libyaml_grammar.proofs.runs.Shows.{Shows, step_shows}
-use Rattle.libyaml_grammar.proofs.trees.StepsMeet.{IsMet, Meets, step_met}
-use Rattle.libyaml_grammar.proofs.runs.StreamEnds.{not_end_not_done}
+use Rattle.libyaml_grammar.proofs.lent.Running.{one_run_proof, sentence_run, cut_run, amid_run, begin_run}
+use Rattle.libyaml_grammar.proofs.lent.Settling.{front_settles, gives_sure, one_settled_proof}
+use Rattle.libyaml_grammar.proofs.lent.Shows.{Shows, step_shows}
+use Rattle.libyaml_grammar.proofs.lent.StepsMeet.{IsMet, Meets, step_met}
+use Rattle.libyaml_grammar.proofs.lent.StreamEnds.{not_end_not_done}
 use Rattle.libyaml_events.proofs.machine.Giving.{given_split, gives_split, shown_given}
 use Rattle.libyaml_events.proofs.machine.Waiting.{doomed_shown}
 use Rattle.libyaml_events.proofs.machine.Stand.{Links, at_position, amid_token}

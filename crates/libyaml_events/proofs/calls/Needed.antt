@@ -3,18 +3,18 @@ use Rattle.std.proofs.Common.{◌≡◌, List, [], refl, sym, ◌∙◌, subst}
 use Rattle.libyaml_grammar.specs.cuts.Settled.{IsOpen}
 use Rattle.libyaml_events.specs.sources.Needs.{NeedsMore, for_next_event, amid_properties}
 use Rattle.libyaml_events.proofs.machine.Stand.{not_done}
-use Rattle.libyaml_grammar.proofs.Lists.{nil_right}
+use Rattle.libyaml_grammar.proofs.lent.Lists.{nil_right}
 use Rattle.libyaml_grammar.specs.sentences.Tokens.{Token}
 use Rattle.libyaml_grammar.specs.sentences.Trees.{Stream}
 use Rattle.libyaml_grammar.specs.sentences.Events.{Event}
-use Rattle.libyaml_grammar.proofs.positions.Positions.{Position, done, unopened}
-use Rattle.libyaml_grammar.proofs.positions.Reading.{goes, reads_all}
-use Rattle.libyaml_grammar.proofs.positions.Given.{gives_all}
+use Rattle.libyaml_grammar.proofs.lent.Positions.{Position, done, unopened}
+use Rattle.libyaml_grammar.proofs.lent.Reading.{goes, reads_all}
+use Rattle.libyaml_grammar.proofs.lent.Given.{gives_all}
 use Rattle.libyaml_grammar.specs.cuts.Settled.{IsFront, sure}
 use Rattle.libyaml_events.proofs.calls.Calling.{Standing}
-use Rattle.libyaml_grammar.proofs.trees.Fitting.{stops_fits}
-use Rattle.libyaml_grammar.proofs.runs.Fronts.{IsNotDone, front, front_of}
-use Rattle.libyaml_grammar.proofs.runs.Settling.{front_open, gives_sure}
+use Rattle.libyaml_grammar.proofs.lent.Fitting.{stops_fits}
+use Rattle.libyaml_grammar.proofs.lent.Fronts.{IsNotDone, front, front_of}
+use Rattle.libyaml_grammar.proofs.lent.Settling.{front_open, gives_sure}
 use Rattle.libyaml_events.proofs.machine.Stand.{Stood, amid_node, at_place}
 use Rattle.libyaml_events.proofs.machine.Waiting.{still_waits}
 

@@ -10,8 +10,8 @@ use Rattle.libyaml_grammar.specs.cuts.CutTrees.{Cut, declared}
 use Rattle.libyaml_grammar.specs.sentences.Sentences.{is_end, has_end}
 use Rattle.libyaml_grammar.specs.cuts.Fits.{FitsTag, IsUnknown}
 use Rattle.libyaml_grammar.specs.cuts.Settled.{IsSettled}
-use Rattle.libyaml_grammar.proofs.positions.Positions.{Position, unopened, done}
-use Rattle.libyaml_grammar.proofs.positions.Reading.{reads, reads_all, goes, bad, over}
+use Rattle.libyaml_grammar.proofs.lent.Positions.{Position, unopened, done}
+use Rattle.libyaml_grammar.proofs.lent.Reading.{reads, reads_all, goes, bad, over}
 use Rattle.libyaml_events.specs.machine.Config.{Config, Parser, taken, ended_or_failed}
 use Rattle.libyaml_types.specs.Events.{empty_event}
 use Rattle.libyaml_events.specs.sources.Calls.{EventOrError, Gave, held, Calls, CallsUnlessRefused, ParsesIf, Parses, AreOfSource, Call, Refused}
@@ -21,11 +21,11 @@ use Rattle.libyaml_events.specs.sources.Parsing as pub_
 use Rattle.libyaml_events.specs.sources.Parsing.{CarriesOn, HasFailed, StopsShort, behind_beginning, Cause, of_memory, of_grammar, of_source, FailsBy}
 use Rattle.libyaml_events.specs.declared.next.Want.{Want}
 use Rattle.libyaml_events.specs.declared.next.Want.TheVariants.{AtState}
-use Rattle.libyaml_grammar.proofs.trees.Completion.{reached_begins}
-use Rattle.libyaml_grammar.proofs.trees.Fitting.{stops_fits}
-use Rattle.libyaml_grammar.proofs.runs.Fronts.{front}
-use Rattle.libyaml_grammar.proofs.runs.Settling.{front_settles}
-use Rattle.libyaml_grammar.proofs.runs.StreamEnds.{IsDone, end_is_done}
+use Rattle.libyaml_grammar.proofs.lent.Completion.{reached_begins}
+use Rattle.libyaml_grammar.proofs.lent.Fitting.{stops_fits}
+use Rattle.libyaml_grammar.proofs.lent.Fronts.{front}
+use Rattle.libyaml_grammar.proofs.lent.Settling.{front_settles}
+use Rattle.libyaml_grammar.proofs.lent.StreamEnds.{IsDone, end_is_done}
 use Rattle.libyaml_events.proofs.machine.Waiting.{Waits, behind_tag, behind_anchor, behind_both, still_waits}
 use Rattle.libyaml_events.proofs.machine.Stand.{Stood, Stands, Links, at_place, amid_node, not_done}
 use Rattle.libyaml_events.proofs.machine.Stand as stand
@@ -34,11 +34,11 @@ use Rattle.libyaml_events.proofs.calls.Calling.{Answered, gave, failed, faulted,
 use Rattle.libyaml_events.proofs.calls.Calling.{starts}
 use Rattle.libyaml_events.proofs.calls.Needed.{open_there, standing_needs}
 use Rattle.libyaml_events.proofs.calls.NeededInTurn.{both_needed, none_needed, one_needed}
-use Rattle.libyaml_events.proofs.calls.Staged.{Staged, call_staged, ran_staged, stage_snoc, staged_over, staged_whole, leads_to_end, refused_stage}
+use Rattle.libyaml_events.proofs.lent.Staged.{Staged, call_staged, ran_staged, stage_snoc, staged_over, staged_whole, leads_to_end, refused_stage}
 use Rattle.libyaml_events.specs.parsers.Lookahead.{HoldsLast, tokens_held}
 use Rattle.libyaml_events.specs.parsers.Stages.{at_start, is_event, is_at_end, stage_of, takes_no_memory}
 use Rattle.libyaml_events.proofs.calls.Held.{held_first, ran_holds}
-use Rattle.libyaml_grammar.proofs.Lists.{assoc}
+use Rattle.libyaml_grammar.proofs.lent.Lists.{assoc}
 use Rattle.libyaml_events.specs.sources.History.{is_stream_end}
 
 -- a call of a parser that has not ended

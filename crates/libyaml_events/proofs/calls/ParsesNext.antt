@@ -3,8 +3,8 @@ use Rattle.std.proofs.Common.{arith, ◌≡◌, ◌+◌, ◌++◌, ℕ, [], Opti
 use Rattle.libyaml_grammar.specs.runs.Fault.{Fault, Answer}
 use Rattle.libyaml_grammar.specs.cuts.FaultTexts.{no_fault}
 use Rattle.libyaml_grammar.specs.sentences.Tokens.{Token}
-use Rattle.libyaml_grammar.proofs.runs.NestingSoFar.{run_front_nests}
-use Rattle.libyaml_grammar.proofs.runs.Running.{some_run_proof}
+use Rattle.libyaml_grammar.proofs.lent.NestingSoFar.{run_front_nests}
+use Rattle.libyaml_grammar.proofs.lent.Running.{some_run_proof}
 use Rattle.libyaml_events.specs.machine.Config.{Parser, ended_or_failed}
 use Rattle.libyaml_events.specs.sources.Source.{Coming, Follows}
 use Rattle.libyaml_events.specs.sources.Calls.{EventOrError, Call}
@@ -18,7 +18,7 @@ use Rattle.libyaml_events.proofs.calls.KnownRuns.{next_of_run, fault_of_run, end
 use Rattle.libyaml_events.proofs.calls.LeadsOut.{stands_outside}
 use Rattle.libyaml_events.proofs.calls.Parsed.{carried_on, failed_by}
 use Rattle.libyaml_events.proofs.calls.Raised.{pops_nothing_below}
-use Rattle.libyaml_events.proofs.calls.Staged.{ran_staged, staged_depth, staged_between}
+use Rattle.libyaml_events.proofs.lent.Staged.{ran_staged, staged_depth, staged_between}
 
 module _ {S : Type 0} (gives : S → Answer → S → Type 0) (token_bound : S → ℕ) (known : S → Option Coming) (may_break : S → Fault → Type 0) (falls : (s t : S) (token : Token)
     → gives s (Ok token) t → token_bound s ≡ token_bound t + 1) (follows : (s t : S) (a : Answer) → gives s a t → Follows (may_break t) (known s) a (known t)) where

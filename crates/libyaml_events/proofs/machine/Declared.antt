@@ -10,11 +10,11 @@ use Rattle.libyaml_grammar.specs.sentences.Trees.{Directives, directive, no_dire
 use Rattle.libyaml_grammar.specs.sentences.Events.{Event, declaration, either, prefix_of, resolved, same_text, tag_directives_of, tag_directives_then}
 use Rattle.libyaml_grammar.specs.sentences.Events.{tag_from, version_of}
 use Rattle.libyaml_grammar.specs.sentences.Order.{both, declares, is_known, is_version, negated, no_version}
-use Rattle.libyaml_grammar.proofs.positions.Reading.{keeps_order}
+use Rattle.libyaml_grammar.proofs.lent.Reading.{keeps_order}
 use Rattle.libyaml_events.specs.machine.Config.{Config, Handles}
 use Rattle.libyaml_events.specs.machine.Machine.{Progressed, explicit_document, or_default, resolve, with_prefix}
 use Rattle.libyaml_events.proofs.machine.Link.{End, after, directive_ends, fails, handles_of, waits}
-use Rattle.libyaml_grammar.proofs.Lists.{assoc}
+use Rattle.libyaml_grammar.proofs.lent.Lists.{assoc}
 use Rattle.libyaml_events.specs.declared.pending.DirectivesRead.{DirectivesRead}
 use Rattle.libyaml_events.specs.declared.next.Want.TheVariants.{BehindDirective}
 use Rattle.libyaml_types.specs.declared.directive.yaml_tag_directive_t.{yaml_tag_directive_t}

@@ -17,20 +17,20 @@ use Rattle.libyaml_grammar.specs.sentences.Order.{both, is_known, properties_in_
 use Rattle.libyaml_grammar.specs.cuts.CutTrees.{BlockPlace, Open, PartPlace, Place, block, declared_block, entry, explicit_root, flow_entry, flow_key}
 use Rattle.libyaml_grammar.specs.cuts.CutTrees.{flow_value, implicit_root, indentless_entry, part_place, root, slot}
 use Rattle.libyaml_grammar.specs.cuts.Fits.{ends_empty}
-use Rattle.libyaml_grammar.proofs.positions.Positions.{Position, between, done, due, flow_behind, flow_due, flow_keyed, headed, in_indentless, in_mapping}
-use Rattle.libyaml_grammar.proofs.positions.Positions.{in_sequence, unopened}
-use Rattle.libyaml_grammar.proofs.positions.Reading.{Step, at_flow, at_free, at_headed, at_unopened, behind_documents, behind_indentless, behind_item}
-use Rattle.libyaml_grammar.proofs.positions.Reading.{behind_key, behind_member, behind_part, behind_whole, fill, fill_flow, on_block_entry, on_block_mapping}
-use Rattle.libyaml_grammar.proofs.positions.Reading.{on_block_sequence, on_due, without}
-use Rattle.libyaml_grammar.proofs.positions.Given.{given_at_flow, given_at_free, given_at_headed, given_at_unopened, given_behind_documents}
-use Rattle.libyaml_grammar.proofs.positions.Given.{given_behind_indentless, given_behind_item, given_behind_key, given_behind_member, given_behind_part}
-use Rattle.libyaml_grammar.proofs.positions.Given.{given_behind_whole, given_on_block_entry, given_on_block_mapping, given_on_block_sequence, given_on_due}
-use Rattle.libyaml_grammar.proofs.positions.Given.{given_without, gives}
+use Rattle.libyaml_grammar.proofs.lent.Positions.{Position, between, done, due, flow_behind, flow_due, flow_keyed, headed, in_indentless, in_mapping}
+use Rattle.libyaml_grammar.proofs.lent.Positions.{in_sequence, unopened}
+use Rattle.libyaml_grammar.proofs.lent.Reading.{Step, at_flow, at_free, at_headed, at_unopened, behind_documents, behind_indentless, behind_item}
+use Rattle.libyaml_grammar.proofs.lent.Reading.{behind_key, behind_member, behind_part, behind_whole, fill, fill_flow, on_block_entry, on_block_mapping}
+use Rattle.libyaml_grammar.proofs.lent.Reading.{on_block_sequence, on_due, without}
+use Rattle.libyaml_grammar.proofs.lent.Given.{given_at_flow, given_at_free, given_at_headed, given_at_unopened, given_behind_documents}
+use Rattle.libyaml_grammar.proofs.lent.Given.{given_behind_indentless, given_behind_item, given_behind_key, given_behind_member, given_behind_part}
+use Rattle.libyaml_grammar.proofs.lent.Given.{given_behind_whole, given_on_block_entry, given_on_block_mapping, given_on_block_sequence, given_on_due}
+use Rattle.libyaml_grammar.proofs.lent.Given.{given_without, gives}
 use Rattle.libyaml_events.specs.machine.Config.{Config, keep, no_handles, popped, popped_mark, taken}
 use Rattle.libyaml_events.proofs.machine.Declared.{resolve_is, tag_after, version_after}
 use Rattle.libyaml_events.proofs.machine.Link.{End, after, config, config_of, emit, ends, free_config, handles_of, headed_config, kind, marks_block}
 use Rattle.libyaml_events.proofs.machine.Link.{marks_place, node_config, read_of, spends, states_block, states_place, step_ends, tag_read, waits, want_of}
-use Rattle.libyaml_grammar.proofs.trees.StepsMeet.{IsDue, IsEntry, IsMet}
+use Rattle.libyaml_grammar.proofs.lent.StepsMeet.{IsDue, IsEntry, IsMet}
 use Rattle.libyaml_events.specs.declared.node_head.NodeHead.{NodeHead}
 use Rattle.libyaml_events.specs.declared.next.Want.TheVariants.{AtState}
 use Rattle.libyaml_events.specs.declared.next.Progress.TheVariants.{Given}

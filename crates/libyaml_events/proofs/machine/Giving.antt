@@ -3,18 +3,18 @@ use Rattle.std.proofs.Common.{◌≡◌, ℕ, zero, suc, List, [], ◌∷◌, �
 use Rattle.libyaml_events.specs.machine.Machine.{Progressed}
 use Rattle.libyaml_grammar.specs.sentences.Tokens.{Content, Mark, Marks, Token, marks_of, tok}
 use Rattle.libyaml_grammar.specs.sentences.Events.{Event}
-use Rattle.libyaml_grammar.proofs.positions.Positions.{Position, shown, unopened}
-use Rattle.libyaml_grammar.proofs.positions.Reading.{Step, bad, checked, feed, goes, is_legal, over, reads_all, then_all}
-use Rattle.libyaml_grammar.proofs.positions.Given.{gives_all, gives, if_all}
+use Rattle.libyaml_grammar.proofs.lent.Positions.{Position, shown, unopened}
+use Rattle.libyaml_grammar.proofs.lent.Reading.{Step, bad, checked, feed, goes, is_legal, over, reads_all, then_all}
+use Rattle.libyaml_grammar.proofs.lent.Given.{gives_all, gives, if_all}
 use Rattle.libyaml_events.specs.machine.Config.{Config, taken}
 use Rattle.libyaml_events.specs.machine.Machine.{machine}
-use Rattle.libyaml_grammar.proofs.trees.Completion.{reads_append}
+use Rattle.libyaml_grammar.proofs.lent.Completion.{reads_append}
 use Rattle.libyaml_events.proofs.machine.Follow.{follows, more}
 use Rattle.libyaml_events.proofs.machine.Link.{End, after, config_of, keeps_on, spends, want_of}
-use Rattle.libyaml_grammar.proofs.Lists.{assoc}
-use Rattle.libyaml_grammar.proofs.runs.Orders.{reads_to}
-use Rattle.libyaml_grammar.proofs.trees.Run.{given_append, given_shown}
-use Rattle.libyaml_grammar.proofs.trees.StepsMeet.{IsMet, Meets, step_met}
+use Rattle.libyaml_grammar.proofs.lent.Lists.{assoc}
+use Rattle.libyaml_grammar.proofs.lent.Orders.{reads_to}
+use Rattle.libyaml_grammar.proofs.lent.Run.{given_append, given_shown}
+use Rattle.libyaml_grammar.proofs.lent.StepsMeet.{IsMet, Meets, step_met}
 use Rattle.libyaml_events.specs.declared.next.Want.{Want}
 use Rattle.libyaml_events.specs.declared.next.Want.TheVariants.{AtState}
 use Rattle.libyaml_events.specs.declared.next.Progress.TheVariants.{Given, Wants}

@@ -1,18 +1,18 @@
 -- What a token does at a position, to the grammar and to the machine.
 use Rattle.std.proofs.Common.{◌≡◌, List, refl, sym, ap, ◌∙◌, subst, Bool, true, false}
-use Rattle.libyaml_grammar.proofs.trees.Cases.{IsTagHeld, IsHeaded, HeadGoes, TagGoes, step_tag, step_version, step_handle}
+use Rattle.libyaml_grammar.proofs.lent.Cases.{IsTagHeld, IsHeaded, HeadGoes, TagGoes, step_tag, step_version, step_handle}
 use Rattle.libyaml_grammar.specs.sentences.Tokens.{Content, HandleDeclared, Mark, Marks, Tag, TagDirective, VersionAsked, VersionDirective, tok}
 use Rattle.libyaml_grammar.specs.sentences.Trees.{Directive, Directives, tag_directive, version}
 use Rattle.libyaml_grammar.specs.sentences.Events.{Event}
 use Rattle.libyaml_grammar.specs.cuts.CutTrees.{Cut, at_directive}
 use Rattle.libyaml_grammar.specs.cuts.CutEvents.{shown_cut}
 use Rattle.libyaml_grammar.specs.cuts.CutFaults.{directive_fault, fault}
-use Rattle.libyaml_grammar.proofs.positions.Positions.{Position, headed, shown}
-use Rattle.libyaml_grammar.proofs.positions.Reading.{Step, bad, checked, goes, is_legal, over, pending, reads, step}
-use Rattle.libyaml_grammar.proofs.positions.Given.{gives}
+use Rattle.libyaml_grammar.proofs.lent.Positions.{Position, headed, shown}
+use Rattle.libyaml_grammar.proofs.lent.Reading.{Step, bad, checked, goes, is_legal, over, pending, reads, step}
+use Rattle.libyaml_grammar.proofs.lent.Given.{gives}
 use Rattle.libyaml_events.proofs.machine.Link.{End, config_of, directive_ends, ends, fails, go_ends, step_ends, waits, want_of}
-use Rattle.libyaml_grammar.proofs.runs.Shows.{Shows, step_shows}
-use Rattle.libyaml_grammar.proofs.trees.StepsMeet.{IsMet, Meets, step_met}
+use Rattle.libyaml_grammar.proofs.lent.Shows.{Shows, step_shows}
+use Rattle.libyaml_grammar.proofs.lent.StepsMeet.{IsMet, Meets, step_met}
 
 -- It goes on; it is bad, with the place's fault and events; or it is a tag that is found unknown later.
 pub data Does (q : Position) (k : Content) (m : Marks) : Type 0 where

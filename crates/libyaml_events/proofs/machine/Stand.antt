@@ -2,15 +2,15 @@
 use Rattle.std.proofs.Common.{◌≡◌, ℕ, zero, suc, List, [], ◌∷◌, ◌++◌, Option, Some, None, refl, sym, ap, ◌∙◌, subst, ◌⊎◌, inl, inr, Bool, true, false, Ok, Err}
 use Rattle.libyaml_events.specs.machine.Machine as mach
 use Rattle.libyaml_events.specs.machine.Machine.{Progressed}
-use Rattle.libyaml_grammar.proofs.positions.Reading.{step}
+use Rattle.libyaml_grammar.proofs.lent.Reading.{step}
 use Rattle.libyaml_grammar.specs.sentences.Trees.{behind}
-use Rattle.libyaml_grammar.proofs.trees.Fitting.{IsOpen as NotYetDone}
+use Rattle.libyaml_grammar.proofs.lent.Fitting.{IsOpen as NotYetDone}
 use Rattle.libyaml_grammar.specs.cuts.FaultTexts.{document_start_fault}
 use Rattle.libyaml_events.proofs.machine.Outcomes.{Does, does, is_good, is_bad, is_doomed, is_over}
-use Rattle.libyaml_grammar.proofs.trees.Cases.{IsHeaded, HeadGoes, step_version, step_handle, IsTagHeld}
+use Rattle.libyaml_grammar.proofs.lent.Cases.{IsHeaded, HeadGoes, step_version, step_handle, IsTagHeld}
 use Rattle.libyaml_events.proofs.machine.Link.{waits}
 use Rattle.libyaml_events.specs.sources.Needs.{HasWaited, at_once, by_last}
-use Rattle.libyaml_grammar.proofs.Lists.{nil_right, assoc}
+use Rattle.libyaml_grammar.proofs.lent.Lists.{nil_right, assoc}
 use Rattle.libyaml_grammar.specs.runs.Fault.{Fault}
 use Rattle.libyaml_grammar.specs.sentences.Tokens.{Content, Marks, Tag, TagDirective, Token, VersionDirective, marks_of, tok}
 use Rattle.libyaml_grammar.specs.sentences.Trees.{Directive, Directives, Stream, free, tag_directive, version, whole}
@@ -18,18 +18,18 @@ use Rattle.libyaml_grammar.specs.sentences.Events.{Event, events}
 use Rattle.libyaml_grammar.specs.cuts.CutTrees.{Cut, at_tag, at_tag_behind}
 use Rattle.libyaml_grammar.specs.cuts.CutEvents.{shown_cut}
 use Rattle.libyaml_grammar.specs.cuts.CutFaults.{fault}
-use Rattle.libyaml_grammar.proofs.positions.Positions.{Position, done, due, headed, unopened}
-use Rattle.libyaml_grammar.proofs.positions.Reading.{Step, bad, broken, checked, goes, is_legal, over, pending, reads, reads_all}
-use Rattle.libyaml_grammar.proofs.positions.Given.{gives_all, gives}
+use Rattle.libyaml_grammar.proofs.lent.Positions.{Position, done, due, headed, unopened}
+use Rattle.libyaml_grammar.proofs.lent.Reading.{Step, bad, broken, checked, goes, is_legal, over, pending, reads, reads_all}
+use Rattle.libyaml_grammar.proofs.lent.Given.{gives_all, gives}
 use Rattle.libyaml_grammar.specs.runs.Runs.{is_behind_properties}
 use Rattle.libyaml_events.specs.machine.Config.{Config, taken}
-use Rattle.libyaml_grammar.proofs.trees.Fitting.{NotTag, NotTagCut, not_tag, open_or_done, over_done}
+use Rattle.libyaml_grammar.proofs.lent.Fitting.{NotTag, NotTagCut, not_tag, open_or_done, over_done}
 use Rattle.libyaml_events.proofs.machine.Follow.{follows, more}
 use Rattle.libyaml_events.proofs.machine.Giving.{given_snoc, given_split, reads_snoc, shown_given}
 use Rattle.libyaml_events.proofs.machine.Link.{End, after, config_of, emit, ends, fails, keeps_on, spends, step_ends, stuck, want_of}
 use Rattle.libyaml_events.proofs.calls.NotOver.{NotOver, not_over}
-use Rattle.libyaml_grammar.proofs.runs.Shows.{Shows, step_shows}
-use Rattle.libyaml_grammar.proofs.trees.StepsMeet.{IsMet}
+use Rattle.libyaml_grammar.proofs.lent.Shows.{Shows, step_shows}
+use Rattle.libyaml_grammar.proofs.lent.StepsMeet.{IsMet}
 use Rattle.libyaml_events.proofs.machine.Waiting.{WaitStep, Waits, doomed_shown, found, held_waits, still_waits, wait_step, waits_on}
 use Rattle.libyaml_events.specs.declared.next.Want.{Want}
 use Rattle.libyaml_events.specs.declared.next.Want.TheVariants.{AtState}

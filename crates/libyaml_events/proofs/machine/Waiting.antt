@@ -11,10 +11,10 @@ use Rattle.libyaml_grammar.specs.sentences.Order.{is_known}
 use Rattle.libyaml_grammar.specs.cuts.CutTrees.{Cut, Place, at_tag, at_tag_behind}
 use Rattle.libyaml_grammar.specs.cuts.CutEvents.{shown_cut, shown_place}
 use Rattle.libyaml_grammar.specs.cuts.CutFaults.{fault}
-use Rattle.libyaml_grammar.proofs.positions.Positions.{Position, due, shown}
-use Rattle.libyaml_grammar.proofs.positions.Reading.{broken}
+use Rattle.libyaml_grammar.proofs.lent.Positions.{Position, due, shown}
+use Rattle.libyaml_grammar.proofs.lent.Reading.{broken}
 use Rattle.libyaml_grammar.specs.runs.Runs.{is_behind_properties}
-use Rattle.libyaml_grammar.proofs.trees.Cases.{IsTagHeld}
+use Rattle.libyaml_grammar.proofs.lent.Cases.{IsTagHeld}
 use Rattle.libyaml_events.proofs.machine.Declared.{resolve_not}
 use Rattle.libyaml_events.proofs.machine.Link.{config_of, handles_of, node_config, read_of, want_of}
 use Rattle.libyaml_events.specs.declared.next.Progress.TheVariants.{Wants}

@@ -27,7 +27,7 @@ use Rattle.libyaml_grammar.specs.rows.Rows.{RowHandlesWithZeroBytes, RowImplicit
 use Rattle.libyaml_grammar.specs.rows.Rows.{RowIndentlessSequence, RowKeysWithoutValues, RowNestedPairs, RowNodesAloneInMapping, RowOtherTag, RowPair}
 use Rattle.libyaml_grammar.specs.rows.Rows.{RowPairWithEmptyKey, RowPairWithoutValue, RowPropertiesAlone, RowPropertiesBeforeContent, RowRedeclaredHandles}
 use Rattle.libyaml_grammar.specs.rows.Rows.{RowRootsWithoutDocumentStart, RowScalarStyles, RowTagThatIsAnExclamationMark, RowValueBehindValue}
-use Rattle.libyaml_grammar.proofs.rows.RowKinds.{sentence_row, cut_row, amid_row, begin_row}
+use Rattle.libyaml_grammar.proofs.lent.RowKinds.{sentence_row, cut_row, amid_row, begin_row}
 
 pub empty_stream : RowEmptyStream
 empty_stream = sentence_row 2 _ _ _ _ refl refl refl

@@ -13,7 +13,7 @@ use Rattle.libyaml_grammar.specs.sentences.Trees.{collection, empty, explicit, f
 use Rattle.libyaml_grammar.specs.sentences.Trees.{more_items, no_directives, no_items, no_last, no_parts, no_value, node, nothing, pair, part, scalar}
 use Rattle.libyaml_grammar.specs.sentences.Trees.{sequence, single, slot_of, tag, tag_anchor, with_value}
 use Rattle.libyaml_types.specs.declared.enums.yaml_scalar_style_t.TheVariants.{YAML_PLAIN_SCALAR_STYLE}
-use Rattle.libyaml_grammar.proofs.trees.Splits.{block_node_splits, block_slot_splits}
+use Rattle.libyaml_grammar.proofs.lent.Splits.{block_node_splits, block_slot_splits}
 
 pub explicit_own : (ds : Directives) (s : Marks) (x : BlockSlot) (m : Mark) → (e : List Event)
     × ((b : Before) (r : List Event)

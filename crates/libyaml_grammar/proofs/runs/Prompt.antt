@@ -4,9 +4,9 @@ use Rattle.libyaml_grammar.specs.sentences.Tokens.{Marks}
 use Rattle.libyaml_grammar.specs.sentences.Trees.{Stream, behind, free, key, mapping, no_parts, no_value, pair, part, sequence, single, value, with_value}
 use Rattle.libyaml_grammar.specs.sentences.Events.{Event}
 use Rattle.libyaml_grammar.specs.cuts.CutTrees.{open_collection, part_place}
-use Rattle.libyaml_grammar.proofs.positions.Positions.{Position, between, done, due, flow_behind, flow_due, flow_keyed, headed, in_indentless, in_mapping}
-use Rattle.libyaml_grammar.proofs.positions.Positions.{in_sequence, position_rest, unopened}
-use Rattle.libyaml_grammar.proofs.positions.Given.{gives_all}
+use Rattle.libyaml_grammar.proofs.lent.Positions.{Position, between, done, due, flow_behind, flow_due, flow_keyed, headed, in_indentless, in_mapping}
+use Rattle.libyaml_grammar.proofs.lent.Positions.{in_sequence, position_rest, unopened}
+use Rattle.libyaml_grammar.proofs.lent.Given.{gives_all}
 use Rattle.libyaml_grammar.specs.cuts.Settled.{next_event}
 
 same_start : (x y : Event) → Some x ≡ Some y → x.start_mark ≡ y.start_mark

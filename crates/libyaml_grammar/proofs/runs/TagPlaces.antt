@@ -6,13 +6,13 @@ use Rattle.libyaml_grammar.specs.sentences.Order.{both, is_known}
 use Rattle.libyaml_grammar.specs.cuts.CutTrees.{Place, declared, place_in_order, place_tokens}
 use Rattle.libyaml_grammar.specs.sentences.Sentences.{IsBeginning, IsSentence}
 use Rattle.libyaml_grammar.specs.cuts.Fits.{NodeBegins}
-use Rattle.libyaml_grammar.proofs.positions.Positions.{Position, done, due, position_in_order, position_rest, position_tokens, unopened}
-use Rattle.libyaml_grammar.proofs.positions.Reading.{Step, bad, checked, goes, is_legal, over, reads, reads_all, step, then_all}
+use Rattle.libyaml_grammar.proofs.lent.Positions.{Position, done, due, position_in_order, position_rest, position_tokens, unopened}
+use Rattle.libyaml_grammar.proofs.lent.Reading.{Step, bad, checked, goes, is_legal, over, reads, reads_all, step, then_all}
 use Rattle.libyaml_grammar.proofs.trees.Append.{place_append}
-use Rattle.libyaml_grammar.proofs.trees.Cases.{IsTagHeld, TagGoes, step_tag}
-use Rattle.libyaml_grammar.proofs.trees.Completion.{append_nil, position_begins, read_order, reads_append, sentence_reads}
-use Rattle.libyaml_grammar.proofs.trees.Keeps.{feeds_keep}
-use Rattle.libyaml_grammar.proofs.runs.Orders.{reads_to}
+use Rattle.libyaml_grammar.proofs.lent.Cases.{IsTagHeld, TagGoes, step_tag}
+use Rattle.libyaml_grammar.proofs.lent.Completion.{append_nil, position_begins, read_order, reads_append, sentence_reads}
+use Rattle.libyaml_grammar.proofs.lent.Keeps.{feeds_keep}
+use Rattle.libyaml_grammar.proofs.lent.Orders.{reads_to}
 
 same_front : (a b : List Token) (x y : Token) → a ++ x ∷ [] ≡ b ++ y ∷ [] → (a ≡ b) × (x ≡ y)
 same_front [] [] x y e = (refl, cc)

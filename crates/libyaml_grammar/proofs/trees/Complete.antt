@@ -15,11 +15,11 @@ use Rattle.libyaml_grammar.specs.sentences.Trees.{nothing, once, opened, option_
 use Rattle.libyaml_grammar.specs.sentences.Trees.{slot_of, slot_tokens, tag, tag_anchor, tag_directive, tokens, value, version, whole, with_value}
 use Rattle.libyaml_grammar.specs.cuts.CutTrees.{BlockPlace, Cut, Open, PartPlace, Place, block, content_due, entry, explicit_root, flow_entry, flow_key}
 use Rattle.libyaml_grammar.specs.cuts.CutTrees.{flow_value, implicit_root, indentless_entry, open_collection, part_place, root, slot}
-use Rattle.libyaml_grammar.proofs.positions.Positions.{Position, between, done, due, flow_behind, flow_due, flow_keyed, headed, in_indentless, in_mapping}
-use Rattle.libyaml_grammar.proofs.positions.Positions.{in_sequence, unopened}
-use Rattle.libyaml_grammar.proofs.positions.Reading.{Step, bad, behind_documents, behind_indentless, behind_item, behind_key, behind_member, behind_part}
-use Rattle.libyaml_grammar.proofs.positions.Reading.{behind_whole, feed, feeds, fill, fill_block_slot, fill_flow, fill_part, goes, leave, on_due, or_bad}
-use Rattle.libyaml_grammar.proofs.positions.Reading.{over, step, then_all}
+use Rattle.libyaml_grammar.proofs.lent.Positions.{Position, between, done, due, flow_behind, flow_due, flow_keyed, headed, in_indentless, in_mapping}
+use Rattle.libyaml_grammar.proofs.lent.Positions.{in_sequence, unopened}
+use Rattle.libyaml_grammar.proofs.lent.Reading.{Step, bad, behind_documents, behind_indentless, behind_item, behind_key, behind_member, behind_part}
+use Rattle.libyaml_grammar.proofs.lent.Reading.{behind_whole, feed, feeds, fill, fill_block_slot, fill_flow, fill_part, goes, leave, on_due, or_bad}
+use Rattle.libyaml_grammar.proofs.lent.Reading.{over, step, then_all}
 
 -- the token is taken
 abbrev pub Takes : Step → Type 0

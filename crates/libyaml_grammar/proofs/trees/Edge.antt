@@ -11,8 +11,8 @@ use Rattle.libyaml_grammar.specs.cuts.CutTrees.{BlockPlace, Cut, Open, PartPlace
 use Rattle.libyaml_grammar.specs.cuts.CutTrees.{block_place_tokens, content_due, cut_tokens, document_due, entry, entry_due, explicit_root, flow_entry}
 use Rattle.libyaml_grammar.specs.cuts.CutTrees.{flow_key, flow_value, implicit_root, indentless_entry, open_collection, open_tokens, part_due, part_place}
 use Rattle.libyaml_grammar.specs.cuts.CutTrees.{part_place_tokens, place_tokens, root, separator_due, slot, start_due}
-use Rattle.libyaml_grammar.proofs.positions.Positions.{Position, between, due, flow_due, headed, in_mapping, in_sequence, unopened}
-use Rattle.libyaml_grammar.proofs.positions.Reading.{feeds, fill, fill_flow}
+use Rattle.libyaml_grammar.proofs.lent.Positions.{Position, between, due, flow_due, headed, in_mapping, in_sequence, unopened}
+use Rattle.libyaml_grammar.proofs.lent.Reading.{feeds, fill, fill_flow}
 use Rattle.libyaml_grammar.proofs.trees.Complete.{before_reads, begins_document, directive_feeds, directive_ready, directives_read, directives_ready}
 use Rattle.libyaml_grammar.proofs.trees.Complete.{entries_read, flow_items_read, flow_key_reads, flow_last_reads, free_reads, items_read, node_begins}
 use Rattle.libyaml_grammar.proofs.trees.Complete.{option_feeds, parts_read, properties_begin, properties_begin_document, properties_feed, start_feeds}

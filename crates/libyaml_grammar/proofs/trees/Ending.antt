@@ -11,12 +11,12 @@ use Rattle.libyaml_grammar.specs.sentences.Events.{either}
 use Rattle.libyaml_grammar.specs.cuts.CutTrees.{BlockPlace, Cut, Open, PartPlace, Place, block, content_due, entry, explicit_root, flow_entry, flow_key}
 use Rattle.libyaml_grammar.specs.cuts.CutTrees.{flow_value, implicit_root, indentless_entry, open_collection, part_place, root, separator_due, slot}
 use Rattle.libyaml_grammar.specs.sentences.Sentences.{has_end, is_end}
-use Rattle.libyaml_grammar.proofs.positions.Positions.{Position, between, done, due, flow_behind, flow_due, flow_keyed, headed, in_indentless, in_mapping}
-use Rattle.libyaml_grammar.proofs.positions.Positions.{in_sequence, unopened}
-use Rattle.libyaml_grammar.proofs.positions.Reading.{Step, at_flow, at_free, at_headed, at_unopened, bad, behind_documents, behind_indentless, behind_item}
-use Rattle.libyaml_grammar.proofs.positions.Reading.{behind_key, behind_member, behind_part, behind_whole, checked, close, feed, fill, fill_flow, goes}
-use Rattle.libyaml_grammar.proofs.positions.Reading.{is_legal, leave, on_anchor, on_block_entry, on_block_mapping, on_block_sequence, on_due, on_tag, or_bad}
-use Rattle.libyaml_grammar.proofs.positions.Reading.{over, reads, reads_all, step, then_all, without}
+use Rattle.libyaml_grammar.proofs.lent.Positions.{Position, between, done, due, flow_behind, flow_due, flow_keyed, headed, in_indentless, in_mapping}
+use Rattle.libyaml_grammar.proofs.lent.Positions.{in_sequence, unopened}
+use Rattle.libyaml_grammar.proofs.lent.Reading.{Step, at_flow, at_free, at_headed, at_unopened, bad, behind_documents, behind_indentless, behind_item}
+use Rattle.libyaml_grammar.proofs.lent.Reading.{behind_key, behind_member, behind_part, behind_whole, checked, close, feed, fill, fill_flow, goes}
+use Rattle.libyaml_grammar.proofs.lent.Reading.{is_legal, leave, on_anchor, on_block_entry, on_block_mapping, on_block_sequence, on_due, on_tag, or_bad}
+use Rattle.libyaml_grammar.proofs.lent.Reading.{over, reads, reads_all, step, then_all, without}
 
 abbrev DoneAt : Position → Bool → Type 0
 DoneAt (done t) b = b ≡ true

@@ -16,12 +16,12 @@ use Rattle.libyaml_grammar.specs.cuts.CutTrees.{entry, entry_due, explicit_root,
 use Rattle.libyaml_grammar.specs.cuts.CutTrees.{open_collection, part_due, part_place, place_tokens, root, separator_due, slot, start_due}
 use Rattle.libyaml_grammar.specs.cuts.Fits.{EndsEmpty, FitsDirective, IsUnknownTag, WantsContent, empty_root, ends_empty, ends_empty_document, is_directive}
 use Rattle.libyaml_grammar.specs.cuts.Fits.{last_empty}
-use Rattle.libyaml_grammar.proofs.positions.Positions.{Position, between, due, headed, unopened}
-use Rattle.libyaml_grammar.proofs.positions.Reading.{Step, bad, behind_documents, behind_whole, broken, checked, feeds, goes, is_legal, keeps_order, leave}
-use Rattle.libyaml_grammar.proofs.positions.Reading.{on_block_entry, on_block_mapping, on_block_sequence, on_due, or_bad, over, reads, reads_all}
+use Rattle.libyaml_grammar.proofs.lent.Positions.{Position, between, due, headed, unopened}
+use Rattle.libyaml_grammar.proofs.lent.Reading.{Step, bad, behind_documents, behind_whole, broken, checked, feeds, goes, is_legal, keeps_order, leave}
+use Rattle.libyaml_grammar.proofs.lent.Reading.{on_block_entry, on_block_mapping, on_block_sequence, on_due, or_bad, over, reads, reads_all}
 use Rattle.libyaml_grammar.proofs.trees.Edge.{cut_reads, edge_block, edge_documents, home, place_reads, reached}
-use Rattle.libyaml_grammar.proofs.trees.OneCut.{bad_same, goes_same, stops_at_tag, stops_at_tag_behind, stops_behind_tag, stops_behind_version, stops_next}
-use Rattle.libyaml_grammar.proofs.runs.Orders.{reads_to}
+use Rattle.libyaml_grammar.proofs.lent.OneCut.{bad_same, goes_same, stops_at_tag, stops_at_tag_behind, stops_behind_tag, stops_behind_version, stops_next}
+use Rattle.libyaml_grammar.proofs.lent.Orders.{reads_to}
 
 -- where reading stops with a cut, that cut fits
 

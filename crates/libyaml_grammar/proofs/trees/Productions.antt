@@ -12,13 +12,13 @@ use Rattle.libyaml_grammar.specs.sentences.Trees.{parts_tokens, properties_token
 use Rattle.libyaml_grammar.specs.cuts.CutTrees.{Place, block, entry, explicit_root, flow_entry, flow_key, flow_value, implicit_root, indentless_entry}
 use Rattle.libyaml_grammar.specs.cuts.CutTrees.{place_tokens, root, slot}
 use Rattle.libyaml_grammar.specs.cuts.Rest.{any_encoding}
-use Rattle.libyaml_grammar.proofs.positions.Positions.{Position, between, due, flow_due, unopened}
-use Rattle.libyaml_grammar.proofs.positions.Reading.{feeds}
+use Rattle.libyaml_grammar.proofs.lent.Positions.{Position, between, due, flow_due, unopened}
+use Rattle.libyaml_grammar.proofs.lent.Reading.{feeds}
 use Rattle.libyaml_grammar.proofs.trees.Append.{before_append, block_slot_append, directives_append, flow_items_append, flow_last_append, items_append}
 use Rattle.libyaml_grammar.proofs.trees.Append.{parts_append, place_append}
-use Rattle.libyaml_grammar.proofs.trees.Completion.{one_tree_proof}
+use Rattle.libyaml_grammar.proofs.lent.Completion.{one_tree_proof}
 use Rattle.libyaml_grammar.proofs.trees.Edge.{home, place_reads}
-use Rattle.libyaml_grammar.proofs.trees.OneCut.{goes_same}
+use Rattle.libyaml_grammar.proofs.lent.OneCut.{goes_same}
 
 -- two parts with equal tokens before one list have equal tokens before each
 abbrev Appends : (List Token → List Token) → Type 0

@@ -7,14 +7,14 @@ use Rattle.libyaml_grammar.specs.cuts.CutTrees.{Cut, cut_in_order, cut_tokens}
 use Rattle.libyaml_grammar.specs.cuts.Rest.{rest}
 use Rattle.libyaml_grammar.specs.sentences.Sentences.{EitherNotBoth, IsBadToken, IsBeginning, IsSentence, has_end, is_end}
 use Rattle.libyaml_grammar.specs.cuts.Fits.{Fits, HasCut}
-use Rattle.libyaml_grammar.proofs.positions.Positions.{Position, done, unopened}
-use Rattle.libyaml_grammar.proofs.positions.Reading.{Step, bad, checked, feed, goes, is_legal, over, reads, reads_all, then_all}
+use Rattle.libyaml_grammar.proofs.lent.Positions.{Position, done, unopened}
+use Rattle.libyaml_grammar.proofs.lent.Reading.{Step, bad, checked, feed, goes, is_legal, over, reads, reads_all, then_all}
 use Rattle.libyaml_grammar.proofs.trees.Append.{cut_append}
-use Rattle.libyaml_grammar.proofs.trees.Completion.{Stops, append_nil, cut_begins_proof, goes_or_stops, reached_begins, read_order, reads_append}
+use Rattle.libyaml_grammar.proofs.lent.Completion.{Stops, append_nil, cut_begins_proof, goes_or_stops, reached_begins, read_order, reads_append}
 use Rattle.libyaml_grammar.proofs.trees.Ending.{ends_done, stays_open}
-use Rattle.libyaml_grammar.proofs.trees.Fitting.{over_done, stops_fits}
-use Rattle.libyaml_grammar.proofs.trees.Keeps.{feeds_keep}
-use Rattle.libyaml_grammar.proofs.runs.Orders.{reads_to}
+use Rattle.libyaml_grammar.proofs.lent.Fitting.{over_done, stops_fits}
+use Rattle.libyaml_grammar.proofs.lent.Keeps.{feeds_keep}
+use Rattle.libyaml_grammar.proofs.lent.Orders.{reads_to}
 
 -- a prefix of a beginning is a beginning
 shift : (a b r : List Token) (t : Token) → (a ++ t ∷ []) ++ (b ++ r) ≡ (a ++ t ∷ b) ++ r

@@ -12,11 +12,11 @@ use Rattle.libyaml_grammar.specs.sentences.Trees.{no_parts, no_value, node, noth
 use Rattle.libyaml_grammar.specs.sentences.Trees.{role_token, scalar, sequence, single, slot_of, slot_tokens, tag, tag_anchor, value, with_value}
 use Rattle.libyaml_grammar.specs.sentences.Sentences.{IsSentence}
 use Rattle.libyaml_grammar.specs.runs.StreamEnds.{up_to_end}
-use Rattle.libyaml_grammar.proofs.positions.Positions.{done, unopened}
-use Rattle.libyaml_grammar.proofs.trees.Completion.{sentence_reads}
+use Rattle.libyaml_grammar.proofs.lent.Positions.{done, unopened}
+use Rattle.libyaml_grammar.proofs.lent.Completion.{sentence_reads}
 use Rattle.libyaml_grammar.proofs.trees.Productions.{block_node_law}
-use Rattle.libyaml_grammar.proofs.runs.Running.{up_to_read}
-use Rattle.libyaml_grammar.proofs.runs.StreamEnds.{sentence_has_end}
+use Rattle.libyaml_grammar.proofs.lent.Running.{up_to_read}
+use Rattle.libyaml_grammar.proofs.lent.StreamEnds.{sentence_has_end}
 
 -- what follows the closing token of the collection around, where n collections more are open within it
 abbrev closed : ℕ → List Token → (ℕ → List Token) → List Token

@@ -1,4 +1,4 @@
-use Rattle.libyaml_grammar.proofs.runs.Nesting.{events_nest_proof}
+use Rattle.libyaml_grammar.proofs.lent.Nesting.{events_nest_proof}
 use Rattle.libyaml_grammar.proofs.laws.events_nest.Goals as goal
 
 pub returns : goal.returns

@@ -1,5 +1,5 @@
-use Rattle.libyaml_grammar.proofs.runs.Fronts.{one_front_proof}
-use Rattle.libyaml_grammar.proofs.runs.Settling.{begin_front, front_begins}
+use Rattle.libyaml_grammar.proofs.lent.Fronts.{one_front_proof}
+use Rattle.libyaml_grammar.proofs.lent.Settling.{begin_front, front_begins}
 use Rattle.libyaml_grammar.proofs.laws.one_front.Goals as goal
 
 pub returns-clause-some : goal.returns-clause-some

@@ -1,4 +1,4 @@
-use Rattle.libyaml_grammar.proofs.trees.Completion.{one_tree_proof}
+use Rattle.libyaml_grammar.proofs.lent.Completion.{one_tree_proof}
 use Rattle.libyaml_grammar.proofs.laws.one_tree.Goals as goal
 
 pub returns : goal.returns

@@ -1,4 +1,4 @@
-use Rattle.libyaml_grammar.proofs.runs.Running.{ended_run, parser_fault_run}
+use Rattle.libyaml_grammar.proofs.lent.Running.{ended_run, parser_fault_run}
 use Rattle.libyaml_grammar.proofs.laws.run_ends.Goals as goal
 
 pub returns-clause-ended : goal.returns-clause-ended

@@ -1,4 +1,4 @@
-use Rattle.libyaml_grammar.proofs.runs.NestingSoFar.{ended_nests, front_nests, run_nests_so_far}
+use Rattle.libyaml_grammar.proofs.lent.NestingSoFar.{ended_nests, front_nests, run_nests_so_far}
 use Rattle.libyaml_grammar.proofs.laws.run_nests.Goals as goal
 
 pub returns-clause-so_far : goal.returns-clause-so_far

@@ -1,4 +1,4 @@
-use Rattle.libyaml_grammar.proofs.runs.Running.{amid_run, begin_run, cut_run, sentence_run}
+use Rattle.libyaml_grammar.proofs.lent.Running.{amid_run, begin_run, cut_run, sentence_run}
 use Rattle.libyaml_grammar.proofs.laws.run_of_tree.Goals as goal
 
 pub returns-clause-sentence : goal.returns-clause-sentence

@@ -1,4 +1,4 @@
-use Rattle.libyaml_grammar.proofs.runs.Settling.{settled_front, settled_nothing, settled_sentence}
+use Rattle.libyaml_grammar.proofs.lent.Settling.{settled_front, settled_nothing, settled_sentence}
 use Rattle.libyaml_grammar.proofs.laws.settled.Goals as goal
 
 pub returns-clause-of_front : goal.returns-clause-of_front

@@ -1,5 +1,5 @@
 use Rattle.libyaml_graphs.proofs.Room.{room_loads, room_next}
-use Rattle.libyaml_graphs.proofs.BoundedFronts.{unmet_loads}
+use Rattle.libyaml_graphs.proofs.lent.BoundedFronts.{unmet_loads}
 use Rattle.libyaml_graphs.proofs.laws.enough_room.Goals as goal
 
 pub returns-clause-all : goal.returns-clause-all

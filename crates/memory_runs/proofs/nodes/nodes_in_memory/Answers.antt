@@ -1,5 +1,5 @@
 use Rattle.std.proofs.Common.{ℤ, List, [], ap, sym, ◌∙◌, Some, subst}
-use Rattle.libyaml_graphs.proofs.BoundedFronts.{front_of_loads}
+use Rattle.libyaml_graphs.proofs.lent.BoundedFronts.{front_of_loads}
 use Rattle.libyaml_graphs.specs.Bounds.{bounded_loads}
 use Rattle.libyaml_graphs.specs.Loads.{Load}
 use Rattle.libyaml_loader.specs.Ids.{magnitude}
@@ -8,7 +8,7 @@ use Rattle.memory_runs.specs.InMemory.{bytes_of}
 use Rattle.memory_runs.proofs.WholeRuns.{has_bytes}
 use Rattle.token_lines.specs.LastLoad.{most_entries}
 use Rattle.token_lines.specs.NodeRun.{WritesLoads}
-use Rattle.token_lines.proofs.NoBound.{writes_all}
+use Rattle.token_lines.proofs.lent.NoBound.{writes_all}
 use Rattle.memory_runs.proofs.nodes.nodes_in_memory.Goals as goal
 
 pub returns : goal.returns

@@ -4,7 +4,7 @@ use Rattle.std.proofs.KnownBytes.{Appends-kept}
 use Rattle.libyaml_events.specs.sources.Calls.{answered}
 use Rattle.libyaml_events.specs.sources.History.{is_over}
 use Rattle.libyaml_events.specs.sources.RunToCome.{FailsHere}
-use Rattle.libyaml_events.proofs.calls.NextEvents.{Says, fails_here, first_event}
+use Rattle.libyaml_events.proofs.lent.NextEvents.{Says, fails_here, first_event}
 use Rattle.token_lines.specs.declared.run.Step.TheVariants.{Written, Ended, OutputFailed}
 use Rattle.line_writing.specs.EventText.{event_line}
 use Rattle.token_lines.proofs.LastCallLemmas.{gave_one, failed_once}

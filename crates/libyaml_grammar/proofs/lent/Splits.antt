@@ -9,8 +9,8 @@ use Rattle.libyaml_grammar.specs.sentences.Events.{document_start_at, documents_
 use Rattle.libyaml_grammar.specs.sentences.Events.{first_entry, first_of, flow_items_events, flow_last_events, flow_layout, flow_member_events}
 use Rattle.libyaml_grammar.specs.sentences.Events.{flow_node_events, flow_slot_events, free_events, items_events, member_end, missing_value, opens_pair}
 use Rattle.libyaml_grammar.specs.sentences.Events.{parts_events, slot_events, start_of, stream_end_at}
-use Rattle.libyaml_grammar.proofs.positions.Positions.{Position, between, done, due, flow_behind, flow_due, flow_keyed, headed, in_indentless, in_mapping}
-use Rattle.libyaml_grammar.proofs.positions.Positions.{in_sequence, shown, unopened}
+use Rattle.libyaml_grammar.proofs.lent.Positions.{Position, between, done, due, flow_behind, flow_due, flow_keyed, headed, in_indentless, in_mapping}
+use Rattle.libyaml_grammar.proofs.lent.Positions.{in_sequence, shown, unopened}
 use Rattle.libyaml_grammar.specs.sentences.Tokens.{Mark, Marks}
 use Rattle.libyaml_grammar.specs.sentences.Trees.{Before, BlockItems, BlockNode, BlockSlot, Directives, Documents, Ended, FlowItems, FlowLast, FlowMember}
 use Rattle.libyaml_grammar.specs.sentences.Trees.{FlowNode, FlowSlot, Free, Parts, Role, Slot, Sort, again, alias, alone, behind, block_mapping}

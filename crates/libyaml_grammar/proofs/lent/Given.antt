@@ -13,9 +13,9 @@ use Rattle.libyaml_grammar.specs.sentences.Events.{stream_end_at, stream_start_a
 use Rattle.libyaml_grammar.specs.cuts.CutTrees.{BlockPlace, Open, PartPlace, Place, block, declared, declared_block, declared_part, entry, flow_entry}
 use Rattle.libyaml_grammar.specs.cuts.CutTrees.{implicit_root, indentless_entry, part_place, root, slot}
 use Rattle.libyaml_grammar.specs.cuts.CutEvents.{sort_of}
-use Rattle.libyaml_grammar.proofs.positions.Positions.{Position, between, done, due, flow_behind, flow_due, flow_keyed, headed, in_indentless, in_mapping}
-use Rattle.libyaml_grammar.proofs.positions.Positions.{in_sequence, unopened}
-use Rattle.libyaml_grammar.proofs.positions.Reading.{Step, behind_whole, feed, fill_flow, goes, leave}
+use Rattle.libyaml_grammar.proofs.lent.Positions.{Position, between, done, due, flow_behind, flow_due, flow_keyed, headed, in_indentless, in_mapping}
+use Rattle.libyaml_grammar.proofs.lent.Positions.{in_sequence, unopened}
+use Rattle.libyaml_grammar.proofs.lent.Reading.{Step, behind_whole, feed, fill_flow, goes, leave}
 
 -- after what is whole
 abbrev pub given_behind_documents : Content → Marks → List Event → List Event

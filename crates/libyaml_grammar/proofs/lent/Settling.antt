@@ -7,10 +7,10 @@ use Rattle.libyaml_grammar.specs.cuts.CutTrees.{implicit_root, indentless_entry,
 use Rattle.libyaml_grammar.specs.sentences.Events.{Event, events, first_block, first_flow}
 use Rattle.libyaml_types.specs.Events.{zero_mark}
 use Rattle.libyaml_grammar.specs.cuts.Fits.{last_empty}
-use Rattle.libyaml_grammar.proofs.positions.Given.{gives_all}
+use Rattle.libyaml_grammar.proofs.lent.Given.{gives_all}
 use Rattle.libyaml_grammar.specs.sentences.Order.{in_order}
-use Rattle.libyaml_grammar.proofs.positions.Positions.{Position, done, position_rest, shown, unopened}
-use Rattle.libyaml_grammar.proofs.positions.Reading.{Step, bad, feed, feeds, goes, over, then_all}
+use Rattle.libyaml_grammar.proofs.lent.Positions.{Position, done, position_rest, shown, unopened}
+use Rattle.libyaml_grammar.proofs.lent.Reading.{Step, bad, feed, feeds, goes, over, then_all}
 use Rattle.libyaml_grammar.specs.sentences.Sentences.{IsBeginning, has_end}
 use Rattle.libyaml_grammar.specs.cuts.Settled.{Begins, BeginsEach, IsFront, IsFrontPlace, IsOpen, IsSettled, next_event, sure, sure_block_node, sure_flow_node}
 use Rattle.libyaml_grammar.specs.sentences.Tokens.{Mark, Marks, Token}
@@ -18,17 +18,17 @@ use Rattle.libyaml_grammar.specs.sentences.Trees.{BlockNode, FlowNode, Stream, a
 use Rattle.libyaml_grammar.specs.sentences.Trees.{flow_node, flow_nothing, implicit, indentless, item, no_parts, no_value, node, nothing, pair, part, scalar}
 use Rattle.libyaml_grammar.specs.sentences.Trees.{single, slot_of, tokens, with_value}
 use Rattle.libyaml_grammar.proofs.trees.Complete.{stream_reads}
-use Rattle.libyaml_grammar.proofs.trees.Completion.{reached_begins, append_nil, position_begins, read_order}
+use Rattle.libyaml_grammar.proofs.lent.Completion.{reached_begins, append_nil, position_begins, read_order}
 use Rattle.libyaml_grammar.proofs.trees.Edge.{edge_block, edge_flow, reached}
-use Rattle.libyaml_grammar.proofs.runs.Fronts.{IsNotDone, begin_reads, front, front_not_done, front_of, front_reads, not_done_front}
-use Rattle.libyaml_grammar.proofs.trees.Keeps.{feeds_keep}
-use Rattle.libyaml_grammar.proofs.trees.OneCut.{goes_same}
-use Rattle.libyaml_grammar.proofs.runs.Orders.{reads_to}
+use Rattle.libyaml_grammar.proofs.lent.Fronts.{IsNotDone, begin_reads, front, front_not_done, front_of, front_reads, not_done_front}
+use Rattle.libyaml_grammar.proofs.lent.Keeps.{feeds_keep}
+use Rattle.libyaml_grammar.proofs.lent.OneCut.{goes_same}
+use Rattle.libyaml_grammar.proofs.lent.Orders.{reads_to}
 use Rattle.libyaml_grammar.proofs.runs.Prompt.{differ}
-use Rattle.libyaml_grammar.proofs.trees.Run.{begin_events, given_shown}
-use Rattle.libyaml_grammar.proofs.runs.Shows.{block_shows, node_shows}
-use Rattle.libyaml_grammar.proofs.trees.Splits.{position_splits}
-use Rattle.libyaml_grammar.proofs.runs.StreamEnds.{IsDone, end_is_done, not_end_not_done}
+use Rattle.libyaml_grammar.proofs.lent.Run.{begin_events, given_shown}
+use Rattle.libyaml_grammar.proofs.lent.Shows.{block_shows, node_shows}
+use Rattle.libyaml_grammar.proofs.lent.Splits.{position_splits}
+use Rattle.libyaml_grammar.proofs.lent.StreamEnds.{IsDone, end_is_done, not_end_not_done}
 
 -- what is sure is what is shown at the right edge
 flow_edge_shows : (p : Place) (n : FlowNode) (m : Mark) → shown (edge_flow p n) m [] ≡ shown_place p (first_flow n) (sure_flow_node (declared p) n)

@@ -3,17 +3,17 @@ use Rattle.std.proofs.Common.{◌≡◌, List, [], ◌∷◌, Some, None, Bool, 
 use Rattle.libyaml_grammar.specs.cuts.CutTrees.{Place, block, entry, explicit_root, flow_entry, flow_key, flow_value, implicit_root, indentless_entry}
 use Rattle.libyaml_grammar.specs.cuts.CutTrees.{part_place, root, slot}
 use Rattle.libyaml_grammar.specs.sentences.Events.{either}
-use Rattle.libyaml_grammar.proofs.positions.Positions.{Position, between, done, due, flow_behind, flow_due, flow_keyed, headed, in_indentless, in_mapping}
-use Rattle.libyaml_grammar.proofs.positions.Positions.{in_sequence, unopened}
-use Rattle.libyaml_grammar.proofs.positions.Reading.{Step, bad, checked, feed, goes, is_legal, over, reads, reads_all, then_all}
+use Rattle.libyaml_grammar.proofs.lent.Positions.{Position, between, done, due, flow_behind, flow_due, flow_keyed, headed, in_indentless, in_mapping}
+use Rattle.libyaml_grammar.proofs.lent.Positions.{in_sequence, unopened}
+use Rattle.libyaml_grammar.proofs.lent.Reading.{Step, bad, checked, feed, goes, is_legal, over, reads, reads_all, then_all}
 use Rattle.libyaml_grammar.specs.sentences.Sentences.{has_end, is_end}
 use Rattle.libyaml_grammar.specs.sentences.Tokens.{Content, Marks, StreamEnd, Token, tok, marks_of}
 use Rattle.libyaml_grammar.specs.sentences.Trees.{Properties, Stream, behind, free}
 use Rattle.libyaml_grammar.specs.sentences.Sentences.{IsSentence}
-use Rattle.libyaml_grammar.proofs.trees.Completion.{sentence_reads}
+use Rattle.libyaml_grammar.proofs.lent.Completion.{sentence_reads}
 use Rattle.libyaml_grammar.proofs.trees.Ending.{stays_open}
-use Rattle.libyaml_grammar.proofs.runs.Fronts.{IsNotDone}
-use Rattle.libyaml_grammar.proofs.trees.OneCut.{goes_same}
+use Rattle.libyaml_grammar.proofs.lent.Fronts.{IsNotDone}
+use Rattle.libyaml_grammar.proofs.lent.OneCut.{goes_same}
 
 -- after a STREAM-END nothing is read on
 abbrev IsLast : Step → Type 0

@@ -17,8 +17,8 @@ use Rattle.libyaml_events.proofs.machine.StepKinds as kinds
 use Rattle.libyaml_events.proofs.machine.StepKinds.{Goes, Kind, StepKind, kind, kind_of, step_kind}
 use Rattle.libyaml_grammar.specs.cuts.CutTrees.{open_collection}
 use Rattle.libyaml_events.specs.sources.Calls.{held}
-use Rattle.libyaml_grammar.proofs.Lists.{nil_right}
-use Rattle.libyaml_grammar.proofs.positions.Reading.{reads_all, goes}
+use Rattle.libyaml_grammar.proofs.lent.Lists.{nil_right}
+use Rattle.libyaml_grammar.proofs.lent.Reading.{reads_all, goes}
 use Rattle.libyaml_events.specs.parsers.Stages.{Stage, at_start, before_root, within_root, after, is_event, is_outside, is_at_end, stage_from, stage_of}
 use Rattle.libyaml_events.specs.parsers.Stages.{open_collections, is_quiet, ends_quietly, takes_no_memory}
 use Rattle.libyaml_grammar.specs.sentences.Events.{events}
@@ -29,18 +29,18 @@ use Rattle.libyaml_grammar.specs.sentences.Events.{Event, document_end_at, strea
 use Rattle.libyaml_grammar.specs.cuts.CutTrees.{Open, Place, block, entry, explicit_root, flow_entry, flow_key, flow_value, implicit_root, indentless_entry}
 use Rattle.libyaml_grammar.specs.cuts.CutTrees.{part_place, root, slot}
 use Rattle.libyaml_grammar.specs.cuts.Rest.{rest}
-use Rattle.libyaml_grammar.proofs.positions.Positions.{Position, between, done, due, flow_behind, flow_due, flow_keyed, headed, in_indentless, in_mapping}
-use Rattle.libyaml_grammar.proofs.positions.Positions.{in_sequence, shown, unopened}
+use Rattle.libyaml_grammar.proofs.lent.Positions.{Position, between, done, due, flow_behind, flow_due, flow_keyed, headed, in_indentless, in_mapping}
+use Rattle.libyaml_grammar.proofs.lent.Positions.{in_sequence, shown, unopened}
 use Rattle.libyaml_events.specs.sources.Calls.{Calls, EventOrError, Refused, RefusedAt, Then}
 use Rattle.libyaml_events.specs.machine.Growth.{grows_at_directive, grows_at_document, may_grow, may_grow_at}
-use Rattle.libyaml_events.proofs.calls.CallsInTurn.{stage_more}
-use Rattle.libyaml_grammar.proofs.trees.Completion.{read_order}
+use Rattle.libyaml_events.proofs.lent.CallsInTurn.{stage_more}
+use Rattle.libyaml_grammar.proofs.lent.Completion.{read_order}
 use Rattle.libyaml_events.proofs.machine.Follow.{more}
 use Rattle.libyaml_events.proofs.machine.Giving.{shown_given}
-use Rattle.libyaml_grammar.proofs.trees.Keeps.{feeds_keep}
+use Rattle.libyaml_grammar.proofs.lent.Keeps.{feeds_keep}
 use Rattle.libyaml_events.proofs.machine.Link.{config_of, member_state, state_place}
-use Rattle.libyaml_grammar.proofs.runs.Orders.{reads_to}
-use Rattle.libyaml_grammar.proofs.trees.Splits.{position_splits}
+use Rattle.libyaml_grammar.proofs.lent.Orders.{reads_to}
+use Rattle.libyaml_grammar.proofs.lent.Splits.{position_splits}
 use Rattle.libyaml_events.proofs.machine.Stand.{Links, amid_token, at_position}
 use Rattle.libyaml_events.specs.declared.next.Want.{Want}
 use Rattle.libyaml_events.specs.declared.next.Want.TheVariants.{AtState, BehindDirective}

@@ -10,12 +10,12 @@ use Rattle.libyaml_grammar.specs.cuts.CutTrees.{cut_tokens, document_due, entry,
 use Rattle.libyaml_grammar.specs.cuts.CutTrees.{indentless_entry, open_collection, part_due, part_place, root, separator_due, slot, start_due}
 use Rattle.libyaml_grammar.specs.cuts.Rest.{any_encoding, rest, rest_block_place, rest_place}
 use Rattle.libyaml_grammar.specs.sentences.Sentences.{IsBeginning, IsSentence}
-use Rattle.libyaml_grammar.proofs.positions.Positions.{Position, between, done, due, flow_behind, flow_due, flow_keyed, headed, in_indentless, in_mapping}
-use Rattle.libyaml_grammar.proofs.positions.Positions.{in_sequence, position_in_order, position_rest, position_tokens, stand, unopened}
-use Rattle.libyaml_grammar.proofs.positions.Reading.{Step, bad, feeds, fill, fill_flow, goes, over, reads, reads_all, then_all}
+use Rattle.libyaml_grammar.proofs.lent.Positions.{Position, between, done, due, flow_behind, flow_due, flow_keyed, headed, in_indentless, in_mapping}
+use Rattle.libyaml_grammar.proofs.lent.Positions.{in_sequence, position_in_order, position_rest, position_tokens, stand, unopened}
+use Rattle.libyaml_grammar.proofs.lent.Reading.{Step, bad, feeds, fill, fill_flow, goes, over, reads, reads_all, then_all}
 use Rattle.libyaml_grammar.proofs.trees.Complete.{stream_reads}
-use Rattle.libyaml_grammar.proofs.trees.Keeps.{feeds_keep}
-use Rattle.libyaml_grammar.proofs.runs.Orders.{feeds_order, reads_from, reads_to, tests}
+use Rattle.libyaml_grammar.proofs.lent.Keeps.{feeds_keep}
+use Rattle.libyaml_grammar.proofs.lent.Orders.{feeds_order, reads_from, reads_to, tests}
 
 -- one tree
 done_same : (s t : Stream) → goes (done s) ≡ goes (done t) → s ≡ t

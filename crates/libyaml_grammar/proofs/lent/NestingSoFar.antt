@@ -7,20 +7,20 @@ use Rattle.libyaml_grammar.specs.cuts.CutTrees.{open_collection, part_due, separ
 use Rattle.libyaml_grammar.specs.sentences.Events.{Event, document_end_at, documents_events, end_at, event, events, member_end, missing_value, start_at}
 use Rattle.libyaml_grammar.specs.sentences.Events.{stream_end_at, stream_start_at}
 use Rattle.libyaml_grammar.specs.runs.Fault.{Fault}
-use Rattle.libyaml_grammar.proofs.positions.Given.{gives_all}
+use Rattle.libyaml_grammar.proofs.lent.Given.{gives_all}
 use Rattle.libyaml_grammar.specs.sentences.Nesting.{BeginsValue, IsNested, IsOpenDocument, NestsSoFar, Texts, TextsHavePairs, Value, Values, alias_value}
 use Rattle.libyaml_grammar.specs.sentences.Nesting.{collection_value, first_value, has_begun, no_texts, no_values, none_open, not_begun, one_open}
 use Rattle.libyaml_grammar.specs.sentences.Nesting.{scalar_value, text_behind, texts_events, value_events, values_events, whole}
-use Rattle.libyaml_grammar.proofs.positions.Positions.{Position, between, done, due, flow_behind, headed, in_mapping, in_sequence, position_rest, shown, stand}
+use Rattle.libyaml_grammar.proofs.lent.Positions.{Position, between, done, due, flow_behind, headed, in_mapping, in_sequence, position_rest, shown, stand}
 use Rattle.libyaml_grammar.specs.runs.Runs.{Ending, Ends, IsRun, amid_properties, of_beginning, of_cut_tree, of_sentence}
 use Rattle.libyaml_grammar.specs.sentences.Tokens.{Mark, Marks, Token, marks_of}
 use Rattle.libyaml_grammar.specs.sentences.Trees.{Stream, anchor, behind, directive, free, mapping, no_directives, sequence}
-use Rattle.libyaml_grammar.proofs.trees.Completion.{position_ends}
-use Rattle.libyaml_grammar.proofs.Lists.{nil_right}
-use Rattle.libyaml_grammar.proofs.runs.Nesting.{events_nest_proof}
-use Rattle.libyaml_grammar.proofs.trees.Run.{first_mark, given_shown}
-use Rattle.libyaml_grammar.proofs.runs.Running.{ended_run}
-use Rattle.libyaml_grammar.proofs.trees.Splits.{Splits, behind_event, both_split, member_end_splits, missing_value_splits, position_splits}
+use Rattle.libyaml_grammar.proofs.lent.Completion.{position_ends}
+use Rattle.libyaml_grammar.proofs.lent.Lists.{nil_right}
+use Rattle.libyaml_grammar.proofs.lent.Nesting.{events_nest_proof}
+use Rattle.libyaml_grammar.proofs.lent.Run.{first_mark, given_shown}
+use Rattle.libyaml_grammar.proofs.lent.Running.{ended_run}
+use Rattle.libyaml_grammar.proofs.lent.Splits.{Splits, behind_event, both_split, member_end_splits, missing_value_splits, position_splits}
 
 -- what a cut tree shows stands before the events after it
 cut_splits : (c : Cut) (m : Mark) → Splits (shown_cut c m)

@@ -13,12 +13,12 @@ use Rattle.libyaml_grammar.specs.sentences.Trees.{sequence, slot_tokens, tag}
 use Rattle.libyaml_grammar.specs.cuts.CutTrees.{BlockPlace, Cut, Open, PartPlace, Place, block, block_place_tokens, content_due, cut_tokens, entry}
 use Rattle.libyaml_grammar.specs.cuts.CutTrees.{explicit_root, flow_entry, flow_key, flow_value, implicit_root, indentless_entry, open_collection}
 use Rattle.libyaml_grammar.specs.cuts.CutTrees.{open_tokens, part_place, part_place_tokens, place_tokens, root, separator_due, slot}
-use Rattle.libyaml_grammar.proofs.positions.Positions.{Position, between, done, due, flow_behind, flow_due, flow_keyed, headed, in_indentless, in_mapping}
-use Rattle.libyaml_grammar.proofs.positions.Positions.{in_sequence, position_tokens, unopened}
-use Rattle.libyaml_grammar.proofs.positions.Reading.{Step, at_flow, at_free, at_headed, at_unopened, bad, behind_documents, behind_indentless, behind_item}
-use Rattle.libyaml_grammar.proofs.positions.Reading.{behind_key, behind_member, behind_part, behind_whole, close, feed, feeds, fill, fill_block_slot}
-use Rattle.libyaml_grammar.proofs.positions.Reading.{fill_flow, fill_flow_slot, fill_part, goes, leave, on_alias, on_anchor, on_block_entry, on_block_mapping}
-use Rattle.libyaml_grammar.proofs.positions.Reading.{on_block_sequence, on_due, on_tag, or_bad, over, separated, step, then_all, without}
+use Rattle.libyaml_grammar.proofs.lent.Positions.{Position, between, done, due, flow_behind, flow_due, flow_keyed, headed, in_indentless, in_mapping}
+use Rattle.libyaml_grammar.proofs.lent.Positions.{in_sequence, position_tokens, unopened}
+use Rattle.libyaml_grammar.proofs.lent.Reading.{Step, at_flow, at_free, at_headed, at_unopened, bad, behind_documents, behind_indentless, behind_item}
+use Rattle.libyaml_grammar.proofs.lent.Reading.{behind_key, behind_member, behind_part, behind_whole, close, feed, feeds, fill, fill_block_slot}
+use Rattle.libyaml_grammar.proofs.lent.Reading.{fill_flow, fill_flow_slot, fill_part, goes, leave, on_alias, on_anchor, on_block_entry, on_block_mapping}
+use Rattle.libyaml_grammar.proofs.lent.Reading.{on_block_sequence, on_due, on_tag, or_bad, over, separated, step, then_all, without}
 
 -- what a step says of the tokens consumed
 abbrev pub Keeps : Step → Position → Token → Type 0

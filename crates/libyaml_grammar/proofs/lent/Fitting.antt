@@ -13,19 +13,19 @@ use Rattle.libyaml_grammar.specs.cuts.CutTrees.{BlockPlace, Cut, Open, PartPlace
 use Rattle.libyaml_grammar.specs.cuts.CutTrees.{cut_in_order, cut_tokens, declared, entry, flow_entry, flow_key, flow_value, implicit_root, indentless_entry}
 use Rattle.libyaml_grammar.specs.cuts.CutTrees.{open_collection, part_place, root, separator_due, slot}
 use Rattle.libyaml_grammar.specs.cuts.Fits.{Fits, FitsTag, IsUnknown, IsUnknownTag}
-use Rattle.libyaml_grammar.proofs.positions.Positions.{Position, between, done, due, flow_behind, flow_due, flow_keyed, headed, in_indentless, in_mapping}
-use Rattle.libyaml_grammar.proofs.positions.Positions.{in_sequence, position_in_order, position_tokens, unopened}
-use Rattle.libyaml_grammar.proofs.positions.Reading.{Step, at_flow, at_free, at_headed, at_unopened, bad, behind_documents, behind_indentless, behind_item}
-use Rattle.libyaml_grammar.proofs.positions.Reading.{behind_key, behind_member, behind_part, behind_whole, broken, checked, close, feeds, fill_flow, goes}
-use Rattle.libyaml_grammar.proofs.positions.Reading.{is_legal, leave, on_alias, on_anchor, on_block_entry, on_block_mapping, on_block_sequence, on_due}
-use Rattle.libyaml_grammar.proofs.positions.Reading.{on_tag, or_bad, over, pending, reads, reads_all, step, then_all, without}
-use Rattle.libyaml_grammar.proofs.trees.Cases.{HeadGoes, IsHeaded, step_handle, step_version}
+use Rattle.libyaml_grammar.proofs.lent.Positions.{Position, between, done, due, flow_behind, flow_due, flow_keyed, headed, in_indentless, in_mapping}
+use Rattle.libyaml_grammar.proofs.lent.Positions.{in_sequence, position_in_order, position_tokens, unopened}
+use Rattle.libyaml_grammar.proofs.lent.Reading.{Step, at_flow, at_free, at_headed, at_unopened, bad, behind_documents, behind_indentless, behind_item}
+use Rattle.libyaml_grammar.proofs.lent.Reading.{behind_key, behind_member, behind_part, behind_whole, broken, checked, close, feeds, fill_flow, goes}
+use Rattle.libyaml_grammar.proofs.lent.Reading.{is_legal, leave, on_alias, on_anchor, on_block_entry, on_block_mapping, on_block_sequence, on_due}
+use Rattle.libyaml_grammar.proofs.lent.Reading.{on_tag, or_bad, over, pending, reads, reads_all, step, then_all, without}
+use Rattle.libyaml_grammar.proofs.lent.Cases.{HeadGoes, IsHeaded, step_handle, step_version}
 use Rattle.libyaml_grammar.proofs.trees.Edge.{cut_reads, reached}
 use Rattle.libyaml_grammar.proofs.trees.Existence.{IsTagCut, StopsAt, gives_content, gives_directive, gives_empty_end, gives_tag}
-use Rattle.libyaml_grammar.proofs.trees.Keeps.{Keeps, feeds_keep, fill_flow_keeps, leave_keeps, step_keeps}
-use Rattle.libyaml_grammar.proofs.trees.Completion.{append_nil, not_done, read_order, reads_append}
-use Rattle.libyaml_grammar.proofs.trees.OneCut.{goes_same}
-use Rattle.libyaml_grammar.proofs.runs.Orders.{Orders, fill_flow_orders, leave_orders, reads_to, step_orders}
+use Rattle.libyaml_grammar.proofs.lent.Keeps.{Keeps, feeds_keep, fill_flow_keeps, leave_keeps, step_keeps}
+use Rattle.libyaml_grammar.proofs.lent.Completion.{append_nil, not_done, read_order, reads_append}
+use Rattle.libyaml_grammar.proofs.lent.OneCut.{goes_same}
+use Rattle.libyaml_grammar.proofs.lent.Orders.{Orders, fill_flow_orders, leave_orders, reads_to, step_orders}
 
 -- no token is bad at a tag for grammar alone
 abbrev pub NotTagCut : Cut → Type 0

@@ -17,8 +17,8 @@ use Rattle.libyaml_grammar.specs.cuts.CutTrees.{BlockPlace, Cut, Open, PartPlace
 use Rattle.libyaml_grammar.specs.cuts.CutTrees.{content_due, declared, declared_open, document_due, entry, entry_due, explicit_root, flow_entry, flow_key}
 use Rattle.libyaml_grammar.specs.cuts.CutTrees.{flow_value, implicit_root, indentless_entry, open_collection, part_due, part_place, root, separator_due, slot}
 use Rattle.libyaml_grammar.specs.cuts.CutTrees.{start_due}
-use Rattle.libyaml_grammar.proofs.positions.Positions.{Position, between, done, due, flow_behind, flow_due, flow_keyed, headed, in_indentless, in_mapping}
-use Rattle.libyaml_grammar.proofs.positions.Positions.{in_sequence, unopened}
+use Rattle.libyaml_grammar.proofs.lent.Positions.{Position, between, done, due, flow_behind, flow_due, flow_keyed, headed, in_indentless, in_mapping}
+use Rattle.libyaml_grammar.proofs.lent.Positions.{in_sequence, unopened}
 
 -- The next position, or the place at which the token is bad; after the stream end no token is looked at.
 pub data Step : Type 0 where

@@ -18,13 +18,13 @@ use Rattle.libyaml_grammar.specs.cuts.CutTrees.{entry_due, explicit_root, flow_e
 use Rattle.libyaml_grammar.specs.cuts.CutTrees.{part_due, part_place, place_in_order, place_tokens, root, separator_due, slot, start_due}
 use Rattle.libyaml_grammar.specs.cuts.Fits.{EndsEmpty, Fits, FitsDirective, FitsTag, IsUnknown, IsUnknownTag, WantsContent, ends_empty, is_directive}
 use Rattle.libyaml_grammar.specs.cuts.Fits.{last_empty}
-use Rattle.libyaml_grammar.proofs.positions.Positions.{Position, between, due, flow_due, headed, position_in_order, unopened}
-use Rattle.libyaml_grammar.proofs.positions.Reading.{Step, bad, behind_documents, behind_indentless, behind_item, behind_key, behind_member, behind_part}
-use Rattle.libyaml_grammar.proofs.positions.Reading.{behind_whole, broken, checked, close, feeds, fill, fill_flow, goes, keeps_order, reads, reads_all}
-use Rattle.libyaml_grammar.proofs.positions.Reading.{then_all}
+use Rattle.libyaml_grammar.proofs.lent.Positions.{Position, between, due, flow_due, headed, position_in_order, unopened}
+use Rattle.libyaml_grammar.proofs.lent.Reading.{Step, bad, behind_documents, behind_indentless, behind_item, behind_key, behind_member, behind_part}
+use Rattle.libyaml_grammar.proofs.lent.Reading.{behind_whole, broken, checked, close, feeds, fill, fill_flow, goes, keeps_order, reads, reads_all}
+use Rattle.libyaml_grammar.proofs.lent.Reading.{then_all}
 use Rattle.libyaml_grammar.proofs.trees.Edge.{cut_reads, edge_block, edge_documents, edge_flow, edge_flow_slot, edge_slot, home, reached}
-use Rattle.libyaml_grammar.proofs.trees.Completion.{reached_begins, reads_append}
-use Rattle.libyaml_grammar.proofs.runs.Orders.{feeds_order, fill_flow_orders, fill_orders, reads_from}
+use Rattle.libyaml_grammar.proofs.lent.Completion.{reached_begins, reads_append}
+use Rattle.libyaml_grammar.proofs.lent.Orders.{feeds_order, fill_flow_orders, fill_orders, reads_from}
 
 -- a step that does not go on stops at this cut
 abbrev pub Stops : Step → Cut → Type 0

@@ -6,21 +6,21 @@ use Rattle.libyaml_grammar.specs.cuts.CutFaults.{fault}
 use Rattle.libyaml_grammar.specs.cuts.CutTrees.{Cut}
 use Rattle.libyaml_grammar.specs.sentences.Events.{Event, events}
 use Rattle.libyaml_grammar.specs.runs.Fault.{Fault}
-use Rattle.libyaml_grammar.proofs.positions.Positions.{Position, done, unopened}
-use Rattle.libyaml_grammar.proofs.positions.Reading.{bad, goes, reads, reads_all}
+use Rattle.libyaml_grammar.proofs.lent.Positions.{Position, done, unopened}
+use Rattle.libyaml_grammar.proofs.lent.Reading.{bad, goes, reads, reads_all}
 use Rattle.libyaml_grammar.specs.runs.Runs.{Ends, Fails, IsRun, is_behind_properties}
 use Rattle.libyaml_grammar.specs.sentences.Sentences.{has_end}
 use Rattle.libyaml_grammar.specs.cuts.Settled.{IsSettled, sure}
 use Rattle.libyaml_grammar.specs.sentences.Tokens.{Token}
 use Rattle.libyaml_grammar.specs.sentences.Trees.{Stream, tokens}
-use Rattle.libyaml_grammar.proofs.trees.Completion.{append_nil, reached_begins, read_order}
-use Rattle.libyaml_grammar.proofs.trees.Fitting.{stops_fits}
-use Rattle.libyaml_grammar.proofs.runs.Fronts.{front, front_of}
-use Rattle.libyaml_grammar.proofs.trees.Keeps.{feeds_keep}
-use Rattle.libyaml_grammar.proofs.runs.Orders.{reads_to}
-use Rattle.libyaml_grammar.proofs.runs.Running.{amid_run, begin_run, cut_run, sentence_run}
-use Rattle.libyaml_grammar.proofs.runs.Settling.{front_settles}
-use Rattle.libyaml_grammar.proofs.runs.StreamEnds.{not_end_not_done}
+use Rattle.libyaml_grammar.proofs.lent.Completion.{append_nil, reached_begins, read_order}
+use Rattle.libyaml_grammar.proofs.lent.Fitting.{stops_fits}
+use Rattle.libyaml_grammar.proofs.lent.Fronts.{front, front_of}
+use Rattle.libyaml_grammar.proofs.lent.Keeps.{feeds_keep}
+use Rattle.libyaml_grammar.proofs.lent.Orders.{reads_to}
+use Rattle.libyaml_grammar.proofs.lent.Running.{amid_run, begin_run, cut_run, sentence_run}
+use Rattle.libyaml_grammar.proofs.lent.Settling.{front_settles}
+use Rattle.libyaml_grammar.proofs.lent.StreamEnds.{not_end_not_done}
 
 -- the first n tokens are a sentence
 pub sentence_row : (n : ℕ) (l : List Token) (f : Fault) (e : List Event) (t : Stream) → reads_all (take n l) unopened ≡ goes (done t) → take n l ++ drop n l ≡ l

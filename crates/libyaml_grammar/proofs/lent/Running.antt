@@ -9,8 +9,8 @@ use Rattle.libyaml_grammar.specs.sentences.Events.{Event, either, events}
 use Rattle.libyaml_grammar.specs.runs.Fault.{Fault}
 use Rattle.libyaml_grammar.specs.cuts.Fits.{Fits, FitsTag, IsUnknown}
 use Rattle.libyaml_grammar.specs.sentences.Order.{in_order}
-use Rattle.libyaml_grammar.proofs.positions.Positions.{Position, done, unopened}
-use Rattle.libyaml_grammar.proofs.positions.Reading.{Step, bad, checked, feed, goes, is_legal, over, reads, reads_all, then_all}
+use Rattle.libyaml_grammar.proofs.lent.Positions.{Position, done, unopened}
+use Rattle.libyaml_grammar.proofs.lent.Reading.{Step, bad, checked, feed, goes, is_legal, over, reads, reads_all, then_all}
 use Rattle.libyaml_grammar.specs.runs.Runs.{HasFault, Ending, Ends, Fails, IsRun, amid_properties, has_token, is_behind, is_behind_properties, of_beginning}
 use Rattle.libyaml_grammar.specs.runs.Runs.{of_cut_tree, of_sentence}
 use Rattle.libyaml_grammar.specs.sentences.Sentences.{IsBeginning, IsSentence, has_end, is_end}
@@ -18,15 +18,15 @@ use Rattle.libyaml_grammar.specs.cuts.Settled.{IsSettled, sure}
 use Rattle.libyaml_grammar.specs.runs.StreamEnds.{up_to_end}
 use Rattle.libyaml_grammar.specs.sentences.Tokens.{Anchor, Content, Tag, Token, marks_of}
 use Rattle.libyaml_grammar.specs.sentences.Trees.{Directives, Stream, tokens}
-use Rattle.libyaml_grammar.proofs.trees.Completion.{Stops, append_nil, goes_or_stops, reached_begins, read_order, reads_append, sentence_reads}
+use Rattle.libyaml_grammar.proofs.lent.Completion.{Stops, append_nil, goes_or_stops, reached_begins, read_order, reads_append, sentence_reads}
 use Rattle.libyaml_grammar.proofs.trees.Edge.{reached}
-use Rattle.libyaml_grammar.proofs.trees.Fitting.{over_done, stops_fits}
-use Rattle.libyaml_grammar.proofs.runs.Fronts.{IsNotDone, begin_reads}
-use Rattle.libyaml_grammar.proofs.trees.Keeps.{feeds_keep}
-use Rattle.libyaml_grammar.proofs.trees.OneCut.{bad_same, fits_reach, fits_stop, goes_same}
-use Rattle.libyaml_grammar.proofs.runs.Orders.{reads_to}
-use Rattle.libyaml_grammar.proofs.runs.Settling.{begin_front, front_settles, one_settled_proof}
-use Rattle.libyaml_grammar.proofs.runs.StreamEnds.{IsDone, end_is_done, not_end_not_done, sentence_has_end}
+use Rattle.libyaml_grammar.proofs.lent.Fitting.{over_done, stops_fits}
+use Rattle.libyaml_grammar.proofs.lent.Fronts.{IsNotDone, begin_reads}
+use Rattle.libyaml_grammar.proofs.lent.Keeps.{feeds_keep}
+use Rattle.libyaml_grammar.proofs.lent.OneCut.{bad_same, fits_reach, fits_stop, goes_same}
+use Rattle.libyaml_grammar.proofs.lent.Orders.{reads_to}
+use Rattle.libyaml_grammar.proofs.lent.Settling.{begin_front, front_settles, one_settled_proof}
+use Rattle.libyaml_grammar.proofs.lent.StreamEnds.{IsDone, end_is_done, not_end_not_done, sentence_has_end}
 
 -- lists of tokens
 first_same : (a b : Token) (l r : List Token) → a ∷ l ≡ b ∷ r → a ≡ b

@@ -6,11 +6,11 @@ use Rattle.libyaml_grammar.specs.sentences.Trees.{Stream, tokens}
 use Rattle.libyaml_grammar.specs.sentences.Events.{Event, events}
 use Rattle.libyaml_grammar.specs.cuts.CutTrees.{Cut}
 use Rattle.libyaml_grammar.specs.cuts.CutEvents.{shown_cut}
-use Rattle.libyaml_grammar.proofs.positions.Positions.{Position, done, shown, unopened}
-use Rattle.libyaml_grammar.proofs.positions.Reading.{Step, bad, feed, feeds, goes, over, then_all}
-use Rattle.libyaml_grammar.proofs.positions.Given.{gives_all, gives, if_all}
+use Rattle.libyaml_grammar.proofs.lent.Positions.{Position, done, shown, unopened}
+use Rattle.libyaml_grammar.proofs.lent.Reading.{Step, bad, feed, feeds, goes, over, then_all}
+use Rattle.libyaml_grammar.proofs.lent.Given.{gives_all, gives, if_all}
 use Rattle.libyaml_grammar.proofs.trees.Complete.{stream_reads}
-use Rattle.libyaml_grammar.proofs.runs.Shows.{Shows, step_shows}
+use Rattle.libyaml_grammar.proofs.lent.Shows.{Shows, step_shows}
 
 abbrev pub first_mark : List Token → Mark → Mark
 first_mark [] n = n

@@ -10,8 +10,8 @@ use Rattle.libyaml_grammar.specs.cuts.CutFaults.{fault}
 use Rattle.libyaml_grammar.specs.cuts.Fits.{Fits, IsUnknown}
 use Rattle.libyaml_grammar.specs.sentences.Sentences.{is_end, has_end}
 use Rattle.libyaml_grammar.specs.runs.Runs.{Ends, Fails, IsRun, has_token, is_behind, is_behind_properties, RunsWhole, to_its_end, to_its_fault}
-use Rattle.libyaml_grammar.proofs.Lists.{nil_right}
-use Rattle.libyaml_grammar.proofs.runs.Running.{sentence_run, cut_run}
+use Rattle.libyaml_grammar.proofs.lent.Lists.{nil_right}
+use Rattle.libyaml_grammar.proofs.lent.Running.{sentence_run, cut_run}
 use Rattle.libyaml_grammar.proofs.trees.TreeOrCut.{sentence_or_cut}
 
 abbrev last_from : Token → List Token → Bool

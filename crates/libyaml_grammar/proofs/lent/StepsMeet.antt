@@ -12,12 +12,12 @@ use Rattle.libyaml_grammar.specs.sentences.Order.{both, is_known, properties_in_
 use Rattle.libyaml_grammar.specs.cuts.CutTrees.{BlockPlace, Cut, Open, PartPlace, Place, block, content_due, declared, declared_open, entry, explicit_root}
 use Rattle.libyaml_grammar.specs.cuts.CutTrees.{flow_entry, flow_key, flow_value, implicit_root, indentless_entry, open_collection, part_place, root}
 use Rattle.libyaml_grammar.specs.cuts.CutTrees.{separator_due, slot}
-use Rattle.libyaml_grammar.proofs.positions.Positions.{Position, between, done, due, flow_behind, flow_due, flow_keyed, headed, in_indentless, in_mapping}
-use Rattle.libyaml_grammar.proofs.positions.Positions.{in_sequence, unopened}
-use Rattle.libyaml_grammar.proofs.positions.Reading.{Step, at_flow, at_free, at_headed, at_unopened, bad, behind_documents, behind_indentless, behind_item}
-use Rattle.libyaml_grammar.proofs.positions.Reading.{behind_key, behind_member, behind_part, behind_whole, close, fill, fill_flow, goes, is_legal}
-use Rattle.libyaml_grammar.proofs.positions.Reading.{keeps_order, leave, on_anchor, on_block_entry, on_block_mapping, on_block_sequence, on_due, on_tag}
-use Rattle.libyaml_grammar.proofs.positions.Reading.{or_bad, over, step, without}
+use Rattle.libyaml_grammar.proofs.lent.Positions.{Position, between, done, due, flow_behind, flow_due, flow_keyed, headed, in_indentless, in_mapping}
+use Rattle.libyaml_grammar.proofs.lent.Positions.{in_sequence, unopened}
+use Rattle.libyaml_grammar.proofs.lent.Reading.{Step, at_flow, at_free, at_headed, at_unopened, bad, behind_documents, behind_indentless, behind_item}
+use Rattle.libyaml_grammar.proofs.lent.Reading.{behind_key, behind_member, behind_part, behind_whole, close, fill, fill_flow, goes, is_legal}
+use Rattle.libyaml_grammar.proofs.lent.Reading.{keeps_order, leave, on_anchor, on_block_entry, on_block_mapping, on_block_sequence, on_due, on_tag}
+use Rattle.libyaml_grammar.proofs.lent.Reading.{or_bad, over, step, without}
 
 -- where a node that is nothing is left there, an entry lacks no value
 abbrev pub IsDue : Place → Type 0

@@ -15,16 +15,16 @@ use Rattle.libyaml_grammar.specs.cuts.CutTrees.{BlockPlace, Cut, Open, PartPlace
 use Rattle.libyaml_grammar.specs.cuts.CutTrees.{explicit_root, flow_entry, flow_key, flow_value, implicit_root, indentless_entry, open_collection, part_place}
 use Rattle.libyaml_grammar.specs.cuts.CutTrees.{root, separator_due, slot}
 use Rattle.libyaml_grammar.specs.cuts.CutEvents.{shown_block, shown_cut, shown_open, shown_place, sort_of}
-use Rattle.libyaml_grammar.proofs.positions.Positions.{Position, between, done, due, flow_behind, flow_due, flow_keyed, headed, in_indentless, in_mapping}
-use Rattle.libyaml_grammar.proofs.positions.Positions.{in_sequence, shown, unopened}
-use Rattle.libyaml_grammar.proofs.positions.Reading.{Step, at_flow, at_free, at_headed, at_unopened, bad, behind_documents, behind_indentless, behind_item}
-use Rattle.libyaml_grammar.proofs.positions.Reading.{behind_key, behind_member, behind_part, behind_whole, close, fill, fill_flow, goes, leave, on_alias}
-use Rattle.libyaml_grammar.proofs.positions.Reading.{on_anchor, on_block_entry, on_block_mapping, on_block_sequence, on_due, on_tag, or_bad, over, separated}
-use Rattle.libyaml_grammar.proofs.positions.Reading.{step, without}
-use Rattle.libyaml_grammar.proofs.positions.Given.{empty_mark, given_at_flow, given_at_free, given_at_headed, given_at_unopened, given_behind_documents}
-use Rattle.libyaml_grammar.proofs.positions.Given.{given_behind_indentless, given_behind_item, given_behind_key, given_behind_member, given_behind_part}
-use Rattle.libyaml_grammar.proofs.positions.Given.{given_behind_whole, given_by_close, given_on_alias, given_on_anchor, given_on_block_entry}
-use Rattle.libyaml_grammar.proofs.positions.Given.{given_on_block_mapping, given_on_block_sequence, given_on_due, given_on_tag, given_without, gives, if_goes}
+use Rattle.libyaml_grammar.proofs.lent.Positions.{Position, between, done, due, flow_behind, flow_due, flow_keyed, headed, in_indentless, in_mapping}
+use Rattle.libyaml_grammar.proofs.lent.Positions.{in_sequence, shown, unopened}
+use Rattle.libyaml_grammar.proofs.lent.Reading.{Step, at_flow, at_free, at_headed, at_unopened, bad, behind_documents, behind_indentless, behind_item}
+use Rattle.libyaml_grammar.proofs.lent.Reading.{behind_key, behind_member, behind_part, behind_whole, close, fill, fill_flow, goes, leave, on_alias}
+use Rattle.libyaml_grammar.proofs.lent.Reading.{on_anchor, on_block_entry, on_block_mapping, on_block_sequence, on_due, on_tag, or_bad, over, separated}
+use Rattle.libyaml_grammar.proofs.lent.Reading.{step, without}
+use Rattle.libyaml_grammar.proofs.lent.Given.{empty_mark, given_at_flow, given_at_free, given_at_headed, given_at_unopened, given_behind_documents}
+use Rattle.libyaml_grammar.proofs.lent.Given.{given_behind_indentless, given_behind_item, given_behind_key, given_behind_member, given_behind_part}
+use Rattle.libyaml_grammar.proofs.lent.Given.{given_behind_whole, given_by_close, given_on_alias, given_on_anchor, given_on_block_entry}
+use Rattle.libyaml_grammar.proofs.lent.Given.{given_on_block_mapping, given_on_block_sequence, given_on_due, given_on_tag, given_without, gives, if_goes}
 
 -- what a step says of the events
 abbrev pub Shows : Step → Position → Marks → (List Event → List Event) → Type 0

@@ -15,14 +15,14 @@ use Rattle.libyaml_grammar.specs.cuts.CutTrees.{BlockPlace, Cut, Open, PartPlace
 use Rattle.libyaml_grammar.specs.cuts.CutTrees.{declared_block, declared_open, declared_part, entry, explicit_root, flow_entry, flow_key, flow_value}
 use Rattle.libyaml_grammar.specs.cuts.CutTrees.{implicit_root, indentless_entry, open_collection, open_in_order, part_place, part_place_in_order}
 use Rattle.libyaml_grammar.specs.cuts.CutTrees.{place_in_order, root, separator_due, slot}
-use Rattle.libyaml_grammar.proofs.positions.Positions.{Position, between, done, due, flow_behind, flow_due, flow_keyed, headed, in_indentless, in_mapping}
-use Rattle.libyaml_grammar.proofs.positions.Positions.{in_sequence, position_in_order, unopened}
-use Rattle.libyaml_grammar.proofs.positions.Reading.{Step, at_flow, at_free, at_headed, at_unopened, bad, behind_documents, behind_indentless, behind_item}
-use Rattle.libyaml_grammar.proofs.positions.Reading.{behind_key, behind_member, behind_part, behind_whole, checked, close, feed, feeds, fill, fill_block_slot}
-use Rattle.libyaml_grammar.proofs.positions.Reading.{fill_flow, fill_flow_slot, fill_part, goes, is_legal, keeps_order, leave, on_alias, on_anchor}
-use Rattle.libyaml_grammar.proofs.positions.Reading.{on_block_entry, on_block_mapping, on_block_sequence, on_due, on_tag, or_bad, over, reads_all, separated}
-use Rattle.libyaml_grammar.proofs.positions.Reading.{step, then_all, without}
-use Rattle.libyaml_grammar.proofs.trees.Keeps.{IsWhole, filled_is_whole, left_is_whole}
+use Rattle.libyaml_grammar.proofs.lent.Positions.{Position, between, done, due, flow_behind, flow_due, flow_keyed, headed, in_indentless, in_mapping}
+use Rattle.libyaml_grammar.proofs.lent.Positions.{in_sequence, position_in_order, unopened}
+use Rattle.libyaml_grammar.proofs.lent.Reading.{Step, at_flow, at_free, at_headed, at_unopened, bad, behind_documents, behind_indentless, behind_item}
+use Rattle.libyaml_grammar.proofs.lent.Reading.{behind_key, behind_member, behind_part, behind_whole, checked, close, feed, feeds, fill, fill_block_slot}
+use Rattle.libyaml_grammar.proofs.lent.Reading.{fill_flow, fill_flow_slot, fill_part, goes, is_legal, keeps_order, leave, on_alias, on_anchor}
+use Rattle.libyaml_grammar.proofs.lent.Reading.{on_block_entry, on_block_mapping, on_block_sequence, on_due, on_tag, or_bad, over, reads_all, separated}
+use Rattle.libyaml_grammar.proofs.lent.Reading.{step, then_all, without}
+use Rattle.libyaml_grammar.proofs.lent.Keeps.{IsWhole, filled_is_whole, left_is_whole}
 
 -- what a step says of the order
 abbrev pub Orders : Step → Position → Bool → Type 0

@@ -7,11 +7,11 @@ use Rattle.libyaml_grammar.specs.sentences.Events.{Event}
 use Rattle.libyaml_grammar.specs.sentences.Order.{is_known}
 use Rattle.libyaml_grammar.specs.cuts.CutTrees.{Cut, at_directive, content_due, declared, part_place}
 use Rattle.libyaml_grammar.specs.cuts.CutEvents.{shown_cut}
-use Rattle.libyaml_grammar.proofs.positions.Positions.{Position, between, due, flow_due, headed, in_indentless, shown}
-use Rattle.libyaml_grammar.proofs.positions.Reading.{Step, bad, behind_whole, checked, fill_flow, goes, is_legal, leave, or_bad, over, pending, reads, step}
-use Rattle.libyaml_grammar.proofs.positions.Given.{gives}
-use Rattle.libyaml_grammar.proofs.runs.Shows.{Shows, step_shows}
-use Rattle.libyaml_grammar.proofs.trees.StepsMeet.{IsMet, Meets, step_met}
+use Rattle.libyaml_grammar.proofs.lent.Positions.{Position, between, due, flow_due, headed, in_indentless, shown}
+use Rattle.libyaml_grammar.proofs.lent.Reading.{Step, bad, behind_whole, checked, fill_flow, goes, is_legal, leave, or_bad, over, pending, reads, step}
+use Rattle.libyaml_grammar.proofs.lent.Given.{gives}
+use Rattle.libyaml_grammar.proofs.lent.Shows.{Shows, step_shows}
+use Rattle.libyaml_grammar.proofs.lent.StepsMeet.{IsMet, Meets, step_met}
 
 -- a tag that grammar takes is held
 abbrev pub IsTagHeld : Position → Bool → Marks → Type 0

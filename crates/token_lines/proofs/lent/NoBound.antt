@@ -6,7 +6,7 @@ use Rattle.libyaml_grammar.specs.cuts.FaultTexts.{memory_fault}
 use Rattle.libyaml_grammar.specs.runs.Fault.{Fault}
 use Rattle.libyaml_grammar.specs.runs.Runs.{Ends, Fails}
 use Rattle.libyaml_graphs.specs.Loads.{Load}
-use Rattle.libyaml_graphs.proofs.BoundedFronts.{IsFront, met, same}
+use Rattle.libyaml_graphs.proofs.lent.BoundedFronts.{IsFront, met, same}
 use Rattle.token_lines.specs.declared.run.Outcome.{Outcome}
 use Rattle.token_lines.specs.declared.run.Outcome.TheVariants.{Ended, Faulted, OutputFailed}
 use Rattle.token_lines.specs.LineRun.{WritesFault, broken_off, whole}

@@ -4,18 +4,18 @@ use Rattle.libyaml_grammar.specs.cuts.CutTrees.{Cut, Place, at_directive, at_tag
 use Rattle.libyaml_grammar.specs.cuts.CutTrees.{entry_due, explicit_root, flow_entry, flow_key, flow_value, implicit_root, indentless_entry, part_due}
 use Rattle.libyaml_grammar.specs.cuts.CutTrees.{part_place, root, separator_due, slot, start_due}
 use Rattle.libyaml_grammar.specs.cuts.Fits.{EndsEmpty, Fits, FitsDirective, FitsTag, WantsContent, ends_empty, last_empty}
-use Rattle.libyaml_grammar.proofs.positions.Positions.{Position, between, done, due, flow_behind, flow_due, flow_keyed, headed, in_indentless, in_mapping}
-use Rattle.libyaml_grammar.proofs.positions.Positions.{in_sequence, unopened}
-use Rattle.libyaml_grammar.proofs.positions.Reading.{Step, bad, feeds, goes, over, reads, reads_all, then_all}
+use Rattle.libyaml_grammar.proofs.lent.Positions.{Position, between, done, due, flow_behind, flow_due, flow_keyed, headed, in_indentless, in_mapping}
+use Rattle.libyaml_grammar.proofs.lent.Positions.{in_sequence, unopened}
+use Rattle.libyaml_grammar.proofs.lent.Reading.{Step, bad, feeds, goes, over, reads, reads_all, then_all}
 use Rattle.libyaml_grammar.specs.sentences.Sentences.{IsBeginning}
 use Rattle.libyaml_grammar.specs.cuts.Settled.{IsFront, IsFrontPlace}
 use Rattle.libyaml_grammar.specs.sentences.Tokens.{Marks, NoToken, Token, tok, marks_of}
 use Rattle.libyaml_grammar.specs.sentences.Trees.{Properties, Stream, alone, behind, free, indentless, no_value, pair, part}
-use Rattle.libyaml_grammar.proofs.trees.Completion.{not_done, reads_append}
+use Rattle.libyaml_grammar.proofs.lent.Completion.{not_done, reads_append}
 use Rattle.libyaml_grammar.proofs.trees.Edge.{cut_reads, reached}
-use Rattle.libyaml_grammar.proofs.trees.Fitting.{stops_fits}
-use Rattle.libyaml_grammar.proofs.trees.OneCut.{edge_order, filled, fits_stop, one_cut_proof}
-use Rattle.libyaml_grammar.proofs.runs.Orders.{feeds_order, reads_from}
+use Rattle.libyaml_grammar.proofs.lent.Fitting.{stops_fits}
+use Rattle.libyaml_grammar.proofs.lent.OneCut.{edge_order, filled, fits_stop, one_cut_proof}
+use Rattle.libyaml_grammar.proofs.lent.Orders.{feeds_order, reads_from}
 
 abbrev pub front : Position → Cut
 front unopened = before_stream

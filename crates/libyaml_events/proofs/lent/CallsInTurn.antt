@@ -9,7 +9,7 @@ use Rattle.libyaml_events.specs.sources.History.{History, answers}
 use Rattle.libyaml_events.specs.sources.Parsing.{CarriesOn}
 use Rattle.libyaml_events.specs.sources.CallsInTurn.{CarriedOn}
 use Rattle.libyaml_events.specs.parsers.Stages.{Stage, after, stage_from}
-use Rattle.libyaml_grammar.proofs.Lists.{nil_right}
+use Rattle.libyaml_grammar.proofs.lent.Lists.{nil_right}
 use Rattle.libyaml_events.proofs.calls.NeededInTurn.{answers_both, both_needed, none_needed, one_needed}
 
 pub stage_more : (st : Stage) (a b : List Event) → stage_from st (a ++ b) ≡ stage_from (stage_from st a) b

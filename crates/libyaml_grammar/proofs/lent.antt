@@ -1,0 +1,23 @@
+-- The theorems that crates above may name, and no others of these proofs.
+pub mod Lists
+pub mod Given
+pub mod Positions
+pub mod Reading
+pub mod RowKinds
+pub mod Fronts
+pub mod Headline
+pub mod Nesting
+pub mod NestingSoFar
+pub mod Orders
+pub mod Running
+pub mod Settling
+pub mod Shows
+pub mod StreamEnds
+pub mod Cases
+pub mod Completion
+pub mod Fitting
+pub mod Keeps
+pub mod OneCut
+pub mod Run
+pub mod Splits
+pub mod StepsMeet

@@ -1,0 +1,34 @@
+#!/usr/bin/env python3
+"""Fails where a crate names a proof of another crate of the repository that isn't in its `proofs/lent`, where a definition in
+`specs/` names a proof of the repository, or where what is lent is named by no other crate.
+
+    python3 scripts/lent.py
+"""
+import re
+import sys
+
+from definitions import ROOT
+from passed_on import CRATES
+
+NAMED = re.compile(r"Rattle\.(\w+)\.proofs\.((?:lent\.)?\w+)")
+
+
+def main():
+    wrong, used = [], set()
+    for crate in CRATES:
+        for room in ("src", "specs", "proofs"):
+            for path in sorted((ROOT / "crates" / crate / room).rglob("*.*")):
+                for owner, module in NAMED.findall(path.read_text() if path.suffix in (".antt", ".rt") else ""):
+                    if owner not in CRATES:
+                        continue
+                    used.add((owner, module) if owner != crate else None)
+                    if room == "specs" or owner != crate and not module.startswith("lent."):
+                        wrong.append(f"{path.relative_to(ROOT)} names {module} of the proofs of {owner}")
+    for path in sorted(ROOT.glob("crates/*/proofs/lent/*.antt")):
+        if (path.parts[-4], "lent." + path.stem) not in used:
+            wrong.append(f"{path.relative_to(ROOT)} is named by no other crate")
+    sys.exit("\n".join(wrong) or 0)
+
+
+if __name__ == "__main__":
+    main()
