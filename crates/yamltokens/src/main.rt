@@ -11,7 +11,7 @@ use std::{env, io};
 pub use words::run_words;
 use words::{no_memory, refuse_words};
 
-/// How many bytes are read or written at once.
+/// This many bytes are read or written at once.
 const BUFFER_SIZE: usize = 1 << 16;
 
 fn main(rt: HostRuntime) -> ExitCode {
@@ -29,7 +29,7 @@ fn main(rt: HostRuntime) -> ExitCode {
     ExitCode::from(run_words(alloc, words.as_slice(), reader, &mut output, &mut errors))
 }
 
-/// The arguments behind the program's name.
+/// Returns the arguments after the program's name.
 fn read_words(rt: &(impl Env + AllocGlobal)) -> io::Result<Vec<String>> {
     Ok(env::args(rt)?.skip(1).collect(rt.alloc())?)
 }

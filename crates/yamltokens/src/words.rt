@@ -9,7 +9,7 @@ use token_lines::{Outcome, run_events, run_nodes};
 /// The exit status of words that ask for nothing, or that can't be read.
 const WRONG_WORDS: u8 = 2;
 
-/// The exit status where a write or a flush failed, or where no memory was found for a buffer.
+/// The exit status where a write or a flush failed, or where an allocation for a buffer failed.
 const OUTPUT_FAILED: u8 = 3;
 
 /// What the program is asked to write.
@@ -21,7 +21,7 @@ pub enum Run {
     Nodes,
 }
 
-/// Runs what the words behind the program's name ask for, from `reader` to `output`, and answers the
+/// Runs what the words after the program's name ask for, from `reader` to `output`, and returns the
 /// exit status. The words are looked at before anything is read.
 ///
 /// A line for the user goes to `errors`; if it can't be written, the status stays.
@@ -51,7 +51,7 @@ pub fn run_words<R: BufRead + Drop, W: Write, E: Write>(
     }
 }
 
-/// The run that the words ask for, of which there is exactly one.
+/// Returns the run that the words ask for, where there is exactly one.
 fn asked_run(words: &[String]) -> Option<Run>
     ensures { result ≡ asked_run (map string_bytes words.now) }
 {
@@ -61,7 +61,7 @@ fn asked_run(words: &[String]) -> Option<Run>
     }
 }
 
-/// The run that a word asks for.
+/// Returns the run that a word asks for.
 fn run_of(word: &str) -> Option<Run>
     ensures { result ≡ run_of word.now }
 {
@@ -72,21 +72,21 @@ fn run_of(word: &str) -> Option<Run>
     }
 }
 
-/// Writes the usage line.
+/// Writes the usage line, and returns the status.
 pub fn refuse_words<E: Write>(errors: &mut E) -> u8
     ensures { result ≡ 2 }
 {
     refuse(WRONG_WORDS, "usage: yamltokens events|nodes\n", errors)
 }
 
-/// Writes that no memory was found for a buffer.
+/// Writes that there is no memory for a buffer, and returns the status.
 pub fn no_memory<E: Write>(errors: &mut E) -> u8
     ensures { result ≡ 3 }
 {
     refuse(OUTPUT_FAILED, "yamltokens: no memory\n", errors)
 }
 
-/// Writes a line for the user, and answers the status.
+/// Writes a line for the user, and returns the status.
 fn refuse<E: Write>(status: u8, line: &str, errors: &mut E) -> u8
     ensures { result ≡ status }
 {
