@@ -25,7 +25,7 @@ lines_then id (x ∷ xs) ys =
     let e : id + 1 + length xs ≡ id + length (x ∷ xs) = omega arith in
     ap (λ l. node_line id x ∷ l) (lines_then (id + 1) xs ys ∙ ap (λ n. node_lines (id + 1) xs ++ node_lines n ys) e)
 
--- the line of the node at this place, and those behind it
+-- the line of the node at this place, and those after it
 lines_at : (ns : List yaml_node_t) (i : ℕ) (d : yaml_node_t) → i < length ns
     → node_lines 1 ns ≡ node_lines 1 (take i ns) ++ node_line (i + 1) (get_or ns i d) ∷ node_lines (i + 1 + 1) (drop (i + 1) ns)
 lines_at ns i d within =
@@ -61,7 +61,7 @@ wrote_before ns i d a b within wrote = record {
 pub wrote_none : (line : List ℕ) (rest : List (List ℕ)) (a : Option (List ℕ)) → WroteBefore a a (line ∷ rest)
 wrote_none line rest a = record { front = []; line = line; rest = rest; all = refl; wrote = Appends-nil a }
 
--- the first line was written, and one behind it found none
+-- the first line was written, and a later one found no memory
 pub wrote_behind : (line : List ℕ) (rest : List (List ℕ)) (a b c : Option (List ℕ)) → Appends a b line → WroteBefore b c rest → WroteBefore a c (line ∷ rest)
 wrote_behind line rest a b c first h = record {
   front = line ∷ h.front;

@@ -34,7 +34,7 @@ regroup : (old first front middle rest end : List ℕ)
     → ((old ++ (first ++ front)) ++ middle) ++ (rest ++ end) ≡ old ++ (first ++ ((front ++ (middle ++ rest)) ++ end))
 regroup old first front middle rest end = simp append_assoc
 
--- the first fields of a line, some others, and the rest with the line feed, one behind the other
+-- the first fields of a line, some others, and the rest with the line feed, one after the other
 pub line_appended : (old l1 l2 l3 first : List ℕ) (front middle rest : List (List ℕ)) → l1 ≡ old ++ (first ++ behind_spaces front)
     → l2 ≡ l1 ++ behind_spaces middle → l3 ≡ l2 ++ line_rest rest
     → l3 ≡ old ++ line_text (first ∷ (front ++ (middle ++ rest)))

@@ -11,7 +11,7 @@ use Rattle.libyaml_documents.specs.Documents.{Document}
 use Rattle.line_writing.specs.FieldTexts.{line_text, mark_text, flag_text, optional_version_text, string_text, directive_texts, scalar_style_text}
 use Rattle.line_writing.specs.FieldTexts.{sequence_style_text, mapping_style_text}
 
--- the fields of a document behind its marks
+-- the fields of a document that follow its marks
 abbrev pub document_fields : Document → List (List ℕ)
 document_fields d =
     flag_text d.start_implicit ∷ flag_text d.end_implicit ∷ optional_version_text d.version_directive ∷ decimal (length d.tag_directives)
@@ -29,7 +29,7 @@ node_name (Mapping m) = codes "MAPPING"
 abbrev pub pair_text : yaml_node_pair_t → List ℕ
 pair_text p = signed_decimal p.key ++ codes ":" ++ signed_decimal p.value
 
--- the fields of a node behind its tag
+-- the fields of a node that follow its tag
 abbrev pub node_fields : unnamed_yaml_node_t_data → List (List ℕ)
 node_fields (Scalar s) = string_text s.value ∷ scalar_style_text s.style ∷ []
 node_fields (Sequence s) = sequence_style_text s.style ∷ decimal (length s.items) ∷ map signed_decimal s.items

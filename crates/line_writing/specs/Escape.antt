@@ -1,4 +1,4 @@
--- How a string stands in a line: what cannot stand there as it is becomes an escape (docs/DEFINITIONS.md, "Lines").
+-- How a string is written in a line: what cannot be written as it is becomes an escape (docs/DEFINITIONS.md, "Lines").
 use Rattle.std.specs.Prelude.{ℕ, ◌/◌, ◌%◌, Bool, true, ◌||◌, ◌==◌, nat_le, nat_lt, List, [], ◌∷◌, if◌then◌else◌}
 use Rattle.std.specs.List.{flat_map}
 use Rattle.std.specs.Fmt.{digit_glyph}

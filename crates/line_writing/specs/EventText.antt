@@ -20,7 +20,7 @@ event_name ev.SequenceEnd = codes "SEQUENCE-END"
 event_name (ev.MappingStart e) = codes "MAPPING-START"
 event_name ev.MappingEnd = codes "MAPPING-END"
 
--- the fields behind the marks
+-- the fields that follow the marks
 abbrev pub event_fields : unnamed_yaml_event_t_data → List (List ℕ)
 event_fields ev.NoEvent = []
 event_fields (ev.StreamStart e) = encoding_text e.encoding ∷ []

@@ -21,12 +21,12 @@ use Rattle.line_writing.specs.Escape.{escaped}
 abbrev pub line_text : List (List ℕ) → List ℕ
 line_text fields = join_with_byte 0x20 fields ++ codes "\n"
 
--- the fields, each behind a space
+-- the fields, each after a space
 abbrev pub behind_spaces : List (List ℕ) → List ℕ
 behind_spaces [] = []
 behind_spaces (f ∷ fs) = 0x20 ∷ (f ++ behind_spaces fs)
 
--- the last fields of a line, each behind a space, and the line feed that ends it
+-- the last fields of a line, each after a space, and the line feed that ends it
 abbrev pub line_rest : List (List ℕ) → List ℕ
 line_rest fields = behind_spaces fields ++ codes "\n"
 

@@ -28,6 +28,8 @@ use std::io::Write;
 /// Writes the document's text: its line, and a line for each node in the order of their ids, which
 /// count from 1.
 ///
+/// # Errors
+///
 /// The text of each line is made before a byte of it is written. So after `Memory` the lines before
 /// one of them were written, and nothing of that one; after `Output` nothing is said of the writer.
 pub fn write_document<W: Write>(
@@ -74,7 +76,7 @@ fn append_document(line: &mut String, document: &yaml_document_t) -> Result<(), 
     append_document_rest(line, document)
 }
 
-/// Appends the fields of a document behind its marks, and the line feed.
+/// Appends the fields of a document that follow its marks, and the line feed.
 fn append_document_rest(line: &mut String, document: &yaml_document_t) -> Result<(), AllocError>
     ensures { OnOk result (string_bytes line.new ≡ string_bytes line.old
         ++ line_rest (document_fields document.now)) }
@@ -116,7 +118,7 @@ fn append_tag(line: &mut String, node: &yaml_node_t) -> Result<(), AllocError>
     }
 }
 
-/// Appends the fields of a node behind its tag, and the line feed.
+/// Appends the fields of a node that follow its tag, and the line feed.
 fn append_node_rest(line: &mut String, content: &unnamed_yaml_node_t_data) -> Result<(), AllocError>
     ensures { OnOk result (string_bytes line.new ≡ string_bytes line.old
         ++ line_rest (node_fields content.now)) }

@@ -19,8 +19,12 @@ use libyaml_types::{
 use std::alloc::{AllocError, Global};
 use std::io::Write;
 
-/// Writes the event's line. Its text is made first, so after `Memory` nothing of it was written;
-/// after `Output` nothing is said of the writer.
+/// Writes the event's line.
+///
+/// # Errors
+///
+/// The text is made first, so after `Memory` nothing of it was written; after `Output` nothing is said
+/// of the writer.
 pub fn write_event<W: Write>(
     alloc: Global,
     event: &yaml_event_t,
@@ -47,7 +51,7 @@ pub fn write_line<W: Write>(line: &String, writer: &mut W) -> Result<(), line_re
     }
 }
 
-/// Appends the event's line. After an error `line` holds some front of it.
+/// Appends the event's line. After an error `line` holds some prefix of it.
 #[inline(never)]
 pub fn append_event(line: &mut String, event: &yaml_event_t) -> Result<(), AllocError>
     ensures { OnOk result (string_bytes line.new ≡ string_bytes line.old ++ event_line event.now) }
@@ -75,7 +79,7 @@ fn append_name(line: &mut String, content: &unnamed_yaml_event_t_data) -> Result
     }
 }
 
-/// Appends the fields behind the marks, and the line feed.
+/// Appends the fields that follow the marks, and the line feed.
 fn append_rest(line: &mut String, content: &unnamed_yaml_event_t_data) -> Result<(), AllocError>
     ensures { OnOk result (string_bytes line.new ≡ string_bytes line.old
         ++ line_rest (event_fields content.now)) }

@@ -12,7 +12,11 @@ use libyaml_types::{yaml_error_type_t, yaml_mark_t};
 use std::io::Write;
 
 /// Writes the text of a fault: its line, and the line of its context where there is one. Takes no
-/// memory, so the only error is `Output`, after which nothing is said of the writer.
+/// memory.
+///
+/// # Errors
+///
+/// Only `Output`, after which nothing is said of the writer.
 pub fn write_fault<W: Write>(
     prefix: &yaml_parser_t_prefix,
     writer: &mut W,

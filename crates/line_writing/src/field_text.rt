@@ -1,4 +1,4 @@
-//! The fields of a line as they are written, each behind a space.
+//! The fields of a line as they are written, each after a space.
 ghost use Rattle.std.specs.Prelude.{◌≡◌, ◌++◌, [], ◌∷◌, OnOk, string_bytes, decimal, option_map};
 ghost use Rattle.line_writing.specs.FieldTexts.{behind_spaces, optional_version_text, flag_text};
 ghost use Rattle.line_writing.specs.FieldTexts.{string_text, optional_string_text, directive_texts};
@@ -13,7 +13,7 @@ use libyaml_types::{
 };
 use std::alloc::AllocError;
 
-/// What stands for a field that is absent.
+/// What is written for a field that is absent.
 pub(crate) const ABSENT: &str = "-";
 
 /// Appends a field that needs no escapes.

@@ -11,7 +11,7 @@ use std::alloc::AllocError;
 /// Two marks take at most this many bytes: six numbers, and a byte before each.
 pub(crate) const TWO_MARKS: usize = 126;
 
-/// Appends two marks, each behind a space.
+/// Appends two marks, each after a space.
 pub(crate) fn append_marks(
     line: &mut String,
     start: &yaml_mark_t,

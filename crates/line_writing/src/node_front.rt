@@ -1,4 +1,4 @@
-//! The front of a node's line: its id, its name and its marks, gathered from the last byte to the first.
+//! The prefix of a node's line: its id, its name and its marks, gathered from the last byte to the first.
 ghost use Rattle.std.specs.Prelude.{◌≡◌, ◌≤◌, ◌+◌, ◌++◌, [], ◌∷◌, length, drop, OnOk};
 ghost use Rattle.std.specs.Prelude.{string_bytes, decimal};
 ghost use Rattle.line_writing.specs.DocumentText.{node_name};

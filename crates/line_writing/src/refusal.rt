@@ -9,14 +9,14 @@ use std::fmt;
 /// Why a line was not written.
 #[derive(Copy, Clone, PartialEq, Eq, Debug)]
 pub enum line_refusal_t {
-    /// No memory was found for the line's text. No byte of the line was written.
+    /// An allocation for the line's text failed. No byte of the line was written.
     Memory,
     /// The writer failed. How much of the line was written is not known.
     Output,
 }
 
 impl line_refusal_t {
-    /// 1 for `Memory`, 2 for `Output`.
+    /// Returns 1 for `Memory`, 2 for `Output`.
     pub fn number(self) -> u32
         ensures { result ≡ refusal_number self }
     {

@@ -66,7 +66,7 @@ module _ {S : Type 0} (gives : S → Answer → S → Type 0) where
       }
       go (failed by wrote) = absurd wrote
 
-  -- a call that answered an event
+  -- a call that returned an event
   pub gave_one : (s : Step) (p q : Parser S) (b c : Option (List ℕ)) (r : EventOrError) (e : yaml_event_t) → r ≡ Ok e
       → IfOk r (λ x. (asked : List yaml_token_t) (given : List yaml_event_t) → History p asked given → CarriesOn gives p x q asked given)
       → StepForEvent s e b c

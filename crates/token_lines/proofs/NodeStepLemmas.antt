@@ -54,7 +54,7 @@ ok_no_err r d x h k = cc
 module _ {S : Type 0} (known : S → Option Coming) (MayBreak : S → Fault
     → Type 0) (n : ℕ) (old new : Parser S) (events : List yaml_event_t) (ending : Ending) (run : RunToCome known old events ending) (r : DocumentOrError)
     (load : UnlessBroken MayBreak r new (Answers known (next_bounded n events ending) r new (left_over events) ending)) where
-  -- a load that answered a document
+  -- a load that returned a document
   module _ (d : Document) (is : r ≡ Ok d) where
     loaded : (next_bounded n events ending ≡ Ok d) × RunToCome known new (left_over events) ending
     loaded = from load
@@ -84,7 +84,7 @@ module _ {S : Type 0} (known : S → Option Coming) (MayBreak : S → Fault
               (Appends-nil a),
         )
 
-    -- for want of memory for one of its lines
+    -- where memory ran out for one of its lines
     pub step_cut : (a b : Option (List ℕ)) → d.nodes ≢ [] → WroteBefore a b (document_lines d)
         → WritesFront (MayBreak new.source) memory_fault a b (bounded_loads n events ending)
     step_cut a b some w =

@@ -21,7 +21,7 @@ use Rattle.token_lines.specs.EventRun.{event_lines}
 use Rattle.line_writing.specs.EventText.{event_line}
 use Rattle.token_lines.specs.EventStep.{TakesFirst}
 
--- Whether a parser had ended, by the event that it answered.
+-- Whether a parser had ended, by the event that it returned.
 module _ {S : Type 0} (old new : Parser S) (r : EventOrError) (e : yaml_event_t) where
   gives_empty : r ≡ Ok e → (r ≡ Ok empty_event) × (new ≡ old) → is_event e.content ≡ true → ⊥
   gives_empty is ended an_event = no (sym an_event ∙ ap (λ x. is_event x.content) (same is ended.0))

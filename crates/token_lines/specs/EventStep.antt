@@ -34,19 +34,19 @@ StepsInRun known MayBreak Ended new before after events ending = (ending ≡ End
 StepsInRun known MayBreak (Failed f) new before after events ending = FailsHere (MayBreak new.source) (fault_of f) events ending × Keeps before after
 StepsInRun known MayBreak OutputFailed new before after events ending = Unit {0}
 
--- what a step wrote behind a call that gave this event
+-- what a step wrote after a call that returned this event
 abbrev pub StepForEvent : Step → yaml_event_t → (before after : Option (List ℕ)) → Type 0
 StepForEvent Written e before after = (is_stream_end e ≡ false) × Appends before after (event_line e)
 StepForEvent Ended e before after = (is_stream_end e ≡ true) × Appends before after (event_line e)
 StepForEvent (Failed f) e before after = (fault_of f ≡ memory_fault) × Keeps before after
 StepForEvent OutputFailed e before after = Unit {0}
 
--- what a step wrote behind a call that failed by this fault
+-- what a step wrote after a call that failed by this fault
 abbrev pub StepForFault : Step → Fault → (before after : Option (List ℕ)) → Type 0
 StepForFault (Failed f) kept before after = (fault_of f ≡ kept) × Keeps before after
 StepForFault _ kept before after = ⊥
 
--- one step: its call of the parser, which gave an event or failed, and what was written behind it
+-- one step: its call of the parser, which returned an event or failed, and what was written after it
 pub data Turn {S : Type 0} (gives : S → Answer → S
     → Type 0) (step : Step) (old new : Parser S) (before after : Option (List ℕ)) (asked : List yaml_token_t) (given : List yaml_event_t) : Type 0 where
   gave_event : (e : yaml_event_t) → CarriesOn gives old e new asked given → StepForEvent step e before after → Turn gives step old new before after asked given

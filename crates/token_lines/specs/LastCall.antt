@@ -17,20 +17,20 @@ use Rattle.line_writing.specs.EventText.{event_line}
 use Rattle.line_writing.specs.FaultText.{fault_text}
 use Rattle.line_reading.specs.LineSource.{LineSource, Gives, BreaksOff}
 
--- What a run wrote behind a last call that gave this event: its line, which is the stream end's, where the run ended; or
--- else the text of a refused growth, for want of memory for that line. Where the output failed, nothing is said.
+-- What a run wrote after a last call that returned this event: its line, which is the stream end's, where the run ended; or
+-- else, where memory ran out for that line, the text of a failed allocation. Where the output failed, nothing is said.
 abbrev pub WroteForEvent : Outcome → yaml_event_t → (before after : Option (List ℕ)) → Type 0
 WroteForEvent Ended e before after = (is_stream_end e ≡ true) × Appends before after (event_line e)
 WroteForEvent Faulted e before after = Appends before after (fault_text memory_fault)
 WroteForEvent OutputFailed e before after = Unit {0}
 
--- what a run wrote behind a last call that failed: the text of the fault
+-- what a run wrote after a last call that failed: the text of the fault
 abbrev pub WroteForFault : Outcome → Fault → (before after : Option (List ℕ)) → Type 0
 WroteForFault Ended f before after = ⊥
 WroteForFault Faulted f before after = Appends before after (fault_text f)
 WroteForFault OutputFailed f before after = Unit {0}
 
--- the last call of the parser, which gave an event or failed, and what was written behind it
+-- the last call of the parser, which returned an event or failed, and what was written after it
 pub data Closes {S : Type 0} (gives : S → Answer → S
     → Type 0) (outcome : Outcome) (old new : Parser S) (before after : Option (List ℕ)) (asked : List yaml_token_t) (given : List yaml_event_t) : Type 0 where
   closed_by_event : (e : yaml_event_t) → CarriesOn gives old e new asked given → WroteForEvent outcome e before after
@@ -71,7 +71,7 @@ pub record StartsAt {R : Type 0} (reader : R) (p : Parser (LineSource R)) : Type
   pub begins : History p [] []
 
 -- A run over a reader's lines, by a parser that started there: what it wrote, where its source may have broken off as it
--- then stood; and each line in its turn.
+-- then was; and each line in its turn.
 pub record RunsOver {R W : Type 0} (remaining : R → Option (List ℕ)) (contents : W
     → Option (List ℕ)) (reader : R) (outcome : Outcome) (before after : Option (List ℕ)) : Type 0 where
   pub first : Parser (LineSource R)

@@ -24,7 +24,7 @@ use Rattle.token_lines.specs.declared.run.Outcome.TheVariants.{Ended, Faulted, O
 use Rattle.token_lines.specs.LastCall.{StartsAt}
 use Rattle.token_lines.specs.NodeRun.{WritesNodesOf}
 
--- for want of memory for one of these lines those before it were written, and then the text of a refused growth
+-- where memory ran out for one of these lines, those before it were written, and then the text of a failed allocation
 pub record CutText (before after : Option (List ℕ)) (lines : List (List ℕ)) : Type 0 where
   pub front : List (List ℕ)
   pub line : List ℕ
@@ -32,7 +32,7 @@ pub record CutText (before after : Option (List ℕ)) (lines : List (List ℕ)) 
   pub all : lines ≡ front ++ line ∷ rest
   pub wrote : Appends before after (concat front ++ fault_text memory_fault)
 
--- What a run wrote behind a last load that answered this: nothing, where it is the document without root; the text of the
+-- What a run wrote after a last load that returned this: nothing, where it is the document without root; the text of the
 -- fault that is kept; or a document's text that was cut. Where the output failed, nothing is said.
 abbrev pub WroteForLoad : Outcome → DocumentOrError → (kept : Fault) → (before after : Option (List ℕ)) → Type 0
 WroteForLoad Ended (Ok d) kept before after = (d.nodes ≡ []) × Keeps before after
@@ -43,7 +43,7 @@ WroteForLoad Faulted (Err x) kept before after = Appends before after (fault_tex
 WroteForLoad OutputFailed (Err x) kept before after = Unit {0}
 
 -- From the first parser to this one the source gave these tokens more and the parser these events, whose loads are these
--- documents, whatever stands behind them; and the text of each document was written.
+-- documents, whatever follows them; and the text of each document was written.
 pub record AllLoaded {S : Type 0} (gives : S → Answer → S
     → Type 0) (n : ℕ) (first parser : Parser S) (before after : Option (List ℕ)) (asked : List yaml_token_t) (given : List yaml_event_t) : Type 0 where
   pub more : List yaml_token_t
@@ -79,7 +79,7 @@ abbrev pub most_entries : ℕ
 most_entries = 2147483647
 
 -- A run over a reader's lines, by a parser that started there: what it wrote, where its source may have broken off as it
--- then stood; and each document in its turn.
+-- then was; and each document in its turn.
 pub record NodesOver {R W : Type 0} (remaining : R → Option (List ℕ)) (contents : W
     → Option (List ℕ)) (reader : R) (outcome : Outcome) (before after : Option (List ℕ)) : Type 0 where
   pub first : Parser (LineSource R)

@@ -9,8 +9,8 @@ use Rattle.line_writing.specs.FaultText.{fault_text}
 use Rattle.token_lines.specs.declared.run.Outcome.{Outcome}
 use Rattle.token_lines.specs.declared.run.Outcome.TheVariants.{Ended, Faulted, OutputFailed}
 
--- The text of a fault was written: behind all lines, where the run fails by it; or behind a front of them, where a growth
--- was refused or the source broke off.
+-- The text of a fault was written: after all lines, where the run fails by it; or after a prefix of them, where an
+-- allocation failed or the source broke off.
 pub data WritesFault (MayBreak : Fault → Type 0) (old new : Option (List ℕ)) (lines : List (List ℕ)) (ending : Ending) : Type 0 where
   whole : (f : Fault) → ending ≡ Fails f → Appends old new (concat lines ++ fault_text f) → WritesFault MayBreak old new lines ending
   broken_off : (front rest : List (List ℕ)) (f : Fault) → lines ≡ front ++ rest → (f ≡ memory_fault) ⊎ MayBreak f

@@ -19,7 +19,7 @@ use Rattle.token_lines.specs.declared.run.Step.{Step}
 use Rattle.token_lines.specs.declared.run.Step.TheVariants.{Written, Ended, Failed, OutputFailed}
 use Rattle.token_lines.specs.NodeRun.{loads_ending, loads_lines}
 
--- the next document was written, and the loads behind it are to come
+-- the next document was written, and the loads after it are to come
 pub record TakesDocument {S : Type 0} (known : S
     → Option Coming) (n : ℕ) (new : Parser S) (before after : Option (List ℕ)) (events : List yaml_event_t) (ending : Ending) : Type 0 where
   pub document : Document
@@ -28,8 +28,8 @@ pub record TakesDocument {S : Type 0} (known : S
   pub run : RunToCome known new (left_over events) ending
   pub wrote : Appends before after (concat (document_lines document))
 
--- A front of the lines of these loads was written, and this fault is to follow: all lines, where the loads end by it; or else
--- a growth was refused or the source broke off.
+-- A prefix of the lines of these loads was written, and this fault is to follow: all lines, where the loads end by it; or
+-- else an allocation failed or the source broke off.
 pub record WritesFront (MayBreak : Fault → Type 0) (f : Fault) (before after : Option (List ℕ)) (loads : List Load) : Type 0 where
   pub front : List (List ℕ)
   pub rest : List (List ℕ)
@@ -47,7 +47,7 @@ NodeSteps known MayBreak n (Failed f) new before after events ending
     = WritesFront (MayBreak new.source) (fault_of f) before after (bounded_loads n events ending)
 NodeSteps known MayBreak n OutputFailed new before after events ending = Unit {0}
 
--- what a step wrote behind a load that answered this
+-- what a step wrote after a load that returned this
 abbrev pub StepForLoad : Step → DocumentOrError → (kept : Fault) → (before after : Option (List ℕ)) → Type 0
 StepForLoad Written (Ok d) kept before after = (d.nodes ≢ []) × Appends before after (concat (document_lines d))
 StepForLoad Ended (Ok d) kept before after = (d.nodes ≡ []) × Keeps before after
@@ -56,7 +56,7 @@ StepForLoad OutputFailed (Ok d) kept before after = Unit {0}
 StepForLoad (Failed f) (Err x) kept before after = (fault_of f ≡ kept) × Keeps before after
 StepForLoad _ (Err x) kept before after = ⊥
 
--- one step: its load, and what was written behind it
+-- one step: its load, and what was written after it
 pub record LoadTurn {S : Type 0} (gives : S → Answer → S → Type 0) (known : S → Option Coming) (MayBreak : S → Fault
     → Type 0) (n : ℕ) (step : Step) (old new : Parser S) (before after : Option (List ℕ)) : Type 0 where
   pub answer : DocumentOrError

@@ -15,7 +15,7 @@ pub use nodes::{run_nodes, write_nodes};
 use std::io;
 use std::io::Write;
 
-/// How a run came to its end.
+/// How a run ended.
 #[derive(Copy, Clone, PartialEq, Eq, Debug)]
 pub enum Outcome {
     /// All was written, or nothing was left to write.
@@ -39,7 +39,7 @@ enum Step {
     OutputFailed,
 }
 
-/// The fault of a growth that was refused.
+/// Returns the fault of a failed allocation.
 const MEMORY_FAULT: yaml_parser_t_prefix = yaml_parser_t_prefix {
     error: yaml_error_type_t::YAML_MEMORY_ERROR,
     ..NO_FAULT
@@ -72,7 +72,7 @@ fn show<S: yaml_token_source_t, W: Write>(
     Ok(())
 }
 
-/// Flushes the writer behind all that a run has written.
+/// Flushes the writer after all that a run has written.
 fn flushed<W: Write>(outcome: Outcome, writer: &mut W) -> Outcome
     ensures outcome { (result ≡ outcome) ⊎ (result ≡ Outcome.OutputFailed) }
     ensures keeps { Keeps (W.contents writer.old) (W.contents writer.new) }

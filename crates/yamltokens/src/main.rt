@@ -8,7 +8,7 @@ use std::rt::Env;
 use std::{env, io};
 use token_words::{no_memory, refuse_words, run_words};
 
-/// How many bytes are read or written at once.
+/// This many bytes are read or written at once.
 const BUFFER_SIZE: usize = 1 << 16;
 
 fn main(rt: HostRuntime) -> ExitCode {
@@ -26,7 +26,7 @@ fn main(rt: HostRuntime) -> ExitCode {
     ExitCode::from(run_words(alloc, words.as_slice(), reader, &mut output, &mut errors))
 }
 
-/// The arguments behind the program's name.
+/// Returns the arguments after the program's name.
 fn read_words(rt: &(impl Env + AllocGlobal)) -> io::Result<Vec<String>> {
     Ok(env::args(rt)?.skip(1).collect(rt.alloc())?)
 }

@@ -27,7 +27,7 @@ use std::io::{BufRead, Write};
 /// text of the fault, if there is one. Reads at most `MAX_TOKENS` tokens. A caller who needs the reader
 /// back, as the last line left it, calls `write_events` over a `yaml_line_source_t`.
 ///
-/// Want of memory for a line is written as the fault of a refused growth. The writer is flushed
+/// If memory runs out for a line, the fault of a failed allocation is written. The writer is flushed
 /// before `Ended` and `Faulted`; after `OutputFailed` nothing is said of it.
 pub fn run_events<R: BufRead + Drop, W: Write>(alloc: Global, reader: R, writer: &mut W) -> Outcome
     ensures { RunsOver R.remaining W.contents reader result (W.contents writer.old) (W.contents writer.new) }
@@ -38,13 +38,13 @@ pub fn run_events<R: BufRead + Drop, W: Write>(alloc: Global, reader: R, writer:
 }
 
 /// Writes the line of each event that is to come, before the next event is parsed, and then the text
-/// of the fault, if there is one. The parser may have given events before; behind the stream end event
-/// or a fault nothing is left to write, and `Ended` is answered.
+/// of the fault, if there is one. The parser may have given events before; after the stream end event
+/// or a fault nothing is left to write, and `Ended` is returned.
 ///
-/// Want of memory for a line is written as the fault of a refused growth. The writer is flushed
+/// If memory runs out for a line, the fault of a failed allocation is written. The writer is flushed
 /// before `Ended` and `Faulted`. After `OutputFailed`, and after the fault of a line that found no
-/// memory, the parser stands behind the event whose line was to be written: a further call goes on
-/// behind that event, whose line is lost.
+/// memory, the parser has given the event whose line was to be written: a further call goes on after
+/// that event, whose line is lost.
 pub fn write_events<S: yaml_token_source_t, W: Write>(
     alloc: Global,
     parser: &mut yaml_parser_t<S>,
@@ -119,14 +119,14 @@ fn write_next<S: yaml_token_source_t, W: Write>(
     Step::Written
 }
 
-/// Whether this is an event, and not the empty one.
+/// Returns whether this is an event, and not the empty one.
 fn is_event(event: &yaml_event_t) -> bool
     ensures { result ≡ is_event event.now.content }
 {
     !matches!(event.content, unnamed_yaml_event_t_data::NoEvent)
 }
 
-/// Whether a stream ends with this event.
+/// Returns whether a stream ends with this event.
 fn is_stream_end(event: &yaml_event_t) -> bool
     ensures { result ≡ is_stream_end event.now }
 {

@@ -25,7 +25,7 @@ use std::io::{BufRead, Write};
 /// the text of the fault, if there is one. Reads at most `MAX_TOKENS` tokens. A caller who needs the reader
 /// back, as the last line left it, calls `write_nodes` over a `yaml_line_source_t`.
 ///
-/// Want of memory for a line is written as the fault of a refused growth, behind the lines before it. The
+/// If memory runs out for a line, the fault of a failed allocation follows the lines before it. The
 /// writer is flushed before `Ended` and `Faulted`; after `OutputFailed` nothing is said of it.
 pub fn run_nodes<R: BufRead + Drop, W: Write>(alloc: Global, reader: R, writer: &mut W) -> Outcome
     ensures { NodesOver R.remaining W.contents reader result (W.contents writer.old) (W.contents writer.new) }
@@ -39,10 +39,10 @@ pub fn run_nodes<R: BufRead + Drop, W: Write>(alloc: Global, reader: R, writer: 
 /// fault, if there is one. The parser may have given documents before. The document without root, which
 /// comes at the stream's end, writes nothing; a fault that the parser keeps is written again.
 ///
-/// Want of memory for a line is written as the fault of a refused growth, behind the lines before it. The
+/// If memory runs out for a line, the fault of a failed allocation follows the lines before it. The
 /// writer is flushed before `Ended` and `Faulted`. After `OutputFailed`, and after the fault of a line that
-/// found no memory, the parser stands behind the document whose text was to be written: a further call goes
-/// on behind that document, the rest of whose text is lost.
+/// found no memory, the parser has loaded the document whose text was to be written: a further call goes
+/// on after that document, the rest of whose text is lost.
 pub fn write_nodes<S: yaml_token_source_t, W: Write>(
     alloc: Global,
     parser: &mut yaml_parser_t<S>,

@@ -6,7 +6,7 @@ use Rattle.line_writing.specs.DocumentText.{document_line, node_lines}
 use Rattle.line_writing.proofs.DocumentLemmas.{wrote_none, wrote_behind}
 use Rattle.line_writing.proofs.document_text.write_document.Goals as goal
 
--- lines behind a first one
+-- lines after a first one
 then_ok : {X E : Type 0} (r : Result X E) (a b c : Option (List ℕ)) (first rest : List ℕ) → Appends a b first → OnOk r (Appends b c rest)
     → OnOk r (Appends a c (first ++ rest))
 then_ok (Ok x) a b c first rest h k = Appends-trans a b c first rest h k

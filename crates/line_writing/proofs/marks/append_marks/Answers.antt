@@ -7,7 +7,7 @@ use Rattle.line_writing.specs.FieldTexts.{behind_spaces}
 use Rattle.line_writing.proofs.SpacedLemmas.{behind_spaces-append}
 use Rattle.line_writing.proofs.marks.append_marks.Goals as goal
 
--- what stands at the end of the text, one mark behind the other
+-- what is at the end of the text, one mark after the other
 gathered : (text before m1 m2 : List ℕ) (n from : ℕ) → length text ≤ n → drop from text ≡ behind_spaces (m1 ∷ []) ++ before
     → before ≡ behind_spaces (m2 ∷ []) ++ []
     → take (n - from) (drop from text) ≡ behind_spaces (m1 ∷ m2 ∷ [])

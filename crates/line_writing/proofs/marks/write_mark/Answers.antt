@@ -8,7 +8,7 @@ use Rattle.line_writing.proofs.marks.write_mark.Goals as goal
 colon : IsAscii (codes ":")
 colon = IsAscii-cons 0x3A [] (omega arith) IsAscii-nil
 
--- a number behind a text, with `:` between them
+-- a number after a text, with `:` between them
 ascii_pair : (xs : List ℕ) (n : ℕ) → IsAscii xs → IsAscii (decimal n) → IsAscii (xs ++ codes ":" ++ decimal n)
 ascii_pair xs n ascii number = IsAscii-append (xs ++ codes ":") (decimal n) (IsAscii-append xs (codes ":") ascii colon) number
 

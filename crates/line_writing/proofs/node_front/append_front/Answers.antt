@@ -11,7 +11,7 @@ use Rattle.line_writing.specs.FieldTexts.{behind_spaces}
 use Rattle.line_writing.proofs.SpacedLemmas.{behind_spaces-append}
 use Rattle.line_writing.proofs.node_front.append_front.Goals as goal
 
--- what stands at the end of the text, one piece behind the other
+-- what is at the end of the text, one piece after the other
 gathered : (text b3 b2 b1 id name m1 m2 : List ℕ) (n from : ℕ) → length text ≤ n → drop from text ≡ id ++ b3 → b3 ≡ behind_spaces (name ∷ []) ++ b2
     → b2 ≡ behind_spaces (m1 ∷ []) ++ b1 → b1 ≡ behind_spaces (m2 ∷ []) ++ []
     → take (n - from) (drop from text) ≡ id ++ behind_spaces (name ∷ m1 ∷ m2 ∷ [])
