@@ -131,7 +131,7 @@ def wrong_rooms():
             top = TOP / "crates" / match[1]
         match = re.match(r"\| `(\w+)`(?:: [^|]*)? \| ([^|]*) \|$", line)
         if match and top and (top / match[1]).is_dir():
-            listed = set(re.findall(r"\b[A-Z]\w+", match[2].split(": ")[-1]))
+            listed = set(re.findall(r"\b[A-Z]\w+", match[2]))
             there = {path.stem for path in (top / match[1]).glob("*.antt")} - {"Lib"}
             for name in sorted(listed ^ there):
                 where = "is not there" if name in listed else "is not listed"
