@@ -5,7 +5,7 @@ use Rattle.unsafe_libyaml.specs.FaultTexts.{memory_fault}
 use Rattle.computed_tokens.specs.declared.list.GrowingList.{GrowingList}
 use Rattle.computed_tokens.specs.declared.list.GrowingList.TheVariants.{NestedSequences, NestedPairs, DocumentEnds, Documents, Aliases, TagDirectives}
 
--- what is seen of it: how many tokens are left, and the fault behind them
+-- what is seen of it: how many tokens are left, and the fault after them
 pub record Computed : Type 0 where
   pub left : ℕ
   pub fault : Fault
@@ -19,7 +19,7 @@ length_of Documents n = n + 2
 length_of Aliases n = 2 * (n - 1) + 6
 length_of TagDirectives n = n + 2
 
--- A token, and one fewer is left. Or a fault, with nothing left: the one behind the tokens, or a refused growth's before.
+-- A token, and one fewer is left. Or a fault, with nothing left: the one after the tokens, or a failed allocation's before.
 abbrev pub Gives : Computed → Answer → Computed → Type 0
 Gives s (Ok token) t = (s.left ≡ t.left + 1) × (t.fault ≡ s.fault)
 Gives s (Err f) t = (t ≡ record { left = 0; fault = f }) × (s.left ≡ 0 → f ≡ s.fault) × (0 < s.left → f ≡ memory_fault)

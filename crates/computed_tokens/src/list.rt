@@ -117,7 +117,7 @@ impl GrowingList {
 
     /// The content of the token at a place, counted from 0.
     ///
-    /// Errors: want of memory.
+    /// Errors: out of memory.
     pub(crate) fn content(
         self,
         alloc: Global,

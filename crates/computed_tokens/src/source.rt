@@ -23,7 +23,7 @@ pub struct ComputedTokens {
     /// The place of the next token, and that of the list's end.
     place: u64,
     end: u64,
-    /// What is answered at the end.
+    /// What is returned at the end.
     fault: yaml_source_fault_t,
 }
 
@@ -38,7 +38,7 @@ impl Model for ComputedTokens {
 }
 
 impl ComputedTokens {
-    /// A source of this list's tokens, and this fault behind them. Takes no memory.
+    /// A source of this list's tokens, and this fault after them. Takes no memory.
     pub fn new(alloc: Global, list: GrowingList, n: u32, fault: yaml_source_fault_t) -> Self
         ensures { result ≡ record { left = length_of list n; fault = source_fault fault } }
     {
@@ -52,7 +52,7 @@ impl ComputedTokens {
         }
     }
 
-    /// Makes this place the end, for want of memory.
+    /// Makes this place the end, for out of memory.
     fn break_off(&mut self)
         ensures { self.new ≡ record { left = 0; fault = memory_fault } }
     {
@@ -73,11 +73,11 @@ impl yaml_token_source_t for ComputedTokens {
     // With each token this falls by one, so a run over the source ends.
     ghost bound = { λ s. s.left };
 
-    // What one call may answer, and what it makes of the source.
+    // What one call may return, and what it makes of the source.
     ghost gives = { Gives };
 
     // The tokens to come are not told. A source that tells them says here by which faults it may break
-    // off all the same, and proves below that its answers follow what it told.
+    // off all the same, and proves below that its results follow what it told.
     ghost known = { λ _. None };
 
     ghost may_break = { λ _ _. ⊥ };

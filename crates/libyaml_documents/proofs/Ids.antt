@@ -1,4 +1,4 @@
--- Ids stay ids of nodes where nodes and children are put behind others.
+-- Ids stay ids of nodes where nodes and children are put after others.
 use Rattle.std.proofs.Common.{◌≡◌, ℕ, zero, suc, ◌+◌, ◌<◌, ◌≤◌, ℤ, pos, negsuc, add-one, List, [], ◌∷◌, ◌++◌, length, set, get_or, refl, ap, sym, subst}
 use Rattle.std.proofs.Common.{arith, length-append, ◌∙◌}
 use Rattle.std.proofs.lemmas.Int.{ints}
@@ -22,7 +22,7 @@ AllIds n node = All (IsIdUpTo n) (ids_of node.content)
 pub AllIds-more : (n m : ℕ) (node : yaml_node_t) → n ≤ m → AllIds n node → AllIds m node
 AllIds-more n m node le h = All-weaker (IsIdUpTo n) (IsIdUpTo m) (λ id k. (k.0, omega (arith, ints))) (ids_of node.content) h
 
--- a node without children behind the others
+-- a node without children after the others
 pub EveryIdNamesANode-push : (nodes : List yaml_node_t) (node : yaml_node_t) → ids_of node.content ≡ [] → EveryIdNamesANode nodes
     → EveryIdNamesANode (nodes ++ node ∷ [])
 EveryIdNamesANode-push nodes node none h =
@@ -89,7 +89,7 @@ with_changed_node-set d now id n f old new now_is id_is old_is new_is =
     ∙ ap (λ (i : ℤ). with_changed_node d i f) (sym id_is)
     ∙ ap (λ (e : Document). with_changed_node e id f) now_is
 
--- the types of nodes, where one more node stands behind the others
+-- the types of nodes, where one more node follows the others
 pub slice_get-push_old : (nodes : List yaml_node_t) (node : yaml_node_t) (n : ℕ) → n < length nodes → slice_get (nodes ++ node ∷ []) n ≡ slice_get nodes n
 slice_get-push_old [] node n h = absurd (omega arith)
 slice_get-push_old (first ∷ nodes) node zero h = refl

@@ -25,7 +25,7 @@ pub record AreNodes (nodes : List yaml_node_t) : Type 0 where
   pub ids : EveryIdNamesANode nodes
   pub count : length nodes ≤ most_nodes
 
--- one more node behind the others
+-- one more node after the others
 abbrev pub with_node : Document → yaml_node_t → Document
 with_node d node = record d { nodes = d.nodes ++ node ∷ [] }
 

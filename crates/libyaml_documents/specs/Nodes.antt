@@ -60,7 +60,7 @@ sequence_node tag style = node_of (tag_or (codes "tag:yaml.org,2002:seq") tag) (
 abbrev pub mapping_node : Option (List ℕ) → yaml_mapping_style_t → yaml_node_t
 mapping_node tag style = node_of (tag_or (codes "tag:yaml.org,2002:map") tag) (Mapping (record { pairs = []; style = style }))
 
--- one more item behind those of a sequence
+-- one more item after those of a sequence
 abbrev pub item_behind : ℤ → unnamed_yaml_node_t_data → unnamed_yaml_node_t_data
 item_behind id (Scalar s) = Scalar s
 item_behind id (Sequence s) = Sequence (record s { items = s.items ++ id ∷ [] })
@@ -69,7 +69,7 @@ item_behind id (Mapping m) = Mapping m
 abbrev pub with_item : ℤ → yaml_node_t → yaml_node_t
 with_item id node = record node { content = item_behind id node.content }
 
--- one more pair behind those of a mapping
+-- one more pair after those of a mapping
 abbrev pub pair_behind : yaml_node_pair_t → unnamed_yaml_node_t_data → unnamed_yaml_node_t_data
 pair_behind p (Scalar s) = Scalar s
 pair_behind p (Sequence s) = Sequence s

@@ -261,7 +261,7 @@ impl yaml_node_t {
         }
     }
 
-    /// Puts an item behind the others of this sequence.
+    /// Puts an item after the others of this sequence.
     pub(crate) fn push_item(&mut self, item: yaml_node_item_t) -> Result<(), AllocError>
         requires { IsSequence self.old }
         ensures ok { OnOk result (self.new ≡ with_item item self.old) }
@@ -276,7 +276,7 @@ impl yaml_node_t {
         }
     }
 
-    /// Puts a pair behind the others of this mapping.
+    /// Puts a pair after the others of this mapping.
     pub(crate) fn push_pair(&mut self, pair: yaml_node_pair_t) -> Result<(), AllocError>
         requires { IsMapping self.old }
         ensures ok { OnOk result (self.new ≡ with_pair pair.key pair.value self.old) }

@@ -12,7 +12,7 @@ pub trait yaml_token_source_t {
     /// How many tokens it may still give.
     ghost bound: { Self → ℕ };
 
-    /// From the first, the source may give this answer and go on to the second.
+    /// From the first, the source may return this result and go on to the second.
     ghost gives: { Self → Answer → Self → Type 0 };
 
     /// The tokens to come and the fault that ends them, where they are known.

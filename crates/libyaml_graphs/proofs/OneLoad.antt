@@ -30,7 +30,7 @@ follow (e ∷ r) = go (opening_of e) (follow r)
     go None h = h
     go (Some o) h = left_behind r
 
--- where a document has no end nothing stands behind it
+-- where a document has no end nothing follows it
 none_behind : (r : List Event) → document_end r ≡ None → behind_document r ≡ []
 none_behind [] h = refl
 none_behind (e ∷ r) h = go (closing_of e) h (none_behind r)
@@ -51,7 +51,7 @@ first_load stop (b ∷ bs) x z = go (stop (parts b.rest)) (document_end b.rest)
     go None (Some c) = refl
     go None None = refl
 
--- behind the last load that one comes again and again
+-- after the last load that one comes again and again
 at_last : (n : ℕ) (x : Ending) → last_load x ≡ unless_fault (last_load x) (load_at (last_load x) n (last_load x ∷ []))
 at_last zero Ends = refl
 at_last zero (Fails f) = refl

@@ -141,7 +141,7 @@ room_next r x n h = go (begun r) h
     go [] k = refl
     go (b ∷ bs) k = ap (λ (g : Option Fault). answer g (document_end b.rest) b.opening (graph [] (parts b.rest)) (last_load x)) (fits_stop (parts b.rest) n k.0)
 
--- a document that nothing stops has no composer fault, and its lists have room
+-- a document that nothing stops has no composer error, and its lists have room
 abbrev Unstopped : ℕ → List Start → List Part → List Part → Type 0
 Unstopped n es F P = (composer_fault es P ≡ None) × (nat_lt n (length (all_behind es P)) ≡ false) × (one_above n (list_sizes [] (F ++ P)) ≡ false)
 

@@ -42,7 +42,7 @@ mutual
   values_behind no_values r = refl
   values_behind (first_value v vs) r = value_behind v (values_events vs r) ∙ values_behind vs r
 
--- the parts of a value hang on those behind it alone
+-- the parts of a value hang on those after it alone
 abbrev put : Part → List Part → List Part
 put p l = p ∷ l
 
@@ -82,7 +82,7 @@ text_loads d m n v i p q r x =
     ∙ (ap (λ (ns : List yaml_node_t). load_then (composer_fault [] (parts (value_events v []))) (Some c) o ns (last_load x) (loads r x)) (value_graph v [] [])
     ∙ ends_itself (composer_fault [] (parts (value_events v []))) c o (nodes_of v [] []) (last_load x) (last_load Ends) (loads r x))))
 
--- the loads of whole documents are their graphs by their values, up to the first composer fault
+-- the loads of whole documents are their graphs by their values, up to the first composer error
 texts_load : (ts : Texts) (r : List Event) (x : Ending) → loads (texts_events ts r) x ≡ loads_of ts (loads r x)
 texts_load no_texts r x = refl
 texts_load (text_behind ts d m n v i p q) r x = texts_load ts (event (ev.DocumentStart d) m n ∷ value_events v (document_end_at i p q ∷ r)) x
@@ -91,7 +91,7 @@ texts_load (text_behind ts d m n v i p q) r x = texts_load ts (event (ev.Documen
 pub whole_loads : (l : List Event) (n : IsNested l) (x : Ending) → loads l x ≡ loads_of n.texts (last_load x ∷ [])
 whole_loads l n x = ap (λ (k : List Event). loads k x) n.all ∙ texts_load n.texts (stream_end_at n.end n.end_end ∷ []) x
 
--- the front of a list that ends no document ends none
+-- the prefix of a list that ends no document ends none
 none_closes : (f r : List Event) → document_end (f ++ r) ≡ None → document_end f ≡ None
 none_closes [] r h = refl
 none_closes (e ∷ f) r h = go (closing_of e) h (none_closes f r)
@@ -104,7 +104,7 @@ none_closes (e ∷ f) r h = go (closing_of e) h (none_closes f r)
 front_closes : (f : List Event) → BeginsValue f → document_end f ≡ None
 front_closes f b = none_closes f b.rest (ap document_end (sym b.all) ∙ value_closing b.val [])
 
--- a document whose end is missing gives its composer fault, if it has one, and else the run's ending
+-- a document whose end is missing gives its composer error, if it has one, and else the run's ending
 open_loads : (d : unnamed_yaml_event_t_data_document_start) (m n : Mark) (f : List Event) (x : Ending) → document_end f ≡ None
     → loads (event (ev.DocumentStart d) m n ∷ f) x ≡ open_load (event (ev.DocumentStart d) m n ∷ f) x ∷ []
 open_loads d m n f x e =

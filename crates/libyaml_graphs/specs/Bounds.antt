@@ -80,7 +80,7 @@ HaveRoom n (b ∷ bs) = StaysWithin n (parts b.rest) × (composer_fault [] (part
 abbrev pub HasRoom : ℕ → List Event → Type 0
 HasRoom n e = HaveRoom n (begun e)
 
--- none of these loads is want of memory
+-- none of these loads is out of memory
 abbrev pub NoneLacksMemory : List Load → Type 0
 NoneLacksMemory [] = Unit {0}
 NoneLacksMemory (Ok d ∷ l) = NoneLacksMemory l

@@ -31,7 +31,7 @@ document o nodes c = record {
   end_mark = c.mark;
 }
 
--- the end of the document that the events are in, if it comes, and the events behind that end
+-- the end of the document that the events are in, if it comes, and the events after that end
 abbrev pub document_end : List Event → Option Closing
 document_end [] = None
 document_end (e ∷ r) = elim (closing_of e) [ Some c ↦ Some c | None ↦ document_end r ]
@@ -46,7 +46,7 @@ answer (Some f) c o nodes last = Err f
 answer None (Some c) o nodes last = Ok (document o nodes c)
 answer None None o nodes last = last
 
--- and behind it the loads l, where it is whole
+-- and after it the loads l, where it is whole
 abbrev pub load_then : Option Fault → Option Closing → Opening → List yaml_node_t → (last : Load) → List Load → List Load
 load_then (Some f) c o nodes last l = Err f ∷ []
 load_then None (Some c) o nodes last l = Ok (document o nodes c) ∷ l
@@ -96,7 +96,7 @@ loads e x = loads_by (composer_fault []) x (begun e)
 abbrev pub next_load : List Event → Ending → Load
 next_load e x = next_by (composer_fault []) x (begun e)
 
--- The loads of whole documents by the trees of their values, up to the first composer fault, and behind them l.
+-- The loads of whole documents by the trees of their values, up to the first composer error, and after them l.
 abbrev pub loads_of : Texts → List Load → List Load
 loads_of no_texts l = l
 loads_of (text_behind ts d m n v i p q) l

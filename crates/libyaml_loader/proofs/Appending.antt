@@ -66,7 +66,7 @@ no_key None h = refl
 no_key (Some i) h = absurd cc
 
 module _ (c : loader_ctx) (p : Open) (child : NodeId) (top : Some (open_of p) ≡ innermost c.stack) where
-  -- the context behind a child, and that its parent's list had room
+  -- the context after a child, and that its parent's list had room
   pub record Handed (r : ChildRole) (new : Document) : Type 0 where
     pub context : record c { document = new; stack = stack_behind r (id_of child) c.stack } ≡ handed_to (id_of child) c
     pub room : parent_full c.max_entries c.stack c.document.nodes ≡ false

@@ -1,4 +1,4 @@
--- Behind the stream's end a load changes nothing.
+-- After the stream's end a load changes nothing.
 use Rattle.std.proofs.Common.{◌≡◌, Ok, Err, true, false, sym, ap, ◌∙◌}
 use Rattle.libyaml_types.specs.declared.enums.yaml_error_type_t.{yaml_error_type_t}
 use Rattle.libyaml_types.specs.Events.{empty_event}

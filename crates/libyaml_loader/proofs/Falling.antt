@@ -15,7 +15,7 @@ module _ {A X : Type 0} (E : A → Type 0) where
   falls_later (Ok a) first old new h (inl e) = inl e
   falls_later (Ok a) first old new h (inr k) = inr (falls_since first old new h k)
 
-  -- where the answer is not the one at the end
+  -- where the result is not the one at the end
   pub has_fallen : (r : Result A X) (a : A) (old new : ℕ) → r ≡ Ok a → (E a → ⊥) → IfOk r (λ b. E b ⊎ (new < old)) → new < old
   has_fallen r a old new is differs h = go (subst (λ q. IfOk q (λ b. E b ⊎ (new < old))) is h)
     where

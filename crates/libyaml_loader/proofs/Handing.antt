@@ -149,7 +149,7 @@ hands_nothing n p child s nodes top t leaf is =
       full_is = y.2;
     })
 
--- the context behind it
+-- the context after it
 pub handed_by : (n i : ℕ) (c : loader_ctx) (nodes : List yaml_node_t) (s : List machine.Open) (full : Bool) → Hands n i c.stack c.document.nodes nodes s full
     → record c { document = with_nodes nodes c.document; stack = s } ≡ handed_to i c
 handed_by n i c nodes s full h =

@@ -1,4 +1,4 @@
--- A node put behind the others, registered and handed to its parent, as a step of the loader's machine.
+-- A node put after the others, registered and handed to its parent, as a step of the loader's machine.
 use Rattle.std.proofs.Common.{◌≡◌, ◌≤◌, ◌<◌, ◌+◌, ◌++◌, ℤ, pos, add-one, ◌∷◌, List, [], ℕ, zero, suc, length, arith, ap, refl, sym, subst, ◌∙◌, inl, inr}
 use Rattle.std.proofs.Common.{Option, Some, None, Bool, true, false, length-append}
 use Rattle.libyaml_documents.specs.declared.node.yaml_node_t.{yaml_node_t}
@@ -54,7 +54,7 @@ node_refused n l x opens a b (known first) f p (inl h) = inl (h, refl)
 node_refused n l x opens a b (known first) f p (inr h)
     = inr (ap (λ (c : Bool). after_node n l x opens c b (known first)) p ∙ ap (λ (g : Refusal). failed (fault_by g)) (sym h))
 
--- The context behind a node, `before` the one before it, and d its document with the node.
+-- The context after a node, `before` the one before it, and d its document with the node.
 module _ (before mid : loader_ctx) (d : Document) (node : yaml_node_t) (added : d ≡ with_node before.document node) (rest : mid
     ≡ record before { document = d; anchors = mid.anchors }) where
   mid_is : mid ≡ record before { document = with_nodes (before.document.nodes ++ node ∷ []) before.document; anchors = mid.anchors }

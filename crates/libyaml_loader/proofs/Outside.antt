@@ -1,4 +1,4 @@
--- Behind the last event of a document, and where none is left, the parser stands between documents.
+-- After the last event of a document, and where none is left, the parser stands between documents.
 use Rattle.std.proofs.Common.{◌≡◌, ◌⊎◌, Some, IfOk, Ok, Result, true, false, refl, inl, inr}
 use Rattle.libyaml_types.specs.declared.enums.yaml_error_type_t.{yaml_error_type_t}
 use Rattle.libyaml_types.specs.declared.event.unnamed_yaml_event_t_data.{unnamed_yaml_event_t_data}
@@ -30,7 +30,7 @@ module _ {S : Type 0} (new : Parser S) (r : EventOrError) (e : Event) (is : r �
   pub behind_close : (m : yaml_mark_t) (c : Closing) → closing_in e.content m ≡ Some c → between_documents new ≡ true
   behind_close m c closes = (rw is at stands) (end_outside e.content m c closes)
 
--- behind a step that does not go on
+-- after a step that does not go on
 pub behind_step : {S : Type 0} (new : Parser S) (r : Result Step yaml_error_type_t) (s : Step) → r ≡ Ok s → (s ≡ step.Composed → ⊥)
     → IfOk r (λ (x : Step). (x ≡ step.Composed) ⊎ (between_documents new ≡ true)) → between_documents new ≡ true
 behind_step new r s is more stands = go (rw is at stands)

@@ -63,7 +63,7 @@ none_left between = refl
 none_left (within o l) = refl
 
 module _ {S : Type 0} (gives : S → Answer → S → Type 0) (known : S → Option Coming) (MayBreak : S → Fault → Type 0) (n : ℕ) where
-  -- a load behind events that were taken
+  -- a load after events that were taken
   pub behind : (s t : State) (old mid new : Parser S) (a : List Event) (r : DocumentOrError) → Took gives known old mid a → Reaches n s t a
       → LoadsFrom gives known MayBreak (load_from n t) (left_from t) mid r new → LoadsFrom gives known MayBreak (load_from n s) (left_from s) old r new
   behind s t old mid new a (Ok d) took h (whole b more loads left stands) =

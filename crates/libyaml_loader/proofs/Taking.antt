@@ -112,7 +112,7 @@ module _ {S : Type 0} (gives : S → Answer → S → Type 0) (known : S → Opt
             record { later = f.later; all = f.first; run = f.run };
       }
 
-      -- behind a document's end the parser stands between documents
+      -- after a document's end the parser stands between documents
       pub behind_end : is_event e.content ≡ true → (asked : List Token) (given : List Event) → History old asked given → (d : Closing) → closing_of e ≡ Some d
           → between_documents new ≡ true
       behind_end an_event asked given h d closes =

@@ -53,7 +53,7 @@ abbrev pub RefusesAnchor : Registered → yaml_mark_t → Refusal → Type 0
 RefusesAnchor (known first) m r = (r ≡ Memory) ⊎ (r ≡ RepeatedAnchor first m)
 RefusesAnchor (registered xs) m r = r ≡ Memory
 
--- a node was put behind the others, its anchor registered, and it was handed to its parent
+-- a node was put after the others, its anchor registered, and it was handed to its parent
 pub record NodeLoaded (old new : loader_ctx) (id : NodeId) (anchor : Option (List ℕ)) (node : yaml_node_t) : Type 0 where
   pub id_is : id_of id ≡ suc (length old.document.nodes)
   pub anchors : register anchor (suc (length old.document.nodes)) node.start_mark old.anchors ≡ registered new.anchors
@@ -72,7 +72,7 @@ abbrev pub ParentRefuses : loader_ctx → Refusal → Type 0
 ParentRefuses c r = (r ≡ Memory)
     × ((parent_grows c.stack c.document.nodes ≡ true) ⊎ (parent_full c.max_entries c.stack c.document.nodes ≡ true))
 
--- a growth was refused, where there may be one, or the machine fails by this refusal
+-- an allocation failed, where there may be one, or the machine fails by this refusal
 abbrev pub RefusedBy : (grows : Bool) → Loading → Refusal → Type 0
 RefusedBy grows o r = ((r ≡ Memory) × (grows ≡ true)) ⊎ (o ≡ failed (fault_by r))
 

@@ -44,7 +44,7 @@ abbrev pub may_grow : Loader → Option Part → Bool
 may_grow l None = false
 may_grow l (Some p) = part_grows l p
 
--- Behind these events the load stands within a document, where this one may take memory.
+-- After these events the load stands within a document, where this one may take memory.
 pub record GrowsAt (load : List Event → Ending → Load) (before : List Event) (e : Event) : Type 0 where
   pub most : ℕ
   pub opening : Opening

@@ -1,4 +1,4 @@
--- What a load asked for, took and answered (docs/DEFINITIONS.md, "Loads of a parser").
+-- What a load asked for, took and returned (docs/DEFINITIONS.md, "Loads of a parser").
 use Rattle.std.specs.Prelude.{◌≡◌, ◌++◌, ◌∷◌, List, [], Option, None, Result, Ok, Err, true, false}
 use Rattle.libyaml_types.specs.declared.enums.yaml_error_type_t.{yaml_error_type_t}
 use Rattle.libyaml_documents.specs.Documents.{Document, empty_document}
@@ -16,7 +16,7 @@ use Rattle.libyaml_grammar.specs.sentences.Tokens.{Token}
 use Rattle.libyaml_graphs.specs.Loads.{Load, last_load}
 use Rattle.libyaml_loader.specs.Growth.{GrowsAt}
 
--- what a load answers
+-- what a load returns
 abbrev pub DocumentOrError : Type 0
 DocumentOrError = Result Document yaml_error_type_t
 
@@ -48,8 +48,8 @@ pub record HasEnded {S : Type 0} (p : Parser S) : Type 0 where
   pub no_fault : has_failed p ≡ false
   pub whole : ForHistory p IsWhole
 
--- A load that answered a document: it took the events up to a document's end, which have that document whatever stands
--- behind them; or all events up to the stream's end, where the parser has ended, and the document is that without root.
+-- A load that returned a document: it took the events up to a document's end, which have that document whatever stands
+-- after them; or all events up to the stream's end, where the parser has ended, and the document is that without root.
 pub data Loads {S : Type 0} (gives : S → Answer → S → Type 0) (known : S → Option Coming) (load : List Event → Ending → Load) (left : List Event
     → List Event) (old new : Parser S) (d : Document) : Type 0 where
   whole : (taken : List Event) → Took gives known old new taken → ((rest : List Event) (x : Ending) → load (taken ++ rest) x ≡ Ok d)
@@ -60,8 +60,8 @@ pub data Loads {S : Type 0} (gives : S → Answer → S → Type 0) (known : S �
       → d ≡ empty_document None [] false false
       → ((asked : List Token) (given : List Event) → History old asked given → HasEnded new) → Loads gives known load left old new d
 
--- A load that failed: behind the events that it took the parser did, and these have no fault of a load; or these have one,
--- which the parser keeps; or a growth was refused at the last of them, where the load may take memory.
+-- A load that failed: after the events that it took the parser did, and these have no fault of a load; or these have one,
+-- which the parser keeps; or an allocation failed at the last of them, where the load may take memory.
 pub data LoadFails {S : Type 0} (gives : S → Answer → S → Type 0) (known : S → Option Coming) (MayBreak : S → Fault → Type 0) (load : List Event → Ending
     → Load) (left : List Event → List Event) (old new : Parser S) : Type 0 where
   by_parser : (taken : List Event) (parser : Parser S) → Took gives known old parser taken → ParserFails gives known MayBreak parser new

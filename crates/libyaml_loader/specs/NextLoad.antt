@@ -12,12 +12,12 @@ use Rattle.libyaml_events.specs.sources.Source.{Coming}
 use Rattle.libyaml_graphs.specs.Loads.{Load}
 use Rattle.libyaml_loader.specs.Loading.{DocumentOrError}
 
--- A load answers this document, and these events are to come; or it answers this fault's error, and the fault is kept.
+-- A load returns this document, and these events are to come; or it returns this fault's error, and the fault is kept.
 abbrev pub Answers : {S : Type 0} → (known : S → Option Coming) → Load → DocumentOrError → (new : Parser S) → (to_come : List Event) → Ending → Type 0
 Answers known (Ok d) r new to_come ending = (r ≡ Ok d) × RunToCome known new to_come ending
 Answers known (Err f) r new to_come ending = (r ≡ Err f.error) × (kept_fault new ≡ f)
 
--- Unless a growth was refused, or the source broke off by a fault that it names as possible.
+-- Unless an allocation failed, or the source broke off by a fault that it names as possible.
 pub data UnlessBroken {S : Type 0} (MayBreak : S → Fault → Type 0) (r : DocumentOrError) (new : Parser S) (Does : Type 0) : Type 0 where
   does : Does → UnlessBroken MayBreak r new Does
   no_memory : r ≡ Err YAML_MEMORY_ERROR → kept_fault new ≡ memory_fault → UnlessBroken MayBreak r new Does

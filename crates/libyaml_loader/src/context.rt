@@ -132,7 +132,7 @@ impl loader_ctx {
         }
     }
 
-    /// Puts a scalar behind the nodes and into the innermost open collection.
+    /// Puts a scalar after the nodes and into the innermost open collection.
     ///
     /// libyaml: `yaml_parser_load_scalar`.
     fn yaml_parser_load_scalar(
@@ -154,7 +154,7 @@ impl loader_ctx {
         Ok(())
     }
 
-    /// Puts a sequence behind the nodes and into the innermost open collection, and opens it.
+    /// Puts a sequence after the nodes and into the innermost open collection, and opens it.
     ///
     /// libyaml: `yaml_parser_load_sequence`.
     fn yaml_parser_load_sequence(
@@ -180,7 +180,7 @@ impl loader_ctx {
         Ok(())
     }
 
-    /// Puts a mapping behind the nodes and into the innermost open collection, and opens it.
+    /// Puts a mapping after the nodes and into the innermost open collection, and opens it.
     ///
     /// libyaml: `yaml_parser_load_mapping`.
     fn yaml_parser_load_mapping(
@@ -206,8 +206,8 @@ impl loader_ctx {
         Ok(())
     }
 
-    /// Puts a node without children behind the others and into the innermost open collection, and
-    /// answers its id.
+    /// Puts a node without children after the others and into the innermost open collection, and
+    /// returns its id.
     #[inline(always)]
     fn load_node(&mut self, anchor: Option<String>, node: yaml_node_t) -> Result<NodeId, Refusal>
         requires ids { IdsAreIn (loader_of self.old) }

@@ -61,8 +61,8 @@ enum Step {
 
 /// The next document, or at the stream's end the document without root.
 ///
-/// Answers the error of a fault, which the parser keeps for good: one of the parser; an alias whose
-/// anchor no node before it carries, or a second node with an anchor; want of memory, where a growth is
+/// Returns the error of a fault, which the parser keeps for good: one of the parser; an alias whose
+/// anchor no node before it carries, or a second node with an anchor; out of memory, where a growth is
 /// refused or a list of the document would have more than `max_entries` entries.
 ///
 /// libyaml: `yaml_parser_load`.
@@ -70,10 +70,10 @@ pub fn yaml_parser_load<S: yaml_token_source_t>(
     parser: &mut yaml_parser_t<S>,
 ) -> Result<yaml_document_t, yaml_error_type_t>
     requires between { between_documents parser.old ≡ true }
-    // a fault that is kept is answered for good
+    // a fault that is kept is returned for good
     ensures kept { has_failed parser.old ≡ true → (result ≡ Err (kept_fault parser.old).error)
         × (parser.new ≡ parser.old) }
-    // behind the stream's end nothing changes
+    // after the stream's end nothing changes
     ensures ended { is_over parser.old ≡ true → has_failed parser.old ≡ false
         → (result ≡ Ok (empty_document None [] false false)) × (parser.new ≡ parser.old) }
     ensures fails { IfErr result (λ x. (x ≡ (kept_fault parser.new).error) × (is_over parser.new ≡ true)) }

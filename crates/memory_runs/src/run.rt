@@ -29,7 +29,7 @@ pub fn hand_out(outcome: Outcome, bytes: &[u8], out: &mut [u8]) -> memory_run_t
     }
 }
 
-/// Puts the front of these bytes into `out`, as far as that has room.
+/// Puts the prefix of these bytes into `out`, as far as that has room.
 fn put(outcome: memory_outcome_t, bytes: &[u8], out: &mut [u8]) -> memory_run_t
     ensures outcome { result.outcome ≡ outcome }
     ensures bytes { HandsOut bytes.now out.old out.new result }

@@ -1,9 +1,9 @@
-//! What a check of a program of rows answers: what is wrong, if anything is.
+//! What a check of a program of rows returns: what is wrong, if anything is.
 
 use anyhow::Result;
 use std::io;
 
-/// What a check without rows answers.
+/// What a check without rows returns.
 pub fn unless(holds: bool, what: &'static str) -> Option<&'static str> {
     (!holds).then_some(what)
 }
@@ -13,7 +13,7 @@ pub fn unless_made(answer: Result<bool>, what: &'static str) -> Option<&'static 
     unless(matches!(answer, Ok(true)), what)
 }
 
-/// What a check of rows answers: the first wrong row, or what couldn't be made.
+/// What a check of rows returns: the first wrong row, or what couldn't be made.
 pub fn first_wrong(
     answer: Result<Option<&'static str>>,
     what: &'static str,
@@ -32,7 +32,7 @@ pub fn is_text<E>(made: &Result<String, E>, wanted: &str) -> bool {
     }
 }
 
-/// Names what is wrong, and counts the checks, of which each answers that.
+/// Names what is wrong, and counts the checks, of which each returns that.
 pub fn show_checks(rt: &impl Print, of: &str, checks: &[Option<&'static str>]) -> io::Result<()> {
     let mut differ = 0u64;
     for check in checks {

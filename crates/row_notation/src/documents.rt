@@ -72,9 +72,9 @@ fn show_node(shown: &mut String, node: &yaml_node_t) -> Result<()> {
     show_marks(shown, node.start_mark, node.end_mark)
 }
 
-/// A document with its fields and nodes, behind what was shown before.
+/// A document with its fields and nodes, after what was shown before.
 ///
-/// Errors: want of memory.
+/// Errors: out of memory.
 pub fn show_document(shown: &mut String, document: &yaml_document_t) -> Result<()> {
     if !shown.is_empty() {
         shown.push_str(" ")?;
@@ -101,7 +101,7 @@ pub fn show_document(shown: &mut String, document: &yaml_document_t) -> Result<(
 
 /// A document, shown alone.
 ///
-/// Errors: want of memory.
+/// Errors: out of memory.
 pub fn shown_document(alloc: Global, document: &yaml_document_t) -> Result<String> {
     let mut shown = String::new(alloc);
     let whole = show_document(&mut shown, document);

@@ -169,9 +169,9 @@ fn show_content(shown: &mut String, content: &unnamed_yaml_event_t_data) -> Resu
     Ok(())
 }
 
-/// An event with its marks, behind what was shown before.
+/// An event with its marks, after what was shown before.
 ///
-/// Errors: want of memory.
+/// Errors: out of memory.
 pub fn show_event(shown: &mut String, event: &yaml_event_t) -> Result<()> {
     if !shown.is_empty() {
         shown.push_str(" ")?;
@@ -182,7 +182,7 @@ pub fn show_event(shown: &mut String, event: &yaml_event_t) -> Result<()> {
 
 /// An event, shown alone.
 ///
-/// Errors: want of memory.
+/// Errors: out of memory.
 pub fn shown_event(alloc: Global, event: &yaml_event_t) -> Result<String> {
     let mut shown = String::new(alloc);
     let whole = show_event(&mut shown, event);

@@ -16,10 +16,10 @@ pub fn are_same_faults(one: &yaml_parser_t_prefix, other: &yaml_parser_t_prefix)
         && one.context_mark == other.context_mark
 }
 
-/// The error that a call answered, and the fault that the parser keeps, with all its fields, behind what
+/// The error that a call returned, and the fault that the parser keeps, with all its fields, after what
 /// was shown before.
 ///
-/// Errors: want of memory.
+/// Errors: out of memory.
 pub fn show_fault(
     shown: &mut String,
     answered: yaml_error_type_t,
@@ -52,9 +52,9 @@ pub fn show_fault(
     Ok(())
 }
 
-/// The fault that ended a whole run, if one did, behind what was shown before.
+/// The fault that ended a whole run, if one did, after what was shown before.
 ///
-/// Errors: want of memory.
+/// Errors: out of memory.
 pub fn show_end(shown: &mut String, fault: Option<yaml_parser_t_prefix>) -> Result<()> {
     match fault {
         Some(fault) => show_fault(shown, fault.error, &fault),

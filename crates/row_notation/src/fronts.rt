@@ -1,4 +1,4 @@
-//! Fronts of a row, with each error of a source behind them.
+//! Prefixes of a row, with each error of a source after them.
 
 use crate::events::mark;
 use crate::faults::show_fault;
@@ -30,7 +30,7 @@ pub fn ends_of_sources() -> [yaml_source_fault_t; 3] {
 
 /// How the fault by which a source ends is shown.
 ///
-/// Errors: want of memory.
+/// Errors: out of memory.
 pub fn shown_end(alloc: Global, end: &yaml_source_fault_t) -> Result<String> {
     let mut shown = String::new(alloc);
     let fault = end.prefix();
@@ -46,8 +46,8 @@ fn begins(front: &str, whole: &str) -> bool {
     }
 }
 
-/// Whether what a front of a row gives begins what the row gives and is ended by `fault`, which stands
-/// behind the front, or is all that the row gives.
+/// Whether what a prefix of a row gives begins what the row gives and is ended by `fault`, which stands
+/// after the front, or is all that the row gives.
 pub fn is_front(front: &str, whole: &str, fault: &str) -> bool {
     match front.strip_suffix(fault) {
         Some(before) => begins(before.trim_end(), whole),
@@ -63,10 +63,10 @@ pub fn is_front_shown(front: &Result<String>, whole: &str, fault: &str) -> bool 
     }
 }
 
-/// How a refused growth is shown.
+/// How a failed allocation is shown.
 const REFUSED: &str = "fault 1";
 
-/// Whether two runs show the same, or one of them is the other's beginning with a refused growth behind it.
+/// Whether two runs show the same, or one of them is the other's beginning with a failed allocation after it.
 /// An error is a growth that was refused beside the run, and only one of the two can have met it.
 pub fn are_same_or_cut(one: &Result<String>, other: &Result<String>) -> bool {
     match (one, other) {
@@ -76,7 +76,7 @@ pub fn are_same_or_cut(one: &Result<String>, other: &Result<String>) -> bool {
     }
 }
 
-/// Whether one of these is the other's beginning with a refused growth behind it, or they are the same.
+/// Whether one of these is the other's beginning with a failed allocation after it, or they are the same.
 fn is_cut(one: &str, other: &str) -> bool {
     is_front(one, other, REFUSED) || is_front(other, one, REFUSED)
 }

@@ -6,7 +6,7 @@
 //! A mark of a row is shown by its index, and any other by all its numbers.
 //!
 //! Events: `+S` `-S` stream, `+Di` `+De` `-Di` `-De` document (implicit, explicit), `=a` scalar, `*a`
-//! alias, `+Q` `-Q` block sequence or end, `+M` `-M` block mapping or end, `+[` and `+{` flow. Behind
+//! alias, `+Q` `-Q` block sequence or end, `+M` `-M` block mapping or end, `+[` and `+{` flow. After
 //! a scalar's value or a collection's start stand `&anchor` and `<tag>`, where there are any, `/` and
 //! the flags where they are not those of an untagged plain node, and the style of a scalar that isn't
 //! plain. Then come both marks in parentheses.

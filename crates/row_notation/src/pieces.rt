@@ -29,7 +29,7 @@ pub struct PieceReader<'a> {
 }
 
 impl<'a> PieceReader<'a> {
-    /// A reader of these bytes that answers so many calls.
+    /// A reader of these bytes that fails after so many calls.
     pub fn new(bytes: &'a [u8], piece: usize, calls_left: usize) -> Self {
         PieceReader {
             bytes,
@@ -76,7 +76,7 @@ pub struct PieceWriter {
 }
 
 impl PieceWriter {
-    /// A writer that answers so many calls. Takes no memory.
+    /// A writer that fails after so many calls. Takes no memory.
     pub fn new(alloc: Global, piece: usize, calls_left: usize) -> Self {
         PieceWriter {
             written: Vec::new(alloc),

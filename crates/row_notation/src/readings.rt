@@ -18,7 +18,7 @@ pub enum Reading {
     Documents,
 }
 
-/// What loading answers.
+/// What loading returns.
 type Loaded = Result<yaml_document_t, yaml_error_type_t>;
 
 fn count_nodes(answer: &Loaded) -> Result<usize, yaml_error_type_t> {
@@ -28,7 +28,7 @@ fn count_nodes(answer: &Loaded) -> Result<usize, yaml_error_type_t> {
     }
 }
 
-/// How many nodes the next document has; None where the parser stands amid a document.
+/// How many nodes the next document has; None where the parser stands within a document.
 fn next_nodes<S: yaml_token_source_t>(
     parser: &mut yaml_parser_t<S>,
 ) -> Option<Result<usize, yaml_error_type_t>> {
@@ -39,7 +39,7 @@ fn next_nodes<S: yaml_token_source_t>(
     Some(count_nodes(&answer))
 }
 
-/// Whether loads answer the fault that the parser keeps, again and again; or, where it keeps none, a document
+/// Whether loads return the fault that the parser keeps, again and again; or, where it keeps none, a document
 /// without root.
 pub fn is_loaded<S: yaml_token_source_t>(parser: &mut yaml_parser_t<S>) -> bool {
     let kept = *parser.prefix();
@@ -65,7 +65,7 @@ fn show_rooted(shown: &mut String, document: &yaml_document_t) -> Result<bool> {
     Ok(is_rooted)
 }
 
-/// Shows what a load answers, and says whether more may come.
+/// Shows what a load returns, and says whether more may come.
 fn show_loaded(shown: &mut String, answer: &Loaded, fault: &yaml_parser_t_prefix) -> Result<bool> {
     match answer {
         Ok(document) => show_rooted(shown, document),
@@ -73,7 +73,7 @@ fn show_loaded(shown: &mut String, answer: &Loaded, fault: &yaml_parser_t_prefix
     }
 }
 
-/// Shows what one load gives behind what was shown before, and says whether more may come.
+/// Shows what one load gives after what was shown before, and says whether more may come.
 fn show_load<S: yaml_token_source_t>(
     shown: &mut String,
     parser: &mut yaml_parser_t<S>,
@@ -86,7 +86,7 @@ fn show_load<S: yaml_token_source_t>(
     show_loaded(shown, &answer, parser.prefix())
 }
 
-/// Shows the documents of a parser with a root, and the fault behind them, if there is one.
+/// Shows the documents of a parser with a root, and the fault after them, if there is one.
 fn show_loads<S: yaml_token_source_t>(
     shown: &mut String,
     parser: &mut yaml_parser_t<S>,
@@ -99,7 +99,7 @@ fn show_loads<S: yaml_token_source_t>(
     Ok(())
 }
 
-/// Shows what a parser gives, and the fault behind it.
+/// Shows what a parser gives, and the fault after it.
 fn show_reading<S: yaml_token_source_t>(
     shown: &mut String,
     parser: &mut yaml_parser_t<S>,
@@ -111,7 +111,7 @@ fn show_reading<S: yaml_token_source_t>(
     }
 }
 
-/// Shows the same, behind which nothing else may come.
+/// Shows the same, after which nothing else may come.
 fn show_whole<S: yaml_token_source_t>(
     shown: &mut String,
     parser: &mut yaml_parser_t<S>,
@@ -132,10 +132,10 @@ fn show_source<S: yaml_token_source_t + Drop>(
     show_whole(shown, &mut parser, reading)
 }
 
-/// What a source gives, and the fault behind it. That has to be the end, and the fault has to be kept, by
+/// What a source gives, and the fault after it. That has to be the end, and the fault has to be kept, by
 /// loads too.
 ///
-/// Errors: want of memory, a load that would begin amid a document, and an answer that isn't kept.
+/// Errors: out of memory, a load that would begin within a document, and a result that isn't kept.
 pub fn shown<S: yaml_token_source_t + Drop>(
     alloc: Global,
     source: S,

@@ -46,7 +46,7 @@ pub fn gives_event<S: yaml_token_source_t>(parser: &mut yaml_parser_t<S>) -> boo
     gives_empty(parser) == Some(false)
 }
 
-/// Shows what a call of the parser answers, and says whether more may come.
+/// Shows what a call of the parser returns, and says whether more may come.
 fn show_answer(
     shown: &mut String,
     answer: &Result<yaml_event_t, yaml_error_type_t>,
@@ -67,10 +67,10 @@ fn show_next<S: yaml_token_source_t>(
     show_answer(shown, &answer, parser.prefix())
 }
 
-/// The events of a parser and the fault behind them, if there is one, behind what was shown before; then
+/// The events of a parser and the fault after them, if there is one, after what was shown before; then
 /// ` more` where anything but the empty event follows.
 ///
-/// Errors: want of memory.
+/// Errors: out of memory.
 pub fn show_events<S: yaml_token_source_t>(
     shown: &mut String,
     parser: &mut yaml_parser_t<S>,
@@ -88,7 +88,7 @@ pub fn show_events<S: yaml_token_source_t>(
 
 /// What `show_events` shows, alone.
 ///
-/// Errors: want of memory.
+/// Errors: out of memory.
 pub fn show_run<S: yaml_token_source_t>(
     alloc: Global,
     parser: &mut yaml_parser_t<S>,

@@ -95,7 +95,7 @@ fn content_of(alloc: Global, word: &str) -> Result<unnamed_yaml_token_t_data> {
 
 /// The tokens of a row.
 ///
-/// Errors: a word that names no token, a payload that is none, and want of memory.
+/// Errors: a word that names no token, a payload that is none, and out of memory.
 pub fn tokens_of(alloc: Global, row: &str) -> Result<Vec<yaml_token_t>> {
     let mut tokens = Vec::new(alloc);
     let mut at = 0u64;
@@ -129,7 +129,7 @@ pub fn source_of(alloc: Global, row: &str) -> Result<yaml_list_source_t> {
 
 /// Appends a pattern, with this text for each `@`.
 ///
-/// Errors: want of memory.
+/// Errors: out of memory.
 pub fn put_text(out: &mut String, pattern: &str, text: &str) -> Result<()> {
     for letter in pattern.chars() {
         put_letter(out, letter, text)?;

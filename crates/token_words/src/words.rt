@@ -21,7 +21,7 @@ pub enum Run {
     Nodes,
 }
 
-/// Runs what the words behind the program's name ask for, from `reader` to `output`, and answers the
+/// Runs what the words after the program's name ask for, from `reader` to `output`, and returns the
 /// exit status. The words are looked at before anything is read.
 ///
 /// A line for the user goes to `errors`; if it can't be written, the status stays.
@@ -86,7 +86,7 @@ pub fn no_memory<E: Write>(errors: &mut E) -> u8
     refuse(OUTPUT_FAILED, "yamltokens: no memory\n", errors)
 }
 
-/// Writes a line for the user, and answers the status.
+/// Writes a line for the user, and returns the status.
 fn refuse<E: Write>(status: u8, line: &str, errors: &mut E) -> u8
     ensures { result ≡ status }
 {

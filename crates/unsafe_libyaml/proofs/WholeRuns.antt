@@ -32,7 +32,7 @@ pub record Left {S : Type 0} (known : S → Option Coming) (p : Parser S) (given
   pub all : e ≡ given ++ later
   pub to_come : RunToCome known p later x
 
--- amid the run over a source: the parser gave these events since it was made
+-- within the run over a source: the parser gave these events since it was made
 pub record Reached {S : Type 0} (gives : S → Answer → S → Type 0) (known : S → Option Coming) (source : S) (p : Parser S) (given : List Event) : Type 0 where
   pub asked : List Token
   pub history : History p asked given
@@ -40,7 +40,7 @@ pub record Reached {S : Type 0} (gives : S → Answer → S → Type 0) (known :
   pub running : is_over p ≡ false
   pub left : (l : List Token) (f : Fault) (e : List Event) (x : Ending) → IsRun l f e x → known source ≡ Some (coming l f) → Left known p given e x
 
--- the source gave these answers after those tokens
+-- the source gave these results after those tokens
 pub gave_on : {S : Type 0} (gives : S → Answer → S → Type 0) (l : List Token) (r : List Answer) (a b c : S) → Gave gives a (answers l []) b → Gave gives b r c
     → Gave gives a (answers l r) c
 gave_on gives [] r a b c h k = subst (λ x. Gave gives x r c) h k
@@ -205,7 +205,7 @@ module _ {S : Type 0} (gives : S → Answer → S → Type 0) (known : S → Opt
         (stopped_so p f (sym fault ∙ h) kept other fails);
   }
 
--- the run over a tree's tokens, by the law of the run over these and any others behind them
+-- the run over a tree's tokens, by the law of the run over these and any others after them
 pub tree_runs : ((t : Stream) (r : List Token) (f : Fault) → in_order t ≡ true → IsRun (tokens t ++ r) f (events t) Ends) → (t : Stream) (f : Fault)
     → in_order t ≡ true → IsRun (tokens t) f (events t) Ends
 tree_runs law t f o = subst (λ (l : List Token). IsRun l f (events t) Ends) (append-nil (tokens t)) (law t [] f o)

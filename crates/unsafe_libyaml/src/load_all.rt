@@ -31,7 +31,7 @@ use std::alloc::{AllocError, Global};
 pub struct yaml_documents_t {
     /// The documents in their order. Each has a root.
     pub documents: Vec<yaml_document_t>,
-    /// The fault behind them, or `None` where the stream ends behind the last.
+    /// The fault after them, or `None` where the stream ends after the last.
     pub fault: Option<yaml_parser_t_prefix>,
 }
 
@@ -48,12 +48,12 @@ pub fn yaml_parser_load_all<S: yaml_token_source_t + Drop>(
     alloc: Global,
     source: S,
 ) -> Result<yaml_documents_t, AllocError>
-    // the tokens of a tree in order give its documents' graphs, up to the first composer fault
+    // the tokens of a tree in order give its documents' graphs, up to the first composer error
     ensures of_tree { (t : Stream) (f : Fault) → in_order t ≡ true
         → S.known source ≡ Some (coming (tokens t) f)
         → IfOk result (λ all. (n : IsNested (events t))
         × LoadsTo S.gives S.may_break source all (loads_of n.texts (last_load Ends ∷ []))) }
-    // a cut tree that fits gives those of its whole documents, and then the open one's composer fault or
+    // a cut tree that fits gives those of its whole documents, and then the open one's composer error or
     // its own
     ensures of_cut_tree { (before : List Token) (token : Token) (behind : List Token) (c : Cut) (f : Fault)
         → Fits before token c

@@ -27,7 +27,7 @@ use std::alloc::{AllocError, Global};
 pub struct yaml_run_t {
     /// The events in their order.
     pub events: Vec<yaml_event_t>,
-    /// The fault behind them, or `None` where the last is the stream's end.
+    /// The fault after them, or `None` where the last is the stream's end.
     pub fault: Option<yaml_parser_t_prefix>,
 }
 

@@ -45,10 +45,10 @@ pub fn end_document(document: &mut yaml_document_t, implicit: bool, end_mark: ya
     document.end_mark = end_mark;
 }
 
-/// Puts a node without children behind the others, and answers its id: the count of nodes with it.
+/// Puts a node without children after the others, and returns its id: the count of nodes with it.
 /// The node is moved.
 ///
-/// Answers `TooManyNodes` where 2147483647 nodes stand, else `Memory` where the growth is refused;
+/// Returns `TooManyNodes` where 2147483647 nodes stand, else `Memory` where the allocation fails;
 /// the document is then as it was.
 #[inline(always)]
 pub fn append_node(document: &mut yaml_document_t, node: yaml_node_t) -> Result<i32, yaml_refusal_t>

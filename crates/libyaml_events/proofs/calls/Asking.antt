@@ -10,13 +10,13 @@ use Rattle.libyaml_events.specs.sources.History.{answers}
 use Rattle.libyaml_events.specs.declared.next.Want.{Want}
 use Rattle.libyaml_events.specs.declared.next.Progress.TheVariants.{Given, Wants}
 
--- behind a step a further token is asked for only where one is wanted
+-- after a step a further token is asked for only where one is wanted
 abbrev pub AsksOn : Progressed → (Want → Config → Type 0) → List Answer → Type 0
 AsksOn (Err f) More rest = rest ≡ []
 AsksOn (Ok (Given e, c)) More rest = rest ≡ []
 AsksOn (Ok (Wants w, c)) More rest = More w c
 
--- each of these answers is asked for where the machine wants a token
+-- each of these results is asked for where the machine wants a token
 abbrev pub Asks : Want → Config → List Answer → Type 0
 Asks w c [] = Unit {0}
 Asks w c (Err f ∷ rest) = rest ≡ []
@@ -47,7 +47,7 @@ refused_ask [] w c h = tt
 refused_ask (Err f ∷ rest) w c h = absurd h
 refused_ask (Ok t ∷ rest) w c h = refused_ask_on (may_grow w c t.content) rest (λ w' c'. refused_ask rest w' c') (step w c t) h
 
--- the answers before a refused growth are tokens
+-- the results before a failed allocation are tokens
 pub record AreTokens (a : List Answer) : Type 0 where
   pub tokens : List Token
   pub are : a ≡ answers tokens []

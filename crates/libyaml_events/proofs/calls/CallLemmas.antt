@@ -30,7 +30,7 @@ of_source-snoc (Err f ∷ rest) a h i = (h.0, of_source-snoc rest a h.1 i)
 taken_same : (c : Config) → c.lookahead ≡ None → taken c ≡ c
 taken_same c e = ap (λ (l : Option yaml_token_t). let d : Config = record c { lookahead = l } in d) (sym e)
 
--- amid a call: what it asked so far, and that the rest of the call is the rest of the whole
+-- within a call: what it asked so far, and that the rest of the call is the rest of the whole
 pub record Reading {S : Type 0} (gives : S → Answer → S → Type 0) (first now : Parser S) (w : Want) : Type 0 where
   pub begun : ended_or_failed first.config ≡ false
   pub bound : now.max_entries ≡ first.max_entries
@@ -42,7 +42,7 @@ pub record Reading {S : Type 0} (gives : S → Answer → S → Type 0) (first n
   pub refuses_on : (rest : List Answer) → Refused w (taken now.config) (held now.config ++ rest)
       → Refused AtState (taken first.config) (held first.config ++ (asked ++ rest))
 
--- amid a call, with a token in hand
+-- within a call, with a token in hand
 pub record InHand {S : Type 0} (gives : S → Answer → S → Type 0) (first now : Parser S) (w : Want) (t : yaml_token_t) : Type 0 where
   pub begun : ended_or_failed first.config ≡ false
   pub bound : now.max_entries ≡ first.max_entries
@@ -55,7 +55,7 @@ pub record InHand {S : Type 0} (gives : S → Answer → S → Type 0) (first no
   pub refuses_on : (rest : List Answer) → RefusedAt (may_grow w now.config t.content) (step w now.config t) (λ w' c'. Refused w' c' rest) rest
       → Refused AtState (taken first.config) (held first.config ++ (asked ++ rest))
 
--- a growth refused at a later token
+-- an allocation that failed at a later token
 refused_later : (grows : Bool) (w : Want) (c : Config) (rest : List Answer) → Refused w c rest
     → RefusedAt grows (Ok (Wants w, c)) (λ w' c'. Refused w' c' rest) rest
 refused_later grows w c [] k = absurd k
@@ -120,7 +120,7 @@ module _ {S : Type 0} (gives : S → Answer → S → Type 0) (first now : Parse
     does = not_over first.config hand.asked (Ok e) new.config hand.begun (rw append-nil at (hand.goes_on [] (Ok e) new.config (rw h.0 (refl, refl, refl))));
   }
 
-  -- so does a fault of the grammar, or want of memory where the step may take some
+  -- so does a fault of the grammar, or out of memory where the step may take some
   pub gave_fault : (x : yaml_error_type_t) (new : Parser S) → Steps (step w now.config t) now (Err x) new
       → (x ≡ YAML_MEMORY_ERROR → may_grow w now.config t.content ≡ true) → Call gives first (Err x) new
   gave_fault YAML_MEMORY_ERROR new h grows = record {

@@ -1,4 +1,4 @@
--- What a call's answers lead to.
+-- What a call's results lead to.
 use Rattle.std.proofs.Common.{◌≡◌, List, [], ◌∷◌, ◌++◌, ◌||◌, Some, None, refl, sym, ap, ◌∙◌, subst, Bool, true, false, Ok, Err}
 use Rattle.libyaml_events.specs.machine.Machine.{Progressed, step}
 use Rattle.libyaml_grammar.specs.sentences.Trees.{behind, whole}
@@ -44,7 +44,7 @@ abbrev Further : List Answer → Type 0
 Further position_rest = (l : List Token) (events : List Event) (w : Want) (c : Config) → Stands l events w c → (r : EventOrError) (d : Config)
     → Calls w c position_rest r d → Answered r d l position_rest events
 
--- the position_rest of a call behind a step
+-- the position_rest of a call after a step
 led : (position_rest : List Answer) → Further position_rest → (l : List Token) (events : List Event) (o : Progressed) → Leads o l events
     → (r : EventOrError) (d : Config) → Then o (λ w c. Calls w c position_rest r d) position_rest r d → Answered r d l position_rest events
 led position_rest ih l events (Err f) h r d (i, j, k)

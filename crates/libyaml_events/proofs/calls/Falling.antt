@@ -264,7 +264,7 @@ module _ (c : Config) where
   at_a_state YAML_PARSE_FLOW_MAPPING_EMPTY_VALUE_STATE k m n e f = omega arith
   at_a_state YAML_PARSE_END_STATE k m n e f = tt
 
-  -- behind a token that was asked for
+  -- after a token that was asked for
   fresh : (w : Want) (k : Content) (m : Marks) (n : ℕ) → n ≡ length c.states + 6 → FallsBelow (machine w (taken c) (tok k m) k) n
   fresh AtState k m n e = larger (at_state c.state (taken c) (tok k m) k) (length c.states + rank c.state k) n (let r
       = rank_small c.state k in omega arith) (at_a_state c.state k m (length c.states + rank c.state k) refl refl)
@@ -311,7 +311,7 @@ module _ (c : Config) where
 abbrev weight : Config → ℕ
 weight c = length c.states + held_rank c.state c.lookahead
 
--- the rest of a call behind a step
+-- the rest of a call after a step
 then_falls : (rest : List Answer) (e : Event) (d : Config) (n : ℕ)
     → ((w : Want) (c : Config) → c.lookahead ≡ None → Calls w c rest (Ok e) d → weight d < length c.states + 6 * length rest) → (o : Progressed)
     → FallsBelow o n → Then o (λ w' c'. Calls w' c' rest (Ok e) d) rest (Ok e) d → weight d < n + 6 * length rest

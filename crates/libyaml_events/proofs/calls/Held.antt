@@ -74,7 +74,7 @@ at_last : (t : Token) (d : Config) → (d.lookahead ≡ None) ⊎ (d.lookahead �
 at_last t d (inl h) = record { before = t ∷ []; all = ap (λ (o : Option Token). t ∷ tokens_in o) (sym h) }
 at_last t d (inr h) = record { before = []; all = ap tokens_in (sym h) }
 
--- behind a step
+-- after a step
 then_ends : (t : Token) (l : List Token)
     → ((w : Want) (c : Config) → c.lookahead ≡ None → (e : Event) (d : Config) → Calls w c (answers l []) (Ok e) d → EndsIn d l) → (o : Progressed)
     → HeldOn o t → (e : Event) (d : Config) → Then o (λ w c. Calls w c (answers l []) (Ok e) d) (answers l []) (Ok e) d → EndsIn d (t ∷ l)

@@ -193,7 +193,7 @@ behind_same : (a l r : List Event) → a ++ l ≡ a ++ r → l ≡ r
 behind_same [] l r e = e
 behind_same (x ∷ a) l r e = behind_same a l r (rest_same x x (a ++ l) (a ++ r) e)
 
--- more tokens stand behind the properties, too
+-- more tokens follow the properties, too
 longer : (c : Cut) (l r : List Token) → is_behind_properties c l ≡ true → is_behind_properties c (l ++ r) ≡ true
 longer (at_tag p) [] r e = absurd cc
 longer (at_tag p) (t ∷ l) r e = go t.content l e
@@ -215,7 +215,7 @@ all_waited c l (by_last front t e f g) = g
 
 module _ {S : Type 0} (gives_to : S → Answer → S → Type 0) (known : S → Option Coming) (MayBreak : S → Fault → Type 0) (follows : (s t : S) (a : Answer)
     → gives_to s a t → Follows (MayBreak t) (known s) a (known t)) where
-  -- tokens that a known source gave are the front of its list
+  -- tokens that a known source gave are the prefix of its list
   pub in_order : (more : List Token) (s t : S) → Gave gives_to s (answers more []) t → (list : List Token) (f : Fault) → known s ≡ Some (coming list f)
       → KnowsRest known more list f t
   in_order [] s t g list f k = record { rest = list; all = refl; knows = ap known g ∙ k }

@@ -102,7 +102,7 @@ over_between true s h = refl
 over_between false st.YAML_PARSE_END_STATE h = refl
 over_between false _ h = absurd cc
 
--- behind an event that leaves no document open the parser stands between documents
+-- after an event that leaves no document open the parser stands between documents
 pub stands_outside : {S : Type 0} (gives : S → Answer → S → Type 0) (old new : Parser S) (r : EventOrError) → Call gives old r new
     → IfOk r (λ e. is_outside_event e.content ≡ true → between_documents new ≡ true)
 stands_outside gives old new (Err x) h = tt

@@ -1,4 +1,4 @@
--- Where the parser stands amid a call, a token more is needed.
+-- Where the parser stands within a call, a token more is needed.
 use Rattle.std.proofs.Common.{◌≡◌, List, [], refl, sym, ◌∙◌, subst}
 use Rattle.libyaml_grammar.specs.cuts.Settled.{IsOpen}
 use Rattle.libyaml_events.specs.sources.Needs.{NeedsMore, for_next_event, amid_properties}
@@ -18,7 +18,7 @@ use Rattle.libyaml_grammar.proofs.lent.Settling.{front_open, gives_sure}
 use Rattle.libyaml_events.proofs.machine.Stand.{Stood, amid_node, at_place}
 use Rattle.libyaml_events.proofs.machine.Waiting.{still_waits}
 
--- behind a beginning that is no sentence the next event is not settled
+-- after a beginning that is no sentence the next event is not settled
 pub open_there : (a : List Token) (p : Position) → reads_all a unopened ≡ goes p → ((t : Stream) → p ≡ done t → ⊥) → IsFront a (front p)
     × (gives_all a unopened [] ≡ sure (front p))
 open_there a p e n =

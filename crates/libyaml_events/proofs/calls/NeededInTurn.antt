@@ -54,7 +54,7 @@ one_needed asked more given e h front t behind i =
       needs = subst (NeedsMore (asked ++ front)) (sym (nil_right given)) n.1;
     }
 
--- further calls behind those
+-- further calls after those
 pub both_needed : (asked a b : List Token) (given x y : List Event) → EachWasNeeded asked a given x → EachWasNeeded (asked ++ a) b (given ++ x) y
     → EachWasNeeded asked (a ++ b) given (x ++ y)
 both_needed asked a b given x y h k front t behind e = go (place a b front t behind e)

@@ -101,7 +101,7 @@ standing_no_end l g w c s = go s.stood
     go (amid_node before b later q x p e f h i j k m) = ap has_end e
         ∙ end_append before (b ∷ later) (no_end before q f (not_over_bad q b x h)) (waits_no_end before x b later p j (stops_fits before b q x f h).tag)
 
--- each answer of a call was needed
+-- each result of a call was needed
 pub each_needed : (c : Config) (asked : List Token) (g : List Event) (a : List Answer) (r : EventOrError) (d : Config) → Links c asked g
     → ended_or_failed c ≡ false → CallsUnlessRefused AtState (taken c) (held c ++ a) r d → EachNeeded asked a g
 each_needed c asked g a r d links begun h front x behind e =
@@ -138,7 +138,7 @@ source_error : (l : List Token) (f : Fault) → AreOfSource (answers l (Err f �
 source_error [] f h = h.0
 source_error (t ∷ l) f h = source_error l f h
 
--- tokens behind a token
+-- tokens after a token
 pub tokens_behind : (u : Token) (a : List Answer) → AreTokens (Ok u ∷ a) → AreTokens a
 tokens_behind u a h = go h.tokens h.are
   where

@@ -64,7 +64,7 @@ module _ (ss : List yaml_parser_state_t) (ms : List Mark) where
       go (z ∷ zs) [] h i = absurd i
       go (z ∷ zs) (n ∷ ns) h i = refl
 
-  -- an event behind which the parser goes back, and which leaves its token or keeps it
+  -- an event after which the parser goes back, and which leaves its token or keeps it
   goes_back : (e : unnamed_yaml_event_t_data) (m n : Mark) (d : Config) → IsFull d.states
       → give e m n (popped (raised ss ms d)) ≡ lifted (give e m n (popped d))
   goes_back e m n d h = ap (give e m n) (popped_raised d h)
@@ -132,7 +132,7 @@ module _ (ss : List yaml_parser_state_t) (ms : List Mark) where
       = subst (λ (o : Progressed). Then o (λ w' c'. Calls w' c' rest r (raised ss ms d)) rest r (raised ss ms d)) (sym (raised_on st c w t t.content g m))
       (same_then rest r d c st (same_calls rest r d st) (step w c t) (good_on st c n w t t.content g) (marked_on w c t t.content m) z)
 
-  -- so for a call that meets a refused growth
+  -- so for a call that meets a failed allocation
   abbrev SameRefusals : List Answer → Stage → Type 0
   SameRefusals a st = (w : Want) (c : Config) → c.lookahead ≡ None → Good w c st → IsMarked w c → Refused w c a → Refused w (raised ss ms c) a
 

@@ -1,4 +1,4 @@
--- a token behind properties that is no further property
+-- a token after properties that is no further property
 use Rattle.std.proofs.Common.{◌≡◌, ℕ, List, Option, None, Some, true, refl}
 use Rattle.std.specs.Option.{is_some}
 use Rattle.libyaml_types.specs.declared.token.yaml_token_t.{yaml_token_t}

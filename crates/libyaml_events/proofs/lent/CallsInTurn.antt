@@ -1,4 +1,4 @@
--- Calls in turn: the answers of the source stand one behind another, and so do the events.
+-- Calls in turn: the results of the source stand one after another, and so do the events.
 use Rattle.std.proofs.Common.{◌≡◌, List, [], ◌∷◌, ◌++◌, refl, sym, subst, append_assoc}
 use Rattle.libyaml_grammar.specs.runs.Fault.{Answer}
 use Rattle.libyaml_grammar.specs.sentences.Tokens.{Token}

@@ -269,7 +269,7 @@ end_holds_none YAML_PARSE_END_STATE ss l st h e = (refl, h.2)
 end_holds_none YAML_PARSE_STREAM_START_STATE ss l st h e = absurd cc
 end_holds_none _ ss l st h e = absurd cc
 
--- behind the stream end event the tokens are a tree's, and the events are the tree's
+-- after the stream end event the tokens are a tree's, and the events are the tree's
 pub staged_whole : (c : Config) (asked : List Token) (g : List Event) → Links c asked g → Staged c g → is_at_end (stage_of g) ≡ true → IsWhole asked g
 staged_whole c asked g links h e = go links
   where
@@ -411,7 +411,7 @@ refused_at YAML_PARSE_FLOW_SEQUENCE_ENTRY_MAPPING_END_STATE ss o st g c t k More
 refused_at YAML_PARSE_END_STATE ss o st g c t k More rest h l q = ap (λ (x : Stage). takes_no_memory x l) g.1
 refused_at _ ss o st g c t k More rest h l q = ap (λ (x : Stage). takes_no_memory x l) g.1
 
--- a growth is refused only where the call may take memory
+-- an allocation fails only where the call may take memory
 pub refused_stage : (c : Config) (g : List Event) → Staged c g → (before l : List Token) → Refused AtState (taken c) (answers l [])
     → takes_no_memory (stage_of g) (before ++ l) ≡ false
 refused_stage c g h before [] z = absurd z

@@ -48,7 +48,7 @@ IsProperty _ = ⊥
 abbrev pub more : ℕ → List Event → Config → Token → List Event × End
 more n r d t = spends n AtState d t.content (marks_of t) r
 
--- behind a whole node
+-- after a whole node
 documents_follow : (n : ℕ) (d : Documents) (k : Content) (m : Marks) (r : List Event)
     → spends (suc (suc n)) AtState (config_of (between (behind d))) k m r ≡ (
       given_behind_documents k m r,
@@ -320,7 +320,7 @@ nothing_follows n (flow_value (open_collection p o mapping s is) e y v) FlowMapp
 nothing_follows n (flow_value (open_collection p o mapping s is) e y v) k m r w
     = node_follows (suc (suc n)) (flow_value (open_collection p o mapping s is) e y v) k m r refl
 
--- the machine's content behind properties
+-- the machine's content after properties
 abbrev head_of : Place → Properties → NodeHead
 head_of p ps = record {
   anchor = anchor_of (Some ps);
@@ -372,7 +372,7 @@ want_filled (flow_value c e y v) x = refl
 abbrev Behind : ℕ → Place → Properties → Content → Marks → List Event → Progressed → Step → List Event → Type 0
 Behind n p ps k m r o s g = after o (more (suc (suc (suc n))) r) r ≡ (g, step_ends s no_directives k m)
 
--- properties with no content: the token goes on behind them
+-- properties with no content: the token goes on after them
 only_follow : (n : ℕ) (p : Place) (ps : Properties) (k : Content) (m : Marks) (r : List Event)
     → Behind n p ps k m r (alone_given p ps k m) (without p (Some ps) k m) (given_without p (Some ps) k m r)
 only_follow n p ps k m r = ap (emit (alone_of (declared p) ps)) (ap (λ (d : Config). spends (suc (suc (suc n))) AtState d k m r) (popped_flow p (alone ps) k m)
@@ -425,7 +425,7 @@ content_follows n p ps BlockMappingStart m r w = mapping_follows n p ps m r
 content_follows n p ps BlockEntry m r w = entry_follows n p ps m r
 content_follows n p ps k m r w = none_follow n p ps k m r
 
--- a token behind properties
+-- a token after properties
 abbrev Behaves : ℕ → Place → Properties → Content → Marks → List Event → Type 0
 Behaves n p ps k m r = spends (suc (suc (suc (suc n)))) (want_of (due p (Some ps))) (config_of (due p (Some ps))) k m r
     ≡ (given_on_due p (Some ps) k m r, step_ends (on_due p (Some ps) k m) no_directives k m)

@@ -19,7 +19,7 @@ use Rattle.libyaml_events.specs.declared.next.Want.{Want}
 use Rattle.libyaml_events.specs.declared.next.Want.TheVariants.{AtState}
 use Rattle.libyaml_events.specs.declared.next.Progress.TheVariants.{Given, Wants}
 
--- events are given before those that come behind
+-- events are given before those that come after
 after_split : (n : ℕ) (o : Progressed) (r : List Event)
     → ((w : Want) (c : Config) (k : Content) (m : Marks) → (spends n w c k m r).0 ≡ (spends n w c k m []).0 ++ r)
     → (after o (more n r) r).0 ≡ (after o (more n []) []).0 ++ r

@@ -47,7 +47,7 @@ handles_of no_directives = no_handles
 handles_of (directive ds (version v m)) = handles_of ds
 handles_of (directive ds (tag_directive d m)) = insert (handles_of ds) d.handle d.prefix
 
--- the state behind a key or value
+-- the state after a key or value
 abbrev pub behind_state : Role → yaml_parser_state_t
 behind_state key = YAML_PARSE_BLOCK_MAPPING_VALUE_STATE
 behind_state value = YAML_PARSE_BLOCK_MAPPING_KEY_STATE
@@ -57,7 +57,7 @@ abbrev pub role_state : Role → yaml_parser_state_t
 role_state key = YAML_PARSE_BLOCK_MAPPING_KEY_STATE
 role_state value = YAML_PARSE_BLOCK_MAPPING_VALUE_STATE
 
--- the stack of states amid a node: where the parser goes on behind it, and behind each node around it
+-- the stack of states within a node: where the parser goes on after it, and after each node around it
 abbrev mutual
   pub states_block : BlockPlace → List yaml_parser_state_t
   states_block (root t) = YAML_PARSE_DOCUMENT_END_STATE ∷ []
@@ -202,7 +202,7 @@ ended_free (ended e) = true
 abbrev pub free_config : Free → Handles → Config
 free_config f hs = record (config YAML_PARSE_IMPLICIT_DOCUMENT_START_STATE [] [] hs) { behind_document_end = ended_free f }
 
--- where a document's start is due, behind directives
+-- where a document's start is due, after directives
 abbrev pub headed_config : Before → Handles → Config
 headed_config (free f) hs = free_config f hs
 headed_config (behind d) hs = config YAML_PARSE_DOCUMENT_START_STATE [] [] hs
@@ -266,7 +266,7 @@ pub data End : Type 0 where
   fails : Fault → End
   stuck : End
 
--- all that a token makes the machine do, and behind its events r; n bounds the steps
+-- all that a token makes the machine do, and after its events r; n bounds the steps
 abbrev pub emit : Event → List Event × End → List Event × End
 emit e (es, x) = (e ∷ es, x)
 

@@ -63,7 +63,7 @@ entered_steps out old (Some s) (Ok (Given e)) new h = h
 entered_steps out old (Some s) (Ok (Wants w)) new h = h
 entered_steps out old (Some s) (Err e) new h = h
 
--- a node is read behind the state that comes next
+-- a node is read after the state that comes next
 pub reads_node : {S : Type 0} (s : Slot) (end : yaml_mark_t) (t : yaml_token_t) (old mid : Parser S) (p : NodePlace) (r : Result Progress yaml_error_type_t)
     (new : Parser S) → false ≡ is_nothing_before s t.content → p ≡ place s → mid ≡ with_config old (entered (state_behind s) old.config)
     → Steps (parse_node p mid.config t t.content) mid r new → Steps (at_slot s end old.config t t.content) old r new

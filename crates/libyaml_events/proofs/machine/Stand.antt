@@ -1,4 +1,4 @@
--- Where the machine stands amid a call and between calls, and where a step of it leads.
+-- Where the machine stands within a call and between calls, and where a step of it leads.
 use Rattle.std.proofs.Common.{◌≡◌, ℕ, zero, suc, List, [], ◌∷◌, ◌++◌, Option, Some, None, refl, sym, ap, ◌∙◌, subst, ◌⊎◌, inl, inr, Bool, true, false, Ok, Err}
 use Rattle.libyaml_events.specs.machine.Machine as mach
 use Rattle.libyaml_events.specs.machine.Machine.{Progressed}
@@ -36,7 +36,7 @@ use Rattle.libyaml_events.specs.declared.next.Want.TheVariants.{AtState}
 use Rattle.libyaml_events.specs.declared.next.Progress.TheVariants.{Given, Wants}
 use Rattle.libyaml_types.specs.declared.enums.yaml_parser_state_t.TheVariants.{YAML_PARSE_END_STATE}
 
--- amid a call, behind tokens that are all consumed: at a position, or behind a bad TAG, while waiting
+-- within a call, after tokens that are all consumed: at a position, or after a bad TAG, while waiting
 pub data Stood (l : List Token) (events : List Event) (w : Want) (c : Config) : Type 0 where
   at_place : (q : Position) → reads_all l unopened ≡ goes q → IsMet q → w ≡ want_of q → c ≡ config_of q → events ≡ gives_all l unopened [] → Stood l events w c
   amid_node : (before : List Token) (b : Token) (later : List Token) (q : Position) (x : Cut) (p : Position) → l ≡ before ++ b ∷ later
@@ -47,7 +47,7 @@ pub record Stands (l : List Token) (events : List Event) (w : Want) (c : Config)
   pub stood : Stood l events w c
   pub goes_on : c.state ≡ YAML_PARSE_END_STATE → ⊥
 
--- amid a token t, which was asked for at a position: the machine is fed u, and has then done all that t makes it do
+-- within a token t, which was asked for at a position: the machine is fed u, and has then done all that t makes it do
 pub record Amid (l : List Token) (t : Token) (q : Position) (events : List Event) (n : ℕ) (w : Want) (c : Config) (u : Token) : Type 0 where
   pub read : reads_all l unopened ≡ goes q
   pub met : IsMet q
@@ -62,7 +62,7 @@ pub data Links (c : Config) (asked : List Token) (events : List Event) : Type 0 
   amid_token : (l : List Token) (t u : Token) (q : Position) (n : ℕ) → asked ≡ l ++ t ∷ [] → c.lookahead ≡ Some u → Amid l t q events n AtState (taken c) u
       → Links c asked events
 
--- how a run fails by the grammar: a cut tree's fault, when the tokens behind the properties have come
+-- how a run fails by the grammar: a cut tree's fault, when the tokens after the properties have come
 pub record Fails (asked : List Token) (events : List Event) (f : Fault) : Type 0 where
   pub before : List Token
   pub token : Token
@@ -157,7 +157,7 @@ never_stuck q k m (is_over x) g = no (document_start_fault m.start) (g ∙ ap (�
     no : (f : Fault) → stuck ≡ fails f → ⊥
     no f i = cc
 
--- a step that was asked for at a position is not behind the end
+-- a step that was asked for at a position is not after the end
 pub not_done : (q : Position) (w : Want) (c : Config) → c ≡ config_of q → (c.state ≡ YAML_PARSE_END_STATE → ⊥) → (t : Stream) → q ≡ done t → ⊥
 not_done q w c e g t f = g (ap (λ (x : Config). x.state) e ∙ at_end_state q t f)
 
@@ -215,7 +215,7 @@ Leads (Err f) l events = Fails l events f
 Leads (Ok (Wants w, c)) l events = Stands l events w c
 Leads (Ok (Given e, c)) l events = Links c l (events ++ e ∷ [])
 
--- amid a token
+-- within a token
 pub amid_leads : (l : List Token) (t : Token) (q : Position) (events : List Event) (n : ℕ) (w : Want) (c : Config) (u : Token)
     → (c.state ≡ YAML_PARSE_END_STATE → ⊥) → Amid l t q events n w c u → Leads (mach.step w c u) (l ++ t ∷ []) events
 amid_leads l t q events zero w c u on h = absurd (never_stuck q t.content (marks_of t) (does q t.content (marks_of t) h.met) h.ends_so)
@@ -261,7 +261,7 @@ place_amid l t q events e v d f =
 list_assoc : (a : List Token) (b : Token) (c : List Token) (t : Token) → a ++ b ∷ (c ++ t ∷ []) ≡ (a ++ b ∷ c) ++ t ∷ []
 list_assoc a b c t = sym (assoc a (b ∷ c) (t ∷ []))
 
--- amid a call
+-- within a call
 pub stand_leads : (l : List Token) (t : Token) (events : List Event) (w : Want) (c : Config) → Stands l events w c
     → Leads (mach.step w c t) (l ++ t ∷ []) events
 stand_leads l t events w c h = go h.stood

@@ -39,7 +39,7 @@ use Rattle.libyaml_events.specs.machine.Machine.{process_empty_scalar, resolve, 
 use Rattle.libyaml_events.specs.parsers.Pops.{raised}
 
 -- The kinds of places that states stand for: before the stream, between documents, where a node is due that the stack goes on
--- behind, after a document's root, at a collection's first entry, in an indentless sequence, in another collection, at the key
+-- after, after a document's root, at a collection's first entry, in an indentless sequence, in another collection, at the key
 -- of a flow sequence's pair or further on in it, and after the stream.
 pub data Kind : Type 0 where
   stream_start between node_due root_end first_entry indentless inner pair_key pair stream_end : Kind
@@ -241,7 +241,7 @@ module _ (ss : List yaml_parser_state_t) (ms : List Mark) (u : Token) where
   explicit_start c StreamEnd = ends_stream
   explicit_start c k = explicit (mach.no_directives u.start_mark) c k
 
-  -- behind an event the state says what comes
+  -- after an event the state says what comes
   at_a_state : (s : yaml_parser_state_t) (c : Config) (k : Content) → kind c.state ≡ kind s → StepKind c (kind s) (at_state s c u k) (at_state s (raised ss ms c) u k)
   at_a_state st.YAML_PARSE_STREAM_START_STATE c (StreamStart x) e = begins_stream _
   at_a_state st.YAML_PARSE_STREAM_START_STATE c k e = fails

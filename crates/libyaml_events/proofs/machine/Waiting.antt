@@ -1,4 +1,4 @@
--- Behind a TAG with an undefined handle the parser waits for the token behind the node's properties.
+-- After a TAG with an undefined handle the parser waits for the token after the node's properties.
 use Rattle.std.proofs.Common.{◌≡◌, List, [], ◌∷◌, ◌++◌, Option, Some, None, refl, sym, ap, ◌∙◌, subst, true, false, Ok, Err, ℕ}
 use Rattle.libyaml_events.specs.machine.Machine.{Progressed, step, machine, content_resolved, resolve}
 use Rattle.libyaml_grammar.specs.cuts.CutTrees.{declared}
@@ -23,7 +23,7 @@ abbrev pub IsAnchor : Content → Type 0
 IsAnchor (Anchor a) = Unit {0}
 IsAnchor _ = ⊥
 
--- behind an unknown tag
+-- after an unknown tag
 unknown_tag : (p : Place) (h : TagName) (x : Marks) (k : Content) (m : Marks) → is_known (declared p) h.handle ≡ false → (IsAnchor k → ⊥)
     → machine (want_of (due p (Some (tag h x)))) (config_of (due p (Some (tag h x)))) (tok k m) k ≡ Err (tag_fault x.start x.start)
 unknown_tag p h x (Anchor a) m e w = absurd (w tt)
@@ -60,7 +60,7 @@ unknown_tag_anchor p h x a y k m e = by k
     by (Tag g) = other (Tag g)
     by k = other k
 
--- the position behind a bad TAG and some tokens more, while the parser waits
+-- the position after a bad TAG and some tokens more, while the parser waits
 pub data Waits (x : Cut) (b : Token) (later : List Token) (p : Position) : Type 0 where
   behind_tag : (c : Place) (h : TagName) (n : Marks) → is_known (declared c) h.handle ≡ false → n ≡ (marks_of b) → x ≡ at_tag c → later ≡ []
       → p ≡ due c (Some (tag h n)) → Waits x b later p
@@ -75,7 +75,7 @@ still_waits x b later p (behind_anchor c h n a m u e f g i) = ap (λ (y : List T
     ∙ ap (λ (y : Cut). is_behind_properties y (tok (Anchor a) m ∷ [])) f
 still_waits x b later p (behind_both c a m h n u e f g i) = ap (λ (y : List Token). is_behind_properties x y) g ∙ ap (λ (y : Cut). is_behind_properties y []) f
 
--- a further token is an ANCHOR behind the TAG, or stands behind the properties
+-- a further token is an ANCHOR after the TAG, or follows the properties
 pub data WaitStep (x : Cut) (b : Token) (later : List Token) (t : Token) (o : Progressed) : Type 0 where
   waits_on : (p : Position) → o ≡ Ok (Wants (want_of p), config_of p) → Waits x b (later ++ t ∷ []) p → WaitStep x b later t o
   found : o ≡ Err (fault x b.content b.start_mark) → is_behind_properties x (later ++ t ∷ []) ≡ true → WaitStep x b later t o
@@ -115,7 +115,7 @@ wait_step x b later p (behind_both c a m h n u e f g i) t
     (subst (λ (y : Marks). Steps (at_tag_behind c a m) b [] (due c (Some (anchor_tag a m h y))) t) (sym e)
     (found (unknown_anchor_tag c a m h (marks_of b) t.content (marks_of t) u) refl))))
 
--- a tag that grammar takes, and that is unknown, is waited behind
+-- a tag that grammar takes, and that is unknown, is waited after
 pub held_waits : (p : Position) (b : Token) → IsTagHeld p false (marks_of b) → Waits (broken p) b [] p
 held_waits (due p (Some (tag h n))) b (u, e) = behind_tag p h n u e refl refl refl
 held_waits (due p (Some (anchor_tag a x h n))) b (u, e) = behind_both p a x h n u e refl refl refl

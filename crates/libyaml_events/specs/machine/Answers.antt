@@ -1,4 +1,4 @@
--- What a step answered, with what it left behind, as what the machine answers.
+-- What a step returned, and the event and the rest that it left, as the machine's result.
 use Rattle.std.specs.Prelude.{Result, Ok, Err}
 use Rattle.libyaml_types.specs.declared.event.yaml_event_t.{yaml_event_t}
 use Rattle.libyaml_types.specs.declared.enums.yaml_error_type_t.{yaml_error_type_t}
@@ -12,7 +12,7 @@ use Rattle.libyaml_events.specs.declared.next.Want.TheVariants.{BehindFlowMappin
 use Rattle.libyaml_events.specs.declared.next.Progress.{Progress}
 use Rattle.libyaml_events.specs.declared.next.Progress.TheVariants.{Given, Wants}
 
--- what the next token is wanted for; behind an event the state says it
+-- what the next token is wanted for; after an event the state says it
 abbrev pub wanted : Next → Pending → Want
 wanted next.Given p = AtState
 wanted next.AtState p = AtState

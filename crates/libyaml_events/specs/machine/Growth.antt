@@ -1,4 +1,4 @@
--- Where a step may take memory of the parser's own (docs/DEFINITIONS.md, "Growth"): a state is pushed behind which the
+-- Where a step may take memory of the parser's own (docs/DEFINITIONS.md, "Growth"): a state is pushed after which the
 -- parser goes on, the start of a collection is pushed, a tag directive is kept, or a tag is joined from its handle's prefix
 -- and its suffix. At all other steps none is taken.
 use Rattle.std.specs.Prelude.{ℕ, List, [], ◌∷◌, Option, None, Some, Bool, true, false, is_some}
@@ -39,7 +39,7 @@ grows_at_document behind_document_end (tok.VersionDirective v) = false
 grows_at_document behind_document_end tok.DocumentEnd = negated behind_document_end
 grows_at_document behind_document_end _ = true
 
--- a node that is not nothing is entered, behind which a state comes
+-- a node that is not nothing is entered, after which a state comes
 abbrev pub enters : Slot → unnamed_yaml_token_t_data → Bool
 enters Document k = false
 enters s k = negated (is_nothing_before s k)

@@ -105,7 +105,7 @@ parse_stream_start c t (tok.StreamStart s)
     = give (ev.StreamStart (record { encoding = s.encoding })) t.start_mark t.start_mark (at YAML_PARSE_IMPLICIT_DOCUMENT_START_STATE c)
 parse_stream_start c t _ = Err (stream_start_fault t.start_mark)
 
--- the document's root comes next, and its end behind it
+-- the document's root comes next, and its end after it
 abbrev pub begin_document : yaml_parser_state_t → Config → Config
 begin_document state c = record c { state = state; states = YAML_PARSE_DOCUMENT_END_STATE ∷ c.states; behind_document_end = false }
 
@@ -125,7 +125,7 @@ abbrev pub tag_directive : (declared_prefix : Option (List ℕ)) → DirectivesR
 tag_directive (Some earlier) d c m g = Err (duplicate_tag_fault m)
 tag_directive None d c m g = want (BehindDirective (record d { tag_directives = d.tag_directives ++ g ∷ [] })) (declared g.handle g.prefix c)
 
--- a directive or DOCUMENT-START, behind the directives d
+-- a directive or DOCUMENT-START, after the directives d
 abbrev pub explicit_document : DirectivesRead → Config → yaml_token_t → unnamed_yaml_token_t_data → Progressed
 explicit_document d c t (tok.VersionDirective v) = version_directive d.version d c t.start_mark (record { major = v.major; minor = v.minor })
 explicit_document d c t (tok.TagDirective g) = tag_directive (get c.handles g.handle) d c t.start_mark (record { handle = g.handle; prefix = g.prefix })
@@ -139,7 +139,7 @@ no_directives m = record { start_mark = m; version = None; tag_directives = [] }
 abbrev pub end_stream : Config → yaml_token_t → Progressed
 end_stream c t = give_at ev.StreamEnd t (at YAML_PARSE_END_STATE c)
 
--- a DOCUMENT-END behind another is skipped
+-- a DOCUMENT-END after another is skipped
 abbrev pub further_document_end : Bool → Config → yaml_token_t → Progressed
 further_document_end true c t = want AtState c
 further_document_end false c t = implicit_document c t
@@ -237,7 +237,7 @@ abbrev pub content_resolved : NodePlace → PropertiesRead → TagRead → Optio
 content_resolved p r g None c t k = Err (tag_fault r.start_mark g.mark)
 content_resolved p r g (Some tag) c t k = node_content p (head r (Some tag)) c t k
 
--- the content behind properties: an undefined handle is found now
+-- the content after properties: an undefined handle is found now
 abbrev pub content_behind : NodePlace → PropertiesRead → Option TagRead → Config → yaml_token_t → unnamed_yaml_token_t_data → Progressed
 content_behind p r None c t k = node_content p (head r None) c t k
 content_behind p r (Some g) c t k = content_resolved p r g (resolve c.handles g.handle g.suffix) c t k
@@ -274,7 +274,7 @@ parse_document_content c t tok.DocumentEnd = process_empty_scalar t.start_mark t
 parse_document_content c t tok.StreamEnd = process_empty_scalar t.start_mark t (popped c)
 parse_document_content c t k = parse_node Block c t k
 
--- block collections. Behind an indicator that ends at `end` comes a node, or an empty one.
+-- block collections. After an indicator that ends at `end` comes a node, or an empty one.
 
 abbrev pub first_block_sequence_entry : Config → yaml_token_t → Progressed
 first_block_sequence_entry c t = want AtState (at YAML_PARSE_BLOCK_SEQUENCE_ENTRY_STATE (pushed_mark t.start_mark c))
@@ -314,7 +314,7 @@ abbrev pub parse_block_mapping_value : Config → yaml_token_t → unnamed_yaml_
 parse_block_mapping_value c t tok.Value = want (BehindValue t.end_mark) c
 parse_block_mapping_value c t _ = process_empty_scalar t.start_mark t (at YAML_PARSE_BLOCK_MAPPING_KEY_STATE c)
 
--- behind KEY or VALUE, where `state` comes next
+-- after KEY or VALUE, where `state` comes next
 abbrev pub behind_block_indicator : yaml_parser_state_t → yaml_mark_t → Config → yaml_token_t → unnamed_yaml_token_t_data → Progressed
 behind_block_indicator state end c t tok.Key = process_empty_scalar end t (at state c)
 behind_block_indicator state end c t tok.Value = process_empty_scalar end t (at state c)
@@ -389,7 +389,7 @@ behind_flow_mapping_value c t k = parse_node Flow (pushed YAML_PARSE_FLOW_MAPPIN
 abbrev pub parse_flow_mapping_empty_value : Config → yaml_token_t → Progressed
 parse_flow_mapping_empty_value c t = process_empty_scalar t.start_mark t (at YAML_PARSE_FLOW_MAPPING_KEY_STATE c)
 
--- one token. Behind the stream's end none is asked for.
+-- one token. After the stream's end none is asked for.
 abbrev pub at_state : yaml_parser_state_t → Config → yaml_token_t → unnamed_yaml_token_t_data → Progressed
 at_state YAML_PARSE_STREAM_START_STATE c t k = parse_stream_start c t k
 at_state YAML_PARSE_IMPLICIT_DOCUMENT_START_STATE c t k = parse_implicit_document_start c t k

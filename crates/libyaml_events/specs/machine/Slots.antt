@@ -88,7 +88,7 @@ place PairValue = Flow
 place FlowKey = Flow
 place FlowValue = Flow
 
--- behind the indicator, or before the next token
+-- after the indicator, or before the next token
 abbrev pub empty_mark : Slot → (behind before : yaml_mark_t) → yaml_mark_t
 empty_mark BlockEntry behind before = behind
 empty_mark IndentlessEntry behind before = behind
@@ -100,7 +100,7 @@ empty_mark PairValue behind before = before
 empty_mark FlowKey behind before = before
 empty_mark FlowValue behind before = before
 
--- the machine's function of each row, behind an indicator that ends at `end`
+-- the machine's function of each row, after an indicator that ends at `end`
 abbrev pub at_slot : Slot → yaml_mark_t → Config → yaml_token_t → unnamed_yaml_token_t_data → Progressed
 at_slot BlockEntry end c t k = behind_block_entry end c t k
 at_slot IndentlessEntry end c t k = behind_indentless_entry end c t k

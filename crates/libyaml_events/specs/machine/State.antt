@@ -1,4 +1,4 @@
--- The states that the parser goes back to behind a node, and the bytes that stand for them (docs/DEFINITIONS.md, "The parser's states").
+-- The states that the parser goes back to after a node, and the bytes that stand for them (docs/DEFINITIONS.md, "The parser's states").
 use Rattle.std.specs.Prelude.{◌==◌, ◌||◌, ℕ, Bool, IsTrue, List, map, reverse, if◌then◌else◌}
 use Rattle.libyaml_types.specs.declared.enums.yaml_parser_state_t.{yaml_parser_state_t}
 use Rattle.libyaml_types.specs.declared.enums.yaml_parser_state_t.TheVariants.{YAML_PARSE_DOCUMENT_END_STATE, YAML_PARSE_BLOCK_SEQUENCE_ENTRY_STATE}

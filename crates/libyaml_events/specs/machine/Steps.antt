@@ -13,7 +13,7 @@ use Rattle.libyaml_events.specs.declared.node_head.TagRead.{TagRead}
 use Rattle.libyaml_events.specs.declared.next.Progress.{Progress}
 use Rattle.libyaml_events.specs.declared.next.Progress.TheVariants.{Given, Wants}
 
--- the machine's fault, or else a growth was refused, which is kept by its error alone
+-- the machine's fault, or else an allocation failed, which is kept by its error alone
 abbrev pub FailsAs : Config → Progressed → yaml_error_type_t → Type 0
 FailsAs new out YAML_NO_ERROR = ⊥
 FailsAs new out YAML_MEMORY_ERROR = new.fault ≡ memory_fault
@@ -38,7 +38,7 @@ ResolvesTo joined tag f old (Err YAML_PARSER_ERROR) new = (tag ≡ None) × (new
 ResolvesTo joined tag f old (Err _) new = ⊥
 
 -- the tag in full, or the fault of a handle that is not defined, in a node that begins at `start`; or, where the tag is
--- joined, a growth was refused
+-- joined, an allocation failed
 abbrev pub Resolves : {S Y : Type 0} → TagRead → yaml_mark_t → Parser S → Result (String Y) yaml_error_type_t → Parser S → Type 0
 Resolves g start old r new = ResolvesTo (has_prefix old.config.handles g.handle) (resolve old.config.handles g.handle g.suffix) (tag_fault start g.mark) old r
     new

@@ -1,4 +1,4 @@
--- The events behind which no document is open (docs/DEFINITIONS.md, "Calls").
+-- The events after which no document is open (docs/DEFINITIONS.md, "Calls").
 use Rattle.std.specs.Prelude.{Bool, true, false}
 use Rattle.libyaml_types.specs.declared.event.unnamed_yaml_event_t_data.{unnamed_yaml_event_t_data}
 use Rattle.libyaml_types.specs.declared.event.unnamed_yaml_event_t_data.TheVariants.{NoEvent, StreamStart, StreamEnd, DocumentEnd}

@@ -6,7 +6,7 @@ use Rattle.libyaml_grammar.specs.sentences.Events.{Event}
 use Rattle.libyaml_grammar.specs.sentences.Tokens.{Content, Token, StreamEnd, VersionDirective}
 
 -- Before the stream; outside a document; in a document before its root, within its root, a collection, and so many collections
--- more, or behind its root; behind the stream.
+-- more, or after its root; after the stream.
 pub data Stage : Type 0 where
   at_start outside before_root : Stage
   within_root : ℕ → Stage
@@ -46,7 +46,7 @@ abbrev pub stage_from : Stage → List Event → Stage
 stage_from st [] = st
 stage_from st (e ∷ r) = stage_from (after st e.content) r
 
--- the stage behind these events
+-- the stage after these events
 abbrev pub stage_of : List Event → Stage
 stage_of events = stage_from at_start events
 

@@ -17,7 +17,7 @@ pub record CarriedOn {S : Type 0} (gives : S → Answer → S → Type 0) (old n
   pub needed : EachWasNeeded asked more given events
   pub history : History new (asked ++ more) (given ++ events)
 
--- the source knows what stands in the list behind these tokens, and the fault that ends it
+-- the source knows what stands in the list after these tokens, and the fault that ends it
 pub record KnowsRest {S : Type 0} (known : S → Option Coming) (more list : List Token) (f : Fault) (source : S) : Type 0 where
   pub rest : List Token
   pub all : list ≡ more ++ rest

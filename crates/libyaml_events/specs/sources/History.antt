@@ -8,7 +8,7 @@ use Rattle.libyaml_events.specs.machine.Config.{Config, Parser, taken, start, wi
 use Rattle.libyaml_events.specs.sources.Calls.{Calls, held}
 use Rattle.libyaml_events.specs.declared.next.Want.TheVariants.{AtState}
 
--- these tokens as answers of a source, and behind them the answers r
+-- these tokens as results of a source, and after them the results r
 abbrev pub answers : List Token → List Answer → List Answer
 answers [] r = r
 answers (t ∷ l) r = Ok t ∷ answers l r

@@ -21,7 +21,7 @@ use Rattle.libyaml_events.specs.parsers.EventsLeft.{events_left}
 
 pub record ParsesNext {S : Type 0} (gives : S → Answer → S → Type 0) (token_bound : S → ℕ) (known : S → Option Coming) (may_break : S → Fault
     → Type 0) (old : Parser S) (result : EventOrError) (new : Parser S) : Type 0 where
-  -- behind the stream end event or a fault
+  -- after the stream end event or a fault
   pub ended : is_over old ≡ true → (result ≡ Ok empty_event) × (new ≡ old)
   -- a fault is kept for good
   pub kept : IfErr result (λ x. (x ≡ (kept_fault new).error) × (is_over new ≡ true))

@@ -28,7 +28,7 @@ pub record IsWhole (asked : List Token) (given : List Event) : Type 0 where
   pub all_events : given ≡ events tree
 
 -- A call that gave an event, which is not the empty one: the source gave some tokens more, each of which was needed, and
--- the history goes on by them and the event. The stream end event comes only behind a whole tree's tokens and events, and
+-- the history goes on by them and the event. The stream end event comes only after a whole tree's tokens and events, and
 -- the parser has then ended.
 pub record CarriesOn {S : Type 0} (gives : S → Answer → S
     → Type 0) (old : Parser S) (e : Event) (new : Parser S) (asked : List Token) (given : List Event) : Type 0 where
@@ -41,7 +41,7 @@ pub record CarriesOn {S : Type 0} (gives : S → Answer → S
   pub whole : is_stream_end e ≡ true → IsWhole (asked ++ more) (given ++ e ∷ [])
 
 -- A fault of the grammar: a cut tree fits the tokens before one of these with that one, the events are the cut tree's, and
--- the fault is. Behind an undefined handle the tokens that are waited for have come.
+-- the fault is. After an undefined handle the tokens that are waited for have come.
 pub record HasFailed (asked : List Token) (given : List Event) (f : Fault) : Type 0 where
   pub before : List Token
   pub token : Token
@@ -53,14 +53,14 @@ pub record HasFailed (asked : List Token) (given : List Event) (f : Fault) : Typ
   pub all_events : given ≡ cut_events cut token
   pub fault_is : f ≡ fault cut token.content token.start_mark
 
--- The tokens end too soon: behind a beginning, all of whose settled events were given, or amid the properties of a node
+-- The tokens end too soon: after a beginning, all of whose settled events were given, or within the properties of a node
 -- whose handle is undefined.
 pub data StopsShort (asked : List Token) (given : List Event) : Type 0 where
   behind_beginning : IsBeginning asked → has_end asked ≡ false → IsSettled asked given → StopsShort asked given
   amid_properties : (before : List Token) (token : Token) (behind : List Token) (c : Cut) → asked ≡ before ++ token ∷ behind → Fits before token c
       → is_behind_properties c behind ≡ false → given ≡ cut_events c token → StopsShort asked given
 
--- Why a call of a parser that stood so failed, which asked for these answers behind these tokens: a growth was refused, at
+-- Why a call of a parser that stood so failed, which asked for these results after these tokens: an allocation failed, at
 -- the last token that was looked at, where memory may be taken; or the tokens have a fault of the grammar; or the source's
 -- own fault came, which is kept with all its fields.
 pub data Cause (old : Config) (asked : List Token) (given : List Event) (more : List Answer) (f : Fault) : Type 0 where
@@ -69,7 +69,7 @@ pub data Cause (old : Config) (asked : List Token) (given : List Event) (more : 
   of_grammar : (l : List Token) → more ≡ answers l [] → HasFailed (asked ++ l) given f → Cause old asked given more f
   of_source : (l : List Token) → more ≡ answers l (Err f ∷ []) → IsSourceError f.error → StopsShort (asked ++ l) given → Cause old asked given more f
 
--- a call that failed: the source gave some answers more, each of which was needed, and the fault is kept
+-- a call that failed: the source gave some results more, each of which was needed, and the fault is kept
 pub record FailsBy {S : Type 0} (gives : S → Answer → S → Type 0) (old new : Parser S) (asked : List Token) (given : List Event) : Type 0 where
   pub more : List Answer
   pub gave : Gave gives old.source more new.source

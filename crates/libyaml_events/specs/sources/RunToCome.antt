@@ -26,17 +26,17 @@ pub record RunToCome {S : Type 0} (known : S → Option Coming) (p : Parser S) (
 abbrev pub ForRun : {S : Type 0} → (S → Option Coming) → Parser S → (List Event → Ending → Type 0) → Type 0
 ForRun known p P = (to_come : List Event) (ending : Ending) → RunToCome known p to_come ending → P to_come ending
 
--- likewise where an event is to come: P holds of it, of the events behind it and of the ending
+-- likewise where an event is to come: P holds of it, of the events after it and of the ending
 abbrev pub ForNextEvent : {S : Type 0} → (S → Option Coming) → Parser S → (Event → List Event → Ending → Type 0) → Type 0
 ForNextEvent known p P = (next : Event) (later : List Event) (ending : Ending) → RunToCome known p (next ∷ later) ending → P next later ending
 
--- What the run says; or a growth was refused; or the source broke off, by a fault that it names as possible where it then
+-- What the run says; or an allocation failed; or the source broke off, by a fault that it names as possible where it then
 -- stands.
 pub data UnlessBroken {S : Type 0} (MayBreak : S → Fault → Type 0) (r : EventOrError) (new : Parser S) (Does : Type 0) : Type 0 where
   does : Does → UnlessBroken MayBreak r new Does
   no_memory : r ≡ Err YAML_MEMORY_ERROR → kept_fault new ≡ memory_fault → UnlessBroken MayBreak r new Does
   breaks : (f : Fault) → MayBreak new.source f → r ≡ Err f.error → kept_fault new ≡ f → UnlessBroken MayBreak r new Does
 
--- the run fails here by this fault; or a growth was refused, or the source broke off
+-- the run fails here by this fault; or an allocation failed, or the source broke off
 abbrev pub FailsHere : (MayBreak : Fault → Type 0) → Fault → List Event → Ending → Type 0
 FailsHere MayBreak f events ending = ((events ≡ []) × (ending ≡ Fails f)) ⊎ ((f ≡ memory_fault) ⊎ MayBreak f)

@@ -1,4 +1,4 @@
--- what a source that knows its tokens may answer
+-- what a source that knows its tokens may return
 use Rattle.std.specs.Prelude.{◌≡◌, List, [], ◌∷◌, Option, Some, None, Result, Ok, Err, ◌⊎◌, negsuc, codes}
 use Rattle.libyaml_types.specs.declared.enums.yaml_error_type_t.TheVariants.{YAML_READER_ERROR}
 use Rattle.libyaml_types.specs.declared.token.yaml_token_t.{yaml_token_t}
@@ -6,7 +6,7 @@ use Rattle.libyaml_grammar.specs.declared.fault.yaml_source_fault_t.{yaml_source
 use Rattle.libyaml_grammar.specs.runs.Fault.{Fault, Answer, source_fault}
 use Rattle.libyaml_grammar.specs.cuts.FaultTexts.{no_fault}
 
--- the answer of a call that puts its token into a slot
+-- the result of a call that puts its token into a slot
 abbrev pub answer_in : Result (Unit {0}) yaml_source_fault_t → yaml_token_t → Answer
 answer_in (Ok u) token = Ok token
 answer_in (Err fault) token = Err (source_fault fault)
@@ -34,7 +34,7 @@ Follows MayBreak (Some c) answer after = FollowsList MayBreak c.tokens c.fault a
 abbrev pub no_more_tokens : Fault
 no_more_tokens = record no_fault { error = YAML_READER_ERROR; problem = Some (codes "no more tokens"); problem_value = negsuc 0 }
 
--- the answer of a list with no break
+-- the result of a list with no break
 abbrev pub list_answer : List yaml_token_t → Fault → Answer
 list_answer [] f = Err f
 list_answer (t ∷ ts) f = Ok t

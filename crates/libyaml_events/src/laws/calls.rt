@@ -27,7 +27,7 @@ pub fn stages()
         → stage_of (given ++ more) ≡ stage_from (stage_of given) more }
 {}
 
-/// Calls that gave events carry a history on, one behind another.
+/// Calls that gave events carry a history on, one after another.
 pub fn calls_in_turn<S: yaml_token_source_t>()
     ensures none { (p : Parser S) (asked : List Token) (given : List Event) → History p asked given
         → CarriedOn S.gives p p asked given [] }
@@ -41,7 +41,7 @@ pub fn calls_in_turn<S: yaml_token_source_t>()
         → Gave S.gives s (answers l []) m → Gave S.gives m more t → Gave S.gives s (answers l more) t }
 {}
 
-/// A source that gave these tokens of a list that it knew still knows what stands behind them: so what
+/// A source that gave these tokens of a list that it knew still knows what follows them: so what
 /// `yaml_parser_delete` gives back knows the tokens that were not asked for.
 pub fn source_left<S: yaml_token_source_t>()
     ensures { (s t : S) (more list : List Token) (f : Fault) → S.known s ≡ Some (coming list f)

@@ -1,4 +1,4 @@
--- The loads within a bound are a front of the loads, and then want of memory where the bound was met.
+-- The loads within a bound are a prefix of the loads, and then out of memory where the bound was met.
 use Rattle.std.proofs.Common.{◌≡◌, ◌⊎◌, ◌++◌, ◌∷◌, ℕ, List, [], length, map, nat_lt, Option, Some, None, Bool, true, false}
 use Rattle.std.proofs.Common.{Ok, Err, refl, sym, ap, subst, inl, inr}
 use Rattle.libyaml_documents.specs.Documents.{Document}
@@ -13,7 +13,7 @@ use Rattle.libyaml_graphs.specs.Loads.{Begun, Load, begun, document, document_en
 use Rattle.libyaml_graphs.specs.Parts.{Closing, Part, behind, graph, parts}
 use Rattle.libyaml_graphs.proofs.Room.{bound_exact}
 
--- The loads within the bound are the loads; or they are the first of them, which are these documents, and want of memory.
+-- The loads within the bound are the loads; or they are the first of them, which are these documents, and out of memory.
 pub data IsFront (within all : List Load) : Type 0 where
   same : within ≡ all → IsFront within all
   met : (documents : List Document) (rest : List Load) → ◌≡◌ {A = List Load} within (map Ok documents ++ Err memory_fault ∷ [])
@@ -72,7 +72,7 @@ front_of (b ∷ bs) x n = text_front n b x (document_end b.rest) (first_stop n [
 pub front_of_loads : (r : List Event) (x : Ending) (n : ℕ) → IsFront (bounded_loads n r x) (loads r x)
 front_of_loads r x n = front_of (begun r) x n
 
--- so where no load within the bound is want of memory, the bound was not met
+-- so where no load within the bound is out of memory, the bound was not met
 lacks_memory : (ds : List Document) → NoneLacksMemory (map Ok ds ++ Err memory_fault ∷ []) → ⊥
 lacks_memory [] h = h.0 refl
 lacks_memory (d ∷ ds) h = lacks_memory ds h

@@ -52,7 +52,7 @@ nodes_grow (leaf_part a x) n es b xs s h = ap (λ (i : ℕ). nat_lt n (suc i)) (
 nodes_grow (start_part a x) n es b xs s h = ap (λ (i : ℕ). nat_lt n (suc i)) (nodes_length b.held ∙ s)
 nodes_grow (end_part m) n es b xs s h = sym h
 
--- one part within the bound, where K is what the loader does behind it
+-- one part within the bound, where K is what the loader does after it
 step : {A : Type 0} (n : ℕ) (p : Part) (es : List Start) (F : List Part) (b : Built) (xs : Anchors) (w : Answering A) (N : List yaml_node_t) (K : Loader
     → A) (X : Option Fault) → BeginsEmpty p → Within n es F b → Agrees es xs
     → ((ys : Anchors) → Within n (behind p es) (F ++ p ∷ []) (build es p b) → Agrees (behind p es) ys → K (loader_of (build es p b) ys) ≡ settled w X N)

@@ -157,7 +157,7 @@ last_of r x n d h a e = go (begun r) (first_root r h) a
             = absurd (has_nodes t.rest t.opening c n root s u (ap (λ (k : Document). k.nodes) (ok (document t.opening (graph [] (parts t.rest)) c) d b) ∙ e))
         at None None s u b = (ap (λ (l : Load). l ∷ []) b, b)
 
--- Behind a load with nodes come the loads of the events that it leaves.
+-- After a load with nodes come the loads of the events that it leaves.
 pub earlier_of : (r : List Event) (x : Ending) (n : ℕ) (d : Document) → next_bounded n r x ≡ Ok d → d.nodes ≢ []
     → bounded_loads n r x ≡ Ok d ∷ bounded_loads n (left_over r) x
 earlier_of r x n d a e = go (begun r) (follow r) a

@@ -26,7 +26,7 @@ loop-document-init g c =
 pub yaml_parser_load-requires : goal.yaml_parser_load-requires
 yaml_parser_load-requires g c = record { between = c.loop-document.invariant.between }
 
--- what stands behind a call
+-- what follows a call
 load_laws_of : (g : given.Over) (c : After-yaml_parser_load g) → LoadLaws
 load_laws_of g c =
     let roots = c.whole_documents_have_roots.ensures in
