@@ -1,10 +1,10 @@
 -- A child put into the innermost open collection, by what it is to that node.
-use Rattle.std.proofs.Common.{◌≡◌, ◌≤◌, ◌<◌, ◌⊎◌, ◌∷◌, List, [], ℕ, suc, ℤ, pos, ◌≤ℤ◌, arith, ap, refl, sym, subst, ◌∙◌, Option, Some, None, false, true}
-use Rattle.std.proofs.Common.{inl, inr, length, Result, Ok, Err, IfErr}
+use Rattle.std.proofs.Common.{◌≡◌, ◌≤◌, ◌<◌, ◌⊎◌, ◌∷◌, List, ℕ, suc, ℤ, pos, ◌≤ℤ◌, arith, ap, refl, sym, subst, ◌∙◌, Option, Some, None, false, true}
+use Rattle.std.proofs.Common.{inl, inr, Result, Ok, Err, IfErr}
 use Rattle.std.proofs.lemmas.Int.{ints}
 use Rattle.std.specs.Prelude.{IfSome}
 use Rattle.std.specs.Result.{IsErr, IsErrAnd}
-use Rattle.libyaml_types.specs.declared.enums.yaml_node_type_t.TheVariants.{YAML_MAPPING_NODE, YAML_SCALAR_NODE, YAML_SEQUENCE_NODE}
+use Rattle.libyaml_types.specs.declared.enums.yaml_node_type_t.TheVariants.{YAML_MAPPING_NODE, YAML_SCALAR_NODE}
 use Rattle.libyaml_documents.specs.Children.{AppendedAs, MayRefuseAt}
 use Rattle.libyaml_documents.specs.Documents.{Document, with_changed_node}
 use Rattle.libyaml_documents.specs.Nodes.{IsIdUpTo, type_at, with_pair}

@@ -1,4 +1,4 @@
-use Rattle.std.proofs.Common.{◌≡◌, sym, w32, ◌∙◌}
+use Rattle.std.proofs.Common.{sym, w32, ◌∙◌}
 use Rattle.std.proofs.lemmas.Int.{to_z-of_z}
 use mir.Val.{SFits}
 use Rattle.libyaml_documents.proofs.Children.{appended, ids_kept, inside_of, may_refuse, on_err}

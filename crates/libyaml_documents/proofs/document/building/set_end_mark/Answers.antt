@@ -1,4 +1,4 @@
-use Rattle.std.proofs.Common.{refl, ap, subst, sym, w32, ◌∙◌}
+use Rattle.std.proofs.Common.{refl, ap, sym, w32, ◌∙◌}
 use Rattle.std.proofs.lemmas.Int.{to_z-of_z}
 use mir.Val.{SFits}
 use Rattle.libyaml_documents.specs.LoadedNodes.{with_end}

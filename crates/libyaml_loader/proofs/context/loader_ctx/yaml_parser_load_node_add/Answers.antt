@@ -1,9 +1,9 @@
-use Rattle.std.proofs.Common.{◌≡◌, ◌∙◌, refl, sym, ap, inl, inr, rules, length}
+use Rattle.std.proofs.Common.{◌≡◌, ◌∙◌, refl, ap, rules, length}
 use Rattle.libyaml_documents.specs.Children.{AppendedAs, MayRefuseAt}
 use Rattle.libyaml_documents.specs.declared.node.ChildRole.{ChildRole}
 use Rattle.libyaml_documents.specs.declared.node.ChildRole.TheVariants as role
 use Rattle.libyaml_graphs.specs.Loader.{Open}
-use Rattle.libyaml_loader.proofs.Appending.{Handed, hands_at, on_memory, open_ids, refuses_by, waiting_is_id}
+use Rattle.libyaml_loader.proofs.Appending.{Handed, hands_at, on_memory, refuses_by, waiting_is_id}
 use Rattle.libyaml_loader.proofs.context.loader_ctx.yaml_parser_load_node_add.Goals as goal
 use Rattle.libyaml_loader.proofs.context.loader_ctx.yaml_parser_load_node_add.Goals.{In_ok-append_child}
 use Rattle.std.specs.Prelude.{List}
