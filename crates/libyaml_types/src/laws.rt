@@ -1,4 +1,4 @@
-//! Laws of comparisons and hashes. Each function compares two values or hashes one, and its contract is the law.
+//! Laws of comparisons and hashes. Each function compares two values or hashes one; its contract is the law.
 
 ghost use Rattle.std.specs.Prelude.{◌≡◌, ◌↔◌, IsTrue, fold, pos};
 ghost use Rattle.std.specs.Ordering.{nat_cmp};

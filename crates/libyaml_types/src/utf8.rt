@@ -65,7 +65,8 @@ pub fn copied_option(alloc: Global, text: Option<&str>) -> Result<Option<String>
 ///
 /// # Errors
 ///
-/// `NotUtf8`, where the bytes aren't UTF-8, before anything is allocated; `Memory`, where an allocation fails.
+/// `NotUtf8`, where the bytes aren't UTF-8, before anything is allocated; `Memory`, where an allocation
+/// fails.
 pub fn copied(alloc: Global, bytes: &[u8]) -> Result<String, yaml_refusal_t>
     ensures ok { IfOk result (λ text. string_bytes text ≡ bytes.now) }
     ensures utf8 { OnOk result (IsUtf8 bytes.now) }
