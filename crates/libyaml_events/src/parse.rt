@@ -16,7 +16,6 @@ use libyaml_types::{
 
 impl<S: yaml_token_source_t> Machine<S> {
     /// Takes tokens until the event is given.
-    #[inline(always)]
     fn fill(
         &mut self,
         token: &mut yaml_token_t,

@@ -1,4 +1,4 @@
-use Rattle.std.proofs.Common.{◌≡◌, ◌∙◌, Ok, Err, Result, Option, None, Some, String, string_bytes, option_map, ap, sym, refl, is_some, true, rules}
+use Rattle.std.proofs.Common.{◌≡◌, ◌∙◌, Ok, Err, Result, Option, None, Some, String, string_bytes, option_map, ap, sym, refl, is_some, rules}
 use Rattle.libyaml_types.specs.declared.token.yaml_token_t.{yaml_token_t}
 use Rattle.libyaml_types.specs.declared.token.unnamed_yaml_token_t_data.{unnamed_yaml_token_t_data}
 use Rattle.libyaml_types.specs.declared.enums.yaml_error_type_t.{yaml_error_type_t}
