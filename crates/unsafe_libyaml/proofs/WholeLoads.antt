@@ -98,7 +98,7 @@ none_lacks : (ds : List Document) (l : List Load) → NoneLacksMemory l → None
 none_lacks [] l h = h
 none_lacks (d ∷ ds) l h = none_lacks ds l h
 
--- the documents that were loaded are the first of the loads, also where the bound is met behind them
+-- the documents that were loaded are the first of the loads, also where the bound is met after them
 same_document : (c d : Document) (a b : List Load) → ◌≡◌ {A = List Load} (Ok c ∷ a) (Ok d ∷ b) → c ≡ d
 same_document c d a b h = cc
 
@@ -210,7 +210,7 @@ module _ {S : Type 0} (gives : S → Answer → S → Type 0) (known : S → Opt
     roots_of : (p : Parser S) (taken : List Event) (k : CarriedOn gives old p was.asked was.given taken) → RootsFollow taken
     roots_of p taken k = was.roots_left taken (law.follow (was.given ++ taken) (laws.nests p _ _ k.history))
 
-    -- behind one document more
+    -- after one document more
     so_far_on : (taken : List Event) (d : Document) → d.nodes ≢ [] → ((rest : List Event) (x : Ending) → next_bounded most (taken ++ rest) x ≡ Ok d)
         → ((rest : List Event) → left_over (taken ++ rest) ≡ rest) → (rest : List Event) (x : Ending)
         → bounded_loads most ((was.given ++ taken) ++ rest) x ≡ oks (loaded ++ d ∷ []) ++ bounded_loads most rest x
@@ -442,12 +442,12 @@ pub rooted : (ns : List yaml_node_t) → nat_eq (length ns) 0 ≡ false → ns �
 rooted [] h e = absurd cc
 rooted (n ∷ ns) h e = cc
 
--- behind a document with a root fewer events are left
+-- after a document with a root fewer events are left
 pub fewer : (d : Document) (new old : ℕ) → (d ≡ empty_document None [] false false) ⊎ (new < old) → d.nodes ≢ [] → new < old
 fewer d new old (inl e) h = absurd (h (ap (λ (k : Document). k.nodes) e))
 fewer d new old (inr k) h = k
 
--- the loads over a tree's tokens, by the law of the loads over these and any others behind them
+-- the loads over a tree's tokens, by the law of the loads over these and any others after them
 pub tree_loads : ((t : Stream) (r : List Token) (f : Fault) → in_order t ≡ true
     → (n : IsNested (events t)) × IsLoads (tokens t ++ r) f (loads_of n.texts (last_load Ends ∷ []))) → (t : Stream) (f : Fault) → in_order t ≡ true
     → (n : IsNested (events t)) × IsLoads (tokens t) f (loads_of n.texts (last_load Ends ∷ []))

@@ -205,7 +205,7 @@ module _ {S : Type 0} (gives : S → Answer → S → Type 0) (known : S → Opt
         (stopped_so p f (sym fault ∙ h) kept other fails);
   }
 
--- the run over a tree's tokens, by the law of the run over these and any others behind them
+-- the run over a tree's tokens, by the law of the run over these and any others after them
 pub tree_runs : ((t : Stream) (r : List Token) (f : Fault) → in_order t ≡ true → IsRun (tokens t ++ r) f (events t) Ends) → (t : Stream) (f : Fault)
     → in_order t ≡ true → IsRun (tokens t) f (events t) Ends
 tree_runs law t f o = subst (λ (l : List Token). IsRun l f (events t) Ends) (append-nil (tokens t)) (law t [] f o)

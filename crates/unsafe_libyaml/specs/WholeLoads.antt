@@ -14,11 +14,11 @@ use Rattle.libyaml_graphs.specs.Loads.{Load, last_load, loads}
 use Rattle.unsafe_libyaml.specs.declared.load_all.yaml_documents_t.{yaml_documents_t}
 use Rattle.unsafe_libyaml.specs.WholeRun.{Asked, StoppedBy, ending_of}
 
--- these documents, and behind them the document without root or the fault
+-- these documents, and after them the document without root or the fault
 abbrev pub as_loads : List Document → Ending → List Load
 as_loads documents ending = map (λ (d : Document). Ok d) documents ++ last_load ending ∷ []
 
--- These loads; or the source broke off behind the answers that it gave, by a fault that it names as possible where it then
+-- These loads; or the source broke off after the answers that it gave, by a fault that it names as possible where it then
 -- stood, and the documents are a prefix. A list never does.
 pub data LoadsTo {S : Type 0} (gives : S → Answer → S → Type 0) (MayBreak : S → Fault → Type 0) (source : S) (all : yaml_documents_t) (loads : List Load)
     : Type 0 where
