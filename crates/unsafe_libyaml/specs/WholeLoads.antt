@@ -18,7 +18,7 @@ use Rattle.unsafe_libyaml.specs.WholeRun.{Asked, StoppedBy, ending_of}
 abbrev pub as_loads : List Document → Ending → List Load
 as_loads documents ending = map (λ (d : Document). Ok d) documents ++ last_load ending ∷ []
 
--- These loads; or the source broke off after the answers that it gave, by a fault that it names as possible where it then
+-- These loads; or the source broke off after the results that it gave, by a fault that it names as possible where it then
 -- stood, and the documents are a prefix. A list never does.
 pub data LoadsTo {S : Type 0} (gives : S → Answer → S → Type 0) (MayBreak : S → Fault → Type 0) (source : S) (all : yaml_documents_t) (loads : List Load)
     : Type 0 where

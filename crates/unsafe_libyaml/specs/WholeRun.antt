@@ -19,7 +19,7 @@ abbrev pub ending_of : Option yaml_parser_t_prefix → Ending
 ending_of None = Ends
 ending_of (Some f) = Fails (fault_of f)
 
--- These events and this ending; or the source broke off after the answers that it gave, by a fault that it names as possible
+-- These events and this ending; or the source broke off after the results that it gave, by a fault that it names as possible
 -- where it then stood, and the events are a prefix. A list never does.
 pub data RunsTo {S : Type 0} (gives : S → Answer → S → Type 0) (MayBreak : S → Fault → Type 0) (source : S) (run : yaml_run_t) (events : List Event)
     (ending : Ending) : Type 0 where
@@ -35,7 +35,7 @@ pub record Asked {S : Type 0} (gives : S → Answer → S → Type 0) (source : 
   pub needed : EachWasNeeded [] asked [] given
   pub needed_last : EachNeeded asked last given
 
--- Why the parser failed after these tokens and events, in a call that asked for the answers `last`: by a fault of the
+-- Why the parser failed after these tokens and events, in a call that asked for the results `last`: by a fault of the
 -- grammar, or by the source's own, which is kept with all its fields.
 pub data StoppedBy (asked : List Token) (last : List Answer) (given : List Event) (f : Fault) : Type 0 where
   of_grammar : (l : List Token) → last ≡ answers l [] → HasFailed (asked ++ l) given f → StoppedBy asked last given f
