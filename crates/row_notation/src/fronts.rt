@@ -1,9 +1,7 @@
 //! Prefixes of a row, with each error of a source after them.
 
 use crate::events::mark;
-use crate::faults::show_fault;
 use anyhow::Result;
-use std::alloc::Global;
 use unsafe_libyaml::{
     YAML_MEMORY_ERROR, YAML_READER_ERROR, YAML_SCANNER_ERROR, yaml_source_fault_t,
 };
@@ -28,16 +26,6 @@ pub fn ends_of_sources() -> [yaml_source_fault_t; 3] {
     ]
 }
 
-/// How the fault by which a source ends is shown.
-///
-/// Errors: out of memory.
-pub fn shown_end(alloc: Global, end: &yaml_source_fault_t) -> Result<String> {
-    let mut shown = String::new(alloc);
-    let fault = end.prefix();
-    show_fault(&mut shown, fault.error, &fault)?;
-    Ok(shown)
-}
-
 /// Whether `front` begins `whole`, and ends where an event or a document does.
 fn begins(front: &str, whole: &str) -> bool {
     match whole.strip_prefix(front) {
@@ -52,14 +40,6 @@ pub fn is_front(front: &str, whole: &str, fault: &str) -> bool {
     match front.strip_suffix(fault) {
         Some(before) => begins(before.trim_end(), whole),
         None => front == whole,
-    }
-}
-
-/// The same of what was shown of a front, if it could be.
-pub fn is_front_shown(front: &Result<String>, whole: &str, fault: &str) -> bool {
-    match front {
-        Ok(front) => is_front(front.as_str(), whole, fault),
-        Err(_) => false,
     }
 }
 
