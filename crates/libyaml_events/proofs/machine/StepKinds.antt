@@ -267,7 +267,7 @@ module _ (ss : List yaml_parser_state_t) (ms : List Mark) (u : Token) where
   explicit_start c n StreamEnd l = ends_stream (omega arith)
   explicit_start c n k l = explicit (mach.no_directives u.start_mark) c n k l
 
-  -- behind an event the state says what comes
+  -- after an event the state says what comes
   at_a_state : (s : yaml_parser_state_t) (c : Config) (k : Content) → kind c.state ≡ kind s → StepKind c (rank s k) k (kind s) (at_state s c u k) (at_state s (raised ss ms c) u k)
   at_a_state st.YAML_PARSE_STREAM_START_STATE c (StreamStart x) e = begins_stream _ (omega arith)
   at_a_state st.YAML_PARSE_STREAM_START_STATE c k e = fails
