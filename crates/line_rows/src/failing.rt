@@ -29,7 +29,7 @@ fn are_first_lines(front: &[u8], lines: &[u8]) -> bool {
     lines.starts_with(front) && (front.is_empty() || front.ends_with(b"\n"))
 }
 
-/// Whether this is a front of the lines, cut behind an LF, and then the fault of a failed allocation.
+/// Whether this is a prefix of the lines, cut after an LF, and then the fault of a failed allocation.
 fn is_front_and_fault(written: &[u8], lines: &[u8]) -> bool {
     match written.strip_suffix(b"FAULT memory 0:0:0 -\n") {
         Some(front) => are_first_lines(front, lines),
@@ -58,7 +58,7 @@ pub fn is_right(alloc: Global, row: Run<'_>) -> bool {
 /// What is left to write, and how a run came through that writes nothing more.
 type Left<'a> = Result<&'a [u8], Passage>;
 
-/// What is left behind these lines.
+/// What is left after these lines.
 fn behind<'a>(rest: &'a [u8], written: &[u8]) -> Left<'a> {
     match rest.strip_prefix(written) {
         Some(rest) => Ok(rest),
@@ -66,7 +66,7 @@ fn behind<'a>(rest: &'a [u8], written: &[u8]) -> Left<'a> {
     }
 }
 
-/// What is left behind an event's line, which is written again where its allocation failed. Then nothing of
+/// What is left after an event's line, which is written again where its allocation failed. Then nothing of
 /// it may be written.
 fn behind_event<'a>(alloc: Global, event: &yaml_event_t, rest: &'a [u8]) -> Left<'a> {
     let mut writer = FixedWriter::new();
@@ -140,7 +140,7 @@ fn behind_loaded<'a>(
     }
 }
 
-/// What is left behind the next event or document of a parser.
+/// What is left after the next event or document of a parser.
 fn behind_next<'a, S: yaml_token_source_t>(
     alloc: Global,
     of: LinesOf,

@@ -11,7 +11,7 @@ const LONGEST: usize = 1_048_550;
 
 const TOO_LONG: usize = LONGEST + 1;
 
-/// A scalar of so many `x`, what stands before and behind these in the lines that are written, and how the
+/// A scalar of so many `x`, what stands before and after these in the lines that are written, and how the
 /// run ends.
 type Row = (LinesOf, usize, &'static str, usize, &'static str, Outcome);
 

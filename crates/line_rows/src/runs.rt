@@ -72,7 +72,7 @@ impl Run<'_> {
         true
     }
 
-    /// Whether this is what a run writes whose reader fails behind so many bytes.
+    /// Whether this is what a run writes whose reader fails after so many bytes.
     fn is_cut_front(self, alloc: Global, bytes: usize, written: &[u8]) -> bool {
         let front = whole_lines(self.tokens.get(..bytes).unwrap_or(self.tokens));
         let mut lines = Vec::new(alloc);
@@ -80,7 +80,7 @@ impl Run<'_> {
         are_same_but_the_problem(written, lines.as_slice())
     }
 
-    /// How a run whose reader failed behind so many bytes came through, by what it wrote and returned.
+    /// How a run whose reader failed after so many bytes came through, by what it wrote and returned.
     fn passage_of(self, alloc: Global, bytes: usize, written: &[u8], ended: Outcome) -> Passage {
         if self.is_whole(written, ended) {
             Passage::Whole
@@ -91,7 +91,7 @@ impl Run<'_> {
         }
     }
 
-    /// The same of a run whose reader hands out a byte a call, and fails behind so many calls.
+    /// The same of a run whose reader hands out a byte a call, and fails after so many calls.
     fn comes_through(self, alloc: Global, calls: usize) -> Passage {
         let reader = PieceReader::new(self.tokens, 1, calls);
         let mut writer = PieceWriter::new(alloc, 4096, EVERY_CALL);

@@ -1,4 +1,4 @@
-//! What stays in the reader of a line source: behind the stream's end, and behind its bound on tokens.
+//! What stays in the reader of a line source: after the stream's end, and after its bound on tokens.
 
 use row_notation::Table;
 use std::alloc::Global;
@@ -9,7 +9,7 @@ use unsafe_libyaml::{
     yaml_parser_t, yaml_source_fault_t, yaml_token_source_t, yaml_token_t,
 };
 
-/// The lines of a stream with one scalar, and what is no line behind them.
+/// The lines of a stream with one scalar, and what is no line after them.
 const STREAM_AND_JUNK: &[u8] =
     b"STREAM-START 0:0:0 1:0:1 utf8\nSCALAR 2:0:2 3:0:3 =a plain\nSTREAM-END 4:0:4 5:0:5\njunk";
 
