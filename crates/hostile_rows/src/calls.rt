@@ -307,7 +307,7 @@ fn make_all(
     made(shown_document(alloc, document))
 }
 
-/// Returns the document behind the first so many calls, shown.
+/// Returns the document after the first so many calls, shown.
 ///
 /// # Errors
 ///

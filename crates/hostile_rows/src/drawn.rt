@@ -1,8 +1,8 @@
-//! Lists of drawn tokens, each kept where the list can go on behind it.
+//! Lists of drawn tokens, each kept where the list can go on after it.
 //!
 //! A list begins as STREAM-START. Let x be its number. Two hundred times, a token whose type has the number
 //! 3 + (x / 65536) mod 19 and whose texts have x mod 70 bytes joins the list, where parsing the list with it
-//! behind ends in the source's fault; then x becomes (1103515245 x + 12345) mod 2147483648.
+//! after ends in the source's fault; then x becomes (1103515245 x + 12345) mod 2147483648.
 
 use crate::growing::listed;
 use anyhow::Result;
@@ -25,7 +25,7 @@ const LISTS: u64 = 500;
 const DRAWN: u32 = 200;
 
 /// The names of the tokens that are drawn, in the order of their types' numbers from 3, and what stands
-/// behind their marks, with `@` for a text.
+/// after their marks, with `@` for a text.
 const KINDS: [(&str, &str); 19] = [
     ("VERSION-DIRECTIVE", " 1.1"),
     ("TAG-DIRECTIVE", " =@ =@"),
@@ -55,7 +55,7 @@ fn kinds() -> &'static [(&'static str, &'static str)] {
 /// The longest text, of 69 bytes.
 const LONGEST: &str = "aaaaaaaaaaaaaaaaaaaaaaaaaaaaaaaaaaaaaaaaaaaaaaaaaaaaaaaaaaaaaaaaaaaaa";
 
-/// A token: its name, what stands behind its marks, and its text.
+/// A token: its name, what stands after its marks, and its text.
 #[derive(Copy, Clone)]
 struct Token {
     name: &'static str,
@@ -75,7 +75,7 @@ impl Token {
         })
     }
 
-    /// Puts the token's line behind others, from this mark to the next.
+    /// Puts the token's line after others, from this mark to the next.
     fn put(self, lines: &mut String, start: u64) -> Result<()> {
         let name = self.name;
         let end = start.wrapping_add(1);
@@ -86,7 +86,7 @@ impl Token {
     }
 }
 
-/// The number that is drawn behind x.
+/// The number that is drawn after x.
 fn next_number(x: u64) -> u64 {
     x.wrapping_mul(1_103_515_245).wrapping_add(12345) % 2_147_483_648
 }
@@ -118,7 +118,7 @@ fn loading_ends_by(alloc: Global, lines: &str) -> Result<yaml_error_type_t> {
 struct Drawn {
     tokens: u64,
     lines: String,
-    /// The lines with the token behind them that was drawn last.
+    /// The lines with the token after them that was drawn last.
     tried: String,
 }
 
@@ -140,7 +140,7 @@ impl Drawn {
         Ok(())
     }
 
-    /// Appends a token, where the list can go on behind it.
+    /// Appends a token, where the list can go on after it.
     fn append(&mut self, alloc: Global, token: Token) -> Result<()> {
         self.tried.clear();
         self.tried.push_str(self.lines.as_str())?;

@@ -43,7 +43,7 @@ impl Grown {
     }
 }
 
-/// Puts a token behind the others. The fault, where there is none.
+/// Puts a token after the others. The fault, where there is none.
 fn push(
     tokens: &mut Vec<yaml_token_t>,
     next: Result<yaml_token_t, yaml_source_fault_t>,
@@ -57,7 +57,7 @@ fn push(
     }
 }
 
-/// Puts all tokens of a source into a list, and returns the fault behind them.
+/// Puts all tokens of a source into a list, and returns the fault after them.
 fn take_all<S: yaml_token_source_t>(
     source: &mut S,
     tokens: &mut Vec<yaml_token_t>,

@@ -46,7 +46,7 @@ fn run_words(rt: &(impl Files + Print + AllocGlobal), words: &[String]) -> Resul
     }
 }
 
-/// The words behind the program's name.
+/// The words after the program's name.
 fn read_words(rt: &(impl Env + AllocGlobal)) -> Result<Vec<String>> {
     Ok(env::args(rt)?.skip(1).collect(rt.alloc())?)
 }

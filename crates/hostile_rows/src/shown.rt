@@ -97,7 +97,7 @@ fn show_loads<S: yaml_token_source_t>(
     Ok(())
 }
 
-/// Shows what a parser gives, and what two loads behind its end return.
+/// Shows what a parser gives, and what two loads after its end return.
 fn show_parser<S: yaml_token_source_t>(
     shown: &mut String,
     parser: &mut yaml_parser_t<S>,
@@ -124,7 +124,7 @@ fn show_source<S: yaml_token_source_t + Drop>(
 }
 
 /// Returns what a source gives so read, and its fault, if there is one, once as the end and once for each of
-/// two loads behind it. Where parsing goes on behind its end, ` more` stands there.
+/// two loads after it. Where parsing goes on after its end, it is followed by ` more`.
 ///
 /// # Errors
 ///
@@ -139,7 +139,7 @@ pub fn shown<S: yaml_token_source_t + Drop>(
     whole.and(Ok(shown))
 }
 
-/// How the fault of a failed allocation is shown, and the two loads behind it.
+/// How the fault of a failed allocation is shown, and the two loads after it.
 const FAILED: &str = "fault 1 fault 1 fault 1";
 
 /// Whether two runs of a row are right, of which at most one met a failed allocation: they show the same,
