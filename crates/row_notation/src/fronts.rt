@@ -1,7 +1,6 @@
 //! Prefixes of a row, with each error of a source after them.
 
 use crate::events::mark;
-use anyhow::Result;
 use unsafe_libyaml::{
     YAML_MEMORY_ERROR, YAML_READER_ERROR, YAML_SCANNER_ERROR, yaml_source_fault_t,
 };
@@ -41,22 +40,4 @@ pub fn is_front(front: &str, whole: &str, fault: &str) -> bool {
         Some(before) => begins(before.trim_end(), whole),
         None => front == whole,
     }
-}
-
-/// How a failed allocation is shown.
-const REFUSED: &str = "fault 1";
-
-/// Whether two runs show the same, or one of them is the other's beginning with a failed allocation after it.
-/// An error is a growth that was refused beside the run, and only one of the two can have met it.
-pub fn are_same_or_cut(one: &Result<String>, other: &Result<String>) -> bool {
-    match (one, other) {
-        (Ok(one), Ok(other)) => is_cut(one.as_str(), other.as_str()),
-        (Err(_), Err(_)) => false,
-        _ => true,
-    }
-}
-
-/// Whether one of these is the other's beginning with a failed allocation after it, or they are the same.
-fn is_cut(one: &str, other: &str) -> bool {
-    is_front(one, other, REFUSED) || is_front(other, one, REFUSED)
 }
