@@ -65,7 +65,7 @@ fn new_node(
     })
 }
 
-/// Puts a node without children behind the others, and gives its id.
+/// Puts a node without children after the others, and returns its id.
 #[inline(always)]
 pub(super) fn push_node(
     document: &mut yaml_document_t,
@@ -85,11 +85,13 @@ pub(super) fn push_node(
     Ok(document.nodes.len() as i32)
 }
 
-/// Adds a scalar, and answers its id: the count of nodes with it. Its marks are zero, and without
+/// Adds a scalar, and returns its id: the count of nodes with it. Its marks are zero, and without
 /// a tag its tag is `tag:yaml.org,2002:str`.
 ///
-/// Answers `TooManyNodes` where 2147483647 nodes stand, else `NotUtf8` where the tag or the value
-/// isn't UTF-8, else `Memory` where a growth is refused; the document is then as it was.
+/// # Errors
+///
+/// `TooManyNodes` where 2147483647 nodes stand, else `NotUtf8` where the tag or the value
+/// isn't UTF-8, else `Memory` where an allocation fails; the document is then as it was.
 ///
 /// libyaml: `yaml_document_add_scalar`.
 pub fn yaml_document_add_scalar(
@@ -128,11 +130,13 @@ pub fn yaml_document_add_scalar(
     push_node(document, node)
 }
 
-/// Adds a sequence without items, and answers its id: the count of nodes with it. Its marks are
+/// Adds a sequence without items, and returns its id: the count of nodes with it. Its marks are
 /// zero, and without a tag its tag is `tag:yaml.org,2002:seq`.
 ///
-/// Answers `TooManyNodes` where 2147483647 nodes stand, else `NotUtf8` where the tag isn't UTF-8,
-/// else `Memory` where a growth is refused; the document is then as it was.
+/// # Errors
+///
+/// `TooManyNodes` where 2147483647 nodes stand, else `NotUtf8` where the tag isn't UTF-8,
+/// else `Memory` where an allocation fails; the document is then as it was.
 ///
 /// libyaml: `yaml_document_add_sequence`.
 pub fn yaml_document_add_sequence(
@@ -169,11 +173,13 @@ pub fn yaml_document_add_sequence(
     push_node(document, node)
 }
 
-/// Adds a mapping without pairs, and answers its id: the count of nodes with it. Its marks are
+/// Adds a mapping without pairs, and returns its id: the count of nodes with it. Its marks are
 /// zero, and without a tag its tag is `tag:yaml.org,2002:map`.
 ///
-/// Answers `TooManyNodes` where 2147483647 nodes stand, else `NotUtf8` where the tag isn't UTF-8,
-/// else `Memory` where a growth is refused; the document is then as it was.
+/// # Errors
+///
+/// `TooManyNodes` where 2147483647 nodes stand, else `NotUtf8` where the tag isn't UTF-8,
+/// else `Memory` where an allocation fails; the document is then as it was.
 ///
 /// libyaml: `yaml_document_add_mapping`.
 pub fn yaml_document_add_mapping(

@@ -1,4 +1,4 @@
-//! The calls that put a child behind those of a collection.
+//! The calls that put a child after those of a collection.
 
 ghost use Rattle.std.specs.Prelude.{◌≡◌, OnOk, OnErr, length};
 ghost use Rattle.libyaml_documents.specs.Documents.{with_changed_node};
@@ -9,10 +9,14 @@ use crate::items::yaml_node_item_t;
 use crate::pairs::yaml_node_pair_t;
 use libyaml_types::{yaml_node_type_t, yaml_refusal_t};
 
-/// Puts an item behind the others of a sequence.
+/// Puts an item after the others of a sequence.
 ///
 /// Both ids are of this document, and `sequence` is that of a sequence: `yaml_document_get_node`
-/// tells. Answers `Memory` where a growth is refused; the document is then as it was.
+/// tells.
+///
+/// # Errors
+///
+/// `Memory` where an allocation fails; the document is then as it was.
 ///
 /// libyaml: `yaml_document_append_sequence_item`.
 pub fn yaml_document_append_sequence_item(
@@ -35,10 +39,14 @@ pub fn yaml_document_append_sequence_item(
     Ok(())
 }
 
-/// Puts a pair behind the others of a mapping.
+/// Puts a pair after the others of a mapping.
 ///
 /// All ids are of this document, and `mapping` is that of a mapping: `yaml_document_get_node`
-/// tells. Answers `Memory` where a growth is refused; the document is then as it was.
+/// tells.
+///
+/// # Errors
+///
+/// `Memory` where an allocation fails; the document is then as it was.
 ///
 /// libyaml: `yaml_document_append_mapping_pair`.
 pub fn yaml_document_append_mapping_pair(
