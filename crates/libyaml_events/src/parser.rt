@@ -33,10 +33,10 @@ use std::marker::Model;
 #[derive(Drop)]
 pub struct yaml_parser_t<S> {
     pub(crate) machine: Machine<S>,
-    /// Lies here, and isn't made anew in each call. What it holds between calls has no meaning.
+    /// What a call has read of a node or of directives. It is a field so that no call has to make it.
+    /// Between calls its value has no meaning.
     pub(crate) pending: Pending,
-    /// The slot of the token that is looked at, in which the source makes it. What it holds between calls has
-    /// no meaning.
+    /// The slot into which the source puts each token. Between calls its value has no meaning.
     pub(crate) token: yaml_token_t,
 }
 
@@ -51,7 +51,7 @@ impl<S> Model for yaml_parser_t<S> {
     ghost view = { λ p. p.machine };
 }
 
-/// A parser without what it has within a call.
+/// What a parser keeps from one call to the next.
 #[derive(Drop)]
 pub struct Machine<S> {
     source: S,
@@ -94,7 +94,7 @@ impl<S> Model for Machine<S> {
     ghost invariant = { λ p. All IsBackByte p.states.items };
 }
 
-/// A parser at the start of this source's stream. Takes no memory.
+/// Returns a parser at the start of this source's stream, without an allocation.
 ///
 /// libyaml: `yaml_parser_initialize` and `yaml_parser_set_input`.
 pub fn yaml_parser_initialize<S>(alloc: Global, source: S) -> yaml_parser_t<S>
@@ -128,8 +128,9 @@ pub fn yaml_parser_initialize<S>(alloc: Global, source: S) -> yaml_parser_t<S>
     }
 }
 
-/// Spends the parser and gives its source back. If it knew its tokens, it still knows those that were not
-/// asked for (`laws::calls::source_left`).
+/// Consumes the parser and returns its source, as the last call left it.
+///
+/// A source that knew its tokens knows those that were not asked for (`laws::calls::source_left`).
 ///
 /// libyaml: `yaml_parser_delete`.
 pub fn yaml_parser_delete<S>(parser: yaml_parser_t<S>) -> S
@@ -140,8 +141,9 @@ pub fn yaml_parser_delete<S>(parser: yaml_parser_t<S>) -> S
     source
 }
 
-/// Whether the parser stands between documents: not from a document's start event until its end event,
-/// but once a fault is kept.
+/// Returns whether no document is open, or a fault is kept.
+///
+/// A document is open from its start event until its end event.
 pub fn yaml_parser_between_documents<S>(parser: &yaml_parser_t<S>) -> bool
     ensures value { result ≡ between_documents parser.now }
     ensures failed { has_failed parser.now ≡ true → result ≡ true }
@@ -150,7 +152,9 @@ pub fn yaml_parser_between_documents<S>(parser: &yaml_parser_t<S>) -> bool
     parser.machine.stands_between_documents()
 }
 
-/// Sets how many entries each list of a loaded document may have, between documents.
+/// Sets how many entries each list of a loaded document may have.
+///
+/// `n` must be at least 1, and the parser must stand between documents (`yaml_parser_between_documents`).
 pub fn yaml_parser_set_max_entries<S>(parser: &mut yaml_parser_t<S>, n: i32)
     requires at_least_one { pos 1 ≤ℤ n }
     requires between { between_documents parser.old ≡ true }
@@ -164,18 +168,18 @@ pub fn yaml_parser_set_max_entries<S>(parser: &mut yaml_parser_t<S>, n: i32)
 }
 
 impl<S> yaml_parser_t<S> {
-    /// The fault that is kept, or that of no fault.
+    /// Returns the fault that the parser keeps, or one that is equal to `NO_FAULT` where it keeps none.
     ///
-    /// libyaml: the fields `error` to `context_mark`.
+    /// libyaml: the fields of `yaml_parser_t` from `error` to `context_mark`.
     pub fn prefix(&self) -> &yaml_parser_t_prefix
         ensures kept { fault_of result.now ≡ kept_fault self.now }
-        // before a fault it is that of no fault
+        // before a fault it is equal to `NO_FAULT`
         ensures before_fault { ForHistory self.now (λ _ _. fault_of result.now ≡ no_fault) }
     {
         self.machine.kept_prefix()
     }
 
-    /// Returns how many entries each list of a loaded document may have: 2147483647 unless set.
+    /// Returns how many entries each list of a loaded document may have: 2,147,483,647 unless it was set.
     pub fn max_entries(&self) -> i32
         ensures value { result ≡ self.now.max_entries }
         ensures at_least_one { pos 1 ≤ℤ result }
@@ -183,8 +187,9 @@ impl<S> yaml_parser_t<S> {
         self.machine.max_entries.number()
     }
 
-    /// Keeps a fault of the loader for good: out of memory, or a composer error, where no fault
-    /// is kept.
+    /// Keeps a fault of the loader for good: out of memory, or a composer error.
+    ///
+    /// The parser must not keep a fault already.
     pub fn keep_fault(&mut self, fault: yaml_parser_t_prefix)
         requires first { has_failed self.old ≡ false }
         requires of_loader { (fault.error ≡ yaml_error_type_t.YAML_MEMORY_ERROR)
@@ -196,7 +201,7 @@ impl<S> yaml_parser_t<S> {
         self.machine.keep_prefix(fault);
     }
 
-    /// Whether the source's next token may be long in coming (`yaml_token_source_t::may_wait`).
+    /// Returns whether the source may have to wait for its next token (`yaml_token_source_t::may_wait`).
     pub fn may_wait(&self) -> bool
     where
         S: yaml_token_source_t,
@@ -204,36 +209,40 @@ impl<S> yaml_parser_t<S> {
         self.machine.source.may_wait()
     }
 
-    /// Where the parser takes its memory from.
+    /// Returns the allocator of the parser's memory.
     pub fn allocator(&self) -> Global {
         self.machine.alloc
     }
 }
 
 impl<S> Machine<S> {
+    /// Returns the fault that is kept, or one that is equal to `NO_FAULT`.
     fn kept_prefix(&self) -> &yaml_parser_t_prefix
         ensures { fault_of result.now ≡ self.now.config.fault }
     {
         &self.prefix
     }
 
+    /// Keeps a fault.
     fn keep_prefix(&mut self, fault: yaml_parser_t_prefix)
         ensures { self.new ≡ with_config self.old (with_fault self.old.config (fault_of fault)) }
     {
         self.prefix = fault;
     }
 
-    /// Where the parser takes its memory from.
+    /// Returns the allocator of the parser's memory.
     pub(crate) fn allocator(&self) -> Global {
         self.alloc
     }
 
+    /// Returns whether a fault is kept.
     fn has_failed(&self) -> bool
         ensures { result ≡ has_failed self.now }
     {
         !matches!(self.prefix.error, yaml_error_type_t::YAML_NO_ERROR)
     }
 
+    /// Returns whether no document is open, or a fault is kept.
     fn stands_between_documents(&self) -> bool
         ensures { result ≡ between_documents self.now }
     {
@@ -247,20 +256,21 @@ impl<S> Machine<S> {
             )
     }
 
-    /// Whether nothing more comes: after the stream's end or a fault.
+    /// Returns whether no more events come: the stream has ended, or a fault is kept.
     pub(crate) fn is_over(&self) -> bool
         ensures { result ≡ ended_or_failed self.now.config }
     {
         self.has_failed() || matches!(self.state, yaml_parser_state_t::YAML_PARSE_END_STATE)
     }
 
+    /// Returns whether DOCUMENT-END ended a document, and none has begun since.
     pub(crate) fn behind_document_end(&self) -> bool
         ensures { result ≡ self.now.config.behind_document_end }
     {
         self.behind_document_end
     }
 
-    /// Whether a document's explicit end came last.
+    /// Sets whether DOCUMENT-END ended a document, and none has begun since.
     pub(crate) fn set_behind_document_end(&mut self, behind_document_end: bool)
         ensures { self.new ≡ with_config self.old (marked_ended behind_document_end self.old.config) }
     {

@@ -1,11 +1,12 @@
-//! The states: each takes a token, and gives an event, wants a further token, or faults.
+//! The functions of the parser's states. Each takes one token, and then gives an event, asks for a further
+//! token, or fails.
 //!
-//! A function of libyaml's reads up to three tokens. Here each function takes one: the parser's
-//! state leads to it, or else what the token before wants (`Next`). The files below begin with
-//! their productions; the numbers beneath the tokens are the functions that take these.
+//! A function of libyaml's reads up to three tokens; here it is several functions of one token each. `Next`
+//! says which function takes a token; where it is `AtState`, the parser's state does. Each module below
+//! begins with its productions; the number under a token is that of the function that takes it.
 //!
-//! The token lies in a slot. A function moves out of it what it keeps of the token, and the next token drops
-//! the rest.
+//! The token is in a slot of the parser's. A function moves out of the slot what it keeps of the token; the
+//! rest is dropped when the next token is put there.
 ghost use Rattle.std.specs.Prelude.{◌≡◌, Ok, Err, OnOk, OnErr, IfErr, true, is_some};
 ghost use Rattle.libyaml_grammar.specs.cuts.FaultTexts.{memory_fault, document_start_fault};
 ghost use Rattle.libyaml_grammar.specs.sentences.Events.{event};
@@ -52,7 +53,11 @@ fn give(
 }
 
 impl<S> Machine<S> {
-    /// One token, and what it is wanted for.
+    /// Takes one token in the function that `next` names, and returns what it led to. `out` gets the event.
+    ///
+    /// # Errors
+    ///
+    /// The error of the fault, which the parser keeps.
     ///
     /// libyaml: `yaml_parser_state_machine`.
     #[inline(always)]
@@ -90,6 +95,7 @@ impl<S> Machine<S> {
         }
     }
 
+    /// Takes one token in the function of the parser's state.
     #[inline(always)]
     fn parse_at_state(
         &mut self,
@@ -179,7 +185,7 @@ impl<S> Machine<S> {
         }
     }
 
-    /// No token comes after the stream's end.
+    /// Fails at a token after the stream's end. No call of the parser takes such a token.
     #[cold]
     fn parse_at_end(
         &mut self,
@@ -194,7 +200,8 @@ impl<S> Machine<S> {
         Err(self.set_parser_error("did not find expected <document start>", token.start_mark))
     }
 
-    /// A node, or nothing before a token that the place's row names.
+    /// Takes the token at a place where a node may be left out. Before some tokens it is left out
+    /// (`is_nothing_before`), and its event is an empty scalar; any other token begins the node.
     #[inline(always)]
     fn parse_slot(
         &mut self,
@@ -220,7 +227,7 @@ impl<S> Machine<S> {
         self.parse_node(slot.place(), token, pending, out)
     }
 
-    /// The state after the place's node goes on the stack. A document's is there already.
+    /// Pushes the state that follows the place's node. That of a document's node is on the stack already.
     #[inline(always)]
     fn push_state_behind(&mut self, slot: Slot) -> Result<(), yaml_error_type_t>
         ensures ok { OnOk result (self.new
@@ -235,7 +242,7 @@ impl<S> Machine<S> {
         }
     }
 
-    /// An empty node at `mark`; the token stays.
+    /// Gives an empty scalar at `mark`, and keeps the token for the next call.
     ///
     /// libyaml: `yaml_parser_process_empty_scalar`.
     #[inline(never)]
@@ -253,7 +260,7 @@ impl<S> Machine<S> {
         give(out, plain_scalar(None, None, text, true), mark, mark);
     }
 
-    /// The start of a collection is kept, and `state` comes next.
+    /// Pushes the mark where a collection starts, and sets the state.
     fn open(
         &mut self,
         start: yaml_mark_t,
@@ -269,7 +276,7 @@ impl<S> Machine<S> {
         Ok(())
     }
 
-    /// The end of the innermost collection, at the token that closes it.
+    /// Gives the end event of the innermost collection, at the token that closes it.
     #[inline(never)]
     fn close(
         &mut self,

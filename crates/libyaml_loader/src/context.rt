@@ -1,4 +1,6 @@
-//! A document on the way: its nodes so far, its open collections and its anchors.
+//! A document that is being composed: its nodes so far, its open collections and its anchors.
+//!
+//! A function that fails may leave the document half changed. The load then fails, and drops it.
 
 ghost use Rattle.std.specs.Prelude.{◌≡◌, ◌≤◌, suc, [], length, nat_lt, true, false, Some, None};
 ghost use Rattle.std.specs.Prelude.{IfOk, IfErr, OnOk, option_map, string_bytes};
@@ -28,7 +30,7 @@ use libyaml_types::{
 };
 use std::alloc::Global;
 
-/// A document on the way, whose lists have at most `max_entries` entries.
+/// A document that is being composed. Each of its lists may have at most `max_entries` entries.
 ///
 /// libyaml: `loader_ctx`, with the parser's fields `document` and `aliases`.
 #[derive(Drop)]
@@ -41,7 +43,7 @@ pub struct loader_ctx {
 }
 
 impl loader_ctx {
-    /// The document that this start event begins.
+    /// Returns the document that this start event begins, without nodes.
     pub fn new(
         alloc: Global,
         max_entries: usize,
@@ -62,7 +64,7 @@ impl loader_ctx {
         }
     }
 
-    /// The document, which ends so and here.
+    /// Returns the document, which ends at `end_mark`, by an implicit or an explicit end.
     pub fn into_document(self, implicit: bool, end_mark: yaml_mark_t) -> yaml_document_t
         ensures { result ≡ ended_document self.document implicit end_mark }
     {
@@ -71,8 +73,15 @@ impl loader_ctx {
         document
     }
 
-    /// Composes an event of the document, whose texts are moved out of it. An event that is no part of
-    /// the document's nodes changes nothing.
+    /// Composes an event: adds its node or alias, or closes a collection. Other events change nothing.
+    ///
+    /// The texts that a node keeps are moved out of the event.
+    ///
+    /// # Errors
+    ///
+    /// `Memory`, where an allocation fails or a list has `max_entries` entries already; `UndefinedAlias`,
+    /// where no earlier node has the alias's anchor; `RepeatedAnchor`, where an earlier node has the anchor
+    /// of this one.
     pub fn compose(&mut self, event: &mut yaml_event_t) -> Result<(), Refusal>
         requires { IdsAreIn (loader_of self.old) }
         ensures ok { OnOk result (Composed self.old self.new (part_of event.old)) }
@@ -101,7 +110,7 @@ impl loader_ctx {
         }
     }
 
-    /// Whether a list of this many entries may have one more.
+    /// Checks that a list of this many entries may have one more. The error is `Memory`.
     fn has_room(&self, entries: usize) -> Result<(), Refusal>
         ensures ok { OnOk result (nat_lt self.now.max_entries (suc entries) ≡ false) }
         ensures err { IfErr result (λ r. (r ≡ Refusal.Memory)
@@ -114,7 +123,7 @@ impl loader_ctx {
         }
     }
 
-    /// Puts an alias into the innermost open collection.
+    /// Puts the node that has this anchor into the innermost open collection once more, by its id.
     ///
     /// libyaml: `yaml_parser_load_alias`.
     fn yaml_parser_load_alias(
@@ -132,7 +141,7 @@ impl loader_ctx {
         }
     }
 
-    /// Puts a scalar after the nodes and into the innermost open collection.
+    /// Appends a scalar to the nodes, and puts it into the innermost open collection.
     ///
     /// libyaml: `yaml_parser_load_scalar`.
     fn yaml_parser_load_scalar(
@@ -154,7 +163,7 @@ impl loader_ctx {
         Ok(())
     }
 
-    /// Puts a sequence after the nodes and into the innermost open collection, and opens it.
+    /// Appends an empty sequence to the nodes, puts it into the innermost open collection, and opens it.
     ///
     /// libyaml: `yaml_parser_load_sequence`.
     fn yaml_parser_load_sequence(
@@ -180,7 +189,7 @@ impl loader_ctx {
         Ok(())
     }
 
-    /// Puts a mapping after the nodes and into the innermost open collection, and opens it.
+    /// Appends an empty mapping to the nodes, puts it into the innermost open collection, and opens it.
     ///
     /// libyaml: `yaml_parser_load_mapping`.
     fn yaml_parser_load_mapping(
@@ -206,8 +215,8 @@ impl loader_ctx {
         Ok(())
     }
 
-    /// Puts a node without children after the others and into the innermost open collection, and
-    /// returns its id.
+    /// Appends a node without children, registers its anchor, puts the node into the innermost open
+    /// collection, and returns its id.
     #[inline(always)]
     fn load_node(&mut self, anchor: Option<String>, node: yaml_node_t) -> Result<NodeId, Refusal>
         requires ids { IdsAreIn (loader_of self.old) }
@@ -224,7 +233,7 @@ impl loader_ctx {
         Ok(id)
     }
 
-    /// Puts down that a node carries this anchor.
+    /// Registers this node as the carrier of the anchor, if there is an anchor.
     ///
     /// libyaml: `yaml_parser_register_anchor`.
     #[inline(always)]
@@ -249,7 +258,7 @@ impl loader_ctx {
         }
     }
 
-    /// Ends the innermost open collection.
+    /// Closes the innermost open collection, if there is one, and sets its node's end mark.
     ///
     /// libyaml: `yaml_parser_load_sequence_end` and `yaml_parser_load_mapping_end`.
     fn load_end(&mut self, end_mark: yaml_mark_t)
@@ -261,7 +270,7 @@ impl loader_ctx {
         }
     }
 
-    /// Puts a child into the innermost open collection, if there is one.
+    /// Puts a child into the innermost open collection, if there is one: as an item, a key or a value.
     ///
     /// libyaml: `yaml_parser_load_node_add`.
     #[inline(always)]

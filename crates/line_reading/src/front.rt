@@ -1,11 +1,21 @@
-//! Numbers and marks at places of a line.
+//! Numbers and marks that begin at an index of a line.
+//!
+//! Each function takes the index `at` where it begins to read, and returns the index where it stopped. A
+//! number has a digit, so none ends at the index 0: that 0 says that there was no number, or no mark.
+//!
+//! Elsewhere this would be an `Option`. Here it is a 0 for speed, since each token has six numbers: a
+//! `NumberRead` has 16 bytes and is returned in two registers, and an `Option` of it would have 24 and be
+//! returned in memory. Outside this file the 0 becomes an `Option` (`number.rt`) or an error
+//! (`token_line.rt`).
 ghost use Rattle.std.specs.Prelude.{◌≡◌, ◌+◌, ◌≤◌, ◌<◌, Some, None, true, false, length, drop};
 ghost use Rattle.line_reading.specs.Front.{behind_first, behind_field, further, number_at, mark_at};
 ghost use Rattle.line_reading.specs.Front.{HasDigits};
 
 use libyaml_types::yaml_mark_t;
 
-/// Reads the mark that is the field at a place, and returns where that field ends: 0 where it is no mark.
+/// Reads the field at `at` into `mark`, and returns the index of the field's end, or 0 where it is no mark.
+///
+/// A mark counts characters, lines and columns, each from 0.
 #[inline(always)]
 pub fn read_mark(line: &[u8], at: usize, mark: &mut yaml_mark_t) -> usize
     requires { at ≤ length line.now }
@@ -40,7 +50,7 @@ pub fn read_mark(line: &[u8], at: usize, mark: &mut yaml_mark_t) -> usize
     column.end
 }
 
-/// Returns whether the byte is at a place.
+/// Returns whether there is a byte at `at`, and it is this one.
 #[inline(always)]
 fn is_byte_at(line: &[u8], at: usize, byte: u8) -> bool
     requires { at ≤ length line.now }
@@ -51,7 +61,7 @@ fn is_byte_at(line: &[u8], at: usize, byte: u8) -> bool
     at < line.len() && line[at] == byte
 }
 
-/// Returns whether a field that goes up to a place ends there.
+/// Returns whether a field ends at `at`: at a space, or at the end of the line.
 #[inline(always)]
 fn ends_field(line: &[u8], at: usize) -> bool
     requires { at ≤ length line.now }
@@ -61,7 +71,7 @@ fn ends_field(line: &[u8], at: usize) -> bool
     at == line.len() || line[at] == b' '
 }
 
-/// A number, and where its digits end: 0 where there is no number.
+/// A number, and the index after its last digit; that index is 0 where there is no number.
 #[derive(Copy, Clone)]
 pub struct NumberRead {
     pub value: u64,
@@ -70,7 +80,7 @@ pub struct NumberRead {
 
 const NO_NUMBER: NumberRead = NumberRead { value: 0, end: 0 };
 
-/// Reads the number at a place.
+/// Reads the number that begins at `at`: digits without a leading zero, of a value within 64 bits.
 #[inline(always)]
 pub fn read_number(line: &[u8], at: usize) -> NumberRead
     requires { at ≤ length line.now }
@@ -91,10 +101,11 @@ pub fn read_number(line: &[u8], at: usize) -> NumberRead
     ended_number(line, at, digits)
 }
 
-/// This many bytes are read without checking for the line's end; this many digits always fit in 64 bits.
+/// The bytes, at most, in which `read_number` looks for a number's end before it calls a function for longer
+/// ones. The value of this many digits always fits in 64 bits.
 const FEW: usize = 8;
 
-/// Reads the number at a place, where the line has few bytes left.
+/// Reads the number that begins at `at`, where the line has fewer than `FEW` bytes left.
 #[inline(never)]
 fn read_last_number(line: &[u8], at: usize) -> NumberRead
     requires within { at ≤ length line.now }
@@ -109,14 +120,14 @@ fn read_last_number(line: &[u8], at: usize) -> NumberRead
     ended_number(line, at, read_few_digits(line, at, line.len()))
 }
 
-/// Digits that were read: how many, and their value.
+/// The number of digits that were read, and their value.
 #[derive(Copy, Clone)]
 struct DigitsRead {
     len: usize,
     value: u64,
 }
 
-/// Reads the digits at a place, up to `end` at most: too few for a value above 64 bits.
+/// Reads the digits from `at` on, but none from `end` on: at most 19, whose value always fits in 64 bits.
 #[inline(always)]
 fn read_few_digits(line: &[u8], at: usize, end: usize) -> DigitsRead
     requires order { at ≤ end }
@@ -139,7 +150,7 @@ fn read_few_digits(line: &[u8], at: usize, end: usize) -> DigitsRead
     }
 }
 
-/// Reads the number at a place, of any length.
+/// Reads the number that begins at `at`, however many digits it has.
 #[cold]
 #[inline(never)]
 fn read_any_number(line: &[u8], at: usize) -> NumberRead
@@ -168,7 +179,7 @@ fn read_any_number(line: &[u8], at: usize) -> NumberRead
     ended_number(line, at, DigitsRead { len, value })
 }
 
-/// Returns the number that these digits at a place are.
+/// Returns the number of these digits, which begin at `at`, or no number for none and for a leading zero.
 #[inline(always)]
 fn ended_number(line: &[u8], at: usize, digits: DigitsRead) -> NumberRead
     requires within { at + digits.len ≤ length line.now }
