@@ -1,5 +1,3 @@
-pub mod Source
-pub mod ListLaws
 pub mod RunToCome
 pub mod History
 pub mod Calls

@@ -3,7 +3,6 @@
 
 mod entries;
 pub mod laws;
-mod list_source;
 mod next;
 mod node_head;
 mod node_place;
@@ -11,18 +10,17 @@ mod parse;
 mod parser;
 mod pending;
 mod slot;
-mod source;
 mod states;
 
-pub use list_source::yaml_list_source_t;
 pub use parse::{yaml_parser_parse, yaml_parser_parse_into};
 pub use parser::{
     yaml_parser_between_documents, yaml_parser_delete, yaml_parser_initialize,
     yaml_parser_set_max_entries, yaml_parser_t,
 };
-pub use source::yaml_token_source_t;
-// What a fault says.
-pub use libyaml_grammar::{NO_FAULT, yaml_parser_t_prefix, yaml_source_fault_t};
+// Where tokens come from, and what a fault says.
+pub use libyaml_sources::{
+    NO_FAULT, yaml_list_source_t, yaml_parser_t_prefix, yaml_source_fault_t, yaml_token_source_t,
+};
 // The tokens, events and other types of the calls.
 pub use libyaml_types::{
     ZERO_MARK, unnamed_yaml_event_t_data, unnamed_yaml_event_t_data_alias,

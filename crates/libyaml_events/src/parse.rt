@@ -9,7 +9,7 @@ ghost use Rattle.libyaml_events.specs.sources.ParsesNext.{ParsesNext};
 use crate::next::Next;
 use crate::parser::{Machine, yaml_parser_t};
 use crate::pending::Pending;
-use crate::source::yaml_token_source_t;
+use libyaml_sources::yaml_token_source_t;
 use libyaml_types::{
     ZERO_MARK, unnamed_yaml_event_t_data, yaml_error_type_t, yaml_event_t, yaml_token_t,
 };

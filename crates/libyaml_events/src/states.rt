@@ -8,7 +8,8 @@
 //! The token is in a slot of the parser's. A function moves out of the slot what it keeps of the token; the
 //! rest is dropped when the next token is put there.
 ghost use Rattle.std.specs.Prelude.{◌≡◌, Ok, Err, OnOk, OnErr, IfErr, true, is_some};
-ghost use Rattle.libyaml_grammar.specs.cuts.FaultTexts.{memory_fault, document_start_fault};
+ghost use Rattle.libyaml_sources.specs.Fault.{memory_fault};
+ghost use Rattle.libyaml_grammar.specs.cuts.FaultTexts.{document_start_fault};
 ghost use Rattle.libyaml_grammar.specs.sentences.Events.{event};
 ghost use Rattle.libyaml_events.specs.machine.Config.{with_config, with_fault, at, pushed_mark};
 ghost use Rattle.libyaml_events.specs.machine.Machine.{step, at_state, process_empty_scalar};

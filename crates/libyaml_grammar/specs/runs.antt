@@ -1,5 +1,2 @@
-pub mod Fault
-pub mod Message
-pub mod Errors
 pub mod Runs
 pub mod StreamEnds

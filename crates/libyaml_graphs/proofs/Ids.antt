@@ -4,7 +4,7 @@ use Rattle.std.proofs.Common.{refl, sym, ap, ◌∙◌, subst, le_refl, le_trans
 use Rattle.std.proofs.lemmas.Int.{ints}
 use Rattle.std.proofs.lemmas.List.Elements.{All-nil, All-cons}
 use Rattle.libyaml_grammar.specs.sentences.Events.{Event, Layout, end_at}
-use Rattle.libyaml_grammar.specs.runs.Fault.{Fault}
+use Rattle.libyaml_sources.specs.Fault.{Fault}
 use Rattle.libyaml_grammar.specs.sentences.Nesting.{AllHavePairs, HasPairs, Texts, TextsHavePairs, Value, Values, alias_value, collection_value, first_value}
 use Rattle.libyaml_grammar.specs.sentences.Nesting.{is_even, no_texts, no_values, scalar_value, text_behind, value_events, values_events}
 use Rattle.libyaml_grammar.specs.sentences.Order.{negated}

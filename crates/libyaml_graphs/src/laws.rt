@@ -10,7 +10,7 @@ ghost use Rattle.libyaml_grammar.specs.cuts.CutEvents.{cut_events};
 ghost use Rattle.libyaml_grammar.specs.cuts.CutFaults.{fault};
 ghost use Rattle.libyaml_grammar.specs.cuts.CutTrees.{Cut};
 ghost use Rattle.libyaml_grammar.specs.sentences.Events.{Event, events};
-ghost use Rattle.libyaml_grammar.specs.runs.Fault.{Fault};
+ghost use Rattle.libyaml_sources.specs.Fault.{Fault};
 ghost use Rattle.libyaml_grammar.specs.cuts.Fits.{Fits};
 ghost use Rattle.libyaml_grammar.specs.sentences.Nesting.{HasPairs, IsNested, NestsSoFar, Texts};
 ghost use Rattle.libyaml_grammar.specs.sentences.Nesting.{TextsHavePairs, Value, value_events};

@@ -11,12 +11,12 @@ use Rattle.libyaml_events.specs.sources.Calls.{EventOrError}
 use Rattle.libyaml_events.specs.sources.CallsInTurn.{CarriedOn}
 use Rattle.libyaml_events.specs.machine.Config.{Parser, is_between, is_end_state, is_fault}
 use Rattle.libyaml_grammar.specs.sentences.Events.{Event}
-use Rattle.libyaml_grammar.specs.runs.Fault.{Answer, Fault}
+use Rattle.libyaml_sources.specs.Fault.{Answer, Fault}
 use Rattle.libyaml_events.specs.sources.History.{ForHistory, History, between_documents, has_failed, is_over, kept_fault}
 use Rattle.libyaml_events.specs.sources.Parsing.{CarriesOn, FailsBy, IsWhole}
 use Rattle.libyaml_events.specs.sources.RunToCome.{RunToCome, UnlessBroken}
 use Rattle.libyaml_grammar.specs.runs.Runs.{Ending, Ends, Fails}
-use Rattle.libyaml_events.specs.sources.Source.{Coming}
+use Rattle.libyaml_sources.specs.Source.{Coming}
 use Rattle.libyaml_events.specs.parsers.Stages.{Stage, after, at_start, is_event, is_outside, stage_of}
 use Rattle.libyaml_grammar.specs.sentences.Tokens.{Token}
 use Rattle.libyaml_events.proofs.lent.CallsInTurn.{both_calls, no_call, one_call, stage_more}

@@ -3,12 +3,11 @@ use Rattle.std.specs.Prelude.{◌≡◌, List, Option, Ok, Err}
 use Rattle.libyaml_types.specs.declared.enums.yaml_error_type_t.TheVariants.{YAML_MEMORY_ERROR}
 use Rattle.libyaml_events.specs.machine.Config.{Parser}
 use Rattle.libyaml_grammar.specs.sentences.Events.{Event}
-use Rattle.libyaml_grammar.specs.runs.Fault.{Fault}
-use Rattle.libyaml_grammar.specs.cuts.FaultTexts.{memory_fault}
+use Rattle.libyaml_sources.specs.Fault.{Fault, memory_fault}
 use Rattle.libyaml_events.specs.sources.History.{kept_fault}
 use Rattle.libyaml_grammar.specs.runs.Runs.{Ending}
 use Rattle.libyaml_events.specs.sources.RunToCome.{RunToCome}
-use Rattle.libyaml_events.specs.sources.Source.{Coming}
+use Rattle.libyaml_sources.specs.Source.{Coming}
 use Rattle.libyaml_graphs.specs.Loads.{Load}
 use Rattle.libyaml_loader.specs.Loading.{DocumentOrError}
 

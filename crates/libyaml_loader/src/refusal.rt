@@ -2,7 +2,7 @@
 
 ghost use Rattle.std.specs.Prelude.{◌≡◌, true, false};
 ghost use Rattle.libyaml_events.specs.sources.History.{is_over, has_failed, kept_fault, keeping};
-ghost use Rattle.libyaml_grammar.specs.cuts.FaultTexts.{memory_fault};
+ghost use Rattle.libyaml_sources.specs.Fault.{memory_fault};
 ghost use Rattle.libyaml_loader.specs.Refusals.{composer_fault, composer_fault_in, fault_by};
 
 use libyaml_events::{NO_FAULT, yaml_parser_t, yaml_parser_t_prefix};

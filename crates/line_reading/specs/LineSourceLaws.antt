@@ -2,8 +2,8 @@
 use Rattle.std.proofs.Common.{◌≡◌, ◌<◌, ◌≤◌, ℕ, ◌+◌, ◌-◌, List, [], ◌∷◌, Option, Some, None, Ok, Err, refl, ap, sym, ◌∙◌, subst, arith, inl, inr}
 use Rattle.std.proofs.lemmas.Bool.{lt-ltb, le-ltb, cases_lt}
 use Rattle.libyaml_types.specs.declared.token.yaml_token_t.{yaml_token_t}
-use Rattle.libyaml_grammar.specs.runs.Fault.{Fault, Answer}
-use Rattle.libyaml_events.specs.sources.Source.{Coming, coming, Follows, FollowsList}
+use Rattle.libyaml_sources.specs.Fault.{Fault, Answer}
+use Rattle.libyaml_sources.specs.Source.{Coming, coming, Follows, FollowsList}
 use Rattle.line_reading.specs.declared.line_problem.LineProblem.TheVariants.{TooManyTokens, NoMoreTokens}
 use Rattle.line_reading.specs.LineFault.{line_fault}
 use Rattle.line_reading.specs.LineLaws.{lines_behind}

@@ -1,11 +1,10 @@
 //! Why a line source gave no token.
 ghost use Rattle.std.specs.Prelude.{◌≡◌};
-ghost use Rattle.libyaml_grammar.specs.runs.Errors.{IsSourceError};
-ghost use Rattle.libyaml_grammar.specs.runs.Fault.{source_fault};
-ghost use Rattle.libyaml_grammar.specs.cuts.FaultTexts.{memory_fault};
+ghost use Rattle.libyaml_sources.specs.Errors.{IsSourceError};
+ghost use Rattle.libyaml_sources.specs.Fault.{source_fault, memory_fault};
 ghost use Rattle.line_reading.specs.LineFault.{problem_at, line_fault};
 
-use libyaml_events::yaml_source_fault_t;
+use libyaml_sources::yaml_source_fault_t;
 use libyaml_types::{ZERO_MARK, yaml_error_type_t, yaml_mark_t};
 use std::alloc::AllocError;
 use std::io;

@@ -1,7 +1,7 @@
 //! A source of tokens over the lines of a reader.
 ghost use Rattle.std.specs.Prelude.{◌≡◌, ◌+◌, ◌-◌, IfOk, IfSome, Some, None, Err};
-ghost use Rattle.libyaml_grammar.specs.runs.Fault.{answer_of};
-ghost use Rattle.libyaml_events.specs.sources.Source.{answer_in};
+ghost use Rattle.libyaml_sources.specs.Fault.{answer_of};
+ghost use Rattle.libyaml_sources.specs.Source.{answer_in};
 ghost use Rattle.line_reading.specs.LineSource.{Gives, known_of, BreaksOff};
 ghost use Rattle.line_reading.specs.LineSourceLaws.{source_falls, source_follows, source_repeats};
 ghost use Rattle.line_reading.specs.ReadLines.{longest_line, read_lines};
@@ -10,7 +10,7 @@ ghost use Rattle.line_reading.specs.LineFault.{line_fault};
 ghost use Rattle.line_reading.specs.declared.line_problem.LineProblem.TheVariants.{BadTokenLine, LineTooLong};
 
 use crate::token_reader::TokenReader;
-use libyaml_events::{yaml_source_fault_t, yaml_token_source_t};
+use libyaml_sources::{yaml_source_fault_t, yaml_token_source_t};
 use libyaml_types::{ZERO_MARK, unnamed_yaml_token_t_data, yaml_token_t};
 use std::alloc::Global;
 use std::io::BufRead;

@@ -1,7 +1,7 @@
 //! The tokens of lines, one by one.
 ghost use Rattle.std.specs.Prelude.{◌≡◌, ◌+◌, IfOk, None, Err};
-ghost use Rattle.libyaml_grammar.specs.runs.Fault.{source_fault};
-ghost use Rattle.libyaml_events.specs.sources.Source.{answer_in};
+ghost use Rattle.libyaml_sources.specs.Fault.{source_fault};
+ghost use Rattle.libyaml_sources.specs.Source.{answer_in};
 ghost use Rattle.line_reading.specs.LineFault.{line_fault};
 ghost use Rattle.line_reading.specs.LineSource.{Gives, source_over};
 ghost use Rattle.line_reading.specs.ReadLines.{longest_line};
@@ -10,7 +10,7 @@ ghost use Rattle.line_reading.specs.NextLine.{TakesAtMost, IsBehindLine, IsWithi
 use crate::line::read_line;
 use crate::line_problem::LineProblem;
 use crate::token_line::read_token_line;
-use libyaml_events::yaml_source_fault_t;
+use libyaml_sources::yaml_source_fault_t;
 use libyaml_types::yaml_token_t;
 use std::alloc::Global;
 use std::io::BufRead;

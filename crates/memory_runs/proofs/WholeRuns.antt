@@ -4,8 +4,7 @@ use Rattle.std.proofs.lemmas.List.{append-nil}
 use Rattle.std.specs.Fmt.{digits}
 use Rattle.std.specs.List.{concat}
 use Rattle.std.specs.Prelude.{codes}
-use Rattle.libyaml_grammar.specs.cuts.FaultTexts.{memory_fault}
-use Rattle.libyaml_grammar.specs.runs.Fault.{Fault}
+use Rattle.libyaml_sources.specs.Fault.{memory_fault, Fault}
 use Rattle.libyaml_grammar.specs.runs.Runs.{Ending}
 use Rattle.line_reading.specs.LineFault.{line_fault}
 use Rattle.line_reading.specs.NextLine.{BreaksOffAt}

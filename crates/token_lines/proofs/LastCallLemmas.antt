@@ -8,8 +8,8 @@ use Rattle.libyaml_types.specs.declared.event.yaml_event_t.{yaml_event_t}
 use Rattle.libyaml_types.specs.declared.token.yaml_token_t.{yaml_token_t}
 use Rattle.libyaml_events.specs.sources.Calls.{EventOrError, Gave}
 use Rattle.libyaml_events.specs.machine.Config.{Parser}
-use Rattle.libyaml_grammar.specs.declared.fault.yaml_parser_t_prefix.{yaml_parser_t_prefix}
-use Rattle.libyaml_grammar.specs.runs.Fault.{Answer, fault_of}
+use Rattle.libyaml_sources.specs.declared.fault.yaml_parser_t_prefix.{yaml_parser_t_prefix}
+use Rattle.libyaml_sources.specs.Fault.{Answer, fault_of}
 use Rattle.libyaml_events.specs.sources.History.{History, answers, is_over, kept_fault}
 use Rattle.libyaml_events.specs.sources.Parsing.{CarriesOn, FailsBy}
 use Rattle.token_lines.specs.declared.run.Outcome.{Outcome}

@@ -12,12 +12,12 @@ use Rattle.libyaml_types.specs.declared.token.yaml_token_t.{yaml_token_t}
 use Rattle.libyaml_documents.specs.declared.node.yaml_node_t.{yaml_node_t}
 use Rattle.libyaml_documents.specs.Documents.{Document}
 use Rattle.libyaml_events.specs.machine.Config.{Parser, is_fault}
-use Rattle.libyaml_grammar.specs.declared.fault.yaml_parser_t_prefix.{yaml_parser_t_prefix}
-use Rattle.libyaml_grammar.specs.runs.Fault.{Answer, Fault, fault_of}
+use Rattle.libyaml_sources.specs.declared.fault.yaml_parser_t_prefix.{yaml_parser_t_prefix}
+use Rattle.libyaml_sources.specs.Fault.{Answer, Fault, fault_of}
 use Rattle.libyaml_events.specs.sources.History.{ForHistory, History, has_failed, kept_fault}
 use Rattle.libyaml_events.specs.sources.RunToCome.{RunToCome}
 use Rattle.libyaml_grammar.specs.runs.Runs.{Ending}
-use Rattle.libyaml_events.specs.sources.Source.{Coming}
+use Rattle.libyaml_sources.specs.Source.{Coming}
 use Rattle.libyaml_events.proofs.lent.Staged.{ran_staged}
 use Rattle.libyaml_graphs.specs.Bounds.{bounded_loads, next_bounded}
 use Rattle.libyaml_graphs.specs.Loads.{Load, left_over}

@@ -9,12 +9,12 @@ use Rattle.libyaml_types.specs.declared.token.yaml_token_t.{yaml_token_t}
 use Rattle.libyaml_types.specs.Events.{empty_event}
 use Rattle.libyaml_events.specs.sources.Calls.{EventOrError}
 use Rattle.libyaml_events.specs.machine.Config.{Parser}
-use Rattle.libyaml_grammar.specs.runs.Fault.{Fault, Answer}
+use Rattle.libyaml_sources.specs.Fault.{Fault, Answer}
 use Rattle.libyaml_events.specs.sources.History.{History, is_over}
 use Rattle.libyaml_events.specs.sources.Parsing.{CarriesOn}
 use Rattle.libyaml_events.specs.sources.RunToCome.{RunToCome}
 use Rattle.libyaml_grammar.specs.runs.Runs.{Ending, Ends}
-use Rattle.libyaml_events.specs.sources.Source.{Coming}
+use Rattle.libyaml_sources.specs.Source.{Coming}
 use Rattle.libyaml_events.specs.parsers.Stages.{is_event}
 use Rattle.libyaml_events.proofs.lent.NextEvents.{First}
 use Rattle.token_lines.specs.EventRun.{event_lines}

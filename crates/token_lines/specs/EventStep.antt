@@ -6,12 +6,11 @@ use Rattle.libyaml_types.specs.declared.event.yaml_event_t.{yaml_event_t}
 use Rattle.libyaml_events.specs.machine.Config.{Parser}
 use Rattle.libyaml_types.specs.declared.token.yaml_token_t.{yaml_token_t}
 use Rattle.libyaml_events.specs.sources.History.{is_stream_end, kept_fault}
-use Rattle.libyaml_grammar.specs.runs.Fault.{Fault, Answer, fault_of}
-use Rattle.libyaml_grammar.specs.cuts.FaultTexts.{memory_fault}
+use Rattle.libyaml_sources.specs.Fault.{Fault, Answer, fault_of, memory_fault}
 use Rattle.libyaml_events.specs.sources.Parsing.{CarriesOn, FailsBy}
 use Rattle.libyaml_events.specs.sources.RunToCome.{FailsHere, RunToCome}
 use Rattle.libyaml_grammar.specs.runs.Runs.{Ending, Ends}
-use Rattle.libyaml_events.specs.sources.Source.{Coming}
+use Rattle.libyaml_sources.specs.Source.{Coming}
 use Rattle.token_lines.specs.declared.run.Step.{Step}
 use Rattle.token_lines.specs.declared.run.Step.TheVariants.{Written, Ended, Failed, OutputFailed}
 use Rattle.token_lines.specs.EventRun.{event_lines}

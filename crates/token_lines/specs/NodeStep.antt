@@ -5,12 +5,11 @@ use Rattle.std.specs.Io.KnownBytes.{Appends, Keeps}
 use Rattle.libyaml_types.specs.declared.event.yaml_event_t.{yaml_event_t}
 use Rattle.libyaml_documents.specs.Documents.{Document}
 use Rattle.libyaml_events.specs.machine.Config.{Parser}
-use Rattle.libyaml_grammar.specs.runs.Fault.{Answer, Fault, fault_of}
-use Rattle.libyaml_grammar.specs.cuts.FaultTexts.{memory_fault}
+use Rattle.libyaml_sources.specs.Fault.{Answer, Fault, fault_of, memory_fault}
 use Rattle.libyaml_events.specs.sources.History.{ForHistory, kept_fault}
 use Rattle.libyaml_events.specs.sources.RunToCome.{RunToCome}
 use Rattle.libyaml_grammar.specs.runs.Runs.{Ending, Ends, Fails}
-use Rattle.libyaml_events.specs.sources.Source.{Coming}
+use Rattle.libyaml_sources.specs.Source.{Coming}
 use Rattle.libyaml_graphs.specs.Bounds.{bounded_loads, next_bounded}
 use Rattle.libyaml_graphs.specs.Loads.{Load, left_over}
 use Rattle.libyaml_loader.specs.Loading.{DocumentOrError, HasEnded, LoadsFrom}

@@ -1,7 +1,7 @@
 //! Runs: from token lines to the lines of events or of documents.
 ghost use Rattle.std.specs.Prelude.{◌≡◌, ◌≢◌, ◌⊎◌};
 ghost use Rattle.std.specs.Io.KnownBytes.{Appends, Keeps};
-ghost use Rattle.libyaml_grammar.specs.runs.Fault.{fault_of};
+ghost use Rattle.libyaml_sources.specs.Fault.{fault_of};
 ghost use Rattle.line_writing.specs.FaultText.{fault_text};
 
 mod events;

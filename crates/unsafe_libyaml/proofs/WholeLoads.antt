@@ -11,9 +11,8 @@ use Rattle.libyaml_documents.specs.Documents.{Document, empty_document}
 use Rattle.libyaml_documents.specs.declared.node.yaml_node_t.{yaml_node_t}
 use Rattle.libyaml_events.specs.machine.Config.{Parser}
 use Rattle.libyaml_grammar.specs.sentences.Events.{Event, events}
-use Rattle.libyaml_grammar.specs.runs.Fault.{Answer, Fault}
-use Rattle.libyaml_grammar.specs.runs.Fault as faults
-use Rattle.libyaml_grammar.specs.cuts.FaultTexts.{memory_fault}
+use Rattle.libyaml_sources.specs.Fault.{Answer, Fault, memory_fault}
+use Rattle.libyaml_sources.specs.Fault as faults
 use Rattle.libyaml_events.specs.sources.Calls.{Gave}
 use Rattle.libyaml_events.specs.sources.CallsInTurn.{CarriedOn}
 use Rattle.libyaml_events.specs.sources.History.{History, answers, between_documents, has_failed, keeping, kept_fault}
@@ -23,10 +22,10 @@ use Rattle.libyaml_grammar.specs.sentences.Nesting.{IsNested, NestsSoFar}
 use Rattle.libyaml_grammar.specs.sentences.Order.{in_order}
 use Rattle.libyaml_events.specs.sources.RunToCome.{RunToCome}
 use Rattle.libyaml_grammar.specs.runs.Runs.{Ending, Ends, Fails, IsRun}
-use Rattle.libyaml_events.specs.sources.Source.{Coming, coming}
+use Rattle.libyaml_sources.specs.Source.{Coming, coming}
 use Rattle.libyaml_grammar.specs.sentences.Tokens.{Token}
 use Rattle.libyaml_grammar.specs.sentences.Trees.{Stream, tokens}
-use Rattle.libyaml_grammar.specs.declared.fault.yaml_parser_t_prefix.{yaml_parser_t_prefix}
+use Rattle.libyaml_sources.specs.declared.fault.yaml_parser_t_prefix.{yaml_parser_t_prefix}
 use Rattle.libyaml_graphs.specs.Bounds.{NoneLacksMemory, bounded_loads, next_bounded}
 use Rattle.libyaml_graphs.specs.GraphLaws.{RootsFollow}
 use Rattle.libyaml_graphs.specs.Loads.{IsLoads, Load, last_load, left_over, loads, loads_of}

@@ -19,9 +19,9 @@ pub use Rattle.libyaml_grammar.specs.rows.CutRows
 pub use Rattle.libyaml_grammar.specs.rows.EmptyRows
 pub use Rattle.libyaml_grammar.specs.rows.RowNotation
 pub use Rattle.libyaml_grammar.specs.rows.Rows
-pub use Rattle.libyaml_grammar.specs.runs.Errors
-pub use Rattle.libyaml_grammar.specs.runs.Fault
-pub use Rattle.libyaml_grammar.specs.runs.Message
+pub use Rattle.libyaml_sources.specs.Errors
+pub use Rattle.libyaml_sources.specs.Fault
+pub use Rattle.libyaml_sources.specs.Message
 pub use Rattle.libyaml_grammar.specs.runs.Runs
 pub use Rattle.libyaml_grammar.specs.runs.StreamEnds
 pub use Rattle.libyaml_grammar.specs.sentences.Events
@@ -44,12 +44,12 @@ pub use Rattle.libyaml_events.specs.rows.StackRows
 pub use Rattle.libyaml_events.specs.sources.Calls
 pub use Rattle.libyaml_events.specs.sources.CallsInTurn
 pub use Rattle.libyaml_events.specs.sources.History
-pub use Rattle.libyaml_events.specs.sources.ListLaws
+pub use Rattle.libyaml_sources.specs.ListLaws
 pub use Rattle.libyaml_events.specs.sources.Needs
 pub use Rattle.libyaml_events.specs.sources.ParsesNext
 pub use Rattle.libyaml_events.specs.sources.Parsing
 pub use Rattle.libyaml_events.specs.sources.RunToCome
-pub use Rattle.libyaml_events.specs.sources.Source
+pub use Rattle.libyaml_sources.specs.Source
 pub use Rattle.libyaml_documents.specs.Documents
 pub use Rattle.libyaml_documents.specs.Equal as EqualDocuments
 pub use Rattle.libyaml_documents.specs.EqualNodes

@@ -4,7 +4,7 @@ use Rattle.libyaml_events.specs.machine.Machine.{Progressed, step}
 use Rattle.libyaml_grammar.specs.sentences.Trees.{behind, whole}
 use Rattle.libyaml_events.specs.sources.History.{Ran, begins, goes_on}
 use Rattle.libyaml_grammar.proofs.lent.Lists.{nil_right, assoc}
-use Rattle.libyaml_grammar.specs.runs.Fault.{Answer, Fault}
+use Rattle.libyaml_sources.specs.Fault.{Answer, Fault}
 use Rattle.libyaml_grammar.specs.sentences.Tokens.{Token}
 use Rattle.libyaml_grammar.specs.sentences.Trees.{free}
 use Rattle.libyaml_grammar.specs.sentences.Events.{Event, events}

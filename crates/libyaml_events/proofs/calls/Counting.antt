@@ -3,7 +3,7 @@ use Rattle.std.proofs.Common.{◌≡◌, ◌≤◌, ◌+◌, ◌*◌, arith, ℕ
 use Rattle.std.proofs.Common.{false, Ok, Err}
 use Rattle.libyaml_events.specs.machine.Machine.{Progressed}
 use Rattle.libyaml_grammar.specs.cuts.Settled.{BeginsEach}
-use Rattle.libyaml_grammar.specs.cuts.FaultTexts.{no_fault}
+use Rattle.libyaml_sources.specs.Fault.{no_fault}
 use Rattle.libyaml_grammar.specs.sentences.Tokens.{Content, Marks, Token, marks_of, tok}
 use Rattle.libyaml_grammar.specs.sentences.Trees.{tokens}
 use Rattle.libyaml_grammar.specs.sentences.Events.{Event, events}

@@ -6,9 +6,9 @@ use Rattle.libyaml_events.proofs.calls.Parsed.{running_does, fails}
 use Rattle.libyaml_events.proofs.lent.Staged.{ran_staged, staged_over, staged_whole, tree_ends}
 use Rattle.libyaml_events.specs.parsers.Stages.{is_at_end, stage_of}
 use Rattle.libyaml_types.specs.declared.enums.yaml_error_type_t.{yaml_error_type_t}
-use Rattle.libyaml_grammar.specs.runs.Fault.{Fault, Answer}
+use Rattle.libyaml_sources.specs.Fault.{Fault, Answer}
 use Rattle.libyaml_types.specs.Events.{empty_event, zero_mark}
-use Rattle.libyaml_events.specs.sources.Source.{Coming, coming, Follows, FollowsList}
+use Rattle.libyaml_sources.specs.Source.{Coming, coming, Follows, FollowsList}
 use Rattle.libyaml_grammar.specs.sentences.Tokens.{Anchor, Content, Token, marks_of}
 use Rattle.libyaml_grammar.specs.sentences.Trees.{Stream}
 use Rattle.libyaml_grammar.specs.sentences.Events.{Event, events, either}

@@ -2,7 +2,7 @@
 use Rattle.std.proofs.Common.{◌≡◌, ℕ, List, [], ◌∷◌, Bool, true, false, Ok, Err, refl, sym, subst}
 use Rattle.libyaml_types.specs.declared.enums.yaml_error_type_t.{yaml_error_type_t}
 use Rattle.libyaml_types.specs.declared.enums.yaml_parser_state_t.{yaml_parser_state_t}
-use Rattle.libyaml_grammar.specs.runs.Fault.{Answer}
+use Rattle.libyaml_sources.specs.Fault.{Answer}
 use Rattle.libyaml_grammar.specs.sentences.Events.{Event}
 use Rattle.libyaml_grammar.specs.sentences.Tokens.{Content, Mark, Token}
 use Rattle.libyaml_events.specs.declared.next.Want.{Want}

@@ -1,8 +1,8 @@
 -- What a call of the parser did, by its history.
 use Rattle.std.proofs.Common.{◌≡◌, inl, inr, List, [], ◌∷◌, ◌++◌, refl, sym, ap, ◌∙◌, subst, Bool, true, false, Ok, Err, IfOk, IfErr}
 use Rattle.libyaml_types.specs.declared.enums.yaml_error_type_t.{yaml_error_type_t}
-use Rattle.libyaml_grammar.specs.runs.Errors.{IsSourceError}
-use Rattle.libyaml_grammar.specs.runs.Fault.{Fault, Answer}
+use Rattle.libyaml_sources.specs.Errors.{IsSourceError}
+use Rattle.libyaml_sources.specs.Fault.{Fault, Answer}
 use Rattle.libyaml_grammar.specs.sentences.Tokens.{Content, Tag, Token}
 use Rattle.libyaml_grammar.specs.sentences.Trees.{Directives, Stream}
 use Rattle.libyaml_grammar.specs.sentences.Events.{Event, either}

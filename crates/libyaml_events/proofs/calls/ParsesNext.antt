@@ -1,12 +1,11 @@
 -- A call of the machine parses the next event.
 use Rattle.std.proofs.Common.{arith, ◌≡◌, ◌+◌, ◌++◌, ℕ, [], Option, Ok, IfErr, true, ◌∙◌}
-use Rattle.libyaml_grammar.specs.runs.Fault.{Fault, Answer}
-use Rattle.libyaml_grammar.specs.cuts.FaultTexts.{no_fault}
+use Rattle.libyaml_sources.specs.Fault.{Fault, Answer, no_fault}
 use Rattle.libyaml_grammar.specs.sentences.Tokens.{Token}
 use Rattle.libyaml_grammar.proofs.lent.NestingSoFar.{run_front_nests}
 use Rattle.libyaml_grammar.proofs.lent.Running.{some_run_proof}
 use Rattle.libyaml_events.specs.machine.Config.{Parser, ended_or_failed}
-use Rattle.libyaml_events.specs.sources.Source.{Coming, Follows}
+use Rattle.libyaml_sources.specs.Source.{Coming, Follows}
 use Rattle.libyaml_events.specs.sources.Calls.{EventOrError, Call}
 use Rattle.libyaml_events.specs.sources.History.{has_failed}
 use Rattle.libyaml_events.specs.sources.ParsesNext.{ParsesNext}

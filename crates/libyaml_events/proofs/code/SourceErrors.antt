@@ -3,7 +3,7 @@ use Rattle.std.proofs.Common.{◌≡◌, true, refl}
 use Rattle.libyaml_types.specs.declared.enums.yaml_error_type_t.{yaml_error_type_t}
 use Rattle.libyaml_types.specs.declared.enums.yaml_error_type_t.TheVariants.{YAML_NO_ERROR, YAML_MEMORY_ERROR, YAML_READER_ERROR, YAML_SCANNER_ERROR}
 use Rattle.libyaml_types.specs.declared.enums.yaml_error_type_t.TheVariants.{YAML_PARSER_ERROR, YAML_COMPOSER_ERROR, YAML_WRITER_ERROR, YAML_EMITTER_ERROR}
-use Rattle.libyaml_grammar.specs.runs.Errors.{IsSourceError}
+use Rattle.libyaml_sources.specs.Errors.{IsSourceError}
 use Rattle.libyaml_events.specs.machine.Config.{is_fault}
 
 pub source_error_is_fault : (e : yaml_error_type_t) → IsSourceError e → is_fault e ≡ true

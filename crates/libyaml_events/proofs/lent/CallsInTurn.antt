@@ -1,6 +1,6 @@
 -- Calls in turn: the results of the source stand one after another, and so do the events.
 use Rattle.std.proofs.Common.{◌≡◌, List, [], ◌∷◌, ◌++◌, refl, sym, subst, append_assoc}
-use Rattle.libyaml_grammar.specs.runs.Fault.{Answer}
+use Rattle.libyaml_sources.specs.Fault.{Answer}
 use Rattle.libyaml_grammar.specs.sentences.Tokens.{Token}
 use Rattle.libyaml_grammar.specs.sentences.Events.{Event}
 use Rattle.libyaml_events.specs.machine.Config.{Parser}

@@ -5,11 +5,11 @@ use Rattle.libyaml_types.specs.declared.event.yaml_event_t.{yaml_event_t}
 use Rattle.libyaml_types.specs.Events.{empty_event}
 use Rattle.libyaml_events.specs.sources.Calls.{EventOrError}
 use Rattle.libyaml_events.specs.machine.Config.{Parser}
-use Rattle.libyaml_grammar.specs.runs.Fault.{Fault}
+use Rattle.libyaml_sources.specs.Fault.{Fault}
 use Rattle.libyaml_events.specs.sources.History.{kept_fault}
 use Rattle.libyaml_events.specs.sources.RunToCome.{FailsHere, RunToCome, UnlessBroken, does, no_memory, breaks}
 use Rattle.libyaml_grammar.specs.runs.Runs.{Ending, Ends, Fails}
-use Rattle.libyaml_events.specs.sources.Source.{Coming}
+use Rattle.libyaml_sources.specs.Source.{Coming}
 use Rattle.libyaml_events.specs.parsers.Stages.{is_event}
 
 no : true ≡ false → ⊥

@@ -7,7 +7,7 @@ use Rattle.libyaml_events.specs.machine.Machine.{Progressed, step}
 use Rattle.libyaml_events.specs.machine.Machine.{parse_stream_start, parse_document_end}
 use Rattle.libyaml_events.specs.machine.Machine.{at_state}
 use Rattle.libyaml_types.specs.Events.{zero_mark}
-use Rattle.libyaml_grammar.specs.cuts.FaultTexts.{no_fault}
+use Rattle.libyaml_sources.specs.Fault.{no_fault, Answer, Fault}
 use Rattle.libyaml_events.specs.machine.Config.{Config, taken, is_fault, is_end_state, ended_or_failed, is_between}
 use Rattle.libyaml_grammar.specs.sentences.Trees.{behind, whole}
 use Rattle.libyaml_events.specs.sources.History.{answers, is_stream_end, Ran, begins, goes_on}
@@ -22,7 +22,6 @@ use Rattle.libyaml_grammar.proofs.lent.Reading.{reads_all, goes}
 use Rattle.libyaml_events.specs.parsers.Stages.{Stage, at_start, before_root, within_root, after, is_event, is_outside, is_at_end, stage_from, stage_of}
 use Rattle.libyaml_events.specs.parsers.Stages.{open_collections, is_quiet, ends_quietly, takes_no_memory}
 use Rattle.libyaml_grammar.specs.sentences.Events.{events}
-use Rattle.libyaml_grammar.specs.runs.Fault.{Answer, Fault}
 use Rattle.libyaml_grammar.specs.sentences.Tokens.{Content, DocumentEnd, StreamEnd, StreamStart, Token, VersionDirective}
 use Rattle.libyaml_grammar.specs.sentences.Trees.{FlowMember, Stream, free, key, mapping, no_parts, no_value, pair, part, sequence, single, value, with_value}
 use Rattle.libyaml_grammar.specs.sentences.Events.{Event, document_end_at, stream_end_at}

@@ -2,8 +2,8 @@
 use Rattle.std.proofs.Common.{ℕ, zero, suc, List, [], ◌∷◌, Option, Some, None, Ok, Err, Bool, true, false}
 use Rattle.std.specs.FinMap.{insert}
 use Rattle.libyaml_grammar.specs.cuts.CutTrees.{declared, open_collection}
-use Rattle.libyaml_grammar.specs.cuts.FaultTexts.{document_start_fault, no_fault}
-use Rattle.libyaml_grammar.specs.runs.Fault.{Fault}
+use Rattle.libyaml_sources.specs.Fault.{no_fault, Fault}
+use Rattle.libyaml_grammar.specs.cuts.FaultTexts.{document_start_fault}
 use Rattle.libyaml_grammar.specs.sentences.Tokens.{Content, Mark, Marks, TagDirective, TagName, Token, VersionDirective, marks_of, tok}
 use Rattle.libyaml_grammar.specs.sentences.Trees.{Before, Directive, Directives, Documents, FlowMember, Free, Parts, Properties, Role, Stream, anchor}
 use Rattle.libyaml_grammar.specs.sentences.Trees.{anchor_tag, behind, directive, ended, explicit, free, implicit, key, mapping, no_directives, no_parts}

@@ -11,7 +11,7 @@ use Rattle.libyaml_grammar.proofs.lent.Cases.{IsHeaded, HeadGoes, step_version, 
 use Rattle.libyaml_events.proofs.machine.Link.{waits}
 use Rattle.libyaml_events.specs.sources.Needs.{HasWaited, at_once, by_last}
 use Rattle.libyaml_grammar.proofs.lent.Lists.{nil_right, assoc}
-use Rattle.libyaml_grammar.specs.runs.Fault.{Fault}
+use Rattle.libyaml_sources.specs.Fault.{Fault}
 use Rattle.libyaml_grammar.specs.sentences.Tokens.{Content, Marks, Tag, TagDirective, Token, VersionDirective, marks_of, tok}
 use Rattle.libyaml_grammar.specs.sentences.Trees.{Directive, Directives, Stream, free, tag_directive, version, whole}
 use Rattle.libyaml_grammar.specs.sentences.Events.{Event, events}

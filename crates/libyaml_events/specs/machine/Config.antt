@@ -12,9 +12,8 @@ use Rattle.libyaml_types.specs.declared.enums.yaml_error_type_t.TheVariants.{YAM
 use Rattle.libyaml_types.specs.declared.enums.yaml_parser_state_t.{yaml_parser_state_t}
 use Rattle.libyaml_types.specs.declared.enums.yaml_parser_state_t.TheVariants.{YAML_PARSE_STREAM_START_STATE, YAML_PARSE_IMPLICIT_DOCUMENT_START_STATE}
 use Rattle.libyaml_types.specs.declared.enums.yaml_parser_state_t.TheVariants.{YAML_PARSE_DOCUMENT_START_STATE, YAML_PARSE_END_STATE}
-use Rattle.libyaml_grammar.specs.runs.Fault.{Fault}
+use Rattle.libyaml_sources.specs.Fault.{Fault, no_fault}
 use Rattle.libyaml_types.specs.Events.{zero_mark}
-use Rattle.libyaml_grammar.specs.cuts.FaultTexts.{no_fault}
 
 -- the prefix of each handle that the document declares
 abbrev pub Handles : Type 0

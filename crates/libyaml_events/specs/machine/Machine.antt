@@ -35,7 +35,7 @@ use Rattle.libyaml_types.specs.declared.enums.yaml_parser_state_t.TheVariants.{Y
 use Rattle.libyaml_types.specs.declared.enums.yaml_parser_state_t.TheVariants.{YAML_PARSE_FLOW_MAPPING_FIRST_KEY_STATE, YAML_PARSE_FLOW_MAPPING_KEY_STATE}
 use Rattle.libyaml_types.specs.declared.enums.yaml_parser_state_t.TheVariants.{YAML_PARSE_FLOW_MAPPING_VALUE_STATE, YAML_PARSE_FLOW_MAPPING_EMPTY_VALUE_STATE}
 use Rattle.libyaml_types.specs.declared.enums.yaml_parser_state_t.TheVariants.{YAML_PARSE_END_STATE}
-use Rattle.libyaml_grammar.specs.runs.Fault.{Fault}
+use Rattle.libyaml_sources.specs.Fault.{Fault}
 use Rattle.libyaml_grammar.specs.cuts.FaultTexts.{stream_start_fault, document_start_fault, duplicate_version_fault, version_fault, duplicate_tag_fault}
 use Rattle.libyaml_grammar.specs.cuts.FaultTexts.{content_fault, tag_fault, item_fault, part_fault, sequence_fault, mapping_fault}
 use Rattle.libyaml_grammar.specs.sentences.Events.{event, is_missing, plain_flag, quoted_flag, same_text}

@@ -4,8 +4,8 @@ use Rattle.libyaml_types.specs.declared.enums.yaml_error_type_t.{yaml_error_type
 use Rattle.libyaml_types.specs.declared.enums.yaml_error_type_t.TheVariants.{YAML_NO_ERROR, YAML_MEMORY_ERROR, YAML_READER_ERROR, YAML_SCANNER_ERROR}
 use Rattle.libyaml_types.specs.declared.enums.yaml_error_type_t.TheVariants.{YAML_PARSER_ERROR, YAML_COMPOSER_ERROR, YAML_WRITER_ERROR, YAML_EMITTER_ERROR}
 use Rattle.libyaml_types.specs.declared.mark.yaml_mark_t.{yaml_mark_t}
-use Rattle.libyaml_grammar.specs.runs.Fault.{Fault}
-use Rattle.libyaml_grammar.specs.cuts.FaultTexts.{memory_fault, tag_fault}
+use Rattle.libyaml_sources.specs.Fault.{Fault, memory_fault}
+use Rattle.libyaml_grammar.specs.cuts.FaultTexts.{tag_fault}
 use Rattle.libyaml_events.specs.machine.Config.{Config, Parser, with_config, with_fault}
 use Rattle.libyaml_events.specs.machine.Growth.{has_prefix}
 use Rattle.libyaml_events.specs.machine.Machine.{Progressed, resolve}

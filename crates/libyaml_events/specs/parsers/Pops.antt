@@ -2,7 +2,7 @@
 use Rattle.std.specs.Prelude.{◌++◌, List}
 use Rattle.libyaml_types.specs.declared.mark.yaml_mark_t.{yaml_mark_t}
 use Rattle.libyaml_types.specs.declared.enums.yaml_parser_state_t.{yaml_parser_state_t}
-use Rattle.libyaml_grammar.specs.runs.Fault.{Answer}
+use Rattle.libyaml_sources.specs.Fault.{Answer}
 use Rattle.libyaml_events.specs.machine.Config.{Config, Parser}
 use Rattle.libyaml_events.specs.sources.Calls.{EventOrError, Gave, Parses}
 

@@ -3,10 +3,9 @@ use Rattle.std.specs.Prelude.{◌≡◌, ◌++◌, ◌∷◌, ◌⊎◌, List, [
 use Rattle.libyaml_types.specs.declared.token.yaml_token_t.{yaml_token_t}
 use Rattle.libyaml_types.specs.declared.event.yaml_event_t.{yaml_event_t}
 use Rattle.libyaml_types.specs.declared.enums.yaml_error_type_t.{yaml_error_type_t}
-use Rattle.libyaml_grammar.specs.runs.Fault.{Answer}
+use Rattle.libyaml_sources.specs.Fault.{Answer, memory_fault}
 use Rattle.libyaml_types.specs.Events.{empty_event}
-use Rattle.libyaml_grammar.specs.cuts.FaultTexts.{memory_fault}
-use Rattle.libyaml_grammar.specs.runs.Errors.{IsSourceError}
+use Rattle.libyaml_sources.specs.Errors.{IsSourceError}
 use Rattle.libyaml_events.specs.machine.Config.{Config, Parser, with_config, with_fault, taken, ended_or_failed}
 use Rattle.libyaml_events.specs.machine.Growth.{may_grow}
 use Rattle.libyaml_events.specs.machine.Machine.{Progressed, step}

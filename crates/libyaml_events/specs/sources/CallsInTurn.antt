@@ -1,7 +1,7 @@
 -- What several calls of the parser, one after another, asked for and gave (docs/DEFINITIONS.md, "Calls").
 use Rattle.std.specs.Prelude.{◌≡◌, ◌++◌, List, [], Option, Some}
-use Rattle.libyaml_grammar.specs.runs.Fault.{Fault, Answer}
-use Rattle.libyaml_events.specs.sources.Source.{Coming, coming}
+use Rattle.libyaml_sources.specs.Fault.{Fault, Answer}
+use Rattle.libyaml_sources.specs.Source.{Coming, coming}
 use Rattle.libyaml_grammar.specs.sentences.Tokens.{Token}
 use Rattle.libyaml_grammar.specs.sentences.Events.{Event}
 use Rattle.libyaml_events.specs.machine.Config.{Parser}

@@ -1,7 +1,7 @@
 -- What a parser asked its source for and what it gave since it was initialized (docs/DEFINITIONS.md, "Histories").
 use Rattle.std.specs.Prelude.{◌≡◌, ◌++◌, ◌∷◌, ◌||◌, ℕ, List, [], length, Ok, Bool, true, false, pos}
 use Rattle.libyaml_types.specs.declared.event.unnamed_yaml_event_t_data.TheVariants as ev
-use Rattle.libyaml_grammar.specs.runs.Fault.{Fault, Answer}
+use Rattle.libyaml_sources.specs.Fault.{Fault, Answer}
 use Rattle.libyaml_grammar.specs.sentences.Tokens.{Token}
 use Rattle.libyaml_grammar.specs.sentences.Events.{Event}
 use Rattle.libyaml_events.specs.machine.Config.{Config, Parser, taken, start, with_config, with_fault, is_fault, ended_or_failed, is_between}

@@ -1,6 +1,6 @@
 -- Why a parser asks for a token, and when it waits (docs/DEFINITIONS.md, "Needs").
 use Rattle.std.specs.Prelude.{◌≡◌, ◌++◌, ◌∷◌, List, [], true, false}
-use Rattle.libyaml_grammar.specs.runs.Fault.{Answer}
+use Rattle.libyaml_sources.specs.Fault.{Answer}
 use Rattle.libyaml_grammar.specs.sentences.Tokens.{Token}
 use Rattle.libyaml_grammar.specs.sentences.Events.{Event}
 use Rattle.libyaml_grammar.specs.cuts.CutTrees.{Cut}

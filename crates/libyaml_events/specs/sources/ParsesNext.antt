@@ -1,14 +1,14 @@
 -- What a call that parses the next event returned and left (docs/DEFINITIONS.md, "Calls").
 use Rattle.std.specs.Prelude.{◌≡◌, ◌≤◌, ◌<◌, ◌+◌, ◌*◌, ◌++◌, ℕ, List, [], length, Option, Ok, Err, IfOk, IfErr, true, false}
 use Rattle.libyaml_types.specs.Events.{empty_event}
-use Rattle.libyaml_grammar.specs.runs.Fault.{Fault, Answer}
+use Rattle.libyaml_sources.specs.Fault.{Fault, Answer}
 use Rattle.libyaml_grammar.specs.runs.Runs.{Ending, Ends, Fails, IsRun}
 use Rattle.libyaml_grammar.specs.cuts.Settled.{Begins, BeginsEach}
 use Rattle.libyaml_grammar.specs.sentences.Tokens.{Token}
 use Rattle.libyaml_grammar.specs.sentences.Events.{Event}
 use Rattle.libyaml_grammar.specs.sentences.Nesting.{NestsSoFar}
 use Rattle.libyaml_events.specs.machine.Config.{Parser}
-use Rattle.libyaml_events.specs.sources.Source.{Coming}
+use Rattle.libyaml_sources.specs.Source.{Coming}
 use Rattle.libyaml_events.specs.sources.Calls.{EventOrError}
 use Rattle.libyaml_events.specs.sources.History.{ForHistory, has_failed, is_over, kept_fault, between_documents, stack_depth}
 use Rattle.libyaml_events.specs.sources.Parsing.{CarriesOn, FailsBy}

@@ -1,8 +1,7 @@
 -- What a call of the parser asked for, gave and kept (docs/DEFINITIONS.md, "Calls").
 use Rattle.std.specs.Prelude.{◌≡◌, ◌++◌, ◌∷◌, List, [], Err, true, false}
-use Rattle.libyaml_grammar.specs.runs.Errors.{IsSourceError}
-use Rattle.libyaml_grammar.specs.runs.Fault.{Fault, Answer}
-use Rattle.libyaml_grammar.specs.cuts.FaultTexts.{memory_fault}
+use Rattle.libyaml_sources.specs.Errors.{IsSourceError}
+use Rattle.libyaml_sources.specs.Fault.{Fault, Answer, memory_fault}
 use Rattle.libyaml_grammar.specs.sentences.Tokens.{Token}
 use Rattle.libyaml_grammar.specs.sentences.Trees.{Stream, tokens}
 use Rattle.libyaml_grammar.specs.sentences.Events.{Event, events}

@@ -1,9 +1,8 @@
 -- The run that a parser over a known source still has before it (docs/DEFINITIONS.md, "Runs").
 use Rattle.std.specs.Prelude.{◌≡◌, ◌++◌, ◌∷◌, ◌⊎◌, List, [], Option, Some, Err}
 use Rattle.libyaml_types.specs.declared.enums.yaml_error_type_t.TheVariants.{YAML_MEMORY_ERROR}
-use Rattle.libyaml_grammar.specs.runs.Fault.{Fault}
-use Rattle.libyaml_grammar.specs.cuts.FaultTexts.{memory_fault}
-use Rattle.libyaml_events.specs.sources.Source.{Coming, coming}
+use Rattle.libyaml_sources.specs.Fault.{Fault, memory_fault}
+use Rattle.libyaml_sources.specs.Source.{Coming, coming}
 use Rattle.libyaml_grammar.specs.sentences.Tokens.{Token}
 use Rattle.libyaml_grammar.specs.sentences.Events.{Event}
 use Rattle.libyaml_grammar.specs.runs.Runs.{Ending, Fails, IsRun}

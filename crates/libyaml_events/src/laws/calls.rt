@@ -5,7 +5,7 @@ ghost use Rattle.libyaml_events.specs.sources.Calls.{Gave};
 ghost use Rattle.libyaml_events.specs.sources.CallsInTurn.{CarriedOn, KnowsRest};
 ghost use Rattle.libyaml_events.specs.machine.Config.{Parser};
 ghost use Rattle.libyaml_grammar.specs.sentences.Events.{Event};
-ghost use Rattle.libyaml_grammar.specs.runs.Fault.{Fault, Answer};
+ghost use Rattle.libyaml_sources.specs.Fault.{Fault, Answer};
 ghost use Rattle.libyaml_events.specs.sources.History.{ForHistory, History, answers, has_failed, is_over};
 ghost use Rattle.libyaml_events.specs.sources.History.{stack_depth};
 ghost use Rattle.libyaml_events.specs.sources.Needs.{EachWasNeeded};
@@ -13,11 +13,11 @@ ghost use Rattle.libyaml_events.specs.parsers.Lookahead.{HoldsLast};
 ghost use Rattle.libyaml_grammar.specs.cuts.Settled.{BeginsEach};
 ghost use Rattle.libyaml_grammar.specs.sentences.Nesting.{NestsSoFar};
 ghost use Rattle.libyaml_events.specs.sources.Parsing.{CarriesOn, IsWhole};
-ghost use Rattle.libyaml_events.specs.sources.Source.{coming};
+ghost use Rattle.libyaml_sources.specs.Source.{coming};
 ghost use Rattle.libyaml_events.specs.parsers.Stages.{after, open_collections, stage_from, stage_of};
 ghost use Rattle.libyaml_grammar.specs.sentences.Tokens.{Token};
 
-use crate::source::yaml_token_source_t;
+use libyaml_sources::yaml_token_source_t;
 
 /// A stage goes on by one event as that event's kind says, and by further events in turn.
 pub fn stages()

@@ -1,11 +1,11 @@
 //! Faults, which the parser keeps for good.
 ghost use Rattle.std.specs.Prelude.{◌≡◌};
-ghost use Rattle.libyaml_grammar.specs.runs.Fault.{fault_of};
-ghost use Rattle.libyaml_grammar.specs.cuts.FaultTexts.{memory_fault, parser_fault, parser_fault_in};
+ghost use Rattle.libyaml_sources.specs.Fault.{fault_of, memory_fault};
+ghost use Rattle.libyaml_grammar.specs.cuts.FaultTexts.{parser_fault, parser_fault_in};
 ghost use Rattle.libyaml_events.specs.machine.Config.{with_config, with_fault};
 
 use crate::parser::Machine;
-use libyaml_grammar::{NO_FAULT, yaml_parser_t_prefix};
+use libyaml_sources::{NO_FAULT, yaml_parser_t_prefix};
 use libyaml_types::{yaml_error_type_t, yaml_mark_t};
 
 impl<S> Machine<S> {

@@ -2,7 +2,7 @@
 ghost use Rattle.std.specs.Prelude.{◌≡◌, ◌++◌, Err, OnOk, OnErr, IfOk, is_some, string_bytes};
 ghost use Rattle.std.specs.Option.{option_copied};
 ghost use Rattle.std.specs.FinMap as map;
-ghost use Rattle.libyaml_grammar.specs.cuts.FaultTexts.{memory_fault};
+ghost use Rattle.libyaml_sources.specs.Fault.{memory_fault};
 ghost use Rattle.libyaml_events.specs.machine.Config.{with_config, with_fault, declared, without_handles};
 ghost use Rattle.libyaml_events.specs.machine.Machine.{undeclared_prefix, or_default};
 ghost use Rattle.libyaml_events.specs.machine.Steps.{Resolves};

@@ -1,11 +1,11 @@
 //! The next token: one that stayed, or else the source's.
 ghost use Rattle.std.specs.Prelude.{◌≡◌, Ok, Err, MatchResult, IfErr, true};
 ghost use Rattle.libyaml_events.specs.machine.Config.{with_config, with_fault, keep, taken, is_fault};
-ghost use Rattle.libyaml_grammar.specs.runs.Errors.{IsSourceError};
+ghost use Rattle.libyaml_sources.specs.Errors.{IsSourceError};
 ghost use Rattle.libyaml_events.specs.sources.Calls.{Fetches};
 
 use crate::parser::Machine;
-use crate::source::yaml_token_source_t;
+use libyaml_sources::yaml_token_source_t;
 use libyaml_types::{ZERO_MARK, unnamed_yaml_token_t_data, yaml_error_type_t, yaml_token_t};
 use std::mem;
 

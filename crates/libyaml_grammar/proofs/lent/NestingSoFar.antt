@@ -6,7 +6,7 @@ use Rattle.libyaml_grammar.specs.cuts.CutTrees.{Cut, at_directive, at_tag, at_ta
 use Rattle.libyaml_grammar.specs.cuts.CutTrees.{open_collection, part_due, separator_due, start_due}
 use Rattle.libyaml_grammar.specs.sentences.Events.{Event, document_end_at, documents_events, end_at, event, events, member_end, missing_value, start_at}
 use Rattle.libyaml_grammar.specs.sentences.Events.{stream_end_at, stream_start_at}
-use Rattle.libyaml_grammar.specs.runs.Fault.{Fault}
+use Rattle.libyaml_sources.specs.Fault.{Fault}
 use Rattle.libyaml_grammar.proofs.lent.Given.{gives_all}
 use Rattle.libyaml_grammar.specs.sentences.Nesting.{BeginsValue, IsNested, IsOpenDocument, NestsSoFar, Texts, TextsHavePairs, Value, Values, alias_value}
 use Rattle.libyaml_grammar.specs.sentences.Nesting.{collection_value, first_value, has_begun, no_texts, no_values, none_open, not_begun, one_open}

@@ -1,26 +1,8 @@
 -- The faults of a parser, field by field (docs/DEFINITIONS.md, "Faults").
-use Rattle.std.specs.Prelude.{ℕ, pos, List, Some, None, Bool, true, false, codes}
+use Rattle.std.specs.Prelude.{ℕ, List, Some, Bool, true, false, codes}
 use Rattle.libyaml_types.specs.declared.mark.yaml_mark_t.{yaml_mark_t}
-use Rattle.libyaml_types.specs.Events.{zero_mark}
-use Rattle.libyaml_types.specs.declared.enums.yaml_error_type_t.TheVariants.{YAML_NO_ERROR, YAML_MEMORY_ERROR, YAML_PARSER_ERROR}
-use Rattle.libyaml_grammar.specs.runs.Fault.{Fault}
-
--- what is kept before any fault
-abbrev pub no_fault : Fault
-no_fault = record {
-  error = YAML_NO_ERROR;
-  problem = None;
-  problem_offset = 0;
-  problem_value = pos 0;
-  problem_mark = zero_mark;
-  context = None;
-  context_mark
-      = zero_mark;
-}
-
--- a failed allocation: its error alone
-abbrev pub memory_fault : Fault
-memory_fault = record no_fault { error = YAML_MEMORY_ERROR }
+use Rattle.libyaml_types.specs.declared.enums.yaml_error_type_t.TheVariants.{YAML_PARSER_ERROR}
+use Rattle.libyaml_sources.specs.Fault.{Fault, no_fault}
 
 abbrev pub parser_fault : List ℕ → yaml_mark_t → Fault
 parser_fault problem mark = record no_fault { error = YAML_PARSER_ERROR; problem = Some problem; problem_mark = mark }

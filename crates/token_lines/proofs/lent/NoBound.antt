@@ -2,8 +2,7 @@
 use Rattle.std.proofs.Common.{◌≡◌, ◌++◌, ◌∷◌, ℕ, List, [], map, Option, Ok, Err, refl, sym, ap, ◌∙◌, subst, inl, append_assoc}
 use Rattle.std.proofs.lemmas.List.{append-nil}
 use Rattle.libyaml_documents.specs.Documents.{Document}
-use Rattle.libyaml_grammar.specs.cuts.FaultTexts.{memory_fault}
-use Rattle.libyaml_grammar.specs.runs.Fault.{Fault}
+use Rattle.libyaml_sources.specs.Fault.{memory_fault, Fault}
 use Rattle.libyaml_grammar.specs.runs.Runs.{Ends, Fails}
 use Rattle.libyaml_graphs.specs.Loads.{Load}
 use Rattle.libyaml_graphs.proofs.lent.BoundedFronts.{IsFront, met, same}

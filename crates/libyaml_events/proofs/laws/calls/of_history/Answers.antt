@@ -1,6 +1,5 @@
 use Rattle.std.proofs.Common.{arith, [], ◌++◌, ◌∙◌, ap, sym}
-use Rattle.libyaml_grammar.specs.cuts.FaultTexts.{no_fault}
-use Rattle.libyaml_grammar.specs.runs.Fault.{Fault}
+use Rattle.libyaml_sources.specs.Fault.{no_fault, Fault}
 use Rattle.libyaml_events.specs.machine.Config.{is_fault}
 use Rattle.libyaml_events.proofs.calls.Calling.{ran_links}
 use Rattle.libyaml_events.proofs.calls.Counting.{linked_begins_each, linked_count}

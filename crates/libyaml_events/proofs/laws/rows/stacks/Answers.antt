@@ -2,7 +2,7 @@ use Rattle.std.proofs.Common.{◌≡◌, ◌++◌, ◌∷◌, List, [], refl, ap
 use Rattle.libyaml_types.specs.declared.enums.yaml_error_type_t.TheVariants.{YAML_MEMORY_ERROR, YAML_PARSER_ERROR}
 use Rattle.libyaml_types.specs.declared.enums.yaml_parser_state_t.TheVariants.{YAML_PARSE_DOCUMENT_END_STATE, YAML_PARSE_END_STATE}
 use Rattle.libyaml_events.specs.machine.Config.{Config}
-use Rattle.libyaml_grammar.specs.runs.Fault.{Fault}
+use Rattle.libyaml_sources.specs.Fault.{Fault}
 use Rattle.libyaml_grammar.specs.rows.RowNotation.{SCALAR, STREAM, place, token}
 use Rattle.libyaml_events.specs.rows.StackRows.{MissesEntry}
 use Rattle.libyaml_grammar.specs.sentences.Tokens.{Content, Token}

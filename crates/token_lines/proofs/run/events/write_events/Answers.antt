@@ -1,6 +1,6 @@
 use Rattle.std.proofs.Common.{refl, ap, ◌∙◌, subst}
 use Rattle.std.specs.Io.KnownBytes.{Keeps}
-use Rattle.libyaml_grammar.specs.runs.Fault.{fault_of}
+use Rattle.libyaml_sources.specs.Fault.{fault_of}
 use Rattle.libyaml_events.specs.sources.History.{is_over}
 use Rattle.token_lines.specs.EventRun.{event_lines}
 use Rattle.token_lines.proofs.LastCallLemmas.{none_yet, one_more, last_call, ends_by, fails_by, output_fails, written_no_end, failed_no_end, output_no_end}

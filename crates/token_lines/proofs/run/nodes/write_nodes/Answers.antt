@@ -1,6 +1,6 @@
 use Rattle.std.proofs.Common.{◌≡◌, refl, ap, ◌∙◌, subst}
 use Rattle.std.specs.Io.KnownBytes.{Appends}
-use Rattle.libyaml_grammar.specs.runs.Fault.{Fault, fault_of}
+use Rattle.libyaml_sources.specs.Fault.{Fault, fault_of}
 use Rattle.libyaml_events.specs.sources.History.{has_failed, kept_fault}
 use Rattle.libyaml_graphs.specs.Bounds.{bounded_loads}
 use Rattle.libyaml_loader.specs.Ids.{magnitude}

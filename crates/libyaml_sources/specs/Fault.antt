@@ -1,11 +1,13 @@
 -- what a fault says
-use Rattle.std.specs.Prelude.{ℕ, ℤ, List, Option, Result, Ok, Err}
+use Rattle.std.specs.Prelude.{ℕ, ℤ, pos, List, Option, None, Result, Ok, Err}
 use Rattle.std.specs.Option.{option_copied}
 use Rattle.libyaml_types.specs.declared.mark.yaml_mark_t.{yaml_mark_t}
 use Rattle.libyaml_types.specs.declared.token.yaml_token_t.{yaml_token_t}
+use Rattle.libyaml_types.specs.Events.{zero_mark}
+use Rattle.libyaml_types.specs.declared.enums.yaml_error_type_t.TheVariants.{YAML_NO_ERROR, YAML_MEMORY_ERROR}
 use Rattle.libyaml_types.specs.declared.enums.yaml_error_type_t.{yaml_error_type_t}
-use Rattle.libyaml_grammar.specs.declared.fault.yaml_parser_t_prefix.{yaml_parser_t_prefix}
-use Rattle.libyaml_grammar.specs.declared.fault.yaml_source_fault_t.{yaml_source_fault_t}
+use Rattle.libyaml_sources.specs.declared.fault.yaml_parser_t_prefix.{yaml_parser_t_prefix}
+use Rattle.libyaml_sources.specs.declared.fault.yaml_source_fault_t.{yaml_source_fault_t}
 
 pub record Fault : Type 0 where
   pub error : yaml_error_type_t
@@ -15,6 +17,22 @@ pub record Fault : Type 0 where
   pub problem_mark : yaml_mark_t
   pub context : Option (List ℕ)
   pub context_mark : yaml_mark_t
+
+-- what is kept before any fault
+abbrev pub no_fault : Fault
+no_fault = record {
+  error = YAML_NO_ERROR;
+  problem = None;
+  problem_offset = 0;
+  problem_value = pos 0;
+  problem_mark = zero_mark;
+  context = None;
+  context_mark = zero_mark;
+}
+
+-- a failed allocation: its error alone
+abbrev pub memory_fault : Fault
+memory_fault = record no_fault { error = YAML_MEMORY_ERROR }
 
 abbrev pub fault_of : yaml_parser_t_prefix → Fault
 fault_of p = record {

@@ -1,10 +1,10 @@
 //! Where a parser's tokens come from.
 ghost use Rattle.std.specs.Prelude.{◌≡◌, ℕ, ◌+◌, Option, Ok, Err};
 ghost use Rattle.libyaml_types.specs.declared.token.yaml_token_t.{yaml_token_t};
-ghost use Rattle.libyaml_grammar.specs.runs.Fault.{Fault, Answer, answer_of};
-ghost use Rattle.libyaml_events.specs.sources.Source.{Coming, Follows, answer_in};
+ghost use Rattle.libyaml_sources.specs.Fault.{Fault, Answer, answer_of};
+ghost use Rattle.libyaml_sources.specs.Source.{Coming, Follows, answer_in};
 
-use libyaml_grammar::yaml_source_fault_t;
+use crate::fault::yaml_source_fault_t;
 use libyaml_types::yaml_token_t;
 
 /// A source of tokens, which ends in a fault.

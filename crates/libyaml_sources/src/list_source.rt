@@ -1,11 +1,11 @@
 //! A source over a list.
 ghost use Rattle.std.specs.Prelude.{◌≡◌, List, length, Some};
-ghost use Rattle.libyaml_grammar.specs.runs.Fault.{source_fault};
-ghost use Rattle.libyaml_events.specs.sources.Source.{coming, list_answer, no_more_tokens, rest_of_list};
-ghost use Rattle.libyaml_events.specs.sources.ListLaws.{list_falls, list_follows, list_repeats};
+ghost use Rattle.libyaml_sources.specs.Fault.{source_fault};
+ghost use Rattle.libyaml_sources.specs.Source.{coming, list_answer, no_more_tokens, rest_of_list};
+ghost use Rattle.libyaml_sources.specs.ListLaws.{list_falls, list_follows, list_repeats};
 
 use crate::source::yaml_token_source_t;
-use libyaml_grammar::yaml_source_fault_t;
+use crate::fault::yaml_source_fault_t;
 use libyaml_types::{ZERO_MARK, yaml_error_type_t, yaml_token_t};
 use std::marker::Model;
 use std::vec::IntoIter;
@@ -19,8 +19,8 @@ pub struct yaml_list_source_t {
 
 impl Model for yaml_list_source_t {
     ghost use Rattle.std.specs.Vec.Iter.{into_iter_items};
-    ghost use Rattle.libyaml_grammar.specs.runs.Fault.{source_fault};
-    ghost use Rattle.libyaml_events.specs.sources.Source.{Coming};
+    ghost use Rattle.libyaml_sources.specs.Fault.{source_fault};
+    ghost use Rattle.libyaml_sources.specs.Source.{Coming};
 
     ghost Value = { Coming };
 

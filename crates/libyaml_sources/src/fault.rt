@@ -2,7 +2,7 @@
 
 ghost use Rattle.std.specs.Prelude.{◌≡◌};
 ghost use Rattle.std.specs.Option.{option_copied};
-ghost use Rattle.libyaml_grammar.specs.runs.Errors.{IsSourceError};
+ghost use Rattle.libyaml_sources.specs.Errors.{IsSourceError};
 
 use libyaml_types::{ZERO_MARK, yaml_error_type_t, yaml_mark_t};
 
@@ -46,7 +46,7 @@ pub struct yaml_source_fault_t {
 }
 
 impl yaml_source_fault_t {
-    ghost use Rattle.libyaml_grammar.specs.runs.Fault.{source_fault, fault_of};
+    ghost use Rattle.libyaml_sources.specs.Fault.{source_fault, fault_of};
 
     /// The fault of these fields. Takes no memory.
     pub fn new(

@@ -1,7 +1,7 @@
 //! What faults say, for a reader.
 ghost use Rattle.std.specs.Prelude.{Some};
-ghost use Rattle.libyaml_grammar.specs.runs.Fault.{fault_of, source_fault};
-ghost use Rattle.libyaml_grammar.specs.runs.Message.{message};
+ghost use Rattle.libyaml_sources.specs.Fault.{fault_of, source_fault};
+ghost use Rattle.libyaml_sources.specs.Message.{message};
 
 use crate::fault::{yaml_parser_t_prefix, yaml_source_fault_t};
 use libyaml_types::yaml_error_words;

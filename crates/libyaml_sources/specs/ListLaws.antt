@@ -1,8 +1,8 @@
 -- a list source keeps the laws of a source
 use Rattle.std.proofs.Common.{◌≡◌, ◌+◌, List, [], ◌∷◌, Some, Ok, Err, length, refl, ap, sym, ◌∙◌, inl, add-one}
 use Rattle.libyaml_types.specs.declared.token.yaml_token_t.{yaml_token_t}
-use Rattle.libyaml_grammar.specs.runs.Fault.{Fault, Answer}
-use Rattle.libyaml_events.specs.sources.Source.{Coming, coming, Follows, FollowsList, list_answer, rest_of_list}
+use Rattle.libyaml_sources.specs.Fault.{Fault, Answer}
+use Rattle.libyaml_sources.specs.Source.{Coming, coming, Follows, FollowsList, list_answer, rest_of_list}
 
 falls_at : (ts : List yaml_token_t) (f : Fault) (token : yaml_token_t) → Ok token ≡ list_answer ts f → length ts ≡ length (rest_of_list ts) + 1
 falls_at [] f token e = cc

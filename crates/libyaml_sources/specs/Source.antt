@@ -2,9 +2,8 @@
 use Rattle.std.specs.Prelude.{◌≡◌, List, [], ◌∷◌, Option, Some, None, Result, Ok, Err, ◌⊎◌, negsuc, codes}
 use Rattle.libyaml_types.specs.declared.enums.yaml_error_type_t.TheVariants.{YAML_READER_ERROR}
 use Rattle.libyaml_types.specs.declared.token.yaml_token_t.{yaml_token_t}
-use Rattle.libyaml_grammar.specs.declared.fault.yaml_source_fault_t.{yaml_source_fault_t}
-use Rattle.libyaml_grammar.specs.runs.Fault.{Fault, Answer, source_fault}
-use Rattle.libyaml_grammar.specs.cuts.FaultTexts.{no_fault}
+use Rattle.libyaml_sources.specs.declared.fault.yaml_source_fault_t.{yaml_source_fault_t}
+use Rattle.libyaml_sources.specs.Fault.{Fault, Answer, source_fault, no_fault}
 
 -- the result of a call that puts its token into a slot
 abbrev pub answer_in : Result (Unit {0}) yaml_source_fault_t → yaml_token_t → Answer

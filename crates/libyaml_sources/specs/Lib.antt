@@ -1,0 +1,5 @@
+pub mod Fault
+pub mod Errors
+pub mod Message
+pub mod Source
+pub mod ListLaws

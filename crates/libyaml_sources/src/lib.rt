@@ -1,0 +1,11 @@
+//! Where tokens come from: what a source of tokens is, what a fault is and says, and a source over a list.
+#![tactic(auto)]
+
+mod fault;
+mod list_source;
+mod message;
+mod source;
+
+pub use fault::{NO_FAULT, yaml_parser_t_prefix, yaml_source_fault_t};
+pub use list_source::yaml_list_source_t;
+pub use source::yaml_token_source_t;
