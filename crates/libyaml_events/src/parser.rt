@@ -18,9 +18,9 @@ mod stacks;
 mod tokens;
 
 use crate::entries::MaxEntries;
+use crate::parser::tokens::no_token;
 use crate::pending::Pending;
-use libyaml_sources::yaml_token_source_t;
-use libyaml_sources::{NO_FAULT, yaml_parser_t_prefix};
+use libyaml_sources::{NO_FAULT, yaml_parser_t_prefix, yaml_token_source_t};
 use libyaml_types::{yaml_error_type_t, yaml_mark_t, yaml_parser_state_t, yaml_token_t};
 use std::alloc::Global;
 use std::collections::BTreeMap;
