@@ -4,8 +4,8 @@ ghost use Rattle.libyaml_sources.specs.Fault.{source_fault};
 ghost use Rattle.libyaml_sources.specs.Source.{coming, list_answer, no_more_tokens, rest_of_list};
 ghost use Rattle.libyaml_sources.specs.ListLaws.{list_falls, list_follows, list_repeats};
 
-use crate::source::yaml_token_source_t;
 use crate::fault::yaml_source_fault_t;
+use crate::source::yaml_token_source_t;
 use libyaml_types::{ZERO_MARK, yaml_error_type_t, yaml_token_t};
 use std::marker::Model;
 use std::vec::IntoIter;

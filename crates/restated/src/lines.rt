@@ -20,7 +20,11 @@ use token_lines::{Outcome, run_events, run_nodes, write_events, write_nodes};
 use unsafe_libyaml::{yaml_parser_t, yaml_token_source_t};
 
 /// Writes the lines of a reader's events.
-pub fn lines_of_reader<R: BufRead + Drop, W: Write>(alloc: Global, reader: R, writer: &mut W) -> Outcome
+pub fn lines_of_reader<R: BufRead + Drop, W: Write>(
+    alloc: Global,
+    reader: R,
+    writer: &mut W,
+) -> Outcome
     ensures { RunsOver R.remaining W.contents reader result (W.contents writer.old) (W.contents writer.new) }
 {
     run_events(alloc, reader, writer)
