@@ -55,7 +55,7 @@ fn kinds() -> &'static [(&'static str, &'static str)] {
 /// The longest text, of 69 bytes.
 const LONGEST: &str = "aaaaaaaaaaaaaaaaaaaaaaaaaaaaaaaaaaaaaaaaaaaaaaaaaaaaaaaaaaaaaaaaaaaaa";
 
-/// A token: its name, what follows its marks, and its text.
+/// A token: its name, what stands after its marks, and its text.
 #[derive(Copy, Clone)]
 struct Token {
     name: &'static str,

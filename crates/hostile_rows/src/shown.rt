@@ -124,7 +124,7 @@ fn show_source<S: yaml_token_source_t + Drop>(
 }
 
 /// Returns what a source gives so read, and its fault, if there is one, once as the end and once for each of
-/// two loads after it. Where parsing goes on after its end, ` more` stands there.
+/// two loads after it. Where parsing goes on after its end, it is followed by ` more`.
 ///
 /// # Errors
 ///

@@ -1,6 +1,7 @@
 //! From a source of tokens to events.
 #![tactic(auto)]
 
+mod entries;
 pub mod laws;
 mod list_source;
 mod next;

@@ -18,7 +18,7 @@ mod handles;
 mod stacks;
 mod tokens;
 
-use crate::parser::tokens::no_token;
+use crate::entries::MaxEntries;
 use crate::pending::Pending;
 use crate::source::yaml_token_source_t;
 use libyaml_grammar::{NO_FAULT, yaml_parser_t_prefix};
@@ -62,7 +62,7 @@ pub struct Machine<S> {
     handles: BTreeMap<String, String>,
     behind_document_end: bool,
     prefix: yaml_parser_t_prefix,
-    max_entries: i32,
+    max_entries: MaxEntries,
     alloc: Global,
 }
 
@@ -88,7 +88,7 @@ impl<S> Model for Machine<S> {
         behind_document_end = p.behind_document_end;
         fault = fault_of p.prefix;
       };
-      max_entries = p.max_entries;
+      max_entries = p.max_entries.number;
     } };
 
     ghost invariant = { λ p. All IsBackByte p.states.items };
@@ -120,7 +120,7 @@ pub fn yaml_parser_initialize<S>(alloc: Global, source: S) -> yaml_parser_t<S>
             handles: BTreeMap::new(alloc),
             behind_document_end: false,
             prefix: NO_FAULT,
-            max_entries: i32::MAX,
+            max_entries: MaxEntries::all(),
             alloc,
         },
         pending: Pending::new(alloc),
@@ -164,7 +164,7 @@ pub fn yaml_parser_set_max_entries<S>(parser: &mut yaml_parser_t<S>, n: i32)
     ensures run_to_come { (known : S → Option Coming)
         → ForRun known parser.old (RunToCome known parser.new) }
 {
-    parser.machine.max_entries = n;
+    parser.machine.max_entries = MaxEntries::new(n);
 }
 
 impl<S> yaml_parser_t<S> {
@@ -181,9 +181,10 @@ impl<S> yaml_parser_t<S> {
 
     /// Returns how many entries each list of a loaded document may have: 2,147,483,647 unless it was set.
     pub fn max_entries(&self) -> i32
-        ensures { result ≡ self.now.max_entries }
+        ensures value { result ≡ self.now.max_entries }
+        ensures at_least_one { pos 1 ≤ℤ result }
     {
-        self.machine.max_entries
+        self.machine.max_entries.number()
     }
 
     /// Keeps a fault of the loader for good: out of memory, or a composer error.

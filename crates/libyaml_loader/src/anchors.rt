@@ -48,7 +48,7 @@ impl Anchors {
         self.inner.get(anchor).copied()
     }
 
-    /// Puts down the carrier of this anchor, and returns the one that it had before.
+    /// Registers the carrier of this anchor, and returns the one that it had before.
     pub fn register(
         &mut self,
         anchor: String,

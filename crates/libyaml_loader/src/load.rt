@@ -130,8 +130,7 @@ fn next_document<S: yaml_token_source_t>(
         if !is_event(&event.content) {
             return Ok(without_root(parser.allocator()));
         }
-        let content = mem::replace(&mut event.content, unnamed_yaml_event_t_data::NoEvent);
-        match opening_of(content, event.start_mark) {
+        match opening_of(&mut event, parser.allocator()) {
             Some(opening) => return yaml_parser_load_document(parser, opening, &mut event),
             None => {}
         }
@@ -249,13 +248,18 @@ fn is_event(content: &unnamed_yaml_event_t_data) -> bool
     !matches!(content, unnamed_yaml_event_t_data::NoEvent)
 }
 
-/// The start of a document, if the event is one.
-fn opening_of(content: unnamed_yaml_event_t_data, start_mark: yaml_mark_t) -> Option<Opening>
-    ensures { option_map opening_at result ≡ parts.opening_in content start_mark }
+/// Moves the start of a document out of the event, if it is one.
+fn opening_of(event: &mut yaml_event_t, alloc: Global) -> Option<Opening>
+    ensures { option_map opening_at result ≡ parts.opening_of event.old }
 {
-    match content {
+    let start_mark = event.start_mark;
+    match &mut event.content {
         unnamed_yaml_event_t_data::DocumentStart(start) => Some(Opening {
-            start,
+            start: unnamed_yaml_event_t_data_document_start {
+                version_directive: start.version_directive,
+                tag_directives: mem::replace(&mut start.tag_directives, Vec::new(alloc)),
+                implicit: start.implicit,
+            },
             mark: start_mark,
         }),
         _ => None,

@@ -12,7 +12,7 @@ use std::alloc::AllocError;
 /// Why an event can't be composed.
 #[derive(Copy, Clone)]
 pub enum Refusal {
-    /// A allocation failed, or a list has as many entries as it may.
+    /// An allocation failed, or a list has as many entries as it may.
     Memory,
     /// No node before this alias carries its anchor.
     UndefinedAlias(yaml_mark_t),
@@ -47,7 +47,7 @@ pub fn has_failed<S>(parser: &yaml_parser_t<S>) -> bool
     !matches!(parser.prefix().error, yaml_error_type_t::YAML_NO_ERROR)
 }
 
-/// The parser keeps the fault of this refusal for good, unless it keeps one. Returns the error that it keeps.
+/// The parser keeps the fault of this refusal for good, unless it keeps one. Returns the kept error.
 pub fn keep_refusal<S>(parser: &mut yaml_parser_t<S>, refusal: Refusal) -> yaml_error_type_t
     ensures kept { has_failed parser.old ≡ false → parser.new ≡ keeping (fault_by refusal) parser.old }
     ensures error { result ≡ (kept_fault parser.new).error }
@@ -73,7 +73,7 @@ pub fn keep_refusal<S>(parser: &mut yaml_parser_t<S>, refusal: Refusal) -> yaml_
     }
 }
 
-/// The parser keeps out of memory for good.
+/// The parser keeps the error of an allocation that failed for good.
 fn keep_memory_error<S>(parser: &mut yaml_parser_t<S>) -> yaml_error_type_t
     requires { has_failed parser.old ≡ false }
     ensures error { result ≡ yaml_error_type_t.YAML_MEMORY_ERROR }

@@ -134,7 +134,7 @@ fn count_lines(
     Ok(())
 }
 
-/// Shows the table of the lines in `inputs`, whose fault stands in `fault`.
+/// Shows the table of the lines in `inputs`, whose fault is in `fault`.
 fn show_lines(
     rt: &(impl Files + Print + AllocGlobal),
     name: &'static str,

@@ -8,7 +8,7 @@ use token_lines::{MAX_TOKENS, Outcome};
 /// How many bytes the buffer has, more than any run writes.
 const BUFFER: usize = 1024;
 
-/// What stands in the buffer before a run.
+/// What is in the buffer before a run.
 const BEFORE: u8 = b'.';
 
 /// How a run ends that ends so over a reader.

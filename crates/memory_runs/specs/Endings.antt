@@ -1,4 +1,4 @@
--- How it is told from a run's bytes whether it was cut short.
+-- How a run's bytes tell whether it was cut short.
 use Rattle.std.specs.Prelude.{◌≡◌, ◌++◌, ◌⊎◌, ℕ, List, codes}
 use Rattle.memory_runs.specs.InMemory.{memory_text}
 use Rattle.memory_runs.specs.declared.outcome.memory_outcome_t.{memory_outcome_t}
@@ -13,7 +13,7 @@ EndsWith bytes end = (front : List ℕ) × (bytes ≡ front ++ end)
 abbrev pub IsCutShort : List ℕ → Type 0
 IsCutShort bytes = EndsWith bytes memory_text ⊎ EndsWith bytes (codes "read failed\n")
 
--- a run ended as it said, or wants memory, which nothing says of one that ended; a fault that is told did not cut it short
+-- A run ended as it said, or an allocation failed, and of that nothing is asked here; a fault that is told did not cut the run short.
 abbrev pub EndsAs : Outcome → List ℕ → memory_outcome_t → Type 0
 EndsAs Ended bytes memory.Ended = Unit {0}
 EndsAs Faulted bytes memory.Faulted = IsCutShort bytes → ⊥

@@ -17,8 +17,8 @@ use Rattle.memory_runs.specs.declared.run.memory_run_t.{memory_run_t}
 abbrev pub memory_text : List ℕ
 memory_text = codes "FAULT memory 0:0:0 -\n"
 
--- The bytes of a run that has these lines and this ending: all lines, where it ended; after them the text of the run's own
--- fault, where it failed; and where an allocation failed, the text of that fault alone.
+-- The bytes of a run that has these lines and this ending: all lines, where it ended; all lines and then the text of the run's
+-- own fault, where it failed; and where an allocation failed, the text of that fault alone.
 abbrev pub Has : memory_outcome_t → (lines : List (List ℕ)) → Ending → (bytes : List ℕ) → Type 0
 Has Ended lines ending bytes = (ending ≡ Ends) × (bytes ≡ concat lines)
 Has Faulted lines ending bytes = (f : Fault) × (ending ≡ Fails f) × (bytes ≡ concat lines ++ fault_text f)
@@ -35,7 +35,7 @@ has_nodes tokens max outcome bytes = (loads : List Load) → IsLoads (read_lines
     → Has outcome (loads_lines loads) (loads_ending loads) bytes
 
 -- These bytes were put into a buffer: `wanted` is how many they are, and `written` how many of them had room. These are the
--- buffer's first, and what follows them is as it was.
+-- buffer's first, and the bytes that follow them are as they were.
 pub record HandsOut (bytes old new : List ℕ) (run : memory_run_t) : Type 0 where
   pub wanted : run.wanted ≡ length bytes
   pub written : run.written ≡ min (length bytes) (length old)

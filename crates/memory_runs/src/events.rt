@@ -7,8 +7,8 @@ use std::alloc::Global;
 use token_lines::{write_events, yaml_line_source_t};
 
 /// Runs over these token lines, of which it reads at most `max_tokens`, and puts the lines of their events
-/// into `out`, and then the text of a fault, if there is one: as many bytes as `out` has room for. What
-/// follows them in `out` stays.
+/// into `out`, followed by the text of a fault, if there is one: as many bytes as `out` has room for. The
+/// bytes of `out` that follow them stay as they are.
 ///
 /// Where an allocation fails, the run's only text is that of this fault.
 pub fn events_in_memory(

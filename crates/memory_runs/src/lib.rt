@@ -1,4 +1,4 @@
-//! Runs over token lines in memory: as many bytes of the lines as a buffer has room for are put there.
+//! Runs over token lines in memory, which put as many bytes of the lines as a buffer has room for there.
 //!
 //! This is the Rust form of what `token_lines_c` exports to C.
 #![tactic(auto)]

@@ -1,16 +1,16 @@
-//! How a run over memory came to its end.
+//! How a run over memory ended.
 ghost use Rattle.std.specs.Prelude.{◌≡◌, true};
 ghost use Rattle.memory_runs.specs.InMemory.{memory_text};
 ghost use Rattle.memory_runs.specs.Endings.{EndsAs, IsCutShort};
 
 use token_lines::Outcome;
 
-/// How a run over memory came to its end.
+/// How a run over memory ended.
 #[derive(Copy, Clone, PartialEq, Eq, Debug)]
 pub enum memory_outcome_t {
     /// The bytes are all lines of the run.
     Ended,
-    /// The bytes are all lines of the run, and then the text of its fault.
+    /// The bytes are all lines of the run, followed by the text of its fault.
     Faulted,
     /// An allocation failed. The bytes are the text of that fault alone.
     OutOfMemory,
@@ -22,7 +22,7 @@ pub const MEMORY_TEXT: &[u8] = b"FAULT memory 0:0:0 -\n";
 /// The last words of a failed read's text.
 const READ_FAILED: &[u8] = b"read failed\n";
 
-/// How a run that wrote these bytes came to its end. A fault's text says whether the run was cut short:
+/// Returns how a run that wrote these bytes ended. A fault's text says whether the run was cut short:
 /// by a failed allocation, or by a failed read, which memory doesn't know.
 pub fn outcome_of(outcome: Outcome, bytes: &[u8]) -> memory_outcome_t
     ensures { EndsAs outcome bytes.now result }
@@ -34,7 +34,7 @@ pub fn outcome_of(outcome: Outcome, bytes: &[u8]) -> memory_outcome_t
     }
 }
 
-/// Whether the last text is that of a failed allocation or of a failed read.
+/// Returns whether the last text is that of a failed allocation or of a failed read.
 fn is_cut_short(bytes: &[u8]) -> bool
     ensures { IsCutShort bytes.now → result ≡ true }
 {

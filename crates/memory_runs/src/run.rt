@@ -9,7 +9,7 @@ use token_lines::Outcome;
 /// What a run put into its caller's buffer.
 #[derive(Copy, Clone, PartialEq, Eq, Debug)]
 pub struct memory_run_t {
-    /// How the run came to its end.
+    /// How the run ended.
     pub outcome: memory_outcome_t,
     /// How many bytes were put into the buffer: as many as there are, or as it has room for.
     pub written: usize,
@@ -29,7 +29,7 @@ pub fn hand_out(outcome: Outcome, bytes: &[u8], out: &mut [u8]) -> memory_run_t
     }
 }
 
-/// Puts the prefix of these bytes into `out`, as far as that has room.
+/// Puts the prefix of these bytes that `out` has room for into it.
 fn put(outcome: memory_outcome_t, bytes: &[u8], out: &mut [u8]) -> memory_run_t
     ensures outcome { result.outcome ≡ outcome }
     ensures bytes { HandsOut bytes.now out.old out.new result }

@@ -51,13 +51,3 @@ pub fn show_fault(
     }
     Ok(())
 }
-
-/// The fault that ended a whole run, if one did, after what was shown before.
-///
-/// Errors: out of memory.
-pub fn show_end(shown: &mut String, fault: Option<yaml_parser_t_prefix>) -> Result<()> {
-    match fault {
-        Some(fault) => show_fault(shown, fault.error, &fault),
-        None => Ok(()),
-    }
-}

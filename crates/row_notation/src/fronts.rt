@@ -1,9 +1,6 @@
 //! Prefixes of a row, with each error of a source after them.
 
 use crate::events::mark;
-use crate::faults::show_fault;
-use anyhow::Result;
-use std::alloc::Global;
 use unsafe_libyaml::{
     YAML_MEMORY_ERROR, YAML_READER_ERROR, YAML_SCANNER_ERROR, yaml_source_fault_t,
 };
@@ -28,16 +25,6 @@ pub fn ends_of_sources() -> [yaml_source_fault_t; 3] {
     ]
 }
 
-/// How the fault by which a source ends is shown.
-///
-/// Errors: out of memory.
-pub fn shown_end(alloc: Global, end: &yaml_source_fault_t) -> Result<String> {
-    let mut shown = String::new(alloc);
-    let fault = end.prefix();
-    show_fault(&mut shown, fault.error, &fault)?;
-    Ok(shown)
-}
-
 /// Whether `front` begins `whole`, and ends where an event or a document does.
 fn begins(front: &str, whole: &str) -> bool {
     match whole.strip_prefix(front) {
@@ -53,30 +40,4 @@ pub fn is_front(front: &str, whole: &str, fault: &str) -> bool {
         Some(before) => begins(before.trim_end(), whole),
         None => front == whole,
     }
-}
-
-/// The same of what was shown of a front, if it could be.
-pub fn is_front_shown(front: &Result<String>, whole: &str, fault: &str) -> bool {
-    match front {
-        Ok(front) => is_front(front.as_str(), whole, fault),
-        Err(_) => false,
-    }
-}
-
-/// How a failed allocation is shown.
-const REFUSED: &str = "fault 1";
-
-/// Whether two runs show the same, or one of them is the other's beginning with a failed allocation after it.
-/// An error is a growth that was refused beside the run, and only one of the two can have met it.
-pub fn are_same_or_cut(one: &Result<String>, other: &Result<String>) -> bool {
-    match (one, other) {
-        (Ok(one), Ok(other)) => is_cut(one.as_str(), other.as_str()),
-        (Err(_), Err(_)) => false,
-        _ => true,
-    }
-}
-
-/// Whether one of these is the other's beginning with a failed allocation after it, or they are the same.
-fn is_cut(one: &str, other: &str) -> bool {
-    is_front(one, other, REFUSED) || is_front(other, one, REFUSED)
 }

@@ -34,12 +34,10 @@ mod tokens;
 pub use checks::{first_wrong, is_text, show_checks, unless, unless_made};
 pub use documents::{is_chain, items_of, show_document, shown_document};
 pub use events::{mark, show_event, shown_event};
-pub use faults::{are_same_faults, show_end, show_fault};
-pub use fronts::{are_same_or_cut, ends_of_sources, is_front, is_front_shown, shown_end};
+pub use faults::{are_same_faults, show_fault};
+pub use fronts::{ends_of_sources, is_front};
 pub use pieces::{EVERY_CALL, FixedWriter, LineCounter, PieceReader, PieceWriter, RepeatingReader};
 pub use readings::{Reading, is_loaded, shown};
-pub use runs::{
-    first_parsed_otherwise, gives_event, is_empty, is_over, parsed, show_events, show_run,
-};
+pub use runs::{gives_event, is_empty, is_over, parsed, show_events, show_run};
 pub use table::Table;
 pub use tokens::{end_of_row, put_text, source_of, tokens_of};

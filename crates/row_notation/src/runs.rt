@@ -105,20 +105,3 @@ pub fn parsed(alloc: Global, row: &str) -> Result<String> {
     let mut parser = yaml_parser_initialize(alloc, source_of(alloc, row)?);
     show_run(alloc, &mut parser)
 }
-
-/// The name of the first row that parsing gives other events, if any. A row is a name, the tokens, and
-/// the events as they are shown.
-///
-/// Errors: those of `tokens_of`.
-pub fn first_parsed_otherwise<'a>(
-    alloc: Global,
-    rows: &[(&'a str, &str, &str)],
-) -> Result<Option<&'a str>> {
-    for (name, tokens, events) in rows {
-        let shown = parsed(alloc, tokens)?;
-        if shown.as_str() != *events {
-            return Ok(Some(name));
-        }
-    }
-    Ok(None)
-}

@@ -65,7 +65,7 @@ fn new_node(
     })
 }
 
-/// Puts a node without children after the others, and gives its id.
+/// Puts a node without children after the others, and returns its id.
 #[inline(always)]
 pub(super) fn push_node(
     document: &mut yaml_document_t,
@@ -88,7 +88,9 @@ pub(super) fn push_node(
 /// Adds a scalar, and returns its id: the count of nodes with it. Its marks are zero, and without
 /// a tag its tag is `tag:yaml.org,2002:str`.
 ///
-/// Returns `TooManyNodes` where 2147483647 nodes stand, else `NotUtf8` where the tag or the value
+/// # Errors
+///
+/// `TooManyNodes` where 2147483647 nodes stand, else `NotUtf8` where the tag or the value
 /// isn't UTF-8, else `Memory` where an allocation fails; the document is then as it was.
 ///
 /// libyaml: `yaml_document_add_scalar`.
@@ -131,7 +133,9 @@ pub fn yaml_document_add_scalar(
 /// Adds a sequence without items, and returns its id: the count of nodes with it. Its marks are
 /// zero, and without a tag its tag is `tag:yaml.org,2002:seq`.
 ///
-/// Returns `TooManyNodes` where 2147483647 nodes stand, else `NotUtf8` where the tag isn't UTF-8,
+/// # Errors
+///
+/// `TooManyNodes` where 2147483647 nodes stand, else `NotUtf8` where the tag isn't UTF-8,
 /// else `Memory` where an allocation fails; the document is then as it was.
 ///
 /// libyaml: `yaml_document_add_sequence`.
@@ -172,7 +176,9 @@ pub fn yaml_document_add_sequence(
 /// Adds a mapping without pairs, and returns its id: the count of nodes with it. Its marks are
 /// zero, and without a tag its tag is `tag:yaml.org,2002:map`.
 ///
-/// Returns `TooManyNodes` where 2147483647 nodes stand, else `NotUtf8` where the tag isn't UTF-8,
+/// # Errors
+///
+/// `TooManyNodes` where 2147483647 nodes stand, else `NotUtf8` where the tag isn't UTF-8,
 /// else `Memory` where an allocation fails; the document is then as it was.
 ///
 /// libyaml: `yaml_document_add_mapping`.

@@ -12,7 +12,11 @@ use libyaml_types::{yaml_node_type_t, yaml_refusal_t};
 /// Puts an item after the others of a sequence.
 ///
 /// Both ids are of this document, and `sequence` is that of a sequence: `yaml_document_get_node`
-/// tells. Returns `Memory` where an allocation fails; the document is then as it was.
+/// tells.
+///
+/// # Errors
+///
+/// `Memory` where an allocation fails; the document is then as it was.
 ///
 /// libyaml: `yaml_document_append_sequence_item`.
 pub fn yaml_document_append_sequence_item(
@@ -38,7 +42,11 @@ pub fn yaml_document_append_sequence_item(
 /// Puts a pair after the others of a mapping.
 ///
 /// All ids are of this document, and `mapping` is that of a mapping: `yaml_document_get_node`
-/// tells. Returns `Memory` where an allocation fails; the document is then as it was.
+/// tells.
+///
+/// # Errors
+///
+/// `Memory` where an allocation fails; the document is then as it was.
 ///
 /// libyaml: `yaml_document_append_mapping_pair`.
 pub fn yaml_document_append_mapping_pair(

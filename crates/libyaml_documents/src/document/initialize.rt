@@ -12,8 +12,8 @@ use std::alloc::Global;
 /// A document without nodes, with this version and these tag directives, each a handle and its
 /// prefix, and with zero marks. It keeps `alloc` for its nodes.
 ///
-/// Refuses a handle or prefix that isn't UTF-8 as `NotUtf8`, before memory is asked for, and returns
-/// `Memory` where memory is refused. Nothing else is looked at: a handle may be any text, and stand
+/// Refuses a handle or prefix that isn't UTF-8 as `NotUtf8`, before it allocates, and returns
+/// `Memory` where an allocation fails. Nothing else is looked at: a handle may be any text, and stand
 /// there twice.
 ///
 /// libyaml: `yaml_document_initialize`.

@@ -1,5 +1,5 @@
 -- A call keeps at most the token that it asked for last.
-use Rattle.std.proofs.Common.{◌≡◌, ◌≤◌, ◌⊎◌, inl, inr, arith, List, [], ◌∷◌, ◌++◌, length, Option, Some, None, Bool, true, false, Ok, Err, refl, sym, ap}
+use Rattle.std.proofs.Common.{◌≡◌, ℕ, ◌≤◌, ◌⊎◌, inl, inr, arith, List, [], ◌∷◌, ◌++◌, length, Option, Some, None, Bool, true, false, Ok, Err, refl, sym, ap}
 use Rattle.std.proofs.Common.{◌∙◌, subst}
 use Rattle.libyaml_types.specs.declared.enums.yaml_error_type_t.{yaml_error_type_t}
 use Rattle.libyaml_grammar.specs.runs.Fault.{Answer}
@@ -31,29 +31,29 @@ held_on w c u k n = by _ _ _ (step_kind [] [] u w c k)
     holds true d e = inr refl
     holds false d e = inl e
 
-    by_node : (d : Config) (o o' : Progressed) → d.lookahead ≡ None → NodeStep [] [] u d o o' → HeldOn o u
+    by_node : {n : ℕ} {x : Content} (d : Config) (o o' : Progressed) → d.lookahead ≡ None → NodeStep [] [] u d n x o o' → HeldOn o u
     by_node d o o' e no_node = tt
-    by_node d o o' e property = e
-    by_node d o o' e (whole kept l) = holds kept _ e
-    by_node d o o' e (opens s i b) = inr refl
+    by_node d o o' e (property r) = e
+    by_node d o o' e (whole kept l r) = holds kept _ e
+    by_node d o o' e (opens s i b r) = inr refl
 
-    by : (k : Kind) (o o' : Progressed) → StepKind [] [] u c k o o' → HeldOn o u
+    by : {n : ℕ} {x : Content} (k : Kind) (o o' : Progressed) → StepKind [] [] u c n x k o o' → HeldOn o u
     by k o o' fails = tt
     by k o o' (fails_in f) = tt
-    by k o o' (wants w i) = n
-    by k o o' (declares d x p) = n
-    by k o o' (enters w s i j) = n
-    by k o o' (begins_stream s) = inl n
-    by k o o' ends_stream = inl n
-    by k o o' (begins_document d s kept i) = holds kept _ n
-    by k o o' (ends_document d s b kept i) = holds kept _ n
+    by k o o' (wants w i l) = n
+    by k o o' (declares d x p l) = n
+    by k o o' (enters w s i j l) = n
+    by k o o' (begins_stream s l) = inl n
+    by k o o' (ends_stream l) = inl n
+    by k o o' (begins_document d s kept i l) = holds kept _ n
+    by k o o' (ends_document d s b kept i l) = holds kept _ n
     by k o o' (node m) = by_node c _ _ n m
-    by k o o' (entry s g m) = by_node _ _ _ n m
-    by k o o' (empty s g) = inr refl
-    by k o o' (begins_pair s) = inl n
-    by k o o' ends_pair = inr refl
-    by k o o' (closes e) = inl n
-    by k o o' ends_indentless = inr refl
+    by k o o' (entry s r e g m) = by_node _ _ _ n m
+    by k o o' (empty s g l) = inr refl
+    by k o o' (begins_pair s l) = inl n
+    by k o o' (ends_pair l) = inr refl
+    by k o o' (closes e l) = inl n
+    by k o o' (ends_indentless l) = inr refl
 
 -- these tokens end in those that are held
 record EndsIn (d : Config) (l : List Token) : Type 0 where

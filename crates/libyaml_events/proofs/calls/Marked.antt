@@ -1,5 +1,5 @@
 -- The stack of marks holds one for each open collection that has its start there.
-use Rattle.std.proofs.Common.{◌≡◌, List, [], ◌∷◌, Bool, true, false, Ok, Err, refl, sym, subst}
+use Rattle.std.proofs.Common.{◌≡◌, ℕ, List, [], ◌∷◌, Bool, true, false, Ok, Err, refl, sym, subst}
 use Rattle.libyaml_types.specs.declared.enums.yaml_error_type_t.{yaml_error_type_t}
 use Rattle.libyaml_types.specs.declared.enums.yaml_parser_state_t.{yaml_parser_state_t}
 use Rattle.libyaml_grammar.specs.runs.Fault.{Answer}
@@ -74,30 +74,30 @@ marked_on w c u k = by _ _ _ (step_kind [] [] u w c k)
     holds true d h = h
     holds false d h = h
 
-    by_node : (d : Config) (o o' : Progressed) → NodeStep [] [] u d o o' → MarksFit d.states d.marks → MarkedOn o
+    by_node : {n : ℕ} {x : Content} (d : Config) (o o' : Progressed) → NodeStep [] [] u d n x o o' → MarksFit d.states d.marks → MarkedOn o
     by_node d o o' no_node h = tt
-    by_node d o o' property h = h
-    by_node d o o' (whole kept l) h = holds kept _ (back d.states d.marks h)
-    by_node d o o' (opens s i b) h = begin_marks (kind s) d.states d.marks b h
+    by_node d o o' (property r) h = h
+    by_node d o o' (whole kept l r) h = holds kept _ (back d.states d.marks h)
+    by_node d o o' (opens s i b r) h = begin_marks (kind s) d.states d.marks b h
 
-    by : (k : Kind) (o o' : Progressed) → StepKind [] [] u c k o o' → MarksAt k c.states c.marks → MarkedOn o
+    by : {n : ℕ} {x : Content} (k : Kind) (o o' : Progressed) → StepKind [] [] u c n x k o o' → MarksAt k c.states c.marks → MarkedOn o
     by k o o' fails h = tt
     by k o o' (fails_in f) h = tt
-    by k o o' (wants w i) h = subst (λ (l : Kind). MarksAt l c.states c.marks) (sym i) h
-    by k o o' (declares d x p) h = h
-    by k o o' (enters {m} w s i j) h = subst (λ (l : Kind). MarksAt l c.states (m ∷ c.marks)) (sym j) h
-    by k o o' (begins_stream s) h = h
-    by k o o' ends_stream h = h
-    by k o o' (begins_document d s kept i) h
+    by k o o' (wants w i l) h = subst (λ (l : Kind). MarksAt l c.states c.marks) (sym i) h
+    by k o o' (declares d x p l) h = h
+    by k o o' (enters {m} w s i j l) h = subst (λ (l : Kind). MarksAt l c.states (m ∷ c.marks)) (sym j) h
+    by k o o' (begins_stream s l) h = h
+    by k o o' (ends_stream l) h = h
+    by k o o' (begins_document d s kept i l) h
         = holds kept _ (subst (λ (l : Kind). MarksAt l (begin_document s c).states c.marks) (sym i) h)
-    by k o o' (ends_document d s b kept i) h = holds kept _ (subst (λ (l : Kind). MarksAt l c.states c.marks) (sym i) h)
+    by k o o' (ends_document d s b kept i l) h = holds kept _ (subst (λ (l : Kind). MarksAt l c.states c.marks) (sym i) h)
     by k o o' (node n) h = by_node c _ _ n h
-    by k o o' (entry s g n) h = by_node (pushed s c) _ _ n (go_marks _ (kind s) c.states c.marks g h)
-    by k o o' (empty s g) h = go_marks _ (kind s) c.states c.marks g h
-    by k o o' (begins_pair s) h = h
-    by k o o' ends_pair h = h
-    by k o o' (closes e) h = end_back c.states c.marks h
-    by k o o' ends_indentless h = back c.states c.marks h
+    by k o o' (entry s r e g n) h = by_node (pushed s c) _ _ n (go_marks _ (kind s) c.states c.marks g h)
+    by k o o' (empty s g l) h = go_marks _ (kind s) c.states c.marks g h
+    by k o o' (begins_pair s l) h = h
+    by k o o' (ends_pair l) h = h
+    by k o o' (closes e l) h = end_back c.states c.marks h
+    by k o o' (ends_indentless l) h = back c.states c.marks h
 
 not_err : (e : Event) (x : yaml_error_type_t) → ◌≡◌ {A = EventOrError} (Ok e) (Err x) → ⊥
 not_err e x h = cc

@@ -1,5 +1,5 @@
 -- A step that wants a further token does not lead to the end.
-use Rattle.std.proofs.Common.{◌≡◌, ◌∙◌, [], Ok, Err, refl, sym, ap}
+use Rattle.std.proofs.Common.{◌≡◌, ℕ, ◌∙◌, [], Ok, Err, refl, sym, ap}
 use Rattle.libyaml_types.specs.declared.enums.yaml_parser_state_t.{yaml_parser_state_t}
 use Rattle.libyaml_types.specs.declared.enums.yaml_parser_state_t.TheVariants.{YAML_PARSE_END_STATE}
 use Rattle.libyaml_grammar.specs.sentences.Tokens.{Content, Token}
@@ -23,14 +23,14 @@ not_over w c t k h = by _ _ _ (step_kind [] [] t w c k)
         other : inner ≡ stream_end → ⊥
         other i = cc
 
-    by_node : (d : Config) (o o' : Progressed) → d.state ≡ c.state → NodeStep [] [] t d o o' → NotOver o
-    by_node d o o' e property = λ f. h (sym e ∙ f)
+    by_node : {n : ℕ} {x : Content} (d : Config) (o o' : Progressed) → d.state ≡ c.state → NodeStep [] [] t d n x o o' → NotOver o
+    by_node d o o' e (property r) = λ f. h (sym e ∙ f)
     by_node d o o' e _ = tt
 
-    by : (k : Kind) (o o' : Progressed) → StepKind [] [] t c k o o' → NotOver o
-    by k o o' (wants w i) = h
-    by k o o' (declares d x p) = h
-    by k o o' (enters w s i j) = within s i
+    by : {n : ℕ} {x : Content} (k : Kind) (o o' : Progressed) → StepKind [] [] t c n x k o o' → NotOver o
+    by k o o' (wants w i l) = h
+    by k o o' (declares d x p l) = h
+    by k o o' (enters w s i j l) = within s i
     by k o o' (node n) = by_node c _ _ refl n
-    by k o o' (entry s g n) = by_node _ _ _ refl n
+    by k o o' (entry s r e g n) = by_node _ _ _ refl n
     by k o o' _ = tt

@@ -1,5 +1,5 @@
 -- A call goes the same way whatever lies below its stacks.
-use Rattle.std.proofs.Common.{◌≡◌, inl, inr, List, [], ◌∷◌, ◌++◌, None, Bool, true, false, Ok, Err, refl, sym, ap, subst}
+use Rattle.std.proofs.Common.{◌≡◌, ℕ, inl, inr, List, [], ◌∷◌, ◌++◌, None, Bool, true, false, Ok, Err, refl, sym, ap, subst}
 use Rattle.libyaml_types.specs.declared.event.unnamed_yaml_event_t_data.{unnamed_yaml_event_t_data}
 use Rattle.libyaml_types.specs.declared.enums.yaml_parser_state_t.{yaml_parser_state_t}
 use Rattle.libyaml_types.specs.declared.enums.yaml_parser_state_t.TheVariants.{YAML_PARSE_IMPLICIT_DOCUMENT_START_STATE}
@@ -87,32 +87,32 @@ module _ (ss : List yaml_parser_state_t) (ms : List Mark) where
       → machine w (raised ss ms c) u k ≡ lifted (machine w c u k)
   raised_on st c w u k = by _ _ _ (step_kind ss ms u w c k)
     where
-      by_node : (d : Config) (o o' : Progressed) → NodeStep ss ms u d o o' → IsFull d.states → o' ≡ lifted o
+      by_node : {n : ℕ} {x : Content} (d : Config) (o o' : Progressed) → NodeStep ss ms u d n x o o' → IsFull d.states → o' ≡ lifted o
       by_node d o o' no_node f = refl
-      by_node d o o' property f = refl
-      by_node d o o' (whole true l) f = keeps_back _ _ _ u d f
-      by_node d o o' (whole false l) f = goes_back _ _ _ d f
-      by_node d o o' (opens s i b) f = refl
+      by_node d o o' (property r) f = refl
+      by_node d o o' (whole true l r) f = keeps_back _ _ _ u d f
+      by_node d o o' (whole false l r) f = goes_back _ _ _ d f
+      by_node d o o' (opens s i b r) f = refl
 
-      by : (k : Kind) (o o' : Progressed) → StepKind ss ms u c k o o' → GoodIn k c.states c.lookahead st → MarksAt k c.states c.marks → o' ≡ lifted o
+      by : {n : ℕ} {x : Content} (k : Kind) (o o' : Progressed) → StepKind ss ms u c n x k o o' → GoodIn k c.states c.lookahead st → MarksAt k c.states c.marks → o' ≡ lifted o
       by k o o' fails g m = refl
       by k o o' (fails_in f) g m = fault_raised f c.marks (marks_full c.states c.marks m)
-      by k o o' (wants w i) g m = refl
-      by k o o' (declares d x p) g m = refl
-      by k o o' (enters w s i j) g m = refl
-      by k o o' (begins_stream s) g m = refl
-      by k o o' ends_stream g m = refl
-      by k o o' (begins_document d s true i) g m = refl
-      by k o o' (begins_document d s false i) g m = refl
-      by k o o' (ends_document d s b true i) g m = refl
-      by k o o' (ends_document d s b false i) g m = refl
+      by k o o' (wants w i l) g m = refl
+      by k o o' (declares d x p l) g m = refl
+      by k o o' (enters w s i j l) g m = refl
+      by k o o' (begins_stream s l) g m = refl
+      by k o o' (ends_stream l) g m = refl
+      by k o o' (begins_document d s true i l) g m = refl
+      by k o o' (begins_document d s false i l) g m = refl
+      by k o o' (ends_document d s b true i l) g m = refl
+      by k o o' (ends_document d s b false i l) g m = refl
       by k o o' (node n) g m = by_node c _ _ n (due_full c.states st g)
-      by k o o' (entry s x n) g m = by_node (pushed s c) _ _ n tt
-      by k o o' (empty s x) g m = refl
-      by k o o' (begins_pair s) g m = refl
-      by k o o' ends_pair g m = refl
-      by k o o' (closes e) g m = close_raised _ u c (stack_full c.states g.0) (marks_full c.states c.marks m)
-      by k o o' ends_indentless g m = keeps_back _ _ _ u c (stack_full c.states g.0)
+      by k o o' (entry s r e x n) g m = by_node (pushed s c) _ _ n tt
+      by k o o' (empty s x l) g m = refl
+      by k o o' (begins_pair s l) g m = refl
+      by k o o' (ends_pair l) g m = refl
+      by k o o' (closes e l) g m = close_raised _ u c (stack_full c.states g.0) (marks_full c.states c.marks m)
+      by k o o' (ends_indentless l) g m = keeps_back _ _ _ u c (stack_full c.states g.0)
 
   -- the rest of a call
   abbrev SameCalls : List Answer → EventOrError → Config → Stage → Type 0

@@ -138,31 +138,31 @@ good_on st c n w u k = by _ _ _ (step_kind [] [] u w c k)
     given true d x f h = (h (Some u), f, refl)
     given false d x f h = (h d.lookahead, f, refl)
 
-    by_node : (d : Config) (o o' : Progressed) → NodeStep [] [] u d o o' → d.fault ≡ c.fault → d.lookahead ≡ None → NodeDue d.states st → GoodOn o c st
+    by_node : {n : ℕ} {x : Content} (d : Config) (o o' : Progressed) → NodeStep [] [] u d n x o o' → d.fault ≡ c.fault → d.lookahead ≡ None → NodeDue d.states st → GoodOn o c st
     by_node d o o' no_node f l h = tt
-    by_node d o o' property f l h = (h, f, l)
-    by_node d o o' (whole kept (an_alias a)) f l h = given kept (popped d) (leaf st) f (λ t. node_back d.states t st h)
-    by_node d o o' (whole kept (a_scalar a)) f l h = given kept (popped d) (leaf st) f (λ t. node_back d.states t st h)
-    by_node d o o' (opens s (a_sequence a) b) f l h = (begin_good (kind s) d.states (Some u) (opened st) b (start_in d.states st h), f, refl)
-    by_node d o o' (opens s (a_mapping a) b) f l h = (begin_good (kind s) d.states (Some u) (opened st) b (start_in d.states st h), f, refl)
+    by_node d o o' (property r) f l h = (h, f, l)
+    by_node d o o' (whole kept (an_alias a) r) f l h = given kept (popped d) (leaf st) f (λ t. node_back d.states t st h)
+    by_node d o o' (whole kept (a_scalar a) r) f l h = given kept (popped d) (leaf st) f (λ t. node_back d.states t st h)
+    by_node d o o' (opens s (a_sequence a) b r) f l h = (begin_good (kind s) d.states (Some u) (opened st) b (start_in d.states st h), f, refl)
+    by_node d o o' (opens s (a_mapping a) b r) f l h = (begin_good (kind s) d.states (Some u) (opened st) b (start_in d.states st h), f, refl)
 
-    by : (k : Kind) (o o' : Progressed) → StepKind [] [] u c k o o' → GoodIn k c.states c.lookahead st → GoodOn o c st
+    by : {n : ℕ} {x : Content} (k : Kind) (o o' : Progressed) → StepKind [] [] u c n x k o o' → GoodIn k c.states c.lookahead st → GoodOn o c st
     by k o o' fails h = tt
     by k o o' (fails_in f) h = tt
-    by k o o' (wants w i) h = (subst (λ (x : Kind). GoodIn x c.states c.lookahead st) (sym i) h, refl, n)
-    by k o o' (declares d x p) h = (h, refl, n)
-    by k o o' (enters w s i j) h = (subst (λ (x : Kind). GoodIn x c.states c.lookahead st) (sym j) h, refl, n)
-    by k o o' (begins_stream s) h = ((h.0, refl), refl, refl)
-    by k o o' ends_stream h = ((h.0, refl, n), refl, refl)
-    by k o o' (begins_document d s kept i) h = given kept (begin_document s c) before_root refl
+    by k o o' (wants w i l) h = (subst (λ (x : Kind). GoodIn x c.states c.lookahead st) (sym i) h, refl, n)
+    by k o o' (declares d x p l) h = (h, refl, n)
+    by k o o' (enters w s i j l) h = (subst (λ (x : Kind). GoodIn x c.states c.lookahead st) (sym j) h, refl, n)
+    by k o o' (begins_stream s l) h = ((h.0, refl), refl, refl)
+    by k o o' (ends_stream l) h = ((h.0, refl, n), refl, refl)
+    by k o o' (begins_document d s kept i l) h = given kept (begin_document s c) before_root refl
         (λ l. subst (λ (x : Kind). GoodIn x (begin_document s c).states l before_root) (sym i) (h.0, refl))
-    by k o o' (ends_document d s b kept i) h = given kept (end_document s b c) outside refl
+    by k o o' (ends_document d s b kept i l) h = given kept (end_document s b c) outside refl
         (λ l. subst (λ (x : Kind). GoodIn x c.states l outside) (sym i) (h.0, refl))
     by k o o' (node m) h = by_node c _ _ m refl n h
-    by k o o' (entry s g m) h = by_node (pushed s c) _ _ m refl n (go_due _ (kind s) c.states c.lookahead st g h)
-    by k o o' (empty s g) h = (go_empty _ (kind s) c.states c.lookahead (Some u) st g h, refl, refl)
-    by k o o' (begins_pair s) h = ((h.0, ap opened h.1), refl, refl)
-    by k o o' ends_pair h = ((h.0, ap closed h.1), refl, refl)
-    by k o o' (closes sequence_end) h = (end_back c.states c.lookahead st h, refl, refl)
-    by k o o' (closes mapping_end) h = (end_back c.states c.lookahead st h, refl, refl)
-    by k o o' ends_indentless h = (end_back c.states (Some u) st h, refl, refl)
+    by k o o' (entry s r e g m) h = by_node (pushed s c) _ _ m refl n (go_due _ (kind s) c.states c.lookahead st g h)
+    by k o o' (empty s g l) h = (go_empty _ (kind s) c.states c.lookahead (Some u) st g h, refl, refl)
+    by k o o' (begins_pair s l) h = ((h.0, ap opened h.1), refl, refl)
+    by k o o' (ends_pair l) h = ((h.0, ap closed h.1), refl, refl)
+    by k o o' (closes sequence_end l) h = (end_back c.states c.lookahead st h, refl, refl)
+    by k o o' (closes mapping_end l) h = (end_back c.states c.lookahead st h, refl, refl)
+    by k o o' (ends_indentless l) h = (end_back c.states (Some u) st h, refl, refl)

@@ -45,16 +45,7 @@ use Rattle.libyaml_events.proofs.machine.Stand.{Links, amid_token, at_position}
 use Rattle.libyaml_events.specs.declared.next.Want.{Want}
 use Rattle.libyaml_events.specs.declared.next.Want.TheVariants.{AtState, BehindDirective}
 use Rattle.libyaml_events.specs.declared.next.Progress.TheVariants.{Given, Wants}
-use Rattle.libyaml_types.specs.declared.enums.yaml_parser_state_t.TheVariants.{YAML_PARSE_BLOCK_NODE_OR_INDENTLESS_SEQUENCE_STATE}
-use Rattle.libyaml_types.specs.declared.enums.yaml_parser_state_t.TheVariants.{YAML_PARSE_BLOCK_NODE_STATE}
-use Rattle.libyaml_types.specs.declared.enums.yaml_parser_state_t.TheVariants.{YAML_PARSE_DOCUMENT_CONTENT_STATE, YAML_PARSE_DOCUMENT_END_STATE}
-use Rattle.libyaml_types.specs.declared.enums.yaml_parser_state_t.TheVariants.{YAML_PARSE_DOCUMENT_START_STATE, YAML_PARSE_END_STATE}
-use Rattle.libyaml_types.specs.declared.enums.yaml_parser_state_t.TheVariants.{YAML_PARSE_FLOW_NODE_STATE}
-use Rattle.libyaml_types.specs.declared.enums.yaml_parser_state_t.TheVariants.{YAML_PARSE_FLOW_SEQUENCE_ENTRY_MAPPING_END_STATE}
-use Rattle.libyaml_types.specs.declared.enums.yaml_parser_state_t.TheVariants.{YAML_PARSE_FLOW_SEQUENCE_ENTRY_MAPPING_KEY_STATE}
-use Rattle.libyaml_types.specs.declared.enums.yaml_parser_state_t.TheVariants.{YAML_PARSE_FLOW_SEQUENCE_ENTRY_MAPPING_VALUE_STATE}
-use Rattle.libyaml_types.specs.declared.enums.yaml_parser_state_t.TheVariants.{YAML_PARSE_IMPLICIT_DOCUMENT_START_STATE}
-use Rattle.libyaml_types.specs.declared.enums.yaml_parser_state_t.TheVariants.{YAML_PARSE_STREAM_START_STATE}
+use Rattle.libyaml_types.specs.declared.enums.yaml_parser_state_t.TheVariants as state
 use Rattle.libyaml_types.specs.declared.enums.yaml_parser_state_t.{yaml_parser_state_t}
 
 -- the lookahead matters at the end alone
@@ -135,33 +126,33 @@ due_takes ss st l h = due_stage ss st h (λ x. takes_no_memory x l ≡ false) re
 
 -- the stream's end
 end_stage : (s : yaml_parser_state_t) (ss : List yaml_parser_state_t) (l : Option Token) (st : Stage) → GoodAt s ss l st → is_end_state s ≡ is_at_end st
-end_stage YAML_PARSE_STREAM_START_STATE ss l st h = sym (ap is_at_end h.1)
-end_stage YAML_PARSE_IMPLICIT_DOCUMENT_START_STATE ss l st h = sym (ap is_at_end h.1)
-end_stage YAML_PARSE_DOCUMENT_START_STATE ss l st h = sym (ap is_at_end h.1)
-end_stage YAML_PARSE_DOCUMENT_CONTENT_STATE ss l st h = sym (due_goes_on ss st h)
-end_stage YAML_PARSE_DOCUMENT_END_STATE ss l st h = sym (ap is_at_end h.1)
-end_stage YAML_PARSE_BLOCK_NODE_STATE ss l st h = sym (due_goes_on ss st h)
-end_stage YAML_PARSE_BLOCK_NODE_OR_INDENTLESS_SEQUENCE_STATE ss l st h = sym (due_goes_on ss st h)
-end_stage YAML_PARSE_FLOW_NODE_STATE ss l st h = sym (due_goes_on ss st h)
-end_stage YAML_PARSE_END_STATE ss l st h = sym (ap is_at_end h.1)
-end_stage YAML_PARSE_FLOW_SEQUENCE_ENTRY_MAPPING_KEY_STATE ss l st h = sym (ap is_at_end h.1)
-end_stage YAML_PARSE_FLOW_SEQUENCE_ENTRY_MAPPING_VALUE_STATE ss l st h = sym (ap is_at_end h.1)
-end_stage YAML_PARSE_FLOW_SEQUENCE_ENTRY_MAPPING_END_STATE ss l st h = sym (ap is_at_end h.1)
+end_stage state.YAML_PARSE_STREAM_START_STATE ss l st h = sym (ap is_at_end h.1)
+end_stage state.YAML_PARSE_IMPLICIT_DOCUMENT_START_STATE ss l st h = sym (ap is_at_end h.1)
+end_stage state.YAML_PARSE_DOCUMENT_START_STATE ss l st h = sym (ap is_at_end h.1)
+end_stage state.YAML_PARSE_DOCUMENT_CONTENT_STATE ss l st h = sym (due_goes_on ss st h)
+end_stage state.YAML_PARSE_DOCUMENT_END_STATE ss l st h = sym (ap is_at_end h.1)
+end_stage state.YAML_PARSE_BLOCK_NODE_STATE ss l st h = sym (due_goes_on ss st h)
+end_stage state.YAML_PARSE_BLOCK_NODE_OR_INDENTLESS_SEQUENCE_STATE ss l st h = sym (due_goes_on ss st h)
+end_stage state.YAML_PARSE_FLOW_NODE_STATE ss l st h = sym (due_goes_on ss st h)
+end_stage state.YAML_PARSE_END_STATE ss l st h = sym (ap is_at_end h.1)
+end_stage state.YAML_PARSE_FLOW_SEQUENCE_ENTRY_MAPPING_KEY_STATE ss l st h = sym (ap is_at_end h.1)
+end_stage state.YAML_PARSE_FLOW_SEQUENCE_ENTRY_MAPPING_VALUE_STATE ss l st h = sym (ap is_at_end h.1)
+end_stage state.YAML_PARSE_FLOW_SEQUENCE_ENTRY_MAPPING_END_STATE ss l st h = sym (ap is_at_end h.1)
 end_stage _ ss l st h = sym (ap is_at_end h.1)
 
 between_stage : (s : yaml_parser_state_t) (ss : List yaml_parser_state_t) (l : Option Token) (st : Stage) → GoodAt s ss l st → is_between s ≡ is_outside st
-between_stage YAML_PARSE_STREAM_START_STATE ss l st h = sym (ap is_outside h.1)
-between_stage YAML_PARSE_IMPLICIT_DOCUMENT_START_STATE ss l st h = sym (ap is_outside h.1)
-between_stage YAML_PARSE_DOCUMENT_START_STATE ss l st h = sym (ap is_outside h.1)
-between_stage YAML_PARSE_DOCUMENT_CONTENT_STATE ss l st h = sym (due_in_document ss st h)
-between_stage YAML_PARSE_DOCUMENT_END_STATE ss l st h = sym (ap is_outside h.1)
-between_stage YAML_PARSE_BLOCK_NODE_STATE ss l st h = sym (due_in_document ss st h)
-between_stage YAML_PARSE_BLOCK_NODE_OR_INDENTLESS_SEQUENCE_STATE ss l st h = sym (due_in_document ss st h)
-between_stage YAML_PARSE_FLOW_NODE_STATE ss l st h = sym (due_in_document ss st h)
-between_stage YAML_PARSE_END_STATE ss l st h = sym (ap is_outside h.1)
-between_stage YAML_PARSE_FLOW_SEQUENCE_ENTRY_MAPPING_KEY_STATE ss l st h = sym (ap is_outside h.1)
-between_stage YAML_PARSE_FLOW_SEQUENCE_ENTRY_MAPPING_VALUE_STATE ss l st h = sym (ap is_outside h.1)
-between_stage YAML_PARSE_FLOW_SEQUENCE_ENTRY_MAPPING_END_STATE ss l st h = sym (ap is_outside h.1)
+between_stage state.YAML_PARSE_STREAM_START_STATE ss l st h = sym (ap is_outside h.1)
+between_stage state.YAML_PARSE_IMPLICIT_DOCUMENT_START_STATE ss l st h = sym (ap is_outside h.1)
+between_stage state.YAML_PARSE_DOCUMENT_START_STATE ss l st h = sym (ap is_outside h.1)
+between_stage state.YAML_PARSE_DOCUMENT_CONTENT_STATE ss l st h = sym (due_in_document ss st h)
+between_stage state.YAML_PARSE_DOCUMENT_END_STATE ss l st h = sym (ap is_outside h.1)
+between_stage state.YAML_PARSE_BLOCK_NODE_STATE ss l st h = sym (due_in_document ss st h)
+between_stage state.YAML_PARSE_BLOCK_NODE_OR_INDENTLESS_SEQUENCE_STATE ss l st h = sym (due_in_document ss st h)
+between_stage state.YAML_PARSE_FLOW_NODE_STATE ss l st h = sym (due_in_document ss st h)
+between_stage state.YAML_PARSE_END_STATE ss l st h = sym (ap is_outside h.1)
+between_stage state.YAML_PARSE_FLOW_SEQUENCE_ENTRY_MAPPING_KEY_STATE ss l st h = sym (ap is_outside h.1)
+between_stage state.YAML_PARSE_FLOW_SEQUENCE_ENTRY_MAPPING_VALUE_STATE ss l st h = sym (ap is_outside h.1)
+between_stage state.YAML_PARSE_FLOW_SEQUENCE_ENTRY_MAPPING_END_STATE ss l st h = sym (ap is_outside h.1)
 between_stage _ ss l st h = sym (ap is_outside h.1)
 
 -- the parser has ended exactly where the stream end event came
@@ -223,7 +214,7 @@ pub staged_depth : (c : Config) (g : List Event) → Staged c g → length c.sta
 staged_depth c g h = depth c.state c.states c.lookahead (stage_of g) h.good
 
 -- at the end
-state_place_goes : (p : Place) → state_place p ≡ YAML_PARSE_END_STATE → ⊥
+state_place_goes : (p : Place) → state_place p ≡ state.YAML_PARSE_END_STATE → ⊥
 state_place_goes (block (root (implicit_root f))) e = cc
 state_place_goes (block (root (explicit_root b ds m))) e = cc
 state_place_goes (block (entry c o s is z)) e = cc
@@ -237,7 +228,7 @@ state_place_goes (flow_key (open_collection p o mapping s is) k) e = cc
 state_place_goes (flow_value (open_collection p o sequence s is) k x v) e = cc
 state_place_goes (flow_value (open_collection p o mapping s is) k x v) e = cc
 
-member_state_goes : (c : Open) (x : FlowMember) → member_state c x ≡ YAML_PARSE_END_STATE → ⊥
+member_state_goes : (c : Open) (x : FlowMember) → member_state c x ≡ state.YAML_PARSE_END_STATE → ⊥
 member_state_goes (open_collection p o sequence s is) (single x) e = cc
 member_state_goes (open_collection p o sequence s is) (pair k x no_value) e = cc
 member_state_goes (open_collection p o sequence s is) (pair k x (with_value v y)) e = cc
@@ -245,7 +236,7 @@ member_state_goes (open_collection p o mapping s is) (single x) e = cc
 member_state_goes (open_collection p o mapping s is) (pair k x no_value) e = cc
 member_state_goes (open_collection p o mapping s is) (pair k x (with_value v y)) e = cc
 
-at_end_done : (q : Position) → (config_of q).state ≡ YAML_PARSE_END_STATE → (t : Stream) × (q ≡ done t)
+at_end_done : (q : Position) → (config_of q).state ≡ state.YAML_PARSE_END_STATE → (t : Stream) × (q ≡ done t)
 at_end_done unopened e = absurd cc
 at_end_done (between (free f)) e = absurd cc
 at_end_done (between (behind d)) e = absurd cc
@@ -264,16 +255,16 @@ at_end_done (flow_behind c x) e = absurd (member_state_goes c x e)
 at_end_done (done t) e = (t, refl)
 
 end_holds_none : (s : yaml_parser_state_t) (ss : List yaml_parser_state_t) (l : Option Token) (st : Stage) → GoodAt s ss l st → is_end_state s ≡ true
-    → (s ≡ YAML_PARSE_END_STATE) × (l ≡ None)
-end_holds_none YAML_PARSE_END_STATE ss l st h e = (refl, h.2)
-end_holds_none YAML_PARSE_STREAM_START_STATE ss l st h e = absurd cc
+    → (s ≡ state.YAML_PARSE_END_STATE) × (l ≡ None)
+end_holds_none state.YAML_PARSE_END_STATE ss l st h e = (refl, h.2)
+end_holds_none state.YAML_PARSE_STREAM_START_STATE ss l st h e = absurd cc
 end_holds_none _ ss l st h e = absurd cc
 
 -- after the stream end event the tokens are a tree's, and the events are the tree's
 pub staged_whole : (c : Config) (asked : List Token) (g : List Event) → Links c asked g → Staged c g → is_at_end (stage_of g) ≡ true → IsWhole asked g
 staged_whole c asked g links h e = go links
   where
-    last : (c.state ≡ YAML_PARSE_END_STATE) × (c.lookahead ≡ None)
+    last : (c.state ≡ state.YAML_PARSE_END_STATE) × (c.lookahead ≡ None)
     last = end_holds_none c.state c.states c.lookahead (stage_of g) h.good (end_stage c.state c.states c.lookahead (stage_of g) h.good ∙ e)
 
     go : Links c asked g → IsWhole asked g
@@ -336,12 +327,12 @@ stays_outside w c t = by _ _ _ (step_kind [] [] t w c t.content)
     goes_elsewhere k k' kinds.from_key e = cc
     goes_elsewhere k k' kinds.in_pair e = cc
 
-    by : (k : Kind) (o o' : Progressed) → StepKind [] [] t c k o o' → k ≡ kinds.between → StaysOutside o
-    by k o o' (kinds.wants w i) e = i ∙ e
-    by k o o' (kinds.declares d x p) e = refl
-    by k o o' (kinds.enters w s i j) e = absurd cc
+    by : {n : ℕ} {x : Content} (k : Kind) (o o' : Progressed) → StepKind [] [] t c n x k o o' → k ≡ kinds.between → StaysOutside o
+    by k o o' (kinds.wants w i l) e = i ∙ e
+    by k o o' (kinds.declares d x p l) e = refl
+    by k o o' (kinds.enters w s i j l) e = absurd cc
     by k o o' (kinds.node n) e = absurd cc
-    by k o o' (kinds.entry s g n) e = absurd (goes_elsewhere k (kind s) g e)
+    by k o o' (kinds.entry s r i g n) e = absurd (goes_elsewhere k (kind s) g e)
     by k o o' _ e = tt
 
 -- and there no memory is taken at the stream's end or at a version
@@ -359,8 +350,8 @@ outside_grows : (w : Want) (c : Config) (k : Content) → IsOutside w c → may_
 outside_grows AtState c k o h = go c.state o h
   where
     go : (s : yaml_parser_state_t) → kind s ≡ kinds.between → may_grow_at s c k ≡ true → is_quiet k ≡ false
-    go YAML_PARSE_IMPLICIT_DOCUMENT_START_STATE o h = document_grows c.behind_document_end k h
-    go YAML_PARSE_DOCUMENT_START_STATE o h = directive_grows k h
+    go state.YAML_PARSE_IMPLICIT_DOCUMENT_START_STATE o h = document_grows c.behind_document_end k h
+    go state.YAML_PARSE_DOCUMENT_START_STATE o h = directive_grows k h
     go _ o h = absurd cc
 outside_grows (BehindDirective d) c k o h = directive_grows k h
 outside_grows _ c k o h = absurd cc
@@ -397,18 +388,18 @@ refused_end c t k More (x ∷ rest) h = h
 refused_at : (s : yaml_parser_state_t) (ss : List yaml_parser_state_t) (o : Option Token) (st : Stage) → GoodAt s ss o st
     → (c : Config) (t : Token) (k : Content) (More : Want → Config → Type 0) (rest : List Answer) → RefusedAt (may_grow_at s c k) (at_state s c t k) More rest
     → (l : List Token) → (kind s ≡ kinds.between → ends_quietly l ≡ false) → takes_no_memory st l ≡ false
-refused_at YAML_PARSE_STREAM_START_STATE ss o st g c t k More rest h l q = absurd (refused_start c t k More rest h)
-refused_at YAML_PARSE_DOCUMENT_END_STATE ss o st g c t k More rest h l q = absurd (refused_end c t k More rest h)
-refused_at YAML_PARSE_IMPLICIT_DOCUMENT_START_STATE ss o st g c t k More rest h l q = ap (λ (x : Stage). takes_no_memory x l) g.1 ∙ q refl
-refused_at YAML_PARSE_DOCUMENT_START_STATE ss o st g c t k More rest h l q = ap (λ (x : Stage). takes_no_memory x l) g.1 ∙ q refl
-refused_at YAML_PARSE_DOCUMENT_CONTENT_STATE ss o st g c t k More rest h l q = due_takes ss st l g
-refused_at YAML_PARSE_BLOCK_NODE_STATE ss o st g c t k More rest h l q = due_takes ss st l g
-refused_at YAML_PARSE_BLOCK_NODE_OR_INDENTLESS_SEQUENCE_STATE ss o st g c t k More rest h l q = due_takes ss st l g
-refused_at YAML_PARSE_FLOW_NODE_STATE ss o st g c t k More rest h l q = due_takes ss st l g
-refused_at YAML_PARSE_FLOW_SEQUENCE_ENTRY_MAPPING_KEY_STATE ss o st g c t k More rest h l q = ap (λ (x : Stage). takes_no_memory x l) g.1
-refused_at YAML_PARSE_FLOW_SEQUENCE_ENTRY_MAPPING_VALUE_STATE ss o st g c t k More rest h l q = ap (λ (x : Stage). takes_no_memory x l) g.1
-refused_at YAML_PARSE_FLOW_SEQUENCE_ENTRY_MAPPING_END_STATE ss o st g c t k More rest h l q = ap (λ (x : Stage). takes_no_memory x l) g.1
-refused_at YAML_PARSE_END_STATE ss o st g c t k More rest h l q = ap (λ (x : Stage). takes_no_memory x l) g.1
+refused_at state.YAML_PARSE_STREAM_START_STATE ss o st g c t k More rest h l q = absurd (refused_start c t k More rest h)
+refused_at state.YAML_PARSE_DOCUMENT_END_STATE ss o st g c t k More rest h l q = absurd (refused_end c t k More rest h)
+refused_at state.YAML_PARSE_IMPLICIT_DOCUMENT_START_STATE ss o st g c t k More rest h l q = ap (λ (x : Stage). takes_no_memory x l) g.1 ∙ q refl
+refused_at state.YAML_PARSE_DOCUMENT_START_STATE ss o st g c t k More rest h l q = ap (λ (x : Stage). takes_no_memory x l) g.1 ∙ q refl
+refused_at state.YAML_PARSE_DOCUMENT_CONTENT_STATE ss o st g c t k More rest h l q = due_takes ss st l g
+refused_at state.YAML_PARSE_BLOCK_NODE_STATE ss o st g c t k More rest h l q = due_takes ss st l g
+refused_at state.YAML_PARSE_BLOCK_NODE_OR_INDENTLESS_SEQUENCE_STATE ss o st g c t k More rest h l q = due_takes ss st l g
+refused_at state.YAML_PARSE_FLOW_NODE_STATE ss o st g c t k More rest h l q = due_takes ss st l g
+refused_at state.YAML_PARSE_FLOW_SEQUENCE_ENTRY_MAPPING_KEY_STATE ss o st g c t k More rest h l q = ap (λ (x : Stage). takes_no_memory x l) g.1
+refused_at state.YAML_PARSE_FLOW_SEQUENCE_ENTRY_MAPPING_VALUE_STATE ss o st g c t k More rest h l q = ap (λ (x : Stage). takes_no_memory x l) g.1
+refused_at state.YAML_PARSE_FLOW_SEQUENCE_ENTRY_MAPPING_END_STATE ss o st g c t k More rest h l q = ap (λ (x : Stage). takes_no_memory x l) g.1
+refused_at state.YAML_PARSE_END_STATE ss o st g c t k More rest h l q = ap (λ (x : Stage). takes_no_memory x l) g.1
 refused_at _ ss o st g c t k More rest h l q = ap (λ (x : Stage). takes_no_memory x l) g.1
 
 -- an allocation fails only where the call may take memory

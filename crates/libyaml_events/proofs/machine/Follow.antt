@@ -34,9 +34,7 @@ use Rattle.libyaml_grammar.proofs.lent.StepsMeet.{IsDue, IsEntry, IsMet}
 use Rattle.libyaml_events.specs.declared.node_head.NodeHead.{NodeHead}
 use Rattle.libyaml_events.specs.declared.next.Want.TheVariants.{AtState}
 use Rattle.libyaml_events.specs.declared.next.Progress.TheVariants.{Given}
-use Rattle.libyaml_types.specs.declared.enums.yaml_parser_state_t.TheVariants.{YAML_PARSE_BLOCK_MAPPING_KEY_STATE, YAML_PARSE_BLOCK_SEQUENCE_ENTRY_STATE}
-use Rattle.libyaml_types.specs.declared.enums.yaml_parser_state_t.TheVariants.{YAML_PARSE_DOCUMENT_START_STATE, YAML_PARSE_FLOW_MAPPING_KEY_STATE}
-use Rattle.libyaml_types.specs.declared.enums.yaml_parser_state_t.TheVariants.{YAML_PARSE_FLOW_SEQUENCE_ENTRY_STATE}
+use Rattle.libyaml_types.specs.declared.enums.yaml_parser_state_t.TheVariants as st
 use Rattle.libyaml_types.specs.declared.enums.yaml_parser_state_t.{yaml_parser_state_t}
 
 abbrev pub IsProperty : Content → Type 0
@@ -56,10 +54,10 @@ documents_follow : (n : ℕ) (d : Documents) (k : Content) (m : Marks) (r : List
     )
 documents_follow n d (VersionDirective a) m r
     = ap (emit (document_end_at true m.start m.start))
-    (version_after m.start no_directives (config YAML_PARSE_DOCUMENT_START_STATE [] [] no_handles) a m (more n r) r)
+    (version_after m.start no_directives (config st.YAML_PARSE_DOCUMENT_START_STATE [] [] no_handles) a m (more n r) r)
 documents_follow n d (TagDirective h) m r
     = ap (emit (document_end_at true m.start m.start))
-    (tag_after m.start no_directives (config YAML_PARSE_DOCUMENT_START_STATE [] [] no_handles) h m (more n r) r refl)
+    (tag_after m.start no_directives (config st.YAML_PARSE_DOCUMENT_START_STATE [] [] no_handles) h m (more n r) r refl)
 documents_follow n d DocumentStart m r = refl
 documents_follow n d DocumentEnd m r = refl
 documents_follow n d StreamEnd m r = refl
@@ -115,7 +113,7 @@ item_follows : (n : ℕ) (c : BlockPlace) (o : Option Properties) (s : Marks) (i
     → spends (suc n) AtState (config_of (in_sequence c o s is)) k m r ≡ (given_behind_item k m r, step_ends (behind_item c o s is k m) no_directives k m)
 item_follows n c o s is BlockEntry m r = refl
 item_follows n c o s is BlockEnd m r
-    = ap (λ (x : End). (end_of sequence m ∷ r, x)) (closed_block YAML_PARSE_BLOCK_SEQUENCE_ENTRY_STATE s.start c (block_sequence o s is m))
+    = ap (λ (x : End). (end_of sequence m ∷ r, x)) (closed_block st.YAML_PARSE_BLOCK_SEQUENCE_ENTRY_STATE s.start c (block_sequence o s is m))
 item_follows n c o s is _ m r = refl
 
 part_follows : (n : ℕ) (c : BlockPlace) (o : Option Properties) (s : Marks) (ps : Parts) (k : Content) (m : Marks) (r : List Event)
@@ -124,14 +122,14 @@ part_follows : (n : ℕ) (c : BlockPlace) (o : Option Properties) (s : Marks) (p
       step_ends (behind_part c o s ps k m) no_directives k m,
     )
 part_follows n c o s no_parts BlockEnd m r
-    = ap (λ (x : End). (end_of mapping m ∷ r, x)) (closed_block YAML_PARSE_BLOCK_MAPPING_KEY_STATE s.start c (block_mapping o s no_parts m))
+    = ap (λ (x : End). (end_of mapping m ∷ r, x)) (closed_block st.YAML_PARSE_BLOCK_MAPPING_KEY_STATE s.start c (block_mapping o s no_parts m))
 part_follows n c o s no_parts _ m r = refl
 part_follows n c o s (part ps key v y) BlockEnd m r
     = ap (λ (x : End). (empty_at m.start ∷ end_of mapping m ∷ r, x))
-    (closed_block YAML_PARSE_BLOCK_MAPPING_KEY_STATE s.start c (block_mapping o s (part ps key v y) m))
+    (closed_block st.YAML_PARSE_BLOCK_MAPPING_KEY_STATE s.start c (block_mapping o s (part ps key v y) m))
 part_follows n c o s (part ps key v y) _ m r = refl
 part_follows n c o s (part ps value v y) BlockEnd m r
-    = ap (λ (x : End). (end_of mapping m ∷ r, x)) (closed_block YAML_PARSE_BLOCK_MAPPING_KEY_STATE s.start c (block_mapping o s (part ps value v y) m))
+    = ap (λ (x : End). (end_of mapping m ∷ r, x)) (closed_block st.YAML_PARSE_BLOCK_MAPPING_KEY_STATE s.start c (block_mapping o s (part ps value v y) m))
 part_follows n c o s (part ps value v y) _ m r = refl
 
 indentless_follows : (n : ℕ) (c : PartPlace) (o : Option Properties) (is : BlockItems) (e : Marks) (x : BlockSlot) (k : Content) (m : Marks) (r : List Event)
@@ -147,19 +145,19 @@ member_follows : (n : ℕ) (c : Open) (e : FlowMember) (k : Content) (m : Marks)
     → spends (suc (suc n)) AtState (config_of (flow_behind c e)) k m r ≡ (given_behind_member c e k m r, step_ends (behind_member c e k m) no_directives k m)
 member_follows n (open_collection p o sequence s is) (single y) FlowSequenceEnd m r w
     = ap (λ (x : End). (end_of sequence m ∷ r, x))
-    (closed_flow YAML_PARSE_FLOW_SEQUENCE_ENTRY_STATE s.start p (collection o sequence s is (last (single y)) m))
+    (closed_flow st.YAML_PARSE_FLOW_SEQUENCE_ENTRY_STATE s.start p (collection o sequence s is (last (single y)) m))
 member_follows n (open_collection p o sequence s is) (single y) _ m r w = refl
 member_follows n (open_collection p o sequence s is) (pair k y (with_value v z)) FlowSequenceEnd m r w
     = ap (λ (x : End). (end_at mapping m.start m.start ∷ end_of sequence m ∷ r, x))
-    (closed_flow YAML_PARSE_FLOW_SEQUENCE_ENTRY_STATE s.start p (collection o sequence s is (last (pair k y (with_value v z))) m))
+    (closed_flow st.YAML_PARSE_FLOW_SEQUENCE_ENTRY_STATE s.start p (collection o sequence s is (last (pair k y (with_value v z))) m))
 member_follows n (open_collection p o sequence s is) (pair k y (with_value v z)) _ m r w = refl
 member_follows n (open_collection p o mapping s is) (single y) FlowMappingEnd m r w
     = ap (λ (x : End). (empty_at m.start ∷ end_of mapping m ∷ r, x))
-    (closed_flow YAML_PARSE_FLOW_MAPPING_KEY_STATE s.start p (collection o mapping s is (last (single y)) m))
+    (closed_flow st.YAML_PARSE_FLOW_MAPPING_KEY_STATE s.start p (collection o mapping s is (last (single y)) m))
 member_follows n (open_collection p o mapping s is) (single y) _ m r w = refl
 member_follows n (open_collection p o mapping s is) (pair k y (with_value v z)) FlowMappingEnd m r w
     = ap (λ (x : End). (end_of mapping m ∷ r, x))
-    (closed_flow YAML_PARSE_FLOW_MAPPING_KEY_STATE s.start p (collection o mapping s is (last (pair k y (with_value v z))) m))
+    (closed_flow st.YAML_PARSE_FLOW_MAPPING_KEY_STATE s.start p (collection o mapping s is (last (pair k y (with_value v z))) m))
 member_follows n (open_collection p o mapping s is) (pair k y (with_value v z)) _ m r w = refl
 member_follows n c (pair k y no_value) t m r w = absurd w
 
@@ -171,12 +169,12 @@ key_follows : (n : ℕ) (c : Open) (e : Marks) (y : FlowSlot) (k : Content) (m :
 key_follows n (open_collection p o sequence s is) e y Value m r = refl
 key_follows n (open_collection p o sequence s is) e y FlowSequenceEnd m r
     = ap (λ (x : End). (empty_at m.start ∷ end_at mapping m.start m.start ∷ end_of sequence m ∷ r, x))
-    (closed_flow YAML_PARSE_FLOW_SEQUENCE_ENTRY_STATE s.start p (collection o sequence s is (last (pair e y no_value)) m))
+    (closed_flow st.YAML_PARSE_FLOW_SEQUENCE_ENTRY_STATE s.start p (collection o sequence s is (last (pair e y no_value)) m))
 key_follows n (open_collection p o sequence s is) e y _ m r = refl
 key_follows n (open_collection p o mapping s is) e y Value m r = refl
 key_follows n (open_collection p o mapping s is) e y FlowMappingEnd m r
     = ap (λ (x : End). (empty_at m.start ∷ end_of mapping m ∷ r, x))
-    (closed_flow YAML_PARSE_FLOW_MAPPING_KEY_STATE s.start p (collection o mapping s is (last (pair e y no_value)) m))
+    (closed_flow st.YAML_PARSE_FLOW_MAPPING_KEY_STATE s.start p (collection o mapping s is (last (pair e y no_value)) m))
 key_follows n (open_collection p o mapping s is) e y _ m r = refl
 
 whole_follows : (n : ℕ) (p : Place) (x : FlowNode) (k : Content) (m : Marks) (r : List Event)
@@ -456,13 +454,13 @@ flow_follows : (n : ℕ) (c : Open) (k : Content) (m : Marks) (r : List Event)
     → spends (suc (suc (suc n))) (want_of (flow_due c)) (config_of (flow_due c)) k m r ≡ (given_at_flow c k m r, step_ends (at_flow c k m) no_directives k m)
 flow_follows n (open_collection p o sequence s is) Key m r = refl
 flow_follows n (open_collection p o sequence s is) FlowSequenceEnd m r
-    = ap (λ (x : End). (end_of sequence m ∷ r, x)) (closed_flow YAML_PARSE_FLOW_SEQUENCE_ENTRY_STATE s.start p (collection o sequence s is no_last m))
+    = ap (λ (x : End). (end_of sequence m ∷ r, x)) (closed_flow st.YAML_PARSE_FLOW_SEQUENCE_ENTRY_STATE s.start p (collection o sequence s is no_last m))
 flow_follows n (open_collection p o sequence s is) FlowMappingEnd m r = refl
 flow_follows n (open_collection p o sequence s is) k m r = node_follows (suc n) (flow_entry (open_collection p o sequence s is)) k m r refl
 flow_follows n (open_collection p o mapping s is) Key m r = refl
 flow_follows n (open_collection p o mapping s is) FlowSequenceEnd m r = refl
 flow_follows n (open_collection p o mapping s is) FlowMappingEnd m r
-    = ap (λ (x : End). (end_of mapping m ∷ r, x)) (closed_flow YAML_PARSE_FLOW_MAPPING_KEY_STATE s.start p (collection o mapping s is no_last m))
+    = ap (λ (x : End). (end_of mapping m ∷ r, x)) (closed_flow st.YAML_PARSE_FLOW_MAPPING_KEY_STATE s.start p (collection o mapping s is no_last m))
 flow_follows n (open_collection p o mapping s is) k m r = node_follows (suc n) (flow_entry (open_collection p o mapping s is)) k m r refl
 
 -- at a document's place
@@ -494,7 +492,7 @@ headed_follows n b ds d (VersionDirective x) m r
 headed_follows n (free f) ds d (TagDirective x) m r
     = tag_after (first_directive ds (directive_start d)) (directive ds d) (free_config f (handles_of (directive ds d))) x m (more n r) r refl
 headed_follows n (behind y) ds d (TagDirective x) m r
-    = tag_after (first_directive ds (directive_start d)) (directive ds d) (config YAML_PARSE_DOCUMENT_START_STATE [] [] (handles_of (directive ds d))) x m
+    = tag_after (first_directive ds (directive_start d)) (directive ds d) (config st.YAML_PARSE_DOCUMENT_START_STATE [] [] (handles_of (directive ds d))) x m
     (more n r) r refl
 headed_follows n (free f) ds d DocumentStart m r = refl
 headed_follows n (behind x) ds d DocumentStart m r = refl

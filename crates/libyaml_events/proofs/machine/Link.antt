@@ -28,17 +28,7 @@ use Rattle.libyaml_events.specs.declared.next.Want.TheVariants.{BehindKey, Behin
 use Rattle.libyaml_events.specs.declared.next.Want.TheVariants.{BehindFlowMappingEntry, BehindFlowMappingKey, BehindFlowMappingValue}
 use Rattle.libyaml_events.specs.declared.next.Progress.TheVariants.{Given, Wants}
 use Rattle.libyaml_events.specs.declared.node_place.NodePlace.TheVariants.{Block, BlockOrIndentlessSequence, Flow}
-use Rattle.libyaml_types.specs.declared.enums.yaml_parser_state_t.TheVariants.{YAML_PARSE_BLOCK_MAPPING_KEY_STATE, YAML_PARSE_BLOCK_MAPPING_VALUE_STATE}
-use Rattle.libyaml_types.specs.declared.enums.yaml_parser_state_t.TheVariants.{YAML_PARSE_BLOCK_NODE_STATE, YAML_PARSE_BLOCK_SEQUENCE_ENTRY_STATE}
-use Rattle.libyaml_types.specs.declared.enums.yaml_parser_state_t.TheVariants.{YAML_PARSE_DOCUMENT_CONTENT_STATE, YAML_PARSE_DOCUMENT_END_STATE}
-use Rattle.libyaml_types.specs.declared.enums.yaml_parser_state_t.TheVariants.{YAML_PARSE_DOCUMENT_START_STATE, YAML_PARSE_END_STATE}
-use Rattle.libyaml_types.specs.declared.enums.yaml_parser_state_t.TheVariants.{YAML_PARSE_FLOW_MAPPING_EMPTY_VALUE_STATE, YAML_PARSE_FLOW_MAPPING_KEY_STATE}
-use Rattle.libyaml_types.specs.declared.enums.yaml_parser_state_t.TheVariants.{YAML_PARSE_FLOW_MAPPING_VALUE_STATE}
-use Rattle.libyaml_types.specs.declared.enums.yaml_parser_state_t.TheVariants.{YAML_PARSE_FLOW_SEQUENCE_ENTRY_MAPPING_END_STATE}
-use Rattle.libyaml_types.specs.declared.enums.yaml_parser_state_t.TheVariants.{YAML_PARSE_FLOW_SEQUENCE_ENTRY_MAPPING_KEY_STATE}
-use Rattle.libyaml_types.specs.declared.enums.yaml_parser_state_t.TheVariants.{YAML_PARSE_FLOW_SEQUENCE_ENTRY_MAPPING_VALUE_STATE}
-use Rattle.libyaml_types.specs.declared.enums.yaml_parser_state_t.TheVariants.{YAML_PARSE_FLOW_SEQUENCE_ENTRY_STATE, YAML_PARSE_IMPLICIT_DOCUMENT_START_STATE}
-use Rattle.libyaml_types.specs.declared.enums.yaml_parser_state_t.TheVariants.{YAML_PARSE_INDENTLESS_SEQUENCE_ENTRY_STATE, YAML_PARSE_STREAM_START_STATE}
+use Rattle.libyaml_types.specs.declared.enums.yaml_parser_state_t.TheVariants as st
 use Rattle.libyaml_types.specs.declared.enums.yaml_parser_state_t.{yaml_parser_state_t}
 
 -- the prefixes of the handles that the directives declare
@@ -49,21 +39,21 @@ handles_of (directive ds (tag_directive d m)) = insert (handles_of ds) d.handle 
 
 -- the state after a key or value
 abbrev pub behind_state : Role → yaml_parser_state_t
-behind_state key = YAML_PARSE_BLOCK_MAPPING_VALUE_STATE
-behind_state value = YAML_PARSE_BLOCK_MAPPING_KEY_STATE
+behind_state key = st.YAML_PARSE_BLOCK_MAPPING_VALUE_STATE
+behind_state value = st.YAML_PARSE_BLOCK_MAPPING_KEY_STATE
 
 -- the state at a key or value
 abbrev pub role_state : Role → yaml_parser_state_t
-role_state key = YAML_PARSE_BLOCK_MAPPING_KEY_STATE
-role_state value = YAML_PARSE_BLOCK_MAPPING_VALUE_STATE
+role_state key = st.YAML_PARSE_BLOCK_MAPPING_KEY_STATE
+role_state value = st.YAML_PARSE_BLOCK_MAPPING_VALUE_STATE
 
 -- the stack of states within a node: where the parser goes on after it, and after each node around it
 abbrev mutual
   pub states_block : BlockPlace → List yaml_parser_state_t
-  states_block (root t) = YAML_PARSE_DOCUMENT_END_STATE ∷ []
-  states_block (entry c o m is e) = YAML_PARSE_BLOCK_SEQUENCE_ENTRY_STATE ∷ states_block c
+  states_block (root t) = st.YAML_PARSE_DOCUMENT_END_STATE ∷ []
+  states_block (entry c o m is e) = st.YAML_PARSE_BLOCK_SEQUENCE_ENTRY_STATE ∷ states_block c
   states_block (slot c) = states_part c
-  states_block (indentless_entry c o is e) = YAML_PARSE_INDENTLESS_SEQUENCE_ENTRY_STATE ∷ states_part c
+  states_block (indentless_entry c o is e) = st.YAML_PARSE_INDENTLESS_SEQUENCE_ENTRY_STATE ∷ states_part c
 
   pub states_part : PartPlace → List yaml_parser_state_t
   states_part (part_place c o m ps k v) = behind_state k ∷ states_block c
@@ -71,12 +61,12 @@ abbrev mutual
 abbrev mutual
   pub states_place : Place → List yaml_parser_state_t
   states_place (block c) = states_block c
-  states_place (flow_entry (open_collection p o sequence s is)) = YAML_PARSE_FLOW_SEQUENCE_ENTRY_STATE ∷ states_place p
-  states_place (flow_entry (open_collection p o mapping s is)) = YAML_PARSE_FLOW_MAPPING_EMPTY_VALUE_STATE ∷ states_place p
-  states_place (flow_key (open_collection p o sequence s is) k) = YAML_PARSE_FLOW_SEQUENCE_ENTRY_MAPPING_VALUE_STATE ∷ states_place p
-  states_place (flow_key (open_collection p o mapping s is) k) = YAML_PARSE_FLOW_MAPPING_VALUE_STATE ∷ states_place p
-  states_place (flow_value (open_collection p o sequence s is) k x v) = YAML_PARSE_FLOW_SEQUENCE_ENTRY_MAPPING_END_STATE ∷ states_place p
-  states_place (flow_value (open_collection p o mapping s is) k x v) = YAML_PARSE_FLOW_MAPPING_KEY_STATE ∷ states_place p
+  states_place (flow_entry (open_collection p o sequence s is)) = st.YAML_PARSE_FLOW_SEQUENCE_ENTRY_STATE ∷ states_place p
+  states_place (flow_entry (open_collection p o mapping s is)) = st.YAML_PARSE_FLOW_MAPPING_EMPTY_VALUE_STATE ∷ states_place p
+  states_place (flow_key (open_collection p o sequence s is) k) = st.YAML_PARSE_FLOW_SEQUENCE_ENTRY_MAPPING_VALUE_STATE ∷ states_place p
+  states_place (flow_key (open_collection p o mapping s is) k) = st.YAML_PARSE_FLOW_MAPPING_VALUE_STATE ∷ states_place p
+  states_place (flow_value (open_collection p o sequence s is) k x v) = st.YAML_PARSE_FLOW_SEQUENCE_ENTRY_MAPPING_END_STATE ∷ states_place p
+  states_place (flow_value (open_collection p o mapping s is) k x v) = st.YAML_PARSE_FLOW_MAPPING_KEY_STATE ∷ states_place p
 
 -- the starts of the open collections
 abbrev mutual
@@ -104,33 +94,33 @@ around (open_collection p o k s is) = states_place p
 
 -- the state in which the parser looks for a node
 abbrev pub state_root : Root → yaml_parser_state_t
-state_root (implicit_root f) = YAML_PARSE_BLOCK_NODE_STATE
-state_root (explicit_root b ds m) = YAML_PARSE_DOCUMENT_CONTENT_STATE
+state_root (implicit_root f) = st.YAML_PARSE_BLOCK_NODE_STATE
+state_root (explicit_root b ds m) = st.YAML_PARSE_DOCUMENT_CONTENT_STATE
 
 abbrev pub state_part : PartPlace → yaml_parser_state_t
 state_part (part_place c o m ps k v) = role_state k
 
 abbrev pub state_block : BlockPlace → yaml_parser_state_t
 state_block (root t) = state_root t
-state_block (entry c o m is e) = YAML_PARSE_BLOCK_SEQUENCE_ENTRY_STATE
+state_block (entry c o m is e) = st.YAML_PARSE_BLOCK_SEQUENCE_ENTRY_STATE
 state_block (slot c) = state_part c
-state_block (indentless_entry c o is e) = YAML_PARSE_INDENTLESS_SEQUENCE_ENTRY_STATE
+state_block (indentless_entry c o is e) = st.YAML_PARSE_INDENTLESS_SEQUENCE_ENTRY_STATE
 
 abbrev pub state_place : Place → yaml_parser_state_t
 state_place (block c) = state_block c
-state_place (flow_entry (open_collection p o sequence s is)) = YAML_PARSE_FLOW_SEQUENCE_ENTRY_STATE
-state_place (flow_entry (open_collection p o mapping s is)) = YAML_PARSE_FLOW_MAPPING_KEY_STATE
-state_place (flow_key (open_collection p o sequence s is) k) = YAML_PARSE_FLOW_SEQUENCE_ENTRY_MAPPING_KEY_STATE
-state_place (flow_key (open_collection p o mapping s is) k) = YAML_PARSE_FLOW_MAPPING_KEY_STATE
-state_place (flow_value (open_collection p o sequence s is) k x v) = YAML_PARSE_FLOW_SEQUENCE_ENTRY_MAPPING_VALUE_STATE
-state_place (flow_value (open_collection p o mapping s is) k x v) = YAML_PARSE_FLOW_MAPPING_VALUE_STATE
+state_place (flow_entry (open_collection p o sequence s is)) = st.YAML_PARSE_FLOW_SEQUENCE_ENTRY_STATE
+state_place (flow_entry (open_collection p o mapping s is)) = st.YAML_PARSE_FLOW_MAPPING_KEY_STATE
+state_place (flow_key (open_collection p o sequence s is) k) = st.YAML_PARSE_FLOW_SEQUENCE_ENTRY_MAPPING_KEY_STATE
+state_place (flow_key (open_collection p o mapping s is) k) = st.YAML_PARSE_FLOW_MAPPING_KEY_STATE
+state_place (flow_value (open_collection p o sequence s is) k x v) = st.YAML_PARSE_FLOW_SEQUENCE_ENTRY_MAPPING_VALUE_STATE
+state_place (flow_value (open_collection p o mapping s is) k x v) = st.YAML_PARSE_FLOW_MAPPING_VALUE_STATE
 
 -- the stack before the place is pushed
 abbrev pub unpushed_part : PartPlace → List yaml_parser_state_t
 unpushed_part (part_place c o m ps k v) = states_block c
 
 abbrev pub unpushed_block : BlockPlace → List yaml_parser_state_t
-unpushed_block (root t) = YAML_PARSE_DOCUMENT_END_STATE ∷ []
+unpushed_block (root t) = st.YAML_PARSE_DOCUMENT_END_STATE ∷ []
 unpushed_block (entry c o m is e) = states_block c
 unpushed_block (slot c) = unpushed_part c
 unpushed_block (indentless_entry c o is e) = states_part c
@@ -200,12 +190,12 @@ ended_free (opened e m) = false
 ended_free (ended e) = true
 
 abbrev pub free_config : Free → Handles → Config
-free_config f hs = record (config YAML_PARSE_IMPLICIT_DOCUMENT_START_STATE [] [] hs) { behind_document_end = ended_free f }
+free_config f hs = record (config st.YAML_PARSE_IMPLICIT_DOCUMENT_START_STATE [] [] hs) { behind_document_end = ended_free f }
 
 -- where a document's start is due, after directives
 abbrev pub headed_config : Before → Handles → Config
 headed_config (free f) hs = free_config f hs
-headed_config (behind d) hs = config YAML_PARSE_DOCUMENT_START_STATE [] [] hs
+headed_config (behind d) hs = config st.YAML_PARSE_DOCUMENT_START_STATE [] [] hs
 
 -- the directives of the last document
 abbrev pub documents_directives : Documents → Directives
@@ -214,22 +204,22 @@ documents_directives (explicit b ds m x) = ds
 
 abbrev pub between_config : Before → Config
 between_config (free f) = free_config f no_handles
-between_config (behind d) = config YAML_PARSE_DOCUMENT_END_STATE [] [] (handles_of (documents_directives d))
+between_config (behind d) = config st.YAML_PARSE_DOCUMENT_END_STATE [] [] (handles_of (documents_directives d))
 
 abbrev pub parts_state : Parts → yaml_parser_state_t
-parts_state no_parts = YAML_PARSE_BLOCK_MAPPING_KEY_STATE
+parts_state no_parts = st.YAML_PARSE_BLOCK_MAPPING_KEY_STATE
 parts_state (part ps k v x) = behind_state k
 
 abbrev pub member_state : Open → FlowMember → yaml_parser_state_t
-member_state (open_collection p o sequence s is) (single n) = YAML_PARSE_FLOW_SEQUENCE_ENTRY_STATE
-member_state (open_collection p o mapping s is) (single n) = YAML_PARSE_FLOW_MAPPING_EMPTY_VALUE_STATE
-member_state (open_collection p o sequence s is) (pair k x no_value) = YAML_PARSE_FLOW_SEQUENCE_ENTRY_MAPPING_VALUE_STATE
-member_state (open_collection p o mapping s is) (pair k x no_value) = YAML_PARSE_FLOW_MAPPING_VALUE_STATE
-member_state (open_collection p o sequence s is) (pair k x (with_value v y)) = YAML_PARSE_FLOW_SEQUENCE_ENTRY_MAPPING_END_STATE
-member_state (open_collection p o mapping s is) (pair k x (with_value v y)) = YAML_PARSE_FLOW_MAPPING_KEY_STATE
+member_state (open_collection p o sequence s is) (single n) = st.YAML_PARSE_FLOW_SEQUENCE_ENTRY_STATE
+member_state (open_collection p o mapping s is) (single n) = st.YAML_PARSE_FLOW_MAPPING_EMPTY_VALUE_STATE
+member_state (open_collection p o sequence s is) (pair k x no_value) = st.YAML_PARSE_FLOW_SEQUENCE_ENTRY_MAPPING_VALUE_STATE
+member_state (open_collection p o mapping s is) (pair k x no_value) = st.YAML_PARSE_FLOW_MAPPING_VALUE_STATE
+member_state (open_collection p o sequence s is) (pair k x (with_value v y)) = st.YAML_PARSE_FLOW_SEQUENCE_ENTRY_MAPPING_END_STATE
+member_state (open_collection p o mapping s is) (pair k x (with_value v y)) = st.YAML_PARSE_FLOW_MAPPING_KEY_STATE
 
 abbrev pub done_config : Stream → Config
-done_config (whole b m) = record (headed_config b no_handles) { state = YAML_PARSE_END_STATE }
+done_config (whole b m) = record (headed_config b no_handles) { state = st.YAML_PARSE_END_STATE }
 
 abbrev pub directives_read : Directives → Directive → DirectivesRead
 directives_read ds d = record {
@@ -247,14 +237,14 @@ want_of (flow_due c) = want_entry c
 want_of _ = AtState
 
 abbrev pub config_of : Position → Config
-config_of unopened = config YAML_PARSE_STREAM_START_STATE [] [] no_handles
+config_of unopened = config st.YAML_PARSE_STREAM_START_STATE [] [] no_handles
 config_of (between b) = between_config b
 config_of (headed b ds d) = headed_config b (handles_of (directive ds d))
 config_of (due p None) = place_config p
 config_of (due p (Some ps)) = node_config p
-config_of (in_sequence c o m is) = config YAML_PARSE_BLOCK_SEQUENCE_ENTRY_STATE (states_block c) (m.start ∷ marks_block c) (handles_of (declared_block c))
+config_of (in_sequence c o m is) = config st.YAML_PARSE_BLOCK_SEQUENCE_ENTRY_STATE (states_block c) (m.start ∷ marks_block c) (handles_of (declared_block c))
 config_of (in_mapping c o m ps) = config (parts_state ps) (states_block c) (m.start ∷ marks_block c) (handles_of (declared_block c))
-config_of (in_indentless c o is e n) = config YAML_PARSE_INDENTLESS_SEQUENCE_ENTRY_STATE (states_part c) (marks_part c) (handles_of (declared_part c))
+config_of (in_indentless c o is e n) = config st.YAML_PARSE_INDENTLESS_SEQUENCE_ENTRY_STATE (states_part c) (marks_part c) (handles_of (declared_part c))
 config_of (flow_due c) = place_config (flow_entry c)
 config_of (flow_keyed c k x) = config (member_state c (pair k x no_value)) (around c) (marks_open c) (handles_of (declared_open c))
 config_of (flow_behind c e) = config (member_state c e) (around c) (marks_open c) (handles_of (declared_open c))

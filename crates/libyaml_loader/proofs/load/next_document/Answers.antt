@@ -11,7 +11,7 @@ use Rattle.libyaml_loader.specs.Steps.{opening_at}
 use Rattle.libyaml_loader.proofs.Ended.{has_not_ended, no_error, still_ended}
 use Rattle.libyaml_loader.proofs.Falling.{falls_later, stays_since}
 use Rattle.libyaml_loader.proofs.Outside.{behind_all}
-use Rattle.libyaml_loader.proofs.Stepping.{opening_is, skips_none, skips_end, skips_fail, skips_more, skips_opens}
+use Rattle.libyaml_loader.proofs.Stepping.{skips_none, skips_end, skips_fail, skips_more, skips_opens}
 use Rattle.libyaml_loader.proofs.Taking.{Called, ended_between, finds_end, parser_fails, running}
 use Rattle.libyaml_loader.proofs.load.next_document.Given as given
 use Rattle.libyaml_loader.proofs.load.next_document.Goals as goal
@@ -69,7 +69,7 @@ returns-in-Some-clause-loads g c =
     let loads = subst (λ (z : ℤ). LoadsFrom t.gives t.known t.may_break (load_from (magnitude z) (within o fresh)) (left_from (within o fresh)) call.new.parser
     load.result load.new.parser) same load.ensures.loads in
     skips_opens t.gives t.known t.may_break (magnitude c.args.parser.now.max_entries) c.args.parser.now c.loop-event.parser call.new.parser load.new.parser
-    (answered call.result call.new.event) called call.new.event (ap (λ r. answered r call.new.event) c.in_ok-yaml_parser_parse_into.was) an_event o (opening_is call.new.event c.replace-content.result _ _ c.replace-content.ensures.value refl c.in-Some.ensures) load.result c.loop-event.invariant.0 loads
+    (answered call.result call.new.event) called call.new.event (ap (λ r. answered r call.new.event) c.in_ok-yaml_parser_parse_into.was) an_event o (sym c.in-Some.ensures) load.result c.loop-event.invariant.0 loads
 
 pub loop-event-smaller : goal.loop-event-smaller
 loop-event-smaller g c =
@@ -91,7 +91,7 @@ loop-event-preserved g c =
     in
     let fell : events_left t.bound call.new.parser < events_left t.bound c.loop-event.parser = rw c.in_ok-yaml_parser_parse_into.was at (call.ensures.falls run) in (
       skips_more t.gives t.known t.may_break (magnitude c.args.parser.now.max_entries) c.args.parser.now c.loop-event.parser call.new.parser (answered call.result call.new.event)
-          called call.new.event (ap (λ r. answered r call.new.event) c.in_ok-yaml_parser_parse_into.was) an_event (opening_is call.new.event c.replace-content.result _ _ c.replace-content.ensures.value refl c.in-None.ensures) call.ensures.bound c.loop-event.invariant.0,
+          called call.new.event (ap (λ r. answered r call.new.event) c.in_ok-yaml_parser_parse_into.was) an_event (sym c.in-None.ensures) call.ensures.bound c.loop-event.invariant.0,
       stays_since _ _ _ c.loop-event.invariant.1 fell,
       λ ended. absurd (has_not_ended c.args.parser.now c.loop-event.parser c.loop-event.invariant.2 run ended),
     )
