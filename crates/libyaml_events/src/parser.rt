@@ -167,12 +167,12 @@ pub fn yaml_parser_set_max_entries<S>(parser: &mut yaml_parser_t<S>, n: i32)
 }
 
 impl<S> yaml_parser_t<S> {
-    /// Returns the fault that the parser keeps, or one that is equal to `NO_FAULT` where it keeps none.
+    /// Returns the fault that the parser keeps, or `NO_FAULT` where it keeps none.
     ///
     /// libyaml: the fields of `yaml_parser_t` from `error` to `context_mark`.
     pub fn prefix(&self) -> &yaml_parser_t_prefix
         ensures kept { fault_of result.now ≡ kept_fault self.now }
-        // before a fault it is equal to `NO_FAULT`
+        // before a fault it is `NO_FAULT`
         ensures before_fault { ForHistory self.now (λ _ _. fault_of result.now ≡ no_fault) }
     {
         self.machine.kept_prefix()
@@ -215,7 +215,7 @@ impl<S> yaml_parser_t<S> {
 }
 
 impl<S> Machine<S> {
-    /// Returns the fault that is kept, or one that is equal to `NO_FAULT`.
+    /// Returns the fault that is kept, or `NO_FAULT`.
     fn kept_prefix(&self) -> &yaml_parser_t_prefix
         ensures { fault_of result.now ≡ self.now.config.fault }
     {

@@ -48,7 +48,7 @@ pub fn one_loads()
 {}
 
 /// The loads of a run, whatever cuts it off: the graphs of its whole documents, up to the first composer
-/// fault, and then the composer error of the document that is open, if it has one, and else how the run
+/// error, and then the composer error of the document that is open, if it has one, and else how the run
 /// ends.
 pub fn loads_of_run()
     ensures of_run { (l : List Token) (f : Fault) (a : List Load) (h : IsLoads l f a)
@@ -143,7 +143,7 @@ pub fn enough_room()
 {}
 
 /// The bound is exact: nothing stops a load within the bound n exactly where its document has no composer
-/// fault and none of its lists needs more than n entries.
+/// error and none of its lists needs more than n entries.
 pub fn bound_is_exact()
     ensures { (l : List Part) (n : ℕ)
         → (first_stop n [] [] l ≡ None) ↔ ((composer_fault [] l ≡ None) × StaysWithin n l) }

@@ -64,7 +64,7 @@ impl loader_ctx {
         }
     }
 
-    /// Returns the document, which ends at `end_mark`, by an implicit or an explicit end.
+    /// Ends the document at `end_mark`, implicitly or explicitly, and returns it.
     pub fn into_document(self, implicit: bool, end_mark: yaml_mark_t) -> yaml_document_t
         ensures { result ≡ ended_document self.document implicit end_mark }
     {
@@ -123,7 +123,7 @@ impl loader_ctx {
         }
     }
 
-    /// Puts the node that has this anchor into the innermost open collection once more, by its id.
+    /// Puts the id of the node with this anchor into the innermost open collection.
     ///
     /// libyaml: `yaml_parser_load_alias`.
     fn yaml_parser_load_alias(

@@ -1,12 +1,12 @@
 //! Numbers and marks that begin at an index of a line.
 //!
-//! Each function takes the index `at` where it begins to read, and returns the index where it stopped. A
-//! number has a digit, so none ends at the index 0: that 0 says that there was no number, or no mark.
+//! A function that reads begins at the index `at` of the line, and returns the index where it stopped. A
+//! number has at least one digit, so none stops at the index 0. The functions return 0 for "no number" and
+//! "no mark".
 //!
-//! Elsewhere this would be an `Option`. Here it is a 0 for speed, since each token has six numbers: a
-//! `NumberRead` has 16 bytes and is returned in two registers, and an `Option` of it would have 24 and be
-//! returned in memory. Outside this file the 0 becomes an `Option` (`number.rt`) or an error
-//! (`token_line.rt`).
+//! That 0 is there in place of an `Option` for speed, since each token has six numbers: a `NumberRead` has
+//! 16 bytes and is returned in two registers, while an `Option` of it would have 24 and be returned in
+//! memory. Outside this file the 0 becomes an `Option` (`number.rt`) or an error (`token_line.rt`).
 ghost use Rattle.std.specs.Prelude.{◌≡◌, ◌+◌, ◌≤◌, ◌<◌, Some, None, true, false, length, drop};
 ghost use Rattle.line_reading.specs.Front.{behind_first, behind_field, further, number_at, mark_at};
 ghost use Rattle.line_reading.specs.Front.{HasDigits};
