@@ -114,7 +114,8 @@ pub fn yaml_parser_parse_into<S: yaml_token_source_t>(
     parser: &mut yaml_parser_t<S>,
     event: &mut yaml_event_t,
 ) -> Result<(), yaml_error_type_t>
-    ensures { ParsesNext S.gives S.bound S.known S.may_break parser.old (answered result event.new) parser.new }
+    ensures { ParsesNext S.gives S.bound S.known S.may_break parser.old (answered result event.new)
+        parser.new }
 {
     parser.next_event_into(event)
 }

@@ -221,9 +221,11 @@ impl loader_ctx {
     fn load_node(&mut self, anchor: Option<String>, node: yaml_node_t) -> Result<NodeId, Refusal>
         requires ids { IdsAreIn (loader_of self.old) }
         requires childless { ids_of node.content ≡ [] }
-        ensures ok { IfOk result (λ id. NodeLoaded self.old self.new id (option_map string_bytes anchor) node) }
+        ensures ok { IfOk result
+            (λ id. NodeLoaded self.old self.new id (option_map string_bytes anchor) node) }
         ensures err { IfErr result (λ r. RefusesAnchor
-            (register (option_map string_bytes anchor) (suc (length self.old.document.nodes)) node.start_mark self.old.anchors)
+            (register (option_map string_bytes anchor) (suc (length self.old.document.nodes)) node.start_mark
+            self.old.anchors)
             node.start_mark r) }
     {
         let mark = node.start_mark;

@@ -9,7 +9,8 @@ ghost use Rattle.libyaml_events.specs.parsers.EventsLeft.{events_left};
 ghost use Rattle.libyaml_events.specs.parsers.Stages.{is_event};
 ghost use Rattle.libyaml_grammar.specs.runs.Runs.{Ending};
 ghost use Rattle.libyaml_events.specs.sources.RunToCome.{RunToCome};
-ghost use Rattle.libyaml_events.specs.sources.History.{ForHistory, between_documents, is_over, has_failed, kept_fault};
+ghost use Rattle.libyaml_events.specs.sources.History.{ForHistory, between_documents, is_over};
+ghost use Rattle.libyaml_events.specs.sources.History.{has_failed, kept_fault};
 ghost use Rattle.libyaml_graphs.specs.Bounds.{next_bounded};
 ghost use Rattle.libyaml_graphs.specs.Loader as machine;
 ghost use Rattle.libyaml_graphs.specs.Loads.{left_over};
@@ -88,7 +89,8 @@ pub fn yaml_parser_load<S: yaml_token_source_t>(
         → LoadsFrom S.gives S.known S.may_break (next_bounded (magnitude parser.old.max_entries)) left_over
         parser.old result parser.new }
     // a document without nodes is returned only where the parser has ended
-    ensures without_root { IfOk result (λ d. d.nodes ≡ [] → ForHistory parser.old (λ _ _. HasEnded parser.new)) }
+    ensures without_root { IfOk result (λ d. d.nodes ≡ []
+        → ForHistory parser.old (λ _ _. HasEnded parser.new)) }
     // over a source that knows its tokens, by the run that is to come
     ensures next_load { (events : List yaml_event_t) (ending : Ending)
         → RunToCome S.known parser.old events ending

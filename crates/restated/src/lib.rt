@@ -1,5 +1,5 @@
-//! The public theorems as a user states them: each is the contract of a small function here, over the words that
-//! `unsafe_libyaml` and `token_lines` pass on, and is proved by a call of the public function.
+//! The public theorems as a user states them: each is the contract of a small function here, over the words
+//! that `unsafe_libyaml` and `token_lines` pass on, and is proved by a call of the public function.
 #![tactic(auto)]
 
 mod laws;

@@ -5,7 +5,8 @@ ghost use Rattle.unsafe_libyaml.specs.Bounds.{next_bounded};
 ghost use Rattle.unsafe_libyaml.specs.Documents.{empty_document};
 ghost use Rattle.unsafe_libyaml.specs.Events.{Event};
 ghost use Rattle.unsafe_libyaml.specs.EventsLeft.{events_left};
-ghost use Rattle.unsafe_libyaml.specs.History.{ForHistory, between_documents, has_failed, is_over, kept_fault};
+ghost use Rattle.unsafe_libyaml.specs.History.{ForHistory, between_documents, is_over};
+ghost use Rattle.unsafe_libyaml.specs.History.{has_failed, kept_fault};
 ghost use Rattle.unsafe_libyaml.specs.Ids.{magnitude};
 ghost use Rattle.unsafe_libyaml.specs.Loading.{HasEnded, LoadsFrom};
 ghost use Rattle.unsafe_libyaml.specs.Loads.{left_over};
@@ -37,7 +38,8 @@ pub fn load<S: yaml_token_source_t>(
     ensures loads { has_failed parser.old ≡ false
         → LoadsFrom S.gives S.known S.may_break (next_bounded (magnitude parser.old.max_entries)) left_over
         parser.old result parser.new }
-    ensures without_root { IfOk result (λ d. d.nodes ≡ [] → ForHistory parser.old (λ _ _. HasEnded parser.new)) }
+    ensures without_root { IfOk result (λ d. d.nodes ≡ []
+        → ForHistory parser.old (λ _ _. HasEnded parser.new)) }
     ensures next_load { (events : List Event) (ending : Ending)
         → RunToCome S.known parser.old events ending
         → UnlessBroken S.may_break result parser.new

@@ -80,7 +80,7 @@ fn show_load<S: yaml_token_source_t>(
 ) -> Result<bool> {
     ensure!(
         yaml_parser_between_documents(parser),
-        "a load would begin amid a document"
+        "a load would begin within a document"
     );
     let answer = yaml_parser_load(parser);
     show_loaded(shown, &answer, parser.prefix())

@@ -31,8 +31,8 @@ pub struct yaml_run_t {
     pub fault: Option<yaml_parser_t_prefix>,
 }
 
-/// Returns all events of a source, and how they ended: the calls of `yaml_parser_parse` until the stream's end
-/// or a fault, as one value.
+/// Returns all events of a source, and how they ended: the calls of `yaml_parser_parse` until the stream's
+/// end or a fault, as one value.
 ///
 /// # Errors
 ///

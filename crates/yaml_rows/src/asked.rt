@@ -9,8 +9,8 @@ use unsafe_libyaml::{
     yaml_parser_delete, yaml_parser_initialize, yaml_parser_t, yaml_token_source_t,
 };
 
-/// Whether the tokens that each call has asked for are those that are wanted: a number a line, up to the first
-/// call that gives no event.
+/// Whether the tokens that each call has asked for are those that are wanted: a number a line, up to the
+/// first call that gives no event.
 pub fn is_counted(alloc: Global, tokens: &str, wanted: &str) -> bool {
     let mut counts = String::new(alloc);
     let is_written = write_counts(alloc, tokens, &mut counts).is_ok();

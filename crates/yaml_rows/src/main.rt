@@ -1,8 +1,8 @@
 //! Lists of tokens with what they give, which stand as files in `data`, and the calls that no list shows.
 //!
-//! Each folder of `data` is a table. Its `index` has a line for each list: a name, the texts that the list has
-//! besides its events and nodes, and what it shows. The program compares every text of every list and makes
-//! the calls; it counts both, and names each text and each call that differs.
+//! Each folder of `data` is a table. Its `index` has a line for each list: a name, the texts that the list
+//! has besides its events and nodes, and what it shows. The program compares every text of every list and
+//! makes the calls; it counts both, and names each text and each call that differs.
 #![tactic(auto)]
 
 mod asked;
