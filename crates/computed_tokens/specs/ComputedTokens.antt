@@ -1,7 +1,6 @@
 -- A source that computes its tokens.
 use Rattle.std.specs.Prelude.{◌≡◌, ℕ, ◌+◌, ◌-◌, ◌*◌, ◌<◌, Ok, Err}
-use Rattle.unsafe_libyaml.specs.Fault.{Fault, Answer}
-use Rattle.unsafe_libyaml.specs.FaultTexts.{memory_fault}
+use Rattle.unsafe_libyaml.specs.Fault.{Fault, Answer, memory_fault}
 use Rattle.computed_tokens.specs.declared.list.GrowingList.{GrowingList}
 use Rattle.computed_tokens.specs.declared.list.GrowingList.TheVariants.{NestedSequences, NestedPairs, DocumentEnds, Documents, Aliases, TagDirectives}
 

@@ -1,8 +1,7 @@
 //! A source of tokens that are computed.
 
 ghost use Rattle.std.specs.Prelude.{◌≡◌, None};
-ghost use Rattle.unsafe_libyaml.specs.Fault.{source_fault};
-ghost use Rattle.unsafe_libyaml.specs.FaultTexts.{memory_fault};
+ghost use Rattle.unsafe_libyaml.specs.Fault.{memory_fault, source_fault};
 ghost use Rattle.computed_tokens.specs.ComputedTokens.{Gives, length_of};
 ghost use Rattle.computed_tokens.specs.ComputedTokensLaws.{computed_repeats};
 
