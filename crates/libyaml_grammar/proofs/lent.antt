@@ -3,6 +3,7 @@ pub mod Lists
 pub mod Given
 pub mod Positions
 pub mod Reading
+pub mod ReadSteps
 pub mod RowKinds
 pub mod Fronts
 pub mod Headline

@@ -1,31 +1,25 @@
 -- Where reading stops with a cut tree, it has the tokens read, and fits.
-use Rattle.std.proofs.Common.{◌≡◌, List, [], ◌∷◌, ◌++◌, Option, Some, None, refl, sym, ap, ◌∙◌, subst, ◌⊎◌, inl, inr, Bool, true, false}
-use Rattle.libyaml_grammar.specs.sentences.Tokens.{Alias, AliasName, Anchor, AnchorName, BlockEntry, BlockMappingStart, BlockSequenceStart, Content}
-use Rattle.libyaml_grammar.specs.sentences.Tokens.{DocumentEnd, DocumentStart, FlowEntry, FlowMappingEnd, FlowMappingStart, FlowSequenceEnd}
-use Rattle.libyaml_grammar.specs.sentences.Tokens.{FlowSequenceStart, HandleDeclared, Key, Marks, Scalar, StreamEnd, StreamStart, Tag, TagDirective, TagName}
-use Rattle.libyaml_grammar.specs.sentences.Tokens.{Token, Value, VersionAsked, VersionDirective, marks_of, tok}
-use Rattle.libyaml_grammar.specs.sentences.Trees.{Before, BlockItems, BlockSlot, Directive, Directives, Documents, FlowLast, FlowMember, FlowSlot, Free}
-use Rattle.libyaml_grammar.specs.sentences.Trees.{Parts, Properties, Sort, Stream, alone, anchor, anchor_tag, behind, directive, ended, free, indentless}
-use Rattle.libyaml_grammar.specs.sentences.Trees.{last, mapping, no_directives, no_last, no_value, opened, pair, part, sequence, tag, tag_anchor}
-use Rattle.libyaml_grammar.specs.sentences.Trees.{tag_directive, version}
+use Rattle.std.proofs.Common.{◌≡◌, List, [], ◌∷◌, ◌++◌, Some, None, refl, sym, ap, ◌∙◌, subst, ◌⊎◌, inl, inr, Bool, true, false}
+use Rattle.libyaml_grammar.specs.sentences.Tokens.{Content, HandleDeclared, Marks, Tag, TagDirective, TagName, Token, VersionAsked, VersionDirective, marks_of}
+use Rattle.libyaml_grammar.specs.sentences.Tokens.{tok}
+use Rattle.libyaml_grammar.specs.sentences.Trees.{Directive, Directives, FlowNode, Stream, alone, anchor, anchor_tag, behind, directive, free, no_directives}
+use Rattle.libyaml_grammar.specs.sentences.Trees.{tag, tag_anchor, tag_directive, version}
 use Rattle.libyaml_grammar.specs.sentences.Order.{is_known}
-use Rattle.libyaml_grammar.specs.cuts.CutTrees.{BlockPlace, Cut, Open, PartPlace, Place, at_tag, at_tag_behind, before_stream, block, content_due}
-use Rattle.libyaml_grammar.specs.cuts.CutTrees.{cut_in_order, cut_tokens, declared, entry, flow_entry, flow_key, flow_value, implicit_root, indentless_entry}
-use Rattle.libyaml_grammar.specs.cuts.CutTrees.{open_collection, part_place, root, separator_due, slot}
+use Rattle.libyaml_grammar.specs.sentences.Events.{Event}
+use Rattle.libyaml_grammar.specs.cuts.CutTrees.{Cut, Place, at_tag, at_tag_behind, before_stream, block, content_due, cut_in_order, cut_tokens, declared}
+use Rattle.libyaml_grammar.specs.cuts.CutTrees.{flow_entry, implicit_root, part_place, root, slot}
 use Rattle.libyaml_grammar.specs.cuts.Fits.{Fits, FitsTag, IsUnknown, IsUnknownTag}
-use Rattle.libyaml_grammar.proofs.lent.Positions.{Position, between, done, due, flow_behind, flow_due, flow_keyed, headed, in_indentless, in_mapping}
-use Rattle.libyaml_grammar.proofs.lent.Positions.{in_sequence, position_in_order, position_tokens, unopened}
-use Rattle.libyaml_grammar.proofs.lent.Reading.{Step, at_flow, at_free, at_headed, at_unopened, bad, behind_documents, behind_indentless, behind_item}
-use Rattle.libyaml_grammar.proofs.lent.Reading.{behind_key, behind_member, behind_part, behind_whole, broken, checked, close, feeds, fill_flow, goes}
-use Rattle.libyaml_grammar.proofs.lent.Reading.{is_legal, leave, on_alias, on_anchor, on_block_entry, on_block_mapping, on_block_sequence, on_due}
-use Rattle.libyaml_grammar.proofs.lent.Reading.{on_tag, or_bad, over, pending, reads, reads_all, step, then_all, without}
+use Rattle.libyaml_grammar.proofs.lent.Positions.{Position, between, done, due, flow_due, headed, in_indentless, position_in_order, position_tokens, unopened}
+use Rattle.libyaml_grammar.proofs.lent.Reading.{Step, bad, behind_whole, broken, checked, feeds, fill_flow, goes, is_legal, leave, or_bad, over, pending}
+use Rattle.libyaml_grammar.proofs.lent.Reading.{reads, reads_all, step, then_all}
 use Rattle.libyaml_grammar.proofs.lent.Cases.{HeadGoes, IsHeaded, step_handle, step_version}
-use Rattle.libyaml_grammar.proofs.trees.Edge.{cut_reads, reached}
-use Rattle.libyaml_grammar.proofs.trees.Existence.{IsTagCut, StopsAt, gives_content, gives_directive, gives_empty_end, gives_tag}
 use Rattle.libyaml_grammar.proofs.lent.Keeps.{Keeps, feeds_keep, fill_flow_keeps, leave_keeps, step_keeps}
 use Rattle.libyaml_grammar.proofs.lent.Completion.{append_nil, not_done, read_order, reads_append}
 use Rattle.libyaml_grammar.proofs.lent.OneCut.{goes_same}
 use Rattle.libyaml_grammar.proofs.lent.Orders.{Orders, fill_flow_orders, leave_orders, reads_to, step_orders}
+use Rattle.libyaml_grammar.proofs.lent.ReadSteps.{Moves, ReadStep, fails, is_alone, is_past, moves, no_stream, read_step}
+use Rattle.libyaml_grammar.proofs.trees.Edge.{cut_reads, reached}
+use Rattle.libyaml_grammar.proofs.trees.Existence.{IsTagCut, StopsAt, gives_content, gives_directive, gives_empty_end, gives_tag}
 
 -- no token is bad at a tag for grammar alone
 abbrev pub NotTagCut : Cut → Type 0
@@ -42,145 +36,23 @@ abbrev pub IsOpen : Position → Type 0
 IsOpen (done t) = ⊥
 IsOpen _ = Unit {0}
 
-no_tag_close : (c : Open) (l : FlowLast) (k : Sort) (m : Marks) (x : Cut) → NotTagCut x → NotTag (close c l k m x)
-no_tag_close (open_collection p o sequence s is) l sequence m x h = tt
-no_tag_close (open_collection p o sequence s is) l mapping m x h = h
-no_tag_close (open_collection p o mapping s is) l sequence m x h = h
-no_tag_close (open_collection p o mapping s is) l mapping m x h = tt
+whole_open : (p : Place) (x : FlowNode) → IsOpen (fill_flow p x)
+whole_open (block (root (implicit_root f))) x = tt
+whole_open (block (slot (part_place c o s ps k v))) x = tt
+whole_open _ x = tt
 
-no_tag_documents : (d : Documents) (k : Content) (m : Marks) → NotTag (behind_documents d k m)
-no_tag_documents d (StreamStart e) m = tt
-no_tag_documents d _ m = tt
+moved_open : {m : Marks} {q p : Position} {h : List Event → List Event} → Moves m q p h → IsOpen p
+moved_open (is_alone p ps) = whole_open p (alone ps)
+moved_open _ = tt
 
-no_tag_item : (c : BlockPlace) (o : Option Properties) (s : Marks) (is : BlockItems) (k : Content) (m : Marks) → NotTag (behind_item c o s is k m)
-no_tag_item c o s is BlockEntry m = tt
-no_tag_item c o s is _ m = tt
-
-no_tag_part : (c : BlockPlace) (o : Option Properties) (s : Marks) (ps : Parts) (k : Content) (m : Marks) → NotTag (behind_part c o s ps k m)
-no_tag_part c o s ps Key m = tt
-no_tag_part c o s ps _ m = tt
-
-no_tag_indentless : (c : PartPlace) (o : Option Properties) (is : BlockItems) (e : Marks) (x : BlockSlot) (k : Content) (m : Marks)
-    → NotTag (behind_indentless c o is e x k m)
-no_tag_indentless (part_place c o s ps t v) y is e x BlockEntry m = tt
-no_tag_indentless (part_place c o s ps t v) y is e x k m = no_tag_part c o s (part ps t v (indentless y is e x)) k m
-
-no_tag_member : (c : Open) (e : FlowMember) (k : Content) (m : Marks) → NotTag (behind_member c e k m)
-no_tag_member c e FlowEntry m = tt
-no_tag_member c e FlowSequenceEnd m = no_tag_close c (last e) sequence m (separator_due c e) tt
-no_tag_member c e FlowMappingEnd m = no_tag_close c (last e) mapping m (separator_due c e) tt
-no_tag_member c e _ m = tt
-
-no_tag_key : (c : Open) (e : Marks) (x : FlowSlot) (k : Content) (m : Marks) → NotTag (behind_key c e x k m)
-no_tag_key c e x Value m = tt
-no_tag_key c e x k m = no_tag_member c (pair e x no_value) k m
-
-no_tag_whole : (q : Position) (k : Content) (m : Marks) → NotTag (behind_whole q k m)
-no_tag_whole (between (behind d)) k m = no_tag_documents d k m
-no_tag_whole (between (free f)) k m = tt
-no_tag_whole (in_sequence c o s is) k m = no_tag_item c o s is k m
-no_tag_whole (in_mapping c o s ps) k m = no_tag_part c o s ps k m
-no_tag_whole (in_indentless c o is e x) k m = no_tag_indentless c o is e x k m
-no_tag_whole (flow_keyed c e x) k m = no_tag_key c e x k m
-no_tag_whole (flow_behind c e) k m = no_tag_member c e k m
-no_tag_whole _ k m = tt
-
-no_tag_or_bad : (s : Step) (p : Place) → NotTag (or_bad s (content_due p))
-no_tag_or_bad (goes q) p = tt
-no_tag_or_bad (bad x) p = tt
-no_tag_or_bad over p = tt
-
-no_tag_without : (p : Place) (o : Option Properties) (k : Content) (m : Marks) → NotTag (without p o k m)
-no_tag_without p None k m = no_tag_or_bad (behind_whole (leave p) k m) p
-no_tag_without p (Some ps) k m = no_tag_whole (fill_flow p (alone ps)) k m
-
-no_tag_anchor : (p : Place) (o : Option Properties) (a : AnchorName) (m : Marks) → NotTag (on_anchor p o a m)
-no_tag_anchor p None a m = tt
-no_tag_anchor p (Some (tag g n)) a m = tt
-no_tag_anchor p (Some (anchor x n)) a m = no_tag_without p (Some (anchor x n)) (Anchor a) m
-no_tag_anchor p (Some (anchor_tag x n g y)) a m = no_tag_without p (Some (anchor_tag x n g y)) (Anchor a) m
-no_tag_anchor p (Some (tag_anchor g n x y)) a m = no_tag_without p (Some (tag_anchor g n x y)) (Anchor a) m
-
-no_tag_tag : (p : Place) (o : Option Properties) (g : TagName) (m : Marks) → NotTag (on_tag p o g m)
-no_tag_tag p None g m = tt
-no_tag_tag p (Some (anchor a n)) g m = tt
-no_tag_tag p (Some (tag x n)) g m = no_tag_without p (Some (tag x n)) (Tag g) m
-no_tag_tag p (Some (anchor_tag a n x z)) g m = no_tag_without p (Some (anchor_tag a n x z)) (Tag g) m
-no_tag_tag p (Some (tag_anchor x z a n)) g m = no_tag_without p (Some (tag_anchor x z a n)) (Tag g) m
-
-no_tag_alias : (p : Place) (o : Option Properties) (a : AliasName) (m : Marks) → NotTag (on_alias p o a m)
-no_tag_alias p None a m = tt
-no_tag_alias p (Some ps) a m = no_tag_without p (Some ps) (Alias a) m
-
-no_tag_sequence : (p : Place) (o : Option Properties) (m : Marks) → NotTag (on_block_sequence p o m)
-no_tag_sequence (block c) o m = tt
-no_tag_sequence (flow_entry c) o m = no_tag_without (flow_entry c) o BlockSequenceStart m
-no_tag_sequence (flow_key c x) o m = no_tag_without (flow_key c x) o BlockSequenceStart m
-no_tag_sequence (flow_value c x y v) o m = no_tag_without (flow_value c x y v) o BlockSequenceStart m
-
-no_tag_mapping : (p : Place) (o : Option Properties) (m : Marks) → NotTag (on_block_mapping p o m)
-no_tag_mapping (block c) o m = tt
-no_tag_mapping (flow_entry c) o m = no_tag_without (flow_entry c) o BlockMappingStart m
-no_tag_mapping (flow_key c x) o m = no_tag_without (flow_key c x) o BlockMappingStart m
-no_tag_mapping (flow_value c x y v) o m = no_tag_without (flow_value c x y v) o BlockMappingStart m
-
-no_tag_entry : (p : Place) (o : Option Properties) (m : Marks) → NotTag (on_block_entry p o m)
-no_tag_entry (block (slot c)) o m = tt
-no_tag_entry (block (root t)) o m = no_tag_without (block (root t)) o BlockEntry m
-no_tag_entry (block (entry c x s is e)) o m = no_tag_without (block (entry c x s is e)) o BlockEntry m
-no_tag_entry (block (indentless_entry c x is e)) o m = no_tag_without (block (indentless_entry c x is e)) o BlockEntry m
-no_tag_entry (flow_entry c) o m = no_tag_without (flow_entry c) o BlockEntry m
-no_tag_entry (flow_key c x) o m = no_tag_without (flow_key c x) o BlockEntry m
-no_tag_entry (flow_value c x y v) o m = no_tag_without (flow_value c x y v) o BlockEntry m
-
-no_tag_due : (p : Place) (o : Option Properties) (k : Content) (m : Marks) → NotTag (on_due p o k m)
-no_tag_due p o (Alias a) m = no_tag_alias p o a m
-no_tag_due p o (Anchor a) m = no_tag_anchor p o a m
-no_tag_due p o (Tag g) m = no_tag_tag p o g m
-no_tag_due p o (Scalar v) m = tt
-no_tag_due p o FlowSequenceStart m = tt
-no_tag_due p o FlowMappingStart m = tt
-no_tag_due p o BlockSequenceStart m = no_tag_sequence p o m
-no_tag_due p o BlockMappingStart m = no_tag_mapping p o m
-no_tag_due p o BlockEntry m = no_tag_entry p o m
-no_tag_due p o k m = no_tag_without p o k m
-
-no_tag_free : (f : Free) (k : Content) (m : Marks) → NotTag (at_free f k m)
-no_tag_free f (VersionDirective a) m = tt
-no_tag_free f (TagDirective g) m = tt
-no_tag_free f DocumentStart m = tt
-no_tag_free (opened e s) DocumentEnd m = tt
-no_tag_free (ended e) DocumentEnd m = tt
-no_tag_free f StreamEnd m = tt
-no_tag_free f k m = no_tag_due (block (root (implicit_root f))) None k m
-
-no_tag_headed : (b : Before) (ds : Directives) (d : Directive) (k : Content) (m : Marks) → NotTag (at_headed b ds d k m)
-no_tag_headed b ds d (StreamStart y) m = tt
-no_tag_headed b ds d _ m = tt
-
-no_tag_unopened : (k : Content) (m : Marks) → NotTag (at_unopened k m)
-no_tag_unopened (StreamStart e) m = tt
-no_tag_unopened _ m = tt
-
-no_tag_flow : (c : Open) (k : Content) (m : Marks) → NotTag (at_flow c k m)
-no_tag_flow c Key m = tt
-no_tag_flow c FlowSequenceEnd m = no_tag_close c no_last sequence m (content_due (flow_entry c)) tt
-no_tag_flow c FlowMappingEnd m = no_tag_close c no_last mapping m (content_due (flow_entry c)) tt
-no_tag_flow c k m = no_tag_due (flow_entry c) None k m
+no_tag : {m : Marks} {q : Position} {k : Content} {s : Step} {g : List Event → List Event} {l : Bool} → ReadStep m q k s g l → IsOpen q → NotTag s
+no_tag is_past w = absurd w
+no_tag (moves x h) w = no_tag h (moved_open x)
+no_tag (fails no_stream) w = tt
+no_tag _ w = tt
 
 pub not_tag : (q : Position) (k : Content) (m : Marks) → IsOpen q → NotTag (step q k m)
-not_tag unopened k m w = no_tag_unopened k m
-not_tag (between (free f)) k m w = no_tag_free f k m
-not_tag (between (behind d)) k m w = no_tag_documents d k m
-not_tag (headed b ds d) k m w = no_tag_headed b ds d k m
-not_tag (due p o) k m w = no_tag_due p o k m
-not_tag (in_sequence c o s is) k m w = no_tag_item c o s is k m
-not_tag (in_mapping c o s ps) k m w = no_tag_part c o s ps k m
-not_tag (in_indentless c o is e x) k m w = no_tag_indentless c o is e x k m
-not_tag (flow_due c) k m w = no_tag_flow c k m
-not_tag (flow_keyed c e x) k m w = no_tag_key c e x k m
-not_tag (flow_behind c e) k m w = no_tag_member c e k m
-not_tag (done t) k m w = absurd w
+not_tag q k m w = no_tag (read_step m q k) w
 
 pub open_or_done : (q : Position) → IsOpen q ⊎ ((t : Stream) × (q ≡ done t))
 open_or_done (done t) = inr (t, refl)
