@@ -1,17 +1,19 @@
 -- All that one token may do at a position that is met.
 use Rattle.std.proofs.Common.{◌≡◌, List, Some, None, refl, sym, ap, ◌∙◌, subst, Bool, true, false}
+use Rattle.std.specs.Prelude.{Option}
 use Rattle.libyaml_grammar.specs.sentences.Tokens.{Content, HandleDeclared, Mark, Marks, Tag, TagDirective, TagName, VersionAsked, VersionDirective, tok}
-use Rattle.libyaml_grammar.specs.sentences.Trees.{Directive, Directives, alone, anchor, anchor_tag, behind, free, no_directives, tag, tag_anchor}
-use Rattle.libyaml_grammar.specs.sentences.Trees.{tag_directive, version}
+use Rattle.libyaml_grammar.specs.sentences.Trees.{Directive, Directives, FlowNode, alone, anchor_tag, no_directives, tag, tag_directive, version}
 use Rattle.libyaml_grammar.specs.sentences.Events.{Event}
 use Rattle.libyaml_grammar.specs.sentences.Order.{is_known}
-use Rattle.libyaml_grammar.specs.cuts.CutTrees.{Cut, at_directive, content_due, declared, part_place}
+use Rattle.libyaml_grammar.specs.cuts.CutTrees.{Cut, Place, at_directive, block, declared, implicit_root, part_place, root, slot}
 use Rattle.libyaml_grammar.specs.cuts.CutEvents.{shown_cut}
-use Rattle.libyaml_grammar.proofs.lent.Positions.{Position, between, due, flow_due, headed, in_indentless, shown}
-use Rattle.libyaml_grammar.proofs.lent.Reading.{Step, bad, behind_whole, checked, fill_flow, goes, is_legal, leave, or_bad, over, pending, reads, step}
+use Rattle.libyaml_grammar.proofs.lent.Positions.{Position, due, headed, shown}
+use Rattle.libyaml_grammar.proofs.lent.Reading.{Step, bad, checked, fill_flow, goes, is_legal, leave, over, pending, reads, step}
 use Rattle.libyaml_grammar.proofs.lent.Given.{gives}
 use Rattle.libyaml_grammar.proofs.lent.Shows.{Shows, step_shows}
 use Rattle.libyaml_grammar.proofs.lent.StepsMeet.{IsMet, Meets, step_met}
+use Rattle.libyaml_grammar.proofs.lent.ReadSteps.{Moves, ReadStep, a_tag, fails, first_handle, first_version, is_alone, is_past, leaves, moves, next_handle}
+use Rattle.libyaml_grammar.proofs.lent.ReadSteps.{next_version, read_step, tag_behind_anchor}
 
 -- a tag that grammar takes is held
 abbrev pub IsTagHeld : Position → Bool → Marks → Type 0
@@ -24,23 +26,17 @@ TagGoes (goes q) b m = IsTagHeld q b m
 TagGoes (bad c) b m = Unit {0}
 TagGoes over b m = Unit {0}
 
-whole_tag : (q : Position) (h : TagName) (m : Marks) (b : Bool) → TagGoes (behind_whole q (Tag h) m) b m
-whole_tag (in_indentless (part_place c o z ps t v) y is e x) h m b = tt
-whole_tag (between (free f)) h m b = tt
-whole_tag (between (behind d)) h m b = tt
-whole_tag _ h m b = tt
+tag_goes : {m : Marks} {q : Position} {k : Content} {s : Step} {g : List Event → List Event} {l : Bool} → ReadStep m q k s g l → (h : TagName) → k ≡ Tag h → TagGoes s l m
+tag_goes is_past h e = tt
+tag_goes (moves x v) h e = tag_goes v h e
+tag_goes (leaves p f v) h e = tag_goes v h e
+tag_goes (fails x) h e = tt
+tag_goes (a_tag p g) h e = (refl, refl)
+tag_goes (tag_behind_anchor p a n g) h e = (refl, refl)
+tag_goes _ h e = absurd cc
 
 pub step_tag : (q : Position) (h : TagName) (m : Marks) → TagGoes (step q (Tag h) m) (is_legal q (Tag h)) m
-step_tag (between (free f)) h m = (refl, refl)
-step_tag (between (behind d)) h m = tt
-step_tag (due p None) h m = (refl, refl)
-step_tag (due p (Some (anchor a x))) h m = (refl, refl)
-step_tag (due p (Some (tag g x))) h m = whole_tag (fill_flow p (alone (tag g x))) h m (is_known (declared p) h.handle)
-step_tag (due p (Some (anchor_tag a x g z))) h m = whole_tag (fill_flow p (alone (anchor_tag a x g z))) h m (is_known (declared p) h.handle)
-step_tag (due p (Some (tag_anchor g z a x))) h m = whole_tag (fill_flow p (alone (tag_anchor g z a x))) h m (is_known (declared p) h.handle)
-step_tag (in_indentless (part_place c o z ps t v) y is e x) h m = tt
-step_tag (flow_due c) h m = (refl, refl)
-step_tag _ h m = tt
+step_tag q h m = tag_goes (read_step m q (Tag h)) h refl
 
 -- a directive that the grammar takes is the last
 abbrev pub IsHeaded : Position → Directives → Directive → Type 0
@@ -52,44 +48,41 @@ HeadGoes (goes q) ds d = IsHeaded q ds d
 HeadGoes (bad c) ds d = Unit {0}
 HeadGoes over ds d = Unit {0}
 
-or_bad_head : (s : Step) (c : Cut) (ds : Directives) (d : Directive) → HeadGoes s ds d → HeadGoes (or_bad s c) ds d
-or_bad_head (goes q) c ds d h = h
-or_bad_head (bad x) c ds d h = tt
-or_bad_head over c ds d h = tt
+abbrev directive_of : Content → Marks → Option Directive
+directive_of (VersionDirective a) m = Some (version a m)
+directive_of (TagDirective h) m = Some (tag_directive h m)
+directive_of _ m = None
 
-whole_version : (q : Position) (a : VersionAsked) (m : Marks) → HeadGoes (behind_whole q (VersionDirective a) m) no_directives (version a m)
-whole_version (in_indentless (part_place c o z ps t v) y is e x) a m = tt
-whole_version (between (free f)) a m = tt
-whole_version (between (behind d)) a m = (refl, refl)
-whole_version _ a m = tt
+node_pending : (p : Place) (x : FlowNode) → pending (fill_flow p x) ≡ no_directives
+node_pending (block (root (implicit_root f))) x = refl
+node_pending (block (slot (part_place c o s ps k v))) x = refl
+node_pending _ x = refl
 
-whole_handle : (q : Position) (g : HandleDeclared) (m : Marks) → HeadGoes (behind_whole q (TagDirective g) m) no_directives (tag_directive g m)
-whole_handle (in_indentless (part_place c o z ps t v) y is e x) g m = tt
-whole_handle (between (free f)) g m = tt
-whole_handle (between (behind d)) g m = (refl, refl)
-whole_handle _ g m = tt
+moved_pending : {m : Marks} {q p : Position} {h : List Event → List Event} → Moves m q p h → pending p ≡ pending q
+moved_pending (is_alone p ps) = node_pending p (alone ps)
+moved_pending _ = refl
+
+left_pending : (p : Place) → pending (leave p) ≡ no_directives
+left_pending (block (root (implicit_root f))) = refl
+left_pending (block (slot (part_place c o s ps k v))) = refl
+left_pending _ = refl
+
+head_goes : {m : Marks} {q : Position} {k : Content} {s : Step} {g : List Event → List Event} {l : Bool} → ReadStep m q k s g l → (d : Directive) → directive_of k m ≡ Some d → HeadGoes s (pending q) d
+head_goes is_past d e = tt
+head_goes {s = s} (moves x v) d e = subst (λ (ds : Directives). HeadGoes s ds d) (moved_pending x) (head_goes v d e)
+head_goes (leaves p {x = x} f v) d e = subst (λ (ds : Directives). IsHeaded x ds d) (left_pending p) (head_goes v d e)
+head_goes (fails x) d e = tt
+head_goes (first_version b a) d e = (refl, cc)
+head_goes (first_handle b h) d e = (refl, cc)
+head_goes (next_version b ds f a) d e = (refl, cc)
+head_goes (next_handle b ds f h) d e = (refl, cc)
+head_goes _ d e = absurd cc
 
 pub step_version : (q : Position) (a : VersionAsked) (m : Marks) → HeadGoes (step q (VersionDirective a) m) (pending q) (version a m)
-step_version (between (free f)) a m = (refl, refl)
-step_version (between (behind d)) a m = (refl, refl)
-step_version (headed c ds d) a m = (refl, refl)
-step_version (due p None) a m = or_bad_head (behind_whole (leave p) (VersionDirective a) m) (content_due p) no_directives (version a m)
-    (whole_version (leave p) a m)
-step_version (due p (Some ps)) a m = whole_version (fill_flow p (alone ps)) a m
-step_version (in_indentless (part_place c o z ps t v) y is e x) a m = tt
-step_version (flow_due c) a m = tt
-step_version _ a m = tt
+step_version q a m = head_goes (read_step m q (VersionDirective a)) (version a m) refl
 
 pub step_handle : (q : Position) (g : HandleDeclared) (m : Marks) → HeadGoes (step q (TagDirective g) m) (pending q) (tag_directive g m)
-step_handle (between (free f)) g m = (refl, refl)
-step_handle (between (behind d)) g m = (refl, refl)
-step_handle (headed c ds d) g m = (refl, refl)
-step_handle (due x None) g m = or_bad_head (behind_whole (leave x) (TagDirective g) m) (content_due x) no_directives (tag_directive g m)
-    (whole_handle (leave x) g m)
-step_handle (due x (Some ps)) g m = whole_handle (fill_flow x (alone ps)) g m
-step_handle (in_indentless (part_place c o z ps t v) y is e x) g m = tt
-step_handle (flow_due c) g m = tt
-step_handle _ g m = tt
+step_handle q g m = head_goes (read_step m q (TagDirective g)) (tag_directive g m) refl
 
 -- What a token does at a position: it goes on; it is bad, with the events of its place; or it is a tag that is found
 -- unknown later.

@@ -5,17 +5,16 @@ use Rattle.libyaml_grammar.specs.sentences.Tokens.{Marks, Token, empty_plain, ze
 use Rattle.libyaml_grammar.specs.sentences.Trees.{BlockNode, FlowNode, Stream, behind, block_mapping, block_sequence, collection, directive, explicit, flow}
 use Rattle.libyaml_grammar.specs.sentences.Trees.{flow_node, free, implicit, indentless, item, last, mapping, no_directives, no_last, no_value, node, nothing}
 use Rattle.libyaml_grammar.specs.sentences.Trees.{opened, pair, part, scalar, sequence, single, slot_of, tokens, whole, with_value}
-use Rattle.libyaml_grammar.specs.cuts.CutTrees.{BlockPlace, Cut, Place, at_directive, at_tag, at_tag_behind, before_stream, block, content_due, cut_in_order}
-use Rattle.libyaml_grammar.specs.cuts.CutTrees.{cut_tokens, document_due, entry, entry_due, explicit_root, flow_entry, flow_key, flow_value, implicit_root}
-use Rattle.libyaml_grammar.specs.cuts.CutTrees.{indentless_entry, open_collection, part_due, part_place, root, separator_due, slot, start_due}
-use Rattle.libyaml_grammar.specs.cuts.Rest.{any_encoding, rest, rest_block_place, rest_place}
 use Rattle.libyaml_grammar.specs.sentences.Sentences.{IsBeginning, IsSentence}
+use Rattle.libyaml_grammar.specs.cuts.CutTrees.{BlockPlace, Cut, Place, at_directive, block, cut_in_order, cut_tokens, entry, explicit_root, flow_entry}
+use Rattle.libyaml_grammar.specs.cuts.CutTrees.{flow_key, flow_value, implicit_root, indentless_entry, open_collection, part_place, root, slot}
+use Rattle.libyaml_grammar.specs.cuts.Rest.{any_encoding, rest, rest_block_place, rest_place}
 use Rattle.libyaml_grammar.proofs.lent.Positions.{Position, between, done, due, flow_behind, flow_due, flow_keyed, headed, in_indentless, in_mapping}
 use Rattle.libyaml_grammar.proofs.lent.Positions.{in_sequence, position_in_order, position_rest, position_tokens, stand, unopened}
 use Rattle.libyaml_grammar.proofs.lent.Reading.{Step, bad, feeds, fill, fill_flow, goes, over, reads, reads_all, then_all}
-use Rattle.libyaml_grammar.proofs.trees.Complete.{stream_reads}
 use Rattle.libyaml_grammar.proofs.lent.Keeps.{feeds_keep}
 use Rattle.libyaml_grammar.proofs.lent.Orders.{feeds_order, reads_from, reads_to, tests}
+use Rattle.libyaml_grammar.proofs.trees.Complete.{stream_reads}
 
 -- one tree
 done_same : (s t : Stream) → goes (done s) ≡ goes (done t) → s ≡ t
@@ -77,43 +76,16 @@ position_begins m q h =
     }
 
 stand_tokens : (c : Cut) (r : List Token) → position_tokens (stand c) r ≡ cut_tokens c r
-stand_tokens before_stream r = refl
-stand_tokens (document_due d) r = refl
-stand_tokens (start_due b ds d) r = refl
 stand_tokens (at_directive b no_directives) r = refl
-stand_tokens (at_directive b (directive ds d)) r = refl
-stand_tokens (content_due p) r = refl
-stand_tokens (at_tag p) r = refl
-stand_tokens (at_tag_behind p a m) r = refl
-stand_tokens (entry_due c o m is) r = refl
-stand_tokens (part_due c o m ps) r = refl
-stand_tokens (separator_due c e) r = refl
+stand_tokens _ r = refl
 
 stand_order : (c : Cut) (r : Bool) → position_in_order (stand c) r ≡ cut_in_order c r
-stand_order before_stream r = refl
-stand_order (document_due d) r = refl
-stand_order (start_due b ds d) r = refl
 stand_order (at_directive b no_directives) r = refl
-stand_order (at_directive b (directive ds d)) r = refl
-stand_order (content_due p) r = refl
-stand_order (at_tag p) r = refl
-stand_order (at_tag_behind p a m) r = refl
-stand_order (entry_due c o m is) r = refl
-stand_order (part_due c o m ps) r = refl
-stand_order (separator_due c e) r = refl
+stand_order _ r = refl
 
 stand_rest : (m : Marks) (c : Cut) → position_rest m (stand c) ≡ rest m c
-stand_rest m before_stream = refl
-stand_rest m (document_due d) = refl
-stand_rest m (start_due b ds d) = refl
 stand_rest m (at_directive b no_directives) = refl
-stand_rest m (at_directive b (directive ds d)) = refl
-stand_rest m (content_due p) = refl
-stand_rest m (at_tag p) = refl
-stand_rest m (at_tag_behind p a n) = refl
-stand_rest m (entry_due c o n is) = refl
-stand_rest m (part_due c o n ps) = refl
-stand_rest m (separator_due c e) = refl
+stand_rest m _ = refl
 
 pub cut_begins_proof : (c : Cut) → cut_in_order c true ≡ true → IsSentence (cut_tokens c (rest zero_marks c))
 cut_begins_proof c h = subst IsSentence (ap (position_tokens (stand c)) (stand_rest zero_marks c)

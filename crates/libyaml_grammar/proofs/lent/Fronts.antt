@@ -1,96 +1,48 @@
 -- Each beginning that is no sentence has one front tree: the cut tree at which a NO-TOKEN, bad everywhere, is bad.
 use Rattle.std.proofs.Common.{◌≡◌, List, [], ◌∷◌, ◌++◌, Option, Some, None, true, false, refl, sym, ap, ◌∙◌, subst}
-use Rattle.libyaml_grammar.specs.cuts.CutTrees.{Cut, Place, at_directive, at_tag, at_tag_behind, before_stream, block, content_due, document_due, entry}
-use Rattle.libyaml_grammar.specs.cuts.CutTrees.{entry_due, explicit_root, flow_entry, flow_key, flow_value, implicit_root, indentless_entry, part_due}
-use Rattle.libyaml_grammar.specs.cuts.CutTrees.{part_place, root, separator_due, slot, start_due}
-use Rattle.libyaml_grammar.specs.cuts.Fits.{EndsEmpty, Fits, FitsDirective, FitsTag, WantsContent, ends_empty, last_empty}
-use Rattle.libyaml_grammar.proofs.lent.Positions.{Position, between, done, due, flow_behind, flow_due, flow_keyed, headed, in_indentless, in_mapping}
-use Rattle.libyaml_grammar.proofs.lent.Positions.{in_sequence, unopened}
-use Rattle.libyaml_grammar.proofs.lent.Reading.{Step, bad, feeds, goes, over, reads, reads_all, then_all}
 use Rattle.libyaml_grammar.specs.sentences.Sentences.{IsBeginning}
+use Rattle.libyaml_grammar.specs.sentences.Tokens.{Marks, NoToken, Token, marks_of, tok}
+use Rattle.libyaml_grammar.specs.sentences.Trees.{Properties, Stream, alone, directive, free, tag, tokens}
+use Rattle.libyaml_grammar.specs.cuts.CutTrees.{Cut, Place, at_directive, at_tag, at_tag_behind, block, content_due, document_due, implicit_root}
+use Rattle.libyaml_grammar.specs.cuts.CutTrees.{indentless_entry, part_place, root, slot, start_due}
+use Rattle.libyaml_grammar.specs.cuts.Fits.{EndsEmpty, Fits, FitsDirective, FitsTag, WantsContent, ends_empty, last_empty}
 use Rattle.libyaml_grammar.specs.cuts.Settled.{IsFront, IsFrontPlace}
-use Rattle.libyaml_grammar.specs.sentences.Tokens.{Marks, NoToken, Token, tok, marks_of}
-use Rattle.libyaml_grammar.specs.sentences.Trees.{Properties, Stream, alone, behind, free, indentless, no_value, pair, part}
+use Rattle.libyaml_grammar.proofs.lent.Positions.{Position, between, done, due, in_indentless, unopened}
+use Rattle.libyaml_grammar.proofs.lent.Reading.{Step, bad, feeds, goes, over, reads, reads_all, then_all}
 use Rattle.libyaml_grammar.proofs.lent.Completion.{not_done, reads_append}
-use Rattle.libyaml_grammar.proofs.trees.Edge.{cut_reads, reached}
 use Rattle.libyaml_grammar.proofs.lent.Fitting.{stops_fits}
-use Rattle.libyaml_grammar.proofs.lent.OneCut.{edge_order, filled, fits_stop, one_cut_proof}
+use Rattle.libyaml_grammar.proofs.lent.OneCut.{edge_order, fits_stop, one_cut_proof}
+use Rattle.libyaml_grammar.proofs.lent.ReadSteps.{IsNotDone, filled, front}
 use Rattle.libyaml_grammar.proofs.lent.Orders.{feeds_order, reads_from}
-
-abbrev pub front : Position → Cut
-front unopened = before_stream
-front (between (free f)) = content_due (block (root (implicit_root f)))
-front (between (behind d)) = document_due d
-front (headed b ds d) = start_due b ds d
-front (due p None) = content_due p
-front (due p (Some ps)) = filled p (alone ps)
-front (in_sequence c o s is) = entry_due c o s is
-front (in_mapping c o s ps) = part_due c o s ps
-front (in_indentless (part_place c o s ps k v) y is e x) = part_due c o s (part ps k v (indentless y is e x))
-front (flow_due c) = content_due (flow_entry c)
-front (flow_keyed c e x) = separator_due c (pair e x no_value)
-front (flow_behind c e) = separator_due c e
-front (done t) = before_stream
-
-abbrev pub IsNotDone : Position → Type 0
-IsNotDone (done t) = ⊥
-IsNotDone _ = Unit {0}
+use Rattle.libyaml_grammar.proofs.trees.Edge.{cut_reads, reached}
 
 nothing_stops : (p : Place) (m : Marks) → reads (due p None) (tok NoToken m) ≡ bad (content_due p)
 nothing_stops (block (root (implicit_root f))) m = refl
-nothing_stops (block (root (explicit_root b ds s))) m = refl
-nothing_stops (block (entry c o s is e)) m = refl
 nothing_stops (block (slot (part_place c o s ps k v))) m = refl
 nothing_stops (block (indentless_entry (part_place c o s ps k v) y is e)) m = refl
-nothing_stops (flow_entry c) m = refl
-nothing_stops (flow_key c e) m = refl
-nothing_stops (flow_value c e x v) m = refl
+nothing_stops _ m = refl
 
 alone_stops : (p : Place) (ps : Properties) (m : Marks) → reads (due p (Some ps)) (tok NoToken m) ≡ bad (filled p (alone ps))
 alone_stops (block (root (implicit_root f))) ps m = refl
-alone_stops (block (root (explicit_root b ds s))) ps m = refl
-alone_stops (block (entry c o s is e)) ps m = refl
 alone_stops (block (slot (part_place c o s qs k v))) ps m = refl
 alone_stops (block (indentless_entry (part_place c o s qs k v) y is e)) ps m = refl
-alone_stops (flow_entry c) ps m = refl
-alone_stops (flow_key c e) ps m = refl
-alone_stops (flow_value c e x v) ps m = refl
+alone_stops _ ps m = refl
 
 pub none_stops : (q : Position) (m : Marks) → IsNotDone q → reads q (tok NoToken m) ≡ bad (front q)
-none_stops unopened m n = refl
 none_stops (between (free f)) m n = refl
-none_stops (between (behind d)) m n = refl
-none_stops (headed b ds d) m n = refl
 none_stops (due p None) m n = nothing_stops p m
 none_stops (due p (Some ps)) m n = alone_stops p ps m
-none_stops (in_sequence c o s is) m n = refl
-none_stops (in_mapping c o s ps) m n = refl
 none_stops (in_indentless (part_place c o s ps k v) y is e x) m n = refl
-none_stops (flow_due c) m n = refl
-none_stops (flow_keyed c e x) m n = refl
-none_stops (flow_behind c e) m n = refl
 none_stops (done t) m n = absurd n
+none_stops _ m n = refl
 
 -- no ends_empty has it
-not_in_row : (p : Place) → ends_empty p NoToken ≡ true → ⊥
-not_in_row (block (root (implicit_root f))) e = cc
-not_in_row (block (root (explicit_root b ds m))) e = cc
-not_in_row (block (entry c o m is e)) f = cc
-not_in_row (block (slot c)) e = cc
-not_in_row (block (indentless_entry c o is e)) f = cc
-not_in_row (flow_entry c) e = cc
-not_in_row (flow_key c e) f = cc
-not_in_row (flow_value c e x v) f = cc
-
 row_lacks : (p : Place) → ends_empty p NoToken ≡ false
 row_lacks (block (root (implicit_root f))) = refl
-row_lacks (block (root (explicit_root b ds m))) = refl
-row_lacks (block (entry c o m is e)) = refl
-row_lacks (block (slot c)) = refl
-row_lacks (block (indentless_entry c o is e)) = refl
-row_lacks (flow_entry c) = refl
-row_lacks (flow_key c e) = refl
-row_lacks (flow_value c e x v) = refl
+row_lacks _ = refl
+
+not_in_row : (p : Place) → ends_empty p NoToken ≡ true → ⊥
+not_in_row p e = let f = row_lacks p in cc
 
 none_empty : (o : Option Place) → EndsEmpty o NoToken → o ≡ None
 none_empty None h = refl

@@ -44,7 +44,7 @@ retold (goes x) p q t e h = λ r. h r ∙ e (t ∷ r)
 retold (bad x) p q t e h = λ r. h r ∙ e r
 retold over p q t e h = tt
 
-moved_tokens : {m : Marks} {q p : Position} {h : List Event → List Event} → Moves m q p h → (r : List Token) → position_tokens p r ≡ position_tokens q r
+pub moved_tokens : {m : Marks} {q p : Position} {h : List Event → List Event} → Moves m q p h → (r : List Token) → position_tokens p r ≡ position_tokens q r
 moved_tokens (is_alone p ps) r = fill_flow_keeps p (alone ps) r
 moved_tokens _ r = refl
 

@@ -47,7 +47,7 @@ retold (goes x) p q b e h = λ r. h r ∙ e (both b r)
 retold (bad x) p q b e h = λ r. h r ∙ e r
 retold over p q b e h = tt
 
-moved_order : {m : Marks} {q p : Position} {h : List Event → List Event} → Moves m q p h → (r : Bool) → position_in_order p r ≡ position_in_order q r
+pub moved_order : {m : Marks} {q p : Position} {h : List Event → List Event} → Moves m q p h → (r : Bool) → position_in_order p r ≡ position_in_order q r
 moved_order (is_alone p ps) r = fill_flow_orders p (alone ps) r
 moved_order _ r = refl
 

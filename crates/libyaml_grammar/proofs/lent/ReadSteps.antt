@@ -350,3 +350,46 @@ module _ (m : Marks) where
   read_step (flow_keyed c e x) k = key_step c e x k no_directives
   read_step (flow_behind c e) k = member_step c e k no_directives
   read_step (done t) k = is_past
+
+-- before the stream's end each token is looked at
+abbrev pub IsNotDone : Position → Type 0
+IsNotDone (done t) = ⊥
+IsNotDone _ = Unit {0}
+
+pub node_open : (p : Place) (x : FlowNode) → IsNotDone (fill_flow p x)
+node_open (block (root (implicit_root f))) x = tt
+node_open (block (slot (part_place c o s ps k v))) x = tt
+node_open _ x = tt
+
+pub moved_open : {m : Marks} {q p : Position} {h : List Event → List Event} → Moves m q p h → IsNotDone p
+moved_open (is_alone p ps) = node_open p (alone ps)
+moved_open _ = tt
+
+pub not_past : {m : Marks} {q : Position} {k : Content} {s : Step} {g : List Event → List Event} {l : Bool} → ReadStep m q k s g l → IsNotDone q → s ≡ over → ⊥
+not_past is_past w e = w
+not_past (moves x h) w e = not_past h (moved_open x) e
+not_past _ w e = cc
+
+-- the cut at which a token is bad after what is whole, and where it is bad at a position
+abbrev pub front_behind : Position → Cut
+front_behind (between (behind d)) = document_due d
+front_behind (in_sequence c o s is) = entry_due c o s is
+front_behind (in_mapping c o s ps) = part_due c o s ps
+front_behind (in_indentless (part_place c o s ps t v) y is e x) = part_due c o s (part ps t v (indentless y is e x))
+front_behind (flow_keyed c e x) = separator_due c (pair e x no_value)
+front_behind (flow_behind c e) = separator_due c e
+front_behind _ = before_stream
+
+abbrev pub filled_block : BlockPlace → BlockNode → Cut
+filled_block c x = front_behind (fill c x)
+
+abbrev pub filled : Place → FlowNode → Cut
+filled p x = front_behind (fill_flow p x)
+
+abbrev pub front : Position → Cut
+front (between (free f)) = content_due (block (root (implicit_root f)))
+front (headed b ds d) = start_due b ds d
+front (due p None) = content_due p
+front (due p (Some ps)) = filled p (alone ps)
+front (flow_due c) = content_due (flow_entry c)
+front q = front_behind q

@@ -15,7 +15,8 @@ use Rattle.libyaml_grammar.specs.sentences.Tokens.{Token}
 use Rattle.libyaml_grammar.specs.sentences.Trees.{Stream, tokens}
 use Rattle.libyaml_grammar.proofs.lent.Completion.{append_nil, reached_begins, read_order}
 use Rattle.libyaml_grammar.proofs.lent.Fitting.{stops_fits}
-use Rattle.libyaml_grammar.proofs.lent.Fronts.{front, front_of}
+use Rattle.libyaml_grammar.proofs.lent.Fronts.{front_of}
+use Rattle.libyaml_grammar.proofs.lent.ReadSteps.{front}
 use Rattle.libyaml_grammar.proofs.lent.Keeps.{feeds_keep}
 use Rattle.libyaml_grammar.proofs.lent.Orders.{reads_to}
 use Rattle.libyaml_grammar.proofs.lent.Running.{amid_run, begin_run, cut_run, sentence_run}

@@ -21,7 +21,8 @@ use Rattle.libyaml_grammar.specs.sentences.Trees.{Directives, Stream, tokens}
 use Rattle.libyaml_grammar.proofs.lent.Completion.{Stops, append_nil, goes_or_stops, reached_begins, read_order, reads_append, sentence_reads}
 use Rattle.libyaml_grammar.proofs.trees.Edge.{reached}
 use Rattle.libyaml_grammar.proofs.lent.Fitting.{over_done, stops_fits}
-use Rattle.libyaml_grammar.proofs.lent.Fronts.{IsNotDone, begin_reads}
+use Rattle.libyaml_grammar.proofs.lent.Fronts.{begin_reads}
+use Rattle.libyaml_grammar.proofs.lent.ReadSteps.{IsNotDone}
 use Rattle.libyaml_grammar.proofs.lent.Keeps.{feeds_keep}
 use Rattle.libyaml_grammar.proofs.lent.OneCut.{bad_same, fits_reach, fits_stop, goes_same}
 use Rattle.libyaml_grammar.proofs.lent.Orders.{reads_to}

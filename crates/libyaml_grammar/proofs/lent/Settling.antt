@@ -1,60 +1,52 @@
 -- What a front tree settles is what its sentences' events have in common.
 use Rattle.std.proofs.Common.{◌≡◌, ◌↔◌, ℕ, List, [], ◌∷◌, ◌++◌, None, Bool, true, false, refl, sym, ap, ◌∙◌, subst, append_assoc, append-nil, arith}
+use Rattle.libyaml_types.specs.Events.{zero_mark}
+use Rattle.libyaml_grammar.specs.sentences.Events.{Event, events, first_block, first_flow}
+use Rattle.libyaml_grammar.specs.sentences.Order.{in_order}
+use Rattle.libyaml_grammar.specs.sentences.Sentences.{IsBeginning, has_end}
+use Rattle.libyaml_grammar.specs.sentences.Tokens.{Mark, Marks, Token}
+use Rattle.libyaml_grammar.specs.sentences.Trees.{BlockNode, FlowNode, Stream, alone, empty, explicit, flow, flow_node, flow_nothing, implicit, indentless}
+use Rattle.libyaml_grammar.specs.sentences.Trees.{item, no_parts, no_value, node, nothing, pair, part, single, slot_of, tokens, with_value}
 use Rattle.libyaml_grammar.specs.cuts.CutEvents.{shown_block, shown_place}
 use Rattle.libyaml_grammar.specs.cuts.CutTrees.{BlockPlace, Cut, Place, at_directive, at_tag, at_tag_behind, before_stream, block, content_due, declared}
-use Rattle.libyaml_grammar.specs.cuts.CutTrees.{declared_block, document_due, entry, entry_due, explicit_root, flow_entry, flow_key, flow_value}
-use Rattle.libyaml_grammar.specs.cuts.CutTrees.{implicit_root, indentless_entry, part_due, part_place, root, separator_due, slot, start_due}
-use Rattle.libyaml_grammar.specs.sentences.Events.{Event, events, first_block, first_flow}
-use Rattle.libyaml_types.specs.Events.{zero_mark}
+use Rattle.libyaml_grammar.specs.cuts.CutTrees.{declared_block, document_due, entry, entry_due, explicit_root, flow_entry, flow_key, flow_value, implicit_root}
+use Rattle.libyaml_grammar.specs.cuts.CutTrees.{indentless_entry, part_due, part_place, root, separator_due, slot, start_due}
 use Rattle.libyaml_grammar.specs.cuts.Fits.{last_empty}
+use Rattle.libyaml_grammar.specs.cuts.Settled.{Begins, BeginsEach, IsFront, IsFrontPlace, IsOpen, IsSettled, next_event, sure, sure_block_node, sure_flow_node}
+use Rattle.libyaml_grammar.specs.cuts.Rest.{rest}
 use Rattle.libyaml_grammar.proofs.lent.Given.{gives_all}
-use Rattle.libyaml_grammar.specs.sentences.Order.{in_order}
 use Rattle.libyaml_grammar.proofs.lent.Positions.{Position, done, position_rest, shown, unopened}
 use Rattle.libyaml_grammar.proofs.lent.Reading.{Step, bad, feed, feeds, goes, over, then_all}
-use Rattle.libyaml_grammar.specs.sentences.Sentences.{IsBeginning, has_end}
-use Rattle.libyaml_grammar.specs.cuts.Settled.{Begins, BeginsEach, IsFront, IsFrontPlace, IsOpen, IsSettled, next_event, sure, sure_block_node, sure_flow_node}
-use Rattle.libyaml_grammar.specs.sentences.Tokens.{Mark, Marks, Token}
-use Rattle.libyaml_grammar.specs.sentences.Trees.{BlockNode, FlowNode, Stream, alias, alone, block_mapping, block_sequence, collection, empty, explicit, flow}
-use Rattle.libyaml_grammar.specs.sentences.Trees.{flow_node, flow_nothing, implicit, indentless, item, no_parts, no_value, node, nothing, pair, part, scalar}
-use Rattle.libyaml_grammar.specs.sentences.Trees.{single, slot_of, tokens, with_value}
-use Rattle.libyaml_grammar.proofs.trees.Complete.{stream_reads}
-use Rattle.libyaml_grammar.proofs.lent.Completion.{reached_begins, append_nil, position_begins, read_order}
-use Rattle.libyaml_grammar.proofs.trees.Edge.{edge_block, edge_flow, reached}
-use Rattle.libyaml_grammar.proofs.lent.Fronts.{IsNotDone, begin_reads, front, front_not_done, front_of, front_reads, not_done_front}
+use Rattle.libyaml_grammar.proofs.lent.Completion.{append_nil, position_begins, reached_begins, read_order}
+use Rattle.libyaml_grammar.proofs.lent.ReadSteps.{IsNotDone, front}
+use Rattle.libyaml_grammar.proofs.lent.Fronts.{begin_reads, front_not_done, front_of, front_reads, not_done_front}
 use Rattle.libyaml_grammar.proofs.lent.Keeps.{feeds_keep}
 use Rattle.libyaml_grammar.proofs.lent.OneCut.{goes_same}
 use Rattle.libyaml_grammar.proofs.lent.Orders.{reads_to}
-use Rattle.libyaml_grammar.proofs.runs.Prompt.{differ}
 use Rattle.libyaml_grammar.proofs.lent.Run.{begin_events, given_shown}
 use Rattle.libyaml_grammar.proofs.lent.Shows.{block_shows, node_shows}
 use Rattle.libyaml_grammar.proofs.lent.Splits.{position_splits}
 use Rattle.libyaml_grammar.proofs.lent.StreamEnds.{IsDone, end_is_done, not_end_not_done}
+use Rattle.libyaml_grammar.proofs.trees.Complete.{stream_reads}
+use Rattle.libyaml_grammar.proofs.trees.Edge.{edge_block, edge_flow, reached}
+use Rattle.libyaml_grammar.proofs.runs.Prompt.{differ}
 
 -- what is sure is what is shown at the right edge
 flow_edge_shows : (p : Place) (n : FlowNode) (m : Mark) → shown (edge_flow p n) m [] ≡ shown_place p (first_flow n) (sure_flow_node (declared p) n)
 flow_edge_shows p (alone ps) m = refl
-flow_edge_shows p (alias a s) m = node_shows p (alias a s) m []
-flow_edge_shows p (scalar o v s) m = node_shows p (scalar o v s) m []
-flow_edge_shows p (collection o k s is l e) m = node_shows p (collection o k s is l e) m []
+flow_edge_shows p n m = node_shows p n m []
 
 block_edge_shows : (c : BlockPlace) (n : BlockNode) (m : Mark)
     → shown (edge_block c n) m [] ≡ shown_block c (first_block n) (sure_block_node (declared_block c) n)
 block_edge_shows c (flow n) m = flow_edge_shows (block c) n m
-block_edge_shows c (block_sequence o s is e) m = block_shows c (block_sequence o s is e) m []
-block_edge_shows c (block_mapping o s ps e) m = block_shows c (block_mapping o s ps e) m []
+block_edge_shows c n m = block_shows c n m []
 
 abbrev IsShown : Cut → Mark → Type 0
 IsShown c m = shown (reached c) m [] ≡ sure c
 
 place_shows : (p : Place) (m : Mark) → IsShown (content_due p) m
 place_shows (block (root (implicit_root f))) m = refl
-place_shows (block (root (explicit_root b ds s))) m = refl
-place_shows (block (entry c o s is e)) m = refl
-place_shows (block (slot c)) m = refl
-place_shows (block (indentless_entry c o is e)) m = refl
-place_shows (flow_entry c) m = refl
-place_shows (flow_key c e) m = refl
-place_shows (flow_value c e x v) m = refl
+place_shows _ m = refl
 
 sure_shows : (c : Cut) (m : Mark) → IsFrontPlace c → last_empty c ≡ None → IsShown c m
 sure_shows before_stream m p e = refl

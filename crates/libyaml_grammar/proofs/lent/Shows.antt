@@ -4,8 +4,7 @@ use Rattle.std.proofs.Common.{◌≡◌, List, ◌∷◌, refl, ◌∙◌, Bool,
 use Rattle.libyaml_grammar.specs.sentences.Tokens.{Content, Mark, Marks}
 use Rattle.libyaml_grammar.specs.sentences.Trees.{BlockNode, FlowNode, alone, flow, free}
 use Rattle.libyaml_grammar.specs.sentences.Events.{Event, block_node_events, empty_at, first_block, first_flow, flow_node_events}
-use Rattle.libyaml_grammar.specs.cuts.CutTrees.{BlockPlace, Place, block, declared, declared_block, entry, explicit_root, flow_entry, flow_key, flow_value}
-use Rattle.libyaml_grammar.specs.cuts.CutTrees.{implicit_root, indentless_entry, part_place, root, slot}
+use Rattle.libyaml_grammar.specs.cuts.CutTrees.{BlockPlace, Place, block, declared, declared_block, flow_entry, implicit_root, part_place, root, slot}
 use Rattle.libyaml_grammar.specs.cuts.CutEvents.{shown_block, shown_cut, shown_place}
 use Rattle.libyaml_grammar.specs.cuts.Fits.{ends_empty}
 use Rattle.libyaml_grammar.proofs.lent.Positions.{Position, shown}
@@ -24,17 +23,13 @@ Shows over q m g = Unit {0}
 pub block_shows : (c : BlockPlace) (x : BlockNode) (m : Mark) (r : List Event)
     → shown (fill c x) m r ≡ shown_block c (first_block x) (block_node_events (declared_block c) x r)
 block_shows (root (implicit_root f)) x m r = refl
-block_shows (root (explicit_root b ds s)) x m r = refl
-block_shows (entry c o s is e) x m r = refl
 block_shows (slot (part_place c o s ps k v)) x m r = refl
-block_shows (indentless_entry c o is e) x m r = refl
+block_shows _ x m r = refl
 
 pub node_shows : (p : Place) (x : FlowNode) (m : Mark) (r : List Event)
     → shown (fill_flow p x) m r ≡ shown_place p (first_flow x) (flow_node_events (declared p) x r)
 node_shows (block c) x m r = block_shows c (flow x) m r
-node_shows (flow_entry c) x m r = refl
-node_shows (flow_key c k) x m r = refl
-node_shows (flow_value c k y v) x m r = refl
+node_shows _ x m r = refl
 
 reshown : (s : Step) (p q : Position) (m : Marks) (g h : List Event → List Event) → ((r : List Event) → shown p m.start (g r) ≡ shown q m.start (h r))
     → Shows s p m g → Shows s q m h

@@ -1,19 +1,16 @@
 -- A STREAM-END is the last token of a sentence, and each sentence has one.
 use Rattle.std.proofs.Common.{◌≡◌, List, [], ◌∷◌, Some, None, Bool, true, false, refl, ap, ◌∙◌, subst}
-use Rattle.libyaml_grammar.specs.cuts.CutTrees.{Place, block, entry, explicit_root, flow_entry, flow_key, flow_value, implicit_root, indentless_entry}
-use Rattle.libyaml_grammar.specs.cuts.CutTrees.{part_place, root, slot}
 use Rattle.libyaml_grammar.specs.sentences.Events.{either}
-use Rattle.libyaml_grammar.proofs.lent.Positions.{Position, between, done, due, flow_behind, flow_due, flow_keyed, headed, in_indentless, in_mapping}
-use Rattle.libyaml_grammar.proofs.lent.Positions.{in_sequence, unopened}
+use Rattle.libyaml_grammar.specs.sentences.Sentences.{IsSentence, has_end, is_end}
+use Rattle.libyaml_grammar.specs.sentences.Tokens.{Content, Marks, StreamEnd, Token, marks_of, tok}
+use Rattle.libyaml_grammar.specs.sentences.Trees.{Properties, Stream, free}
+use Rattle.libyaml_grammar.specs.cuts.CutTrees.{Place, block, implicit_root, indentless_entry, part_place, root, slot}
+use Rattle.libyaml_grammar.proofs.lent.Positions.{Position, between, done, due, in_indentless, unopened}
 use Rattle.libyaml_grammar.proofs.lent.Reading.{Step, bad, checked, feed, goes, is_legal, over, reads, reads_all, then_all}
-use Rattle.libyaml_grammar.specs.sentences.Sentences.{has_end, is_end}
-use Rattle.libyaml_grammar.specs.sentences.Tokens.{Content, Marks, StreamEnd, Token, tok, marks_of}
-use Rattle.libyaml_grammar.specs.sentences.Trees.{Properties, Stream, behind, free}
-use Rattle.libyaml_grammar.specs.sentences.Sentences.{IsSentence}
 use Rattle.libyaml_grammar.proofs.lent.Completion.{sentence_reads}
-use Rattle.libyaml_grammar.proofs.trees.Ending.{stays_open}
-use Rattle.libyaml_grammar.proofs.lent.Fronts.{IsNotDone}
+use Rattle.libyaml_grammar.proofs.lent.ReadSteps.{IsNotDone}
 use Rattle.libyaml_grammar.proofs.lent.OneCut.{goes_same}
+use Rattle.libyaml_grammar.proofs.trees.Ending.{stays_open}
 
 -- after a STREAM-END nothing is read on
 abbrev IsLast : Step → Type 0
@@ -23,38 +20,22 @@ IsLast s = Unit {0}
 
 nothing_lasts : (p : Place) (m : Marks) → IsLast (feed (due p None) (tok StreamEnd m))
 nothing_lasts (block (root (implicit_root f))) m = tt
-nothing_lasts (block (root (explicit_root b ds s))) m = tt
-nothing_lasts (block (entry c o s is e)) m = tt
 nothing_lasts (block (slot (part_place c o s ps k v))) m = tt
 nothing_lasts (block (indentless_entry (part_place c o s ps k v) y is e)) m = tt
-nothing_lasts (flow_entry c) m = tt
-nothing_lasts (flow_key c e) m = tt
-nothing_lasts (flow_value c e x v) m = tt
+nothing_lasts _ m = tt
 
 alone_lasts : (p : Place) (ps : Properties) (m : Marks) → IsLast (feed (due p (Some ps)) (tok StreamEnd m))
 alone_lasts (block (root (implicit_root f))) ps m = tt
-alone_lasts (block (root (explicit_root b ds s))) ps m = tt
-alone_lasts (block (entry c o s is e)) ps m = tt
 alone_lasts (block (slot (part_place c o s qs k v))) ps m = tt
 alone_lasts (block (indentless_entry (part_place c o s qs k v) y is e)) ps m = tt
-alone_lasts (flow_entry c) ps m = tt
-alone_lasts (flow_key c e) ps m = tt
-alone_lasts (flow_value c e x v) ps m = tt
+alone_lasts _ ps m = tt
 
 end_lasts : (q : Position) (m : Marks) → IsLast (feed q (tok StreamEnd m))
-end_lasts unopened m = tt
 end_lasts (between (free f)) m = tt
-end_lasts (between (behind d)) m = tt
-end_lasts (headed b ds d) m = tt
 end_lasts (due p None) m = nothing_lasts p m
 end_lasts (due p (Some ps)) m = alone_lasts p ps m
-end_lasts (in_sequence c o s is) m = tt
-end_lasts (in_mapping c o s ps) m = tt
 end_lasts (in_indentless (part_place c o s ps k v) y is e x) m = tt
-end_lasts (flow_due c) m = tt
-end_lasts (flow_keyed c e x) m = tt
-end_lasts (flow_behind c e) m = tt
-end_lasts (done t) m = tt
+end_lasts _ m = tt
 
 abbrev pub IsDone : Position → Type 0
 IsDone (done t) = Unit {0}

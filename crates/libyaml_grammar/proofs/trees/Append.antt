@@ -18,9 +18,7 @@ use Rattle.libyaml_grammar.specs.cuts.CutTrees.{part_place_tokens, place_tokens,
 
 pub properties_append : (p : Properties) (a r : List Token) → properties_tokens p (a ++ r) ≡ properties_tokens p a ++ r
 properties_append (anchor x m) a r = refl
-properties_append (tag x m) a r = refl
-properties_append (anchor_tag x m y n) a r = refl
-properties_append (tag_anchor x m y n) a r = refl
+properties_append _ a r = refl
 
 pub option_append : (o : Option Properties) (a r : List Token) → option_tokens o (a ++ r) ≡ option_tokens o a ++ r
 option_append None a r = refl

@@ -129,13 +129,8 @@ never_flow (flow_value c e x v) n k m b h = never_member c (pair e x (with_value
 -- after a whole node the step is that of what is after it
 pub whole_step : (p : Place) (n : FlowNode) (k : Content) (m : Marks) → step (fill_flow p n) k m ≡ behind_whole (fill_flow p n) k m
 whole_step (block (root (implicit_root f))) n k m = refl
-whole_step (block (root (explicit_root x ds s))) n k m = refl
-whole_step (block (entry c o s is e)) n k m = refl
 whole_step (block (slot (part_place c o s ps r v))) n k m = refl
-whole_step (block (indentless_entry c o is e)) n k m = refl
-whole_step (flow_entry c) n k m = refl
-whole_step (flow_key c e) n k m = refl
-whole_step (flow_value c e x v) n k m = refl
+whole_step _ n k m = refl
 
 -- properties alone
 abbrev pub Alone : Place → Properties → Content → Marks → Type 0
@@ -265,9 +260,7 @@ leave_feeds p (t ∷ r) h = ap (λ (s : Step). then_all s (feeds r)) (leave_step
 -- properties that come first
 pub properties_feed : (ps : Properties) (p : Place) (r : List Token) → feeds (properties_tokens ps r) (due p None) ≡ feeds r (due p (Some ps))
 properties_feed (anchor a m) p r = refl
-properties_feed (tag h m) p r = refl
-properties_feed (anchor_tag a m h n) p r = refl
-properties_feed (tag_anchor h m a n) p r = refl
+properties_feed _ p r = refl
 
 pub option_feeds : (o : Option Properties) (p : Place) (r : List Token) → feeds (option_tokens o r) (due p None) ≡ feeds r (due p o)
 option_feeds None p r = refl
@@ -277,9 +270,7 @@ option_feeds (Some ps) p r = properties_feed ps p r
 pub properties_begin : (ps : Properties) (c : Open) (r : List Token)
     → feeds (properties_tokens ps r) (flow_due c) ≡ feeds (properties_tokens ps r) (due (flow_entry c) None)
 properties_begin (anchor a m) c r = refl
-properties_begin (tag h m) c r = refl
-properties_begin (anchor_tag a m h n) c r = refl
-properties_begin (tag_anchor h m a n) c r = refl
+properties_begin _ c r = refl
 
 pub node_begins : (n : FlowNode) (c : Open) (r : List Token)
     → feeds (flow_node_tokens n r) (flow_due c) ≡ feeds (flow_node_tokens n r) (due (flow_entry c) None)
@@ -401,11 +392,9 @@ heads b (directive ds d) = headed b ds d
 
 pub directive_feeds : (b : Before) (ds : Directives) (d : Directive) (r : List Token) → feeds (directive_token d ∷ r) (heads b ds) ≡ feeds r (headed b ds d)
 directive_feeds (free f) no_directives (version x m) r = refl
-directive_feeds (free f) no_directives (tag_directive x m) r = refl
 directive_feeds (behind f) no_directives (version x m) r = refl
-directive_feeds (behind f) no_directives (tag_directive x m) r = refl
 directive_feeds b (directive ds d) (version x m) r = refl
-directive_feeds b (directive ds d) (tag_directive x m) r = refl
+directive_feeds _ _ _ r = refl
 
 pub directives_read : (ds : Directives) (b : Before) (r : List Token) → feeds (directives_tokens ds r) (between b) ≡ feeds r (heads b ds)
 directives_read no_directives b r = refl
@@ -419,9 +408,8 @@ start_feeds b (directive ds d) m r = refl
 
 pub directive_ready : (b : Before) (d : Directive) → Takes (feed (between b) (directive_token d))
 directive_ready (free f) (version x m) = tt
-directive_ready (free f) (tag_directive x m) = tt
 directive_ready (behind f) (version x m) = tt
-directive_ready (behind f) (tag_directive x m) = tt
+directive_ready _ _ = tt
 
 pub directives_ready : (ds : Directives) (b : Before) (r : List Token) → Ready (between b) r → Ready (between b) (directives_tokens ds r)
 directives_ready no_directives b r h = h
@@ -434,9 +422,7 @@ start_ready (behind d) m = tt
 pub properties_begin_document : (ps : Properties) (f : Free) (r : List Token)
     → feeds (properties_tokens ps r) (between (free f)) ≡ feeds (properties_tokens ps r) (due (block (root (implicit_root f))) None)
 properties_begin_document (anchor a m) f r = refl
-properties_begin_document (tag h m) f r = refl
-properties_begin_document (anchor_tag a m h n) f r = refl
-properties_begin_document (tag_anchor h m a n) f r = refl
+properties_begin_document _ f r = refl
 
 pub flow_begins_document : (n : FlowNode) (f : Free) (r : List Token)
     → feeds (flow_node_tokens n r) (between (free f)) ≡ feeds (flow_node_tokens n r) (due (block (root (implicit_root f))) None)

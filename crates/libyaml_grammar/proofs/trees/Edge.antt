@@ -78,10 +78,7 @@ home (flow_value c k x v) = due (flow_value c k x v) None
 home_block_properties : (ps : Properties) (c : BlockPlace) (r : List Token)
     → feeds (properties_tokens ps r) (home_block c) ≡ feeds (properties_tokens ps r) (due (block c) None)
 home_block_properties ps (root (implicit_root f)) r = properties_begin_document ps f r
-home_block_properties ps (root (explicit_root b ds m)) r = refl
-home_block_properties ps (entry c o m is e) r = refl
-home_block_properties ps (slot c) r = refl
-home_block_properties ps (indentless_entry c o is e) r = refl
+home_block_properties ps _ r = refl
 
 home_properties : (ps : Properties) (p : Place) (r : List Token) → feeds (properties_tokens ps r) (home p) ≡ feeds (properties_tokens ps r) (due p None)
 home_properties ps (block c) r = home_block_properties ps c r
@@ -93,40 +90,27 @@ home_sequence : (o : Option Properties) (c : BlockPlace) (m : Marks) (r : List T
     → feeds (option_tokens o (tok BlockSequenceStart m ∷ r)) (home_block c) ≡ feeds r (in_sequence c o m empty)
 home_sequence (Some ps) c m r = home_block_properties ps c _ ∙ properties_feed ps (block c) _
 home_sequence None (root (implicit_root f)) m r = refl
-home_sequence None (root (explicit_root b ds s)) m r = refl
-home_sequence None (entry c o s is e) m r = refl
-home_sequence None (slot c) m r = refl
-home_sequence None (indentless_entry c o is e) m r = refl
+home_sequence None _ m r = refl
 
 home_mapping : (o : Option Properties) (c : BlockPlace) (m : Marks) (r : List Token)
     → feeds (option_tokens o (tok BlockMappingStart m ∷ r)) (home_block c) ≡ feeds r (in_mapping c o m no_parts)
 home_mapping (Some ps) c m r = home_block_properties ps c _ ∙ properties_feed ps (block c) _
 home_mapping None (root (implicit_root f)) m r = refl
-home_mapping None (root (explicit_root b ds s)) m r = refl
-home_mapping None (entry c o s is e) m r = refl
-home_mapping None (slot c) m r = refl
-home_mapping None (indentless_entry c o is e) m r = refl
+home_mapping None _ m r = refl
 
 home_collection : (o : Option Properties) (p : Place) (k : Sort) (m : Marks) (r : List Token)
     → feeds (option_tokens o (tok (opening k) m ∷ r)) (home p) ≡ feeds r (flow_due (open_collection p o k m no_items))
 home_collection (Some ps) p sequence m r = home_properties ps p _ ∙ properties_feed ps p _
 home_collection (Some ps) p mapping m r = home_properties ps p _ ∙ properties_feed ps p _
 home_collection None (block (root (implicit_root f))) sequence m r = refl
-home_collection None (block (root (implicit_root f))) mapping m r = refl
 home_collection None (block (root (explicit_root b ds s))) sequence m r = refl
-home_collection None (block (root (explicit_root b ds s))) mapping m r = refl
 home_collection None (block (entry c o s is e)) sequence m r = refl
-home_collection None (block (entry c o s is e)) mapping m r = refl
 home_collection None (block (slot c)) sequence m r = refl
-home_collection None (block (slot c)) mapping m r = refl
 home_collection None (block (indentless_entry c o is e)) sequence m r = refl
-home_collection None (block (indentless_entry c o is e)) mapping m r = refl
 home_collection None (flow_entry c) sequence m r = refl
-home_collection None (flow_entry c) mapping m r = refl
 home_collection None (flow_key c e) sequence m r = refl
-home_collection None (flow_key c e) mapping m r = refl
 home_collection None (flow_value c e x v) sequence m r = refl
-home_collection None (flow_value c e x v) mapping m r = refl
+home_collection None _ _ m r = refl
 
 mutual
   block_place_reads : (c : BlockPlace) (r : List Token) → feeds (block_place_tokens c r) unopened ≡ feeds r (home_block c)

@@ -153,13 +153,7 @@ place_at d q = d
 
 home_place : (d p : Place) → place_at d (home p) ≡ p
 home_place d (block (root (implicit_root f))) = refl
-home_place d (block (root (explicit_root b ds m))) = refl
-home_place d (block (entry c o m is e)) = refl
-home_place d (block (slot c)) = refl
-home_place d (block (indentless_entry c o is e)) = refl
-home_place d (flow_entry c) = refl
-home_place d (flow_key c k) = refl
-home_place d (flow_value c k x v) = refl
+home_place d _ = refl
 
 pub place_law : (p q : Place) (r : List Token) → place_tokens p r ≡ place_tokens q r → p ≡ q
 place_law p q r e =

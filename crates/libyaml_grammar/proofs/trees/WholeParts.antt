@@ -40,9 +40,7 @@ behind_inner (t ∷ l) n = turned t.content n l (behind_inner l)
 -- a part leaves no collection open
 properties_inner : (p : Properties) (r : List Token) (n : ℕ) → behind_inner (properties_tokens p r) n ≡ behind_inner r n
 properties_inner (anchor x m) r n = refl
-properties_inner (tag x m) r n = refl
-properties_inner (anchor_tag x m y k) r n = refl
-properties_inner (tag_anchor x m y k) r n = refl
+properties_inner _ r n = refl
 
 option_inner : (o : Option Properties) (r : List Token) (n : ℕ) → behind_inner (option_tokens o r) n ≡ behind_inner r n
 option_inner None r n = refl
@@ -128,11 +126,8 @@ behind_first [] = []
 behind_first (t ∷ l) = opened_by t.content l (behind_first l)
 
 option_first : (o : Option Properties) (r : List Token) → behind_first (option_tokens o r) ≡ behind_first r
-option_first None r = refl
 option_first (Some (anchor x m)) r = refl
-option_first (Some (tag x m)) r = refl
-option_first (Some (anchor_tag x m y k)) r = refl
-option_first (Some (tag_anchor x m y k)) r = refl
+option_first _ r = refl
 
 opening_first : (k : Sort) (m : Marks) (r : List Token) → behind_first (tok (opening k) m ∷ r) ≡ behind_inner r 0
 opening_first sequence m r = refl
