@@ -13,7 +13,7 @@ use Rattle.libyaml_grammar.specs.sentences.Sentences.{has_end}
 use Rattle.libyaml_grammar.specs.cuts.Settled.{sure}
 use Rattle.libyaml_grammar.specs.sentences.Tokens.{Token}
 use Rattle.libyaml_grammar.specs.sentences.Trees.{Stream}
-use Rattle.libyaml_grammar.proofs.lent.Fronts.{front}
+use Rattle.libyaml_grammar.proofs.lent.ReadSteps.{front}
 use Rattle.libyaml_grammar.proofs.lent.RowKinds.{begin_row, cut_row, sentence_row}
 use Rattle.libyaml_graphs.specs.Bounds.{IsBoundedLoads, bounded_loads}
 use Rattle.libyaml_graphs.specs.Loads.{IsLoads, Load, loads}

@@ -32,7 +32,8 @@ use Rattle.libyaml_events.specs.sources.RunToCome.{RunToCome, UnlessBroken, does
 use Rattle.libyaml_events.specs.declared.next.Want.TheVariants.{AtState}
 use Rattle.libyaml_grammar.proofs.lent.Lists.{nil_right, assoc}
 use Rattle.libyaml_grammar.proofs.lent.Completion.{sentence_reads}
-use Rattle.libyaml_grammar.proofs.lent.Fronts.{front, front_of, begin_reads}
+use Rattle.libyaml_grammar.proofs.lent.Fronts.{begin_reads, front_of}
+use Rattle.libyaml_grammar.proofs.lent.ReadSteps.{front}
 use Rattle.libyaml_events.proofs.machine.Link.{spends}
 use Rattle.libyaml_grammar.proofs.lent.OneCut.{fits_reach, fits_stop, goes_same, bad_same}
 use Rattle.libyaml_events.proofs.machine.Outcomes.{Does, is_good, is_bad, is_doomed, is_over as is_over_there}

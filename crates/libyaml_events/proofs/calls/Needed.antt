@@ -13,7 +13,8 @@ use Rattle.libyaml_grammar.proofs.lent.Given.{gives_all}
 use Rattle.libyaml_grammar.specs.cuts.Settled.{IsFront, sure}
 use Rattle.libyaml_events.proofs.calls.Calling.{Standing}
 use Rattle.libyaml_grammar.proofs.lent.Fitting.{stops_fits}
-use Rattle.libyaml_grammar.proofs.lent.Fronts.{IsNotDone, front, front_of}
+use Rattle.libyaml_grammar.proofs.lent.Fronts.{front_of}
+use Rattle.libyaml_grammar.proofs.lent.ReadSteps.{IsNotDone, front}
 use Rattle.libyaml_grammar.proofs.lent.Settling.{front_open, gives_sure}
 use Rattle.libyaml_events.proofs.machine.Stand.{Stood, amid_node, at_place}
 use Rattle.libyaml_events.proofs.machine.Waiting.{still_waits}

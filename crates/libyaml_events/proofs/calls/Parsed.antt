@@ -23,7 +23,7 @@ use Rattle.libyaml_events.specs.declared.next.Want.{Want}
 use Rattle.libyaml_events.specs.declared.next.Want.TheVariants.{AtState}
 use Rattle.libyaml_grammar.proofs.lent.Completion.{reached_begins}
 use Rattle.libyaml_grammar.proofs.lent.Fitting.{stops_fits}
-use Rattle.libyaml_grammar.proofs.lent.Fronts.{front}
+use Rattle.libyaml_grammar.proofs.lent.ReadSteps.{front}
 use Rattle.libyaml_grammar.proofs.lent.Settling.{front_settles}
 use Rattle.libyaml_grammar.proofs.lent.StreamEnds.{IsDone, end_is_done}
 use Rattle.libyaml_events.proofs.machine.Waiting.{Waits, behind_tag, behind_anchor, behind_both, still_waits}

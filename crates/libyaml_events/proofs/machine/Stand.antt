@@ -4,7 +4,7 @@ use Rattle.libyaml_events.specs.machine.Machine as mach
 use Rattle.libyaml_events.specs.machine.Machine.{Progressed}
 use Rattle.libyaml_grammar.proofs.lent.Reading.{step}
 use Rattle.libyaml_grammar.specs.sentences.Trees.{behind}
-use Rattle.libyaml_grammar.proofs.lent.Fitting.{IsOpen as NotYetDone}
+use Rattle.libyaml_grammar.proofs.lent.ReadSteps.{IsNotDone as NotYetDone}
 use Rattle.libyaml_grammar.specs.cuts.FaultTexts.{document_start_fault}
 use Rattle.libyaml_events.proofs.machine.Outcomes.{Does, does, is_good, is_bad, is_doomed, is_over}
 use Rattle.libyaml_grammar.proofs.lent.Cases.{IsHeaded, HeadGoes, step_version, step_handle, IsTagHeld}

@@ -1,9 +1,8 @@
 -- The events that one token gives at a position, and those that a list gives up to its first bad token.
 use Rattle.std.specs.Prelude.{List, [], ◌∷◌, Option, Some, None, true, false}
 use Rattle.libyaml_grammar.specs.sentences.Tokens.{Alias, AliasName, Anchor, AnchorName, BlockEnd, BlockEntry, BlockMappingStart, BlockSequenceStart, Content}
-use Rattle.libyaml_grammar.specs.sentences.Tokens.{DocumentEnd, DocumentStart, FlowMappingEnd, FlowMappingStart, FlowSequenceEnd, FlowSequenceStart, Key}
-use Rattle.libyaml_grammar.specs.sentences.Tokens.{Mark, Marks, Scalar, StreamEnd, StreamStart, Tag, TagDirective, TagName, Token, Value, VersionDirective}
-use Rattle.libyaml_grammar.specs.sentences.Tokens.{marks_of}
+use Rattle.libyaml_grammar.specs.sentences.Tokens.{DocumentEnd, DocumentStart, FlowMappingEnd, FlowMappingStart, FlowSequenceEnd, FlowSequenceStart, Key, Mark}
+use Rattle.libyaml_grammar.specs.sentences.Tokens.{Marks, Scalar, StreamEnd, StreamStart, Tag, TagDirective, TagName, Token, Value, VersionDirective, marks_of}
 use Rattle.libyaml_grammar.specs.sentences.Trees.{BlockItems, BlockSlot, Directives, FlowMember, FlowSlot, Free, Parts, Properties, Slot, Sort, alone, anchor}
 use Rattle.libyaml_grammar.specs.sentences.Trees.{behind, directive, ended, free, indentless, mapping, no_directives, no_value, opened, pair, part, sequence}
 use Rattle.libyaml_grammar.specs.sentences.Trees.{tag}

@@ -1,9 +1,8 @@
 -- The events of each run begin events that nest, so they nest as far as they go.
-use Rattle.std.proofs.Common.{◌≡◌, ◌⊎◌, inl, inr, List, [], ◌∷◌, ◌++◌, refl, sym, ap, ◌∙◌, subst, append_assoc, None, Some, true}
+use Rattle.std.proofs.Common.{◌≡◌, ◌⊎◌, inl, inr, List, [], ◌∷◌, ◌++◌, refl, sym, ap, ◌∙◌, subst, append_assoc, true}
 use Rattle.libyaml_types.specs.declared.event.unnamed_yaml_event_t_data.TheVariants as ev
 use Rattle.libyaml_grammar.specs.cuts.CutEvents.{cut_events, shown_cut, sort_of}
-use Rattle.libyaml_grammar.specs.cuts.CutTrees.{Cut, at_directive, at_tag, at_tag_behind, before_stream, content_due, document_due, entry_due}
-use Rattle.libyaml_grammar.specs.cuts.CutTrees.{open_collection, part_due, separator_due, start_due}
+use Rattle.libyaml_grammar.specs.cuts.CutTrees.{Cut, at_directive, document_due, open_collection, part_due, separator_due}
 use Rattle.libyaml_grammar.specs.sentences.Events.{Event, document_end_at, documents_events, end_at, event, events, member_end, missing_value, start_at}
 use Rattle.libyaml_grammar.specs.sentences.Events.{stream_end_at, stream_start_at}
 use Rattle.libyaml_sources.specs.Fault.{Fault}
@@ -11,10 +10,10 @@ use Rattle.libyaml_grammar.proofs.lent.Given.{gives_all}
 use Rattle.libyaml_grammar.specs.sentences.Nesting.{BeginsValue, IsNested, IsOpenDocument, NestsSoFar, Texts, TextsHavePairs, Value, Values, alias_value}
 use Rattle.libyaml_grammar.specs.sentences.Nesting.{collection_value, first_value, has_begun, no_texts, no_values, none_open, not_begun, one_open}
 use Rattle.libyaml_grammar.specs.sentences.Nesting.{scalar_value, text_behind, texts_events, value_events, values_events, whole}
-use Rattle.libyaml_grammar.proofs.lent.Positions.{Position, between, done, due, flow_behind, headed, in_mapping, in_sequence, position_rest, shown, stand}
+use Rattle.libyaml_grammar.proofs.lent.Positions.{Position, between, done, flow_behind, in_mapping, position_rest, shown, stand}
 use Rattle.libyaml_grammar.specs.runs.Runs.{Ending, Ends, IsRun, amid_properties, of_beginning, of_cut_tree, of_sentence}
 use Rattle.libyaml_grammar.specs.sentences.Tokens.{Mark, Marks, Token, marks_of}
-use Rattle.libyaml_grammar.specs.sentences.Trees.{Stream, anchor, behind, directive, free, mapping, no_directives, sequence}
+use Rattle.libyaml_grammar.specs.sentences.Trees.{Stream, behind, free, no_directives, sequence}
 use Rattle.libyaml_grammar.proofs.lent.Completion.{position_ends}
 use Rattle.libyaml_grammar.proofs.lent.Lists.{nil_right}
 use Rattle.libyaml_grammar.proofs.lent.Nesting.{events_nest_proof}
@@ -24,22 +23,16 @@ use Rattle.libyaml_grammar.proofs.lent.Splits.{Splits, behind_event, both_split,
 
 -- what a cut tree shows stands before the events after it
 cut_splits : (c : Cut) (m : Mark) → Splits (shown_cut c m)
-cut_splits before_stream m = λ r. refl
 cut_splits (document_due d) m = both_split (documents_events d m) (λ (r : List Event). document_end_at true m m
     ∷ r) (position_splits (between (behind d)) m) (λ r. refl)
-cut_splits (start_due b ds d) m = position_splits (headed b ds d) m
 cut_splits (at_directive (free f) no_directives) m = position_splits (between (free f)) m
 cut_splits (at_directive (behind d) no_directives) m
     = both_split (documents_events d m) (λ (r : List Event). document_end_at true m m ∷ r) (position_splits (between (behind d)) m) (λ r. refl)
-cut_splits (at_directive b (directive ds d)) m = position_splits (headed b ds d) m
-cut_splits (content_due p) m = position_splits (due p None) m
-cut_splits (at_tag p) m = position_splits (due p None) m
-cut_splits (at_tag_behind p a x) m = position_splits (due p (Some (anchor a x))) m
-cut_splits (entry_due c o s is) m = position_splits (in_sequence c o s is) m
 cut_splits (part_due c o s ps) m
     = both_split (shown (in_mapping c o s ps) m) (missing_value ps m) (position_splits (in_mapping c o s ps) m) (missing_value_splits ps m)
 cut_splits (separator_due c e) m
     = both_split (shown (flow_behind c e) m) (member_end (sort_of c) e m) (position_splits (flow_behind c e) m) (member_end_splits (sort_of c) e m)
+cut_splits c m = position_splits (stand c) m
 
 -- a tree whose events go on from those of a cut tree
 abbrev GoesOn : Cut → Mark → Type 0
@@ -50,19 +43,10 @@ completed : (m : Marks) (q : Position) → (t : Stream) × (events t ≡ shown q
 completed m q = let e = position_ends m q in (e.0, given_shown (position_rest m q) q (done e.0) e.1 m.start [])
 
 goes_on : (c : Cut) (m : Marks) → GoesOn c m.start
-goes_on before_stream m = let t = completed m (stand before_stream) in (t.0, _, t.1)
-goes_on (document_due d) m = let t = completed m (between (behind d)) in (t.0, _, t.1)
-goes_on (start_due b ds d) m = let t = completed m (headed b ds d) in (t.0, _, t.1)
 goes_on (at_directive (free f) no_directives) m = let t = completed m (between (free f)) in (t.0, _, t.1)
 goes_on (at_directive (behind d) no_directives) m = let t = completed m (between (behind d)) in (t.0, _, t.1)
-goes_on (at_directive b (directive ds d)) m = let t = completed m (headed b ds d) in (t.0, _, t.1)
-goes_on (content_due p) m = let t = completed m (due p None) in (t.0, _, t.1)
-goes_on (at_tag p) m = let t = completed m (due p None) in (t.0, _, t.1)
-goes_on (at_tag_behind p a x) m = let t = completed m (due p (Some (anchor a x))) in (t.0, _, t.1)
-goes_on (entry_due c o s is) m = let t = completed m (in_sequence c o s is) in (t.0, _, t.1)
-goes_on (part_due c o s ps) m = let t = completed m (in_mapping c o s ps) in (t.0, _, t.1)
 goes_on (separator_due (open_collection p o sequence s is) e) m = let t = completed m (flow_behind (open_collection p o sequence s is) e) in (t.0, _, t.1)
-goes_on (separator_due (open_collection p o mapping s is) e) m = let t = completed m (flow_behind (open_collection p o mapping s is) e) in (t.0, _, t.1)
+goes_on c m = let t = completed m (stand c) in (t.0, _, t.1)
 
 -- the events begin events that nest
 abbrev pub BeginsNested : List Event → Type 0

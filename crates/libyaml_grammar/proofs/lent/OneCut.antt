@@ -314,23 +314,18 @@ edge_order_documents (implicit f x) r = edge_order_block (root (implicit_root f)
 edge_order_documents (explicit b ds m x) r = edge_order_slot (root (explicit_root b ds m)) x r
 
 pub edge_order : (c : Cut) (r : Bool) → position_in_order (reached c) r ≡ cut_in_order c r
-edge_order before_stream r = refl
 edge_order (document_due d) r = edge_order_documents d r
-edge_order (start_due b ds d) r = refl
 edge_order (at_directive (free f) no_directives) r = refl
 edge_order (at_directive (behind d) no_directives) r = edge_order_documents d r
-edge_order (at_directive b (directive ds d)) r = refl
 edge_order (content_due p) r = edge_order_home p r
 edge_order (at_tag p) r = edge_order_home p r
-edge_order (at_tag_behind p a m) r = refl
-edge_order (entry_due c o m empty) r = refl
 edge_order (entry_due c o m (item is e x)) r = edge_order_slot (entry c o m is e) x r
-edge_order (part_due c o m no_parts) r = refl
 edge_order (part_due c o m (part ps t v (slot_of x))) r = edge_order_slot (slot (part_place c o m ps t v)) x r
 edge_order (part_due c o m (part ps t v (indentless y is e x))) r = edge_order_slot (indentless_entry (part_place c o m ps t v) y is e) x r
 edge_order (separator_due c (single x)) r = edge_order_flow (flow_entry c) x r
 edge_order (separator_due c (pair e x no_value)) r = edge_order_flow_slot (flow_key c e) x r
 edge_order (separator_due c (pair e x (with_value v y))) r = edge_order_flow_slot (flow_value c e x v) y r
+edge_order _ r = refl
 
 -- a cut tree that fits is where the reading stops
 pub fits_reach : (l : List Token) (b : Token) (c : Cut) → Fits l b c → reads_all l unopened ≡ goes (reached c)

@@ -49,19 +49,15 @@ place_shows (block (root (implicit_root f))) m = refl
 place_shows _ m = refl
 
 sure_shows : (c : Cut) (m : Mark) → IsFrontPlace c → last_empty c ≡ None → IsShown c m
-sure_shows before_stream m p e = refl
 sure_shows (document_due (implicit f n)) m p e = block_edge_shows (root (implicit_root f)) n m
 sure_shows (document_due (explicit b ds s nothing)) m p e = absurd cc
 sure_shows (document_due (explicit b ds s (node n))) m p e = block_edge_shows (root (explicit_root b ds s)) n m
-sure_shows (start_due b ds d) m p e = refl
 sure_shows (at_directive b ds) m p e = absurd p
 sure_shows (content_due q) m p e = place_shows q m
 sure_shows (at_tag q) m p e = absurd p
 sure_shows (at_tag_behind q a x) m p e = absurd p
-sure_shows (entry_due c o s empty) m p e = refl
 sure_shows (entry_due c o s (item is x nothing)) m p e = absurd cc
 sure_shows (entry_due c o s (item is x (node n))) m p e = block_edge_shows (entry c o s is x) n m
-sure_shows (part_due c o s no_parts) m p e = refl
 sure_shows (part_due c o s (part ps k v (slot_of nothing))) m p e = absurd cc
 sure_shows (part_due c o s (part ps k v (slot_of (node n)))) m p e = block_edge_shows (slot (part_place c o s ps k v)) n m
 sure_shows (part_due c o s (part ps k v (indentless y is x nothing))) m p e = absurd cc
@@ -71,6 +67,7 @@ sure_shows (separator_due c (pair x flow_nothing no_value)) m p e = absurd cc
 sure_shows (separator_due c (pair x (flow_node n) no_value)) m p e = flow_edge_shows (flow_key c x) n m
 sure_shows (separator_due c (pair x y (with_value v flow_nothing))) m p e = absurd cc
 sure_shows (separator_due c (pair x y (with_value v (flow_node n)))) m p e = flow_edge_shows (flow_value c x y v) n m
+sure_shows _ m p e = refl
 
 -- what the tokens give stands before all that later tokens give
 pub gives_sure : (l : List Token) (c : Cut) → IsFront l c → (r : List Event) → gives_all l unopened r ≡ sure c ++ r

@@ -1,9 +1,9 @@
 -- What a part gives stands before the events after it.
 use Rattle.std.proofs.Common.{◌≡◌, List, [], ◌∷◌, ◌++◌, true, false, refl, sym, ap, ◌∙◌, append_assoc}
 use Rattle.libyaml_grammar.specs.cuts.CutEvents.{shown_block, shown_open, shown_part, shown_place, shown_root, sort_of}
-use Rattle.libyaml_grammar.specs.cuts.CutTrees.{BlockPlace, Open, PartPlace, Place, Root, block, declared, declared_block, declared_open, declared_part}
-use Rattle.libyaml_grammar.specs.cuts.CutTrees.{entry, explicit_root, flow_entry, flow_key, flow_value, implicit_root, indentless_entry, open_collection}
-use Rattle.libyaml_grammar.specs.cuts.CutTrees.{part_place, root, slot}
+use Rattle.libyaml_grammar.specs.cuts.CutTrees.{BlockPlace, Open, PartPlace, Place, Root, block, declared, declared_block, declared_open, declared_part, entry}
+use Rattle.libyaml_grammar.specs.cuts.CutTrees.{explicit_root, flow_entry, flow_key, flow_value, implicit_root, indentless_entry, open_collection, part_place}
+use Rattle.libyaml_grammar.specs.cuts.CutTrees.{root, slot}
 use Rattle.libyaml_grammar.specs.sentences.Events.{Event, before_events, before_part, block_layout, block_node_events, block_slot_events, document_end_at}
 use Rattle.libyaml_grammar.specs.sentences.Events.{document_start_at, documents_events, empty_at, end_at, end_of, ended_events, first_block, first_directive}
 use Rattle.libyaml_grammar.specs.sentences.Events.{first_entry, first_of, flow_items_events, flow_last_events, flow_layout, flow_member_events}
@@ -14,10 +14,9 @@ use Rattle.libyaml_grammar.proofs.lent.Positions.{in_sequence, shown, unopened}
 use Rattle.libyaml_grammar.specs.sentences.Tokens.{Mark, Marks}
 use Rattle.libyaml_grammar.specs.sentences.Trees.{Before, BlockItems, BlockNode, BlockSlot, Directives, Documents, Ended, FlowItems, FlowLast, FlowMember}
 use Rattle.libyaml_grammar.specs.sentences.Trees.{FlowNode, FlowSlot, Free, Parts, Role, Slot, Sort, again, alias, alone, behind, block_mapping}
-use Rattle.libyaml_grammar.specs.sentences.Trees.{block_sequence, collection, directive, empty, ended, explicit, flow, flow_node, flow_nothing, free}
-use Rattle.libyaml_grammar.specs.sentences.Trees.{implicit, indentless, item, key, last, mapping, more_items, no_directives, no_items, no_last, no_parts}
-use Rattle.libyaml_grammar.specs.sentences.Trees.{no_value, node, nothing, once, opened, pair, part, scalar, sequence, single, slot_of, value, whole}
-use Rattle.libyaml_grammar.specs.sentences.Trees.{with_value}
+use Rattle.libyaml_grammar.specs.sentences.Trees.{block_sequence, collection, directive, empty, ended, explicit, flow, flow_node, flow_nothing, free, implicit}
+use Rattle.libyaml_grammar.specs.sentences.Trees.{indentless, item, key, last, mapping, more_items, no_directives, no_items, no_last, no_parts, no_value, node}
+use Rattle.libyaml_grammar.specs.sentences.Trees.{nothing, once, opened, pair, part, scalar, sequence, single, slot_of, value, whole, with_value}
 
 abbrev pub Splits : (List Event → List Event) → Type 0
 Splits g = (r : List Event) → g r ≡ g [] ++ r

@@ -83,35 +83,20 @@ abbrev pub StopsAt : Cut → Content → Marks → Type 0
 StopsAt c k m = reads (reached c) (tok k m) ≡ bad c
 
 pub gives_empty_end : (c : Cut) (k : Content) (m : Marks) → FitsDirective c k → StopsAt c k m → EndsEmpty (last_empty c) k
-gives_empty_end before_stream k m d e = tt
 gives_empty_end (document_due x) k m d e = bad_ends_root x k m e
-gives_empty_end (start_due b ds x) k m d e = tt
-gives_empty_end (at_directive (free f) no_directives) k m d e = tt
 gives_empty_end (at_directive (behind x) no_directives) k m d e = directive_ends_root x k d
-gives_empty_end (at_directive (free f) (directive ds x)) k m d e = tt
-gives_empty_end (at_directive (behind y) (directive ds x)) k m d e = tt
-gives_empty_end (content_due p) k m d e = tt
-gives_empty_end (at_tag p) k m d e = tt
-gives_empty_end (at_tag_behind p a x) k m d e = tt
-gives_empty_end (entry_due c o s empty) k m d e = tt
 gives_empty_end (entry_due c o s (item is y nothing)) k m d e
     = absurd (not_left (block (entry c o s is y)) k m (entry_due c o s (item is y nothing)) (λ f. cc) (λ f. f) e)
-gives_empty_end (entry_due c o s (item is y (node x))) k m d e = tt
-gives_empty_end (part_due c o s no_parts) k m d e = tt
 gives_empty_end (part_due c o s (part ps r v (slot_of nothing))) k m d e
     = absurd (not_left (block (slot (part_place c o s ps r v))) k m (part_due c o s (part ps r v (slot_of nothing))) (λ f. cc) (λ f. f) e)
-gives_empty_end (part_due c o s (part ps r v (slot_of (node x)))) k m d e = tt
 gives_empty_end (part_due c o s (part ps r v (indentless z is y nothing))) k m d e
     = absurd (not_left (block (indentless_entry (part_place c o s ps r v) z is y)) k m (part_due c o s (part ps r v (indentless z is y nothing))) (λ f. cc)
     (λ f. f) e)
-gives_empty_end (part_due c o s (part ps r v (indentless z is y (node x)))) k m d e = tt
-gives_empty_end (separator_due c (single x)) k m d e = tt
 gives_empty_end (separator_due c (pair y flow_nothing no_value)) k m d e
     = absurd (not_left (flow_key c y) k m (separator_due c (pair y flow_nothing no_value)) (λ f. cc) (λ f. f) e)
-gives_empty_end (separator_due c (pair y (flow_node x) no_value)) k m d e = tt
 gives_empty_end (separator_due c (pair y x (with_value v flow_nothing))) k m d e
     = absurd (not_left (flow_value c y x v) k m (separator_due c (pair y x (with_value v flow_nothing))) (λ f. cc) (λ f. f) e)
-gives_empty_end (separator_due c (pair y x (with_value v (flow_node z)))) k m d e = tt
+gives_empty_end _ k m d e = tt
 
 pub gives_content : (c : Cut) (k : Content) (m : Marks) → StopsAt c k m → WantsContent c k
 gives_content (content_due p) k m e = ends_nothing p k m e
@@ -182,7 +167,6 @@ no_root f (TagDirective x) m e = let h
 no_root f _ m e = refl
 
 pub gives_directive : (c : Cut) (k : Content) (m : Marks) → StopsAt c k m → FitsDirective c k
-gives_directive before_stream k m e = tt
 gives_directive (document_due d) k m e
     = document_fails (read_step m (edge_documents d) k) d (step_fails (edge_documents d) k m (document_due d) (λ f. f) e)
 gives_directive (start_due b ds d) k m e
@@ -191,9 +175,4 @@ gives_directive (at_directive (free f) no_directives) k m e = true_unless_false 
 gives_directive (at_directive (behind d) no_directives) k m e = true_unless_false (is_directive k) (λ g. no_directive (read_step m (edge_documents d) k) (behind d) no_directives g e)
 gives_directive (at_directive b (directive ds d)) k m e = true_unless_false (is_directive k) (λ g. no_directive (read_step m (headed b ds d) k) b (directive ds d) g e)
 gives_directive (content_due (block (root (implicit_root f)))) k m e = no_root f k m e
-gives_directive (content_due _) k m e = tt
-gives_directive (at_tag p) k m e = tt
-gives_directive (at_tag_behind p a x) k m e = tt
-gives_directive (entry_due c o s is) k m e = tt
-gives_directive (part_due c o s ps) k m e = tt
-gives_directive (separator_due c x) k m e = tt
+gives_directive _ k m e = tt

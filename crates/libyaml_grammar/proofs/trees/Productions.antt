@@ -9,8 +9,7 @@ use Rattle.libyaml_grammar.specs.sentences.Trees.{block_sequence, block_slot_tok
 use Rattle.libyaml_grammar.specs.sentences.Trees.{flow_items_tokens, flow_last_tokens, flow_member_tokens, flow_node_tokens, flow_slot_tokens, free}
 use Rattle.libyaml_grammar.specs.sentences.Trees.{items_tokens, last, no_directives, no_items, no_parts, no_value, node, nothing, opened, pair, part}
 use Rattle.libyaml_grammar.specs.sentences.Trees.{parts_tokens, properties_tokens, sequence, slot_tokens, value, whole}
-use Rattle.libyaml_grammar.specs.cuts.CutTrees.{Place, block, entry, explicit_root, flow_entry, flow_key, flow_value, implicit_root, indentless_entry}
-use Rattle.libyaml_grammar.specs.cuts.CutTrees.{place_tokens, root, slot}
+use Rattle.libyaml_grammar.specs.cuts.CutTrees.{Place, block, flow_entry, implicit_root, place_tokens, root}
 use Rattle.libyaml_grammar.specs.cuts.Rest.{any_encoding}
 use Rattle.libyaml_grammar.proofs.lent.Positions.{Position, between, due, flow_due, unopened}
 use Rattle.libyaml_grammar.proofs.lent.Reading.{feeds}
