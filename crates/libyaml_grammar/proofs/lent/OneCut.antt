@@ -11,7 +11,7 @@ use Rattle.libyaml_grammar.specs.sentences.Trees.{flow_node, flow_node_tokens, f
 use Rattle.libyaml_grammar.specs.sentences.Trees.{no_parts, no_value, node, nothing, opened, pair, part, scalar, sequence, single, slot_of, tag}
 use Rattle.libyaml_grammar.specs.sentences.Trees.{tag_directive, version, with_value}
 use Rattle.libyaml_grammar.specs.sentences.Order.{block_node_in_order, block_slot_in_order, both, declares, documents_in_order, flow_node_in_order}
-use Rattle.libyaml_grammar.specs.sentences.Order.{flow_slot_in_order, is_known, is_version, negated, no_version}
+use Rattle.libyaml_grammar.specs.sentences.Order.{flow_slot_in_order, is_known, is_accepted, negated, no_version}
 use Rattle.libyaml_grammar.specs.cuts.CutTrees.{BlockPlace, Cut, Open, Place, at_directive, at_tag, at_tag_behind, before_stream, block, block_place_in_order}
 use Rattle.libyaml_grammar.specs.cuts.CutTrees.{block_place_tokens, content_due, cut_in_order, cut_tokens, declared, declared_block, document_due, entry}
 use Rattle.libyaml_grammar.specs.cuts.CutTrees.{entry_due, explicit_root, flow_entry, flow_key, flow_value, implicit_root, indentless_entry, open_collection}
@@ -515,56 +515,56 @@ stops_headed b ds d _ m e n = refl
 pub stops_next : (b : Before) (ds : Directives) (d : Directive) (k : Content) (m : Marks) → is_directive k ≡ true
     → Stops (reads (headed b ds d) (tok k m)) (at_directive b (directive ds d))
 stops_next b ds d (VersionDirective x) m e n
-    = stops_order (headed b (directive ds d) (version x m)) (both (no_version (directive ds d)) (is_version x.major x.minor)) n
+    = stops_order (headed b (directive ds d) (version x m)) (both (no_version (directive ds d)) (is_accepted x.major x.minor)) n
 stops_next b ds d (TagDirective x) m e n = stops_order (headed b (directive ds d) (tag_directive x m)) (negated (declares (directive ds d) x.handle)) n
 stops_next b ds d _ m e n = cc
 
 stops_first : (f : Free) (k : Content) (m : Marks) → is_directive k ≡ true → Stops (reads (between (free f)) (tok k m)) (at_directive (free f) no_directives)
 stops_first f (VersionDirective x) m e n
-    = stops_order (headed (free f) no_directives (version x m)) (both (no_version no_directives) (is_version x.major x.minor)) n
+    = stops_order (headed (free f) no_directives (version x m)) (both (no_version no_directives) (is_accepted x.major x.minor)) n
 stops_first f (TagDirective x) m e n = stops_order (headed (free f) no_directives (tag_directive x m)) (negated (declares no_directives x.handle)) n
 stops_first f _ m e n = cc
 
 pub stops_behind_version : (d : Documents) (x : VersionAsked) (m : Marks)
     → Stops (reads (edge_documents d) (tok (VersionDirective x) m)) (at_directive (behind d) no_directives)
 stops_behind_version (implicit f (flow (alone ps))) x m n
-    = stops_order (headed (behind (implicit f (flow (alone ps)))) no_directives (version x m)) (both (no_version no_directives) (is_version x.major x.minor))
+    = stops_order (headed (behind (implicit f (flow (alone ps)))) no_directives (version x m)) (both (no_version no_directives) (is_accepted x.major x.minor))
     n
 stops_behind_version (implicit f (flow (alias a1 a2))) x m n
     = stops_order (headed (behind (implicit f (flow (alias a1 a2)))) no_directives (version x m))
-    (both (no_version no_directives) (is_version x.major x.minor)) n
+    (both (no_version no_directives) (is_accepted x.major x.minor)) n
 stops_behind_version (implicit f (flow (scalar a1 a2 a4))) x m n
     = stops_order (headed (behind (implicit f (flow (scalar a1 a2 a4)))) no_directives (version x m))
-    (both (no_version no_directives) (is_version x.major x.minor)) n
+    (both (no_version no_directives) (is_accepted x.major x.minor)) n
 stops_behind_version (implicit f (flow (collection a1 a2 a3 a4 a5 a6))) x m n
     = stops_order (headed (behind (implicit f (flow (collection a1 a2 a3 a4 a5 a6)))) no_directives (version x m))
-    (both (no_version no_directives) (is_version x.major x.minor)) n
+    (both (no_version no_directives) (is_accepted x.major x.minor)) n
 stops_behind_version (implicit f (block_sequence a1 a2 a3 a4)) x m n
     = stops_order (headed (behind (implicit f (block_sequence a1 a2 a3 a4))) no_directives (version x m))
-    (both (no_version no_directives) (is_version x.major x.minor)) n
+    (both (no_version no_directives) (is_accepted x.major x.minor)) n
 stops_behind_version (implicit f (block_mapping a1 a2 a3 a4)) x m n
     = stops_order (headed (behind (implicit f (block_mapping a1 a2 a3 a4))) no_directives (version x m))
-    (both (no_version no_directives) (is_version x.major x.minor)) n
+    (both (no_version no_directives) (is_accepted x.major x.minor)) n
 stops_behind_version (explicit b ds z nothing) x m n
-    = stops_order (headed (behind (explicit b ds z nothing)) no_directives (version x m)) (both (no_version no_directives) (is_version x.major x.minor)) n
+    = stops_order (headed (behind (explicit b ds z nothing)) no_directives (version x m)) (both (no_version no_directives) (is_accepted x.major x.minor)) n
 stops_behind_version (explicit b ds z (node (flow (alone ps)))) x m n
     = stops_order (headed (behind (explicit b ds z (node (flow (alone ps))))) no_directives (version x m))
-    (both (no_version no_directives) (is_version x.major x.minor)) n
+    (both (no_version no_directives) (is_accepted x.major x.minor)) n
 stops_behind_version (explicit b ds z (node (flow (alias a1 a2)))) x m n
     = stops_order (headed (behind (explicit b ds z (node (flow (alias a1 a2))))) no_directives (version x m))
-    (both (no_version no_directives) (is_version x.major x.minor)) n
+    (both (no_version no_directives) (is_accepted x.major x.minor)) n
 stops_behind_version (explicit b ds z (node (flow (scalar a1 a2 a4)))) x m n
     = stops_order (headed (behind (explicit b ds z (node (flow (scalar a1 a2 a4))))) no_directives (version x m))
-    (both (no_version no_directives) (is_version x.major x.minor)) n
+    (both (no_version no_directives) (is_accepted x.major x.minor)) n
 stops_behind_version (explicit b ds z (node (flow (collection a1 a2 a3 a4 a5 a6)))) x m n
     = stops_order (headed (behind (explicit b ds z (node (flow (collection a1 a2 a3 a4 a5 a6))))) no_directives (version x m))
-    (both (no_version no_directives) (is_version x.major x.minor)) n
+    (both (no_version no_directives) (is_accepted x.major x.minor)) n
 stops_behind_version (explicit b ds z (node (block_sequence a1 a2 a3 a4))) x m n
     = stops_order (headed (behind (explicit b ds z (node (block_sequence a1 a2 a3 a4)))) no_directives (version x m))
-    (both (no_version no_directives) (is_version x.major x.minor)) n
+    (both (no_version no_directives) (is_accepted x.major x.minor)) n
 stops_behind_version (explicit b ds z (node (block_mapping a1 a2 a3 a4))) x m n
     = stops_order (headed (behind (explicit b ds z (node (block_mapping a1 a2 a3 a4)))) no_directives (version x m))
-    (both (no_version no_directives) (is_version x.major x.minor)) n
+    (both (no_version no_directives) (is_accepted x.major x.minor)) n
 
 pub stops_behind_tag : (d : Documents) (x : HandleDeclared) (m : Marks)
     → Stops (reads (edge_documents d) (tok (TagDirective x) m)) (at_directive (behind d) no_directives)

@@ -10,7 +10,7 @@ use Rattle.libyaml_grammar.specs.sentences.Trees.{Properties, Role, alias, alone
 use Rattle.libyaml_grammar.specs.sentences.Trees.{directive, empty, ended, explicit, flow, flow_node, flow_nothing, free, implicit, indentless, item, mapping}
 use Rattle.libyaml_grammar.specs.sentences.Trees.{no_directives, no_parts, no_value, node, nothing, opened, pair, part, scalar, sequence, single, slot_of}
 use Rattle.libyaml_grammar.specs.sentences.Trees.{tag, tag_anchor, tag_directive, version, with_value}
-use Rattle.libyaml_grammar.specs.sentences.Order.{both, declares, is_known, is_version, negated, no_version}
+use Rattle.libyaml_grammar.specs.sentences.Order.{both, declares, is_known, is_accepted, negated, no_version}
 use Rattle.libyaml_grammar.specs.cuts.CutTrees.{BlockPlace, Cut, Place, at_directive, at_tag, at_tag_behind, before_stream, block, content_due, document_due}
 use Rattle.libyaml_grammar.specs.cuts.CutTrees.{entry, entry_due, explicit_root, flow_entry, flow_key, flow_value, implicit_root, indentless_entry}
 use Rattle.libyaml_grammar.specs.cuts.CutTrees.{open_collection, part_due, part_place, place_tokens, root, separator_due, slot, start_due}
@@ -37,7 +37,7 @@ ends_nothing_root b ds s DocumentStart m e = cc
 ends_nothing_root b ds s DocumentEnd m e = cc
 ends_nothing_root b ds s StreamEnd m e = cc
 ends_nothing_root b ds s (VersionDirective x) m e = let h
-    = order_or_goes (headed (behind (explicit b ds s nothing)) no_directives (version x m)) (both (no_version no_directives) (is_version x.major x.minor))
+    = order_or_goes (headed (behind (explicit b ds s nothing)) no_directives (version x m)) (both (no_version no_directives) (is_accepted x.major x.minor))
     (content_due (block (root (explicit_root b ds s)))) e in cc
 ends_nothing_root b ds s (TagDirective x) m e = let h
     = order_or_goes (headed (behind (explicit b ds s nothing)) no_directives (tag_directive x m)) (negated (declares no_directives x.handle))
@@ -400,7 +400,7 @@ no_next b ds d _ m e = refl
 no_root : (f : Free) (k : Content) (m : Marks) → reads (between (free f)) (tok k m) ≡ bad (content_due (block (root (implicit_root f))))
     → is_directive k ≡ false
 no_root f (VersionDirective x) m e = let h
-    = order_or_goes (headed (free f) no_directives (version x m)) (both (no_version no_directives) (is_version x.major x.minor))
+    = order_or_goes (headed (free f) no_directives (version x m)) (both (no_version no_directives) (is_accepted x.major x.minor))
     (content_due (block (root (implicit_root f)))) e in cc
 no_root f (TagDirective x) m e = let h
     = order_or_goes (headed (free f) no_directives (tag_directive x m)) (negated (declares no_directives x.handle))
