@@ -1,9 +1,10 @@
 pub mod Read
 pub mod Config
 pub mod State
+pub mod Want
+pub mod Slots
 pub mod Machine
 pub mod Collections
-pub mod Slots
 pub mod Growth
 pub mod Steps
 pub mod Answers

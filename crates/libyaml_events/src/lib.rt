@@ -2,6 +2,7 @@
 #![tactic(auto)]
 
 mod entries;
+mod event_kinds;
 pub mod laws;
 mod next;
 mod node_head;
@@ -12,6 +13,7 @@ mod pending;
 mod slot;
 mod states;
 
+pub use event_kinds::{is_event, is_stream_end, no_event};
 pub use parse::{yaml_parser_parse, yaml_parser_parse_into};
 pub use parser::{
     yaml_parser_between_documents, yaml_parser_delete, yaml_parser_initialize,

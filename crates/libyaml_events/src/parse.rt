@@ -1,21 +1,20 @@
 //! One call of the parser.
 ghost use Rattle.std.specs.Prelude.{◌≡◌, Ok, Err, true, false, IfErr, MatchResult};
-ghost use Rattle.libyaml_types.specs.Events.{empty_event};
 ghost use Rattle.libyaml_events.specs.machine.Config.{ended_or_failed};
 ghost use Rattle.libyaml_events.specs.sources.Calls.{Call, answered};
 ghost use Rattle.libyaml_events.specs.sources.History.{has_failed};
 ghost use Rattle.libyaml_events.specs.sources.ParsesNext.{ParsesNext};
 
-use crate::next::Next;
+use crate::event_kinds::no_event;
+use crate::next::{Next, Step};
 use crate::parser::{Machine, yaml_parser_t};
 use crate::pending::Pending;
 use libyaml_sources::yaml_token_source_t;
-use libyaml_types::{
-    ZERO_MARK, unnamed_yaml_event_t_data, yaml_error_type_t, yaml_event_t, yaml_token_t,
-};
+use libyaml_types::{yaml_error_type_t, yaml_event_t, yaml_token_t};
 
 impl<S: yaml_token_source_t> Machine<S> {
     /// Takes tokens until the event is given.
+    #[tactic(auto, using(crate::proofs::calls::CallLemmas::begun_alive))]
     fn fill(
         &mut self,
         token: &mut yaml_token_t,
@@ -34,8 +33,8 @@ impl<S: yaml_token_source_t> Machine<S> {
         loop {
             self.next_token(token)?;
             match self.step(next, token, pending, event)? {
-                Next::Given => return Ok(()),
-                wanted => next = wanted,
+                Step::Given => return Ok(()),
+                Step::Wants(wanted) => next = wanted,
             }
         }
     }
@@ -51,7 +50,7 @@ impl<S: yaml_token_source_t> yaml_parser_t<S> {
         ensures call { Call S.gives self.old (answered result event.new) self.new }
     {
         if self.machine.is_over() {
-            clear(event);
+            *event = no_event();
             return Ok(());
         }
         self.machine.fill(&mut self.token, &mut self.pending, event)
@@ -65,26 +64,10 @@ impl<S: yaml_token_source_t> yaml_parser_t<S> {
         ensures bound { self.new.max_entries ≡ self.old.max_entries }
         ensures call { Call S.gives self.old result self.new }
     {
-        let mut event = yaml_event_t {
-            content: unnamed_yaml_event_t_data::NoEvent,
-            start_mark: ZERO_MARK,
-            end_mark: ZERO_MARK,
-        };
+        let mut event = no_event();
         self.next_event_into(&mut event)?;
         Ok(event)
     }
-}
-
-/// Puts the empty event into `event`.
-#[cold]
-fn clear(event: &mut yaml_event_t)
-    ensures { event.new ≡ empty_event }
-{
-    *event = yaml_event_t {
-        content: unnamed_yaml_event_t_data::NoEvent,
-        start_mark: ZERO_MARK,
-        end_mark: ZERO_MARK,
-    };
 }
 
 /// Returns the next event of the stream. After the stream's end or a fault it is the empty event: nothing

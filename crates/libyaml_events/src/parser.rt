@@ -66,7 +66,7 @@ pub struct Machine<S> {
 }
 
 impl<S> Model for Machine<S> {
-    ghost use Rattle.std.specs.Prelude.{ℕ, All, reverse};
+    ghost use Rattle.std.specs.Prelude.{All, reverse};
     ghost use Rattle.std.specs.Coded.{codes};
     ghost use Rattle.libyaml_sources.specs.Fault.{fault_of};
     ghost use Rattle.libyaml_events.specs.machine.State.{stack_of, IsBackByte};

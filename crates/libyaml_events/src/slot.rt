@@ -4,8 +4,7 @@ ghost use Rattle.libyaml_types.specs.Numbers.{parser_state_number};
 ghost use Rattle.libyaml_events.specs.machine.State.{IsBackByte};
 
 use crate::node_place::NodePlace;
-use crate::pending::Pending;
-use libyaml_types::{unnamed_yaml_token_t_data, yaml_mark_t, yaml_parser_state_t, yaml_token_t};
+use libyaml_types::{unnamed_yaml_token_t_data, yaml_parser_state_t};
 
 /// A place where a node may be nothing (docs/DEFINITIONS.md, "Where a node may be nothing").
 #[derive(Copy, Clone)]
@@ -22,7 +21,7 @@ pub enum Slot {
 }
 
 impl Slot {
-    ghost use Rattle.libyaml_events.specs.machine.Slots.{is_nothing_before, state_behind, place, empty_mark};
+    ghost use Rattle.libyaml_events.specs.machine.Slots.{is_nothing_before, state_behind, place};
 
     /// Whether the node is nothing before this token.
     #[inline(always)]
@@ -112,20 +111,6 @@ impl Slot {
             Slot::BlockEntry | Slot::IndentlessEntry | Slot::Document => NodePlace::Block,
             Slot::BlockKey | Slot::BlockValue => NodePlace::BlockOrIndentlessSequence,
             Slot::PairKey | Slot::PairValue | Slot::FlowKey | Slot::FlowValue => NodePlace::Flow,
-        }
-    }
-
-    /// Where the empty node stands: after the indicator of a block collection, or before the next token.
-    #[inline(always)]
-    pub fn empty_mark(self, pending: &Pending, token: &yaml_token_t) -> yaml_mark_t
-        ensures { result ≡ empty_mark self pending.now.mark token.now.start_mark }
-    {
-        match self {
-            Slot::BlockEntry | Slot::IndentlessEntry | Slot::BlockKey | Slot::BlockValue => {
-                pending.mark
-            }
-            Slot::Document | Slot::PairKey | Slot::PairValue | Slot::FlowKey | Slot::FlowValue =>
-                token.start_mark,
         }
     }
 }

@@ -7,17 +7,17 @@
 //!
 //! The token is in a slot of the parser's. A function moves out of the slot what it keeps of the token; the
 //! rest is dropped when the next token is put there.
-ghost use Rattle.std.specs.Prelude.{◌≡◌, Ok, Err, OnOk, OnErr, IfErr, true, is_some};
+ghost use Rattle.std.specs.Prelude.{◌≡◌, Ok, Err, OnOk, OnErr, true, is_some};
 ghost use Rattle.libyaml_sources.specs.Fault.{memory_fault};
-ghost use Rattle.libyaml_grammar.specs.cuts.FaultTexts.{document_start_fault};
 ghost use Rattle.libyaml_grammar.specs.sentences.Events.{event};
 ghost use Rattle.libyaml_events.specs.machine.Config.{with_config, with_fault, at, pushed_mark};
-ghost use Rattle.libyaml_events.specs.machine.Machine.{step, at_state, process_empty_scalar};
+ghost use Rattle.libyaml_events.specs.machine.Machine.{step, at_state, at_slot, process_empty_scalar};
 ghost use Rattle.libyaml_events.specs.machine.Machine.{close_collection};
 ghost use Rattle.libyaml_events.specs.machine.Steps.{Steps};
-ghost use Rattle.libyaml_events.specs.machine.Slots.{at_slot, state_behind, entered};
+ghost use Rattle.libyaml_events.specs.machine.Slots.{state_behind, entered};
 ghost use Rattle.libyaml_events.specs.machine.Answers.{answer, wanted};
-ghost use Rattle.libyaml_events.specs.declared.next.Progress.TheVariants.{Given};
+ghost use Rattle.libyaml_events.specs.declared.next.Step.TheVariants.{Wants};
+ghost use Rattle.libyaml_events.specs.machine.Want.{Given};
 ghost use Rattle.libyaml_events.specs.machine.Growth.{enters, may_grow, may_grow_at};
 
 mod block;
@@ -25,7 +25,7 @@ mod documents;
 mod flow;
 mod nodes;
 
-use crate::next::Next;
+use crate::next::{Next, Step};
 use crate::node_place::NodePlace;
 use crate::parser::Machine;
 use crate::pending::Pending;
@@ -68,42 +68,54 @@ impl<S> Machine<S> {
         token: &mut yaml_token_t,
         pending: &mut Pending,
         out: &mut yaml_event_t,
-    ) -> Result<Next, yaml_error_type_t>
+    ) -> Result<Step, yaml_error_type_t>
+        requires { self.old.config.state ≡ yaml_parser_state_t.YAML_PARSE_END_STATE → ⊥ }
         ensures steps { Steps (step (wanted next pending.old) self.old.config token.old) self.old
             (answer result pending.new out.new) self.new }
         ensures grows { result ≡ Err yaml_error_type_t.YAML_MEMORY_ERROR
             → may_grow (wanted next pending.old) self.old.config token.old.content ≡ true }
     {
         match next {
-            Next::Given | Next::AtState => self.parse_at_state(token, pending, out),
+            Next::AtState => self.parse_at_state(token, pending, out),
             Next::BehindDirective => self.parse_explicit_document(token, pending, out),
             Next::BehindProperties => self.parse_behind_properties(token, pending, out),
-            Next::BehindBlockEntry => self.parse_slot(Slot::BlockEntry, token, pending, out),
-            Next::BehindIndentlessEntry => {
-                self.parse_slot(Slot::IndentlessEntry, token, pending, out)
+            Next::BehindBlockEntry => {
+                self.parse_slot(Slot::BlockEntry, pending.mark, token, pending, out)
             }
-            Next::BehindKey => self.parse_slot(Slot::BlockKey, token, pending, out),
-            Next::BehindValue => self.parse_slot(Slot::BlockValue, token, pending, out),
+            Next::BehindIndentlessEntry => {
+                self.parse_slot(Slot::IndentlessEntry, pending.mark, token, pending, out)
+            }
+            Next::BehindKey => self.parse_slot(Slot::BlockKey, pending.mark, token, pending, out),
+            Next::BehindValue => {
+                self.parse_slot(Slot::BlockValue, pending.mark, token, pending, out)
+            }
             Next::BehindFlowSequenceEntry => {
                 self.parse_behind_flow_sequence_entry(token, pending, out)
             }
-            Next::BehindFlowSequenceValue => self.parse_slot(Slot::PairValue, token, pending, out),
+            Next::BehindFlowSequenceValue => {
+                self.parse_slot(Slot::PairValue, token.start_mark, token, pending, out)
+            }
             Next::BehindFlowMappingEntry => {
                 self.parse_behind_flow_mapping_entry(token, pending, out)
             }
-            Next::BehindFlowMappingKey => self.parse_slot(Slot::FlowKey, token, pending, out),
-            Next::BehindFlowMappingValue => self.parse_slot(Slot::FlowValue, token, pending, out),
+            Next::BehindFlowMappingKey => {
+                self.parse_slot(Slot::FlowKey, token.start_mark, token, pending, out)
+            }
+            Next::BehindFlowMappingValue => {
+                self.parse_slot(Slot::FlowValue, token.start_mark, token, pending, out)
+            }
         }
     }
 
-    /// Takes one token in the function of the parser's state.
+    /// Takes one token in the function of the parser's state. After the stream's end no token is taken.
     #[inline(always)]
     fn parse_at_state(
         &mut self,
         token: &mut yaml_token_t,
         pending: &mut Pending,
         out: &mut yaml_event_t,
-    ) -> Result<Next, yaml_error_type_t>
+    ) -> Result<Step, yaml_error_type_t>
+        requires { self.old.config.state ≡ yaml_parser_state_t.YAML_PARSE_END_STATE → ⊥ }
         ensures steps { Steps (at_state self.old.config.state self.old.config token.old token.old.content)
             self.old (answer result pending.new out.new) self.new }
         ensures grows { result ≡ Err yaml_error_type_t.YAML_MEMORY_ERROR
@@ -120,11 +132,11 @@ impl<S> Machine<S> {
                 self.parse_document_start(token, pending, out)
             }
             yaml_parser_state_t::YAML_PARSE_DOCUMENT_CONTENT_STATE => {
-                self.parse_slot(Slot::Document, token, pending, out)
+                self.parse_slot(Slot::Document, token.start_mark, token, pending, out)
             }
             yaml_parser_state_t::YAML_PARSE_DOCUMENT_END_STATE => {
                 self.parse_document_end(token, out);
-                Ok(Next::Given)
+                Ok(Step::Given)
             }
             yaml_parser_state_t::YAML_PARSE_BLOCK_NODE_STATE => {
                 self.parse_node(NodePlace::Block, token, pending, out)
@@ -136,7 +148,11 @@ impl<S> Machine<S> {
                 self.parse_node(NodePlace::Flow, token, pending, out)
             }
             yaml_parser_state_t::YAML_PARSE_BLOCK_SEQUENCE_FIRST_ENTRY_STATE => {
-                self.parse_first_block_sequence_entry(token, pending, out)
+                self.parse_first_entry(
+                    yaml_parser_state_t::YAML_PARSE_BLOCK_SEQUENCE_ENTRY_STATE,
+                    Next::AtState,
+                    token,
+                )
             }
             yaml_parser_state_t::YAML_PARSE_BLOCK_SEQUENCE_ENTRY_STATE => {
                 self.parse_block_sequence_entry(token, pending, out)
@@ -145,7 +161,11 @@ impl<S> Machine<S> {
                 self.parse_indentless_sequence_entry(token, pending, out)
             }
             yaml_parser_state_t::YAML_PARSE_BLOCK_MAPPING_FIRST_KEY_STATE => {
-                self.parse_first_block_mapping_key(token, pending, out)
+                self.parse_first_entry(
+                    yaml_parser_state_t::YAML_PARSE_BLOCK_MAPPING_KEY_STATE,
+                    Next::AtState,
+                    token,
+                )
             }
             yaml_parser_state_t::YAML_PARSE_BLOCK_MAPPING_KEY_STATE => {
                 self.parse_block_mapping_key(token, pending, out)
@@ -154,23 +174,31 @@ impl<S> Machine<S> {
                 self.parse_block_mapping_value(token, pending, out)
             }
             yaml_parser_state_t::YAML_PARSE_FLOW_SEQUENCE_FIRST_ENTRY_STATE => {
-                self.parse_first_flow_sequence_entry(token, pending, out)
+                self.parse_first_entry(
+                    yaml_parser_state_t::YAML_PARSE_FLOW_SEQUENCE_ENTRY_STATE,
+                    Next::BehindFlowSequenceEntry,
+                    token,
+                )
             }
             yaml_parser_state_t::YAML_PARSE_FLOW_SEQUENCE_ENTRY_STATE => {
                 self.parse_flow_sequence_entry(token, pending, out)
             }
             yaml_parser_state_t::YAML_PARSE_FLOW_SEQUENCE_ENTRY_MAPPING_KEY_STATE => {
-                self.parse_slot(Slot::PairKey, token, pending, out)
+                self.parse_slot(Slot::PairKey, token.start_mark, token, pending, out)
             }
             yaml_parser_state_t::YAML_PARSE_FLOW_SEQUENCE_ENTRY_MAPPING_VALUE_STATE => {
                 self.parse_flow_sequence_entry_mapping_value(token, pending, out)
             }
             yaml_parser_state_t::YAML_PARSE_FLOW_SEQUENCE_ENTRY_MAPPING_END_STATE => {
                 self.parse_flow_sequence_entry_mapping_end(token, out);
-                Ok(Next::Given)
+                Ok(Step::Given)
             }
             yaml_parser_state_t::YAML_PARSE_FLOW_MAPPING_FIRST_KEY_STATE => {
-                self.parse_first_flow_mapping_key(token, pending, out)
+                self.parse_first_entry(
+                    yaml_parser_state_t::YAML_PARSE_FLOW_MAPPING_KEY_STATE,
+                    Next::BehindFlowMappingEntry,
+                    token,
+                )
             }
             yaml_parser_state_t::YAML_PARSE_FLOW_MAPPING_KEY_STATE => {
                 self.parse_flow_mapping_key(token, pending, out)
@@ -180,38 +208,24 @@ impl<S> Machine<S> {
             }
             yaml_parser_state_t::YAML_PARSE_FLOW_MAPPING_EMPTY_VALUE_STATE => {
                 self.parse_flow_mapping_empty_value(token, out);
-                Ok(Next::Given)
+                Ok(Step::Given)
             }
-            yaml_parser_state_t::YAML_PARSE_END_STATE => self.parse_at_end(token, pending, out),
+            yaml_parser_state_t::YAML_PARSE_END_STATE => unreachable!(),
         }
     }
 
-    /// Fails at a token after the stream's end. No call of the parser takes such a token.
-    #[cold]
-    fn parse_at_end(
-        &mut self,
-        token: &yaml_token_t,
-        pending: &mut Pending,
-        out: &mut yaml_event_t,
-    ) -> Result<Next, yaml_error_type_t>
-        ensures steps { Steps (Err (document_start_fault token.now.start_mark)) self.old
-            (answer result pending.new out.new) self.new }
-        ensures error { IfErr result (λ e. e ≡ yaml_error_type_t.YAML_PARSER_ERROR) }
-    {
-        Err(self.set_parser_error("did not find expected <document start>", token.start_mark))
-    }
-
     /// Takes the token at a place where a node may be left out. Before some tokens it is left out
-    /// (`is_nothing_before`), and its event is an empty scalar; any other token begins the node.
+    /// (`is_nothing_before`), and its event is an empty scalar at `mark`; any other token begins the node.
     #[inline(always)]
     fn parse_slot(
         &mut self,
         slot: Slot,
+        mark: yaml_mark_t,
         token: &mut yaml_token_t,
         pending: &mut Pending,
         out: &mut yaml_event_t,
-    ) -> Result<Next, yaml_error_type_t>
-        ensures steps { Steps (at_slot slot pending.old.mark self.old.config token.old token.old.content)
+    ) -> Result<Step, yaml_error_type_t>
+        ensures steps { Steps (at_slot slot mark self.old.config token.old token.old.content)
             self.old (answer result pending.new out.new) self.new }
         ensures grows { result ≡ Err yaml_error_type_t.YAML_MEMORY_ERROR
             → enters slot token.old.content ≡ true }
@@ -221,8 +235,8 @@ impl<S> Machine<S> {
                 Some(state) => self.set_state(state),
                 None => self.pop_state(),
             }
-            self.process_empty_scalar(slot.empty_mark(pending, token), token, out);
-            return Ok(Next::Given);
+            self.process_empty_scalar(mark, token, out);
+            return Ok(Step::Given);
         }
         self.push_state_behind(slot)?;
         self.parse_node(slot.place(), token, pending, out)
@@ -261,20 +275,22 @@ impl<S> Machine<S> {
         give(out, plain_scalar(None, None, text, true), mark, mark);
     }
 
-    /// Pushes the mark where a collection starts, and sets the state.
-    fn open(
+    /// At the token that starts a collection: its start is kept, and `state` says what comes in it.
+    #[inline(never)]
+    fn parse_first_entry(
         &mut self,
-        start: yaml_mark_t,
         state: yaml_parser_state_t,
-    ) -> Result<(), yaml_error_type_t>
-        ensures ok { OnOk result (self.new
-            ≡ with_config self.old (at state (pushed_mark start self.old.config))) }
+        next: Next,
+        token: &yaml_token_t,
+    ) -> Result<Step, yaml_error_type_t>
+        ensures ok { OnOk result ((result ≡ Ok (Wants next))
+            × (self.new ≡ with_config self.old (at state (pushed_mark token.now.start_mark self.old.config)))) }
         ensures err { OnErr result ((result ≡ Err yaml_error_type_t.YAML_MEMORY_ERROR)
             × (self.new ≡ with_config self.old (with_fault self.old.config memory_fault))) }
     {
-        self.push_mark(start)?;
+        self.push_mark(token.start_mark)?;
         self.set_state(state);
-        Ok(())
+        Ok(Step::Wants(next))
     }
 
     /// Gives the end event of the innermost collection, at the token that closes it.

@@ -35,6 +35,7 @@ pub use Rattle.libyaml_events.specs.machine.Growth
 pub use Rattle.libyaml_events.specs.machine.Machine
 pub use Rattle.libyaml_events.specs.machine.Slots
 pub use Rattle.libyaml_events.specs.machine.State
+pub use Rattle.libyaml_events.specs.machine.Want
 pub use Rattle.libyaml_events.specs.parsers.EventsLeft
 pub use Rattle.libyaml_events.specs.parsers.Lookahead
 pub use Rattle.libyaml_events.specs.parsers.OutsideEvents

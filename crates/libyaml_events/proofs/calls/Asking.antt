@@ -7,8 +7,7 @@ use Rattle.libyaml_events.specs.machine.Growth.{may_grow}
 use Rattle.libyaml_events.specs.machine.Machine.{Progressed, step}
 use Rattle.libyaml_events.specs.sources.Calls.{EventOrError, Then, Calls, RefusedAt, Refused}
 use Rattle.libyaml_events.specs.sources.History.{answers}
-use Rattle.libyaml_events.specs.declared.next.Want.{Want}
-use Rattle.libyaml_events.specs.declared.next.Progress.TheVariants.{Given, Wants}
+use Rattle.libyaml_events.specs.machine.Want.{Want, Given, Wants}
 
 -- after a step a further token is asked for only where one is wanted
 abbrev pub AsksOn : Progressed → (Want → Config → Type 0) → List Answer → Type 0

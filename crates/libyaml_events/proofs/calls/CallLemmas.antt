@@ -1,5 +1,5 @@
 -- how the steps of a call make the call
-use Rattle.std.proofs.Common.{◌≡◌, ◌++◌, ◌∷◌, List, [], Option, Some, None, Ok, Err, Bool, true, false, refl, ap, sym, ◌∙◌, subst, inl, inr, append_assoc}
+use Rattle.std.proofs.Common.{◌≡◌, ◌++◌, ◌∷◌, ◌||◌, List, [], Option, Some, None, Ok, Err, Bool, true, false, refl, ap, sym, ◌∙◌, subst, inl, inr, append_assoc, ℕ, ◌+◌, ◌<◌, length, arith}
 use Rattle.std.proofs.lemmas.List.{append-nil}
 use Rattle.libyaml_types.specs.declared.token.yaml_token_t.{yaml_token_t}
 use Rattle.libyaml_types.specs.declared.event.yaml_event_t.{yaml_event_t}
@@ -7,15 +7,15 @@ use Rattle.libyaml_types.specs.declared.enums.yaml_error_type_t.{yaml_error_type
 use Rattle.libyaml_types.specs.declared.enums.yaml_error_type_t.TheVariants.{YAML_MEMORY_ERROR, YAML_PARSER_ERROR}
 use Rattle.libyaml_sources.specs.Errors.{IsSourceError}
 use Rattle.libyaml_sources.specs.Fault.{Answer}
-use Rattle.libyaml_events.specs.machine.Config.{Config, Parser, taken, ended_or_failed}
+use Rattle.libyaml_types.specs.declared.enums.yaml_parser_state_t.TheVariants.{YAML_PARSE_END_STATE}
+use Rattle.libyaml_events.specs.machine.Config.{Config, Parser, taken, ended_or_failed, is_fault, is_end_state}
+use Rattle.libyaml_events.proofs.calls.NotOver.{NotOver, not_over}
 use Rattle.libyaml_events.specs.machine.Growth.{may_grow}
 use Rattle.libyaml_events.specs.machine.Machine.{step}
 use Rattle.libyaml_events.specs.machine.Steps.{Steps}
-use Rattle.libyaml_events.specs.sources.Calls.{EventOrError, Gave, held, Fetches, FetchesFrom, Then, Calls, RefusedAt, Refused, Parses, ParsesIf, AreOfSource}
+use Rattle.libyaml_events.specs.sources.Calls.{EventOrError, Gave, held, held_token, Fetches, FetchesFrom, Then, Calls, RefusedAt, Refused, Parses, ParsesIf, AreOfSource}
 use Rattle.libyaml_events.specs.sources.Calls.{Call}
-use Rattle.libyaml_events.specs.declared.next.Want.{Want}
-use Rattle.libyaml_events.specs.declared.next.Want.TheVariants.{AtState}
-use Rattle.libyaml_events.specs.declared.next.Progress.TheVariants.{Given, Wants}
+use Rattle.libyaml_events.specs.machine.Want.{Want, AtState, Given, Wants}
 
 Gave-snoc : {S : Type 0} (gives : S → Answer → S → Type 0) (s : S) (asked : List Answer) (m : S) (a : Answer) (t : S) → Gave gives s asked m → gives m a t
     → Gave gives s (asked ++ a ∷ []) t
@@ -30,9 +30,21 @@ of_source-snoc (Err f ∷ rest) a h i = (h.0, of_source-snoc rest a h.1 i)
 taken_same : (c : Config) → c.lookahead ≡ None → taken c ≡ c
 taken_same c e = ap (λ (l : Option yaml_token_t). let d : Config = record c { lookahead = l } in d) (sym e)
 
+-- a parser that may be called is not at the stream's end
+pub begun_alive : (c : Config) → ended_or_failed c ≡ false → c.state ≡ YAML_PARSE_END_STATE → ⊥
+begun_alive c h e = go (is_fault c.fault.error) h
+  where
+    no : true ≡ false → ⊥
+    no i = cc
+
+    go : (b : Bool) → (b || is_end_state c.state) ≡ false → ⊥
+    go true i = no i
+    go false i = no (sym (ap is_end_state e) ∙ i)
+
 -- within a call: what it asked so far, and that the rest of the call is the rest of the whole
 pub record Reading {S : Type 0} (gives : S → Answer → S → Type 0) (first now : Parser S) (w : Want) : Type 0 where
   pub begun : ended_or_failed first.config ≡ false
+  pub alive : now.config.state ≡ YAML_PARSE_END_STATE → ⊥
   pub bound : now.max_entries ≡ first.max_entries
   pub asked : List Answer
   pub gave : Gave gives first.source asked now.source
@@ -45,6 +57,7 @@ pub record Reading {S : Type 0} (gives : S → Answer → S → Type 0) (first n
 -- within a call, with a token in hand
 pub record InHand {S : Type 0} (gives : S → Answer → S → Type 0) (first now : Parser S) (w : Want) (t : yaml_token_t) : Type 0 where
   pub begun : ended_or_failed first.config ≡ false
+  pub alive : now.config.state ≡ YAML_PARSE_END_STATE → ⊥
   pub bound : now.max_entries ≡ first.max_entries
   pub asked : List Answer
   pub taken_is : now.config.lookahead ≡ None
@@ -62,9 +75,9 @@ refused_later grows w c [] k = absurd k
 refused_later grows w c (a ∷ rest) k = k
 
 -- a call of a parser that has not ended
-not_over : (c : Config) (asked : List Answer) (r : EventOrError) (new : Config) → ended_or_failed c ≡ false → ParsesIf false c asked r new
+begun_call : (c : Config) (asked : List Answer) (r : EventOrError) (new : Config) → ended_or_failed c ≡ false → ParsesIf false c asked r new
     → Parses c asked r new
-not_over c asked r new e h = subst (λ b. ParsesIf b c asked r new) (sym e) h
+begun_call c asked r new e h = subst (λ b. ParsesIf b c asked r new) (sym e) h
 
 module _ {S : Type 0} (gives : S → Answer → S → Type 0) (first old : Parser S) (w : Want) (reading : Reading gives first old w) where
   fetched_at : (t : yaml_token_t) (now : Parser S) (look : Option yaml_token_t) → old.config.lookahead ≡ look → FetchesFrom gives look old (Ok t) now
@@ -73,6 +86,7 @@ module _ {S : Type 0} (gives : S → Answer → S → Type 0) (first old : Parse
       let same : t ≡ u = cc in
       record {
         begun = reading.begun;
+        alive = λ i. reading.alive (ap (λ (p : Parser S). p.config.state) (sym h.1) ∙ i);
         bound = ap (λ (p : Parser S). p.max_entries) h.1 ∙ reading.bound;
         asked = reading.asked;
         taken_is = ap (λ (p : Parser S). p.config.lookahead) h.1;
@@ -83,6 +97,7 @@ module _ {S : Type 0} (gives : S → Answer → S → Type 0) (first old : Parse
       }
   fetched_at t now None e h = record {
     begun = reading.begun;
+    alive = λ i. reading.alive (ap (λ (c : Config). c.state) (sym h.1) ∙ i);
     bound = h.2 ∙ reading.bound;
     asked = reading.asked ++ Ok t ∷ [];
     taken_is = ap (λ (c : Config). c.lookahead) h.1;
@@ -103,7 +118,7 @@ module _ {S : Type 0} (gives : S → Answer → S → Type 0) (first old : Parse
     asked = reading.asked ++ Err now.config.fault ∷ [];
     gave = Gave-snoc gives first.source reading.asked old.source (Err now.config.fault) now.source reading.gave h.0;
     of_source = of_source-snoc reading.asked (Err now.config.fault) reading.of_source (subst IsSourceError h.2 h.4, tt);
-    does = not_over first.config (reading.asked ++ Err now.config.fault ∷ []) (Err x) now.config reading.begun
+    does = begun_call first.config (reading.asked ++ Err now.config.fault ∷ []) (Err x) now.config reading.begun
         (inl (reading.goes_on (Err now.config.fault ∷ []) (Err x) now.config (rw e (refl, ap Err h.2, h.1))));
   }
 
@@ -117,7 +132,7 @@ module _ {S : Type 0} (gives : S → Answer → S → Type 0) (first now : Parse
     asked = hand.asked;
     gave = rw h.1 hand.gave;
     of_source = hand.of_source;
-    does = not_over first.config hand.asked (Ok e) new.config hand.begun (rw append-nil at (hand.goes_on [] (Ok e) new.config (rw h.0 (refl, refl, refl))));
+    does = begun_call first.config hand.asked (Ok e) new.config hand.begun (rw append-nil at (hand.goes_on [] (Ok e) new.config (rw h.0 (refl, refl, refl))));
   }
 
   -- so does a fault of the grammar, or out of memory where the step may take some
@@ -127,13 +142,13 @@ module _ {S : Type 0} (gives : S → Answer → S → Type 0) (first now : Parse
     asked = hand.asked;
     gave = rw h.1 hand.gave;
     of_source = hand.of_source;
-    does = not_over first.config hand.asked (Err YAML_MEMORY_ERROR) new.config hand.begun (inr (rw append-nil at (hand.refuses_on [] (grows refl)), h.0));
+    does = begun_call first.config hand.asked (Err YAML_MEMORY_ERROR) new.config hand.begun (inr (rw append-nil at (hand.refuses_on [] (grows refl)), h.0));
   }
   gave_fault YAML_PARSER_ERROR new h grows = record {
     asked = hand.asked;
     gave = rw h.1 hand.gave;
     of_source = hand.of_source;
-    does = not_over first.config hand.asked (Err YAML_PARSER_ERROR) new.config hand.begun
+    does = begun_call first.config hand.asked (Err YAML_PARSER_ERROR) new.config hand.begun
         (inl (rw append-nil at (hand.goes_on [] (Err YAML_PARSER_ERROR) new.config (rw h.0.0 (refl, ap Err (sym h.0.1), refl)))));
   }
   gave_fault _ new h grows = absurd h.0
@@ -144,6 +159,7 @@ module _ {S : Type 0} (gives : S → Answer → S → Type 0) (first now : Parse
       let none : new.config.lookahead ≡ None = h.3 ∙ hand.taken_is in
       record {
         begun = hand.begun;
+        alive = subst NotOver h.0 (not_over w now.config t t.content hand.alive);
         bound = h.2 ∙ hand.bound;
         asked = hand.asked;
         gave = rw h.1 hand.gave;
@@ -153,3 +169,25 @@ module _ {S : Type 0} (gives : S → Answer → S → Type 0) (first now : Parse
             (rw h.0 (refused_later (may_grow w now.config t.content) w' new.config rest
             (subst (λ c. Refused w' c rest) (taken_same new.config none) (rw none at k))));
       }
+
+-- a token that was taken and not kept makes the parser smaller
+module _ {S : Type 0} (gives : S → Answer → S → Type 0) (bound : S → ℕ) (falls : (s t : S) (token : yaml_token_t) → gives s (Ok token) t
+    → bound s ≡ bound t + 1) (old mid new : Parser S) (t : yaml_token_t) where
+  smaller_at : (l : Option yaml_token_t) → old.config.lookahead ≡ l → FetchesFrom gives l old (Ok t) mid → new.source ≡ mid.source
+      → new.config.lookahead ≡ mid.config.lookahead → bound new.source + length (held new.config) < bound old.source + length (held old.config)
+  smaller_at (Some u) e h s l =
+      let a : bound new.source ≡ bound old.source = ap bound (s ∙ ap (λ (p : Parser S). p.source) h.1) in
+      let b : length (held new.config) ≡ 0 = ap (λ (o : Option yaml_token_t). length (held_token o)) (l ∙ ap (λ (p : Parser S). p.config.lookahead) h.1) in
+      let c : length (held old.config) ≡ 1 = ap (λ (o : Option yaml_token_t). length (held_token o)) e in
+      omega arith
+  smaller_at None e h s l =
+      let a : bound new.source ≡ bound mid.source = ap bound s in
+      let b : length (held new.config) ≡ 0 = ap (λ (o : Option yaml_token_t). length (held_token o)) (l ∙ ap (λ (c : Config). c.lookahead) h.1) in
+      let c : length (held old.config) ≡ 0 = ap (λ (o : Option yaml_token_t). length (held_token o)) e in
+      let d = falls _ _ _ h.0 in
+      omega arith
+
+  -- a token was taken, and none was kept
+  pub takes_one : Fetches gives old (Ok t) mid → (new.source ≡ mid.source) × (new.config.lookahead ≡ mid.config.lookahead)
+      → bound new.source + length (held new.config) < bound old.source + length (held old.config)
+  takes_one h k = smaller_at old.config.lookahead refl h k.0 k.1

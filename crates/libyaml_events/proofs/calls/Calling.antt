@@ -16,9 +16,7 @@ use Rattle.libyaml_events.proofs.calls.Asking.{Asks, AsksOn}
 use Rattle.libyaml_events.proofs.machine.Follow.{more}
 use Rattle.libyaml_events.proofs.machine.Link.{config_of}
 use Rattle.libyaml_events.proofs.machine.Stand.{Leads, Links, Stands, amid_leads, amid_token, at_place, at_position, stand_leads, Fails}
-use Rattle.libyaml_events.specs.declared.next.Want.{Want}
-use Rattle.libyaml_events.specs.declared.next.Want.TheVariants.{AtState}
-use Rattle.libyaml_events.specs.declared.next.Progress.TheVariants.{Given, Wants}
+use Rattle.libyaml_events.specs.machine.Want.{Want, AtState, Given, Wants}
 use Rattle.libyaml_types.specs.declared.enums.yaml_parser_state_t.TheVariants.{YAML_PARSE_END_STATE}
 use Rattle.libyaml_types.specs.declared.enums.yaml_error_type_t.{yaml_error_type_t}
 
@@ -127,15 +125,6 @@ answers_same (t ∷ l) (u ∷ a) e
 
     go : (t u : Token) → ◌≡◌ {A = Answer} (Ok t) (Ok u) → l ≡ a → t ∷ l ≡ u ∷ a
     go t u f g = cc
-
-no_fault_there : (l a : List Token) (f : Fault) → answers l [] ≡ answers a (Err f ∷ []) → ⊥
-no_fault_there [] [] f e = cc
-no_fault_there [] (u ∷ a) f e = cc
-no_fault_there (t ∷ l) [] f e = cc
-no_fault_there (t ∷ l) (u ∷ a) f e = no_fault_there l a f (tail_same (Ok t) (Ok u) (answers l []) (answers a (Err f ∷ [])) e)
-  where
-    tail_same : (b c : Answer) (m n : List Answer) → b ∷ m ≡ c ∷ n → m ≡ n
-    tail_same b c m n e = cc
 
 -- a call that gives an event leaves a linked parser
 pub call_gives : (c : Config) (asked : List Token) (events : List Event) → Links c asked events → ended_or_failed c ≡ false

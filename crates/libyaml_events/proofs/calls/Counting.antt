@@ -23,9 +23,7 @@ use Rattle.libyaml_grammar.proofs.lent.Lists.{nil_right}
 use Rattle.libyaml_grammar.proofs.lent.Running.{sentence_run}
 use Rattle.libyaml_events.proofs.machine.Stand.{Links, amid_token, at_position}
 use Rattle.libyaml_grammar.proofs.lent.StepsMeet.{IsMet, Meets, step_met}
-use Rattle.libyaml_events.specs.declared.next.Want.{Want}
-use Rattle.libyaml_events.specs.declared.next.Want.TheVariants.{AtState}
-use Rattle.libyaml_events.specs.declared.next.Progress.TheVariants.{Given, Wants}
+use Rattle.libyaml_events.specs.machine.Want.{Want, AtState, Given, Wants}
 
 length_append : {A : Type 0} (a b : List A) → length (a ++ b) ≡ length a + length b
 length_append [] b = omega arith

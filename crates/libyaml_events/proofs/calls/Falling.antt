@@ -2,21 +2,18 @@
 use Rattle.std.proofs.Common.{◌≡◌, ◌≤◌, ◌<◌, ◌+◌, ◌*◌, arith, ℕ, List, [], ◌∷◌, ◌++◌, length, Option, Some, None, true, false, Ok, Err, IfOk, refl, sym}
 use Rattle.std.proofs.Common.{ap, subst}
 use Rattle.libyaml_types.specs.declared.enums.yaml_parser_state_t.{yaml_parser_state_t}
-use Rattle.libyaml_types.specs.declared.enums.yaml_parser_state_t.TheVariants as st
 use Rattle.libyaml_sources.specs.Fault.{Answer}
 use Rattle.libyaml_grammar.specs.sentences.Events.{Event}
-use Rattle.libyaml_grammar.specs.sentences.Tokens.{BlockEntry, Content, Token, Value}
-use Rattle.libyaml_events.specs.declared.next.Want.{Want}
-use Rattle.libyaml_events.specs.declared.next.Want.TheVariants.{AtState}
-use Rattle.libyaml_events.specs.declared.next.Progress.TheVariants.{Given, Wants}
-use Rattle.libyaml_events.specs.machine.Config.{Config, Parser, below, ended_or_failed, popped, pushed, taken, top}
+use Rattle.libyaml_grammar.specs.sentences.Tokens.{Content, Token}
+use Rattle.libyaml_events.specs.machine.Want.{Want, AtState, Given, Wants}
+use Rattle.libyaml_events.specs.machine.Config.{Config, Parser, below, ended_or_failed, pushed, taken, top}
 use Rattle.libyaml_events.specs.machine.Machine.{Progressed, step}
 use Rattle.libyaml_events.specs.parsers.EventsLeft.{rank, held_rank, events_left}
 use Rattle.libyaml_events.specs.sources.Calls.{EventOrError, Gave, Then, Calls, Call, held, held_token}
 use Rattle.libyaml_events.specs.sources.History.{answers}
 use Rattle.libyaml_events.proofs.calls.Asking.{AreTokens}
 use Rattle.libyaml_events.proofs.calls.Parsed.{running_does, tokens_behind}
-use Rattle.libyaml_events.proofs.machine.StepKinds.{Kind, NodeStep, StepKind, begins_document, begins_pair, begins_stream, closes, declares, empty, ends_document}
+use Rattle.libyaml_events.proofs.machine.StepKinds.{Kind, NodeStep, StepKind, begins_document, begins_pair, begins_stream, closes, declares, empty, ends_document, rank_small}
 use Rattle.libyaml_events.proofs.machine.StepKinds.{ends_indentless, ends_pair, ends_stream, enters, entry, fails, fails_in, no_node, node, opens, property, room}
 use Rattle.libyaml_events.proofs.machine.StepKinds.{step_kind, wants, whole}
 
@@ -25,16 +22,6 @@ abbrev FallsBelow : Progressed → ℕ → Type 0
 FallsBelow (Err f) n = Unit {0}
 FallsBelow (Ok (Wants w, d)) n = (length d.states < n) × (d.lookahead ≡ None)
 FallsBelow (Ok (Given e, d)) n = length d.states + held_rank d.state d.lookahead < n
-
--- a rank is small
-rank_small : (s : yaml_parser_state_t) (k : Content) → rank s k ≤ 5
-rank_small st.YAML_PARSE_INDENTLESS_SEQUENCE_ENTRY_STATE BlockEntry = omega arith
-rank_small st.YAML_PARSE_INDENTLESS_SEQUENCE_ENTRY_STATE k = omega arith
-rank_small st.YAML_PARSE_BLOCK_MAPPING_KEY_STATE Value = omega arith
-rank_small st.YAML_PARSE_BLOCK_MAPPING_KEY_STATE k = omega arith
-rank_small st.YAML_PARSE_BLOCK_MAPPING_VALUE_STATE Value = omega arith
-rank_small st.YAML_PARSE_BLOCK_MAPPING_VALUE_STATE k = omega arith
-rank_small _ k = omega arith
 
 room_small : (w : Want) (c : Config) (k : Content) → room w c k ≤ 6
 room_small AtState c k = let r = rank_small c.state k in omega arith

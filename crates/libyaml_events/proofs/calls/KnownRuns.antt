@@ -29,7 +29,7 @@ use Rattle.libyaml_events.specs.sources.Needs.{HasWaited, at_once, by_last}
 use Rattle.libyaml_events.specs.sources.History.{goes_on, is_over, answers, kept_fault}
 use Rattle.libyaml_events.specs.sources.CallsInTurn.{KnowsRest}
 use Rattle.libyaml_events.specs.sources.RunToCome.{RunToCome, UnlessBroken, does, no_memory, breaks}
-use Rattle.libyaml_events.specs.declared.next.Want.TheVariants.{AtState}
+use Rattle.libyaml_events.specs.machine.Want.{AtState}
 use Rattle.libyaml_grammar.proofs.lent.Lists.{nil_right, assoc}
 use Rattle.libyaml_grammar.proofs.lent.Completion.{sentence_reads}
 use Rattle.libyaml_grammar.proofs.lent.Fronts.{begin_reads, front_of}

@@ -5,9 +5,7 @@ use Rattle.libyaml_types.specs.declared.enums.yaml_parser_state_t.{yaml_parser_s
 use Rattle.libyaml_sources.specs.Fault.{Answer}
 use Rattle.libyaml_grammar.specs.sentences.Events.{Event}
 use Rattle.libyaml_grammar.specs.sentences.Tokens.{Content, Mark, Token}
-use Rattle.libyaml_events.specs.declared.next.Want.{Want}
-use Rattle.libyaml_events.specs.declared.next.Want.TheVariants.{AtState}
-use Rattle.libyaml_events.specs.declared.next.Progress.TheVariants.{Given, Wants}
+use Rattle.libyaml_events.specs.machine.Want.{Want, AtState, Given, Wants}
 use Rattle.libyaml_events.specs.machine.Config.{Config, below, pushed, taken, top}
 use Rattle.libyaml_events.specs.machine.Machine.{Progressed, begin_document, machine, step}
 use Rattle.libyaml_events.specs.sources.Calls.{EventOrError, Calls, Then}

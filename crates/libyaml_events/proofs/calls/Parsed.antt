@@ -19,8 +19,7 @@ use Rattle.libyaml_events.specs.sources.History.{Ran, begins, goes_on, History, 
 use Rattle.libyaml_events.specs.sources.Needs.{EachNeeded, EachWasNeeded}
 use Rattle.libyaml_events.specs.sources.Parsing as pub_
 use Rattle.libyaml_events.specs.sources.Parsing.{CarriesOn, HasFailed, StopsShort, behind_beginning, Cause, of_memory, of_grammar, of_source, FailsBy}
-use Rattle.libyaml_events.specs.declared.next.Want.{Want}
-use Rattle.libyaml_events.specs.declared.next.Want.TheVariants.{AtState}
+use Rattle.libyaml_events.specs.machine.Want.{Want, AtState}
 use Rattle.libyaml_grammar.proofs.lent.Completion.{reached_begins}
 use Rattle.libyaml_grammar.proofs.lent.Fitting.{stops_fits}
 use Rattle.libyaml_grammar.proofs.lent.ReadSteps.{front}

@@ -6,9 +6,7 @@ use Rattle.libyaml_types.specs.declared.enums.yaml_parser_state_t.TheVariants.{Y
 use Rattle.libyaml_sources.specs.Fault.{Answer, Fault}
 use Rattle.libyaml_grammar.specs.sentences.Events.{Event}
 use Rattle.libyaml_grammar.specs.sentences.Tokens.{Content, Mark, Token}
-use Rattle.libyaml_events.specs.declared.next.Want.{Want}
-use Rattle.libyaml_events.specs.declared.next.Want.TheVariants.{AtState}
-use Rattle.libyaml_events.specs.declared.next.Progress.TheVariants.{Given, Wants}
+use Rattle.libyaml_events.specs.machine.Want.{Want, AtState, Given, Wants}
 use Rattle.libyaml_events.specs.machine.Config.{Config, Parser, below, ended_or_failed, keep, popped, popped_mark, pushed, taken, top, top_mark}
 use Rattle.libyaml_events.specs.machine.Growth.{may_grow, may_grow_at}
 use Rattle.libyaml_events.specs.machine.Machine.{Progressed, close_collection, give, give_at, machine, step}

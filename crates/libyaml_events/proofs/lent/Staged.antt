@@ -41,9 +41,7 @@ use Rattle.libyaml_events.proofs.machine.Link.{config_of, member_state, state_pl
 use Rattle.libyaml_grammar.proofs.lent.Orders.{reads_to}
 use Rattle.libyaml_grammar.proofs.lent.Splits.{position_splits}
 use Rattle.libyaml_events.proofs.machine.Stand.{Links, amid_token, at_position}
-use Rattle.libyaml_events.specs.declared.next.Want.{Want}
-use Rattle.libyaml_events.specs.declared.next.Want.TheVariants.{AtState, BehindDirective}
-use Rattle.libyaml_events.specs.declared.next.Progress.TheVariants.{Given, Wants}
+use Rattle.libyaml_events.specs.machine.Want.{Want, AtState, BehindDirective, Given, Wants}
 use Rattle.libyaml_types.specs.declared.enums.yaml_parser_state_t.TheVariants as state
 use Rattle.libyaml_types.specs.declared.enums.yaml_parser_state_t.{yaml_parser_state_t}
 

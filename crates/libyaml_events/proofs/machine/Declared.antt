@@ -9,14 +9,14 @@ use Rattle.libyaml_grammar.specs.sentences.Tokens.{HandleDeclared, Mark, Marks, 
 use Rattle.libyaml_grammar.specs.sentences.Trees.{Directives, directive, no_directives, tag_directive, version}
 use Rattle.libyaml_grammar.specs.sentences.Events.{Event, declaration, either, prefix_of, resolved, same_text, tag_directives_of, tag_directives_then}
 use Rattle.libyaml_grammar.specs.sentences.Events.{tag_from, version_of}
-use Rattle.libyaml_grammar.specs.sentences.Order.{both, declares, is_known, is_version, negated, no_version}
+use Rattle.libyaml_grammar.specs.sentences.Order.{both, declares, is_known, is_accepted, negated, no_version}
 use Rattle.libyaml_grammar.proofs.lent.Reading.{keeps_order}
 use Rattle.libyaml_events.specs.machine.Config.{Config, Handles}
-use Rattle.libyaml_events.specs.machine.Machine.{Progressed, explicit_document, or_default, resolve, with_prefix}
+use Rattle.libyaml_events.specs.machine.Machine.{explicit_document, or_default, resolve, with_prefix}
 use Rattle.libyaml_events.proofs.machine.Link.{End, after, directive_ends, fails, handles_of, waits}
 use Rattle.libyaml_grammar.proofs.lent.Lists.{assoc}
 use Rattle.libyaml_events.specs.declared.pending.DirectivesRead.{DirectivesRead}
-use Rattle.libyaml_events.specs.declared.next.Want.TheVariants.{BehindDirective}
+use Rattle.libyaml_events.specs.machine.Want.{BehindDirective}
 use Rattle.libyaml_types.specs.declared.directive.yaml_tag_directive_t.{yaml_tag_directive_t}
 use Rattle.libyaml_types.specs.declared.directive.yaml_version_directive_t.{yaml_version_directive_t}
 
@@ -142,7 +142,7 @@ version_after s ds c v m f r = go (no_version ds) refl
     asked : yaml_version_directive_t
     asked = record { major = v.major; minor = v.minor }
 
-    first : (o : Option yaml_version_directive_t) → o ≡ None → (u : Bool) → is_version v.major v.minor ≡ u
+    first : (o : Option yaml_version_directive_t) → o ≡ None → (u : Bool) → is_accepted v.major v.minor ≡ u
         → after (mach.version_directive o (record { start_mark = s; version = o; tag_directives = tag_directives_of ds }) c m.start asked) f r
         ≡ (r, elim u [ true ↦ waits (BehindDirective (read_so_far s (directive ds (version v m)))) c | false ↦ fails (version_fault m.start) ])
     first (Some x) e u g = absurd (no x e)
@@ -164,14 +164,14 @@ version_after s ds c v m f r = go (no_version ds) refl
         (mach.version_directive y (record { start_mark = s; version = y; tag_directives = tag_directives_of ds }) c m.start asked) f r
         ≡ (r, fails (duplicate_version_fault m.start))) (sym e) refl
 
-    says : (n w : Bool) → no_version ds ≡ n → is_version v.major v.minor ≡ w
+    says : (n w : Bool) → no_version ds ≡ n → is_accepted v.major v.minor ≡ w
         → directive_ends (keeps_order ds no_directives (VersionDirective v)) ds (VersionDirective v) m
         (waits (BehindDirective (read_so_far s (directive ds (version v m)))) c)
         ≡ elim n [
           | true ↦ elim w [ true ↦ waits (BehindDirective (read_so_far s (directive ds (version v m)))) c | false ↦ fails (version_fault m.start) ]
           | false ↦ fails (duplicate_version_fault m.start)
         ]
-    says n w e g = ap (λ (x : Bool). directive_ends (both x (is_version v.major v.minor)) ds (VersionDirective v) m
+    says n w e g = ap (λ (x : Bool). directive_ends (both x (is_accepted v.major v.minor)) ds (VersionDirective v) m
         (waits (BehindDirective (read_so_far s (directive ds (version v m)))) c)) e
         ∙ (ap (λ (x : Bool). directive_ends (both n x) ds (VersionDirective v) m (waits (BehindDirective (read_so_far s (directive ds (version v m)))) c)) g
         ∙ by n w e)
@@ -193,9 +193,9 @@ version_after s ds c v m f r = go (no_version ds) refl
           directive_ends (keeps_order ds no_directives (VersionDirective v)) ds (VersionDirective v) m
               (waits (BehindDirective (read_so_far s (directive ds (version v m)))) c),
         )
-    go true e = first (version_of ds) (version_found ds e) (is_version v.major v.minor) refl
-        ∙ ap (λ (x : End). (r, x)) (sym (says true (is_version v.major v.minor) e refl))
-    go false e = let t = version_there ds e in second (version_of ds) t.0 t.1 ∙ ap (λ (x : End). (r, x)) (sym (says false (is_version v.major v.minor) e refl))
+    go true e = first (version_of ds) (version_found ds e) (is_accepted v.major v.minor) refl
+        ∙ ap (λ (x : End). (r, x)) (sym (says true (is_accepted v.major v.minor) e refl))
+    go false e = let t = version_there ds e in second (version_of ds) t.0 t.1 ∙ ap (λ (x : End). (r, x)) (sym (says false (is_accepted v.major v.minor) e refl))
 
 directives_then : (ds : Directives) (r : List yaml_tag_directive_t) → tag_directives_then ds r ≡ tag_directives_then ds [] ++ r
 directives_then no_directives r = refl

@@ -32,8 +32,7 @@ use Rattle.libyaml_events.proofs.machine.Link.{End, after, config, config_of, em
 use Rattle.libyaml_events.proofs.machine.Link.{marks_place, node_config, read_of, spends, states_block, states_place, step_ends, tag_read, waits, want_of}
 use Rattle.libyaml_grammar.proofs.lent.StepsMeet.{IsDue, IsEntry, IsMet}
 use Rattle.libyaml_events.specs.declared.node_head.NodeHead.{NodeHead}
-use Rattle.libyaml_events.specs.declared.next.Want.TheVariants.{AtState}
-use Rattle.libyaml_events.specs.declared.next.Progress.TheVariants.{Given}
+use Rattle.libyaml_events.specs.machine.Want.{AtState, Given}
 use Rattle.libyaml_types.specs.declared.enums.yaml_parser_state_t.TheVariants as st
 use Rattle.libyaml_types.specs.declared.enums.yaml_parser_state_t.{yaml_parser_state_t}
 
@@ -356,16 +355,6 @@ content_is p (anchor_tag a x h y) k m e
 content_is p (tag_anchor h x a y) k m e
     = ap (λ (o : Option (List ℕ)). content_resolved (kind p) (read_of (tag_anchor h x a y)) (tag_read h x.start) o (node_config p) (tok k m) k)
     (resolve_is (declared p) h (and_true (is_known (declared p) h.handle) true e))
-
-want_filled : (p : Place) (x : FlowNode) → want_of (fill_flow p x) ≡ AtState
-want_filled (block (root (implicit_root f))) x = refl
-want_filled (block (root (explicit_root b ds s))) x = refl
-want_filled (block (entry c o s is e)) x = refl
-want_filled (block (slot (part_place c o s ps r v))) x = refl
-want_filled (block (indentless_entry c o is e)) x = refl
-want_filled (flow_entry c) x = refl
-want_filled (flow_key c e) x = refl
-want_filled (flow_value c e y v) x = refl
 
 abbrev Behind : ℕ → Place → Properties → Content → Marks → List Event → Progressed → Step → List Event → Type 0
 Behind n p ps k m r o s g = after o (more (suc (suc (suc n))) r) r ≡ (g, step_ends s no_directives k m)

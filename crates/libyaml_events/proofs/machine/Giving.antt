@@ -15,9 +15,7 @@ use Rattle.libyaml_grammar.proofs.lent.Lists.{assoc}
 use Rattle.libyaml_grammar.proofs.lent.Orders.{reads_to}
 use Rattle.libyaml_grammar.proofs.lent.Run.{given_append, given_shown}
 use Rattle.libyaml_grammar.proofs.lent.StepsMeet.{IsMet, Meets, step_met}
-use Rattle.libyaml_events.specs.declared.next.Want.{Want}
-use Rattle.libyaml_events.specs.declared.next.Want.TheVariants.{AtState}
-use Rattle.libyaml_events.specs.declared.next.Progress.TheVariants.{Given, Wants}
+use Rattle.libyaml_events.specs.machine.Want.{Want, AtState, Given, Wants}
 
 -- events are given before those that come after
 after_split : (n : ℕ) (o : Progressed) (r : List Event)

@@ -18,15 +18,13 @@ use Rattle.libyaml_grammar.proofs.lent.Positions.{in_sequence, unopened}
 use Rattle.libyaml_grammar.proofs.lent.Reading.{Step, bad, goes, keeps_order, over, pending, step}
 use Rattle.libyaml_events.specs.machine.Config.{Config, Handles, no_handles, taken}
 use Rattle.libyaml_events.specs.machine.Machine.{Progressed, machine}
-use Rattle.libyaml_events.specs.declared.next.Want.{Want}
+use Rattle.libyaml_events.specs.machine.Want.{Want, AtState, BehindDirective, BehindProperties, BehindBlockEntry, BehindIndentlessEntry, BehindKey}
+use Rattle.libyaml_events.specs.machine.Want.{BehindValue, BehindFlowSequenceEntry, BehindFlowSequenceValue, BehindFlowMappingEntry}
+use Rattle.libyaml_events.specs.machine.Want.{BehindFlowMappingKey, BehindFlowMappingValue, Given, Wants}
 use Rattle.libyaml_events.specs.declared.node_place.NodePlace.{NodePlace}
 use Rattle.libyaml_events.specs.declared.node_head.PropertiesRead.{PropertiesRead}
 use Rattle.libyaml_events.specs.declared.node_head.TagRead.{TagRead}
 use Rattle.libyaml_events.specs.declared.pending.DirectivesRead.{DirectivesRead}
-use Rattle.libyaml_events.specs.declared.next.Want.TheVariants.{AtState, BehindDirective, BehindProperties, BehindBlockEntry, BehindIndentlessEntry}
-use Rattle.libyaml_events.specs.declared.next.Want.TheVariants.{BehindKey, BehindValue, BehindFlowSequenceEntry, BehindFlowSequenceValue}
-use Rattle.libyaml_events.specs.declared.next.Want.TheVariants.{BehindFlowMappingEntry, BehindFlowMappingKey, BehindFlowMappingValue}
-use Rattle.libyaml_events.specs.declared.next.Progress.TheVariants.{Given, Wants}
 use Rattle.libyaml_events.specs.declared.node_place.NodePlace.TheVariants.{Block, BlockOrIndentlessSequence, Flow}
 use Rattle.libyaml_types.specs.declared.enums.yaml_parser_state_t.TheVariants as st
 use Rattle.libyaml_types.specs.declared.enums.yaml_parser_state_t.{yaml_parser_state_t}

@@ -31,9 +31,7 @@ use Rattle.libyaml_events.proofs.calls.NotOver.{NotOver, not_over}
 use Rattle.libyaml_grammar.proofs.lent.Shows.{Shows, step_shows}
 use Rattle.libyaml_grammar.proofs.lent.StepsMeet.{IsMet}
 use Rattle.libyaml_events.proofs.machine.Waiting.{WaitStep, Waits, doomed_shown, found, held_waits, still_waits, wait_step, waits_on}
-use Rattle.libyaml_events.specs.declared.next.Want.{Want}
-use Rattle.libyaml_events.specs.declared.next.Want.TheVariants.{AtState}
-use Rattle.libyaml_events.specs.declared.next.Progress.TheVariants.{Given, Wants}
+use Rattle.libyaml_events.specs.machine.Want.{Want, AtState, Given, Wants}
 use Rattle.libyaml_types.specs.declared.enums.yaml_parser_state_t.TheVariants.{YAML_PARSE_END_STATE}
 
 -- within a call, after tokens that are all consumed: at a position, or after a bad TAG, while waiting

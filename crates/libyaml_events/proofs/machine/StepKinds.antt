@@ -1,5 +1,5 @@
 -- What a step of the machine does: its outcome, and beside it the outcome over further states and marks below the stacks.
-use Rattle.std.proofs.Common.{◌≡◌, ◌<◌, ◌⊎◌, ◌++◌, ℕ, suc, arith, inl, inr, List, [], ◌∷◌, Option, Some, None, Bool, true, false, Ok, Err, refl}
+use Rattle.std.proofs.Common.{◌≡◌, ◌<◌, ◌≤◌, ◌⊎◌, if◌then◌else◌, ◌++◌, ℕ, suc, arith, inl, inr, List, Option, Some, None, Bool, true, false, Err, refl}
 use Rattle.std.specs.FinMap.{get}
 use Rattle.libyaml_types.specs.declared.directive.yaml_tag_directive_t.{yaml_tag_directive_t}
 use Rattle.libyaml_types.specs.declared.directive.yaml_version_directive_t.{yaml_version_directive_t}
@@ -16,14 +16,13 @@ use Rattle.libyaml_types.specs.declared.event.unnamed_yaml_event_t_data_sequence
 use Rattle.libyaml_types.specs.declared.event.unnamed_yaml_event_t_data_stream_start.{unnamed_yaml_event_t_data_stream_start}
 use Rattle.libyaml_grammar.specs.cuts.FaultTexts.{item_fault, mapping_fault, part_fault, sequence_fault}
 use Rattle.libyaml_sources.specs.Fault.{Fault}
-use Rattle.libyaml_grammar.specs.sentences.Order.{is_version}
+use Rattle.libyaml_grammar.specs.sentences.Order.{is_accepted}
 use Rattle.libyaml_grammar.specs.sentences.Tokens.{Alias, Anchor, AnchorName, BlockEnd, BlockEntry, BlockMappingStart, BlockSequenceStart, Content, DocumentEnd}
 use Rattle.libyaml_grammar.specs.sentences.Tokens.{DocumentStart, FlowEntry, FlowMappingEnd, FlowMappingStart, FlowSequenceEnd, FlowSequenceStart, Key, Mark}
 use Rattle.libyaml_grammar.specs.sentences.Tokens.{Scalar, StreamEnd, StreamStart, Tag, TagDirective, TagName, Token, Value, VersionDirective}
-use Rattle.libyaml_events.specs.declared.next.Want.{Want}
-use Rattle.libyaml_events.specs.declared.next.Want.TheVariants.{AtState, BehindBlockEntry, BehindDirective, BehindFlowMappingEntry, BehindFlowMappingKey}
-use Rattle.libyaml_events.specs.declared.next.Want.TheVariants.{BehindFlowMappingValue, BehindFlowSequenceEntry, BehindFlowSequenceValue}
-use Rattle.libyaml_events.specs.declared.next.Want.TheVariants.{BehindIndentlessEntry, BehindKey, BehindProperties, BehindValue}
+use Rattle.libyaml_events.specs.machine.Want.{Want, AtState, BehindBlockEntry, BehindDirective, BehindFlowMappingEntry, BehindFlowMappingKey}
+use Rattle.libyaml_events.specs.machine.Want.{BehindFlowMappingValue, BehindFlowSequenceEntry, BehindFlowSequenceValue, BehindIndentlessEntry}
+use Rattle.libyaml_events.specs.machine.Want.{BehindKey, BehindProperties, BehindValue}
 use Rattle.libyaml_events.specs.declared.node_head.NodeHead.{NodeHead}
 use Rattle.libyaml_events.specs.declared.node_head.PropertiesRead.{PropertiesRead}
 use Rattle.libyaml_events.specs.declared.node_head.TagRead.{TagRead}
@@ -36,6 +35,8 @@ use Rattle.libyaml_events.specs.machine.Machine.{Progressed, anchor_behind, at_s
 use Rattle.libyaml_events.specs.machine.Machine.{content_resolved, end_document, explicit_document, first_version, further_document_end, give, machine, may_open}
 use Rattle.libyaml_events.specs.machine.Machine.{no_content, node_content, parse_document_start, parse_implicit_document_start, parse_node}
 use Rattle.libyaml_events.specs.machine.Machine.{process_empty_scalar, resolve, tag_behind, version_directive, want}
+use Rattle.libyaml_events.specs.machine.Slots.{is_nothing_before}
+use Rattle.libyaml_events.specs.declared.slot.Slot.TheVariants as slot
 use Rattle.libyaml_events.specs.parsers.EventsLeft.{rank}
 use Rattle.libyaml_events.specs.parsers.Pops.{raised}
 
@@ -118,6 +119,16 @@ back_rank false = 0
 abbrev pub room : Want → Config → Content → ℕ
 room AtState c k = rank c.state k
 room _ c k = 6
+
+-- a rank is small
+pub rank_small : (s : yaml_parser_state_t) (k : Content) → rank s k ≤ 5
+rank_small st.YAML_PARSE_INDENTLESS_SEQUENCE_ENTRY_STATE BlockEntry = omega arith
+rank_small st.YAML_PARSE_INDENTLESS_SEQUENCE_ENTRY_STATE k = omega arith
+rank_small st.YAML_PARSE_BLOCK_MAPPING_KEY_STATE Value = omega arith
+rank_small st.YAML_PARSE_BLOCK_MAPPING_KEY_STATE k = omega arith
+rank_small st.YAML_PARSE_BLOCK_MAPPING_VALUE_STATE Value = omega arith
+rank_small st.YAML_PARSE_BLOCK_MAPPING_VALUE_STATE k = omega arith
+rank_small _ k = omega arith
 
 abbrev Bare : NodeHead → Type 0
 Bare h = (h.anchor ≡ None) × (h.tag ≡ None)
@@ -231,7 +242,7 @@ module _ (ss : List yaml_parser_state_t) (ms : List Mark) (u : Token) where
   version_read : (o : Option yaml_version_directive_t) (d : DirectivesRead) (c : Config) (m : Mark) (v : yaml_version_directive_t) (n : ℕ) (k : Content) → 0 < n
       → StepKind c n k between (version_directive o d c m v) (version_directive o d (raised ss ms c) m v)
   version_read (Some x) d c m v n k l = fails
-  version_read None d c m v n k l = versioned (is_version v.major v.minor) d c m v n k l
+  version_read None d c m v n k l = versioned (is_accepted v.major v.minor) d c m v n k l
 
   tag_read : (o : Option (List ℕ)) (d : DirectivesRead) (c : Config) (m : Mark) (g : yaml_tag_directive_t) (n : ℕ) (k : Content) → 0 < n
       → StepKind c n k between (mach.tag_directive o d c m g) (mach.tag_directive o d (raised ss ms c) m g)
@@ -267,18 +278,26 @@ module _ (ss : List yaml_parser_state_t) (ms : List Mark) (u : Token) where
   explicit_start c n StreamEnd l = ends_stream (omega arith)
   explicit_start c n k l = explicit (mach.no_directives u.start_mark) c n k l
 
+  -- where a node may be nothing: in a collection, and as a document's content
+  slotted : (nothing : Bool) (s : yaml_parser_state_t) (p : NodePlace) (m : Mark) (c : Config) (n : ℕ) (k : Content) {i : Kind} → Goes i (kind s) → rank s k ≤ n
+      → 1 < n → StepKind c (suc n) k i (if nothing then process_empty_scalar m u (at s c) else parse_node p (pushed s c) u k)
+      (if nothing then process_empty_scalar m u (at s (raised ss ms c)) else parse_node p (pushed s (raised ss ms c)) u k)
+  slotted true s p m c n k g l h = empty s g (omega arith)
+  slotted false s p m c n k g l h = entry s n refl g (parsed p _ n k h)
+
+  rooted : (nothing : Bool) (c : Config) (k : Content)
+      → StepKind c 5 k node_due (if nothing then process_empty_scalar u.start_mark u (popped c) else parse_node Block c u k)
+      (if nothing then process_empty_scalar u.start_mark u (popped (raised ss ms c)) else parse_node Block (raised ss ms c) u k)
+  rooted true c k = node (whole true (a_scalar _) (omega arith))
+  rooted false c k = node (parsed Block c _ k (omega arith))
+
   -- after an event the state says what comes
   at_a_state : (s : yaml_parser_state_t) (c : Config) (k : Content) → kind c.state ≡ kind s → StepKind c (rank s k) k (kind s) (at_state s c u k) (at_state s (raised ss ms c) u k)
   at_a_state st.YAML_PARSE_STREAM_START_STATE c (StreamStart x) e = begins_stream _ (omega arith)
   at_a_state st.YAML_PARSE_STREAM_START_STATE c k e = fails
   at_a_state st.YAML_PARSE_IMPLICIT_DOCUMENT_START_STATE c k e = implicit_start c _ k e (omega arith)
   at_a_state st.YAML_PARSE_DOCUMENT_START_STATE c k e = explicit_start c _ k (omega arith)
-  at_a_state st.YAML_PARSE_DOCUMENT_CONTENT_STATE c (VersionDirective a) e = node (whole true (a_scalar _) (omega arith))
-  at_a_state st.YAML_PARSE_DOCUMENT_CONTENT_STATE c (TagDirective x) e = node (whole true (a_scalar _) (omega arith))
-  at_a_state st.YAML_PARSE_DOCUMENT_CONTENT_STATE c DocumentStart e = node (whole true (a_scalar _) (omega arith))
-  at_a_state st.YAML_PARSE_DOCUMENT_CONTENT_STATE c DocumentEnd e = node (whole true (a_scalar _) (omega arith))
-  at_a_state st.YAML_PARSE_DOCUMENT_CONTENT_STATE c StreamEnd e = node (whole true (a_scalar _) (omega arith))
-  at_a_state st.YAML_PARSE_DOCUMENT_CONTENT_STATE c k e = node (parsed Block c _ k (omega arith))
+  at_a_state st.YAML_PARSE_DOCUMENT_CONTENT_STATE c k e = rooted (is_nothing_before slot.Document k) c k
   at_a_state st.YAML_PARSE_DOCUMENT_END_STATE c DocumentEnd e = ends_document _ _ _ false refl (omega arith)
   at_a_state st.YAML_PARSE_DOCUMENT_END_STATE c k e = ends_document _ _ _ true refl (omega arith)
   at_a_state st.YAML_PARSE_BLOCK_NODE_STATE c k e = node (parsed Block c _ k (omega arith))
@@ -301,10 +320,7 @@ module _ (ss : List yaml_parser_state_t) (ms : List Mark) (u : Token) where
   at_a_state st.YAML_PARSE_FLOW_SEQUENCE_ENTRY_STATE c FlowEntry e = wants _ refl (omega arith)
   at_a_state st.YAML_PARSE_FLOW_SEQUENCE_ENTRY_STATE c FlowSequenceEnd e = closes sequence_end (omega arith)
   at_a_state st.YAML_PARSE_FLOW_SEQUENCE_ENTRY_STATE c k e = fails_in (λ (m : Mark). sequence_fault m u.start_mark)
-  at_a_state st.YAML_PARSE_FLOW_SEQUENCE_ENTRY_MAPPING_KEY_STATE c Value e = empty _ from_key (omega arith)
-  at_a_state st.YAML_PARSE_FLOW_SEQUENCE_ENTRY_MAPPING_KEY_STATE c FlowEntry e = empty _ from_key (omega arith)
-  at_a_state st.YAML_PARSE_FLOW_SEQUENCE_ENTRY_MAPPING_KEY_STATE c FlowSequenceEnd e = empty _ from_key (omega arith)
-  at_a_state st.YAML_PARSE_FLOW_SEQUENCE_ENTRY_MAPPING_KEY_STATE c k e = entry st.YAML_PARSE_FLOW_SEQUENCE_ENTRY_MAPPING_VALUE_STATE 3 refl from_key (parsed Flow _ 3 k (omega arith))
+  at_a_state st.YAML_PARSE_FLOW_SEQUENCE_ENTRY_MAPPING_KEY_STATE c k e = slotted (is_nothing_before slot.PairKey k) _ Flow u.start_mark c 3 k from_key (omega arith) (omega arith)
   at_a_state st.YAML_PARSE_FLOW_SEQUENCE_ENTRY_MAPPING_VALUE_STATE c Value e = wants _ refl (omega arith)
   at_a_state st.YAML_PARSE_FLOW_SEQUENCE_ENTRY_MAPPING_VALUE_STATE c k e = empty _ in_pair (omega arith)
   at_a_state st.YAML_PARSE_FLOW_SEQUENCE_ENTRY_MAPPING_END_STATE c k e = ends_pair (omega arith)
@@ -322,35 +338,16 @@ module _ (ss : List yaml_parser_state_t) (ms : List Mark) (u : Token) where
   step_kind AtState c k = at_a_state c.state c k refl
   step_kind (BehindDirective d) c k = explicit d c _ k (omega arith)
   step_kind (BehindProperties p r) c k = node (properties p r c _ k (omega arith))
-  step_kind (BehindBlockEntry m) c BlockEntry = empty _ in_inner (omega arith)
-  step_kind (BehindBlockEntry m) c BlockEnd = empty _ in_inner (omega arith)
-  step_kind (BehindBlockEntry m) c k = entry st.YAML_PARSE_BLOCK_SEQUENCE_ENTRY_STATE 5 refl in_inner (parsed Block _ 5 k (omega arith))
-  step_kind (BehindIndentlessEntry m) c BlockEntry = empty _ in_indentless (omega arith)
-  step_kind (BehindIndentlessEntry m) c Key = empty _ in_indentless (omega arith)
-  step_kind (BehindIndentlessEntry m) c Value = empty _ in_indentless (omega arith)
-  step_kind (BehindIndentlessEntry m) c BlockEnd = empty _ in_indentless (omega arith)
-  step_kind (BehindIndentlessEntry m) c k = entry st.YAML_PARSE_INDENTLESS_SEQUENCE_ENTRY_STATE 5 refl in_indentless (parsed Block _ 5 k (omega arith))
-  step_kind (BehindKey m) c Key = empty _ in_inner (omega arith)
-  step_kind (BehindKey m) c Value = empty _ in_inner (omega arith)
-  step_kind (BehindKey m) c BlockEnd = empty _ in_inner (omega arith)
-  step_kind (BehindKey m) c k = entry st.YAML_PARSE_BLOCK_MAPPING_VALUE_STATE 5 refl in_inner (parsed BlockOrIndentlessSequence _ 5 k (omega arith))
-  step_kind (BehindValue m) c Key = empty _ in_inner (omega arith)
-  step_kind (BehindValue m) c Value = empty _ in_inner (omega arith)
-  step_kind (BehindValue m) c BlockEnd = empty _ in_inner (omega arith)
-  step_kind (BehindValue m) c k = entry st.YAML_PARSE_BLOCK_MAPPING_KEY_STATE 5 refl in_inner (parsed BlockOrIndentlessSequence _ 5 k (omega arith))
+  step_kind (BehindBlockEntry m) c k = slotted (is_nothing_before slot.BlockEntry k) _ Block m c 5 k in_inner (rank_small st.YAML_PARSE_BLOCK_SEQUENCE_ENTRY_STATE k) (omega arith)
+  step_kind (BehindIndentlessEntry m) c k = slotted (is_nothing_before slot.IndentlessEntry k) _ Block m c 5 k in_indentless (rank_small st.YAML_PARSE_INDENTLESS_SEQUENCE_ENTRY_STATE k) (omega arith)
+  step_kind (BehindKey m) c k = slotted (is_nothing_before slot.BlockKey k) _ BlockOrIndentlessSequence m c 5 k in_inner (rank_small st.YAML_PARSE_BLOCK_MAPPING_VALUE_STATE k) (omega arith)
+  step_kind (BehindValue m) c k = slotted (is_nothing_before slot.BlockValue k) _ BlockOrIndentlessSequence m c 5 k in_inner (rank_small st.YAML_PARSE_BLOCK_MAPPING_KEY_STATE k) (omega arith)
   step_kind BehindFlowSequenceEntry c FlowSequenceEnd = closes sequence_end (omega arith)
   step_kind BehindFlowSequenceEntry c Key = begins_pair _ (omega arith)
   step_kind BehindFlowSequenceEntry c k = entry st.YAML_PARSE_FLOW_SEQUENCE_ENTRY_STATE 5 refl in_inner (parsed Flow _ 5 k (omega arith))
-  step_kind BehindFlowSequenceValue c FlowEntry = empty _ in_pair (omega arith)
-  step_kind BehindFlowSequenceValue c FlowSequenceEnd = empty _ in_pair (omega arith)
-  step_kind BehindFlowSequenceValue c k = entry st.YAML_PARSE_FLOW_SEQUENCE_ENTRY_MAPPING_END_STATE 5 refl in_pair (parsed Flow _ 5 k (omega arith))
+  step_kind BehindFlowSequenceValue c k = slotted (is_nothing_before slot.PairValue k) _ Flow u.start_mark c 5 k in_pair (rank_small st.YAML_PARSE_FLOW_SEQUENCE_ENTRY_MAPPING_END_STATE k) (omega arith)
   step_kind BehindFlowMappingEntry c FlowMappingEnd = closes mapping_end (omega arith)
   step_kind BehindFlowMappingEntry c Key = wants _ refl (omega arith)
   step_kind BehindFlowMappingEntry c k = entry st.YAML_PARSE_FLOW_MAPPING_EMPTY_VALUE_STATE 5 refl in_inner (parsed Flow _ 5 k (omega arith))
-  step_kind BehindFlowMappingKey c Value = empty _ in_inner (omega arith)
-  step_kind BehindFlowMappingKey c FlowEntry = empty _ in_inner (omega arith)
-  step_kind BehindFlowMappingKey c FlowMappingEnd = empty _ in_inner (omega arith)
-  step_kind BehindFlowMappingKey c k = entry st.YAML_PARSE_FLOW_MAPPING_VALUE_STATE 5 refl in_inner (parsed Flow _ 5 k (omega arith))
-  step_kind BehindFlowMappingValue c FlowEntry = empty _ in_inner (omega arith)
-  step_kind BehindFlowMappingValue c FlowMappingEnd = empty _ in_inner (omega arith)
-  step_kind BehindFlowMappingValue c k = entry st.YAML_PARSE_FLOW_MAPPING_KEY_STATE 5 refl in_inner (parsed Flow _ 5 k (omega arith))
+  step_kind BehindFlowMappingKey c k = slotted (is_nothing_before slot.FlowKey k) _ Flow u.start_mark c 5 k in_inner (rank_small st.YAML_PARSE_FLOW_MAPPING_VALUE_STATE k) (omega arith)
+  step_kind BehindFlowMappingValue c k = slotted (is_nothing_before slot.FlowValue k) _ Flow u.start_mark c 5 k in_inner (rank_small st.YAML_PARSE_FLOW_MAPPING_KEY_STATE k) (omega arith)

@@ -17,7 +17,7 @@ use Rattle.libyaml_grammar.specs.runs.Runs.{is_behind_properties}
 use Rattle.libyaml_grammar.proofs.lent.Cases.{IsTagHeld}
 use Rattle.libyaml_events.proofs.machine.Declared.{resolve_not}
 use Rattle.libyaml_events.proofs.machine.Link.{config_of, handles_of, node_config, read_of, want_of}
-use Rattle.libyaml_events.specs.declared.next.Progress.TheVariants.{Wants}
+use Rattle.libyaml_events.specs.machine.Want.{Wants}
 
 abbrev pub IsAnchor : Content → Type 0
 IsAnchor (Anchor a) = Unit {0}

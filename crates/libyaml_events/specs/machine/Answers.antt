@@ -4,17 +4,15 @@ use Rattle.libyaml_types.specs.declared.event.yaml_event_t.{yaml_event_t}
 use Rattle.libyaml_types.specs.declared.enums.yaml_error_type_t.{yaml_error_type_t}
 use Rattle.libyaml_events.specs.declared.next.Next.{Next}
 use Rattle.libyaml_events.specs.declared.next.Next.TheVariants as next
+use Rattle.libyaml_events.specs.declared.next.Step.{Step}
+use Rattle.libyaml_events.specs.declared.next.Step.TheVariants as led
 use Rattle.libyaml_events.specs.declared.pending.Pending.{Pending}
-use Rattle.libyaml_events.specs.declared.next.Want.{Want}
-use Rattle.libyaml_events.specs.declared.next.Want.TheVariants.{AtState, BehindDirective, BehindProperties, BehindBlockEntry, BehindIndentlessEntry}
-use Rattle.libyaml_events.specs.declared.next.Want.TheVariants.{BehindKey, BehindValue, BehindFlowSequenceEntry, BehindFlowSequenceValue}
-use Rattle.libyaml_events.specs.declared.next.Want.TheVariants.{BehindFlowMappingEntry, BehindFlowMappingKey, BehindFlowMappingValue}
-use Rattle.libyaml_events.specs.declared.next.Progress.{Progress}
-use Rattle.libyaml_events.specs.declared.next.Progress.TheVariants.{Given, Wants}
+use Rattle.libyaml_events.specs.machine.Want.{Want, AtState, BehindDirective, BehindProperties, BehindBlockEntry, BehindIndentlessEntry, BehindKey}
+use Rattle.libyaml_events.specs.machine.Want.{BehindValue, BehindFlowSequenceEntry, BehindFlowSequenceValue, BehindFlowMappingEntry}
+use Rattle.libyaml_events.specs.machine.Want.{BehindFlowMappingKey, BehindFlowMappingValue, Progress, Given, Wants}
 
--- what the next token is wanted for; after an event the state says it
+-- what the next token is wanted for
 abbrev pub wanted : Next → Pending → Want
-wanted next.Given p = AtState
 wanted next.AtState p = AtState
 wanted next.BehindDirective p = BehindDirective p.directives
 wanted next.BehindProperties p = BehindProperties p.place p.properties
@@ -28,12 +26,12 @@ wanted next.BehindFlowMappingEntry p = BehindFlowMappingEntry
 wanted next.BehindFlowMappingKey p = BehindFlowMappingKey
 wanted next.BehindFlowMappingValue p = BehindFlowMappingValue
 
-abbrev pub progress : Next → Pending → yaml_event_t → Progress
-progress next.Given p e = Given e
-progress n p e = Wants (wanted n p)
+abbrev pub progress : Step → Pending → yaml_event_t → Progress
+progress led.Given p e = Given e
+progress (led.Wants n) p e = Wants (wanted n p)
 
-abbrev pub answer : Result Next yaml_error_type_t → Pending → yaml_event_t → Result Progress yaml_error_type_t
-answer (Ok n) p e = Ok (progress n p e)
+abbrev pub answer : Result Step yaml_error_type_t → Pending → yaml_event_t → Result Progress yaml_error_type_t
+answer (Ok s) p e = Ok (progress s p e)
 answer (Err x) p e = Err x
 
 -- a step that wants nothing further

@@ -10,8 +10,7 @@ use Rattle.libyaml_types.specs.declared.enums.yaml_error_type_t.{yaml_error_type
 use Rattle.libyaml_types.specs.declared.enums.yaml_error_type_t.TheVariants.{YAML_NO_ERROR, YAML_MEMORY_ERROR, YAML_READER_ERROR, YAML_SCANNER_ERROR}
 use Rattle.libyaml_types.specs.declared.enums.yaml_error_type_t.TheVariants.{YAML_PARSER_ERROR, YAML_COMPOSER_ERROR, YAML_WRITER_ERROR, YAML_EMITTER_ERROR}
 use Rattle.libyaml_types.specs.declared.enums.yaml_parser_state_t.{yaml_parser_state_t}
-use Rattle.libyaml_types.specs.declared.enums.yaml_parser_state_t.TheVariants.{YAML_PARSE_STREAM_START_STATE, YAML_PARSE_IMPLICIT_DOCUMENT_START_STATE}
-use Rattle.libyaml_types.specs.declared.enums.yaml_parser_state_t.TheVariants.{YAML_PARSE_DOCUMENT_START_STATE, YAML_PARSE_END_STATE}
+use Rattle.libyaml_types.specs.declared.enums.yaml_parser_state_t.TheVariants as st
 use Rattle.libyaml_sources.specs.Fault.{Fault, no_fault}
 use Rattle.libyaml_types.specs.Events.{zero_mark}
 
@@ -51,7 +50,7 @@ pub record Parser (S : Type 0) : Type 0 where
 abbrev pub start : Config
 start = record {
   lookahead = None;
-  state = YAML_PARSE_STREAM_START_STATE;
+  state = st.YAML_PARSE_STREAM_START_STATE;
   states = [];
   marks = [];
   handles = no_handles;
@@ -80,7 +79,7 @@ abbrev pub pushed : yaml_parser_state_t → Config → Config
 pushed state c = record c { states = state ∷ c.states }
 
 abbrev pub top : List yaml_parser_state_t → yaml_parser_state_t
-top [] = YAML_PARSE_END_STATE
+top [] = st.YAML_PARSE_END_STATE
 top (s ∷ ss) = s
 
 abbrev pub below : {A : Type 0} → List A → List A
@@ -120,7 +119,7 @@ is_fault YAML_WRITER_ERROR = true
 is_fault YAML_EMITTER_ERROR = true
 
 abbrev pub is_end_state : yaml_parser_state_t → Bool
-is_end_state YAML_PARSE_END_STATE = true
+is_end_state st.YAML_PARSE_END_STATE = true
 is_end_state _ = false
 
 -- after the stream's end or a fault
@@ -129,8 +128,8 @@ ended_or_failed c = is_fault c.fault.error || is_end_state c.state
 
 -- in no document
 abbrev pub is_between : yaml_parser_state_t → Bool
-is_between YAML_PARSE_STREAM_START_STATE = true
-is_between YAML_PARSE_IMPLICIT_DOCUMENT_START_STATE = true
-is_between YAML_PARSE_DOCUMENT_START_STATE = true
-is_between YAML_PARSE_END_STATE = true
+is_between st.YAML_PARSE_STREAM_START_STATE = true
+is_between st.YAML_PARSE_IMPLICIT_DOCUMENT_START_STATE = true
+is_between st.YAML_PARSE_DOCUMENT_START_STATE = true
+is_between st.YAML_PARSE_END_STATE = true
 is_between _ = false

@@ -6,22 +6,16 @@ use Rattle.std.specs.FinMap.{get}
 use Rattle.libyaml_types.specs.declared.token.unnamed_yaml_token_t_data.{unnamed_yaml_token_t_data}
 use Rattle.libyaml_types.specs.declared.token.unnamed_yaml_token_t_data.TheVariants as tok
 use Rattle.libyaml_types.specs.declared.enums.yaml_parser_state_t.{yaml_parser_state_t}
-use Rattle.libyaml_types.specs.declared.enums.yaml_parser_state_t.TheVariants.{YAML_PARSE_IMPLICIT_DOCUMENT_START_STATE, YAML_PARSE_DOCUMENT_START_STATE}
-use Rattle.libyaml_types.specs.declared.enums.yaml_parser_state_t.TheVariants.{YAML_PARSE_BLOCK_SEQUENCE_FIRST_ENTRY_STATE}
-use Rattle.libyaml_types.specs.declared.enums.yaml_parser_state_t.TheVariants.{YAML_PARSE_BLOCK_MAPPING_FIRST_KEY_STATE}
-use Rattle.libyaml_types.specs.declared.enums.yaml_parser_state_t.TheVariants.{YAML_PARSE_FLOW_SEQUENCE_FIRST_ENTRY_STATE}
-use Rattle.libyaml_types.specs.declared.enums.yaml_parser_state_t.TheVariants.{YAML_PARSE_FLOW_SEQUENCE_ENTRY_MAPPING_KEY_STATE}
-use Rattle.libyaml_types.specs.declared.enums.yaml_parser_state_t.TheVariants.{YAML_PARSE_FLOW_MAPPING_FIRST_KEY_STATE}
+use Rattle.libyaml_types.specs.declared.enums.yaml_parser_state_t.TheVariants as st
 use Rattle.libyaml_events.specs.machine.Config.{Config, Handles}
 use Rattle.libyaml_events.specs.machine.Machine.{or_default}
 use Rattle.libyaml_grammar.specs.sentences.Order.{negated}
 use Rattle.libyaml_events.specs.machine.Slots.{is_nothing_before}
 use Rattle.libyaml_events.specs.declared.node_head.PropertiesRead.{PropertiesRead}
 use Rattle.libyaml_events.specs.declared.node_head.TagRead.{TagRead}
-use Rattle.libyaml_events.specs.declared.next.Want.{Want}
-use Rattle.libyaml_events.specs.declared.next.Want.TheVariants.{AtState, BehindDirective, BehindProperties, BehindBlockEntry, BehindIndentlessEntry}
-use Rattle.libyaml_events.specs.declared.next.Want.TheVariants.{BehindKey, BehindValue, BehindFlowSequenceEntry, BehindFlowSequenceValue}
-use Rattle.libyaml_events.specs.declared.next.Want.TheVariants.{BehindFlowMappingEntry, BehindFlowMappingKey, BehindFlowMappingValue}
+use Rattle.libyaml_events.specs.machine.Want.{Want, AtState, BehindDirective, BehindProperties, BehindBlockEntry, BehindIndentlessEntry, BehindKey}
+use Rattle.libyaml_events.specs.machine.Want.{BehindValue, BehindFlowSequenceEntry, BehindFlowSequenceValue, BehindFlowMappingEntry}
+use Rattle.libyaml_events.specs.machine.Want.{BehindFlowMappingKey, BehindFlowMappingValue}
 use Rattle.libyaml_events.specs.declared.slot.Slot.{Slot}
 use Rattle.libyaml_events.specs.declared.slot.Slot.TheVariants.{BlockEntry, IndentlessEntry, BlockKey, BlockValue, Document, PairKey, PairValue, FlowKey}
 use Rattle.libyaml_events.specs.declared.slot.Slot.TheVariants.{FlowValue}
@@ -73,13 +67,13 @@ joins_before r hs (tok.Anchor a) = joins_behind_anchor r.anchor r.tag hs
 joins_before r hs _ = joins r.tag hs
 
 abbrev pub may_grow_at : yaml_parser_state_t → Config → unnamed_yaml_token_t_data → Bool
-may_grow_at YAML_PARSE_IMPLICIT_DOCUMENT_START_STATE c k = grows_at_document c.behind_document_end k
-may_grow_at YAML_PARSE_DOCUMENT_START_STATE c k = grows_at_directive k
-may_grow_at YAML_PARSE_BLOCK_SEQUENCE_FIRST_ENTRY_STATE c k = true
-may_grow_at YAML_PARSE_BLOCK_MAPPING_FIRST_KEY_STATE c k = true
-may_grow_at YAML_PARSE_FLOW_SEQUENCE_FIRST_ENTRY_STATE c k = true
-may_grow_at YAML_PARSE_FLOW_SEQUENCE_ENTRY_MAPPING_KEY_STATE c k = enters PairKey k
-may_grow_at YAML_PARSE_FLOW_MAPPING_FIRST_KEY_STATE c k = true
+may_grow_at st.YAML_PARSE_IMPLICIT_DOCUMENT_START_STATE c k = grows_at_document c.behind_document_end k
+may_grow_at st.YAML_PARSE_DOCUMENT_START_STATE c k = grows_at_directive k
+may_grow_at st.YAML_PARSE_BLOCK_SEQUENCE_FIRST_ENTRY_STATE c k = true
+may_grow_at st.YAML_PARSE_BLOCK_MAPPING_FIRST_KEY_STATE c k = true
+may_grow_at st.YAML_PARSE_FLOW_SEQUENCE_FIRST_ENTRY_STATE c k = true
+may_grow_at st.YAML_PARSE_FLOW_SEQUENCE_ENTRY_MAPPING_KEY_STATE c k = enters PairKey k
+may_grow_at st.YAML_PARSE_FLOW_MAPPING_FIRST_KEY_STATE c k = true
 may_grow_at _ c k = false
 
 abbrev pub may_grow : Want → Config → unnamed_yaml_token_t_data → Bool

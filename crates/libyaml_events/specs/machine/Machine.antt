@@ -1,6 +1,6 @@
 -- The parser as a machine that is fed one token at a time (docs/DEFINITIONS.md, "The parser as a machine"). In each
 -- function k is the content of the token t.
-use Rattle.std.specs.Prelude.{◌∷◌, ◌++◌, ℕ, List, [], Option, None, Some, Bool, true, false, Result, Ok, Err, codes, cond}
+use Rattle.std.specs.Prelude.{◌∷◌, ◌++◌, ℕ, List, [], Option, None, Some, Bool, true, false, Result, Ok, Err, codes, cond, if◌then◌else◌}
 use Rattle.std.specs.FinMap.{get}
 use Rattle.libyaml_types.specs.declared.mark.yaml_mark_t.{yaml_mark_t}
 use Rattle.libyaml_types.specs.declared.directive.yaml_version_directive_t.{yaml_version_directive_t}
@@ -18,28 +18,12 @@ use Rattle.libyaml_types.specs.declared.enums.yaml_sequence_style_t.TheVariants.
 use Rattle.libyaml_types.specs.declared.enums.yaml_mapping_style_t.{yaml_mapping_style_t}
 use Rattle.libyaml_types.specs.declared.enums.yaml_mapping_style_t.TheVariants.{YAML_BLOCK_MAPPING_STYLE, YAML_FLOW_MAPPING_STYLE}
 use Rattle.libyaml_types.specs.declared.enums.yaml_parser_state_t.{yaml_parser_state_t}
-use Rattle.libyaml_types.specs.declared.enums.yaml_parser_state_t.TheVariants.{YAML_PARSE_STREAM_START_STATE, YAML_PARSE_IMPLICIT_DOCUMENT_START_STATE}
-use Rattle.libyaml_types.specs.declared.enums.yaml_parser_state_t.TheVariants.{YAML_PARSE_DOCUMENT_START_STATE, YAML_PARSE_DOCUMENT_CONTENT_STATE}
-use Rattle.libyaml_types.specs.declared.enums.yaml_parser_state_t.TheVariants.{YAML_PARSE_DOCUMENT_END_STATE, YAML_PARSE_BLOCK_NODE_STATE}
-use Rattle.libyaml_types.specs.declared.enums.yaml_parser_state_t.TheVariants.{YAML_PARSE_BLOCK_NODE_OR_INDENTLESS_SEQUENCE_STATE, YAML_PARSE_FLOW_NODE_STATE}
-use Rattle.libyaml_types.specs.declared.enums.yaml_parser_state_t.TheVariants.{YAML_PARSE_BLOCK_SEQUENCE_FIRST_ENTRY_STATE}
-use Rattle.libyaml_types.specs.declared.enums.yaml_parser_state_t.TheVariants.{YAML_PARSE_BLOCK_SEQUENCE_ENTRY_STATE}
-use Rattle.libyaml_types.specs.declared.enums.yaml_parser_state_t.TheVariants.{YAML_PARSE_INDENTLESS_SEQUENCE_ENTRY_STATE}
-use Rattle.libyaml_types.specs.declared.enums.yaml_parser_state_t.TheVariants.{YAML_PARSE_BLOCK_MAPPING_FIRST_KEY_STATE, YAML_PARSE_BLOCK_MAPPING_KEY_STATE}
-use Rattle.libyaml_types.specs.declared.enums.yaml_parser_state_t.TheVariants.{YAML_PARSE_BLOCK_MAPPING_VALUE_STATE}
-use Rattle.libyaml_types.specs.declared.enums.yaml_parser_state_t.TheVariants.{YAML_PARSE_FLOW_SEQUENCE_FIRST_ENTRY_STATE}
-use Rattle.libyaml_types.specs.declared.enums.yaml_parser_state_t.TheVariants.{YAML_PARSE_FLOW_SEQUENCE_ENTRY_STATE}
-use Rattle.libyaml_types.specs.declared.enums.yaml_parser_state_t.TheVariants.{YAML_PARSE_FLOW_SEQUENCE_ENTRY_MAPPING_KEY_STATE}
-use Rattle.libyaml_types.specs.declared.enums.yaml_parser_state_t.TheVariants.{YAML_PARSE_FLOW_SEQUENCE_ENTRY_MAPPING_VALUE_STATE}
-use Rattle.libyaml_types.specs.declared.enums.yaml_parser_state_t.TheVariants.{YAML_PARSE_FLOW_SEQUENCE_ENTRY_MAPPING_END_STATE}
-use Rattle.libyaml_types.specs.declared.enums.yaml_parser_state_t.TheVariants.{YAML_PARSE_FLOW_MAPPING_FIRST_KEY_STATE, YAML_PARSE_FLOW_MAPPING_KEY_STATE}
-use Rattle.libyaml_types.specs.declared.enums.yaml_parser_state_t.TheVariants.{YAML_PARSE_FLOW_MAPPING_VALUE_STATE, YAML_PARSE_FLOW_MAPPING_EMPTY_VALUE_STATE}
-use Rattle.libyaml_types.specs.declared.enums.yaml_parser_state_t.TheVariants.{YAML_PARSE_END_STATE}
+use Rattle.libyaml_types.specs.declared.enums.yaml_parser_state_t.TheVariants as st
 use Rattle.libyaml_sources.specs.Fault.{Fault}
 use Rattle.libyaml_grammar.specs.cuts.FaultTexts.{stream_start_fault, document_start_fault, duplicate_version_fault, version_fault, duplicate_tag_fault}
 use Rattle.libyaml_grammar.specs.cuts.FaultTexts.{content_fault, tag_fault, item_fault, part_fault, sequence_fault, mapping_fault}
 use Rattle.libyaml_grammar.specs.sentences.Events.{event, is_missing, plain_flag, quoted_flag, same_text}
-use Rattle.libyaml_grammar.specs.sentences.Order.{is_version}
+use Rattle.libyaml_grammar.specs.sentences.Order.{is_accepted}
 use Rattle.libyaml_events.specs.machine.Config.{Config, Handles, no_handles, at, keep, pushed, popped, pushed_mark, top_mark, popped_mark, declared}
 use Rattle.libyaml_events.specs.declared.pending.DirectivesRead.{DirectivesRead}
 use Rattle.libyaml_events.specs.declared.node_place.NodePlace.{NodePlace}
@@ -47,12 +31,13 @@ use Rattle.libyaml_events.specs.declared.node_place.NodePlace.TheVariants.{Block
 use Rattle.libyaml_events.specs.declared.node_head.TagRead.{TagRead}
 use Rattle.libyaml_events.specs.declared.node_head.PropertiesRead.{PropertiesRead}
 use Rattle.libyaml_events.specs.declared.node_head.NodeHead.{NodeHead}
-use Rattle.libyaml_events.specs.declared.next.Want.{Want}
-use Rattle.libyaml_events.specs.declared.next.Want.TheVariants.{AtState, BehindDirective, BehindProperties, BehindBlockEntry, BehindIndentlessEntry}
-use Rattle.libyaml_events.specs.declared.next.Want.TheVariants.{BehindKey, BehindValue, BehindFlowSequenceEntry, BehindFlowSequenceValue}
-use Rattle.libyaml_events.specs.declared.next.Want.TheVariants.{BehindFlowMappingEntry, BehindFlowMappingKey, BehindFlowMappingValue}
-use Rattle.libyaml_events.specs.declared.next.Progress.{Progress}
-use Rattle.libyaml_events.specs.declared.next.Progress.TheVariants.{Given, Wants}
+use Rattle.libyaml_events.specs.declared.slot.Slot.{Slot}
+use Rattle.libyaml_events.specs.declared.slot.Slot.TheVariants.{BlockEntry, IndentlessEntry, BlockKey, BlockValue, Document, PairKey, PairValue, FlowKey}
+use Rattle.libyaml_events.specs.declared.slot.Slot.TheVariants.{FlowValue}
+use Rattle.libyaml_events.specs.machine.Slots.{is_nothing_before, state_behind, left_out, entered, place}
+use Rattle.libyaml_events.specs.machine.Want.{Want, AtState, BehindDirective, BehindProperties, BehindBlockEntry, BehindIndentlessEntry, BehindKey}
+use Rattle.libyaml_events.specs.machine.Want.{BehindValue, BehindFlowSequenceEntry, BehindFlowSequenceValue, BehindFlowMappingEntry}
+use Rattle.libyaml_events.specs.machine.Want.{BehindFlowMappingKey, BehindFlowMappingValue, Progress, Given, Wants}
 
 -- a step gives an event or wants a token, or ends in a fault
 abbrev pub Progressed : Type 0
@@ -102,15 +87,15 @@ close_collection content t c = give_at content t (popped (popped_mark c))
 
 abbrev pub parse_stream_start : Config → yaml_token_t → unnamed_yaml_token_t_data → Progressed
 parse_stream_start c t (tok.StreamStart s)
-    = give (ev.StreamStart (record { encoding = s.encoding })) t.start_mark t.start_mark (at YAML_PARSE_IMPLICIT_DOCUMENT_START_STATE c)
+    = give (ev.StreamStart (record { encoding = s.encoding })) t.start_mark t.start_mark (at st.YAML_PARSE_IMPLICIT_DOCUMENT_START_STATE c)
 parse_stream_start c t _ = Err (stream_start_fault t.start_mark)
 
 -- the document's root comes next, and its end after it
 abbrev pub begin_document : yaml_parser_state_t → Config → Config
-begin_document state c = record c { state = state; states = YAML_PARSE_DOCUMENT_END_STATE ∷ c.states; behind_document_end = false }
+begin_document state c = record c { state = state; states = st.YAML_PARSE_DOCUMENT_END_STATE ∷ c.states; behind_document_end = false }
 
 abbrev pub implicit_document : Config → yaml_token_t → Progressed
-implicit_document c t = give (document_start None [] true) t.start_mark t.start_mark (keep t (begin_document YAML_PARSE_BLOCK_NODE_STATE c))
+implicit_document c t = give (document_start None [] true) t.start_mark t.start_mark (keep t (begin_document st.YAML_PARSE_BLOCK_NODE_STATE c))
 
 abbrev pub first_version : Bool → DirectivesRead → Config → yaml_mark_t → yaml_version_directive_t → Progressed
 first_version true d c m v = want (BehindDirective (record d { version = Some v })) c
@@ -119,7 +104,7 @@ first_version false d c m v = Err (version_fault m)
 -- a second one is a duplicate, whatever its version; m is where it starts
 abbrev pub version_directive : Option yaml_version_directive_t → DirectivesRead → Config → yaml_mark_t → yaml_version_directive_t → Progressed
 version_directive (Some earlier) d c m v = Err (duplicate_version_fault m)
-version_directive None d c m v = first_version (is_version v.major v.minor) d c m v
+version_directive None d c m v = first_version (is_accepted v.major v.minor) d c m v
 
 abbrev pub tag_directive : (declared_prefix : Option (List ℕ)) → DirectivesRead → Config → yaml_mark_t → yaml_tag_directive_t → Progressed
 tag_directive (Some earlier) d c m g = Err (duplicate_tag_fault m)
@@ -130,14 +115,14 @@ abbrev pub explicit_document : DirectivesRead → Config → yaml_token_t → un
 explicit_document d c t (tok.VersionDirective v) = version_directive d.version d c t.start_mark (record { major = v.major; minor = v.minor })
 explicit_document d c t (tok.TagDirective g) = tag_directive (get c.handles g.handle) d c t.start_mark (record { handle = g.handle; prefix = g.prefix })
 explicit_document d c t tok.DocumentStart
-    = give (document_start d.version d.tag_directives false) d.start_mark t.end_mark (begin_document YAML_PARSE_DOCUMENT_CONTENT_STATE c)
+    = give (document_start d.version d.tag_directives false) d.start_mark t.end_mark (begin_document st.YAML_PARSE_DOCUMENT_CONTENT_STATE c)
 explicit_document d c t _ = Err (document_start_fault t.start_mark)
 
 abbrev pub no_directives : yaml_mark_t → DirectivesRead
 no_directives m = record { start_mark = m; version = None; tag_directives = [] }
 
 abbrev pub end_stream : Config → yaml_token_t → Progressed
-end_stream c t = give_at ev.StreamEnd t (at YAML_PARSE_END_STATE c)
+end_stream c t = give_at ev.StreamEnd t (at st.YAML_PARSE_END_STATE c)
 
 -- a DOCUMENT-END after another is skipped
 abbrev pub further_document_end : Bool → Config → yaml_token_t → Progressed
@@ -162,8 +147,8 @@ abbrev pub end_document : yaml_parser_state_t → (behind_document_end : Bool) �
 end_document state behind_document_end c = record c { state = state; handles = no_handles; behind_document_end = behind_document_end }
 
 abbrev pub parse_document_end : Config → yaml_token_t → unnamed_yaml_token_t_data → Progressed
-parse_document_end c t tok.DocumentEnd = give_at (document_end false) t (end_document YAML_PARSE_IMPLICIT_DOCUMENT_START_STATE true c)
-parse_document_end c t _ = give (document_end true) t.start_mark t.start_mark (keep t (end_document YAML_PARSE_DOCUMENT_START_STATE false c))
+parse_document_end c t tok.DocumentEnd = give_at (document_end false) t (end_document st.YAML_PARSE_IMPLICIT_DOCUMENT_START_STATE true c)
+parse_document_end c t _ = give (document_end true) t.start_mark t.start_mark (keep t (end_document st.YAML_PARSE_DOCUMENT_START_STATE false c))
 
 -- nodes
 
@@ -202,15 +187,15 @@ scalar_content h c s end = give (scalar h.anchor h.tag s.value (plain_flag h.tag
 abbrev pub node_content : NodePlace → NodeHead → Config → yaml_token_t → unnamed_yaml_token_t_data → Progressed
 node_content p h c t (tok.Scalar s) = scalar_content h c s t.end_mark
 node_content p h c t tok.FlowSequenceStart
-    = open_collection (sequence_start h.anchor h.tag YAML_FLOW_SEQUENCE_STYLE) YAML_PARSE_FLOW_SEQUENCE_FIRST_ENTRY_STATE h.start_mark c t
+    = open_collection (sequence_start h.anchor h.tag YAML_FLOW_SEQUENCE_STYLE) st.YAML_PARSE_FLOW_SEQUENCE_FIRST_ENTRY_STATE h.start_mark c t
 node_content p h c t tok.FlowMappingStart
-    = open_collection (mapping_start h.anchor h.tag YAML_FLOW_MAPPING_STYLE) YAML_PARSE_FLOW_MAPPING_FIRST_KEY_STATE h.start_mark c t
+    = open_collection (mapping_start h.anchor h.tag YAML_FLOW_MAPPING_STYLE) st.YAML_PARSE_FLOW_MAPPING_FIRST_KEY_STATE h.start_mark c t
 node_content p h c t tok.BlockSequenceStart
-    = may_open (is_block_place p) (sequence_start h.anchor h.tag YAML_BLOCK_SEQUENCE_STYLE) YAML_PARSE_BLOCK_SEQUENCE_FIRST_ENTRY_STATE p h c t
+    = may_open (is_block_place p) (sequence_start h.anchor h.tag YAML_BLOCK_SEQUENCE_STYLE) st.YAML_PARSE_BLOCK_SEQUENCE_FIRST_ENTRY_STATE p h c t
 node_content p h c t tok.BlockMappingStart
-    = may_open (is_block_place p) (mapping_start h.anchor h.tag YAML_BLOCK_MAPPING_STYLE) YAML_PARSE_BLOCK_MAPPING_FIRST_KEY_STATE p h c t
+    = may_open (is_block_place p) (mapping_start h.anchor h.tag YAML_BLOCK_MAPPING_STYLE) st.YAML_PARSE_BLOCK_MAPPING_FIRST_KEY_STATE p h c t
 node_content p h c t tok.BlockEntry
-    = may_open (may_be_indentless p) (sequence_start h.anchor h.tag YAML_BLOCK_SEQUENCE_STYLE) YAML_PARSE_INDENTLESS_SEQUENCE_ENTRY_STATE p h c t
+    = may_open (may_be_indentless p) (sequence_start h.anchor h.tag YAML_BLOCK_SEQUENCE_STYLE) st.YAML_PARSE_INDENTLESS_SEQUENCE_ENTRY_STATE p h c t
 node_content p h c t _ = no_content p h.anchor h.tag h c t
 
 abbrev pub undeclared_prefix : List ℕ → Option (List ℕ)
@@ -266,65 +251,38 @@ parse_node p c t (tok.Tag g) = want
     (BehindProperties p (record (no_properties t) { tag = Some (record { handle = g.handle; suffix = g.suffix; mark = t.start_mark }) })) c
 parse_node p c t k = node_content p (head (no_properties t) None) c t k
 
-abbrev pub parse_document_content : Config → yaml_token_t → unnamed_yaml_token_t_data → Progressed
-parse_document_content c t (tok.VersionDirective v) = process_empty_scalar t.start_mark t (popped c)
-parse_document_content c t (tok.TagDirective g) = process_empty_scalar t.start_mark t (popped c)
-parse_document_content c t tok.DocumentStart = process_empty_scalar t.start_mark t (popped c)
-parse_document_content c t tok.DocumentEnd = process_empty_scalar t.start_mark t (popped c)
-parse_document_content c t tok.StreamEnd = process_empty_scalar t.start_mark t (popped c)
-parse_document_content c t k = parse_node Block c t k
+-- where a node may be nothing; an empty one stands at `mark`
+abbrev pub at_slot : Slot → yaml_mark_t → Config → yaml_token_t → unnamed_yaml_token_t_data → Progressed
+at_slot s mark c t k
+    = if is_nothing_before s k then process_empty_scalar mark t (left_out (state_behind s) c) else parse_node (place s) (entered (state_behind s) c) t k
 
--- block collections. After an indicator that ends at `end` comes a node, or an empty one.
+-- the start of a collection, after which `state` says what comes
+abbrev pub first_entry : yaml_parser_state_t → Want → Config → yaml_token_t → Progressed
+first_entry state w c t = want w (at state (pushed_mark t.start_mark c))
 
-abbrev pub first_block_sequence_entry : Config → yaml_token_t → Progressed
-first_block_sequence_entry c t = want AtState (at YAML_PARSE_BLOCK_SEQUENCE_ENTRY_STATE (pushed_mark t.start_mark c))
+-- block collections
 
 abbrev pub parse_block_sequence_entry : Config → yaml_token_t → unnamed_yaml_token_t_data → Progressed
 parse_block_sequence_entry c t tok.BlockEntry = want (BehindBlockEntry t.end_mark) c
 parse_block_sequence_entry c t tok.BlockEnd = close_collection ev.SequenceEnd t c
 parse_block_sequence_entry c t _ = Err (item_fault (top_mark c.marks) t.start_mark)
 
-abbrev pub behind_block_entry : yaml_mark_t → Config → yaml_token_t → unnamed_yaml_token_t_data → Progressed
-behind_block_entry end c t tok.BlockEntry = process_empty_scalar end t (at YAML_PARSE_BLOCK_SEQUENCE_ENTRY_STATE c)
-behind_block_entry end c t tok.BlockEnd = process_empty_scalar end t (at YAML_PARSE_BLOCK_SEQUENCE_ENTRY_STATE c)
-behind_block_entry end c t k = parse_node Block (pushed YAML_PARSE_BLOCK_SEQUENCE_ENTRY_STATE c) t k
-
 abbrev pub parse_indentless_sequence_entry : Config → yaml_token_t → unnamed_yaml_token_t_data → Progressed
 parse_indentless_sequence_entry c t tok.BlockEntry = want (BehindIndentlessEntry t.end_mark) c
 parse_indentless_sequence_entry c t _ = give ev.SequenceEnd t.start_mark t.start_mark (keep t (popped c))
 
-abbrev pub behind_indentless_entry : yaml_mark_t → Config → yaml_token_t → unnamed_yaml_token_t_data → Progressed
-behind_indentless_entry end c t tok.BlockEntry = process_empty_scalar end t (at YAML_PARSE_INDENTLESS_SEQUENCE_ENTRY_STATE c)
-behind_indentless_entry end c t tok.Key = process_empty_scalar end t (at YAML_PARSE_INDENTLESS_SEQUENCE_ENTRY_STATE c)
-behind_indentless_entry end c t tok.Value = process_empty_scalar end t (at YAML_PARSE_INDENTLESS_SEQUENCE_ENTRY_STATE c)
-behind_indentless_entry end c t tok.BlockEnd = process_empty_scalar end t (at YAML_PARSE_INDENTLESS_SEQUENCE_ENTRY_STATE c)
-behind_indentless_entry end c t k = parse_node Block (pushed YAML_PARSE_INDENTLESS_SEQUENCE_ENTRY_STATE c) t k
-
-abbrev pub first_block_mapping_key : Config → yaml_token_t → Progressed
-first_block_mapping_key c t = want AtState (at YAML_PARSE_BLOCK_MAPPING_KEY_STATE (pushed_mark t.start_mark c))
-
 -- an entry that begins with VALUE has an empty key
 abbrev pub parse_block_mapping_key : Config → yaml_token_t → unnamed_yaml_token_t_data → Progressed
 parse_block_mapping_key c t tok.Key = want (BehindKey t.end_mark) c
-parse_block_mapping_key c t tok.Value = process_empty_scalar t.start_mark t (at YAML_PARSE_BLOCK_MAPPING_VALUE_STATE c)
+parse_block_mapping_key c t tok.Value = process_empty_scalar t.start_mark t (at st.YAML_PARSE_BLOCK_MAPPING_VALUE_STATE c)
 parse_block_mapping_key c t tok.BlockEnd = close_collection ev.MappingEnd t c
 parse_block_mapping_key c t _ = Err (part_fault (top_mark c.marks) t.start_mark)
 
 abbrev pub parse_block_mapping_value : Config → yaml_token_t → unnamed_yaml_token_t_data → Progressed
 parse_block_mapping_value c t tok.Value = want (BehindValue t.end_mark) c
-parse_block_mapping_value c t _ = process_empty_scalar t.start_mark t (at YAML_PARSE_BLOCK_MAPPING_KEY_STATE c)
-
--- after KEY or VALUE, where `state` comes next
-abbrev pub behind_block_indicator : yaml_parser_state_t → yaml_mark_t → Config → yaml_token_t → unnamed_yaml_token_t_data → Progressed
-behind_block_indicator state end c t tok.Key = process_empty_scalar end t (at state c)
-behind_block_indicator state end c t tok.Value = process_empty_scalar end t (at state c)
-behind_block_indicator state end c t tok.BlockEnd = process_empty_scalar end t (at state c)
-behind_block_indicator state end c t k = parse_node BlockOrIndentlessSequence (pushed state c) t k
+parse_block_mapping_value c t _ = process_empty_scalar t.start_mark t (at st.YAML_PARSE_BLOCK_MAPPING_KEY_STATE c)
 
 -- flow sequences
-
-abbrev pub first_flow_sequence_entry : Config → yaml_token_t → Progressed
-first_flow_sequence_entry c t = want BehindFlowSequenceEntry (at YAML_PARSE_FLOW_SEQUENCE_ENTRY_STATE (pushed_mark t.start_mark c))
 
 abbrev pub parse_flow_sequence_entry : Config → yaml_token_t → unnamed_yaml_token_t_data → Progressed
 parse_flow_sequence_entry c t tok.FlowEntry = want BehindFlowSequenceEntry c
@@ -334,31 +292,17 @@ parse_flow_sequence_entry c t _ = Err (sequence_fault (top_mark c.marks) t.start
 -- an entry with KEY is a mapping of one pair
 abbrev pub behind_flow_sequence_entry : Config → yaml_token_t → unnamed_yaml_token_t_data → Progressed
 behind_flow_sequence_entry c t tok.FlowSequenceEnd = close_collection ev.SequenceEnd t c
-behind_flow_sequence_entry c t tok.Key = give_at (mapping_start None None YAML_FLOW_MAPPING_STYLE) t (at YAML_PARSE_FLOW_SEQUENCE_ENTRY_MAPPING_KEY_STATE c)
-behind_flow_sequence_entry c t k = parse_node Flow (pushed YAML_PARSE_FLOW_SEQUENCE_ENTRY_STATE c) t k
-
-abbrev pub parse_flow_sequence_entry_mapping_key : Config → yaml_token_t → unnamed_yaml_token_t_data → Progressed
-parse_flow_sequence_entry_mapping_key c t tok.Value = process_empty_scalar t.start_mark t (at YAML_PARSE_FLOW_SEQUENCE_ENTRY_MAPPING_VALUE_STATE c)
-parse_flow_sequence_entry_mapping_key c t tok.FlowEntry = process_empty_scalar t.start_mark t (at YAML_PARSE_FLOW_SEQUENCE_ENTRY_MAPPING_VALUE_STATE c)
-parse_flow_sequence_entry_mapping_key c t tok.FlowSequenceEnd = process_empty_scalar t.start_mark t (at YAML_PARSE_FLOW_SEQUENCE_ENTRY_MAPPING_VALUE_STATE c)
-parse_flow_sequence_entry_mapping_key c t k = parse_node Flow (pushed YAML_PARSE_FLOW_SEQUENCE_ENTRY_MAPPING_VALUE_STATE c) t k
+behind_flow_sequence_entry c t tok.Key = give_at (mapping_start None None YAML_FLOW_MAPPING_STYLE) t (at st.YAML_PARSE_FLOW_SEQUENCE_ENTRY_MAPPING_KEY_STATE c)
+behind_flow_sequence_entry c t k = parse_node Flow (pushed st.YAML_PARSE_FLOW_SEQUENCE_ENTRY_STATE c) t k
 
 abbrev pub parse_flow_sequence_entry_mapping_value : Config → yaml_token_t → unnamed_yaml_token_t_data → Progressed
 parse_flow_sequence_entry_mapping_value c t tok.Value = want BehindFlowSequenceValue c
-parse_flow_sequence_entry_mapping_value c t _ = process_empty_scalar t.start_mark t (at YAML_PARSE_FLOW_SEQUENCE_ENTRY_MAPPING_END_STATE c)
-
-abbrev pub behind_flow_sequence_value : Config → yaml_token_t → unnamed_yaml_token_t_data → Progressed
-behind_flow_sequence_value c t tok.FlowEntry = process_empty_scalar t.start_mark t (at YAML_PARSE_FLOW_SEQUENCE_ENTRY_MAPPING_END_STATE c)
-behind_flow_sequence_value c t tok.FlowSequenceEnd = process_empty_scalar t.start_mark t (at YAML_PARSE_FLOW_SEQUENCE_ENTRY_MAPPING_END_STATE c)
-behind_flow_sequence_value c t k = parse_node Flow (pushed YAML_PARSE_FLOW_SEQUENCE_ENTRY_MAPPING_END_STATE c) t k
+parse_flow_sequence_entry_mapping_value c t _ = process_empty_scalar t.start_mark t (at st.YAML_PARSE_FLOW_SEQUENCE_ENTRY_MAPPING_END_STATE c)
 
 abbrev pub parse_flow_sequence_entry_mapping_end : Config → yaml_token_t → Progressed
-parse_flow_sequence_entry_mapping_end c t = give ev.MappingEnd t.start_mark t.start_mark (keep t (at YAML_PARSE_FLOW_SEQUENCE_ENTRY_STATE c))
+parse_flow_sequence_entry_mapping_end c t = give ev.MappingEnd t.start_mark t.start_mark (keep t (at st.YAML_PARSE_FLOW_SEQUENCE_ENTRY_STATE c))
 
 -- flow mappings
-
-abbrev pub first_flow_mapping_key : Config → yaml_token_t → Progressed
-first_flow_mapping_key c t = want BehindFlowMappingEntry (at YAML_PARSE_FLOW_MAPPING_KEY_STATE (pushed_mark t.start_mark c))
 
 abbrev pub parse_flow_mapping_key : Config → yaml_token_t → unnamed_yaml_token_t_data → Progressed
 parse_flow_mapping_key c t tok.FlowEntry = want BehindFlowMappingEntry c
@@ -368,67 +312,56 @@ parse_flow_mapping_key c t _ = Err (mapping_fault (top_mark c.marks) t.start_mar
 abbrev pub behind_flow_mapping_entry : Config → yaml_token_t → unnamed_yaml_token_t_data → Progressed
 behind_flow_mapping_entry c t tok.FlowMappingEnd = close_collection ev.MappingEnd t c
 behind_flow_mapping_entry c t tok.Key = want BehindFlowMappingKey c
-behind_flow_mapping_entry c t k = parse_node Flow (pushed YAML_PARSE_FLOW_MAPPING_EMPTY_VALUE_STATE c) t k
-
-abbrev pub behind_flow_mapping_key : Config → yaml_token_t → unnamed_yaml_token_t_data → Progressed
-behind_flow_mapping_key c t tok.Value = process_empty_scalar t.start_mark t (at YAML_PARSE_FLOW_MAPPING_VALUE_STATE c)
-behind_flow_mapping_key c t tok.FlowEntry = process_empty_scalar t.start_mark t (at YAML_PARSE_FLOW_MAPPING_VALUE_STATE c)
-behind_flow_mapping_key c t tok.FlowMappingEnd = process_empty_scalar t.start_mark t (at YAML_PARSE_FLOW_MAPPING_VALUE_STATE c)
-behind_flow_mapping_key c t k = parse_node Flow (pushed YAML_PARSE_FLOW_MAPPING_VALUE_STATE c) t k
+behind_flow_mapping_entry c t k = parse_node Flow (pushed st.YAML_PARSE_FLOW_MAPPING_EMPTY_VALUE_STATE c) t k
 
 abbrev pub parse_flow_mapping_value : Config → yaml_token_t → unnamed_yaml_token_t_data → Progressed
 parse_flow_mapping_value c t tok.Value = want BehindFlowMappingValue c
-parse_flow_mapping_value c t _ = process_empty_scalar t.start_mark t (at YAML_PARSE_FLOW_MAPPING_KEY_STATE c)
-
-abbrev pub behind_flow_mapping_value : Config → yaml_token_t → unnamed_yaml_token_t_data → Progressed
-behind_flow_mapping_value c t tok.FlowEntry = process_empty_scalar t.start_mark t (at YAML_PARSE_FLOW_MAPPING_KEY_STATE c)
-behind_flow_mapping_value c t tok.FlowMappingEnd = process_empty_scalar t.start_mark t (at YAML_PARSE_FLOW_MAPPING_KEY_STATE c)
-behind_flow_mapping_value c t k = parse_node Flow (pushed YAML_PARSE_FLOW_MAPPING_KEY_STATE c) t k
+parse_flow_mapping_value c t _ = process_empty_scalar t.start_mark t (at st.YAML_PARSE_FLOW_MAPPING_KEY_STATE c)
 
 -- a node alone has an empty value
 abbrev pub parse_flow_mapping_empty_value : Config → yaml_token_t → Progressed
-parse_flow_mapping_empty_value c t = process_empty_scalar t.start_mark t (at YAML_PARSE_FLOW_MAPPING_KEY_STATE c)
+parse_flow_mapping_empty_value c t = process_empty_scalar t.start_mark t (at st.YAML_PARSE_FLOW_MAPPING_KEY_STATE c)
 
 -- one token. After the stream's end none is asked for.
 abbrev pub at_state : yaml_parser_state_t → Config → yaml_token_t → unnamed_yaml_token_t_data → Progressed
-at_state YAML_PARSE_STREAM_START_STATE c t k = parse_stream_start c t k
-at_state YAML_PARSE_IMPLICIT_DOCUMENT_START_STATE c t k = parse_implicit_document_start c t k
-at_state YAML_PARSE_DOCUMENT_START_STATE c t k = parse_document_start c t k
-at_state YAML_PARSE_DOCUMENT_CONTENT_STATE c t k = parse_document_content c t k
-at_state YAML_PARSE_DOCUMENT_END_STATE c t k = parse_document_end c t k
-at_state YAML_PARSE_BLOCK_NODE_STATE c t k = parse_node Block c t k
-at_state YAML_PARSE_BLOCK_NODE_OR_INDENTLESS_SEQUENCE_STATE c t k = parse_node BlockOrIndentlessSequence c t k
-at_state YAML_PARSE_FLOW_NODE_STATE c t k = parse_node Flow c t k
-at_state YAML_PARSE_BLOCK_SEQUENCE_FIRST_ENTRY_STATE c t k = first_block_sequence_entry c t
-at_state YAML_PARSE_BLOCK_SEQUENCE_ENTRY_STATE c t k = parse_block_sequence_entry c t k
-at_state YAML_PARSE_INDENTLESS_SEQUENCE_ENTRY_STATE c t k = parse_indentless_sequence_entry c t k
-at_state YAML_PARSE_BLOCK_MAPPING_FIRST_KEY_STATE c t k = first_block_mapping_key c t
-at_state YAML_PARSE_BLOCK_MAPPING_KEY_STATE c t k = parse_block_mapping_key c t k
-at_state YAML_PARSE_BLOCK_MAPPING_VALUE_STATE c t k = parse_block_mapping_value c t k
-at_state YAML_PARSE_FLOW_SEQUENCE_FIRST_ENTRY_STATE c t k = first_flow_sequence_entry c t
-at_state YAML_PARSE_FLOW_SEQUENCE_ENTRY_STATE c t k = parse_flow_sequence_entry c t k
-at_state YAML_PARSE_FLOW_SEQUENCE_ENTRY_MAPPING_KEY_STATE c t k = parse_flow_sequence_entry_mapping_key c t k
-at_state YAML_PARSE_FLOW_SEQUENCE_ENTRY_MAPPING_VALUE_STATE c t k = parse_flow_sequence_entry_mapping_value c t k
-at_state YAML_PARSE_FLOW_SEQUENCE_ENTRY_MAPPING_END_STATE c t k = parse_flow_sequence_entry_mapping_end c t
-at_state YAML_PARSE_FLOW_MAPPING_FIRST_KEY_STATE c t k = first_flow_mapping_key c t
-at_state YAML_PARSE_FLOW_MAPPING_KEY_STATE c t k = parse_flow_mapping_key c t k
-at_state YAML_PARSE_FLOW_MAPPING_VALUE_STATE c t k = parse_flow_mapping_value c t k
-at_state YAML_PARSE_FLOW_MAPPING_EMPTY_VALUE_STATE c t k = parse_flow_mapping_empty_value c t
-at_state YAML_PARSE_END_STATE c t k = Err (document_start_fault t.start_mark)
+at_state st.YAML_PARSE_STREAM_START_STATE c t k = parse_stream_start c t k
+at_state st.YAML_PARSE_IMPLICIT_DOCUMENT_START_STATE c t k = parse_implicit_document_start c t k
+at_state st.YAML_PARSE_DOCUMENT_START_STATE c t k = parse_document_start c t k
+at_state st.YAML_PARSE_DOCUMENT_CONTENT_STATE c t k = at_slot Document t.start_mark c t k
+at_state st.YAML_PARSE_DOCUMENT_END_STATE c t k = parse_document_end c t k
+at_state st.YAML_PARSE_BLOCK_NODE_STATE c t k = parse_node Block c t k
+at_state st.YAML_PARSE_BLOCK_NODE_OR_INDENTLESS_SEQUENCE_STATE c t k = parse_node BlockOrIndentlessSequence c t k
+at_state st.YAML_PARSE_FLOW_NODE_STATE c t k = parse_node Flow c t k
+at_state st.YAML_PARSE_BLOCK_SEQUENCE_FIRST_ENTRY_STATE c t k = first_entry st.YAML_PARSE_BLOCK_SEQUENCE_ENTRY_STATE AtState c t
+at_state st.YAML_PARSE_BLOCK_SEQUENCE_ENTRY_STATE c t k = parse_block_sequence_entry c t k
+at_state st.YAML_PARSE_INDENTLESS_SEQUENCE_ENTRY_STATE c t k = parse_indentless_sequence_entry c t k
+at_state st.YAML_PARSE_BLOCK_MAPPING_FIRST_KEY_STATE c t k = first_entry st.YAML_PARSE_BLOCK_MAPPING_KEY_STATE AtState c t
+at_state st.YAML_PARSE_BLOCK_MAPPING_KEY_STATE c t k = parse_block_mapping_key c t k
+at_state st.YAML_PARSE_BLOCK_MAPPING_VALUE_STATE c t k = parse_block_mapping_value c t k
+at_state st.YAML_PARSE_FLOW_SEQUENCE_FIRST_ENTRY_STATE c t k = first_entry st.YAML_PARSE_FLOW_SEQUENCE_ENTRY_STATE BehindFlowSequenceEntry c t
+at_state st.YAML_PARSE_FLOW_SEQUENCE_ENTRY_STATE c t k = parse_flow_sequence_entry c t k
+at_state st.YAML_PARSE_FLOW_SEQUENCE_ENTRY_MAPPING_KEY_STATE c t k = at_slot PairKey t.start_mark c t k
+at_state st.YAML_PARSE_FLOW_SEQUENCE_ENTRY_MAPPING_VALUE_STATE c t k = parse_flow_sequence_entry_mapping_value c t k
+at_state st.YAML_PARSE_FLOW_SEQUENCE_ENTRY_MAPPING_END_STATE c t k = parse_flow_sequence_entry_mapping_end c t
+at_state st.YAML_PARSE_FLOW_MAPPING_FIRST_KEY_STATE c t k = first_entry st.YAML_PARSE_FLOW_MAPPING_KEY_STATE BehindFlowMappingEntry c t
+at_state st.YAML_PARSE_FLOW_MAPPING_KEY_STATE c t k = parse_flow_mapping_key c t k
+at_state st.YAML_PARSE_FLOW_MAPPING_VALUE_STATE c t k = parse_flow_mapping_value c t k
+at_state st.YAML_PARSE_FLOW_MAPPING_EMPTY_VALUE_STATE c t k = parse_flow_mapping_empty_value c t
+at_state st.YAML_PARSE_END_STATE c t k = Err (document_start_fault t.start_mark)
 
 abbrev pub machine : Want → Config → yaml_token_t → unnamed_yaml_token_t_data → Progressed
 machine AtState c t k = at_state c.state c t k
 machine (BehindDirective d) c t k = explicit_document d c t k
 machine (BehindProperties p r) c t k = behind_properties p r c t k
-machine (BehindBlockEntry end) c t k = behind_block_entry end c t k
-machine (BehindIndentlessEntry end) c t k = behind_indentless_entry end c t k
-machine (BehindKey end) c t k = behind_block_indicator YAML_PARSE_BLOCK_MAPPING_VALUE_STATE end c t k
-machine (BehindValue end) c t k = behind_block_indicator YAML_PARSE_BLOCK_MAPPING_KEY_STATE end c t k
+machine (BehindBlockEntry end) c t k = at_slot BlockEntry end c t k
+machine (BehindIndentlessEntry end) c t k = at_slot IndentlessEntry end c t k
+machine (BehindKey end) c t k = at_slot BlockKey end c t k
+machine (BehindValue end) c t k = at_slot BlockValue end c t k
 machine BehindFlowSequenceEntry c t k = behind_flow_sequence_entry c t k
-machine BehindFlowSequenceValue c t k = behind_flow_sequence_value c t k
+machine BehindFlowSequenceValue c t k = at_slot PairValue t.start_mark c t k
 machine BehindFlowMappingEntry c t k = behind_flow_mapping_entry c t k
-machine BehindFlowMappingKey c t k = behind_flow_mapping_key c t k
-machine BehindFlowMappingValue c t k = behind_flow_mapping_value c t k
+machine BehindFlowMappingKey c t k = at_slot FlowKey t.start_mark c t k
+machine BehindFlowMappingValue c t k = at_slot FlowValue t.start_mark c t k
 
 -- a step by a token
 abbrev pub step : Want → Config → yaml_token_t → Progressed

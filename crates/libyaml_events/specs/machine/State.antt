@@ -1,29 +1,23 @@
 -- The states that the parser goes back to after a node, and the bytes that stand for them (docs/DEFINITIONS.md, "The parser's states").
 use Rattle.std.specs.Prelude.{◌==◌, ◌||◌, ℕ, Bool, IsTrue, List, map, reverse, if◌then◌else◌}
 use Rattle.libyaml_types.specs.declared.enums.yaml_parser_state_t.{yaml_parser_state_t}
-use Rattle.libyaml_types.specs.declared.enums.yaml_parser_state_t.TheVariants.{YAML_PARSE_DOCUMENT_END_STATE, YAML_PARSE_BLOCK_SEQUENCE_ENTRY_STATE}
-use Rattle.libyaml_types.specs.declared.enums.yaml_parser_state_t.TheVariants.{YAML_PARSE_INDENTLESS_SEQUENCE_ENTRY_STATE, YAML_PARSE_BLOCK_MAPPING_KEY_STATE}
-use Rattle.libyaml_types.specs.declared.enums.yaml_parser_state_t.TheVariants.{YAML_PARSE_BLOCK_MAPPING_VALUE_STATE, YAML_PARSE_FLOW_SEQUENCE_ENTRY_STATE}
-use Rattle.libyaml_types.specs.declared.enums.yaml_parser_state_t.TheVariants.{YAML_PARSE_FLOW_SEQUENCE_ENTRY_MAPPING_VALUE_STATE}
-use Rattle.libyaml_types.specs.declared.enums.yaml_parser_state_t.TheVariants.{YAML_PARSE_FLOW_SEQUENCE_ENTRY_MAPPING_END_STATE}
-use Rattle.libyaml_types.specs.declared.enums.yaml_parser_state_t.TheVariants.{YAML_PARSE_FLOW_MAPPING_KEY_STATE, YAML_PARSE_FLOW_MAPPING_VALUE_STATE}
-use Rattle.libyaml_types.specs.declared.enums.yaml_parser_state_t.TheVariants.{YAML_PARSE_FLOW_MAPPING_EMPTY_VALUE_STATE, YAML_PARSE_END_STATE}
+use Rattle.libyaml_types.specs.declared.enums.yaml_parser_state_t.TheVariants as st
 
 -- the state whose number a byte is
 abbrev pub back_state : ℕ → yaml_parser_state_t
 back_state byte =
-    if byte == 4 then YAML_PARSE_DOCUMENT_END_STATE else
-    if byte == 9 then YAML_PARSE_BLOCK_SEQUENCE_ENTRY_STATE else
-    if byte == 10 then YAML_PARSE_INDENTLESS_SEQUENCE_ENTRY_STATE else
-    if byte == 12 then YAML_PARSE_BLOCK_MAPPING_KEY_STATE else
-    if byte == 13 then YAML_PARSE_BLOCK_MAPPING_VALUE_STATE else
-    if byte == 15 then YAML_PARSE_FLOW_SEQUENCE_ENTRY_STATE else
-    if byte == 17 then YAML_PARSE_FLOW_SEQUENCE_ENTRY_MAPPING_VALUE_STATE else
-    if byte == 18 then YAML_PARSE_FLOW_SEQUENCE_ENTRY_MAPPING_END_STATE else
-    if byte == 20 then YAML_PARSE_FLOW_MAPPING_KEY_STATE else
-    if byte == 21 then YAML_PARSE_FLOW_MAPPING_VALUE_STATE else
-    if byte == 22 then YAML_PARSE_FLOW_MAPPING_EMPTY_VALUE_STATE else
-    YAML_PARSE_END_STATE
+    if byte == 4 then st.YAML_PARSE_DOCUMENT_END_STATE else
+    if byte == 9 then st.YAML_PARSE_BLOCK_SEQUENCE_ENTRY_STATE else
+    if byte == 10 then st.YAML_PARSE_INDENTLESS_SEQUENCE_ENTRY_STATE else
+    if byte == 12 then st.YAML_PARSE_BLOCK_MAPPING_KEY_STATE else
+    if byte == 13 then st.YAML_PARSE_BLOCK_MAPPING_VALUE_STATE else
+    if byte == 15 then st.YAML_PARSE_FLOW_SEQUENCE_ENTRY_STATE else
+    if byte == 17 then st.YAML_PARSE_FLOW_SEQUENCE_ENTRY_MAPPING_VALUE_STATE else
+    if byte == 18 then st.YAML_PARSE_FLOW_SEQUENCE_ENTRY_MAPPING_END_STATE else
+    if byte == 20 then st.YAML_PARSE_FLOW_MAPPING_KEY_STATE else
+    if byte == 21 then st.YAML_PARSE_FLOW_MAPPING_VALUE_STATE else
+    if byte == 22 then st.YAML_PARSE_FLOW_MAPPING_EMPTY_VALUE_STATE else
+    st.YAML_PARSE_END_STATE
 
 -- a byte that may stand in the stack
 abbrev pub is_back_byte : ℕ → Bool

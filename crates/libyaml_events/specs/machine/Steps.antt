@@ -10,8 +10,7 @@ use Rattle.libyaml_events.specs.machine.Config.{Config, Parser, with_config, wit
 use Rattle.libyaml_events.specs.machine.Growth.{has_prefix}
 use Rattle.libyaml_events.specs.machine.Machine.{Progressed, resolve}
 use Rattle.libyaml_events.specs.declared.node_head.TagRead.{TagRead}
-use Rattle.libyaml_events.specs.declared.next.Progress.{Progress}
-use Rattle.libyaml_events.specs.declared.next.Progress.TheVariants.{Given, Wants}
+use Rattle.libyaml_events.specs.machine.Want.{Progress, Given, Wants}
 
 -- the machine's fault, or else an allocation failed, which is kept by its error alone
 abbrev pub FailsAs : Config → Progressed → yaml_error_type_t → Type 0

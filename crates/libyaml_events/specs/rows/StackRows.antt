@@ -5,8 +5,7 @@ use Rattle.libyaml_types.specs.declared.event.unnamed_yaml_event_t_data.TheVaria
 use Rattle.libyaml_types.specs.declared.token.unnamed_yaml_token_t_data.TheVariants.{BlockEnd, Key}
 use Rattle.libyaml_types.specs.declared.enums.yaml_error_type_t.TheVariants.{YAML_PARSER_ERROR}
 use Rattle.libyaml_types.specs.declared.enums.yaml_parser_state_t.{yaml_parser_state_t}
-use Rattle.libyaml_types.specs.declared.enums.yaml_parser_state_t.TheVariants.{YAML_PARSE_BLOCK_SEQUENCE_ENTRY_STATE, YAML_PARSE_DOCUMENT_END_STATE}
-use Rattle.libyaml_types.specs.declared.enums.yaml_parser_state_t.TheVariants.{YAML_PARSE_END_STATE}
+use Rattle.libyaml_types.specs.declared.enums.yaml_parser_state_t.TheVariants as st
 use Rattle.libyaml_grammar.specs.sentences.Tokens.{Token}
 use Rattle.libyaml_events.specs.machine.Config.{Config, start, with_fault}
 use Rattle.libyaml_events.specs.parsers.Pops.{KeepsBelow}
@@ -18,25 +17,25 @@ abbrev pub over : yaml_parser_state_t → List yaml_parser_state_t → List yaml
 over state states marks = record start { state = state; states = states; marks = marks }
 
 abbrev pub in_sequence : List yaml_parser_state_t → List yaml_mark_t → Config
-in_sequence states marks = over YAML_PARSE_BLOCK_SEQUENCE_ENTRY_STATE states marks
+in_sequence states marks = over st.YAML_PARSE_BLOCK_SEQUENCE_ENTRY_STATE states marks
 
 abbrev pub MissesEntry : List yaml_mark_t → (opened_at : ℕ) → Type 0
-MissesEntry marks i = KeepsBelow (in_sequence (YAML_PARSE_DOCUMENT_END_STATE ∷ []) marks) (Ok (token 4 Key)
-    ∷ []) (Err YAML_PARSER_ERROR) (with_fault (in_sequence (YAML_PARSE_DOCUMENT_END_STATE ∷ []) marks)
+MissesEntry marks i = KeepsBelow (in_sequence (st.YAML_PARSE_DOCUMENT_END_STATE ∷ []) marks) (Ok (token 4 Key)
+    ∷ []) (Err YAML_PARSER_ERROR) (with_fault (in_sequence (st.YAML_PARSE_DOCUMENT_END_STATE ∷ []) marks)
     (says_while (codes "while parsing a block collection") i (codes "did not find expected '-' indicator") 8))
 
 -- A sequence ends: its state goes and the one below comes, and its mark goes.
 abbrev pub RowSequenceEnds : Type 0
-RowSequenceEnds = KeepsBelow (in_sequence (YAML_PARSE_DOCUMENT_END_STATE ∷ []) (place 2 ∷ [])) (Ok (token 4 BlockEnd)
-    ∷ []) (Ok (at 8 9 ev.SequenceEnd)) (over YAML_PARSE_DOCUMENT_END_STATE [] [])
+RowSequenceEnds = KeepsBelow (in_sequence (st.YAML_PARSE_DOCUMENT_END_STATE ∷ []) (place 2 ∷ [])) (Ok (token 4 BlockEnd)
+    ∷ []) (Ok (at 8 9 ev.SequenceEnd)) (over st.YAML_PARSE_DOCUMENT_END_STATE [] [])
 
 -- not over an empty stack
 abbrev pub NeverWithoutState : Type 0
-NeverWithoutState = KeepsBelow (in_sequence [] (place 2 ∷ [])) (Ok (token 4 BlockEnd) ∷ []) (Ok (at 8 9 ev.SequenceEnd)) (over YAML_PARSE_END_STATE [] []) → ⊥
+NeverWithoutState = KeepsBelow (in_sequence [] (place 2 ∷ [])) (Ok (token 4 BlockEnd) ∷ []) (Ok (at 8 9 ev.SequenceEnd)) (over st.YAML_PARSE_END_STATE [] []) → ⊥
 
 abbrev pub NeverWithoutMark : Type 0
-NeverWithoutMark = KeepsBelow (in_sequence (YAML_PARSE_DOCUMENT_END_STATE ∷ []) []) (Ok (token 4 BlockEnd)
-    ∷ []) (Ok (at 8 9 ev.SequenceEnd)) (over YAML_PARSE_DOCUMENT_END_STATE [] []) → ⊥
+NeverWithoutMark = KeepsBelow (in_sequence (st.YAML_PARSE_DOCUMENT_END_STATE ∷ []) []) (Ok (token 4 BlockEnd)
+    ∷ []) (Ok (at 8 9 ev.SequenceEnd)) (over st.YAML_PARSE_DOCUMENT_END_STATE [] []) → ⊥
 
 -- An entry is missing: the fault has the mark on top.
 abbrev pub RowEntryMissing : Type 0

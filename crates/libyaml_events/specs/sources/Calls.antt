@@ -9,9 +9,7 @@ use Rattle.libyaml_sources.specs.Errors.{IsSourceError}
 use Rattle.libyaml_events.specs.machine.Config.{Config, Parser, with_config, with_fault, taken, ended_or_failed}
 use Rattle.libyaml_events.specs.machine.Growth.{may_grow}
 use Rattle.libyaml_events.specs.machine.Machine.{Progressed, step}
-use Rattle.libyaml_events.specs.declared.next.Want.{Want}
-use Rattle.libyaml_events.specs.declared.next.Want.TheVariants.{AtState}
-use Rattle.libyaml_events.specs.declared.next.Progress.TheVariants.{Given, Wants}
+use Rattle.libyaml_events.specs.machine.Want.{Want, AtState, Given, Wants}
 
 -- what a call of the parser returns
 abbrev pub EventOrError : Type 0

@@ -6,7 +6,7 @@ use Rattle.libyaml_grammar.specs.sentences.Tokens.{Token}
 use Rattle.libyaml_grammar.specs.sentences.Events.{Event}
 use Rattle.libyaml_events.specs.machine.Config.{Config, Parser, taken, start, with_config, with_fault, is_fault, ended_or_failed, is_between}
 use Rattle.libyaml_events.specs.sources.Calls.{Calls, held}
-use Rattle.libyaml_events.specs.declared.next.Want.TheVariants.{AtState}
+use Rattle.libyaml_events.specs.machine.Want.{AtState}
 
 -- these tokens as results of a source, and after them the results r
 abbrev pub answers : List Token → List Answer → List Answer

@@ -3,7 +3,7 @@
 //! ```text
 //! block_sequence ::= BLOCK-SEQUENCE-START (BLOCK-ENTRY block_node?)* BLOCK-END
 //!                    1                     2           3             2
-//!   1 parse_first_block_sequence_entry   YAML_PARSE_BLOCK_SEQUENCE_FIRST_ENTRY_STATE
+//!   1 parse_first_entry                  YAML_PARSE_BLOCK_SEQUENCE_FIRST_ENTRY_STATE
 //!   2 parse_block_sequence_entry         YAML_PARSE_BLOCK_SEQUENCE_ENTRY_STATE
 //!   3 parse_slot(Slot::BlockEntry)       Next::BehindBlockEntry
 //!   libyaml: yaml_parser_parse_block_sequence_entry
@@ -18,7 +18,7 @@
 //! block_mapping ::= BLOCK-MAPPING-START ((KEY node?)? (VALUE node?)?)* BLOCK-END
 //!                   1                     2   3        4     5         2
 //! node ::= block_node | indentless_sequence
-//!   1 parse_first_block_mapping_key      YAML_PARSE_BLOCK_MAPPING_FIRST_KEY_STATE
+//!   1 parse_first_entry                  YAML_PARSE_BLOCK_MAPPING_FIRST_KEY_STATE
 //!   2 parse_block_mapping_key            YAML_PARSE_BLOCK_MAPPING_KEY_STATE
 //!   3 parse_slot(Slot::BlockKey)         Next::BehindKey
 //!   libyaml: yaml_parser_parse_block_mapping_key
@@ -29,16 +29,14 @@
 //!   At a token other than VALUE, 4 gives the empty value, and the token stays for 2.
 //! ```
 ghost use Rattle.std.specs.Prelude.{◌≡◌, IfErr};
-ghost use Rattle.libyaml_events.specs.machine.Machine.{first_block_sequence_entry};
 ghost use Rattle.libyaml_events.specs.machine.Machine.{parse_block_sequence_entry};
 ghost use Rattle.libyaml_events.specs.machine.Machine.{parse_indentless_sequence_entry};
-ghost use Rattle.libyaml_events.specs.machine.Machine.{first_block_mapping_key};
 ghost use Rattle.libyaml_events.specs.machine.Machine.{parse_block_mapping_key};
 ghost use Rattle.libyaml_events.specs.machine.Machine.{parse_block_mapping_value};
 ghost use Rattle.libyaml_events.specs.machine.Steps.{Steps};
 ghost use Rattle.libyaml_events.specs.machine.Answers.{answer};
 
-use crate::next::Next;
+use crate::next::{Next, Step};
 use crate::parser::Machine;
 use crate::pending::Pending;
 use crate::states::give;
@@ -48,31 +46,12 @@ use libyaml_types::{
 };
 
 impl<S> Machine<S> {
-    /// At BLOCK-SEQUENCE-START, whose start is kept.
-    #[inline(never)]
-    pub(super) fn parse_first_block_sequence_entry(
-        &mut self,
-        token: &yaml_token_t,
-        pending: &mut Pending,
-        out: &mut yaml_event_t,
-    ) -> Result<Next, yaml_error_type_t>
-        ensures { Steps (first_block_sequence_entry self.old.config token.now) self.old
-            (answer result pending.new out.new) self.new }
-    {
-        let start_mark = token.start_mark;
-        self.open(
-            start_mark,
-            yaml_parser_state_t::YAML_PARSE_BLOCK_SEQUENCE_ENTRY_STATE,
-        )?;
-        Ok(Next::AtState)
-    }
-
     pub(super) fn parse_block_sequence_entry(
         &mut self,
         token: &yaml_token_t,
         pending: &mut Pending,
         out: &mut yaml_event_t,
-    ) -> Result<Next, yaml_error_type_t>
+    ) -> Result<Step, yaml_error_type_t>
         ensures steps { Steps (parse_block_sequence_entry self.old.config token.now token.now.content)
             self.old (answer result pending.new out.new) self.new }
         ensures error { IfErr result (λ e. e ≡ yaml_error_type_t.YAML_PARSER_ERROR) }
@@ -80,11 +59,11 @@ impl<S> Machine<S> {
         match &token.content {
             unnamed_yaml_token_t_data::BlockEntry => {
                 pending.mark = token.end_mark;
-                Ok(Next::BehindBlockEntry)
+                Ok(Step::Wants(Next::BehindBlockEntry))
             }
             unnamed_yaml_token_t_data::BlockEnd => {
                 self.close(unnamed_yaml_event_t_data::SequenceEnd, token, out);
-                Ok(Next::Given)
+                Ok(Step::Given)
             }
             _ => {
                 let opened = self.pop_mark();
@@ -103,7 +82,7 @@ impl<S> Machine<S> {
         token: &mut yaml_token_t,
         pending: &mut Pending,
         out: &mut yaml_event_t,
-    ) -> Result<Next, yaml_error_type_t>
+    ) -> Result<Step, yaml_error_type_t>
         ensures steps { Steps (parse_indentless_sequence_entry self.old.config token.old token.old.content)
             self.old (answer result pending.new out.new) self.new }
         ensures error { IfErr result (λ e. e ≡ yaml_error_type_t.YAML_PARSER_ERROR) }
@@ -111,35 +90,16 @@ impl<S> Machine<S> {
         match token.content {
             unnamed_yaml_token_t_data::BlockEntry => {
                 pending.mark = token.end_mark;
-                Ok(Next::BehindIndentlessEntry)
+                Ok(Step::Wants(Next::BehindIndentlessEntry))
             }
             _ => {
                 self.pop_state();
                 let mark = token.start_mark;
                 self.keep(token);
                 give(out, unnamed_yaml_event_t_data::SequenceEnd, mark, mark);
-                Ok(Next::Given)
+                Ok(Step::Given)
             }
         }
-    }
-
-    /// At BLOCK-MAPPING-START, whose start is kept.
-    #[inline(never)]
-    pub(super) fn parse_first_block_mapping_key(
-        &mut self,
-        token: &yaml_token_t,
-        pending: &mut Pending,
-        out: &mut yaml_event_t,
-    ) -> Result<Next, yaml_error_type_t>
-        ensures { Steps (first_block_mapping_key self.old.config token.now) self.old
-            (answer result pending.new out.new) self.new }
-    {
-        let start_mark = token.start_mark;
-        self.open(
-            start_mark,
-            yaml_parser_state_t::YAML_PARSE_BLOCK_MAPPING_KEY_STATE,
-        )?;
-        Ok(Next::AtState)
     }
 
     /// An entry that begins with VALUE has an empty key.
@@ -148,7 +108,7 @@ impl<S> Machine<S> {
         token: &mut yaml_token_t,
         pending: &mut Pending,
         out: &mut yaml_event_t,
-    ) -> Result<Next, yaml_error_type_t>
+    ) -> Result<Step, yaml_error_type_t>
         ensures steps { Steps (parse_block_mapping_key self.old.config token.old token.old.content) self.old
             (answer result pending.new out.new) self.new }
         ensures error { IfErr result (λ e. e ≡ yaml_error_type_t.YAML_PARSER_ERROR) }
@@ -156,16 +116,16 @@ impl<S> Machine<S> {
         match token.content {
             unnamed_yaml_token_t_data::Key => {
                 pending.mark = token.end_mark;
-                Ok(Next::BehindKey)
+                Ok(Step::Wants(Next::BehindKey))
             }
             unnamed_yaml_token_t_data::Value => {
                 self.set_state(yaml_parser_state_t::YAML_PARSE_BLOCK_MAPPING_VALUE_STATE);
                 self.process_empty_scalar(token.start_mark, token, out);
-                Ok(Next::Given)
+                Ok(Step::Given)
             }
             unnamed_yaml_token_t_data::BlockEnd => {
                 self.close(unnamed_yaml_event_t_data::MappingEnd, token, out);
-                Ok(Next::Given)
+                Ok(Step::Given)
             }
             _ => {
                 let mark = token.start_mark;
@@ -186,7 +146,7 @@ impl<S> Machine<S> {
         token: &mut yaml_token_t,
         pending: &mut Pending,
         out: &mut yaml_event_t,
-    ) -> Result<Next, yaml_error_type_t>
+    ) -> Result<Step, yaml_error_type_t>
         ensures steps { Steps (parse_block_mapping_value self.old.config token.old token.old.content) self.old
             (answer result pending.new out.new) self.new }
         ensures error { IfErr result (λ e. e ≡ yaml_error_type_t.YAML_PARSER_ERROR) }
@@ -194,12 +154,12 @@ impl<S> Machine<S> {
         match token.content {
             unnamed_yaml_token_t_data::Value => {
                 pending.mark = token.end_mark;
-                Ok(Next::BehindValue)
+                Ok(Step::Wants(Next::BehindValue))
             }
             _ => {
                 self.set_state(yaml_parser_state_t::YAML_PARSE_BLOCK_MAPPING_KEY_STATE);
                 self.process_empty_scalar(token.start_mark, token, out);
-                Ok(Next::Given)
+                Ok(Step::Given)
             }
         }
     }

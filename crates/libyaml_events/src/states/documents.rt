@@ -25,6 +25,7 @@
 //! ```
 ghost use Rattle.std.specs.Prelude.{◌≡◌, Ok, Err, OnOk, OnErr, IfErr, true};
 ghost use Rattle.libyaml_sources.specs.Fault.{memory_fault};
+ghost use Rattle.libyaml_grammar.specs.sentences.Order.{is_accepted};
 ghost use Rattle.libyaml_events.specs.machine.Config.{with_config, with_fault};
 ghost use Rattle.libyaml_events.specs.machine.Machine.{parse_stream_start, begin_document};
 ghost use Rattle.libyaml_events.specs.machine.Machine.{implicit_document, version_directive};
@@ -36,10 +37,10 @@ ghost use Rattle.libyaml_events.specs.machine.Machine.{parse_document_end};
 ghost use Rattle.libyaml_events.specs.machine.Growth.{grows_at_directive, grows_at_document};
 ghost use Rattle.libyaml_events.specs.machine.Steps.{Steps};
 ghost use Rattle.libyaml_events.specs.machine.Answers.{answer};
-ghost use Rattle.libyaml_events.specs.declared.next.Progress.TheVariants.{Given};
+ghost use Rattle.libyaml_events.specs.machine.Want.{Given};
 ghost use Rattle.std.specs.FinMap.{get};
 
-use crate::next::Next;
+use crate::next::{Next, Step};
 use crate::parser::Machine;
 use crate::pending::{DirectivesRead, Pending};
 use crate::states::give;
@@ -51,6 +52,14 @@ use libyaml_types::{
 };
 use std::mem;
 
+/// Whether documents of this version are parsed: YAML 1.1 and 1.2.
+#[inline]
+fn is_accepted(version: &yaml_version_directive_t) -> bool
+    ensures { result ≡ is_accepted version.now.major version.now.minor }
+{
+    version.major == 1 && (version.minor == 1 || version.minor == 2)
+}
+
 impl<S> Machine<S> {
     #[inline(never)]
     pub(super) fn parse_stream_start(
@@ -58,7 +67,7 @@ impl<S> Machine<S> {
         token: &yaml_token_t,
         pending: &mut Pending,
         out: &mut yaml_event_t,
-    ) -> Result<Next, yaml_error_type_t>
+    ) -> Result<Step, yaml_error_type_t>
         ensures steps { Steps (parse_stream_start self.old.config token.now token.now.content) self.old
             (answer result pending.new out.new) self.new }
         ensures error { IfErr result (λ e. e ≡ yaml_error_type_t.YAML_PARSER_ERROR) }
@@ -76,7 +85,7 @@ impl<S> Machine<S> {
                     mark,
                     mark,
                 );
-                Ok(Next::Given)
+                Ok(Step::Given)
             }
             _ => Err(self.set_parser_error("did not find expected <stream-start>", mark)),
         }
@@ -100,7 +109,7 @@ impl<S> Machine<S> {
         token: &mut yaml_token_t,
         pending: &mut Pending,
         out: &mut yaml_event_t,
-    ) -> Result<Next, yaml_error_type_t>
+    ) -> Result<Step, yaml_error_type_t>
         ensures { Steps (implicit_document self.old.config token.old) self.old
             (answer result pending.new out.new) self.new }
     {
@@ -118,7 +127,7 @@ impl<S> Machine<S> {
             mark,
             mark,
         );
-        Ok(Next::Given)
+        Ok(Step::Given)
     }
 
     /// VERSION-DIRECTIVE: a second one is a duplicate, whatever its version.
@@ -128,7 +137,7 @@ impl<S> Machine<S> {
         mark: yaml_mark_t,
         pending: &mut Pending,
         out: &mut yaml_event_t,
-    ) -> Result<Next, yaml_error_type_t>
+    ) -> Result<Step, yaml_error_type_t>
         ensures steps { Steps (version_directive pending.old.directives.version pending.old.directives
             self.old.config mark version) self.old (answer result pending.new out.new) self.new }
         ensures error { IfErr result (λ e. e ≡ yaml_error_type_t.YAML_PARSER_ERROR) }
@@ -136,11 +145,11 @@ impl<S> Machine<S> {
         if pending.directives.version.is_some() {
             return Err(self.set_parser_error("found duplicate %YAML directive", mark));
         }
-        if version.major != 1 || (version.minor != 1 && version.minor != 2) {
+        if !is_accepted(&version) {
             return Err(self.set_parser_error("found incompatible YAML document", mark));
         }
         pending.directives.version = Some(version);
-        Ok(Next::BehindDirective)
+        Ok(Step::Wants(Next::BehindDirective))
     }
 
     /// TAG-DIRECTIVE: its handle may be declared once.
@@ -150,7 +159,7 @@ impl<S> Machine<S> {
         mark: yaml_mark_t,
         pending: &mut Pending,
         out: &mut yaml_event_t,
-    ) -> Result<Next, yaml_error_type_t>
+    ) -> Result<Step, yaml_error_type_t>
         ensures { Steps (tag_directive (get self.old.config.handles directive.handle) pending.old.directives
             self.old.config mark directive) self.old (answer result pending.new out.new) self.new }
     {
@@ -161,7 +170,7 @@ impl<S> Machine<S> {
         if pending.directives.tag_directives.push(directive).is_err() {
             return Err(self.out_of_memory());
         }
-        Ok(Next::BehindDirective)
+        Ok(Step::Wants(Next::BehindDirective))
     }
 
     /// A directive or DOCUMENT-START, after these directives.
@@ -173,7 +182,7 @@ impl<S> Machine<S> {
         token: &mut yaml_token_t,
         pending: &mut Pending,
         out: &mut yaml_event_t,
-    ) -> Result<Next, yaml_error_type_t>
+    ) -> Result<Step, yaml_error_type_t>
         ensures steps { Steps (explicit_document pending.old.directives self.old.config token.old
             token.old.content) self.old (answer result pending.new out.new) self.new }
         ensures grows { result ≡ Err yaml_error_type_t.YAML_MEMORY_ERROR
@@ -210,7 +219,7 @@ impl<S> Machine<S> {
                     start,
                     token.end_mark,
                 );
-                Ok(Next::Given)
+                Ok(Step::Given)
             }
             _ => Err(self.set_parser_error("did not find expected <document start>", mark)),
         }
@@ -232,7 +241,7 @@ impl<S> Machine<S> {
         token: &mut yaml_token_t,
         pending: &mut Pending,
         out: &mut yaml_event_t,
-    ) -> Result<Next, yaml_error_type_t>
+    ) -> Result<Step, yaml_error_type_t>
         ensures steps { Steps (explicit_document (no_directives token.old.start_mark) self.old.config
             token.old token.old.content) self.old (answer result pending.new out.new) self.new }
         ensures grows { result ≡ Err yaml_error_type_t.YAML_MEMORY_ERROR
@@ -262,7 +271,7 @@ impl<S> Machine<S> {
         token: &mut yaml_token_t,
         pending: &mut Pending,
         out: &mut yaml_event_t,
-    ) -> Result<Next, yaml_error_type_t>
+    ) -> Result<Step, yaml_error_type_t>
         ensures steps { Steps (parse_implicit_document_start self.old.config token.old token.old.content)
             self.old (answer result pending.new out.new) self.new }
         ensures grows { result ≡ Err yaml_error_type_t.YAML_MEMORY_ERROR
@@ -271,7 +280,7 @@ impl<S> Machine<S> {
         match token.content {
             unnamed_yaml_token_t_data::StreamEnd => {
                 self.end_stream(token, out);
-                Ok(Next::Given)
+                Ok(Step::Given)
             }
             unnamed_yaml_token_t_data::VersionDirective(_)
             | unnamed_yaml_token_t_data::TagDirective(_)
@@ -280,7 +289,7 @@ impl<S> Machine<S> {
             ),
             unnamed_yaml_token_t_data::DocumentEnd => {
                 if self.behind_document_end() {
-                    Ok(Next::AtState)
+                    Ok(Step::Wants(Next::AtState))
                 } else {
                     self.begin_implicit_document(token, pending, out)
                 }
@@ -296,7 +305,7 @@ impl<S> Machine<S> {
         token: &mut yaml_token_t,
         pending: &mut Pending,
         out: &mut yaml_event_t,
-    ) -> Result<Next, yaml_error_type_t>
+    ) -> Result<Step, yaml_error_type_t>
         ensures steps { Steps (parse_document_start self.old.config token.old token.old.content) self.old
             (answer result pending.new out.new) self.new }
         ensures grows { result ≡ Err yaml_error_type_t.YAML_MEMORY_ERROR
@@ -305,7 +314,7 @@ impl<S> Machine<S> {
         match token.content {
             unnamed_yaml_token_t_data::StreamEnd => {
                 self.end_stream(token, out);
-                Ok(Next::Given)
+                Ok(Step::Given)
             }
             _ => self.begin_explicit_document(token, pending, out),
         }

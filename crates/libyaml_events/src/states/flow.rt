@@ -5,7 +5,7 @@
 //!                   1                    2     3            2      2 or 3
 //! entry ::= flow_node | pair
 //!           2           2
-//!   1 parse_first_flow_sequence_entry   YAML_PARSE_FLOW_SEQUENCE_FIRST_ENTRY_STATE
+//!   1 parse_first_entry                 YAML_PARSE_FLOW_SEQUENCE_FIRST_ENTRY_STATE
 //!   2 parse_behind_flow_sequence_entry  Next::BehindFlowSequenceEntry
 //!   3 parse_flow_sequence_entry         YAML_PARSE_FLOW_SEQUENCE_ENTRY_STATE
 //!   libyaml: yaml_parser_parse_flow_sequence_entry
@@ -26,7 +26,7 @@
 //!                  1                   2     3            2      2 or 3
 //! entry ::= flow_node | KEY flow_node? (VALUE flow_node?)?
 //!           2        7  2   4           5     6
-//!   1 parse_first_flow_mapping_key     YAML_PARSE_FLOW_MAPPING_FIRST_KEY_STATE
+//!   1 parse_first_entry                YAML_PARSE_FLOW_MAPPING_FIRST_KEY_STATE
 //!   2 parse_behind_flow_mapping_entry  Next::BehindFlowMappingEntry
 //!   3 parse_flow_mapping_key           YAML_PARSE_FLOW_MAPPING_KEY_STATE
 //!   4 parse_slot(Slot::FlowKey)        Next::BehindFlowMappingKey
@@ -39,12 +39,10 @@
 //!   7 gives the empty value of a node without KEY at the token after it, which stays for 3.
 //! ```
 ghost use Rattle.std.specs.Prelude.{◌≡◌, Ok, Err, IfErr, true};
-ghost use Rattle.libyaml_events.specs.machine.Machine.{first_flow_sequence_entry};
 ghost use Rattle.libyaml_events.specs.machine.Machine.{parse_flow_sequence_entry};
 ghost use Rattle.libyaml_events.specs.machine.Machine.{behind_flow_sequence_entry};
 ghost use Rattle.libyaml_events.specs.machine.Machine.{parse_flow_sequence_entry_mapping_value};
 ghost use Rattle.libyaml_events.specs.machine.Machine.{parse_flow_sequence_entry_mapping_end};
-ghost use Rattle.libyaml_events.specs.machine.Machine.{first_flow_mapping_key};
 ghost use Rattle.libyaml_events.specs.machine.Machine.{parse_flow_mapping_key};
 ghost use Rattle.libyaml_events.specs.machine.Machine.{behind_flow_mapping_entry};
 ghost use Rattle.libyaml_events.specs.machine.Machine.{parse_flow_mapping_value};
@@ -52,9 +50,9 @@ ghost use Rattle.libyaml_events.specs.machine.Machine.{parse_flow_mapping_empty_
 ghost use Rattle.libyaml_events.specs.machine.Growth.{enters_sequence_entry, enters_mapping_entry};
 ghost use Rattle.libyaml_events.specs.machine.Steps.{Steps};
 ghost use Rattle.libyaml_events.specs.machine.Answers.{answer};
-ghost use Rattle.libyaml_events.specs.declared.next.Progress.TheVariants.{Given};
+ghost use Rattle.libyaml_events.specs.machine.Want.{Given};
 
-use crate::next::Next;
+use crate::next::{Next, Step};
 use crate::node_place::NodePlace;
 use crate::parser::Machine;
 use crate::pending::Pending;
@@ -66,40 +64,23 @@ use libyaml_types::{
 };
 
 impl<S> Machine<S> {
-    /// At FLOW-SEQUENCE-START, whose start is kept.
-    #[inline(never)]
-    pub(super) fn parse_first_flow_sequence_entry(
-        &mut self,
-        token: &yaml_token_t,
-        pending: &mut Pending,
-        out: &mut yaml_event_t,
-    ) -> Result<Next, yaml_error_type_t>
-        ensures { Steps (first_flow_sequence_entry self.old.config token.now) self.old
-            (answer result pending.new out.new) self.new }
-    {
-        let start_mark = token.start_mark;
-        self.open(
-            start_mark,
-            yaml_parser_state_t::YAML_PARSE_FLOW_SEQUENCE_ENTRY_STATE,
-        )?;
-        Ok(Next::BehindFlowSequenceEntry)
-    }
-
     pub(super) fn parse_flow_sequence_entry(
         &mut self,
         token: &yaml_token_t,
         pending: &mut Pending,
         out: &mut yaml_event_t,
-    ) -> Result<Next, yaml_error_type_t>
+    ) -> Result<Step, yaml_error_type_t>
         ensures steps { Steps (parse_flow_sequence_entry self.old.config token.now token.now.content) self.old
             (answer result pending.new out.new) self.new }
         ensures error { IfErr result (λ e. e ≡ yaml_error_type_t.YAML_PARSER_ERROR) }
     {
         match &token.content {
-            unnamed_yaml_token_t_data::FlowEntry => { Ok(Next::BehindFlowSequenceEntry) }
+            unnamed_yaml_token_t_data::FlowEntry => {
+                Ok(Step::Wants(Next::BehindFlowSequenceEntry))
+            }
             unnamed_yaml_token_t_data::FlowSequenceEnd => {
                 self.close(unnamed_yaml_event_t_data::SequenceEnd, token, out);
-                Ok(Next::Given)
+                Ok(Step::Given)
             }
             _ => {
                 let opened = self.pop_mark();
@@ -121,7 +102,7 @@ impl<S> Machine<S> {
         token: &mut yaml_token_t,
         pending: &mut Pending,
         out: &mut yaml_event_t,
-    ) -> Result<Next, yaml_error_type_t>
+    ) -> Result<Step, yaml_error_type_t>
         ensures steps { Steps (behind_flow_sequence_entry self.old.config token.old token.old.content)
             self.old (answer result pending.new out.new) self.new }
         ensures grows { result ≡ Err yaml_error_type_t.YAML_MEMORY_ERROR
@@ -130,7 +111,7 @@ impl<S> Machine<S> {
         match token.content {
             unnamed_yaml_token_t_data::FlowSequenceEnd => {
                 self.close(unnamed_yaml_event_t_data::SequenceEnd, token, out);
-                Ok(Next::Given)
+                Ok(Step::Given)
             }
             unnamed_yaml_token_t_data::Key => {
                 self.set_state(
@@ -142,7 +123,7 @@ impl<S> Machine<S> {
                     yaml_mapping_style_t::YAML_FLOW_MAPPING_STYLE,
                 );
                 give(out, event, token.start_mark, token.end_mark);
-                Ok(Next::Given)
+                Ok(Step::Given)
             }
             _ => {
                 self.push_state(yaml_parser_state_t::YAML_PARSE_FLOW_SEQUENCE_ENTRY_STATE)?;
@@ -157,19 +138,19 @@ impl<S> Machine<S> {
         token: &mut yaml_token_t,
         pending: &mut Pending,
         out: &mut yaml_event_t,
-    ) -> Result<Next, yaml_error_type_t>
+    ) -> Result<Step, yaml_error_type_t>
         ensures steps { Steps (parse_flow_sequence_entry_mapping_value self.old.config token.old
             token.old.content) self.old (answer result pending.new out.new) self.new }
         ensures error { IfErr result (λ e. e ≡ yaml_error_type_t.YAML_PARSER_ERROR) }
     {
         match token.content {
-            unnamed_yaml_token_t_data::Value => { Ok(Next::BehindFlowSequenceValue) }
+            unnamed_yaml_token_t_data::Value => { Ok(Step::Wants(Next::BehindFlowSequenceValue)) }
             _ => {
                 self.set_state(
                     yaml_parser_state_t::YAML_PARSE_FLOW_SEQUENCE_ENTRY_MAPPING_END_STATE,
                 );
                 self.process_empty_scalar(token.start_mark, token, out);
-                Ok(Next::Given)
+                Ok(Step::Given)
             }
         }
     }
@@ -190,40 +171,23 @@ impl<S> Machine<S> {
         give(out, unnamed_yaml_event_t_data::MappingEnd, mark, mark);
     }
 
-    /// At FLOW-MAPPING-START, whose start is kept.
-    #[inline(never)]
-    pub(super) fn parse_first_flow_mapping_key(
-        &mut self,
-        token: &yaml_token_t,
-        pending: &mut Pending,
-        out: &mut yaml_event_t,
-    ) -> Result<Next, yaml_error_type_t>
-        ensures { Steps (first_flow_mapping_key self.old.config token.now) self.old
-            (answer result pending.new out.new) self.new }
-    {
-        let start_mark = token.start_mark;
-        self.open(
-            start_mark,
-            yaml_parser_state_t::YAML_PARSE_FLOW_MAPPING_KEY_STATE,
-        )?;
-        Ok(Next::BehindFlowMappingEntry)
-    }
-
     pub(super) fn parse_flow_mapping_key(
         &mut self,
         token: &yaml_token_t,
         pending: &mut Pending,
         out: &mut yaml_event_t,
-    ) -> Result<Next, yaml_error_type_t>
+    ) -> Result<Step, yaml_error_type_t>
         ensures steps { Steps (parse_flow_mapping_key self.old.config token.now token.now.content) self.old
             (answer result pending.new out.new) self.new }
         ensures error { IfErr result (λ e. e ≡ yaml_error_type_t.YAML_PARSER_ERROR) }
     {
         match &token.content {
-            unnamed_yaml_token_t_data::FlowEntry => { Ok(Next::BehindFlowMappingEntry) }
+            unnamed_yaml_token_t_data::FlowEntry => {
+                Ok(Step::Wants(Next::BehindFlowMappingEntry))
+            }
             unnamed_yaml_token_t_data::FlowMappingEnd => {
                 self.close(unnamed_yaml_event_t_data::MappingEnd, token, out);
-                Ok(Next::Given)
+                Ok(Step::Given)
             }
             _ => {
                 let opened = self.pop_mark();
@@ -244,7 +208,7 @@ impl<S> Machine<S> {
         token: &mut yaml_token_t,
         pending: &mut Pending,
         out: &mut yaml_event_t,
-    ) -> Result<Next, yaml_error_type_t>
+    ) -> Result<Step, yaml_error_type_t>
         ensures steps { Steps (behind_flow_mapping_entry self.old.config token.old token.old.content) self.old
             (answer result pending.new out.new) self.new }
         ensures grows { result ≡ Err yaml_error_type_t.YAML_MEMORY_ERROR
@@ -253,9 +217,9 @@ impl<S> Machine<S> {
         match token.content {
             unnamed_yaml_token_t_data::FlowMappingEnd => {
                 self.close(unnamed_yaml_event_t_data::MappingEnd, token, out);
-                Ok(Next::Given)
+                Ok(Step::Given)
             }
-            unnamed_yaml_token_t_data::Key => { Ok(Next::BehindFlowMappingKey) }
+            unnamed_yaml_token_t_data::Key => { Ok(Step::Wants(Next::BehindFlowMappingKey)) }
             _ => {
                 self.push_state(yaml_parser_state_t::YAML_PARSE_FLOW_MAPPING_EMPTY_VALUE_STATE)?;
                 self.parse_node(NodePlace::Flow, token, pending, out)
@@ -269,17 +233,17 @@ impl<S> Machine<S> {
         token: &mut yaml_token_t,
         pending: &mut Pending,
         out: &mut yaml_event_t,
-    ) -> Result<Next, yaml_error_type_t>
+    ) -> Result<Step, yaml_error_type_t>
         ensures steps { Steps (parse_flow_mapping_value self.old.config token.old token.old.content) self.old
             (answer result pending.new out.new) self.new }
         ensures error { IfErr result (λ e. e ≡ yaml_error_type_t.YAML_PARSER_ERROR) }
     {
         match token.content {
-            unnamed_yaml_token_t_data::Value => { Ok(Next::BehindFlowMappingValue) }
+            unnamed_yaml_token_t_data::Value => { Ok(Step::Wants(Next::BehindFlowMappingValue)) }
             _ => {
                 self.set_state(yaml_parser_state_t::YAML_PARSE_FLOW_MAPPING_KEY_STATE);
                 self.process_empty_scalar(token.start_mark, token, out);
-                Ok(Next::Given)
+                Ok(Step::Given)
             }
         }
     }

@@ -29,11 +29,11 @@ ghost use Rattle.libyaml_events.specs.machine.Machine.{parse_node};
 ghost use Rattle.libyaml_events.specs.machine.Growth.{joins, joins_before};
 ghost use Rattle.libyaml_events.specs.machine.Steps.{Steps};
 ghost use Rattle.libyaml_events.specs.machine.Answers.{answer, given};
-ghost use Rattle.libyaml_events.specs.declared.next.Progress.TheVariants.{Given};
+ghost use Rattle.libyaml_events.specs.machine.Want.{Given};
 ghost use Rattle.libyaml_events.specs.machine.Config.{with_config, with_fault};
 ghost use Rattle.libyaml_grammar.specs.cuts.FaultTexts.{content_fault};
 
-use crate::next::Next;
+use crate::next::{Next, Step};
 use crate::node_head::{NodeHead, PropertiesRead, TagRead};
 use crate::node_place::NodePlace;
 use crate::parser::Machine;
@@ -172,7 +172,7 @@ impl<S> Machine<S> {
         token: &mut yaml_token_t,
         pending: &mut Pending,
         out: &mut yaml_event_t,
-    ) -> Result<Next, yaml_error_type_t>
+    ) -> Result<Step, yaml_error_type_t>
         ensures steps { Steps (parse_node place self.old.config token.old token.old.content) self.old
             (answer result pending.new out.new) self.new }
         ensures error { IfErr result (λ e. e ≡ yaml_error_type_t.YAML_PARSER_ERROR) }
@@ -180,7 +180,7 @@ impl<S> Machine<S> {
         match &mut token.content {
             unnamed_yaml_token_t_data::Scalar(scalar) => {
                 self.bare_scalar(scalar, &token.start_mark, &token.end_mark, out);
-                Ok(Next::Given)
+                Ok(Step::Given)
             }
             unnamed_yaml_token_t_data::Alias(_)
             | unnamed_yaml_token_t_data::Anchor(_)
@@ -189,7 +189,7 @@ impl<S> Machine<S> {
             }
             _ => {
                 self.parse_bare_content(place, token, out)?;
-                Ok(Next::Given)
+                Ok(Step::Given)
             }
         }
     }
@@ -233,7 +233,7 @@ impl<S> Machine<S> {
         token: &mut yaml_token_t,
         pending: &mut Pending,
         out: &mut yaml_event_t,
-    ) -> Result<Next, yaml_error_type_t>
+    ) -> Result<Step, yaml_error_type_t>
         ensures steps { Steps (parse_node place self.old.config token.old token.old.content) self.old
             (answer result pending.new out.new) self.new }
         ensures error { IfErr result (λ e. e ≡ yaml_error_type_t.YAML_PARSER_ERROR) }
@@ -252,7 +252,7 @@ impl<S> Machine<S> {
                     start_mark,
                     end_mark,
                 );
-                Ok(Next::Given)
+                Ok(Step::Given)
             }
             unnamed_yaml_token_t_data::Anchor(anchor) => {
                 let anchor = mem::replace(&mut anchor.value, String::new(self.allocator()));
@@ -263,7 +263,7 @@ impl<S> Machine<S> {
                     start_mark,
                     end_mark,
                 };
-                Ok(Next::BehindProperties)
+                Ok(Step::Wants(Next::BehindProperties))
             }
             unnamed_yaml_token_t_data::Tag(tag) => {
                 pending.place = place;
@@ -273,11 +273,11 @@ impl<S> Machine<S> {
                     start_mark,
                     end_mark,
                 };
-                Ok(Next::BehindProperties)
+                Ok(Step::Wants(Next::BehindProperties))
             }
             _ => {
                 self.parse_bare_content(place, token, out)?;
-                Ok(Next::Given)
+                Ok(Step::Given)
             }
         }
     }
@@ -309,7 +309,7 @@ impl<S> Machine<S> {
         token: &mut yaml_token_t,
         pending: &mut Pending,
         out: &mut yaml_event_t,
-    ) -> Result<Next, yaml_error_type_t>
+    ) -> Result<Step, yaml_error_type_t>
         ensures steps { Steps (behind_properties pending.old.place pending.old.properties self.old.config
             token.old token.old.content) self.old (answer result pending.new out.new) self.new }
         ensures grows { result ≡ Err yaml_error_type_t.YAML_MEMORY_ERROR
@@ -322,16 +322,16 @@ impl<S> Machine<S> {
                 let anchor = mem::replace(&mut anchor.value, String::new(self.allocator()));
                 pending.properties.anchor = Some(anchor);
                 pending.properties.end_mark = end_mark;
-                Ok(Next::BehindProperties)
+                Ok(Step::Wants(Next::BehindProperties))
             }
             unnamed_yaml_token_t_data::Tag(tag) if pending.properties.tag.is_none() => {
                 pending.properties.tag = Some(tag_read(self.allocator(), tag, start_mark));
                 pending.properties.end_mark = end_mark;
-                Ok(Next::BehindProperties)
+                Ok(Step::Wants(Next::BehindProperties))
             }
             _ => {
                 self.parse_content_behind(token, pending, out)?;
-                Ok(Next::Given)
+                Ok(Step::Given)
             }
         }
     }

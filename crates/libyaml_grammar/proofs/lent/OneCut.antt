@@ -7,7 +7,7 @@ use Rattle.libyaml_grammar.specs.sentences.Trees.{anchor, anchor_tag, behind, di
 use Rattle.libyaml_grammar.specs.sentences.Trees.{free, implicit, indentless, item, no_directives, no_parts, no_value, node, nothing, pair, part, sequence}
 use Rattle.libyaml_grammar.specs.sentences.Trees.{single, slot_of, tag, tag_directive, version, with_value}
 use Rattle.libyaml_grammar.specs.sentences.Order.{block_node_in_order, block_slot_in_order, both, declares, documents_in_order, flow_node_in_order}
-use Rattle.libyaml_grammar.specs.sentences.Order.{flow_slot_in_order, is_known, is_version, negated, no_version}
+use Rattle.libyaml_grammar.specs.sentences.Order.{flow_slot_in_order, is_known, is_accepted, negated, no_version}
 use Rattle.libyaml_grammar.specs.sentences.Events.{Event}
 use Rattle.libyaml_grammar.specs.cuts.CutTrees.{BlockPlace, Cut, Place, at_directive, at_tag, at_tag_behind, before_stream, block, block_place_in_order}
 use Rattle.libyaml_grammar.specs.cuts.CutTrees.{content_due, cut_in_order, cut_tokens, declared, declared_block, declared_open, document_due, entry, entry_due}
@@ -198,19 +198,19 @@ stops_edge_block c x k m l g = stops_filled_block c x k m g.way
 pub stops_next : (b : Before) (ds : Directives) (d : Directive) (k : Content) (m : Marks) → is_directive k ≡ true
     → Stops (reads (headed b ds d) (tok k m)) (at_directive b (directive ds d))
 stops_next b ds d (VersionDirective x) m e n
-    = stops_order (headed b (directive ds d) (version x m)) (both (no_version (directive ds d)) (is_version x.major x.minor)) n
+    = stops_order (headed b (directive ds d) (version x m)) (both (no_version (directive ds d)) (is_accepted x.major x.minor)) n
 stops_next b ds d (TagDirective x) m e n = stops_order (headed b (directive ds d) (tag_directive x m)) (negated (declares (directive ds d) x.handle)) n
 stops_next b ds d _ m e n = cc
 
 stops_first : (f : Free) (k : Content) (m : Marks) → is_directive k ≡ true → Stops (reads (between (free f)) (tok k m)) (at_directive (free f) no_directives)
 stops_first f (VersionDirective x) m e n
-    = stops_order (headed (free f) no_directives (version x m)) (both (no_version no_directives) (is_version x.major x.minor)) n
+    = stops_order (headed (free f) no_directives (version x m)) (both (no_version no_directives) (is_accepted x.major x.minor)) n
 stops_first f (TagDirective x) m e n = stops_order (headed (free f) no_directives (tag_directive x m)) (negated (declares no_directives x.handle)) n
 stops_first f _ m e n = cc
 
 version_behind : (d : Documents) (x : VersionAsked) (m : Marks)
     → reads (edge_documents d) (tok (VersionDirective x) m) ≡ checked (goes (headed (behind d) no_directives (version x m)))
-    (both (no_version no_directives) (is_version x.major x.minor))
+    (both (no_version no_directives) (is_accepted x.major x.minor))
 version_behind (implicit f (flow (alone ps))) x m = refl
 version_behind (explicit b ds z (node (flow (alone ps)))) x m = refl
 version_behind _ x m = refl
@@ -225,7 +225,7 @@ handle_behind _ x m = refl
 stops_behind : (d : Documents) (k : Content) (m : Marks) → is_directive k ≡ true
     → Stops (reads (edge_documents d) (tok k m)) (at_directive (behind d) no_directives)
 stops_behind d (VersionDirective x) m e = subst (λ (s : Step). Stops s (at_directive (behind d) no_directives)) (sym (version_behind d x m))
-    (stops_order (headed (behind d) no_directives (version x m)) (both (no_version no_directives) (is_version x.major x.minor)))
+    (stops_order (headed (behind d) no_directives (version x m)) (both (no_version no_directives) (is_accepted x.major x.minor)))
 stops_behind d (TagDirective x) m e = subst (λ (s : Step). Stops s (at_directive (behind d) no_directives)) (sym (handle_behind d x m))
     (stops_order (headed (behind d) no_directives (tag_directive x m)) (negated (declares no_directives x.handle)))
 stops_behind d _ m e = absurd cc

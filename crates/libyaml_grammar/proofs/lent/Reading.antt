@@ -12,7 +12,7 @@ use Rattle.libyaml_grammar.specs.sentences.Trees.{block_mapping, block_sequence,
 use Rattle.libyaml_grammar.specs.sentences.Trees.{free, implicit, indentless, item, key, last, mapping, more_items, no_directives, no_items, no_last}
 use Rattle.libyaml_grammar.specs.sentences.Trees.{no_parts, no_value, node, nothing, once, opened, pair, part, scalar, sequence, single, slot_of, tag}
 use Rattle.libyaml_grammar.specs.sentences.Trees.{tag_anchor, tag_directive, value, version, whole, with_value}
-use Rattle.libyaml_grammar.specs.sentences.Order.{both, declares, is_known, is_version, negated, no_version}
+use Rattle.libyaml_grammar.specs.sentences.Order.{both, declares, is_known, is_accepted, negated, no_version}
 use Rattle.libyaml_grammar.specs.cuts.CutTrees.{BlockPlace, Cut, Open, PartPlace, Place, at_directive, at_tag, at_tag_behind, before_stream, block}
 use Rattle.libyaml_grammar.specs.cuts.CutTrees.{content_due, declared, declared_open, document_due, entry, entry_due, explicit_root, flow_entry, flow_key}
 use Rattle.libyaml_grammar.specs.cuts.CutTrees.{flow_value, implicit_root, indentless_entry, open_collection, part_due, part_place, root, separator_due, slot}
@@ -229,7 +229,7 @@ feeds (t ∷ r) q = then_all (feed q t) (feeds r)
 
 -- whether a token that the grammar takes keeps the order; ds are the directives that wait for their DOCUMENT-START, es those in force
 abbrev pub keeps_order : Directives → Directives → Content → Bool
-keeps_order ds es (VersionDirective v) = both (no_version ds) (is_version v.major v.minor)
+keeps_order ds es (VersionDirective v) = both (no_version ds) (is_accepted v.major v.minor)
 keeps_order ds es (TagDirective d) = negated (declares ds d.handle)
 keeps_order ds es (Tag t) = is_known es t.handle
 keeps_order ds es _ = true

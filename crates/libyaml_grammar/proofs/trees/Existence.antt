@@ -6,7 +6,7 @@ use Rattle.libyaml_grammar.specs.sentences.Tokens.{VersionDirective, tok}
 use Rattle.libyaml_grammar.specs.sentences.Trees.{Before, Directive, Directives, Documents, Free, Properties, anchor, anchor_tag, behind, directive, empty}
 use Rattle.libyaml_grammar.specs.sentences.Trees.{explicit, flow_node, flow_nothing, free, implicit, indentless, item, no_directives, no_parts, no_value, node}
 use Rattle.libyaml_grammar.specs.sentences.Trees.{nothing, pair, part, single, slot_of, tag, tag_directive, version, with_value}
-use Rattle.libyaml_grammar.specs.sentences.Order.{both, declares, is_known, is_version, negated, no_version}
+use Rattle.libyaml_grammar.specs.sentences.Order.{both, declares, is_known, is_accepted, negated, no_version}
 use Rattle.libyaml_grammar.specs.sentences.Events.{Event}
 use Rattle.libyaml_grammar.specs.cuts.CutTrees.{Cut, Place, at_directive, at_tag, at_tag_behind, before_stream, block, content_due, declared, document_due}
 use Rattle.libyaml_grammar.specs.cuts.CutTrees.{entry, entry_due, explicit_root, flow_key, flow_value, implicit_root, indentless_entry, part_due, part_place}
@@ -159,7 +159,7 @@ start_fails _ b ds d e = cc
 no_root : (f : Free) (k : Content) (m : Marks) → reads (between (free f)) (tok k m) ≡ bad (content_due (block (root (implicit_root f))))
     → is_directive k ≡ false
 no_root f (VersionDirective x) m e = let h
-    = order_or_goes (headed (free f) no_directives (version x m)) (both (no_version no_directives) (is_version x.major x.minor))
+    = order_or_goes (headed (free f) no_directives (version x m)) (both (no_version no_directives) (is_accepted x.major x.minor))
     (content_due (block (root (implicit_root f)))) e in cc
 no_root f (TagDirective x) m e = let h
     = order_or_goes (headed (free f) no_directives (tag_directive x m)) (negated (declares no_directives x.handle))

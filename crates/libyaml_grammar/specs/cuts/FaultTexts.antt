@@ -22,7 +22,7 @@ document_start_fault m = parser_fault (codes "did not find expected <document st
 abbrev pub duplicate_version_fault : yaml_mark_t → Fault
 duplicate_version_fault m = parser_fault (codes "found duplicate %YAML directive") m
 
--- of a version that is neither 1.1 nor 1.2
+-- of a version that is not accepted
 abbrev pub version_fault : yaml_mark_t → Fault
 version_fault m = parser_fault (codes "found incompatible YAML document") m
 

@@ -18,14 +18,16 @@ abbrev pub negated : Bool → Bool
 negated true = false
 negated false = true
 
--- A document asks for at most one version, and that is one that is accepted: 1.1 or 1.2 (`is_version`).
+-- A document asks for at most one version, and that is one that is accepted.
 abbrev pub no_version : Directives → Bool
 no_version no_directives = true
 no_version (directive ds (version v m)) = false
 no_version (directive ds (tag_directive h m)) = no_version ds
 
-abbrev pub is_version : (major minor : ℤ) → Bool
-is_version major minor = both (int_eq major (pos 1)) (either (int_eq minor (pos 1)) (int_eq minor (pos 2)))
+-- Of major version 1 the minor versions 1 and 2. YAML 1.1 (7.1.1) has a parser accept 1.1, process a higher minor version
+-- with a warning, and refuse a higher major one; there is no warning here, and as in libyaml 1.0 and 1.3 are refused.
+abbrev pub is_accepted : (major minor : ℤ) → Bool
+is_accepted major minor = both (int_eq major (pos 1)) (either (int_eq minor (pos 1)) (int_eq minor (pos 2)))
 
 -- A document declares a handle at most once.
 abbrev pub declares : Directives → List ℕ → Bool
@@ -34,7 +36,7 @@ declares (directive ds (version v m)) h = declares ds h
 declares (directive ds (tag_directive d m)) h = either (same_text d.handle h) (declares ds h)
 
 abbrev pub admits : Directives → Directive → Bool
-admits ds (version v m) = both (no_version ds) (is_version v.major v.minor)
+admits ds (version v m) = both (no_version ds) (is_accepted v.major v.minor)
 admits ds (tag_directive d m) = negated (declares ds d.handle)
 
 -- A handle is known if it is empty, declared in its document, `!` or `!!`.

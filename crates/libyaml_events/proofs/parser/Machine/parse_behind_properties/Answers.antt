@@ -2,8 +2,7 @@ use Rattle.std.proofs.Common.{◌≡◌, ◌∙◌, Ok, Err, Result, Option, Non
 use Rattle.libyaml_types.specs.declared.token.yaml_token_t.{yaml_token_t}
 use Rattle.libyaml_types.specs.declared.token.unnamed_yaml_token_t_data.{unnamed_yaml_token_t_data}
 use Rattle.libyaml_types.specs.declared.enums.yaml_error_type_t.{yaml_error_type_t}
-use Rattle.libyaml_events.specs.declared.next.Progress.{Progress}
-use Rattle.libyaml_events.specs.declared.next.Progress.TheVariants.{Given}
+use Rattle.libyaml_events.specs.machine.Want.{Progress, Given}
 use Rattle.libyaml_events.specs.declared.node_place.NodePlace.{NodePlace}
 use Rattle.libyaml_events.specs.declared.node_head.PropertiesRead.{PropertiesRead}
 use Rattle.libyaml_events.specs.machine.Config.{Config, Parser}
