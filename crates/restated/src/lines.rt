@@ -10,13 +10,14 @@ ghost use Rattle.token_lines.specs.LastCall.{LastCall, NothingLeft, RunsOver};
 ghost use Rattle.token_lines.specs.LastLoad.{LastLoad, NodesOver, WritesKept};
 ghost use Rattle.token_lines.specs.LineRun.{Writes};
 ghost use Rattle.token_lines.specs.NodeRun.{WritesLoads};
+ghost use Rattle.token_lines.specs.ReadsBack.{BytesReadBack, StringsAreFields, StringsReadBack};
 ghost use Rattle.token_lines.specs.RunToCome.{RunToCome};
 ghost use Rattle.token_lines.specs.Runs.{Ending};
 ghost use Rattle.token_lines.specs.Tokens.{Token};
 
 use std::alloc::Global;
 use std::io::{BufRead, Write};
-use token_lines::{Outcome, run_events, run_nodes, write_events, write_nodes};
+use token_lines::{Outcome, laws, run_events, run_nodes, write_events, write_nodes};
 use unsafe_libyaml::{yaml_parser_t, yaml_token_source_t};
 
 /// Writes the lines of a reader's events.
@@ -79,4 +80,13 @@ pub fn texts_to_come<S: yaml_token_source_t, W: Write>(
     ensures bound { parser.new.max_entries ≡ parser.old.max_entries }
 {
     write_nodes(alloc, parser, writer)
+}
+
+/// Reading a string from a line undoes writing it.
+pub fn strings_read_back()
+    ensures bytes { BytesReadBack }
+    ensures strings { StringsReadBack }
+    ensures fields { StringsAreFields }
+{
+    laws::reading_undoes_writing();
 }

@@ -19,8 +19,10 @@ pub use libyaml_events::{
     yaml_parser_initialize, yaml_parser_parse, yaml_parser_parse_into, yaml_parser_set_max_entries,
     yaml_parser_t, yaml_parser_t_prefix, yaml_source_fault_t, yaml_token_source_t,
 };
+pub use libyaml_documents::laws as document_laws;
 pub use libyaml_graphs::laws as graph_laws;
 pub use libyaml_loader::yaml_parser_load;
+pub use libyaml_types::laws as type_laws;
 pub use libyaml_types::{
     ZERO_MARK, unnamed_yaml_event_t_data, unnamed_yaml_event_t_data_alias,
     unnamed_yaml_event_t_data_document_end, unnamed_yaml_event_t_data_document_start,

@@ -1,0 +1,172 @@
+//! The other laws of graphs and loads.
+
+ghost use Rattle.std.specs.Prelude.{◌++◌, ◌↔◌, ◌∷◌, ◌≡◌, ◌≢◌, Err, List, None, Ok, false, suc, true, ℕ};
+ghost use Rattle.std.specs.Prelude.{[]};
+ghost use Rattle.unsafe_libyaml.specs.Bounds.{HasRoom, NoneLacksMemory, StaysWithin, bounded_loads};
+ghost use Rattle.unsafe_libyaml.specs.Bounds.{first_stop, next_bounded};
+ghost use Rattle.unsafe_libyaml.specs.ComposerFaults.{composer_fault, heads};
+ghost use Rattle.unsafe_libyaml.specs.CutEvents.{cut_events};
+ghost use Rattle.unsafe_libyaml.specs.CutFaults.{fault};
+ghost use Rattle.unsafe_libyaml.specs.CutTrees.{Cut};
+ghost use Rattle.unsafe_libyaml.specs.Documents.{Document};
+ghost use Rattle.unsafe_libyaml.specs.Events.{Event, events};
+ghost use Rattle.unsafe_libyaml.specs.Fault.{Fault};
+ghost use Rattle.unsafe_libyaml.specs.Fits.{Fits};
+ghost use Rattle.unsafe_libyaml.specs.GraphLaws.{ChildrenAreLater, EachHoldsItsChildren, EachIdNames};
+ghost use Rattle.unsafe_libyaml.specs.GraphLaws.{HoldsItsChildren, NestedLoads, RootsFollow, load_at};
+ghost use Rattle.unsafe_libyaml.specs.GraphLaws.{unless_fault};
+ghost use Rattle.unsafe_libyaml.specs.Graphs.{Start, nodes_of, starts_behind};
+ghost use Rattle.unsafe_libyaml.specs.Loader.{between, load_from};
+ghost use Rattle.unsafe_libyaml.specs.Loads.{IsLoads, Load, last_load, left_over, loads, loads_of};
+ghost use Rattle.unsafe_libyaml.specs.Loads.{next_load};
+ghost use Rattle.unsafe_libyaml.specs.Nesting.{HasPairs, IsNested, NestsSoFar, Texts, TextsHavePairs};
+ghost use Rattle.unsafe_libyaml.specs.Nesting.{Value, value_events};
+ghost use Rattle.unsafe_libyaml.specs.Nodes.{EveryIdNamesANode};
+ghost use Rattle.unsafe_libyaml.specs.Order.{in_order};
+ghost use Rattle.unsafe_libyaml.specs.Parts.{Part, graph, parts};
+ghost use Rattle.unsafe_libyaml.specs.Runs.{Ending, Ends, Fails, is_behind_properties};
+ghost use Rattle.unsafe_libyaml.specs.Sentences.{IsBeginning, has_end};
+ghost use Rattle.unsafe_libyaml.specs.Settled.{IsSettled};
+ghost use Rattle.unsafe_libyaml.specs.Tokens.{Token};
+ghost use Rattle.unsafe_libyaml.specs.Trees.{Stream, tokens};
+
+use unsafe_libyaml::graph_laws;
+
+/// Each list of tokens has one list of loads for each fault after it.
+pub fn one_loads()
+    ensures some { (l : List Token) (f : Fault) → (a : List Load) × IsLoads l f a }
+    ensures one { (l : List Token) (f : Fault) (a b : List Load) → IsLoads l f a → IsLoads l f b → a ≡ b }
+{
+    graph_laws::one_loads();
+}
+
+/// The loads of a run, whatever cuts it off: the graphs of its whole documents, up to the first composer
+/// error, and then the composer error of the document that is open, if it has one, and else how the run
+/// ends.
+pub fn loads_of_run()
+    ensures of_run { (l : List Token) (f : Fault) (a : List Load) (h : IsLoads l f a)
+        → NestedLoads h.events h.ending a }
+    ensures of_events { (l : List Event) (x : Ending) → NestsSoFar l → NestedLoads l x (loads l x) }
+{
+    graph_laws::loads_of_run();
+}
+
+/// The loads over a list that begins with a known tree's tokens: a sentence's with anything after it, a
+/// cut tree's that fits with the token after it and anything after that, or a beginning's with nothing
+/// after it.
+pub fn loads_of_tree()
+    ensures sentence { (t : Stream) (r : List Token) (f : Fault) → in_order t ≡ true
+        → (n : IsNested (events t)) × IsLoads (tokens t ++ r) f (loads_of n.texts (last_load Ends ∷ [])) }
+    ensures cut_tree { (l : List Token) (b : Token) (r : List Token) (c : Cut) (f : Fault) → Fits l b c
+        → is_behind_properties c r ≡ true → (a : List Load) × IsLoads (l ++ b ∷ r) f a
+        × NestedLoads (cut_events c b) (Fails (fault c b.content b.start_mark)) a }
+    ensures amid_properties { (l : List Token) (b : Token) (r : List Token) (c : Cut) (f : Fault) → Fits l b c
+        → is_behind_properties c r ≡ false → (a : List Load) × IsLoads (l ++ b ∷ r) f a
+        × NestedLoads (cut_events c b) (Fails f) a }
+    ensures beginning { (l : List Token) (e : List Event) (f : Fault) → IsBeginning l → has_end l ≡ false
+        → IsSettled l e → (a : List Load) × IsLoads l f a × NestedLoads e (Fails f) a }
+{
+    graph_laws::loads_of_tree();
+}
+
+/// The graph by a document's parts is the graph by the tree of its value.
+pub fn graph_of_tree()
+    ensures { (v : Value) (es : List Start) (r : List Event)
+        → graph es (parts (value_events v r)) ≡ nodes_of v es (graph (starts_behind v es) (parts r)) }
+{
+    graph_laws::graph_of_tree();
+}
+
+/// The composer error is one of the heads alone.
+pub fn fault_of_heads()
+    ensures { (l : List Part) (es : List Start) → composer_fault es l ≡ composer_fault es (heads l) }
+{
+    graph_laws::fault_of_heads();
+}
+
+/// Every id in the items and pairs of a loaded document names one of its nodes.
+pub fn every_id()
+    ensures of_value { (v : Value) → composer_fault [] (parts (value_events v [])) ≡ None
+        → EveryIdNamesANode (nodes_of v [] []) }
+    ensures of_run { (l : List Token) (f : Fault) (a : List Load) → IsLoads l f a → EachIdNames a }
+{
+    graph_laws::every_id();
+}
+
+/// Where each mapping has an even number of values, as in every run, each node holds the ids of all its
+/// children in their order: no pair lacks its value.
+pub fn no_value_lacks()
+    ensures of_value { (v : Value) (es : List Start) → HasPairs v → HoldsItsChildren v es }
+    ensures of_documents { (ts : Texts) → TextsHavePairs ts → EachHoldsItsChildren ts }
+{
+    graph_laws::no_value_lacks();
+}
+
+/// A child that is no alias has a greater id than its parent, and an alias's id is that of an earlier or
+/// enclosing node.
+pub fn children_later()
+    ensures { (v : Value) (es : List Start) → ChildrenAreLater v es }
+{
+    graph_laws::children_later();
+}
+
+/// The first load is the next load's result, and those after it are its fault again and again, or the
+/// loads of the events that it leaves; the same holds within a bound.
+pub fn load_by_load()
+    ensures first { (r : List Event) (x : Ending) (z : Load) → load_at z 0 (loads r x) ≡ next_load r x }
+    ensures later { (r : List Event) (x : Ending) (z : Load) (n : ℕ)
+        → load_at z (suc n) (loads r x)
+        ≡ unless_fault (next_load r x) (load_at (next_load r x) n (loads (left_over r) x)) }
+    ensures first_bounded { (r : List Event) (x : Ending) (z : Load) (m : ℕ)
+        → load_at z 0 (bounded_loads m r x) ≡ next_bounded m r x }
+    ensures later_bounded { (r : List Event) (x : Ending) (z : Load) (m n : ℕ)
+        → load_at z (suc n) (bounded_loads m r x)
+        ≡ unless_fault (next_bounded m r x)
+        (load_at (next_bounded m r x) n (bounded_loads m (left_over r) x)) }
+{
+    graph_laws::load_by_load();
+}
+
+/// In a run each document's root begins after its start, and so it is in the events that a load leaves. So
+/// a document without nodes is the last load, at the run's end; after one with nodes come the loads of
+/// the events that it leaves; and a fault is the last load.
+pub fn whole_documents_have_roots()
+    ensures roots_follow { (l : List Event) → NestsSoFar l → RootsFollow l }
+    ensures left_over { (l : List Event) → RootsFollow l → RootsFollow (left_over l) }
+    ensures without_nodes { (l : List Event) (x : Ending) (n : ℕ) (d : Document) → RootsFollow l
+        → next_bounded n l x ≡ Ok d → d.nodes ≡ [] → (bounded_loads n l x ≡ Ok d ∷ [])
+        × (last_load x ≡ Ok d) }
+    ensures with_nodes { (l : List Event) (x : Ending) (n : ℕ) (d : Document) → next_bounded n l x ≡ Ok d
+        → d.nodes ≢ [] → bounded_loads n l x ≡ Ok d ∷ bounded_loads n (left_over l) x }
+    ensures fault { (l : List Event) (x : Ending) (n : ℕ) (f : Fault) → next_bounded n l x ≡ Err f
+        → bounded_loads n l x ≡ Err f ∷ [] }
+{
+    graph_laws::whole_documents_have_roots();
+}
+
+/// Where no list of a document that a load begins needs more than n entries, the bound n changes nothing;
+/// nor does it where none of the loads within it is out of memory.
+pub fn enough_room()
+    ensures all { (r : List Event) (x : Ending) (n : ℕ) → HasRoom n r → bounded_loads n r x ≡ loads r x }
+    ensures next { (r : List Event) (x : Ending) (n : ℕ) → HasRoom n r → next_bounded n r x ≡ next_load r x }
+    ensures unmet { (r : List Event) (x : Ending) (n : ℕ) → NoneLacksMemory (bounded_loads n r x)
+        → bounded_loads n r x ≡ loads r x }
+{
+    graph_laws::enough_room();
+}
+
+/// The bound is exact: nothing stops a load within the bound n exactly where its document has no composer
+/// error and none of its lists needs more than n entries.
+pub fn bound_is_exact()
+    ensures { (l : List Part) (n : ℕ)
+        → (first_stop n [] [] l ≡ None) ↔ ((composer_fault [] l ≡ None) × StaysWithin n l) }
+{
+    graph_laws::bound_is_exact();
+}
+
+/// From between documents to the end of the next, it gives the next load within its bound.
+pub fn one_load()
+    ensures { (r : List Event) (x : Ending) (n : ℕ) → load_from n between r x ≡ next_bounded n r x }
+{
+    graph_laws::machine::one_load();
+}

@@ -1,0 +1,114 @@
+//! One law for each production of the grammar.
+
+ghost use Rattle.std.specs.Prelude.{◌++◌, ◌≡◌, List};
+ghost use Rattle.unsafe_libyaml.specs.CutTrees.{Place, place_tokens};
+ghost use Rattle.unsafe_libyaml.specs.Sentences.{IsSentence};
+ghost use Rattle.unsafe_libyaml.specs.Tokens.{Token};
+ghost use Rattle.unsafe_libyaml.specs.Trees.{BlockItems, BlockNode, BlockSlot, Directives, Documents};
+ghost use Rattle.unsafe_libyaml.specs.Trees.{FlowItems, FlowLast, FlowMember, FlowNode, FlowSlot};
+ghost use Rattle.unsafe_libyaml.specs.Trees.{IsCollection, Parts, Properties, Slot, block_node_tokens};
+ghost use Rattle.unsafe_libyaml.specs.Trees.{block_slot_tokens, directives_tokens, documents_tokens};
+ghost use Rattle.unsafe_libyaml.specs.Trees.{flow_items_tokens, flow_last_tokens, flow_member_tokens};
+ghost use Rattle.unsafe_libyaml.specs.Trees.{flow_node_tokens, flow_slot_tokens, items_tokens};
+ghost use Rattle.unsafe_libyaml.specs.Trees.{parts_tokens, properties_tokens, slot_tokens};
+
+use unsafe_libyaml::laws::productions;
+
+/// The properties of a node: an anchor, a tag, or both.
+pub fn one_properties()
+    ensures { (s t : Properties) (r : List Token) → properties_tokens s r ≡ properties_tokens t r → s ≡ t }
+{
+    productions::one_properties();
+}
+
+/// A flow node: an alias, properties alone, a scalar or a flow collection; or nothing in its place.
+pub fn one_flow_node()
+    ensures node { (s t : FlowNode) (r : List Token) → flow_node_tokens s r ≡ flow_node_tokens t r → s ≡ t }
+    ensures or_nothing { (s t : FlowSlot) (r : List Token) → flow_slot_tokens s r ≡ flow_slot_tokens t r
+        → s ≡ t }
+{
+    productions::one_flow_node();
+}
+
+/// An entry of a flow collection: a node or a pair.
+pub fn one_flow_entry()
+    ensures { (s t : FlowMember) (r : List Token) → flow_member_tokens s r ≡ flow_member_tokens t r → s ≡ t }
+{
+    productions::one_flow_entry();
+}
+
+/// The entries of a flow collection: those with a separator after them, and a last one or none.
+pub fn one_flow_collection()
+    ensures { (s t : FlowItems) (u v : FlowLast) (r : List Token)
+        → flow_items_tokens s (flow_last_tokens u r) ≡ flow_items_tokens t (flow_last_tokens v r) → (s ≡ t)
+        × (u ≡ v) }
+{
+    productions::one_flow_collection();
+}
+
+/// A block node: a flow node, a block sequence or a block mapping; or nothing in its place.
+pub fn one_block_node()
+    ensures node { (s t : BlockNode) (r : List Token) → block_node_tokens s r ≡ block_node_tokens t r
+        → s ≡ t }
+    ensures or_nothing { (s t : BlockSlot) (r : List Token) → block_slot_tokens s r ≡ block_slot_tokens t r
+        → s ≡ t }
+{
+    productions::one_block_node();
+}
+
+/// The entries of a block sequence.
+pub fn one_block_sequence()
+    ensures { (s t : BlockItems) (r : List Token) → items_tokens s r ≡ items_tokens t r → s ≡ t }
+{
+    productions::one_block_sequence();
+}
+
+/// The keys and values of a block mapping.
+pub fn one_block_mapping()
+    ensures { (s t : Parts) (r : List Token) → parts_tokens s r ≡ parts_tokens t r → s ≡ t }
+{
+    productions::one_block_mapping();
+}
+
+/// One key or value of a block mapping: a block node, nothing, or an indentless sequence.
+pub fn one_key_or_value()
+    ensures { (s t : Slot) (r : List Token) → slot_tokens s r ≡ slot_tokens t r → s ≡ t }
+{
+    productions::one_key_or_value();
+}
+
+/// The directives of a document.
+pub fn one_list_of_directives()
+    ensures { (s t : Directives) (r : List Token) → directives_tokens s r ≡ directives_tokens t r → s ≡ t }
+{
+    productions::one_list_of_directives();
+}
+
+/// The documents from a stream's start on.
+pub fn one_list_of_documents()
+    ensures { (s t : Documents) (r : List Token) → documents_tokens s r ≡ documents_tokens t r → s ≡ t }
+{
+    productions::one_list_of_documents();
+}
+
+/// No collection with an opening and a closing token begins another, whatever follows the two.
+pub fn one_collection()
+    ensures { (s t : BlockNode) (a b : List Token) → IsCollection s → IsCollection t
+        → block_node_tokens s a ≡ block_node_tokens t b → (s ≡ t) × (a ≡ b) }
+{
+    productions::one_collection();
+}
+
+/// No sentence begins another, whatever follows the two.
+pub fn one_sentence()
+    ensures { (l m a b : List Token) → IsSentence l → IsSentence m → l ++ a ≡ m ++ b → (l ≡ m) × (a ≡ b) }
+{
+    productions::one_sentence();
+}
+
+/// The place at which a node is expected after a list of tokens.
+pub fn one_place()
+    ensures { (p q : Place) (r : List Token) → place_tokens p r ≡ place_tokens q r → p ≡ q }
+{
+    productions::one_place();
+}
