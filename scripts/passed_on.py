@@ -132,13 +132,25 @@ def reached(crate, files):
     return sorted(modules)
 
 
+def own_modules(folder, listing):
+    """The files of a folder of specs/ that its listing declares, and those of its folders."""
+    for name in re.findall(r"^pub mod (\w+)", listing.read_text(), flags=re.M):
+        inner = folder / name
+        if inner.is_dir():
+            yield from own_modules(inner, inner.with_suffix(".antt"))
+        else:
+            yield inner.with_suffix(".antt")
+
+
 def passed_on(crate):
     """The modules that a crate's specs/Lib.antt names, each under the name that a user writes."""
+    specs = ROOT / "crates" / crate / "specs"
     found = {}
-    for line in (ROOT / "crates" / crate / "specs" / "Lib.antt").read_text().splitlines():
-        if own := re.match(r"pub mod (\w+)", line):
-            found[f"Rattle.{crate}.specs.{own.group(1)}"] = own.group(1)
-        elif other := re.match(r"pub use (Rattle[\w.]+)(?: as (\w+))?", line):
+    for path in own_modules(specs, specs / "Lib.antt"):
+        rest = path.relative_to(specs).with_suffix("").parts
+        found[".".join(["Rattle", crate, "specs", *rest])] = rest[-1]
+    for line in (specs / "Lib.antt").read_text().splitlines():
+        if other := re.match(r"pub use (Rattle[\w.]+)(?: as (\w+))?", line):
             found[other.group(1)] = other.group(2) or other.group(1).split(".")[-1]
     return found
 

@@ -1,10 +1,2 @@
-pub mod Appended
-pub mod Numerals
-pub mod Split
-pub mod Texts
-pub mod LinesLemmas
-pub mod Fronts
-pub mod FrontTokens
-pub mod Marks
-pub mod WholeNumbers
-pub mod Problems
+pub mod tokens
+pub mod sources

@@ -1,14 +1,2 @@
-pub mod Line
-pub mod LineFault
-pub mod Number
-pub mod Parts
-pub mod Reading
-pub mod Field
-pub mod TokenName
-pub mod TokenLine
-pub mod Front
-pub mod ReadLines
-pub mod NextLine
-pub mod LineSource
-pub mod LineLaws
-pub mod LineSourceLaws
+pub mod tokens
+pub mod sources

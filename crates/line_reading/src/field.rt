@@ -1,12 +1,12 @@
 //! The fields of a token line.
 ghost use Rattle.std.specs.Prelude.{◌≡◌};
-ghost use Rattle.line_reading.specs.Field.{version_of, utf8_text, text_of, encoding_of, scalar_style_of};
+ghost use Rattle.line_reading.specs.tokens.Field.{version_of, utf8_text, text_of, encoding_of, scalar_style_of};
 ghost use Rattle.percent_encoding.specs.Percent as percent;
-ghost use Rattle.line_reading.specs.Reading.{IsTextReadAs};
+ghost use Rattle.line_reading.specs.tokens.Reading.{IsTextReadAs};
 
 use crate::line_problem::LineProblem;
 use crate::number::read_signed;
-use crate::parts::Parts;
+use crate::pieces::Pieces;
 use byte_words::is_clean;
 use libyaml_types::{
     unnamed_yaml_token_t_data_version_directive, yaml_encoding_t, yaml_scalar_style_t,
@@ -18,10 +18,10 @@ use std::alloc::Global;
 pub fn read_version(field: &[u8]) -> Option<unnamed_yaml_token_t_data_version_directive>
     ensures { result ≡ version_of field.now }
 {
-    let mut parts = Parts::new(field, b'.');
-    let major = parts.next()?;
-    let minor = parts.next()?;
-    if parts.next().is_some() {
+    let mut pieces = Pieces::new(field, b'.');
+    let major = pieces.next()?;
+    let minor = pieces.next()?;
+    if pieces.next().is_some() {
         return None;
     }
     Some(unnamed_yaml_token_t_data_version_directive {
@@ -44,7 +44,7 @@ pub fn read_text(alloc: Global, field: &[u8]) -> Result<String, LineProblem>
     escaped_text(alloc, escaped)
 }
 
-#[tactic(auto, using(crate::proofs::Texts::clean_text))]
+#[tactic(auto, using(crate::proofs::tokens::Texts::clean_text))]
 fn escaped_text(alloc: Global, escaped: &[u8]) -> Result<String, LineProblem>
     ensures { IsTextReadAs result (utf8_text (percent.percent_decode escaped.now)) }
 {

@@ -2,12 +2,12 @@
 #![tactic(auto)]
 
 mod field;
-mod front;
 mod line;
 mod line_problem;
 mod line_source;
+mod marks;
 mod number;
-mod parts;
+mod pieces;
 mod search;
 mod token_line;
 mod token_name;

@@ -2,11 +2,11 @@
 ghost use Rattle.std.specs.Prelude.{◌≡◌, ◌+◌, ◌-◌, IfOk, IfSome, Some, None, Err};
 ghost use Rattle.libyaml_sources.specs.Fault.{answer_of};
 ghost use Rattle.libyaml_sources.specs.Source.{answer_in};
-ghost use Rattle.line_reading.specs.LineSource.{Gives, known_of, BreaksOff};
-ghost use Rattle.line_reading.specs.LineSourceLaws.{source_falls, source_follows, source_repeats};
-ghost use Rattle.line_reading.specs.ReadLines.{longest_line, read_lines};
-ghost use Rattle.line_reading.specs.NextLine.{TakesAtMost, IsBehindLine, IsWithinLine};
-ghost use Rattle.line_reading.specs.LineFault.{line_fault};
+ghost use Rattle.line_reading.specs.sources.LineSource.{Gives, known_of, BreaksOff};
+ghost use Rattle.line_reading.specs.sources.LineSourceLaws.{source_falls, source_follows, source_repeats};
+ghost use Rattle.line_reading.specs.sources.ReadLines.{longest_line, read_lines};
+ghost use Rattle.line_reading.specs.sources.NextLine.{TakesAtMost, IsBehindLine, IsWithinLine};
+ghost use Rattle.line_reading.specs.sources.LineFault.{line_fault};
 ghost use Rattle.line_reading.specs.declared.line_problem.LineProblem.TheVariants.{BadTokenLine, LineTooLong};
 
 use crate::token_reader::TokenReader;
@@ -27,7 +27,7 @@ pub struct yaml_line_source_t<R> {
 }
 
 impl<R> Model for yaml_line_source_t<R> {
-    ghost use Rattle.line_reading.specs.LineSource.{LineSource, source_over};
+    ghost use Rattle.line_reading.specs.sources.LineSource.{LineSource, source_over};
 
     ghost Value = { LineSource R };
 

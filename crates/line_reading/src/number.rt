@@ -1,8 +1,8 @@
 //! Numbers in decimal digits.
 ghost use Rattle.std.specs.Prelude.{◌≡◌};
-ghost use Rattle.line_reading.specs.Number.{number_of, signed_of};
+ghost use Rattle.line_reading.specs.tokens.Number.{number_of, signed_of};
 
-use crate::front::read_number;
+use crate::marks::read_number;
 
 /// Returns the number that the digits write: no sign, no leading zero, within 64 bits.
 fn whole_number(digits: &[u8]) -> Option<u64>

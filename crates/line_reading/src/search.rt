@@ -1,4 +1,4 @@
-//! The place of a byte.
+//! The index of a byte.
 ghost use Rattle.std.specs.Prelude.{◌≡◌, ◌≢◌, ◌<◌, ◌≤◌, All, take, slice_index, length};
 
 use memchr::memchr;

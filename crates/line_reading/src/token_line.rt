@@ -1,14 +1,14 @@
 //! Token lines.
 ghost use Rattle.std.specs.Prelude.{◌≡◌, ◌≤◌, drop, length, option_copied};
-ghost use Rattle.line_reading.specs.Front.{further, token_at};
-ghost use Rattle.line_reading.specs.TokenLine.{bare_content, content_of_one, content_of_two};
-ghost use Rattle.line_reading.specs.TokenLine.{content_of, token_of_line};
-ghost use Rattle.line_reading.specs.Reading.{IsReadInto};
+ghost use Rattle.line_reading.specs.tokens.Prefixes.{further, token_at};
+ghost use Rattle.line_reading.specs.tokens.TokenLine.{bare_content, content_of_one, content_of_two};
+ghost use Rattle.line_reading.specs.tokens.TokenLine.{content_of, token_of_line};
+ghost use Rattle.line_reading.specs.tokens.Reading.{IsReadInto};
 
 use crate::field::{read_encoding, read_scalar_style, read_text, read_version};
-use crate::front::read_mark;
 use crate::line_problem::LineProblem;
-use crate::parts::Parts;
+use crate::marks::read_mark;
+use crate::pieces::Pieces;
 use crate::search::len_before;
 use crate::token_name::read_token_type;
 use libyaml_types::{
@@ -52,11 +52,11 @@ fn take_token(alloc: Global, line: &[u8], token: &mut yaml_token_t) -> Result<()
     if end == 0 {
         return Err(LineProblem::BadTokenLine);
     }
-    let fields = Parts::behind(fields_behind(line, end), b' ');
+    let fields = Pieces::behind(fields_behind(line, end), b' ');
     read_content(alloc, type_, fields, &mut token.content)
 }
 
-/// Returns the further fields after one that ends at a place, if there are some.
+/// Returns the further fields after one that ends at an index, if there are some.
 #[inline(always)]
 fn fields_behind(line: &[u8], end: usize) -> Option<&[u8]>
     requires { end ≤ length line.now }
@@ -73,7 +73,7 @@ fn fields_behind(line: &[u8], end: usize) -> Option<&[u8]>
 fn read_content(
     alloc: Global,
     type_: yaml_token_type_t,
-    mut fields: Parts,
+    mut fields: Pieces,
     content: &mut unnamed_yaml_token_t_data,
 ) -> Result<(), LineProblem>
     ensures { IsReadInto result content.new (content_of type_ fields.entry) }

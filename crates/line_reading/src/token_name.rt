@@ -1,6 +1,6 @@
 //! The names of tokens.
 ghost use Rattle.std.specs.Prelude.{◌≡◌};
-ghost use Rattle.line_reading.specs.TokenName.{token_type_of};
+ghost use Rattle.line_reading.specs.tokens.TokenName.{token_type_of};
 
 use libyaml_types::yaml_token_type_t;
 

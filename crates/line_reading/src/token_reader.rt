@@ -2,10 +2,10 @@
 ghost use Rattle.std.specs.Prelude.{◌≡◌, ◌+◌, IfOk, None, Err};
 ghost use Rattle.libyaml_sources.specs.Fault.{source_fault};
 ghost use Rattle.libyaml_sources.specs.Source.{answer_in};
-ghost use Rattle.line_reading.specs.LineFault.{line_fault};
-ghost use Rattle.line_reading.specs.LineSource.{Gives, source_over};
-ghost use Rattle.line_reading.specs.ReadLines.{longest_line};
-ghost use Rattle.line_reading.specs.NextLine.{TakesAtMost, IsBehindLine, IsWithinLine};
+ghost use Rattle.line_reading.specs.sources.LineFault.{line_fault};
+ghost use Rattle.line_reading.specs.sources.LineSource.{Gives, source_over};
+ghost use Rattle.line_reading.specs.sources.ReadLines.{longest_line};
+ghost use Rattle.line_reading.specs.sources.NextLine.{TakesAtMost, IsBehindLine, IsWithinLine};
 
 use crate::line::read_line;
 use crate::line_problem::LineProblem;

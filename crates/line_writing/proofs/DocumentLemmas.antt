@@ -25,32 +25,32 @@ lines_then id (x ∷ xs) ys =
     let e : id + 1 + length xs ≡ id + length (x ∷ xs) = omega arith in
     ap (λ l. node_line id x ∷ l) (lines_then (id + 1) xs ys ∙ ap (λ n. node_lines (id + 1) xs ++ node_lines n ys) e)
 
--- the line of the node at this place, and those after it
+-- the line of the node at this index, and those after it
 lines_at : (ns : List yaml_node_t) (i : ℕ) (d : yaml_node_t) → i < length ns
     → node_lines 1 ns ≡ node_lines 1 (take i ns) ++ node_line (i + 1) (get_or ns i d) ∷ node_lines (i + 1 + 1) (drop (i + 1) ns)
 lines_at ns i d within =
-    let front : 1 + length (take i ns) ≡ i + 1 = omega (arith, length-take-le i ns (omega (arith, within))) in
+    let count : 1 + length (take i ns) ≡ i + 1 = omega (arith, length-take-le i ns (omega (arith, within))) in
     ap (node_lines 1) (sym (take-append-drop i ns))
     ∙ lines_then 1 (take i ns) (drop i ns)
     ∙ at_drop_more (λ l. node_lines 1 (take i ns) ++ node_lines (1 + length (take i ns)) l) ns i d within
-    ∙ ap (λ n. node_lines 1 (take i ns) ++ node_lines n (get_or ns i d ∷ drop (i + 1) ns)) front
+    ∙ ap (λ n. node_lines 1 (take i ns) ++ node_lines n (get_or ns i d ∷ drop (i + 1) ns)) count
 
 -- one more line
 pub lines_more : (ns : List yaml_node_t) (i : ℕ) (d : yaml_node_t) → i < length ns
     → concat (node_lines 1 (take (i + 1) ns)) ≡ concat (node_lines 1 (take i ns)) ++ node_line (i + 1) (get_or ns i d)
 lines_more ns i d within =
-    let front : 1 + length (take i ns) ≡ i + 1 = omega (arith, length-take-le i ns (omega (arith, within))) in
+    let count : 1 + length (take i ns) ≡ i + 1 = omega (arith, length-take-le i ns (omega (arith, within))) in
     ap (λ l. concat (node_lines 1 l)) (take_more ns i d within)
     ∙ ap concat (lines_then 1 (take i ns) (get_or ns i d ∷ []))
     ∙ concat-append (node_lines 1 (take i ns)) (node_lines (1 + length (take i ns)) (get_or ns i d ∷ []))
-    ∙ ap (λ n. concat (node_lines 1 (take i ns)) ++ (node_line n (get_or ns i d) ++ [])) front
+    ∙ ap (λ n. concat (node_lines 1 (take i ns)) ++ (node_line n (get_or ns i d) ++ [])) count
     ∙ ap (λ l. concat (node_lines 1 (take i ns)) ++ l) (append-nil (node_line (i + 1) (get_or ns i d)))
 
 -- a line that found no memory
 pub wrote_before : (ns : List yaml_node_t) (i : ℕ) (d : yaml_node_t) (a b : Option (List ℕ)) → i < length ns → Appends a b (concat (node_lines 1 (take i ns)))
     → WroteBefore a b (node_lines 1 ns)
 wrote_before ns i d a b within wrote = record {
-  front = node_lines 1 (take i ns);
+  written = node_lines 1 (take i ns);
   line = node_line (i + 1) (get_or ns i d);
   rest = node_lines (i + 1 + 1) (drop (i + 1) ns);
   all = lines_at ns i d within;
@@ -59,14 +59,14 @@ wrote_before ns i d a b within wrote = record {
 
 -- the first line found none
 pub wrote_none : (line : List ℕ) (rest : List (List ℕ)) (a : Option (List ℕ)) → WroteBefore a a (line ∷ rest)
-wrote_none line rest a = record { front = []; line = line; rest = rest; all = refl; wrote = Appends-nil a }
+wrote_none line rest a = record { written = []; line = line; rest = rest; all = refl; wrote = Appends-nil a }
 
 -- the first line was written, and a later one found no memory
 pub wrote_behind : (line : List ℕ) (rest : List (List ℕ)) (a b c : Option (List ℕ)) → Appends a b line → WroteBefore b c rest → WroteBefore a c (line ∷ rest)
 wrote_behind line rest a b c first h = record {
-  front = line ∷ h.front;
+  written = line ∷ h.written;
   line = h.line;
   rest = h.rest;
   all = ap (λ l. line ∷ l) h.all;
-  wrote = Appends-trans a b c line (concat h.front) first h.wrote;
+  wrote = Appends-trans a b c line (concat h.written) first h.wrote;
 }

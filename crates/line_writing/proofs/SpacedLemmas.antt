@@ -30,17 +30,17 @@ directive_texts-more ds i d within =
     ∙ ap behind_spaces (directive_texts-append (take i ds) (get_or ds i d ∷ []))
     ∙ behind_spaces-append (directive_texts (take i ds)) (string_text (get_or ds i d).handle ∷ string_text (get_or ds i d).prefix ∷ [])
 
-regroup : (old first front middle rest end : List ℕ)
-    → ((old ++ (first ++ front)) ++ middle) ++ (rest ++ end) ≡ old ++ (first ++ ((front ++ (middle ++ rest)) ++ end))
-regroup old first front middle rest end = simp append_assoc
+regroup : (old first start middle rest end : List ℕ)
+    → ((old ++ (first ++ start)) ++ middle) ++ (rest ++ end) ≡ old ++ (first ++ ((start ++ (middle ++ rest)) ++ end))
+regroup old first start middle rest end = simp append_assoc
 
 -- the first fields of a line, some others, and the rest with the line feed, one after the other
-pub line_appended : (old l1 l2 l3 first : List ℕ) (front middle rest : List (List ℕ)) → l1 ≡ old ++ (first ++ behind_spaces front)
+pub line_appended : (old l1 l2 l3 first : List ℕ) (start middle rest : List (List ℕ)) → l1 ≡ old ++ (first ++ behind_spaces start)
     → l2 ≡ l1 ++ behind_spaces middle → l3 ≡ l2 ++ line_rest rest
-    → l3 ≡ old ++ line_text (first ∷ (front ++ (middle ++ rest)))
-line_appended old l1 l2 l3 first front middle rest e1 e2 e3 =
+    → l3 ≡ old ++ line_text (first ∷ (start ++ (middle ++ rest)))
+line_appended old l1 l2 l3 first start middle rest e1 e2 e3 =
     e3 ∙ ap (λ l. l ++ line_rest rest) (e2 ∙ ap (λ l. l ++ behind_spaces middle) e1)
-    ∙ regroup old first (behind_spaces front) (behind_spaces middle) (behind_spaces rest) (codes "\n")
-    ∙ ap (λ l. old ++ (first ++ ((behind_spaces front ++ l) ++ codes "\n"))) (sym (behind_spaces-append middle rest))
-    ∙ ap (λ l. old ++ (first ++ (l ++ codes "\n"))) (sym (behind_spaces-append front (middle ++ rest)))
-    ∙ ap (λ l. old ++ l) (sym (line_text-spaced first (front ++ (middle ++ rest))))
+    ∙ regroup old first (behind_spaces start) (behind_spaces middle) (behind_spaces rest) (codes "\n")
+    ∙ ap (λ l. old ++ (first ++ ((behind_spaces start ++ l) ++ codes "\n"))) (sym (behind_spaces-append middle rest))
+    ∙ ap (λ l. old ++ (first ++ (l ++ codes "\n"))) (sym (behind_spaces-append start (middle ++ rest)))
+    ∙ ap (λ l. old ++ l) (sym (line_text-spaced first (start ++ (middle ++ rest))))

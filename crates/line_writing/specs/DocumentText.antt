@@ -49,8 +49,8 @@ document_lines d = document_line d ∷ node_lines 1 d.nodes
 
 -- the lines before one of these were written, and nothing of that one
 pub record WroteBefore (before after : Option (List ℕ)) (lines : List (List ℕ)) : Type 0 where
-  pub front : List (List ℕ)
+  pub written : List (List ℕ)
   pub line : List ℕ
   pub rest : List (List ℕ)
-  pub all : lines ≡ front ++ line ∷ rest
-  pub wrote : Appends before after (concat front)
+  pub all : lines ≡ written ++ line ∷ rest
+  pub wrote : Appends before after (concat written)

@@ -14,7 +14,7 @@ use crate::field_text::{
     append_sequence_style, append_string, append_two_flags, append_version,
 };
 use crate::marks::append_marks;
-use crate::node_front::append_front;
+use crate::node_start::append_node_start;
 use crate::refusal::line_refusal_t;
 use itoa::Buffer;
 use libyaml_documents::{
@@ -59,9 +59,9 @@ fn write_nodes<W: Write>(
     ensures memory { result ≡ Err line_refusal_t.Memory
         → WroteBefore (W.contents writer.old) (W.contents writer.new) (node_lines 1 nodes.now) }
 {
-    for (place, node) in nodes.iter().enumerate() {
+    for (index, node) in nodes.iter().enumerate() {
         line.clear();
-        append_node(line, place + 1, node)?;
+        append_node(line, index + 1, node)?;
         write_line(line, writer)?;
     }
     Ok(())
@@ -93,7 +93,7 @@ fn append_document_rest(line: &mut String, document: &yaml_document_t) -> Result
 fn append_node(line: &mut String, id: usize, node: &yaml_node_t) -> Result<(), AllocError>
     ensures { OnOk result (string_bytes line.new ≡ string_bytes line.old ++ node_line id node.now) }
 {
-    append_front(line, id, node)?;
+    append_node_start(line, id, node)?;
     append_tag(line, node)?;
     append_node_rest(line, &node.content)
 }

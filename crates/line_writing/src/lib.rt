@@ -7,7 +7,7 @@ mod event_line;
 mod fault_text;
 mod field_text;
 mod marks;
-mod node_front;
+mod node_start;
 mod refusal;
 
 pub use document_text::write_document;

@@ -7,7 +7,7 @@ use Rattle.token_lines.specs.declared.run.Outcome.{Outcome}
 use Rattle.token_lines.specs.declared.run.Outcome.TheVariants.{Ended, Faulted, OutputFailed}
 
 abbrev pub EndsWith : (bytes end : List ℕ) → Type 0
-EndsWith bytes end = (front : List ℕ) × (bytes ≡ front ++ end)
+EndsWith bytes end = (start : List ℕ) × (bytes ≡ start ++ end)
 
 -- the last text is that of a failed allocation or of a failed read
 abbrev pub IsCutShort : List ℕ → Type 0

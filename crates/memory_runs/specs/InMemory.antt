@@ -5,10 +5,10 @@ use Rattle.libyaml_types.specs.declared.event.yaml_event_t.{yaml_event_t}
 use Rattle.libyaml_sources.specs.Fault.{Fault}
 use Rattle.libyaml_grammar.specs.runs.Runs.{Ending, Ends, Fails, IsRun}
 use Rattle.libyaml_graphs.specs.Loads.{IsLoads, Load}
-use Rattle.line_reading.specs.ReadLines.{read_lines}
+use Rattle.line_reading.specs.sources.ReadLines.{read_lines}
 use Rattle.line_writing.specs.FaultText.{fault_text}
-use Rattle.token_lines.specs.EventRun.{event_lines}
-use Rattle.token_lines.specs.NodeRun.{loads_ending, loads_lines}
+use Rattle.token_lines.specs.events.EventRun.{event_lines}
+use Rattle.token_lines.specs.nodes.NodeRun.{loads_ending, loads_lines}
 use Rattle.memory_runs.specs.declared.outcome.memory_outcome_t.{memory_outcome_t}
 use Rattle.memory_runs.specs.declared.outcome.memory_outcome_t.TheVariants.{Ended, Faulted, OutOfMemory}
 use Rattle.memory_runs.specs.declared.run.memory_run_t.{memory_run_t}

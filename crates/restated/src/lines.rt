@@ -2,14 +2,14 @@
 
 ghost use Rattle.std.specs.Prelude.{◌≡◌, List, true, false};
 ghost use Rattle.token_lines.specs.Bounds.{bounded_loads};
-ghost use Rattle.token_lines.specs.EventRun.{event_lines};
+ghost use Rattle.token_lines.specs.events.EventRun.{event_lines};
 ghost use Rattle.token_lines.specs.Events.{Event};
 ghost use Rattle.token_lines.specs.History.{History, between_documents, has_failed, is_over};
 ghost use Rattle.token_lines.specs.Ids.{magnitude};
-ghost use Rattle.token_lines.specs.LastCall.{LastCall, NothingLeft, RunsOver};
-ghost use Rattle.token_lines.specs.LastLoad.{LastLoad, NodesOver, WritesKept};
-ghost use Rattle.token_lines.specs.LineRun.{Writes};
-ghost use Rattle.token_lines.specs.NodeRun.{WritesLoads};
+ghost use Rattle.token_lines.specs.events.LastCall.{LastCall, NothingLeft, RunsOver};
+ghost use Rattle.token_lines.specs.nodes.LastLoad.{LastLoad, NodesOver, WritesKept};
+ghost use Rattle.token_lines.specs.lines.LineRun.{Writes};
+ghost use Rattle.token_lines.specs.nodes.NodeRun.{WritesLoads};
 ghost use Rattle.token_lines.specs.ReadsBack.{BytesReadBack, StringsAreFields, StringsReadBack};
 ghost use Rattle.token_lines.specs.RunToCome.{RunToCome};
 ghost use Rattle.token_lines.specs.Runs.{Ending};

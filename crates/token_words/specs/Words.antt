@@ -2,8 +2,8 @@
 use Rattle.std.specs.Prelude.{◌≡◌, ℕ, List, [], ◌∷◌, Option, Some, None, codes, bytes_eq, if◌then◌else◌}
 use Rattle.token_lines.specs.declared.run.Outcome.{Outcome}
 use Rattle.token_lines.specs.declared.run.Outcome.TheVariants.{Ended, Faulted, OutputFailed}
-use Rattle.token_lines.specs.LastCall.{RunsOver}
-use Rattle.token_lines.specs.LastLoad.{NodesOver}
+use Rattle.token_lines.specs.events.LastCall.{RunsOver}
+use Rattle.token_lines.specs.nodes.LastLoad.{NodesOver}
 use Rattle.token_words.specs.declared.words.Run.{Run}
 use Rattle.token_words.specs.declared.words.Run.TheVariants.{Events, Nodes}
 

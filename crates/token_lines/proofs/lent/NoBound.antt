@@ -8,8 +8,8 @@ use Rattle.libyaml_graphs.specs.Loads.{Load}
 use Rattle.libyaml_graphs.proofs.lent.BoundedFronts.{IsFront, met, same}
 use Rattle.token_lines.specs.declared.run.Outcome.{Outcome}
 use Rattle.token_lines.specs.declared.run.Outcome.TheVariants.{Ended, Faulted, OutputFailed}
-use Rattle.token_lines.specs.LineRun.{WritesFault, broken_off, whole}
-use Rattle.token_lines.specs.NodeRun.{WritesLoads, load_lines, loads_ending, loads_lines}
+use Rattle.token_lines.specs.lines.LineRun.{WritesFault, broken_off, whole}
+use Rattle.token_lines.specs.nodes.NodeRun.{WritesLoads, load_lines, loads_ending, loads_lines}
 
 lines_append : (a b : List Load) → loads_lines (a ++ b) ≡ loads_lines a ++ loads_lines b
 lines_append [] b = refl

@@ -7,10 +7,10 @@ ghost use Rattle.libyaml_events.specs.sources.History.{History, is_over, is_stre
 ghost use Rattle.libyaml_events.specs.sources.RunToCome.{RunToCome};
 ghost use Rattle.libyaml_grammar.specs.runs.Runs.{Ending};
 ghost use Rattle.libyaml_events.specs.parsers.Stages.{is_event};
-ghost use Rattle.token_lines.specs.EventRun.{event_lines};
-ghost use Rattle.token_lines.specs.EventStep.{StepsInRun, Turn};
-ghost use Rattle.token_lines.specs.LastCall.{LastCall, NothingLeft, RunsOver};
-ghost use Rattle.token_lines.specs.LineRun.{Writes};
+ghost use Rattle.token_lines.specs.events.EventRun.{event_lines};
+ghost use Rattle.token_lines.specs.events.EventStep.{StepsInRun, Turn};
+ghost use Rattle.token_lines.specs.events.LastCall.{LastCall, NothingLeft, RunsOver};
+ghost use Rattle.token_lines.specs.lines.LineRun.{Writes};
 
 use super::{MEMORY_FAULT, Outcome, Step, faulted, flushed, show};
 use crate::MAX_TOKENS;

@@ -8,9 +8,9 @@ ghost use Rattle.libyaml_events.specs.sources.RunToCome.{RunToCome};
 ghost use Rattle.libyaml_grammar.specs.runs.Runs.{Ending};
 ghost use Rattle.libyaml_graphs.specs.Bounds.{bounded_loads};
 ghost use Rattle.libyaml_loader.specs.Ids.{magnitude};
-ghost use Rattle.token_lines.specs.LastLoad.{LastLoad, NodesOver, WritesKept};
-ghost use Rattle.token_lines.specs.NodeRun.{WritesLoads};
-ghost use Rattle.token_lines.specs.NodeStep.{IsKept, LoadTurn, NodeSteps};
+ghost use Rattle.token_lines.specs.nodes.LastLoad.{LastLoad, NodesOver, WritesKept};
+ghost use Rattle.token_lines.specs.nodes.NodeRun.{WritesLoads};
+ghost use Rattle.token_lines.specs.nodes.NodeStep.{IsKept, LoadTurn, NodeSteps};
 
 use super::{MEMORY_FAULT, Outcome, Step, faulted, flushed, show};
 use crate::MAX_TOKENS;

@@ -2,7 +2,7 @@ use Rattle.std.proofs.Common.{◌≡◌, IsUtf8, subst, sym, ◌∙◌, ap, stri
 use Rattle.std.proofs.lemmas.Bool.{false≢true}
 use Rattle.std.proofs.lemmas.Str.{IsUtf8-string_bytes}
 use Rattle.percent_encoding.specs.Percent.{percent_decode}
-use Rattle.line_reading.proofs.Texts.{utf8_text-yes, utf8_text-no}
+use Rattle.line_reading.proofs.tokens.Texts.{utf8_text-yes, utf8_text-no}
 use Rattle.line_reading.proofs.field.decoded_text.Goals as goal
 
 pub returns-in-Ok : goal.returns-in-Ok

@@ -1,12 +1,12 @@
 use Rattle.std.proofs.Common.{arith}
-use Rattle.line_reading.proofs.Appended.{moved, kept_clean}
+use Rattle.line_reading.proofs.sources.Appended.{moved, kept_clean}
 use Rattle.std.proofs.lemmas.Grind.{common_steps}
 use Rattle.line_reading.proofs.line.take_line.Goals as goal
 
 pub loop-line-preserved : goal.loop-line-preserved
 loop-line-preserved g c = record {
-  taken = moved _ _ _ c.loop-line.line.items c.take_part.new.line.items c.take_part.ensures.appends c.loop-line.invariant.taken
-      (rw c.in-More.is at c.in_ok-take_part.ensures.consumes);
-  clean = kept_clean c.loop-line.line.items c.take_part.new.line.items c.take_part.ensures.appends c.loop-line.invariant.clean c.take_part.ensures.clean;
+  taken = moved _ _ _ c.loop-line.line.items c.take_buffered.new.line.items c.take_buffered.ensures.appends c.loop-line.invariant.taken
+      (rw c.in-None.is at c.in_ok-take_buffered.ensures.consumes);
+  clean = kept_clean c.loop-line.line.items c.take_buffered.new.line.items c.take_buffered.ensures.appends c.loop-line.invariant.clean c.take_buffered.ensures.clean;
   fits = grind (arith, common_steps);
 }

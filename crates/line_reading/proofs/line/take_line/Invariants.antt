@@ -1,6 +1,6 @@
 use Rattle.std.proofs.Common.{◌≢◌, ◌≤◌, ◌+◌, ◌-◌, All, length}
 use Rattle.std.specs.Io.KnownBytes.{Consumes}
-use Rattle.line_reading.specs.ReadLines.{longest_line}
+use Rattle.line_reading.specs.sources.ReadLines.{longest_line}
 use Rattle.line_reading.proofs.line.take_line.Given as goal
 
 abbrev pub invariant-loop-line : goal.invariant-loop-line

@@ -1,5 +1,5 @@
 use Rattle.std.proofs.Common.{arith}
-use Rattle.line_reading.proofs.WholeNumbers.{whole_none, whole_some, whole_more}
+use Rattle.line_reading.proofs.tokens.WholeNumbers.{whole_none, whole_some, whole_more}
 use Rattle.line_reading.proofs.number.whole_number.Goals as goal
 
 pub returns-then-number-eq0 : goal.returns-then-number-eq0

@@ -1,6 +1,6 @@
 use Rattle.std.proofs.Common.{◌≡◌, ◌+◌, ◌-◌, length, length-drop, take, drop, sym, arith}
 use Rattle.std.proofs.lemmas.List.{take_all}
-use Rattle.line_reading.proofs.Marks.{some_further}
+use Rattle.line_reading.proofs.tokens.Marks.{some_further}
 use Rattle.line_reading.proofs.token_line.fields_behind.Goals as goal
 
 pub returns : goal.returns

@@ -1,4 +1,4 @@
-use Rattle.line_reading.proofs.FrontTokens.{token_at-is}
+use Rattle.line_reading.proofs.tokens.PrefixTokens.{token_at-is}
 use Rattle.line_reading.proofs.token_line.read_token_line.Goals as goal
 
 pub returns : goal.returns

@@ -1,7 +1,7 @@
 use Rattle.std.proofs.Common.{rules, inl, inr, ◌≡◌, take, Some, None, arith}
-use Rattle.line_reading.specs.Front.{token_at}
-use Rattle.line_reading.specs.TokenName.{token_type_of}
-use Rattle.line_reading.proofs.Marks.{named, no_marks, no_type, no_start, no_end, bad_end, with_content, with_marks}
+use Rattle.line_reading.specs.tokens.Prefixes.{token_at}
+use Rattle.line_reading.specs.tokens.TokenName.{token_type_of}
+use Rattle.line_reading.proofs.tokens.Marks.{named, no_marks, no_type, no_start, no_end, bad_end, with_content, with_marks}
 use Rattle.line_reading.proofs.token_line.take_token.Goals as goal
 
 pub returns-then-name-line : goal.returns-then-name-line

@@ -1,5 +1,5 @@
 use Rattle.std.proofs.Common.{ap, ◌∙◌, Some}
-use Rattle.line_reading.specs.LineSource.{known_of}
+use Rattle.line_reading.specs.sources.LineSource.{known_of}
 use Rattle.memory_runs.specs.InMemory.{bytes_of}
 use Rattle.memory_runs.proofs.WholeRuns.{has_bytes}
 use Rattle.memory_runs.proofs.events.events_in_memory.Goals as goal

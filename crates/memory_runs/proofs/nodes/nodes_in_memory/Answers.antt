@@ -3,11 +3,11 @@ use Rattle.libyaml_graphs.proofs.lent.BoundedFronts.{front_of_loads}
 use Rattle.libyaml_graphs.specs.Bounds.{bounded_loads}
 use Rattle.libyaml_graphs.specs.Loads.{Load}
 use Rattle.libyaml_loader.specs.Ids.{magnitude}
-use Rattle.line_reading.specs.LineSource.{BreaksOff, known_of}
+use Rattle.line_reading.specs.sources.LineSource.{BreaksOff, known_of}
 use Rattle.memory_runs.specs.InMemory.{bytes_of}
 use Rattle.memory_runs.proofs.WholeRuns.{has_bytes}
-use Rattle.token_lines.specs.LastLoad.{most_entries}
-use Rattle.token_lines.specs.NodeRun.{WritesLoads}
+use Rattle.token_lines.specs.nodes.LastLoad.{most_entries}
+use Rattle.token_lines.specs.nodes.NodeRun.{WritesLoads}
 use Rattle.token_lines.proofs.lent.NoBound.{writes_all}
 use Rattle.memory_runs.proofs.nodes.nodes_in_memory.Goals as goal
 

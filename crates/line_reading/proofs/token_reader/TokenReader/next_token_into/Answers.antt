@@ -1,5 +1,5 @@
 use Rattle.std.proofs.Common.{◌≡◌, ◌<◌, None, rules, arith}
-use Rattle.line_reading.proofs.Problems.{gives_no_line}
+use Rattle.line_reading.proofs.sources.Problems.{gives_no_line}
 use Rattle.line_reading.proofs.token_reader.TokenReader.next_token_into.Goals as goal
 
 pub returns-in-Err-clause-gives : goal.returns-in-Err-clause-gives

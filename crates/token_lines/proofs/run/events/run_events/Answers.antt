@@ -1,6 +1,6 @@
 use Rattle.std.proofs.Common.{[], ap, ◌∙◌}
-use Rattle.line_reading.specs.LineSource.{known_of}
-use Rattle.token_lines.proofs.KnownLines.{writes_of_lines}
+use Rattle.line_reading.specs.sources.LineSource.{known_of}
+use Rattle.token_lines.proofs.lines.KnownLines.{writes_of_lines}
 use Rattle.token_lines.proofs.run.events.run_events.Goals as goal
 
 pub returns : goal.returns

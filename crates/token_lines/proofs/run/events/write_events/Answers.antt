@@ -2,9 +2,9 @@ use Rattle.std.proofs.Common.{refl, ap, ◌∙◌, subst}
 use Rattle.std.specs.Io.KnownBytes.{Keeps}
 use Rattle.libyaml_sources.specs.Fault.{fault_of}
 use Rattle.libyaml_events.specs.sources.History.{is_over}
-use Rattle.token_lines.specs.EventRun.{event_lines}
-use Rattle.token_lines.proofs.LastCallLemmas.{none_yet, one_more, last_call, ends_by, fails_by, output_fails, written_no_end, failed_no_end, output_no_end}
-use Rattle.token_lines.proofs.RunLemmas.{came_none, came_more, came_last, came_fails, writes_ended, writes_faulted}
+use Rattle.token_lines.specs.events.EventRun.{event_lines}
+use Rattle.token_lines.proofs.events.LastCallLemmas.{none_yet, one_more, last_call, ends_by, fails_by, output_fails, written_no_end, failed_no_end, output_no_end}
+use Rattle.token_lines.proofs.events.RunLemmas.{came_none, came_more, came_last, came_fails, writes_ended, writes_faulted}
 use Rattle.token_lines.proofs.run.events.write_events.Goals as goal
 
 pub returns-in-Ended-clause-writes : goal.returns-in-Ended-clause-writes

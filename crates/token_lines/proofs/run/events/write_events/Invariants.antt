@@ -1,12 +1,12 @@
 use Rattle.std.proofs.Common.{◌≡◌, List, true, false}
 use Rattle.libyaml_types.specs.declared.event.yaml_event_t.{yaml_event_t}
 use Rattle.libyaml_types.specs.declared.token.yaml_token_t.{yaml_token_t}
-use Rattle.token_lines.specs.LastCall.{AllWritten}
+use Rattle.token_lines.specs.events.LastCall.{AllWritten}
 use Rattle.libyaml_events.specs.sources.History.{History, is_over}
 use Rattle.libyaml_events.specs.parsers.EventsLeft.{events_left}
 use Rattle.libyaml_events.specs.sources.RunToCome.{RunToCome}
 use Rattle.libyaml_grammar.specs.runs.Runs.{Ending}
-use Rattle.token_lines.proofs.RunLemmas.{Came}
+use Rattle.token_lines.proofs.events.RunLemmas.{Came}
 use Rattle.token_lines.proofs.run.events.write_events.Given as goal
 
 abbrev pub invariant-loop-writer : goal.invariant-loop-writer

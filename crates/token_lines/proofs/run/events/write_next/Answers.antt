@@ -7,9 +7,9 @@ use Rattle.libyaml_events.specs.sources.RunToCome.{FailsHere}
 use Rattle.libyaml_events.proofs.lent.NextEvents.{Says, fails_here, first_event}
 use Rattle.token_lines.specs.declared.run.Step.TheVariants.{Written, Ended, OutputFailed}
 use Rattle.line_writing.specs.EventText.{event_line}
-use Rattle.token_lines.proofs.LastCallLemmas.{gave_one, failed_once}
-use Rattle.token_lines.proofs.RunLemmas.{Keeps-same}
-use Rattle.token_lines.proofs.StepLemmas.{ended_by, running_by, takes_first, takes_last, nothing_left}
+use Rattle.token_lines.proofs.events.LastCallLemmas.{gave_one, failed_once}
+use Rattle.token_lines.proofs.events.RunLemmas.{Keeps-same}
+use Rattle.token_lines.proofs.events.StepLemmas.{ended_by, running_by, takes_first, takes_last, nothing_left}
 use Rattle.token_lines.proofs.run.events.write_next.Goals as goal
 
 pub returns-in_default-clause-step : goal.returns-in_default-clause-step

@@ -1,10 +1,10 @@
 use Rattle.std.proofs.Common.{ℤ, [], ap, ◌∙◌, subst}
 use Rattle.libyaml_graphs.specs.Bounds.{bounded_loads}
 use Rattle.libyaml_loader.specs.Ids.{magnitude}
-use Rattle.line_reading.specs.LineSource.{BreaksOff, Gives, known_of}
-use Rattle.token_lines.specs.LastLoad.{LastLoad}
-use Rattle.token_lines.specs.NodeRun.{WritesLoads}
-use Rattle.token_lines.proofs.KnownLines.{writes_of_lines, writes_of_runs}
+use Rattle.line_reading.specs.sources.LineSource.{BreaksOff, Gives, known_of}
+use Rattle.token_lines.specs.nodes.LastLoad.{LastLoad}
+use Rattle.token_lines.specs.nodes.NodeRun.{WritesLoads}
+use Rattle.token_lines.proofs.lines.KnownLines.{writes_of_lines, writes_of_runs}
 use Rattle.token_lines.proofs.run.nodes.run_nodes.Goals as goal
 
 pub returns : goal.returns

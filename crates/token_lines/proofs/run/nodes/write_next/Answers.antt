@@ -6,10 +6,10 @@ use Rattle.libyaml_graphs.specs.Bounds.{bounded_loads}
 use Rattle.libyaml_loader.specs.Ids.{magnitude}
 use Rattle.line_writing.specs.declared.refusal.line_refusal_t.{line_refusal_t}
 use Rattle.token_lines.specs.declared.run.Step.TheVariants.{Ended, Failed, Written}
-use Rattle.token_lines.specs.NodeStep.{WritesFront}
-use Rattle.token_lines.proofs.NodeStepLemmas.{step_cut, step_ended, step_failed, step_written}
-use Rattle.token_lines.proofs.NodeTurnLemmas.{has_none, has_some, turn_of}
-use Rattle.token_lines.proofs.RunLemmas.{Keeps-same}
+use Rattle.token_lines.specs.nodes.NodeStep.{WritesFront}
+use Rattle.token_lines.proofs.nodes.NodeStepLemmas.{step_cut, step_ended, step_failed, step_written}
+use Rattle.token_lines.proofs.nodes.NodeTurnLemmas.{has_none, has_some, turn_of}
+use Rattle.token_lines.proofs.events.RunLemmas.{Keeps-same}
 use Rattle.token_lines.proofs.run.nodes.write_next.Goals as goal
 
 failed_is_no_end : {f : yaml_parser_t_prefix} {A : Type 0} → Failed f ≡ Ended → A

@@ -7,10 +7,10 @@ use Rattle.libyaml_loader.specs.Ids.{magnitude}
 use Rattle.line_writing.specs.FaultText.{fault_text}
 use Rattle.token_lines.specs.declared.run.Outcome.TheVariants.{Ended, OutputFailed}
 use Rattle.token_lines.specs.declared.run.Step.TheVariants as step
-use Rattle.token_lines.specs.NodeRun.{loads_ending, loads_lines}
-use Rattle.token_lines.proofs.NodeRunLemmas.{loads_fail, loads_last, loads_more, loads_none}
-use Rattle.token_lines.proofs.NodeTurnLemmas.{last_load_at, loads_end, loads_failed, loads_output, none_loaded, not_ended_is, one_loaded, steps_at, turn_at}
-use Rattle.token_lines.proofs.RunLemmas.{writes_ended, writes_faulted}
+use Rattle.token_lines.specs.nodes.NodeRun.{loads_ending, loads_lines}
+use Rattle.token_lines.proofs.nodes.NodeRunLemmas.{loads_fail, loads_last, loads_more, loads_none}
+use Rattle.token_lines.proofs.nodes.NodeTurnLemmas.{last_load_at, loads_end, loads_failed, loads_output, none_loaded, not_ended_is, one_loaded, steps_at, turn_at}
+use Rattle.token_lines.proofs.events.RunLemmas.{writes_ended, writes_faulted}
 use Rattle.token_lines.proofs.run.nodes.write_nodes.Goals as goal
 
 output_is_no_end : OutputFailed ≡ Ended → step.OutputFailed ≡ step.Ended

@@ -6,8 +6,8 @@ use Rattle.libyaml_events.specs.sources.History.{History, between_documents, has
 use Rattle.libyaml_events.specs.sources.RunToCome.{RunToCome}
 use Rattle.libyaml_grammar.specs.runs.Runs.{Ending}
 use Rattle.libyaml_loader.specs.Ids.{magnitude}
-use Rattle.token_lines.specs.LastLoad.{AllLoaded}
-use Rattle.token_lines.proofs.NodeRunLemmas.{CameLoads}
+use Rattle.token_lines.specs.nodes.LastLoad.{AllLoaded}
+use Rattle.token_lines.proofs.nodes.NodeRunLemmas.{CameLoads}
 use Rattle.token_lines.proofs.run.nodes.write_nodes.Given as goal
 
 abbrev pub invariant-loop-writer : goal.invariant-loop-writer

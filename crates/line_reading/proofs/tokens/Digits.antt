@@ -1,0 +1,172 @@
+-- a number that begins some bytes
+use Rattle.std.proofs.Common.{◌≡◌, leb, ◌==◌, ℕ, ◌+◌, ◌-◌, ◌*◌, ◌<◌, ◌≤◌, ◌^◌, true, false, List, [], ◌∷◌, ◌++◌, length, take, drop, get_or, Some, None, refl}
+use Rattle.std.proofs.Common.{ap, sym, ◌∙◌, arith}
+use Rattle.std.proofs.lemmas.Bool.{cond_both}
+use Rattle.std.proofs.lemmas.List.{at_drop_more, at_drop_all, take_more, append-nil}
+use Rattle.std.proofs.Common.{append_assoc, min}
+use Rattle.std.proofs.lemmas.List.{get_or-take, length-take, length-drop, drop-drop}
+use Rattle.std.proofs.lemmas.Bool.{leb-true, and_parts}
+use Rattle.std.proofs.Math.Nat.{pow-suc, pow-le-pow_right}
+use Rattle.std.proofs.Math.Numerals.{add-one}
+use Rattle.std.specs.Char.{is_ascii_digit}
+use Rattle.line_reading.specs.tokens.Number.{value_after, value_of, number_of}
+use Rattle.line_reading.specs.tokens.Prefixes.{digits_of, behind_digits, number_at, HasDigits, IsNumberRead}
+use Rattle.line_reading.specs.declared.marks.NumberRead.{NumberRead}
+use Rattle.line_reading.proofs.tokens.Numerals.{value_after-end, value_after-digit, value_after-large}
+
+-- the first i bytes are digits of this value
+pub record HasRead (bytes : List ℕ) (i n : ℕ) : Type 0 where
+  pub digits : digits_of bytes ≡ take i bytes ++ digits_of (drop i bytes)
+  pub behind : behind_digits bytes ≡ behind_digits (drop i bytes)
+  pub value : value_of (digits_of bytes) ≡ value_after n (digits_of (drop i bytes))
+  pub fits : n < 2 ^ 64
+
+pub none_read : (bytes : List ℕ) → HasRead bytes 0 0
+none_read bytes = record { digits = refl; behind = refl; value = refl; fits = omega arith }
+
+digits-yes : (b : ℕ) (bs : List ℕ) → is_ascii_digit b ≡ true → digits_of (b ∷ bs) ≡ b ∷ digits_of bs
+digits-yes b bs d = rw d refl
+
+behind-yes : (b : ℕ) (bs : List ℕ) → is_ascii_digit b ≡ true → behind_digits (b ∷ bs) ≡ behind_digits bs
+behind-yes b bs d = rw d refl
+
+digits-no : (b : ℕ) (bs : List ℕ) → is_ascii_digit b ≡ false → digits_of (b ∷ bs) ≡ []
+digits-no b bs d = rw d refl
+
+behind-no : (b : ℕ) (bs : List ℕ) → is_ascii_digit b ≡ false → behind_digits (b ∷ bs) ≡ b ∷ bs
+behind-no b bs d = rw d refl
+
+pub read_more : (bytes : List ℕ) (i n : ℕ) → HasRead bytes i n → i < length bytes → is_ascii_digit (get_or bytes i 0) ≡ true
+    → n * 10 + (get_or bytes i 0 - 48) < 2 ^ 64 → HasRead bytes (i + 1) (n * 10 + (get_or bytes i 0 - 48))
+read_more bytes i n h small d fits =
+    let b = get_or bytes i 0 in
+    let r = drop (i + 1) bytes in
+    record {
+      digits = h.digits ∙ ap (λ x. take i bytes ++ x) (at_drop_more digits_of bytes i 0 small ∙ digits-yes b r d)
+          ∙ sym (append_assoc (take i bytes) (b ∷ []) (digits_of r))
+          ∙ ap (λ x. x ++ digits_of r) (sym (take_more bytes i 0 small));
+      behind = h.behind ∙ at_drop_more behind_digits bytes i 0 small ∙ behind-yes b r d;
+      value = h.value ∙ ap (value_after n) (at_drop_more digits_of bytes i 0 small ∙ digits-yes b r d) ∙ value_after-digit n b (digits_of r) d;
+      fits = fits;
+    }
+
+pub no_value : (ds : List ℕ) → value_of ds ≡ None → number_of ds ≡ None
+no_value [] h = refl
+no_value (d ∷ []) h = h
+no_value (d ∷ e ∷ ds) h = cond_both (d == 48) None (value_of (d ∷ e ∷ ds)) (λ o. o ≡ None) (λ _. refl) (λ _. h)
+
+pub read_too_much : (bytes : List ℕ) (i n : ℕ) → HasRead bytes i n → i < length bytes → is_ascii_digit (get_or bytes i 0) ≡ true
+    → 2 ^ 64 ≤ n * 10 + (get_or bytes i 0 - 48) → number_at bytes ≡ None
+read_too_much bytes i n h small d large =
+    let b = get_or bytes i 0 in
+    let r = drop (i + 1) bytes in
+    let none : value_of (digits_of bytes) ≡ None = h.value ∙ ap (value_after n) (at_drop_more digits_of bytes i 0 small ∙ digits-yes b r d)
+    ∙ value_after-digit n b (digits_of r) d ∙ value_after-large _ (digits_of r) large in
+    rw (no_value (digits_of bytes) none) refl
+
+-- the digits end at i
+ends : (bytes : List ℕ) (i n : ℕ) → HasRead bytes i n → digits_of (drop i bytes) ≡ [] → behind_digits (drop i bytes) ≡ drop i bytes → HasDigits bytes i n
+ends bytes i n h none rest =
+    let all : digits_of bytes ≡ take i bytes = h.digits ∙ ap (λ x. take i bytes ++ x) none ∙ append-nil (take i bytes) in
+    record {
+      digits = all;
+      behind = h.behind ∙ rest;
+      value_is = ap value_of (sym all) ∙ h.value ∙ ap (value_after n) none ∙ value_after-end n h.fits;
+    }
+
+pub ends_at_other : (bytes : List ℕ) (i n : ℕ) → HasRead bytes i n → i < length bytes → is_ascii_digit (get_or bytes i 0) ≡ false → HasDigits bytes i n
+ends_at_other bytes i n h small d =
+    let b = get_or bytes i 0 in
+    let r = drop (i + 1) bytes in
+    let whole : drop i bytes ≡ b ∷ r = at_drop_more (λ x. x) bytes i 0 small in
+    ends bytes i n h (ap digits_of whole ∙ digits-no b r d) (ap behind_digits whole ∙ behind-no b r d ∙ sym whole)
+
+pub ends_at_end : (bytes : List ℕ) (i n : ℕ) → HasRead bytes i n → length bytes ≤ i → HasDigits bytes i n
+ends_at_end bytes i n h large =
+    let none : drop i bytes ≡ [] = at_drop_all (λ x. x) bytes i large in
+    ends bytes i n h (ap digits_of none) (ap behind_digits none ∙ sym none)
+
+-- the same, where the bytes that are looked at are a prefix of those
+
+byte_within : (bytes : List ℕ) (k i : ℕ) → i < length (take k bytes) → (i < length bytes) × (get_or (take k bytes) i 0 ≡ get_or bytes i 0)
+byte_within bytes k i small =
+    let within : i < min k (length bytes) = rw (sym (length-take k bytes)) small in
+    (omega (arith, within), get_or-take k bytes i 0 (omega (arith, within)))
+
+pub more_within : (bytes : List ℕ) (k i n : ℕ) → HasRead bytes i n → i < length (take k bytes) → is_ascii_digit (get_or (take k bytes) i 0) ≡ true
+    → n * 10 + (get_or (take k bytes) i 0 - 48) < 2 ^ 64
+    → HasRead bytes (i + 1) (n * 10 + (get_or (take k bytes) i 0 - 48))
+more_within bytes k i n h small d fits =
+    let at = byte_within bytes k i small in
+    rw (at.1) (read_more bytes i n h at.0 (rw (sym at.1) d) (rw (sym at.1) fits))
+
+pub too_much_within : (bytes : List ℕ) (k i n : ℕ) → HasRead bytes i n → i < length (take k bytes) → is_ascii_digit (get_or (take k bytes) i 0) ≡ true
+    → 2 ^ 64 ≤ n * 10 + (get_or (take k bytes) i 0 - 48) → number_at bytes ≡ None
+too_much_within bytes k i n h small d large =
+    let at = byte_within bytes k i small in
+    read_too_much bytes i n h at.0 (rw (sym at.1) d) (rw (sym at.1) large)
+
+pub ends_within : (bytes : List ℕ) (k i n : ℕ) → HasRead bytes i n → i < length (take k bytes) → is_ascii_digit (get_or (take k bytes) i 0) ≡ false
+    → HasDigits bytes i n
+ends_within bytes k i n h small d =
+    let at = byte_within bytes k i small in
+    ends_at_other bytes i n h at.0 (rw (sym at.1) d)
+
+pub ends_with_line : (line : List ℕ) (at end i n : ℕ) → end ≡ length line → HasRead (drop at line) i n → i ≤ length (take (end - at) (drop at line))
+    → length (take (end - at) (drop at line)) ≤ i → HasDigits (drop at line) (end - at) n
+ends_with_line line at end i n e h most least =
+    let size : length (take (end - at) (drop at line)) ≡ end - at = length-take (end - at) (drop at line) ∙ omega (arith, e, length-drop at line) in
+    let all : i ≡ end - at = omega (arith, most, least, size) in
+    rw (← all) (ends_at_end (drop at line) i n h (omega (arith, all, e, length-drop at line)))
+
+-- the number that is there, or that there is none
+
+pub no_number_read : (line : List ℕ) (at : ℕ) (read : NumberRead) → read.end ≡ 0 → number_at (drop at line) ≡ None → IsNumberRead line at read
+no_number_read line at read e none = record { within = omega (arith, e); none = λ _. none; some = λ some. absurd (omega (arith, e, some)) }
+
+pub ended_none : (bytes : List ℕ) (i n : ℕ) → HasDigits bytes i n → number_of (take i bytes) ≡ None → number_at bytes ≡ None
+ended_none bytes i n h e = rw (h.digits, e) refl
+
+pub ended_some : (line : List ℕ) (at i n v end : ℕ) → HasDigits (drop at line) i n → number_of (take i (drop at line)) ≡ Some n → v ≡ n → end ≡ at + i
+    → number_at (drop at line) ≡ Some (v, drop end line)
+ended_some line at i n v end h e same to = rw (h.digits, e, h.behind, same, to, drop-drop i at line) refl
+
+-- the same, with a value that i digits can have
+pub record HasReadFew (bytes : List ℕ) (i n : ℕ) : Type 0 where
+  pub read : HasRead bytes i n
+  pub below : n < 10 ^ i
+
+pub none_read_few : (bytes : List ℕ) → HasReadFew bytes 0 0
+none_read_few bytes = record { read = none_read bytes; below = omega arith }
+
+-- so after fewer than 19 digits one more fits into 64 bits
+pub few_fit : (i n : ℕ) → n < 10 ^ i → i < 19 → n * 10 + 57 < 2 ^ 64
+few_fit i n h small =
+    let most : 10 ^ i ≤ 10 ^ 18 = pow-le-pow_right {n = 10} (omega arith) {i = i} {j = 18} (omega arith) in
+    omega (arith, most, h)
+
+digit_within : (b : ℕ) → is_ascii_digit b ≡ true → (48 ≤ b) × (b ≤ 57)
+digit_within b d =
+    let k = and_parts (leb 48 b) (leb b 57) d in
+    (leb-true 48 b k.0, leb-true b 57 k.1)
+
+few_below : (i n b : ℕ) → n < 10 ^ i → b ≤ 57 → 48 ≤ b → n * 10 + (b - 48) < 10 ^ (i + 1)
+few_below i n b h high low =
+    let more : 10 ^ (i + 1) ≡ 10 ^ i * 10 = ap (λ x. 10 ^ x) (add-one i) ∙ pow-suc 10 i in
+    rw more (omega (arith, h, high, low))
+
+pub few_room : (bytes : List ℕ) (k i n : ℕ) → k ≤ 19 → HasReadFew bytes i n → i < length (take k bytes) → is_ascii_digit (get_or (take k bytes) i 0) ≡ true
+    → n * 10 + (get_or (take k bytes) i 0 - 48) < 2 ^ 64
+few_room bytes k i n short few small d =
+    let within : i < min k (length bytes) = rw (sym (length-take k bytes)) small in
+    let bounds : (48 ≤ get_or (take k bytes) i 0) × (get_or (take k bytes) i 0 ≤ 57) = digit_within (get_or (take k bytes) i 0) d in
+    omega (arith, few_fit i n few.below (omega (arith, within, short)), bounds.1)
+
+pub few_more_within : (bytes : List ℕ) (k i n : ℕ) → k ≤ 19 → HasReadFew bytes i n → i < length (take k bytes)
+    → is_ascii_digit (get_or (take k bytes) i 0) ≡ true → HasReadFew bytes (i + 1) (n * 10 + (get_or (take k bytes) i 0 - 48))
+few_more_within bytes k i n short few small d =
+    let bounds = digit_within (get_or (take k bytes) i 0) d in
+    record {
+      read = more_within bytes k i n few.read small d (few_room bytes k i n short few small d);
+      below = few_below i n (get_or (take k bytes) i 0) few.below bounds.1 bounds.0;
+    }

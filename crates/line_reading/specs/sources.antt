@@ -1,0 +1,7 @@
+pub mod Line
+pub mod LineFault
+pub mod LineLaws
+pub mod LineSource
+pub mod LineSourceLaws
+pub mod NextLine
+pub mod ReadLines

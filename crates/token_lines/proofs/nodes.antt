@@ -1,0 +1,3 @@
+pub mod NodeRunLemmas
+pub mod NodeStepLemmas
+pub mod NodeTurnLemmas

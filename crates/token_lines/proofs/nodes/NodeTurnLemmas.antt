@@ -1,0 +1,210 @@
+-- How a run's steps write each document in its turn.
+use Rattle.std.proofs.Common.{◌≡◌, ◌≢◌, ◌⊎◌, ◌++◌, ◌∷◌, ◌==◌, ℕ, ℤ, List, [], length, map, Option, Some, None, Bool, true, false, Ok, Err, refl, sym, ap, ◌∙◌}
+use Rattle.std.proofs.Common.{subst, inl, inr, append_assoc}
+use Rattle.std.proofs.KnownBytes.{Appends-nil, Appends-trans}
+use Rattle.std.proofs.lemmas.Bool.{eqb-true}
+use Rattle.std.proofs.lemmas.List.{append-nil, nil_from_length}
+use Rattle.std.proofs.lemmas.List.Folds.{concat-append}
+use Rattle.std.specs.List.{concat, flat_map}
+use Rattle.std.specs.Io.KnownBytes.{Appends, Keeps}
+use Rattle.libyaml_types.specs.declared.event.yaml_event_t.{yaml_event_t}
+use Rattle.libyaml_types.specs.declared.token.yaml_token_t.{yaml_token_t}
+use Rattle.libyaml_documents.specs.declared.node.yaml_node_t.{yaml_node_t}
+use Rattle.libyaml_documents.specs.Documents.{Document}
+use Rattle.libyaml_events.specs.machine.Config.{Parser, is_fault}
+use Rattle.libyaml_sources.specs.declared.fault.yaml_parser_t_prefix.{yaml_parser_t_prefix}
+use Rattle.libyaml_sources.specs.Fault.{Answer, Fault, fault_of}
+use Rattle.libyaml_events.specs.sources.History.{ForHistory, History, has_failed, kept_fault}
+use Rattle.libyaml_events.specs.sources.RunToCome.{RunToCome}
+use Rattle.libyaml_grammar.specs.runs.Runs.{Ending}
+use Rattle.libyaml_sources.specs.Source.{Coming}
+use Rattle.libyaml_events.proofs.lent.Staged.{ran_staged}
+use Rattle.libyaml_graphs.specs.Bounds.{bounded_loads, next_bounded}
+use Rattle.libyaml_graphs.specs.Loads.{Load, left_over}
+use Rattle.libyaml_graphs.proofs.lent.Roots.{earlier_of}
+use Rattle.libyaml_loader.specs.Ids.{magnitude}
+use Rattle.libyaml_loader.specs.Loading.{DocumentOrError, HasEnded, LoadsFrom, at_end, whole}
+use Rattle.line_writing.specs.DocumentText.{document_lines}
+use Rattle.line_writing.specs.FaultText.{fault_text}
+use Rattle.token_lines.specs.declared.run.Outcome.{Outcome}
+use Rattle.token_lines.specs.declared.run.Outcome.TheVariants.{Ended, Faulted, OutputFailed}
+use Rattle.token_lines.specs.declared.run.Step.{Step}
+use Rattle.token_lines.specs.declared.run.Step.TheVariants as step
+use Rattle.token_lines.specs.nodes.LastLoad.{AllLoaded, LastLoad, WroteForLoad}
+use Rattle.token_lines.specs.nodes.NodeStep.{LoadTurn, NodeSteps, StepForLoad}
+use Rattle.token_lines.proofs.events.LastCallLemmas.{gave_then}
+use Rattle.token_lines.proofs.events.RunLemmas.{keeps_then}
+
+-- whether a document has nodes, by their count
+pub has_some : (ns ms : List yaml_node_t) (b : Bool) → b ≡ (length ns == 0) → b ≡ false → ns ≡ ms → ms ≢ []
+has_some ns ms b is not same none = no (sym not ∙ is ∙ ap (λ (l : List yaml_node_t). length l == 0) (same ∙ none))
+  where
+    no : false ≡ true → ⊥
+    no h = cc
+
+pub has_none : (ns ms : List yaml_node_t) (b : Bool) → b ≡ (length ns == 0) → b ≡ true → ns ≡ ms → ms ≡ []
+has_none ns ms b is empty same = nil_from_length ms (eqb-true (length ms) 0 (sym (sym empty ∙ is ∙ ap (λ (l : List yaml_node_t). length l == 0) same)))
+
+keeps_both : (a b c : Option (List ℕ)) → Keeps a b → Keeps b c → Keeps a c
+keeps_both None b c h k = tt
+keeps_both (Some x) None c h k = absurd h
+keeps_both (Some x) (Some y) None h k = absurd k
+keeps_both (Some x) (Some y) (Some z) h k = k ∙ h
+
+module _ {S : Type 0} (gives : S → Answer → S → Type 0) (known : S → Option Coming) (MayBreak : S → Fault → Type 0) (n : ℕ) where
+  pub turn_of : (s : Step) (p q : Parser S) (b c : Option (List ℕ)) (r a : DocumentOrError) → r ≡ a
+      → LoadsFrom gives known MayBreak (next_bounded n) left_over p r q → StepForLoad s a (kept_fault q) b c
+      → (s ≡ step.Ended → ForHistory p (λ _ _. HasEnded q)) → LoadTurn gives known MayBreak n s p q b c
+  turn_of s p q b c r a is load wrote ends
+      = record { answer = r; load = load; wrote = subst (λ (x : DocumentOrError). StepForLoad s x (kept_fault q) b c) (sym is) wrote; ends = ends }
+
+  pub none_loaded : (p : Parser S) (x : Option (List ℕ)) (asked : List yaml_token_t) (given : List yaml_event_t) → History p asked given
+      → AllLoaded gives n p p x x asked given
+  none_loaded p x asked given h = record {
+    more = [];
+    events = [];
+    documents = [];
+    gave = refl;
+    history = subst (λ (l : List yaml_token_t). History p l (given ++ [])) (sym (append-nil asked))
+        (subst (λ (l : List yaml_event_t). History p asked l) (sym (append-nil given)) h);
+    loads = λ (rest : List yaml_event_t) (x : Ending). refl;
+    wrote = Appends-nil x;
+  }
+
+  running : (p : Parser S) (asked : List yaml_token_t) (given : List yaml_event_t) → History p asked given → has_failed p ≡ false
+  running p asked given h = ap (λ (f : Fault). is_fault f.error) (ran_staged h).no_fault_kept
+
+  texts_more : (ds : List Document) (d : Document)
+      → concat (flat_map document_lines ds) ++ concat (document_lines d) ≡ concat (flat_map document_lines (ds ++ d ∷ []))
+  texts_more [] d = ap concat (sym (append-nil (document_lines d)))
+  texts_more (e ∷ ds) d =
+      ap (λ (l : List ℕ). l ++ concat (document_lines d)) (concat-append (document_lines e) (flat_map document_lines ds))
+      ∙ append_assoc (concat (document_lines e)) (concat (flat_map document_lines ds)) (concat (document_lines d))
+      ∙ ap (λ (l : List ℕ). concat (document_lines e) ++ l) (texts_more ds d) ∙ sym (concat-append (document_lines e) (flat_map document_lines (ds ++ d ∷ [])))
+
+  loads_more : (events taken rest : List yaml_event_t) (x : Ending) (ds : List Document) (d : Document) → d.nodes ≢ []
+      → ((r : List yaml_event_t) → ◌≡◌ {A = List Load} (bounded_loads n (events ++ r) x) (map Ok ds ++ bounded_loads n r x))
+      → next_bounded n (taken ++ rest) x ≡ Ok d → left_over (taken ++ rest) ≡ rest
+      → ◌≡◌ {A = List Load} (bounded_loads n ((events ++ taken) ++ rest) x) (map Ok (ds ++ d ∷ []) ++ bounded_loads n rest x)
+  loads_more events taken rest x ds d some before load left =
+      let oks : List Load = map Ok ds in
+      let one : List Load = Ok d ∷ [] in
+      let all : List Load = bounded_loads n rest x in
+      ap (λ (l : List yaml_event_t). bounded_loads n l x) (append_assoc events taken rest) ∙ before (taken ++ rest)
+      ∙ ap (λ (l : List Load). oks ++ l) (earlier_of (taken ++ rest) x n d load some ∙ ap (λ (l : List yaml_event_t). one ++ bounded_loads n l x) left)
+      ∙ sym (append_assoc oks one all)
+      ∙ ap (λ (l : List Load). l ++ all) (sym (oks_more ds))
+    where
+      oks_more : (l : List Document) → ◌≡◌ {A = List Load} (map Ok (l ++ d ∷ [])) (map Ok l ++ (Ok d ∷ []))
+      oks_more [] = refl
+      oks_more (e ∷ l) = ap (λ (m : List Load). Ok e ∷ m) (oks_more l)
+
+  pub one_loaded : (first p q : Parser S) (a b c : Option (List ℕ)) (asked : List yaml_token_t) (given : List yaml_event_t)
+      → AllLoaded gives n first p a b asked given
+      → (has_failed p ≡ false → LoadTurn gives known MayBreak n step.Written p q b c) → AllLoaded gives n first q a c asked given
+  one_loaded first p q a b c asked given w turns = go turn.answer turn.load turn.wrote
+    where
+      turn : LoadTurn gives known MayBreak n step.Written p q b c
+      turn = turns (running p (asked ++ w.more) (given ++ w.events) w.history)
+
+      go : (r : DocumentOrError) → LoadsFrom gives known MayBreak (next_bounded n) left_over p r q → StepForLoad step.Written r (kept_fault q) b c
+          → AllLoaded gives n first q a c asked given
+      go (Ok d) (whole taken took load left stands) (some, wrote) =
+          let on = took.history (asked ++ w.more) (given ++ w.events) w.history in
+          record {
+            more = w.more ++ on.more;
+            events = w.events ++ taken;
+            documents = w.documents ++ d ∷ [];
+            gave = gave_then gives w.more on.more first.source p.source q.source w.gave on.gave;
+            history = subst (λ (l : List yaml_event_t). History q (asked ++ (w.more ++ on.more)) l) (append_assoc given w.events taken)
+                (subst (λ (l : List yaml_token_t). History q l ((given ++ w.events) ++ taken)) (append_assoc asked w.more on.more) on.history);
+            loads = λ (rest : List yaml_event_t) (x : Ending). loads_more w.events taken rest x w.documents d some (λ (r : List yaml_event_t). w.loads r x)
+                (load rest x) (left rest);
+            wrote = subst (Appends a c) (texts_more w.documents d)
+                (Appends-trans a b c (concat (flat_map document_lines w.documents)) (concat (document_lines d)) w.wrote wrote);
+          }
+      go (Ok d) (at_end taken took load left ends is stands) (some, wrote) = absurd (some (ap (λ (x : Document). x.nodes) is))
+      go (Err x) load wrote = absurd wrote
+
+  pub last_load : {W : Type 0} (contents : W
+      → Option (List ℕ)) (outcome : Outcome) (s : Step) (first p q : Parser S) (writer : W) (a c d : Option (List ℕ)) (asked : List yaml_token_t)
+      (given : List yaml_event_t) → AllLoaded gives n first p a (contents writer) asked given
+      → (has_failed p ≡ false → LoadTurn gives known MayBreak n s p q (contents writer) c)
+      → ((r : DocumentOrError) → StepForLoad s r (kept_fault q) (contents writer) c → WroteForLoad outcome r (kept_fault q) (contents writer) d)
+      → (outcome ≡ Ended → s ≡ step.Ended) → LastLoad gives known MayBreak contents n outcome first q a d asked given
+  last_load contents outcome s first p q writer a c d asked given w turns wrote ended =
+      let turn = turns (running p (asked ++ w.more) (given ++ w.events) w.history) in
+      record {
+        parser = p;
+        writer = writer;
+        earlier = w;
+        answer = turn.answer;
+        load = turn.load;
+        wrote = wrote turn.answer turn.wrote;
+        ends = λ (is : outcome ≡ Ended). turn.ends (ended is) (asked ++ w.more) (given ++ w.events) w.history;
+      }
+
+-- nothing more was written
+pub loads_end : (outcome : Outcome) (kept : Fault) (b c d : Option (List ℕ)) → (outcome ≡ Ended) ⊎ (outcome ≡ OutputFailed) → Keeps c d → (r : DocumentOrError)
+    → StepForLoad step.Ended r kept b c → WroteForLoad outcome r kept b d
+loads_end Ended kept b c d is keeps (Ok x) w = (w.0, keeps_both b c d w.1 keeps)
+loads_end Faulted kept b c d (inl is) keeps (Ok x) w = cc
+loads_end Faulted kept b c d (inr is) keeps (Ok x) w = cc
+loads_end OutputFailed kept b c d is keeps (Ok x) w = tt
+loads_end outcome kept b c d is keeps (Err x) w = absurd w
+
+-- the text of a fault was written
+pub loads_failed : (outcome : Outcome) (f : yaml_parser_t_prefix) (kept : Fault) (b c d : Option (List ℕ)) → outcome ≢ Ended
+    → (outcome ≡ Faulted → Appends c d (fault_text (fault_of f))) → (r : DocumentOrError) → StepForLoad (step.Failed f) r kept b c
+    → WroteForLoad outcome r kept b d
+loads_failed Ended f kept b c d not wrote r w = absurd (not refl)
+loads_failed Faulted f kept b c d not wrote (Ok x) w =
+    let cut = w.1 in
+    record {
+      front = cut.written;
+      line = cut.line;
+      rest = cut.rest;
+      all = cut.all;
+      wrote
+          = subst (λ (g : Fault). Appends b d (concat cut.written ++ fault_text g)) w.0
+          (Appends-trans b c d (concat cut.written) (fault_text (fault_of f)) cut.wrote (wrote refl));
+    }
+loads_failed Faulted f kept b c d not wrote (Err x) w
+    = subst (λ (g : Fault). Appends b d (fault_text g)) w.0 (keeps_then b c d (fault_text (fault_of f)) w.1 (wrote refl))
+loads_failed OutputFailed f kept b c d not wrote (Ok x) w = tt
+loads_failed OutputFailed f kept b c d not wrote (Err x) w = tt
+
+-- the output failed at a document's text
+pub loads_output : (kept : Fault) (b c d : Option (List ℕ)) (r : DocumentOrError) → StepForLoad step.OutputFailed r kept b c
+    → WroteForLoad OutputFailed r kept b d
+loads_output kept b c d (Ok x) w = tt
+loads_output kept b c d (Err x) w = absurd w
+
+-- that text was of a fault which was kept
+pub not_ended_is : (outcome : Outcome) → outcome ≢ Ended → (outcome ≡ Faulted) ⊎ (outcome ≡ OutputFailed)
+not_ended_is Ended not = absurd (not refl)
+not_ended_is Faulted not = inl refl
+not_ended_is OutputFailed not = inr refl
+
+-- the bound of the first parser
+module _ {S : Type 0} (gives : S → Answer → S → Type 0) (known : S → Option Coming) (MayBreak : S → Fault
+    → Type 0) (s : Step) (p q : Parser S) (b c : Option (List ℕ)) (z w : ℤ) (same : z ≡ w) where
+  pub turn_at : (has_failed p ≡ false → LoadTurn gives known MayBreak (magnitude z) s p q b c) → has_failed p ≡ false
+      → LoadTurn gives known MayBreak (magnitude w) s p q b c
+  turn_at turns running = subst (λ (y : ℤ). LoadTurn gives known MayBreak (magnitude y) s p q b c) same (turns running)
+
+  pub steps_at : ((events : List yaml_event_t) (ending : Ending) → RunToCome known p events ending
+      → NodeSteps known MayBreak (magnitude z) s q b c events ending)
+      → (events : List yaml_event_t) (ending : Ending) → RunToCome known p events ending → NodeSteps known MayBreak (magnitude w) s q b c events ending
+  steps_at steps events ending run = subst (λ (y : ℤ). NodeSteps known MayBreak (magnitude y) s q b c events ending) same (steps events ending run)
+
+pub last_load_at : {S W : Type 0} (gives : S → Answer → S → Type 0) (known : S → Option Coming) (MayBreak : S → Fault → Type 0) (contents : W
+    → Option (List ℕ)) (outcome : Outcome) (s : Step) (first p q : Parser S) (writer : W) (a c d : Option (List ℕ)) (asked : List yaml_token_t)
+    (given : List yaml_event_t) → p.max_entries ≡ first.max_entries
+    → AllLoaded gives (magnitude first.max_entries) first p a (contents writer) asked given
+    → (has_failed p ≡ false → LoadTurn gives known MayBreak (magnitude p.max_entries) s p q (contents writer) c)
+    → ((r : DocumentOrError) → StepForLoad s r (kept_fault q) (contents writer) c → WroteForLoad outcome r (kept_fault q) (contents writer) d)
+    → (outcome ≡ Ended → s ≡ step.Ended) → LastLoad gives known MayBreak contents (magnitude first.max_entries) outcome first q a d asked given
+last_load_at gives known MayBreak contents outcome s first p q writer a c d asked given bound earlier turns wrote ended =
+    last_load gives known MayBreak (magnitude first.max_entries) contents outcome s first p q writer a c d asked given earlier
+    (turn_at gives known MayBreak s p q (contents writer) c p.max_entries first.max_entries bound turns) wrote ended

@@ -1,0 +1,3 @@
+pub mod EventRun
+pub mod EventStep
+pub mod LastCall

@@ -1,0 +1,2 @@
+pub mod LineRun
+pub mod ReadsBack

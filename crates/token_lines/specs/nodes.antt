@@ -1,0 +1,3 @@
+pub mod NodeRun
+pub mod NodeStep
+pub mod LastLoad

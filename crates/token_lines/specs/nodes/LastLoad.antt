@@ -1,0 +1,88 @@
+-- That no document is held back: the text of each is written before anything of the next is asked for
+-- (docs/DEFINITIONS.md, "Runs over lines").
+use Rattle.std.specs.Prelude.{◌≡◌, ◌++◌, ◌⊎◌, ◌∷◌, ℕ, List, [], map, Option, Ok, Err}
+use Rattle.std.specs.List.{concat, flat_map}
+use Rattle.std.specs.Io.KnownBytes.{Appends, Keeps}
+use Rattle.libyaml_types.specs.declared.event.yaml_event_t.{yaml_event_t}
+use Rattle.libyaml_types.specs.declared.token.yaml_token_t.{yaml_token_t}
+use Rattle.libyaml_documents.specs.Documents.{Document}
+use Rattle.libyaml_events.specs.sources.Calls.{Gave}
+use Rattle.libyaml_events.specs.machine.Config.{Parser}
+use Rattle.libyaml_sources.specs.Fault.{Answer, Fault, memory_fault}
+use Rattle.libyaml_events.specs.sources.History.{History, answers, kept_fault}
+use Rattle.libyaml_grammar.specs.runs.Runs.{Ending}
+use Rattle.libyaml_sources.specs.Source.{Coming}
+use Rattle.libyaml_graphs.specs.Bounds.{bounded_loads, next_bounded}
+use Rattle.libyaml_graphs.specs.Loads.{Load, left_over}
+use Rattle.libyaml_loader.specs.Loading.{DocumentOrError, HasEnded, LoadsFrom}
+use Rattle.line_reading.specs.sources.LineSource.{LineSource, BreaksOff, Gives, known_of}
+use Rattle.line_writing.specs.DocumentText.{document_lines}
+use Rattle.line_writing.specs.FaultText.{fault_text}
+use Rattle.token_lines.specs.declared.run.Outcome.{Outcome}
+use Rattle.token_lines.specs.declared.run.Outcome.TheVariants.{Ended, Faulted, OutputFailed}
+use Rattle.token_lines.specs.events.LastCall.{StartsAt}
+use Rattle.token_lines.specs.nodes.NodeRun.{WritesNodesOf}
+
+-- where memory ran out for one of these lines, those before it were written, and then the text of a failed allocation
+pub record CutText (before after : Option (List ℕ)) (lines : List (List ℕ)) : Type 0 where
+  pub front : List (List ℕ)
+  pub line : List ℕ
+  pub rest : List (List ℕ)
+  pub all : lines ≡ front ++ line ∷ rest
+  pub wrote : Appends before after (concat front ++ fault_text memory_fault)
+
+-- What a run wrote after a last load that returned this: nothing, where it is the document without root; the text of the
+-- fault that is kept; or a document's text that was cut. Where the output failed, nothing is said.
+abbrev pub WroteForLoad : Outcome → DocumentOrError → (kept : Fault) → (before after : Option (List ℕ)) → Type 0
+WroteForLoad Ended (Ok d) kept before after = (d.nodes ≡ []) × Keeps before after
+WroteForLoad Faulted (Ok d) kept before after = CutText before after (document_lines d)
+WroteForLoad OutputFailed (Ok d) kept before after = Unit {0}
+WroteForLoad Ended (Err x) kept before after = ⊥
+WroteForLoad Faulted (Err x) kept before after = Appends before after (fault_text kept)
+WroteForLoad OutputFailed (Err x) kept before after = Unit {0}
+
+-- From the first parser to this one the source gave these tokens more and the parser these events, whose loads are these
+-- documents, whatever follows them; and the text of each document was written.
+pub record AllLoaded {S : Type 0} (gives : S → Answer → S
+    → Type 0) (n : ℕ) (first parser : Parser S) (before after : Option (List ℕ)) (asked : List yaml_token_t) (given : List yaml_event_t) : Type 0 where
+  pub more : List yaml_token_t
+  pub events : List yaml_event_t
+  pub documents : List Document
+  pub gave : Gave gives first.source (answers more []) parser.source
+  pub history : History parser (asked ++ more) (given ++ events)
+  pub loads : (rest : List yaml_event_t) (x : Ending) → ◌≡◌ {A = List Load} (bounded_loads n (events ++ rest) x) (map Ok documents ++ bounded_loads n rest x)
+  pub wrote : Appends before after (concat (flat_map document_lines documents))
+
+-- The last load: the writer held the text of each document that was loaded before, and what was written since is of this
+-- load.
+pub record LastLoad {S W : Type 0} (gives : S → Answer → S → Type 0) (known : S → Option Coming) (MayBreak : S → Fault → Type 0) (contents : W
+    → Option (List ℕ)) (n : ℕ) (outcome : Outcome) (first last : Parser S) (before after : Option (List ℕ)) (asked : List yaml_token_t)
+    (given : List yaml_event_t) : Type 0 where
+  pub parser : Parser S
+  pub writer : W
+  pub earlier : AllLoaded gives n first parser before (contents writer) asked given
+  pub answer : DocumentOrError
+  pub load : LoadsFrom gives known MayBreak (next_bounded n) left_over parser answer last
+  pub wrote : WroteForLoad outcome answer (kept_fault last) (contents writer) after
+  -- the run ends only where the parser has ended
+  pub ends : outcome ≡ Ended → HasEnded last
+
+-- a fault that the parser kept was written again
+pub record WritesKept {S : Type 0} (outcome : Outcome) (old new : Parser S) (before after : Option (List ℕ)) : Type 0 where
+  pub answer : (outcome ≡ Faulted) ⊎ (outcome ≡ OutputFailed)
+  pub parser : new ≡ old
+  pub wrote : outcome ≡ Faulted → Appends before after (fault_text (kept_fault old))
+
+-- each list of a document that a new parser loads has at most so many entries
+abbrev pub most_entries : ℕ
+most_entries = 2147483647
+
+-- A run over a reader's lines, by a parser that started there: what it wrote, where its source may have broken off as it
+-- then was; and each document in its turn.
+pub record NodesOver {R W : Type 0} (remaining : R → Option (List ℕ)) (contents : W
+    → Option (List ℕ)) (reader : R) (outcome : Outcome) (before after : Option (List ℕ)) : Type 0 where
+  pub first : Parser (LineSource R)
+  pub last : Parser (LineSource R)
+  pub starts : StartsAt reader first
+  pub writes : WritesNodesOf (remaining reader) (BreaksOff last.source) outcome before after
+  pub in_turn : LastLoad (Gives remaining) (known_of remaining) BreaksOff contents most_entries outcome first last before after [] []
