@@ -10,7 +10,7 @@ ghost use Rattle.token_lines.specs.events.LastCall.{LastCall, NothingLeft, RunsO
 ghost use Rattle.token_lines.specs.nodes.LastLoad.{LastLoad, NodesOver, WritesKept};
 ghost use Rattle.token_lines.specs.lines.LineRun.{Writes};
 ghost use Rattle.token_lines.specs.nodes.NodeRun.{WritesLoads};
-ghost use Rattle.token_lines.specs.ReadsBack.{BytesReadBack, StringsAreFields, StringsReadBack};
+ghost use Rattle.token_lines.specs.lines.ReadsBack.{BytesReadBack, StringsAreFields, StringsReadBack};
 ghost use Rattle.token_lines.specs.RunToCome.{RunToCome};
 ghost use Rattle.token_lines.specs.Runs.{Ending};
 ghost use Rattle.token_lines.specs.Tokens.{Token};
