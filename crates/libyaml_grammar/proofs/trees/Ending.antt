@@ -10,11 +10,11 @@ use Rattle.libyaml_grammar.proofs.lent.Reading.{Step, bad, checked, feed, fill, 
 use Rattle.libyaml_grammar.proofs.lent.ReadSteps.{ReadStep, a_scalar, an_alias, closes_at_mapping, closes_at_sequence, closes_mapping, closes_sequence}
 use Rattle.libyaml_grammar.proofs.lent.ReadSteps.{ends_mapping, ends_sequence, fails, is_past, leaves, moves, read_step}
 
-abbrev DoneAt : Position → Bool → Type 0
+abbrev pub DoneAt : Position → Bool → Type 0
 DoneAt (done t) b = b ≡ true
 DoneAt _ b = b ≡ false
 
-abbrev Done : Step → Bool → Type 0
+abbrev pub Done : Step → Bool → Type 0
 Done (goes q) b = DoneAt q b
 Done (bad c) b = Unit {0}
 Done over b = Unit {0}
