@@ -26,7 +26,8 @@ TagGoes (goes q) b m = IsTagHeld q b m
 TagGoes (bad c) b m = Unit {0}
 TagGoes over b m = Unit {0}
 
-tag_goes : {m : Marks} {q : Position} {k : Content} {s : Step} {g : List Event → List Event} {l : Bool} → ReadStep m q k s g l → (h : TagName) → k ≡ Tag h → TagGoes s l m
+tag_goes : {m : Marks} {q : Position} {k : Content} {s : Step} {g : List Event → List Event} {l : Bool}
+    → ReadStep m q k s g l → (h : TagName) → k ≡ Tag h → TagGoes s l m
 tag_goes is_past h e = tt
 tag_goes (moves x v) h e = tag_goes v h e
 tag_goes (leaves p f v) h e = tag_goes v h e
@@ -67,7 +68,8 @@ left_pending (block (root (implicit_root f))) = refl
 left_pending (block (slot (part_place c o s ps k v))) = refl
 left_pending _ = refl
 
-head_goes : {m : Marks} {q : Position} {k : Content} {s : Step} {g : List Event → List Event} {l : Bool} → ReadStep m q k s g l → (d : Directive) → directive_of k m ≡ Some d → HeadGoes s (pending q) d
+head_goes : {m : Marks} {q : Position} {k : Content} {s : Step} {g : List Event → List Event} {l : Bool}
+    → ReadStep m q k s g l → (d : Directive) → directive_of k m ≡ Some d → HeadGoes s (pending q) d
 head_goes is_past d e = tt
 head_goes {s = s} (moves x v) d e = subst (λ (ds : Directives). HeadGoes s ds d) (moved_pending x) (head_goes v d e)
 head_goes (leaves p {x = x} f v) d e = subst (λ (ds : Directives). IsHeaded x ds d) (left_pending p) (head_goes v d e)

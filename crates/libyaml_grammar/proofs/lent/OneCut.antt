@@ -47,13 +47,15 @@ moved_cut : {m : Marks} {q p : Position} {h : List Event → List Event} → Mov
 moved_cut (is_alone p ps) = node_cut p (alone ps)
 moved_cut _ = refl
 
-pub step_cut : {m : Marks} {q : Position} {k : Content} {s : Step} {g : List Event → List Event} {l : Bool} → ReadStep m q k s g l → (c : Cut) → s ≡ bad c → c ≡ front q
+pub step_cut : {m : Marks} {q : Position} {k : Content} {s : Step} {g : List Event → List Event} {l : Bool}
+    → ReadStep m q k s g l → (c : Cut) → s ≡ bad c → c ≡ front q
 step_cut (moves x h) c e = step_cut h c e ∙ moved_cut x
 step_cut (fails no_stream) c e = cc
 step_cut _ c e = cc
 
--- content is front where the token does not leave the node nothing
-pub content_fails : {m : Marks} {q : Position} {k : Content} {s : Step} {g : List Event → List Event} {l : Bool} → ReadStep m q k s g l → (p : Place) → s ≡ bad (content_due p) → ends_empty p k ≡ false
+-- content is expected where the token does not leave the node nothing
+pub content_fails : {m : Marks} {q : Position} {k : Content} {s : Step} {g : List Event → List Event} {l : Bool}
+    → ReadStep m q k s g l → (p : Place) → s ≡ bad (content_due p) → ends_empty p k ≡ false
 content_fails (moves x h) p e = content_fails h p e
 content_fails {k = k} (fails (no_content f)) p e = subst (λ (x : Place). ends_empty x k ≡ false) (same _ p e) f
   where
@@ -81,7 +83,8 @@ moved_no_tag k begins_entry u = u
 moved_no_tag k _ u = tt
 
 -- a step that does not go on stops at the cut of its position
-step_stops : {m : Marks} {q : Position} {k : Content} {s : Step} {g : List Event → List Event} {l : Bool} → ReadStep m q k s g l → IsNotDone q → FitsDirective (front q) k → WantsContent (front q) k → NoTag q k
+step_stops : {m : Marks} {q : Position} {k : Content} {s : Step} {g : List Event → List Event} {l : Bool}
+    → ReadStep m q k s g l → IsNotDone q → FitsDirective (front q) k → WantsContent (front q) k → NoTag q k
     → Stops (checked s l) (front q)
 step_stops is_past w d c u n = absurd w
 step_stops {k = k} {s = s} {l = l} (moves x h) w d c u n = subst (Stops (checked s l)) (moved_cut x) (step_stops h (moved_open x)
@@ -118,7 +121,7 @@ filled_wants (block (slot (part_place c o s ps t v))) x k = tt
 filled_wants (block (indentless_entry (part_place c o s ps t v) y is e)) x k = tt
 filled_wants _ x k = tt
 
--- where content is wanted: the token is in no ends_empty, no directive at an implicit root, and no unknown tag
+-- where content is expected: the token is in no ends_empty, no directive at an implicit root, and no unknown tag
 abbrev Wanted : Place → Content → Type 0
 Wanted p k = (ends_empty p k ≡ false) × FitsDirective (content_due p) k × (IsUnknown (declared p) k → ⊥)
 

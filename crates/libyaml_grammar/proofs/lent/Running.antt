@@ -27,7 +27,7 @@ use Rattle.libyaml_grammar.proofs.lent.Keeps.{feeds_keep}
 use Rattle.libyaml_grammar.proofs.lent.OneCut.{bad_same, fits_reach, fits_stop, goes_same}
 use Rattle.libyaml_grammar.proofs.lent.Orders.{reads_to}
 use Rattle.libyaml_grammar.proofs.lent.Settling.{begin_front, front_settles, one_settled_proof}
-use Rattle.libyaml_grammar.proofs.lent.StreamEnds.{IsDone, end_is_done, not_end_not_done, sentence_has_end}
+use Rattle.libyaml_grammar.proofs.lent.StreamEnds.{IsDone, end_is_done, not_end_not_done, sentence_has_end, read_done}
 
 -- lists of tokens
 first_same : (a b : Token) (l r : List Token) → a ∷ l ≡ b ∷ r → a ≡ b
@@ -83,9 +83,6 @@ none_left [] q p d e = refl
 none_left (x ∷ l) (done t) p d e = absurd cc
 none_left (x ∷ l) _ p d e = absurd d
 
-one_done : (x : Token) (q p : Position) → is_end x.content ≡ true → reads q x ≡ goes p → IsDone p
-one_done x q p e f = end_is_done (x ∷ []) q p (ap (λ (s : Step). then_all s goes) f) (ap (λ (b : Bool). either b false) e)
-
 -- a list that is read to its STREAM-END is its own prefix
 pub up_to_read : (l : List Token) (q p : Position) (r : List Token) → reads_all l q ≡ goes p → has_end l ≡ true → up_to_end (l ++ r) ≡ l
 up_to_read [] q p r e h = absurd cc
@@ -94,7 +91,7 @@ up_to_read (x ∷ l) q p r e h = go (λ (y : Position) (f : reads_all l y ≡ go
   where
     go : ((y : Position) → reads_all l y ≡ goes p → has_end l ≡ true → up_to_end (l ++ r) ≡ l) → (b : Bool) → is_end x.content ≡ b → (s : Step) → reads q x ≡ s
         → then_all s (reads_all l) ≡ goes p → either b (has_end l) ≡ true → x ∷ elim b [ true ↦ [] | false ↦ up_to_end (l ++ r) ] ≡ x ∷ l
-    go ih true j (goes y) f g k = ap (λ (a : List Token). x ∷ a) (sym (none_left l y p (one_done x q y j f) g))
+    go ih true j (goes y) f g k = ap (λ (a : List Token). x ∷ a) (sym (none_left l y p (read_done q y x j f) g))
     go ih false j (goes y) f g k = ap (λ (a : List Token). x ∷ a) (ih y g k)
     go ih b j (bad c) f g k = absurd cc
     go ih b j over f g k = absurd cc

@@ -27,24 +27,17 @@ Differ q m n = next_event (gives_all (position_rest m q) q []) ≡ next_event (g
 
 module _ (m n : Marks) (s : m.start ≡ n.start → ⊥) (e : m.end ≡ n.end → ⊥) where
   pub differ : (q : Position) → ((t : Stream) → q ≡ done t → ⊥) → Differ q m n
-  differ unopened d h = s (same_start _ _ h)
   differ (between (free f)) d h = s (same_start _ _ h)
-  differ (between (behind x)) d h = s (same_start _ _ h)
   differ (headed b ds x) d h = e (same_end _ _ h)
   differ (due p o) d h = e (same_end _ _ h)
-  differ (in_sequence c o z is) d h = s (same_start _ _ h)
   differ (in_mapping c o z no_parts) d h = s (same_start _ _ h)
   differ (in_mapping c o z (part ps key v x)) d h = s (same_start _ _ h)
-  differ (in_mapping c o z (part ps value v x)) d h = s (same_start _ _ h)
   differ (in_indentless (part_place c o z ps k v) x is y w) d h = s (same_start _ _ h)
   differ (flow_due (open_collection p o sequence z is)) d h = s (same_start _ _ h)
-  differ (flow_due (open_collection p o mapping z is)) d h = s (same_start _ _ h)
   differ (flow_keyed (open_collection p o sequence z is) k x) d h = s (same_start _ _ h)
-  differ (flow_keyed (open_collection p o mapping z is) k x) d h = s (same_start _ _ h)
   differ (flow_behind (open_collection p o sequence z is) (single x)) d h = s (same_start _ _ h)
   differ (flow_behind (open_collection p o sequence z is) (pair k x no_value)) d h = s (same_start _ _ h)
-  differ (flow_behind (open_collection p o sequence z is) (pair k x (with_value v y))) d h = s (same_start _ _ h)
   differ (flow_behind (open_collection p o mapping z is) (single x)) d h = s (same_start _ _ h)
   differ (flow_behind (open_collection p o mapping z is) (pair k x no_value)) d h = s (same_start _ _ h)
-  differ (flow_behind (open_collection p o mapping z is) (pair k x (with_value v y))) d h = s (same_start _ _ h)
   differ (done t) d h = d t refl
+  differ _ d h = s (same_start _ _ h)

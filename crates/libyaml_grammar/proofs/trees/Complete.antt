@@ -1,25 +1,27 @@
 -- Reading is complete: fed with the tokens of a tree, a position leads to its place filled with that tree, wherever the
 -- next token is taken there. So a stream's tokens lead to the stream.
-use Rattle.std.proofs.Common.{◌≡◌, List, [], ◌∷◌, Option, Some, None, refl, sym, ap, ◌∙◌, subst}
+use Rattle.std.proofs.Common.{◌≡◌, List, [], ◌∷◌, Option, Some, None, refl, sym, ap, ◌∙◌, subst, Bool}
 use Rattle.libyaml_grammar.specs.sentences.Tokens.{Alias, Anchor, BlockEnd, BlockEntry, BlockMappingStart, BlockSequenceStart, Content, DocumentEnd}
 use Rattle.libyaml_grammar.specs.sentences.Tokens.{DocumentStart, FlowEntry, FlowMappingEnd, FlowMappingStart, FlowSequenceEnd, FlowSequenceStart, Key, Marks}
 use Rattle.libyaml_grammar.specs.sentences.Tokens.{Scalar, StreamEnd, Tag, Token, Value, marks_of, tok}
 use Rattle.libyaml_grammar.specs.sentences.Trees.{Before, BlockItems, BlockNode, BlockSlot, Directive, Directives, Documents, Ended, FlowItems, FlowLast}
-use Rattle.libyaml_grammar.specs.sentences.Trees.{FlowMember, FlowNode, FlowSlot, Free, Parts, Properties, Role, Slot, Sort, Stream, again, alias, alone}
-use Rattle.libyaml_grammar.specs.sentences.Trees.{anchor, anchor_tag, before_tokens, behind, block_mapping, block_node_tokens, block_sequence}
-use Rattle.libyaml_grammar.specs.sentences.Trees.{block_slot_tokens, closing, collection, directive, directive_token, directives_tokens, documents_tokens}
-use Rattle.libyaml_grammar.specs.sentences.Trees.{empty, ended, ended_tokens, explicit, flow, flow_items_tokens, flow_last_tokens, flow_member_tokens}
-use Rattle.libyaml_grammar.specs.sentences.Trees.{flow_node, flow_node_tokens, flow_nothing, flow_slot_tokens, free, free_tokens, implicit, indentless, item}
-use Rattle.libyaml_grammar.specs.sentences.Trees.{items_tokens, key, last, mapping, more_items, no_directives, no_items, no_last, no_parts, no_value, node}
-use Rattle.libyaml_grammar.specs.sentences.Trees.{nothing, once, opened, option_tokens, pair, part, parts_tokens, properties_tokens, scalar, sequence, single}
-use Rattle.libyaml_grammar.specs.sentences.Trees.{slot_of, slot_tokens, tag, tag_anchor, tag_directive, tokens, value, version, whole, with_value}
+use Rattle.libyaml_grammar.specs.sentences.Trees.{FlowMember, FlowNode, FlowSlot, Free, Parts, Properties, Slot, Sort, Stream, again, alias, alone, anchor}
+use Rattle.libyaml_grammar.specs.sentences.Trees.{before_tokens, behind, block_mapping, block_node_tokens, block_sequence, block_slot_tokens, closing}
+use Rattle.libyaml_grammar.specs.sentences.Trees.{collection, directive, directive_token, directives_tokens, documents_tokens, empty, ended, ended_tokens}
+use Rattle.libyaml_grammar.specs.sentences.Trees.{explicit, flow, flow_items_tokens, flow_last_tokens, flow_member_tokens, flow_node, flow_node_tokens}
+use Rattle.libyaml_grammar.specs.sentences.Trees.{flow_nothing, flow_slot_tokens, free, free_tokens, implicit, indentless, item, items_tokens, key, last}
+use Rattle.libyaml_grammar.specs.sentences.Trees.{mapping, more_items, no_directives, no_items, no_last, no_parts, no_value, node, nothing, once, opened}
+use Rattle.libyaml_grammar.specs.sentences.Trees.{option_tokens, pair, part, parts_tokens, properties_tokens, scalar, sequence, single, slot_of, slot_tokens}
+use Rattle.libyaml_grammar.specs.sentences.Trees.{tokens, value, version, whole, with_value}
+use Rattle.libyaml_grammar.specs.sentences.Events.{Event}
 use Rattle.libyaml_grammar.specs.cuts.CutTrees.{BlockPlace, Cut, Open, PartPlace, Place, block, content_due, entry, explicit_root, flow_entry, flow_key}
 use Rattle.libyaml_grammar.specs.cuts.CutTrees.{flow_value, implicit_root, indentless_entry, open_collection, part_place, root, slot}
 use Rattle.libyaml_grammar.proofs.lent.Positions.{Position, between, done, due, flow_behind, flow_due, flow_keyed, headed, in_indentless, in_mapping}
 use Rattle.libyaml_grammar.proofs.lent.Positions.{in_sequence, unopened}
-use Rattle.libyaml_grammar.proofs.lent.Reading.{Step, bad, behind_documents, behind_indentless, behind_item, behind_key, behind_member, behind_part}
-use Rattle.libyaml_grammar.proofs.lent.Reading.{behind_whole, feed, feeds, fill, fill_block_slot, fill_flow, fill_part, goes, leave, on_due, or_bad}
-use Rattle.libyaml_grammar.proofs.lent.Reading.{over, step, then_all}
+use Rattle.libyaml_grammar.proofs.lent.Reading.{Step, bad, behind_indentless, behind_key, behind_member, behind_whole, feed, feeds, fill, fill_block_slot}
+use Rattle.libyaml_grammar.proofs.lent.Reading.{fill_flow, fill_part, goes, leave, on_due, or_bad, over, step, then_all}
+use Rattle.libyaml_grammar.proofs.lent.ReadSteps.{ReadStep, begins_explicit, ends_indentless, ends_stream, fails, first_handle, first_version, is_past}
+use Rattle.libyaml_grammar.proofs.lent.ReadSteps.{lacks_value, moves, no_stream, read_step}
 
 -- the token is taken
 abbrev pub Takes : Step → Type 0
@@ -44,93 +46,40 @@ Begins BlockSequenceStart = Unit {0}
 Begins BlockMappingStart = Unit {0}
 Begins _ = ⊥
 
-pub never_documents : (d : Documents) (k : Content) (m : Marks) → Begins k → Takes (behind_documents d k m) → ⊥
-never_documents d (Alias x1) m b h = h
-never_documents d (Anchor x1) m b h = h
-never_documents d (Tag x1) m b h = h
-never_documents d (Scalar x1) m b h = h
-never_documents d FlowSequenceStart m b h = h
-never_documents d FlowMappingStart m b h = h
-never_documents d BlockSequenceStart m b h = h
-never_documents d BlockMappingStart m b h = h
-never_documents d k m b h = absurd b
-
-pub never_item : (c : BlockPlace) (o : Option Properties) (s : Marks) (is : BlockItems) (k : Content) (m : Marks) → Begins k → Takes (behind_item c o s is k m)
-    → ⊥
-never_item c o s is (Alias x1) m b h = h
-never_item c o s is (Anchor x1) m b h = h
-never_item c o s is (Tag x1) m b h = h
-never_item c o s is (Scalar x1) m b h = h
-never_item c o s is FlowSequenceStart m b h = h
-never_item c o s is FlowMappingStart m b h = h
-never_item c o s is BlockSequenceStart m b h = h
-never_item c o s is BlockMappingStart m b h = h
-never_item c o s is k m b h = absurd b
-
-pub never_part : (c : BlockPlace) (o : Option Properties) (s : Marks) (ps : Parts) (k : Content) (m : Marks) → Begins k → Takes (behind_part c o s ps k m) → ⊥
-never_part c o s ps (Alias x1) m b h = h
-never_part c o s ps (Anchor x1) m b h = h
-never_part c o s ps (Tag x1) m b h = h
-never_part c o s ps (Scalar x1) m b h = h
-never_part c o s ps FlowSequenceStart m b h = h
-never_part c o s ps FlowMappingStart m b h = h
-never_part c o s ps BlockSequenceStart m b h = h
-never_part c o s ps BlockMappingStart m b h = h
-never_part c o s ps k m b h = absurd b
-
-pub never_member : (c : Open) (e : FlowMember) (k : Content) (m : Marks) → Begins k → Takes (behind_member c e k m) → ⊥
-never_member c e (Alias x1) m b h = h
-never_member c e (Anchor x1) m b h = h
-never_member c e (Tag x1) m b h = h
-never_member c e (Scalar x1) m b h = h
-never_member c e FlowSequenceStart m b h = h
-never_member c e FlowMappingStart m b h = h
-never_member c e BlockSequenceStart m b h = h
-never_member c e BlockMappingStart m b h = h
-never_member c e k m b h = absurd b
-
-pub never_key : (c : Open) (e : Marks) (n : FlowSlot) (k : Content) (m : Marks) → Begins k → Takes (behind_key c e n k m) → ⊥
-never_key c e n (Alias x1) m b h = h
-never_key c e n (Anchor x1) m b h = h
-never_key c e n (Tag x1) m b h = h
-never_key c e n (Scalar x1) m b h = h
-never_key c e n FlowSequenceStart m b h = h
-never_key c e n FlowMappingStart m b h = h
-never_key c e n BlockSequenceStart m b h = h
-never_key c e n BlockMappingStart m b h = h
-never_key c e n k m b h = absurd b
-
-pub never_indentless : (c : PartPlace) (o : Option Properties) (is : BlockItems) (e : Marks) (n : BlockSlot) (k : Content) (m : Marks) → Begins k
-    → Takes (behind_indentless c o is e n k m) → ⊥
-never_indentless (part_place c x z ps y w) o is e n (Alias x1) m b h = h
-never_indentless (part_place c x z ps y w) o is e n (Anchor x1) m b h = h
-never_indentless (part_place c x z ps y w) o is e n (Tag x1) m b h = h
-never_indentless (part_place c x z ps y w) o is e n (Scalar x1) m b h = h
-never_indentless (part_place c x z ps y w) o is e n FlowSequenceStart m b h = h
-never_indentless (part_place c x z ps y w) o is e n FlowMappingStart m b h = h
-never_indentless (part_place c x z ps y w) o is e n BlockSequenceStart m b h = h
-never_indentless (part_place c x z ps y w) o is e n BlockMappingStart m b h = h
-never_indentless (part_place c x z ps y w) o is e n k m b h = absurd b
-
--- no token that begins a node is taken after a whole node, or after nothing
-pub never_block : (c : BlockPlace) (n : BlockNode) (k : Content) (m : Marks) → Begins k → Takes (behind_whole (fill c n) k m) → ⊥
-never_block (root (implicit_root f)) n k m b h = never_documents (implicit f n) k m b h
-never_block (root (explicit_root x ds s)) n k m b h = never_documents (explicit x ds s (node n)) k m b h
-never_block (entry c o s is e) n k m b h = never_item c o s (item is e (node n)) k m b h
-never_block (slot (part_place c o s ps r v)) n k m b h = never_part c o s (part ps r v (slot_of (node n))) k m b h
-never_block (indentless_entry c o is e) n k m b h = never_indentless c o is e (node n) k m b h
-
-pub never_flow : (p : Place) (n : FlowNode) (k : Content) (m : Marks) → Begins k → Takes (behind_whole (fill_flow p n) k m) → ⊥
-never_flow (block c) n k m b h = never_block c (flow n) k m b h
-never_flow (flow_entry c) n k m b h = never_member c (single n) k m b h
-never_flow (flow_key c e) n k m b h = never_key c e (flow_node n) k m b h
-never_flow (flow_value c e x v) n k m b h = never_member c (pair e x (with_value v (flow_node n))) k m b h
-
 -- after a whole node the step is that of what is after it
 pub whole_step : (p : Place) (n : FlowNode) (k : Content) (m : Marks) → step (fill_flow p n) k m ≡ behind_whole (fill_flow p n) k m
 whole_step (block (root (implicit_root f))) n k m = refl
 whole_step (block (slot (part_place c o s ps r v))) n k m = refl
 whole_step _ n k m = refl
+
+-- a token that begins a node, after what is whole and in no place where a node is expected
+abbrev BeginsBehind : Position → Content → Type 0
+BeginsBehind (between (free f)) k = ⊥
+BeginsBehind (due p o) k = ⊥
+BeginsBehind (flow_due c) k = ⊥
+BeginsBehind q k = Begins k
+
+-- it is never taken there
+never : {m : Marks} {q : Position} {k : Content} {s : Step} {g : List Event → List Event} {l : Bool} → ReadStep m q k s g l → BeginsBehind q k → Takes s → ⊥
+never is_past b h = h
+never (moves ends_indentless v) b h = never v b h
+never (moves lacks_value v) b h = never v b h
+never (fails no_stream) b h = h
+never (fails _) b h = h
+never (first_version (free f) a) b h = b
+never (first_handle (free f) a) b h = b
+never (begins_explicit (free f)) b h = b
+never (ends_stream (free f)) b h = b
+never (moves _ v) b h = b
+never _ b h = b
+
+node_begins_behind : (p : Place) (n : FlowNode) (k : Content) → Begins k → BeginsBehind (fill_flow p n) k
+node_begins_behind (block (root (implicit_root f))) n k b = b
+node_begins_behind (block (slot (part_place c o s ps t v))) n k b = b
+node_begins_behind _ n k b = b
+
+never_flow : (p : Place) (n : FlowNode) (k : Content) (m : Marks) → Begins k → Takes (behind_whole (fill_flow p n) k m) → ⊥
+never_flow p n k m b h = never (read_step m (fill_flow p n) k) (node_begins_behind p n k b) (subst Takes (sym (whole_step p n k m)) h)
 
 -- properties alone
 abbrev pub Alone : Place → Properties → Content → Marks → Type 0
@@ -166,92 +115,28 @@ or_bad_takes (bad x) c h = absurd h
 or_bad_takes over c h = absurd h
 
 -- nothing in a place: where the token is taken after it, that is what the place does
-pub leaves_key : (c : Open) (e : Marks) (k : Content) (m : Marks) → Takes (behind_key c e flow_nothing k m)
-    → on_due (flow_key c e) None k m ≡ behind_key c e flow_nothing k m
-leaves_key c e (Alias x1) m h = absurd h
-leaves_key c e (Anchor x1) m h = absurd h
-leaves_key c e (Tag x1) m h = absurd h
-leaves_key c e (Scalar x1) m h = absurd h
-leaves_key c e FlowSequenceStart m h = absurd h
-leaves_key c e FlowMappingStart m h = absurd h
-leaves_key c e BlockSequenceStart m h = absurd h
-leaves_key c e BlockMappingStart m h = absurd h
-leaves_key c e k m h = or_bad_takes (behind_key c e flow_nothing k m) (content_due (flow_key c e)) h
+left_entry : (p : Place) (m : Marks) → Takes (behind_whole (leave p) BlockEntry m) → on_due p None BlockEntry m ≡ behind_whole (leave p) BlockEntry m
+left_entry (block (slot (part_place c o s ps t v))) m h = absurd h
+left_entry p m h = or_bad_takes (behind_whole (leave p) BlockEntry m) (content_due p) h
 
-pub leaves_value : (c : Open) (e : Marks) (n : FlowSlot) (v : Marks) (k : Content) (m : Marks)
-    → Takes (behind_member c (pair e n (with_value v flow_nothing)) k m)
-    → on_due (flow_value c e n v) None k m ≡ behind_member c (pair e n (with_value v flow_nothing)) k m
-leaves_value c e n v (Alias x1) m h = absurd h
-leaves_value c e n v (Anchor x1) m h = absurd h
-leaves_value c e n v (Tag x1) m h = absurd h
-leaves_value c e n v (Scalar x1) m h = absurd h
-leaves_value c e n v FlowSequenceStart m h = absurd h
-leaves_value c e n v FlowMappingStart m h = absurd h
-leaves_value c e n v BlockSequenceStart m h = absurd h
-leaves_value c e n v BlockMappingStart m h = absurd h
-leaves_value c e n v k m h = or_bad_takes (behind_member c (pair e n (with_value v flow_nothing)) k m) (content_due (flow_value c e n v)) h
-
-pub leaves_root : (b : Before) (ds : Directives) (s : Marks) (k : Content) (m : Marks) → Takes (behind_documents (explicit b ds s nothing) k m)
-    → on_due (block (root (explicit_root b ds s))) None k m ≡ behind_documents (explicit b ds s nothing) k m
-leaves_root b ds s (Alias x1) m h = absurd h
-leaves_root b ds s (Anchor x1) m h = absurd h
-leaves_root b ds s (Tag x1) m h = absurd h
-leaves_root b ds s (Scalar x1) m h = absurd h
-leaves_root b ds s FlowSequenceStart m h = absurd h
-leaves_root b ds s FlowMappingStart m h = absurd h
-leaves_root b ds s BlockSequenceStart m h = absurd h
-leaves_root b ds s BlockMappingStart m h = absurd h
-leaves_root b ds s k m h = or_bad_takes (behind_documents (explicit b ds s nothing) k m) (content_due (block (root (explicit_root b ds s)))) h
-
-pub leaves_entry : (c : BlockPlace) (o : Option Properties) (s : Marks) (is : BlockItems) (e : Marks) (k : Content) (m : Marks)
-    → Takes (behind_item c o s (item is e nothing) k m) → on_due (block (entry c o s is e)) None k m ≡ behind_item c o s (item is e nothing) k m
-leaves_entry c o s is e (Alias x1) m h = absurd h
-leaves_entry c o s is e (Anchor x1) m h = absurd h
-leaves_entry c o s is e (Tag x1) m h = absurd h
-leaves_entry c o s is e (Scalar x1) m h = absurd h
-leaves_entry c o s is e FlowSequenceStart m h = absurd h
-leaves_entry c o s is e FlowMappingStart m h = absurd h
-leaves_entry c o s is e BlockSequenceStart m h = absurd h
-leaves_entry c o s is e BlockMappingStart m h = absurd h
-leaves_entry c o s is e k m h = or_bad_takes (behind_item c o s (item is e nothing) k m) (content_due (block (entry c o s is e))) h
-
-pub leaves_part : (c : BlockPlace) (o : Option Properties) (s : Marks) (ps : Parts) (x : Role) (v : Marks) (k : Content) (m : Marks)
-    → Takes (behind_part c o s (part ps x v (slot_of nothing)) k m)
-    → on_due (block (slot (part_place c o s ps x v))) None k m ≡ behind_part c o s (part ps x v (slot_of nothing)) k m
-leaves_part c o s ps x v (Alias x1) m h = absurd h
-leaves_part c o s ps x v (Anchor x1) m h = absurd h
-leaves_part c o s ps x v (Tag x1) m h = absurd h
-leaves_part c o s ps x v (Scalar x1) m h = absurd h
-leaves_part c o s ps x v FlowSequenceStart m h = absurd h
-leaves_part c o s ps x v FlowMappingStart m h = absurd h
-leaves_part c o s ps x v BlockSequenceStart m h = absurd h
-leaves_part c o s ps x v BlockMappingStart m h = absurd h
-leaves_part c o s ps x v BlockEntry m h = absurd h
-leaves_part c o s ps x v k m h = or_bad_takes (behind_part c o s (part ps x v (slot_of nothing)) k m) (content_due (block (slot (part_place c o s ps x v)))) h
-
-pub leaves_indentless : (c : PartPlace) (o : Option Properties) (is : BlockItems) (e : Marks) (k : Content) (m : Marks)
-    → Takes (behind_indentless c o is e nothing k m) → on_due (block (indentless_entry c o is e)) None k m ≡ behind_indentless c o is e nothing k m
-leaves_indentless (part_place z1 z2 z3 z4 z5 z6) o is e (Alias x1) m h = absurd h
-leaves_indentless (part_place z1 z2 z3 z4 z5 z6) o is e (Anchor x1) m h = absurd h
-leaves_indentless (part_place z1 z2 z3 z4 z5 z6) o is e (Tag x1) m h = absurd h
-leaves_indentless (part_place z1 z2 z3 z4 z5 z6) o is e (Scalar x1) m h = absurd h
-leaves_indentless (part_place z1 z2 z3 z4 z5 z6) o is e FlowSequenceStart m h = absurd h
-leaves_indentless (part_place z1 z2 z3 z4 z5 z6) o is e FlowMappingStart m h = absurd h
-leaves_indentless (part_place z1 z2 z3 z4 z5 z6) o is e BlockSequenceStart m h = absurd h
-leaves_indentless (part_place z1 z2 z3 z4 z5 z6) o is e BlockMappingStart m h = absurd h
-leaves_indentless (part_place z1 z2 z3 z4 z5 z6) o is e k m h
-    = or_bad_takes (behind_indentless (part_place z1 z2 z3 z4 z5 z6) o is e nothing k m)
-    (content_due (block (indentless_entry (part_place z1 z2 z3 z4 z5 z6) o is e))) h
+left_step : (p : Place) (k : Content) (m : Marks) → (Begins k → ⊥) → Takes (behind_whole (leave p) k m) → on_due p None k m ≡ behind_whole (leave p) k m
+left_step p (Alias a) m n h = absurd (n tt)
+left_step p (Anchor a) m n h = absurd (n tt)
+left_step p (Tag g) m n h = absurd (n tt)
+left_step p (Scalar v) m n h = absurd (n tt)
+left_step p FlowSequenceStart m n h = absurd (n tt)
+left_step p FlowMappingStart m n h = absurd (n tt)
+left_step p BlockSequenceStart m n h = absurd (n tt)
+left_step p BlockMappingStart m n h = absurd (n tt)
+left_step p BlockEntry m n h = left_entry p m h
+left_step p k m n h = or_bad_takes (behind_whole (leave p) k m) (content_due p) h
 
 pub leave_step : (p : Place) (k : Content) (m : Marks) → Takes (step (leave p) k m) → on_due p None k m ≡ step (leave p) k m
 leave_step (block (root (implicit_root f))) k m h = refl
-leave_step (block (root (explicit_root b ds s))) k m h = leaves_root b ds s k m h
-leave_step (block (entry c o s is e)) k m h = leaves_entry c o s is e k m h
-leave_step (block (slot (part_place c o s ps x v))) k m h = leaves_part c o s ps x v k m h
-leave_step (block (indentless_entry c o is e)) k m h = leaves_indentless c o is e k m h
+leave_step (block (slot (part_place c o s ps t v))) k m h
+    = left_step (block (slot (part_place c o s ps t v))) k m (λ b. never (read_step m (leave (block (slot (part_place c o s ps t v)))) k) b h) h
 leave_step (flow_entry c) k m h = refl
-leave_step (flow_key c e) k m h = leaves_key c e k m h
-leave_step (flow_value c e x v) k m h = leaves_value c e x v k m h
+leave_step p k m h = left_step p k m (λ b. never (read_step m (leave p) k) b h) h
 
 pub leave_feeds : (p : Place) (r : List Token) → Ready (leave p) r → feeds r (due p None) ≡ feeds r (leave p)
 leave_feeds p [] h = absurd h

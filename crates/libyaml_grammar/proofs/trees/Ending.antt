@@ -5,17 +5,16 @@ use Rattle.libyaml_grammar.specs.sentences.Trees.{BlockNode, FlowNode, Stream, f
 use Rattle.libyaml_grammar.specs.sentences.Events.{Event, either}
 use Rattle.libyaml_grammar.specs.sentences.Sentences.{has_end, is_end}
 use Rattle.libyaml_grammar.specs.cuts.CutTrees.{BlockPlace, Place, block, implicit_root, part_place, root, slot}
-use Rattle.libyaml_grammar.proofs.lent.Positions.{Position, between, done, due, flow_behind, flow_due, flow_keyed, headed, in_indentless, in_mapping}
-use Rattle.libyaml_grammar.proofs.lent.Positions.{in_sequence, unopened}
+use Rattle.libyaml_grammar.proofs.lent.Positions.{Position, done}
 use Rattle.libyaml_grammar.proofs.lent.Reading.{Step, bad, checked, feed, fill, fill_flow, goes, is_legal, over, reads, reads_all, then_all}
 use Rattle.libyaml_grammar.proofs.lent.ReadSteps.{ReadStep, a_scalar, an_alias, closes_at_mapping, closes_at_sequence, closes_mapping, closes_sequence}
 use Rattle.libyaml_grammar.proofs.lent.ReadSteps.{ends_mapping, ends_sequence, fails, is_past, leaves, moves, read_step}
 
-abbrev DoneAt : Position → Bool → Type 0
+abbrev pub DoneAt : Position → Bool → Type 0
 DoneAt (done t) b = b ≡ true
 DoneAt _ b = b ≡ false
 
-abbrev Done : Step → Bool → Type 0
+abbrev pub Done : Step → Bool → Type 0
 Done (goes q) b = DoneAt q b
 Done (bad c) b = Unit {0}
 Done over b = Unit {0}
@@ -78,13 +77,4 @@ ends_done q p m e = go p (subst (λ (s : Step). Done s true) e (reads_done q (to
 
     go : (p : Position) → DoneAt p true → (t : Stream) × (p ≡ done t)
     go (done t) h = (t, refl)
-    go unopened h = absurd (no h)
-    go (between b) h = absurd (no h)
-    go (headed b ds d) h = absurd (no h)
-    go (due x o) h = absurd (no h)
-    go (in_sequence c o s is) h = absurd (no h)
-    go (in_mapping c o s ps) h = absurd (no h)
-    go (in_indentless c o is e x) h = absurd (no h)
-    go (flow_due c) h = absurd (no h)
-    go (flow_keyed c k x) h = absurd (no h)
-    go (flow_behind c x) h = absurd (no h)
+    go _ h = absurd (no h)

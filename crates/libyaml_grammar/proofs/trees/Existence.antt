@@ -133,7 +133,8 @@ gives_tag l c k m r e u = at (u.begins.1)
         subst IsTagCut same tt
 
 -- no cut at a directive without a directive
-no_directive : {m : Marks} {q : Position} {k : Content} {s : Step} {g : List Event → List Event} {l : Bool} → ReadStep m q k s g l → (b : Before) (ds : Directives) → is_directive k ≡ false → checked s l ≡ bad (at_directive b ds) → ⊥
+no_directive : {m : Marks} {q : Position} {k : Content} {s : Step} {g : List Event → List Event} {l : Bool}
+    → ReadStep m q k s g l → (b : Before) (ds : Directives) → is_directive k ≡ false → checked s l ≡ bad (at_directive b ds) → ⊥
 no_directive (moves x h) b ds f e = no_directive h b ds f e
 no_directive (leaves p a h) b ds f e = no_directive h b ds f e
 no_directive (fails no_stream) b ds f e = cc
@@ -146,12 +147,14 @@ true_unless_false : (b : Bool) → (b ≡ false → ⊥) → b ≡ true
 true_unless_false true f = refl
 true_unless_false false f = absurd (f refl)
 
-document_fails : {m : Marks} {q : Position} {k : Content} {s : Step} {g : List Event → List Event} {l : Bool} → ReadStep m q k s g l → (d : Documents) → s ≡ bad (document_due d) → is_directive k ≡ false
+document_fails : {m : Marks} {q : Position} {k : Content} {s : Step} {g : List Event → List Event} {l : Bool}
+    → ReadStep m q k s g l → (d : Documents) → s ≡ bad (document_due d) → is_directive k ≡ false
 document_fails (moves x h) d e = document_fails h d e
 document_fails (fails (no_document f)) d e = f
 document_fails _ d e = cc
 
-start_fails : {m : Marks} {q : Position} {k : Content} {s : Step} {g : List Event → List Event} {l : Bool} → ReadStep m q k s g l → (b : Before) (ds : Directives) (d : Directive) → s ≡ bad (start_due b ds d) → is_directive k ≡ false
+start_fails : {m : Marks} {q : Position} {k : Content} {s : Step} {g : List Event → List Event} {l : Bool}
+    → ReadStep m q k s g l → (b : Before) (ds : Directives) (d : Directive) → s ≡ bad (start_due b ds d) → is_directive k ≡ false
 start_fails (moves x h) b ds d e = start_fails h b ds d e
 start_fails (fails (no_document_start f)) b ds d e = f
 start_fails _ b ds d e = cc
