@@ -6,7 +6,6 @@ ghost use Rattle.libyaml_types.specs.declared.event.yaml_event_t.{yaml_event_t};
 ghost use Rattle.libyaml_documents.specs.Documents.{empty_document};
 ghost use Rattle.libyaml_documents.specs.LoadedNodes.{begun_document};
 ghost use Rattle.libyaml_events.specs.parsers.EventsLeft.{events_left};
-ghost use Rattle.libyaml_events.specs.parsers.Stages.{is_event};
 ghost use Rattle.libyaml_grammar.specs.runs.Runs.{Ending};
 ghost use Rattle.libyaml_events.specs.sources.RunToCome.{RunToCome};
 ghost use Rattle.libyaml_events.specs.sources.History.{ForHistory, between_documents, is_over};
@@ -26,7 +25,9 @@ use crate::refusal::{has_failed, keep_refusal};
 use libyaml_documents::building::begin_document;
 use libyaml_documents::yaml_document_t;
 use libyaml_events::laws::calls::of_history;
-use libyaml_events::{yaml_parser_parse_into, yaml_parser_t, yaml_token_source_t};
+use libyaml_events::{
+    is_event, no_event, yaml_parser_parse_into, yaml_parser_t, yaml_token_source_t,
+};
 use libyaml_graphs::laws::whole_documents_have_roots;
 use libyaml_types::{
     ZERO_MARK, unnamed_yaml_event_t_data, unnamed_yaml_event_t_data_document_start,
@@ -122,14 +123,10 @@ fn next_document<S: yaml_token_source_t>(
         left_over parser.old result parser.new }
 {
     of_history::<S>();
-    let mut event = yaml_event_t {
-        content: unnamed_yaml_event_t_data::NoEvent,
-        start_mark: ZERO_MARK,
-        end_mark: ZERO_MARK,
-    };
+    let mut event = no_event();
     loop {
         yaml_parser_parse_into(parser, &mut event)?;
-        if !is_event(&event.content) {
+        if !is_event(&event) {
             return Ok(without_root(parser.allocator()));
         }
         match opening_of(&mut event, parser.allocator()) {
@@ -231,7 +228,7 @@ fn compose_next<S: yaml_token_source_t>(
 {
     of_history::<S>();
     yaml_parser_parse_into(parser, event)?;
-    if !is_event(&event.content) {
+    if !is_event(event) {
         return Ok(Step::Ended);
     }
     match closing_of(&event.content, event.end_mark) {
@@ -241,13 +238,6 @@ fn compose_next<S: yaml_token_source_t>(
             Err(refusal) => Err(keep_refusal(parser, refusal)),
         },
     }
-}
-
-/// Whether this is an event, and not the empty one.
-fn is_event(content: &unnamed_yaml_event_t_data) -> bool
-    ensures { result ≡ is_event content.now }
-{
-    !matches!(content, unnamed_yaml_event_t_data::NoEvent)
 }
 
 /// Moves the start of a document out of the event, if it is one.

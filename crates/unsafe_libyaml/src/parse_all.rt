@@ -6,7 +6,6 @@ ghost use Rattle.libyaml_grammar.specs.cuts.CutTrees.{Cut};
 ghost use Rattle.libyaml_grammar.specs.sentences.Events.{Event, events};
 ghost use Rattle.libyaml_sources.specs.Fault.{Fault};
 ghost use Rattle.libyaml_grammar.specs.cuts.Fits.{Fits};
-ghost use Rattle.libyaml_events.specs.sources.History.{is_stream_end};
 ghost use Rattle.libyaml_grammar.specs.sentences.Order.{in_order};
 ghost use Rattle.libyaml_grammar.specs.runs.Runs.{Ending, Ends, Fails, IsRun, is_behind_properties};
 ghost use Rattle.libyaml_sources.specs.Source.{coming};
@@ -17,9 +16,10 @@ ghost use Rattle.unsafe_libyaml.specs.WholeRun.{Gathers, RunsTo};
 use libyaml_events::laws::calls::of_history;
 use libyaml_events::laws::run_of_tree;
 use libyaml_events::{
-    yaml_parser_initialize, yaml_parser_parse, yaml_parser_t_prefix, yaml_token_source_t,
+    is_stream_end, yaml_parser_initialize, yaml_parser_parse, yaml_parser_t_prefix,
+    yaml_token_source_t,
 };
-use libyaml_types::{unnamed_yaml_event_t_data, yaml_error_type_t, yaml_event_t};
+use libyaml_types::{yaml_error_type_t, yaml_event_t};
 use std::alloc::{AllocError, Global};
 
 /// All events of a source, and how they ended.
@@ -106,11 +106,4 @@ pub fn unless_memory(fault: yaml_parser_t_prefix) -> Result<yaml_parser_t_prefix
         yaml_error_type_t::YAML_MEMORY_ERROR => Err(AllocError),
         _ => Ok(fault),
     }
-}
-
-/// Returns whether a stream ends with this event.
-fn is_stream_end(event: &yaml_event_t) -> bool
-    ensures { result ≡ is_stream_end event.now }
-{
-    matches!(event.content, unnamed_yaml_event_t_data::StreamEnd)
 }

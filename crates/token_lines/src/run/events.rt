@@ -3,10 +3,9 @@ ghost use Rattle.std.specs.Prelude.{◌≡◌, ◌<◌, List, true, false};
 ghost use Rattle.libyaml_types.specs.declared.event.yaml_event_t.{yaml_event_t};
 ghost use Rattle.libyaml_types.specs.declared.token.yaml_token_t.{yaml_token_t};
 ghost use Rattle.libyaml_events.specs.parsers.EventsLeft.{events_left};
-ghost use Rattle.libyaml_events.specs.sources.History.{History, is_over, is_stream_end};
+ghost use Rattle.libyaml_events.specs.sources.History.{History, is_over};
 ghost use Rattle.libyaml_events.specs.sources.RunToCome.{RunToCome};
 ghost use Rattle.libyaml_grammar.specs.runs.Runs.{Ending};
-ghost use Rattle.libyaml_events.specs.parsers.Stages.{is_event};
 ghost use Rattle.token_lines.specs.events.EventRun.{event_lines};
 ghost use Rattle.token_lines.specs.events.EventStep.{StepsInRun, Turn};
 ghost use Rattle.token_lines.specs.events.LastCall.{LastCall, NothingLeft, RunsOver};
@@ -15,9 +14,10 @@ ghost use Rattle.token_lines.specs.lines.LineRun.{Writes};
 use super::{MEMORY_FAULT, Outcome, Step, faulted, flushed, show};
 use crate::MAX_TOKENS;
 use libyaml_events::{
-    yaml_parser_initialize, yaml_parser_parse_into, yaml_parser_t, yaml_token_source_t,
+    is_event, is_stream_end, no_event, yaml_parser_initialize, yaml_parser_parse_into,
+    yaml_parser_t, yaml_token_source_t,
 };
-use libyaml_types::{ZERO_MARK, unnamed_yaml_event_t_data, yaml_event_t};
+use libyaml_types::yaml_event_t;
 use line_reading::yaml_line_source_t;
 use line_writing::{append_event, write_line};
 use std::alloc::Global;
@@ -63,11 +63,7 @@ pub fn write_events<S: yaml_token_source_t, W: Write>(
         (W.contents writer.new) asked given }
 {
     let mut line = String::new(alloc);
-    let mut event = yaml_event_t {
-        content: unnamed_yaml_event_t_data::NoEvent,
-        start_mark: ZERO_MARK,
-        end_mark: ZERO_MARK,
-    };
+    let mut event = no_event();
     loop {
         match write_next(parser, &mut event, &mut line, writer) {
             Step::Written => {}
@@ -117,18 +113,4 @@ fn write_next<S: yaml_token_source_t, W: Write>(
         return Step::OutputFailed;
     };
     Step::Written
-}
-
-/// Returns whether this is an event, and not the empty one.
-fn is_event(event: &yaml_event_t) -> bool
-    ensures { result ≡ is_event event.now.content }
-{
-    !matches!(event.content, unnamed_yaml_event_t_data::NoEvent)
-}
-
-/// Returns whether a stream ends with this event.
-fn is_stream_end(event: &yaml_event_t) -> bool
-    ensures { result ≡ is_stream_end event.now }
-{
-    matches!(event.content, unnamed_yaml_event_t_data::StreamEnd)
 }
