@@ -2,6 +2,7 @@
 ghost use Rattle.std.specs.Prelude.{◌≡◌, Ok, Err, true, false, IfErr, MatchResult};
 ghost use Rattle.libyaml_types.specs.Events.{empty_event};
 ghost use Rattle.libyaml_events.specs.machine.Config.{ended_or_failed};
+ghost use Rattle.libyaml_events.specs.parsers.Left.{Left};
 ghost use Rattle.libyaml_events.specs.sources.Calls.{Call, answered};
 ghost use Rattle.libyaml_events.specs.sources.History.{has_failed};
 ghost use Rattle.libyaml_events.specs.sources.ParsesNext.{ParsesNext};
@@ -29,13 +30,20 @@ impl<S: yaml_token_source_t> Machine<S> {
         ensures bound { self.new.max_entries ≡ self.old.max_entries }
         ensures call { MatchResult result (λ _. Call S.gives self.old (Ok event.new) self.new)
             (λ e. Call S.gives self.old (Err e) self.new) }
+        ensures left { IfErr result (λ e. Left self.old.config e self.new.config) }
     {
         let mut next = Next::AtState;
         loop {
             self.next_token(token)?;
-            match self.step(next, token, pending, event)? {
-                Next::Given => return Ok(()),
-                wanted => next = wanted,
+            match self.step(next, token, pending, event) {
+                Ok(step) => match step {
+                    Next::Given => return Ok(()),
+                    wanted => next = wanted,
+                },
+                Err(error) => {
+                    self.let_go();
+                    return Err(error);
+                }
             }
         }
     }
@@ -49,6 +57,7 @@ impl<S: yaml_token_source_t> yaml_parser_t<S> {
         ensures failed { IfErr (answered result event.new) (λ _. has_failed self.new ≡ true) }
         ensures bound { self.new.max_entries ≡ self.old.max_entries }
         ensures call { Call S.gives self.old (answered result event.new) self.new }
+        ensures left { IfErr (answered result event.new) (λ e. Left self.old.config e self.new.config) }
     {
         if self.machine.is_over() {
             clear(event);
@@ -64,6 +73,7 @@ impl<S: yaml_token_source_t> yaml_parser_t<S> {
         ensures failed { IfErr result (λ _. has_failed self.new ≡ true) }
         ensures bound { self.new.max_entries ≡ self.old.max_entries }
         ensures call { Call S.gives self.old result self.new }
+        ensures left { IfErr result (λ e. Left self.old.config e self.new.config) }
     {
         let mut event = yaml_event_t {
             content: unnamed_yaml_event_t_data::NoEvent,
