@@ -27,7 +27,8 @@ def named_by(path):
     """The items that a file names in public: of other crates, or of its own crate where the first word is no crate."""
     for where, names, alias in REEXPORT.findall(path.read_text()):
         if names:
-            yield from ((where.split("::")[0], where.split("::")[1:], name.strip()) for name in names.split(",") if name.strip())
+            first, *rest = where.split("::")
+            yield from ((first, rest, name.split(" as ")[0].strip()) for name in names.split(",") if name.strip())
         else:
             *first, last = where.split("::")
             yield first[0], first[1:], last

@@ -81,7 +81,7 @@ def names_passed_on(crate):
         if group:
             for name in group.split(","):
                 if name.strip():
-                    yield path, name.strip()
+                    yield path, name.split(" as ")[-1].strip()
         else:
             yield "::".join(path.split("::")[:-1]), renamed or path.split("::")[-1]
 

@@ -13,4 +13,6 @@ pub mod Marked
 pub mod Raised
 pub mod Staging
 pub mod LeadsOut
+pub mod Leaving
+pub mod LetGo
 pub mod NeededInTurn

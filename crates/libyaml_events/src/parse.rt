@@ -1,6 +1,7 @@
 //! One call of the parser.
 ghost use Rattle.std.specs.Prelude.{◌≡◌, Ok, Err, true, false, IfErr, MatchResult};
 ghost use Rattle.libyaml_events.specs.machine.Config.{ended_or_failed};
+ghost use Rattle.libyaml_events.specs.parsers.Left.{Left};
 ghost use Rattle.libyaml_events.specs.sources.Calls.{Call, answered};
 ghost use Rattle.libyaml_events.specs.sources.History.{has_failed};
 ghost use Rattle.libyaml_events.specs.sources.ParsesNext.{ParsesNext};
@@ -28,13 +29,20 @@ impl<S: yaml_token_source_t> Machine<S> {
         ensures bound { self.new.max_entries ≡ self.old.max_entries }
         ensures call { MatchResult result (λ _. Call S.gives self.old (Ok event.new) self.new)
             (λ e. Call S.gives self.old (Err e) self.new) }
+        ensures left { IfErr result (λ e. Left self.old.config e self.new.config) }
     {
         let mut next = Next::AtState;
         loop {
             self.next_token(token)?;
-            match self.step(next, token, pending, event)? {
-                Step::Given => return Ok(()),
-                Step::Wants(wanted) => next = wanted,
+            match self.step(next, token, pending, event) {
+                Ok(step) => match step {
+                    Step::Given => return Ok(()),
+                    Step::Wants(wanted) => next = wanted,
+                },
+                Err(error) => {
+                    self.let_go();
+                    return Err(error);
+                }
             }
         }
     }
@@ -48,6 +56,7 @@ impl<S: yaml_token_source_t> yaml_parser_t<S> {
         ensures failed { IfErr (answered result event.new) (λ _. has_failed self.new ≡ true) }
         ensures bound { self.new.max_entries ≡ self.old.max_entries }
         ensures call { Call S.gives self.old (answered result event.new) self.new }
+        ensures left { IfErr (answered result event.new) (λ e. Left self.old.config e self.new.config) }
     {
         if self.machine.is_over() {
             *event = no_event();
@@ -63,6 +72,7 @@ impl<S: yaml_token_source_t> yaml_parser_t<S> {
         ensures failed { IfErr result (λ _. has_failed self.new ≡ true) }
         ensures bound { self.new.max_entries ≡ self.old.max_entries }
         ensures call { Call S.gives self.old result self.new }
+        ensures left { IfErr result (λ e. Left self.old.config e self.new.config) }
     {
         let mut event = no_event();
         self.next_event_into(&mut event)?;

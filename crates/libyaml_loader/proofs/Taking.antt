@@ -1,5 +1,5 @@
 -- What one call of the parser says of the events that a load takes.
-use Rattle.std.proofs.Common.{◌≡◌, ◌||◌, ◌++◌, ◌∷◌, List, [], Option, Some, Bool, Ok, Err, IfOk, IfErr, true, false, refl, sym, ap, ◌∙◌, subst, append_assoc}
+use Rattle.std.proofs.Common.{◌≡◌, ◌≤◌, ◌+◌, ◌||◌, ◌++◌, ◌∷◌, List, [], Option, Some, Bool, Ok, Err, IfOk, IfErr, true, false, refl, sym, ap, ◌∙◌, subst, append_assoc}
 use Rattle.libyaml_types.specs.declared.enums.yaml_error_type_t.{yaml_error_type_t}
 use Rattle.libyaml_types.specs.declared.enums.yaml_parser_state_t.{yaml_parser_state_t}
 use Rattle.libyaml_types.specs.declared.enums.yaml_parser_state_t.TheVariants.{YAML_PARSE_END_STATE}
@@ -12,12 +12,13 @@ use Rattle.libyaml_events.specs.sources.CallsInTurn.{CarriedOn}
 use Rattle.libyaml_events.specs.machine.Config.{Parser, is_between, is_end_state, is_fault}
 use Rattle.libyaml_grammar.specs.sentences.Events.{Event}
 use Rattle.libyaml_sources.specs.Fault.{Answer, Fault}
-use Rattle.libyaml_events.specs.sources.History.{ForHistory, History, between_documents, has_failed, is_over, kept_fault}
+use Rattle.libyaml_events.specs.sources.History.{ForHistory, History, between_documents, has_failed, is_over, kept_fault, stack_depth}
+use Rattle.libyaml_events.specs.parsers.Lookahead.{tokens_held}
 use Rattle.libyaml_events.specs.sources.Parsing.{CarriesOn, FailsBy, IsWhole}
 use Rattle.libyaml_events.specs.sources.RunToCome.{RunToCome, UnlessBroken}
 use Rattle.libyaml_grammar.specs.runs.Runs.{Ending, Ends, Fails}
 use Rattle.libyaml_sources.specs.Source.{Coming}
-use Rattle.libyaml_events.specs.parsers.Stages.{Stage, after, at_start, is_event, is_outside, stage_of}
+use Rattle.libyaml_events.specs.parsers.Stages.{Stage, after, at_start, is_event, is_outside, open_collections, stage_of}
 use Rattle.libyaml_grammar.specs.sentences.Tokens.{Token}
 use Rattle.libyaml_events.proofs.lent.CallsInTurn.{both_calls, no_call, one_call, stage_more}
 use Rattle.libyaml_events.proofs.lent.NextEvents.{Says, fails_here, first_event}
@@ -74,6 +75,9 @@ module _ {S : Type 0} (gives : S → Answer → S → Type 0) (known : S → Opt
       pub carries_on : is_over old ≡ false
           → IfOk r (λ (e : Event). (asked : List Token) (given : List Event) → History old asked given → CarriesOn gives old e new asked given)
       pub fails : IfErr r (λ (x : yaml_error_type_t). (asked : List Token) (given : List Event) → History old asked given → FailsBy gives old new asked given)
+      pub none_held : IfErr r (λ (x : yaml_error_type_t). tokens_held new ≡ [])
+      pub depth_left : IfErr r (λ (x : yaml_error_type_t). (asked : List Token) (given : List Event) → History old asked given
+          → stack_depth new ≤ open_collections (stage_of given) + 1)
       pub between : (asked : List Token) (given : List Event) → History new asked given → between_documents new ≡ is_outside (stage_of given)
       pub next : (e : Event) (later : List Event) (ending : Ending) → RunToCome known old (e ∷ later) ending
           → UnlessBroken MayBreak r new ((r ≡ Ok e) × RunToCome known new later ending)
@@ -152,6 +156,8 @@ module _ {S : Type 0} (gives : S → Answer → S → Type 0) (known : S → Opt
     pub parser_fails : Called → (x : yaml_error_type_t) → r ≡ Err x → ParserFails gives known MayBreak old new
     parser_fails c x is = record {
       history = rw is at c.fails;
+      none_held = rw is at c.none_held;
+      depth_left = rw is at c.depth_left;
       runs = λ (events : List Event) (ending : Ending) (run : RunToCome known old events ending). fails_here known MayBreak old new r x is (says c) events
           ending run;
     }

@@ -1,12 +1,14 @@
 -- What a load asked for, took and returned (docs/DEFINITIONS.md, "Loads of a parser").
-use Rattle.std.specs.Prelude.{◌≡◌, ◌++◌, ◌∷◌, List, [], Option, None, Result, Ok, Err, true, false}
+use Rattle.std.specs.Prelude.{◌≡◌, ◌≤◌, ◌+◌, ◌++◌, ◌∷◌, List, [], Option, None, Result, Ok, Err, true, false}
 use Rattle.libyaml_types.specs.declared.enums.yaml_error_type_t.{yaml_error_type_t}
 use Rattle.libyaml_documents.specs.Documents.{Document, empty_document}
 use Rattle.libyaml_events.specs.sources.CallsInTurn.{CarriedOn}
 use Rattle.libyaml_events.specs.machine.Config.{Parser}
 use Rattle.libyaml_grammar.specs.sentences.Events.{Event}
 use Rattle.libyaml_sources.specs.Fault.{Answer, Fault, memory_fault}
-use Rattle.libyaml_events.specs.sources.History.{ForHistory, History, between_documents, has_failed, is_over, kept_fault, keeping}
+use Rattle.libyaml_events.specs.sources.History.{ForHistory, History, between_documents, has_failed, is_over, kept_fault, keeping, stack_depth}
+use Rattle.libyaml_events.specs.parsers.Lookahead.{tokens_held}
+use Rattle.libyaml_events.specs.parsers.Stages.{open_collections, stage_of}
 use Rattle.libyaml_events.specs.sources.Parsing.{FailsBy, IsWhole}
 use Rattle.libyaml_grammar.specs.runs.Runs.{Ending, Ends}
 use Rattle.libyaml_events.specs.sources.RunToCome.{FailsHere, RunToCome}
@@ -31,11 +33,13 @@ pub record Took {S : Type 0} (gives : S → Answer → S → Type 0) (known : S 
   pub history : (asked : List Token) (given : List Event) → History old asked given → CarriedOn gives old new asked given taken
   pub runs : (events : List Event) (ending : Ending) → RunToCome known old events ending → LeftOf known new taken events ending
 
--- a call of the parser failed
+-- a call of the parser failed, and left no token held and the stack within its depth
 pub record ParserFails {S : Type 0} (gives : S → Answer → S → Type 0) (known : S → Option Coming) (MayBreak : S → Fault
     → Type 0) (old new : Parser S) : Type 0 where
   pub history : (asked : List Token) (given : List Event) → History old asked given → FailsBy gives old new asked given
   pub runs : (events : List Event) (ending : Ending) → RunToCome known old events ending → FailsHere (MayBreak new.source) (kept_fault new) events ending
+  pub none_held : tokens_held new ≡ []
+  pub depth_left : ForHistory old (λ _ given. stack_depth new ≤ open_collections (stage_of given) + 1)
 
 -- the parser keeps a fault of the loader
 abbrev pub KeptBy : {S : Type 0} → Fault → (parser new : Parser S) → Type 0

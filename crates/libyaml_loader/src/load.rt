@@ -85,7 +85,8 @@ pub fn yaml_parser_load<S: yaml_token_source_t>(
     // so a loop over the documents ends
     ensures falls { IfOk result (λ d. (d ≡ empty_document None [] false false)
         ⊎ (events_left S.bound parser.new < events_left S.bound parser.old)) }
-    // over every source, by the events that were taken
+    // over every source, by the events that were taken; a parser with a history keeps no fault
+    ensures no_fault { ForHistory parser.old (λ _ _. has_failed parser.old ≡ false) }
     ensures loads { has_failed parser.old ≡ false
         → LoadsFrom S.gives S.known S.may_break (next_bounded (magnitude parser.old.max_entries)) left_over
         parser.old result parser.new }

@@ -35,8 +35,8 @@ pub use lines::{
 pub use loading::{load, load_by_history, load_fails_after_parse, next_load_fails};
 pub use loads::{all_documents, all_events};
 pub use parser::{
-    bound_of, fault_kept, keep, next_of_source, parser_of_list, parser_of_source, set_bound,
-    source_of, stands_outside,
+    bound_of, fault_kept, keep, next_of_source, parser_of_source, set_bound, source_of,
+    stands_outside,
 };
 pub use parsing::{next_event, next_event_into};
 pub use productions::{

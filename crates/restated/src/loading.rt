@@ -14,7 +14,6 @@ ghost use Rattle.unsafe_libyaml.specs.NextLoad.{Answers, UnlessBroken};
 ghost use Rattle.unsafe_libyaml.specs.RunToCome.{RunToCome};
 ghost use Rattle.unsafe_libyaml.specs.Runs.{Ending};
 
-use unsafe_libyaml::laws::calls::of_history;
 use unsafe_libyaml::{
     yaml_document_t, yaml_error_type_t, yaml_parser_load, yaml_parser_parse, yaml_parser_t,
     yaml_token_source_t,
@@ -35,6 +34,7 @@ pub fn load<S: yaml_token_source_t>(
     ensures between { between_documents parser.new ≡ true }
     ensures falls { IfOk result (λ d. (d ≡ empty_document None [] false false)
         ⊎ (events_left S.bound parser.new < events_left S.bound parser.old)) }
+    ensures no_fault { ForHistory parser.old (λ _ _. has_failed parser.old ≡ false) }
     ensures loads { has_failed parser.old ≡ false
         → LoadsFrom S.gives S.known S.may_break (next_bounded (magnitude parser.old.max_entries)) left_over
         parser.old result parser.new }
@@ -57,7 +57,6 @@ pub fn load_by_history<S: yaml_token_source_t>(
     ensures { ForHistory parser.old (λ _ _. LoadsFrom S.gives S.known S.may_break
         (next_bounded (magnitude parser.old.max_entries)) left_over parser.old result parser.new) }
 {
-    of_history::<S>();
     yaml_parser_load(parser)
 }
 

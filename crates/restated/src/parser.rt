@@ -2,7 +2,7 @@
 
 ghost use Rattle.std.specs.Prelude.{◌≡◌, ◌⊎◌, ◌+◌, ◌≤ℤ◌, List, [], Option, Some, Ok, Err, pos, true, false};
 ghost use Rattle.unsafe_libyaml.specs.Events.{Event};
-ghost use Rattle.unsafe_libyaml.specs.Fault.{Answer, Fault, answer_of, fault_of, no_fault, source_fault};
+ghost use Rattle.unsafe_libyaml.specs.Fault.{Answer, Fault, answer_of, fault_of, no_fault};
 ghost use Rattle.unsafe_libyaml.specs.History.{ForHistory, History, between_documents, has_failed};
 ghost use Rattle.unsafe_libyaml.specs.History.{is_over, kept_fault, keeping};
 ghost use Rattle.unsafe_libyaml.specs.RunToCome.{ForRun, RunToCome};
@@ -13,24 +13,10 @@ ghost use Rattle.unsafe_libyaml.specs.Tokens.{Token};
 
 use std::alloc::Global;
 use unsafe_libyaml::{
-    yaml_error_type_t, yaml_list_source_t, yaml_parser_between_documents, yaml_parser_delete,
-    yaml_parser_initialize, yaml_parser_set_max_entries, yaml_parser_t, yaml_parser_t_prefix,
-    yaml_source_fault_t, yaml_token_source_t, yaml_token_t,
+    yaml_error_type_t, yaml_parser_between_documents, yaml_parser_delete, yaml_parser_initialize,
+    yaml_parser_set_max_entries, yaml_parser_t, yaml_parser_t_prefix, yaml_source_fault_t,
+    yaml_token_source_t, yaml_token_t,
 };
-
-/// Returns a parser over these tokens, with this fault after them.
-pub fn parser_of_list(
-    alloc: Global,
-    tokens: Vec<yaml_token_t>,
-    fault: yaml_source_fault_t,
-) -> yaml_parser_t<yaml_list_source_t>
-    ensures begins { History result [] [] }
-    ensures run_to_come { (events : List Event) (ending : Ending)
-        → IsRun tokens.items (source_fault fault) events ending
-        → RunToCome yaml_list_source_t.yaml_token_source_t.known result events ending }
-{
-    yaml_parser_initialize(alloc, yaml_list_source_t::new(tokens, fault))
-}
 
 /// Returns a parser at the start of this source's stream.
 pub fn parser_of_source<S>(alloc: Global, source: S) -> yaml_parser_t<S>

@@ -7,24 +7,22 @@ mod load_all;
 mod parse_all;
 
 pub use libyaml_documents::{
-    unnamed_yaml_node_t_data, unnamed_yaml_node_t_data_mapping, unnamed_yaml_node_t_data_scalar,
-    unnamed_yaml_node_t_data_sequence, yaml_alias_data_t, yaml_document_add_mapping,
-    yaml_document_add_scalar, yaml_document_add_sequence, yaml_document_append_mapping_pair,
-    yaml_document_append_sequence_item, yaml_document_delete, yaml_document_get_node,
-    yaml_document_get_root_node, yaml_document_initialize, yaml_document_t, yaml_node_item_t,
-    yaml_node_pair_t, yaml_node_t,
+    laws as document_laws, unnamed_yaml_node_t_data, unnamed_yaml_node_t_data_mapping,
+    unnamed_yaml_node_t_data_scalar, unnamed_yaml_node_t_data_sequence, yaml_alias_data_t,
+    yaml_document_add_mapping, yaml_document_add_scalar, yaml_document_add_sequence,
+    yaml_document_append_mapping_pair, yaml_document_append_sequence_item, yaml_document_delete,
+    yaml_document_get_node, yaml_document_get_root_node, yaml_document_initialize, yaml_document_t,
+    yaml_node_item_t, yaml_node_pair_t, yaml_node_t,
 };
 pub use libyaml_events::{
     NO_FAULT, laws, yaml_list_source_t, yaml_parser_between_documents, yaml_parser_delete,
     yaml_parser_initialize, yaml_parser_parse, yaml_parser_parse_into, yaml_parser_set_max_entries,
     yaml_parser_t, yaml_parser_t_prefix, yaml_source_fault_t, yaml_token_source_t,
 };
-pub use libyaml_documents::laws as document_laws;
 pub use libyaml_graphs::laws as graph_laws;
 pub use libyaml_loader::yaml_parser_load;
-pub use libyaml_types::laws as type_laws;
 pub use libyaml_types::{
-    ZERO_MARK, unnamed_yaml_event_t_data, unnamed_yaml_event_t_data_alias,
+    ZERO_MARK, laws as type_laws, unnamed_yaml_event_t_data, unnamed_yaml_event_t_data_alias,
     unnamed_yaml_event_t_data_document_end, unnamed_yaml_event_t_data_document_start,
     unnamed_yaml_event_t_data_mapping_start, unnamed_yaml_event_t_data_scalar,
     unnamed_yaml_event_t_data_sequence_start, unnamed_yaml_event_t_data_stream_start,

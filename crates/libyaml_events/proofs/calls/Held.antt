@@ -17,12 +17,12 @@ use Rattle.libyaml_events.proofs.machine.StepKinds.{ends_indentless, ends_pair, 
 use Rattle.libyaml_events.proofs.machine.StepKinds.{step_kind, wants, whole}
 
 -- a step by the token u keeps none or u
-abbrev HeldOn : Progressed → Token → Type 0
+abbrev pub HeldOn : Progressed → Token → Type 0
 HeldOn (Err f) u = Unit {0}
 HeldOn (Ok (Wants w, d)) u = d.lookahead ≡ None
 HeldOn (Ok (Given e, d)) u = (d.lookahead ≡ None) ⊎ (d.lookahead ≡ Some u)
 
-held_on : (w : Want) (c : Config) (u : Token) (k : Content) → c.lookahead ≡ None → HeldOn (machine w c u k) u
+pub held_on : (w : Want) (c : Config) (u : Token) (k : Content) → c.lookahead ≡ None → HeldOn (machine w c u k) u
 held_on w c u k n = by _ _ _ (step_kind [] [] u w c k)
   where
     holds : (kept : Bool) (d : Config) → d.lookahead ≡ None → ((hold kept u d).lookahead ≡ None) ⊎ ((hold kept u d).lookahead ≡ Some u)

@@ -6,6 +6,7 @@ use Rattle.libyaml_grammar.proofs.lent.NestingSoFar.{run_front_nests}
 use Rattle.libyaml_grammar.proofs.lent.Running.{some_run_proof}
 use Rattle.libyaml_events.specs.machine.Config.{Parser, ended_or_failed}
 use Rattle.libyaml_sources.specs.Source.{Coming, Follows}
+use Rattle.libyaml_events.specs.parsers.Left.{Left}
 use Rattle.libyaml_events.specs.sources.Calls.{EventOrError, Call}
 use Rattle.libyaml_events.specs.sources.History.{has_failed}
 use Rattle.libyaml_events.specs.sources.ParsesNext.{ParsesNext}
@@ -15,6 +16,7 @@ use Rattle.libyaml_events.proofs.calls.Falling.{parse_falls}
 use Rattle.libyaml_events.proofs.calls.Held.{ran_holds}
 use Rattle.libyaml_events.proofs.calls.KnownRuns.{next_of_run, fault_of_run, ended_call, over_call, nothing_behind_end, linked_begins, run_given, more_to_come}
 use Rattle.libyaml_events.proofs.calls.LeadsOut.{stands_outside}
+use Rattle.libyaml_events.proofs.calls.Leaving.{none_held, depth_left}
 use Rattle.libyaml_events.proofs.calls.Parsed.{carried_on, failed_by}
 use Rattle.libyaml_events.proofs.calls.Raised.{pops_nothing_below}
 use Rattle.libyaml_events.proofs.lent.Staged.{ran_staged, staged_depth, staged_between}
@@ -22,8 +24,8 @@ use Rattle.libyaml_events.proofs.lent.Staged.{ran_staged, staged_depth, staged_b
 module _ {S : Type 0} (gives : S → Answer → S → Type 0) (token_bound : S → ℕ) (known : S → Option Coming) (may_break : S → Fault → Type 0) (falls : (s t : S) (token : Token)
     → gives s (Ok token) t → token_bound s ≡ token_bound t + 1) (follows : (s t : S) (a : Answer) → gives s a t → Follows (may_break t) (known s) a (known t)) where
   pub parses_next : (old new : Parser S) (r : EventOrError) → Call gives old r new → IfErr r (λ e. (e ≡ new.config.fault.error) × (ended_or_failed new.config ≡ true))
-      → IfErr r (λ _. has_failed new ≡ true) → new.max_entries ≡ old.max_entries → ParsesNext gives token_bound known may_break old r new
-  parses_next old new r call kept failed same_bound = record {
+      → IfErr r (λ _. has_failed new ≡ true) → new.max_entries ≡ old.max_entries → IfErr r (λ e. Left old.config e new.config) → ParsesNext gives token_bound known may_break old r new
+  parses_next old new r call kept failed same_bound left = record {
     ended = ended_call gives known may_break follows old new r call same_bound;
     kept = kept;
     failed = failed;
@@ -42,6 +44,8 @@ module _ {S : Type 0} (gives : S → Answer → S → Type 0) (token_bound : S �
     depth = λ asked given h. let d = staged_depth _ given (ran_staged h) in omega arith;
     pops = pops_nothing_below gives old r new call;
     one_ahead = λ asked given h. ran_holds new asked given h;
+    none_held = none_held old.config new.config r left;
+    depth_left = depth_left old.config new.config r left;
     falls = parse_falls gives token_bound falls old new r call;
     next_of_run = next_of_run gives known may_break follows old new r call kept;
     not_ended = more_to_come gives known may_break follows old new;

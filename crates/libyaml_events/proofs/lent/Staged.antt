@@ -193,22 +193,19 @@ due_depth (s ∷ ss) st h = go (kind s) h
     go kinds.pair h = let e = pair_depth ss st h in omega arith
     go _ h = absurd h
 
-depth : (s : yaml_parser_state_t) (ss : List yaml_parser_state_t) (l : Option Token) (st : Stage) → GoodAt s ss l st → length ss ≤ suc (open_collections st)
-depth s ss l st = go (kind s)
-  where
-    go : (k : Kind) → GoodIn k ss l st → length ss ≤ suc (open_collections st)
-    go kinds.stream_start h = empty_depth ss _ h.0
-    go kinds.between h = empty_depth ss _ h.0
-    go kinds.node_due h = due_depth ss st h
-    go kinds.root_end h = empty_depth ss _ h.0
-    go kinds.pair_key h = let e = pair_depth ss st h in omega arith
-    go kinds.pair h = let e = pair_depth ss st h in omega arith
-    go kinds.stream_end h = empty_depth ss _ h.0
-    go _ h = let e = inside_depth ss st h in omega arith
+pub depth : (k : Kind) (ss : List yaml_parser_state_t) (l : Option Token) (st : Stage) → GoodIn k ss l st → length ss ≤ suc (open_collections st)
+depth kinds.stream_start ss l st h = empty_depth ss _ h.0
+depth kinds.between ss l st h = empty_depth ss _ h.0
+depth kinds.node_due ss l st h = due_depth ss st h
+depth kinds.root_end ss l st h = empty_depth ss _ h.0
+depth kinds.pair_key ss l st h = let e = pair_depth ss st h in omega arith
+depth kinds.pair ss l st h = let e = pair_depth ss st h in omega arith
+depth kinds.stream_end ss l st h = empty_depth ss _ h.0
+depth _ ss l st h = let e = inside_depth ss st h in omega arith
 
 -- the stack holds at most one state more than there are open collections
 pub staged_depth : (c : Config) (g : List Event) → Staged c g → length c.states ≤ suc (open_collections (stage_of g))
-staged_depth c g h = depth c.state c.states c.lookahead (stage_of g) h.good
+staged_depth c g h = depth (kind c.state) c.states c.lookahead (stage_of g) h.good
 
 -- at the end
 state_place_goes : (p : Place) → state_place p ≡ state.YAML_PARSE_END_STATE → ⊥

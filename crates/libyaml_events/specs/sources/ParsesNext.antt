@@ -15,7 +15,7 @@ use Rattle.libyaml_events.specs.sources.Parsing.{CarriesOn, FailsBy}
 use Rattle.libyaml_events.specs.sources.RunToCome.{RunToCome, ForRun, ForNextEvent, UnlessBroken}
 use Rattle.libyaml_events.specs.parsers.Stages.{stage_of, open_collections, is_outside}
 use Rattle.libyaml_events.specs.parsers.OutsideEvents.{is_outside_event}
-use Rattle.libyaml_events.specs.parsers.Lookahead.{HoldsLast}
+use Rattle.libyaml_events.specs.parsers.Lookahead.{HoldsLast, tokens_held}
 use Rattle.libyaml_events.specs.parsers.Pops.{PopsNothingBelow}
 use Rattle.libyaml_events.specs.parsers.EventsLeft.{events_left}
 
@@ -39,6 +39,9 @@ pub record ParsesNext {S : Type 0} (gives : S → Answer → S → Type 0) (toke
   pub depth : ForHistory new (λ _ given. stack_depth new ≤ open_collections (stage_of given) + 1)
   pub pops : ForHistory old (λ _ _. PopsNothingBelow gives old result new)
   pub one_ahead : ForHistory new (λ asked _. HoldsLast new asked)
+  -- a call that failed leaves no token held, and the stack within the same depth
+  pub none_held : IfErr result (λ _. tokens_held new ≡ [])
+  pub depth_left : IfErr result (λ _. ForHistory old (λ _ given. stack_depth new ≤ open_collections (stage_of given) + 1))
   -- so a loop over the events ends
   pub falls : is_over old ≡ false → IfOk result (λ _. events_left token_bound new < events_left token_bound old)
   -- over a source that knows its tokens, by the run that is to come

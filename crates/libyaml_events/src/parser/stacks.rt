@@ -5,6 +5,7 @@ ghost use Rattle.libyaml_sources.specs.Fault.{memory_fault};
 ghost use Rattle.libyaml_events.specs.machine.State.{IsBackByte, back_state};
 ghost use Rattle.libyaml_events.specs.machine.Config.{with_config, with_fault, at, pushed, popped};
 ghost use Rattle.libyaml_events.specs.machine.Config.{pushed_mark, popped_mark, top_mark};
+ghost use Rattle.libyaml_events.specs.parsers.Left.{let_go};
 
 use crate::parser::Machine;
 use libyaml_types::{ZERO_MARK, yaml_error_type_t, yaml_mark_t, yaml_parser_state_t};
@@ -89,5 +90,15 @@ impl<S> Machine<S> {
         ensures rest { self.new ≡ with_config self.old (popped_mark self.old.config) }
     {
         self.marks.pop().unwrap_or(ZERO_MARK)
+    }
+
+    /// Lets go of the stacks and of the token that is held: after a fault nothing asks for them.
+    #[cold]
+    pub(crate) fn let_go(&mut self)
+        ensures { self.new ≡ with_config self.old (let_go self.old.config) }
+    {
+        self.lookahead = None;
+        self.states.clear();
+        self.marks.clear();
     }
 }

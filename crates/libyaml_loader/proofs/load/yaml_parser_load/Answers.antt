@@ -9,6 +9,12 @@ use Rattle.libyaml_loader.proofs.load.yaml_parser_load.Goals as goal
 no : true ≡ false → ⊥
 no h = cc
 
+pub returns-then-has_failed-clause-no_fault : goal.returns-then-has_failed-clause-no_fault
+returns-then-has_failed-clause-no_fault g c = c.of_history.ensures.no_fault c.args.parser.now
+
+pub returns-clause-no_fault : goal.returns-clause-no_fault
+returns-clause-no_fault g c = c.of_history.ensures.no_fault c.args.parser.now
+
 pub returns-then-has_failed-clause-next_load : goal.returns-then-has_failed-clause-next_load
 returns-then-has_failed-clause-next_load g c events ending run =
     absurd (no (sym c.if-has_failed.true ∙ c.has_failed.ensures ∙ c.of_history.ensures.no_fault c.args.parser.now run.asked run.given run.history))
