@@ -1,5 +1,5 @@
 -- What a run wrote is whole, or its last text says that it was cut short.
-use Rattle.std.proofs.Common.{◌≡◌, ◌⊎◌, ◌++◌, ℕ, List, [], Option, Some, refl, sym, ap, ◌∙◌, subst, inl, inr, append_assoc}
+use Rattle.std.proofs.Common.{◌≡◌, ◌⊎◌, ◌++◌, ℕ, List, [], Some, refl, sym, ap, ◌∙◌, subst, inl, inr, append_assoc}
 use Rattle.std.proofs.lemmas.List.{append-nil}
 use Rattle.std.specs.Fmt.{digits}
 use Rattle.std.specs.List.{concat}

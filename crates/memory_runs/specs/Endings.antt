@@ -4,7 +4,7 @@ use Rattle.memory_runs.specs.InMemory.{memory_text}
 use Rattle.memory_runs.specs.declared.outcome.memory_outcome_t.{memory_outcome_t}
 use Rattle.memory_runs.specs.declared.outcome.memory_outcome_t.TheVariants as memory
 use Rattle.token_lines.specs.declared.run.Outcome.{Outcome}
-use Rattle.token_lines.specs.declared.run.Outcome.TheVariants.{Ended, Faulted, OutputFailed}
+use Rattle.token_lines.specs.declared.run.Outcome.TheVariants.{Ended, Faulted}
 
 abbrev pub EndsWith : (bytes end : List ℕ) → Type 0
 EndsWith bytes end = (start : List ℕ) × (bytes ≡ start ++ end)

@@ -1,6 +1,5 @@
 //! How a run over memory ended.
 ghost use Rattle.std.specs.Prelude.{◌≡◌, true};
-ghost use Rattle.memory_runs.specs.InMemory.{memory_text};
 ghost use Rattle.memory_runs.specs.Endings.{EndsAs, IsCutShort};
 
 use token_lines::Outcome;

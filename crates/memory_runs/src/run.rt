@@ -1,5 +1,5 @@
 //! What a run over memory hands out.
-ghost use Rattle.std.specs.Prelude.{◌≡◌, ◌++◌, drop, length, min, take};
+ghost use Rattle.std.specs.Prelude.{◌≡◌, min};
 ghost use Rattle.memory_runs.specs.Endings.{EndsAs};
 ghost use Rattle.memory_runs.specs.InMemory.{HandsOut, bytes_of};
 

@@ -1,3 +1,3 @@
-pub mod RunLemmas
 pub mod StepLemmas
+pub mod InTurnLemmas
 pub mod LastCallLemmas

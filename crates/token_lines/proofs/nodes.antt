@@ -1,3 +1,2 @@
-pub mod NodeRunLemmas
 pub mod NodeStepLemmas
 pub mod NodeTurnLemmas

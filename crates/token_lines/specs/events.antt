@@ -1,3 +1,4 @@
 pub mod EventRun
+pub mod InTurn
 pub mod EventStep
 pub mod LastCall

@@ -1,2 +1,3 @@
 pub mod LineRun
+pub mod RunSteps
 pub mod ReadsBack

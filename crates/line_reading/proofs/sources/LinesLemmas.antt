@@ -10,7 +10,7 @@ use Rattle.std.specs.Io.KnownBytes.{Consumes, IsAtEnd}
 use Rattle.line_reading.specs.sources.ReadLines.{longest_line, last_line, lines_of_pieces, lines, behind_line}
 use Rattle.line_reading.specs.sources.NextLine.{TakesLine, TakesNoLine, BeginsTooLong, IsWithinLine}
 use Rattle.line_reading.specs.tokens.Prefixes.{before_byte}
-use Rattle.line_reading.specs.declared.line_problem.LineProblem.TheVariants.{LineTooLong, NoMoreTokens}
+use Rattle.line_reading.specs.declared.line_problem.LineProblem.TheVariants.{LineTooLong}
 use Rattle.line_reading.specs.sources.LineLaws.{has_pieces, lines_of_more}
 use Rattle.line_reading.proofs.tokens.Split.{no_separator, before-append}
 
@@ -74,11 +74,6 @@ takes_last (Some bytes) None l clean some h end = absurd h
 takes_last (Some bytes) (Some rest) l clean some h end =
     let whole : bytes ≡ l = h ∙ ap (λ r. (l ++ []) ++ r) end ∙ append-nil (l ++ []) ∙ append-nil l in
     rw whole (lines-last l clean ∙ last-some l some ∙ ap (λ r. l ∷ lines r) (sym (behind-last l clean)), ap Some (end ∙ sym (behind-last l clean)))
-
-pub takes_none : (before after : Option (List ℕ)) → Consumes before after [] → OnSome before (IsAtEnd after) → TakesNoLine before NoMoreTokens
-takes_none None after h end = tt
-takes_none (Some bytes) None h end = absurd h
-takes_none (Some bytes) (Some rest) h end = ap lines (h ∙ end)
 
 pub takes_too_long : (before after : Option (List ℕ)) (l : List ℕ) → All (λ x. x ≢ 10) l → length l ≡ longest_line + 1 → Consumes before after (l ++ [])
     → TakesNoLine before LineTooLong

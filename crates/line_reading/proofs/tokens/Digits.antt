@@ -1,10 +1,10 @@
 -- a number that begins some bytes
-use Rattle.std.proofs.Common.{◌≡◌, leb, ◌==◌, ℕ, ◌+◌, ◌-◌, ◌*◌, ◌<◌, ◌≤◌, ◌^◌, true, false, List, [], ◌∷◌, ◌++◌, length, take, drop, get_or, Some, None, refl}
+use Rattle.std.proofs.Common.{◌≡◌, leb, ◌==◌, ℕ, ◌+◌, ◌-◌, ◌*◌, ◌<◌, ◌≤◌, ◌^◌, true, false, List, [], ◌∷◌, ◌++◌, length, take, drop, get_or, None, refl}
 use Rattle.std.proofs.Common.{ap, sym, ◌∙◌, arith}
 use Rattle.std.proofs.lemmas.Bool.{cond_both}
 use Rattle.std.proofs.lemmas.List.{at_drop_more, at_drop_all, take_more, append-nil}
 use Rattle.std.proofs.Common.{append_assoc, min}
-use Rattle.std.proofs.lemmas.List.{get_or-take, length-take, length-drop, drop-drop}
+use Rattle.std.proofs.lemmas.List.{get_or-take, length-take, length-drop}
 use Rattle.std.proofs.lemmas.Bool.{leb-true, and_parts}
 use Rattle.std.proofs.Math.Nat.{pow-suc, pow-le-pow_right}
 use Rattle.std.proofs.Math.Numerals.{add-one}
@@ -123,13 +123,6 @@ ends_with_line line at end i n e h most least =
 
 pub no_number_read : (line : List ℕ) (at : ℕ) (read : NumberRead) → read.end ≡ 0 → number_at (drop at line) ≡ None → IsNumberRead line at read
 no_number_read line at read e none = record { within = omega (arith, e); none = λ _. none; some = λ some. absurd (omega (arith, e, some)) }
-
-pub ended_none : (bytes : List ℕ) (i n : ℕ) → HasDigits bytes i n → number_of (take i bytes) ≡ None → number_at bytes ≡ None
-ended_none bytes i n h e = rw (h.digits, e) refl
-
-pub ended_some : (line : List ℕ) (at i n v end : ℕ) → HasDigits (drop at line) i n → number_of (take i (drop at line)) ≡ Some n → v ≡ n → end ≡ at + i
-    → number_at (drop at line) ≡ Some (v, drop end line)
-ended_some line at i n v end h e same to = rw (h.digits, e, h.behind, same, to, drop-drop i at line) refl
 
 -- the same, with a value that i digits can have
 pub record HasReadFew (bytes : List ℕ) (i n : ℕ) : Type 0 where

@@ -43,9 +43,9 @@ writes_all MayBreak outcome old new b l (met ds rest i j) w = go outcome w
 
     fault : WritesFault MayBreak old new (loads_lines b) (loads_ending b) → WritesFault MayBreak old new (loads_lines l) (loads_ending l)
     fault (whole f e wrote) = broken_off (loads_lines b) (loads_lines rest) f lines (inl (fails_is f memory_fault (sym fails ∙ e))) wrote
-    fault (broken_off front later f e why wrote)
-        = broken_off front (later ++ loads_lines rest) f (lines ∙ ap (λ (m : List (List ℕ)). m ++ loads_lines rest) e
-        ∙ append_assoc front later (loads_lines rest)) why wrote
+    fault (broken_off written later f e why wrote)
+        = broken_off written (later ++ loads_lines rest) f (lines ∙ ap (λ (m : List (List ℕ)). m ++ loads_lines rest) e
+        ∙ append_assoc written later (loads_lines rest)) why wrote
 
     go : (o : Outcome) → WritesLoads MayBreak o old new b → WritesLoads MayBreak o old new l
     go Ended h = absurd (no_end memory_fault (sym fails ∙ h.0))

@@ -23,7 +23,9 @@ use Rattle.libyaml_loader.specs.Loading.{DocumentOrError}
 use Rattle.libyaml_loader.specs.NextLoad.{Answers, UnlessBroken, breaks, does, no_memory}
 use Rattle.line_writing.specs.DocumentText.{WroteBefore, document_lines}
 use Rattle.token_lines.specs.nodes.NodeRun.{lines_with, loads_ending, loads_lines}
-use Rattle.token_lines.specs.nodes.NodeStep.{TakesDocument, WritesFront}
+use Rattle.token_lines.specs.nodes.NodeStep.{run_ending, run_lines}
+use Rattle.token_lines.specs.lines.RunSteps.{TakesLines, WritesPrefix}
+use Rattle.token_lines.proofs.lines.RunLemmas.{breaks_before, fails_first}
 
 roots_behind : (l r : List yaml_event_t) → RootsFollow (l ++ r) → RootsFollow r
 roots_behind [] r h = h
@@ -38,7 +40,7 @@ lines_without_nodes [] lines h = refl
 lines_without_nodes (n ∷ ns) lines h = absurd cc
 
 -- the lines of loads whose first is this document
-pub first_lines : (loads later : List Load) (d : Document) → loads ≡ Ok d ∷ later → d.nodes ≢ [] → loads_lines loads ≡ document_lines d ++ loads_lines later
+first_lines : (loads later : List Load) (d : Document) → loads ≡ Ok d ∷ later → d.nodes ≢ [] → loads_lines loads ≡ document_lines d ++ loads_lines later
 first_lines loads later d is some = ap loads_lines is ∙ ap (λ (l : List (List ℕ)). l ++ loads_lines later) (lines_with_nodes d.nodes (document_lines d) some)
 
 no_lines : (loads : List Load) (d : Document) → loads ≡ Ok d ∷ [] → d.nodes ≡ [] → loads_lines loads ≡ []
@@ -69,8 +71,17 @@ module _ {S : Type 0} (known : S → Option Coming) (MayBreak : S → Fault
         from (no_memory e k) = absurd (ok_no_err r d _ is e)
         from (breaks f m e k) = absurd (ok_no_err r d _ is e)
 
-    pub step_written : (a b : Option (List ℕ)) → d.nodes ≢ [] → Appends a b (concat (document_lines d)) → TakesDocument known n new a b events ending
-    step_written a b some wrote = record { document = d; first = earlier_of events ending n d loaded.0 some; has_nodes = some; run = loaded.1; wrote = wrote }
+    pub step_written : (a b : Option (List ℕ)) → d.nodes ≢ [] → Appends a b (concat (document_lines d)) → TakesLines known (run_lines n) (run_ending n) new a b events ending
+    step_written a b some wrote =
+        let first = earlier_of events ending n d loaded.0 some in
+        record {
+          first = document_lines d;
+          later = left_over events;
+          all = first_lines (bounded_loads n events ending) (bounded_loads n (left_over events) ending) d first some;
+          same_end = ap loads_ending first;
+          run = loaded.1;
+          wrote = wrote;
+        }
 
     pub step_ended : (a : Option (List ℕ)) → d.nodes ≡ [] → (loads_ending (bounded_loads n events ending) ≡ Ends)
         × Appends a a (concat (loads_lines (bounded_loads n events ending)))
@@ -85,11 +96,11 @@ module _ {S : Type 0} (known : S → Option Coming) (MayBreak : S → Fault
 
     -- where memory ran out for one of its lines
     pub step_cut : (a b : Option (List ℕ)) → d.nodes ≢ [] → WroteBefore a b (document_lines d)
-        → WritesFront (MayBreak new.source) memory_fault a b (bounded_loads n events ending)
+        → WritesPrefix (MayBreak new.source) memory_fault a b (run_lines n events ending) (run_ending n events ending)
     step_cut a b some w =
         let later = loads_lines (bounded_loads n (left_over events) ending) in
         record {
-          front = w.written;
+          written = w.written;
           rest = (w.line ∷ w.rest) ++ later;
           all = first_lines (bounded_loads n events ending) (bounded_loads n (left_over events) ending) d (earlier_of events ending n d loaded.0 some) some
               ∙ ap (λ (l : List (List ℕ)). l ++ later) w.all ∙ append_assoc w.written (w.line ∷ w.rest) later;
@@ -99,31 +110,23 @@ module _ {S : Type 0} (known : S → Option Coming) (MayBreak : S → Fault
 
   -- a load that failed
   pub step_failed : (x : yaml_error_type_t) → r ≡ Err x → (a : Option (List ℕ))
-      → WritesFront (MayBreak new.source) (kept_fault new) a a (bounded_loads n events ending)
+      → WritesPrefix (MayBreak new.source) (kept_fault new) a a (run_lines n events ending) (run_ending n events ending)
   step_failed x is a = from load
     where
       broken : (kept_fault new ≡ memory_fault) ⊎ MayBreak new.source (kept_fault new)
-          → WritesFront (MayBreak new.source) (kept_fault new) a a (bounded_loads n events ending)
-      broken why = record { front = []; rest = loads_lines (bounded_loads n events ending); all = refl; wrote = Appends-nil a; why = inr why }
+          → WritesPrefix (MayBreak new.source) (kept_fault new) a a (run_lines n events ending) (run_ending n events ending)
+      broken why = breaks_before (MayBreak new.source) (kept_fault new) a (run_lines n events ending) (run_ending n events ending) why
 
       answered : (l : Load) → next_bounded n events ending ≡ l → Answers known l r new (left_over events) ending
-          → WritesFront (MayBreak new.source) (kept_fault new) a a (bounded_loads n events ending)
+          → WritesPrefix (MayBreak new.source) (kept_fault new) a a (run_lines n events ending) (run_ending n events ending)
       answered (Ok d) i h = absurd (ok_no_err r d x h.0 is)
       answered (Err f) i h =
           let only = fault_of events ending n f i in
-          record {
-            front = [];
-            rest = [];
-            all = ap loads_lines only;
-            wrote = Appends-nil a;
-            why = inl (
-              refl,
-              ap loads_ending only ∙ ap (λ (g : Fault). Fails g) (sym h.1),
-            );
-          }
+          fails_first (MayBreak new.source) (kept_fault new) a (run_lines n events ending) (run_ending n events ending) (ap loads_lines only)
+          (ap loads_ending only ∙ ap (λ (g : Fault). Fails g) (sym h.1))
 
       from : UnlessBroken MayBreak r new (Answers known (next_bounded n events ending) r new (left_over events) ending)
-          → WritesFront (MayBreak new.source) (kept_fault new) a a (bounded_loads n events ending)
+          → WritesPrefix (MayBreak new.source) (kept_fault new) a a (run_lines n events ending) (run_ending n events ending)
       from (does h) = answered (next_bounded n events ending) refl h
       from (no_memory e k) = broken (inl k)
       from (breaks f m e k) = broken (inr (subst (MayBreak new.source) (sym k) m))

@@ -32,8 +32,8 @@ use Rattle.token_lines.specs.declared.run.Step.{Step}
 use Rattle.token_lines.specs.declared.run.Step.TheVariants as step
 use Rattle.token_lines.specs.nodes.LastLoad.{AllLoaded, LastLoad, WroteForLoad}
 use Rattle.token_lines.specs.nodes.NodeStep.{LoadTurn, NodeSteps, StepForLoad}
-use Rattle.token_lines.proofs.events.LastCallLemmas.{gave_then}
-use Rattle.token_lines.proofs.events.RunLemmas.{keeps_then}
+use Rattle.token_lines.proofs.events.InTurnLemmas.{gave_then, history_more, history_none}
+use Rattle.token_lines.proofs.lines.RunLemmas.{keeps_then}
 
 -- whether a document has nodes, by their count
 pub has_some : (ns ms : List yaml_node_t) (b : Bool) → b ≡ (length ns == 0) → b ≡ false → ns ≡ ms → ms ≢ []
@@ -56,7 +56,7 @@ module _ {S : Type 0} (gives : S → Answer → S → Type 0) (known : S → Opt
       → LoadsFrom gives known MayBreak (next_bounded n) left_over p r q → StepForLoad s a (kept_fault q) b c
       → (s ≡ step.Ended → ForHistory p (λ _ _. HasEnded q)) → LoadTurn gives known MayBreak n s p q b c
   turn_of s p q b c r a is load wrote ends
-      = record { answer = r; load = load; wrote = subst (λ (x : DocumentOrError). StepForLoad s x (kept_fault q) b c) (sym is) wrote; ends = ends }
+      = record { loaded = r; load = load; wrote = subst (λ (x : DocumentOrError). StepForLoad s x (kept_fault q) b c) (sym is) wrote; ends = ends }
 
   pub none_loaded : (p : Parser S) (x : Option (List ℕ)) (asked : List yaml_token_t) (given : List yaml_event_t) → History p asked given
       → AllLoaded gives n p p x x asked given
@@ -65,8 +65,7 @@ module _ {S : Type 0} (gives : S → Answer → S → Type 0) (known : S → Opt
     events = [];
     documents = [];
     gave = refl;
-    history = subst (λ (l : List yaml_token_t). History p l (given ++ [])) (sym (append-nil asked))
-        (subst (λ (l : List yaml_event_t). History p asked l) (sym (append-nil given)) h);
+    history = history_none p asked given h;
     loads = λ (rest : List yaml_event_t) (x : Ending). refl;
     wrote = Appends-nil x;
   }
@@ -102,7 +101,7 @@ module _ {S : Type 0} (gives : S → Answer → S → Type 0) (known : S → Opt
   pub one_loaded : (first p q : Parser S) (a b c : Option (List ℕ)) (asked : List yaml_token_t) (given : List yaml_event_t)
       → AllLoaded gives n first p a b asked given
       → (has_failed p ≡ false → LoadTurn gives known MayBreak n step.Written p q b c) → AllLoaded gives n first q a c asked given
-  one_loaded first p q a b c asked given w turns = go turn.answer turn.load turn.wrote
+  one_loaded first p q a b c asked given w turns = go turn.loaded turn.load turn.wrote
     where
       turn : LoadTurn gives known MayBreak n step.Written p q b c
       turn = turns (running p (asked ++ w.more) (given ++ w.events) w.history)
@@ -116,8 +115,7 @@ module _ {S : Type 0} (gives : S → Answer → S → Type 0) (known : S → Opt
             events = w.events ++ taken;
             documents = w.documents ++ d ∷ [];
             gave = gave_then gives w.more on.more first.source p.source q.source w.gave on.gave;
-            history = subst (λ (l : List yaml_event_t). History q (asked ++ (w.more ++ on.more)) l) (append_assoc given w.events taken)
-                (subst (λ (l : List yaml_token_t). History q l ((given ++ w.events) ++ taken)) (append_assoc asked w.more on.more) on.history);
+            history = history_more q asked w.more on.more given w.events taken on.history;
             loads = λ (rest : List yaml_event_t) (x : Ending). loads_more w.events taken rest x w.documents d some (λ (r : List yaml_event_t). w.loads r x)
                 (load rest x) (left rest);
             wrote = subst (Appends a c) (texts_more w.documents d)
@@ -138,9 +136,9 @@ module _ {S : Type 0} (gives : S → Answer → S → Type 0) (known : S → Opt
         parser = p;
         writer = writer;
         earlier = w;
-        answer = turn.answer;
+        loaded = turn.loaded;
         load = turn.load;
-        wrote = wrote turn.answer turn.wrote;
+        wrote = wrote turn.loaded turn.wrote;
         ends = λ (is : outcome ≡ Ended). turn.ends (ended is) (asked ++ w.more) (given ++ w.events) w.history;
       }
 
@@ -161,7 +159,7 @@ loads_failed Ended f kept b c d not wrote r w = absurd (not refl)
 loads_failed Faulted f kept b c d not wrote (Ok x) w =
     let cut = w.1 in
     record {
-      front = cut.written;
+      written = cut.written;
       line = cut.line;
       rest = cut.rest;
       all = cut.all;

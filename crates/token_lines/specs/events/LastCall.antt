@@ -1,17 +1,15 @@
 -- That no line is held back: each is written before the next event is parsed (docs/DEFINITIONS.md, "Runs over lines").
-use Rattle.std.specs.Prelude.{◌≡◌, ◌++◌, ◌⊎◌, ℕ, List, [], true, false, Option, None}
-use Rattle.std.specs.List.{concat}
+use Rattle.std.specs.Prelude.{◌≡◌, ◌⊎◌, ℕ, List, [], true, Option, None}
 use Rattle.std.specs.Io.KnownBytes.{Appends, Keeps}
 use Rattle.libyaml_types.specs.declared.event.yaml_event_t.{yaml_event_t}
 use Rattle.libyaml_types.specs.declared.token.yaml_token_t.{yaml_token_t}
-use Rattle.libyaml_events.specs.sources.Calls.{Gave}
 use Rattle.libyaml_events.specs.machine.Config.{Parser}
 use Rattle.libyaml_sources.specs.Fault.{Answer, Fault, memory_fault}
-use Rattle.libyaml_events.specs.sources.History.{History, answers, is_over, is_stream_end, kept_fault}
-use Rattle.libyaml_events.specs.sources.Parsing.{CarriesOn, FailsBy}
+use Rattle.libyaml_events.specs.sources.History.{History, is_stream_end}
 use Rattle.token_lines.specs.declared.run.Outcome.{Outcome}
 use Rattle.token_lines.specs.declared.run.Outcome.TheVariants.{Ended, Faulted, OutputFailed}
-use Rattle.token_lines.specs.events.EventRun.{most_tokens, event_lines, WritesRunOf}
+use Rattle.token_lines.specs.events.EventRun.{most_tokens, WritesRunOf}
+use Rattle.token_lines.specs.events.InTurn.{Call, WrittenInTurn}
 use Rattle.line_writing.specs.EventText.{event_line}
 use Rattle.line_writing.specs.FaultText.{fault_text}
 use Rattle.line_reading.specs.sources.LineSource.{LineSource, Gives, BreaksOff}
@@ -29,38 +27,22 @@ WroteForFault Ended f before after = ⊥
 WroteForFault Faulted f before after = Appends before after (fault_text f)
 WroteForFault OutputFailed f before after = Unit {0}
 
--- the last call of the parser, which returned an event or failed, and what was written after it
-pub data Closes {S : Type 0} (gives : S → Answer → S
-    → Type 0) (outcome : Outcome) (old new : Parser S) (before after : Option (List ℕ)) (asked : List yaml_token_t) (given : List yaml_event_t) : Type 0 where
-  closed_by_event : (e : yaml_event_t) → CarriesOn gives old e new asked given → WroteForEvent outcome e before after
-      → Closes gives outcome old new before after asked given
-  closed_by_fault : FailsBy gives old new asked given → WroteForFault outcome (kept_fault new) before after
-      → Closes gives outcome old new before after asked given
+-- the last call of a run, and what was written after it
+abbrev pub Closes : {S : Type 0} → (gives : S → Answer → S → Type 0) → Outcome → (old new : Parser S) → (before after : Option (List ℕ)) → List yaml_token_t
+    → List yaml_event_t → Type 0
+Closes gives outcome old new before after asked given
+    = Call gives (λ e. WroteForEvent outcome e before after) (λ f. WroteForFault outcome f before after) old new asked given
 
--- From the first parser to this one, which has not ended, the source gave these tokens more and the parser these events,
--- and the line of each event was written.
-pub record AllWritten {S : Type 0} (gives : S → Answer → S
-    → Type 0) (first parser : Parser S) (before after : Option (List ℕ)) (asked : List yaml_token_t) (given : List yaml_event_t) : Type 0 where
-  pub more : List yaml_token_t
-  pub events : List yaml_event_t
-  pub gave : Gave gives first.source (answers more []) parser.source
-  pub history : History parser (asked ++ more) (given ++ events)
-  pub running : is_over parser ≡ false
-  pub wrote : Appends before after (concat (event_lines events))
-
--- The last call of the parser: the writer held the line of each event that was given before, and what was written since
+-- At the last call of the parser the writer held the line of each event that was given before, and what was written since
 -- is of this call.
-pub record LastCall {S W : Type 0} (gives : S → Answer → S → Type 0) (contents : W
-    → Option (List ℕ)) (outcome : Outcome) (first last : Parser S) (before after : Option (List ℕ)) (asked : List yaml_token_t)
-    (given : List yaml_event_t) : Type 0 where
-  pub parser : Parser S
-  pub writer : W
-  pub earlier : AllWritten gives first parser before (contents writer) asked given
-  pub call : Closes gives outcome parser last (contents writer) after (asked ++ earlier.more) (given ++ earlier.events)
+abbrev pub LastCall : {S W : Type 0} → (gives : S → Answer → S → Type 0) → (contents : W → Option (List ℕ)) → Outcome → (first last : Parser S)
+    → (before after : Option (List ℕ)) → List yaml_token_t → List yaml_event_t → Type 0
+LastCall gives contents outcome first last before after asked given
+    = WrittenInTurn event_line (WroteForEvent outcome) (WroteForFault outcome) gives contents first last before after asked given
 
 -- nothing was left to write: the parser and the writer's bytes are as they were
 pub record NothingLeft {S : Type 0} (outcome : Outcome) (old new : Parser S) (before after : Option (List ℕ)) : Type 0 where
-  pub answer : (outcome ≡ Ended) ⊎ (outcome ≡ OutputFailed)
+  pub ended : (outcome ≡ Ended) ⊎ (outcome ≡ OutputFailed)
   pub parser : new ≡ old
   pub keeps : Keeps before after
 

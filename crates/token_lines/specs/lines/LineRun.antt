@@ -12,8 +12,8 @@ use Rattle.token_lines.specs.declared.run.Outcome.TheVariants.{Ended, Faulted, O
 -- allocation failed or the source broke off.
 pub data WritesFault (MayBreak : Fault → Type 0) (old new : Option (List ℕ)) (lines : List (List ℕ)) (ending : Ending) : Type 0 where
   whole : (f : Fault) → ending ≡ Fails f → Appends old new (concat lines ++ fault_text f) → WritesFault MayBreak old new lines ending
-  broken_off : (front rest : List (List ℕ)) (f : Fault) → lines ≡ front ++ rest → (f ≡ memory_fault) ⊎ MayBreak f
-      → Appends old new (concat front ++ fault_text f) → WritesFault MayBreak old new lines ending
+  broken_off : (written rest : List (List ℕ)) (f : Fault) → lines ≡ written ++ rest → (f ≡ memory_fault) ⊎ MayBreak f
+      → Appends old new (concat written ++ fault_text f) → WritesFault MayBreak old new lines ending
 
 -- What was written of a run that has these lines and this ending: all lines and nothing else where it ended; nothing is
 -- said where the output failed.

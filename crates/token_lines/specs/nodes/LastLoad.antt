@@ -25,11 +25,11 @@ use Rattle.token_lines.specs.nodes.NodeRun.{WritesNodesOf}
 
 -- where memory ran out for one of these lines, those before it were written, and then the text of a failed allocation
 pub record CutText (before after : Option (List ℕ)) (lines : List (List ℕ)) : Type 0 where
-  pub front : List (List ℕ)
+  pub written : List (List ℕ)
   pub line : List ℕ
   pub rest : List (List ℕ)
-  pub all : lines ≡ front ++ line ∷ rest
-  pub wrote : Appends before after (concat front ++ fault_text memory_fault)
+  pub all : lines ≡ written ++ line ∷ rest
+  pub wrote : Appends before after (concat written ++ fault_text memory_fault)
 
 -- What a run wrote after a last load that returned this: nothing, where it is the document without root; the text of the
 -- fault that is kept; or a document's text that was cut. Where the output failed, nothing is said.
@@ -61,15 +61,15 @@ pub record LastLoad {S W : Type 0} (gives : S → Answer → S → Type 0) (know
   pub parser : Parser S
   pub writer : W
   pub earlier : AllLoaded gives n first parser before (contents writer) asked given
-  pub answer : DocumentOrError
-  pub load : LoadsFrom gives known MayBreak (next_bounded n) left_over parser answer last
-  pub wrote : WroteForLoad outcome answer (kept_fault last) (contents writer) after
+  pub loaded : DocumentOrError
+  pub load : LoadsFrom gives known MayBreak (next_bounded n) left_over parser loaded last
+  pub wrote : WroteForLoad outcome loaded (kept_fault last) (contents writer) after
   -- the run ends only where the parser has ended
   pub ends : outcome ≡ Ended → HasEnded last
 
 -- a fault that the parser kept was written again
 pub record WritesKept {S : Type 0} (outcome : Outcome) (old new : Parser S) (before after : Option (List ℕ)) : Type 0 where
-  pub answer : (outcome ≡ Faulted) ⊎ (outcome ≡ OutputFailed)
+  pub not_ended : (outcome ≡ Faulted) ⊎ (outcome ≡ OutputFailed)
   pub parser : new ≡ old
   pub wrote : outcome ≡ Faulted → Appends before after (fault_text (kept_fault old))
 

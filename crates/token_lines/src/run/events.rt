@@ -7,7 +7,7 @@ ghost use Rattle.libyaml_events.specs.sources.History.{History, is_over};
 ghost use Rattle.libyaml_events.specs.sources.RunToCome.{RunToCome};
 ghost use Rattle.libyaml_grammar.specs.runs.Runs.{Ending};
 ghost use Rattle.token_lines.specs.events.EventRun.{event_lines};
-ghost use Rattle.token_lines.specs.events.EventStep.{StepsInRun, Turn};
+ghost use Rattle.token_lines.specs.events.EventStep.{EventSteps, Turn};
 ghost use Rattle.token_lines.specs.events.LastCall.{LastCall, NothingLeft, RunsOver};
 ghost use Rattle.token_lines.specs.lines.LineRun.{Writes};
 
@@ -89,7 +89,7 @@ fn write_next<S: yaml_token_source_t, W: Write>(
         → Turn S.gives result parser.old parser.new (W.contents writer.old) (W.contents writer.new) asked
         given }
     ensures step { (events : List yaml_event_t) (ending : Ending) → RunToCome S.known parser.old events ending
-        → StepsInRun S.known S.may_break result parser.new (W.contents writer.old) (W.contents writer.new)
+        → EventSteps S.known S.may_break result parser.new (W.contents writer.old) (W.contents writer.new)
         events ending }
 {
     let parsed = yaml_parser_parse_into(parser, event);

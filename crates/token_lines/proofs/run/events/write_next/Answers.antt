@@ -1,15 +1,15 @@
-use Rattle.std.proofs.Common.{◌++◌, refl, ap, ◌∙◌, subst, sym}
+use Rattle.std.proofs.Common.{◌++◌, refl, ap, ◌∙◌, subst, sym, inl}
 use Rattle.std.specs.Io.KnownBytes.{Appends}
 use Rattle.std.proofs.KnownBytes.{Appends-kept}
 use Rattle.libyaml_events.specs.sources.Calls.{answered}
 use Rattle.libyaml_events.specs.sources.History.{is_over}
 use Rattle.libyaml_events.specs.sources.RunToCome.{FailsHere}
 use Rattle.libyaml_events.proofs.lent.NextEvents.{Says, fails_here, first_event}
-use Rattle.token_lines.specs.declared.run.Step.TheVariants.{Written, Ended, OutputFailed}
 use Rattle.line_writing.specs.EventText.{event_line}
-use Rattle.token_lines.proofs.events.LastCallLemmas.{gave_one, failed_once}
-use Rattle.token_lines.proofs.events.RunLemmas.{Keeps-same}
-use Rattle.token_lines.proofs.events.StepLemmas.{ended_by, running_by, takes_first, takes_last, nothing_left}
+use Rattle.token_lines.specs.events.EventRun.{event_lines}
+use Rattle.token_lines.specs.events.InTurn.{gave_event, failed}
+use Rattle.token_lines.proofs.lines.RunLemmas.{Keeps-same, breaks_before}
+use Rattle.token_lines.proofs.events.StepLemmas.{ended_by, nothing_written, running_by, takes_first, takes_last, nothing_left}
 use Rattle.token_lines.proofs.run.events.write_next.Goals as goal
 
 pub returns-in_default-clause-step : goal.returns-in_default-clause-step
@@ -18,8 +18,13 @@ returns-in_default-clause-step g c events ending run =
     let call = c.yaml_parser_parse_into-parsed in
     let says : Says t.known t.may_break c.args.parser.now call.new.parser (answered call.result c.yaml_parser_parse_into-parsed.new.event)
     = record { next = call.ensures.next_of_run; end = call.ensures.end_of_run; fault = call.ensures.fault_of_run } in
-    let failed = fails_here t.known t.may_break c.args.parser.now call.new.parser (answered call.result c.yaml_parser_parse_into-parsed.new.event) c.in_default.field-0 (ap (λ r. answered r c.yaml_parser_parse_into-parsed.new.event) c.in_default.is) says events ending run in
-    (subst (λ f. FailsHere (t.may_break call.new.parser.source) f events ending) (sym c.prefix.ensures.kept) failed, Keeps-same _)
+    let fails = fails_here t.known t.may_break c.args.parser.now call.new.parser (answered call.result c.yaml_parser_parse_into-parsed.new.event) c.in_default.field-0 (ap (λ r. answered r c.yaml_parser_parse_into-parsed.new.event) c.in_default.is) says events ending run in
+    nothing_written (t.may_break call.new.parser.source) _ _ events ending
+    (subst (λ f. FailsHere (t.may_break call.new.parser.source) f events ending) (sym c.prefix.ensures.kept) fails)
+
+pub returns-in_default-append_event-clause-step : goal.returns-in_default-append_event-clause-step
+returns-in_default-append_event-clause-step g c events ending run
+    = breaks_before (g.S.yaml_token_source_t.may_break c.yaml_parser_parse_into-parsed.new.parser.source) _ _ (event_lines events) ending (inl refl)
 
 pub returns-then-not-is_event-clause-step : goal.returns-then-not-is_event-clause-step
 returns-then-not-is_event-clause-step g c events ending run =
@@ -69,41 +74,30 @@ returns-clause-step g c events ending run =
 
 pub returns-in_default-clause-turn : goal.returns-in_default-clause-turn
 returns-in_default-clause-turn g c running asked given h =
-    let t = g.S.yaml_token_source_t in
-    let call = c.yaml_parser_parse_into-parsed in
-    failed_once t.gives _ _ _ _ _ (answered call.result c.yaml_parser_parse_into-parsed.new.event) c.in_default.field-0 (ap (λ r. answered r c.yaml_parser_parse_into-parsed.new.event) c.in_default.is) call.ensures.fails (c.prefix.ensures.kept, Keeps-same _) asked given h
+    failed ((rw c.in_default.is at c.yaml_parser_parse_into-parsed.ensures.fails) asked given h) (c.prefix.ensures.kept, Keeps-same _)
 
 pub returns-in_default-append_event-clause-turn : goal.returns-in_default-append_event-clause-turn
-returns-in_default-append_event-clause-turn g c running asked given h
-    = gave_one g.S.yaml_token_source_t.gives _ _ _ _ _ _ c.yaml_parser_parse_into-parsed.new.event (ap (λ r. answered r c.yaml_parser_parse_into-parsed.new.event) c.in-Ok.is) (c.yaml_parser_parse_into-parsed.ensures.carries_on running) (
-      refl,
-      Keeps-same _,
-    ) asked given h
+returns-in_default-append_event-clause-turn g c running asked given h =
+    gave_event c.yaml_parser_parse_into-parsed.new.event ((rw c.in-Ok.is at (c.yaml_parser_parse_into-parsed.ensures.carries_on running)) asked given h) (refl, Keeps-same _)
 
 pub returns-in_default-write_line-clause-turn : goal.returns-in_default-write_line-clause-turn
-returns-in_default-write_line-clause-turn g c running asked given h
-    = gave_one g.S.yaml_token_source_t.gives OutputFailed _ _ _ _ _ c.yaml_parser_parse_into-parsed.new.event (ap (λ r. answered r c.yaml_parser_parse_into-parsed.new.event) c.in-Ok.is) (c.yaml_parser_parse_into-parsed.ensures.carries_on running) tt asked
-    given h
+returns-in_default-write_line-clause-turn g c running asked given h =
+    gave_event c.yaml_parser_parse_into-parsed.new.event ((rw c.in-Ok.is at (c.yaml_parser_parse_into-parsed.ensures.carries_on running)) asked given h) tt
 
 pub returns-then-is_stream_end-clause-turn : goal.returns-then-is_stream_end-clause-turn
 returns-then-is_stream_end-clause-turn g c running asked given h =
     let line = c.in-Ok-append_event.ensures ∙ ap (λ l. l ++ event_line c.yaml_parser_parse_into-parsed.new.event) c.clear.ensures.bytes in
     let ended = sym c.is_stream_end.ensures ∙ c.if-is_stream_end.true in
-    gave_one g.S.yaml_token_source_t.gives Ended _ _ _ _ _ c.yaml_parser_parse_into-parsed.new.event (ap (λ r. answered r c.yaml_parser_parse_into-parsed.new.event) c.in-Ok.is) (c.yaml_parser_parse_into-parsed.ensures.carries_on running) (
-      ended,
-      subst (Appends _ _) line c.in-Ok-write_line.ensures.ok,
-    ) asked given h
+    gave_event c.yaml_parser_parse_into-parsed.new.event ((rw c.in-Ok.is at (c.yaml_parser_parse_into-parsed.ensures.carries_on running)) asked given h)
+    (ended, subst (Appends _ _) line c.in-Ok-write_line.ensures.ok)
 
 pub returns-in_default-show-clause-turn : goal.returns-in_default-show-clause-turn
-returns-in_default-show-clause-turn g c running asked given h
-    = gave_one g.S.yaml_token_source_t.gives OutputFailed _ _ _ _ _ c.yaml_parser_parse_into-parsed.new.event (ap (λ r. answered r c.yaml_parser_parse_into-parsed.new.event) c.in-Ok.is) (c.yaml_parser_parse_into-parsed.ensures.carries_on running) tt asked
-    given h
+returns-in_default-show-clause-turn g c running asked given h =
+    gave_event c.yaml_parser_parse_into-parsed.new.event ((rw c.in-Ok.is at (c.yaml_parser_parse_into-parsed.ensures.carries_on running)) asked given h) tt
 
 pub returns-clause-turn : goal.returns-clause-turn
 returns-clause-turn g c running asked given h =
     let line = c.in-Ok-append_event.ensures ∙ ap (λ l. l ++ event_line c.yaml_parser_parse_into-parsed.new.event) c.clear.ensures.bytes in
     let more = sym c.is_stream_end.ensures ∙ c.if-is_stream_end.false in
-    gave_one g.S.yaml_token_source_t.gives Written _ _ _ _ _ c.yaml_parser_parse_into-parsed.new.event (ap (λ r. answered r c.yaml_parser_parse_into-parsed.new.event) c.in-Ok.is) (c.yaml_parser_parse_into-parsed.ensures.carries_on running) (
-      more,
-      Appends-kept _ _ _ _ (subst (Appends _ _) line c.in-Ok-write_line.ensures.ok) c.show.ensures,
-    ) asked given h
+    gave_event c.yaml_parser_parse_into-parsed.new.event ((rw c.in-Ok.is at (c.yaml_parser_parse_into-parsed.ensures.carries_on running)) asked given h)
+    (more, Appends-kept _ _ _ _ (subst (Appends _ _) line c.in-Ok-write_line.ensures.ok) c.show.ensures)

@@ -2,14 +2,14 @@ use Rattle.std.proofs.Common.{◌≡◌, Ok, Err, refl, sym, ap, ◌∙◌, subs
 use Rattle.std.proofs.KnownBytes.{Appends-kept}
 use Rattle.libyaml_sources.specs.declared.fault.yaml_parser_t_prefix.{yaml_parser_t_prefix}
 use Rattle.libyaml_sources.specs.Fault.{Fault}
-use Rattle.libyaml_graphs.specs.Bounds.{bounded_loads}
 use Rattle.libyaml_loader.specs.Ids.{magnitude}
 use Rattle.line_writing.specs.declared.refusal.line_refusal_t.{line_refusal_t}
 use Rattle.token_lines.specs.declared.run.Step.TheVariants.{Ended, Failed, Written}
-use Rattle.token_lines.specs.nodes.NodeStep.{WritesFront}
+use Rattle.token_lines.specs.lines.RunSteps.{WritesPrefix}
+use Rattle.token_lines.specs.nodes.NodeStep.{run_ending, run_lines}
 use Rattle.token_lines.proofs.nodes.NodeStepLemmas.{step_cut, step_ended, step_failed, step_written}
 use Rattle.token_lines.proofs.nodes.NodeTurnLemmas.{has_none, has_some, turn_of}
-use Rattle.token_lines.proofs.events.RunLemmas.{Keeps-same}
+use Rattle.token_lines.proofs.lines.RunLemmas.{Keeps-same}
 use Rattle.token_lines.proofs.run.nodes.write_next.Goals as goal
 
 failed_is_no_end : {f : yaml_parser_t_prefix} {A : Type 0} → Failed f ≡ Ended → A
@@ -22,8 +22,9 @@ pub returns-in_default-clause-step : goal.returns-in_default-clause-step
 returns-in_default-clause-step g c events ending run =
     let t = g.S.yaml_token_source_t in
     let call = c.yaml_parser_load-loaded in
-    subst (λ (f : Fault). WritesFront (t.may_break call.new.parser.source) f (g.W.Write.contents c.args.writer.now) (g.W.Write.contents c.args.writer.now)
-    (bounded_loads (magnitude c.args.parser.now.max_entries) events ending)) (sym c.prefix.ensures.kept)
+    let n = magnitude c.args.parser.now.max_entries in
+    subst (λ (f : Fault). WritesPrefix (t.may_break call.new.parser.source) f (g.W.Write.contents c.args.writer.now) (g.W.Write.contents c.args.writer.now)
+    (run_lines n events ending) (run_ending n events ending)) (sym c.prefix.ensures.kept)
     (step_failed t.known t.may_break (magnitude c.args.parser.now.max_entries) c.args.parser.now call.new.parser events ending run call.result
     (call.ensures.next_load events ending run) c.in_default.field-0 c.in_default.is _)
 

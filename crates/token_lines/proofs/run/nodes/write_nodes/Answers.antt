@@ -2,15 +2,13 @@ use Rattle.std.proofs.Common.{◌≡◌, refl, ap, ◌∙◌, subst}
 use Rattle.std.specs.Io.KnownBytes.{Appends}
 use Rattle.libyaml_sources.specs.Fault.{Fault, fault_of}
 use Rattle.libyaml_events.specs.sources.History.{has_failed, kept_fault}
-use Rattle.libyaml_graphs.specs.Bounds.{bounded_loads}
 use Rattle.libyaml_loader.specs.Ids.{magnitude}
 use Rattle.line_writing.specs.FaultText.{fault_text}
 use Rattle.token_lines.specs.declared.run.Outcome.TheVariants.{Ended, OutputFailed}
 use Rattle.token_lines.specs.declared.run.Step.TheVariants as step
-use Rattle.token_lines.specs.nodes.NodeRun.{loads_ending, loads_lines}
-use Rattle.token_lines.proofs.nodes.NodeRunLemmas.{loads_fail, loads_last, loads_more, loads_none}
+use Rattle.token_lines.specs.nodes.NodeStep.{run_ending, run_lines}
 use Rattle.token_lines.proofs.nodes.NodeTurnLemmas.{last_load_at, loads_end, loads_failed, loads_output, none_loaded, not_ended_is, one_loaded, steps_at, turn_at}
-use Rattle.token_lines.proofs.events.RunLemmas.{writes_ended, writes_faulted}
+use Rattle.token_lines.proofs.lines.RunLemmas.{takes_failed, takes_last, takes_more, takes_none, writes_ended, writes_faulted}
 use Rattle.token_lines.proofs.run.nodes.write_nodes.Goals as goal
 
 output_is_no_end : OutputFailed ≡ Ended → step.OutputFailed ≡ step.Ended
@@ -24,7 +22,8 @@ loop-writer-init g c =
       bound = refl;
       kept = λ failed. (refl, refl);
       in_turn = λ asked given history. none_loaded t.gives t.known t.may_break (magnitude c.args.parser.now.max_entries) _ _ asked given history;
-      came = λ events ending run. loads_none t.known (magnitude c.args.parser.now.max_entries) _ _ events ending run;
+      came = λ events ending run. takes_none t.known (run_lines (magnitude c.args.parser.now.max_entries))
+          (run_ending (magnitude c.args.parser.now.max_entries)) _ _ events ending run;
     }
 
 pub loop-writer-preserved : goal.loop-writer-preserved
@@ -43,7 +42,7 @@ loop-writer-preserved g c =
           (contents c.loop-writer.writer) (contents c.write_next.new.writer) asked given (c.loop-writer.invariant.in_turn asked given history)
           (turn_at t.gives t.known t.may_break step.Written p q (contents c.loop-writer.writer) (contents c.write_next.new.writer) _ _ bound
           c.in-Written.ensures.turn);
-      came = λ events ending run. loads_more t.known n (contents c.args.writer.now) (contents c.loop-writer.writer) (contents c.write_next.new.writer) p q
+      came = λ events ending run. takes_more t.known (run_lines n) (run_ending n) (contents c.args.writer.now) (contents c.loop-writer.writer) (contents c.write_next.new.writer) p q
           events ending (c.loop-writer.invariant.came events ending run)
           (steps_at t.gives t.known t.may_break step.Written p q (contents c.loop-writer.writer) (contents c.write_next.new.writer) _ _ bound
           c.in-Written.ensures.step);
@@ -58,11 +57,10 @@ returns-in-Ended-clause-writes g c events ending run =
     let contents = g.W.Write.contents in
     let at = c.loop-writer in
     let n = magnitude c.args.parser.now.max_entries in
-    let loads = bounded_loads n events ending in
     let steps = steps_at t.gives t.known t.may_break step.Ended at.parser c.write_next.new.parser (contents at.writer) (contents c.write_next.new.writer) _ _
     at.invariant.bound c.in-Ended.ensures.step in
-    writes_ended (t.may_break c.write_next.new.parser.source) c.flushed.result _ _ (loads_lines loads) (loads_ending loads) c.flushed.ensures.outcome
-    (loads_last t.known n (contents c.args.writer.now) (contents at.writer) (contents c.write_next.new.writer) (contents c.flushed.new.writer) at.parser
+    writes_ended (t.may_break c.write_next.new.parser.source) c.flushed.result _ _ (run_lines n events ending) (run_ending n events ending) c.flushed.ensures.outcome
+    (takes_last t.known (run_lines n) (run_ending n) (contents c.args.writer.now) (contents at.writer) (contents c.write_next.new.writer) (contents c.flushed.new.writer) at.parser
     events ending (at.invariant.came events ending run) steps c.flushed.ensures.keeps)
 
 pub returns-in-Failed-clause-writes : goal.returns-in-Failed-clause-writes
@@ -71,12 +69,11 @@ returns-in-Failed-clause-writes g c events ending run =
     let contents = g.W.Write.contents in
     let at = c.loop-writer in
     let n = magnitude c.args.parser.now.max_entries in
-    let loads = bounded_loads n events ending in
     let may_break = t.may_break c.write_next.new.parser.source in
     let steps = steps_at t.gives t.known t.may_break (step.Failed c.in-Failed.fault) at.parser c.write_next.new.parser (contents at.writer)
     (contents c.write_next.new.writer) _ _ at.invariant.bound c.in-Failed.ensures.step in
-    writes_faulted may_break c.faulted.result _ _ (loads_lines loads) (loads_ending loads) c.faulted.ensures.not_ended
-    (λ faulted. loads_fail t.known n may_break (contents c.args.writer.now) (contents at.writer) (contents c.write_next.new.writer)
+    writes_faulted may_break c.faulted.result _ _ (run_lines n events ending) (run_ending n events ending) c.faulted.ensures.not_ended
+    (λ faulted. takes_failed t.known (run_lines n) (run_ending n) may_break (contents c.args.writer.now) (contents at.writer) (contents c.write_next.new.writer)
     (contents c.faulted.new.writer) at.parser (fault_of c.in-Failed.fault) events ending (at.invariant.came events ending run) steps
     (c.faulted.ensures.writes faulted))
 
@@ -92,7 +89,7 @@ returns-in-Failed-clause-kept g c failed =
     let still = c.loop-writer.invariant.kept failed in
     let last = c.in-Failed.ensures.kept (ap has_failed still.0 ∙ failed) in
     record {
-      answer = not_ended_is c.faulted.result c.faulted.ensures.not_ended;
+      not_ended = not_ended_is c.faulted.result c.faulted.ensures.not_ended;
       parser = last.1 ∙ still.0;
       wrote = λ faulted. subst (λ (f : Fault). Appends (contents c.args.writer.now) (contents c.faulted.new.writer) (fault_text f)) (last.0
           ∙ ap kept_fault still.0)

@@ -7,7 +7,8 @@ use Rattle.libyaml_events.specs.sources.RunToCome.{RunToCome}
 use Rattle.libyaml_grammar.specs.runs.Runs.{Ending}
 use Rattle.libyaml_loader.specs.Ids.{magnitude}
 use Rattle.token_lines.specs.nodes.LastLoad.{AllLoaded}
-use Rattle.token_lines.proofs.nodes.NodeRunLemmas.{CameLoads}
+use Rattle.token_lines.specs.lines.RunSteps.{TakesLines}
+use Rattle.token_lines.specs.nodes.NodeStep.{run_ending, run_lines}
 use Rattle.token_lines.proofs.run.nodes.write_nodes.Given as goal
 
 abbrev pub invariant-loop-writer : goal.invariant-loop-writer
@@ -19,8 +20,8 @@ invariant-loop-writer g l = record {
       → AllLoaded g.S.yaml_token_source_t.gives (magnitude l.initial.parser.max_entries) l.initial.parser l.parser (g.W.Write.contents l.initial.writer)
       (g.W.Write.contents l.writer) asked given;
   came : (events : List yaml_event_t) (ending : Ending) → RunToCome g.S.yaml_token_source_t.known l.initial.parser events ending
-      → CameLoads g.S.yaml_token_source_t.known (magnitude l.initial.parser.max_entries) (g.W.Write.contents l.initial.writer) (g.W.Write.contents l.writer)
-      l.parser events ending;
+      → TakesLines g.S.yaml_token_source_t.known (run_lines (magnitude l.initial.parser.max_entries)) (run_ending (magnitude l.initial.parser.max_entries))
+      l.parser (g.W.Write.contents l.initial.writer) (g.W.Write.contents l.writer) events ending;
 }
 
 abbrev pub decreases-loop-writer : goal.decreases-loop-writer

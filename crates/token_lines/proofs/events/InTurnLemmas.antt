@@ -1,0 +1,74 @@
+-- How a run's calls write the text of each event in its turn.
+use Rattle.std.proofs.Common.{◌≡◌, ◌++◌, ℕ, List, [], ◌∷◌, map, Option, false, refl, sym, ap, ◌∙◌, subst, append_assoc}
+use Rattle.std.proofs.KnownBytes.{Appends-nil, Appends-trans}
+use Rattle.std.proofs.lemmas.List.{append-nil, map-append}
+use Rattle.std.proofs.lemmas.List.Folds.{concat-append}
+use Rattle.std.specs.List.{concat}
+use Rattle.std.specs.Io.KnownBytes.{Appends}
+use Rattle.libyaml_types.specs.declared.event.yaml_event_t.{yaml_event_t}
+use Rattle.libyaml_types.specs.declared.token.yaml_token_t.{yaml_token_t}
+use Rattle.libyaml_events.specs.machine.Config.{Parser}
+use Rattle.libyaml_events.specs.sources.Calls.{Gave}
+use Rattle.libyaml_events.specs.sources.History.{History, answers, is_over, is_stream_end}
+use Rattle.libyaml_sources.specs.Fault.{Answer, Fault}
+use Rattle.token_lines.specs.events.InTurn.{AllWritten, Call, WrittenInTurn, gave_event, failed}
+
+module _ {S : Type 0} (gives : S → Answer → S → Type 0) where
+  pub gave_then : (l m : List yaml_token_t) (a b c : S) → Gave gives a (answers l []) b → Gave gives b (answers m []) c → Gave gives a (answers (l ++ m) []) c
+  gave_then [] m a b c h k = subst (λ x. Gave gives x (answers m []) c) h k
+  gave_then (t ∷ l) m a b c (mid, g, h) k = (mid, g, gave_then l m mid b c h k)
+
+module _ {S : Type 0} (p : Parser S) where
+  pub history_none : (asked : List yaml_token_t) (given : List yaml_event_t) → History p asked given → History p (asked ++ []) (given ++ [])
+  history_none asked given h = subst (λ l. History p l (given ++ [])) (sym (append-nil asked)) (subst (λ l. History p asked l) (sym (append-nil given)) h)
+
+  pub history_more : (asked more last : List yaml_token_t) (given events taken : List yaml_event_t)
+      → History p ((asked ++ more) ++ last) ((given ++ events) ++ taken) → History p (asked ++ (more ++ last)) (given ++ (events ++ taken))
+  history_more asked more last given events taken h =
+      subst (λ l. History p l (given ++ (events ++ taken))) (append_assoc asked more last)
+      (subst (λ l. History p ((asked ++ more) ++ last) l) (append_assoc given events taken) h)
+
+module _ {S : Type 0} (text : yaml_event_t → List ℕ) (gives : S → Answer → S → Type 0) where
+  pub none_yet : (p : Parser S) (x : Option (List ℕ)) (asked : List yaml_token_t) (given : List yaml_event_t) → History p asked given → is_over p ≡ false
+      → AllWritten text gives p p x x asked given
+  none_yet p x asked given h running = record {
+    more = [];
+    events = [];
+    gave = refl;
+    history = history_none p asked given h;
+    running = running;
+    wrote = Appends-nil x;
+  }
+
+  -- one text more
+  texts_more : (done : List yaml_event_t) (e : yaml_event_t) → concat (map text done) ++ text e ≡ concat (map text (done ++ e ∷ []))
+  texts_more done e =
+      ap (λ l. concat (map text done) ++ l) (sym (append-nil (text e))) ∙ sym (concat-append (map text done) (text e ∷ []))
+      ∙ ap concat (sym (map-append text done (e ∷ [])))
+
+  pub one_more : (first p q : Parser S) (a b c : Option (List ℕ)) (asked : List yaml_token_t) (given : List yaml_event_t)
+      → AllWritten text gives first p a b asked given
+      → (is_over p ≡ false → (asked' : List yaml_token_t) (given' : List yaml_event_t) → History p asked' given'
+      → Call gives (λ e. (is_stream_end e ≡ false) × Appends b c (text e)) (λ f. ⊥) p q asked' given') → AllWritten text gives first q a c asked given
+  one_more first p q a b c asked given w calls = go (calls w.running (asked ++ w.more) (given ++ w.events) w.history)
+    where
+      go : Call gives (λ e. (is_stream_end e ≡ false) × Appends b c (text e)) (λ f. ⊥) p q (asked ++ w.more) (given ++ w.events)
+          → AllWritten text gives first q a c asked given
+      go (gave_event e on wrote) = record {
+        more = w.more ++ on.more;
+        events = w.events ++ e ∷ [];
+        gave = gave_then gives w.more on.more first.source p.source q.source w.gave on.gave;
+        history = history_more q asked w.more on.more given w.events (e ∷ []) on.history;
+        running = on.ends ∙ wrote.0;
+        wrote = subst (Appends a c) (texts_more w.events e) (Appends-trans a b c (concat (map text w.events)) (text e) w.wrote wrote.1);
+      }
+      go (failed by wrote) = absurd wrote
+
+  pub last_call : {W : Type 0} (ForEvent : yaml_event_t → (before after : Option (List ℕ)) → Type 0) (ForFault : Fault → (before after : Option (List ℕ))
+      → Type 0) (contents : W → Option (List ℕ)) (first p q : Parser S) (writer : W) (a d : Option (List ℕ)) (asked : List yaml_token_t)
+      (given : List yaml_event_t) → AllWritten text gives first p a (contents writer) asked given
+      → (is_over p ≡ false → (asked' : List yaml_token_t) (given' : List yaml_event_t) → History p asked' given'
+      → Call gives (λ e. ForEvent e (contents writer) d) (λ f. ForFault f (contents writer) d) p q asked' given')
+      → WrittenInTurn text ForEvent ForFault gives contents first q a d asked given
+  last_call ForEvent ForFault contents first p q writer a d asked given w closes
+      = record { parser = p; writer = writer; earlier = w; call = closes w.running (asked ++ w.more) (given ++ w.events) w.history }
