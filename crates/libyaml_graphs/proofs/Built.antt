@@ -16,7 +16,7 @@ use Rattle.libyaml_graphs.specs.Parts.{Part, alias_part, behind, children, end_i
 
 pub record Held : Type 0 where
   pub node : yaml_node_t
-  pub key : Option ℕ
+  pub key : Option ℤ
 
 abbrev pub bare : yaml_node_t → Held
 bare x = record { node = x; key = None }
@@ -32,7 +32,7 @@ change (suc p) f (h ∷ hs) = h ∷ change p f hs
 
 -- a child, and an end
 abbrev pub hold : ℕ → Held → Held
-hold i h = record { node = with_child h.key i h.node; key = key_behind h.key i h.node.content }
+hold i h = record { node = with_child h.key (pos i) h.node; key = key_behind h.key (pos i) h.node.content }
 
 abbrev pub end_at : Mark → Held → Held
 end_at m h = record { node = with_end m h.node; key = h.key }
@@ -179,17 +179,13 @@ applied_hold i (p ∷ s) f g hs e h =
     ∙ applied_same s (λ (d : ℕ). f (suc d)) (λ (d : ℕ). g (suc d)) (change p (g 0) hs) h
 
 -- children, one after the other: what a node holds after them, and the key that waits then
-abbrev pub grown : Option ℕ → unnamed_yaml_node_t_data → List ℕ → unnamed_yaml_node_t_data
+abbrev pub grown : Option ℤ → unnamed_yaml_node_t_data → List ℕ → unnamed_yaml_node_t_data
 grown k c [] = c
-grown k c (i ∷ is) = grown (key_behind k i c) (content_with k i c) is
+grown k c (i ∷ is) = grown (key_behind k (pos i) c) (content_with k (pos i) c) is
 
-abbrev pub grown_key : Option ℕ → unnamed_yaml_node_t_data → List ℕ → Option ℕ
+abbrev pub grown_key : Option ℤ → unnamed_yaml_node_t_data → List ℕ → Option ℤ
 grown_key k c [] = k
-grown_key k c (i ∷ is) = grown_key (key_behind k i c) (content_with k i c) is
-
-items_append : (is js : List ℕ) → items (is ++ js) ≡ items is ++ items js
-items_append [] js = refl
-items_append (i ∷ is) js = ap (λ (l : List ℤ). pos i ∷ l) (items_append is js)
+grown_key k c (i ∷ is) = grown_key (key_behind k (pos i) c) (content_with k (pos i) c) is
 
 abbrev listed : yaml_sequence_style_t → List ℤ → unnamed_yaml_node_t_data
 listed s l = Sequence (record { items = l; style = s })
@@ -208,7 +204,7 @@ add_pairs l (k ∷ v ∷ js) s =
     add_pairs (l ++ record { key = pos k; value = pos v } ∷ []) js s
     ∙ ap (paired s) (append_assoc l (record { key = pos k; value = pos v } ∷ []) (pairs js))
 
-grown_scalar : (b : unnamed_yaml_node_t_data_scalar) (k : Option ℕ) (is : List ℕ) → grown k (Scalar b) is ≡ Scalar b
+grown_scalar : (b : unnamed_yaml_node_t_data_scalar) (k : Option ℤ) (is : List ℕ) → grown k (Scalar b) is ≡ Scalar b
 grown_scalar b k [] = refl
 grown_scalar b k (i ∷ is) = grown_scalar b k is
 
@@ -273,7 +269,7 @@ leaf_finished a x es P b h =
     ∙ applied_append b.places G b.held (bare x ∷ []) h)
     ∙ append_assoc (applied b.places G b.held) (bare x ∷ []) R
 
-abbrev with_content : yaml_node_t → Mark → Option ℕ → unnamed_yaml_node_t_data → Held
+abbrev with_content : yaml_node_t → Mark → Option ℤ → unnamed_yaml_node_t_data → Held
 with_content x n k c = record { node = record { tag = x.tag; content = c; start_mark = x.start_mark; end_mark = n }; key = k }
 
 start_finished : (a : Option (List ℕ)) (x : yaml_node_t) (es : List Start) (P : List Part) (b : Built) → with_children [] x.content ≡ x.content
@@ -285,7 +281,7 @@ start_finished a x es P b e h =
     let R : List Held = held_graph fs P in
     let i : ℕ = suc (length es) in
     let M : List Held = hold_top i b.places b.held in
-    let k : Option ℕ = grown_key None x.content (children 0 fs P) in
+    let k : Option ℤ = grown_key None x.content (children 0 fs P) in
     ap (λ (l : List Held). applied (length b.held ∷ b.places) F l ++ R) (hold_append i b.places b.held (bare x ∷ []) h)
     ∙ (ap (λ (j : ℕ). applied (j ∷ b.places) F (M ++ bare x ∷ []) ++ R) (sym (length_hold i b.places b.held))
     ∙ (ap (λ (l : List Held). applied b.places (λ (d : ℕ). F (suc d)) l ++ R) (change_last (F 0) M (bare x))

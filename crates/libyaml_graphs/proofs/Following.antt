@@ -1,6 +1,7 @@
 -- The loader follows the graph as it is built: its nodes are those built, and its stack is the open places with the keys that
 -- wait there.
-use Rattle.std.proofs.Common.{◌≡◌, ℕ, zero, suc, List, [], ◌∷◌, ◌++◌, length, refl, sym, ap, ◌∙◌, cond, Option, Some, None, Bool, true, false, nat_cmp}
+use Rattle.std.proofs.Common.{◌≡◌, ℕ, zero, suc, ℤ, pos, List, [], ◌∷◌, ◌++◌, length, refl, sym, ap, ◌∙◌, cond, Option, Some, None, Bool, true, false, nat_cmp}
+use Rattle.std.specs.Prelude.{slice_get}
 use Rattle.std.specs.Ordering.{eq_by_cmp}
 use Rattle.std.specs.Cmp.Lexicographic.{slice_cmp, texts_ties, nat_list_eq_equiv, nat_list_cmp_total}
 use Rattle.std.specs.FinMap.{get, insert, get-insert, get-from_entries}
@@ -12,21 +13,21 @@ use Rattle.libyaml_documents.specs.Nodes.{changed_at}
 use Rattle.libyaml_documents.specs.declared.node.yaml_node_t.{yaml_node_t}
 use Rattle.libyaml_graphs.specs.ComposerFaults.{alias_fault, anchor_fault, known_fault, part_fault, repeated_anchor}
 use Rattle.libyaml_graphs.specs.Graphs.{Carrier, Start, carrier, carries, id_or}
-use Rattle.libyaml_graphs.specs.Loader.{Anchors, Loader, Open, Loading, Registered, closed_by, failed, going, hand, handed, key_at, known, load_part}
+use Rattle.libyaml_graphs.specs.Loader.{Anchors, Loader, Open, Loading, Registered, closed_by, failed, going, hand, handed, key_after, known, load_part}
 use Rattle.libyaml_graphs.specs.Loader.{no_anchors, on_alias, on_node, outer, register, registered, with_child}
 use Rattle.libyaml_graphs.specs.Parts.{Part, alias_part, behind, end_part, leaf_part, start_of, start_part}
 use Rattle.libyaml_graphs.proofs.Built.{AllHas, Built, Has, Held, all_append, all_end, all_hold, bare, below, build, change, end_at, end_top, has_last, hold}
 use Rattle.libyaml_graphs.proofs.Built.{hold_top, length_end, length_hold, length_more, nodes_in, unbuilt}
 
 -- the key that waits at a place, and a stack of places with their keys
-abbrev pub key_in : ℕ → List Held → Option ℕ
+abbrev pub key_in : ℕ → List Held → Option ℤ
 key_in p [] = None
 key_in zero (h ∷ hs) = h.key
 key_in (suc p) (h ∷ hs) = key_in p hs
 
 abbrev pub stack_of : List ℕ → List Held → List Open
 stack_of [] hs = []
-stack_of (p ∷ s) hs = record { place = p; key = key_in p hs } ∷ stack_of s hs
+stack_of (p ∷ s) hs = record { node = pos (suc p); key = key_in p hs } ∷ stack_of s hs
 
 abbrev pub loader_of : Built → Anchors → Loader
 loader_of b xs = record { nodes = nodes_in b.held; stack = stack_of b.places b.held; anchors = xs }
@@ -86,20 +87,20 @@ key_last (y ∷ hs) x = key_last hs x
 stack_below : (s : List ℕ) (p : ℕ) (f : Held → Held) (hs : List Held) → AllLess s p → stack_of s (change p f hs) ≡ stack_of s hs
 stack_below [] p f hs h = refl
 stack_below (q ∷ s) p f hs h =
-    ap (λ (k : Option ℕ). record { place = q; key = k } ∷ stack_of s (change p f hs)) (key_below q p f hs h.0)
-    ∙ ap (λ (t : List Open). record { place = q; key = key_in q hs } ∷ t) (stack_below s p f hs h.1)
+    ap (λ (k : Option ℤ). record { node = pos (suc q); key = k } ∷ stack_of s (change p f hs)) (key_below q p f hs h.0)
+    ∙ ap (λ (t : List Open). record { node = pos (suc q); key = key_in q hs } ∷ t) (stack_below s p f hs h.1)
 
 stack_ended : (s : List ℕ) (p : ℕ) (m : Mark) (hs : List Held) → stack_of s (change p (end_at m) hs) ≡ stack_of s hs
 stack_ended [] p m hs = refl
 stack_ended (q ∷ s) p m hs =
-    ap (λ (k : Option ℕ). record { place = q; key = k } ∷ stack_of s (change p (end_at m) hs)) (key_ended q p m hs)
-    ∙ ap (λ (t : List Open). record { place = q; key = key_in q hs } ∷ t) (stack_ended s p m hs)
+    ap (λ (k : Option ℤ). record { node = pos (suc q); key = k } ∷ stack_of s (change p (end_at m) hs)) (key_ended q p m hs)
+    ∙ ap (λ (t : List Open). record { node = pos (suc q); key = key_in q hs } ∷ t) (stack_ended s p m hs)
 
 stack_append : (s : List ℕ) (hs r : List Held) → AllHas s hs → stack_of s (hs ++ r) ≡ stack_of s hs
 stack_append [] hs r h = refl
 stack_append (p ∷ s) hs r h =
-    ap (λ (k : Option ℕ). record { place = p; key = k } ∷ stack_of s (hs ++ r)) (key_append p hs r h.0)
-    ∙ ap (λ (t : List Open). record { place = p; key = key_in p hs } ∷ t) (stack_append s hs r h.1)
+    ap (λ (k : Option ℤ). record { node = pos (suc p); key = k } ∷ stack_of s (hs ++ r)) (key_append p hs r h.0)
+    ∙ ap (λ (t : List Open). record { node = pos (suc p); key = key_in p hs } ∷ t) (stack_append s hs r h.1)
 
 pub nodes_append : (hs r : List Held) → nodes_in (hs ++ r) ≡ nodes_in hs ++ nodes_in r
 nodes_append [] r = refl
@@ -110,25 +111,25 @@ nodes_length [] = refl
 nodes_length (h ∷ hs) = ap (λ (n : ℕ). suc n) (nodes_length hs)
 
 -- a child handed over: the nodes and the stack are those of what is built
-hold_nodes : (p i : ℕ) (hs : List Held) → changed_at p (with_child (key_in p hs) i) (nodes_in hs) ≡ nodes_in (change p (hold i) hs)
+hold_nodes : (p i : ℕ) (hs : List Held) → changed_at p (with_child (key_in p hs) (pos i)) (nodes_in hs) ≡ nodes_in (change p (hold i) hs)
 hold_nodes p i [] = refl
 hold_nodes zero i (h ∷ hs) = refl
 hold_nodes (suc p) i (h ∷ hs) = ap (λ (l : List yaml_node_t). h.node ∷ l) (hold_nodes p i hs)
 
-hold_key : (p i : ℕ) (hs : List Held) → key_at p (key_in p hs) i (nodes_in hs) ≡ key_in p (change p (hold i) hs)
+hold_key : (p i : ℕ) (hs : List Held) → key_after (key_in p hs) (pos i) (slice_get (nodes_in hs) p) ≡ key_in p (change p (hold i) hs)
 hold_key p i [] = refl
 hold_key zero i (h ∷ hs) = refl
 hold_key (suc p) i (h ∷ hs) = hold_key p i hs
 
-hand_built : (i : ℕ) (s : List ℕ) (hs : List Held) → hand i (stack_of s hs) (nodes_in hs) ≡ nodes_in (hold_top i s hs)
+hand_built : (i : ℕ) (s : List ℕ) (hs : List Held) → hand (pos i) (stack_of s hs) (nodes_in hs) ≡ nodes_in (hold_top i s hs)
 hand_built i [] hs = refl
 hand_built i (p ∷ s) hs = hold_nodes p i hs
 
-handed_built : (i : ℕ) (s : List ℕ) (hs : List Held) → Falls s → handed i (stack_of s hs) (nodes_in hs) ≡ stack_of s (hold_top i s hs)
+handed_built : (i : ℕ) (s : List ℕ) (hs : List Held) → Falls s → handed (pos i) (stack_of s hs) (nodes_in hs) ≡ stack_of s (hold_top i s hs)
 handed_built i [] hs h = refl
 handed_built i (p ∷ s) hs h =
-    ap (λ (k : Option ℕ). record { place = p; key = k } ∷ stack_of s hs) (hold_key p i hs)
-    ∙ ap (λ (t : List Open). record { place = p; key = key_in p (change p (hold i) hs) } ∷ t) (sym (stack_below s p (hold i) hs h.0))
+    ap (λ (k : Option ℤ). record { node = pos (suc p); key = k } ∷ stack_of s hs) (hold_key p i hs)
+    ∙ ap (λ (t : List Open). record { node = pos (suc p); key = key_in p (change p (hold i) hs) } ∷ t) (sym (stack_below s p (hold i) hs h.0))
 
 end_nodes : (p : ℕ) (m : Mark) (hs : List Held) → changed_at p (with_end m) (nodes_in hs) ≡ nodes_in (change p (end_at m) hs)
 end_nodes p m [] = refl
@@ -188,21 +189,21 @@ loader_same nodes ms s t xs e h = ap (λ (l : List yaml_node_t). record { nodes 
 
 -- a node that is put after the others and handed to its parent, with what the stack is then
 put_nodes : (x : yaml_node_t) (es : List Start) (b : Built) → Stands es b
-    → hand (suc (length (nodes_in b.held))) (stack_of b.places b.held) (nodes_in b.held ++ x ∷ [])
+    → hand (pos (suc (length (nodes_in b.held)))) (stack_of b.places b.held) (nodes_in b.held ++ x ∷ [])
     ≡ nodes_in (hold_top (suc (length es)) b.places (b.held ++ bare x ∷ []))
 put_nodes x es b s =
-    ap (λ (i : ℕ). hand (suc i) (stack_of b.places b.held) (nodes_in b.held ++ x ∷ [])) (nodes_length b.held ∙ s.size)
-    ∙ (ap (λ (t : List Open). hand (suc (length es)) t (nodes_in b.held ++ x ∷ [])) (sym (stack_append b.places b.held (bare x ∷ []) s.there))
-    ∙ (ap (hand (suc (length es)) (stack_of b.places (b.held ++ bare x ∷ []))) (sym (nodes_append b.held (bare x ∷ [])))
+    ap (λ (i : ℕ). hand (pos (suc i)) (stack_of b.places b.held) (nodes_in b.held ++ x ∷ [])) (nodes_length b.held ∙ s.size)
+    ∙ (ap (λ (t : List Open). hand (pos (suc (length es))) t (nodes_in b.held ++ x ∷ [])) (sym (stack_append b.places b.held (bare x ∷ []) s.there))
+    ∙ (ap (hand (pos (suc (length es))) (stack_of b.places (b.held ++ bare x ∷ []))) (sym (nodes_append b.held (bare x ∷ [])))
     ∙ hand_built (suc (length es)) b.places (b.held ++ bare x ∷ [])))
 
 put_stack : (x : yaml_node_t) (es : List Start) (b : Built) → Stands es b
-    → handed (suc (length (nodes_in b.held))) (stack_of b.places b.held) (nodes_in b.held ++ x ∷ [])
+    → handed (pos (suc (length (nodes_in b.held)))) (stack_of b.places b.held) (nodes_in b.held ++ x ∷ [])
     ≡ stack_of b.places (hold_top (suc (length es)) b.places (b.held ++ bare x ∷ []))
 put_stack x es b s =
-    ap (λ (i : ℕ). handed (suc i) (stack_of b.places b.held) (nodes_in b.held ++ x ∷ [])) (nodes_length b.held ∙ s.size)
-    ∙ (ap (λ (t : List Open). handed (suc (length es)) t (nodes_in b.held ++ x ∷ [])) (sym (stack_append b.places b.held (bare x ∷ []) s.there))
-    ∙ (ap (handed (suc (length es)) (stack_of b.places (b.held ++ bare x ∷ []))) (sym (nodes_append b.held (bare x ∷ [])))
+    ap (λ (i : ℕ). handed (pos (suc i)) (stack_of b.places b.held) (nodes_in b.held ++ x ∷ [])) (nodes_length b.held ∙ s.size)
+    ∙ (ap (λ (t : List Open). handed (pos (suc (length es))) t (nodes_in b.held ++ x ∷ [])) (sym (stack_append b.places b.held (bare x ∷ []) s.there))
+    ∙ (ap (handed (pos (suc (length es))) (stack_of b.places (b.held ++ bare x ∷ []))) (sym (nodes_append b.held (bare x ∷ [])))
     ∙ handed_built (suc (length es)) b.places (b.held ++ bare x ∷ []) s.falls))
 
 new_key : (i : ℕ) (s : List ℕ) (hs : List Held) (x : yaml_node_t) → AllHas s hs → key_in (length hs) (hold_top i s (hs ++ bare x ∷ [])) ≡ None
@@ -210,14 +211,14 @@ new_key i [] hs x h = key_last hs (bare x)
 new_key i (p ∷ s) hs x h = key_above (length hs) p (hold i) (hs ++ bare x ∷ []) (has_less p hs h.0) ∙ key_last hs (bare x)
 
 opened_stack : (x : yaml_node_t) (es : List Start) (b : Built) → Stands es b
-    → ◌≡◌ {A = List Open} (record { place = length (nodes_in b.held); key = None }
-    ∷ handed (suc (length (nodes_in b.held))) (stack_of b.places b.held) (nodes_in b.held ++ x ∷ []))
+    → ◌≡◌ {A = List Open} (record { node = pos (suc (length (nodes_in b.held))); key = None }
+    ∷ handed (pos (suc (length (nodes_in b.held)))) (stack_of b.places b.held) (nodes_in b.held ++ x ∷ []))
     (stack_of (length b.held ∷ b.places) (hold_top (suc (length es)) b.places (b.held ++ bare x ∷ [])))
 opened_stack x es b s =
     let hs : List Held = hold_top (suc (length es)) b.places (b.held ++ bare x ∷ []) in
-    ap (λ (t : List Open). record { place = length (nodes_in b.held); key = None } ∷ t) (put_stack x es b s)
-    ∙ (ap (λ (n : ℕ). record { place = n; key = None } ∷ stack_of b.places hs) (nodes_length b.held)
-    ∙ ap (λ (k : Option ℕ). record { place = length b.held; key = k } ∷ stack_of b.places hs) (sym (new_key (suc (length es)) b.places b.held x s.there)))
+    ap (λ (t : List Open). record { node = pos (suc (length (nodes_in b.held))); key = None } ∷ t) (put_stack x es b s)
+    ∙ (ap (λ (n : ℕ). record { node = pos (suc n); key = None } ∷ stack_of b.places hs) (nodes_length b.held)
+    ∙ ap (λ (k : Option ℤ). record { node = pos (suc (length b.held)); key = k } ∷ stack_of b.places hs) (sym (new_key (suc (length es)) b.places b.held x s.there)))
 
 -- the map of anchors has the carriers
 abbrev pub Agrees : List Start → Anchors → Type 0
@@ -280,39 +281,23 @@ alias_follows a m es b xs s h = go (get xs a) (h a)
       ),
     )
 
-leaf_follows : (b : Option (List ℕ)) (x : yaml_node_t) (es : List Start) (c : Built) (xs : Anchors) → Stands es c → Agrees es xs
-    → Follows (load_part (loader_of c xs) (leaf_part b x)) (anchor_fault es b x.start_mark) (start_of b x ∷ es) (build es (leaf_part b x) c)
-leaf_follows b x es c xs s h = go (register b (suc (length (nodes_in c.held))) x.start_mark xs)
+node_follows : (b : Option (List ℕ)) (x : yaml_node_t) (opens : List Open) (es : List Start) (c d : Built) (xs : Anchors) → Stands es c → Agrees es xs
+    → hand (pos (suc (length (nodes_in c.held)))) (stack_of c.places c.held) (nodes_in c.held ++ x ∷ []) ≡ nodes_in d.held
+    → opens ++ handed (pos (suc (length (nodes_in c.held)))) (stack_of c.places c.held) (nodes_in c.held ++ x ∷ []) ≡ stack_of d.places d.held
+    → Follows (on_node (register b (suc (length (nodes_in c.held))) x.start_mark xs) x opens (loader_of c xs)) (anchor_fault es b x.start_mark)
+    (start_of b x ∷ es) d
+node_follows b x opens es c d xs s h nodes stack = go (register b (suc (length (nodes_in c.held))) x.start_mark xs)
     (registers b (suc (length (nodes_in c.held))) x.start_mark es xs h)
   where
     go : (g : Registered) → Meets g (λ (ys : Anchors). (a : List ℕ)
         → get ys a ≡ with_anchor b (suc (length (nodes_in c.held))) x.start_mark es a) x.start_mark (anchor_fault es b x.start_mark)
-        → Follows (on_node g x [] (loader_of c xs)) (anchor_fault es b x.start_mark) (start_of b x ∷ es) (build es (leaf_part b x) c)
+        → Follows (on_node g x opens (loader_of c xs)) (anchor_fault es b x.start_mark) (start_of b x ∷ es) d
     go (known k) q = q
     go (registered ys) q = (
       q.0,
       (
         ys,
-        loader_same _ _ _ _ ys (put_nodes x es c s) (put_stack x es c s),
-        λ a. q.1 a ∙ ap (λ (i : ℕ). with_anchor b (suc i) x.start_mark es a) (nodes_length c.held ∙ s.size),
-      ),
-    )
-
-start_follows : (b : Option (List ℕ)) (x : yaml_node_t) (es : List Start) (c : Built) (xs : Anchors) → Stands es c → Agrees es xs
-    → Follows (load_part (loader_of c xs) (start_part b x)) (anchor_fault es b x.start_mark) (start_of b x ∷ es) (build es (start_part b x) c)
-start_follows b x es c xs s h = go (register b (suc (length (nodes_in c.held))) x.start_mark xs)
-    (registers b (suc (length (nodes_in c.held))) x.start_mark es xs h)
-  where
-    go : (g : Registered) → Meets g (λ (ys : Anchors). (a : List ℕ)
-        → get ys a ≡ with_anchor b (suc (length (nodes_in c.held))) x.start_mark es a) x.start_mark (anchor_fault es b x.start_mark)
-        → Follows (on_node g x (record { place = length (nodes_in c.held); key = None } ∷ []) (loader_of c xs)) (anchor_fault es b x.start_mark) (start_of b x
-        ∷ es) (build es (start_part b x) c)
-    go (known k) q = q
-    go (registered ys) q = (
-      q.0,
-      (
-        ys,
-        loader_same _ _ _ _ ys (put_nodes x es c s) (opened_stack x es c s),
+        loader_same _ _ _ _ ys nodes stack,
         λ a. q.1 a ∙ ap (λ (i : ℕ). with_anchor b (suc i) x.start_mark es a) (nodes_length c.held ∙ s.size),
       ),
     )
@@ -320,6 +305,8 @@ start_follows b x es c xs s h = go (register b (suc (length (nodes_in c.held))) 
 pub part_follows : (p : Part) (es : List Start) (b : Built) (xs : Anchors) → Stands es b → Agrees es xs
     → Follows (load_part (loader_of b xs) p) (part_fault es p) (behind p es) (build es p b)
 part_follows (alias_part a m) es b xs s h = alias_follows a m es b xs s h
-part_follows (leaf_part a x) es b xs s h = leaf_follows a x es b xs s h
-part_follows (start_part a x) es b xs s h = start_follows a x es b xs s h
+part_follows (leaf_part a x) es b xs s h = node_follows a x [] es b (build es (leaf_part a x) b) xs s h (put_nodes x es b s) (put_stack x es b s)
+part_follows (start_part a x) es b xs s h =
+    node_follows a x (record { node = pos (suc (length (nodes_in b.held))); key = None } ∷ []) es b (build es (start_part a x) b) xs s h (put_nodes x es b s)
+    (opened_stack x es b s)
 part_follows (end_part n) es b xs s h = (refl, (xs, loader_same _ _ _ _ xs (close_built n b.places b.held) (outer_built n b.places b.held), h))

@@ -1,6 +1,7 @@
 -- How long the lists of what is built are: a pair counts from its key on.
 use Rattle.std.proofs.Common.{◌≡◌, ℕ, zero, suc, ℤ, pos, List, [], ◌∷◌, ◌++◌, length, nat_lt, le-ltb, zero-le, refl, sym, ap, ◌∙◌, Option, Some, None, Bool}
 use Rattle.std.proofs.Common.{true, false}
+use Rattle.std.specs.Prelude.{slice_get}
 use Rattle.libyaml_types.specs.declared.enums.yaml_mapping_style_t.{yaml_mapping_style_t}
 use Rattle.libyaml_grammar.specs.sentences.Events.{either}
 use Rattle.libyaml_grammar.specs.sentences.Tokens.{Mark}
@@ -10,14 +11,14 @@ use Rattle.libyaml_documents.specs.declared.node.yaml_node_t.{yaml_node_t}
 use Rattle.libyaml_documents.specs.declared.pairs.yaml_node_pair_t.{yaml_node_pair_t}
 use Rattle.libyaml_graphs.specs.Bounds.{entries, list_sizes, one_above, pairs_begun}
 use Rattle.libyaml_graphs.specs.Graphs.{Start, carrier, id_or, items, pairs}
-use Rattle.libyaml_graphs.specs.Loader.{Anchors, content_full, content_with, full_at, key_behind, list_full, parent_full}
+use Rattle.libyaml_graphs.specs.Loader.{Anchors, content_full, content_with, key_behind, list_full, node_full, parent_full}
 use Rattle.libyaml_graphs.specs.Parts.{Part, alias_part, children, end_part, leaf_part, start_of, start_part, with_children}
 use Rattle.libyaml_graphs.proofs.Built.{AllHas, BeginsEmpty, Built, Has, Held, bare, build, change, end_at, end_top, grown_key, held_graph, hold, hold_top}
 use Rattle.libyaml_graphs.proofs.Built.{nodes_in, paired}
 use Rattle.libyaml_graphs.proofs.Following.{key_append, key_in, loader_of, stack_of}
 
 -- the entries of a node's list, with the key that waits
-abbrev pub begun : Option ℕ → unnamed_yaml_node_t_data → ℕ
+abbrev pub begun : Option ℤ → unnamed_yaml_node_t_data → ℕ
 begun k (Scalar s) = 0
 begun k (Sequence s) = length s.items
 begun None (Mapping s) = length s.pairs
@@ -50,20 +51,20 @@ one_pair : (ps : List yaml_node_pair_t) (p : yaml_node_pair_t) → length (ps ++
 one_pair [] p = refl
 one_pair (q ∷ ps) p = ap (λ (n : ℕ). suc n) (one_pair ps p)
 
-content_grows : (n i : ℕ) (k : Option ℕ) (c : unnamed_yaml_node_t_data) → nat_lt n (begun k c) ≡ false
-    → nat_lt n (begun (key_behind k i c) (content_with k i c)) ≡ content_full n k c
+content_grows : (n i : ℕ) (k : Option ℤ) (c : unnamed_yaml_node_t_data) → nat_lt n (begun k c) ≡ false
+    → nat_lt n (begun (key_behind k (pos i) c) (content_with k (pos i) c)) ≡ content_full n k c
 content_grows n i k (Scalar s) h = h
 content_grows n i k (Sequence s) h = ap (nat_lt n) (one_item s.items (pos i))
 content_grows n i None (Mapping s) h = refl
-content_grows n i (Some k) (Mapping s) h = ap (nat_lt n) (one_pair s.pairs (record { key = pos k; value = pos i })) ∙ h
+content_grows n i (Some k) (Mapping s) h = ap (nat_lt n) (one_pair s.pairs (record { key = k; value = pos i })) ∙ h
 
 change_grows : (p n i : ℕ) (hs : List Held) → one_above n (sizes hs) ≡ false
-    → one_above n (sizes (change p (hold i) hs)) ≡ full_at n p (key_in p hs) (nodes_in hs)
+    → one_above n (sizes (change p (hold i) hs)) ≡ node_full n (key_in p hs) (slice_get (nodes_in hs) p)
 change_grows p n i [] e = refl
 change_grows zero n i (h ∷ hs) e =
     let k : (nat_lt n (begun h.key h.node.content) ≡ false) × (one_above n (sizes hs) ≡ false) = either_false _ _ e in
-    ap (either (nat_lt n (begun (key_behind h.key i h.node.content) (content_with h.key i h.node.content)))) k.1
-    ∙ (or_false (nat_lt n (begun (key_behind h.key i h.node.content) (content_with h.key i h.node.content)))
+    ap (either (nat_lt n (begun (key_behind h.key (pos i) h.node.content) (content_with h.key (pos i) h.node.content)))) k.1
+    ∙ (or_false (nat_lt n (begun (key_behind h.key (pos i) h.node.content) (content_with h.key (pos i) h.node.content)))
     ∙ content_grows n i h.key h.node.content k.0)
 change_grows (suc p) n i (h ∷ hs) e =
     let k : (nat_lt n (begun h.key h.node.content) ≡ false) × (one_above n (sizes hs) ≡ false) = either_false _ _ e in
@@ -99,8 +100,8 @@ more_grows n (y ∷ hs) x e h =
     let k : (nat_lt n (begun y.key y.node.content) ≡ false) × (one_above n (sizes hs) ≡ false) = either_false _ _ h in
     either_none _ _ k.0 ∙ more_grows n hs x e k.1
 
-full_append : (p n : ℕ) (k : Option ℕ) (hs : List Held) (x : yaml_node_t) → Has p hs
-    → full_at n p k (nodes_in (hs ++ bare x ∷ [])) ≡ full_at n p k (nodes_in hs)
+full_append : (p n : ℕ) (k : Option ℤ) (hs : List Held) (x : yaml_node_t) → Has p hs
+    → node_full n k (slice_get (nodes_in (hs ++ bare x ∷ [])) p) ≡ node_full n k (slice_get (nodes_in hs) p)
 full_append p n k [] x h = absurd h
 full_append zero n k (y ∷ hs) x h = refl
 full_append (suc p) n k (y ∷ hs) x h = full_append p n k hs x h
@@ -108,7 +109,7 @@ full_append (suc p) n k (y ∷ hs) x h = full_append p n k hs x h
 parent_append : (s : List ℕ) (n : ℕ) (hs : List Held) (x : yaml_node_t) → AllHas s hs
     → parent_full n (stack_of s (hs ++ bare x ∷ [])) (nodes_in (hs ++ bare x ∷ [])) ≡ parent_full n (stack_of s hs) (nodes_in hs)
 parent_append [] n hs x h = refl
-parent_append (p ∷ s) n hs x h = ap (λ (k : Option ℕ). full_at n p k (nodes_in (hs ++ bare x ∷ []))) (key_append p hs (bare x ∷ []) h.0)
+parent_append (p ∷ s) n hs x h = ap (λ (k : Option ℤ). node_full n k (slice_get (nodes_in (hs ++ bare x ∷ [])) p)) (key_append p hs (bare x ∷ []) h.0)
     ∙ full_append p n (key_in p hs) hs x h.0
 
 node_grows : (n i : ℕ) (x : yaml_node_t) (b : Built) → with_children [] x.content ≡ x.content → AllHas b.places b.held → one_above n (sizes b.held) ≡ false
@@ -125,7 +126,7 @@ list_grows (start_part a x) n es b xs e h s = node_grows n (suc (length es)) x b
 list_grows (end_part m) n es b xs e h s = ended_grows b.places m n b.held s
 
 -- the lists of a graph with the keys that wait in it
-suc_begun : (k : Option ℕ) (p : yaml_node_pair_t) (ps : List yaml_node_pair_t) (s : yaml_mapping_style_t)
+suc_begun : (k : Option ℤ) (p : yaml_node_pair_t) (ps : List yaml_node_pair_t) (s : yaml_mapping_style_t)
     → begun k (paired s (p ∷ ps)) ≡ suc (begun k (paired s ps))
 suc_begun None p ps s = refl
 suc_begun (Some k) p ps s = refl

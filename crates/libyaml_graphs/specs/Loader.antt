@@ -1,6 +1,6 @@
 -- The loader as a machine over events (docs/DEFINITIONS.md, "The loader as a machine"): the nodes so far, a stack of the
 -- collections that are open, and the anchors. By this the loader's contracts are proved; no public clause speaks of it.
-use Rattle.std.specs.Prelude.{ℕ, zero, suc, pos, List, [], ◌∷◌, ◌++◌, length, nat_lt, Option, Some, None, Bool, true, false, Ok, Err}
+use Rattle.std.specs.Prelude.{ℕ, suc, ℤ, pos, List, [], ◌∷◌, ◌++◌, length, nat_lt, Option, Some, None, Bool, true, false, Ok, Err}
 use Rattle.std.specs.FinMap.{FinMap, from_entries, get, insert}
 use Rattle.std.specs.Cmp.Lexicographic.{slice_cmp}
 use Rattle.std.specs.Ordering.{nat_cmp}
@@ -9,7 +9,7 @@ use Rattle.libyaml_sources.specs.Fault.{Fault, memory_fault}
 use Rattle.libyaml_grammar.specs.runs.Runs.{Ending}
 use Rattle.libyaml_grammar.specs.sentences.Tokens.{Mark}
 use Rattle.libyaml_documents.specs.LoadedNodes.{with_end}
-use Rattle.libyaml_documents.specs.Nodes.{changed_at, item_behind, pair_behind}
+use Rattle.libyaml_documents.specs.Nodes.{item_behind, node_at, pair_behind, with_changed}
 use Rattle.libyaml_documents.specs.declared.node.unnamed_yaml_node_t_data.{unnamed_yaml_node_t_data}
 use Rattle.libyaml_documents.specs.declared.node.unnamed_yaml_node_t_data.TheVariants.{Scalar, Sequence, Mapping}
 use Rattle.libyaml_documents.specs.declared.node.yaml_node_t.{yaml_node_t}
@@ -25,10 +25,10 @@ Anchors = FinMap (slice_cmp nat_cmp) Carrier
 abbrev pub no_anchors : Anchors
 no_anchors = from_entries []
 
--- An open collection: the place of its node in the list, from 0, and the id of the key that waits for its value.
+-- An open collection: the id of its node, and that of the key that waits for its value.
 pub record Open : Type 0 where
-  pub place : ℕ
-  pub key : Option ℕ
+  pub node : ℤ
+  pub key : Option ℤ
 
 -- the innermost open collection stands first
 pub record Loader : Type 0 where
@@ -45,39 +45,38 @@ pub data Loading : Type 0 where
 
 -- A child after those of a node, where k is the key that waits: a sequence has one item more, a mapping a pair more or a key
 -- that waits.
-abbrev pub content_with : Option ℕ → ℕ → unnamed_yaml_node_t_data → unnamed_yaml_node_t_data
+abbrev pub content_with : Option ℤ → ℤ → unnamed_yaml_node_t_data → unnamed_yaml_node_t_data
 content_with k i (Scalar s) = Scalar s
-content_with k i (Sequence s) = item_behind (pos i) (Sequence s)
+content_with k i (Sequence s) = item_behind i (Sequence s)
 content_with None i (Mapping s) = Mapping s
-content_with (Some k) i (Mapping s) = pair_behind (record { key = pos k; value = pos i }) (Mapping s)
+content_with (Some k) i (Mapping s) = pair_behind (record { key = k; value = i }) (Mapping s)
 
-abbrev pub key_behind : Option ℕ → ℕ → unnamed_yaml_node_t_data → Option ℕ
+abbrev pub key_behind : Option ℤ → ℤ → unnamed_yaml_node_t_data → Option ℤ
 key_behind k i (Scalar s) = k
 key_behind k i (Sequence s) = k
 key_behind None i (Mapping s) = Some i
 key_behind (Some k) i (Mapping s) = None
 
-abbrev pub with_child : Option ℕ → ℕ → yaml_node_t → yaml_node_t
+abbrev pub with_child : Option ℤ → ℤ → yaml_node_t → yaml_node_t
 with_child k i x = record x { content = content_with k i x.content }
 
-abbrev pub key_at : ℕ → Option ℕ → ℕ → List yaml_node_t → Option ℕ
-key_at p k i [] = k
-key_at zero k i (x ∷ xs) = key_behind k i x.content
-key_at (suc p) k i (x ∷ xs) = key_at p k i xs
+abbrev pub key_after : Option ℤ → ℤ → Option yaml_node_t → Option ℤ
+key_after k i None = k
+key_after k i (Some x) = key_behind k i x.content
 
 -- a child handed to the innermost open collection: the nodes and the stack after it
-abbrev pub hand : ℕ → List Open → List yaml_node_t → List yaml_node_t
+abbrev pub hand : ℤ → List Open → List yaml_node_t → List yaml_node_t
 hand i [] nodes = nodes
-hand i (o ∷ s) nodes = changed_at o.place (with_child o.key i) nodes
+hand i (o ∷ s) nodes = with_changed o.node (with_child o.key i) nodes
 
-abbrev pub handed : ℕ → List Open → List yaml_node_t → List Open
+abbrev pub handed : ℤ → List Open → List yaml_node_t → List Open
 handed i [] nodes = []
-handed i (o ∷ s) nodes = record { place = o.place; key = key_at o.place o.key i nodes } ∷ s
+handed i (o ∷ s) nodes = record { node = o.node; key = key_after o.key i (node_at nodes o.node) } ∷ s
 
 -- the innermost open collection ends at m
 abbrev pub closed_by : Mark → List Open → List yaml_node_t → List yaml_node_t
 closed_by m [] nodes = nodes
-closed_by m (o ∷ s) nodes = changed_at o.place (with_end m) nodes
+closed_by m (o ∷ s) nodes = with_changed o.node (with_end m) nodes
 
 abbrev pub outer : List Open → List Open
 outer [] = []
@@ -94,16 +93,16 @@ register (Some a) i m xs = elim (get xs a) [ Some c ↦ known c.mark | None ↦ 
 
 abbrev pub on_alias : Option Carrier → Mark → Loader → Loading
 on_alias None m l = failed (undefined_alias m)
-on_alias (Some c) m l = going (record { nodes = hand c.id l.stack l.nodes; stack = handed c.id l.stack l.nodes; anchors = l.anchors })
+on_alias (Some c) m l = going (record { nodes = hand (pos c.id) l.stack l.nodes; stack = handed (pos c.id) l.stack l.nodes; anchors = l.anchors })
 
 -- a node is put after the others and then handed to its parent; `opens` are the collections that it opens
 abbrev pub on_node : Registered → yaml_node_t → (opens : List Open) → Loader → Loading
 on_node (known m) x opens l = failed (repeated_anchor m x.start_mark)
 on_node (registered xs) x opens l
     = going (record {
-      nodes = hand (suc (length l.nodes)) l.stack (l.nodes ++ x ∷ []);
+      nodes = hand (pos (suc (length l.nodes))) l.stack (l.nodes ++ x ∷ []);
       stack = opens
-          ++ handed (suc (length l.nodes)) l.stack (l.nodes ++ x ∷ []);
+          ++ handed (pos (suc (length l.nodes))) l.stack (l.nodes ++ x ∷ []);
       anchors = xs;
     })
 
@@ -111,25 +110,25 @@ on_node (registered xs) x opens l
 abbrev pub load_part : Loader → Part → Loading
 load_part l (alias_part a m) = on_alias (get l.anchors a) m l
 load_part l (leaf_part a x) = on_node (register a (suc (length l.nodes)) x.start_mark l.anchors) x [] l
-load_part l (start_part a x) = on_node (register a (suc (length l.nodes)) x.start_mark l.anchors) x (record { place = length l.nodes; key = None } ∷ []) l
+load_part l (start_part a x)
+    = on_node (register a (suc (length l.nodes)) x.start_mark l.anchors) x (record { node = pos (suc (length l.nodes)); key = None } ∷ []) l
 load_part l (end_part n) = going (record { nodes = closed_by n l.stack l.nodes; stack = outer l.stack; anchors = l.anchors })
 
 -- One part, with the bound n: the list of nodes first, then the anchor or alias, then the parent's list. A mapping's list
 -- has room for a value where it had room for the key.
-abbrev pub content_full : ℕ → Option ℕ → unnamed_yaml_node_t_data → Bool
+abbrev pub content_full : ℕ → Option ℤ → unnamed_yaml_node_t_data → Bool
 content_full n k (Scalar s) = false
 content_full n k (Sequence s) = nat_lt n (suc (length s.items))
 content_full n None (Mapping s) = nat_lt n (suc (length s.pairs))
 content_full n (Some k) (Mapping s) = false
 
-abbrev pub full_at : ℕ → ℕ → Option ℕ → List yaml_node_t → Bool
-full_at n p k [] = false
-full_at n zero k (x ∷ xs) = content_full n k x.content
-full_at n (suc p) k (x ∷ xs) = full_at n p k xs
+abbrev pub node_full : ℕ → Option ℤ → Option yaml_node_t → Bool
+node_full n k None = false
+node_full n k (Some x) = content_full n k x.content
 
 abbrev pub parent_full : ℕ → List Open → List yaml_node_t → Bool
 parent_full n [] nodes = false
-parent_full n (o ∷ s) nodes = full_at n o.place o.key nodes
+parent_full n (o ∷ s) nodes = node_full n o.key (node_at nodes o.node)
 
 abbrev pub nodes_full : ℕ → Loader → Part → Bool
 nodes_full n l (alias_part a m) = false

@@ -1,49 +1,55 @@
 -- A child put into the innermost open collection, by what it is to that node.
-use Rattle.std.proofs.Common.{◌≡◌, ◌≤◌, ◌<◌, ◌⊎◌, ◌∷◌, List, ℕ, suc, ℤ, pos, ◌≤ℤ◌, arith, ap, refl, sym, subst, ◌∙◌, Option, Some, None, false, true}
+use Rattle.std.proofs.Common.{◌≡◌, ◌≤ℤ◌, ◌⊎◌, ◌∷◌, List, [], ℕ, ℤ, pos, negsuc, arith, ap, refl, sym, subst, ◌∙◌, Option, Some, None, Bool, false, true}
 use Rattle.std.proofs.Common.{inl, inr, Result, Ok, Err, IfErr}
 use Rattle.std.proofs.lemmas.Int.{ints}
 use Rattle.std.specs.Prelude.{IfSome}
 use Rattle.std.specs.Result.{IsErr, IsErrAnd}
-use Rattle.libyaml_types.specs.declared.enums.yaml_node_type_t.TheVariants.{YAML_MAPPING_NODE, YAML_SCALAR_NODE}
+use Rattle.libyaml_types.specs.declared.enums.yaml_node_type_t.TheVariants.{YAML_SEQUENCE_NODE, YAML_MAPPING_NODE}
 use Rattle.libyaml_documents.specs.Children.{AppendedAs, MayRefuseAt}
-use Rattle.libyaml_documents.specs.Documents.{Document, with_changed_node}
-use Rattle.libyaml_documents.specs.Nodes.{IsIdUpTo, type_at, with_pair}
+use Rattle.libyaml_documents.specs.Documents.{Document}
+use Rattle.libyaml_documents.specs.Nodes.{IsIdUpTo, node_at, node_type, type_of}
 use Rattle.libyaml_documents.specs.declared.node.ChildRole.{ChildRole}
 use Rattle.libyaml_documents.specs.declared.node.ChildRole.TheVariants as role
+use Rattle.libyaml_documents.specs.declared.node.unnamed_yaml_node_t_data.{unnamed_yaml_node_t_data}
+use Rattle.libyaml_documents.specs.declared.node.unnamed_yaml_node_t_data.TheVariants.{Scalar, Sequence, Mapping}
+use Rattle.libyaml_documents.specs.declared.node.yaml_node_t.{yaml_node_t}
 use Rattle.libyaml_graphs.specs.Loader as machine
-use Rattle.libyaml_graphs.specs.Loader.{parent_full}
+use Rattle.libyaml_graphs.specs.Loader.{hand, outer, parent_full}
+use Rattle.libyaml_graphs.proofs.lent.Machine.{Hands, hands_item, hands_key, hands_nothing, hands_value}
 use Rattle.libyaml_loader.specs.declared.context.loader_ctx.{loader_ctx}
 use Rattle.libyaml_loader.specs.declared.ids.NodeId.{NodeId}
 use Rattle.libyaml_loader.specs.declared.ids.Open.{Open}
 use Rattle.libyaml_loader.specs.declared.refusal.Refusal.{Refusal}
 use Rattle.libyaml_loader.specs.declared.refusal.Refusal.TheVariants.{Memory}
-use Rattle.libyaml_loader.specs.Context.{AllOpenIn, KeyIn, handed_to}
-use Rattle.libyaml_loader.specs.Growth.{parent_grows}
-use Rattle.libyaml_loader.specs.Ids.{id_of, key_of, number_of, open_of, place_of}
+use Rattle.libyaml_loader.specs.Context.{AllOpenIn, handed_to, with_nodes}
+use Rattle.libyaml_loader.specs.Growth.{content_grows, node_grows, parent_grows}
+use Rattle.libyaml_loader.specs.Ids.{id_of, magnitude, number_of, open_of}
 use Rattle.libyaml_loader.specs.Stack.{innermost, with_key}
-use Rattle.libyaml_loader.proofs.Growing.{pair_grows, sequence_grows}
-use Rattle.libyaml_loader.proofs.Handing.{handed_by, hands_item, hands_key, hands_nothing, hands_value, id_number, place_number, top_first}
+
+magnitude_is : (z : ℤ) → pos 1 ≤ℤ z → z ≡ pos (magnitude z)
+magnitude_is (pos n) h = refl
+magnitude_is (negsuc n) h = absurd (omega (arith, ints))
+
+pub id_number : (i : NodeId) → i.number ≡ pos (id_of i)
+id_number i = magnitude_is i.number i.positive
+
+pub child_is_id : (n : ℕ) (i : NodeId) → IsIdUpTo n (pos (id_of i)) → IsIdUpTo n i.number
+child_is_id n i h = subst (IsIdUpTo n) (sym (id_number i)) h
+
+-- the stack by its innermost
+pub top_first : (s : List machine.Open) (o : machine.Open) → Some o ≡ innermost s → o ∷ outer s ≡ s
+top_first [] o e = absurd cc
+top_first (p ∷ s) o e = ap (λ (q : machine.Open). q ∷ s) (same e)
+  where
+    same : Some o ≡ Some p → o ≡ p
+    same h = cc
 
 -- the ids of an open collection and of its key are ids of nodes
-pub place_is_id : (n : ℕ) (i : NodeId) → place_of i < n → IsIdUpTo n i.number
-place_is_id n i h =
-    let there : IsIdUpTo n (pos (suc (place_of i))) = (omega (arith, ints), omega (arith, ints)) in
-    subst (λ (z : ℤ). IsIdUpTo n z) (sym (place_number i)) there
-
-pub is_id : (n : ℕ) (i : NodeId) → id_of i ≤ n → IsIdUpTo n i.number
-is_id n i h =
-    let below : pos (id_of i) ≤ℤ pos n = omega (arith, ints) in
-    (i.positive, subst (λ (z : ℤ). z ≤ℤ pos n) (sym (id_number i)) below)
-
-key_is_id : (n : ℕ) (k : Option NodeId) → KeyIn n (key_of k) → IfSome (number_of k) (IsIdUpTo n)
-key_is_id n None h = tt
-key_is_id n (Some i) h = is_id n i h
-
 pub open_ids : (n : ℕ) (p : Open) (s : List machine.Open) → Some (open_of p) ≡ innermost s → AllOpenIn n s
     → IsIdUpTo n p.node.number × IfSome (number_of p.key) (IsIdUpTo n)
 open_ids n p s top h =
-    let there : AllOpenIn n (open_of p ∷ machine.outer s) = subst (AllOpenIn n) (sym (top_first s (open_of p) top)) h in
-    (place_is_id n p.node there.0, key_is_id n p.key there.1)
+    let there : AllOpenIn n (open_of p ∷ outer s) = subst (AllOpenIn n) (sym (top_first s (open_of p) top)) h in
+    (there.0, there.1)
 
 pub waiting_is_id : (n : ℕ) (p : Open) (s : List machine.Open) → Some (open_of p) ≡ innermost s → AllOpenIn n s → (k : Option ℤ) → k ≡ number_of p.key
     → IfSome k (IsIdUpTo n)
@@ -55,83 +61,89 @@ pub on_memory : {A W : Type 0} (r : Result A Refusal) → IsErr r × IsErrAnd r 
 on_memory (Ok x) h w = tt
 on_memory (Err e) h w = (h.1, w)
 
-abbrev pub stack_behind : ChildRole → ℕ → List machine.Open → List machine.Open
+-- a sequence takes memory for a child, and a mapping for the value of a key
+sequence_grows : (k : Option ℤ) (x : Option yaml_node_t) → type_of x ≡ YAML_SEQUENCE_NODE → node_grows k x ≡ true
+sequence_grows k None h = absurd cc
+sequence_grows k (Some x) h = go x.content h
+  where
+    go : (c : unnamed_yaml_node_t_data) → node_type c ≡ YAML_SEQUENCE_NODE → content_grows k c ≡ true
+    go (Scalar s) h = absurd cc
+    go (Sequence s) h = refl
+    go (Mapping s) h = absurd cc
+
+pair_grows : (k : ℤ) (x : Option yaml_node_t) → type_of x ≡ YAML_MAPPING_NODE → node_grows (Some k) x ≡ true
+pair_grows k None h = absurd cc
+pair_grows k (Some x) h = go x.content h
+  where
+    go : (c : unnamed_yaml_node_t_data) → node_type c ≡ YAML_MAPPING_NODE → content_grows (Some k) c ≡ true
+    go (Scalar s) h = absurd cc
+    go (Sequence s) h = absurd cc
+    go (Mapping s) h = refl
+
+abbrev pub stack_behind : ChildRole → ℤ → List machine.Open → List machine.Open
 stack_behind role.Item i s = s
 stack_behind role.Key i s = with_key (Some i) s
 stack_behind role.Value i s = with_key None s
 stack_behind role.Ignored i s = s
 
-no_key : (k : Option NodeId) → number_of k ≡ None → k ≡ None
-no_key None h = refl
-no_key (Some i) h = absurd cc
-
 module _ (c : loader_ctx) (p : Open) (child : NodeId) (top : Some (open_of p) ≡ innermost c.stack) where
   -- the context after a child, and that its parent's list had room
   pub record Handed (r : ChildRole) (new : Document) : Type 0 where
-    pub context : record c { document = new; stack = stack_behind r (id_of child) c.stack } ≡ handed_to (id_of child) c
+    pub context : record c { document = new; stack = stack_behind r child.number c.stack } ≡ handed_to (pos (id_of child)) c
     pub room : parent_full c.max_entries c.stack c.document.nodes ≡ false
 
-  with_value : (new : Document) (k : ℤ) (o : Option NodeId) → p.key ≡ o → number_of o ≡ Some k
-      → type_at c.document.nodes p.node.number ≡ YAML_MAPPING_NODE
-      → new ≡ with_changed_node c.document p.node.number (with_pair k child.number) → Handed role.Value new
-  with_value new k None e waits mapping made = absurd cc
-  with_value new k (Some key) e waits mapping made =
-      let h = hands_value c.max_entries p key child c.stack c.document.nodes e top mapping in
+  abbrev HandsAs : ChildRole → List machine.Open → List yaml_node_t → Bool → Type 0
+  HandsAs r s nodes full = Hands c.max_entries child.number s c.document.nodes nodes (stack_behind r child.number s) full
+
+  at_top : (r : ChildRole) (nodes : List yaml_node_t) (full : Bool) → HandsAs r (open_of p ∷ outer c.stack) nodes full → HandsAs r c.stack nodes full
+  at_top r nodes full h = subst (λ (s : List machine.Open). HandsAs r s nodes full) (top_first c.stack (open_of p) top) h
+
+  handed_as : (r : ChildRole) (new : Document) (nodes : List yaml_node_t) (full : Bool) → new ≡ with_nodes nodes c.document
+      → HandsAs r (open_of p ∷ outer c.stack) nodes full → full ≡ false → Handed r new
+  handed_as r new nodes full made there room =
+      let h = at_top r nodes full there in
+      let z = child.number in
       record {
-        context = ap (λ (d : Document). record c { document = d; stack = with_key None c.stack }) made
-            ∙ (ap (λ (z : ℤ). record c { document = with_changed_node c.document p.node.number (with_pair z child.number); stack = with_key None c.stack })
-            (number waits)
-            ∙ handed_by c.max_entries (id_of child) c _ _ _ h);
-        room = h.full_is;
+        context = ap (λ (d : Document). record c { document = d; stack = stack_behind r z c.stack }) made
+            ∙ ap (λ (l : List yaml_node_t). record c { document = with_nodes l c.document; stack = stack_behind r z c.stack }) h.nodes_are
+            ∙ ap (λ (s : List machine.Open). record c { document = with_nodes (hand z c.stack c.document.nodes) c.document; stack = s }) h.stack_is
+            ∙ ap (λ (i : ℤ). handed_to i c) (id_number child);
+        room = h.full_is ∙ room;
       }
-    where
-      number : Some key.number ≡ Some k → k ≡ key.number
-      number q = cc
 
   pub hands : (r : ChildRole) (new : Document) → AppendedAs r c.max_entries p.node.number (number_of p.key) child.number c.document new → Handed r new
-  hands role.Item new (sequence, made, room) =
-      let h = hands_item c.max_entries p child c.stack c.document.nodes top sequence in
-      record {
-        context = ap (λ (d : Document). record c { document = d }) made ∙ handed_by c.max_entries (id_of child) c _ _ _ h;
-        room = h.full_is ∙ room;
-      }
-  hands role.Key new (mapping, none, made, room) =
-      let h = hands_key c.max_entries p child c.stack c.document.nodes (no_key p.key none) top mapping in
-      record {
-        context = ap (λ (d : Document). record c { document = d; stack = with_key (Some (id_of child)) c.stack }) made
-            ∙ handed_by c.max_entries (id_of child) c _ _ _ h;
-        room = h.full_is ∙ room;
-      }
-  hands role.Value new (mapping, (k, waits, made)) = with_value new k p.key refl waits mapping made
-  hands role.Ignored new (scalar, made) =
-      let h = hands_nothing c.max_entries p child c.stack c.document.nodes top YAML_SCALAR_NODE refl (sym scalar) in
-      record {
-        context = ap (λ (d : Document). record c { document = d }) made ∙ handed_by c.max_entries (id_of child) c _ _ _ h;
-        room = h.full_is;
-      }
+  hands role.Item new (sequence, made, room)
+      = handed_as role.Item new _ _ made (hands_item c.max_entries child.number (open_of p) (outer c.stack) c.document.nodes sequence) room
+  hands role.Key new (mapping, none, made, room)
+      = handed_as role.Key new _ _ made (hands_key c.max_entries child.number (open_of p) (outer c.stack) c.document.nodes none mapping) room
+  hands role.Value new (mapping, (k, waits, made))
+      = handed_as role.Value new _ _ made (hands_value c.max_entries child.number (open_of p) k (outer c.stack) c.document.nodes waits mapping) refl
+  hands role.Ignored new (scalar, made)
+      = handed_as role.Ignored new _ _ made (hands_nothing c.max_entries child.number (open_of p) (outer c.stack) c.document.nodes scalar) refl
 
-  pub hands_at : (r s : ChildRole) (z w : ℤ) (k : Option ℤ) (new : Document) → r ≡ s → z ≡ p.node.number → w ≡ child.number → k ≡ number_of p.key
-      → AppendedAs r c.max_entries z k w c.document new → Handed s new
-  hands_at r s z w k new is at_parent at_child waits h =
+  pub hands_at : (r s : ChildRole) (k : Option ℤ) (new : Document) → r ≡ s → k ≡ number_of p.key
+      → AppendedAs r c.max_entries p.node.number k child.number c.document new → Handed s new
+  hands_at r s k new is waits h =
       hands s new (subst (λ (q : ChildRole). AppendedAs q c.max_entries p.node.number (number_of p.key) child.number c.document new) is
-      (subst (λ (y : ℤ). AppendedAs r c.max_entries y (number_of p.key) child.number c.document new) at_parent
-      (subst (λ (y : ℤ). AppendedAs r c.max_entries z (number_of p.key) y c.document new) at_child
-      (subst (λ (y : Option ℤ). AppendedAs r c.max_entries z y w c.document new) waits h))))
+      (subst (λ (y : Option ℤ). AppendedAs r c.max_entries p.node.number y child.number c.document new) waits h))
 
   -- why it may be refused
-  refuses_at : (o : Option NodeId) → p.key ≡ o → MayRefuseAt c.max_entries p.node.number (number_of o) c.document.nodes
+  pub refuses : (k : Option ℤ) → k ≡ number_of p.key → MayRefuseAt c.max_entries p.node.number k c.document.nodes
       → (parent_grows c.stack c.document.nodes ≡ true) ⊎ (parent_full c.max_entries c.stack c.document.nodes ≡ true)
-  refuses_at None e (inl sequence) = inl (sequence_grows p c.stack c.document.nodes top sequence)
-  refuses_at None e (inr (mapping, full)) = inr ((hands_key c.max_entries p child c.stack c.document.nodes e top mapping).full_is ∙ full)
-  refuses_at (Some key) e (inl sequence) = inl (sequence_grows p c.stack c.document.nodes top sequence)
-  refuses_at (Some key) e (inr mapping) = inl (pair_grows p key c.stack c.document.nodes e top mapping)
+  refuses k waits h = go k waits h
+    where
+      parent : Option yaml_node_t
+      parent = node_at c.document.nodes p.node.number
 
-  pub refuses : MayRefuseAt c.max_entries p.node.number (number_of p.key) c.document.nodes
-      → (parent_grows c.stack c.document.nodes ≡ true) ⊎ (parent_full c.max_entries c.stack c.document.nodes ≡ true)
-  refuses h = refuses_at p.key refl h
+      grows : (q : Option ℤ) → number_of p.key ≡ q → node_grows q parent ≡ true → parent_grows c.stack c.document.nodes ≡ true
+      grows q e h = ap (λ (s : List machine.Open). parent_grows s c.document.nodes) (sym (top_first c.stack (open_of p) top))
+          ∙ ap (λ (y : Option ℤ). node_grows y parent) e ∙ h
 
-  pub refuses_by : (z : ℤ) (k : Option ℤ) → z ≡ p.node.number → k ≡ number_of p.key → MayRefuseAt c.max_entries z k c.document.nodes
-      → (parent_grows c.stack c.document.nodes ≡ true) ⊎ (parent_full c.max_entries c.stack c.document.nodes ≡ true)
-  refuses_by z k at_parent waits h =
-      refuses (subst (λ (y : ℤ). MayRefuseAt c.max_entries y (number_of p.key) c.document.nodes) at_parent
-      (subst (λ (y : Option ℤ). MayRefuseAt c.max_entries z y c.document.nodes) waits h))
+      go : (q : Option ℤ) → q ≡ number_of p.key → MayRefuseAt c.max_entries p.node.number q c.document.nodes
+          → (parent_grows c.stack c.document.nodes ≡ true) ⊎ (parent_full c.max_entries c.stack c.document.nodes ≡ true)
+      go None e (inl sequence) = inl (grows None (sym e) (sequence_grows None parent sequence))
+      go None e (inr (mapping, full)) =
+          let h = hands_key c.max_entries child.number (open_of p) (outer c.stack) c.document.nodes (sym e) mapping in
+          inr ((at_top role.Key c.document.nodes _ h).full_is ∙ full)
+      go (Some q) e (inl sequence) = inl (grows (Some q) (sym e) (sequence_grows (Some q) parent sequence))
+      go (Some q) e (inr mapping) = inl (grows (Some q) (sym e) (pair_grows q parent mapping))

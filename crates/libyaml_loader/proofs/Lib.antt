@@ -1,7 +1,5 @@
 pub mod AnchorLemmas
 pub mod StackLemmas
-pub mod Handing
-pub mod Growing
 pub mod Appending
 pub mod Ended
 pub mod Falling

@@ -1,8 +1,6 @@
 -- What one event of a document does in a load, by the calls that its code makes.
 use Rattle.std.proofs.Common.{◌≡◌, ◌⊎◌, ◌++◌, ◌∷◌, ℕ, List, [], Option, Some, None, Ok, Err, Result, true, false, refl, sym, ap, ◌∙◌, subst, inl, inr, ⊎_elim}
 use Rattle.libyaml_types.specs.declared.enums.yaml_error_type_t.{yaml_error_type_t}
-use Rattle.libyaml_types.specs.declared.event.unnamed_yaml_event_t_data.{unnamed_yaml_event_t_data}
-use Rattle.libyaml_types.specs.declared.mark.yaml_mark_t.{yaml_mark_t}
 use Rattle.libyaml_documents.specs.Documents.{Document, empty_document}
 use Rattle.libyaml_documents.specs.LoadedNodes.{begun_document, ended_document}
 use Rattle.libyaml_documents.specs.declared.node.yaml_node_t.{yaml_node_t}
@@ -14,14 +12,14 @@ use Rattle.libyaml_events.specs.sources.History.{History, has_failed, keeping}
 use Rattle.libyaml_sources.specs.Source.{Coming}
 use Rattle.libyaml_events.specs.parsers.Stages.{is_event}
 use Rattle.libyaml_grammar.specs.sentences.Tokens.{Token}
-use Rattle.libyaml_graphs.specs.Loader.{Loader, Open, Loading, State, between, bounded_option, failed, fresh, going, left_from, load_from, no_anchors, within}
+use Rattle.libyaml_graphs.specs.Loader.{Loader, Open, between, bounded_option, failed, fresh, left_from, load_from, no_anchors, within}
 use Rattle.libyaml_graphs.specs.Loader as machine
 use Rattle.libyaml_grammar.specs.runs.Runs.{Ending}
 use Rattle.libyaml_graphs.specs.Bounds.{next_bounded}
 use Rattle.libyaml_graphs.proofs.lent.BoundedLoader.{one_load}
 use Rattle.libyaml_graphs.specs.Loads.{document, left_over}
 use Rattle.libyaml_graphs.specs.Parts as parts
-use Rattle.libyaml_graphs.specs.Parts.{Part, closing_in, closing_of, opening_in, opening_of, part_in, part_of}
+use Rattle.libyaml_graphs.specs.Parts.{closing_of, opening_of, part_of}
 use Rattle.libyaml_loader.specs.Context.{IdsAreIn, Refuses, loader_of, with_nodes}
 use Rattle.libyaml_loader.specs.declared.context.loader_ctx.{loader_ctx}
 use Rattle.libyaml_loader.specs.declared.load.Closing.{Closing}
@@ -37,20 +35,6 @@ use Rattle.libyaml_loader.proofs.IdsKept.{ids_fresh, ids_kept}
 use Rattle.libyaml_loader.proofs.Reaching.{Reaches, behind, closed_load, ended_load, fails_load, parser_load, reaches_both, reaches_none, reaches_open}
 use Rattle.libyaml_loader.proofs.Reaching.{reaches_pass, reaches_step, same_loads}
 use Rattle.libyaml_loader.proofs.Taking.{Called, behind_end, took_both, took_event, took_none}
-
--- an event by its parts
-pub closing_is : (e : Event) (content : unnamed_yaml_event_t_data) (m : yaml_mark_t) (o : Option parts.Closing) → content ≡ e.content → m ≡ e.end_mark
-    → o ≡ closing_in content m → closing_of e ≡ o
-closing_is e content m o p q h = sym (h ∙ ap (λ (x : unnamed_yaml_event_t_data). closing_in x m) p ∙ ap (closing_in e.content) q)
-
-pub opening_is : (e : Event) (content : unnamed_yaml_event_t_data) (m : yaml_mark_t) (o : Option parts.Opening) → content ≡ e.content → m ≡ e.start_mark
-    → o ≡ opening_in content m → opening_of e ≡ o
-opening_is e content m o p q h = sym (h ∙ ap (λ (x : unnamed_yaml_event_t_data). opening_in x m) p ∙ ap (opening_in e.content) q)
-
-pub part_is : (e : Event) (content : unnamed_yaml_event_t_data) (m n : yaml_mark_t) → content ≡ e.content → m ≡ e.start_mark → n ≡ e.end_mark
-    → part_in content m n ≡ part_of e
-part_is e content m n p q r = ap (λ (x : unnamed_yaml_event_t_data). part_in x m n) p ∙ ap (λ (x : yaml_mark_t). part_in e.content x n) q
-    ∙ ap (part_in e.content e.start_mark) r
 
 module _ {S : Type 0} (gives : S → Answer → S → Type 0) (known : S → Option Coming) (MayBreak : S → Fault → Type 0) where
   pub takes : (old new : Parser S) (r : EventOrError) (c : Called gives known MayBreak old new r) (e : Event) (is : r ≡ Ok e) → is_event e.content ≡ true

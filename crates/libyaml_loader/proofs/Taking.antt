@@ -1,5 +1,5 @@
 -- What one call of the parser says of the events that a load takes.
-use Rattle.std.proofs.Common.{◌≡◌, ◌||◌, ◌++◌, ◌∷◌, List, [], Option, Some, Bool, Ok, Err, IfOk, IfErr, true, false, refl, sym, ap, ◌∙◌, subst, append_assoc}
+use Rattle.std.proofs.Common.{◌≡◌, ◌||◌, ℕ, ◌++◌, ◌∷◌, List, [], Option, Some, Bool, Ok, Err, true, false, refl, sym, ap, ◌∙◌, subst, append_assoc}
 use Rattle.libyaml_types.specs.declared.enums.yaml_error_type_t.{yaml_error_type_t}
 use Rattle.libyaml_types.specs.declared.enums.yaml_parser_state_t.{yaml_parser_state_t}
 use Rattle.libyaml_types.specs.declared.enums.yaml_parser_state_t.TheVariants.{YAML_PARSE_END_STATE}
@@ -13,9 +13,10 @@ use Rattle.libyaml_events.specs.machine.Config.{Parser, is_between, is_end_state
 use Rattle.libyaml_grammar.specs.sentences.Events.{Event}
 use Rattle.libyaml_sources.specs.Fault.{Answer, Fault}
 use Rattle.libyaml_events.specs.sources.History.{ForHistory, History, between_documents, has_failed, is_over, kept_fault}
-use Rattle.libyaml_events.specs.sources.Parsing.{CarriesOn, FailsBy, IsWhole}
-use Rattle.libyaml_events.specs.sources.RunToCome.{RunToCome, UnlessBroken}
-use Rattle.libyaml_grammar.specs.runs.Runs.{Ending, Ends, Fails}
+use Rattle.libyaml_events.specs.sources.ParsesNext.{ParsesNext}
+use Rattle.libyaml_events.specs.sources.Parsing.{CarriesOn, IsWhole}
+use Rattle.libyaml_events.specs.sources.RunToCome.{RunToCome}
+use Rattle.libyaml_grammar.specs.runs.Runs.{Ending}
 use Rattle.libyaml_sources.specs.Source.{Coming}
 use Rattle.libyaml_events.specs.parsers.Stages.{Stage, after, at_start, is_event, is_outside, stage_of}
 use Rattle.libyaml_grammar.specs.sentences.Tokens.{Token}
@@ -70,21 +71,13 @@ module _ {S : Type 0} (gives : S → Answer → S → Type 0) (known : S → Opt
   module _ (old new : Parser S) (r : EventOrError) where
     -- the clauses of a call, and the laws of histories
     pub record Called : Type 0 where
-      pub ended : is_over old ≡ true → (r ≡ Ok empty_event) × (new ≡ old)
-      pub carries_on : is_over old ≡ false
-          → IfOk r (λ (e : Event). (asked : List Token) (given : List Event) → History old asked given → CarriesOn gives old e new asked given)
-      pub fails : IfErr r (λ (x : yaml_error_type_t). (asked : List Token) (given : List Event) → History old asked given → FailsBy gives old new asked given)
-      pub between : (asked : List Token) (given : List Event) → History new asked given → between_documents new ≡ is_outside (stage_of given)
-      pub next : (e : Event) (later : List Event) (ending : Ending) → RunToCome known old (e ∷ later) ending
-          → UnlessBroken MayBreak r new ((r ≡ Ok e) × RunToCome known new later ending)
-      pub end : RunToCome known old [] Ends → (r ≡ Ok empty_event) × (new ≡ old)
-      pub fault : (f : Fault) → RunToCome known old [] (Fails f) → UnlessBroken MayBreak r new ((r ≡ Err f.error) × (kept_fault new ≡ f))
-      pub nothing : is_over new ≡ true → (later : List Event) (ending : Ending) → RunToCome known new later ending → (later ≡ []) × (ending ≡ Ends)
+      pub token_bound : S → ℕ
+      pub parses : ParsesNext gives token_bound known MayBreak old r new
       pub no_fault : (p : Parser S) → ForHistory p (λ (asked : List Token) (given : List Event). has_failed p ≡ false)
       pub whole : (p : Parser S) → is_over p ≡ true → ForHistory p IsWhole
 
     says : Called → Says known MayBreak old new r
-    says c = record { next = c.next; end = c.end; fault = c.fault }
+    says c = record { next = c.parses.next_of_run; end = c.parses.end_of_run; fault = c.parses.fault_of_run }
 
     module _ (c : Called) (e : Event) (is : r ≡ Ok e) where
       same : r ≡ Ok empty_event → e ≡ empty_event
@@ -98,10 +91,10 @@ module _ {S : Type 0} (gives : S → Answer → S → Type 0) (known : S → Opt
         where
           go : (b : Bool) → is_over old ≡ b → is_over old ≡ false
           go false h = h
-          go true h = absurd (no (sym an_event ∙ ap (λ (x : Event). is_event x.content) (same (c.ended h).0)))
+          go true h = absurd (no (sym an_event ∙ ap (λ (x : Event). is_event x.content) (same (c.parses.ended h).0)))
 
       carried : is_event e.content ≡ true → (asked : List Token) (given : List Event) → History old asked given → CarriesOn gives old e new asked given
-      carried an_event = rw is at (c.carries_on (running an_event))
+      carried an_event = rw is at (c.parses.carries_on (running an_event))
 
       pub took_event : is_event e.content ≡ true → Took gives known old new (e ∷ [])
       took_event an_event = record {
@@ -117,41 +110,41 @@ module _ {S : Type 0} (gives : S → Answer → S → Type 0) (known : S → Opt
           → between_documents new ≡ true
       behind_end an_event asked given h d closes =
           let on = carried an_event asked given h in
-          c.between _ _ on.history ∙ ap is_outside (stage_more at_start given (e ∷ [])) ∙ outside_end (stage_of given) e.content e.end_mark d closes
+          c.parses.between _ _ on.history ∙ ap is_outside (stage_more at_start given (e ∷ [])) ∙ outside_end (stage_of given) e.content e.end_mark d closes
 
       over : is_event e.content ≡ false → (asked : List Token) (given : List Event) → History old asked given → is_over old ≡ true
       over empty asked given history = go (is_over old) refl
         where
           go : (b : Bool) → is_over old ≡ b → is_over old ≡ true
           go true h = h
-          go false h = absurd (no (sym ((rw is at (c.carries_on h)) asked given history).an_event ∙ empty))
+          go false h = absurd (no (sym ((rw is at (c.parses.carries_on h)) asked given history).an_event ∙ empty))
 
       pub finds_end : is_event e.content ≡ false → FindsEnd gives known old new
       finds_end empty = record {
         took = record {
           history = λ (asked : List Token) (given : List Event) (h : History old asked given). subst (λ (p : Parser S). CarriedOn gives old p asked given [])
-              (sym (c.ended (over empty asked given h)).1) (no_call gives old old old asked given h);
+              (sym (c.parses.ended (over empty asked given h)).1) (no_call gives old old old asked given h);
           runs = λ (events : List Event) (ending : Ending) (run : RunToCome known old events ending). record {
             later = events;
             all = refl;
             run
-                = subst (λ (p : Parser S). RunToCome known p events ending) (sym (c.ended (over empty run.asked run.given run.history)).1) run;
+                = subst (λ (p : Parser S). RunToCome known p events ending) (sym (c.parses.ended (over empty run.asked run.given run.history)).1) run;
           };
         };
         ends = λ (events : List Event) (ending : Ending) (run : RunToCome known old events ending).
             let h = over empty run.asked run.given run.history in
-            let s = (c.ended h).1 in
-            c.nothing (ap is_over s ∙ h) events ending (subst (λ (p : Parser S). RunToCome known p events ending) (sym s) run);
+            let s = (c.parses.ended h).1 in
+            c.parses.nothing_behind_end (ap is_over s ∙ h) events ending (subst (λ (p : Parser S). RunToCome known p events ending) (sym s) run);
         stands = λ (asked : List Token) (given : List Event) (history : History old asked given).
             let h = over empty asked given history in
-            let s = (c.ended h).1 in
+            let s = (c.parses.ended h).1 in
             let over : is_over new ≡ true = ap is_over s ∙ h in
             record { over = over; no_fault = ap has_failed s ∙ c.no_fault old asked given history; whole = c.whole new over };
       }
 
     pub parser_fails : Called → (x : yaml_error_type_t) → r ≡ Err x → ParserFails gives known MayBreak old new
     parser_fails c x is = record {
-      history = rw is at c.fails;
+      history = rw is at c.parses.fails;
       runs = λ (events : List Event) (ending : Ending) (run : RunToCome known old events ending). fails_here known MayBreak old new r x is (says c) events
           ending run;
     }

@@ -1,9 +1,10 @@
 -- The document on the way, and what the loader's steps make of it.
-use Rattle.std.specs.Prelude.{◌≡◌, ◌≤◌, ◌<◌, ◌++◌, ◌∷◌, ◌⊎◌, ℕ, suc, List, [], length, Bool, true, false, Option, Some, None}
+use Rattle.std.specs.Prelude.{◌≡◌, ◌++◌, ◌∷◌, ◌⊎◌, ℕ, suc, ℤ, pos, IfSome, List, [], length, Bool, true, false, Option, Some, None}
 use Rattle.std.specs.FinMap.{get}
 use Rattle.libyaml_types.specs.declared.mark.yaml_mark_t.{yaml_mark_t}
 use Rattle.libyaml_documents.specs.declared.node.yaml_node_t.{yaml_node_t}
 use Rattle.libyaml_documents.specs.Documents.{Document}
+use Rattle.libyaml_documents.specs.Nodes.{IsIdUpTo}
 use Rattle.libyaml_graphs.specs.Graphs as graphs
 use Rattle.libyaml_graphs.specs.Loader.{Loader, Open, Loading, Registered, bounded_option, closed_by, failed, going, hand, handed, known, outer, parent_full}
 use Rattle.libyaml_graphs.specs.Loader.{register, registered}
@@ -13,7 +14,6 @@ use Rattle.libyaml_loader.specs.declared.ids.NodeId.{NodeId}
 use Rattle.libyaml_loader.specs.declared.refusal.Refusal.{Refusal}
 use Rattle.libyaml_loader.specs.declared.refusal.Refusal.TheVariants.{Memory, RepeatedAnchor}
 use Rattle.libyaml_loader.specs.Growth.{may_grow, parent_grows}
-use Rattle.libyaml_loader.specs.Ids.{id_of}
 use Rattle.libyaml_loader.specs.Refusals.{fault_by}
 
 -- what the loader's machine sees
@@ -23,25 +23,21 @@ loader_of c = record { nodes = c.document.nodes; stack = c.stack; anchors = c.an
 abbrev pub with_nodes : List yaml_node_t → Document → Document
 with_nodes nodes d = record d { nodes = nodes }
 
--- Open collections, keys that wait and carriers are among n nodes.
-abbrev pub KeyIn : ℕ → Option ℕ → Type 0
-KeyIn n None = Unit {0}
-KeyIn n (Some k) = k ≤ n
-
+-- Carriers, open collections and keys that wait are among n nodes.
 abbrev pub CarrierIn : ℕ → Option graphs.Carrier → Type 0
 CarrierIn n None = Unit {0}
-CarrierIn n (Some c) = c.id ≤ n
+CarrierIn n (Some c) = IsIdUpTo n (pos c.id)
 
 abbrev pub AllOpenIn : ℕ → List Open → Type 0
 AllOpenIn n [] = Unit {0}
-AllOpenIn n (o ∷ s) = (o.place < n) × KeyIn n o.key × AllOpenIn n s
+AllOpenIn n (o ∷ s) = IsIdUpTo n o.node × IfSome o.key (IsIdUpTo n) × AllOpenIn n s
 
 pub record IdsAreIn (l : Loader) : Type 0 where
   pub stack : AllOpenIn (length l.nodes) l.stack
   pub carriers : (a : List ℕ) → CarrierIn (length l.nodes) (get l.anchors a)
 
 -- a child handed to the innermost open collection
-abbrev pub handed_to : ℕ → loader_ctx → loader_ctx
+abbrev pub handed_to : ℤ → loader_ctx → loader_ctx
 handed_to i c = record c { document = with_nodes (hand i c.stack c.document.nodes) c.document; stack = handed i c.stack c.document.nodes }
 
 -- the innermost open collection ended
@@ -55,9 +51,9 @@ RefusesAnchor (registered xs) m r = r ≡ Memory
 
 -- a node was put after the others, its anchor registered, and it was handed to its parent
 pub record NodeLoaded (old new : loader_ctx) (id : NodeId) (anchor : Option (List ℕ)) (node : yaml_node_t) : Type 0 where
-  pub id_is : id_of id ≡ suc (length old.document.nodes)
+  pub id_is : id.number ≡ pos (suc (length old.document.nodes))
   pub anchors : register anchor (suc (length old.document.nodes)) node.start_mark old.anchors ≡ registered new.anchors
-  pub context : new ≡ handed_to (suc (length old.document.nodes))
+  pub context : new ≡ handed_to (pos (suc (length old.document.nodes)))
       (record old { document = with_nodes (old.document.nodes ++ node ∷ []) old.document; anchors = new.anchors })
   pub room : parent_full old.max_entries old.stack old.document.nodes ≡ false
 

@@ -1,11 +1,12 @@
 -- Where a load may take memory of its own (docs/DEFINITIONS.md, "Loads of a parser"): a node is put into the list of nodes, an
 -- item into its sequence's, or a pair, whose value comes, into its mapping's. An undefined alias, a key that waits for its value
 -- and a collection's end take none.
-use Rattle.std.specs.Prelude.{◌≡◌, ◌++◌, ℕ, zero, suc, List, [], ◌∷◌, Option, None, Some, Bool, true, false}
+use Rattle.std.specs.Prelude.{◌≡◌, ◌++◌, ℕ, ℤ, List, [], ◌∷◌, Option, None, Some, Bool, true, false}
 use Rattle.std.specs.FinMap.{get}
 use Rattle.libyaml_documents.specs.declared.node.unnamed_yaml_node_t_data.{unnamed_yaml_node_t_data}
 use Rattle.libyaml_documents.specs.declared.node.unnamed_yaml_node_t_data.TheVariants.{Scalar, Sequence, Mapping}
 use Rattle.libyaml_documents.specs.declared.node.yaml_node_t.{yaml_node_t}
+use Rattle.libyaml_documents.specs.Nodes.{node_at}
 use Rattle.libyaml_grammar.specs.sentences.Events.{Event}
 use Rattle.libyaml_grammar.specs.runs.Runs.{Ending}
 use Rattle.libyaml_graphs.specs.Graphs.{Carrier}
@@ -14,21 +15,20 @@ use Rattle.libyaml_graphs.specs.Loads.{Load}
 use Rattle.libyaml_graphs.specs.Parts.{Opening, Part, alias_part, end_part, leaf_part, part_of, start_part}
 
 -- a child of a sequence is an item; a mapping's first waits as a key, and its second makes the pair
-abbrev pub content_grows : (key : Option ℕ) → unnamed_yaml_node_t_data → Bool
+abbrev pub content_grows : (key : Option ℤ) → unnamed_yaml_node_t_data → Bool
 content_grows k (Scalar s) = false
 content_grows k (Sequence s) = true
 content_grows None (Mapping s) = false
 content_grows (Some k) (Mapping s) = true
 
-abbrev pub grows_at : (place : ℕ) → (key : Option ℕ) → List yaml_node_t → Bool
-grows_at p k [] = false
-grows_at zero k (x ∷ xs) = content_grows k x.content
-grows_at (suc p) k (x ∷ xs) = grows_at p k xs
+abbrev pub node_grows : (key : Option ℤ) → Option yaml_node_t → Bool
+node_grows k None = false
+node_grows k (Some x) = content_grows k x.content
 
 -- whether a child's parent takes memory for it
 abbrev pub parent_grows : List Open → List yaml_node_t → Bool
 parent_grows [] nodes = false
-parent_grows (o ∷ s) nodes = grows_at o.place o.key nodes
+parent_grows (o ∷ s) nodes = node_grows o.key (node_at nodes o.node)
 
 abbrev pub alias_grows : Option Carrier → Loader → Bool
 alias_grows None l = false

@@ -1,5 +1,5 @@
 -- Ids, carriers and open collections, as the loader's machine has them.
-use Rattle.std.specs.Prelude.{ℕ, zero, suc, ℤ, pos, negsuc, Option, Some, None}
+use Rattle.std.specs.Prelude.{ℕ, zero, ℤ, pos, negsuc, Option, Some, None}
 use Rattle.libyaml_graphs.specs.Graphs as graphs
 use Rattle.libyaml_graphs.specs.Loader as machine
 use Rattle.libyaml_loader.specs.declared.ids.NodeId.{NodeId}
@@ -13,24 +13,12 @@ magnitude (negsuc n) = zero
 abbrev pub id_of : NodeId → ℕ
 id_of i = magnitude i.number
 
-abbrev pub one_less : ℕ → ℕ
-one_less zero = zero
-one_less (suc n) = n
-
--- ids count from 1, places from 0
-abbrev pub place_of : NodeId → ℕ
-place_of i = one_less (id_of i)
-
-abbrev pub key_of : Option NodeId → Option ℕ
-key_of None = None
-key_of (Some i) = Some (id_of i)
-
 abbrev pub number_of : Option NodeId → Option ℤ
 number_of None = None
 number_of (Some i) = Some i.number
 
 abbrev pub open_of : Open → machine.Open
-open_of o = record { place = place_of o.node; key = key_of o.key }
+open_of o = record { node = o.node.number; key = number_of o.key }
 
 abbrev pub carrier_of : Carrier → graphs.Carrier
 carrier_of c = record { id = id_of c.node; mark = c.mark }

@@ -155,8 +155,7 @@ fn without_root(alloc: Global) -> yaml_document_t
 fn bound_of<S>(parser: &yaml_parser_t<S>) -> usize
     ensures { result ≡ magnitude parser.now.max_entries }
 {
-    let most = parser.max_entries();
-    if most < 0 { 0 } else { most as usize }
+    parser.max_entries() as usize
 }
 
 /// Returns the rest of the document that this start event begins. Its events come in `event`, one after

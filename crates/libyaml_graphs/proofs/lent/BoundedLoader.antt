@@ -1,4 +1,4 @@
--- The loader with its bound gives the loads within that bound, all of them and one alone.
+-- The loader with its bound gives the next load within that bound.
 use Rattle.std.proofs.Common.{◌≡◌, ℕ, suc, List, [], ◌∷◌, ◌++◌, length, nat_lt, refl, sym, ap, ◌∙◌, append_assoc, append-nil, Option, Some, None, Bool, true}
 use Rattle.std.proofs.Common.{false, Ok, Err}
 use Rattle.libyaml_grammar.specs.sentences.Events.{Event}

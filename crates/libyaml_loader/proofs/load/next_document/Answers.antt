@@ -22,16 +22,9 @@ called_by : (g : given.Over) (c : After-yaml_parser_parse_into g)
     → Called g.S.yaml_token_source_t.gives g.S.yaml_token_source_t.known g.S.yaml_token_source_t.may_break c.loop-event.parser c.yaml_parser_parse_into.new.parser
     (answered c.yaml_parser_parse_into.result c.yaml_parser_parse_into.new.event)
 called_by g c =
-    let clauses = c.yaml_parser_parse_into.ensures in
     record {
-      ended = clauses.ended;
-      carries_on = clauses.carries_on;
-      fails = clauses.fails;
-      between = clauses.between;
-      next = clauses.next_of_run;
-      end = clauses.end_of_run;
-      fault = clauses.fault_of_run;
-      nothing = clauses.nothing_behind_end;
+      token_bound = g.S.yaml_token_source_t.bound;
+      parses = c.yaml_parser_parse_into.ensures;
       no_fault = c.of_history.ensures.no_fault;
       whole = c.of_history.ensures.whole;
     }
