@@ -8,11 +8,11 @@ ghost use Rattle.libyaml_documents.specs.LoadedNodes.{begun_document, ended_docu
 ghost use Rattle.libyaml_documents.specs.LoadedNodes.{mapping_loaded, scalar_loaded};
 ghost use Rattle.libyaml_documents.specs.LoadedNodes.{sequence_loaded};
 ghost use Rattle.libyaml_documents.specs.Nodes.{IsIdUpTo, ids_of};
-ghost use Rattle.libyaml_graphs.specs.Loader.{no_anchors, parent_full, register, registered};
-ghost use Rattle.libyaml_graphs.specs.Parts.{alias_part, leaf_part, part_of, start_part};
-ghost use Rattle.libyaml_loader.specs.Context.{AllOpenIn, Composed, IdsAreIn, NodeLoaded, Refuses};
-ghost use Rattle.libyaml_loader.specs.Context.{ParentRefuses, RefusesAnchor, closed, handed_to, loader_of};
-ghost use Rattle.libyaml_loader.specs.Ids.{id_of};
+ghost use Rattle.libyaml_graphs.specs.machine.Loader.{no_anchors, parent_full, register, registered};
+ghost use Rattle.libyaml_graphs.specs.graphs.GraphParts.{alias_part, leaf_part, part_of, start_part};
+ghost use Rattle.libyaml_loader.specs.document.Context.{AllOpenIn, Composed, IdsAreIn, NodeLoaded, Refuses};
+ghost use Rattle.libyaml_loader.specs.document.Context.{ParentRefuses, RefusesAnchor, closed, handed_to, loader_of};
+ghost use Rattle.libyaml_loader.specs.document.Ids.{id_of};
 
 use crate::anchors::Anchors;
 use crate::ids::{Carrier, NodeId};

@@ -3,7 +3,7 @@
 ghost use Rattle.std.specs.Prelude.{◌≡◌, ◌⊎◌, true, false};
 ghost use Rattle.libyaml_events.specs.sources.History.{is_over, has_failed, kept_fault, keeping};
 ghost use Rattle.libyaml_sources.specs.Fault.{fault_of};
-ghost use Rattle.libyaml_loader.specs.Refusals.{fault_by};
+ghost use Rattle.libyaml_loader.specs.document.Refusals.{fault_by};
 
 use libyaml_events::{NO_FAULT, yaml_parser_t, yaml_parser_t_prefix};
 use libyaml_types::{yaml_error_type_t, yaml_mark_t, yaml_refusal_t};

@@ -11,8 +11,8 @@ use Rattle.libyaml_sources.specs.Fault.{Fault, memory_fault}
 use Rattle.libyaml_events.specs.sources.RunToCome.{RunToCome}
 use Rattle.libyaml_grammar.specs.runs.Runs.{Ending, Ends, Fails}
 use Rattle.libyaml_sources.specs.Source.{Coming}
-use Rattle.libyaml_graphs.specs.Bounds.{bounded_loads}
-use Rattle.libyaml_graphs.specs.Loads.{left_over}
+use Rattle.libyaml_graphs.specs.loads.Bounds.{bounded_loads}
+use Rattle.libyaml_graphs.specs.loads.Loads.{left_over}
 use Rattle.line_writing.specs.DocumentText.{document_lines}
 use Rattle.line_writing.specs.FaultText.{fault_text}
 use Rattle.token_lines.specs.LineRun.{WritesFault, whole, broken_off}

@@ -11,10 +11,10 @@ use Rattle.libyaml_documents.specs.Nodes.{changed_at, item_behind, node_at, node
 use Rattle.libyaml_documents.specs.declared.node.unnamed_yaml_node_t_data.{unnamed_yaml_node_t_data}
 use Rattle.libyaml_documents.specs.declared.node.unnamed_yaml_node_t_data.TheVariants.{Scalar, Sequence, Mapping}
 use Rattle.libyaml_documents.specs.declared.node.yaml_node_t.{yaml_node_t}
-use Rattle.libyaml_graphs.specs.Loader.{Loader, Open, State, between, bounded_option, content_full, content_with, fresh, hand, handed, if_going}
-use Rattle.libyaml_graphs.specs.Loader.{key_after, key_behind, left_from, load_from, node_full, parent_full, with_child, within}
-use Rattle.libyaml_graphs.specs.Loads.{Begun, Load, begun, begun_behind, document, last_load, left_by}
-use Rattle.libyaml_graphs.specs.Parts.{Closing, Opening, Part, closing_of, opening_of, part_of}
+use Rattle.libyaml_graphs.specs.machine.Loader.{Loader, Open, State, between, bounded_option, content_full, content_with, fresh, hand, handed, if_going}
+use Rattle.libyaml_graphs.specs.machine.Loader.{key_after, key_behind, left_from, load_from, node_full, parent_full, with_child, within}
+use Rattle.libyaml_graphs.specs.loads.Loads.{Begun, Load, begun, begun_behind, document, last_load, left_by}
+use Rattle.libyaml_graphs.specs.graphs.GraphParts.{Closing, Opening, Part, closing_of, opening_of, part_of}
 
 -- One load, and what it leaves, by the kind of the next event.
 pub nothing_left : (n : ℕ) (s : State) (x : Ending) → load_from n s [] x ≡ last_load x

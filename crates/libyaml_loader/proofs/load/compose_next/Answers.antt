@@ -1,9 +1,9 @@
 use Rattle.std.proofs.Common.{◌≡◌, Err, ap, refl, rules, sym, ◌∙◌, inl, inr, true, false}
 use Rattle.libyaml_events.specs.parsers.Stages.{is_event}
 use Rattle.libyaml_events.specs.sources.Calls.{answered}
-use Rattle.libyaml_loader.proofs.Outside.{behind_all, behind_close}
-use Rattle.libyaml_loader.proofs.Stepping.{loader_fails, steps_err, takes}
-use Rattle.libyaml_loader.proofs.Taking.{Called, finds_end, parser_fails, running}
+use Rattle.libyaml_loader.proofs.loads.Outside.{behind_all, behind_close}
+use Rattle.libyaml_loader.proofs.loads.Stepping.{loader_fails, steps_err, takes}
+use Rattle.libyaml_loader.proofs.loads.Taking.{Called, finds_end, parser_fails, running}
 use Rattle.libyaml_loader.proofs.load.compose_next.Given as given
 use Rattle.libyaml_loader.proofs.load.compose_next.Goals as goal
 use Rattle.libyaml_loader.proofs.load.compose_next.Goals.{After-yaml_parser_parse_into}

@@ -4,15 +4,15 @@ use Rattle.libyaml_documents.specs.Documents.{Document, empty_document}
 use Rattle.libyaml_events.specs.parsers.EventsLeft.{events_left}
 use Rattle.libyaml_events.specs.parsers.Stages.{is_event}
 use Rattle.libyaml_events.specs.sources.Calls.{answered}
-use Rattle.libyaml_graphs.specs.Loader.{fresh, left_from, load_from, within}
-use Rattle.libyaml_loader.specs.Ids.{magnitude}
-use Rattle.libyaml_loader.specs.Loading.{LoadsFrom}
-use Rattle.libyaml_loader.specs.Steps.{opening_at}
-use Rattle.libyaml_loader.proofs.Ended.{has_not_ended, no_error, still_ended}
-use Rattle.libyaml_loader.proofs.Falling.{falls_later, stays_since}
-use Rattle.libyaml_loader.proofs.Outside.{behind_all}
-use Rattle.libyaml_loader.proofs.Stepping.{skips_none, skips_end, skips_fail, skips_more, skips_opens}
-use Rattle.libyaml_loader.proofs.Taking.{Called, ended_between, finds_end, parser_fails, running}
+use Rattle.libyaml_graphs.specs.machine.Loader.{fresh, left_from, load_from, within}
+use Rattle.libyaml_loader.specs.document.Ids.{magnitude}
+use Rattle.libyaml_loader.specs.loads.Loading.{LoadsFrom}
+use Rattle.libyaml_loader.specs.loads.ComposeSteps.{opening_at}
+use Rattle.libyaml_loader.proofs.loads.Ended.{has_not_ended, no_error, still_ended}
+use Rattle.libyaml_loader.proofs.loads.Falling.{falls_later, stays_since}
+use Rattle.libyaml_loader.proofs.loads.Outside.{behind_all}
+use Rattle.libyaml_loader.proofs.loads.Stepping.{skips_none, skips_end, skips_fail, skips_more, skips_opens}
+use Rattle.libyaml_loader.proofs.loads.Taking.{Called, ended_between, finds_end, parser_fails, running}
 use Rattle.libyaml_loader.proofs.load.next_document.Given as given
 use Rattle.libyaml_loader.proofs.load.next_document.Goals as goal
 use Rattle.libyaml_loader.proofs.load.next_document.Goals.{After-yaml_parser_parse_into}

@@ -2,8 +2,8 @@ use Rattle.std.proofs.Common.{◌≡◌, ◌∙◌, ap, rules, length}
 use Rattle.libyaml_documents.specs.Children.{AppendedAs, MayRefuseAt}
 use Rattle.libyaml_documents.specs.declared.node.ChildRole.{ChildRole}
 use Rattle.libyaml_documents.specs.declared.node.ChildRole.TheVariants as role
-use Rattle.libyaml_graphs.specs.Loader.{Open}
-use Rattle.libyaml_loader.proofs.Appending.{Handed, hands_at, on_memory, refuses, waiting_is_id}
+use Rattle.libyaml_graphs.specs.machine.Loader.{Open}
+use Rattle.libyaml_loader.proofs.document.Appending.{Handed, hands_at, on_memory, refuses, waiting_is_id}
 use Rattle.libyaml_loader.proofs.context.loader_ctx.yaml_parser_load_node_add.Goals as goal
 use Rattle.libyaml_loader.proofs.context.loader_ctx.yaml_parser_load_node_add.Goals.{In_ok-append_child}
 use Rattle.std.specs.Prelude.{List}
