@@ -1,5 +1,5 @@
 -- Ids stay ids of nodes where nodes and children are put after others.
-use Rattle.std.proofs.Common.{◌≡◌, ℕ, zero, suc, ◌+◌, ◌<◌, ◌≤◌, ℤ, pos, negsuc, add-one, List, [], ◌∷◌, ◌++◌, length, set, get_or, refl, ap, sym, subst}
+use Rattle.std.proofs.Common.{◌≡◌, ℕ, zero, suc, ◌+◌, ◌<◌, ◌≤◌, ℤ, pos, negsuc, List, [], ◌∷◌, ◌++◌, length, set, get_or, refl, ap, sym, subst}
 use Rattle.std.proofs.Common.{arith, length-append, ◌∙◌}
 use Rattle.std.proofs.lemmas.Int.{ints}
 use Rattle.std.proofs.lemmas.List.Elements.{All-nil, All-push, All-weaker, All-get_or, All-set}
@@ -13,7 +13,7 @@ use Rattle.libyaml_documents.specs.declared.node.unnamed_yaml_node_t_data.TheVar
 use Rattle.libyaml_documents.specs.Nodes.{ids_of, ids_of_pairs, IsIdUpTo, EveryIdNamesANode, node_type, type_of, type_at, KeepsTypes, changed_at, item_behind}
 use Rattle.libyaml_documents.specs.Nodes.{pair_behind}
 use Rattle.libyaml_documents.specs.Documents.{Document, AreNodes, most_nodes, with_changed_node}
-use Rattle.std.specs.Prelude.{Bool, true, false, cond, slice_get, Some, All}
+use Rattle.std.specs.Prelude.{Bool, true, false, cond, slice_get, All}
 
 -- the ids of a node name one of n nodes
 abbrev pub AllIds : ℕ → yaml_node_t → Type 0
@@ -95,17 +95,10 @@ slice_get-push_old [] node n h = absurd (omega arith)
 slice_get-push_old (first ∷ nodes) node zero h = refl
 slice_get-push_old (first ∷ nodes) node (suc n) h = slice_get-push_old nodes node n (omega arith)
 
-pub slice_get-push_new : (nodes : List yaml_node_t) (node : yaml_node_t) → slice_get (nodes ++ node ∷ []) (length nodes) ≡ Some node
-slice_get-push_new [] node = refl
-slice_get-push_new (first ∷ nodes) node = slice_get-push_new nodes node
-
 pub KeepsTypes-push : (nodes : List yaml_node_t) (node : yaml_node_t) → KeepsTypes nodes (nodes ++ node ∷ [])
 KeepsTypes-push nodes node (negsuc n) h = refl
 KeepsTypes-push nodes node (pos zero) h = refl
 KeepsTypes-push nodes node (pos (suc n)) h = ap type_of (slice_get-push_old nodes node n (omega (arith, ints)))
-
-pub type_at-push : (nodes : List yaml_node_t) (node : yaml_node_t) → type_at (nodes ++ node ∷ []) (pos (length nodes + 1)) ≡ node_type node.content
-type_at-push nodes node = rw add-one (ap type_of (slice_get-push_new nodes node))
 
 -- the same, where one node was changed and keeps its type
 pub type-changed_at : (n k : ℕ) (f : yaml_node_t → yaml_node_t) (nodes : List yaml_node_t)

@@ -1,12 +1,5 @@
-pub mod Built
-pub mod Following
-pub mod LoaderLoads
-pub mod Sizes
-pub mod TreeGraphs
-pub mod TextLoads
-pub mod Ids
-pub mod OneLoad
-pub mod Room
-pub mod RunLoads
-pub mod LoadRows
+pub mod graphs
+pub mod machine
+pub mod loads
+pub mod rows
 pub mod lent

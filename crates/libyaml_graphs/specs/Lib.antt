@@ -1,9 +1,4 @@
--- graphs, loads, and the loader as a machine
-pub mod Graphs
-pub mod Parts
-pub mod ComposerFaults
-pub mod Loads
-pub mod Bounds
-pub mod Loader
-pub mod GraphLaws
-pub mod LoadRows
+pub mod graphs
+pub mod loads
+pub mod machine
+pub mod rows

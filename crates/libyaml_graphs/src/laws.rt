@@ -22,15 +22,15 @@ ghost use Rattle.libyaml_grammar.specs.sentences.Tokens.{Marks, StreamEnd, Token
 ghost use Rattle.libyaml_grammar.specs.sentences.Trees.{Stream, tokens};
 ghost use Rattle.libyaml_documents.specs.Documents.{Document};
 ghost use Rattle.libyaml_documents.specs.Nodes.{EveryIdNamesANode};
-ghost use Rattle.libyaml_graphs.specs.Bounds.{HasRoom, NoneLacksMemory, StaysWithin, bounded_loads};
-ghost use Rattle.libyaml_graphs.specs.Bounds.{first_stop, next_bounded};
-ghost use Rattle.libyaml_graphs.specs.ComposerFaults.{composer_fault, heads};
-ghost use Rattle.libyaml_graphs.specs.GraphLaws.{ChildrenAreLater, EachHoldsItsChildren};
-ghost use Rattle.libyaml_graphs.specs.GraphLaws.{EachIdNames, HoldsItsChildren, LoadsWhole};
-ghost use Rattle.libyaml_graphs.specs.GraphLaws.{NestedLoads, RootsFollow, load_at, unless_fault};
-ghost use Rattle.libyaml_graphs.specs.Graphs.{Start, nodes_of, starts_behind};
-ghost use Rattle.libyaml_graphs.specs.Loads.{IsLoads, Load, last_load, left_over, loads, loads_of, next_load};
-ghost use Rattle.libyaml_graphs.specs.Parts.{Part, graph, parts};
+ghost use Rattle.libyaml_graphs.specs.loads.Bounds.{HasRoom, NoneLacksMemory, StaysWithin, bounded_loads};
+ghost use Rattle.libyaml_graphs.specs.loads.Bounds.{first_stop, next_bounded};
+ghost use Rattle.libyaml_graphs.specs.graphs.ComposerFaults.{composer_fault, heads};
+ghost use Rattle.libyaml_graphs.specs.loads.GraphLaws.{ChildrenAreLater, EachHoldsItsChildren};
+ghost use Rattle.libyaml_graphs.specs.loads.GraphLaws.{EachIdNames, HoldsItsChildren, LoadsWhole};
+ghost use Rattle.libyaml_graphs.specs.loads.GraphLaws.{NestedLoads, RootsFollow, load_at, unless_fault};
+ghost use Rattle.libyaml_graphs.specs.graphs.Graphs.{Start, nodes_of, starts_behind};
+ghost use Rattle.libyaml_graphs.specs.loads.Loads.{IsLoads, Load, last_load, left_over, loads, loads_of, next_load};
+ghost use Rattle.libyaml_graphs.specs.graphs.GraphParts.{Part, graph, parts};
 
 /// The headline of loads: over a list whose only STREAM-END is its last token, the loads are the graphs of
 /// its one tree's documents, up to the first composer error, and then the document without root; or those

@@ -1,15 +1,2 @@
-pub mod AnchorLemmas
-pub mod StackLemmas
-pub mod Handing
-pub mod Growing
-pub mod Appending
-pub mod Ended
-pub mod Falling
-pub mod Loading
-pub mod IdsKept
-pub mod Taking
-pub mod Reaching
-pub mod Stepping
-pub mod NextLoads
-pub mod Outside
-pub mod Rootless
+pub mod document
+pub mod loads

@@ -1,9 +1,2 @@
-pub mod Anchors
-pub mod Growth
-pub mod Context
-pub mod Ids
-pub mod Refusals
-pub mod Stack
-pub mod Loading
-pub mod Steps
-pub mod NextLoad
+pub mod document
+pub mod loads

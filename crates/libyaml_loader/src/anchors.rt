@@ -3,8 +3,8 @@
 ghost use Rattle.std.specs.Prelude.{◌≡◌, IfOk, OnOk, string_bytes};
 ghost use Rattle.std.specs.Option.{option_map};
 ghost use Rattle.std.specs.FinMap.{get, insert};
-ghost use Rattle.libyaml_graphs.specs.Loader.{no_anchors};
-ghost use Rattle.libyaml_loader.specs.Ids.{carrier_of};
+ghost use Rattle.libyaml_graphs.specs.machine.Loader.{no_anchors};
+ghost use Rattle.libyaml_loader.specs.document.Ids.{carrier_of};
 
 use crate::ids::Carrier;
 use std::alloc::{AllocError, Global};
@@ -20,8 +20,8 @@ pub struct Anchors {
 }
 
 impl Model for Anchors {
-    ghost use Rattle.libyaml_graphs.specs.Loader as machine;
-    ghost use Rattle.libyaml_loader.specs.Anchors.{anchors_code, anchors_of};
+    ghost use Rattle.libyaml_graphs.specs.machine.Loader as machine;
+    ghost use Rattle.libyaml_loader.specs.document.Anchors.{anchors_code, anchors_of};
 
     ghost Value = { machine.Anchors };
 
@@ -41,7 +41,7 @@ impl Anchors {
     }
 
     /// The carrier of this anchor.
-    #[tactic(auto, using(crate::proofs::AnchorLemmas::get_anchor))]
+    #[tactic(auto, using(crate::proofs::document::AnchorLemmas::get_anchor))]
     pub fn find(&self, anchor: &str) -> Option<Carrier>
         ensures { option_map carrier_of result ≡ get self.now anchor.now }
     {

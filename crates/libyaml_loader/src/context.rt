@@ -2,17 +2,17 @@
 //!
 //! A function that fails may leave the document half changed. The load then fails, and drops it.
 
-ghost use Rattle.std.specs.Prelude.{◌≡◌, ◌≤◌, suc, [], length, nat_lt, true, false, Some, None};
+ghost use Rattle.std.specs.Prelude.{◌≡◌, suc, pos, [], length, nat_lt, true, false, Some, None};
 ghost use Rattle.std.specs.Prelude.{IfOk, IfErr, OnOk, option_map, string_bytes};
 ghost use Rattle.libyaml_documents.specs.LoadedNodes.{begun_document, ended_document};
 ghost use Rattle.libyaml_documents.specs.LoadedNodes.{mapping_loaded, scalar_loaded};
 ghost use Rattle.libyaml_documents.specs.LoadedNodes.{sequence_loaded};
-ghost use Rattle.libyaml_documents.specs.Nodes.{ids_of};
-ghost use Rattle.libyaml_graphs.specs.Loader.{no_anchors, parent_full, register, registered};
-ghost use Rattle.libyaml_graphs.specs.Parts.{alias_part, leaf_part, part_of, start_part};
-ghost use Rattle.libyaml_loader.specs.Context.{AllOpenIn, Composed, IdsAreIn, NodeLoaded, Refuses};
-ghost use Rattle.libyaml_loader.specs.Context.{ParentRefuses, RefusesAnchor, closed, handed_to, loader_of};
-ghost use Rattle.libyaml_loader.specs.Ids.{id_of};
+ghost use Rattle.libyaml_documents.specs.Nodes.{IsIdUpTo, ids_of};
+ghost use Rattle.libyaml_graphs.specs.machine.Loader.{no_anchors, parent_full, register, registered};
+ghost use Rattle.libyaml_graphs.specs.graphs.GraphParts.{alias_part, leaf_part, part_of, start_part};
+ghost use Rattle.libyaml_loader.specs.document.Context.{AllOpenIn, Composed, IdsAreIn, NodeLoaded, Refuses};
+ghost use Rattle.libyaml_loader.specs.document.Context.{ParentRefuses, RefusesAnchor, closed, handed_to, loader_of};
+ghost use Rattle.libyaml_loader.specs.document.Ids.{id_of};
 
 use crate::anchors::Anchors;
 use crate::ids::{Carrier, NodeId};
@@ -256,7 +256,10 @@ impl loader_ctx {
         };
         match self.anchors.register(anchor, carrier)? {
             None => Ok(()),
-            Some(first) => Err(Refusal::RepeatedAnchor(first.mark, carrier.mark)),
+            Some(first) => Err(Refusal::RepeatedAnchor {
+                first: first.mark,
+                second: carrier.mark,
+            }),
         }
     }
 
@@ -278,8 +281,8 @@ impl loader_ctx {
     #[inline(always)]
     fn yaml_parser_load_node_add(&mut self, child: NodeId) -> Result<(), Refusal>
         requires stack { AllOpenIn (length self.old.document.nodes) self.old.stack }
-        requires child { id_of child ≤ length self.old.document.nodes }
-        ensures ok { OnOk result (self.new ≡ handed_to (id_of child) self.old) }
+        requires child { IsIdUpTo (length self.old.document.nodes) (pos (id_of child)) }
+        ensures ok { OnOk result (self.new ≡ handed_to (pos (id_of child)) self.old) }
         ensures room { OnOk result (parent_full self.old.max_entries self.old.stack self.old.document.nodes
             ≡ false) }
         ensures err { IfErr result (λ r. ParentRefuses self.old r) }

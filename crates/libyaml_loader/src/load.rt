@@ -10,15 +10,15 @@ ghost use Rattle.libyaml_grammar.specs.runs.Runs.{Ending};
 ghost use Rattle.libyaml_events.specs.sources.RunToCome.{RunToCome};
 ghost use Rattle.libyaml_events.specs.sources.History.{ForHistory, between_documents, is_over};
 ghost use Rattle.libyaml_events.specs.sources.History.{has_failed, kept_fault};
-ghost use Rattle.libyaml_graphs.specs.Bounds.{next_bounded};
-ghost use Rattle.libyaml_graphs.specs.Loader as machine;
-ghost use Rattle.libyaml_graphs.specs.Loads.{left_over};
-ghost use Rattle.libyaml_graphs.specs.Parts as parts;
-ghost use Rattle.libyaml_loader.specs.Context.{IdsAreIn, loader_of, with_nodes};
-ghost use Rattle.libyaml_loader.specs.Ids.{magnitude};
-ghost use Rattle.libyaml_loader.specs.Loading.{HasEnded, LoadsFrom};
-ghost use Rattle.libyaml_loader.specs.NextLoad.{Answers, UnlessBroken};
-ghost use Rattle.libyaml_loader.specs.Steps.{ComposesBy, closing, opening_at};
+ghost use Rattle.libyaml_graphs.specs.loads.Bounds.{next_bounded};
+ghost use Rattle.libyaml_graphs.specs.machine.Loader as machine;
+ghost use Rattle.libyaml_graphs.specs.loads.Loads.{left_over};
+ghost use Rattle.libyaml_graphs.specs.graphs.GraphParts as parts;
+ghost use Rattle.libyaml_loader.specs.document.Context.{IdsAreIn, loader_of, with_nodes};
+ghost use Rattle.libyaml_loader.specs.document.Ids.{magnitude};
+ghost use Rattle.libyaml_loader.specs.loads.Loading.{HasEnded, LoadsFrom};
+ghost use Rattle.libyaml_loader.specs.loads.NextLoad.{Answers, UnlessBroken};
+ghost use Rattle.libyaml_loader.specs.loads.ComposeSteps.{ComposesBy, closing, opening_at};
 
 use crate::context::loader_ctx;
 use crate::refusal::{has_failed, keep_refusal};
@@ -153,8 +153,7 @@ fn without_root(alloc: Global) -> yaml_document_t
 fn bound_of<S>(parser: &yaml_parser_t<S>) -> usize
     ensures { result ≡ magnitude parser.now.max_entries }
 {
-    let most = parser.max_entries();
-    if most < 0 { 0 } else { most as usize }
+    parser.max_entries() as usize
 }
 
 /// Returns the rest of the document that this start event begins. Its events come in `event`, one after

@@ -1,9 +1,9 @@
 //! Why a load stops, and how the parser keeps it.
 
-ghost use Rattle.std.specs.Prelude.{◌≡◌, true, false};
+ghost use Rattle.std.specs.Prelude.{◌≡◌, ◌⊎◌, true, false};
 ghost use Rattle.libyaml_events.specs.sources.History.{is_over, has_failed, kept_fault, keeping};
-ghost use Rattle.libyaml_sources.specs.Fault.{memory_fault};
-ghost use Rattle.libyaml_loader.specs.Refusals.{composer_fault, composer_fault_in, fault_by};
+ghost use Rattle.libyaml_sources.specs.Fault.{fault_of};
+ghost use Rattle.libyaml_loader.specs.document.Refusals.{fault_by};
 
 use libyaml_events::{NO_FAULT, yaml_parser_t, yaml_parser_t_prefix};
 use libyaml_types::{yaml_error_type_t, yaml_mark_t, yaml_refusal_t};
@@ -16,8 +16,11 @@ pub enum Refusal {
     Memory,
     /// No node before this alias carries its anchor.
     UndefinedAlias(yaml_mark_t),
-    /// A node that starts at the first mark carries the anchor of one that starts at the second.
-    RepeatedAnchor(yaml_mark_t, yaml_mark_t),
+    /// The node that starts at `second` has the anchor of the one that starts at `first`.
+    RepeatedAnchor {
+        first: yaml_mark_t,
+        second: yaml_mark_t,
+    },
 }
 
 impl From<AllocError> for Refusal {
@@ -58,77 +61,37 @@ pub fn keep_refusal<S>(parser: &mut yaml_parser_t<S>, refusal: Refusal) -> yaml_
     if has_failed(parser) {
         return parser.prefix().error;
     }
+    let fault = fault_by(refusal);
+    parser.keep_fault(fault);
+    fault.error
+}
+
+/// Returns the fault of this refusal: out of memory, or a composer error.
+///
+/// libyaml: `yaml_parser_set_composer_error` and `yaml_parser_set_composer_error_context`.
+fn fault_by(refusal: Refusal) -> yaml_parser_t_prefix
+    ensures fault { fault_of result ≡ fault_by refusal }
+    ensures of_loader { (result.error ≡ yaml_error_type_t.YAML_MEMORY_ERROR)
+        ⊎ (result.error ≡ yaml_error_type_t.YAML_COMPOSER_ERROR) }
+{
     match refusal {
-        Refusal::Memory => keep_memory_error(parser),
-        Refusal::UndefinedAlias(mark) => {
-            yaml_parser_set_composer_error(parser, "found undefined alias", mark)
-        }
-        Refusal::RepeatedAnchor(first, second) => yaml_parser_set_composer_error_context(
-            parser,
-            "found duplicate anchor; first occurrence",
-            first,
-            "second occurrence",
-            second,
-        ),
+        Refusal::Memory => yaml_parser_t_prefix {
+            error: yaml_error_type_t::YAML_MEMORY_ERROR,
+            ..NO_FAULT
+        },
+        Refusal::UndefinedAlias(mark) => yaml_parser_t_prefix {
+            error: yaml_error_type_t::YAML_COMPOSER_ERROR,
+            problem: Some("found undefined alias"),
+            problem_mark: mark,
+            ..NO_FAULT
+        },
+        Refusal::RepeatedAnchor { first, second } => yaml_parser_t_prefix {
+            error: yaml_error_type_t::YAML_COMPOSER_ERROR,
+            problem: Some("second occurrence"),
+            problem_mark: second,
+            context: Some("found duplicate anchor; first occurrence"),
+            context_mark: first,
+            ..NO_FAULT
+        },
     }
-}
-
-/// The parser keeps the error of an allocation that failed for good.
-fn keep_memory_error<S>(parser: &mut yaml_parser_t<S>) -> yaml_error_type_t
-    requires { has_failed parser.old ≡ false }
-    ensures error { result ≡ yaml_error_type_t.YAML_MEMORY_ERROR }
-    ensures kept { parser.new ≡ keeping memory_fault parser.old }
-{
-    parser.keep_fault(yaml_parser_t_prefix {
-        error: yaml_error_type_t::YAML_MEMORY_ERROR,
-        ..NO_FAULT
-    });
-    yaml_error_type_t::YAML_MEMORY_ERROR
-}
-
-/// The parser keeps a composer error for good.
-///
-/// libyaml: `yaml_parser_set_composer_error`.
-fn yaml_parser_set_composer_error<S>(
-    parser: &mut yaml_parser_t<S>,
-    problem: &'static str,
-    problem_mark: yaml_mark_t,
-) -> yaml_error_type_t
-    requires { has_failed parser.old ≡ false }
-    ensures error { result ≡ yaml_error_type_t.YAML_COMPOSER_ERROR }
-    ensures kept { parser.new ≡ keeping (composer_fault problem.now problem_mark) parser.old }
-{
-    parser.keep_fault(yaml_parser_t_prefix {
-        error: yaml_error_type_t::YAML_COMPOSER_ERROR,
-        problem: Some(problem),
-        problem_mark,
-        ..NO_FAULT
-    });
-    yaml_error_type_t::YAML_COMPOSER_ERROR
-}
-
-/// The parser keeps a composer error in what began at `context_mark` for good.
-///
-/// libyaml: `yaml_parser_set_composer_error_context`.
-fn yaml_parser_set_composer_error_context<S>(
-    parser: &mut yaml_parser_t<S>,
-    context: &'static str,
-    context_mark: yaml_mark_t,
-    problem: &'static str,
-    problem_mark: yaml_mark_t,
-) -> yaml_error_type_t
-    requires { has_failed parser.old ≡ false }
-    ensures error { result ≡ yaml_error_type_t.YAML_COMPOSER_ERROR }
-    ensures kept { parser.new ≡ keeping (composer_fault_in context.now context_mark problem.now problem_mark)
-        parser.old }
-{
-    parser.keep_fault(yaml_parser_t_prefix {
-        error: yaml_error_type_t::YAML_COMPOSER_ERROR,
-        problem: Some(problem),
-        problem_mark,
-        context: Some(context),
-        context_mark,
-        ..NO_FAULT
-    });
-    yaml_error_type_t::YAML_COMPOSER_ERROR
 }

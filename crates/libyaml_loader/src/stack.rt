@@ -2,9 +2,9 @@
 
 ghost use Rattle.std.specs.Prelude.{◌≡◌, [], ◌∷◌, OnOk};
 ghost use Rattle.std.specs.Option.{option_map};
-ghost use Rattle.libyaml_graphs.specs.Loader.{outer};
-ghost use Rattle.libyaml_loader.specs.Ids.{key_of, number_of, open_of};
-ghost use Rattle.libyaml_loader.specs.Stack.{innermost, opened, with_key};
+ghost use Rattle.libyaml_graphs.specs.machine.Loader.{outer};
+ghost use Rattle.libyaml_loader.specs.document.Ids.{number_of, open_of};
+ghost use Rattle.libyaml_loader.specs.document.Stack.{innermost, opened, with_key};
 
 use crate::ids::{NodeId, Open};
 use std::alloc::{AllocError, Global};
@@ -20,11 +20,11 @@ pub struct OpenCollections {
 
 impl Model for OpenCollections {
     ghost use Rattle.std.specs.Prelude.{List};
-    ghost use Rattle.libyaml_graphs.specs.Loader as machine;
+    ghost use Rattle.libyaml_graphs.specs.machine.Loader as machine;
 
     ghost Value = { List machine.Open };
 
-    ghost use Rattle.libyaml_loader.specs.Stack.{stack_of};
+    ghost use Rattle.libyaml_loader.specs.document.Stack.{stack_of};
 
     ghost view = { λ s. stack_of s.inner.items };
 }
@@ -64,7 +64,7 @@ impl OpenCollections {
 
     /// Lets this key wait in the innermost collection, or none.
     pub fn set_key(&mut self, key: Option<NodeId>)
-        ensures { self.new ≡ with_key (key_of key) self.old }
+        ensures { self.new ≡ with_key (number_of key) self.old }
     {
         let count = self.inner.len();
         if count > 0 {

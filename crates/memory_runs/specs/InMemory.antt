@@ -4,7 +4,7 @@ use Rattle.std.specs.List.{concat}
 use Rattle.libyaml_types.specs.declared.event.yaml_event_t.{yaml_event_t}
 use Rattle.libyaml_sources.specs.Fault.{Fault}
 use Rattle.libyaml_grammar.specs.runs.Runs.{Ending, Ends, Fails, IsRun}
-use Rattle.libyaml_graphs.specs.Loads.{IsLoads, Load}
+use Rattle.libyaml_graphs.specs.loads.Loads.{IsLoads, Load}
 use Rattle.line_reading.specs.sources.ReadLines.{read_lines}
 use Rattle.line_writing.specs.FaultText.{fault_text}
 use Rattle.token_lines.specs.events.EventRun.{event_lines}

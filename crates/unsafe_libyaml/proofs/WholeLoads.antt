@@ -1,10 +1,9 @@
 -- How the documents of a whole run are gathered, load by load.
-use Rattle.std.proofs.Common.{◌≡◌, ◌≢◌, ◌<◌, ◌⊎◌, ◌++◌, ℕ, pos, nat_eq, List, [], ◌∷◌, length, map, arith, All, Option, Some, None, Result, Ok, Err, IfOk}
+use Rattle.std.proofs.Common.{◌≡◌, ◌≢◌, ◌<◌, ◌⊎◌, ◌++◌, ℕ, pos, nat_eq, List, [], ◌∷◌, length, map, arith, All, Option, Some, None, Ok, Err}
 use Rattle.std.proofs.Common.{true, false, append_assoc, refl, sym, ap, ap₂, ◌∙◌, subst, inl, inr}
 use Rattle.std.proofs.lemmas.Bool.{eqb-true}
 use Rattle.std.proofs.lemmas.List.{append-nil}
 use Rattle.std.proofs.lemmas.List.Elements.{All-cons, All-head, All-nil, All-tail}
-use Rattle.std.specs.declared.alloc.AllocError.{AllocError}
 use Rattle.libyaml_types.specs.declared.enums.yaml_error_type_t.{yaml_error_type_t}
 use Rattle.libyaml_types.specs.declared.enums.yaml_error_type_t.TheVariants.{YAML_MEMORY_ERROR}
 use Rattle.libyaml_documents.specs.Documents.{Document, empty_document}
@@ -15,9 +14,7 @@ use Rattle.libyaml_sources.specs.Fault.{Answer, Fault, memory_fault}
 use Rattle.libyaml_sources.specs.Fault as faults
 use Rattle.libyaml_events.specs.sources.Calls.{Gave}
 use Rattle.libyaml_events.specs.sources.CallsInTurn.{CarriedOn}
-use Rattle.libyaml_events.specs.sources.History.{History, answers, between_documents, has_failed, keeping, kept_fault}
-use Rattle.libyaml_events.specs.sources.Parsing.{FailsBy, IsWhole}
-use Rattle.libyaml_grammar.specs.cuts.Settled.{BeginsEach}
+use Rattle.libyaml_events.specs.sources.History.{History, answers, between_documents, has_failed, kept_fault}
 use Rattle.libyaml_grammar.specs.sentences.Nesting.{IsNested, NestsSoFar}
 use Rattle.libyaml_grammar.specs.sentences.Order.{in_order}
 use Rattle.libyaml_events.specs.sources.RunToCome.{RunToCome}
@@ -26,18 +23,18 @@ use Rattle.libyaml_sources.specs.Source.{Coming, coming}
 use Rattle.libyaml_grammar.specs.sentences.Tokens.{Token}
 use Rattle.libyaml_grammar.specs.sentences.Trees.{Stream, tokens}
 use Rattle.libyaml_sources.specs.declared.fault.yaml_parser_t_prefix.{yaml_parser_t_prefix}
-use Rattle.libyaml_graphs.specs.Bounds.{NoneLacksMemory, bounded_loads, next_bounded}
-use Rattle.libyaml_graphs.specs.GraphLaws.{RootsFollow}
-use Rattle.libyaml_graphs.specs.Loads.{IsLoads, Load, last_load, left_over, loads, loads_of}
+use Rattle.libyaml_graphs.specs.loads.Bounds.{NoneLacksMemory, bounded_loads, next_bounded}
+use Rattle.libyaml_graphs.specs.loads.GraphLaws.{RootsFollow}
+use Rattle.libyaml_graphs.specs.loads.Loads.{IsLoads, Load, last_load, left_over, loads, loads_of}
 use Rattle.libyaml_graphs.proofs.lent.BoundedFronts.{IsFront, front_of_loads, met, same}
-use Rattle.libyaml_loader.specs.Ids.{magnitude}
-use Rattle.libyaml_loader.specs.Loading.{DocumentOrError, KeptBy, LoadFails, Loads, LoadsFrom, ParserFails, Took, at_end, by_loader}
-use Rattle.libyaml_loader.specs.Loading.{by_memory, by_parser, whole}
-use Rattle.libyaml_loader.specs.NextLoad.{Answers, UnlessBroken, breaks, does, no_memory}
+use Rattle.libyaml_loader.specs.document.Ids.{magnitude}
+use Rattle.libyaml_loader.specs.loads.Loading.{DocumentOrError, KeptBy, LoadFails, Loads, LoadsFrom, ParserFails, Took, at_end, by_loader}
+use Rattle.libyaml_loader.specs.loads.Loading.{by_memory, by_parser, whole}
+use Rattle.libyaml_loader.specs.loads.NextLoad.{Answers, UnlessBroken, breaks, does, no_memory}
 use Rattle.unsafe_libyaml.specs.WholeRun.{ending_of}
-use Rattle.unsafe_libyaml.specs.WholeLoads.{ComposerError, GathersLoads, LoadsTo, as_loads}
+use Rattle.unsafe_libyaml.specs.WholeLoads.{GathersLoads, LoadsTo, as_loads}
 use Rattle.unsafe_libyaml.specs.WholeLoads as told
-use Rattle.unsafe_libyaml.proofs.WholeRuns.{Laws, answers_both, asked_all, asked_until, gave_on, gave_more, none_is_some, stopped_so}
+use Rattle.unsafe_libyaml.proofs.WholeRuns.{Laws, asked_all, asked_until, gave_on, gave_more, none_is_some, stopped_so}
 use Rattle.unsafe_libyaml.specs.declared.load_all.yaml_documents_t.{yaml_documents_t}
 
 -- the bound of a parser that was made and not told another
@@ -126,6 +123,9 @@ ends_here (Fails f) d h = absurd cc
 ok : (a b : Document) → ◌≡◌ {A = DocumentOrError} (Ok a) (Ok b) → a ≡ b
 ok a b h = cc
 
+no_error : {d : Document} {y : yaml_error_type_t} → ◌≡◌ {A = DocumentOrError} (Ok d) (Err y) → ⊥
+no_error h = cc
+
 module _ {S : Type 0} (gives : S → Answer → S → Type 0) (known : S → Option Coming) (MayBreak : S → Fault → Type 0) (source : S) (old new : Parser S) where
   pub loaded_none : LoadLaws → History new [] [] → new.source ≡ source → between_documents new ≡ true → new.max_entries ≡ pos 2147483647
       → ((l : List Token) (f : Fault) → known source ≡ Some (coming l f) → (e : List Event) (x : Ending) → IsRun l f e x → RunToCome known new e x)
@@ -157,18 +157,9 @@ module _ {S : Type 0} (gives : S → Answer → S → Type 0) (known : S → Opt
   answered : (r : DocumentOrError) (d : Document) → r ≡ Ok d → (a : Load) (e : List Event) (x : Ending)
       → UnlessBroken MayBreak r new (Answers known a r new e x) → (a ≡ Ok d) × RunToCome known new e x
   answered r d is a e x (no_memory h k) = absurd (no_error (sym is ∙ h))
-    where
-      no_error : {z : yaml_error_type_t} → ◌≡◌ {A = DocumentOrError} (Ok d) (Err z) → ⊥
-      no_error h = cc
   answered r d is a e x (breaks f b h k) = absurd (no_error (sym is ∙ h))
-    where
-      no_error : {z : yaml_error_type_t} → ◌≡◌ {A = DocumentOrError} (Ok d) (Err z) → ⊥
-      no_error h = cc
   answered r d is (Ok k) e x (does h) = (ap (λ (z : Document). Ok z) (ok k d (sym h.0 ∙ is)), h.1)
   answered r d is (Err f) e x (does h) = absurd (no_error (sym is ∙ h.0))
-    where
-      no_error : {z : yaml_error_type_t} → ◌≡◌ {A = DocumentOrError} (Ok d) (Err z) → ⊥
-      no_error h = cc
 
   -- a call that failed: by the run's own fault, by out of memory, or where the source broke off
   abbrev Failed : Load → Type 0
@@ -178,10 +169,7 @@ module _ {S : Type 0} (gives : S → Answer → S → Type 0) (known : S → Opt
       → UnlessBroken MayBreak r new (Answers known a r new e x) → Failed a
   failed_here r y is a e x (no_memory h k) = inr (inl (ap (λ (f : Fault). f.error) k))
   failed_here r y is a e x (breaks f b h k) = inr (inr (subst (λ (g : Fault). MayBreak new.source g) (sym k) b))
-  failed_here r y is (Ok k) e x (does h) = absurd (no_document (sym is ∙ h.0))
-    where
-      no_document : ◌≡◌ {A = DocumentOrError} (Err y) (Ok k) → ⊥
-      no_document h = cc
+  failed_here r y is (Ok k) e x (does h) = absurd (no_error (sym h.0 ∙ is))
   failed_here r y is (Err f) e x (does h) = inl (ap (λ (g : Fault). Err g) (sym h.1))
 
   module _ (laws : Laws S) (law : LoadLaws) (r : DocumentOrError) (call : Called r) (loaded : List Document) (was : Loaded gives known source old loaded) where
@@ -453,7 +441,3 @@ pub tree_loads : ((t : Stream) (r : List Token) (f : Fault) → in_order t ≡ t
 tree_loads law t f o =
     let h : (n : IsNested (events t)) × IsLoads (tokens t ++ []) f (loads_of n.texts (last_load Ends ∷ [])) = law t [] f o in
     (h.0, subst (λ (l : List Token). IsLoads l f (loads_of h.0.texts (last_load Ends ∷ []))) (append-nil (tokens t)) h.1)
-
-pub if_loaded : (r : Result yaml_documents_t AllocError) (P Q : yaml_documents_t → Type 0) → IfOk r P → ((all : yaml_documents_t) → P all → Q all) → IfOk r Q
-if_loaded (Ok all) P Q h k = k all h
-if_loaded (Err e) P Q h k = h

@@ -210,6 +210,6 @@ pub tree_runs : ((t : Stream) (r : List Token) (f : Fault) → in_order t ≡ tr
     → in_order t ≡ true → IsRun (tokens t) f (events t) Ends
 tree_runs law t f o = subst (λ (l : List Token). IsRun l f (events t) Ends) (append-nil (tokens t)) (law t [] f o)
 
-pub if_ok : (r : Result yaml_run_t AllocError) (P Q : yaml_run_t → Type 0) → IfOk r P → ((run : yaml_run_t) → P run → Q run) → IfOk r Q
-if_ok (Ok run) P Q h k = k run h
+pub if_ok : {A : Type 0} (r : Result A AllocError) (P Q : A → Type 0) → IfOk r P → ((a : A) → P a → Q a) → IfOk r Q
+if_ok (Ok a) P Q h k = k a h
 if_ok (Err e) P Q h k = h

@@ -59,15 +59,15 @@ pub use Rattle.libyaml_documents.specs.LoadedNodes
 pub use Rattle.libyaml_documents.specs.Models as DocumentModels
 pub use Rattle.libyaml_documents.specs.Node
 pub use Rattle.libyaml_documents.specs.Nodes
-pub use Rattle.libyaml_graphs.specs.Bounds
-pub use Rattle.libyaml_graphs.specs.ComposerFaults
-pub use Rattle.libyaml_graphs.specs.GraphLaws
-pub use Rattle.libyaml_graphs.specs.Graphs
-pub use Rattle.libyaml_graphs.specs.LoadRows
-pub use Rattle.libyaml_graphs.specs.Loader
-pub use Rattle.libyaml_graphs.specs.Loads
-pub use Rattle.libyaml_graphs.specs.Parts
-pub use Rattle.libyaml_loader.specs.Growth as LoadGrowth
-pub use Rattle.libyaml_loader.specs.Ids
-pub use Rattle.libyaml_loader.specs.Loading
-pub use Rattle.libyaml_loader.specs.NextLoad
+pub use Rattle.libyaml_graphs.specs.loads.Bounds
+pub use Rattle.libyaml_graphs.specs.graphs.ComposerFaults
+pub use Rattle.libyaml_graphs.specs.loads.GraphLaws
+pub use Rattle.libyaml_graphs.specs.graphs.Graphs
+pub use Rattle.libyaml_graphs.specs.rows.LoadRows
+pub use Rattle.libyaml_graphs.specs.machine.Loader
+pub use Rattle.libyaml_graphs.specs.loads.Loads
+pub use Rattle.libyaml_graphs.specs.graphs.GraphParts
+pub use Rattle.libyaml_loader.specs.loads.LoadGrowth
+pub use Rattle.libyaml_loader.specs.document.Ids
+pub use Rattle.libyaml_loader.specs.loads.Loading
+pub use Rattle.libyaml_loader.specs.loads.NextLoad

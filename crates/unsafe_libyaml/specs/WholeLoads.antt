@@ -10,7 +10,7 @@ use Rattle.libyaml_grammar.specs.sentences.Tokens.{Token}
 use Rattle.libyaml_sources.specs.declared.fault.yaml_parser_t_prefix.{yaml_parser_t_prefix}
 use Rattle.libyaml_events.specs.sources.Calls.{Gave}
 use Rattle.libyaml_events.specs.sources.Parsing.{IsWhole}
-use Rattle.libyaml_graphs.specs.Loads.{Load, last_load, loads}
+use Rattle.libyaml_graphs.specs.loads.Loads.{Load, last_load, loads}
 use Rattle.unsafe_libyaml.specs.declared.load_all.yaml_documents_t.{yaml_documents_t}
 use Rattle.unsafe_libyaml.specs.WholeRun.{Asked, StoppedBy, ending_of}
 

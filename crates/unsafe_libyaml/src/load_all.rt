@@ -12,8 +12,8 @@ ghost use Rattle.libyaml_grammar.specs.runs.Runs.{Ends, Fails, is_behind_propert
 ghost use Rattle.libyaml_sources.specs.Source.{coming};
 ghost use Rattle.libyaml_grammar.specs.sentences.Tokens.{Token};
 ghost use Rattle.libyaml_grammar.specs.sentences.Trees.{Stream, tokens};
-ghost use Rattle.libyaml_graphs.specs.GraphLaws.{NestedLoads};
-ghost use Rattle.libyaml_graphs.specs.Loads.{IsLoads, Load, last_load, loads_of};
+ghost use Rattle.libyaml_graphs.specs.loads.GraphLaws.{NestedLoads};
+ghost use Rattle.libyaml_graphs.specs.loads.Loads.{IsLoads, Load, last_load, loads_of};
 ghost use Rattle.unsafe_libyaml.specs.WholeLoads.{GathersLoads, LoadsTo};
 
 use crate::parse_all::unless_memory;

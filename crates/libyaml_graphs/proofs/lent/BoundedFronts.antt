@@ -5,12 +5,12 @@ use Rattle.libyaml_documents.specs.Documents.{Document}
 use Rattle.libyaml_sources.specs.Fault.{memory_fault, Fault}
 use Rattle.libyaml_grammar.specs.runs.Runs.{Ending}
 use Rattle.libyaml_grammar.specs.sentences.Events.{Event}
-use Rattle.libyaml_graphs.specs.Bounds.{NoneLacksMemory, bounded_loads, first_stop, if_above, if_wrong, list_sizes, one_above}
-use Rattle.libyaml_graphs.specs.ComposerFaults.{composer_fault, or_else, part_fault}
-use Rattle.libyaml_graphs.specs.Graphs.{Start}
-use Rattle.libyaml_graphs.specs.Loads.{Begun, Load, begun, document, document_end, last_load, load_then, loads, loads_by}
-use Rattle.libyaml_graphs.specs.Parts.{Closing, Part, behind, graph, parts}
-use Rattle.libyaml_graphs.proofs.Room.{bound_exact}
+use Rattle.libyaml_graphs.specs.loads.Bounds.{NoneLacksMemory, bounded_loads, first_stop, if_above, if_wrong, list_sizes, one_above}
+use Rattle.libyaml_graphs.specs.graphs.ComposerFaults.{composer_fault, or_else, part_fault}
+use Rattle.libyaml_graphs.specs.graphs.Graphs.{Start}
+use Rattle.libyaml_graphs.specs.loads.Loads.{Begun, Load, begun, document, document_end, last_load, load_then, loads, loads_by}
+use Rattle.libyaml_graphs.specs.graphs.GraphParts.{Closing, Part, behind, graph, parts}
+use Rattle.libyaml_graphs.proofs.loads.Room.{bound_exact}
 
 -- The loads within the bound are the loads; or they are the first of them, which are these documents, and out of memory.
 pub data IsFront (within all : List Load) : Type 0 where

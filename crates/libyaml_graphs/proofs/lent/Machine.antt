@@ -1,19 +1,20 @@
 -- The loader as a machine, event by event: what whoever loops over events needs of it.
-use Rattle.std.proofs.Common.{◌≡◌, ℕ, zero, suc, pos, List, [], ◌∷◌, nat_lt, refl, ap, Option, Some, None, false, Ok, Err}
+use Rattle.std.proofs.Common.{◌≡◌, ℕ, zero, suc, ℤ, pos, negsuc, List, [], ◌∷◌, nat_lt, refl, sym, ap, subst, ◌∙◌, Option, Some, None, Bool, false, Ok, Err}
+use Rattle.std.specs.Prelude.{slice_get}
 use Rattle.libyaml_types.specs.declared.enums.yaml_node_type_t.{yaml_node_type_t}
-use Rattle.libyaml_types.specs.declared.enums.yaml_node_type_t.TheVariants.{YAML_SEQUENCE_NODE, YAML_MAPPING_NODE}
+use Rattle.libyaml_types.specs.declared.enums.yaml_node_type_t.TheVariants.{YAML_NO_NODE, YAML_SCALAR_NODE, YAML_SEQUENCE_NODE, YAML_MAPPING_NODE}
 use Rattle.libyaml_grammar.specs.sentences.Events.{Event}
 use Rattle.libyaml_sources.specs.Fault.{Fault}
 use Rattle.libyaml_grammar.specs.runs.Runs.{Ending}
-use Rattle.libyaml_documents.specs.LoadedNodes.{children_at}
-use Rattle.libyaml_documents.specs.Nodes.{changed_at, type_at, with_changed, with_item, with_pair}
+use Rattle.libyaml_documents.specs.LoadedNodes.{children_at, children_of, children_of_node}
+use Rattle.libyaml_documents.specs.Nodes.{changed_at, item_behind, node_at, node_type, pair_behind, type_at, type_of, with_changed, with_item, with_pair}
 use Rattle.libyaml_documents.specs.declared.node.unnamed_yaml_node_t_data.{unnamed_yaml_node_t_data}
 use Rattle.libyaml_documents.specs.declared.node.unnamed_yaml_node_t_data.TheVariants.{Scalar, Sequence, Mapping}
 use Rattle.libyaml_documents.specs.declared.node.yaml_node_t.{yaml_node_t}
-use Rattle.libyaml_graphs.specs.Loader.{Loader, Open, State, between, bounded_option, fresh, full_at, hand, handed}
-use Rattle.libyaml_graphs.specs.Loader.{if_going, key_at, left_from, load_from, parent_full, with_child, within}
-use Rattle.libyaml_graphs.specs.Loads.{Begun, Load, begun, begun_behind, document, last_load, left_by}
-use Rattle.libyaml_graphs.specs.Parts.{Closing, Opening, Part, closing_of, opening_of, part_of}
+use Rattle.libyaml_graphs.specs.machine.Loader.{Loader, Open, State, between, bounded_option, content_full, content_with, fresh, hand, handed, if_going}
+use Rattle.libyaml_graphs.specs.machine.Loader.{key_after, key_behind, left_from, load_from, node_full, parent_full, with_child, within}
+use Rattle.libyaml_graphs.specs.loads.Loads.{Begun, Load, begun, begun_behind, document, last_load, left_by}
+use Rattle.libyaml_graphs.specs.graphs.GraphParts.{Closing, Opening, Part, closing_of, opening_of, part_of}
 
 -- One load, and what it leaves, by the kind of the next event.
 pub nothing_left : (n : ℕ) (s : State) (x : Ending) → load_from n s [] x ≡ last_load x
@@ -54,105 +55,108 @@ closes_left o l e r c h = ap (λ (d : Option Closing). elim d [ Some y ↦ r | N
 pub goes_on_left : (o : Opening) (l k : Loader) (e : Event) (r : List Event) → closing_of e ≡ None → left_from (within o l) (e ∷ r) ≡ left_from (within o k) r
 goes_on_left o l k e r h = ap (λ (d : Option Closing). elim d [ Some y ↦ r | None ↦ left_from (within o k) r ]) h
 
--- A child handed to a parent of each type: an item, a key that waits, the value of a key.
-abbrev At : ℕ → List yaml_node_t → yaml_node_type_t
-At p nodes = type_at nodes (pos (suc p))
+-- A child i handed to the innermost open collection: the nodes and the stack after it, and whether the parent's list was full.
+pub record Hands (n : ℕ) (i : ℤ) (s : List Open) (nodes new_nodes : List yaml_node_t) (new_stack : List Open) (full : Bool) : Type 0 where
+  pub nodes_are : new_nodes ≡ hand i s nodes
+  pub stack_is : new_stack ≡ handed i s nodes
+  pub full_is : parent_full n s nodes ≡ full
 
-item_there : (p : ℕ) (k : Option ℕ) (i : ℕ) (nodes : List yaml_node_t) → At p nodes ≡ YAML_SEQUENCE_NODE
-    → (changed_at p (with_child k i) nodes ≡ changed_at p (with_item (pos i)) nodes) × (key_at p k i nodes ≡ k)
-item_there p k i [] h = (refl, refl)
-item_there zero k i (x ∷ xs) h = go x.content h
+-- a node's content, and what it does with a child
+abbrev of_content : yaml_node_t → unnamed_yaml_node_t_data → yaml_node_t
+of_content x c = record x { content = c }
+
+abbrev Takes : (n : ℕ) → (old new : Option ℤ) → ℤ → (f : unnamed_yaml_node_t_data → unnamed_yaml_node_t_data) → (full : ℕ → Bool)
+    → unnamed_yaml_node_t_data → Type 0
+Takes n old new i f full c = (f c ≡ content_with old i c) × (new ≡ key_behind old i c) × (content_full n old c ≡ full (children_of c))
+
+alike : (p : ℕ) (f g : yaml_node_t → yaml_node_t) (nodes : List yaml_node_t) → ((x : yaml_node_t) → slice_get nodes p ≡ Some x → f x ≡ g x)
+    → changed_at p f nodes ≡ changed_at p g nodes
+alike p f g [] e = refl
+alike zero f g (x ∷ xs) e = ap (λ (y : yaml_node_t). y ∷ xs) (e x refl)
+alike (suc p) f g (x ∷ xs) e = ap (λ (l : List yaml_node_t). x ∷ l) (alike p f g xs e)
+
+changed_alike : (z : ℤ) (f g : yaml_node_t → yaml_node_t) (nodes : List yaml_node_t) → ((x : yaml_node_t) → node_at nodes z ≡ Some x → f x ≡ g x)
+    → with_changed z f nodes ≡ with_changed z g nodes
+changed_alike (negsuc n) f g nodes e = refl
+changed_alike (pos zero) f g nodes e = refl
+changed_alike (pos (suc p)) f g nodes e = alike p f g nodes e
+
+-- what holds of the content of every node of the parent's type holds of the parent
+by_type : (n : ℕ) (i z : ℤ) (old new : Option ℤ) (s : List Open) (nodes : List yaml_node_t) (f : unnamed_yaml_node_t_data → unnamed_yaml_node_t_data)
+    (full : ℕ → Bool) (t : yaml_node_type_t) → (YAML_NO_NODE ≡ t → ⊥) → ((c : unnamed_yaml_node_t_data) → node_type c ≡ t → Takes n old new i f full c)
+    → type_at nodes z ≡ t
+    → Hands n i (record { node = z; key = old } ∷ s) nodes (with_changed z (λ (x : yaml_node_t). of_content x (f x.content)) nodes)
+    (record { node = z; key = new } ∷ s) (full (children_at nodes z))
+by_type n i z old new s nodes f full t some takes is = record {
+  nodes_are = changed_alike z (λ (x : yaml_node_t). of_content x (f x.content)) (with_child old i) nodes
+      (λ (x : yaml_node_t) (e : node_at nodes z ≡ Some x). ap (of_content x) (takes x.content (ap type_of (sym e) ∙ is)).0);
+  stack_is = ap (λ (k : Option ℤ). record { node = z; key = k } ∷ s) (key (node_at nodes z) is);
+  full_is = room (node_at nodes z) is;
+}
   where
-    go : (c : unnamed_yaml_node_t_data) → At zero (record x { content = c } ∷ xs) ≡ YAML_SEQUENCE_NODE
-        → (with_child k i (record x { content = c }) ∷ xs ≡ with_item (pos i) (record x { content = c }) ∷ xs)
-        × (key_at zero k i (record x { content = c } ∷ xs) ≡ k)
-    go (Scalar s) e = absurd cc
-    go (Sequence s) e = (refl, refl)
-    go (Mapping s) e = absurd cc
-item_there (suc p) k i (x ∷ xs) h = let y = item_there p k i xs h in (ap (λ (l : List yaml_node_t). x ∷ l) y.0, y.1)
+    key : (x : Option yaml_node_t) → type_of x ≡ t → new ≡ key_after old i x
+    key None h = absurd (some h)
+    key (Some x) h = (takes x.content h).1
 
-pub hand_item : (i : ℕ) (o : Open) (s : List Open) (nodes : List yaml_node_t) → At o.place nodes ≡ YAML_SEQUENCE_NODE
-    → (hand i (o ∷ s) nodes ≡ with_changed (pos (suc o.place)) (with_item (pos i)) nodes) × (handed i (o ∷ s) nodes ≡ o ∷ s)
-hand_item i o s nodes h = let y = item_there o.place o.key i nodes h in (y.0, ap (λ (k : Option ℕ). record { place = o.place; key = k } ∷ s) y.1)
+    room : (x : Option yaml_node_t) → type_of x ≡ t → node_full n old x ≡ full (children_of_node x)
+    room None h = absurd (some h)
+    room (Some x) h = (takes x.content h).2
 
-key_there : (p i : ℕ) (nodes : List yaml_node_t) → At p nodes ≡ YAML_MAPPING_NODE → (changed_at p (with_child None i) nodes ≡ nodes)
-    × (key_at p None i nodes ≡ Some i)
-key_there p i [] h = absurd cc
-key_there zero i (x ∷ xs) h = go x.content h
+unchanged : (z : ℤ) (nodes : List yaml_node_t) → with_changed z (λ (x : yaml_node_t). x) nodes ≡ nodes
+unchanged (negsuc n) nodes = refl
+unchanged (pos zero) nodes = refl
+unchanged (pos (suc p)) nodes = go p nodes
   where
-    go : (c : unnamed_yaml_node_t_data) → At zero (record x { content = c } ∷ xs) ≡ YAML_MAPPING_NODE
-        → (with_child None i (record x { content = c }) ∷ xs ≡ record x { content = c } ∷ xs) × (key_at zero None i (record x { content = c } ∷ xs) ≡ Some i)
-    go (Scalar s) e = absurd cc
-    go (Sequence s) e = absurd cc
-    go (Mapping s) e = (refl, refl)
-key_there (suc p) i (x ∷ xs) h = let y = key_there p i xs h in (ap (λ (l : List yaml_node_t). x ∷ l) y.0, y.1)
+    go : (p : ℕ) (nodes : List yaml_node_t) → changed_at p (λ (x : yaml_node_t). x) nodes ≡ nodes
+    go p [] = refl
+    go zero (x ∷ xs) = refl
+    go (suc p) (x ∷ xs) = ap (λ (l : List yaml_node_t). x ∷ l) (go p xs)
 
-pub hand_key : (i p : ℕ) (s : List Open) (nodes : List yaml_node_t) → At p nodes ≡ YAML_MAPPING_NODE
-    → (hand i (record { place = p; key = None } ∷ s) nodes ≡ nodes)
-    × (handed i (record { place = p; key = None } ∷ s) nodes ≡ record { place = p; key = Some i } ∷ s)
-hand_key i p s nodes h = let y = key_there p i nodes h in (y.0, ap (λ (k : Option ℕ). record { place = p; key = k } ∷ s) y.1)
+same_nodes : (n : ℕ) (i z : ℤ) (s t : List Open) (nodes : List yaml_node_t) (full : Bool)
+    → Hands n i s nodes (with_changed z (λ (x : yaml_node_t). x) nodes) t full → Hands n i s nodes nodes t full
+same_nodes n i z s t nodes full h = subst (λ (l : List yaml_node_t). Hands n i s nodes l t full) (unchanged z nodes) h
 
-value_there : (p k i : ℕ) (nodes : List yaml_node_t) → At p nodes ≡ YAML_MAPPING_NODE
-    → (changed_at p (with_child (Some k) i) nodes ≡ changed_at p (with_pair (pos k) (pos i)) nodes) × (key_at p (Some k) i nodes ≡ None)
-value_there p k i [] h = absurd cc
-value_there zero k i (x ∷ xs) h = go x.content h
+-- by the parent's type: an item, a key that waits, the value of a key, or nothing
+pub hands_item : (n : ℕ) (i : ℤ) (o : Open) (s : List Open) (nodes : List yaml_node_t) → type_at nodes o.node ≡ YAML_SEQUENCE_NODE
+    → Hands n i (o ∷ s) nodes (with_changed o.node (with_item i) nodes) (o ∷ s) (nat_lt n (suc (children_at nodes o.node)))
+hands_item n i o s nodes is = by_type n i o.node o.key o.key s nodes (item_behind i) (λ (m : ℕ). nat_lt n (suc m)) YAML_SEQUENCE_NODE (λ h. cc) takes is
   where
-    go : (c : unnamed_yaml_node_t_data) → At zero (record x { content = c } ∷ xs) ≡ YAML_MAPPING_NODE
-        → (with_child (Some k) i (record x { content = c }) ∷ xs ≡ with_pair (pos k) (pos i) (record x { content = c }) ∷ xs)
-        × (key_at zero (Some k) i (record x { content = c } ∷ xs) ≡ None)
-    go (Scalar s) e = absurd cc
-    go (Sequence s) e = absurd cc
-    go (Mapping s) e = (refl, refl)
-value_there (suc p) k i (x ∷ xs) h = let y = value_there p k i xs h in (ap (λ (l : List yaml_node_t). x ∷ l) y.0, y.1)
+    takes : (c : unnamed_yaml_node_t_data) → node_type c ≡ YAML_SEQUENCE_NODE → Takes n o.key o.key i (item_behind i) (λ (m : ℕ). nat_lt n (suc m)) c
+    takes (Scalar s) h = absurd cc
+    takes (Sequence s) h = (refl, refl, refl)
+    takes (Mapping s) h = absurd cc
 
-pub hand_value : (i p k : ℕ) (s : List Open) (nodes : List yaml_node_t) → At p nodes ≡ YAML_MAPPING_NODE
-    → (hand i (record { place = p; key = Some k } ∷ s) nodes ≡ with_changed (pos (suc p)) (with_pair (pos k) (pos i)) nodes)
-    × (handed i (record { place = p; key = Some k } ∷ s) nodes ≡ record { place = p; key = None } ∷ s)
-hand_value i p k s nodes h = let y = value_there p k i nodes h in (y.0, ap (λ (c : Option ℕ). record { place = p; key = c } ∷ s) y.1)
-
--- whether the parent's list is full, by its type
-full_item : (n p : ℕ) (k : Option ℕ) (nodes : List yaml_node_t) → At p nodes ≡ YAML_SEQUENCE_NODE
-    → full_at n p k nodes ≡ nat_lt n (suc (children_at nodes (pos (suc p))))
-full_item n p k [] h = absurd cc
-full_item n zero k (x ∷ xs) h = go x.content h
+pub hands_key : (n : ℕ) (i : ℤ) (o : Open) (s : List Open) (nodes : List yaml_node_t) → o.key ≡ None → type_at nodes o.node ≡ YAML_MAPPING_NODE
+    → Hands n i (o ∷ s) nodes nodes (record { node = o.node; key = Some i } ∷ s) (nat_lt n (suc (children_at nodes o.node)))
+hands_key n i o s nodes none is =
+    subst (λ (k : Option ℤ). Hands n i (record { node = o.node; key = k } ∷ s) nodes nodes (record { node = o.node; key = Some i } ∷ s)
+    (nat_lt n (suc (children_at nodes o.node)))) (sym none)
+    (same_nodes n i o.node _ _ nodes _ (by_type n i o.node None (Some i) s nodes (λ c. c) (λ (m : ℕ). nat_lt n (suc m)) YAML_MAPPING_NODE (λ h. cc) takes is))
   where
-    go : (c : unnamed_yaml_node_t_data) → At zero (record x { content = c } ∷ xs) ≡ YAML_SEQUENCE_NODE
-        → full_at n zero k (record x { content = c } ∷ xs) ≡ nat_lt n (suc (children_at (record x { content = c } ∷ xs) (pos 1)))
-    go (Scalar s) e = absurd cc
-    go (Sequence s) e = refl
-    go (Mapping s) e = absurd cc
-full_item n (suc p) k (x ∷ xs) h = full_item n p k xs h
+    takes : (c : unnamed_yaml_node_t_data) → node_type c ≡ YAML_MAPPING_NODE → Takes n None (Some i) i (λ c. c) (λ (m : ℕ). nat_lt n (suc m)) c
+    takes (Scalar s) h = absurd cc
+    takes (Sequence s) h = absurd cc
+    takes (Mapping s) h = (refl, refl, refl)
 
-full_key : (n p : ℕ) (nodes : List yaml_node_t) → At p nodes ≡ YAML_MAPPING_NODE → full_at n p None nodes ≡ nat_lt n (suc (children_at nodes (pos (suc p))))
-full_key n p [] h = absurd cc
-full_key n zero (x ∷ xs) h = go x.content h
+pub hands_value : (n : ℕ) (i : ℤ) (o : Open) (k : ℤ) (s : List Open) (nodes : List yaml_node_t) → o.key ≡ Some k → type_at nodes o.node ≡ YAML_MAPPING_NODE
+    → Hands n i (o ∷ s) nodes (with_changed o.node (with_pair k i) nodes) (record { node = o.node; key = None } ∷ s) false
+hands_value n i o k s nodes waits is =
+    subst (λ (j : Option ℤ). Hands n i (record { node = o.node; key = j } ∷ s) nodes (with_changed o.node (with_pair k i) nodes)
+    (record { node = o.node; key = None } ∷ s) false) (sym waits)
+    (by_type n i o.node (Some k) None s nodes (pair_behind (record { key = k; value = i })) (λ (m : ℕ). false) YAML_MAPPING_NODE (λ h. cc) takes is)
   where
-    go : (c : unnamed_yaml_node_t_data) → At zero (record x { content = c } ∷ xs) ≡ YAML_MAPPING_NODE
-        → full_at n zero None (record x { content = c } ∷ xs) ≡ nat_lt n (suc (children_at (record x { content = c } ∷ xs) (pos 1)))
-    go (Scalar s) e = absurd cc
-    go (Sequence s) e = absurd cc
-    go (Mapping s) e = refl
-full_key n (suc p) (x ∷ xs) h = full_key n p xs h
+    takes : (c : unnamed_yaml_node_t_data) → node_type c ≡ YAML_MAPPING_NODE
+        → Takes n (Some k) None i (pair_behind (record { key = k; value = i })) (λ (m : ℕ). false) c
+    takes (Scalar s) h = absurd cc
+    takes (Sequence s) h = absurd cc
+    takes (Mapping s) h = (refl, refl, refl)
 
-full_value : (n p k : ℕ) (nodes : List yaml_node_t) → At p nodes ≡ YAML_MAPPING_NODE → full_at n p (Some k) nodes ≡ false
-full_value n p k [] h = refl
-full_value n zero k (x ∷ xs) h = go x.content h
+pub hands_nothing : (n : ℕ) (i : ℤ) (o : Open) (s : List Open) (nodes : List yaml_node_t) → type_at nodes o.node ≡ YAML_SCALAR_NODE
+    → Hands n i (o ∷ s) nodes nodes (o ∷ s) false
+hands_nothing n i o s nodes is =
+    same_nodes n i o.node _ _ nodes _ (by_type n i o.node o.key o.key s nodes (λ c. c) (λ (m : ℕ). false) YAML_SCALAR_NODE (λ h. cc) takes is)
   where
-    go : (c : unnamed_yaml_node_t_data) → At zero (record x { content = c } ∷ xs) ≡ YAML_MAPPING_NODE
-        → full_at n zero (Some k) (record x { content = c } ∷ xs) ≡ false
-    go (Scalar s) e = refl
-    go (Sequence s) e = absurd cc
-    go (Mapping s) e = refl
-full_value n (suc p) k (x ∷ xs) h = full_value n p k xs h
-
-pub parent_full_item : (n : ℕ) (o : Open) (s : List Open) (nodes : List yaml_node_t) → At o.place nodes ≡ YAML_SEQUENCE_NODE
-    → parent_full n (o ∷ s) nodes ≡ nat_lt n (suc (children_at nodes (pos (suc o.place))))
-parent_full_item n o s nodes h = full_item n o.place o.key nodes h
-
-pub parent_full_key : (n p : ℕ) (s : List Open) (nodes : List yaml_node_t) → At p nodes ≡ YAML_MAPPING_NODE
-    → parent_full n (record { place = p; key = None } ∷ s) nodes ≡ nat_lt n (suc (children_at nodes (pos (suc p))))
-parent_full_key n p s nodes h = full_key n p nodes h
-
-pub parent_full_value : (n p k : ℕ) (s : List Open) (nodes : List yaml_node_t) → At p nodes ≡ YAML_MAPPING_NODE
-    → parent_full n (record { place = p; key = Some k } ∷ s) nodes ≡ false
-parent_full_value n p k s nodes h = full_value n p k nodes h
+    takes : (c : unnamed_yaml_node_t_data) → node_type c ≡ YAML_SCALAR_NODE → Takes n o.key o.key i (λ c. c) (λ (m : ℕ). false) c
+    takes (Scalar s) h = (refl, refl, refl)
+    takes (Sequence s) h = absurd cc
+    takes (Mapping s) h = absurd cc

@@ -11,13 +11,13 @@ use Rattle.libyaml_grammar.specs.runs.Runs.{Ending, Ends, Fails}
 use Rattle.libyaml_grammar.specs.sentences.Tokens.{Mark}
 use Rattle.libyaml_grammar.specs.sentences.Trees.{mapping, sequence}
 use Rattle.libyaml_documents.specs.Documents.{Document}
-use Rattle.libyaml_graphs.specs.Bounds.{bounded_loads, first_stop, if_above, next_bounded}
-use Rattle.libyaml_graphs.specs.GraphLaws.{BeginsNode, RootFollows, RootsFollow}
-use Rattle.libyaml_graphs.specs.Loads.{Begun, Load, answer, begun, begun_behind, behind_document, document, document_end, last_load, left_by, left_over}
-use Rattle.libyaml_graphs.specs.Loads.{load_then, loads_by, next_by}
-use Rattle.libyaml_graphs.specs.Parts.{Closing, Opening, Part, alias_part, closing_in, closing_of, end_part, graph, leaf_part, opening_of, part_in, part_of}
-use Rattle.libyaml_graphs.specs.Parts.{parts, start_part, with_part}
-use Rattle.libyaml_graphs.proofs.OneLoad.{Follow, follow}
+use Rattle.libyaml_graphs.specs.loads.Bounds.{bounded_loads, first_stop, if_above, next_bounded}
+use Rattle.libyaml_graphs.specs.loads.GraphLaws.{BeginsNode, RootFollows, RootsFollow}
+use Rattle.libyaml_graphs.specs.loads.Loads.{Begun, Load, answer, begun, begun_behind, behind_document, document, document_end, last_load, left_by, left_over}
+use Rattle.libyaml_graphs.specs.loads.Loads.{load_then, loads_by, next_by}
+use Rattle.libyaml_graphs.specs.graphs.GraphParts.{Closing, Opening, Part, alias_part, closing_in, closing_of, end_part, graph, leaf_part, opening_of, part_in, part_of}
+use Rattle.libyaml_graphs.specs.graphs.GraphParts.{parts, start_part, with_part}
+use Rattle.libyaml_graphs.proofs.loads.OneLoad.{Follow, follow}
 
 -- in events that nest as far as they go each document's root follows its start
 mutual

@@ -4,8 +4,8 @@
 ghost use Rattle.std.specs.Prelude.{◌≡◌, ℕ, List};
 ghost use Rattle.libyaml_grammar.specs.sentences.Events.{Event};
 ghost use Rattle.libyaml_grammar.specs.runs.Runs.{Ending};
-ghost use Rattle.libyaml_graphs.specs.Bounds.{next_bounded};
-ghost use Rattle.libyaml_graphs.specs.Loader.{between, load_from};
+ghost use Rattle.libyaml_graphs.specs.loads.Bounds.{next_bounded};
+ghost use Rattle.libyaml_graphs.specs.machine.Loader.{between, load_from};
 
 /// From between documents to the end of the next, it gives the next load within its bound.
 pub fn one_load()

@@ -1,20 +1,20 @@
 //! Worked rows of loads: lists of tokens with the results of the loads over them. Each function does
 //! nothing when it runs: its contract is the rows.
 
-ghost use Rattle.libyaml_graphs.specs.LoadRows.{RowAliasBeforeBound, RowAnchorOfDocumentBefore};
-ghost use Rattle.libyaml_graphs.specs.LoadRows.{RowBoundBeforeAnchor, RowBoundOfEachDocument};
-ghost use Rattle.libyaml_graphs.specs.LoadRows.{RowCollectionsInPairs, RowDirectives};
-ghost use Rattle.libyaml_graphs.specs.LoadRows.{RowEmptyDocuments, RowEmptyStream, RowEmptyTag};
-ghost use Rattle.libyaml_graphs.specs.LoadRows.{RowExclamationMarksOfCollections, RowExplicitEnd};
-ghost use Rattle.libyaml_graphs.specs.LoadRows.{RowHoldsItself, RowItemTwice, RowItemsBeyondBound};
-ghost use Rattle.libyaml_graphs.specs.LoadRows.{RowKeyBeyondBound, RowNestedHoldsItself};
-ghost use Rattle.libyaml_graphs.specs.LoadRows.{RowNodesBeyondBound, RowNodesInBound};
-ghost use Rattle.libyaml_graphs.specs.LoadRows.{RowPairInBound, RowPairs, RowParserFault};
-ghost use Rattle.libyaml_graphs.specs.LoadRows.{RowSecondAliasUndefined, RowSecondAnchor};
-ghost use Rattle.libyaml_graphs.specs.LoadRows.{RowSourceEnds, RowStartWithoutRoot};
-ghost use Rattle.libyaml_graphs.specs.LoadRows.{RowTagThatIsAnExclamationMark, RowUndefinedAlias};
-ghost use Rattle.libyaml_graphs.specs.LoadRows.{RowUndefinedAliasBeforeSourceEnds};
-ghost use Rattle.libyaml_graphs.specs.LoadRows.{RowUndefinedAliasBehindKey};
+ghost use Rattle.libyaml_graphs.specs.rows.LoadRows.{RowAliasBeforeBound, RowAnchorOfDocumentBefore};
+ghost use Rattle.libyaml_graphs.specs.rows.LoadRows.{RowBoundBeforeAnchor, RowBoundOfEachDocument};
+ghost use Rattle.libyaml_graphs.specs.rows.LoadRows.{RowCollectionsInPairs, RowDirectives};
+ghost use Rattle.libyaml_graphs.specs.rows.LoadRows.{RowEmptyDocuments, RowEmptyStream, RowEmptyTag};
+ghost use Rattle.libyaml_graphs.specs.rows.LoadRows.{RowExclamationMarksOfCollections, RowExplicitEnd};
+ghost use Rattle.libyaml_graphs.specs.rows.LoadRows.{RowHoldsItself, RowItemTwice, RowItemsBeyondBound};
+ghost use Rattle.libyaml_graphs.specs.rows.LoadRows.{RowKeyBeyondBound, RowNestedHoldsItself};
+ghost use Rattle.libyaml_graphs.specs.rows.LoadRows.{RowNodesBeyondBound, RowNodesInBound};
+ghost use Rattle.libyaml_graphs.specs.rows.LoadRows.{RowPairInBound, RowPairs, RowParserFault};
+ghost use Rattle.libyaml_graphs.specs.rows.LoadRows.{RowSecondAliasUndefined, RowSecondAnchor};
+ghost use Rattle.libyaml_graphs.specs.rows.LoadRows.{RowSourceEnds, RowStartWithoutRoot};
+ghost use Rattle.libyaml_graphs.specs.rows.LoadRows.{RowTagThatIsAnExclamationMark, RowUndefinedAlias};
+ghost use Rattle.libyaml_graphs.specs.rows.LoadRows.{RowUndefinedAliasBeforeSourceEnds};
+ghost use Rattle.libyaml_graphs.specs.rows.LoadRows.{RowUndefinedAliasBehindKey};
 
 /// A stream without documents, directives, an explicit end, documents without content, and a start that no
 /// root follows.

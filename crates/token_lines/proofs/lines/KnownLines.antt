@@ -5,8 +5,8 @@ use Rattle.libyaml_types.specs.declared.token.yaml_token_t.{yaml_token_t}
 use Rattle.libyaml_sources.specs.Fault.{Fault}
 use Rattle.libyaml_grammar.specs.runs.Runs.{Ending, IsRun}
 use Rattle.libyaml_sources.specs.Source.{coming}
-use Rattle.libyaml_graphs.specs.Bounds.{bounded_loads}
-use Rattle.libyaml_graphs.specs.Loads.{Load}
+use Rattle.libyaml_graphs.specs.loads.Bounds.{bounded_loads}
+use Rattle.libyaml_graphs.specs.loads.Loads.{Load}
 use Rattle.libyaml_graphs.proofs.lent.BoundedFronts.{front_of_loads}
 use Rattle.line_reading.specs.sources.LineSource.{coming_of}
 use Rattle.token_lines.specs.declared.run.Outcome.{Outcome}

@@ -15,12 +15,12 @@ use Rattle.libyaml_events.specs.sources.RunToCome.{RunToCome}
 use Rattle.libyaml_grammar.specs.runs.Runs.{Ending, Ends, Fails}
 use Rattle.libyaml_sources.specs.Source.{Coming}
 use Rattle.libyaml_grammar.proofs.lent.NestingSoFar.{run_nests_so_far}
-use Rattle.libyaml_graphs.specs.Bounds.{bounded_loads, next_bounded}
-use Rattle.libyaml_graphs.specs.GraphLaws.{RootsFollow}
-use Rattle.libyaml_graphs.specs.Loads.{Load, left_over}
+use Rattle.libyaml_graphs.specs.loads.Bounds.{bounded_loads, next_bounded}
+use Rattle.libyaml_graphs.specs.loads.GraphLaws.{RootsFollow}
+use Rattle.libyaml_graphs.specs.loads.Loads.{Load, left_over}
 use Rattle.libyaml_graphs.proofs.lent.Roots.{earlier_of, fault_of, last_of, roots_follow}
-use Rattle.libyaml_loader.specs.Loading.{DocumentOrError}
-use Rattle.libyaml_loader.specs.NextLoad.{Answers, UnlessBroken, breaks, does, no_memory}
+use Rattle.libyaml_loader.specs.loads.Loading.{DocumentOrError}
+use Rattle.libyaml_loader.specs.loads.NextLoad.{Answers, UnlessBroken, breaks, does, no_memory}
 use Rattle.line_writing.specs.DocumentText.{WroteBefore, document_lines}
 use Rattle.token_lines.specs.nodes.NodeRun.{lines_with, loads_ending, loads_lines}
 use Rattle.token_lines.specs.nodes.NodeStep.{run_ending, run_lines}

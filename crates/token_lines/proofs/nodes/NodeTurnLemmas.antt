@@ -19,11 +19,11 @@ use Rattle.libyaml_events.specs.sources.RunToCome.{RunToCome}
 use Rattle.libyaml_grammar.specs.runs.Runs.{Ending}
 use Rattle.libyaml_sources.specs.Source.{Coming}
 use Rattle.libyaml_events.proofs.lent.Staged.{ran_staged}
-use Rattle.libyaml_graphs.specs.Bounds.{bounded_loads, next_bounded}
-use Rattle.libyaml_graphs.specs.Loads.{Load, left_over}
+use Rattle.libyaml_graphs.specs.loads.Bounds.{bounded_loads, next_bounded}
+use Rattle.libyaml_graphs.specs.loads.Loads.{Load, left_over}
 use Rattle.libyaml_graphs.proofs.lent.Roots.{earlier_of}
-use Rattle.libyaml_loader.specs.Ids.{magnitude}
-use Rattle.libyaml_loader.specs.Loading.{DocumentOrError, HasEnded, LoadsFrom, at_end, whole}
+use Rattle.libyaml_loader.specs.document.Ids.{magnitude}
+use Rattle.libyaml_loader.specs.loads.Loading.{DocumentOrError, HasEnded, LoadsFrom, at_end, whole}
 use Rattle.line_writing.specs.DocumentText.{document_lines}
 use Rattle.line_writing.specs.FaultText.{fault_text}
 use Rattle.token_lines.specs.declared.run.Outcome.{Outcome}

@@ -12,9 +12,9 @@ use Rattle.libyaml_sources.specs.Fault.{Answer, Fault, memory_fault}
 use Rattle.libyaml_events.specs.sources.History.{History, answers, kept_fault}
 use Rattle.libyaml_grammar.specs.runs.Runs.{Ending}
 use Rattle.libyaml_sources.specs.Source.{Coming}
-use Rattle.libyaml_graphs.specs.Bounds.{bounded_loads, next_bounded}
-use Rattle.libyaml_graphs.specs.Loads.{Load, left_over}
-use Rattle.libyaml_loader.specs.Loading.{DocumentOrError, HasEnded, LoadsFrom}
+use Rattle.libyaml_graphs.specs.loads.Bounds.{bounded_loads, next_bounded}
+use Rattle.libyaml_graphs.specs.loads.Loads.{Load, left_over}
+use Rattle.libyaml_loader.specs.loads.Loading.{DocumentOrError, HasEnded, LoadsFrom}
 use Rattle.line_reading.specs.sources.LineSource.{LineSource, BreaksOff, Gives, known_of}
 use Rattle.line_writing.specs.DocumentText.{document_lines}
 use Rattle.line_writing.specs.FaultText.{fault_text}

@@ -4,7 +4,7 @@ use Rattle.std.specs.List.{flat_map}
 use Rattle.libyaml_documents.specs.declared.node.yaml_node_t.{yaml_node_t}
 use Rattle.libyaml_sources.specs.Fault.{Fault}
 use Rattle.libyaml_grammar.specs.runs.Runs.{Ending, Ends, Fails}
-use Rattle.libyaml_graphs.specs.Loads.{IsLoads, Load}
+use Rattle.libyaml_graphs.specs.loads.Loads.{IsLoads, Load}
 use Rattle.line_reading.specs.sources.ReadLines.{read_lines}
 use Rattle.line_writing.specs.DocumentText.{document_lines}
 use Rattle.token_lines.specs.declared.run.Outcome.{Outcome}

@@ -8,9 +8,9 @@ use Rattle.libyaml_sources.specs.Fault.{Answer, Fault, fault_of, memory_fault}
 use Rattle.libyaml_events.specs.sources.History.{ForHistory, kept_fault}
 use Rattle.libyaml_grammar.specs.runs.Runs.{Ending}
 use Rattle.libyaml_sources.specs.Source.{Coming}
-use Rattle.libyaml_graphs.specs.Bounds.{bounded_loads, next_bounded}
-use Rattle.libyaml_graphs.specs.Loads.{left_over}
-use Rattle.libyaml_loader.specs.Loading.{DocumentOrError, HasEnded, LoadsFrom}
+use Rattle.libyaml_graphs.specs.loads.Bounds.{bounded_loads, next_bounded}
+use Rattle.libyaml_graphs.specs.loads.Loads.{left_over}
+use Rattle.libyaml_loader.specs.loads.Loading.{DocumentOrError, HasEnded, LoadsFrom}
 use Rattle.line_writing.specs.DocumentText.{WroteBefore, document_lines}
 use Rattle.token_lines.specs.declared.run.Step.{Step}
 use Rattle.token_lines.specs.declared.run.Step.TheVariants.{Written, Ended, Failed, OutputFailed}

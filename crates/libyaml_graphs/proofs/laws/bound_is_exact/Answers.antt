@@ -1,4 +1,4 @@
-use Rattle.libyaml_graphs.proofs.Room.{bound_exact}
+use Rattle.libyaml_graphs.proofs.loads.Room.{bound_exact}
 use Rattle.libyaml_graphs.proofs.laws.bound_is_exact.Goals as goal
 
 pub returns : goal.returns

@@ -1,5 +1,5 @@
-use Rattle.libyaml_graphs.proofs.Ids.{every_id}
-use Rattle.libyaml_graphs.proofs.RunLoads.{loaded_ids}
+use Rattle.libyaml_graphs.proofs.graphs.Ids.{every_id}
+use Rattle.libyaml_graphs.proofs.loads.RunLoads.{loaded_ids}
 use Rattle.libyaml_graphs.proofs.laws.every_id.Goals as goal
 
 pub returns-clause-of_value : goal.returns-clause-of_value

@@ -1,4 +1,4 @@
-use Rattle.libyaml_graphs.proofs.Ids.{fault_of_heads}
+use Rattle.libyaml_graphs.proofs.graphs.Ids.{fault_of_heads}
 use Rattle.libyaml_graphs.proofs.laws.fault_of_heads.Goals as goal
 
 pub returns : goal.returns

@@ -1,4 +1,4 @@
-use Rattle.libyaml_graphs.proofs.TreeGraphs.{value_graph}
+use Rattle.libyaml_graphs.proofs.graphs.TreeGraphs.{value_graph}
 use Rattle.libyaml_graphs.proofs.laws.graph_of_tree.Goals as goal
 
 pub returns : goal.returns

@@ -1,8 +1,8 @@
 use Rattle.std.proofs.Common.{[]}
-use Rattle.libyaml_graphs.specs.Bounds.{first_stop}
-use Rattle.libyaml_graphs.specs.ComposerFaults.{composer_fault}
-use Rattle.libyaml_graphs.specs.Loads.{begun}
-use Rattle.libyaml_graphs.proofs.OneLoad.{first_load, follow, later_load}
+use Rattle.libyaml_graphs.specs.loads.Bounds.{first_stop}
+use Rattle.libyaml_graphs.specs.graphs.ComposerFaults.{composer_fault}
+use Rattle.libyaml_graphs.specs.loads.Loads.{begun}
+use Rattle.libyaml_graphs.proofs.loads.OneLoad.{first_load, follow, later_load}
 use Rattle.libyaml_graphs.proofs.laws.load_by_load.Goals as goal
 
 pub returns-clause-first : goal.returns-clause-first

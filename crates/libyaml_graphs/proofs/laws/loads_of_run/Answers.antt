@@ -1,5 +1,5 @@
-use Rattle.libyaml_graphs.proofs.RunLoads.{run_loads}
-use Rattle.libyaml_graphs.proofs.TextLoads.{nested_loads}
+use Rattle.libyaml_graphs.proofs.loads.RunLoads.{run_loads}
+use Rattle.libyaml_graphs.proofs.loads.TextLoads.{nested_loads}
 use Rattle.libyaml_graphs.proofs.laws.loads_of_run.Goals as goal
 
 pub returns-clause-of_run : goal.returns-clause-of_run

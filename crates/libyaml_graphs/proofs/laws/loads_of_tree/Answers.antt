@@ -1,4 +1,4 @@
-use Rattle.libyaml_graphs.proofs.RunLoads.{amid_loads, beginning_loads, cut_tree_loads, sentence_loads}
+use Rattle.libyaml_graphs.proofs.loads.RunLoads.{amid_loads, beginning_loads, cut_tree_loads, sentence_loads}
 use Rattle.libyaml_graphs.proofs.laws.loads_of_tree.Goals as goal
 
 pub returns-clause-sentence : goal.returns-clause-sentence

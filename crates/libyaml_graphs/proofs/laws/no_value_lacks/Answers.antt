@@ -1,4 +1,4 @@
-use Rattle.libyaml_graphs.proofs.Ids.{holds_children, texts_hold}
+use Rattle.libyaml_graphs.proofs.graphs.Ids.{holds_children, texts_hold}
 use Rattle.libyaml_graphs.proofs.laws.no_value_lacks.Goals as goal
 
 pub returns-clause-of_value : goal.returns-clause-of_value

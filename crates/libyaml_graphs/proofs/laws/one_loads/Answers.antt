@@ -1,4 +1,4 @@
-use Rattle.libyaml_graphs.proofs.RunLoads.{one_loads, some_loads}
+use Rattle.libyaml_graphs.proofs.loads.RunLoads.{one_loads, some_loads}
 use Rattle.libyaml_graphs.proofs.laws.one_loads.Goals as goal
 
 pub returns-clause-some : goal.returns-clause-some

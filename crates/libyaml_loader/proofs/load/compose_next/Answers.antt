@@ -1,9 +1,9 @@
 use Rattle.std.proofs.Common.{◌≡◌, Err, ap, refl, rules, sym, ◌∙◌, inl, inr, true, false}
 use Rattle.libyaml_events.specs.parsers.Stages.{is_event}
 use Rattle.libyaml_events.specs.sources.Calls.{answered}
-use Rattle.libyaml_loader.proofs.Outside.{behind_all, behind_close}
-use Rattle.libyaml_loader.proofs.Stepping.{loader_fails, steps_err, takes}
-use Rattle.libyaml_loader.proofs.Taking.{Called, finds_end, parser_fails, running}
+use Rattle.libyaml_loader.proofs.loads.Outside.{behind_all, behind_close}
+use Rattle.libyaml_loader.proofs.loads.Stepping.{loader_fails, steps_err, takes}
+use Rattle.libyaml_loader.proofs.loads.Taking.{Called, finds_end, parser_fails, running}
 use Rattle.libyaml_loader.proofs.load.compose_next.Given as given
 use Rattle.libyaml_loader.proofs.load.compose_next.Goals as goal
 use Rattle.libyaml_loader.proofs.load.compose_next.Goals.{After-yaml_parser_parse_into}
@@ -13,18 +13,9 @@ called_by : (g : given.Over) (c : After-yaml_parser_parse_into g)
     → Called g.S.yaml_token_source_t.gives g.S.yaml_token_source_t.known g.S.yaml_token_source_t.may_break c.args.parser.now c.yaml_parser_parse_into.new.parser
     (answered c.yaml_parser_parse_into.result c.yaml_parser_parse_into.new.event)
 called_by g c =
-    let clauses = c.yaml_parser_parse_into.ensures in
     record {
-      ended = clauses.ended;
-      carries_on = clauses.carries_on;
-      fails = clauses.fails;
-      none_held = clauses.none_held;
-      depth_left = clauses.depth_left;
-      between = clauses.between;
-      next = clauses.next_of_run;
-      end = clauses.end_of_run;
-      fault = clauses.fault_of_run;
-      nothing = clauses.nothing_behind_end;
+      token_bound = g.S.yaml_token_source_t.bound;
+      parses = c.yaml_parser_parse_into.ensures;
       no_fault = c.of_history.ensures.no_fault;
       whole = c.of_history.ensures.whole;
     }

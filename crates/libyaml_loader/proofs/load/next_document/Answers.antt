@@ -4,15 +4,15 @@ use Rattle.libyaml_documents.specs.Documents.{Document, empty_document}
 use Rattle.libyaml_events.specs.parsers.EventsLeft.{events_left}
 use Rattle.libyaml_events.specs.parsers.Stages.{is_event}
 use Rattle.libyaml_events.specs.sources.Calls.{answered}
-use Rattle.libyaml_graphs.specs.Loader.{fresh, left_from, load_from, within}
-use Rattle.libyaml_loader.specs.Ids.{magnitude}
-use Rattle.libyaml_loader.specs.Loading.{LoadsFrom}
-use Rattle.libyaml_loader.specs.Steps.{opening_at}
-use Rattle.libyaml_loader.proofs.Ended.{has_not_ended, no_error, still_ended}
-use Rattle.libyaml_loader.proofs.Falling.{falls_later, stays_since}
-use Rattle.libyaml_loader.proofs.Outside.{behind_all}
-use Rattle.libyaml_loader.proofs.Stepping.{skips_none, skips_end, skips_fail, skips_more, skips_opens}
-use Rattle.libyaml_loader.proofs.Taking.{Called, ended_between, finds_end, parser_fails, running}
+use Rattle.libyaml_graphs.specs.machine.Loader.{fresh, left_from, load_from, within}
+use Rattle.libyaml_loader.specs.document.Ids.{magnitude}
+use Rattle.libyaml_loader.specs.loads.Loading.{LoadsFrom}
+use Rattle.libyaml_loader.specs.loads.ComposeSteps.{opening_at}
+use Rattle.libyaml_loader.proofs.loads.Ended.{has_not_ended, no_error, still_ended}
+use Rattle.libyaml_loader.proofs.loads.Falling.{falls_later, stays_since}
+use Rattle.libyaml_loader.proofs.loads.Outside.{behind_all}
+use Rattle.libyaml_loader.proofs.loads.Stepping.{skips_none, skips_end, skips_fail, skips_more, skips_opens}
+use Rattle.libyaml_loader.proofs.loads.Taking.{Called, ended_between, finds_end, parser_fails, running}
 use Rattle.libyaml_loader.proofs.load.next_document.Given as given
 use Rattle.libyaml_loader.proofs.load.next_document.Goals as goal
 use Rattle.libyaml_loader.proofs.load.next_document.Goals.{After-yaml_parser_parse_into}
@@ -22,18 +22,9 @@ called_by : (g : given.Over) (c : After-yaml_parser_parse_into g)
     → Called g.S.yaml_token_source_t.gives g.S.yaml_token_source_t.known g.S.yaml_token_source_t.may_break c.loop-event.parser c.yaml_parser_parse_into.new.parser
     (answered c.yaml_parser_parse_into.result c.yaml_parser_parse_into.new.event)
 called_by g c =
-    let clauses = c.yaml_parser_parse_into.ensures in
     record {
-      ended = clauses.ended;
-      carries_on = clauses.carries_on;
-      fails = clauses.fails;
-      none_held = clauses.none_held;
-      depth_left = clauses.depth_left;
-      between = clauses.between;
-      next = clauses.next_of_run;
-      end = clauses.end_of_run;
-      fault = clauses.fault_of_run;
-      nothing = clauses.nothing_behind_end;
+      token_bound = g.S.yaml_token_source_t.bound;
+      parses = c.yaml_parser_parse_into.ensures;
       no_fault = c.of_history.ensures.no_fault;
       whole = c.of_history.ensures.whole;
     }

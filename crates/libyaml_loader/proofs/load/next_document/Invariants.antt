@@ -1,8 +1,8 @@
 use Rattle.std.specs.Prelude.{◌≡◌, ◌≤◌, true}
 use Rattle.libyaml_events.specs.parsers.EventsLeft.{events_left}
 use Rattle.libyaml_events.specs.sources.History.{is_over}
-use Rattle.libyaml_loader.specs.Ids.{magnitude}
-use Rattle.libyaml_loader.proofs.Stepping.{Skips}
+use Rattle.libyaml_loader.specs.document.Ids.{magnitude}
+use Rattle.libyaml_loader.proofs.loads.Stepping.{Skips}
 use Rattle.libyaml_loader.proofs.load.next_document.Given as goal
 
 abbrev pub invariant-loop-event : goal.invariant-loop-event

@@ -1,9 +1,9 @@
 use Rattle.std.proofs.Common.{◌≡◌, sym, ◌∙◌, true, false}
-use Rattle.libyaml_graphs.specs.Bounds.{next_bounded}
-use Rattle.libyaml_graphs.specs.Loads.{left_over}
-use Rattle.libyaml_loader.specs.Ids.{magnitude}
-use Rattle.libyaml_loader.proofs.NextLoads.{next_load}
-use Rattle.libyaml_loader.proofs.Rootless.{rootless}
+use Rattle.libyaml_graphs.specs.loads.Bounds.{next_bounded}
+use Rattle.libyaml_graphs.specs.loads.Loads.{left_over}
+use Rattle.libyaml_loader.specs.document.Ids.{magnitude}
+use Rattle.libyaml_loader.proofs.loads.NextLoads.{next_load}
+use Rattle.libyaml_loader.proofs.loads.Rootless.{rootless}
 use Rattle.libyaml_loader.proofs.load.yaml_parser_load.Goals as goal
 
 no : true ≡ false → ⊥

@@ -1,6 +1,6 @@
 use Rattle.std.proofs.Common.{◌∙◌}
-use Rattle.libyaml_loader.specs.Steps.{opening_at}
-use Rattle.libyaml_loader.proofs.Stepping.{begun_is, context_ids, context_is_fresh, loads_fresh}
+use Rattle.libyaml_loader.specs.loads.ComposeSteps.{opening_at}
+use Rattle.libyaml_loader.proofs.loads.Stepping.{begun_is, context_ids, context_is_fresh, loads_fresh}
 use Rattle.libyaml_loader.proofs.load.yaml_parser_load_document.Goals as goal
 
 pub yaml_parser_load_nodes-requires : goal.yaml_parser_load_nodes-requires

@@ -5,10 +5,10 @@ use Rattle.libyaml_types.specs.declared.enums.yaml_error_type_t.{yaml_error_type
 use Rattle.libyaml_loader.specs.declared.load.Closing.{Closing}
 use Rattle.libyaml_loader.specs.declared.load.Step.{Step}
 use Rattle.libyaml_loader.specs.declared.load.Step.TheVariants as step
-use Rattle.libyaml_loader.proofs.Falling.{falls_since, has_fallen, stays_since}
-use Rattle.libyaml_loader.proofs.Outside.{behind_step}
-use Rattle.libyaml_loader.proofs.Stepping.{steps_at, way_closes, way_fails, way_finds_end, way_more, way_none}
-use Rattle.libyaml_loader.proofs.Taking.{ended_between}
+use Rattle.libyaml_loader.proofs.loads.Falling.{falls_since, has_fallen, stays_since}
+use Rattle.libyaml_loader.proofs.loads.Outside.{behind_step}
+use Rattle.libyaml_loader.proofs.loads.Stepping.{steps_at, way_closes, way_fails, way_finds_end, way_more, way_none}
+use Rattle.libyaml_loader.proofs.loads.Taking.{ended_between}
 use Rattle.libyaml_loader.proofs.load.yaml_parser_load_nodes.Goals as goal
 
 ok_step : (r : Result Step yaml_error_type_t) (s t : Step) → r ≡ Ok s → s ≡ t → r ≡ Ok t

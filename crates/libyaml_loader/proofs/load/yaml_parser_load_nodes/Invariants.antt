@@ -1,6 +1,6 @@
 use Rattle.std.specs.Prelude.{◌≤◌}
 use Rattle.libyaml_events.specs.parsers.EventsLeft.{events_left}
-use Rattle.libyaml_loader.proofs.Stepping.{OnTheWay}
+use Rattle.libyaml_loader.proofs.loads.Stepping.{OnTheWay}
 use Rattle.libyaml_loader.proofs.load.yaml_parser_load_nodes.Given as goal
 
 abbrev pub invariant-loop-ctx : goal.invariant-loop-ctx

@@ -1,8 +1,8 @@
 use Rattle.std.proofs.Common.{ℤ, List, [], ap, sym, ◌∙◌, Some, subst}
 use Rattle.libyaml_graphs.proofs.lent.BoundedFronts.{front_of_loads}
-use Rattle.libyaml_graphs.specs.Bounds.{bounded_loads}
-use Rattle.libyaml_graphs.specs.Loads.{Load}
-use Rattle.libyaml_loader.specs.Ids.{magnitude}
+use Rattle.libyaml_graphs.specs.loads.Bounds.{bounded_loads}
+use Rattle.libyaml_graphs.specs.loads.Loads.{Load}
+use Rattle.libyaml_loader.specs.document.Ids.{magnitude}
 use Rattle.line_reading.specs.sources.LineSource.{BreaksOff, known_of}
 use Rattle.memory_runs.specs.InMemory.{bytes_of}
 use Rattle.memory_runs.proofs.WholeRuns.{has_bytes}

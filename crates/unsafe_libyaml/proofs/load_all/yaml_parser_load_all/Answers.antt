@@ -1,5 +1,6 @@
 use Rattle.std.proofs.Common.{◌≡◌, ◌≢◌, ◌++◌, ◌∷◌, [], All, ap, refl, sym, ◌∙◌, subst}
-use Rattle.unsafe_libyaml.proofs.WholeLoads.{LoadLaws, Called, bare, fewer, if_loaded, rooted, loaded_all, loaded_as, loaded_next, loaded_none, loaded_to_fault}
+use Rattle.unsafe_libyaml.proofs.WholeLoads.{LoadLaws, Called, bare, fewer, rooted, loaded_all, loaded_as, loaded_next, loaded_none, loaded_to_fault}
+use Rattle.unsafe_libyaml.proofs.WholeRuns.{if_ok}
 use Rattle.unsafe_libyaml.proofs.WholeLoads.{gathers_loads, gathers_to_fault, tree_loads}
 use Rattle.unsafe_libyaml.proofs.load_all.yaml_parser_load_all.Given as given
 use Rattle.unsafe_libyaml.proofs.load_all.yaml_parser_load_all.Goals as goal
@@ -102,7 +103,7 @@ returns-in-Err-clause-gathers g c =
     let say = c.of_history.ensures in
     let gathers = gathers_to_fault t.gives t.known t.may_break c.args.source c.loop-document.parser c.yaml_parser_load.new.parser (record { no_fault = say.no_fault; begins = say.begins; nests = say.nests; needed = say.needed })
     (load_laws_of g x) c.yaml_parser_load.result (called_by g x) c.loop-document.documents.items c.loop-document.invariant c.in-Err.field-0 c.in-Err.is in
-    if_loaded c.failed_load.result _ _ c.failed_load.ensures.ok (λ all r. gathers all (ap (λ v. v.items) r.0) _ c.prefix.ensures.kept r.1 r.2)
+    if_ok c.failed_load.result _ _ c.failed_load.ensures.ok (λ all r. gathers all (ap (λ v. v.items) r.0) _ c.prefix.ensures.kept r.1 r.2)
 
 pub returns-in-Err-clause-of_list : goal.returns-in-Err-clause-of_list
 returns-in-Err-clause-of_list g c l f a h k =
@@ -112,20 +113,20 @@ returns-in-Err-clause-of_list g c l f a h k =
     let fails = loaded_to_fault t.gives t.known t.may_break c.args.source c.loop-document.parser c.yaml_parser_load.new.parser (record { no_fault = say.no_fault; begins = say.begins; nests = say.nests; needed = say.needed })
     (load_laws_of g x) c.yaml_parser_load.result (called_by g x) c.loop-document.documents.items c.loop-document.invariant c.in-Err.field-0 c.in-Err.is in
     let kept = c.prefix.ensures.kept in
-    if_loaded c.failed_load.result _ _ c.failed_load.ensures.ok
+    if_ok c.failed_load.result _ _ c.failed_load.ensures.ok
     (λ all r. fails all (ap (λ v. v.items) r.0) _ kept r.1 r.2 l f a h k)
 
 pub returns-in-Err-clause-roots : goal.returns-in-Err-clause-roots
 returns-in-Err-clause-roots g c
-    = if_loaded c.failed_load.result _ _ c.failed_load.ensures.ok
+    = if_ok c.failed_load.result _ _ c.failed_load.ensures.ok
     (λ all r. subst (λ v. All (λ d. d.nodes ≢ []) v.items) (sym r.0) c.loop-document.invariant.roots)
 
 pub returns-in-Err-clause-of_tree : goal.returns-in-Err-clause-of_tree
 returns-in-Err-clause-of_tree g c t f o k =
     let n = tree_loads c.loads_of_tree.ensures.sentence t f o in
-    if_loaded c.failed_load.result _ _ (returns-in-Err-clause-of_list g c _ f _ n.1 k) (λ all r. (n.0, r))
+    if_ok c.failed_load.result _ _ (returns-in-Err-clause-of_list g c _ f _ n.1 k) (λ all r. (n.0, r))
 
 pub returns-in-Err-clause-of_cut_tree : goal.returns-in-Err-clause-of_cut_tree
 returns-in-Err-clause-of_cut_tree g c before token behind cut f fits waited k =
     let a = c.loads_of_tree.ensures.cut_tree before token behind cut f fits waited in
-    if_loaded c.failed_load.result _ _ (returns-in-Err-clause-of_list g c _ f _ a.1 k) (λ all r. (a.0, a.2, r))
+    if_ok c.failed_load.result _ _ (returns-in-Err-clause-of_list g c _ f _ a.1 k) (λ all r. (a.0, a.2, r))

@@ -1,4 +1,4 @@
-use Rattle.libyaml_graphs.proofs.LoadRows.{holds_itself, item_twice, nested_holds_itself}
+use Rattle.libyaml_graphs.proofs.rows.LoadRows.{holds_itself, item_twice, nested_holds_itself}
 use Rattle.libyaml_graphs.proofs.laws.rows.aliases.Goals as goal
 
 pub returns-clause-holds_itself : goal.returns-clause-holds_itself

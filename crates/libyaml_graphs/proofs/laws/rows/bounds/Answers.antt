@@ -1,5 +1,5 @@
-use Rattle.libyaml_graphs.proofs.LoadRows.{alias_before_bound, bound_before_anchor, bound_of_each_document, items_beyond_bound, key_beyond_bound}
-use Rattle.libyaml_graphs.proofs.LoadRows.{nodes_beyond_bound, nodes_in_bound, pair_in_bound, undefined_alias_behind_key}
+use Rattle.libyaml_graphs.proofs.rows.LoadRows.{alias_before_bound, bound_before_anchor, bound_of_each_document, items_beyond_bound, key_beyond_bound}
+use Rattle.libyaml_graphs.proofs.rows.LoadRows.{nodes_beyond_bound, nodes_in_bound, pair_in_bound, undefined_alias_behind_key}
 use Rattle.libyaml_graphs.proofs.laws.rows.bounds.Goals as goal
 
 pub returns-clause-nodes_in_bound : goal.returns-clause-nodes_in_bound

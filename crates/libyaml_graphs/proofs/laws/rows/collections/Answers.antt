@@ -1,4 +1,4 @@
-use Rattle.libyaml_graphs.proofs.LoadRows.{collections_in_pairs, pairs}
+use Rattle.libyaml_graphs.proofs.rows.LoadRows.{collections_in_pairs, pairs}
 use Rattle.libyaml_graphs.proofs.laws.rows.collections.Goals as goal
 
 pub returns-clause-pairs : goal.returns-clause-pairs

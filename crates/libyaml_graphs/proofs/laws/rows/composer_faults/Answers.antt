@@ -1,4 +1,4 @@
-use Rattle.libyaml_graphs.proofs.LoadRows.{anchor_of_document_before, second_alias_undefined, second_anchor, undefined_alias}
+use Rattle.libyaml_graphs.proofs.rows.LoadRows.{anchor_of_document_before, second_alias_undefined, second_anchor, undefined_alias}
 use Rattle.libyaml_graphs.proofs.laws.rows.composer_faults.Goals as goal
 
 pub returns-clause-undefined_alias : goal.returns-clause-undefined_alias

@@ -1,4 +1,4 @@
-use Rattle.libyaml_graphs.proofs.LoadRows.{parser_fault, source_ends, undefined_alias_before_source_ends}
+use Rattle.libyaml_graphs.proofs.rows.LoadRows.{parser_fault, source_ends, undefined_alias_before_source_ends}
 use Rattle.libyaml_graphs.proofs.laws.rows.cut_off.Goals as goal
 
 pub returns-clause-parser_fault : goal.returns-clause-parser_fault

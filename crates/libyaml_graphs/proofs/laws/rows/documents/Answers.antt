@@ -1,4 +1,4 @@
-use Rattle.libyaml_graphs.proofs.LoadRows.{directives, empty_documents, empty_stream, explicit_end}
+use Rattle.libyaml_graphs.proofs.rows.LoadRows.{directives, empty_documents, empty_stream, explicit_end}
 use Rattle.libyaml_graphs.proofs.laws.rows.documents.Goals as goal
 
 pub returns-clause-empty_stream : goal.returns-clause-empty_stream

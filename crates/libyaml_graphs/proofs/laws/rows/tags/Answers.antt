@@ -1,4 +1,4 @@
-use Rattle.libyaml_graphs.proofs.LoadRows.{empty_tag, exclamation_marks_of_collections, tag_that_is_an_exclamation_mark}
+use Rattle.libyaml_graphs.proofs.rows.LoadRows.{empty_tag, exclamation_marks_of_collections, tag_that_is_an_exclamation_mark}
 use Rattle.libyaml_graphs.proofs.laws.rows.tags.Goals as goal
 
 pub returns-clause-tag_that_is_an_exclamation_mark : goal.returns-clause-tag_that_is_an_exclamation_mark

@@ -1,7 +1,7 @@
 use Rattle.std.proofs.Common.{ap, sym, ◌∙◌}
 use Rattle.std.specs.Option.{option_map}
-use Rattle.libyaml_loader.specs.Ids.{carrier_of}
-use Rattle.libyaml_loader.proofs.AnchorLemmas.{get_anchor, one_registered}
+use Rattle.libyaml_loader.specs.document.Ids.{carrier_of}
+use Rattle.libyaml_loader.proofs.document.AnchorLemmas.{get_anchor, one_registered}
 use Rattle.libyaml_loader.proofs.anchors.Anchors.register.Goals as goal
 
 pub returns-clause-earlier : goal.returns-clause-earlier

@@ -2,9 +2,9 @@ use Rattle.std.proofs.Common.{◌∙◌, ap, sym, arith, rules, w32, option_map,
 use Rattle.std.proofs.lemmas.Int.{ints, to_z-of_z}
 use mir.Val.{SFits}
 use Rattle.libyaml_documents.specs.declared.node.yaml_node_t.{yaml_node_t}
-use Rattle.libyaml_graphs.specs.Loader.{register}
-use Rattle.libyaml_loader.specs.Ids.{id_of}
-use Rattle.libyaml_loader.proofs.Loading.{node_loaded, stack_behind}
+use Rattle.libyaml_graphs.specs.machine.Loader.{register}
+use Rattle.libyaml_loader.specs.document.Ids.{id_of}
+use Rattle.libyaml_loader.proofs.document.Loading.{node_loaded, stack_behind}
 use Rattle.libyaml_loader.proofs.context.loader_ctx.load_node.Goals as goal
 
 pub yaml_parser_load_node_add-requires-clause-stack : goal.yaml_parser_load_node_add-requires-clause-stack

@@ -1,9 +1,9 @@
-use Rattle.std.proofs.Common.{◌≡◌, ◌∙◌, refl, ap, rules, length}
+use Rattle.std.proofs.Common.{◌≡◌, ◌∙◌, ap, rules, length}
 use Rattle.libyaml_documents.specs.Children.{AppendedAs, MayRefuseAt}
 use Rattle.libyaml_documents.specs.declared.node.ChildRole.{ChildRole}
 use Rattle.libyaml_documents.specs.declared.node.ChildRole.TheVariants as role
-use Rattle.libyaml_graphs.specs.Loader.{Open}
-use Rattle.libyaml_loader.proofs.Appending.{Handed, hands_at, on_memory, refuses_by, waiting_is_id}
+use Rattle.libyaml_graphs.specs.machine.Loader.{Open}
+use Rattle.libyaml_loader.proofs.document.Appending.{Handed, hands_at, on_memory, refuses, waiting_is_id}
 use Rattle.libyaml_loader.proofs.context.loader_ctx.yaml_parser_load_node_add.Goals as goal
 use Rattle.libyaml_loader.proofs.context.loader_ctx.yaml_parser_load_node_add.Goals.{In_ok-append_child}
 use Rattle.std.specs.Prelude.{List}
@@ -19,8 +19,8 @@ handed : (c : In_ok-append_child) (r : ChildRole) → c.in_ok-append_child.field
 handed c r is =
     let put : AppendedAs c.in_ok-append_child.field-0 c.args.self.now.max_entries c.in-Some.parent.node.number c.key_number-key.result c.args.child.number
     c.args.self.now.document c.append_child.new.document = search rules in
-    hands_at c.args.self.now c.in-Some.parent c.args.child c.in-Some.ensures c.in_ok-append_child.field-0 r c.in-Some.parent.node.number c.args.child.number
-    c.key_number-key.result c.append_child.new.document is refl refl c.key_number-key.ensures put
+    hands_at c.args.self.now c.in-Some.parent c.args.child c.in-Some.ensures c.in_ok-append_child.field-0 r c.key_number-key.result c.append_child.new.document
+    is c.key_number-key.ensures put
 
 pub returns-in-Item-clause-ok : goal.returns-in-Item-clause-ok
 returns-in-Item-clause-ok c = (handed (goal.at.returns-in-Item-clause-ok c).In_ok-append_child role.Item c.in-Item.is).context
@@ -53,6 +53,5 @@ returns-in-Value-clause-room c = (handed (goal.at.returns-in-Value-clause-room c
 pub returns-in_err-append_child-clause-err : goal.returns-in_err-append_child-clause-err
 returns-in_err-append_child-clause-err c =
     let may : MayRefuseAt c.args.self.now.max_entries c.in-Some.parent.node.number c.key_number-key.result c.args.self.now.document.nodes = search rules in
-    let why = refuses_by c.args.self.now c.in-Some.parent c.args.child c.in-Some.ensures c.in-Some.parent.node.number c.key_number-key.result refl
-    c.key_number-key.ensures may in
+    let why = refuses c.args.self.now c.in-Some.parent c.args.child c.in-Some.ensures c.key_number-key.result c.key_number-key.ensures may in
     on_memory c.from_residual.result c.from_residual.ensures why

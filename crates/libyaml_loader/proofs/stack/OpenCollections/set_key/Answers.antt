@@ -1,5 +1,5 @@
 use Rattle.std.proofs.Common.{◌≡◌, ◌-◌, suc, length, arith}
-use Rattle.libyaml_loader.proofs.StackLemmas.{stack_set}
+use Rattle.libyaml_loader.proofs.document.StackLemmas.{stack_set}
 use Rattle.libyaml_loader.proofs.stack.OpenCollections.set_key.Goals as goal
 
 pub returns-then-count-gt0 : goal.returns-then-count-gt0

@@ -1,6 +1,6 @@
 use Rattle.std.proofs.Common.{ℤ, [], ap, ◌∙◌, subst}
-use Rattle.libyaml_graphs.specs.Bounds.{bounded_loads}
-use Rattle.libyaml_loader.specs.Ids.{magnitude}
+use Rattle.libyaml_graphs.specs.loads.Bounds.{bounded_loads}
+use Rattle.libyaml_loader.specs.document.Ids.{magnitude}
 use Rattle.line_reading.specs.sources.LineSource.{BreaksOff, Gives, known_of}
 use Rattle.token_lines.specs.nodes.LastLoad.{LastLoad}
 use Rattle.token_lines.specs.nodes.NodeRun.{WritesLoads}

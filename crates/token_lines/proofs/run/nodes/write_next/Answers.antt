@@ -2,7 +2,7 @@ use Rattle.std.proofs.Common.{◌≡◌, Ok, Err, refl, sym, ap, ◌∙◌, subs
 use Rattle.std.proofs.KnownBytes.{Appends-kept}
 use Rattle.libyaml_sources.specs.declared.fault.yaml_parser_t_prefix.{yaml_parser_t_prefix}
 use Rattle.libyaml_sources.specs.Fault.{Fault}
-use Rattle.libyaml_loader.specs.Ids.{magnitude}
+use Rattle.libyaml_loader.specs.document.Ids.{magnitude}
 use Rattle.line_writing.specs.declared.refusal.line_refusal_t.{line_refusal_t}
 use Rattle.token_lines.specs.declared.run.Step.TheVariants.{Ended, Failed, Written}
 use Rattle.token_lines.specs.lines.RunSteps.{WritesPrefix}

@@ -2,7 +2,7 @@ use Rattle.std.proofs.Common.{◌≡◌, refl, ap, ◌∙◌, subst}
 use Rattle.std.specs.Io.KnownBytes.{Appends}
 use Rattle.libyaml_sources.specs.Fault.{Fault, fault_of}
 use Rattle.libyaml_events.specs.sources.History.{has_failed, kept_fault}
-use Rattle.libyaml_loader.specs.Ids.{magnitude}
+use Rattle.libyaml_loader.specs.document.Ids.{magnitude}
 use Rattle.line_writing.specs.FaultText.{fault_text}
 use Rattle.token_lines.specs.declared.run.Outcome.TheVariants.{Ended, OutputFailed}
 use Rattle.token_lines.specs.declared.run.Step.TheVariants as step

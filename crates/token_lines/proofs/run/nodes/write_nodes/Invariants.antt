@@ -5,7 +5,7 @@ use Rattle.libyaml_events.specs.parsers.EventsLeft.{events_left}
 use Rattle.libyaml_events.specs.sources.History.{History, between_documents, has_failed}
 use Rattle.libyaml_events.specs.sources.RunToCome.{RunToCome}
 use Rattle.libyaml_grammar.specs.runs.Runs.{Ending}
-use Rattle.libyaml_loader.specs.Ids.{magnitude}
+use Rattle.libyaml_loader.specs.document.Ids.{magnitude}
 use Rattle.token_lines.specs.nodes.LastLoad.{AllLoaded}
 use Rattle.token_lines.specs.lines.RunSteps.{TakesLines}
 use Rattle.token_lines.specs.nodes.NodeStep.{run_ending, run_lines}

@@ -1,0 +1,4 @@
+pub mod OneLoad
+pub mod Room
+pub mod RunLoads
+pub mod TextLoads

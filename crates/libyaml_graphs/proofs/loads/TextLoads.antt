@@ -1,0 +1,132 @@
+-- What documents load as, by the trees of their values: whole ones, and one whose end is missing.
+use Rattle.std.proofs.Common.{◌≡◌, ◌++◌, List, [], ◌∷◌, Option, Some, None, Bool, refl, sym, ap, ◌∙◌}
+use Rattle.libyaml_types.specs.declared.event.unnamed_yaml_event_t_data.TheVariants as ev
+use Rattle.libyaml_types.specs.declared.event.unnamed_yaml_event_t_data_document_start.{unnamed_yaml_event_t_data_document_start}
+use Rattle.libyaml_grammar.specs.sentences.Events.{Event, document_end_at, end_at, event, stream_end_at}
+use Rattle.libyaml_sources.specs.Fault.{Fault}
+use Rattle.libyaml_grammar.specs.sentences.Nesting.{BeginsValue, HasBegun, IsNested, IsOpenDocument, NestsSoFar, Texts, Value, Values, alias_value}
+use Rattle.libyaml_grammar.specs.sentences.Nesting.{collection_value, first_value, has_begun, no_texts, no_values, none_open, not_begun, one_open}
+use Rattle.libyaml_grammar.specs.sentences.Nesting.{scalar_value, text_behind, texts_events, value_events, values_events, whole}
+use Rattle.libyaml_grammar.specs.runs.Runs.{Ending, Ends}
+use Rattle.libyaml_grammar.specs.sentences.Tokens.{Mark}
+use Rattle.libyaml_grammar.specs.sentences.Trees.{mapping, sequence}
+use Rattle.libyaml_documents.specs.declared.node.yaml_node_t.{yaml_node_t}
+use Rattle.libyaml_graphs.specs.graphs.ComposerFaults.{composer_fault}
+use Rattle.libyaml_graphs.specs.graphs.Graphs.{nodes_of}
+use Rattle.libyaml_graphs.specs.loads.GraphLaws.{NestedLoads, fault_or, open_load}
+use Rattle.libyaml_graphs.specs.loads.GraphLaws as law
+use Rattle.libyaml_graphs.specs.graphs.GraphParts.{Closing, Opening, Part, closing_of, graph, part_of, parts, with_part}
+use Rattle.libyaml_graphs.specs.loads.Loads.{Begun, Load, begun_behind, document_end, last_load, load_then, loads, loads_by, loads_of}
+use Rattle.libyaml_graphs.proofs.graphs.TreeGraphs.{value_graph}
+
+-- a value ends no document
+mutual
+  value_closing : (v : Value) (r : List Event) → document_end (value_events v r) ≡ document_end r
+  value_closing (alias_value a m n) r = refl
+  value_closing (scalar_value s m n) r = refl
+  value_closing (collection_value sequence a t i s m n vs p q) r = values_closing vs (end_at sequence p q ∷ r)
+  value_closing (collection_value mapping a t i s m n vs p q) r = values_closing vs (end_at mapping p q ∷ r)
+
+  values_closing : (vs : Values) (r : List Event) → document_end (values_events vs r) ≡ document_end r
+  values_closing no_values r = refl
+  values_closing (first_value v vs) r = value_closing v (values_events vs r) ∙ values_closing vs r
+
+mutual
+  value_behind : (v : Value) (r : List Event) → begun_behind (value_events v r) ≡ begun_behind r
+  value_behind (alias_value a m n) r = refl
+  value_behind (scalar_value s m n) r = refl
+  value_behind (collection_value sequence a t i s m n vs p q) r = values_behind vs (end_at sequence p q ∷ r)
+  value_behind (collection_value mapping a t i s m n vs p q) r = values_behind vs (end_at mapping p q ∷ r)
+
+  values_behind : (vs : Values) (r : List Event) → begun_behind (values_events vs r) ≡ begun_behind r
+  values_behind no_values r = refl
+  values_behind (first_value v vs) r = value_behind v (values_events vs r) ∙ values_behind vs r
+
+-- the parts of a value hang on those after it alone
+abbrev put : Part → List Part → List Part
+put p l = p ∷ l
+
+mutual
+  value_parts : (v : Value) (r s : List Event) → parts r ≡ parts s → parts (value_events v r) ≡ parts (value_events v s)
+  value_parts (alias_value a m n) r s e = ap (with_part (part_of (event (ev.Alias a) m n))) e
+  value_parts (scalar_value b m n) r s e = ap (with_part (part_of (event (ev.Scalar b) m n))) e
+  value_parts (collection_value sequence a t i b m n vs p q) r s e
+      = ap (put _) (values_parts vs (end_at sequence p q ∷ r) (end_at sequence p q ∷ s) (ap (put _) e))
+  value_parts (collection_value mapping a t i b m n vs p q) r s e
+      = ap (put _) (values_parts vs (end_at mapping p q ∷ r) (end_at mapping p q ∷ s) (ap (put _) e))
+
+  values_parts : (vs : Values) (r s : List Event) → parts r ≡ parts s → parts (values_events vs r) ≡ parts (values_events vs s)
+  values_parts no_values r s e = e
+  values_parts (first_value v vs) r s e = value_parts v (values_events vs r) (values_events vs s) (values_parts vs r s e)
+
+-- a load that has an end doesn't look at the run's ending
+ends_itself : (f : Option Fault) (c : Closing) (o : Opening) (ns : List yaml_node_t) (y z : Load) (l : List Load)
+    → load_then f (Some c) o ns y l ≡ load_then f (Some c) o ns z l
+ends_itself (Some f) c o ns y z l = refl
+ends_itself None c o ns y z l = refl
+
+text_loads : (d : unnamed_yaml_event_t_data_document_start) (m n : Mark) (v : Value) (i : Bool) (p q : Mark) (r : List Event) (x : Ending)
+    → loads (event (ev.DocumentStart d) m n ∷ value_events v (document_end_at i p q ∷ r)) x
+    ≡ load_then (composer_fault [] (parts (value_events v []))) (Some (record { is_implicit = i; mark = q })) (record { start = d; mark = m })
+    (nodes_of v [] []) (last_load Ends) (loads r x)
+text_loads d m n v i p q r x =
+    let o : Opening = record { start = d; mark = m } in
+    let w : List Event = document_end_at i p q ∷ r in
+    let c : Closing = record { is_implicit = i; mark = q } in
+    ap (λ (l : List Part). load_then (composer_fault [] l) (document_end (value_events v w)) o (graph [] l) (last_load x) (loads_by (composer_fault []) x (begun_behind (value_events v w))))
+    (value_parts v w [] refl)
+    ∙ (ap (λ (y : Option Closing). load_then (composer_fault [] (parts (value_events v []))) y o (graph [] (parts (value_events v []))) (last_load x)
+    (loads_by (composer_fault []) x (begun_behind (value_events v w)))) (value_closing v w)
+    ∙ (ap (λ (l : List Begun). load_then (composer_fault [] (parts (value_events v []))) (Some c) o (graph [] (parts (value_events v []))) (last_load x)
+    (loads_by (composer_fault []) x l)) (value_behind v w)
+    ∙ (ap (λ (ns : List yaml_node_t). load_then (composer_fault [] (parts (value_events v []))) (Some c) o ns (last_load x) (loads r x)) (value_graph v [] [])
+    ∙ ends_itself (composer_fault [] (parts (value_events v []))) c o (nodes_of v [] []) (last_load x) (last_load Ends) (loads r x))))
+
+-- the loads of whole documents are their graphs by their values, up to the first composer error
+texts_load : (ts : Texts) (r : List Event) (x : Ending) → loads (texts_events ts r) x ≡ loads_of ts (loads r x)
+texts_load no_texts r x = refl
+texts_load (text_behind ts d m n v i p q) r x = texts_load ts (event (ev.DocumentStart d) m n ∷ value_events v (document_end_at i p q ∷ r)) x
+    ∙ ap (loads_of ts) (text_loads d m n v i p q r x)
+
+pub whole_loads : (l : List Event) (n : IsNested l) (x : Ending) → loads l x ≡ loads_of n.texts (last_load x ∷ [])
+whole_loads l n x = ap (λ (k : List Event). loads k x) n.all ∙ texts_load n.texts (stream_end_at n.end n.end_end ∷ []) x
+
+-- the prefix of a list that ends no document ends none
+none_closes : (f r : List Event) → document_end (f ++ r) ≡ None → document_end f ≡ None
+none_closes [] r h = refl
+none_closes (e ∷ f) r h = go (closing_of e) h (none_closes f r)
+  where
+    go : (c : Option Closing) → ◌≡◌ {A = Option Closing} (elim c [ Some y ↦ Some y | None ↦ document_end (f ++ r) ]) None
+        → (document_end (f ++ r) ≡ None → document_end f ≡ None) → ◌≡◌ {A = Option Closing} (elim c [ Some y ↦ Some y | None ↦ document_end f ]) None
+    go (Some y) h k = cc
+    go None h k = k h
+
+front_closes : (f : List Event) → BeginsValue f → document_end f ≡ None
+front_closes f b = none_closes f b.rest (ap document_end (sym b.all) ∙ value_closing b.val [])
+
+-- a document whose end is missing gives its composer error, if it has one, and else the run's ending
+open_loads : (d : unnamed_yaml_event_t_data_document_start) (m n : Mark) (f : List Event) (x : Ending) → document_end f ≡ None
+    → loads (event (ev.DocumentStart d) m n ∷ f) x ≡ open_load (event (ev.DocumentStart d) m n ∷ f) x ∷ []
+open_loads d m n f x e =
+    ap (λ (c : Option Closing). load_then (composer_fault [] (parts f)) c (record { start = d; mark = m }) (graph [] (parts f)) (last_load x)
+    (loads_by (composer_fault []) x (begun_behind f))) e
+    ∙ go (composer_fault [] (parts f))
+  where
+    go : (g : Option Fault) → load_then g None (record { start = d; mark = m }) (graph [] (parts f)) (last_load x) (loads_by (composer_fault []) x (begun_behind f)) ≡ fault_or g (last_load x)
+        ∷ []
+    go (Some g) = refl
+    go None = refl
+
+pub begun_loads : (l : List Event) (n : HasBegun l) (x : Ending) → loads l x ≡ loads_of n.texts (open_load n.open_document x ∷ [])
+begun_loads l n x = ap (λ (k : List Event). loads k x) n.all ∙ (texts_load n.texts n.open_document x ∙ ap (loads_of n.texts) (go n.open_document n.is_open))
+  where
+    go : (k : List Event) → IsOpenDocument k → loads k x ≡ open_load k x ∷ []
+    go k (none_open e) = ap (λ (j : List Event). loads j x) e ∙ ap (λ (j : List Event). open_load j x ∷ []) (sym e)
+    go k (one_open d m o f e b) = ap (λ (j : List Event). loads j x) e
+        ∙ (open_loads d m o f x (front_closes f b) ∙ ap (λ (j : List Event). open_load j x ∷ []) (sym e))
+
+-- the loads of events that nest as far as they go
+pub nested_loads : (l : List Event) (x : Ending) → NestsSoFar l → NestedLoads l x (loads l x)
+nested_loads l x (not_begun e) = law.not_begun e (ap (λ (k : List Event). loads k x) e)
+nested_loads l x (has_begun n) = law.has_begun n (begun_loads l n x)
+nested_loads l x (whole n) = law.whole n (whole_loads l n x)

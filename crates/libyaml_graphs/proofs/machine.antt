@@ -1,0 +1,4 @@
+pub mod Built
+pub mod Following
+pub mod Sizes
+pub mod LoaderLoads

@@ -1,0 +1,3 @@
+pub mod GraphParts
+pub mod Graphs
+pub mod ComposerFaults

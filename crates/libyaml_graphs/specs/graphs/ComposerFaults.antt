@@ -1,0 +1,57 @@
+-- The composer errors (docs/DEFINITIONS.md, "Composer errors"): an alias whose anchor no earlier head carries, and an
+-- anchor that an earlier head carries.
+use Rattle.std.specs.Prelude.{ℕ, List, [], ◌∷◌, Option, Some, None, codes}
+use Rattle.libyaml_types.specs.declared.enums.yaml_error_type_t.TheVariants.{YAML_COMPOSER_ERROR}
+use Rattle.libyaml_sources.specs.Fault.{Fault, no_fault}
+use Rattle.libyaml_grammar.specs.sentences.Tokens.{Mark}
+use Rattle.libyaml_graphs.specs.graphs.Graphs.{Carrier, Start, carrier}
+use Rattle.libyaml_graphs.specs.graphs.GraphParts.{Part, alias_part, behind, end_part, leaf_part, start_part}
+
+abbrev pub undefined_alias : Mark → Fault
+undefined_alias m = record no_fault { error = YAML_COMPOSER_ERROR; problem = Some (codes "found undefined alias"); problem_mark = m }
+
+abbrev pub repeated_anchor : (first second : Mark) → Fault
+repeated_anchor m n = record no_fault {
+  error = YAML_COMPOSER_ERROR;
+  problem = Some (codes "second occurrence");
+  problem_mark = n;
+  context
+      = Some (codes "found duplicate anchor; first occurrence");
+  context_mark = m;
+}
+
+-- the heads of a document: its aliases, scalars and starts of collections
+abbrev pub heads : List Part → List Part
+heads [] = []
+heads (alias_part a m ∷ r) = alias_part a m ∷ heads r
+heads (leaf_part a x ∷ r) = leaf_part a x ∷ heads r
+heads (start_part a x ∷ r) = start_part a x ∷ heads r
+heads (end_part n ∷ r) = heads r
+
+-- what is wrong with an alias, and with a node that carries an anchor, where es are the starts before it
+abbrev pub alias_fault : Option Carrier → Mark → Option Fault
+alias_fault None m = Some (undefined_alias m)
+alias_fault (Some c) m = None
+
+abbrev pub known_fault : Option Carrier → Mark → Option Fault
+known_fault None m = None
+known_fault (Some c) m = Some (repeated_anchor c.mark m)
+
+abbrev pub anchor_fault : List Start → Option (List ℕ) → Mark → Option Fault
+anchor_fault es None m = None
+anchor_fault es (Some a) m = known_fault (carrier a es) m
+
+abbrev pub part_fault : List Start → Part → Option Fault
+part_fault es (alias_part a m) = alias_fault (carrier a es) m
+part_fault es (leaf_part a x) = anchor_fault es a x.start_mark
+part_fault es (start_part a x) = anchor_fault es a x.start_mark
+part_fault es (end_part n) = None
+
+-- the composer error: that of the first part which has one
+abbrev pub or_else : Option Fault → Option Fault → Option Fault
+or_else None g = g
+or_else (Some f) g = Some f
+
+abbrev pub composer_fault : List Start → List Part → Option Fault
+composer_fault es [] = None
+composer_fault es (p ∷ r) = or_else (part_fault es p) (composer_fault (behind p es) r)

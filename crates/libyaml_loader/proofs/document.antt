@@ -1,0 +1,5 @@
+pub mod AnchorLemmas
+pub mod StackLemmas
+pub mod Appending
+pub mod Loading
+pub mod IdsKept

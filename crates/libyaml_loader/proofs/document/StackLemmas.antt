@@ -1,0 +1,41 @@
+-- The stack of open collections, by the list of its `Vec`.
+use Rattle.std.proofs.Common.{◌≡◌, ◌++◌, ◌∷◌, List, [], ℕ, zero, suc, ℤ, arith, map, reverse, get_or, set, length, ap, refl, sym, ◌∙◌, Option}
+use Rattle.std.proofs.lemmas.List.{map-append, reverse-append}
+use Rattle.libyaml_graphs.specs.machine.Loader as machine
+use Rattle.libyaml_loader.specs.declared.ids.NodeId.{NodeId}
+use Rattle.libyaml_loader.specs.declared.ids.Open.{Open}
+use Rattle.libyaml_loader.specs.document.Ids.{number_of, open_of}
+use Rattle.libyaml_loader.specs.document.Stack.{stack_of, with_key}
+
+pub stack_push : (items : List Open) (o : Open) → stack_of (items ++ o ∷ []) ≡ open_of o ∷ stack_of items
+stack_push items o = ap reverse (map-append open_of items (o ∷ [])) ∙ reverse-append (map open_of items) (open_of o ∷ [])
+
+pub stack_pop : (old new : List Open) (o : Open) → old ≡ new ++ o ∷ [] → stack_of old ≡ open_of o ∷ stack_of new
+stack_pop old new o e = ap stack_of e ∙ stack_push new o
+
+back : {A : Type 0} (x : A) (xs : List A) → reverse (x ∷ xs) ≡ reverse xs ++ x ∷ []
+back x xs = reverse-append (x ∷ []) xs
+
+under : (k : Option ℤ) (s : List machine.Open) (z : machine.Open) → (s ≡ [] → ⊥) → with_key k (s ++ z ∷ []) ≡ with_key k s ++ z ∷ []
+under k [] z h = absurd (h refl)
+under k (o ∷ s) z h = refl
+
+not_empty : (x : Open) (items : List Open) → stack_of (x ∷ items) ≡ [] → ⊥
+not_empty x items e = go (stack_of items) (sym (back (open_of x) (map open_of items)) ∙ e)
+  where
+    go : (s : List machine.Open) → s ++ open_of x ∷ [] ≡ [] → ⊥
+    go [] h = cc
+    go (o ∷ s) h = cc
+
+-- another key in the last
+pub stack_set : (items : List Open) (n : ℕ) (o : Open) (k : Option NodeId) → length items ≡ suc n → o ≡ get_or items n o
+    → stack_of (set items n (record { node = o.node; key = k })) ≡ with_key (number_of k) (stack_of items)
+stack_set [] n o k h e = absurd (omega arith)
+stack_set (x ∷ []) zero o k h e = ap (λ (y : Open). record { node = y.node.number; key = number_of k } ∷ []) e
+stack_set (x ∷ []) (suc n) o k h e = absurd (omega arith)
+stack_set (x ∷ y ∷ items) zero o k h e = absurd (omega arith)
+stack_set (x ∷ y ∷ items) (suc n) o k h e =
+    back (open_of x) (map open_of (set (y ∷ items) n (record { node = o.node; key = k })))
+    ∙ (ap (λ (s : List machine.Open). s ++ open_of x ∷ []) (stack_set (y ∷ items) n o k (omega arith) e)
+    ∙ (sym (under (number_of k) (stack_of (y ∷ items)) (open_of x) (not_empty y items))
+    ∙ ap (with_key (number_of k)) (sym (back (open_of x) (map open_of (y ∷ items))))))

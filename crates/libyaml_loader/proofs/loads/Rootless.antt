@@ -1,0 +1,41 @@
+-- A load gives a document without nodes only where the parser has ended: a whole document begins with a node.
+use Rattle.std.proofs.Common.{◌≡◌, ◌++◌, ℕ, List, [], ◌∷◌, Option, Ok, Err, IfOk, sym, ap, ◌∙◌}
+use Rattle.std.proofs.lemmas.List.{append-nil}
+use Rattle.libyaml_documents.specs.Documents.{Document}
+use Rattle.libyaml_events.specs.machine.Config.{Parser}
+use Rattle.libyaml_grammar.specs.sentences.Events.{Event}
+use Rattle.libyaml_grammar.specs.sentences.Nesting.{NestsSoFar}
+use Rattle.libyaml_grammar.specs.sentences.Tokens.{Token}
+use Rattle.libyaml_sources.specs.Fault.{Answer, Fault, memory_fault}
+use Rattle.libyaml_grammar.specs.runs.Runs.{Ending, Fails}
+use Rattle.libyaml_events.specs.sources.History.{ForHistory}
+use Rattle.libyaml_sources.specs.Source.{Coming}
+use Rattle.libyaml_graphs.specs.loads.Bounds.{bounded_loads, next_bounded}
+use Rattle.libyaml_graphs.specs.loads.GraphLaws.{RootsFollow}
+use Rattle.libyaml_graphs.specs.loads.Loads.{Load, last_load, left_over}
+use Rattle.libyaml_loader.specs.loads.Loading.{DocumentOrError, HasEnded, Loads, LoadsFrom, at_end, whole}
+
+roots_behind : (l r : List Event) → RootsFollow (l ++ r) → RootsFollow r
+roots_behind [] r h = h
+roots_behind (e ∷ l) r h = roots_behind l r h.1
+
+no_fault : {f : Fault} {d : Document} → ◌≡◌ {A = Load} (Err f) (Ok d) → ⊥
+no_fault h = cc
+
+module _ (roots_follow : (l : List Event) → NestsSoFar l → RootsFollow l)
+    (without_nodes : (l : List Event) (x : Ending) (n : ℕ) (d : Document) → RootsFollow l → next_bounded n l x ≡ Ok d → d.nodes ≡ []
+    → (bounded_loads n l x ≡ Ok d ∷ []) × (last_load x ≡ Ok d)) {S : Type 0} (gives : S → Answer → S → Type 0) (known : S → Option Coming)
+    (MayBreak : S → Fault → Type 0) (n : ℕ) (old new : Parser S)
+    (nests : ForHistory new (λ (asked : List Token) (given : List Event). NestsSoFar given)) where
+  ended_of : (d : Document) → Loads gives known (next_bounded n) left_over old new d → d.nodes ≡ [] → ForHistory old (λ _ _. HasEnded new)
+  ended_of d (whole taken took loads left between) none asked given history =
+      let on = took.history asked given history in
+      let roots = roots_behind given taken (roots_follow (given ++ taken) (nests (asked ++ on.more) (given ++ taken) on.history)) in
+      let x = Fails memory_fault in
+      absurd (no_fault (without_nodes taken x n d roots (ap (λ (l : List Event). next_bounded n l x) (sym (append-nil taken)) ∙ loads [] x) none).1)
+  ended_of d (at_end taken took loads left ends is has_ended) none asked given history = has_ended asked given history
+
+  pub rootless : (r : DocumentOrError) → LoadsFrom gives known MayBreak (next_bounded n) left_over old r new
+      → IfOk r (λ (d : Document). d.nodes ≡ [] → ForHistory old (λ _ _. HasEnded new))
+  rootless (Ok d) loads = ended_of d loads
+  rootless (Err x) loads = tt

@@ -1,0 +1,152 @@
+-- What one call of the parser says of the events that a load takes.
+use Rattle.std.proofs.Common.{◌≡◌, ◌||◌, ℕ, ◌++◌, ◌∷◌, List, [], Option, Some, Bool, Ok, Err, true, false, refl, sym, ap, ◌∙◌, subst, append_assoc}
+use Rattle.libyaml_types.specs.declared.enums.yaml_error_type_t.{yaml_error_type_t}
+use Rattle.libyaml_types.specs.declared.enums.yaml_parser_state_t.{yaml_parser_state_t}
+use Rattle.libyaml_types.specs.declared.enums.yaml_parser_state_t.TheVariants.{YAML_PARSE_END_STATE}
+use Rattle.libyaml_types.specs.declared.event.unnamed_yaml_event_t_data.{unnamed_yaml_event_t_data}
+use Rattle.libyaml_types.specs.declared.event.unnamed_yaml_event_t_data.TheVariants as ev
+use Rattle.libyaml_types.specs.declared.mark.yaml_mark_t.{yaml_mark_t}
+use Rattle.libyaml_types.specs.Events.{empty_event}
+use Rattle.libyaml_events.specs.sources.Calls.{EventOrError}
+use Rattle.libyaml_events.specs.sources.CallsInTurn.{CarriedOn}
+use Rattle.libyaml_events.specs.machine.Config.{Parser, is_between, is_end_state, is_fault}
+use Rattle.libyaml_grammar.specs.sentences.Events.{Event}
+use Rattle.libyaml_sources.specs.Fault.{Answer, Fault}
+use Rattle.libyaml_events.specs.sources.History.{ForHistory, History, between_documents, has_failed, is_over, kept_fault}
+use Rattle.libyaml_events.specs.sources.ParsesNext.{ParsesNext}
+use Rattle.libyaml_events.specs.sources.Parsing.{CarriesOn, IsWhole}
+use Rattle.libyaml_events.specs.sources.RunToCome.{RunToCome}
+use Rattle.libyaml_grammar.specs.runs.Runs.{Ending}
+use Rattle.libyaml_sources.specs.Source.{Coming}
+use Rattle.libyaml_events.specs.parsers.Stages.{Stage, after, at_start, is_event, is_outside, stage_of}
+use Rattle.libyaml_grammar.specs.sentences.Tokens.{Token}
+use Rattle.libyaml_events.proofs.lent.CallsInTurn.{both_calls, no_call, one_call, stage_more}
+use Rattle.libyaml_events.proofs.lent.NextEvents.{Says, fails_here, first_event}
+use Rattle.libyaml_graphs.specs.graphs.GraphParts.{Closing, closing_in, closing_of}
+use Rattle.libyaml_loader.specs.loads.Loading.{ParserFails, Took}
+use Rattle.libyaml_loader.specs.loads.ComposeSteps.{FindsEnd}
+
+no : true ≡ false → ⊥
+no h = cc
+
+over_between : (b : Bool) (s : yaml_parser_state_t) → (b || is_end_state s) ≡ true → (b || is_between s) ≡ true
+over_between true s h = refl
+over_between false YAML_PARSE_END_STATE h = refl
+over_between false _ h = absurd cc
+
+pub ended_between : {S : Type 0} (p : Parser S) → is_over p ≡ true → between_documents p ≡ true
+ended_between p h = over_between (is_fault (kept_fault p).error) p.config.state h
+
+outside_end : (st : Stage) (content : unnamed_yaml_event_t_data) (m : yaml_mark_t) (c : Closing) → closing_in content m ≡ Some c
+    → is_outside (after st content) ≡ true
+outside_end st (ev.DocumentEnd d) m c h = refl
+outside_end st ev.NoEvent m c h = absurd cc
+outside_end st (ev.StreamStart s) m c h = absurd cc
+outside_end st ev.StreamEnd m c h = absurd cc
+outside_end st (ev.DocumentStart d) m c h = absurd cc
+outside_end st (ev.Alias a) m c h = absurd cc
+outside_end st (ev.Scalar s) m c h = absurd cc
+outside_end st (ev.SequenceStart s) m c h = absurd cc
+outside_end st ev.SequenceEnd m c h = absurd cc
+outside_end st (ev.MappingStart s) m c h = absurd cc
+outside_end st ev.MappingEnd m c h = absurd cc
+
+module _ {S : Type 0} (gives : S → Answer → S → Type 0) (known : S → Option Coming) (MayBreak : S → Fault → Type 0) where
+  pub took_none : (p : Parser S) → Took gives known p p []
+  took_none p = record {
+    history = λ (asked : List Token) (given : List Event) (h : History p asked given). no_call gives p p p asked given h;
+    runs = λ (events : List Event) (ending : Ending) (run : RunToCome known p events ending). record { later = events; all = refl; run = run };
+  }
+
+  pub took_both : (old mid new : Parser S) (a b : List Event) → Took gives known old mid a → Took gives known mid new b → Took gives known old new (a ++ b)
+  took_both old mid new a b x y = record {
+    history = λ (asked : List Token) (given : List Event) (h : History old asked given). let c
+        = x.history asked given h in both_calls gives old mid new asked given a b c (y.history _ _ c.history);
+    runs = λ (events : List Event) (ending : Ending) (run : RunToCome known old events ending).
+        let l = x.runs events ending run in
+        let m = y.runs l.later ending l.run in
+        record { later = m.later; all = l.all ∙ ap (λ (r : List Event). a ++ r) m.all ∙ sym (append_assoc a b m.later); run = m.run };
+  }
+
+  module _ (old new : Parser S) (r : EventOrError) where
+    -- the clauses of a call, and the laws of histories
+    pub record Called : Type 0 where
+      pub token_bound : S → ℕ
+      pub parses : ParsesNext gives token_bound known MayBreak old r new
+      pub no_fault : (p : Parser S) → ForHistory p (λ (asked : List Token) (given : List Event). has_failed p ≡ false)
+      pub whole : (p : Parser S) → is_over p ≡ true → ForHistory p IsWhole
+
+    says : Called → Says known MayBreak old new r
+    says c = record { next = c.parses.next_of_run; end = c.parses.end_of_run; fault = c.parses.fault_of_run }
+
+    module _ (c : Called) (e : Event) (is : r ≡ Ok e) where
+      same : r ≡ Ok empty_event → e ≡ empty_event
+      same h = ok (sym is ∙ h)
+        where
+          ok : ◌≡◌ {A = EventOrError} (Ok e) (Ok empty_event) → e ≡ empty_event
+          ok h = cc
+
+      pub running : is_event e.content ≡ true → is_over old ≡ false
+      running an_event = go (is_over old) refl
+        where
+          go : (b : Bool) → is_over old ≡ b → is_over old ≡ false
+          go false h = h
+          go true h = absurd (no (sym an_event ∙ ap (λ (x : Event). is_event x.content) (same (c.parses.ended h).0)))
+
+      carried : is_event e.content ≡ true → (asked : List Token) (given : List Event) → History old asked given → CarriesOn gives old e new asked given
+      carried an_event = rw is at (c.parses.carries_on (running an_event))
+
+      pub took_event : is_event e.content ≡ true → Took gives known old new (e ∷ [])
+      took_event an_event = record {
+        history = λ (asked : List Token) (given : List Event) (h : History old asked given). one_call gives old old new asked given e
+            (carried an_event asked given h);
+        runs = λ (events : List Event) (ending : Ending) (run : RunToCome known old events ending).
+            let f = first_event known MayBreak old new r e is an_event (says c) events ending run in
+            record { later = f.later; all = f.first; run = f.run };
+      }
+
+      -- after a document's end the parser stands between documents
+      pub behind_end : is_event e.content ≡ true → (asked : List Token) (given : List Event) → History old asked given → (d : Closing) → closing_of e ≡ Some d
+          → between_documents new ≡ true
+      behind_end an_event asked given h d closes =
+          let on = carried an_event asked given h in
+          c.parses.between _ _ on.history ∙ ap is_outside (stage_more at_start given (e ∷ [])) ∙ outside_end (stage_of given) e.content e.end_mark d closes
+
+      over : is_event e.content ≡ false → (asked : List Token) (given : List Event) → History old asked given → is_over old ≡ true
+      over empty asked given history = go (is_over old) refl
+        where
+          go : (b : Bool) → is_over old ≡ b → is_over old ≡ true
+          go true h = h
+          go false h = absurd (no (sym ((rw is at (c.parses.carries_on h)) asked given history).an_event ∙ empty))
+
+      pub finds_end : is_event e.content ≡ false → FindsEnd gives known old new
+      finds_end empty = record {
+        took = record {
+          history = λ (asked : List Token) (given : List Event) (h : History old asked given). subst (λ (p : Parser S). CarriedOn gives old p asked given [])
+              (sym (c.parses.ended (over empty asked given h)).1) (no_call gives old old old asked given h);
+          runs = λ (events : List Event) (ending : Ending) (run : RunToCome known old events ending). record {
+            later = events;
+            all = refl;
+            run
+                = subst (λ (p : Parser S). RunToCome known p events ending) (sym (c.parses.ended (over empty run.asked run.given run.history)).1) run;
+          };
+        };
+        ends = λ (events : List Event) (ending : Ending) (run : RunToCome known old events ending).
+            let h = over empty run.asked run.given run.history in
+            let s = (c.parses.ended h).1 in
+            c.parses.nothing_behind_end (ap is_over s ∙ h) events ending (subst (λ (p : Parser S). RunToCome known p events ending) (sym s) run);
+        stands = λ (asked : List Token) (given : List Event) (history : History old asked given).
+            let h = over empty asked given history in
+            let s = (c.parses.ended h).1 in
+            let over : is_over new ≡ true = ap is_over s ∙ h in
+            record { over = over; no_fault = ap has_failed s ∙ c.no_fault old asked given history; whole = c.whole new over };
+      }
+
+    pub parser_fails : Called → (x : yaml_error_type_t) → r ≡ Err x → ParserFails gives known MayBreak old new
+    parser_fails c x is = record {
+      history = rw is at c.parses.fails;
+      none_held = rw is at c.parses.none_held;
+      depth_left = rw is at c.parses.depth_left;
+      runs = λ (events : List Event) (ending : Ending) (run : RunToCome known old events ending). fails_here known MayBreak old new r x is (says c) events
+          ending run;
+    }

@@ -1,0 +1,5 @@
+pub mod Ids
+pub mod Stack
+pub mod Anchors
+pub mod Refusals
+pub mod Context

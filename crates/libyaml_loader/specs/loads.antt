@@ -1,0 +1,4 @@
+pub mod LoadGrowth
+pub mod Loading
+pub mod ComposeSteps
+pub mod NextLoad
