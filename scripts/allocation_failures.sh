@@ -7,7 +7,7 @@
 #
 #     scripts/allocation_failures.sh [CRATE..]
 #
-# Without words: hostile_rows line_rows.
+# Without words: hostile_rows line_rows yaml_rows.
 set -u
 cd "$(dirname "$0")/.." || exit 2
 root=$PWD
@@ -56,7 +56,7 @@ fail_in_turn() {
 shim=$(mktemp) || exit 2
 errors=$(mktemp) || exit 2
 cc -O2 -fPIC -shared -o "$shim" scripts/fail_allocation.c || exit 2
-for crate in ${*:-hostile_rows line_rows}; do
+for crate in ${*:-hostile_rows line_rows yaml_rows}; do
     fail_in_turn "$crate"
 done
 rm -f "$shim" "$errors"

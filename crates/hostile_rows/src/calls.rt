@@ -3,8 +3,7 @@
 ghost use Rattle.std.specs.Prelude.{◌≡◌, IsTrue};
 ghost use Rattle.unsafe_libyaml.specs.Nodes.{type_at};
 
-use crate::shown::{RowError, made};
-use row_notation::{shown_document, shown_event};
+use crate::lines::{Lines, RowError, line_of_event, lines_of_document};
 use std::alloc::Global;
 use unsafe_libyaml::{
     YAML_ANY_MAPPING_STYLE, YAML_ANY_SCALAR_STYLE, YAML_ANY_SEQUENCE_STYLE, YAML_MAPPING_NODE,
@@ -101,14 +100,14 @@ fn construct_again(
     }
 }
 
-/// Returns the event of a constructor, shown.
+/// Returns the line of a constructor's event.
 ///
 /// # Errors
 ///
 /// `OtherError` where the constructor returns another error than `Memory`, or `Memory` twice.
-pub fn constructed(alloc: Global, constructor: Constructor) -> Result<String, RowError> {
+pub fn constructed(alloc: Global, constructor: Constructor) -> Lines {
     match construct_again(alloc, constructor) {
-        Ok(event) => made(shown_event(alloc, &event)),
+        Ok(event) => line_of_event(alloc, &event),
         Err(_) => Err(RowError::OtherError),
     }
 }
@@ -241,16 +240,16 @@ fn tag_of(tagged: Tagged) -> Option<&'static [u8]> {
 fn make(document: &mut yaml_document_t, call: Call) -> Result<(), yaml_refusal_t> {
     match call {
         Call::Scalar(tagged) => {
-            let (tag, style) = (tag_of(tagged), YAML_ANY_SCALAR_STYLE);
-            yaml_document_add_scalar(document, tag, SHORT.value, style).and(Ok(()))
+            yaml_document_add_scalar(document, tag_of(tagged), SHORT.value, YAML_ANY_SCALAR_STYLE)?;
+            Ok(())
         }
         Call::Sequence(tagged) => {
-            let (tag, style) = (tag_of(tagged), YAML_ANY_SEQUENCE_STYLE);
-            yaml_document_add_sequence(document, tag, style).and(Ok(()))
+            yaml_document_add_sequence(document, tag_of(tagged), YAML_ANY_SEQUENCE_STYLE)?;
+            Ok(())
         }
         Call::Mapping(tagged) => {
-            let (tag, style) = (tag_of(tagged), YAML_ANY_MAPPING_STYLE);
-            yaml_document_add_mapping(document, tag, style).and(Ok(()))
+            yaml_document_add_mapping(document, tag_of(tagged), YAML_ANY_MAPPING_STYLE)?;
+            Ok(())
         }
         Call::Item(sequence, item) => append_item(document, sequence, item),
         Call::Pair(mapping, key, value) => append_pair(document, mapping, key, value),
@@ -268,52 +267,48 @@ fn begin_again(alloc: Global) -> Result<yaml_document_t, yaml_refusal_t> {
     }
 }
 
-fn is_shown_so(alloc: Global, document: &yaml_document_t, text: &str) -> Result<bool, RowError> {
-    let shown = made(shown_document(alloc, document))?;
-    Ok(shown.as_str() == text)
+fn has_lines(alloc: Global, document: &yaml_document_t, wanted: &[u8]) -> Result<bool, RowError> {
+    let lines = lines_of_document(alloc, document)?;
+    Ok(lines.as_slice() == wanted)
 }
 
-/// Makes a call, again where it returns `Memory`, which has to leave the document as it was shown before.
+/// Makes a call, again where it returns `Memory`, which has to leave the document with the lines from before.
 fn make_behind(
     alloc: Global,
     document: &mut yaml_document_t,
     call: Call,
-    before: &str,
+    before: &[u8],
 ) -> Result<(), RowError> {
     match make(document, call) {
         Ok(()) => return Ok(()),
         Err(yaml_refusal_t::Memory) => {}
         Err(_) => return Err(RowError::OtherError),
     }
-    if !is_shown_so(alloc, document, before)? {
+    if !has_lines(alloc, document, before)? {
         return Err(RowError::Changed);
     }
     make(document, call).or(Err(RowError::OtherError))
 }
 
 fn make_again(alloc: Global, document: &mut yaml_document_t, call: Call) -> Result<(), RowError> {
-    let before = made(shown_document(alloc, document))?;
-    make_behind(alloc, document, call, before.as_str())
+    let before = lines_of_document(alloc, document)?;
+    make_behind(alloc, document, call, before.as_slice())
 }
 
-fn make_all(
-    alloc: Global,
-    document: &mut yaml_document_t,
-    most: usize,
-) -> Result<String, RowError> {
+fn make_all(alloc: Global, document: &mut yaml_document_t, most: usize) -> Lines {
     for (_, call) in calls().iter().take(most) {
         make_again(alloc, document, *call)?;
     }
-    made(shown_document(alloc, document))
+    lines_of_document(alloc, document)
 }
 
-/// Returns the document after the first so many calls, shown.
+/// Returns the lines of the document after the first so many calls.
 ///
 /// # Errors
 ///
 /// `OtherError` where a call returns another error than `Memory`, or `Memory` twice; `Changed` where one that
 /// returned `Memory` changed the document; `Memory` where an allocation beside the calls fails.
-pub fn built(alloc: Global, most: usize) -> Result<String, RowError> {
+pub fn built(alloc: Global, most: usize) -> Lines {
     match begin_again(alloc) {
         Ok(mut document) => make_all(alloc, &mut document, most),
         Err(_) => Err(RowError::OtherError),

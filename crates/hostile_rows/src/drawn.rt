@@ -5,17 +5,14 @@
 //! after ends in the source's fault; then x becomes (1103515245 x + 12345) mod 2147483648.
 
 use crate::growing::listed;
+use crate::lines::{LinesOf, write_lines};
 use anyhow::Result;
-use row_notation::{EVERY_CALL, PieceReader, Table, put_text};
+use row_notation::{EVERY_CALL, PieceReader, Table};
 use std::alloc::Global;
-use std::fmt::Write;
-use token_lines::{
-    MAX_TOKENS, Outcome, run_events, run_nodes, write_events, write_nodes, yaml_line_source_t,
-};
+use token_lines::{MAX_TOKENS, Outcome, run_events, run_nodes, yaml_line_source_t};
 use unsafe_libyaml::{
-    YAML_COMPOSER_ERROR, YAML_NO_ERROR, YAML_READER_ERROR, yaml_error_type_t, yaml_list_source_t,
-    yaml_parser_between_documents, yaml_parser_initialize, yaml_parser_load_all,
-    yaml_parser_parse_all, yaml_parser_t, yaml_parser_t_prefix,
+    YAML_COMPOSER_ERROR, YAML_NO_ERROR, YAML_READER_ERROR, yaml_error_type_t, yaml_parser_load_all,
+    yaml_parser_parse_all, yaml_parser_t_prefix,
 };
 
 /// How many lists are drawn.
@@ -24,67 +21,8 @@ const LISTS: u64 = 500;
 /// How many tokens are drawn for a list.
 const DRAWN: u32 = 200;
 
-/// The names of the tokens that are drawn, in the order of their types' numbers from 3, and what stands
-/// after their marks, with `@` for a text.
-const KINDS: [(&str, &str); 19] = [
-    ("VERSION-DIRECTIVE", " 1.1"),
-    ("TAG-DIRECTIVE", " =@ =@"),
-    ("DOCUMENT-START", ""),
-    ("DOCUMENT-END", ""),
-    ("BLOCK-SEQUENCE-START", ""),
-    ("BLOCK-MAPPING-START", ""),
-    ("BLOCK-END", ""),
-    ("FLOW-SEQUENCE-START", ""),
-    ("FLOW-SEQUENCE-END", ""),
-    ("FLOW-MAPPING-START", ""),
-    ("FLOW-MAPPING-END", ""),
-    ("BLOCK-ENTRY", ""),
-    ("FLOW-ENTRY", ""),
-    ("KEY", ""),
-    ("VALUE", ""),
-    ("ALIAS", " =@"),
-    ("ANCHOR", " =@"),
-    ("TAG", " = =@"),
-    ("SCALAR", " =@ plain"),
-];
-
-fn kinds() -> &'static [(&'static str, &'static str)] {
-    &KINDS
-}
-
 /// The longest text, of 69 bytes.
 const LONGEST: &str = "aaaaaaaaaaaaaaaaaaaaaaaaaaaaaaaaaaaaaaaaaaaaaaaaaaaaaaaaaaaaaaaaaaaaa";
-
-/// A token: its name, what stands after its marks, and its text.
-#[derive(Copy, Clone)]
-struct Token {
-    name: &'static str,
-    payload: &'static str,
-    text: &'static str,
-}
-
-impl Token {
-    /// The token that is drawn by x. None where a table above is too short, which none is.
-    fn drawn(x: u64) -> Option<Self> {
-        let (name, payload) = *kinds().get(((x / 65536) % 19) as usize)?;
-        let text = LONGEST.get(..(x % 70) as usize)?;
-        Some(Token {
-            name,
-            payload,
-            text,
-        })
-    }
-
-    /// Puts the token's line after others, from this mark to the next.
-    fn put(self, lines: &mut String, start: u64) -> Result<()> {
-        let name = self.name;
-        let end = start.wrapping_add(1);
-        write!(lines, "{name} {start}:0:{start} {end}:0:{end}")?;
-        put_text(lines, self.payload, self.text)?;
-        lines.push_str("\n")?;
-        Ok(())
-    }
-}
 
 /// The number that is drawn after x.
 fn next_number(x: u64) -> u64 {
@@ -132,6 +70,17 @@ impl Drawn {
         }
     }
 
+    /// Tries the list with a token after it, whose line has `#` for its marks and `@` for each text.
+    fn try_token(&mut self, alloc: Global, line: &str, text: &str) -> Result<()> {
+        let start = self.tokens.wrapping_mul(2);
+        let end = start.wrapping_add(1);
+        let marks = format!(in alloc; "{start}:0:{start} {end}:0:{end}")?;
+        let line = line.replace(alloc, '#', marks.as_str())?;
+        let line = line.as_str().replace(alloc, '@', text)?;
+        self.tried = [self.lines.as_str(), line.as_str(), "\n"].concat(alloc)?;
+        Ok(())
+    }
+
     /// Makes it the list that was tried.
     fn keep(&mut self) -> Result<()> {
         self.tokens = self.tokens.wrapping_add(1);
@@ -141,56 +90,25 @@ impl Drawn {
     }
 
     /// Appends a token, where the list can go on after it.
-    fn append(&mut self, alloc: Global, token: Token) -> Result<()> {
-        self.tried.clear();
-        self.tried.push_str(self.lines.as_str())?;
-        token.put(&mut self.tried, self.tokens.wrapping_mul(2))?;
+    fn append(&mut self, alloc: Global, line: &str, text: &str) -> Result<()> {
+        self.try_token(alloc, line, text)?;
         if parsing_ends_by(alloc, self.tried.as_str())? == YAML_READER_ERROR {
             self.keep()?;
         }
         Ok(())
     }
 
-    /// Draws the list of this number.
-    fn draw(&mut self, alloc: Global, number: u64) -> Result<()> {
-        let start = Token {
-            name: "STREAM-START",
-            payload: " utf8",
-            text: "",
-        };
-        self.append(alloc, start)?;
+    /// Draws the list of this number of these kinds of tokens, in the order of their types' numbers from 3.
+    fn draw(&mut self, alloc: Global, kinds: &str, number: u64) -> Result<()> {
+        self.append(alloc, "STREAM-START # utf8", "")?;
         let mut x = number;
         for _ in 0..DRAWN {
-            if let Some(token) = Token::drawn(x) {
-                self.append(alloc, token)?;
-            }
+            let line = kinds.lines().nth(((x / 65536) % 19) as usize).unwrap_or("");
+            let text = LONGEST.get(..(x % 70) as usize).unwrap_or(LONGEST);
+            self.append(alloc, line, text)?;
             x = next_number(x);
         }
         Ok(())
-    }
-}
-
-/// The lines of events or of documents.
-#[derive(Copy, Clone)]
-enum LinesOf {
-    Events,
-    Documents,
-}
-
-/// Writes the lines of a parser that has given nothing yet.
-fn write_lines(
-    alloc: Global,
-    of: LinesOf,
-    parser: &mut yaml_parser_t<yaml_list_source_t>,
-    written: &mut Vec<u8>,
-) {
-    match of {
-        LinesOf::Documents if yaml_parser_between_documents(parser) => {
-            write_nodes(alloc, parser, written);
-        }
-        _ => {
-            write_events(alloc, parser, written);
-        }
     }
 }
 
@@ -198,9 +116,8 @@ fn write_lines(
 fn written_by_list(alloc: Global, of: LinesOf, lines: &str) -> Result<Vec<u8>> {
     let mut source = yaml_line_source_t::new(alloc, lines.as_bytes(), MAX_TOKENS);
     let list = listed(alloc, &mut source)?;
-    let mut parser = yaml_parser_initialize(alloc, list);
     let mut written = Vec::new(alloc);
-    write_lines(alloc, of, &mut parser, &mut written);
+    write_lines(alloc, of, list, &mut written);
     Ok(written)
 }
 
@@ -235,24 +152,26 @@ fn is_right(alloc: Global, lines: &str) -> Result<bool> {
 }
 
 /// Draws the list of this number, and returns how many tokens it has, and whether it is right.
-fn try_list(alloc: Global, number: u64) -> Result<(u64, bool)> {
+fn try_list(alloc: Global, kinds: &str, number: u64) -> Result<(u64, bool)> {
     let mut drawn = Drawn::new(alloc);
-    drawn.draw(alloc, number)?;
+    drawn.draw(alloc, kinds, number)?;
     Ok((drawn.tokens, is_right(alloc, drawn.lines.as_str())?))
 }
 
-/// Shows the table of this module, and how many tokens its lists have.
+/// Shows the table of this module, and how many tokens its lists have. The kinds of tokens that are drawn are
+/// lines with `#` for the marks and `@` for each text.
 ///
 /// # Errors
 ///
 /// An allocation fails, or printing does.
-pub fn show(rt: &(impl Print + AllocGlobal)) -> Result<()> {
+pub fn show(rt: &(impl Print + AllocGlobal), kinds: &str) -> Result<()> {
     let mut table = Table::new("drawn lists");
     let mut tokens = 0u64;
     for number in 0..LISTS {
-        let (more, is_right) = try_list(rt.alloc(), number)?;
+        let (more, is_right) = try_list(rt.alloc(), kinds, number)?;
         tokens = tokens.saturating_add(more);
-        table.count(rt, "a drawn list", is_right)?;
+        let name = format!(in rt.alloc(); "list {number}")?;
+        table.count(rt, name.as_str(), is_right)?;
     }
     table.show(rt)?;
     println!(rt; "drawn lists: {tokens} tokens")?;

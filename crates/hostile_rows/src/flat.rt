@@ -3,30 +3,13 @@
 use crate::growing::Grown;
 use anyhow::{Result, bail};
 use computed_tokens::{ComputedTokens, GrowingList};
-use row_notation::gives_event;
+use row_notation::{gives_event, next_nodes};
 use std::alloc::{AllocError, Global};
 use unsafe_libyaml::{
     YAML_ANY_SCALAR_STYLE, ZERO_MARK, unnamed_yaml_token_t_data, unnamed_yaml_token_t_data_anchor,
-    yaml_document_t, yaml_error_type_t, yaml_event_delete, yaml_parser_between_documents,
-    yaml_parser_delete, yaml_parser_initialize, yaml_parser_load, yaml_parser_t, yaml_refusal_t,
+    yaml_event_delete, yaml_parser_delete, yaml_parser_initialize, yaml_parser_t, yaml_refusal_t,
     yaml_scalar_event_initialize, yaml_token_delete, yaml_token_t,
 };
-
-/// How many nodes the next document has; 0 where none comes.
-fn next_nodes(parser: &mut yaml_parser_t<ComputedTokens>) -> u64 {
-    if !yaml_parser_between_documents(parser) {
-        return 0;
-    }
-    let loaded = yaml_parser_load(parser);
-    count_nodes(&loaded)
-}
-
-fn count_nodes(loaded: &Result<yaml_document_t, yaml_error_type_t>) -> u64 {
-    match loaded {
-        Ok(document) => document.nodes().len() as u64,
-        Err(_) => 0,
-    }
-}
 
 fn count_events(parser: &mut yaml_parser_t<ComputedTokens>) -> u64 {
     let mut events = 0u64;
@@ -42,11 +25,10 @@ fn count_events(parser: &mut yaml_parser_t<ComputedTokens>) -> u64 {
 fn count_all_nodes(parser: &mut yaml_parser_t<ComputedTokens>) -> u64 {
     let mut nodes = 0u64;
     for _ in 0..u64::MAX {
-        let more = next_nodes(parser);
-        if more == 0 {
-            break;
+        match next_nodes(parser) {
+            Some(Ok(more)) if more > 0 => nodes = nodes.saturating_add(more as u64),
+            _ => break,
         }
-        nodes = nodes.saturating_add(more);
     }
     nodes
 }

@@ -1,9 +1,11 @@
 //! Lists that grow by a number, over the source that computes them and over a list of the same tokens.
 
 use computed_tokens::{ComputedTokens, GrowingList};
-use row_notation::end_of_row;
+use row_notation::push_tokens;
 use std::alloc::{AllocError, Global};
-use unsafe_libyaml::{yaml_list_source_t, yaml_source_fault_t, yaml_token_source_t, yaml_token_t};
+use unsafe_libyaml::{
+    YAML_READER_ERROR, ZERO_MARK, yaml_list_source_t, yaml_source_fault_t, yaml_token_source_t,
+};
 
 const LISTS: [(&str, GrowingList); 6] = [
     ("nested sequences", GrowingList::NestedSequences),
@@ -19,6 +21,21 @@ pub fn lists() -> &'static [(&'static str, GrowingList)] {
     &LISTS
 }
 
+/// The fault that ends a list's tokens.
+fn end_of_list() -> yaml_source_fault_t {
+    let problem = Some("no more tokens");
+    let context = Some("while reading a row");
+    yaml_source_fault_t::new(
+        YAML_READER_ERROR,
+        problem,
+        7,
+        -3,
+        ZERO_MARK,
+        context,
+        ZERO_MARK,
+    )
+}
+
 /// A list at a number n.
 #[derive(Copy, Clone)]
 pub struct Grown {
@@ -29,7 +46,7 @@ pub struct Grown {
 impl Grown {
     /// The source that computes the tokens.
     pub fn computed(self, alloc: Global) -> ComputedTokens {
-        ComputedTokens::new(alloc, self.list, self.n, end_of_row())
+        ComputedTokens::new(alloc, self.list, self.n, end_of_list())
     }
 
     /// A list source of the same tokens.
@@ -43,33 +60,6 @@ impl Grown {
     }
 }
 
-/// Puts a token after the others. The fault, where there is none.
-fn push(
-    tokens: &mut Vec<yaml_token_t>,
-    next: Result<yaml_token_t, yaml_source_fault_t>,
-) -> Result<Option<yaml_source_fault_t>, AllocError> {
-    match next {
-        Ok(token) => {
-            tokens.push(token)?;
-            Ok(None)
-        }
-        Err(fault) => Ok(Some(fault)),
-    }
-}
-
-/// Puts all tokens of a source into a list, and returns the fault after them.
-fn take_all<S: yaml_token_source_t>(
-    source: &mut S,
-    tokens: &mut Vec<yaml_token_t>,
-) -> Result<yaml_source_fault_t, AllocError> {
-    for _ in 0..u64::MAX {
-        if let Some(fault) = push(tokens, source.next_token())? {
-            return Ok(fault);
-        }
-    }
-    Ok(end_of_row())
-}
-
 /// Returns a list source of the tokens and the fault of this one.
 ///
 /// # Errors
@@ -80,6 +70,6 @@ pub fn listed<S: yaml_token_source_t>(
     source: &mut S,
 ) -> Result<yaml_list_source_t, AllocError> {
     let mut tokens = Vec::new(alloc);
-    let fault = take_all(source, &mut tokens)?;
-    Ok(yaml_list_source_t::new(tokens, fault))
+    let fault = push_tokens(&mut tokens, source, usize::MAX)?;
+    Ok(yaml_list_source_t::new(tokens, fault.unwrap_or(end_of_list())))
 }

@@ -11,33 +11,29 @@ mod failing;
 mod flat;
 mod growing;
 mod large;
+mod lines;
 mod nested;
-mod shown;
 mod texts;
 
 use anyhow::{Context, Result, bail};
 use std::rt::{Env, Files};
 use std::{env, fs};
 
-/// Shows the checks of `failing`, over the rows of the file `rows`.
-fn show_failing(rt: &(impl Files + Print + AllocGlobal)) -> Result<()> {
-    let rows = fs::read_to_string(rt, "rows")?;
-    failing::show(rt, rows.as_str())?;
-    Ok(())
-}
-
 fn show_all(rt: &(impl Files + Print + AllocGlobal)) -> Result<()> {
+    let row = fs::read_to_string(rt, "text.tokens")?;
+    let kinds = fs::read_to_string(rt, "kinds")?;
     large::show(rt)?;
     nested::show(rt)?;
-    texts::show(rt)?;
-    drawn::show(rt)?;
-    show_failing(rt)
+    texts::show(rt, row.as_str())?;
+    drawn::show(rt, kinds.as_str())?;
+    failing::show(rt)?;
+    Ok(())
 }
 
 fn run_words(rt: &(impl Files + Print + AllocGlobal), words: &[String]) -> Result<()> {
     match words {
         [] => show_all(rt),
-        [word] if word.as_str() == "failing" => show_failing(rt),
+        [word] if word.as_str() == "failing" => Ok(failing::show(rt)?),
         [work, n] => {
             let n = n.as_str().parse::<u32>().context("no number")?;
             flat::show(rt, work.as_str(), n)

@@ -1,12 +1,12 @@
 //! A deep document, built by calls.
 
 use crate::calls::append_item;
-use row_notation::{Table, is_chain};
+use row_notation::Table;
 use std::alloc::Global;
 use std::io;
 use unsafe_libyaml::{
-    YAML_FLOW_SEQUENCE_STYLE, yaml_document_add_sequence, yaml_document_initialize,
-    yaml_document_t, yaml_refusal_t,
+    YAML_FLOW_SEQUENCE_STYLE, unnamed_yaml_node_t_data, yaml_document_add_sequence,
+    yaml_document_initialize, yaml_document_t, yaml_node_t, yaml_refusal_t,
 };
 
 /// How deep the document is.
@@ -17,6 +17,29 @@ fn nest(document: &mut yaml_document_t, outer: i32) -> Result<i32, yaml_refusal_
     let inner = yaml_document_add_sequence(document, None, YAML_FLOW_SEQUENCE_STYLE)?;
     append_item(document, outer, inner)?;
     Ok(inner)
+}
+
+/// Whether a node is a sequence with the next id as its only item, or, as the last, without one.
+fn is_link(node: &yaml_node_t, next: usize, is_last: bool) -> bool {
+    let unnamed_yaml_node_t_data::Sequence(sequence) = &node.content else {
+        return false;
+    };
+    match sequence.items.as_slice() {
+        [] => is_last,
+        [item] => usize::try_from(*item).ok() == Some(next),
+        _ => false,
+    }
+}
+
+/// Whether each node is a sequence with the next as its only item, and the last is empty.
+fn is_chain(nodes: &[yaml_node_t]) -> bool {
+    for (index, node) in nodes.iter().enumerate() {
+        let next = index.saturating_add(2);
+        if !is_link(node, next, next > nodes.len()) {
+            return false;
+        }
+    }
+    true
 }
 
 /// Adds N sequences, each the only item of the one before, and says whether they stand so.

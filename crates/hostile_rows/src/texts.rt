@@ -1,10 +1,10 @@
 //! Texts of every length, in each call that copies texts: none of them fails with ample memory.
 
 use crate::calls::{Constructor, Texts, construct, constructors};
-use crate::shown::{Reading, RowError, made, shown};
-use row_notation::{Table, put_text, source_of};
+use crate::lines::RowError;
+use row_notation::Table;
 use std::alloc::Global;
-use std::io;
+use token_lines::{Outcome, run_events, run_nodes};
 use unsafe_libyaml::{
     YAML_ANY_MAPPING_STYLE, YAML_ANY_SCALAR_STYLE, YAML_ANY_SEQUENCE_STYLE,
     yaml_document_add_mapping, yaml_document_add_scalar, yaml_document_add_sequence,
@@ -54,60 +54,48 @@ fn build(alloc: Global, text: &[u8]) -> Result<(), yaml_refusal_t> {
     add_nodes(&mut document, text)
 }
 
-/// A row with a text, for which `@` stands, in each token that has one.
-const ROW: &str = "STREAM-START TAG-DIRECTIVE(@,@) DOCUMENT-START ANCHOR(@) TAG(@,@) \
-    FLOW-SEQUENCE-START ALIAS(@) FLOW-ENTRY SCALAR(@,double) FLOW-SEQUENCE-END STREAM-END";
-
-/// The row with this text.
-fn row_with(alloc: Global, text: &str) -> Result<String, RowError> {
-    let mut row = String::new(alloc);
-    let put = made(put_text(&mut row, ROW, text));
-    put.and(Ok(row))
+/// Whether parsing and loading these lines ends without a fault.
+fn are_read(alloc: Global, lines: &str) -> bool {
+    let mut written = Vec::new(alloc);
+    [
+        run_events(alloc, lines.as_bytes(), &mut written),
+        run_nodes(alloc, lines.as_bytes(), &mut written),
+    ] == [Outcome::Ended; 2]
 }
 
-/// Whether the row is read without a fault.
-fn is_read(alloc: Global, row: &str, reading: Reading) -> Result<bool, RowError> {
-    let shown = shown(alloc, made(source_of(alloc, row))?, reading)?;
-    Ok(!shown.contains("fault"))
-}
-
-fn is_row_taken(alloc: Global, text: &str) -> Result<bool, RowError> {
-    let row = row_with(alloc, text)?;
-    Ok(
-        [
-            is_read(alloc, row.as_str(), Reading::Events)?,
-            is_read(alloc, row.as_str(), Reading::Documents(i32::MAX))?,
-        ] == [true; 2],
-    )
-}
-
-/// Whether no call with this text fails.
-fn is_text_taken(alloc: Global, text: &str) -> Result<bool, RowError> {
+/// Whether no call with this text fails, nor a run over the row, which has `@` in place of each text.
+fn is_text_taken(alloc: Global, row: &str, text: &str) -> Result<bool, RowError> {
     construct_all(alloc, text.as_bytes())?;
     build(alloc, text.as_bytes())?;
-    is_row_taken(alloc, text)
+    let lines = row.replace(alloc, '@', text)?;
+    Ok(are_read(alloc, lines.as_str()))
 }
 
-/// Whether no call with a text of this length fails.
-fn is_taken(alloc: Global, len: usize) -> Result<bool, RowError> {
+/// The same with a text of this length.
+fn is_taken(alloc: Global, row: &str, len: usize) -> Result<bool, RowError> {
     let text = "a".repeat(alloc, len)?;
-    is_text_taken(alloc, text.as_str())
+    is_text_taken(alloc, row, text.as_str())
+}
+
+fn count(
+    rt: &(impl Print + AllocGlobal),
+    table: &mut Table,
+    row: &str,
+    len: usize,
+) -> anyhow::Result<()> {
+    let name = format!(in rt.alloc(); "{len} bytes")?;
+    let is_right = is_taken(rt.alloc(), row, len).unwrap_or(false);
+    table.count(rt, name.as_str(), is_right)?;
+    Ok(())
 }
 
 /// Shows the table of this module, of the lengths of 0 to 70 bytes and of a long one.
-pub fn show(rt: &(impl Print + AllocGlobal)) -> io::Result<()> {
+pub fn show(rt: &(impl Print + AllocGlobal), row: &str) -> anyhow::Result<()> {
     let mut table = Table::new("texts of every length");
     for len in 0..=70usize {
-        table.count(
-            rt,
-            "a short text",
-            is_taken(rt.alloc(), len).unwrap_or(false),
-        )?;
+        count(rt, &mut table, row, len)?;
     }
-    table.count(
-        rt,
-        "the longest text",
-        is_taken(rt.alloc(), LONG).unwrap_or(false),
-    )?;
-    table.show(rt)
+    count(rt, &mut table, row, LONG)?;
+    table.show(rt)?;
+    Ok(())
 }

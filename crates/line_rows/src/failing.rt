@@ -4,8 +4,9 @@
 //! until none fails. Where none fails, a run is right only if it is whole.
 
 use crate::runs::{LinesOf, Passage, Run, run_lines};
-use row_notation::FixedWriter;
+use row_notation::{are_first_lines, is_cut};
 use std::alloc::Global;
+use std::io::Cursor;
 use token_lines::{
     MAX_TOKENS, Outcome, line_refusal_t, write_document, write_event, yaml_line_source_t,
 };
@@ -24,26 +25,26 @@ fn are_right(one: Passage, other: Passage) -> bool {
     }
 }
 
-/// Whether these are lines that begin the others.
-fn are_first_lines(front: &[u8], lines: &[u8]) -> bool {
-    lines.starts_with(front) && (front.is_empty() || front.ends_with(b"\n"))
+/// A writer that takes no memory, and has room for more than any run writes.
+type Room = Cursor<[u8; 4096]>;
+
+fn room() -> Room {
+    Cursor::new([0; 4096])
 }
 
-/// Whether this is a prefix of the lines, cut after an LF, and then the fault of a failed allocation.
-fn is_front_and_fault(written: &[u8], lines: &[u8]) -> bool {
-    match written.strip_suffix(b"FAULT memory 0:0:0 -\n") {
-        Some(front) => are_first_lines(front, lines),
-        None => false,
-    }
+/// What was written.
+fn written(room: &Room) -> &[u8] {
+    let len = usize::try_from(room.position()).unwrap_or(0);
+    room.get_ref().get(..len).unwrap_or(&[])
 }
 
 /// How a run came through that writes to an array.
 fn comes_through(alloc: Global, row: Run<'_>) -> Passage {
-    let mut writer = FixedWriter::new();
+    let mut writer = room();
     let ended = run_lines(row.of, alloc, row.tokens, &mut writer);
-    if row.is_whole(writer.written(), ended) {
+    if row.is_whole(written(&writer), ended) {
         Passage::Whole
-    } else if ended == Outcome::Faulted && is_front_and_fault(writer.written(), row.lines) {
+    } else if ended == Outcome::Faulted && is_cut(written(&writer), row.lines) {
         Passage::Cut
     } else {
         Passage::Wrong
@@ -69,27 +70,27 @@ fn behind<'a>(rest: &'a [u8], written: &[u8]) -> Left<'a> {
 /// What is left after an event's line, which is written again where its allocation failed. Then nothing of
 /// it may be written.
 fn behind_event<'a>(alloc: Global, event: &yaml_event_t, rest: &'a [u8]) -> Left<'a> {
-    let mut writer = FixedWriter::new();
+    let mut writer = room();
     let mut wrote = write_event(alloc, event, &mut writer);
-    if wrote == Err(line_refusal_t::Memory) && writer.written().is_empty() {
+    if wrote == Err(line_refusal_t::Memory) && written(&writer).is_empty() {
         wrote = write_event(alloc, event, &mut writer);
     }
     match wrote {
-        Ok(()) => behind(rest, writer.written()),
+        Ok(()) => behind(rest, written(&writer)),
         Err(_) => Err(Passage::Wrong),
     }
 }
 
 /// The same of a document's lines, of which then only whole ones may be written.
 fn behind_document<'a>(alloc: Global, document: &yaml_document_t, rest: &'a [u8]) -> Left<'a> {
-    let mut writer = FixedWriter::new();
+    let mut writer = room();
     let mut wrote = write_document(alloc, document, &mut writer);
-    if wrote == Err(line_refusal_t::Memory) && are_first_lines(writer.written(), rest) {
-        writer = FixedWriter::new();
+    if wrote == Err(line_refusal_t::Memory) && are_first_lines(written(&writer), rest) {
+        writer = room();
         wrote = write_document(alloc, document, &mut writer);
     }
     match wrote {
-        Ok(()) => behind(rest, writer.written()),
+        Ok(()) => behind(rest, written(&writer)),
         Err(_) => Err(Passage::Wrong),
     }
 }

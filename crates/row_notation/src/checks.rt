@@ -13,25 +13,6 @@ pub fn unless_made(answer: Result<bool>, what: &'static str) -> Option<&'static 
     unless(matches!(answer, Ok(true)), what)
 }
 
-/// What a check of rows returns: the first wrong row, or what couldn't be made.
-pub fn first_wrong(
-    answer: Result<Option<&'static str>>,
-    what: &'static str,
-) -> Option<&'static str> {
-    match answer {
-        Ok(wrong) => wrong,
-        Err(_) => Some(what),
-    }
-}
-
-/// Whether this text was made, and is the one that is wanted.
-pub fn is_text<E>(made: &Result<String, E>, wanted: &str) -> bool {
-    match made {
-        Ok(text) => text.as_str() == wanted,
-        Err(_) => false,
-    }
-}
-
 /// Names what is wrong, and counts the checks, of which each returns that.
 pub fn show_checks(rt: &impl Print, of: &str, checks: &[Option<&'static str>]) -> io::Result<()> {
     let mut differ = 0u64;

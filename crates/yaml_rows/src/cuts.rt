@@ -2,15 +2,35 @@
 
 use crate::reading::write_given;
 use crate::tables::Case;
-use crate::tokens::{end_of_lines, push_lines};
+use crate::tokens::{end_of, front_of};
 use anyhow::Result;
-use row_notation::{are_same_faults, ends_of_sources};
 use std::alloc::Global;
 use token_lines::write_fault;
 use unsafe_libyaml::{
-    YAML_READER_ERROR, YAML_SCANNER_ERROR, yaml_list_source_t, yaml_parser_initialize,
-    yaml_parser_t_prefix, yaml_source_fault_t,
+    YAML_MEMORY_ERROR, YAML_READER_ERROR, YAML_SCANNER_ERROR, yaml_mark_t, yaml_parser_t_prefix,
+    yaml_source_fault_t,
 };
+
+/// A mark on line 0.
+fn mark(index: u64) -> yaml_mark_t {
+    yaml_mark_t {
+        index,
+        line: 0,
+        column: index,
+    }
+}
+
+/// The faults by which a source may end, in the order of their numbers. Their fields tell them from each
+/// fault of a list.
+fn ends_of_sources() -> [yaml_source_fault_t; 3] {
+    let (problem, at) = (Some("the source broke off"), mark(99));
+    let (context, from) = (Some("while giving a row"), mark(98));
+    [
+        yaml_source_fault_t::new(YAML_MEMORY_ERROR, None, 1, -1, at, context, from),
+        yaml_source_fault_t::new(YAML_READER_ERROR, problem, 2, -3, at, context, from),
+        yaml_source_fault_t::new(YAML_SCANNER_ERROR, problem, 3, -2, at, None, from),
+    ]
+}
 
 /// A list that is cut before a token, and the fault of its source after that.
 #[derive(Copy, Clone)]
@@ -21,7 +41,7 @@ struct Cut {
 
 /// What differs where a list is read call by call, whole or cut, if anything does.
 pub fn first_wrong_cut(alloc: Global, case: Case<'_>) -> Option<&'static str> {
-    let Ok((tokens, Some(end))) = end_of_lines(alloc, case.tokens) else {
+    let Ok((tokens, end)) = end_of(alloc, case.tokens) else {
         return Some("its tokens have no end");
     };
     if !is_whole_right(alloc, case, Cut { tokens, end }) {
@@ -47,16 +67,14 @@ fn write_cut(
     cut: Cut,
     out: &mut Vec<u8>,
 ) -> Result<yaml_parser_t_prefix> {
-    let mut tokens = Vec::new(alloc);
-    push_lines(alloc, &mut tokens, case.tokens, cut.tokens)?;
-    let mut parser = yaml_parser_initialize(alloc, yaml_list_source_t::new(tokens, cut.end));
-    write_given(alloc, &mut parser, case.given, out)
+    let front = front_of(alloc, case.tokens, cut.tokens, cut.end)?;
+    write_given(alloc, front, case.given, out)
 }
 
 /// Whether a fault is that of the source in all fields, or none of a source.
 fn has_all_fields(kept: &Result<yaml_parser_t_prefix>, end: &yaml_source_fault_t) -> bool {
     match kept {
-        Ok(kept) => are_same_faults(kept, &end.prefix()) || is_of_no_source(kept),
+        Ok(kept) => *kept == end.prefix() || is_of_no_source(kept),
         Err(_) => false,
     }
 }
@@ -110,7 +128,7 @@ fn is_right(alloc: Global, case: Case<'_>, cut: Cut, fault: &[u8], is_whole: boo
 
 /// Whether what is given is wanted, up to the fault of the source where that comes. After the last token it
 /// comes only in place of the fault with which the lines end.
-fn ends_right(given: &[u8], wanted: &[u8], fault: &[u8], is_whole: bool) -> bool {
+pub fn ends_right(given: &[u8], wanted: &[u8], fault: &[u8], is_whole: bool) -> bool {
     let Some(before) = given.strip_suffix(fault) else {
         return given == wanted;
     };

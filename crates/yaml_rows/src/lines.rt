@@ -1,8 +1,8 @@
 //! Whole lists: over their lines, in pieces, and from a list of their tokens at once.
 
 use crate::tables::{Case, Given};
-use crate::tokens::push_lines;
-use anyhow::{Context, Result};
+use crate::tokens::list_of;
+use anyhow::Result;
 use row_notation::{EVERY_CALL, PieceReader, PieceWriter};
 use std::alloc::Global;
 use token_lines::{
@@ -10,9 +10,8 @@ use token_lines::{
     write_nodes, yaml_line_source_t,
 };
 use unsafe_libyaml::{
-    yaml_document_t, yaml_documents_t, yaml_event_t, yaml_list_source_t, yaml_parser_initialize,
-    yaml_parser_load_all, yaml_parser_parse_all, yaml_parser_set_max_entries, yaml_parser_t_prefix,
-    yaml_run_t,
+    yaml_documents_t, yaml_parser_initialize, yaml_parser_load_all, yaml_parser_parse_all,
+    yaml_parser_set_max_entries, yaml_parser_t_prefix, yaml_run_t,
 };
 
 /// So many bytes are read and written at once.
@@ -89,13 +88,6 @@ fn write_at_once(alloc: Global, case: Case<'_>, out: &mut Vec<u8>) -> Result<()>
             Ok(())
         }
     }
-}
-
-/// The tokens of these lines as a list, and after them the lines' own fault.
-fn list_of(alloc: Global, lines: &str) -> Result<yaml_list_source_t> {
-    let mut tokens = Vec::new(alloc);
-    let fault = push_lines(alloc, &mut tokens, lines, usize::MAX)?;
-    Ok(yaml_list_source_t::new(tokens, fault.context("lines have no end")?))
 }
 
 fn write_run(alloc: Global, run: &yaml_run_t, out: &mut Vec<u8>) -> Result<()> {

@@ -1,11 +1,12 @@
 //! Parsers between documents and after a load, and sources that have no memory.
 
+use crate::tokens::list_of;
 use anyhow::Result;
-use row_notation::{gives_event, mark, source_of, unless, unless_made};
+use row_notation::{gives_event, unless, unless_made};
 use std::alloc::Global;
 use token_lines::write_event;
 use unsafe_libyaml::{
-    YAML_MEMORY_ERROR, yaml_error_type_t, yaml_event_t, yaml_list_source_t,
+    YAML_MEMORY_ERROR, ZERO_MARK, yaml_error_type_t, yaml_event_t, yaml_list_source_t,
     yaml_parser_between_documents, yaml_parser_initialize, yaml_parser_load, yaml_parser_load_all,
     yaml_parser_parse, yaml_parser_parse_all, yaml_parser_t, yaml_source_fault_t,
 };
@@ -29,9 +30,8 @@ fn stands(parser: &mut Parser) -> [Option<bool>; 6] {
     ]
 }
 
-fn stands_between_documents(alloc: Global) -> Result<bool> {
-    let source = source_of(alloc, "STREAM-START SCALAR(a) STREAM-END")?;
-    let mut parser = yaml_parser_initialize(alloc, source);
+fn stands_between_documents(alloc: Global, scalar: &str) -> Result<bool> {
+    let mut parser = yaml_parser_initialize(alloc, list_of(alloc, scalar)?);
     let between = [true, true, false, false, true, true];
     Ok(stands(&mut parser) == between.map(|between| Some(between)))
 }
@@ -63,10 +63,8 @@ fn goes_on(alloc: Global, parser: &mut Parser, wanted: &str) -> bool {
     ] == [true; 3]
 }
 
-fn goes_on_after_a_load(alloc: Global) -> Result<bool> {
-    let row = "STREAM-START TAG-DIRECTIVE(!!,p:) DOCUMENT-START TAG(!!,x) SCALAR(a) \
-        DOCUMENT-START TAG(!!,y) SCALAR(b) STREAM-END";
-    let mut parser = yaml_parser_initialize(alloc, source_of(alloc, row)?);
+fn goes_on_after_a_load(alloc: Global, two: &str) -> Result<bool> {
+    let mut parser = yaml_parser_initialize(alloc, list_of(alloc, two)?);
     let is_loaded = yaml_parser_load(&mut parser).is_ok();
     let wanted = "DOCUMENT-START 10:0:10 11:0:11 0 - 0\n";
     Ok([is_loaded, goes_on(alloc, &mut parser, wanted)] == [true; 2])
@@ -74,7 +72,7 @@ fn goes_on_after_a_load(alloc: Global) -> Result<bool> {
 
 /// A source that has no token and no memory.
 fn source_without_memory(alloc: Global) -> yaml_list_source_t {
-    let fault = yaml_source_fault_t::new(YAML_MEMORY_ERROR, None, 0, 0, mark(0), None, mark(0));
+    let fault = yaml_source_fault_t::new(YAML_MEMORY_ERROR, None, 0, 0, ZERO_MARK, None, ZERO_MARK);
     yaml_list_source_t::new(Vec::new(alloc), fault)
 }
 
@@ -84,14 +82,14 @@ fn gives_nothing_at_once(alloc: Global) -> bool {
     [run, all] == [true; 2]
 }
 
-/// What is wrong with parsers.
-pub fn checks(alloc: Global) -> [Option<&'static str>; 3] {
+/// What is wrong with parsers, over the lines of one scalar and those of two documents.
+pub fn checks(alloc: Global, scalar: &str, two: &str) -> [Option<&'static str>; 3] {
     [
         unless_made(
-            stands_between_documents(alloc),
+            stands_between_documents(alloc, scalar),
             "a parser between documents and in one",
         ),
-        unless_made(goes_on_after_a_load(alloc), "an event after a load"),
+        unless_made(goes_on_after_a_load(alloc, two), "an event after a load"),
         unless(
             gives_nothing_at_once(alloc),
             "a source without memory gives nothing at once",

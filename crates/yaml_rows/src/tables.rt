@@ -24,6 +24,16 @@ pub enum Given {
     NodesWithin(i32),
 }
 
+impl Given {
+    /// How many entries a list of a document may have.
+    pub fn most_entries(self) -> i32 {
+        match self {
+            Given::NodesWithin(most) => most,
+            _ => i32::MAX,
+        }
+    }
+}
+
 /// A list of tokens, and what it is to give.
 #[derive(Copy, Clone)]
 pub struct Case<'a> {
