@@ -121,7 +121,7 @@ def page():
     lines, without = [HEAD.rstrip()], []
     passing = {user: set(name for _, name in names_passed_on(user)) for user in ("unsafe_libyaml", "token_lines")}
     for crate in crates():
-        if root(crate) is None or crate.endswith("_rows") or crate == "row_notation":
+        if root(crate) is None or crate.endswith("_rows") or crate == "row_checks":
             continue
         rows = [(name, item) for name, item in public_of(crate).items() if item is not None]
         if not rows:

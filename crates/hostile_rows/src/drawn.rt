@@ -7,7 +7,7 @@
 use crate::growing::listed;
 use crate::lines::{LinesOf, write_lines};
 use anyhow::Result;
-use row_notation::{EVERY_CALL, PieceReader, Table};
+use row_checks::{EVERY_CALL, PieceReader, Table};
 use std::alloc::Global;
 use token_lines::{MAX_TOKENS, Outcome, run_events, run_nodes, yaml_line_source_t};
 use unsafe_libyaml::{

@@ -6,7 +6,7 @@
 use crate::calls::{Constructor, built, calls, constructed, constructors, refuses_bytes_first};
 use crate::growing::{Grown, lists};
 use crate::lines::{LinesOf, are_same_or_cut, lines_of};
-use row_notation::Table;
+use row_checks::Table;
 use std::alloc::Global;
 use std::io;
 

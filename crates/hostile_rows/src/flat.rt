@@ -3,7 +3,7 @@
 use crate::growing::Grown;
 use anyhow::{Result, bail};
 use computed_tokens::{ComputedTokens, GrowingList};
-use row_notation::{gives_event, next_nodes};
+use row_checks::{gives_event, next_nodes};
 use std::alloc::{AllocError, Global};
 use unsafe_libyaml::{
     YAML_ANY_SCALAR_STYLE, ZERO_MARK, unnamed_yaml_token_t_data, unnamed_yaml_token_t_data_anchor,

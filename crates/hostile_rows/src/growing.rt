@@ -1,7 +1,7 @@
 //! Lists that grow by a number, over the source that computes them and over a list of the same tokens.
 
 use computed_tokens::{ComputedTokens, GrowingList};
-use row_notation::push_tokens;
+use row_checks::push_tokens;
 use std::alloc::{AllocError, Global};
 use unsafe_libyaml::{
     YAML_READER_ERROR, ZERO_MARK, yaml_list_source_t, yaml_source_fault_t, yaml_token_source_t,

@@ -4,7 +4,7 @@
 use crate::growing::{Grown, lists};
 use anyhow::Result;
 use computed_tokens::GrowingList;
-use row_notation::Table;
+use row_checks::Table;
 use std::alloc::Global;
 use unsafe_libyaml::{
     yaml_document_t, yaml_documents_t, yaml_parser_load_all, yaml_parser_parse_all,

@@ -1,6 +1,6 @@
 //! What sources and calls give, as lines.
 
-use row_notation::is_cut;
+use row_checks::is_cut;
 use std::alloc::{AllocError, Global};
 use token_lines::{Outcome, write_document, write_event, write_events, write_nodes};
 use unsafe_libyaml::{

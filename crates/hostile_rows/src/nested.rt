@@ -1,7 +1,7 @@
 //! A deep document, built by calls.
 
 use crate::calls::append_item;
-use row_notation::Table;
+use row_checks::Table;
 use std::alloc::Global;
 use std::io;
 use unsafe_libyaml::{

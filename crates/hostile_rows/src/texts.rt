@@ -2,7 +2,7 @@
 
 use crate::calls::{Constructor, Texts, construct, constructors};
 use crate::lines::RowError;
-use row_notation::Table;
+use row_checks::Table;
 use std::alloc::Global;
 use token_lines::{Outcome, run_events, run_nodes};
 use unsafe_libyaml::{

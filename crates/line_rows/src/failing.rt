@@ -4,7 +4,7 @@
 //! until none fails. Where none fails, a run is right only if it is whole.
 
 use crate::runs::{LinesOf, Passage, Run, run_lines};
-use row_notation::{are_first_lines, is_cut};
+use row_checks::{are_first_lines, is_cut};
 use std::alloc::Global;
 use std::io::Cursor;
 use token_lines::{

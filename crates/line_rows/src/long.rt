@@ -2,7 +2,7 @@
 
 use crate::runs::{LinesOf, Run};
 use anyhow::Result;
-use row_notation::Table;
+use row_checks::Table;
 use std::alloc::{AllocError, Global};
 use token_lines::{Outcome, run_events};
 

@@ -15,7 +15,7 @@ mod source;
 mod words;
 
 use anyhow::{Context, Result};
-use row_notation::Table;
+use row_checks::Table;
 use runs::{LinesOf, Run};
 use std::alloc::Global;
 use std::io::BufRead;

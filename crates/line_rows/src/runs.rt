@@ -1,6 +1,6 @@
 //! Whole runs, from token lines to the lines of events or of documents.
 
-use row_notation::{EVERY_CALL, PieceReader, PieceWriter};
+use row_checks::{EVERY_CALL, PieceReader, PieceWriter};
 use std::alloc::Global;
 use std::io::{BufRead, Write};
 use token_lines::{Outcome, run_events, run_nodes};

@@ -1,6 +1,6 @@
 //! What stays in the reader of a line source: after the stream's end, and after its bound on tokens.
 
-use row_notation::Table;
+use row_checks::Table;
 use std::alloc::Global;
 use std::io;
 use token_lines::{MAX_TOKENS, yaml_line_source_t};

@@ -1,7 +1,7 @@
 //! The words of a command line: what they ask for, and what is told where they ask for nothing. That a run by
 //! words writes what any run over the same lines does is proved.
 
-use row_notation::{PieceWriter, Table};
+use row_checks::{PieceWriter, Table};
 use std::alloc::{AllocError, Global};
 use std::io;
 use token_words::run_words;

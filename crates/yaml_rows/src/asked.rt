@@ -1,7 +1,7 @@
 //! How many tokens the calls of a parser have asked for.
 
 use anyhow::Result;
-use row_notation::gives_event;
+use row_checks::gives_event;
 use std::alloc::Global;
 use std::fmt::Write;
 use token_lines::{MAX_TOKENS, yaml_line_source_t};

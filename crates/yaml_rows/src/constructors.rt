@@ -2,7 +2,7 @@
 //! texts, in which the zero byte counts.
 
 use anyhow::Result;
-use row_notation::{is_empty, unless, unless_made};
+use row_checks::{is_empty, unless, unless_made};
 use std::alloc::Global;
 use token_lines::write_event;
 use unsafe_libyaml::{

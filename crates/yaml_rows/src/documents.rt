@@ -3,7 +3,7 @@
 ghost use Rattle.std.specs.Prelude.{◌≡◌, [], IfOk};
 
 use anyhow::Result;
-use row_notation::{unless, unless_made};
+use row_checks::{unless, unless_made};
 use std::alloc::Global;
 use token_lines::write_document;
 use unsafe_libyaml::{

@@ -1,7 +1,7 @@
 //! Enums: the numbers of their last variants, and their texts.
 
 use anyhow::Result;
-use row_notation::{unless, unless_made};
+use row_checks::{unless, unless_made};
 use std::alloc::Global;
 use std::fmt::Debug;
 use unsafe_libyaml::{

@@ -8,7 +8,7 @@ use crate::reading::write_given;
 use crate::tables::Given;
 use crate::tokens::list_of;
 use anyhow::Result;
-use row_notation::{FAILED, Table};
+use row_checks::{FAILED, Table};
 use std::alloc::Global;
 use std::fs;
 use std::rt::Files;

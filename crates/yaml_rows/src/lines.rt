@@ -3,7 +3,7 @@
 use crate::tables::{Case, Given};
 use crate::tokens::list_of;
 use anyhow::Result;
-use row_notation::{EVERY_CALL, PieceReader, PieceWriter};
+use row_checks::{EVERY_CALL, PieceReader, PieceWriter};
 use std::alloc::Global;
 use token_lines::{
     MAX_TOKENS, Outcome, run_events, run_nodes, write_document, write_event, write_fault,

@@ -19,7 +19,7 @@ mod tables;
 mod tokens;
 
 use anyhow::Result;
-use row_notation::show_checks;
+use row_checks::show_checks;
 use std::alloc::Global;
 use std::rt::Files;
 use std::{env, fs};

@@ -2,7 +2,7 @@
 
 use crate::tokens::list_of;
 use anyhow::Result;
-use row_notation::{gives_event, unless, unless_made};
+use row_checks::{gives_event, unless, unless_made};
 use std::alloc::Global;
 use token_lines::write_event;
 use unsafe_libyaml::{

@@ -2,7 +2,7 @@
 
 use crate::tables::Given;
 use anyhow::Result;
-use row_notation::{is_empty, is_kept_by_loads, is_over};
+use row_checks::{is_empty, is_kept_by_loads, is_over};
 use std::alloc::Global;
 use token_lines::{write_document, write_event, write_fault};
 use unsafe_libyaml::{

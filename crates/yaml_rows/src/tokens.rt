@@ -1,7 +1,7 @@
 //! The tokens of token lines.
 
 use anyhow::{Context, Result};
-use row_notation::push_tokens;
+use row_checks::push_tokens;
 use std::alloc::{AllocError, Global};
 use token_lines::{MAX_TOKENS, yaml_line_source_t};
 use unsafe_libyaml::{yaml_list_source_t, yaml_source_fault_t, yaml_token_t};
