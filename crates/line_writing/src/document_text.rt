@@ -25,6 +25,9 @@ use libyaml_documents::{
 use std::alloc::{AllocError, Global};
 use std::io::Write;
 
+/// The capacity that a text of lines begins with: most lines take fewer bytes.
+const LINE: usize = 128;
+
 /// Writes the document's text: its line, and a line for each node in the order of their ids, which
 /// count from 1.
 ///
@@ -42,7 +45,7 @@ pub fn write_document<W: Write>(
     ensures memory { result ≡ Err line_refusal_t.Memory
         → WroteBefore (W.contents writer.old) (W.contents writer.new) (document_lines document.now) }
 {
-    let mut line = String::new(alloc);
+    let mut line = String::with_capacity(alloc, LINE)?;
     append_document(&mut line, document)?;
     write_line(&line, writer)?;
     write_nodes(&mut line, document.nodes(), writer)

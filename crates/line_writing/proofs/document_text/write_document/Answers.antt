@@ -18,13 +18,16 @@ returns-in_err-append_document-clause-memory g c refused = wrote_none _ _ _
 pub returns-clause-ok : goal.returns-clause-ok
 returns-clause-ok g c =
     let document = c.args.document.now in
-    let line = c.in_ok-append_document.ensures ∙ ap (λ l. l ++ document_line document) c.new-line.ensures.bytes in
+    let line = c.in_ok-append_document.ensures ∙ ap (λ l. l ++ document_line document) c.in_ok-line.ensures.bytes in
     then_ok c.write_nodes.result _ _ _ (document_line document) (concat (node_lines 1 document.nodes)) (subst (Appends _ _) line c.in_ok-write_line.ensures.ok)
     (rw c.nodes.ensures.all at c.write_nodes.ensures.ok)
 
 pub returns-clause-memory : goal.returns-clause-memory
 returns-clause-memory g c refused =
     let document = c.args.document.now in
-    let line = c.in_ok-append_document.ensures ∙ ap (λ l. l ++ document_line document) c.new-line.ensures.bytes in
+    let line = c.in_ok-append_document.ensures ∙ ap (λ l. l ++ document_line document) c.in_ok-line.ensures.bytes in
     wrote_behind (document_line document) (node_lines 1 document.nodes) _ _ _ (subst (Appends _ _) line c.in_ok-write_line.ensures.ok)
     (rw c.nodes.ensures.all at (c.write_nodes.ensures.memory refused))
+
+pub returns-in_err-line-clause-memory : goal.returns-in_err-line-clause-memory
+returns-in_err-line-clause-memory g c refused = wrote_none _ _ _
