@@ -77,7 +77,10 @@ impl Drawn {
         let marks = format!(in alloc; "{start}:0:{start} {end}:0:{end}")?;
         let line = line.replace(alloc, '#', marks.as_str())?;
         let line = line.as_str().replace(alloc, '@', text)?;
-        self.tried = [self.lines.as_str(), line.as_str(), "\n"].concat(alloc)?;
+        self.tried.clear();
+        self.tried.push_str(self.lines.as_str())?;
+        self.tried.push_str(line.as_str())?;
+        self.tried.push_str("\n")?;
         Ok(())
     }
 
