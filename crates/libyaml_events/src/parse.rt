@@ -1,5 +1,6 @@
 //! One call of the parser.
 ghost use Rattle.std.specs.Prelude.{◌≡◌, Ok, Err, true, false, IfErr, MatchResult};
+ghost use Rattle.libyaml_types.specs.Events.{empty_event};
 ghost use Rattle.libyaml_events.specs.machine.Config.{ended_or_failed};
 ghost use Rattle.libyaml_events.specs.parsers.Left.{Left};
 ghost use Rattle.libyaml_events.specs.sources.Calls.{Call, answered};
@@ -59,7 +60,7 @@ impl<S: yaml_token_source_t> yaml_parser_t<S> {
         ensures left { IfErr (answered result event.new) (λ e. Left self.old.config e self.new.config) }
     {
         if self.machine.is_over() {
-            *event = no_event();
+            clear(event);
             return Ok(());
         }
         self.machine.fill(&mut self.token, &mut self.pending, event)
@@ -78,6 +79,14 @@ impl<S: yaml_token_source_t> yaml_parser_t<S> {
         self.next_event_into(&mut event)?;
         Ok(event)
     }
+}
+
+/// Puts the empty event into `event`.
+#[cold]
+fn clear(event: &mut yaml_event_t)
+    ensures { event.new ≡ empty_event }
+{
+    *event = no_event();
 }
 
 /// Returns the next event of the stream. After the stream's end or a fault it is the empty event: nothing
