@@ -23,7 +23,7 @@ ghost use Rattle.unsafe_libyaml.specs.Nesting.{HasPairs, IsNested, NestsSoFar, T
 ghost use Rattle.unsafe_libyaml.specs.Nesting.{Value, value_events};
 ghost use Rattle.unsafe_libyaml.specs.Nodes.{EveryIdNamesANode};
 ghost use Rattle.unsafe_libyaml.specs.Order.{in_order};
-ghost use Rattle.unsafe_libyaml.specs.Parts.{Part, graph, parts};
+ghost use Rattle.unsafe_libyaml.specs.GraphParts.{Part, graph, parts};
 ghost use Rattle.unsafe_libyaml.specs.Runs.{Ending, Ends, Fails, is_behind_properties};
 ghost use Rattle.unsafe_libyaml.specs.Sentences.{IsBeginning, has_end};
 ghost use Rattle.unsafe_libyaml.specs.Settled.{IsSettled};
