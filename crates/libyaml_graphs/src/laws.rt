@@ -29,7 +29,8 @@ ghost use Rattle.libyaml_graphs.specs.loads.GraphLaws.{ChildrenAreLater, EachHol
 ghost use Rattle.libyaml_graphs.specs.loads.GraphLaws.{EachIdNames, HoldsItsChildren, LoadsWhole};
 ghost use Rattle.libyaml_graphs.specs.loads.GraphLaws.{NestedLoads, RootsFollow, load_at, unless_fault};
 ghost use Rattle.libyaml_graphs.specs.graphs.Graphs.{Start, nodes_of, starts_behind};
-ghost use Rattle.libyaml_graphs.specs.loads.Loads.{IsLoads, Load, last_load, left_over, loads, loads_of, next_load};
+ghost use Rattle.libyaml_graphs.specs.loads.Loads.{IsLoads, Load, last_load, left_over};
+ghost use Rattle.libyaml_graphs.specs.loads.Loads.{loads, loads_of, next_load};
 ghost use Rattle.libyaml_graphs.specs.graphs.GraphParts.{Part, graph, parts};
 
 /// The headline of loads: over a list whose only STREAM-END is its last token, the loads are the graphs of

@@ -11,7 +11,8 @@ ghost use Rattle.libyaml_documents.specs.Nodes.{IsIdUpTo, ids_of};
 ghost use Rattle.libyaml_graphs.specs.machine.Loader.{no_anchors, parent_full, register, registered};
 ghost use Rattle.libyaml_graphs.specs.graphs.GraphParts.{alias_part, leaf_part, part_of, start_part};
 ghost use Rattle.libyaml_loader.specs.document.Context.{AllOpenIn, Composed, IdsAreIn, NodeLoaded, Refuses};
-ghost use Rattle.libyaml_loader.specs.document.Context.{ParentRefuses, RefusesAnchor, closed, handed_to, loader_of};
+ghost use Rattle.libyaml_loader.specs.document.Context.{ParentRefuses, RefusesAnchor};
+ghost use Rattle.libyaml_loader.specs.document.Context.{closed, handed_to, loader_of};
 ghost use Rattle.libyaml_loader.specs.document.Ids.{id_of};
 
 use crate::anchors::Anchors;

@@ -1,6 +1,7 @@
 //! The fields of a token line.
 ghost use Rattle.std.specs.Prelude.{◌≡◌};
-ghost use Rattle.line_reading.specs.tokens.Field.{version_of, utf8_text, text_of, encoding_of, scalar_style_of};
+ghost use Rattle.line_reading.specs.tokens.Field.{version_of, utf8_text, text_of};
+ghost use Rattle.line_reading.specs.tokens.Field.{encoding_of, scalar_style_of};
 ghost use Rattle.percent_encoding.specs.Percent as percent;
 ghost use Rattle.line_reading.specs.tokens.Reading.{IsTextReadAs};
 

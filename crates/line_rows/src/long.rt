@@ -11,8 +11,8 @@ const LONGEST: usize = 1_048_550;
 
 const TOO_LONG: usize = LONGEST + 1;
 
-/// A row's name, whose lines are written over a scalar of so many `x`, what stands in them before and after how
-/// many of these, and how the run ends.
+/// A row's name, whose lines are written over a scalar of so many `x`, what stands in them before and
+/// after how many of these, and how the run ends.
 type Row = (
     &'static str,
     LinesOf,
