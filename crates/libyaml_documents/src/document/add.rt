@@ -18,7 +18,7 @@ use libyaml_types::{
     ZERO_MARK, yaml_mapping_style_t, yaml_node_type_t, yaml_refusal_t, yaml_scalar_style_t,
     yaml_sequence_style_t,
 };
-use std::alloc::{AllocError, Global};
+use std::alloc::Global;
 
 const MOST_NODES: usize = 2147483647;
 
@@ -81,8 +81,10 @@ pub(super) fn push_node(
     ensures type_is { IfOk result (λ id. type_at document.new.nodes id ≡ node_type node.content) }
     ensures types_kept { KeepsTypes document.old.nodes document.new.nodes }
 {
-    document.nodes.push(node).map_err(AllocError::from)?;
-    Ok(document.nodes.len() as i32)
+    match document.nodes.push(node) {
+        Ok(()) => Ok(document.nodes.len() as i32),
+        Err(_) => Err(yaml_refusal_t::Memory),
+    }
 }
 
 /// Adds a scalar, and returns its id: the count of nodes with it. Its marks are zero, and without

@@ -4,8 +4,8 @@ use Rattle.libyaml_documents.specs.Documents.{Document, most_nodes}
 use Rattle.libyaml_documents.specs.Nodes.{KeepsTypes}
 use Rattle.libyaml_documents.proofs.document.add.push_node.Goals as goal
 
-pub invariant_of-document-2 : goal.invariant_of-document-2
-invariant_of-document-2 c =
+pub invariant_of-document : goal.invariant_of-document
+invariant_of-document c =
     AreNodes-push (is_ok c.push.result) c.document.inside.nodes.items c.push.new.self.items c.args.node
     c.push.ensures.items
     (subst (λ (d : Document). length d.nodes < most_nodes) (sym c.document.view_is) c.requires.room)
