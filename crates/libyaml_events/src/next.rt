@@ -24,6 +24,6 @@ pub enum Next {
 pub enum Step {
     /// Its event stands in `out`.
     Given,
-    /// A further token is wanted. What was read before it stands in `Pending`.
-    Wants(Next),
+    /// A further token is wanted. `Pending` says for what, and has what was read before it.
+    Wants,
 }

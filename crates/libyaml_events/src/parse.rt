@@ -32,13 +32,13 @@ impl<S: yaml_token_source_t> Machine<S> {
             (λ e. Call S.gives self.old (Err e) self.new) }
         ensures left { IfErr result (λ e. Left self.old.config e self.new.config) }
     {
-        let mut next = Next::AtState;
+        pending.next = Next::AtState;
         loop {
             self.next_token(token)?;
-            match self.step(next, token, pending, event) {
+            match self.step(token, pending, event) {
                 Ok(step) => match step {
                     Step::Given => return Ok(()),
-                    Step::Wants(wanted) => next = wanted,
+                    Step::Wants => {}
                 },
                 Err(error) => {
                     self.let_go();

@@ -54,7 +54,9 @@ impl<S> Model for yaml_parser_t<S> {
 #[derive(Drop)]
 pub struct Machine<S> {
     source: S,
-    lookahead: Option<yaml_token_t>,
+    /// Whether `held` is a token that stays, to be looked at again. Else its value has no meaning.
+    is_held: bool,
+    held: yaml_token_t,
     state: yaml_parser_state_t,
     states: Vec<u8>,
     marks: Vec<yaml_mark_t>,
@@ -70,7 +72,7 @@ impl<S> Model for Machine<S> {
     ghost use Rattle.std.specs.Coded.{codes};
     ghost use Rattle.libyaml_sources.specs.Fault.{fault_of};
     ghost use Rattle.libyaml_events.specs.machine.State.{stack_of, IsBackByte};
-    ghost use Rattle.libyaml_events.specs.machine.Config.{Parser, handles_code, handles_of};
+    ghost use Rattle.libyaml_events.specs.machine.Config.{Parser, handles_code, handles_of, kept_token};
 
     ghost Value = { Parser S };
 
@@ -79,7 +81,7 @@ impl<S> Model for Machine<S> {
     ghost view = { λ p. record {
       source = p.source;
       config = record {
-        lookahead = p.lookahead;
+        lookahead = kept_token p.is_held p.held;
         state = p.state;
         states = stack_of p.states.items;
         marks = reverse p.marks.items;
@@ -112,7 +114,8 @@ pub fn yaml_parser_initialize<S>(alloc: Global, source: S) -> yaml_parser_t<S>
     yaml_parser_t {
         machine: Machine {
             source,
-            lookahead: None,
+            is_held: false,
+            held: no_token(),
             state: yaml_parser_state_t::YAML_PARSE_STREAM_START_STATE,
             states: Vec::new(alloc),
             marks: Vec::new(alloc),

@@ -1,5 +1,8 @@
 //! What the parser has of a document or node within a call.
 
+ghost use Rattle.std.specs.Prelude.{◌≡◌};
+
+use crate::next::{Next, Step};
 use crate::node_head::PropertiesRead;
 use crate::node_place::NodePlace;
 use libyaml_types::{ZERO_MARK, yaml_mark_t, yaml_tag_directive_t, yaml_version_directive_t};
@@ -31,6 +34,8 @@ impl Model for DirectivesRead {
 /// What the parser has of a document or node, where a further token is wanted.
 #[derive(Drop)]
 pub struct Pending {
+    /// Which function takes the next token.
+    pub next: Next,
     /// The end of the token after which it is wanted.
     pub mark: yaml_mark_t,
     /// Where the node stands whose properties were read.
@@ -44,6 +49,7 @@ impl Pending {
     #[inline(always)]
     pub fn new(alloc: Global) -> Self {
         Pending {
+            next: Next::AtState,
             mark: ZERO_MARK,
             place: NodePlace::Block,
             properties: PropertiesRead {
@@ -58,5 +64,15 @@ impl Pending {
                 tag_directives: Vec::new(alloc),
             },
         }
+    }
+
+    /// A further token is wanted, for the function that `next` names.
+    #[inline(always)]
+    pub fn want(&mut self, next: Next) -> Step
+        ensures step { result ≡ Step.Wants }
+        ensures next { self.new ≡ record self.old { next = next } }
+    {
+        self.next = next;
+        Step::Wants
     }
 }

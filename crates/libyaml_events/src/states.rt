@@ -10,13 +10,13 @@
 ghost use Rattle.std.specs.Prelude.{◌≡◌, Ok, Err, OnOk, OnErr, true, is_some};
 ghost use Rattle.libyaml_sources.specs.Fault.{memory_fault};
 ghost use Rattle.libyaml_grammar.specs.sentences.Events.{event};
-ghost use Rattle.libyaml_events.specs.machine.Config.{with_config, with_fault, at, pushed_mark};
+ghost use Rattle.libyaml_events.specs.machine.Config.{with_config, with_fault, at, popped, popped_mark, pushed_mark};
+ghost use Rattle.libyaml_types.specs.declared.event.unnamed_yaml_event_t_data.TheVariants.{SequenceEnd, MappingEnd};
 ghost use Rattle.libyaml_events.specs.machine.Machine.{step, at_state, at_slot, process_empty_scalar};
 ghost use Rattle.libyaml_events.specs.machine.Machine.{close_collection};
 ghost use Rattle.libyaml_events.specs.machine.Steps.{Steps};
 ghost use Rattle.libyaml_events.specs.machine.Slots.{state_behind, entered};
 ghost use Rattle.libyaml_events.specs.machine.Answers.{answer, wanted};
-ghost use Rattle.libyaml_events.specs.declared.next.Step.TheVariants.{Wants};
 ghost use Rattle.libyaml_events.specs.machine.Want.{Given};
 ghost use Rattle.libyaml_events.specs.machine.Growth.{enters, may_grow, may_grow_at};
 
@@ -54,7 +54,8 @@ fn give(
 }
 
 impl<S> Machine<S> {
-    /// Takes one token in the function that `next` names, and returns what it led to. `out` gets the event.
+    /// Takes one token in the function that `pending.next` names, and returns what it led to. `out` gets the
+    /// event.
     ///
     /// # Errors
     ///
@@ -64,18 +65,17 @@ impl<S> Machine<S> {
     #[inline(always)]
     pub(crate) fn step(
         &mut self,
-        next: Next,
         token: &mut yaml_token_t,
         pending: &mut Pending,
         out: &mut yaml_event_t,
     ) -> Result<Step, yaml_error_type_t>
         requires { self.old.config.state ≡ yaml_parser_state_t.YAML_PARSE_END_STATE → ⊥ }
-        ensures steps { Steps (step (wanted next pending.old) self.old.config token.old) self.old
+        ensures steps { Steps (step (wanted pending.old) self.old.config token.old) self.old
             (answer result pending.new out.new) self.new }
         ensures grows { result ≡ Err yaml_error_type_t.YAML_MEMORY_ERROR
-            → may_grow (wanted next pending.old) self.old.config token.old.content ≡ true }
+            → may_grow (wanted pending.old) self.old.config token.old.content ≡ true }
     {
-        match next {
+        match pending.next {
             Next::AtState => self.parse_at_state(token, pending, out),
             Next::BehindDirective => self.parse_explicit_document(token, pending, out),
             Next::BehindProperties => self.parse_behind_properties(token, pending, out),
@@ -152,6 +152,7 @@ impl<S> Machine<S> {
                     yaml_parser_state_t::YAML_PARSE_BLOCK_SEQUENCE_ENTRY_STATE,
                     Next::AtState,
                     token,
+                    pending,
                 )
             }
             yaml_parser_state_t::YAML_PARSE_BLOCK_SEQUENCE_ENTRY_STATE => {
@@ -165,6 +166,7 @@ impl<S> Machine<S> {
                     yaml_parser_state_t::YAML_PARSE_BLOCK_MAPPING_KEY_STATE,
                     Next::AtState,
                     token,
+                    pending,
                 )
             }
             yaml_parser_state_t::YAML_PARSE_BLOCK_MAPPING_KEY_STATE => {
@@ -178,6 +180,7 @@ impl<S> Machine<S> {
                     yaml_parser_state_t::YAML_PARSE_FLOW_SEQUENCE_ENTRY_STATE,
                     Next::BehindFlowSequenceEntry,
                     token,
+                    pending,
                 )
             }
             yaml_parser_state_t::YAML_PARSE_FLOW_SEQUENCE_ENTRY_STATE => {
@@ -198,6 +201,7 @@ impl<S> Machine<S> {
                     yaml_parser_state_t::YAML_PARSE_FLOW_MAPPING_KEY_STATE,
                     Next::BehindFlowMappingEntry,
                     token,
+                    pending,
                 )
             }
             yaml_parser_state_t::YAML_PARSE_FLOW_MAPPING_KEY_STATE => {
@@ -282,30 +286,46 @@ impl<S> Machine<S> {
         state: yaml_parser_state_t,
         next: Next,
         token: &yaml_token_t,
+        pending: &mut Pending,
     ) -> Result<Step, yaml_error_type_t>
-        ensures ok { OnOk result ((result ≡ Ok (Wants next))
+        ensures ok { OnOk result ((result ≡ Ok Step.Wants)
+            × (pending.new ≡ record pending.old { next = next })
             × (self.new ≡ with_config self.old (at state (pushed_mark token.now.start_mark self.old.config)))) }
         ensures err { OnErr result ((result ≡ Err yaml_error_type_t.YAML_MEMORY_ERROR)
             × (self.new ≡ with_config self.old (with_fault self.old.config memory_fault))) }
     {
         self.push_mark(token.start_mark)?;
         self.set_state(state);
-        Ok(Step::Wants(next))
+        Ok(pending.want(next))
     }
 
-    /// Gives the end event of the innermost collection, at the token that closes it.
-    #[inline(never)]
-    fn close(
-        &mut self,
-        content: unnamed_yaml_event_t_data,
-        token: &yaml_token_t,
-        out: &mut yaml_event_t,
-    )
-        ensures { Steps (close_collection content token.now self.old.config) self.old (Ok (Given out.new))
-            self.new }
+    /// Takes the innermost collection off the stacks.
+    fn leave_collection(&mut self)
+        ensures { self.new ≡ with_config self.old (popped (popped_mark self.old.config)) }
     {
         let _ = self.pop_mark();
         self.pop_state();
+    }
+
+    /// Gives the end event of a sequence, at the token that closes it.
+    #[inline(never)]
+    fn close_sequence(&mut self, token: &yaml_token_t, out: &mut yaml_event_t)
+        ensures { Steps (close_collection SequenceEnd token.now self.old.config) self.old (Ok (Given out.new))
+            self.new }
+    {
+        self.leave_collection();
+        let content = unnamed_yaml_event_t_data::SequenceEnd;
+        give(out, content, token.start_mark, token.end_mark);
+    }
+
+    /// Gives the end event of a mapping, at the token that closes it.
+    #[inline(never)]
+    fn close_mapping(&mut self, token: &yaml_token_t, out: &mut yaml_event_t)
+        ensures { Steps (close_collection MappingEnd token.now self.old.config) self.old (Ok (Given out.new))
+            self.new }
+    {
+        self.leave_collection();
+        let content = unnamed_yaml_event_t_data::MappingEnd;
         give(out, content, token.start_mark, token.end_mark);
     }
 }

@@ -12,23 +12,26 @@ use Rattle.libyaml_events.specs.machine.Want.{BehindValue, BehindFlowSequenceEnt
 use Rattle.libyaml_events.specs.machine.Want.{BehindFlowMappingKey, BehindFlowMappingValue, Progress, Given, Wants}
 
 -- what the next token is wanted for
-abbrev pub wanted : Next → Pending → Want
-wanted next.AtState p = AtState
-wanted next.BehindDirective p = BehindDirective p.directives
-wanted next.BehindProperties p = BehindProperties p.place p.properties
-wanted next.BehindBlockEntry p = BehindBlockEntry p.mark
-wanted next.BehindIndentlessEntry p = BehindIndentlessEntry p.mark
-wanted next.BehindKey p = BehindKey p.mark
-wanted next.BehindValue p = BehindValue p.mark
-wanted next.BehindFlowSequenceEntry p = BehindFlowSequenceEntry
-wanted next.BehindFlowSequenceValue p = BehindFlowSequenceValue
-wanted next.BehindFlowMappingEntry p = BehindFlowMappingEntry
-wanted next.BehindFlowMappingKey p = BehindFlowMappingKey
-wanted next.BehindFlowMappingValue p = BehindFlowMappingValue
+abbrev pub wanted_by : Next → Pending → Want
+wanted_by next.AtState p = AtState
+wanted_by next.BehindDirective p = BehindDirective p.directives
+wanted_by next.BehindProperties p = BehindProperties p.place p.properties
+wanted_by next.BehindBlockEntry p = BehindBlockEntry p.mark
+wanted_by next.BehindIndentlessEntry p = BehindIndentlessEntry p.mark
+wanted_by next.BehindKey p = BehindKey p.mark
+wanted_by next.BehindValue p = BehindValue p.mark
+wanted_by next.BehindFlowSequenceEntry p = BehindFlowSequenceEntry
+wanted_by next.BehindFlowSequenceValue p = BehindFlowSequenceValue
+wanted_by next.BehindFlowMappingEntry p = BehindFlowMappingEntry
+wanted_by next.BehindFlowMappingKey p = BehindFlowMappingKey
+wanted_by next.BehindFlowMappingValue p = BehindFlowMappingValue
+
+abbrev pub wanted : Pending → Want
+wanted p = wanted_by p.next p
 
 abbrev pub progress : Step → Pending → yaml_event_t → Progress
 progress led.Given p e = Given e
-progress (led.Wants n) p e = Wants (wanted n p)
+progress led.Wants p e = Wants (wanted p)
 
 abbrev pub answer : Result Step yaml_error_type_t → Pending → yaml_event_t → Result Progress yaml_error_type_t
 answer (Ok s) p e = Ok (progress s p e)

@@ -72,6 +72,11 @@ at state c = record c { state = state }
 abbrev pub keep : yaml_token_t → Config → Config
 keep token c = record c { lookahead = Some token }
 
+-- the token that stays, where one does
+abbrev pub kept_token : Bool → yaml_token_t → Option yaml_token_t
+kept_token true t = Some t
+kept_token false t = None
+
 abbrev pub taken : Config → Config
 taken c = record c { lookahead = None }
 

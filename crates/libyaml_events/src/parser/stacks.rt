@@ -97,7 +97,7 @@ impl<S> Machine<S> {
     pub(crate) fn let_go(&mut self)
         ensures { self.new ≡ with_config self.old (let_go self.old.config) }
     {
-        self.lookahead = None;
+        self.is_held = false;
         self.states.clear();
         self.marks.clear();
     }

@@ -1,6 +1,6 @@
 //! The next token: one that stayed, or else the source's.
 ghost use Rattle.std.specs.Prelude.{◌≡◌, Ok, Err, MatchResult, IfErr, true};
-ghost use Rattle.libyaml_events.specs.machine.Config.{with_config, with_fault, keep, taken, is_fault};
+ghost use Rattle.libyaml_events.specs.machine.Config.{with_config, with_fault, keep, is_fault};
 ghost use Rattle.libyaml_sources.specs.Errors.{IsSourceError};
 ghost use Rattle.libyaml_events.specs.sources.Calls.{Fetches};
 
@@ -20,19 +20,13 @@ pub(super) fn no_token() -> yaml_token_t {
 }
 
 impl<S> Machine<S> {
-    /// The token stays, to be looked at again: it is moved out of its slot.
+    /// The token stays, to be looked at again: it is swapped out of its slot.
     #[inline(always)]
     pub(crate) fn keep(&mut self, token: &mut yaml_token_t)
         ensures { self.new ≡ with_config self.old (keep token.old self.old.config) }
     {
-        self.lookahead = Some(mem::replace(token, no_token()));
-    }
-
-    fn take_lookahead(&mut self) -> Option<yaml_token_t>
-        ensures token { result ≡ self.old.config.lookahead }
-        ensures rest { self.new ≡ with_config self.old (taken self.old.config) }
-    {
-        self.lookahead.take()
+        mem::swap(&mut self.held, token);
+        self.is_held = true;
     }
 }
 
@@ -65,12 +59,10 @@ impl<S: yaml_token_source_t> Machine<S> {
             (λ e. Fetches S.gives self.old (Err e) self.new) }
         ensures error { IfErr result (λ e. is_fault e ≡ true) }
     {
-        // Looked at before it is taken: mostly there is none.
-        if self.lookahead.is_some() {
-            if let Some(kept) = self.take_lookahead() {
-                *token = kept;
-                return Ok(());
-            }
+        if self.is_held {
+            self.is_held = false;
+            mem::swap(token, &mut self.held);
+            return Ok(());
         }
         self.ask(token)
     }

@@ -59,10 +59,10 @@ impl<S> Machine<S> {
         match &token.content {
             unnamed_yaml_token_t_data::BlockEntry => {
                 pending.mark = token.end_mark;
-                Ok(Step::Wants(Next::BehindBlockEntry))
+                Ok(pending.want(Next::BehindBlockEntry))
             }
             unnamed_yaml_token_t_data::BlockEnd => {
-                self.close(unnamed_yaml_event_t_data::SequenceEnd, token, out);
+                self.close_sequence(token, out);
                 Ok(Step::Given)
             }
             _ => {
@@ -90,7 +90,7 @@ impl<S> Machine<S> {
         match token.content {
             unnamed_yaml_token_t_data::BlockEntry => {
                 pending.mark = token.end_mark;
-                Ok(Step::Wants(Next::BehindIndentlessEntry))
+                Ok(pending.want(Next::BehindIndentlessEntry))
             }
             _ => {
                 self.pop_state();
@@ -116,7 +116,7 @@ impl<S> Machine<S> {
         match token.content {
             unnamed_yaml_token_t_data::Key => {
                 pending.mark = token.end_mark;
-                Ok(Step::Wants(Next::BehindKey))
+                Ok(pending.want(Next::BehindKey))
             }
             unnamed_yaml_token_t_data::Value => {
                 self.set_state(yaml_parser_state_t::YAML_PARSE_BLOCK_MAPPING_VALUE_STATE);
@@ -124,7 +124,7 @@ impl<S> Machine<S> {
                 Ok(Step::Given)
             }
             unnamed_yaml_token_t_data::BlockEnd => {
-                self.close(unnamed_yaml_event_t_data::MappingEnd, token, out);
+                self.close_mapping(token, out);
                 Ok(Step::Given)
             }
             _ => {
@@ -154,7 +154,7 @@ impl<S> Machine<S> {
         match token.content {
             unnamed_yaml_token_t_data::Value => {
                 pending.mark = token.end_mark;
-                Ok(Step::Wants(Next::BehindValue))
+                Ok(pending.want(Next::BehindValue))
             }
             _ => {
                 self.set_state(yaml_parser_state_t::YAML_PARSE_BLOCK_MAPPING_KEY_STATE);

@@ -149,7 +149,7 @@ impl<S> Machine<S> {
             return Err(self.set_parser_error("found incompatible YAML document", mark));
         }
         pending.directives.version = Some(version);
-        Ok(Step::Wants(Next::BehindDirective))
+        Ok(pending.want(Next::BehindDirective))
     }
 
     /// TAG-DIRECTIVE: its handle may be declared once.
@@ -170,7 +170,7 @@ impl<S> Machine<S> {
         if pending.directives.tag_directives.push(directive).is_err() {
             return Err(self.out_of_memory());
         }
-        Ok(Step::Wants(Next::BehindDirective))
+        Ok(pending.want(Next::BehindDirective))
     }
 
     /// A directive or DOCUMENT-START, after these directives.
@@ -289,7 +289,7 @@ impl<S> Machine<S> {
             ),
             unnamed_yaml_token_t_data::DocumentEnd => {
                 if self.behind_document_end() {
-                    Ok(Step::Wants(Next::AtState))
+                    Ok(pending.want(Next::AtState))
                 } else {
                     self.begin_implicit_document(token, pending, out)
                 }

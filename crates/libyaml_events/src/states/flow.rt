@@ -76,10 +76,10 @@ impl<S> Machine<S> {
     {
         match &token.content {
             unnamed_yaml_token_t_data::FlowEntry => {
-                Ok(Step::Wants(Next::BehindFlowSequenceEntry))
+                Ok(pending.want(Next::BehindFlowSequenceEntry))
             }
             unnamed_yaml_token_t_data::FlowSequenceEnd => {
-                self.close(unnamed_yaml_event_t_data::SequenceEnd, token, out);
+                self.close_sequence(token, out);
                 Ok(Step::Given)
             }
             _ => {
@@ -110,7 +110,7 @@ impl<S> Machine<S> {
     {
         match token.content {
             unnamed_yaml_token_t_data::FlowSequenceEnd => {
-                self.close(unnamed_yaml_event_t_data::SequenceEnd, token, out);
+                self.close_sequence(token, out);
                 Ok(Step::Given)
             }
             unnamed_yaml_token_t_data::Key => {
@@ -144,7 +144,7 @@ impl<S> Machine<S> {
         ensures error { IfErr result (λ e. e ≡ yaml_error_type_t.YAML_PARSER_ERROR) }
     {
         match token.content {
-            unnamed_yaml_token_t_data::Value => { Ok(Step::Wants(Next::BehindFlowSequenceValue)) }
+            unnamed_yaml_token_t_data::Value => { Ok(pending.want(Next::BehindFlowSequenceValue)) }
             _ => {
                 self.set_state(
                     yaml_parser_state_t::YAML_PARSE_FLOW_SEQUENCE_ENTRY_MAPPING_END_STATE,
@@ -183,10 +183,10 @@ impl<S> Machine<S> {
     {
         match &token.content {
             unnamed_yaml_token_t_data::FlowEntry => {
-                Ok(Step::Wants(Next::BehindFlowMappingEntry))
+                Ok(pending.want(Next::BehindFlowMappingEntry))
             }
             unnamed_yaml_token_t_data::FlowMappingEnd => {
-                self.close(unnamed_yaml_event_t_data::MappingEnd, token, out);
+                self.close_mapping(token, out);
                 Ok(Step::Given)
             }
             _ => {
@@ -216,10 +216,10 @@ impl<S> Machine<S> {
     {
         match token.content {
             unnamed_yaml_token_t_data::FlowMappingEnd => {
-                self.close(unnamed_yaml_event_t_data::MappingEnd, token, out);
+                self.close_mapping(token, out);
                 Ok(Step::Given)
             }
-            unnamed_yaml_token_t_data::Key => { Ok(Step::Wants(Next::BehindFlowMappingKey)) }
+            unnamed_yaml_token_t_data::Key => { Ok(pending.want(Next::BehindFlowMappingKey)) }
             _ => {
                 self.push_state(yaml_parser_state_t::YAML_PARSE_FLOW_MAPPING_EMPTY_VALUE_STATE)?;
                 self.parse_node(NodePlace::Flow, token, pending, out)
@@ -239,7 +239,7 @@ impl<S> Machine<S> {
         ensures error { IfErr result (λ e. e ≡ yaml_error_type_t.YAML_PARSER_ERROR) }
     {
         match token.content {
-            unnamed_yaml_token_t_data::Value => { Ok(Step::Wants(Next::BehindFlowMappingValue)) }
+            unnamed_yaml_token_t_data::Value => { Ok(pending.want(Next::BehindFlowMappingValue)) }
             _ => {
                 self.set_state(yaml_parser_state_t::YAML_PARSE_FLOW_MAPPING_KEY_STATE);
                 self.process_empty_scalar(token.start_mark, token, out);

@@ -263,7 +263,7 @@ impl<S> Machine<S> {
                     start_mark,
                     end_mark,
                 };
-                Ok(Step::Wants(Next::BehindProperties))
+                Ok(pending.want(Next::BehindProperties))
             }
             unnamed_yaml_token_t_data::Tag(tag) => {
                 pending.place = place;
@@ -273,7 +273,7 @@ impl<S> Machine<S> {
                     start_mark,
                     end_mark,
                 };
-                Ok(Step::Wants(Next::BehindProperties))
+                Ok(pending.want(Next::BehindProperties))
             }
             _ => {
                 self.parse_bare_content(place, token, out)?;
@@ -322,12 +322,12 @@ impl<S> Machine<S> {
                 let anchor = mem::replace(&mut anchor.value, String::new(self.allocator()));
                 pending.properties.anchor = Some(anchor);
                 pending.properties.end_mark = end_mark;
-                Ok(Step::Wants(Next::BehindProperties))
+                Ok(pending.want(Next::BehindProperties))
             }
             unnamed_yaml_token_t_data::Tag(tag) if pending.properties.tag.is_none() => {
                 pending.properties.tag = Some(tag_read(self.allocator(), tag, start_mark));
                 pending.properties.end_mark = end_mark;
-                Ok(Step::Wants(Next::BehindProperties))
+                Ok(pending.want(Next::BehindProperties))
             }
             _ => {
                 self.parse_content_behind(token, pending, out)?;

@@ -33,8 +33,8 @@ returns-in_err-parse_content_behind-in_default-clause-steps g c =
     let t = c.args.token.now in
     let d = c.args.self.now.config in
     let both : (c.in_default.token ≡ t) × (behind_properties p r d t t.content ≡ content_behind p r r.tag d t t.content) = elim c.in_default.branch [
-      | in_default-via-in-Anchor+else-is_none w ↦ (same _ _ _ w.token-is w.in-Anchor.is, behind_second_anchor p r d t _ _ w.in-Anchor.is (ap (λ q. is_some q.properties.anchor) (sym c.pending.view_is) ∙ has_text _ ∙ w.if-is_none.ensures))
-      | in_default-via-in-Tag+else-is_none-2 w ↦ (same _ _ _ w.token-is w.in-Tag.is, behind_second_tag p r d t _ _ w.in-Tag.is (ap (λ q. is_some q.properties.tag) (sym c.pending.view_is) ∙ w.if-is_none-2.ensures))
+      | in_default-via-in-Anchor+else-is_none w ↦ (same _ _ _ w.token-is w.in-Anchor.is, behind_second_anchor p r d t _ _ w.in-Anchor.is (ap (λ q. is_some q.properties.anchor) (sym w.pending.view_is) ∙ has_text _ ∙ w.if-is_none.ensures))
+      | in_default-via-in-Tag+else-is_none-2 w ↦ (same _ _ _ w.token-is w.in-Tag.is, behind_second_tag p r d t _ _ w.in-Tag.is (ap (λ q. is_some q.properties.tag) (sym w.pending-in-Tag-1.view_is) ∙ w.if-is_none-2.ensures))
       | in_default-via-in_default w ↦ (w.token-is, behind_no_property p r d t _ w.in_default.not-Anchor w.in_default.not-Tag)
     ] in
     rw e (as_content p r d c.in_default.token t both.0 both.1 c.args.self.now c.parse_content_behind.new.self (Err c.in_err-parse_content_behind-in_default.field-0.0)
@@ -47,8 +47,8 @@ returns-in_ok-parse_content_behind-in_default-clause-steps g c =
     let t = c.args.token.now in
     let d = c.args.self.now.config in
     let both : (c.in_default.token ≡ t) × (behind_properties p r d t t.content ≡ content_behind p r r.tag d t t.content) = elim c.in_default.branch [
-      | in_default-via-in-Anchor+else-is_none w ↦ (same _ _ _ w.token-is w.in-Anchor.is, behind_second_anchor p r d t _ _ w.in-Anchor.is (ap (λ q. is_some q.properties.anchor) (sym c.pending.view_is) ∙ has_text _ ∙ w.if-is_none.ensures))
-      | in_default-via-in-Tag+else-is_none-2 w ↦ (same _ _ _ w.token-is w.in-Tag.is, behind_second_tag p r d t _ _ w.in-Tag.is (ap (λ q. is_some q.properties.tag) (sym c.pending.view_is) ∙ w.if-is_none-2.ensures))
+      | in_default-via-in-Anchor+else-is_none w ↦ (same _ _ _ w.token-is w.in-Anchor.is, behind_second_anchor p r d t _ _ w.in-Anchor.is (ap (λ q. is_some q.properties.anchor) (sym w.pending.view_is) ∙ has_text _ ∙ w.if-is_none.ensures))
+      | in_default-via-in-Tag+else-is_none-2 w ↦ (same _ _ _ w.token-is w.in-Tag.is, behind_second_tag p r d t _ _ w.in-Tag.is (ap (λ q. is_some q.properties.tag) (sym w.pending-in-Tag-1.view_is) ∙ w.if-is_none-2.ensures))
       | in_default-via-in_default w ↦ (w.token-is, behind_no_property p r d t _ w.in_default.not-Anchor w.in_default.not-Tag)
     ] in
     as_content p r d c.in_default.token t both.0 both.1 c.args.self.now c.parse_content_behind.new.self (Ok (Given c.parse_content_behind.new.out))
