@@ -7,7 +7,7 @@ ghost use Rattle.libyaml_documents.specs.Documents.{empty_document};
 ghost use Rattle.libyaml_documents.specs.LoadedNodes.{begun_document};
 ghost use Rattle.libyaml_events.specs.parsers.EventsLeft.{events_left};
 ghost use Rattle.libyaml_grammar.specs.runs.Runs.{Ending};
-ghost use Rattle.libyaml_events.specs.sources.RunToCome.{RunToCome};
+ghost use Rattle.libyaml_events.specs.sources.RunToCome.{RunToCome, UnlessBroken};
 ghost use Rattle.libyaml_events.specs.sources.History.{ForHistory, between_documents, is_over};
 ghost use Rattle.libyaml_events.specs.sources.History.{has_failed, kept_fault};
 ghost use Rattle.libyaml_graphs.specs.loads.Bounds.{next_bounded};
@@ -17,7 +17,7 @@ ghost use Rattle.libyaml_graphs.specs.graphs.GraphParts as parts;
 ghost use Rattle.libyaml_loader.specs.document.Context.{IdsAreIn, loader_of, with_nodes};
 ghost use Rattle.libyaml_loader.specs.document.Ids.{magnitude};
 ghost use Rattle.libyaml_loader.specs.loads.Loading.{HasEnded, LoadsFrom};
-ghost use Rattle.libyaml_loader.specs.loads.NextLoad.{Answers, UnlessBroken};
+ghost use Rattle.libyaml_loader.specs.loads.NextLoad.{Answers};
 ghost use Rattle.libyaml_loader.specs.loads.ComposeSteps.{ComposesBy, closing, opening_at};
 
 use crate::context::loader_ctx;
