@@ -11,11 +11,11 @@ ghost use Rattle.token_lines.specs.events.EventStep.{EventSteps, Turn};
 ghost use Rattle.token_lines.specs.events.LastCall.{LastCall, NothingLeft, RunsOver};
 ghost use Rattle.token_lines.specs.lines.LineRun.{Writes};
 
-use super::{MEMORY_FAULT, Outcome, Step, faulted, flushed, show};
+use super::{Outcome, Step, faulted, flushed, show};
 use crate::MAX_TOKENS;
 use libyaml_events::{
-    is_event, is_stream_end, no_event, yaml_parser_initialize, yaml_parser_parse_into,
-    yaml_parser_t, yaml_token_source_t,
+    MEMORY_FAULT, is_event, is_stream_end, no_event, yaml_parser_initialize,
+    yaml_parser_parse_into, yaml_parser_t, yaml_token_source_t,
 };
 use libyaml_types::yaml_event_t;
 use line_reading::yaml_line_source_t;

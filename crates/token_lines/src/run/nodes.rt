@@ -12,9 +12,9 @@ ghost use Rattle.token_lines.specs.nodes.LastLoad.{LastLoad, NodesOver, WritesKe
 ghost use Rattle.token_lines.specs.nodes.NodeRun.{WritesLoads};
 ghost use Rattle.token_lines.specs.nodes.NodeStep.{IsKept, LoadTurn, NodeSteps};
 
-use super::{MEMORY_FAULT, Outcome, Step, faulted, flushed, show};
+use super::{Outcome, Step, faulted, flushed, show};
 use crate::MAX_TOKENS;
-use libyaml_events::{yaml_parser_initialize, yaml_parser_t, yaml_token_source_t};
+use libyaml_events::{MEMORY_FAULT, yaml_parser_initialize, yaml_parser_t, yaml_token_source_t};
 use libyaml_loader::yaml_parser_load;
 use line_reading::yaml_line_source_t;
 use line_writing::{line_refusal_t, write_document};
