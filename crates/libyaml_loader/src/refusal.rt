@@ -58,6 +58,7 @@ pub fn keep_refusal<S>(parser: &mut yaml_parser_t<S>, refusal: Refusal) -> yaml_
     ensures ended { is_over parser.new ≡ true }
     ensures bound { parser.new.max_entries ≡ parser.old.max_entries }
 {
+    // After an event, the parser's call says only of a parser with a history that it keeps no fault.
     if has_failed(parser) {
         return parser.prefix().error;
     }
