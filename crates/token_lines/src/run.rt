@@ -27,7 +27,7 @@ pub enum Outcome {
 
 /// What came of the next event or document.
 #[derive(Copy, Clone)]
-enum Step {
+enum RunStep {
     /// It was written, and more is to come.
     Written,
     /// The last was written, or none was left.
