@@ -8,10 +8,7 @@ ghost use Rattle.computed_tokens.specs.ComputedTokensLaws.{computed_repeats};
 use crate::list::GrowingList;
 use std::alloc::Global;
 use std::marker::Model;
-use unsafe_libyaml::{
-    YAML_MEMORY_ERROR, ZERO_MARK, yaml_mark_t, yaml_source_fault_t, yaml_token_source_t,
-    yaml_token_t,
-};
+use unsafe_libyaml::{yaml_mark_t, yaml_source_fault_t, yaml_token_source_t, yaml_token_t};
 
 /// The tokens of a list that grows by a number, computed one at a time, and then a fault for good.
 #[derive(Drop)]
@@ -56,15 +53,7 @@ impl ComputedTokens {
         ensures { self.new ≡ record { left = 0; fault = memory_fault } }
     {
         self.end = self.place;
-        self.fault = yaml_source_fault_t::new(
-            YAML_MEMORY_ERROR,
-            None,
-            0,
-            0,
-            ZERO_MARK,
-            None,
-            ZERO_MARK,
-        );
+        self.fault = yaml_source_fault_t::out_of_memory();
     }
 }
 

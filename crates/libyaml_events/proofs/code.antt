@@ -1,4 +1,3 @@
-pub mod Stacks
 pub mod HandleLemmas
 pub mod SourceErrors
 pub mod PropertyLemmas

@@ -21,7 +21,8 @@ pub use parser::{
 };
 // Where tokens come from, and what a fault says.
 pub use libyaml_sources::{
-    NO_FAULT, yaml_list_source_t, yaml_parser_t_prefix, yaml_source_fault_t, yaml_token_source_t,
+    MEMORY_FAULT, NO_FAULT, yaml_list_source_t, yaml_parser_t_prefix, yaml_source_fault_t,
+    yaml_token_source_t,
 };
 // The tokens, events and other types of the calls.
 pub use libyaml_types::{

@@ -7,7 +7,7 @@ ghost use Rattle.libyaml_documents.specs.Documents.{empty_document};
 ghost use Rattle.libyaml_documents.specs.LoadedNodes.{begun_document};
 ghost use Rattle.libyaml_events.specs.parsers.EventsLeft.{events_left};
 ghost use Rattle.libyaml_grammar.specs.runs.Runs.{Ending};
-ghost use Rattle.libyaml_events.specs.sources.RunToCome.{RunToCome};
+ghost use Rattle.libyaml_events.specs.sources.RunToCome.{RunToCome, UnlessBroken};
 ghost use Rattle.libyaml_events.specs.sources.History.{ForHistory, between_documents, is_over};
 ghost use Rattle.libyaml_events.specs.sources.History.{has_failed, kept_fault};
 ghost use Rattle.libyaml_graphs.specs.loads.Bounds.{next_bounded};
@@ -17,7 +17,7 @@ ghost use Rattle.libyaml_graphs.specs.graphs.GraphParts as parts;
 ghost use Rattle.libyaml_loader.specs.document.Context.{IdsAreIn, loader_of, with_nodes};
 ghost use Rattle.libyaml_loader.specs.document.Ids.{magnitude};
 ghost use Rattle.libyaml_loader.specs.loads.Loading.{HasEnded, LoadsFrom};
-ghost use Rattle.libyaml_loader.specs.loads.NextLoad.{Answers, UnlessBroken};
+ghost use Rattle.libyaml_loader.specs.loads.NextLoad.{Answers};
 ghost use Rattle.libyaml_loader.specs.loads.ComposeSteps.{ComposesBy, closing, opening_at};
 
 use crate::context::loader_ctx;
@@ -52,7 +52,7 @@ struct Closing {
 
 /// What came of the next event of a document.
 #[derive(Copy, Clone)]
-enum Step {
+enum ComposeStep {
     /// It was composed.
     Composed,
     /// It ends the document.
@@ -204,9 +204,11 @@ fn yaml_parser_load_nodes<S: yaml_token_source_t>(
 {
     loop {
         match compose_next(parser, &mut ctx, event)? {
-            Step::Composed => {}
-            Step::Closed(closing) => return Ok(ctx.into_document(closing.implicit, closing.mark)),
-            Step::Ended => return Ok(without_root(ctx.alloc)),
+            ComposeStep::Composed => {}
+            ComposeStep::Closed(closing) => {
+                return Ok(ctx.into_document(closing.implicit, closing.mark));
+            }
+            ComposeStep::Ended => return Ok(without_root(ctx.alloc)),
         }
     }
 }
@@ -216,25 +218,25 @@ fn compose_next<S: yaml_token_source_t>(
     parser: &mut yaml_parser_t<S>,
     ctx: &mut loader_ctx,
     event: &mut yaml_event_t,
-) -> Result<Step, yaml_error_type_t>
+) -> Result<ComposeStep, yaml_error_type_t>
     requires ids { IdsAreIn (loader_of ctx.old) }
-    ensures falls { IfOk result (λ s. (s ≡ Step.Ended)
+    ensures falls { IfOk result (λ s. (s ≡ ComposeStep.Ended)
         ⊎ (events_left S.bound parser.new < events_left S.bound parser.old)) }
     ensures fails { IfErr result (λ x. (x ≡ (kept_fault parser.new).error) × (is_over parser.new ≡ true)) }
     ensures failed { IfErr result (λ _. has_failed parser.new ≡ true) }
     ensures bound { parser.new.max_entries ≡ parser.old.max_entries }
-    ensures between { IfOk result (λ s. (s ≡ Step.Composed) ⊎ (between_documents parser.new ≡ true)) }
+    ensures between { IfOk result (λ s. (s ≡ ComposeStep.Composed) ⊎ (between_documents parser.new ≡ true)) }
     ensures steps { ComposesBy S.gives S.known S.may_break result parser.old parser.new ctx.old ctx.new }
 {
     of_history::<S>();
     yaml_parser_parse_into(parser, event)?;
     if !is_event(event) {
-        return Ok(Step::Ended);
+        return Ok(ComposeStep::Ended);
     }
     match closing_of(&event.content, event.end_mark) {
-        Some(closing) => Ok(Step::Closed(closing)),
+        Some(closing) => Ok(ComposeStep::Closed(closing)),
         None => match ctx.compose(event) {
-            Ok(()) => Ok(Step::Composed),
+            Ok(()) => Ok(ComposeStep::Composed),
             Err(refusal) => Err(keep_refusal(parser, refusal)),
         },
     }

@@ -5,7 +5,7 @@ ghost use Rattle.libyaml_events.specs.sources.History.{is_over, has_failed, kept
 ghost use Rattle.libyaml_sources.specs.Fault.{fault_of};
 ghost use Rattle.libyaml_loader.specs.document.Refusals.{fault_by};
 
-use libyaml_events::{NO_FAULT, yaml_parser_t, yaml_parser_t_prefix};
+use libyaml_events::{MEMORY_FAULT, NO_FAULT, yaml_parser_t, yaml_parser_t_prefix};
 use libyaml_types::{yaml_error_type_t, yaml_mark_t, yaml_refusal_t};
 use std::alloc::AllocError;
 
@@ -58,6 +58,7 @@ pub fn keep_refusal<S>(parser: &mut yaml_parser_t<S>, refusal: Refusal) -> yaml_
     ensures ended { is_over parser.new ≡ true }
     ensures bound { parser.new.max_entries ≡ parser.old.max_entries }
 {
+    // After an event, the parser's call says only of a parser with a history that it keeps no fault.
     if has_failed(parser) {
         return parser.prefix().error;
     }
@@ -75,10 +76,7 @@ fn fault_by(refusal: Refusal) -> yaml_parser_t_prefix
         ⊎ (result.error ≡ yaml_error_type_t.YAML_COMPOSER_ERROR) }
 {
     match refusal {
-        Refusal::Memory => yaml_parser_t_prefix {
-            error: yaml_error_type_t::YAML_MEMORY_ERROR,
-            ..NO_FAULT
-        },
+        Refusal::Memory => MEMORY_FAULT,
         Refusal::UndefinedAlias(mark) => yaml_parser_t_prefix {
             error: yaml_error_type_t::YAML_COMPOSER_ERROR,
             problem: Some("found undefined alias"),

@@ -38,6 +38,12 @@ pub const NO_FAULT: yaml_parser_t_prefix = yaml_parser_t_prefix {
     context_mark: ZERO_MARK,
 };
 
+/// The prefix of a parser that met a failed allocation.
+pub const MEMORY_FAULT: yaml_parser_t_prefix = yaml_parser_t_prefix {
+    error: yaml_error_type_t::YAML_MEMORY_ERROR,
+    ..NO_FAULT
+};
+
 /// The fault of a token source: out of memory, or a fault of its reader or scanner.
 #[derive(Copy, Clone, PartialEq, Eq, Debug)]
 pub struct yaml_source_fault_t {
@@ -46,7 +52,7 @@ pub struct yaml_source_fault_t {
 }
 
 impl yaml_source_fault_t {
-    ghost use Rattle.libyaml_sources.specs.Fault.{source_fault, fault_of};
+    ghost use Rattle.libyaml_sources.specs.Fault.{source_fault, fault_of, memory_fault};
 
     /// The fault of these fields. Takes no memory.
     pub fn new(
@@ -79,6 +85,15 @@ impl yaml_source_fault_t {
                 context,
                 context_mark,
             },
+        }
+    }
+
+    /// The fault of a failed allocation. Takes no memory.
+    pub fn out_of_memory() -> Self
+        ensures { source_fault result ≡ memory_fault }
+    {
+        yaml_source_fault_t {
+            prefix: MEMORY_FAULT,
         }
     }
 

@@ -6,6 +6,6 @@ mod list_source;
 mod message;
 mod source;
 
-pub use fault::{NO_FAULT, yaml_parser_t_prefix, yaml_source_fault_t};
+pub use fault::{MEMORY_FAULT, NO_FAULT, yaml_parser_t_prefix, yaml_source_fault_t};
 pub use list_source::yaml_list_source_t;
 pub use source::yaml_token_source_t;

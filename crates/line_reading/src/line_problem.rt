@@ -1,7 +1,7 @@
 //! Why a line source gave no token.
 ghost use Rattle.std.specs.Prelude.{◌≡◌};
 ghost use Rattle.libyaml_sources.specs.Errors.{IsSourceError};
-ghost use Rattle.libyaml_sources.specs.Fault.{source_fault, memory_fault};
+ghost use Rattle.libyaml_sources.specs.Fault.{source_fault};
 ghost use Rattle.line_reading.specs.sources.LineFault.{problem_at, line_fault};
 
 use libyaml_sources::yaml_source_fault_t;
@@ -56,7 +56,7 @@ impl LineProblem {
         let reader = yaml_error_type_t::YAML_READER_ERROR;
         let scanner = yaml_error_type_t::YAML_SCANNER_ERROR;
         match self {
-            LineProblem::Memory => memory_fault(),
+            LineProblem::Memory => yaml_source_fault_t::out_of_memory(),
             LineProblem::ReadFailed => fault_at(reader, "read failed", given),
             LineProblem::LineTooLong => fault_at(reader, "line too long", given),
             LineProblem::BadTokenLine => fault_at(scanner, "bad token line", given),
@@ -64,20 +64,6 @@ impl LineProblem {
             LineProblem::NoMoreTokens => fault_at(reader, "no more tokens", given),
         }
     }
-}
-
-fn memory_fault() -> yaml_source_fault_t
-    ensures { source_fault result ≡ memory_fault }
-{
-    yaml_source_fault_t::new(
-        yaml_error_type_t::YAML_MEMORY_ERROR,
-        None,
-        0,
-        0,
-        ZERO_MARK,
-        None,
-        ZERO_MARK,
-    )
 }
 
 /// Returns the fault of the line that follows so many tokens, without a context.

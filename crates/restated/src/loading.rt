@@ -10,8 +10,8 @@ ghost use Rattle.unsafe_libyaml.specs.History.{has_failed, kept_fault};
 ghost use Rattle.unsafe_libyaml.specs.Ids.{magnitude};
 ghost use Rattle.unsafe_libyaml.specs.Loading.{HasEnded, LoadsFrom};
 ghost use Rattle.unsafe_libyaml.specs.Loads.{left_over};
-ghost use Rattle.unsafe_libyaml.specs.NextLoad.{Answers, UnlessBroken};
-ghost use Rattle.unsafe_libyaml.specs.RunToCome.{RunToCome};
+ghost use Rattle.unsafe_libyaml.specs.NextLoad.{Answers};
+ghost use Rattle.unsafe_libyaml.specs.RunToCome.{RunToCome, UnlessBroken};
 ghost use Rattle.unsafe_libyaml.specs.Runs.{Ending};
 
 use unsafe_libyaml::{

@@ -8,8 +8,7 @@ mod events;
 mod nodes;
 
 pub use events::{run_events, write_events};
-use libyaml_events::{NO_FAULT, yaml_parser_t, yaml_parser_t_prefix, yaml_token_source_t};
-use libyaml_types::yaml_error_type_t;
+use libyaml_events::{yaml_parser_t, yaml_parser_t_prefix, yaml_token_source_t};
 use line_writing::write_fault;
 pub use nodes::{run_nodes, write_nodes};
 use std::io;
@@ -28,7 +27,7 @@ pub enum Outcome {
 
 /// What came of the next event or document.
 #[derive(Copy, Clone)]
-enum Step {
+enum RunStep {
     /// It was written, and more is to come.
     Written,
     /// The last was written, or none was left.
@@ -38,12 +37,6 @@ enum Step {
     /// A write failed.
     OutputFailed,
 }
-
-/// Returns the fault of a failed allocation.
-const MEMORY_FAULT: yaml_parser_t_prefix = yaml_parser_t_prefix {
-    error: yaml_error_type_t::YAML_MEMORY_ERROR,
-    ..NO_FAULT
-};
 
 /// Writes the text of a fault.
 fn faulted<W: Write>(prefix: &yaml_parser_t_prefix, writer: &mut W) -> Outcome

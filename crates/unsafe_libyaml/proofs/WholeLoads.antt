@@ -17,7 +17,7 @@ use Rattle.libyaml_events.specs.sources.CallsInTurn.{CarriedOn}
 use Rattle.libyaml_events.specs.sources.History.{History, answers, between_documents, has_failed, kept_fault}
 use Rattle.libyaml_grammar.specs.sentences.Nesting.{IsNested, NestsSoFar}
 use Rattle.libyaml_grammar.specs.sentences.Order.{in_order}
-use Rattle.libyaml_events.specs.sources.RunToCome.{RunToCome}
+use Rattle.libyaml_events.specs.sources.RunToCome.{RunToCome, UnlessBroken, breaks, does, no_memory}
 use Rattle.libyaml_grammar.specs.runs.Runs.{Ending, Ends, Fails, IsRun}
 use Rattle.libyaml_sources.specs.Source.{Coming, coming}
 use Rattle.libyaml_grammar.specs.sentences.Tokens.{Token}
@@ -30,7 +30,7 @@ use Rattle.libyaml_graphs.proofs.lent.BoundedFronts.{IsFront, front_of_loads, me
 use Rattle.libyaml_loader.specs.document.Ids.{magnitude}
 use Rattle.libyaml_loader.specs.loads.Loading.{DocumentOrError, KeptBy, LoadFails, Loads, LoadsFrom, ParserFails, Took, at_end, by_loader}
 use Rattle.libyaml_loader.specs.loads.Loading.{by_memory, by_parser, whole}
-use Rattle.libyaml_loader.specs.loads.NextLoad.{Answers, UnlessBroken, breaks, does, no_memory}
+use Rattle.libyaml_loader.specs.loads.NextLoad.{Answers}
 use Rattle.unsafe_libyaml.specs.WholeRun.{ending_of}
 use Rattle.unsafe_libyaml.specs.WholeLoads.{GathersLoads, LoadsTo, as_loads}
 use Rattle.unsafe_libyaml.specs.WholeLoads as told

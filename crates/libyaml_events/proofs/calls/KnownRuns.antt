@@ -333,13 +333,13 @@ module _ {S : Type 0} (gives_to : S → Answer → S → Type 0) (known : S → 
 
     -- a call that fails ends the run, or breaks it off
     err_run : (x : yaml_error_type_t) → Call gives_to old (Err x) new → x ≡ new.config.fault.error → (to_come : List Event) (ending : Ending)
-        → RunToCome known old to_come ending → UnlessBroken MayBreak (Err x) new (IsLast to_come ending)
+        → RunToCome known old to_come ending → UnlessBroken {A = Event} MayBreak (Err x) new (IsLast to_come ending)
     err_run x call kept to_come ending h = go (fails gives_to old new x call h.asked h.given h.history)
       where
-        go : FailsBy gives_to old new h.asked h.given → UnlessBroken MayBreak (Err x) new (IsLast to_come ending)
+        go : FailsBy gives_to old new h.asked h.given → UnlessBroken {A = Event} MayBreak (Err x) new (IsLast to_come ending)
         go k = by k.cause
           where
-            by : Cause old.config h.asked h.given k.more (kept_fault new) → UnlessBroken MayBreak (Err x) new (IsLast to_come ending)
+            by : Cause old.config h.asked h.given k.more (kept_fault new) → UnlessBroken {A = Event} MayBreak (Err x) new (IsLast to_come ending)
             by (of_memory l i j z m) = no_memory (ap Err (kept ∙ ap (λ (y : Fault). y.error) m)) m
             by (of_grammar l i j) =
                 let front = in_order l old.source new.source (subst (λ (y : List Answer). Gave gives_to old.source y new.source) i k.gave) h.rest h.fault
@@ -350,7 +350,7 @@ module _ {S : Type 0} (gives_to : S → Answer → S → Type 0) (known : S → 
                 h.fault h.knows)
               where
                 at_last : ((h.rest ≡ l) × (kept_fault new ≡ h.fault)) ⊎ MayBreak new.source (kept_fault new)
-                    → UnlessBroken MayBreak (Err x) new (IsLast to_come ending)
+                    → UnlessBroken {A = Event} MayBreak (Err x) new (IsLast to_come ending)
                 at_last (inl (a, b)) = does (short_last to_come ending h l a b m)
                 at_last (inr a) = breaks (kept_fault new) a (ap Err kept) refl
 
@@ -385,8 +385,8 @@ module _ {S : Type 0} (gives_to : S → Answer → S → Type 0) (known : S → 
         no : e ∷ later ≡ [] → ⊥
         no z = cc
 
-        go : UnlessBroken MayBreak (Err x) new (IsLast (e ∷ later) ending)
-            → UnlessBroken MayBreak (Err x) new ((Err x ≡ Ok e) × RunToCome known new later ending)
+        go : UnlessBroken {A = Event} MayBreak (Err x) new (IsLast (e ∷ later) ending)
+            → UnlessBroken {A = Event} MayBreak (Err x) new ((Err x ≡ Ok e) × RunToCome known new later ending)
         go (does d) = absurd (no d.0)
         go (no_memory i j) = no_memory i j
         go (breaks f i j k) = breaks f i j k
@@ -409,8 +409,8 @@ module _ {S : Type 0} (gives_to : S → Answer → S → Type 0) (known : S → 
         same : Fails f ≡ Fails new.config.fault → new.config.fault ≡ f
         same z = cc
 
-        go : UnlessBroken MayBreak (Err x) new (IsLast [] (Fails f))
-            → UnlessBroken MayBreak (Err x) new (◌≡◌ {A = EventOrError} (Err x) (Err f.error) × (kept_fault new ≡ f))
+        go : UnlessBroken {A = Event} MayBreak (Err x) new (IsLast [] (Fails f))
+            → UnlessBroken {A = Event} MayBreak (Err x) new (◌≡◌ {A = EventOrError} (Err x) (Err f.error) × (kept_fault new ≡ f))
         go (does d) = let s = same d.1 in does (ap Err (kept.0 ∙ ap (λ (y : Fault). y.error) s), s)
         go (no_memory i j) = no_memory i j
         go (breaks g i j k) = breaks g i j k

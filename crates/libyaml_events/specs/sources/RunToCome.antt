@@ -1,5 +1,6 @@
 -- The run that a parser over a known source still has before it (docs/DEFINITIONS.md, "Runs").
-use Rattle.std.specs.Prelude.{◌≡◌, ◌++◌, ◌∷◌, ◌⊎◌, List, [], Option, Some, Err}
+use Rattle.std.specs.Prelude.{◌≡◌, ◌++◌, ◌∷◌, ◌⊎◌, List, [], Option, Some, Result, Err}
+use Rattle.libyaml_types.specs.declared.enums.yaml_error_type_t.{yaml_error_type_t}
 use Rattle.libyaml_types.specs.declared.enums.yaml_error_type_t.TheVariants.{YAML_MEMORY_ERROR}
 use Rattle.libyaml_sources.specs.Fault.{Fault, memory_fault}
 use Rattle.libyaml_sources.specs.Source.{Coming, coming}
@@ -7,7 +8,6 @@ use Rattle.libyaml_grammar.specs.sentences.Tokens.{Token}
 use Rattle.libyaml_grammar.specs.sentences.Events.{Event}
 use Rattle.libyaml_grammar.specs.runs.Runs.{Ending, Fails, IsRun}
 use Rattle.libyaml_events.specs.machine.Config.{Parser}
-use Rattle.libyaml_events.specs.sources.Calls.{EventOrError}
 use Rattle.libyaml_events.specs.sources.History.{History, kept_fault}
 
 -- The tokens that were asked for and those that the source knows, together, have the run of the events that were given,
@@ -29,9 +29,9 @@ ForRun known p P = (to_come : List Event) (ending : Ending) → RunToCome known 
 abbrev pub ForNextEvent : {S : Type 0} → (S → Option Coming) → Parser S → (Event → List Event → Ending → Type 0) → Type 0
 ForNextEvent known p P = (next : Event) (later : List Event) (ending : Ending) → RunToCome known p (next ∷ later) ending → P next later ending
 
--- What the run says; or an allocation failed; or the source broke off, by a fault that it names as possible where it then
--- stands.
-pub data UnlessBroken {S : Type 0} (MayBreak : S → Fault → Type 0) (r : EventOrError) (new : Parser S) (Does : Type 0) : Type 0 where
+-- Of a call that returned r: what the run says; or an allocation failed; or the source broke off, by a fault that it names
+-- as possible where it then stands.
+pub data UnlessBroken {S A : Type 0} (MayBreak : S → Fault → Type 0) (r : Result A yaml_error_type_t) (new : Parser S) (Does : Type 0) : Type 0 where
   does : Does → UnlessBroken MayBreak r new Does
   no_memory : r ≡ Err YAML_MEMORY_ERROR → kept_fault new ≡ memory_fault → UnlessBroken MayBreak r new Does
   breaks : (f : Fault) → MayBreak new.source f → r ≡ Err f.error → kept_fault new ≡ f → UnlessBroken MayBreak r new Does

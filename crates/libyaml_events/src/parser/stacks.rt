@@ -45,7 +45,6 @@ impl<S> Machine<S> {
     }
 
     /// Puts a state on the stack, to go back to. An allocation that fails is kept as the fault.
-    #[tactic(auto, using(crate::proofs::code::Stacks::stack_push))]
     #[inline(always)]
     pub(crate) fn push_state(&mut self, state: yaml_parser_state_t) -> Result<(), yaml_error_type_t>
         requires { IsBackByte (parser_state_number state) }
@@ -60,7 +59,6 @@ impl<S> Machine<S> {
     }
 
     /// Goes back to the state on top of the stack.
-    #[tactic(auto, using(crate::proofs::code::Stacks::stack_pop))]
     pub(crate) fn pop_state(&mut self)
         ensures { self.new ≡ with_config self.old (popped self.old.config) }
     {
@@ -71,7 +69,6 @@ impl<S> Machine<S> {
     }
 
     /// Puts the start of a collection on the stack. An allocation that fails is kept as the fault.
-    #[tactic(auto, using(crate::proofs::code::Stacks::reverse_push))]
     pub(crate) fn push_mark(&mut self, mark: yaml_mark_t) -> Result<(), yaml_error_type_t>
         ensures ok { OnOk result (self.new ≡ with_config self.old (pushed_mark mark self.old.config)) }
         ensures err { OnErr result ((result ≡ Err yaml_error_type_t.YAML_MEMORY_ERROR)
@@ -84,7 +81,6 @@ impl<S> Machine<S> {
     }
 
     /// Takes the start of the innermost collection off the stack.
-    #[tactic(auto, using(crate::proofs::code::Stacks::reverse_pop))]
     pub(crate) fn pop_mark(&mut self) -> yaml_mark_t
         ensures mark { result ≡ top_mark self.old.config.marks }
         ensures rest { self.new ≡ with_config self.old (popped_mark self.old.config) }

@@ -33,9 +33,6 @@ magnitude_is (negsuc n) h = absurd (omega (arith, ints))
 pub id_number : (i : NodeId) → i.number ≡ pos (id_of i)
 id_number i = magnitude_is i.number i.positive
 
-pub child_is_id : (n : ℕ) (i : NodeId) → IsIdUpTo n (pos (id_of i)) → IsIdUpTo n i.number
-child_is_id n i h = subst (IsIdUpTo n) (sym (id_number i)) h
-
 -- the stack by its innermost
 pub top_first : (s : List machine.Open) (o : machine.Open) → Some o ≡ innermost s → o ∷ outer s ≡ s
 top_first [] o e = absurd cc

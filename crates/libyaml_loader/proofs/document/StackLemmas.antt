@@ -1,17 +1,11 @@
 -- The stack of open collections, by the list of its `Vec`.
 use Rattle.std.proofs.Common.{◌≡◌, ◌++◌, ◌∷◌, List, [], ℕ, zero, suc, ℤ, arith, map, reverse, get_or, set, length, ap, refl, sym, ◌∙◌, Option}
-use Rattle.std.proofs.lemmas.List.{map-append, reverse-append}
+use Rattle.std.proofs.lemmas.List.{reverse-append}
 use Rattle.libyaml_graphs.specs.machine.Loader as machine
 use Rattle.libyaml_loader.specs.declared.ids.NodeId.{NodeId}
 use Rattle.libyaml_loader.specs.declared.ids.Open.{Open}
 use Rattle.libyaml_loader.specs.document.Ids.{number_of, open_of}
 use Rattle.libyaml_loader.specs.document.Stack.{stack_of, with_key}
-
-pub stack_push : (items : List Open) (o : Open) → stack_of (items ++ o ∷ []) ≡ open_of o ∷ stack_of items
-stack_push items o = ap reverse (map-append open_of items (o ∷ [])) ∙ reverse-append (map open_of items) (open_of o ∷ [])
-
-pub stack_pop : (old new : List Open) (o : Open) → old ≡ new ++ o ∷ [] → stack_of old ≡ open_of o ∷ stack_of new
-stack_pop old new o e = ap stack_of e ∙ stack_push new o
 
 back : {A : Type 0} (x : A) (xs : List A) → reverse (x ∷ xs) ≡ reverse xs ++ x ∷ []
 back x xs = reverse-append (x ∷ []) xs

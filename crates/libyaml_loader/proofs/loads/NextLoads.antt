@@ -9,11 +9,11 @@ use Rattle.libyaml_sources.specs.Fault.{Answer, Fault, memory_fault}
 use Rattle.libyaml_events.specs.sources.History.{ForHistory, is_over, has_failed, kept_fault}
 use Rattle.libyaml_grammar.specs.sentences.Tokens.{Token}
 use Rattle.libyaml_grammar.specs.runs.Runs.{Ending}
-use Rattle.libyaml_events.specs.sources.RunToCome.{FailsHere, RunToCome}
+use Rattle.libyaml_events.specs.sources.RunToCome.{FailsHere, RunToCome, UnlessBroken, breaks, does, no_memory}
 use Rattle.libyaml_sources.specs.Source.{Coming}
 use Rattle.libyaml_graphs.specs.loads.Loads.{Load, last_load}
 use Rattle.libyaml_loader.specs.loads.Loading.{DocumentOrError, LeftOf, LoadsFrom, at_end, by_loader, by_memory, by_parser, whole}
-use Rattle.libyaml_loader.specs.loads.NextLoad.{Answers, UnlessBroken, breaks, does, no_memory}
+use Rattle.libyaml_loader.specs.loads.NextLoad.{Answers}
 
 nothing_more : (a b : List Event) → a ++ b ≡ a → b ≡ []
 nothing_more a [] e = refl
@@ -50,7 +50,7 @@ module _ {S : Type 0} (gives : S → Answer → S → Type 0) (known : S → Opt
           l = took.runs events ending run
 
           here : FailsHere (MayBreak new.source) (kept_fault new) l.later ending
-              → UnlessBroken MayBreak (Err y) new (Answers known (load events ending) (Err y) new (left events) ending)
+              → UnlessBroken {A = Document} MayBreak (Err y) new (Answers known (load events ending) (Err y) new (left events) ending)
           here (inl h) = answered (Err (kept_fault new)) (Err y)
               (ap (λ (x : List Event). load x ending) (l.all ∙ ap (λ (x : List Event). taken ++ x) h.0 ∙ append-nil taken) ∙ gives_it ending
               ∙ ap last_load h.1) (ap (λ (x : yaml_error_type_t). Err x) k.0, refl)

@@ -11,8 +11,8 @@ use Rattle.libyaml_events.specs.sources.History.{between_documents}
 use Rattle.libyaml_events.specs.parsers.OutsideEvents.{is_outside_event}
 use Rattle.libyaml_events.specs.parsers.Stages.{is_event}
 use Rattle.libyaml_graphs.specs.graphs.GraphParts.{Closing, closing_in}
-use Rattle.libyaml_loader.specs.declared.load.Step.{Step}
-use Rattle.libyaml_loader.specs.declared.load.Step.TheVariants as step
+use Rattle.libyaml_loader.specs.declared.load.ComposeStep.{ComposeStep}
+use Rattle.libyaml_loader.specs.declared.load.ComposeStep.TheVariants as step
 
 empty_outside : (k : unnamed_yaml_event_t_data) → is_event k ≡ false → is_outside_event k ≡ true
 empty_outside ev.NoEvent h = refl
@@ -31,8 +31,8 @@ module _ {S : Type 0} (new : Parser S) (r : EventOrError) (e : Event) (is : r �
   behind_close m c closes = (rw is at stands) (end_outside e.content m c closes)
 
 -- after a step that does not go on
-pub behind_step : {S : Type 0} (new : Parser S) (r : Result Step yaml_error_type_t) (s : Step) → r ≡ Ok s → (s ≡ step.Composed → ⊥)
-    → IfOk r (λ (x : Step). (x ≡ step.Composed) ⊎ (between_documents new ≡ true)) → between_documents new ≡ true
+pub behind_step : {S : Type 0} (new : Parser S) (r : Result ComposeStep yaml_error_type_t) (s : ComposeStep) → r ≡ Ok s → (s ≡ step.Composed → ⊥)
+    → IfOk r (λ (x : ComposeStep). (x ≡ step.Composed) ⊎ (between_documents new ≡ true)) → between_documents new ≡ true
 behind_step new r s is more stands = go (rw is at stands)
   where
     go : (s ≡ step.Composed) ⊎ (between_documents new ≡ true) → between_documents new ≡ true

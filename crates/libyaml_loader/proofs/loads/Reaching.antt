@@ -17,7 +17,7 @@ use Rattle.libyaml_graphs.proofs.lent.Machine.{closes, closes_left, goes_on_left
 use Rattle.libyaml_loader.specs.document.Context.{loader_of}
 use Rattle.libyaml_loader.specs.declared.context.loader_ctx.{loader_ctx}
 use Rattle.libyaml_loader.specs.declared.load.Closing.{Closing}
-use Rattle.libyaml_loader.specs.declared.load.Step.TheVariants as step
+use Rattle.libyaml_loader.specs.declared.load.ComposeStep.TheVariants as step
 use Rattle.libyaml_loader.specs.loads.Loading.{DocumentOrError, KeptBy, LoadFails, Loads, LoadsFrom, ParserFails, Took, at_end, by_loader, by_memory, by_parser}
 use Rattle.libyaml_loader.specs.loads.Loading.{whole}
 use Rattle.libyaml_loader.specs.loads.LoadGrowth.{may_grow}

@@ -23,8 +23,8 @@ use Rattle.libyaml_graphs.specs.graphs.GraphParts.{closing_of, opening_of, part_
 use Rattle.libyaml_loader.specs.document.Context.{IdsAreIn, Refuses, loader_of, with_nodes}
 use Rattle.libyaml_loader.specs.declared.context.loader_ctx.{loader_ctx}
 use Rattle.libyaml_loader.specs.declared.load.Closing.{Closing}
-use Rattle.libyaml_loader.specs.declared.load.Step.{Step}
-use Rattle.libyaml_loader.specs.declared.load.Step.TheVariants as step
+use Rattle.libyaml_loader.specs.declared.load.ComposeStep.{ComposeStep}
+use Rattle.libyaml_loader.specs.declared.load.ComposeStep.TheVariants as step
 use Rattle.libyaml_loader.specs.declared.refusal.Refusal.{Refusal}
 use Rattle.libyaml_loader.specs.declared.refusal.Refusal.TheVariants.{Memory}
 use Rattle.libyaml_loader.specs.loads.Loading.{DocumentOrError, LoadsFrom, ParserFails, Took}
@@ -38,7 +38,7 @@ use Rattle.libyaml_loader.proofs.loads.Taking.{Called, behind_end, took_both, to
 
 module _ {S : Type 0} (gives : S → Answer → S → Type 0) (known : S → Option Coming) (MayBreak : S → Fault → Type 0) where
   pub takes : (old new : Parser S) (r : EventOrError) (c : Called gives known MayBreak old new r) (e : Event) (is : r ≡ Ok e) → is_event e.content ≡ true
-      → (s : Step) (before after : loader_ctx) → StepBy s before after e → TakesEvent gives known s old new before after
+      → (s : ComposeStep) (before after : loader_ctx) → StepBy s before after e → TakesEvent gives known s old new before after
   takes old new r c e is an_event s before after by = record {
     event = e;
     took = took_event gives known MayBreak old new r c e is an_event;
@@ -61,9 +61,9 @@ module _ {S : Type 0} (gives : S → Answer → S → Type 0) (known : S → Opt
         (λ (w : bounded_option before.max_entries (loader_of before) (part_of e) ≡ failed (fault_by f)). inr w) refuses;
   }
 
-  pub steps_err : (r : Result Step yaml_error_type_t) (x : yaml_error_type_t) (old new : Parser S) (before after : loader_ctx) → r ≡ Err x
+  pub steps_err : (r : Result ComposeStep yaml_error_type_t) (x : yaml_error_type_t) (old new : Parser S) (before after : loader_ctx) → r ≡ Err x
       → ParserFails gives known MayBreak old new → ComposesBy gives known MayBreak r old new before after
-  steps_err r x old new before after e h = subst (λ (q : Result Step yaml_error_type_t). ComposesBy gives known MayBreak q old new before after) (sym e) (inl h)
+  steps_err r x old new before after e h = subst (λ (q : Result ComposeStep yaml_error_type_t). ComposesBy gives known MayBreak q old new before after) (sym e) (inl h)
 
   -- a document on the way: since c by these events
   pub record OnTheWay (first now : Parser S) (c d : loader_ctx) : Type 0 where
@@ -142,9 +142,9 @@ pub begun_is : (d b : Document) → d ≡ b → d ≡ with_nodes d.nodes b
 begun_is d b e = e ∙ ap (λ (x : List yaml_node_t). with_nodes x b) (ap (λ (x : Document). x.nodes) (sym e))
 
 module _ {S : Type 0} (gives : S → Answer → S → Type 0) (known : S → Option Coming) (MayBreak : S → Fault → Type 0) where
-  pub steps_at : (r q : Result Step yaml_error_type_t) (old new : Parser S) (before after : loader_ctx) → r ≡ q
+  pub steps_at : (r q : Result ComposeStep yaml_error_type_t) (old new : Parser S) (before after : loader_ctx) → r ≡ q
       → ComposesBy gives known MayBreak r old new before after → ComposesBy gives known MayBreak q old new before after
-  steps_at r q old new before after e h = subst (λ (x : Result Step yaml_error_type_t). ComposesBy gives known MayBreak x old new before after) e h
+  steps_at r q old new before after e h = subst (λ (x : Result ComposeStep yaml_error_type_t). ComposesBy gives known MayBreak x old new before after) e h
 
   pub loads_fresh : (c : loader_ctx) (o : parts.Opening) (n : ℕ) (old new : Parser S) (r : DocumentOrError) → loader_of c ≡ fresh → c.max_entries ≡ n
       → LoadsFrom gives known MayBreak (load_from c.max_entries (within o (loader_of c))) (left_from (within o (loader_of c))) old r new

@@ -17,8 +17,8 @@ use Rattle.libyaml_loader.specs.loads.LoadGrowth.{may_grow}
 use Rattle.libyaml_loader.specs.declared.context.loader_ctx.{loader_ctx}
 use Rattle.libyaml_loader.specs.declared.load.Closing.{Closing}
 use Rattle.libyaml_loader.specs.declared.load.Opening.{Opening}
-use Rattle.libyaml_loader.specs.declared.load.Step.{Step}
-use Rattle.libyaml_loader.specs.declared.load.Step.TheVariants as step
+use Rattle.libyaml_loader.specs.declared.load.ComposeStep.{ComposeStep}
+use Rattle.libyaml_loader.specs.declared.load.ComposeStep.TheVariants as step
 use Rattle.libyaml_loader.specs.loads.Loading.{HasEnded, KeptBy, ParserFails, Took}
 
 abbrev pub closing : Closing → parts.Closing
@@ -28,14 +28,14 @@ abbrev pub opening_at : Opening → parts.Opening
 opening_at o = record { start = o.start; mark = o.mark }
 
 -- what the event did to the document on the way
-abbrev pub StepBy : Step → (old new : loader_ctx) → Event → Type 0
+abbrev pub StepBy : ComposeStep → (old new : loader_ctx) → Event → Type 0
 StepBy step.Composed old new e = (closing_of e ≡ None) × Composed old new (part_of e)
 StepBy (step.Closed c) old new e = (closing_of e ≡ Some (closing c)) × (new ≡ old)
 StepBy step.Ended old new e = ⊥
 
 -- the next event was taken
 pub record TakesEvent {S : Type 0} (gives : S → Answer → S → Type 0) (known : S
-    → Option Coming) (step : Step) (old new : Parser S) (before after : loader_ctx) : Type 0 where
+    → Option Coming) (step : ComposeStep) (old new : Parser S) (before after : loader_ctx) : Type 0 where
   pub event : Event
   pub took : Took gives known old new (event ∷ [])
   pub by : StepBy step before after event
@@ -59,7 +59,7 @@ pub record LoaderFails {S : Type 0} (gives : S → Answer → S → Type 0) (kno
   pub why : ((fault ≡ memory_fault) × (may_grow (loader_of before) (part_of event) ≡ true))
       ⊎ (bounded_option before.max_entries (loader_of before) (part_of event) ≡ failed fault)
 
-abbrev pub ComposesBy : {S : Type 0} → (S → Answer → S → Type 0) → (S → Option Coming) → (S → Fault → Type 0) → Result Step yaml_error_type_t
+abbrev pub ComposesBy : {S : Type 0} → (S → Answer → S → Type 0) → (S → Option Coming) → (S → Fault → Type 0) → Result ComposeStep yaml_error_type_t
     → (old new : Parser S) → (before after : loader_ctx) → Type 0
 ComposesBy gives known MayBreak (Ok step.Ended) old new before after = FindsEnd gives known old new
 ComposesBy gives known MayBreak (Ok step.Composed) old new before after = TakesEvent gives known step.Composed old new before after

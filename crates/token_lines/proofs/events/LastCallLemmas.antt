@@ -11,7 +11,7 @@ use Rattle.line_writing.specs.EventText.{event_line}
 use Rattle.line_writing.specs.FaultText.{fault_text}
 use Rattle.token_lines.specs.declared.run.Outcome.{Outcome}
 use Rattle.token_lines.specs.declared.run.Outcome.TheVariants.{Ended, Faulted, OutputFailed}
-use Rattle.token_lines.specs.declared.run.Step.TheVariants as step
+use Rattle.token_lines.specs.declared.run.RunStep.TheVariants as step
 use Rattle.token_lines.specs.events.EventStep.{Turn}
 use Rattle.token_lines.specs.events.InTurn.{gave_event, failed}
 use Rattle.token_lines.specs.events.LastCall.{Closes}

@@ -11,7 +11,7 @@ use Rattle.libyaml_documents.specs.Documents.{Document}
 use Rattle.libyaml_events.specs.machine.Config.{Parser}
 use Rattle.libyaml_sources.specs.Fault.{Fault, memory_fault}
 use Rattle.libyaml_events.specs.sources.History.{kept_fault}
-use Rattle.libyaml_events.specs.sources.RunToCome.{RunToCome}
+use Rattle.libyaml_events.specs.sources.RunToCome.{RunToCome, UnlessBroken, breaks, does, no_memory}
 use Rattle.libyaml_grammar.specs.runs.Runs.{Ending, Ends, Fails}
 use Rattle.libyaml_sources.specs.Source.{Coming}
 use Rattle.libyaml_grammar.proofs.lent.NestingSoFar.{run_nests_so_far}
@@ -20,7 +20,7 @@ use Rattle.libyaml_graphs.specs.loads.GraphLaws.{RootsFollow}
 use Rattle.libyaml_graphs.specs.loads.Loads.{Load, left_over}
 use Rattle.libyaml_graphs.proofs.lent.Roots.{earlier_of, fault_of, last_of, roots_follow}
 use Rattle.libyaml_loader.specs.loads.Loading.{DocumentOrError}
-use Rattle.libyaml_loader.specs.loads.NextLoad.{Answers, UnlessBroken, breaks, does, no_memory}
+use Rattle.libyaml_loader.specs.loads.NextLoad.{Answers}
 use Rattle.line_writing.specs.DocumentText.{WroteBefore, document_lines}
 use Rattle.token_lines.specs.nodes.NodeRun.{lines_with, loads_ending, loads_lines}
 use Rattle.token_lines.specs.nodes.NodeStep.{run_ending, run_lines}

@@ -28,8 +28,8 @@ use Rattle.line_writing.specs.DocumentText.{document_lines}
 use Rattle.line_writing.specs.FaultText.{fault_text}
 use Rattle.token_lines.specs.declared.run.Outcome.{Outcome}
 use Rattle.token_lines.specs.declared.run.Outcome.TheVariants.{Ended, Faulted, OutputFailed}
-use Rattle.token_lines.specs.declared.run.Step.{Step}
-use Rattle.token_lines.specs.declared.run.Step.TheVariants as step
+use Rattle.token_lines.specs.declared.run.RunStep.{RunStep}
+use Rattle.token_lines.specs.declared.run.RunStep.TheVariants as step
 use Rattle.token_lines.specs.nodes.LastLoad.{AllLoaded, LastLoad, WroteForLoad}
 use Rattle.token_lines.specs.nodes.NodeStep.{LoadTurn, NodeSteps, StepForLoad}
 use Rattle.token_lines.proofs.events.InTurnLemmas.{gave_then, history_more, history_none}
@@ -52,7 +52,7 @@ keeps_both (Some x) (Some y) None h k = absurd k
 keeps_both (Some x) (Some y) (Some z) h k = k ∙ h
 
 module _ {S : Type 0} (gives : S → Answer → S → Type 0) (known : S → Option Coming) (MayBreak : S → Fault → Type 0) (n : ℕ) where
-  pub turn_of : (s : Step) (p q : Parser S) (b c : Option (List ℕ)) (r a : DocumentOrError) → r ≡ a
+  pub turn_of : (s : RunStep) (p q : Parser S) (b c : Option (List ℕ)) (r a : DocumentOrError) → r ≡ a
       → LoadsFrom gives known MayBreak (next_bounded n) left_over p r q → StepForLoad s a (kept_fault q) b c
       → (s ≡ step.Ended → ForHistory p (λ _ _. HasEnded q)) → LoadTurn gives known MayBreak n s p q b c
   turn_of s p q b c r a is load wrote ends
@@ -125,7 +125,7 @@ module _ {S : Type 0} (gives : S → Answer → S → Type 0) (known : S → Opt
       go (Err x) load wrote = absurd wrote
 
   pub last_load : {W : Type 0} (contents : W
-      → Option (List ℕ)) (outcome : Outcome) (s : Step) (first p q : Parser S) (writer : W) (a c d : Option (List ℕ)) (asked : List yaml_token_t)
+      → Option (List ℕ)) (outcome : Outcome) (s : RunStep) (first p q : Parser S) (writer : W) (a c d : Option (List ℕ)) (asked : List yaml_token_t)
       (given : List yaml_event_t) → AllLoaded gives n first p a (contents writer) asked given
       → (has_failed p ≡ false → LoadTurn gives known MayBreak n s p q (contents writer) c)
       → ((r : DocumentOrError) → StepForLoad s r (kept_fault q) (contents writer) c → WroteForLoad outcome r (kept_fault q) (contents writer) d)
@@ -186,7 +186,7 @@ not_ended_is OutputFailed not = inr refl
 
 -- the bound of the first parser
 module _ {S : Type 0} (gives : S → Answer → S → Type 0) (known : S → Option Coming) (MayBreak : S → Fault
-    → Type 0) (s : Step) (p q : Parser S) (b c : Option (List ℕ)) (z w : ℤ) (same : z ≡ w) where
+    → Type 0) (s : RunStep) (p q : Parser S) (b c : Option (List ℕ)) (z w : ℤ) (same : z ≡ w) where
   pub turn_at : (has_failed p ≡ false → LoadTurn gives known MayBreak (magnitude z) s p q b c) → has_failed p ≡ false
       → LoadTurn gives known MayBreak (magnitude w) s p q b c
   turn_at turns running = subst (λ (y : ℤ). LoadTurn gives known MayBreak (magnitude y) s p q b c) same (turns running)
@@ -197,7 +197,7 @@ module _ {S : Type 0} (gives : S → Answer → S → Type 0) (known : S → Opt
   steps_at steps events ending run = subst (λ (y : ℤ). NodeSteps known MayBreak (magnitude y) s q b c events ending) same (steps events ending run)
 
 pub last_load_at : {S W : Type 0} (gives : S → Answer → S → Type 0) (known : S → Option Coming) (MayBreak : S → Fault → Type 0) (contents : W
-    → Option (List ℕ)) (outcome : Outcome) (s : Step) (first p q : Parser S) (writer : W) (a c d : Option (List ℕ)) (asked : List yaml_token_t)
+    → Option (List ℕ)) (outcome : Outcome) (s : RunStep) (first p q : Parser S) (writer : W) (a c d : Option (List ℕ)) (asked : List yaml_token_t)
     (given : List yaml_event_t) → p.max_entries ≡ first.max_entries
     → AllLoaded gives (magnitude first.max_entries) first p a (contents writer) asked given
     → (has_failed p ≡ false → LoadTurn gives known MayBreak (magnitude p.max_entries) s p q (contents writer) c)

@@ -9,8 +9,8 @@ use Rattle.libyaml_grammar.specs.runs.Runs.{Ending}
 use Rattle.libyaml_sources.specs.Fault.{Fault, Answer, fault_of, memory_fault}
 use Rattle.libyaml_sources.specs.Source.{Coming}
 use Rattle.line_writing.specs.EventText.{event_line}
-use Rattle.token_lines.specs.declared.run.Step.{Step}
-use Rattle.token_lines.specs.declared.run.Step.TheVariants.{Written, Ended, Failed, OutputFailed}
+use Rattle.token_lines.specs.declared.run.RunStep.{RunStep}
+use Rattle.token_lines.specs.declared.run.RunStep.TheVariants.{Written, Ended, Failed, OutputFailed}
 use Rattle.token_lines.specs.events.EventRun.{event_lines}
 use Rattle.token_lines.specs.events.InTurn.{Call}
 use Rattle.token_lines.specs.lines.RunSteps.{RunSteps}
@@ -23,24 +23,24 @@ abbrev pub run_ending : List yaml_event_t → Ending → Ending
 run_ending events ending = ending
 
 -- what a step did where this run was to come
-abbrev pub EventSteps : {S : Type 0} → (known : S → Option Coming) → (MayBreak : S → Fault → Type 0) → Step → Parser S → (before after : Option (List ℕ))
+abbrev pub EventSteps : {S : Type 0} → (known : S → Option Coming) → (MayBreak : S → Fault → Type 0) → RunStep → Parser S → (before after : Option (List ℕ))
     → List yaml_event_t → Ending → Type 0
 EventSteps known MayBreak step new before after events ending = RunSteps known MayBreak run_lines run_ending step new before after events ending
 
 -- what a step wrote after a call that returned this event
-abbrev pub StepForEvent : Step → yaml_event_t → (before after : Option (List ℕ)) → Type 0
+abbrev pub StepForEvent : RunStep → yaml_event_t → (before after : Option (List ℕ)) → Type 0
 StepForEvent Written e before after = (is_stream_end e ≡ false) × Appends before after (event_line e)
 StepForEvent Ended e before after = (is_stream_end e ≡ true) × Appends before after (event_line e)
 StepForEvent (Failed f) e before after = (fault_of f ≡ memory_fault) × Keeps before after
 StepForEvent OutputFailed e before after = Unit {0}
 
 -- what a step wrote after a call that failed by this fault
-abbrev pub StepForFault : Step → Fault → (before after : Option (List ℕ)) → Type 0
+abbrev pub StepForFault : RunStep → Fault → (before after : Option (List ℕ)) → Type 0
 StepForFault (Failed f) kept before after = (fault_of f ≡ kept) × Keeps before after
 StepForFault _ kept before after = ⊥
 
 -- one step: its call of the parser, and what was written after it
-abbrev pub Turn : {S : Type 0} → (gives : S → Answer → S → Type 0) → Step → (old new : Parser S) → (before after : Option (List ℕ)) → List yaml_token_t
+abbrev pub Turn : {S : Type 0} → (gives : S → Answer → S → Type 0) → RunStep → (old new : Parser S) → (before after : Option (List ℕ)) → List yaml_token_t
     → List yaml_event_t → Type 0
 Turn gives step old new before after asked given
     = Call gives (λ e. StepForEvent step e before after) (λ f. StepForFault step f before after) old new asked given

@@ -8,8 +8,8 @@ use Rattle.libyaml_events.specs.sources.RunToCome.{RunToCome}
 use Rattle.libyaml_grammar.specs.runs.Runs.{Ending, Ends, Fails}
 use Rattle.libyaml_sources.specs.Fault.{Fault, fault_of, memory_fault}
 use Rattle.libyaml_sources.specs.Source.{Coming}
-use Rattle.token_lines.specs.declared.run.Step.{Step}
-use Rattle.token_lines.specs.declared.run.Step.TheVariants.{Written, Ended, Failed, OutputFailed}
+use Rattle.token_lines.specs.declared.run.RunStep.{RunStep}
+use Rattle.token_lines.specs.declared.run.RunStep.TheVariants.{Written, Ended, Failed, OutputFailed}
 
 -- the first of a run's lines were written, and the others are to come
 pub record TakesLines {S : Type 0} (known : S → Option Coming) (lines : List yaml_event_t → Ending → List (List ℕ)) (ends : List yaml_event_t → Ending
@@ -32,7 +32,7 @@ pub record WritesPrefix (MayBreak : Fault → Type 0) (f : Fault) (before after 
 
 -- what a step did where this run was to come
 abbrev pub RunSteps : {S : Type 0} → (known : S → Option Coming) → (MayBreak : S → Fault → Type 0) → (lines : List yaml_event_t → Ending → List (List ℕ))
-    → (ends : List yaml_event_t → Ending → Ending) → Step → Parser S → (before after : Option (List ℕ)) → List yaml_event_t → Ending → Type 0
+    → (ends : List yaml_event_t → Ending → Ending) → RunStep → Parser S → (before after : Option (List ℕ)) → List yaml_event_t → Ending → Type 0
 RunSteps known MayBreak lines ends Written new before after events ending = TakesLines known lines ends new before after events ending
 RunSteps known MayBreak lines ends Ended new before after events ending = (ends events ending ≡ Ends) × Appends before after (concat (lines events ending))
 RunSteps known MayBreak lines ends (Failed f) new before after events ending

@@ -12,8 +12,8 @@ use Rattle.libyaml_graphs.specs.loads.Bounds.{bounded_loads, next_bounded}
 use Rattle.libyaml_graphs.specs.loads.Loads.{left_over}
 use Rattle.libyaml_loader.specs.loads.Loading.{DocumentOrError, HasEnded, LoadsFrom}
 use Rattle.line_writing.specs.DocumentText.{WroteBefore, document_lines}
-use Rattle.token_lines.specs.declared.run.Step.{Step}
-use Rattle.token_lines.specs.declared.run.Step.TheVariants.{Written, Ended, Failed, OutputFailed}
+use Rattle.token_lines.specs.declared.run.RunStep.{RunStep}
+use Rattle.token_lines.specs.declared.run.RunStep.TheVariants.{Written, Ended, Failed, OutputFailed}
 use Rattle.token_lines.specs.nodes.NodeRun.{loads_ending, loads_lines}
 use Rattle.token_lines.specs.lines.RunSteps.{RunSteps}
 
@@ -25,12 +25,12 @@ abbrev pub run_ending : ℕ → List yaml_event_t → Ending → Ending
 run_ending n events ending = loads_ending (bounded_loads n events ending)
 
 -- what a step did where this run was to come
-abbrev pub NodeSteps : {S : Type 0} → (known : S → Option Coming) → (MayBreak : S → Fault → Type 0) → (n : ℕ) → Step → Parser S
+abbrev pub NodeSteps : {S : Type 0} → (known : S → Option Coming) → (MayBreak : S → Fault → Type 0) → (n : ℕ) → RunStep → Parser S
     → (before after : Option (List ℕ)) → List yaml_event_t → Ending → Type 0
 NodeSteps known MayBreak n step new before after events ending = RunSteps known MayBreak (run_lines n) (run_ending n) step new before after events ending
 
 -- what a step wrote after a load that returned this
-abbrev pub StepForLoad : Step → DocumentOrError → (kept : Fault) → (before after : Option (List ℕ)) → Type 0
+abbrev pub StepForLoad : RunStep → DocumentOrError → (kept : Fault) → (before after : Option (List ℕ)) → Type 0
 StepForLoad Written (Ok d) kept before after = (d.nodes ≢ []) × Appends before after (concat (document_lines d))
 StepForLoad Ended (Ok d) kept before after = (d.nodes ≡ []) × Keeps before after
 StepForLoad (Failed f) (Ok d) kept before after = (fault_of f ≡ memory_fault) × WroteBefore before after (document_lines d)
@@ -40,13 +40,13 @@ StepForLoad _ (Err x) kept before after = ⊥
 
 -- one step: its load, and what was written after it
 pub record LoadTurn {S : Type 0} (gives : S → Answer → S → Type 0) (known : S → Option Coming) (MayBreak : S → Fault
-    → Type 0) (n : ℕ) (step : Step) (old new : Parser S) (before after : Option (List ℕ)) : Type 0 where
+    → Type 0) (n : ℕ) (step : RunStep) (old new : Parser S) (before after : Option (List ℕ)) : Type 0 where
   pub loaded : DocumentOrError
   pub load : LoadsFrom gives known MayBreak (next_bounded n) left_over old loaded new
   pub wrote : StepForLoad step loaded (kept_fault new) before after
   pub ends : step ≡ Ended → ForHistory old (λ _ _. HasEnded new)
 
 -- a fault that the parser kept is the step's, and nothing changed
-abbrev pub IsKept : Step → Fault → Type 0
+abbrev pub IsKept : RunStep → Fault → Type 0
 IsKept (Failed f) kept = fault_of f ≡ kept
 IsKept _ kept = ⊥

@@ -11,11 +11,11 @@ ghost use Rattle.token_lines.specs.events.EventStep.{EventSteps, Turn};
 ghost use Rattle.token_lines.specs.events.LastCall.{LastCall, NothingLeft, RunsOver};
 ghost use Rattle.token_lines.specs.lines.LineRun.{Writes};
 
-use super::{MEMORY_FAULT, Outcome, Step, faulted, flushed, show};
+use super::{Outcome, RunStep, faulted, flushed, show};
 use crate::MAX_TOKENS;
 use libyaml_events::{
-    is_event, is_stream_end, no_event, yaml_parser_initialize, yaml_parser_parse_into,
-    yaml_parser_t, yaml_token_source_t,
+    MEMORY_FAULT, is_event, is_stream_end, no_event, yaml_parser_initialize,
+    yaml_parser_parse_into, yaml_parser_t, yaml_token_source_t,
 };
 use libyaml_types::yaml_event_t;
 use line_reading::yaml_line_source_t;
@@ -66,10 +66,10 @@ pub fn write_events<S: yaml_token_source_t, W: Write>(
     let mut event = no_event();
     loop {
         match write_next(parser, &mut event, &mut line, writer) {
-            Step::Written => {}
-            Step::Ended => return flushed(Outcome::Ended, writer),
-            Step::Failed(fault) => return faulted(&fault, writer),
-            Step::OutputFailed => return Outcome::OutputFailed,
+            RunStep::Written => {}
+            RunStep::Ended => return flushed(Outcome::Ended, writer),
+            RunStep::Failed(fault) => return faulted(&fault, writer),
+            RunStep::OutputFailed => return Outcome::OutputFailed,
         }
     }
 }
@@ -80,9 +80,10 @@ fn write_next<S: yaml_token_source_t, W: Write>(
     event: &mut yaml_event_t,
     line: &mut String,
     writer: &mut W,
-) -> Step
-    ensures falls { result ≡ Step.Written → events_left S.bound parser.new < events_left S.bound parser.old }
-    ensures ended { is_over parser.old ≡ true → (result ≡ Step.Ended) × (parser.new ≡ parser.old)
+) -> RunStep
+    ensures falls { result ≡ RunStep.Written
+        → events_left S.bound parser.new < events_left S.bound parser.old }
+    ensures ended { is_over parser.old ≡ true → (result ≡ RunStep.Ended) × (parser.new ≡ parser.old)
         × (writer.new ≡ writer.old) }
     ensures turn { is_over parser.old ≡ false → (asked : List yaml_token_t) (given : List yaml_event_t)
         → History parser.old asked given
@@ -94,23 +95,23 @@ fn write_next<S: yaml_token_source_t, W: Write>(
 {
     let parsed = yaml_parser_parse_into(parser, event);
     let Ok(()) = parsed else {
-        return Step::Failed(*parser.prefix());
+        return RunStep::Failed(*parser.prefix());
     };
     if !is_event(event) {
-        return Step::Ended;
+        return RunStep::Ended;
     }
     line.clear();
     let Ok(()) = append_event(line, event) else {
-        return Step::Failed(MEMORY_FAULT);
+        return RunStep::Failed(MEMORY_FAULT);
     };
     let Ok(()) = write_line(line, writer) else {
-        return Step::OutputFailed;
+        return RunStep::OutputFailed;
     };
     if is_stream_end(event) {
-        return Step::Ended;
+        return RunStep::Ended;
     }
     let Ok(()) = show(parser, writer) else {
-        return Step::OutputFailed;
+        return RunStep::OutputFailed;
     };
-    Step::Written
+    RunStep::Written
 }

@@ -12,9 +12,9 @@ ghost use Rattle.token_lines.specs.nodes.LastLoad.{LastLoad, NodesOver, WritesKe
 ghost use Rattle.token_lines.specs.nodes.NodeRun.{WritesLoads};
 ghost use Rattle.token_lines.specs.nodes.NodeStep.{IsKept, LoadTurn, NodeSteps};
 
-use super::{MEMORY_FAULT, Outcome, Step, faulted, flushed, show};
+use super::{Outcome, RunStep, faulted, flushed, show};
 use crate::MAX_TOKENS;
-use libyaml_events::{yaml_parser_initialize, yaml_parser_t, yaml_token_source_t};
+use libyaml_events::{MEMORY_FAULT, yaml_parser_initialize, yaml_parser_t, yaml_token_source_t};
 use libyaml_loader::yaml_parser_load;
 use line_reading::yaml_line_source_t;
 use line_writing::{line_refusal_t, write_document};
@@ -64,10 +64,10 @@ pub fn write_nodes<S: yaml_token_source_t, W: Write>(
 {
     loop {
         match write_next(alloc, parser, writer) {
-            Step::Written => {}
-            Step::Ended => return flushed(Outcome::Ended, writer),
-            Step::Failed(fault) => return faulted(&fault, writer),
-            Step::OutputFailed => return Outcome::OutputFailed,
+            RunStep::Written => {}
+            RunStep::Ended => return flushed(Outcome::Ended, writer),
+            RunStep::Failed(fault) => return faulted(&fault, writer),
+            RunStep::OutputFailed => return Outcome::OutputFailed,
         }
     }
 }
@@ -77,9 +77,10 @@ fn write_next<S: yaml_token_source_t, W: Write>(
     alloc: Global,
     parser: &mut yaml_parser_t<S>,
     writer: &mut W,
-) -> Step
+) -> RunStep
     requires between { between_documents parser.old ≡ true }
-    ensures falls { result ≡ Step.Written → events_left S.bound parser.new < events_left S.bound parser.old }
+    ensures falls { result ≡ RunStep.Written
+        → events_left S.bound parser.new < events_left S.bound parser.old }
     ensures between { between_documents parser.new ≡ true }
     ensures bound { parser.new.max_entries ≡ parser.old.max_entries }
     ensures kept { has_failed parser.old ≡ true → IsKept result (kept_fault parser.old)
@@ -93,18 +94,18 @@ fn write_next<S: yaml_token_source_t, W: Write>(
 {
     let loaded = yaml_parser_load(parser);
     let Ok(document) = &loaded else {
-        return Step::Failed(*parser.prefix());
+        return RunStep::Failed(*parser.prefix());
     };
     if document.nodes().is_empty() {
-        return Step::Ended;
+        return RunStep::Ended;
     }
     match write_document(alloc, document, writer) {
         Ok(()) => {}
-        Err(line_refusal_t::Memory) => return Step::Failed(MEMORY_FAULT),
-        Err(line_refusal_t::Output) => return Step::OutputFailed,
+        Err(line_refusal_t::Memory) => return RunStep::Failed(MEMORY_FAULT),
+        Err(line_refusal_t::Output) => return RunStep::OutputFailed,
     }
     let Ok(()) = show(parser, writer) else {
-        return Step::OutputFailed;
+        return RunStep::OutputFailed;
     };
-    Step::Written
+    RunStep::Written
 }

@@ -3,21 +3,21 @@ use Rattle.std.proofs.Math.Nat.{le_refl}
 use Rattle.libyaml_events.specs.parsers.EventsLeft.{events_left}
 use Rattle.libyaml_types.specs.declared.enums.yaml_error_type_t.{yaml_error_type_t}
 use Rattle.libyaml_loader.specs.declared.load.Closing.{Closing}
-use Rattle.libyaml_loader.specs.declared.load.Step.{Step}
-use Rattle.libyaml_loader.specs.declared.load.Step.TheVariants as step
+use Rattle.libyaml_loader.specs.declared.load.ComposeStep.{ComposeStep}
+use Rattle.libyaml_loader.specs.declared.load.ComposeStep.TheVariants as step
 use Rattle.libyaml_loader.proofs.loads.Falling.{falls_since, has_fallen, stays_since}
 use Rattle.libyaml_loader.proofs.loads.Outside.{behind_step}
 use Rattle.libyaml_loader.proofs.loads.Stepping.{steps_at, way_closes, way_fails, way_finds_end, way_more, way_none}
 use Rattle.libyaml_loader.proofs.loads.Taking.{ended_between}
 use Rattle.libyaml_loader.proofs.load.yaml_parser_load_nodes.Goals as goal
 
-ok_step : (r : Result Step yaml_error_type_t) (s t : Step) → r ≡ Ok s → s ≡ t → r ≡ Ok t
-ok_step r s t e f = e ∙ ap (λ (x : Step). Ok x) f
+ok_step : (r : Result ComposeStep yaml_error_type_t) (s t : ComposeStep) → r ≡ Ok s → s ≡ t → r ≡ Ok t
+ok_step r s t e f = e ∙ ap (λ (x : ComposeStep). Ok x) f
 
-composed_is_no_end : ◌≡◌ {A = Step} step.Composed step.Ended → ⊥
+composed_is_no_end : ◌≡◌ {A = ComposeStep} step.Composed step.Ended → ⊥
 composed_is_no_end h = cc
 
-closed_is_no_end : (x : Closing) → ◌≡◌ {A = Step} (step.Closed x) step.Ended → ⊥
+closed_is_no_end : (x : Closing) → ◌≡◌ {A = ComposeStep} (step.Closed x) step.Ended → ⊥
 closed_is_no_end x h = cc
 
 pub loop-ctx-init : goal.loop-ctx-init
@@ -34,7 +34,7 @@ loop-ctx-preserved g c =
           (steps_at t.gives t.known t.may_break call.result (Ok step.Composed) c.loop-ctx.parser call.new.parser c.loop-ctx.ctx call.new.ctx is
           call.ensures.steps) call.ensures.bound,
       stays_since _ _ _ c.loop-ctx.invariant.1
-          (has_fallen (λ (x : Step). x ≡ step.Ended) call.result step.Composed _ _ is composed_is_no_end call.ensures.falls),
+          (has_fallen (λ (x : ComposeStep). x ≡ step.Ended) call.result step.Composed _ _ is composed_is_no_end call.ensures.falls),
     )
 
 pub returns-in_err-compose_next-clause-loads : goal.returns-in_err-compose_next-clause-loads
@@ -71,14 +71,14 @@ pub loop-ctx-smaller : goal.loop-ctx-smaller
 loop-ctx-smaller g c =
     let call = c.compose_next in
     let is = ok_step call.result c.in_ok-compose_next.field-0 step.Composed c.in_ok-compose_next.was c.in-Composed.is in
-    has_fallen (λ (x : Step). x ≡ step.Ended) call.result step.Composed _ _ is composed_is_no_end call.ensures.falls
+    has_fallen (λ (x : ComposeStep). x ≡ step.Ended) call.result step.Composed _ _ is composed_is_no_end call.ensures.falls
 
 pub returns-in-Closed-clause-falls : goal.returns-in-Closed-clause-falls
 returns-in-Closed-clause-falls g c =
     let call = c.compose_next in
     let is = ok_step call.result c.in_ok-compose_next.field-0 (step.Closed c.in-Closed.closing) c.in_ok-compose_next.was c.in-Closed.is in
     inr (falls_since _ _ _ c.loop-ctx.invariant.1
-    (has_fallen (λ (x : Step). x ≡ step.Ended) call.result (step.Closed c.in-Closed.closing) _ _ is (closed_is_no_end c.in-Closed.closing)
+    (has_fallen (λ (x : ComposeStep). x ≡ step.Ended) call.result (step.Closed c.in-Closed.closing) _ _ is (closed_is_no_end c.in-Closed.closing)
     call.ensures.falls))
 
 pub returns-in-Ended-clause-falls : goal.returns-in-Ended-clause-falls
@@ -89,10 +89,10 @@ returns-in_err-compose_next-clause-between g c =
     let call = c.compose_next in
     ended_between call.new.parser (rw c.in_err-compose_next.was at call.ensures.fails).1
 
-closed_goes_on : (x : Closing) → ◌≡◌ {A = Step} (step.Closed x) step.Composed → ⊥
+closed_goes_on : (x : Closing) → ◌≡◌ {A = ComposeStep} (step.Closed x) step.Composed → ⊥
 closed_goes_on x h = cc
 
-end_goes_on : ◌≡◌ {A = Step} step.Ended step.Composed → ⊥
+end_goes_on : ◌≡◌ {A = ComposeStep} step.Ended step.Composed → ⊥
 end_goes_on h = cc
 
 pub returns-in-Closed-clause-between : goal.returns-in-Closed-clause-between

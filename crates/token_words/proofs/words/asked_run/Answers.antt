@@ -1,5 +1,5 @@
 use Rattle.std.proofs.Common.{◌≡◌, ◌≤◌, ◌<◌, List, [], ◌∷◌, length, get_or, map, string_bytes, ap, sym, ◌∙◌, arith}
-use Rattle.token_words.specs.Words.{asked_run}
+use Rattle.token_words.specs.Arguments.{asked_run}
 use Rattle.token_words.proofs.words.asked_run.Goals as goal
 
 -- a list of length one is its first element

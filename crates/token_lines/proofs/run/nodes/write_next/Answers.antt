@@ -4,7 +4,7 @@ use Rattle.libyaml_sources.specs.declared.fault.yaml_parser_t_prefix.{yaml_parse
 use Rattle.libyaml_sources.specs.Fault.{Fault}
 use Rattle.libyaml_loader.specs.document.Ids.{magnitude}
 use Rattle.line_writing.specs.declared.refusal.line_refusal_t.{line_refusal_t}
-use Rattle.token_lines.specs.declared.run.Step.TheVariants.{Ended, Failed, Written}
+use Rattle.token_lines.specs.declared.run.RunStep.TheVariants.{Ended, Failed, Written}
 use Rattle.token_lines.specs.lines.RunSteps.{WritesPrefix}
 use Rattle.token_lines.specs.nodes.NodeStep.{run_ending, run_lines}
 use Rattle.token_lines.proofs.nodes.NodeStepLemmas.{step_cut, step_ended, step_failed, step_written}

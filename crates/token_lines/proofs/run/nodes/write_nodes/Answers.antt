@@ -5,7 +5,7 @@ use Rattle.libyaml_events.specs.sources.History.{has_failed, kept_fault}
 use Rattle.libyaml_loader.specs.document.Ids.{magnitude}
 use Rattle.line_writing.specs.FaultText.{fault_text}
 use Rattle.token_lines.specs.declared.run.Outcome.TheVariants.{Ended, OutputFailed}
-use Rattle.token_lines.specs.declared.run.Step.TheVariants as step
+use Rattle.token_lines.specs.declared.run.RunStep.TheVariants as step
 use Rattle.token_lines.specs.nodes.NodeStep.{run_ending, run_lines}
 use Rattle.token_lines.proofs.nodes.NodeTurnLemmas.{last_load_at, loads_end, loads_failed, loads_output, none_loaded, not_ended_is, one_loaded, steps_at, turn_at}
 use Rattle.token_lines.proofs.lines.RunLemmas.{takes_failed, takes_last, takes_more, takes_none, writes_ended, writes_faulted}
