@@ -46,7 +46,7 @@ broken_depth [] f w c st x d n g h =
 broken_depth (Err g ∷ a) f w c st x d n i h = absurd (not_nil a (Err f) h.0)
 broken_depth (Ok t ∷ a) f w c st x d n i h = go (step w c t) (good_on st c n w t t.content i) h (λ v e. broken_depth a f v e st x d)
   where
-    go : (o : Progressed) → GoodOn o c st → Then o (λ v e. Calls v e (a ++ Err f ∷ []) (Err x) d) (a ++ Err f ∷ []) (Err x) d
+    go : (o : Progressed) → GoodOn o c.fault st → Then o (λ v e. Calls v e (a ++ Err f ∷ []) (Err x) d) (a ++ Err f ∷ []) (Err x) d
         → ((v : Want) (e : Config) → e.lookahead ≡ None → Good v e st → Calls v e (a ++ Err f ∷ []) (Err x) d → length d.states ≤ suc (open_collections st))
         → length d.states ≤ suc (open_collections st)
     go (Err g) y z ih = absurd (not_nil a (Err f) z.0)

@@ -10,6 +10,7 @@ use Rattle.libyaml_events.specs.machine.Config.{Config, below, pushed, taken, to
 use Rattle.libyaml_events.specs.machine.Machine.{Progressed, begin_document, machine, step}
 use Rattle.libyaml_events.specs.sources.Calls.{EventOrError, Calls, Then}
 use Rattle.libyaml_events.specs.sources.History.{Ran, begins, goes_on}
+use Rattle.libyaml_events.proofs.calls.Keeping.{Kept, calls_keep}
 use Rattle.libyaml_events.proofs.machine.StepKinds.{Begins, Goes, Kind, NodeStep, StepKind, at_first, at_indentless, begins_document, begins_pair, begins_stream}
 use Rattle.libyaml_events.proofs.machine.StepKinds.{closes, declares, empty, ends_document, ends_indentless, ends_pair, ends_stream, enters, entry, fails}
 use Rattle.libyaml_events.proofs.machine.StepKinds.{fails_in, from_key, hold, in_indentless, in_inner, in_pair, inner, kind, kind_of, no_node, node, opens, pair}
@@ -40,9 +41,7 @@ abbrev pub IsMarked : Want → Config → Type 0
 IsMarked w c = MarksAt (kind_of w c) c.states c.marks
 
 abbrev pub MarkedOn : Progressed → Type 0
-MarkedOn (Err f) = Unit {0}
-MarkedOn (Ok (Wants w, d)) = IsMarked w d
-MarkedOn (Ok (Given e, d)) = IsMarked AtState d
+MarkedOn = Kept IsMarked (λ e. IsMarked AtState)
 
 -- a whole node goes back to the stack
 back : (ss : List yaml_parser_state_t) (ms : List Mark) → MarksFit ss ms → MarksFit (top ss ∷ below ss) ms
@@ -97,21 +96,7 @@ marked_on w c u k = by _ _ _ (step_kind [] [] u w c k)
     by k o o' (closes e l) h = end_back c.states c.marks h
     by k o o' (ends_indentless l) h = back c.states c.marks h
 
-not_err : (e : Event) (x : yaml_error_type_t) → ◌≡◌ {A = EventOrError} (Ok e) (Err x) → ⊥
-not_err e x h = cc
-
--- a call that gives an event
-marked_then : (rest : List Answer) (e : Event) (d : Config) → ((w : Want) (c : Config) → IsMarked w c → Calls w c rest (Ok e) d → IsMarked AtState d)
-    → (o : Progressed) → MarkedOn o → Then o (λ w c. Calls w c rest (Ok e) d) rest (Ok e) d → IsMarked AtState d
-marked_then rest e d ih (Err f) h z = absurd (not_err e f.error z.1)
-marked_then rest e d ih (Ok (Wants w, c)) h z = ih w c h z
-marked_then rest e d ih (Ok (Given x, c)) h z = subst (IsMarked AtState) (sym z.2) h
-
-call_marked : (a : List Answer) (w : Want) (c : Config) (e : Event) (d : Config) → IsMarked w c → Calls w c a (Ok e) d → IsMarked AtState d
-call_marked [] w c e d h z = absurd z
-call_marked (Err f ∷ rest) w c e d h z = absurd (not_err e f.error z.1)
-call_marked (Ok t ∷ rest) w c e d h z = marked_then rest e d (λ w' c'. call_marked rest w' c' e d) (step w c t) (marked_on w c t t.content h) z
-
 pub ran_marked : {c : Config} {asked : List Token} {g : List Event} → Ran c asked g → IsMarked AtState c
 ran_marked begins = refl
-ran_marked (goes_on c asked g more e {d} {asked'} {given'} run running call x y) = call_marked _ AtState (taken c) e d (ran_marked run) call
+ran_marked (goes_on c asked g more e {d} {asked'} {given'} run running call x y)
+    = calls_keep (λ a. IsMarked) (λ e. IsMarked AtState) (λ t rest w c. marked_on w c t t.content) _ AtState (taken c) e d (ran_marked run) call

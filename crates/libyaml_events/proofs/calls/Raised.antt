@@ -117,7 +117,7 @@ module _ (ss : List yaml_parser_state_t) (ms : List Mark) where
   SameCalls a r d st = (w : Want) (c : Config) → c.lookahead ≡ None → Good w c st → IsMarked w c → Calls w c a r d
       → Calls w (raised ss ms c) a r (raised ss ms d)
 
-  same_then : (rest : List Answer) (r : EventOrError) (d c : Config) (st : Stage) → SameCalls rest r d st → (o : Progressed) → GoodOn o c st → MarkedOn o
+  same_then : (rest : List Answer) (r : EventOrError) (d c : Config) (st : Stage) → SameCalls rest r d st → (o : Progressed) → GoodOn o c.fault st → MarkedOn o
       → Then o (λ w' c'. Calls w' c' rest r d) rest r d → Then (lifted o) (λ w' c'. Calls w' c' rest r (raised ss ms d)) rest r (raised ss ms d)
   same_then rest r d c st ih (Err f) g m z = z
   same_then rest r d c st ih (Ok (Wants w, c')) g m z = ih w c' g.2 g.0 m z
@@ -134,7 +134,7 @@ module _ (ss : List yaml_parser_state_t) (ms : List Mark) where
   abbrev SameRefusals : List Answer → Stage → Type 0
   SameRefusals a st = (w : Want) (c : Config) → c.lookahead ≡ None → Good w c st → IsMarked w c → Refused w c a → Refused w (raised ss ms c) a
 
-  same_refused_at : (b : Bool) (rest : List Answer) (c : Config) (st : Stage) → SameRefusals rest st → (o : Progressed) → GoodOn o c st → MarkedOn o
+  same_refused_at : (b : Bool) (rest : List Answer) (c : Config) (st : Stage) → SameRefusals rest st → (o : Progressed) → GoodOn o c.fault st → MarkedOn o
       → RefusedAt b o (λ w' c'. Refused w' c' rest) rest → RefusedAt b (lifted o) (λ w' c'. Refused w' c' rest) rest
   same_refused_at b [] c st ih (Err f) g m z = z
   same_refused_at b [] c st ih (Ok (Wants w, c')) g m z = z
