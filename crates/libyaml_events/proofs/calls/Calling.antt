@@ -13,6 +13,7 @@ use Rattle.libyaml_events.specs.machine.Config.{Config, taken, is_fault, is_end_
 use Rattle.libyaml_events.specs.sources.Calls.{Calls, EventOrError, Then, held, held_token}
 use Rattle.libyaml_events.specs.sources.History.{answers}
 use Rattle.libyaml_events.proofs.calls.Asking.{Asks, AsksOn}
+use Rattle.libyaml_events.proofs.calls.Keeping.{not_err, ok_same}
 use Rattle.libyaml_events.proofs.machine.Follow.{more}
 use Rattle.libyaml_events.proofs.machine.Link.{config_of}
 use Rattle.libyaml_events.proofs.machine.Stand.{Leads, Links, Stands, amid_leads, amid_token, at_place, at_position, stand_leads, Fails}
@@ -70,13 +71,9 @@ pub data Starts (c : Config) (asked : List Token) (events : List Event) : Type 0
 
 pub config_taken : (q : Position) → (taken (config_of q) ≡ config_of q) × ((config_of q).lookahead ≡ None)
 config_taken (between (free f)) = (refl, refl)
-config_taken (between (behind d)) = (refl, refl)
 config_taken (headed (free f) ds d) = (refl, refl)
-config_taken (headed (behind x) ds d) = (refl, refl)
 config_taken (due p None) = (refl, refl)
-config_taken (due p (Some ps)) = (refl, refl)
 config_taken (done (whole (free f) m)) = (refl, refl)
-config_taken (done (whole (behind d) m)) = (refl, refl)
 config_taken _ = (refl, refl)
 
 or_true : (b : Bool) → b || true ≡ true
@@ -131,17 +128,11 @@ pub call_gives : (c : Config) (asked : List Token) (events : List Event) → Lin
     → (more : List Token) (e : Event) (d : Config) → Calls AtState (taken c) (held c ++ answers more []) (Ok e) d → Links d (asked ++ more) (events ++ e ∷ [])
 call_gives c asked events h running more e d z = go (call_answers c asked events h running (answers more []) (Ok e) d z)
   where
-    ok_same : (x : Event) → ◌≡◌ {A = EventOrError} (Ok e) (Ok x) → x ≡ e
-    ok_same x f = cc
-
-    not_err : (x : yaml_error_type_t) → ◌≡◌ {A = EventOrError} (Ok e) (Err x) → ⊥
-    not_err x f = cc
-
     go : Answered (Ok e) d asked (answers more []) events → Links d (asked ++ more) (events ++ e ∷ [])
-    go (gave m x i j k) = subst (λ (y : Event). Links d (asked ++ more) (events ++ y ∷ [])) (ok_same x j)
+    go (gave m x i j k) = subst (λ (y : Event). Links d (asked ++ more) (events ++ y ∷ [])) (ok_same e x j)
         (subst (λ (y : List Token). Links d (asked ++ y) (events ++ x ∷ [])) (sym (answers_same more m i)) k)
-    go (failed m i j k) = absurd (not_err d.fault.error j)
-    go (faulted m w x i j k) = absurd (not_err d.fault.error j)
+    go (failed m i j k) = absurd (not_err e d.fault.error j)
+    go (faulted m w x i j k) = absurd (not_err e d.fault.error j)
 
 pub ran_links : {c : Config} {asked : List Token} {events : List Event} → Ran c asked events → Links c asked events
 ran_links begins = at_position unopened refl tt refl refl refl

@@ -1,5 +1,5 @@
 -- A step that gives an event after which no document is open leads between documents.
-use Rattle.std.proofs.Common.{◌≡◌, ℕ, ◌++◌, ◌∙◌, ◌||◌, Bool, true, false, Ok, Err, IfOk, List, [], ◌∷◌, refl, sym, ap, subst}
+use Rattle.std.proofs.Common.{arith, ◌≡◌, ℕ, ◌++◌, ◌∙◌, ◌||◌, Bool, true, false, Ok, Err, IfOk, List, [], ◌∷◌, refl, sym, ap, subst}
 use Rattle.libyaml_types.specs.declared.enums.yaml_parser_state_t.{yaml_parser_state_t}
 use Rattle.libyaml_types.specs.declared.enums.yaml_parser_state_t.TheVariants as st
 use Rattle.libyaml_types.specs.declared.event.unnamed_yaml_event_t_data.{unnamed_yaml_event_t_data}
@@ -54,23 +54,12 @@ leads_out w c t k = by _ _ _ (step_kind [] [] t w c k)
     by_node d o o' (opens s i b r) = λ h. absurd (start_in _ i h)
 
     by : {n : ℕ} {x : Content} (k : Kind) (o o' : Progressed) → StepKind [] [] t c n x k o o' → LeadsOut o
-    by k o o' fails = tt
-    by k o o' (fails_in f) = tt
-    by k o o' (wants w i l) = tt
-    by k o o' (declares d x p l) = tt
-    by k o o' (enters w s i j l) = tt
-    by k o o' (begins_stream s l) = λ h. refl
-    by k o o' (ends_stream l) = λ h. refl
-    by k o o' (begins_document d s kept i l) = λ h. absurd cc
     by k o o' (ends_document d s b false i l) = λ h. stands_between s i
     by k o o' (ends_document d s b true i l) = λ h. stands_between s i
     by k o o' (node n) = by_node _ _ _ n
     by k o o' (entry s r e g n) = by_node _ _ _ n
     by k o o' (closes e l) = λ h. absurd (end_in _ e h)
-    by k o o' (empty s g l) = λ h. absurd cc
-    by k o o' (begins_pair s l) = λ h. absurd cc
-    by k o o' (ends_pair l) = λ h. absurd cc
-    by k o o' (ends_indentless l) = λ h. absurd cc
+    by k o o' _ = first_of (assumption, grind arith)
 
 with_between : (b : Bool) (s : yaml_parser_state_t) → is_between s ≡ true → (b || is_between s) ≡ true
 with_between true s h = refl

@@ -78,23 +78,17 @@ marked_on w c u k = by _ _ _ (step_kind [] [] u w c k)
     by_node d o o' (opens s i b r) h = begin_marks (kind s) d.states d.marks b h
 
     by : {n : ℕ} {x : Content} (k : Kind) (o o' : Progressed) → StepKind [] [] u c n x k o o' → MarksAt k c.states c.marks → MarkedOn o
-    by k o o' fails h = tt
-    by k o o' (fails_in f) h = tt
     by k o o' (wants w i l) h = subst (λ (l : Kind). MarksAt l c.states c.marks) (sym i) h
-    by k o o' (declares d x p l) h = h
     by k o o' (enters {m} w s i j l) h = subst (λ (l : Kind). MarksAt l c.states (m ∷ c.marks)) (sym j) h
-    by k o o' (begins_stream s l) h = h
-    by k o o' (ends_stream l) h = h
     by k o o' (begins_document d s kept i l) h
         = holds kept _ (subst (λ (l : Kind). MarksAt l (begin_document s c).states c.marks) (sym i) h)
     by k o o' (ends_document d s b kept i l) h = holds kept _ (subst (λ (l : Kind). MarksAt l c.states c.marks) (sym i) h)
     by k o o' (node n) h = by_node c _ _ n h
     by k o o' (entry s r e g n) h = by_node (pushed s c) _ _ n (go_marks _ (kind s) c.states c.marks g h)
     by k o o' (empty s g l) h = go_marks _ (kind s) c.states c.marks g h
-    by k o o' (begins_pair s l) h = h
-    by k o o' (ends_pair l) h = h
     by k o o' (closes e l) h = end_back c.states c.marks h
     by k o o' (ends_indentless l) h = back c.states c.marks h
+    by k o o' _ h = assumption
 
 pub ran_marked : {c : Config} {asked : List Token} {g : List Event} → Ran c asked g → IsMarked AtState c
 ran_marked begins = refl

@@ -93,24 +93,14 @@ module _ (ss : List yaml_parser_state_t) (ms : List Mark) where
       by_node d o o' (opens s i b r) f = refl
 
       by : {n : ℕ} {x : Content} (k : Kind) (o o' : Progressed) → StepKind ss ms u c n x k o o' → GoodIn k c.states c.lookahead st → MarksAt k c.states c.marks → o' ≡ lifted o
-      by k o o' fails g m = refl
       by k o o' (fails_in f) g m = fault_raised f c.marks (marks_full c.states c.marks m)
-      by k o o' (wants w i l) g m = refl
-      by k o o' (declares d x p l) g m = refl
-      by k o o' (enters w s i j l) g m = refl
-      by k o o' (begins_stream s l) g m = refl
-      by k o o' (ends_stream l) g m = refl
       by k o o' (begins_document d s true i l) g m = refl
-      by k o o' (begins_document d s false i l) g m = refl
       by k o o' (ends_document d s b true i l) g m = refl
-      by k o o' (ends_document d s b false i l) g m = refl
       by k o o' (node n) g m = by_node c _ _ n (due_full c.states st g)
       by k o o' (entry s r e x n) g m = by_node (pushed s c) _ _ n tt
-      by k o o' (empty s x l) g m = refl
-      by k o o' (begins_pair s l) g m = refl
-      by k o o' (ends_pair l) g m = refl
       by k o o' (closes e l) g m = close_raised _ u c (stack_full c.states g.0) (marks_full c.states c.marks m)
       by k o o' (ends_indentless l) g m = keeps_back _ _ _ u c (stack_full c.states g.0)
+      by k o o' _ g m = refl
 
   -- the rest of a call
   abbrev SameCalls : List Answer → EventOrError → Config → Stage → Type 0

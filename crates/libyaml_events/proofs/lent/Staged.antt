@@ -12,7 +12,7 @@ use Rattle.libyaml_events.specs.machine.Config.{Config, taken, is_fault, is_end_
 use Rattle.libyaml_grammar.specs.sentences.Trees.{behind, whole}
 use Rattle.libyaml_events.specs.sources.History.{answers, is_stream_end, Ran, begins, goes_on}
 use Rattle.libyaml_events.specs.sources.Parsing.{IsWhole}
-use Rattle.libyaml_events.proofs.calls.Staging.{DueOn, Good, GoodAt, GoodBefore, GoodEvent, GoodIn, GoodOn, InPair, Inside, IsStack, NodeDue, StackOn, around, deeper, good_on}
+use Rattle.libyaml_events.proofs.calls.Staging.{DueOn, Good, GoodAt, GoodBefore, GoodEvent, GoodIn, InPair, Inside, IsStack, NodeDue, StackOn, around, deeper, good_step}
 use Rattle.libyaml_events.proofs.machine.StepKinds as kinds
 use Rattle.libyaml_events.proofs.machine.StepKinds.{Goes, Kind, StepKind, kind, kind_of, step_kind}
 use Rattle.libyaml_grammar.specs.cuts.CutTrees.{open_collection}
@@ -67,7 +67,7 @@ pub call_staged : (c : Config) (g : List Event) → Staged c g → (a : List Ans
 call_staged c g h a e d z =
     let st = stage_of g in
     let l : GoodEvent c.fault st e d = calls_keep (λ rest. GoodBefore c.fault st) (GoodEvent c.fault st)
-    (λ t rest w x k. subst (λ (f : Fault). GoodOn (step w x t) f st) k.1 (good_on st x k.2 w t t.content k.0)) a AtState (taken c) e d
+    (λ t rest. good_step c.fault st t) a AtState (taken c) e d
     (retake c.state c.states c.lookahead st h.good, refl, refl) z in
     (record { good = subst (λ (x : Stage). Good AtState d x) (sym (stage_snoc at_start g e)) l.0; no_fault_kept = l.1 ∙ h.no_fault_kept }, l.2)
 
