@@ -1,7 +1,7 @@
 -- What a call's results lead to.
-use Rattle.std.proofs.Common.{◌≡◌, List, [], ◌∷◌, ◌++◌, ◌||◌, Some, None, refl, sym, ap, ◌∙◌, subst, Bool, true, false, Ok, Err}
+use Rattle.std.proofs.Common.{◌≡◌, List, [], ◌∷◌, ◌++◌, ◌||◌, None, refl, sym, ap, ◌∙◌, subst, Bool, true, false, Ok, Err}
 use Rattle.libyaml_events.specs.machine.Machine.{Progressed, step}
-use Rattle.libyaml_grammar.specs.sentences.Trees.{behind, whole}
+use Rattle.libyaml_grammar.specs.sentences.Trees.{whole}
 use Rattle.libyaml_events.specs.sources.History.{Ran, begins, goes_on}
 use Rattle.libyaml_grammar.proofs.lent.Lists.{nil_right, assoc}
 use Rattle.libyaml_sources.specs.Fault.{Answer, Fault}
@@ -19,7 +19,6 @@ use Rattle.libyaml_events.proofs.machine.Link.{config_of}
 use Rattle.libyaml_events.proofs.machine.Stand.{Leads, Links, Stands, amid_leads, amid_token, at_place, at_position, stand_leads, Fails}
 use Rattle.libyaml_events.specs.machine.Want.{Want, AtState, Given, Wants}
 use Rattle.libyaml_types.specs.declared.enums.yaml_parser_state_t.TheVariants.{YAML_PARSE_END_STATE}
-use Rattle.libyaml_types.specs.declared.enums.yaml_error_type_t.{yaml_error_type_t}
 
 pub data Answered (r : EventOrError) (d : Config) (l : List Token) (position_rest : List Answer) (events : List Event) : Type 0 where
   gave : (more : List Token) (e : Event) → position_rest ≡ answers more [] → r ≡ Ok e → Links d (l ++ more) (events ++ e ∷ [])

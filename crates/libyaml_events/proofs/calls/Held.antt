@@ -1,7 +1,6 @@
 -- A call keeps at most the token that it asked for last.
 use Rattle.std.proofs.Common.{◌≡◌, ℕ, ◌≤◌, ◌⊎◌, inl, inr, arith, List, [], ◌∷◌, ◌++◌, length, Option, Some, None, Bool, true, false, Ok, Err, refl, sym, ap}
 use Rattle.std.proofs.Common.{◌∙◌, subst}
-use Rattle.libyaml_types.specs.declared.enums.yaml_error_type_t.{yaml_error_type_t}
 use Rattle.libyaml_sources.specs.Fault.{Answer}
 use Rattle.libyaml_grammar.specs.sentences.Events.{Event}
 use Rattle.libyaml_grammar.specs.sentences.Tokens.{Content, Token}
@@ -10,12 +9,12 @@ use Rattle.libyaml_events.specs.machine.Want.{Want, AtState, Given, Wants}
 use Rattle.libyaml_events.specs.machine.Config.{Config, Parser, taken}
 use Rattle.libyaml_events.specs.machine.Machine.{Progressed, machine, step}
 use Rattle.libyaml_events.specs.parsers.Lookahead.{tokens_in, HoldsLast}
-use Rattle.libyaml_events.specs.sources.Calls.{EventOrError, Calls, Then, held_token}
+use Rattle.libyaml_events.specs.sources.Calls.{Calls, Then, held_token}
 use Rattle.libyaml_events.specs.sources.History.{answers, Ran, begins, goes_on}
 use Rattle.libyaml_events.proofs.calls.Keeping.{Kept, not_err}
-use Rattle.libyaml_events.proofs.machine.StepKinds.{Kind, NodeStep, StepKind, begins_document, begins_pair, begins_stream, closes, declares, empty, ends_document}
-use Rattle.libyaml_events.proofs.machine.StepKinds.{ends_indentless, ends_pair, ends_stream, enters, entry, fails, fails_in, hold, no_node, node, opens, property}
-use Rattle.libyaml_events.proofs.machine.StepKinds.{step_kind, wants, whole}
+use Rattle.libyaml_events.proofs.machine.StepKinds.{Kind, NodeStep, StepKind, begins_document, ends_document}
+use Rattle.libyaml_events.proofs.machine.StepKinds.{entry, hold, no_node, node, opens, property}
+use Rattle.libyaml_events.proofs.machine.StepKinds.{step_kind, whole}
 
 -- a step by the token u keeps none or u
 abbrev pub HoldsNone : Want → Config → Type 0

@@ -1,23 +1,22 @@
 -- A step that gives an event after which no document is open leads between documents.
-use Rattle.std.proofs.Common.{arith, ◌≡◌, ℕ, ◌++◌, ◌∙◌, ◌||◌, Bool, true, false, Ok, Err, IfOk, List, [], ◌∷◌, refl, sym, ap, subst}
+use Rattle.std.proofs.Common.{arith, ◌≡◌, ℕ, ◌++◌, ◌||◌, Bool, true, false, Ok, Err, IfOk, [], refl, sym, subst}
 use Rattle.libyaml_types.specs.declared.enums.yaml_parser_state_t.{yaml_parser_state_t}
 use Rattle.libyaml_types.specs.declared.enums.yaml_parser_state_t.TheVariants as st
 use Rattle.libyaml_types.specs.declared.event.unnamed_yaml_event_t_data.{unnamed_yaml_event_t_data}
 use Rattle.libyaml_sources.specs.Fault.{Answer}
 use Rattle.libyaml_grammar.specs.sentences.Events.{Event}
 use Rattle.libyaml_grammar.specs.sentences.Tokens.{Content, Token}
-use Rattle.libyaml_events.specs.machine.Want.{Want, AtState, Given, Wants}
+use Rattle.libyaml_events.specs.machine.Want.{Want, AtState}
 use Rattle.libyaml_events.specs.machine.Config.{Config, Parser, is_between, is_end_state, is_fault, ended_or_failed, taken}
-use Rattle.libyaml_events.specs.machine.Machine as mach
 use Rattle.libyaml_events.specs.machine.Machine.{Progressed, machine}
 use Rattle.libyaml_events.specs.parsers.OutsideEvents.{is_outside_event}
-use Rattle.libyaml_events.specs.sources.Calls.{Call, Calls, Then, EventOrError, ParsesIf, held}
+use Rattle.libyaml_events.specs.sources.Calls.{Call, EventOrError, ParsesIf, held}
 use Rattle.libyaml_events.specs.sources.History.{between_documents}
 use Rattle.libyaml_events.proofs.calls.Keeping.{Kept, calls_keep}
-use Rattle.libyaml_events.proofs.machine.StepKinds.{IsEnd, IsLeaf, IsStart, Kind, NodeStep, StepKind, a_mapping, a_scalar, a_sequence, an_alias, begins_document}
-use Rattle.libyaml_events.proofs.machine.StepKinds.{begins_pair, begins_stream, between, closes, declares, empty, ends_document, ends_indentless, ends_pair}
-use Rattle.libyaml_events.proofs.machine.StepKinds.{ends_stream, enters, entry, fails, fails_in, kind, mapping_end, no_node, node, opens, property, sequence_end}
-use Rattle.libyaml_events.proofs.machine.StepKinds.{step_kind, wants, whole}
+use Rattle.libyaml_events.proofs.machine.StepKinds.{IsEnd, IsLeaf, IsStart, Kind, NodeStep, StepKind, a_mapping, a_scalar, a_sequence, an_alias}
+use Rattle.libyaml_events.proofs.machine.StepKinds.{between, closes, ends_document}
+use Rattle.libyaml_events.proofs.machine.StepKinds.{entry, kind, mapping_end, no_node, node, opens, property, sequence_end}
+use Rattle.libyaml_events.proofs.machine.StepKinds.{step_kind, whole}
 
 -- what an event says of the state that it leaves
 abbrev LeavesBetween : Event → Config → Type 0

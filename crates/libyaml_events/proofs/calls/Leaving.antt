@@ -1,5 +1,5 @@
 -- What a call that failed leaves: no token held, and a stack within its depth.
-use Rattle.std.proofs.Common.{◌≡◌, ◌≤◌, zero, suc, ◌+◌, arith, List, [], ◌∷◌, ◌++◌, length, None, Ok, Err, IfErr, refl, ap, ◌∙◌}
+use Rattle.std.proofs.Common.{◌≡◌, ◌≤◌, zero, ◌+◌, arith, List, [], ◌∷◌, ◌++◌, length, None, Ok, Err, IfErr, refl, ap, ◌∙◌}
 use Rattle.libyaml_types.specs.declared.enums.yaml_error_type_t.{yaml_error_type_t}
 use Rattle.libyaml_sources.specs.Fault.{Answer, Fault}
 use Rattle.libyaml_grammar.specs.sentences.Events.{Event}
@@ -11,7 +11,7 @@ use Rattle.libyaml_events.specs.machine.Config.{Config, taken, with_fault}
 use Rattle.libyaml_events.specs.machine.Machine.{Progressed, step}
 use Rattle.libyaml_events.specs.parsers.Left.{Left, nothing, broken_off}
 use Rattle.libyaml_events.specs.parsers.Lookahead.{tokens_in}
-use Rattle.libyaml_events.specs.parsers.Stages.{Stage, open_collections, stage_of}
+use Rattle.libyaml_events.specs.parsers.Stages.{open_collections, stage_of}
 use Rattle.libyaml_events.specs.sources.Calls.{EventOrError, Calls, Then}
 use Rattle.libyaml_events.specs.sources.History.{Ran}
 use Rattle.libyaml_events.proofs.calls.Held.{HoldsAtMost, HoldsNone, held_on}

@@ -1,19 +1,16 @@
 -- The stack of marks holds one for each open collection that has its start there.
-use Rattle.std.proofs.Common.{◌≡◌, ℕ, List, [], ◌∷◌, Bool, true, false, Ok, Err, refl, sym, subst}
-use Rattle.libyaml_types.specs.declared.enums.yaml_error_type_t.{yaml_error_type_t}
+use Rattle.std.proofs.Common.{◌≡◌, ℕ, List, [], ◌∷◌, Bool, true, false, refl, sym, subst}
 use Rattle.libyaml_types.specs.declared.enums.yaml_parser_state_t.{yaml_parser_state_t}
-use Rattle.libyaml_sources.specs.Fault.{Answer}
 use Rattle.libyaml_grammar.specs.sentences.Events.{Event}
 use Rattle.libyaml_grammar.specs.sentences.Tokens.{Content, Mark, Token}
-use Rattle.libyaml_events.specs.machine.Want.{Want, AtState, Given, Wants}
+use Rattle.libyaml_events.specs.machine.Want.{Want, AtState}
 use Rattle.libyaml_events.specs.machine.Config.{Config, below, pushed, taken, top}
-use Rattle.libyaml_events.specs.machine.Machine.{Progressed, begin_document, machine, step}
-use Rattle.libyaml_events.specs.sources.Calls.{EventOrError, Calls, Then}
+use Rattle.libyaml_events.specs.machine.Machine.{Progressed, begin_document, machine}
 use Rattle.libyaml_events.specs.sources.History.{Ran, begins, goes_on}
 use Rattle.libyaml_events.proofs.calls.Keeping.{Kept, calls_keep}
-use Rattle.libyaml_events.proofs.machine.StepKinds.{Begins, Goes, Kind, NodeStep, StepKind, at_first, at_indentless, begins_document, begins_pair, begins_stream}
-use Rattle.libyaml_events.proofs.machine.StepKinds.{closes, declares, empty, ends_document, ends_indentless, ends_pair, ends_stream, enters, entry, fails}
-use Rattle.libyaml_events.proofs.machine.StepKinds.{fails_in, from_key, hold, in_indentless, in_inner, in_pair, inner, kind, kind_of, no_node, node, opens, pair}
+use Rattle.libyaml_events.proofs.machine.StepKinds.{Begins, Goes, Kind, NodeStep, StepKind, at_first, at_indentless, begins_document}
+use Rattle.libyaml_events.proofs.machine.StepKinds.{closes, empty, ends_document, ends_indentless, enters, entry}
+use Rattle.libyaml_events.proofs.machine.StepKinds.{from_key, hold, in_indentless, in_inner, in_pair, inner, kind, kind_of, no_node, node, opens, pair}
 use Rattle.libyaml_events.proofs.machine.StepKinds.{pair_key, property, step_kind, wants, whole}
 
 -- whether the place is within a collection whose start is on the stack

@@ -17,9 +17,9 @@ use Rattle.libyaml_events.specs.sources.History.{History, Ran}
 use Rattle.libyaml_events.proofs.calls.Marked.{IsMarked, MarkedOn, MarksAt, OneMore, MarksFit, marked_on, ran_marked}
 use Rattle.libyaml_events.proofs.lent.Staged.{ran_staged, retake}
 use Rattle.libyaml_events.proofs.calls.Staging.{IsStack, NodeDue, Good, GoodIn, GoodOn, good_on}
-use Rattle.libyaml_events.proofs.machine.StepKinds.{Kind, NodeStep, StepKind, begins_document, begins_pair, begins_stream, closes, declares, empty, ends_document}
-use Rattle.libyaml_events.proofs.machine.StepKinds.{ends_indentless, ends_pair, ends_stream, enters, entry, fails, fails_in, no_node, node, opens, property}
-use Rattle.libyaml_events.proofs.machine.StepKinds.{step_kind, wants, whole}
+use Rattle.libyaml_events.proofs.machine.StepKinds.{Kind, NodeStep, StepKind, begins_document, closes, ends_document}
+use Rattle.libyaml_events.proofs.machine.StepKinds.{ends_indentless, entry, fails_in, no_node, node, opens, property}
+use Rattle.libyaml_events.proofs.machine.StepKinds.{step_kind, whole}
 
 abbrev IsFull : {A : Type 0} → List A → Type 0
 IsFull [] = ⊥

@@ -1,11 +1,11 @@
 -- The machine's stack of states stands for the stage of the events that were given.
-use Rattle.std.proofs.Common.{◌≡◌, ℕ, zero, suc, List, [], ◌∷◌, Option, Some, None, Bool, true, false, Ok, Err, refl, sym, ap, subst}
+use Rattle.std.proofs.Common.{◌≡◌, ℕ, zero, suc, List, [], ◌∷◌, Option, Some, None, Bool, true, false, refl, sym, ap, subst}
 use Rattle.libyaml_types.specs.declared.enums.yaml_parser_state_t.{yaml_parser_state_t}
 use Rattle.libyaml_grammar.specs.sentences.Events.{Event}
 use Rattle.libyaml_grammar.specs.sentences.Tokens.{Content, Token}
 use Rattle.libyaml_sources.specs.Fault.{Fault}
 use Rattle.libyaml_events.proofs.calls.Keeping.{Kept}
-use Rattle.libyaml_events.specs.machine.Want.{Want, AtState, Given, Wants}
+use Rattle.libyaml_events.specs.machine.Want.{Want, AtState}
 use Rattle.libyaml_events.specs.machine.Config.{Config, below, popped, pushed, top}
 use Rattle.libyaml_events.specs.machine.Machine.{Progressed, begin_document, end_document, machine}
 use Rattle.libyaml_events.specs.parsers.Stages.{Stage, at_start, outside, before_root, within_root, behind_root, at_end, leaf, opened, closed, after, is_event}

@@ -23,14 +23,14 @@ use Rattle.libyaml_events.specs.parsers.Stages.{Stage, at_end, at_start, before_
 use Rattle.libyaml_events.specs.parsers.Stages.{open_collections, is_quiet, ends_quietly, takes_no_memory}
 use Rattle.libyaml_grammar.specs.sentences.Events.{events}
 use Rattle.libyaml_grammar.specs.sentences.Tokens.{Content, DocumentEnd, StreamEnd, StreamStart, Token, VersionDirective}
-use Rattle.libyaml_grammar.specs.sentences.Trees.{FlowMember, Stream, free, key, mapping, no_parts, no_value, pair, part, sequence, single, value, with_value}
+use Rattle.libyaml_grammar.specs.sentences.Trees.{FlowMember, Stream, free, key, mapping, no_value, pair, part, sequence}
 use Rattle.libyaml_grammar.specs.sentences.Events.{Event, document_end_at, stream_end_at}
-use Rattle.libyaml_grammar.specs.cuts.CutTrees.{Open, Place, block, entry, explicit_root, flow_entry, flow_key, flow_value, implicit_root, indentless_entry}
+use Rattle.libyaml_grammar.specs.cuts.CutTrees.{Open, Place, block, flow_entry, flow_key, flow_value, implicit_root}
 use Rattle.libyaml_grammar.specs.cuts.CutTrees.{part_place, root, slot}
 use Rattle.libyaml_grammar.specs.cuts.Rest.{rest}
-use Rattle.libyaml_grammar.proofs.lent.Positions.{Position, between, done, due, flow_behind, flow_due, flow_keyed, headed, in_indentless, in_mapping}
-use Rattle.libyaml_grammar.proofs.lent.Positions.{in_sequence, shown, unopened}
-use Rattle.libyaml_events.specs.sources.Calls.{Calls, EventOrError, Refused, RefusedAt, Then}
+use Rattle.libyaml_grammar.proofs.lent.Positions.{Position, between, done, due, flow_behind, flow_due, flow_keyed, headed, in_mapping}
+use Rattle.libyaml_grammar.proofs.lent.Positions.{shown, unopened}
+use Rattle.libyaml_events.specs.sources.Calls.{Calls, Refused, RefusedAt}
 use Rattle.libyaml_events.specs.machine.Growth.{grows_at_directive, grows_at_document, may_grow, may_grow_at}
 use Rattle.libyaml_events.proofs.calls.Keeping.{calls_keep}
 use Rattle.libyaml_events.proofs.lent.CallsInTurn.{stage_more}

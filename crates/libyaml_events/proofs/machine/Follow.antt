@@ -3,7 +3,7 @@ use Rattle.std.proofs.Common.{◌≡◌, ℕ, suc, List, [], ◌∷◌, Option, 
 use Rattle.libyaml_events.specs.machine.Machine.{Progressed, parse_node, node_content, no_content, content_behind, content_resolved, implicit_document}
 use Rattle.libyaml_grammar.specs.cuts.CutTrees.{declared, open_collection}
 use Rattle.libyaml_grammar.specs.sentences.Tokens.{Alias, Anchor, BlockEnd, BlockEntry, BlockMappingStart, BlockSequenceStart, Content, DocumentEnd}
-use Rattle.libyaml_grammar.specs.sentences.Tokens.{DocumentStart, FlowEntry, FlowMappingEnd, FlowMappingStart, FlowSequenceEnd, FlowSequenceStart, Key, Mark}
+use Rattle.libyaml_grammar.specs.sentences.Tokens.{DocumentStart, FlowMappingEnd, FlowMappingStart, FlowSequenceEnd, FlowSequenceStart, Key}
 use Rattle.libyaml_grammar.specs.sentences.Tokens.{Marks, Scalar, ScalarText, StreamEnd, StreamStart, Tag, TagDirective, Token, Value, VersionDirective}
 use Rattle.libyaml_grammar.specs.sentences.Tokens.{marks_of, tok}
 use Rattle.libyaml_grammar.specs.sentences.Trees.{Before, BlockItems, BlockNode, BlockSlot, Directive, Directives, Documents, FlowMember, FlowNode, FlowSlot}
@@ -14,7 +14,7 @@ use Rattle.libyaml_grammar.specs.sentences.Trees.{single, slot_of, tag, tag_anch
 use Rattle.libyaml_grammar.specs.sentences.Events.{Event, alone_of, anchor_of, directive_start, document_end_at, document_start_at, empty_at, end_at, end_of}
 use Rattle.libyaml_grammar.specs.sentences.Events.{first_directive, first_of_properties, last_of_properties, scalar_of, tag_of}
 use Rattle.libyaml_grammar.specs.sentences.Order.{both, is_known, properties_in_order}
-use Rattle.libyaml_grammar.specs.cuts.CutTrees.{BlockPlace, Open, PartPlace, Place, block, declared_block, entry, explicit_root, flow_entry, flow_key}
+use Rattle.libyaml_grammar.specs.cuts.CutTrees.{BlockPlace, Open, PartPlace, Place, block, entry, explicit_root, flow_entry, flow_key}
 use Rattle.libyaml_grammar.specs.cuts.CutTrees.{flow_value, implicit_root, indentless_entry, part_place, root, slot}
 use Rattle.libyaml_grammar.specs.cuts.Fits.{ends_empty}
 use Rattle.libyaml_grammar.proofs.lent.Positions.{Position, between, done, due, flow_behind, flow_due, flow_keyed, headed, in_indentless, in_mapping}
@@ -26,15 +26,14 @@ use Rattle.libyaml_grammar.proofs.lent.Given.{given_at_flow, given_at_free, give
 use Rattle.libyaml_grammar.proofs.lent.Given.{given_behind_indentless, given_behind_item, given_behind_key, given_behind_member, given_behind_part}
 use Rattle.libyaml_grammar.proofs.lent.Given.{given_behind_whole, given_on_block_entry, given_on_block_mapping, given_on_block_sequence, given_on_due}
 use Rattle.libyaml_grammar.proofs.lent.Given.{given_without, gives}
-use Rattle.libyaml_events.specs.machine.Config.{Config, keep, no_handles, popped, popped_mark, taken}
+use Rattle.libyaml_events.specs.machine.Config.{Config, keep, no_handles, popped, taken}
 use Rattle.libyaml_events.proofs.machine.Declared.{resolve_is, tag_after, version_after}
-use Rattle.libyaml_events.proofs.machine.Link.{End, after, config, config_of, emit, ends, free_config, handles_of, headed_config, kind, marks_block}
-use Rattle.libyaml_events.proofs.machine.Link.{marks_place, node_config, read_of, spends, states_block, states_place, step_ends, tag_read, waits, want_of}
+use Rattle.libyaml_events.proofs.machine.Link.{End, after, config, config_of, emit, ends, free_config, handles_of, headed_config, kind}
+use Rattle.libyaml_events.proofs.machine.Link.{node_config, read_of, spends, step_ends, tag_read, waits, want_of}
 use Rattle.libyaml_grammar.proofs.lent.StepsMeet.{IsDue, IsEntry, IsMet}
 use Rattle.libyaml_events.specs.declared.node_head.NodeHead.{NodeHead}
 use Rattle.libyaml_events.specs.machine.Want.{AtState, Given}
 use Rattle.libyaml_types.specs.declared.enums.yaml_parser_state_t.TheVariants as st
-use Rattle.libyaml_types.specs.declared.enums.yaml_parser_state_t.{yaml_parser_state_t}
 
 abbrev pub IsProperty : Content → Type 0
 IsProperty (Anchor a) = Unit {0}
