@@ -188,8 +188,7 @@ not_last : {A : Type 0} (K : ℕ → Option A) (p q : List ℕ) → None ≡ wit
 not_last K p q = rw (split_first 58 q) refl
 
 no_last : {A : Type 0} (K : ℕ → Option A) (p : List ℕ) (more : List (List ℕ)) → number_of p ≡ None → None ≡ with_last K (p ∷ more)
-no_last K p [] e = rw e refl
-no_last K p (q ∷ more) e = refl
+no_last K p more e = grind arith
 
 last_step : {A : Type 0} (k : ℕ → Option (List ℕ) → Option A) (bytes : List ℕ) → Shape bytes (digits_of bytes) (behind_digits bytes)
     → (number_at bytes >>= (λ r. behind_field r.1 >>= (λ f. k r.0 f))) ≡ with_last (λ n. k n (behind_byte 32 bytes)) (S (before_byte 32 bytes))
