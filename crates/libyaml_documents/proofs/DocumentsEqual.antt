@@ -1,5 +1,5 @@
 -- The comparison of documents decides whether two are one.
-use Rattle.std.proofs.Common.{◌≡◌, ap}
+use Rattle.std.proofs.Common.{◌≡◌}
 use Rattle.std.specs.Bool.{Decides}
 use Rattle.std.specs.Cmp.{booleans_Decides}
 use Rattle.std.specs.Cmp.Lexicographic.{pointwise_decides}
@@ -26,16 +26,4 @@ document_decides a b =
       start_mark = p.1.1.1.1.1.0 i;
       end_mark = p.1.1.1.1.1.1 i;
     })
-    (λ e. (
-      ap (λ (x : Document). x.nodes) e,
-      (
-        ap (λ (x : Document). x.version_directive) e,
-        (
-          ap (λ (x : Document). x.tag_directives) e,
-          (
-            ap (λ (x : Document). x.start_implicit) e,
-            (ap (λ (x : Document). x.end_implicit) e, (ap (λ (x : Document). x.start_mark) e, ap (λ (x : Document). x.end_mark) e)),
-          ),
-        ),
-      ),
-    ))
+    (λ e. search)

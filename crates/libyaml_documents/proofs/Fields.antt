@@ -50,19 +50,19 @@ pub mark_decides : (a b : yaml_mark_t) → Decides ((mark_eq.ghosts).eq a b) (a 
 mark_decides a b =
     through (both (unsigned_Decides a.index b.index) (both (unsigned_Decides a.line b.line) (unsigned_Decides a.column b.column)))
     (λ p i. record { index = p.0 i; line = p.1.0 i; column = p.1.1 i })
-    (λ e. (ap (λ (x : yaml_mark_t). x.index) e, (ap (λ (x : yaml_mark_t). x.line) e, ap (λ (x : yaml_mark_t). x.column) e)))
+    (λ e. search)
 
 pub version_decides : (a b : yaml_version_directive_t) → Decides ((version_eq.ghosts).eq a b) (a ≡ b)
 version_decides a b =
     through (both (signed_Decides a.major b.major) (signed_Decides a.minor b.minor))
     (λ p i. record { major = p.0 i; minor = p.1 i })
-    (λ e. (ap (λ (x : yaml_version_directive_t). x.major) e, ap (λ (x : yaml_version_directive_t). x.minor) e))
+    (λ e. search)
 
 directive_decides : (a b : yaml_tag_directive_t) → Decides ((directive_eq.ghosts).eq a b) (a ≡ b)
 directive_decides a b =
     through (both (bytes_decides a.handle b.handle) (bytes_decides a.prefix b.prefix))
     (λ p i. record { handle = p.0 i; prefix = p.1 i })
-    (λ e. (ap (λ (x : yaml_tag_directive_t). x.handle) e, ap (λ (x : yaml_tag_directive_t). x.prefix) e))
+    (λ e. search)
 
 pub versions_decide : (a b : Option yaml_version_directive_t) → Decides (option_eq ((version_eq.ghosts).eq) a b) (a ≡ b)
 versions_decide = option_decides ((version_eq.ghosts).eq) version_decides
@@ -78,7 +78,7 @@ pair_decides : (a b : yaml_node_pair_t) → Decides ((pair_eq.ghosts).eq a b) (a
 pair_decides a b =
     through (both (signed_Decides a.key b.key) (signed_Decides a.value b.value))
     (λ p i. record { key = p.0 i; value = p.1 i })
-    (λ e. (ap (λ (x : yaml_node_pair_t). x.key) e, ap (λ (x : yaml_node_pair_t). x.value) e))
+    (λ e. search)
 
 pub pairs_decide : (a b : List yaml_node_pair_t) → Decides (pointwise (pair_eq.ghosts).eq a b) (a ≡ b)
 pairs_decide = pointwise_decides pair_decides

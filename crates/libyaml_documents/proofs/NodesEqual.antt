@@ -1,8 +1,8 @@
 -- The comparison of nodes decides whether two are one.
-use Rattle.std.proofs.Common.{◌≡◌, ap}
+use Rattle.std.proofs.Common.{◌≡◌}
 use Rattle.std.specs.Bool.{Decides}
 use Rattle.std.specs.Cmp.Lexicographic.{bytes_decides}
-use Rattle.libyaml_documents.proofs.Choices.{both, through, one_field, enum_decides}
+use Rattle.libyaml_documents.proofs.Choices.{both, through, one_field, enum_decides, ◌then◌}
 use Rattle.libyaml_documents.proofs.Fields.{mark_decides, scalar_style_decides, sequence_style_decides, mapping_style_decides, items_decide, pairs_decide}
 use Rattle.libyaml_documents.specs.declared.node.unnamed_yaml_node_t_data_scalar.{unnamed_yaml_node_t_data_scalar}
 use Rattle.libyaml_documents.specs.contracts.node.Unnamed_yaml_node_t_data_scalarPartialEq.TheImpl as scalar_eq
@@ -20,32 +20,29 @@ scalar_decides : (a b : unnamed_yaml_node_t_data_scalar) → Decides ((scalar_eq
 scalar_decides a b =
     through (both (bytes_decides a.value b.value) (scalar_style_decides a.style b.style))
     (λ p i. record { value = p.0 i; style = p.1 i })
-    (λ e. (ap (λ (x : unnamed_yaml_node_t_data_scalar). x.value) e, ap (λ (x : unnamed_yaml_node_t_data_scalar). x.style) e))
+    (λ e. search)
 
 sequence_decides : (a b : unnamed_yaml_node_t_data_sequence) → Decides ((sequence_eq.ghosts).eq a b) (a ≡ b)
 sequence_decides a b =
     through (both (items_decide a.items b.items) (sequence_style_decides a.style b.style))
     (λ p i. record { items = p.0 i; style = p.1 i })
-    (λ e. (ap (λ (x : unnamed_yaml_node_t_data_sequence). x.items) e, ap (λ (x : unnamed_yaml_node_t_data_sequence). x.style) e))
+    (λ e. search)
 
 mapping_decides : (a b : unnamed_yaml_node_t_data_mapping) → Decides ((mapping_eq.ghosts).eq a b) (a ≡ b)
 mapping_decides a b =
     through (both (pairs_decide a.pairs b.pairs) (mapping_style_decides a.style b.style))
     (λ p i. record { pairs = p.0 i; style = p.1 i })
-    (λ e. (ap (λ (x : unnamed_yaml_node_t_data_mapping). x.pairs) e, ap (λ (x : unnamed_yaml_node_t_data_mapping). x.style) e))
+    (λ e. search)
 
 content_decides : (a b : unnamed_yaml_node_t_data) → Decides ((content_eq.ghosts).eq a b) (a ≡ b)
-content_decides = enum_decides enum _ (
-  one_field (scalar_eq.ghosts).eq scalar_decides,
-  (one_field (sequence_eq.ghosts).eq sequence_decides, (one_field (mapping_eq.ghosts).eq mapping_decides, tt)),
-)
+content_decides =
+    enum_decides enum _ (one_field (scalar_eq.ghosts).eq scalar_decides then
+    one_field (sequence_eq.ghosts).eq sequence_decides then
+    one_field (mapping_eq.ghosts).eq mapping_decides then tt)
 
 pub node_decides : (a b : yaml_node_t) → Decides ((node_eq.ghosts).eq a b) (a ≡ b)
 node_decides a b =
     through (both (bytes_decides a.tag b.tag)
     (both (content_decides a.content b.content) (both (mark_decides a.start_mark b.start_mark) (mark_decides a.end_mark b.end_mark))))
     (λ p i. record { tag = p.0 i; content = p.1.0 i; start_mark = p.1.1.0 i; end_mark = p.1.1.1 i })
-    (λ e. (
-      ap (λ (x : yaml_node_t). x.tag) e,
-      (ap (λ (x : yaml_node_t). x.content) e, (ap (λ (x : yaml_node_t). x.start_mark) e, ap (λ (x : yaml_node_t). x.end_mark) e)),
-    ))
+    (λ e. search)

@@ -1,9 +1,9 @@
 -- The comparison of tokens decides whether two are one.
-use Rattle.std.proofs.Common.{◌≡◌, ap}
+use Rattle.std.proofs.Common.{◌≡◌}
 use Rattle.std.specs.Bool.{Decides}
 use Rattle.std.specs.Cmp.{signed_Decides}
 use Rattle.std.specs.Cmp.Lexicographic.{bytes_decides}
-use Rattle.libyaml_documents.proofs.Choices.{both, through, no_field, one_field, enum_decides}
+use Rattle.libyaml_documents.proofs.Choices.{both, through, no_field, one_field, enum_decides, ◌then◌}
 use Rattle.libyaml_documents.proofs.Fields.{mark_decides, encoding_decides, scalar_style_decides}
 use Rattle.libyaml_types.specs.declared.token.unnamed_yaml_token_t_data_stream_start.{unnamed_yaml_token_t_data_stream_start}
 use Rattle.libyaml_types.specs.contracts.token.unnamed_yaml_token_t_data_stream_startPartialEq.TheImpl as stream_start_eq
@@ -26,112 +26,50 @@ use Rattle.libyaml_types.specs.declared.token.yaml_token_t.{yaml_token_t}
 use Rattle.libyaml_types.specs.contracts.token.yaml_token_tPartialEq.TheImpl as token_eq
 
 stream_start_decides : (a b : unnamed_yaml_token_t_data_stream_start) → Decides ((stream_start_eq.ghosts).eq a b) (a ≡ b)
-stream_start_decides a b =
-    through (encoding_decides a.encoding b.encoding)
-    (λ p i. record { encoding = p i })
-    (λ e. ap (λ (x : unnamed_yaml_token_t_data_stream_start). x.encoding) e)
+stream_start_decides a b = through (encoding_decides a.encoding b.encoding) (λ p i. record { encoding = p i }) (λ e. search)
 
 version_directive_decides : (a b : unnamed_yaml_token_t_data_version_directive) → Decides ((version_directive_eq.ghosts).eq a b) (a ≡ b)
 version_directive_decides a b =
     through (both (signed_Decides a.major b.major) (signed_Decides a.minor b.minor))
     (λ p i. record { major = p.0 i; minor = p.1 i })
-    (λ e. (ap (λ (x : unnamed_yaml_token_t_data_version_directive). x.major) e, ap (λ (x : unnamed_yaml_token_t_data_version_directive). x.minor) e))
+    (λ e. search)
 
 tag_directive_decides : (a b : unnamed_yaml_token_t_data_tag_directive) → Decides ((tag_directive_eq.ghosts).eq a b) (a ≡ b)
 tag_directive_decides a b =
     through (both (bytes_decides a.handle b.handle) (bytes_decides a.prefix b.prefix))
     (λ p i. record { handle = p.0 i; prefix = p.1 i })
-    (λ e. (ap (λ (x : unnamed_yaml_token_t_data_tag_directive). x.handle) e, ap (λ (x : unnamed_yaml_token_t_data_tag_directive). x.prefix) e))
+    (λ e. search)
 
 alias_decides : (a b : unnamed_yaml_token_t_data_alias) → Decides ((alias_eq.ghosts).eq a b) (a ≡ b)
-alias_decides a b =
-    through (bytes_decides a.value b.value)
-    (λ p i. record { value = p i })
-    (λ e. ap (λ (x : unnamed_yaml_token_t_data_alias). x.value) e)
+alias_decides a b = through (bytes_decides a.value b.value) (λ p i. record { value = p i }) (λ e. search)
 
 anchor_decides : (a b : unnamed_yaml_token_t_data_anchor) → Decides ((anchor_eq.ghosts).eq a b) (a ≡ b)
-anchor_decides a b =
-    through (bytes_decides a.value b.value)
-    (λ p i. record { value = p i })
-    (λ e. ap (λ (x : unnamed_yaml_token_t_data_anchor). x.value) e)
+anchor_decides a b = through (bytes_decides a.value b.value) (λ p i. record { value = p i }) (λ e. search)
 
 tag_decides : (a b : unnamed_yaml_token_t_data_tag) → Decides ((tag_eq.ghosts).eq a b) (a ≡ b)
 tag_decides a b =
     through (both (bytes_decides a.handle b.handle) (bytes_decides a.suffix b.suffix))
     (λ p i. record { handle = p.0 i; suffix = p.1 i })
-    (λ e. (ap (λ (x : unnamed_yaml_token_t_data_tag). x.handle) e, ap (λ (x : unnamed_yaml_token_t_data_tag). x.suffix) e))
+    (λ e. search)
 
 scalar_decides : (a b : unnamed_yaml_token_t_data_scalar) → Decides ((scalar_eq.ghosts).eq a b) (a ≡ b)
 scalar_decides a b =
     through (both (bytes_decides a.value b.value) (scalar_style_decides a.style b.style))
     (λ p i. record { value = p.0 i; style = p.1 i })
-    (λ e. (ap (λ (x : unnamed_yaml_token_t_data_scalar). x.value) e, ap (λ (x : unnamed_yaml_token_t_data_scalar). x.style) e))
+    (λ e. search)
 
 content_decides : (a b : unnamed_yaml_token_t_data) → Decides ((content_eq.ghosts).eq a b) (a ≡ b)
-content_decides = enum_decides enum _ (
-  no_field,
-  (
-    one_field (stream_start_eq.ghosts).eq stream_start_decides,
-    (
-      no_field,
-      (
-        one_field (version_directive_eq.ghosts).eq version_directive_decides,
-        (
-          one_field (tag_directive_eq.ghosts).eq tag_directive_decides,
-          (
-            no_field,
-            (
-              no_field,
-              (
-                no_field,
-                (
-                  no_field,
-                  (
-                    no_field,
-                    (
-                      no_field,
-                      (
-                        no_field,
-                        (
-                          no_field,
-                          (
-                            no_field,
-                            (
-                              no_field,
-                              (
-                                no_field,
-                                (
-                                  no_field,
-                                  (
-                                    no_field,
-                                    (
-                                      one_field (alias_eq.ghosts).eq alias_decides,
-                                      (
-                                        one_field (anchor_eq.ghosts).eq anchor_decides,
-                                        (one_field (tag_eq.ghosts).eq tag_decides, (one_field (scalar_eq.ghosts).eq scalar_decides, tt)),
-                                      ),
-                                    ),
-                                  ),
-                                ),
-                              ),
-                            ),
-                          ),
-                        ),
-                      ),
-                    ),
-                  ),
-                ),
-              ),
-            ),
-          ),
-        ),
-      ),
-    ),
-  ),
-)
+content_decides =
+    enum_decides enum _ (no_field then one_field (stream_start_eq.ghosts).eq stream_start_decides then no_field then
+    one_field (version_directive_eq.ghosts).eq version_directive_decides then
+    one_field (tag_directive_eq.ghosts).eq tag_directive_decides then no_field then no_field then
+    no_field then no_field then no_field then no_field then no_field then no_field then no_field then
+    no_field then no_field then no_field then no_field then
+    one_field (alias_eq.ghosts).eq alias_decides then one_field (anchor_eq.ghosts).eq anchor_decides then
+    one_field (tag_eq.ghosts).eq tag_decides then one_field (scalar_eq.ghosts).eq scalar_decides then tt)
 
 pub token_decides : (a b : yaml_token_t) → Decides ((token_eq.ghosts).eq a b) (a ≡ b)
 token_decides a b =
     through (both (content_decides a.content b.content) (both (mark_decides a.start_mark b.start_mark) (mark_decides a.end_mark b.end_mark)))
     (λ p i. record { content = p.0 i; start_mark = p.1.0 i; end_mark = p.1.1 i })
-    (λ e. (ap (λ (x : yaml_token_t). x.content) e, (ap (λ (x : yaml_token_t). x.start_mark) e, ap (λ (x : yaml_token_t). x.end_mark) e)))
+    (λ e. search)

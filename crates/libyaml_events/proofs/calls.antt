@@ -9,6 +9,7 @@ pub mod NotOver
 pub mod Counting
 pub mod Falling
 pub mod Held
+pub mod Keeping
 pub mod Marked
 pub mod Raised
 pub mod Staging

@@ -13,6 +13,7 @@ use Rattle.libyaml_grammar.specs.sentences.Events.{Event, events}
 use Rattle.libyaml_sources.specs.Fault.{Answer, Fault, memory_fault}
 use Rattle.libyaml_sources.specs.Fault as faults
 use Rattle.libyaml_events.specs.sources.Calls.{Gave}
+use Rattle.libyaml_events.proofs.lent.CallsInTurn.{gave_both}
 use Rattle.libyaml_events.specs.sources.CallsInTurn.{CarriedOn}
 use Rattle.libyaml_events.specs.sources.History.{History, answers, between_documents, has_failed, kept_fault}
 use Rattle.libyaml_grammar.specs.sentences.Nesting.{IsNested, NestsSoFar}
@@ -34,7 +35,7 @@ use Rattle.libyaml_loader.specs.loads.NextLoad.{Answers}
 use Rattle.unsafe_libyaml.specs.WholeRun.{ending_of}
 use Rattle.unsafe_libyaml.specs.WholeLoads.{GathersLoads, LoadsTo, as_loads}
 use Rattle.unsafe_libyaml.specs.WholeLoads as told
-use Rattle.unsafe_libyaml.proofs.WholeRuns.{Laws, asked_all, asked_until, gave_on, gave_more, none_is_some, stopped_so}
+use Rattle.unsafe_libyaml.proofs.WholeRuns.{Laws, asked_all, asked_until, none_is_some, stopped_so}
 use Rattle.unsafe_libyaml.specs.declared.load_all.yaml_documents_t.{yaml_documents_t}
 
 -- the bound of a parser that was made and not told another
@@ -192,7 +193,7 @@ module _ {S : Type 0} (gives : S → Answer → S → Type 0) (known : S → Opt
 
     gave_all : (p : Parser S) (taken : List Event) (k : CarriedOn gives old p was.asked was.given taken)
         → Gave gives source (answers (was.asked ++ k.more) []) p.source
-    gave_all p taken k = gave_more gives known MayBreak source old p was.asked k.more source old.source p.source was.gave k.gave
+    gave_all p taken k = gave_both gives was.asked k.more source old.source p.source was.gave k.gave
 
     roots_of : (p : Parser S) (taken : List Event) (k : CarriedOn gives old p was.asked was.given taken) → RootsFollow taken
     roots_of p taken k = was.roots_left taken (law.follow (was.given ++ taken) (laws.nests p _ _ k.history))
@@ -317,54 +318,12 @@ module _ {S : Type 0} (gives : S → Answer → S → Type 0) (known : S → Opt
           ≡ last_load (Fails (kept_fault new)) ∷ []
       fault_last e x h = law.fault e x most (kept_fault new) h
 
-      -- what the source gave until then
-      abbrev GaveAll : Type 0
-      GaveAll = (given : List Answer) × Gave gives source given new.source
-
-      gave_to_fault : LoadFails gives known MayBreak (next_bounded most) left_over old new → GaveAll
-      gave_to_fault (by_parser taken parser took fails last) =
-          let k = carried parser taken took in
-          let call = fails.history _ _ k.history in (
-            answers (was.asked ++ k.more) call.more,
-            gave_on gives (was.asked ++ k.more) call.more source parser.source new.source (gave_all parser taken k) call.gave,
-          )
-      gave_to_fault (by_loader taken parser took f keeps fails) =
-          let k = carried parser taken took in (
-            answers (was.asked ++ k.more) [],
-            subst (λ (q : Parser S). Gave gives source (answers (was.asked ++ k.more) []) q.source) (sym (keeps _ _ k.history)) (gave_all parser taken k),
-          )
-      gave_to_fault (by_memory before e parser took keeps grows) =
-          let k = carried parser (before ++ e ∷ []) took in
-          absurd (has_memory (ap (λ (q : Parser S). (kept_fault q).error) (keeps _ _ k.history)))
-
-      pub loaded_to_fault : (l : List Token) (f : Fault) (a : List Load) → IsLoads l f a → known source ≡ Some (coming l f)
-          → LoadsTo gives MayBreak source all a
-      loaded_to_fault l f a h k =
-          subst (λ (t : List Load). LoadsTo gives MayBreak source all t) (sym h.all)
-          (go (failed_here r y is (next_bounded most b.later x) (left_over b.later) x (answer_of b.later x b.to_come)))
-        where
-          x : Ending
-          x = h.ending
-
-          b : Left known old loaded h.events x
-          b = was.left l f h.events x h.run k
-
-          go : Failed (next_bounded most b.later x) → LoadsTo gives MayBreak source all (loads h.events x)
-          go (inl e) = told_all h.events x (Fails (kept_fault new)) b (fault_last b.later x e) (has_memory, tt) all items ends_so
-          go (inr (inl m)) = absurd (has_memory m)
-          go (inr (inr m)) =
-              let first = loaded_first (bounded_loads most h.events x) (loads h.events x) (front_of_loads h.events x most) loaded
-              (bounded_loads most b.later x) b.all in
-              let given = gave_to_fault (loads_of_call (Err y) is) in
-              told.broken_off given.0 new.source (kept_fault new) given.1 m ends_so first.0
-              (first.1 ∙ ap (λ (ds : List Document). oks ds ++ first.0) (sym items))
-
       stands : (e : List Event) (x : Ending) → bounded_loads most e x ≡ last_load (Fails (kept_fault new)) ∷ [] → (given : List Event)
           → bounded_loads most given x ≡ oks loaded ++ bounded_loads most e x → as_loads all.documents.items (ending_of all.fault) ≡ loads given x
       stands e x last given so_far =
           are_loads_so given x (Fails (kept_fault new)) (so_far ∙ ap (λ (t : List Load). oks loaded ++ t) last) (has_memory, tt) all items ends_so
 
-      by_parser_call : (taken : List Event) (parser : Parser S) → Took gives known old parser taken → ParserFails gives known MayBreak parser new
+      abbrev by_parser_call : (taken : List Event) (parser : Parser S) → Took gives known old parser taken → ParserFails gives known MayBreak parser new
           → ((x : Ending) → next_bounded most taken x ≡ last_load x) → GathersLoads gives source all
       by_parser_call taken parser took fails last =
           let k = carried parser taken took in
@@ -391,7 +350,7 @@ module _ {S : Type 0} (gives : S → Answer → S → Type 0) (known : S → Opt
           sym (stands (taken ++ rest) x (fault_last (taken ++ rest) x (fails rest x ∙ ap (λ (g : Fault). Err g) (sym is_kept))) ((was.given ++ taken) ++ rest)
           (ap (λ (l : List Event). bounded_loads most l x) (append_assoc was.given taken rest) ∙ was.so_far (taken ++ rest) x))
 
-      by_loader_step : (taken : List Event) (parser : Parser S) → Took gives known old parser taken → (f : Fault) → KeptBy f parser new
+      abbrev by_loader_step : (taken : List Event) (parser : Parser S) → Took gives known old parser taken → (f : Fault) → KeptBy f parser new
           → ((rest : List Event) (x : Ending) → next_bounded most (taken ++ rest) x ≡ Err f) → GathersLoads gives source all
       by_loader_step taken parser took f keeps fails =
           let k = carried parser taken took in
@@ -410,15 +369,45 @@ module _ {S : Type 0} (gives : S → Answer → S → Type 0) (known : S → Opt
             stopped = λ (g : yaml_parser_t_prefix) (h : all.fault ≡ Some g). inr error;
           }
 
-      pub gathers_to_fault : GathersLoads gives source all
-      gathers_to_fault = go (loads_of_call (Err y) is)
+      -- and where the source then stands
+      gathered : (g : GathersLoads gives source all) × (g.tokens.stands ≡ new.source)
+      gathered = go (loads_of_call (Err y) is)
         where
-          go : LoadFails gives known MayBreak (next_bounded most) left_over old new → GathersLoads gives source all
-          go (by_parser taken parser took fails last) = by_parser_call taken parser took fails last
-          go (by_loader taken parser took f keeps fails) = by_loader_step taken parser took f keeps fails
+          go : LoadFails gives known MayBreak (next_bounded most) left_over old new → (g : GathersLoads gives source all) × (g.tokens.stands ≡ new.source)
+          go (by_parser taken parser took fails last) = (by_parser_call taken parser took fails last, refl)
+          go (by_loader taken parser took f keeps fails) = (
+            by_loader_step taken parser took f keeps fails,
+            sym (ap (λ (q : Parser S). q.source) (keeps _ _ (carried parser taken took).history)),
+          )
           go (by_memory before e parser took keeps grows) =
               let k = carried parser (before ++ e ∷ []) took in
               absurd (has_memory (ap (λ (q : Parser S). (kept_fault q).error) (keeps _ _ k.history)))
+
+      pub gathers_to_fault : GathersLoads gives source all
+      gathers_to_fault = gathered.0
+
+      pub loaded_to_fault : (l : List Token) (f : Fault) (a : List Load) → IsLoads l f a → known source ≡ Some (coming l f)
+          → LoadsTo gives MayBreak source all a
+      loaded_to_fault l f a h k =
+          subst (λ (t : List Load). LoadsTo gives MayBreak source all t) (sym h.all)
+          (go (failed_here r y is (next_bounded most b.later x) (left_over b.later) x (answer_of b.later x b.to_come)))
+        where
+          x : Ending
+          x = h.ending
+
+          b : Left known old loaded h.events x
+          b = was.left l f h.events x h.run k
+
+          go : Failed (next_bounded most b.later x) → LoadsTo gives MayBreak source all (loads h.events x)
+          go (inl e) = told_all h.events x (Fails (kept_fault new)) b (fault_last b.later x e) (has_memory, tt) all items ends_so
+          go (inr (inl m)) = absurd (has_memory m)
+          go (inr (inr m)) =
+              let first = loaded_first (bounded_loads most h.events x) (loads h.events x) (front_of_loads h.events x most) loaded
+              (bounded_loads most b.later x) b.all in
+              let (g, at) = gathered in
+              told.broken_off (answers g.asked g.last) new.source (kept_fault new)
+              (subst (λ (q : S). Gave gives source (answers g.asked g.last) q) at g.tokens.gave) m ends_so first.0
+              (first.1 ∙ ap (λ (ds : List Document). oks ds ++ first.0) (sym items))
 
 -- a document whose nodes are counted
 pub bare : (ns : List yaml_node_t) → nat_eq (length ns) 0 ≡ true → ns ≡ []

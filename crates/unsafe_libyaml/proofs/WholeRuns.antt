@@ -22,6 +22,7 @@ use Rattle.libyaml_grammar.specs.runs.Runs.{Ending, Ends, Fails, IsRun}
 use Rattle.libyaml_sources.specs.Source.{Coming, coming}
 use Rattle.libyaml_grammar.specs.sentences.Tokens.{Token}
 use Rattle.libyaml_sources.specs.declared.fault.yaml_parser_t_prefix.{yaml_parser_t_prefix}
+use Rattle.libyaml_events.proofs.lent.CallsInTurn.{gave_both, gave_then}
 use Rattle.libyaml_events.proofs.lent.NextEvents.{Says, fails_here, first_event}
 use Rattle.unsafe_libyaml.specs.WholeRun.{Asked, Gathers, RunsTo, StoppedBy, whole, broken_off, ending_of, of_grammar, of_source}
 use Rattle.unsafe_libyaml.specs.declared.parse_all.yaml_run_t.{yaml_run_t}
@@ -39,16 +40,6 @@ pub record Reached {S : Type 0} (gives : S → Answer → S → Type 0) (known :
   pub gave : Gave gives source (answers asked []) p.source
   pub running : is_over p ≡ false
   pub left : (l : List Token) (f : Fault) (e : List Event) (x : Ending) → IsRun l f e x → known source ≡ Some (coming l f) → Left known p given e x
-
--- the source gave these results after those tokens
-pub gave_on : {S : Type 0} (gives : S → Answer → S → Type 0) (l : List Token) (r : List Answer) (a b c : S) → Gave gives a (answers l []) b → Gave gives b r c
-    → Gave gives a (answers l r) c
-gave_on gives [] r a b c h k = subst (λ x. Gave gives x r c) h k
-gave_on gives (t ∷ l) r a b c (mid, g, h) k = (mid, g, gave_on gives l r mid b c h k)
-
-pub answers_both : (l m : List Token) → answers l (answers m []) ≡ answers (l ++ m) []
-answers_both [] m = refl
-answers_both (t ∷ l) m = ap (λ (r : List Answer). Ok t ∷ r) (answers_both l m)
 
 -- the laws of histories that the loops call
 pub record Laws (S : Type 0) : Type 0 where
@@ -68,7 +59,7 @@ no_answer : (front : List Token) (x : Answer) (behind : List Answer) → ◌≡�
 no_answer [] x behind h = cc
 no_answer (t ∷ l) x behind h = cc
 
-none_needed : (asked : List Token) (given : List Event) → EachNeeded asked [] given
+pub none_needed : (asked : List Token) (given : List Event) → EachNeeded asked [] given
 none_needed asked given front x behind h = absurd (no_answer front x behind h)
 
 stopped_by : (c : Config) (asked : List Token) (given : List Event) (more : List Answer) (f : Fault) → Cause c asked given more f
@@ -79,16 +70,16 @@ stopped_by c asked given more f (cause.of_source l a b d) other = of_source l a 
 
 -- what a source was asked for, by a parser's history, and until a call failed
 module _ {S : Type 0} {gives : S → Answer → S → Type 0} {source : S} where
-  pub asked_all : Laws S → (p : Parser S) (asked : List Token) (given : List Event) → History p asked given → Gave gives source (answers asked []) p.source
+  abbrev pub asked_all : Laws S → (p : Parser S) (asked : List Token) (given : List Event) → History p asked given → Gave gives source (answers asked []) p.source
       → Asked gives source asked [] given
   asked_all laws p asked given h gave
       = record { stands = p.source; gave = gave; needed = laws.needed p asked given h; needed_last = none_needed asked given }
 
-  pub asked_until : Laws S → (p new : Parser S) (asked : List Token) (given : List Event) → History p asked given
+  abbrev pub asked_until : Laws S → (p new : Parser S) (asked : List Token) (given : List Event) → History p asked given
       → Gave gives source (answers asked []) p.source → (fails : FailsBy gives p new asked given) → Asked gives source asked fails.more given
   asked_until laws p new asked given h gave fails = record {
     stands = new.source;
-    gave = gave_on gives asked fails.more source p.source new.source gave fails.gave;
+    gave = gave_then gives asked fails.more source p.source new.source gave fails.gave;
     needed = laws.needed p asked given h;
     needed_last = fails.needed;
   }
@@ -102,9 +93,6 @@ stopped_so {S} {gives} {old} {new} {asked} {given} p f is kept other fails =
     (stopped_by old.config asked given fails.more (kept_fault new) fails.cause (λ m. other (ap (λ (q : Fault). q.error) kept ∙ m)))
 
 module _ {S : Type 0} (gives : S → Answer → S → Type 0) (known : S → Option Coming) (MayBreak : S → Fault → Type 0) (source : S) (old new : Parser S) where
-  pub gave_more : (l m : List Token) (a b c : S) → Gave gives a (answers l []) b → Gave gives b (answers m []) c → Gave gives a (answers (l ++ m) []) c
-  gave_more l m a b c h k = subst (λ (r : List Answer). Gave gives a r c) (answers_both l m) (gave_on gives l (answers m []) a b c h k)
-
   pub reached_start : History new [] [] → new.source ≡ source → is_over new ≡ false
       → ((l : List Token) (f : Fault) → known source ≡ Some (coming l f) → (e : List Event) (x : Ending) → IsRun l f e x → RunToCome known new e x)
       → Reached gives known source new []
@@ -135,7 +123,7 @@ module _ {S : Type 0} (gives : S → Answer → S → Type 0) (known : S → Opt
   reached_next given r e is says reached on more = record {
     asked = reached.asked ++ on.more;
     history = on.history;
-    gave = gave_more reached.asked on.more source old.source new.source reached.gave on.gave;
+    gave = gave_both gives reached.asked on.more source old.source new.source reached.gave on.gave;
     running = on.ends ∙ more;
     left = left_behind given r e is says reached on;
   }
@@ -168,7 +156,7 @@ module _ {S : Type 0} (gives : S → Answer → S → Type 0) (known : S → Opt
       go a (inr (inl h)) = absurd (other (ap (λ (g : Fault). g.error) (kept ∙ h)))
       go a (inr (inr h)) =
           broken_off (answers reached.asked fails.more) new.source (kept_fault new)
-          (gave_on gives reached.asked fails.more source old.source new.source reached.gave fails.gave) h fault_is
+          (gave_then gives reached.asked fails.more source old.source new.source reached.gave fails.gave) h fault_is
           (a.later, a.all ∙ ap (λ t. t ++ a.later) (sym all))
 
   -- over every source, by the laws of histories
@@ -180,7 +168,7 @@ module _ {S : Type 0} (gives : S → Answer → S → Type 0) (known : S → Opt
     last = [];
     tokens
         = subst (Asked gives source (reached.asked ++ on.more) []) (sym all)
-        (asked_all laws new _ _ on.history (gave_more reached.asked on.more source old.source new.source reached.gave on.gave));
+        (asked_all laws new _ _ on.history (gave_both gives reached.asked on.more source old.source new.source reached.gave on.gave));
     begins = subst (BeginsEach (reached.asked ++ on.more)) (sym all) (laws.begins new _ _ on.history);
     nests = subst NestsSoFar (sym all) (laws.nests new _ _ on.history);
     whole = λ (h : run.fault ≡ None). subst (IsWhole (reached.asked ++ on.more)) (sym all) (on.whole last);

@@ -1,7 +1,7 @@
 -- What a call's results lead to.
-use Rattle.std.proofs.Common.{◌≡◌, List, [], ◌∷◌, ◌++◌, ◌||◌, Some, None, refl, sym, ap, ◌∙◌, subst, Bool, true, false, Ok, Err}
+use Rattle.std.proofs.Common.{◌≡◌, List, [], ◌∷◌, ◌++◌, ◌||◌, None, refl, sym, ap, ◌∙◌, subst, Bool, true, false, Ok, Err}
 use Rattle.libyaml_events.specs.machine.Machine.{Progressed, step}
-use Rattle.libyaml_grammar.specs.sentences.Trees.{behind, whole}
+use Rattle.libyaml_grammar.specs.sentences.Trees.{whole}
 use Rattle.libyaml_events.specs.sources.History.{Ran, begins, goes_on}
 use Rattle.libyaml_grammar.proofs.lent.Lists.{nil_right, assoc}
 use Rattle.libyaml_sources.specs.Fault.{Answer, Fault}
@@ -13,12 +13,12 @@ use Rattle.libyaml_events.specs.machine.Config.{Config, taken, is_fault, is_end_
 use Rattle.libyaml_events.specs.sources.Calls.{Calls, EventOrError, Then, held, held_token}
 use Rattle.libyaml_events.specs.sources.History.{answers}
 use Rattle.libyaml_events.proofs.calls.Asking.{Asks, AsksOn}
+use Rattle.libyaml_events.proofs.calls.Keeping.{not_err, ok_same}
 use Rattle.libyaml_events.proofs.machine.Follow.{more}
 use Rattle.libyaml_events.proofs.machine.Link.{config_of}
 use Rattle.libyaml_events.proofs.machine.Stand.{Leads, Links, Stands, amid_leads, amid_token, at_place, at_position, stand_leads, Fails}
 use Rattle.libyaml_events.specs.machine.Want.{Want, AtState, Given, Wants}
 use Rattle.libyaml_types.specs.declared.enums.yaml_parser_state_t.TheVariants.{YAML_PARSE_END_STATE}
-use Rattle.libyaml_types.specs.declared.enums.yaml_error_type_t.{yaml_error_type_t}
 
 pub data Answered (r : EventOrError) (d : Config) (l : List Token) (position_rest : List Answer) (events : List Event) : Type 0 where
   gave : (more : List Token) (e : Event) → position_rest ≡ answers more [] → r ≡ Ok e → Links d (l ++ more) (events ++ e ∷ [])
@@ -70,13 +70,9 @@ pub data Starts (c : Config) (asked : List Token) (events : List Event) : Type 0
 
 pub config_taken : (q : Position) → (taken (config_of q) ≡ config_of q) × ((config_of q).lookahead ≡ None)
 config_taken (between (free f)) = (refl, refl)
-config_taken (between (behind d)) = (refl, refl)
 config_taken (headed (free f) ds d) = (refl, refl)
-config_taken (headed (behind x) ds d) = (refl, refl)
 config_taken (due p None) = (refl, refl)
-config_taken (due p (Some ps)) = (refl, refl)
 config_taken (done (whole (free f) m)) = (refl, refl)
-config_taken (done (whole (behind d) m)) = (refl, refl)
 config_taken _ = (refl, refl)
 
 or_true : (b : Bool) → b || true ≡ true
@@ -131,17 +127,11 @@ pub call_gives : (c : Config) (asked : List Token) (events : List Event) → Lin
     → (more : List Token) (e : Event) (d : Config) → Calls AtState (taken c) (held c ++ answers more []) (Ok e) d → Links d (asked ++ more) (events ++ e ∷ [])
 call_gives c asked events h running more e d z = go (call_answers c asked events h running (answers more []) (Ok e) d z)
   where
-    ok_same : (x : Event) → ◌≡◌ {A = EventOrError} (Ok e) (Ok x) → x ≡ e
-    ok_same x f = cc
-
-    not_err : (x : yaml_error_type_t) → ◌≡◌ {A = EventOrError} (Ok e) (Err x) → ⊥
-    not_err x f = cc
-
     go : Answered (Ok e) d asked (answers more []) events → Links d (asked ++ more) (events ++ e ∷ [])
-    go (gave m x i j k) = subst (λ (y : Event). Links d (asked ++ more) (events ++ y ∷ [])) (ok_same x j)
+    go (gave m x i j k) = subst (λ (y : Event). Links d (asked ++ more) (events ++ y ∷ [])) (ok_same e x j)
         (subst (λ (y : List Token). Links d (asked ++ y) (events ++ x ∷ [])) (sym (answers_same more m i)) k)
-    go (failed m i j k) = absurd (not_err d.fault.error j)
-    go (faulted m w x i j k) = absurd (not_err d.fault.error j)
+    go (failed m i j k) = absurd (not_err e d.fault.error j)
+    go (faulted m w x i j k) = absurd (not_err e d.fault.error j)
 
 pub ran_links : {c : Config} {asked : List Token} {events : List Event} → Ran c asked events → Links c asked events
 ran_links begins = at_position unopened refl tt refl refl refl

@@ -12,16 +12,18 @@ use Rattle.libyaml_events.specs.parsers.EventsLeft.{rank, held_rank, events_left
 use Rattle.libyaml_events.specs.sources.Calls.{EventOrError, Gave, Then, Calls, Call, held, held_token}
 use Rattle.libyaml_events.specs.sources.History.{answers}
 use Rattle.libyaml_events.proofs.calls.Asking.{AreTokens}
+use Rattle.libyaml_events.proofs.calls.Keeping.{Kept, calls_keep, not_err, then_keeps}
 use Rattle.libyaml_events.proofs.calls.Parsed.{running_does, tokens_behind}
 use Rattle.libyaml_events.proofs.machine.StepKinds.{Kind, NodeStep, StepKind, begins_document, begins_pair, begins_stream, closes, declares, empty, ends_document, rank_small}
 use Rattle.libyaml_events.proofs.machine.StepKinds.{ends_indentless, ends_pair, ends_stream, enters, entry, fails, fails_in, no_node, node, opens, property, room}
 use Rattle.libyaml_events.proofs.machine.StepKinds.{step_kind, wants, whole}
 
+abbrev weight : Config → ℕ
+weight c = length c.states + held_rank c.state c.lookahead
+
 -- a step leaves less than n
 abbrev FallsBelow : Progressed → ℕ → Type 0
-FallsBelow (Err f) n = Unit {0}
-FallsBelow (Ok (Wants w, d)) n = (length d.states < n) × (d.lookahead ≡ None)
-FallsBelow (Ok (Given e, d)) n = length d.states + held_rank d.state d.lookahead < n
+FallsBelow o n = Kept (λ w d. (length d.states < n) × (d.lookahead ≡ None)) (λ e d. weight d < n) o
 
 room_small : (w : Want) (c : Config) (k : Content) → room w c k ≤ 6
 room_small AtState c k = let r = rank_small c.state k in omega arith
@@ -67,42 +69,34 @@ falls_on w c u = by _ _ _ (step_kind [] [] u w (taken c) u.content)
     by {n} k o o' (closes e l) = back c.states None (length c.states + n) refl (omega arith)
     by {n} k o o' (ends_indentless l) = back_kept c.states u.content (length c.states + n) (omega arith)
 
-abbrev weight : Config → ℕ
-weight c = length c.states + held_rank c.state c.lookahead
+-- the rest of a call, with room for what its results may add
+abbrev HasRoom : ℕ → List Answer → Want → Config → Type 0
+HasRoom n a w c = (length c.states + 6 * length a ≤ n) × (c.lookahead ≡ None)
 
--- the rest of a call after a step
-then_falls : (rest : List Answer) (e : Event) (d : Config) (n : ℕ)
-    → ((w : Want) (c : Config) → c.lookahead ≡ None → Calls w c rest (Ok e) d → weight d < length c.states + 6 * length rest) → (o : Progressed)
-    → FallsBelow o n → Then o (λ w' c'. Calls w' c' rest (Ok e) d) rest (Ok e) d → weight d < n + 6 * length rest
-then_falls rest e d n ih (Err f) l z = absurd (no z.1)
-  where
-    no : ◌≡◌ {A = EventOrError} (Ok e) (Err f.error) → ⊥
-    no i = cc
-then_falls rest e d n ih (Ok (Wants w, c)) l z = let i = ih w c l.1 z in let j = l.0 in omega arith
-then_falls rest e d n ih (Ok (Given x, c)) l z = let i : weight d < n = subst (λ (y : Config). weight y < n) (sym z.2) l in omega arith
+falls_before : (m n : ℕ) (rest : List Answer) (o : Progressed) → FallsBelow o m → m + 6 * length rest ≤ n → Kept (HasRoom n rest) (λ e d. weight d < n) o
+falls_before m n rest (Err f) h l = tt
+falls_before m n rest (Ok (Wants w, d)) h l = (omega arith, h.1)
+falls_before m n rest (Ok (Given e, d)) h l = omega arith
 
-call_falls : (a : List Answer) (w : Want) (c : Config) (e : Event) (d : Config) → c.lookahead ≡ None → Calls w c a (Ok e) d
-    → weight d < length c.states + 6 * length a
-call_falls [] w c e d n z = absurd z
-call_falls (Err f ∷ rest) w c e d n z = absurd (no z.1)
+call_falls : (n : ℕ) (a : List Answer) (w : Want) (c : Config) (e : Event) (d : Config) → HasRoom n a w c → Calls w c a (Ok e) d → weight d < n
+call_falls n = calls_keep (HasRoom n) (λ e d. weight d < n) steps
   where
-    no : ◌≡◌ {A = EventOrError} (Ok e) (Err f.error) → ⊥
-    no i = cc
-call_falls (Ok t ∷ rest) w c e d n z =
-    let same : taken c ≡ c = ap (λ (l : Option Token). let y : Config = record c { lookahead = l } in y) (sym n) in
-    let l : FallsBelow (step w c t) (length c.states + room w (taken c) t.content)
-    = subst (λ (y : Config). FallsBelow (step w y t) (length c.states + room w (taken c) t.content)) same (falls_on w c t) in
-    let i = then_falls rest e d (length c.states + room w (taken c) t.content) (λ w' c' m y. call_falls rest w' c' e d m y) (step w c t) l z in
-    let r = room_small w (taken c) t.content in
-    omega arith
+    steps : (t : Token) (rest : List Answer) (w : Want) (c : Config) → HasRoom n (Ok t ∷ rest) w c → Kept (HasRoom n rest) (λ e d. weight d < n) (step w c t)
+    steps t rest w c (h, i) =
+        let same : taken c ≡ c = ap (λ (l : Option Token). let y : Config = record c { lookahead = l } in y) (sym i) in
+        let l : FallsBelow (step w c t) (length c.states + room w (taken c) t.content)
+        = subst (λ (y : Config). FallsBelow (step w y t) (length c.states + room w (taken c) t.content)) same (falls_on w c t) in
+        let r = room_small w (taken c) t.content in
+        falls_before (length c.states + room w (taken c) t.content) n rest (step w c t) l (omega arith)
 
 -- with a token held it falls by that
 held_falls : (c : Config) (a : List Answer) (o : Option Token) → c.lookahead ≡ o → (e : Event) (d : Config)
     → Calls AtState (taken c) (held_token o ++ a) (Ok e) d → weight d < length c.states + held_rank c.state o + 6 * length a
-held_falls c a None f e d z = let i = call_falls a AtState (taken c) e d refl z in omega arith
-held_falls c a (Some t) f e d z
-    = then_falls a e d (length c.states + rank c.state t.content) (λ w' c' m y. call_falls a w' c' e d m y) (step AtState (taken c) t)
-    (falls_on AtState c t) z
+held_falls c a None f e d z = call_falls _ a AtState (taken c) e d (omega arith, refl) z
+held_falls c a (Some t) f e d z =
+    let n = length c.states + rank c.state t.content + 6 * length a in
+    then_keeps (HasRoom n) (λ e d. weight d < n) a e d (λ w' c'. call_falls n a w' c' e d) (step AtState (taken c) t)
+    (falls_before (length c.states + rank c.state t.content) n a (step AtState (taken c) t) (falls_on AtState c t) (omega arith)) z
 
 module _ {S : Type 0} (gives : S → Answer → S → Type 0) (bound : S → ℕ) (falls : (s t : S) (token : Token) → gives s (Ok token) t → bound s ≡ bound t + 1) where
   gave_falls : (more : List Token) (s t : S) → Gave gives s (answers more []) t → bound s ≡ bound t + length (answers more [])
@@ -111,10 +105,7 @@ module _ {S : Type 0} (gives : S → Answer → S → Type 0) (bound : S → ℕ
 
   only_tokens : (a : List Answer) (w : Want) (c : Config) (e : Event) (d : Config) → Calls w c a (Ok e) d → AreTokens a
   only_tokens [] w c e d z = absurd z
-  only_tokens (Err f ∷ rest) w c e d z = absurd (no z.1)
-    where
-      no : ◌≡◌ {A = EventOrError} (Ok e) (Err f.error) → ⊥
-      no i = cc
+  only_tokens (Err f ∷ rest) w c e d z = absurd (not_err e f.error z.1)
   only_tokens (Ok t ∷ rest) w c e d z = go (step w c t) z (λ w' c' y. only_tokens rest w' c' e d y)
     where
       one : AreTokens rest → AreTokens (Ok t ∷ rest)

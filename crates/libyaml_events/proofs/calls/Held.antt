@@ -1,7 +1,6 @@
 -- A call keeps at most the token that it asked for last.
 use Rattle.std.proofs.Common.{◌≡◌, ℕ, ◌≤◌, ◌⊎◌, inl, inr, arith, List, [], ◌∷◌, ◌++◌, length, Option, Some, None, Bool, true, false, Ok, Err, refl, sym, ap}
 use Rattle.std.proofs.Common.{◌∙◌, subst}
-use Rattle.libyaml_types.specs.declared.enums.yaml_error_type_t.{yaml_error_type_t}
 use Rattle.libyaml_sources.specs.Fault.{Answer}
 use Rattle.libyaml_grammar.specs.sentences.Events.{Event}
 use Rattle.libyaml_grammar.specs.sentences.Tokens.{Content, Token}
@@ -10,17 +9,22 @@ use Rattle.libyaml_events.specs.machine.Want.{Want, AtState, Given, Wants}
 use Rattle.libyaml_events.specs.machine.Config.{Config, Parser, taken}
 use Rattle.libyaml_events.specs.machine.Machine.{Progressed, machine, step}
 use Rattle.libyaml_events.specs.parsers.Lookahead.{tokens_in, HoldsLast}
-use Rattle.libyaml_events.specs.sources.Calls.{EventOrError, Calls, Then, held_token}
+use Rattle.libyaml_events.specs.sources.Calls.{Calls, Then, held_token}
 use Rattle.libyaml_events.specs.sources.History.{answers, Ran, begins, goes_on}
-use Rattle.libyaml_events.proofs.machine.StepKinds.{Kind, NodeStep, StepKind, begins_document, begins_pair, begins_stream, closes, declares, empty, ends_document}
-use Rattle.libyaml_events.proofs.machine.StepKinds.{ends_indentless, ends_pair, ends_stream, enters, entry, fails, fails_in, hold, no_node, node, opens, property}
-use Rattle.libyaml_events.proofs.machine.StepKinds.{step_kind, wants, whole}
+use Rattle.libyaml_events.proofs.calls.Keeping.{Kept, not_err}
+use Rattle.libyaml_events.proofs.machine.StepKinds.{Kind, NodeStep, StepKind, begins_document, ends_document}
+use Rattle.libyaml_events.proofs.machine.StepKinds.{entry, hold, no_node, node, opens, property}
+use Rattle.libyaml_events.proofs.machine.StepKinds.{step_kind, whole}
 
 -- a step by the token u keeps none or u
+abbrev pub HoldsNone : Want → Config → Type 0
+HoldsNone w d = d.lookahead ≡ None
+
+abbrev pub HoldsAtMost : Token → Event → Config → Type 0
+HoldsAtMost u e d = (d.lookahead ≡ None) ⊎ (d.lookahead ≡ Some u)
+
 abbrev pub HeldOn : Progressed → Token → Type 0
-HeldOn (Err f) u = Unit {0}
-HeldOn (Ok (Wants w, d)) u = d.lookahead ≡ None
-HeldOn (Ok (Given e, d)) u = (d.lookahead ≡ None) ⊎ (d.lookahead ≡ Some u)
+HeldOn o u = Kept HoldsNone (HoldsAtMost u) o
 
 pub held_on : (w : Want) (c : Config) (u : Token) (k : Content) → c.lookahead ≡ None → HeldOn (machine w c u k) u
 held_on w c u k n = by _ _ _ (step_kind [] [] u w c k)
@@ -36,22 +40,11 @@ held_on w c u k n = by _ _ _ (step_kind [] [] u w c k)
     by_node d o o' e (opens s i b r) = inr refl
 
     by : {n : ℕ} {x : Content} (k : Kind) (o o' : Progressed) → StepKind [] [] u c n x k o o' → HeldOn o u
-    by k o o' fails = tt
-    by k o o' (fails_in f) = tt
-    by k o o' (wants w i l) = n
-    by k o o' (declares d x p l) = n
-    by k o o' (enters w s i j l) = n
-    by k o o' (begins_stream s l) = inl n
-    by k o o' (ends_stream l) = inl n
     by k o o' (begins_document d s kept i l) = holds kept _ n
     by k o o' (ends_document d s b kept i l) = holds kept _ n
     by k o o' (node m) = by_node c _ _ n m
     by k o o' (entry s r e g m) = by_node _ _ _ n m
-    by k o o' (empty s g l) = inr refl
-    by k o o' (begins_pair s l) = inl n
-    by k o o' (ends_pair l) = inr refl
-    by k o o' (closes e l) = inl n
-    by k o o' (ends_indentless l) = inr refl
+    by k o o' _ = first_of (assumption, search (inl, inr))
 
 -- these tokens end in those that are held
 record EndsIn (d : Config) (l : List Token) : Type 0 where
@@ -61,9 +54,6 @@ record EndsIn (d : Config) (l : List Token) : Type 0 where
 no_tokens : (l : List Token) → answers l [] ≡ [] → l ≡ []
 no_tokens [] e = refl
 no_tokens (t ∷ l) e = absurd cc
-
-not_err : (e : Event) (x : yaml_error_type_t) → ◌≡◌ {A = EventOrError} (Ok e) (Err x) → ⊥
-not_err e x h = cc
 
 one_more : (t : Token) (d : Config) (l : List Token) → EndsIn d l → EndsIn d (t ∷ l)
 one_more t d l h = record { before = t ∷ h.before; all = ap (λ (x : List Token). t ∷ x) h.all }

@@ -15,6 +15,7 @@ use Rattle.libyaml_grammar.specs.sentences.Events.{Event, events, either}
 use Rattle.libyaml_grammar.specs.cuts.CutTrees.{Cut, at_tag, at_tag_behind}
 use Rattle.libyaml_grammar.specs.cuts.CutEvents.{shown_cut, cut_events}
 use Rattle.libyaml_grammar.specs.cuts.CutFaults.{fault}
+use Rattle.libyaml_grammar.specs.cuts.Fits.{Fits}
 use Rattle.libyaml_grammar.specs.sentences.Sentences.{is_end, has_end}
 use Rattle.libyaml_grammar.specs.runs.StreamEnds.{up_to_end}
 use Rattle.libyaml_grammar.specs.cuts.Settled.{sure}
@@ -47,6 +48,7 @@ use Rattle.libyaml_events.proofs.machine.Giving.{given_split, gives_split, shown
 use Rattle.libyaml_events.proofs.machine.Waiting.{doomed_shown}
 use Rattle.libyaml_events.proofs.machine.Stand.{Links, at_position, amid_token}
 use Rattle.libyaml_events.proofs.calls.Calling.{Answered, gave, failed, faulted, call_answers, ran_links}
+use Rattle.libyaml_events.proofs.calls.Keeping.{not_err, ok_same}
 
 -- the events of a list, up to its first bad token, or its stream's end
 abbrev pub reads_given : List Token → Position → List Event → List Event
@@ -124,6 +126,13 @@ splits (t ∷ l) = let r = go (is_end t.content) (splits l) in record { after = 
     go true h = (l, refl)
     go false h = (h.after, ap (λ (x : List Token). t ∷ x) h.all)
 
+up_to_cut : (l before : List Token) (token : Token) (behind : List Token) (c : Cut) → up_to_end l ≡ before ++ token ∷ behind → Fits before token c
+    → cut_events c token ≡ reads_given l unopened []
+up_to_cut l before token behind c a i =
+    let s = splits l in
+    sym (ap (λ (y : List Token). reads_given y unopened []) (s.all ∙ (ap (λ (y : List Token). y ++ s.after) a ∙ assoc before (token ∷ behind) s.after))
+    ∙ cut_given before token (behind ++ s.after) _ c (fits_reach before token c i) (fits_stop before token c i))
+
 -- the events of a run are what the list gives
 pub run_given : (l : List Token) (f : Fault) (e : List Event) (x : Ending) → IsRun l f e x → e ≡ reads_given l unopened []
 run_given l f e x (of_sentence t a o g h) =
@@ -132,14 +141,8 @@ run_given l f e x (of_sentence t a o g h) =
     g ∙ (shown_given (up_to_end l) (done t) zero_mark [] r
     ∙ (sym (ap (gives_all (up_to_end l) unopened) (done_gives s.after t))
     ∙ (sym (front_given (up_to_end l) s.after unopened (done t) r []) ∙ ap (λ (y : List Token). reads_given y unopened []) (sym s.all))))
-run_given l f e x (of_cut_tree before token behind c a i o g h) =
-    let s = splits l in
-    g ∙ sym (ap (λ (y : List Token). reads_given y unopened []) (s.all ∙ (ap (λ (y : List Token). y ++ s.after) a ∙ assoc before (token ∷ behind) s.after))
-    ∙ cut_given before token (behind ++ s.after) _ c (fits_reach before token c i) (fits_stop before token c i))
-run_given l f e x (amid_properties before token behind c a i o g h) =
-    let s = splits l in
-    g ∙ sym (ap (λ (y : List Token). reads_given y unopened []) (s.all ∙ (ap (λ (y : List Token). y ++ s.after) a ∙ assoc before (token ∷ behind) s.after))
-    ∙ cut_given before token (behind ++ s.after) _ c (fits_reach before token c i) (fits_stop before token c i))
+run_given l f e x (of_cut_tree before token behind c a i o g h) = g ∙ up_to_cut l before token behind c a i
+run_given l f e x (amid_properties before token behind c a i o g h) = g ∙ up_to_cut l before token behind c a i
 run_given l f e x (of_beginning b n i h) =
     let (q, g) = begin_reads (up_to_end l) b in
     let y = front_of (up_to_end l) q g (not_end_not_done (up_to_end l) q g n) in
@@ -214,6 +217,17 @@ all_waited : (c : Cut) (l : List Token) → HasWaited c l → is_behind_properti
 all_waited c l (at_once e f) = ap (is_behind_properties c) e ∙ f
 all_waited c l (by_last front t e f g) = g
 
+-- a parser that has given the stream end event has nothing more of its run before it
+pub nothing_behind_end : {S : Type 0} (known : S → Option Coming) (p : Parser S) → is_over p ≡ true → (later : List Event) (ending : Ending)
+    → RunToCome known p later ending → (later ≡ []) × (ending ≡ Ends)
+nothing_behind_end known p ended later ending r =
+    let staged = ran_staged r.history in
+    let whole = staged_whole p.config r.asked r.given (ran_links r.history) staged (sym (staged_over p.config r.given staged) ∙ ended) in
+    let sentence = subst (λ (l : List Token). IsRun (l ++ r.rest) r.fault (events whole.tree) Ends) (sym whole.all_tokens)
+    (sentence_run whole.tree r.rest r.fault whole.order) in
+    let same = one_run_proof (r.asked ++ r.rest) r.fault (r.given ++ later) (events whole.tree) ending Ends r.run sentence in
+    (behind_same r.given later [] (same.0 ∙ (sym whole.all_events ∙ sym (nil_right r.given))), same.1)
+
 module _ {S : Type 0} (gives_to : S → Answer → S → Type 0) (known : S → Option Coming) (MayBreak : S → Fault → Type 0) (follows : (s t : S) (a : Answer)
     → gives_to s a t → Follows (MayBreak t) (known s) a (known t)) where
   -- tokens that a known source gave are the prefix of its list
@@ -265,12 +279,6 @@ module _ {S : Type 0} (gives_to : S → Answer → S → Type 0) (known : S → 
         calls : Calls AtState (taken old.config) (held old.config ++ call.asked) (Ok e) new.config
         calls = running_does old.config call.asked (Ok e) new.config begun call.does
 
-        ok_same : (x : Event) → ◌≡◌ {A = EventOrError} (Ok e) (Ok x) → x ≡ e
-        ok_same x z = cc
-
-        not_err : (x : yaml_error_type_t) → ◌≡◌ {A = EventOrError} (Ok e) (Err x) → ⊥
-        not_err x z = cc
-
         go : Answered (Ok e) new.config h.asked call.asked h.given → (later : List Event) × (to_come ≡ e ∷ later) × RunToCome known new later ending
         go (gave more x i j k) =
             let front = in_order more old.source new.source (subst (λ (y : List Answer). Gave gives_to old.source y new.source) i call.gave) h.rest h.fault
@@ -278,7 +286,7 @@ module _ {S : Type 0} (gives_to : S → Answer → S → Type 0) (known : S → 
             let same : h.asked ++ h.rest ≡ (h.asked ++ more) ++ front.rest = ap (λ (y : List Token). h.asked ++ y) front.all
             ∙ sym (assoc h.asked more front.rest) in
             let links : Links new.config (h.asked ++ more) (h.given ++ e ∷ [])
-            = subst (λ (y : Event). Links new.config (h.asked ++ more) (h.given ++ y ∷ [])) (ok_same x j) k in
+            = subst (λ (y : Event). Links new.config (h.asked ++ more) (h.given ++ y ∷ [])) (ok_same e x j) k in
             let b = linked_begins new.config (h.asked ++ more) (h.given ++ e ∷ []) front.rest links in
             let run : IsRun ((h.asked ++ more) ++ front.rest) h.fault (h.given ++ to_come) ending
             = subst (λ (y : List Token). IsRun y h.fault (h.given ++ to_come) ending) same h.run in
@@ -298,8 +306,8 @@ module _ {S : Type 0} (gives_to : S → Answer → S → Type 0) (known : S → 
                     ∙ sym (assoc h.given (e ∷ []) b.0)) run;
               },
             )
-        go (failed more i j k) = absurd (not_err new.config.fault.error j)
-        go (faulted more w c i j k) = absurd (not_err new.config.fault.error j)
+        go (failed more i j k) = absurd (not_err e new.config.fault.error j)
+        go (faulted more w c i j k) = absurd (not_err e new.config.fault.error j)
 
     -- runs of the tokens that were asked for and known, by a call that fails
     abbrev IsLast : List Event → Ending → Type 0
@@ -354,24 +362,11 @@ module _ {S : Type 0} (gives_to : S → Answer → S → Type 0) (known : S → 
                 at_last (inl (a, b)) = does (short_last to_come ending h l a b m)
                 at_last (inr a) = breaks (kept_fault new) a (ap Err kept) refl
 
-    -- a parser that has ended has no run to come
-    over_run : (to_come : List Event) (ending : Ending) → RunToCome known old to_come ending → ended_or_failed old.config ≡ true → (to_come ≡ [])
-        × (ending ≡ Ends)
-    over_run to_come ending h e =
-        let staged = ran_staged h.history in
-        let w = staged_whole old.config h.asked h.given (ran_links h.history) staged (sym (staged_over old.config h.given staged) ∙ e) in
-        let (a, b) = one_run_proof (h.asked ++ h.rest) h.fault (h.given ++ to_come) (events w.tree) ending Ends h.run
-        (subst (λ (y : List Token). IsRun (y ++ h.rest) h.fault (events w.tree) Ends) (sym w.all_tokens) (sentence_run w.tree h.rest h.fault w.order)) in
-        (behind_same h.given to_come [] (a ∙ (sym w.all_events ∙ sym (nil_right h.given))), b)
-
     pub more_to_come : (e : Event) (later : List Event) (ending : Ending) → RunToCome known old (e ∷ later) ending → ended_or_failed old.config ≡ false
     more_to_come e later ending h = go (ended_or_failed old.config) refl
       where
         go : (b : Bool) → ended_or_failed old.config ≡ b → ended_or_failed old.config ≡ false
-        go true f = absurd (no (over_run (e ∷ later) ending h f).0)
-          where
-            no : e ∷ later ≡ [] → ⊥
-            no z = cc
+        go true f = let z : e ∷ later ≡ [] = (nothing_behind_end known old f (e ∷ later) ending h).0 in absurd cc
         go false f = f
 
     pub next_of_run : (r : EventOrError) → Call gives_to old r new → IfErr r (λ x. (x ≡ new.config.fault.error) × (ended_or_failed new.config ≡ true))
@@ -396,10 +391,7 @@ module _ {S : Type 0} (gives_to : S → Answer → S → Type 0) (known : S → 
     fault_of_run (Ok x) call kept f h = absurd (go (ended_or_failed old.config) refl)
       where
         go : (b : Bool) → ended_or_failed old.config ≡ b → ⊥
-        go true i = no (over_run [] (Fails f) h i).1
-          where
-            no : Fails f ≡ Ends → ⊥
-            no z = cc
+        go true i = let z : Fails f ≡ Ends = (nothing_behind_end known old i [] (Fails f) h).1 in cc
         go false i = let (m, j, k) = ok_run x call i [] (Fails f) h in no m j
           where
             no : (m : List Event) → [] ≡ x ∷ m → ⊥
@@ -422,18 +414,9 @@ module _ {S : Type 0} (gives_to : S → Answer → S → Type 0) (known : S → 
         go : IsRun (h.asked ++ h.rest) h.fault (h.given ++ []) Ends → Ends ≡ Ends → ended_or_failed old.config ≡ true
         go (of_sentence t a o g e) f = staged_over old.config h.given (ran_staged h.history)
             ∙ (ap (λ (y : List Event). is_at_end (stage_of y)) (sym (nil_right h.given) ∙ g) ∙ tree_ends t)
-        go (of_cut_tree before token behind c a i o g e) f = absurd (no e)
-          where
-            no : Ends ≡ Fails (fault c token.content token.start_mark) → ⊥
-            no z = cc
-        go (amid_properties before token behind c a i o g e) f = absurd (no e)
-          where
-            no : Ends ≡ Fails h.fault → ⊥
-            no z = cc
-        go (of_beginning b n i e) f = absurd (no e)
-          where
-            no : Ends ≡ Fails h.fault → ⊥
-            no z = cc
+        go (of_cut_tree before token behind c a i o g e) f = absurd cc
+        go (amid_properties before token behind c a i o g e) f = absurd cc
+        go (of_beginning b n i e) f = absurd cc
 
     -- a call of a parser that has ended or failed gives the empty event, and changes nothing
     pub ended_call : (r : EventOrError) → Call gives_to old r new → new.max_entries ≡ old.max_entries → ended_or_failed old.config ≡ true
@@ -453,14 +436,3 @@ module _ {S : Type 0} (gives_to : S → Answer → S → Type 0) (known : S → 
     pub over_call : (r : EventOrError) → Call gives_to old r new → new.max_entries ≡ old.max_entries → RunToCome known old [] Ends → (r ≡ Ok empty_event)
         × (new ≡ old)
     over_call r call bound h = ended_call r call bound (end_of_run h)
-
--- a parser that has given the stream end event has nothing more of its run before it
-pub nothing_behind_end : {S : Type 0} (known : S → Option Coming) (p : Parser S) → is_over p ≡ true → (later : List Event) (ending : Ending)
-    → RunToCome known p later ending → (later ≡ []) × (ending ≡ Ends)
-nothing_behind_end known p ended later ending r =
-    let staged = ran_staged r.history in
-    let whole = staged_whole p.config r.asked r.given (ran_links r.history) staged (sym (staged_over p.config r.given staged) ∙ ended) in
-    let sentence = subst (λ (l : List Token). IsRun (l ++ r.rest) r.fault (events whole.tree) Ends) (sym whole.all_tokens)
-    (sentence_run whole.tree r.rest r.fault whole.order) in
-    let same = one_run_proof (r.asked ++ r.rest) r.fault (r.given ++ later) (events whole.tree) ending Ends r.run sentence in
-    (behind_same r.given later [] (same.0 ∙ (sym whole.all_events ∙ sym (nil_right r.given))), same.1)

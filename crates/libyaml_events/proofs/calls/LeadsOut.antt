@@ -1,27 +1,29 @@
 -- A step that gives an event after which no document is open leads between documents.
-use Rattle.std.proofs.Common.{◌≡◌, ℕ, ◌++◌, ◌∙◌, ◌||◌, Bool, true, false, Ok, Err, IfOk, List, [], ◌∷◌, refl, sym, ap, subst}
+use Rattle.std.proofs.Common.{arith, ◌≡◌, ℕ, ◌++◌, ◌||◌, Bool, true, false, Ok, Err, IfOk, [], refl, sym, subst}
 use Rattle.libyaml_types.specs.declared.enums.yaml_parser_state_t.{yaml_parser_state_t}
 use Rattle.libyaml_types.specs.declared.enums.yaml_parser_state_t.TheVariants as st
 use Rattle.libyaml_types.specs.declared.event.unnamed_yaml_event_t_data.{unnamed_yaml_event_t_data}
 use Rattle.libyaml_sources.specs.Fault.{Answer}
 use Rattle.libyaml_grammar.specs.sentences.Events.{Event}
 use Rattle.libyaml_grammar.specs.sentences.Tokens.{Content, Token}
-use Rattle.libyaml_events.specs.machine.Want.{Want, AtState, Given, Wants}
+use Rattle.libyaml_events.specs.machine.Want.{Want, AtState}
 use Rattle.libyaml_events.specs.machine.Config.{Config, Parser, is_between, is_end_state, is_fault, ended_or_failed, taken}
-use Rattle.libyaml_events.specs.machine.Machine as mach
 use Rattle.libyaml_events.specs.machine.Machine.{Progressed, machine}
 use Rattle.libyaml_events.specs.parsers.OutsideEvents.{is_outside_event}
-use Rattle.libyaml_events.specs.sources.Calls.{Call, Calls, Then, EventOrError, ParsesIf, held}
+use Rattle.libyaml_events.specs.sources.Calls.{Call, EventOrError, ParsesIf, held}
 use Rattle.libyaml_events.specs.sources.History.{between_documents}
-use Rattle.libyaml_events.proofs.machine.StepKinds.{IsEnd, IsLeaf, IsStart, Kind, NodeStep, StepKind, a_mapping, a_scalar, a_sequence, an_alias, begins_document}
-use Rattle.libyaml_events.proofs.machine.StepKinds.{begins_pair, begins_stream, between, closes, declares, empty, ends_document, ends_indentless, ends_pair}
-use Rattle.libyaml_events.proofs.machine.StepKinds.{ends_stream, enters, entry, fails, fails_in, kind, mapping_end, no_node, node, opens, property, sequence_end}
-use Rattle.libyaml_events.proofs.machine.StepKinds.{step_kind, wants, whole}
+use Rattle.libyaml_events.proofs.calls.Keeping.{Kept, calls_keep}
+use Rattle.libyaml_events.proofs.machine.StepKinds.{IsEnd, IsLeaf, IsStart, Kind, NodeStep, StepKind, a_mapping, a_scalar, a_sequence, an_alias}
+use Rattle.libyaml_events.proofs.machine.StepKinds.{between, closes, ends_document}
+use Rattle.libyaml_events.proofs.machine.StepKinds.{entry, kind, mapping_end, no_node, node, opens, property, sequence_end}
+use Rattle.libyaml_events.proofs.machine.StepKinds.{step_kind, whole}
+
+-- what an event says of the state that it leaves
+abbrev LeavesBetween : Event → Config → Type 0
+LeavesBetween e c = is_outside_event e.content ≡ true → is_between c.state ≡ true
 
 abbrev pub LeadsOut : Progressed → Type 0
-LeadsOut (Ok (Given e, c)) = is_outside_event e.content ≡ true → is_between c.state ≡ true
-LeadsOut (Ok (Wants w, c)) = Unit {0}
-LeadsOut (Err f) = Unit {0}
+LeadsOut = Kept (λ w c. Unit {0}) LeavesBetween
 
 -- a document is open after an event of a node
 leaf_in : (e : unnamed_yaml_event_t_data) → IsLeaf e → is_outside_event e ≡ true → ⊥
@@ -51,45 +53,12 @@ leads_out w c t k = by _ _ _ (step_kind [] [] t w c k)
     by_node d o o' (opens s i b r) = λ h. absurd (start_in _ i h)
 
     by : {n : ℕ} {x : Content} (k : Kind) (o o' : Progressed) → StepKind [] [] t c n x k o o' → LeadsOut o
-    by k o o' fails = tt
-    by k o o' (fails_in f) = tt
-    by k o o' (wants w i l) = tt
-    by k o o' (declares d x p l) = tt
-    by k o o' (enters w s i j l) = tt
-    by k o o' (begins_stream s l) = λ h. refl
-    by k o o' (ends_stream l) = λ h. refl
-    by k o o' (begins_document d s kept i l) = λ h. absurd cc
     by k o o' (ends_document d s b false i l) = λ h. stands_between s i
     by k o o' (ends_document d s b true i l) = λ h. stands_between s i
     by k o o' (node n) = by_node _ _ _ n
     by k o o' (entry s r e g n) = by_node _ _ _ n
     by k o o' (closes e l) = λ h. absurd (end_in _ e h)
-    by k o o' (empty s g l) = λ h. absurd cc
-    by k o o' (begins_pair s l) = λ h. absurd cc
-    by k o o' (ends_pair l) = λ h. absurd cc
-    by k o o' (ends_indentless l) = λ h. absurd cc
-
-call_leads : (a : List Answer) (w : Want) (c : Config) (e : Event) (d : Config) → Calls w c a (Ok e) d → is_outside_event e.content ≡ true
-    → is_between d.state ≡ true
-call_leads [] w c e d h end = absurd h
-call_leads (Err f ∷ rest) w c e d h end = absurd (err h.1)
-  where
-    err : ◌≡◌ {A = EventOrError} (Ok e) (Err f.error) → ⊥
-    err x = cc
-call_leads (Ok t ∷ rest) w c e d h end = go (mach.step w c t) (leads_out w c t t.content) h (λ w' c' x. call_leads rest w' c' e d x end)
-  where
-    go : (o : Progressed) → LeadsOut o → Then o (λ w' c'. Calls w' c' rest (Ok e) d) rest (Ok e) d
-        → ((w' : Want) (c' : Config) → Calls w' c' rest (Ok e) d → is_between d.state ≡ true) → is_between d.state ≡ true
-    go (Err f) leads x more = absurd (err x.1)
-      where
-        err : ◌≡◌ {A = EventOrError} (Ok e) (Err f.error) → ⊥
-        err x = cc
-    go (Ok (Given g, c')) leads x more
-        = subst (λ (y : Config). is_between y.state ≡ true) (sym x.2) (leads (ap (λ (y : Event). is_outside_event y.content) (sym (same x.1)) ∙ end))
-      where
-        same : ◌≡◌ {A = EventOrError} (Ok e) (Ok g) → e ≡ g
-        same x = cc
-    go (Ok (Wants w', c')) leads x more = more w' c' x
+    by k o o' _ = first_of (assumption, grind arith)
 
 with_between : (b : Bool) (s : yaml_parser_state_t) → is_between s ≡ true → (b || is_between s) ≡ true
 with_between true s h = refl
@@ -111,4 +80,5 @@ stands_outside gives old new (Ok e) h = go (ended_or_failed old.config) refl h.d
     go true over x outside = subst (λ (c : Config). (is_fault c.fault.error || is_between c.state)
         ≡ true) (sym x.2) (over_between (is_fault old.config.fault.error) old.config.state over)
     go false over x outside = with_between (is_fault new.config.fault.error) new.config.state
-        (call_leads (held old.config ++ h.asked) AtState (taken old.config) e new.config x outside)
+        (calls_keep (λ a w c. Unit {0}) LeavesBetween (λ t rest w c k. leads_out w c t t.content) (held old.config ++ h.asked) AtState (taken old.config) e
+        new.config tt x outside)

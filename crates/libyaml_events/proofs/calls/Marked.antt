@@ -1,18 +1,16 @@
 -- The stack of marks holds one for each open collection that has its start there.
-use Rattle.std.proofs.Common.{◌≡◌, ℕ, List, [], ◌∷◌, Bool, true, false, Ok, Err, refl, sym, subst}
-use Rattle.libyaml_types.specs.declared.enums.yaml_error_type_t.{yaml_error_type_t}
+use Rattle.std.proofs.Common.{◌≡◌, ℕ, List, [], ◌∷◌, Bool, true, false, refl, sym, subst}
 use Rattle.libyaml_types.specs.declared.enums.yaml_parser_state_t.{yaml_parser_state_t}
-use Rattle.libyaml_sources.specs.Fault.{Answer}
 use Rattle.libyaml_grammar.specs.sentences.Events.{Event}
 use Rattle.libyaml_grammar.specs.sentences.Tokens.{Content, Mark, Token}
-use Rattle.libyaml_events.specs.machine.Want.{Want, AtState, Given, Wants}
+use Rattle.libyaml_events.specs.machine.Want.{Want, AtState}
 use Rattle.libyaml_events.specs.machine.Config.{Config, below, pushed, taken, top}
-use Rattle.libyaml_events.specs.machine.Machine.{Progressed, begin_document, machine, step}
-use Rattle.libyaml_events.specs.sources.Calls.{EventOrError, Calls, Then}
+use Rattle.libyaml_events.specs.machine.Machine.{Progressed, begin_document, machine}
 use Rattle.libyaml_events.specs.sources.History.{Ran, begins, goes_on}
-use Rattle.libyaml_events.proofs.machine.StepKinds.{Begins, Goes, Kind, NodeStep, StepKind, at_first, at_indentless, begins_document, begins_pair, begins_stream}
-use Rattle.libyaml_events.proofs.machine.StepKinds.{closes, declares, empty, ends_document, ends_indentless, ends_pair, ends_stream, enters, entry, fails}
-use Rattle.libyaml_events.proofs.machine.StepKinds.{fails_in, from_key, hold, in_indentless, in_inner, in_pair, inner, kind, kind_of, no_node, node, opens, pair}
+use Rattle.libyaml_events.proofs.calls.Keeping.{Kept, calls_keep}
+use Rattle.libyaml_events.proofs.machine.StepKinds.{Begins, Goes, Kind, NodeStep, StepKind, at_first, at_indentless, begins_document}
+use Rattle.libyaml_events.proofs.machine.StepKinds.{closes, empty, ends_document, ends_indentless, enters, entry}
+use Rattle.libyaml_events.proofs.machine.StepKinds.{from_key, hold, in_indentless, in_inner, in_pair, inner, kind, kind_of, no_node, node, opens, pair}
 use Rattle.libyaml_events.proofs.machine.StepKinds.{pair_key, property, step_kind, wants, whole}
 
 -- whether the place is within a collection whose start is on the stack
@@ -40,9 +38,7 @@ abbrev pub IsMarked : Want → Config → Type 0
 IsMarked w c = MarksAt (kind_of w c) c.states c.marks
 
 abbrev pub MarkedOn : Progressed → Type 0
-MarkedOn (Err f) = Unit {0}
-MarkedOn (Ok (Wants w, d)) = IsMarked w d
-MarkedOn (Ok (Given e, d)) = IsMarked AtState d
+MarkedOn = Kept IsMarked (λ e. IsMarked AtState)
 
 -- a whole node goes back to the stack
 back : (ss : List yaml_parser_state_t) (ms : List Mark) → MarksFit ss ms → MarksFit (top ss ∷ below ss) ms
@@ -79,39 +75,19 @@ marked_on w c u k = by _ _ _ (step_kind [] [] u w c k)
     by_node d o o' (opens s i b r) h = begin_marks (kind s) d.states d.marks b h
 
     by : {n : ℕ} {x : Content} (k : Kind) (o o' : Progressed) → StepKind [] [] u c n x k o o' → MarksAt k c.states c.marks → MarkedOn o
-    by k o o' fails h = tt
-    by k o o' (fails_in f) h = tt
     by k o o' (wants w i l) h = subst (λ (l : Kind). MarksAt l c.states c.marks) (sym i) h
-    by k o o' (declares d x p l) h = h
     by k o o' (enters {m} w s i j l) h = subst (λ (l : Kind). MarksAt l c.states (m ∷ c.marks)) (sym j) h
-    by k o o' (begins_stream s l) h = h
-    by k o o' (ends_stream l) h = h
     by k o o' (begins_document d s kept i l) h
         = holds kept _ (subst (λ (l : Kind). MarksAt l (begin_document s c).states c.marks) (sym i) h)
     by k o o' (ends_document d s b kept i l) h = holds kept _ (subst (λ (l : Kind). MarksAt l c.states c.marks) (sym i) h)
     by k o o' (node n) h = by_node c _ _ n h
     by k o o' (entry s r e g n) h = by_node (pushed s c) _ _ n (go_marks _ (kind s) c.states c.marks g h)
     by k o o' (empty s g l) h = go_marks _ (kind s) c.states c.marks g h
-    by k o o' (begins_pair s l) h = h
-    by k o o' (ends_pair l) h = h
     by k o o' (closes e l) h = end_back c.states c.marks h
     by k o o' (ends_indentless l) h = back c.states c.marks h
-
-not_err : (e : Event) (x : yaml_error_type_t) → ◌≡◌ {A = EventOrError} (Ok e) (Err x) → ⊥
-not_err e x h = cc
-
--- a call that gives an event
-marked_then : (rest : List Answer) (e : Event) (d : Config) → ((w : Want) (c : Config) → IsMarked w c → Calls w c rest (Ok e) d → IsMarked AtState d)
-    → (o : Progressed) → MarkedOn o → Then o (λ w c. Calls w c rest (Ok e) d) rest (Ok e) d → IsMarked AtState d
-marked_then rest e d ih (Err f) h z = absurd (not_err e f.error z.1)
-marked_then rest e d ih (Ok (Wants w, c)) h z = ih w c h z
-marked_then rest e d ih (Ok (Given x, c)) h z = subst (IsMarked AtState) (sym z.2) h
-
-call_marked : (a : List Answer) (w : Want) (c : Config) (e : Event) (d : Config) → IsMarked w c → Calls w c a (Ok e) d → IsMarked AtState d
-call_marked [] w c e d h z = absurd z
-call_marked (Err f ∷ rest) w c e d h z = absurd (not_err e f.error z.1)
-call_marked (Ok t ∷ rest) w c e d h z = marked_then rest e d (λ w' c'. call_marked rest w' c' e d) (step w c t) (marked_on w c t t.content h) z
+    by k o o' _ h = assumption
 
 pub ran_marked : {c : Config} {asked : List Token} {g : List Event} → Ran c asked g → IsMarked AtState c
 ran_marked begins = refl
-ran_marked (goes_on c asked g more e {d} {asked'} {given'} run running call x y) = call_marked _ AtState (taken c) e d (ran_marked run) call
+ran_marked (goes_on c asked g more e {d} {asked'} {given'} run running call x y)
+    = calls_keep (λ a. IsMarked) (λ e. IsMarked AtState) (λ t rest w c. marked_on w c t t.content) _ AtState (taken c) e d (ran_marked run) call

@@ -3,7 +3,7 @@ use Rattle.std.proofs.Common.{◌≡◌, inl, inr, List, [], ◌∷◌, ◌++◌
 use Rattle.libyaml_types.specs.declared.enums.yaml_error_type_t.{yaml_error_type_t}
 use Rattle.libyaml_sources.specs.Errors.{IsSourceError}
 use Rattle.libyaml_sources.specs.Fault.{Fault, Answer}
-use Rattle.libyaml_grammar.specs.sentences.Tokens.{Content, Tag, Token}
+use Rattle.libyaml_grammar.specs.sentences.Tokens.{Anchor, Content, Tag, Token, tok}
 use Rattle.libyaml_grammar.specs.sentences.Trees.{Directives, Stream}
 use Rattle.libyaml_grammar.specs.sentences.Events.{Event, either}
 use Rattle.libyaml_grammar.specs.cuts.CutTrees.{Cut, declared}
@@ -85,12 +85,9 @@ one_no_end b l e f = ap (λ (u : Bool). either u (has_end l)) e ∙ f
 
 waits_no_end : (l : List Token) (x : Cut) (b : Token) (later : List Token) (p : Position) → Waits x b later p → FitsTag l x b.content
     → has_end (b ∷ later) ≡ false
-waits_no_end l x b later p (behind_tag c h n u e f g i) t
-    = one_no_end b later (unknown_no_end (declared c) b.content (subst (λ (y : Cut). FitsTag l y b.content) f t)) (ap has_end g)
-waits_no_end l x b later p (behind_anchor c h n a m u e f g i) t
-    = one_no_end b later (unknown_no_end (declared c) b.content (subst (λ (y : Cut). FitsTag l y b.content) f t)) (ap has_end g)
-waits_no_end l x b later p (behind_both c a m h n u e f g i) t
-    = one_no_end b later (unknown_no_end (declared c) b.content (subst (λ (y : Cut). FitsTag l y b.content) f t)) (ap has_end g)
+waits_no_end l x b later p (behind_tag c h d u) t = one_no_end d [] (unknown_no_end (declared c) d.content t) refl
+waits_no_end l x b later p (behind_anchor c h d a m u) t = one_no_end d (tok (Anchor a) m ∷ []) (unknown_no_end (declared c) d.content t) refl
+waits_no_end l x b later p (behind_both c a m h d u) t = one_no_end d [] (unknown_no_end (declared c) d.content t) refl
 
 standing_no_end : (l : List Token) (g : List Event) (w : Want) (c : Config) → Stands l g w c → has_end l ≡ false
 standing_no_end l g w c s = go s.stood

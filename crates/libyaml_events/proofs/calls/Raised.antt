@@ -17,9 +17,9 @@ use Rattle.libyaml_events.specs.sources.History.{History, Ran}
 use Rattle.libyaml_events.proofs.calls.Marked.{IsMarked, MarkedOn, MarksAt, OneMore, MarksFit, marked_on, ran_marked}
 use Rattle.libyaml_events.proofs.lent.Staged.{ran_staged, retake}
 use Rattle.libyaml_events.proofs.calls.Staging.{IsStack, NodeDue, Good, GoodIn, GoodOn, good_on}
-use Rattle.libyaml_events.proofs.machine.StepKinds.{Kind, NodeStep, StepKind, begins_document, begins_pair, begins_stream, closes, declares, empty, ends_document}
-use Rattle.libyaml_events.proofs.machine.StepKinds.{ends_indentless, ends_pair, ends_stream, enters, entry, fails, fails_in, no_node, node, opens, property}
-use Rattle.libyaml_events.proofs.machine.StepKinds.{step_kind, wants, whole}
+use Rattle.libyaml_events.proofs.machine.StepKinds.{Kind, NodeStep, StepKind, begins_document, closes, ends_document}
+use Rattle.libyaml_events.proofs.machine.StepKinds.{ends_indentless, entry, fails_in, no_node, node, opens, property}
+use Rattle.libyaml_events.proofs.machine.StepKinds.{step_kind, whole}
 
 abbrev IsFull : {A : Type 0} → List A → Type 0
 IsFull [] = ⊥
@@ -93,31 +93,21 @@ module _ (ss : List yaml_parser_state_t) (ms : List Mark) where
       by_node d o o' (opens s i b r) f = refl
 
       by : {n : ℕ} {x : Content} (k : Kind) (o o' : Progressed) → StepKind ss ms u c n x k o o' → GoodIn k c.states c.lookahead st → MarksAt k c.states c.marks → o' ≡ lifted o
-      by k o o' fails g m = refl
       by k o o' (fails_in f) g m = fault_raised f c.marks (marks_full c.states c.marks m)
-      by k o o' (wants w i l) g m = refl
-      by k o o' (declares d x p l) g m = refl
-      by k o o' (enters w s i j l) g m = refl
-      by k o o' (begins_stream s l) g m = refl
-      by k o o' (ends_stream l) g m = refl
       by k o o' (begins_document d s true i l) g m = refl
-      by k o o' (begins_document d s false i l) g m = refl
       by k o o' (ends_document d s b true i l) g m = refl
-      by k o o' (ends_document d s b false i l) g m = refl
       by k o o' (node n) g m = by_node c _ _ n (due_full c.states st g)
       by k o o' (entry s r e x n) g m = by_node (pushed s c) _ _ n tt
-      by k o o' (empty s x l) g m = refl
-      by k o o' (begins_pair s l) g m = refl
-      by k o o' (ends_pair l) g m = refl
       by k o o' (closes e l) g m = close_raised _ u c (stack_full c.states g.0) (marks_full c.states c.marks m)
       by k o o' (ends_indentless l) g m = keeps_back _ _ _ u c (stack_full c.states g.0)
+      by k o o' _ g m = refl
 
   -- the rest of a call
   abbrev SameCalls : List Answer → EventOrError → Config → Stage → Type 0
   SameCalls a r d st = (w : Want) (c : Config) → c.lookahead ≡ None → Good w c st → IsMarked w c → Calls w c a r d
       → Calls w (raised ss ms c) a r (raised ss ms d)
 
-  same_then : (rest : List Answer) (r : EventOrError) (d c : Config) (st : Stage) → SameCalls rest r d st → (o : Progressed) → GoodOn o c st → MarkedOn o
+  same_then : (rest : List Answer) (r : EventOrError) (d c : Config) (st : Stage) → SameCalls rest r d st → (o : Progressed) → GoodOn o c.fault st → MarkedOn o
       → Then o (λ w' c'. Calls w' c' rest r d) rest r d → Then (lifted o) (λ w' c'. Calls w' c' rest r (raised ss ms d)) rest r (raised ss ms d)
   same_then rest r d c st ih (Err f) g m z = z
   same_then rest r d c st ih (Ok (Wants w, c')) g m z = ih w c' g.2 g.0 m z
@@ -134,7 +124,7 @@ module _ (ss : List yaml_parser_state_t) (ms : List Mark) where
   abbrev SameRefusals : List Answer → Stage → Type 0
   SameRefusals a st = (w : Want) (c : Config) → c.lookahead ≡ None → Good w c st → IsMarked w c → Refused w c a → Refused w (raised ss ms c) a
 
-  same_refused_at : (b : Bool) (rest : List Answer) (c : Config) (st : Stage) → SameRefusals rest st → (o : Progressed) → GoodOn o c st → MarkedOn o
+  same_refused_at : (b : Bool) (rest : List Answer) (c : Config) (st : Stage) → SameRefusals rest st → (o : Progressed) → GoodOn o c.fault st → MarkedOn o
       → RefusedAt b o (λ w' c'. Refused w' c' rest) rest → RefusedAt b (lifted o) (λ w' c'. Refused w' c' rest) rest
   same_refused_at b [] c st ih (Err f) g m z = z
   same_refused_at b [] c st ih (Ok (Wants w, c')) g m z = z

@@ -1,8 +1,11 @@
 -- The machine's stack of states stands for the stage of the events that were given.
-use Rattle.std.proofs.Common.{◌≡◌, ℕ, zero, suc, List, [], ◌∷◌, Option, Some, None, Bool, true, false, Ok, Err, refl, sym, ap, subst}
+use Rattle.std.proofs.Common.{◌≡◌, ℕ, zero, suc, List, [], ◌∷◌, Option, Some, None, Bool, true, false, refl, sym, ap, subst}
 use Rattle.libyaml_types.specs.declared.enums.yaml_parser_state_t.{yaml_parser_state_t}
+use Rattle.libyaml_grammar.specs.sentences.Events.{Event}
 use Rattle.libyaml_grammar.specs.sentences.Tokens.{Content, Token}
-use Rattle.libyaml_events.specs.machine.Want.{Want, AtState, Given, Wants}
+use Rattle.libyaml_sources.specs.Fault.{Fault}
+use Rattle.libyaml_events.proofs.calls.Keeping.{Kept}
+use Rattle.libyaml_events.specs.machine.Want.{Want, AtState}
 use Rattle.libyaml_events.specs.machine.Config.{Config, below, popped, pushed, top}
 use Rattle.libyaml_events.specs.machine.Machine.{Progressed, begin_document, end_document, machine}
 use Rattle.libyaml_events.specs.parsers.Stages.{Stage, at_start, outside, before_root, within_root, behind_root, at_end, leaf, opened, closed, after, is_event}
@@ -70,10 +73,15 @@ GoodAt s ss l st = GoodIn (kind s) ss l st
 abbrev pub Good : Want → Config → Stage → Type 0
 Good w c st = GoodIn (kind_of w c) c.states c.lookahead st
 
-abbrev pub GoodOn : Progressed → Config → Stage → Type 0
-GoodOn (Err f) c st = Unit {0}
-GoodOn (Ok (Wants w, d)) c st = Good w d st × (d.fault ≡ c.fault) × (d.lookahead ≡ None)
-GoodOn (Ok (Given e, d)) c st = Good AtState d (after st e.content) × (d.fault ≡ c.fault) × (is_event e.content ≡ true)
+-- before a token more of a call that keeps this fault, and at the event that it gives
+abbrev pub GoodBefore : Fault → Stage → Want → Config → Type 0
+GoodBefore f st w d = Good w d st × (d.fault ≡ f) × (d.lookahead ≡ None)
+
+abbrev pub GoodEvent : Fault → Stage → Event → Config → Type 0
+GoodEvent f st e d = Good AtState d (after st e.content) × (d.fault ≡ f) × (is_event e.content ≡ true)
+
+abbrev pub GoodOn : Progressed → Fault → Stage → Type 0
+GoodOn o f st = Kept (GoodBefore f st) (GoodEvent f st) o
 
 -- a whole node goes back to the stack
 node_back : (ss : List yaml_parser_state_t) (l : Option Token) (st : Stage) → NodeDue ss st → GoodAt (top ss) (below ss) l (leaf st)
@@ -128,7 +136,7 @@ go_empty k k' ss l l' st in_inner (e, f) = (e, ap leaf f)
 go_empty k k' ss l l' st from_key (e, f) = (e, ap leaf f)
 go_empty k k' ss l l' st in_pair (e, f) = (e, ap leaf f)
 
-pub good_on : (st : Stage) (c : Config) → c.lookahead ≡ None → (w : Want) (u : Token) (k : Content) → Good w c st → GoodOn (machine w c u k) c st
+pub good_on : (st : Stage) (c : Config) → c.lookahead ≡ None → (w : Want) (u : Token) (k : Content) → Good w c st → GoodOn (machine w c u k) c.fault st
 good_on st c n w u k = by _ _ _ (step_kind [] [] u w c k)
   where
     given : (kept : Bool) (d : Config) (x : Stage) → d.fault ≡ c.fault → ((l : Option Token) → GoodAt d.state d.states l x)
@@ -136,7 +144,7 @@ good_on st c n w u k = by _ _ _ (step_kind [] [] u w c k)
     given true d x f h = (h (Some u), f, refl)
     given false d x f h = (h d.lookahead, f, refl)
 
-    by_node : {n : ℕ} {x : Content} (d : Config) (o o' : Progressed) → NodeStep [] [] u d n x o o' → d.fault ≡ c.fault → d.lookahead ≡ None → NodeDue d.states st → GoodOn o c st
+    by_node : {n : ℕ} {x : Content} (d : Config) (o o' : Progressed) → NodeStep [] [] u d n x o o' → d.fault ≡ c.fault → d.lookahead ≡ None → NodeDue d.states st → GoodOn o c.fault st
     by_node d o o' no_node f l h = tt
     by_node d o o' (property r) f l h = (h, f, l)
     by_node d o o' (whole kept (an_alias a) r) f l h = given kept (popped d) (leaf st) f (λ t. node_back d.states t st h)
@@ -144,7 +152,7 @@ good_on st c n w u k = by _ _ _ (step_kind [] [] u w c k)
     by_node d o o' (opens s (a_sequence a) b r) f l h = (begin_good (kind s) d.states (Some u) (opened st) b (start_in d.states st h), f, refl)
     by_node d o o' (opens s (a_mapping a) b r) f l h = (begin_good (kind s) d.states (Some u) (opened st) b (start_in d.states st h), f, refl)
 
-    by : {n : ℕ} {x : Content} (k : Kind) (o o' : Progressed) → StepKind [] [] u c n x k o o' → GoodIn k c.states c.lookahead st → GoodOn o c st
+    by : {n : ℕ} {x : Content} (k : Kind) (o o' : Progressed) → StepKind [] [] u c n x k o o' → GoodIn k c.states c.lookahead st → GoodOn o c.fault st
     by k o o' fails h = tt
     by k o o' (fails_in f) h = tt
     by k o o' (wants w i l) h = (subst (λ (x : Kind). GoodIn x c.states c.lookahead st) (sym i) h, refl, n)
@@ -164,3 +172,7 @@ good_on st c n w u k = by _ _ _ (step_kind [] [] u w c k)
     by k o o' (closes sequence_end l) h = (end_back c.states c.lookahead st h, refl, refl)
     by k o o' (closes mapping_end l) h = (end_back c.states c.lookahead st h, refl, refl)
     by k o o' (ends_indentless l) h = (end_back c.states (Some u) st h, refl, refl)
+
+-- so for a call's steps, which keep a fault
+pub good_step : (f : Fault) (st : Stage) (t : Token) (w : Want) (c : Config) → GoodBefore f st w c → GoodOn (machine w c t t.content) f st
+good_step f st t w c h = subst (λ (f : Fault). GoodOn (machine w c t t.content) f st) h.1 (good_on st c h.2 w t t.content h.0)

@@ -12,26 +12,27 @@ use Rattle.libyaml_events.specs.machine.Config.{Config, taken, is_fault, is_end_
 use Rattle.libyaml_grammar.specs.sentences.Trees.{behind, whole}
 use Rattle.libyaml_events.specs.sources.History.{answers, is_stream_end, Ran, begins, goes_on}
 use Rattle.libyaml_events.specs.sources.Parsing.{IsWhole}
-use Rattle.libyaml_events.proofs.calls.Staging.{DueOn, Good, GoodAt, GoodIn, GoodOn, InPair, Inside, IsStack, NodeDue, StackOn, around, deeper, good_on}
+use Rattle.libyaml_events.proofs.calls.Staging.{DueOn, Good, GoodAt, GoodBefore, GoodEvent, GoodIn, InPair, Inside, IsStack, NodeDue, StackOn, around, deeper, good_step}
 use Rattle.libyaml_events.proofs.machine.StepKinds as kinds
 use Rattle.libyaml_events.proofs.machine.StepKinds.{Goes, Kind, StepKind, kind, kind_of, step_kind}
 use Rattle.libyaml_grammar.specs.cuts.CutTrees.{open_collection}
 use Rattle.libyaml_events.specs.sources.Calls.{held}
 use Rattle.libyaml_grammar.proofs.lent.Lists.{nil_right}
 use Rattle.libyaml_grammar.proofs.lent.Reading.{reads_all, goes}
-use Rattle.libyaml_events.specs.parsers.Stages.{Stage, at_start, before_root, within_root, after, is_event, is_outside, is_at_end, stage_from, stage_of}
+use Rattle.libyaml_events.specs.parsers.Stages.{Stage, at_end, at_start, before_root, behind_root, outside, within_root, after, is_event, is_outside, is_at_end, stage_from, stage_of}
 use Rattle.libyaml_events.specs.parsers.Stages.{open_collections, is_quiet, ends_quietly, takes_no_memory}
 use Rattle.libyaml_grammar.specs.sentences.Events.{events}
 use Rattle.libyaml_grammar.specs.sentences.Tokens.{Content, DocumentEnd, StreamEnd, StreamStart, Token, VersionDirective}
-use Rattle.libyaml_grammar.specs.sentences.Trees.{FlowMember, Stream, free, key, mapping, no_parts, no_value, pair, part, sequence, single, value, with_value}
+use Rattle.libyaml_grammar.specs.sentences.Trees.{FlowMember, Stream, free, key, mapping, no_value, pair, part, sequence}
 use Rattle.libyaml_grammar.specs.sentences.Events.{Event, document_end_at, stream_end_at}
-use Rattle.libyaml_grammar.specs.cuts.CutTrees.{Open, Place, block, entry, explicit_root, flow_entry, flow_key, flow_value, implicit_root, indentless_entry}
+use Rattle.libyaml_grammar.specs.cuts.CutTrees.{Open, Place, block, flow_entry, flow_key, flow_value, implicit_root}
 use Rattle.libyaml_grammar.specs.cuts.CutTrees.{part_place, root, slot}
 use Rattle.libyaml_grammar.specs.cuts.Rest.{rest}
-use Rattle.libyaml_grammar.proofs.lent.Positions.{Position, between, done, due, flow_behind, flow_due, flow_keyed, headed, in_indentless, in_mapping}
-use Rattle.libyaml_grammar.proofs.lent.Positions.{in_sequence, shown, unopened}
-use Rattle.libyaml_events.specs.sources.Calls.{Calls, EventOrError, Refused, RefusedAt, Then}
+use Rattle.libyaml_grammar.proofs.lent.Positions.{Position, between, done, due, flow_behind, flow_due, flow_keyed, headed, in_mapping}
+use Rattle.libyaml_grammar.proofs.lent.Positions.{shown, unopened}
+use Rattle.libyaml_events.specs.sources.Calls.{Calls, Refused, RefusedAt}
 use Rattle.libyaml_events.specs.machine.Growth.{grows_at_directive, grows_at_document, may_grow, may_grow_at}
+use Rattle.libyaml_events.proofs.calls.Keeping.{calls_keep}
 use Rattle.libyaml_events.proofs.lent.CallsInTurn.{stage_more}
 use Rattle.libyaml_grammar.proofs.lent.Completion.{read_order}
 use Rattle.libyaml_events.proofs.machine.Follow.{more}
@@ -53,34 +54,6 @@ retake s ss l st = go (kind s)
     go kinds.stream_end h = (h.0, h.1, refl)
     go _ h = h
 
-record Left (d : Config) (st : Stage) (e : Event) (c : Config) : Type 0 where
-  good : Good AtState d (after st e.content)
-  same_fault : d.fault ≡ c.fault
-  event : is_event e.content ≡ true
-
-calls_good : (a : List Answer) (w : Want) (c : Config) (st : Stage) → c.lookahead ≡ None → Good w c st → (e : Event) (d : Config) → Calls w c a (Ok e) d
-    → Left d st e c
-calls_good [] w c st n g e d h = absurd h
-calls_good (Err f ∷ rest) w c st n g e d h = absurd (not_err h.1)
-  where
-    not_err : ◌≡◌ {A = EventOrError} (Ok e) (Err f.error) → ⊥
-    not_err x = cc
-calls_good (Ok t ∷ rest) w c st n g e d h = go (step w c t) (good_on st c n w t t.content g) h (λ w' c'. calls_good rest w' c' st)
-  where
-    go : (o : Progressed) → GoodOn o c st → Then o (λ w' c'. Calls w' c' rest (Ok e) d) rest (Ok e) d
-        → ((w' : Want) (c' : Config) → c'.lookahead ≡ None → Good w' c' st → (e : Event) (d : Config) → Calls w' c' rest (Ok e) d → Left d st e c')
-        → Left d st e c
-    go (Err f) x y ih = absurd (not_err y.1)
-      where
-        not_err : ◌≡◌ {A = EventOrError} (Ok e) (Err f.error) → ⊥
-        not_err z = cc
-    go (Ok (Wants w', c')) x y ih = let i = ih w' c' x.2 x.0 e d y in record { good = i.good; same_fault = i.same_fault ∙ x.1; event = i.event }
-    go (Ok (Given e', c')) x y ih = subst (λ (z : Event). Left d st z c) (same y.1)
-        (subst (λ (z : Config). Left z st e' c) (sym y.2) (record { good = x.0; same_fault = x.1; event = x.2 }))
-      where
-        same : ◌≡◌ {A = EventOrError} (Ok e) (Ok e') → e' ≡ e
-        same z = cc
-
 pub stage_snoc : (st : Stage) (l : List Event) (e : Event) → stage_from st (l ++ e ∷ []) ≡ after (stage_from st l) e.content
 stage_snoc st [] e = refl
 stage_snoc st (x ∷ l) e = stage_snoc (after st x.content) l e
@@ -92,8 +65,11 @@ pub record Staged (c : Config) (g : List Event) : Type 0 where
 pub call_staged : (c : Config) (g : List Event) → Staged c g → (a : List Answer) (e : Event) (d : Config) → Calls AtState (taken c) a (Ok e) d
     → Staged d (g ++ e ∷ []) × (is_event e.content ≡ true)
 call_staged c g h a e d z =
-    let l = calls_good a AtState (taken c) (stage_of g) refl (retake c.state c.states c.lookahead (stage_of g) h.good) e d z in
-    (record { good = subst (λ (x : Stage). Good AtState d x) (sym (stage_snoc at_start g e)) l.good; no_fault_kept = l.same_fault ∙ h.no_fault_kept }, l.event)
+    let st = stage_of g in
+    let l : GoodEvent c.fault st e d = calls_keep (λ rest. GoodBefore c.fault st) (GoodEvent c.fault st)
+    (λ t rest. good_step c.fault st t) a AtState (taken c) e d
+    (retake c.state c.states c.lookahead st h.good, refl, refl) z in
+    (record { good = subst (λ (x : Stage). Good AtState d x) (sym (stage_snoc at_start g e)) l.0; no_fault_kept = l.1 ∙ h.no_fault_kept }, l.2)
 
 pub ran_staged : {c : Config} {asked : List Token} {g : List Event} → Ran c asked g → Staged c g
 ran_staged begins = record { good = (refl, refl); no_fault_kept = refl }
@@ -112,45 +88,35 @@ due_stage (s ∷ ss) st h P b w = go (kind s) h
     go kinds.pair h = subst P (sym h.1) (w _)
     go _ h = absurd h
 
-due_goes_on : (ss : List yaml_parser_state_t) (st : Stage) → NodeDue ss st → is_at_end st ≡ false
-due_goes_on ss st h = due_stage ss st h (λ x. is_at_end x ≡ false) refl (λ n. refl)
-
-due_in_document : (ss : List yaml_parser_state_t) (st : Stage) → NodeDue ss st → is_outside st ≡ false
-due_in_document ss st h = due_stage ss st h (λ x. is_outside x ≡ false) refl (λ n. refl)
-
 due_takes : (ss : List yaml_parser_state_t) (st : Stage) (l : List Token) → NodeDue ss st → takes_no_memory st l ≡ false
 due_takes ss st l h = due_stage ss st h (λ x. takes_no_memory x l ≡ false) refl (λ n. refl)
 
--- the stream's end
+-- the kinds of places at the stream's end, and where no document is open
+abbrev is_end_kind : Kind → Bool
+is_end_kind kinds.stream_end = true
+is_end_kind _ = false
+
+abbrev is_outside_kind : Kind → Bool
+is_outside_kind kinds.stream_start = true
+is_outside_kind kinds.between = true
+is_outside_kind kinds.stream_end = true
+is_outside_kind _ = false
+
+kind_stage : (k : Kind) (ss : List yaml_parser_state_t) (l : Option Token) (st : Stage) → GoodIn k ss l st
+    → (is_end_kind k ≡ is_at_end st) × (is_outside_kind k ≡ is_outside st)
+kind_stage kinds.node_due ss l st h
+    = due_stage ss st h (λ x. (false ≡ is_at_end x) × (false ≡ is_outside x)) (refl, refl) (λ n. (refl, refl))
+kind_stage _ ss l st h = (sym (ap is_at_end h.1), sym (ap is_outside h.1))
+
+state_kind : (s : yaml_parser_state_t) → (is_end_state s ≡ is_end_kind (kind s)) × (is_between s ≡ is_outside_kind (kind s))
+state_kind state.YAML_PARSE_END_STATE = (refl, refl)
+state_kind _ = (refl, refl)
+
 end_stage : (s : yaml_parser_state_t) (ss : List yaml_parser_state_t) (l : Option Token) (st : Stage) → GoodAt s ss l st → is_end_state s ≡ is_at_end st
-end_stage state.YAML_PARSE_STREAM_START_STATE ss l st h = sym (ap is_at_end h.1)
-end_stage state.YAML_PARSE_IMPLICIT_DOCUMENT_START_STATE ss l st h = sym (ap is_at_end h.1)
-end_stage state.YAML_PARSE_DOCUMENT_START_STATE ss l st h = sym (ap is_at_end h.1)
-end_stage state.YAML_PARSE_DOCUMENT_CONTENT_STATE ss l st h = sym (due_goes_on ss st h)
-end_stage state.YAML_PARSE_DOCUMENT_END_STATE ss l st h = sym (ap is_at_end h.1)
-end_stage state.YAML_PARSE_BLOCK_NODE_STATE ss l st h = sym (due_goes_on ss st h)
-end_stage state.YAML_PARSE_BLOCK_NODE_OR_INDENTLESS_SEQUENCE_STATE ss l st h = sym (due_goes_on ss st h)
-end_stage state.YAML_PARSE_FLOW_NODE_STATE ss l st h = sym (due_goes_on ss st h)
-end_stage state.YAML_PARSE_END_STATE ss l st h = sym (ap is_at_end h.1)
-end_stage state.YAML_PARSE_FLOW_SEQUENCE_ENTRY_MAPPING_KEY_STATE ss l st h = sym (ap is_at_end h.1)
-end_stage state.YAML_PARSE_FLOW_SEQUENCE_ENTRY_MAPPING_VALUE_STATE ss l st h = sym (ap is_at_end h.1)
-end_stage state.YAML_PARSE_FLOW_SEQUENCE_ENTRY_MAPPING_END_STATE ss l st h = sym (ap is_at_end h.1)
-end_stage _ ss l st h = sym (ap is_at_end h.1)
+end_stage s ss l st h = (state_kind s).0 ∙ (kind_stage (kind s) ss l st h).0
 
 between_stage : (s : yaml_parser_state_t) (ss : List yaml_parser_state_t) (l : Option Token) (st : Stage) → GoodAt s ss l st → is_between s ≡ is_outside st
-between_stage state.YAML_PARSE_STREAM_START_STATE ss l st h = sym (ap is_outside h.1)
-between_stage state.YAML_PARSE_IMPLICIT_DOCUMENT_START_STATE ss l st h = sym (ap is_outside h.1)
-between_stage state.YAML_PARSE_DOCUMENT_START_STATE ss l st h = sym (ap is_outside h.1)
-between_stage state.YAML_PARSE_DOCUMENT_CONTENT_STATE ss l st h = sym (due_in_document ss st h)
-between_stage state.YAML_PARSE_DOCUMENT_END_STATE ss l st h = sym (ap is_outside h.1)
-between_stage state.YAML_PARSE_BLOCK_NODE_STATE ss l st h = sym (due_in_document ss st h)
-between_stage state.YAML_PARSE_BLOCK_NODE_OR_INDENTLESS_SEQUENCE_STATE ss l st h = sym (due_in_document ss st h)
-between_stage state.YAML_PARSE_FLOW_NODE_STATE ss l st h = sym (due_in_document ss st h)
-between_stage state.YAML_PARSE_END_STATE ss l st h = sym (ap is_outside h.1)
-between_stage state.YAML_PARSE_FLOW_SEQUENCE_ENTRY_MAPPING_KEY_STATE ss l st h = sym (ap is_outside h.1)
-between_stage state.YAML_PARSE_FLOW_SEQUENCE_ENTRY_MAPPING_VALUE_STATE ss l st h = sym (ap is_outside h.1)
-between_stage state.YAML_PARSE_FLOW_SEQUENCE_ENTRY_MAPPING_END_STATE ss l st h = sym (ap is_outside h.1)
-between_stage _ ss l st h = sym (ap is_outside h.1)
+between_stage s ss l st h = (state_kind s).1 ∙ (kind_stage (kind s) ss l st h).1
 
 -- the parser has ended exactly where the stream end event came
 pub staged_over : (c : Config) (g : List Event) → Staged c g → ended_or_failed c ≡ is_at_end (stage_of g)
@@ -210,48 +176,32 @@ staged_depth c g h = depth (kind c.state) c.states c.lookahead (stage_of g) h.go
 -- at the end
 state_place_goes : (p : Place) → state_place p ≡ state.YAML_PARSE_END_STATE → ⊥
 state_place_goes (block (root (implicit_root f))) e = cc
-state_place_goes (block (root (explicit_root b ds m))) e = cc
-state_place_goes (block (entry c o s is z)) e = cc
 state_place_goes (block (slot (part_place c o s ps key v))) e = cc
-state_place_goes (block (slot (part_place c o s ps value v))) e = cc
-state_place_goes (block (indentless_entry c o is z)) e = cc
 state_place_goes (flow_entry (open_collection p o sequence s is)) e = cc
-state_place_goes (flow_entry (open_collection p o mapping s is)) e = cc
 state_place_goes (flow_key (open_collection p o sequence s is) k) e = cc
-state_place_goes (flow_key (open_collection p o mapping s is) k) e = cc
 state_place_goes (flow_value (open_collection p o sequence s is) k x v) e = cc
-state_place_goes (flow_value (open_collection p o mapping s is) k x v) e = cc
+state_place_goes _ e = cc
 
 member_state_goes : (c : Open) (x : FlowMember) → member_state c x ≡ state.YAML_PARSE_END_STATE → ⊥
-member_state_goes (open_collection p o sequence s is) (single x) e = cc
 member_state_goes (open_collection p o sequence s is) (pair k x no_value) e = cc
-member_state_goes (open_collection p o sequence s is) (pair k x (with_value v y)) e = cc
-member_state_goes (open_collection p o mapping s is) (single x) e = cc
 member_state_goes (open_collection p o mapping s is) (pair k x no_value) e = cc
-member_state_goes (open_collection p o mapping s is) (pair k x (with_value v y)) e = cc
+member_state_goes _ _ e = cc
 
 at_end_done : (q : Position) → (config_of q).state ≡ state.YAML_PARSE_END_STATE → (t : Stream) × (q ≡ done t)
-at_end_done unopened e = absurd cc
 at_end_done (between (free f)) e = absurd cc
-at_end_done (between (behind d)) e = absurd cc
 at_end_done (headed (free f) ds d) e = absurd cc
-at_end_done (headed (behind x) ds d) e = absurd cc
 at_end_done (due p None) e = absurd (state_place_goes p e)
 at_end_done (due p (Some ps)) e = absurd (state_place_goes p e)
-at_end_done (in_sequence c o s is) e = absurd cc
-at_end_done (in_mapping c o s no_parts) e = absurd cc
 at_end_done (in_mapping c o s (part ps key v x)) e = absurd cc
-at_end_done (in_mapping c o s (part ps value v x)) e = absurd cc
-at_end_done (in_indentless c o is z x) e = absurd cc
 at_end_done (flow_due c) e = absurd (state_place_goes (flow_entry c) e)
 at_end_done (flow_keyed c k x) e = absurd (member_state_goes c (pair k x no_value) e)
 at_end_done (flow_behind c x) e = absurd (member_state_goes c x e)
 at_end_done (done t) e = (t, refl)
+at_end_done _ e = absurd cc
 
 end_holds_none : (s : yaml_parser_state_t) (ss : List yaml_parser_state_t) (l : Option Token) (st : Stage) → GoodAt s ss l st → is_end_state s ≡ true
     → (s ≡ state.YAML_PARSE_END_STATE) × (l ≡ None)
 end_holds_none state.YAML_PARSE_END_STATE ss l st h e = (refl, h.2)
-end_holds_none state.YAML_PARSE_STREAM_START_STATE ss l st h e = absurd cc
 end_holds_none _ ss l st h e = absurd cc
 
 -- after the stream end event the tokens are a tree's, and the events are the tree's
@@ -278,30 +228,17 @@ staged_whole c asked g links h e = go links
 
 -- the stream end event, and no other, leads to the end
 pub leads_to_end : (st : Stage) (e : Event) → is_at_end st ≡ false → is_at_end (after st e.content) ≡ is_stream_end e
-leads_to_end st e h = go e.content st h
+leads_to_end st e h = go st e.content h
   where
-    go : (k : unnamed_yaml_event_t_data) (st : Stage) → is_at_end st ≡ false → is_at_end (after st k) ≡ is_stream_end (record e { content = k })
-    go ev.NoEvent st h = h
-    go (ev.StreamStart s) st h = refl
-    go ev.StreamEnd st h = refl
-    go (ev.DocumentStart d) st h = refl
-    go (ev.DocumentEnd d) st h = refl
-    go (ev.Alias a) before_root h = refl
-    go (ev.Alias a) st h = h
-    go (ev.Scalar a) before_root h = refl
-    go (ev.Scalar a) st h = h
-    go (ev.SequenceStart s) before_root h = refl
-    go (ev.SequenceStart s) (within_root n) h = refl
-    go (ev.SequenceStart s) st h = h
-    go ev.SequenceEnd (within_root zero) h = refl
-    go ev.SequenceEnd (within_root (suc n)) h = refl
-    go ev.SequenceEnd st h = h
-    go (ev.MappingStart s) before_root h = refl
-    go (ev.MappingStart s) (within_root n) h = refl
-    go (ev.MappingStart s) st h = h
-    go ev.MappingEnd (within_root zero) h = refl
-    go ev.MappingEnd (within_root (suc n)) h = refl
-    go ev.MappingEnd st h = h
+    go : (st : Stage) (k : unnamed_yaml_event_t_data) → is_at_end st ≡ false → is_at_end (after st k) ≡ is_stream_end (record e { content = k })
+    go at_start ev.NoEvent h = h
+    go outside ev.NoEvent h = h
+    go before_root ev.NoEvent h = h
+    go (within_root zero) ev.NoEvent h = h
+    go (within_root (suc n)) ev.NoEvent h = h
+    go behind_root ev.NoEvent h = h
+    go at_end ev.NoEvent h = h
+    go _ _ h = assumption
 
 -- Where a call takes no memory: outside a document it stays there until it gives an event.
 abbrev IsOutside : Want → Config → Type 0
@@ -390,10 +327,6 @@ refused_at state.YAML_PARSE_DOCUMENT_CONTENT_STATE ss o st g c t k More rest h l
 refused_at state.YAML_PARSE_BLOCK_NODE_STATE ss o st g c t k More rest h l q = due_takes ss st l g
 refused_at state.YAML_PARSE_BLOCK_NODE_OR_INDENTLESS_SEQUENCE_STATE ss o st g c t k More rest h l q = due_takes ss st l g
 refused_at state.YAML_PARSE_FLOW_NODE_STATE ss o st g c t k More rest h l q = due_takes ss st l g
-refused_at state.YAML_PARSE_FLOW_SEQUENCE_ENTRY_MAPPING_KEY_STATE ss o st g c t k More rest h l q = ap (λ (x : Stage). takes_no_memory x l) g.1
-refused_at state.YAML_PARSE_FLOW_SEQUENCE_ENTRY_MAPPING_VALUE_STATE ss o st g c t k More rest h l q = ap (λ (x : Stage). takes_no_memory x l) g.1
-refused_at state.YAML_PARSE_FLOW_SEQUENCE_ENTRY_MAPPING_END_STATE ss o st g c t k More rest h l q = ap (λ (x : Stage). takes_no_memory x l) g.1
-refused_at state.YAML_PARSE_END_STATE ss o st g c t k More rest h l q = ap (λ (x : Stage). takes_no_memory x l) g.1
 refused_at _ ss o st g c t k More rest h l q = ap (λ (x : Stage). takes_no_memory x l) g.1
 
 -- an allocation fails only where the call may take memory

@@ -3,7 +3,7 @@ use Rattle.std.proofs.Common.{◌≡◌, ℕ, suc, List, [], ◌∷◌, Option, 
 use Rattle.libyaml_events.specs.machine.Machine.{Progressed, parse_node, node_content, no_content, content_behind, content_resolved, implicit_document}
 use Rattle.libyaml_grammar.specs.cuts.CutTrees.{declared, open_collection}
 use Rattle.libyaml_grammar.specs.sentences.Tokens.{Alias, Anchor, BlockEnd, BlockEntry, BlockMappingStart, BlockSequenceStart, Content, DocumentEnd}
-use Rattle.libyaml_grammar.specs.sentences.Tokens.{DocumentStart, FlowEntry, FlowMappingEnd, FlowMappingStart, FlowSequenceEnd, FlowSequenceStart, Key, Mark}
+use Rattle.libyaml_grammar.specs.sentences.Tokens.{DocumentStart, FlowMappingEnd, FlowMappingStart, FlowSequenceEnd, FlowSequenceStart, Key}
 use Rattle.libyaml_grammar.specs.sentences.Tokens.{Marks, Scalar, ScalarText, StreamEnd, StreamStart, Tag, TagDirective, Token, Value, VersionDirective}
 use Rattle.libyaml_grammar.specs.sentences.Tokens.{marks_of, tok}
 use Rattle.libyaml_grammar.specs.sentences.Trees.{Before, BlockItems, BlockNode, BlockSlot, Directive, Directives, Documents, FlowMember, FlowNode, FlowSlot}
@@ -14,7 +14,7 @@ use Rattle.libyaml_grammar.specs.sentences.Trees.{single, slot_of, tag, tag_anch
 use Rattle.libyaml_grammar.specs.sentences.Events.{Event, alone_of, anchor_of, directive_start, document_end_at, document_start_at, empty_at, end_at, end_of}
 use Rattle.libyaml_grammar.specs.sentences.Events.{first_directive, first_of_properties, last_of_properties, scalar_of, tag_of}
 use Rattle.libyaml_grammar.specs.sentences.Order.{both, is_known, properties_in_order}
-use Rattle.libyaml_grammar.specs.cuts.CutTrees.{BlockPlace, Open, PartPlace, Place, block, declared_block, entry, explicit_root, flow_entry, flow_key}
+use Rattle.libyaml_grammar.specs.cuts.CutTrees.{BlockPlace, Open, PartPlace, Place, block, entry, explicit_root, flow_entry, flow_key}
 use Rattle.libyaml_grammar.specs.cuts.CutTrees.{flow_value, implicit_root, indentless_entry, part_place, root, slot}
 use Rattle.libyaml_grammar.specs.cuts.Fits.{ends_empty}
 use Rattle.libyaml_grammar.proofs.lent.Positions.{Position, between, done, due, flow_behind, flow_due, flow_keyed, headed, in_indentless, in_mapping}
@@ -26,15 +26,14 @@ use Rattle.libyaml_grammar.proofs.lent.Given.{given_at_flow, given_at_free, give
 use Rattle.libyaml_grammar.proofs.lent.Given.{given_behind_indentless, given_behind_item, given_behind_key, given_behind_member, given_behind_part}
 use Rattle.libyaml_grammar.proofs.lent.Given.{given_behind_whole, given_on_block_entry, given_on_block_mapping, given_on_block_sequence, given_on_due}
 use Rattle.libyaml_grammar.proofs.lent.Given.{given_without, gives}
-use Rattle.libyaml_events.specs.machine.Config.{Config, keep, no_handles, popped, popped_mark, taken}
+use Rattle.libyaml_events.specs.machine.Config.{Config, keep, no_handles, popped, taken}
 use Rattle.libyaml_events.proofs.machine.Declared.{resolve_is, tag_after, version_after}
-use Rattle.libyaml_events.proofs.machine.Link.{End, after, config, config_of, emit, ends, free_config, handles_of, headed_config, kind, marks_block}
-use Rattle.libyaml_events.proofs.machine.Link.{marks_place, node_config, read_of, spends, states_block, states_place, step_ends, tag_read, waits, want_of}
+use Rattle.libyaml_events.proofs.machine.Link.{End, after, config, config_of, emit, ends, free_config, handles_of, headed_config, kind}
+use Rattle.libyaml_events.proofs.machine.Link.{node_config, read_of, spends, step_ends, tag_read, waits, want_of}
 use Rattle.libyaml_grammar.proofs.lent.StepsMeet.{IsDue, IsEntry, IsMet}
 use Rattle.libyaml_events.specs.declared.node_head.NodeHead.{NodeHead}
 use Rattle.libyaml_events.specs.machine.Want.{AtState, Given}
 use Rattle.libyaml_types.specs.declared.enums.yaml_parser_state_t.TheVariants as st
-use Rattle.libyaml_types.specs.declared.enums.yaml_parser_state_t.{yaml_parser_state_t}
 
 abbrev pub IsProperty : Content → Type 0
 IsProperty (Anchor a) = Unit {0}
@@ -62,57 +61,27 @@ documents_follow n d DocumentEnd m r = refl
 documents_follow n d StreamEnd m r = refl
 documents_follow n d _ m r = refl
 
-closed_block : (s : yaml_parser_state_t) (a : Mark) (c : BlockPlace) (x : BlockNode)
-    → waits AtState (popped (popped_mark (config s (states_block c) (a ∷ marks_block c) (handles_of (declared_block c)))))
-    ≡ waits (want_of (fill c x)) (config_of (fill c x))
-closed_block s a (root (implicit_root f)) x = refl
-closed_block s a (root (explicit_root b ds m)) x = refl
-closed_block s a (entry c o m is e) x = refl
-closed_block s a (slot (part_place c o m ps k v)) x = refl
-closed_block s a (indentless_entry c o is e) x = refl
+-- where a whole node fills its place
+block_waits : (c : BlockPlace) (x : BlockNode) → waits AtState (popped (node_config (block c))) ≡ waits (want_of (fill c x)) (config_of (fill c x))
+block_waits (root (implicit_root f)) x = refl
+block_waits (slot (part_place c o m ps k v)) x = refl
+block_waits _ x = refl
 
-closed_flow : (s : yaml_parser_state_t) (a : Mark) (p : Place) (x : FlowNode)
-    → waits AtState (popped (popped_mark (config s (states_place p) (a ∷ marks_place p) (handles_of (declared p)))))
-    ≡ waits (want_of (fill_flow p x)) (config_of (fill_flow p x))
-closed_flow s a (block c) x = closed_block s a c (flow x)
-closed_flow s a (flow_entry (open_collection p o sequence m is)) x = refl
-closed_flow s a (flow_entry (open_collection p o mapping m is)) x = refl
-closed_flow s a (flow_key (open_collection p o sequence m is) k) x = refl
-closed_flow s a (flow_key (open_collection p o mapping m is) k) x = refl
-closed_flow s a (flow_value (open_collection p o sequence m is) k y v) x = refl
-closed_flow s a (flow_value (open_collection p o mapping m is) k y v) x = refl
+flow_waits : (p : Place) (x : FlowNode) → waits AtState (popped (node_config p)) ≡ waits (want_of (fill_flow p x)) (config_of (fill_flow p x))
+flow_waits (block c) x = block_waits c (flow x)
+flow_waits (flow_entry (open_collection p o sequence m is)) x = refl
+flow_waits (flow_key (open_collection p o sequence m is) k) x = refl
+flow_waits (flow_value (open_collection p o sequence m is) k y v) x = refl
+flow_waits _ x = refl
 
 popped_flow : (p : Place) (x : FlowNode) (k : Content) (m : Marks) → taken (keep (tok k m) (popped (node_config p))) ≡ config_of (fill_flow p x)
-popped_flow (block (root (implicit_root f))) x k m = refl
-popped_flow (block (root (explicit_root b ds s))) x k m = refl
-popped_flow (block (entry c o s is e)) x k m = refl
-popped_flow (block (slot (part_place c o s ps r v))) x k m = refl
-popped_flow (block (indentless_entry c o is e)) x k m = refl
-popped_flow (flow_entry (open_collection p o sequence s is)) x k m = refl
-popped_flow (flow_entry (open_collection p o mapping s is)) x k m = refl
-popped_flow (flow_key (open_collection p o sequence s is) e) x k m = refl
-popped_flow (flow_key (open_collection p o mapping s is) e) x k m = refl
-popped_flow (flow_value (open_collection p o sequence s is) e y v) x k m = refl
-popped_flow (flow_value (open_collection p o mapping s is) e y v) x k m = refl
-
-popped_waits : (p : Place) (x : FlowNode) → waits AtState (popped (node_config p)) ≡ waits (want_of (fill_flow p x)) (config_of (fill_flow p x))
-popped_waits (block (root (implicit_root f))) x = refl
-popped_waits (block (root (explicit_root b ds s))) x = refl
-popped_waits (block (entry c o s is e)) x = refl
-popped_waits (block (slot (part_place c o s ps r v))) x = refl
-popped_waits (block (indentless_entry c o is e)) x = refl
-popped_waits (flow_entry (open_collection p o sequence s is)) x = refl
-popped_waits (flow_entry (open_collection p o mapping s is)) x = refl
-popped_waits (flow_key (open_collection p o sequence s is) e) x = refl
-popped_waits (flow_key (open_collection p o mapping s is) e) x = refl
-popped_waits (flow_value (open_collection p o sequence s is) e y v) x = refl
-popped_waits (flow_value (open_collection p o mapping s is) e y v) x = refl
+popped_flow p x k m = let e = flow_waits p x in cc
 
 item_follows : (n : ℕ) (c : BlockPlace) (o : Option Properties) (s : Marks) (is : BlockItems) (k : Content) (m : Marks) (r : List Event)
     → spends (suc n) AtState (config_of (in_sequence c o s is)) k m r ≡ (given_behind_item k m r, step_ends (behind_item c o s is k m) no_directives k m)
 item_follows n c o s is BlockEntry m r = refl
 item_follows n c o s is BlockEnd m r
-    = ap (λ (x : End). (end_of sequence m ∷ r, x)) (closed_block st.YAML_PARSE_BLOCK_SEQUENCE_ENTRY_STATE s.start c (block_sequence o s is m))
+    = ap (λ (x : End). (end_of sequence m ∷ r, x)) (block_waits c (block_sequence o s is m))
 item_follows n c o s is _ m r = refl
 
 part_follows : (n : ℕ) (c : BlockPlace) (o : Option Properties) (s : Marks) (ps : Parts) (k : Content) (m : Marks) (r : List Event)
@@ -121,15 +90,13 @@ part_follows : (n : ℕ) (c : BlockPlace) (o : Option Properties) (s : Marks) (p
       step_ends (behind_part c o s ps k m) no_directives k m,
     )
 part_follows n c o s no_parts BlockEnd m r
-    = ap (λ (x : End). (end_of mapping m ∷ r, x)) (closed_block st.YAML_PARSE_BLOCK_MAPPING_KEY_STATE s.start c (block_mapping o s no_parts m))
-part_follows n c o s no_parts _ m r = refl
+    = ap (λ (x : End). (end_of mapping m ∷ r, x)) (block_waits c (block_mapping o s no_parts m))
 part_follows n c o s (part ps key v y) BlockEnd m r
     = ap (λ (x : End). (empty_at m.start ∷ end_of mapping m ∷ r, x))
-    (closed_block st.YAML_PARSE_BLOCK_MAPPING_KEY_STATE s.start c (block_mapping o s (part ps key v y) m))
-part_follows n c o s (part ps key v y) _ m r = refl
+    (block_waits c (block_mapping o s (part ps key v y) m))
 part_follows n c o s (part ps value v y) BlockEnd m r
-    = ap (λ (x : End). (end_of mapping m ∷ r, x)) (closed_block st.YAML_PARSE_BLOCK_MAPPING_KEY_STATE s.start c (block_mapping o s (part ps value v y) m))
-part_follows n c o s (part ps value v y) _ m r = refl
+    = ap (λ (x : End). (end_of mapping m ∷ r, x)) (block_waits c (block_mapping o s (part ps value v y) m))
+part_follows n c o s _ _ m r = refl
 
 indentless_follows : (n : ℕ) (c : PartPlace) (o : Option Properties) (is : BlockItems) (e : Marks) (x : BlockSlot) (k : Content) (m : Marks) (r : List Event)
     → spends (suc (suc (suc n))) AtState (config_of (in_indentless c o is e x)) k m r ≡ (
@@ -144,37 +111,32 @@ member_follows : (n : ℕ) (c : Open) (e : FlowMember) (k : Content) (m : Marks)
     → spends (suc (suc n)) AtState (config_of (flow_behind c e)) k m r ≡ (given_behind_member c e k m r, step_ends (behind_member c e k m) no_directives k m)
 member_follows n (open_collection p o sequence s is) (single y) FlowSequenceEnd m r w
     = ap (λ (x : End). (end_of sequence m ∷ r, x))
-    (closed_flow st.YAML_PARSE_FLOW_SEQUENCE_ENTRY_STATE s.start p (collection o sequence s is (last (single y)) m))
-member_follows n (open_collection p o sequence s is) (single y) _ m r w = refl
+    (flow_waits p (collection o sequence s is (last (single y)) m))
 member_follows n (open_collection p o sequence s is) (pair k y (with_value v z)) FlowSequenceEnd m r w
     = ap (λ (x : End). (end_at mapping m.start m.start ∷ end_of sequence m ∷ r, x))
-    (closed_flow st.YAML_PARSE_FLOW_SEQUENCE_ENTRY_STATE s.start p (collection o sequence s is (last (pair k y (with_value v z))) m))
-member_follows n (open_collection p o sequence s is) (pair k y (with_value v z)) _ m r w = refl
+    (flow_waits p (collection o sequence s is (last (pair k y (with_value v z))) m))
 member_follows n (open_collection p o mapping s is) (single y) FlowMappingEnd m r w
     = ap (λ (x : End). (empty_at m.start ∷ end_of mapping m ∷ r, x))
-    (closed_flow st.YAML_PARSE_FLOW_MAPPING_KEY_STATE s.start p (collection o mapping s is (last (single y)) m))
-member_follows n (open_collection p o mapping s is) (single y) _ m r w = refl
+    (flow_waits p (collection o mapping s is (last (single y)) m))
 member_follows n (open_collection p o mapping s is) (pair k y (with_value v z)) FlowMappingEnd m r w
     = ap (λ (x : End). (end_of mapping m ∷ r, x))
-    (closed_flow st.YAML_PARSE_FLOW_MAPPING_KEY_STATE s.start p (collection o mapping s is (last (pair k y (with_value v z))) m))
-member_follows n (open_collection p o mapping s is) (pair k y (with_value v z)) _ m r w = refl
+    (flow_waits p (collection o mapping s is (last (pair k y (with_value v z))) m))
 member_follows n c (pair k y no_value) t m r w = absurd w
+member_follows n _ _ _ m r w = refl
 
 key_follows : (n : ℕ) (c : Open) (e : Marks) (y : FlowSlot) (k : Content) (m : Marks) (r : List Event)
     → spends (suc (suc (suc n))) AtState (config_of (flow_keyed c e y)) k m r ≡ (
       given_behind_key c e y k m r,
       step_ends (behind_key c e y k m) no_directives k m,
     )
-key_follows n (open_collection p o sequence s is) e y Value m r = refl
 key_follows n (open_collection p o sequence s is) e y FlowSequenceEnd m r
     = ap (λ (x : End). (empty_at m.start ∷ end_at mapping m.start m.start ∷ end_of sequence m ∷ r, x))
-    (closed_flow st.YAML_PARSE_FLOW_SEQUENCE_ENTRY_STATE s.start p (collection o sequence s is (last (pair e y no_value)) m))
-key_follows n (open_collection p o sequence s is) e y _ m r = refl
-key_follows n (open_collection p o mapping s is) e y Value m r = refl
+    (flow_waits p (collection o sequence s is (last (pair e y no_value)) m))
 key_follows n (open_collection p o mapping s is) e y FlowMappingEnd m r
     = ap (λ (x : End). (empty_at m.start ∷ end_of mapping m ∷ r, x))
-    (closed_flow st.YAML_PARSE_FLOW_MAPPING_KEY_STATE s.start p (collection o mapping s is (last (pair e y no_value)) m))
-key_follows n (open_collection p o mapping s is) e y _ m r = refl
+    (flow_waits p (collection o mapping s is (last (pair e y no_value)) m))
+key_follows n (open_collection p o sequence s is) e y Value m r = refl
+key_follows n _ e y _ m r = refl
 
 whole_follows : (n : ℕ) (p : Place) (x : FlowNode) (k : Content) (m : Marks) (r : List Event)
     → spends (suc (suc (suc n))) AtState (config_of (fill_flow p x)) k m r ≡ (
@@ -196,7 +158,7 @@ scalar_follows : (p : Place) (o : Option Properties) (v : ScalarText) (m : Marks
       scalar_of (declared p) o v m ∷ r,
       waits (want_of (fill_flow p (scalar o v m))) (config_of (fill_flow p (scalar o v m))),
     )
-scalar_follows p o v m r = ap (λ (x : End). (scalar_of (declared p) o v m ∷ r, x)) (popped_waits p (scalar o v m))
+scalar_follows p o v m r = ap (λ (x : End). (scalar_of (declared p) o v m ∷ r, x)) (flow_waits p (scalar o v m))
 
 -- a node with nothing in hand
 abbrev Node : ℕ → Place → Content → Marks → List Event → Type 0
@@ -205,117 +167,67 @@ Node n p k m r = after (parse_node (kind p) (node_config p) (tok k m) k) (more (
   step_ends (on_due p None k m) no_directives k m,
 )
 
-node_follows : (n : ℕ) (p : Place) (k : Content) (m : Marks) (r : List Event) → ends_empty p k ≡ false → Node n p k m r
-node_follows n p (Scalar v) m r h = scalar_follows p None v m r
-node_follows n (block (root (implicit_root f))) (Alias a) m r h = refl
-node_follows n (block (root (implicit_root f))) _ m r h = refl
-node_follows n (block (root (explicit_root b ds s))) (VersionDirective x) m r h = cc
-node_follows n (block (root (explicit_root b ds s))) (TagDirective x) m r h = cc
-node_follows n (block (root (explicit_root b ds s))) DocumentStart m r h = cc
-node_follows n (block (root (explicit_root b ds s))) DocumentEnd m r h = cc
-node_follows n (block (root (explicit_root b ds s))) StreamEnd m r h = cc
-node_follows n (block (root (explicit_root b ds s))) _ m r h = refl
-node_follows n (block (entry c o s is e)) BlockEntry m r h = cc
-node_follows n (block (entry c o s is e)) BlockEnd m r h = cc
-node_follows n (block (entry c o s is e)) _ m r h = refl
-node_follows n (block (slot (part_place c o s ps t v))) Key m r h = cc
-node_follows n (block (slot (part_place c o s ps t v))) Value m r h = cc
-node_follows n (block (slot (part_place c o s ps t v))) BlockEnd m r h = cc
-node_follows n (block (slot (part_place c o s ps t v))) _ m r h = refl
-node_follows n (block (indentless_entry (part_place c o s ps t v) y is e)) BlockEntry m r h = cc
-node_follows n (block (indentless_entry (part_place c o s ps t v) y is e)) Key m r h = cc
-node_follows n (block (indentless_entry (part_place c o s ps t v) y is e)) Value m r h = cc
-node_follows n (block (indentless_entry (part_place c o s ps t v) y is e)) BlockEnd m r h = cc
-node_follows n (block (indentless_entry (part_place c o s ps t v) y is e)) _ m r h = refl
-node_follows n (flow_entry (open_collection p o sequence s is)) (Alias a) m r h = refl
-node_follows n (flow_entry (open_collection p o sequence s is)) _ m r h = refl
-node_follows n (flow_entry (open_collection p o mapping s is)) (Alias a) m r h = refl
-node_follows n (flow_entry (open_collection p o mapping s is)) _ m r h = refl
-node_follows n (flow_key (open_collection p o sequence s is) e) Value m r h = cc
-node_follows n (flow_key (open_collection p o sequence s is) e) FlowEntry m r h = cc
-node_follows n (flow_key (open_collection p o sequence s is) e) FlowSequenceEnd m r h = cc
-node_follows n (flow_key (open_collection p o sequence s is) e) _ m r h = refl
-node_follows n (flow_key (open_collection p o mapping s is) e) Value m r h = cc
-node_follows n (flow_key (open_collection p o mapping s is) e) FlowEntry m r h = cc
-node_follows n (flow_key (open_collection p o mapping s is) e) FlowMappingEnd m r h = cc
-node_follows n (flow_key (open_collection p o mapping s is) e) _ m r h = refl
-node_follows n (flow_value (open_collection p o sequence s is) e y v) FlowEntry m r h = cc
-node_follows n (flow_value (open_collection p o sequence s is) e y v) FlowSequenceEnd m r h = cc
-node_follows n (flow_value (open_collection p o sequence s is) e y v) _ m r h = refl
-node_follows n (flow_value (open_collection p o mapping s is) e y v) FlowEntry m r h = cc
-node_follows n (flow_value (open_collection p o mapping s is) e y v) FlowMappingEnd m r h = cc
-node_follows n (flow_value (open_collection p o mapping s is) e y v) _ m r h = refl
+-- unless the token ends the place with nothing in it
+abbrev UnlessEnded : Bool → Type 0 → Type 0
+UnlessEnded true A = Unit {0}
+UnlessEnded false A = A
+
+unless_ended : (b : Bool) {A : Type 0} → A → UnlessEnded b A
+unless_ended true h = tt
+unless_ended false h = h
+
+node_follows : (n : ℕ) (p : Place) (k : Content) (m : Marks) (r : List Event) → UnlessEnded (ends_empty p k) (Node n p k m r)
+node_follows n p (Scalar v) m r = unless_ended (ends_empty p (Scalar v)) (scalar_follows p None v m r)
+node_follows n (block (root (implicit_root f))) _ m r = refl
+node_follows n (block (root (explicit_root b ds s))) _ m r = assumption
+node_follows n (block (entry c o s is e)) _ m r = assumption
+node_follows n (block (slot (part_place c o s ps t v))) _ m r = assumption
+node_follows n (block (indentless_entry (part_place c o s ps t v) y is e)) _ m r = assumption
+node_follows n (flow_entry (open_collection p o sequence s is)) _ m r = refl
+node_follows n (flow_key (open_collection p o sequence s is) e) _ m r = assumption
+node_follows n (flow_value (open_collection p o sequence s is) e y v) _ m r = assumption
+node_follows n _ _ m r = assumption
 
 nothing_follows : (n : ℕ) (p : Place) (k : Content) (m : Marks) (r : List Event) → IsDue p
     → spends (suc (suc (suc (suc n)))) (want_of (due p None)) (config_of (due p None)) k m r ≡ (
       given_on_due p None k m r,
       step_ends (on_due p None k m) no_directives k m,
     )
-nothing_follows n (block (root (implicit_root f))) k m r w = node_follows (suc (suc n)) (block (root (implicit_root f))) k m r refl
-nothing_follows n (block (root (explicit_root b ds s))) (VersionDirective x) m r w
-    = ap (emit (empty_at m.start)) (documents_follow (suc n) (explicit b ds s nothing) (VersionDirective x) m r)
-nothing_follows n (block (root (explicit_root b ds s))) (TagDirective x) m r w
-    = ap (emit (empty_at m.start)) (documents_follow (suc n) (explicit b ds s nothing) (TagDirective x) m r)
+nothing_follows n (block (root (implicit_root f))) k m r w = node_follows (suc (suc n)) (block (root (implicit_root f))) k m r
 nothing_follows n (block (root (explicit_root b ds s))) DocumentStart m r w = refl
-nothing_follows n (block (root (explicit_root b ds s))) DocumentEnd m r w = refl
-nothing_follows n (block (root (explicit_root b ds s))) StreamEnd m r w = refl
-nothing_follows n (block (root (explicit_root b ds s))) k m r w = node_follows (suc (suc n)) (block (root (explicit_root b ds s))) k m r refl
-nothing_follows n (block (entry c o s is e)) BlockEntry m r w = ap (emit (empty_at e.end)) (item_follows (suc (suc n)) c o s (item is e nothing) BlockEntry m r)
-nothing_follows n (block (entry c o s is e)) BlockEnd m r w = ap (emit (empty_at e.end)) (item_follows (suc (suc n)) c o s (item is e nothing) BlockEnd m r)
-nothing_follows n (block (entry c o s is e)) k m r w = node_follows (suc (suc n)) (block (entry c o s is e)) k m r refl
-nothing_follows n (block (slot (part_place c o s ps key v))) Key m r w
-    = ap (emit (empty_at v.end)) (part_follows (suc n) c o s (part ps key v (slot_of nothing)) Key m r)
-nothing_follows n (block (slot (part_place c o s ps key v))) Value m r w
-    = ap (emit (empty_at v.end)) (part_follows (suc n) c o s (part ps key v (slot_of nothing)) Value m r)
-nothing_follows n (block (slot (part_place c o s ps key v))) BlockEnd m r w
-    = ap (emit (empty_at v.end)) (part_follows (suc n) c o s (part ps key v (slot_of nothing)) BlockEnd m r)
-nothing_follows n (block (slot (part_place c o s ps key v))) k m r w = node_follows (suc (suc n)) (block (slot (part_place c o s ps key v))) k m r refl
-nothing_follows n (block (slot (part_place c o s ps value v))) Key m r w
-    = ap (emit (empty_at v.end)) (part_follows (suc n) c o s (part ps value v (slot_of nothing)) Key m r)
-nothing_follows n (block (slot (part_place c o s ps value v))) Value m r w
-    = ap (emit (empty_at v.end)) (part_follows (suc n) c o s (part ps value v (slot_of nothing)) Value m r)
-nothing_follows n (block (slot (part_place c o s ps value v))) BlockEnd m r w
-    = ap (emit (empty_at v.end)) (part_follows (suc n) c o s (part ps value v (slot_of nothing)) BlockEnd m r)
-nothing_follows n (block (slot (part_place c o s ps value v))) k m r w = node_follows (suc (suc n)) (block (slot (part_place c o s ps value v))) k m r refl
-nothing_follows n (block (indentless_entry (part_place c o s ps t v) y is e)) BlockEntry m r w
-    = ap (emit (empty_at e.end)) (indentless_follows n (part_place c o s ps t v) y is e nothing BlockEntry m r)
-nothing_follows n (block (indentless_entry (part_place c o s ps t v) y is e)) Key m r w
-    = ap (emit (empty_at e.end)) (indentless_follows n (part_place c o s ps t v) y is e nothing Key m r)
-nothing_follows n (block (indentless_entry (part_place c o s ps t v) y is e)) Value m r w
-    = ap (emit (empty_at e.end)) (indentless_follows n (part_place c o s ps t v) y is e nothing Value m r)
-nothing_follows n (block (indentless_entry (part_place c o s ps t v) y is e)) BlockEnd m r w
-    = ap (emit (empty_at e.end)) (indentless_follows n (part_place c o s ps t v) y is e nothing BlockEnd m r)
-nothing_follows n (block (indentless_entry (part_place c o s ps t v) y is e)) k m r w
-    = node_follows (suc (suc n)) (block (indentless_entry (part_place c o s ps t v) y is e)) k m r refl
+nothing_follows n (block (root (explicit_root b ds s))) k m r w = assumption (
+  ap (emit (empty_at m.start)) (documents_follow (suc n) (explicit b ds s nothing) k m r),
+  node_follows (suc (suc n)) (block (root (explicit_root b ds s))) k m r,
+)
+nothing_follows n (block (entry c o s is e)) (Alias a) m r w = refl
+nothing_follows n (block (entry c o s is e)) k m r w = assumption (
+  ap (emit (empty_at e.end)) (item_follows (suc (suc n)) c o s (item is e nothing) k m r),
+  node_follows (suc (suc n)) (block (entry c o s is e)) k m r,
+)
+nothing_follows n (block (slot (part_place c o s ps key v))) (Alias a) m r w = refl
+nothing_follows n (block (slot (part_place c o s ps value v))) (Alias a) m r w = refl
+nothing_follows n (block (slot (part_place c o s ps t v))) k m r w = assumption (
+  ap (emit (empty_at v.end)) (part_follows (suc n) c o s (part ps t v (slot_of nothing)) k m r),
+  node_follows (suc (suc n)) (block (slot (part_place c o s ps t v))) k m r,
+)
+nothing_follows n (block (indentless_entry (part_place c o s ps t v) y is e)) (Alias a) m r w = refl
+nothing_follows n (block (indentless_entry c y is e)) k m r w = assumption (
+  ap (emit (empty_at e.end)) (indentless_follows n c y is e nothing k m r),
+  node_follows (suc (suc n)) (block (indentless_entry c y is e)) k m r,
+)
 nothing_follows n (flow_entry c) k m r w = absurd w
-nothing_follows n (flow_key (open_collection p o sequence s is) e) Value m r w
-    = ap (emit (empty_at m.start)) (key_follows n (open_collection p o sequence s is) e flow_nothing Value m r)
-nothing_follows n (flow_key (open_collection p o sequence s is) e) FlowEntry m r w
-    = ap (emit (empty_at m.start)) (key_follows n (open_collection p o sequence s is) e flow_nothing FlowEntry m r)
-nothing_follows n (flow_key (open_collection p o sequence s is) e) FlowSequenceEnd m r w
-    = ap (emit (empty_at m.start)) (key_follows n (open_collection p o sequence s is) e flow_nothing FlowSequenceEnd m r)
-nothing_follows n (flow_key (open_collection p o sequence s is) e) k m r w
-    = node_follows (suc (suc n)) (flow_key (open_collection p o sequence s is) e) k m r refl
-nothing_follows n (flow_key (open_collection p o mapping s is) e) Value m r w
-    = ap (emit (empty_at m.start)) (key_follows n (open_collection p o mapping s is) e flow_nothing Value m r)
-nothing_follows n (flow_key (open_collection p o mapping s is) e) FlowEntry m r w
-    = ap (emit (empty_at m.start)) (key_follows n (open_collection p o mapping s is) e flow_nothing FlowEntry m r)
-nothing_follows n (flow_key (open_collection p o mapping s is) e) FlowMappingEnd m r w
-    = ap (emit (empty_at m.start)) (key_follows n (open_collection p o mapping s is) e flow_nothing FlowMappingEnd m r)
-nothing_follows n (flow_key (open_collection p o mapping s is) e) k m r w
-    = node_follows (suc (suc n)) (flow_key (open_collection p o mapping s is) e) k m r refl
-nothing_follows n (flow_value (open_collection p o sequence s is) e y v) FlowEntry m r w
-    = ap (emit (empty_at m.start)) (member_follows (suc n) (open_collection p o sequence s is) (pair e y (with_value v flow_nothing)) FlowEntry m r tt)
-nothing_follows n (flow_value (open_collection p o sequence s is) e y v) FlowSequenceEnd m r w
-    = ap (emit (empty_at m.start)) (member_follows (suc n) (open_collection p o sequence s is) (pair e y (with_value v flow_nothing)) FlowSequenceEnd m r tt)
-nothing_follows n (flow_value (open_collection p o sequence s is) e y v) k m r w
-    = node_follows (suc (suc n)) (flow_value (open_collection p o sequence s is) e y v) k m r refl
-nothing_follows n (flow_value (open_collection p o mapping s is) e y v) FlowEntry m r w
-    = ap (emit (empty_at m.start)) (member_follows (suc n) (open_collection p o mapping s is) (pair e y (with_value v flow_nothing)) FlowEntry m r tt)
-nothing_follows n (flow_value (open_collection p o mapping s is) e y v) FlowMappingEnd m r w
-    = ap (emit (empty_at m.start)) (member_follows (suc n) (open_collection p o mapping s is) (pair e y (with_value v flow_nothing)) FlowMappingEnd m r tt)
-nothing_follows n (flow_value (open_collection p o mapping s is) e y v) k m r w
-    = node_follows (suc (suc n)) (flow_value (open_collection p o mapping s is) e y v) k m r refl
+nothing_follows n (flow_key (open_collection p o sequence s is) e) (Alias a) m r w = refl
+nothing_follows n (flow_key (open_collection p o mapping s is) e) (Alias a) m r w = refl
+nothing_follows n (flow_key c e) k m r w = assumption (
+  ap (emit (empty_at m.start)) (key_follows n c e flow_nothing k m r),
+  node_follows (suc (suc n)) (flow_key c e) k m r,
+)
+nothing_follows n (flow_value (open_collection p o sequence s is) e y v) (Alias a) m r w = refl
+nothing_follows n (flow_value (open_collection p o mapping s is) e y v) (Alias a) m r w = refl
+nothing_follows n (flow_value c e y v) k m r w = assumption (
+  ap (emit (empty_at m.start)) (member_follows (suc n) c (pair e y (with_value v flow_nothing)) k m r tt),
+  node_follows (suc (suc n)) (flow_value c e y v) k m r,
+)
 
 -- the machine's content after properties
 abbrev head_of : Place → Properties → NodeHead
@@ -373,32 +285,19 @@ none_follow n p ps k m r = ap (λ (x : Progressed). after x (more (suc (suc (suc
 sequence_follows : (n : ℕ) (p : Place) (ps : Properties) (m : Marks) (r : List Event)
     → Behind n p ps BlockSequenceStart m r (with_tag p ps BlockSequenceStart m) (on_block_sequence p (Some ps) m) (given_on_block_sequence p (Some ps) m r)
 sequence_follows n (block (root t)) ps m r = refl
-sequence_follows n (block (entry c o s is e)) ps m r = refl
-sequence_follows n (block (slot c)) ps m r = refl
-sequence_follows n (block (indentless_entry c o is e)) ps m r = refl
-sequence_follows n (flow_entry c) ps m r = none_follow n (flow_entry c) ps BlockSequenceStart m r
-sequence_follows n (flow_key c e) ps m r = none_follow n (flow_key c e) ps BlockSequenceStart m r
-sequence_follows n (flow_value c e y v) ps m r = none_follow n (flow_value c e y v) ps BlockSequenceStart m r
+sequence_follows n (block _) ps m r = refl
+sequence_follows n p ps m r = none_follow n p ps BlockSequenceStart m r
 
 mapping_follows : (n : ℕ) (p : Place) (ps : Properties) (m : Marks) (r : List Event)
     → Behind n p ps BlockMappingStart m r (with_tag p ps BlockMappingStart m) (on_block_mapping p (Some ps) m) (given_on_block_mapping p (Some ps) m r)
 mapping_follows n (block (root t)) ps m r = refl
-mapping_follows n (block (entry c o s is e)) ps m r = refl
-mapping_follows n (block (slot c)) ps m r = refl
-mapping_follows n (block (indentless_entry c o is e)) ps m r = refl
-mapping_follows n (flow_entry c) ps m r = none_follow n (flow_entry c) ps BlockMappingStart m r
-mapping_follows n (flow_key c e) ps m r = none_follow n (flow_key c e) ps BlockMappingStart m r
-mapping_follows n (flow_value c e y v) ps m r = none_follow n (flow_value c e y v) ps BlockMappingStart m r
+mapping_follows n (block _) ps m r = refl
+mapping_follows n p ps m r = none_follow n p ps BlockMappingStart m r
 
 entry_follows : (n : ℕ) (p : Place) (ps : Properties) (m : Marks) (r : List Event)
     → Behind n p ps BlockEntry m r (with_tag p ps BlockEntry m) (on_block_entry p (Some ps) m) (given_on_block_entry p (Some ps) m r)
-entry_follows n (block (root t)) ps m r = none_follow n (block (root t)) ps BlockEntry m r
-entry_follows n (block (entry c o s is e)) ps m r = none_follow n (block (entry c o s is e)) ps BlockEntry m r
 entry_follows n (block (slot c)) ps m r = refl
-entry_follows n (block (indentless_entry c o is e)) ps m r = none_follow n (block (indentless_entry c o is e)) ps BlockEntry m r
-entry_follows n (flow_entry c) ps m r = none_follow n (flow_entry c) ps BlockEntry m r
-entry_follows n (flow_key c e) ps m r = none_follow n (flow_key c e) ps BlockEntry m r
-entry_follows n (flow_value c e y v) ps m r = none_follow n (flow_value c e y v) ps BlockEntry m r
+entry_follows n p ps m r = none_follow n p ps BlockEntry m r
 
 content_follows : (n : ℕ) (p : Place) (ps : Properties) (k : Content) (m : Marks) (r : List Event) → (IsProperty k → ⊥)
     → Behind n p ps k m r (with_tag p ps k m) (on_due p (Some ps) k m) (given_on_due p (Some ps) k m r)
@@ -425,16 +324,10 @@ again n p ps k m r o e f g = ap (λ (x : Progressed). after x (more (suc (suc (s
 
 properties_follow : (n : ℕ) (p : Place) (ps : Properties) (k : Content) (m : Marks) (r : List Event) → properties_in_order (declared p) ps true ≡ true
     → Behaves n p ps k m r
-properties_follow n p (anchor a x) (Anchor b) m r e = again n p (anchor a x) (Anchor b) m r _ refl e (only_is p (anchor a x) (Anchor b) m)
 properties_follow n p (tag h x) (Anchor b) m r e = refl
-properties_follow n p (anchor_tag a x h y) (Anchor b) m r e
-    = again n p (anchor_tag a x h y) (Anchor b) m r _ refl e (only_is p (anchor_tag a x h y) (Anchor b) m)
-properties_follow n p (tag_anchor h x a y) (Anchor b) m r e
-    = again n p (tag_anchor h x a y) (Anchor b) m r _ refl e (only_is p (tag_anchor h x a y) (Anchor b) m)
+properties_follow n p ps (Anchor b) m r e = again n p ps (Anchor b) m r _ refl e (only_is p ps (Anchor b) m)
 properties_follow n p (anchor a x) (Tag g) m r e = refl
-properties_follow n p (tag h x) (Tag g) m r e = again n p (tag h x) (Tag g) m r _ refl e (only_is p (tag h x) (Tag g) m)
-properties_follow n p (anchor_tag a x h y) (Tag g) m r e = again n p (anchor_tag a x h y) (Tag g) m r _ refl e (only_is p (anchor_tag a x h y) (Tag g) m)
-properties_follow n p (tag_anchor h x a y) (Tag g) m r e = again n p (tag_anchor h x a y) (Tag g) m r _ refl e (only_is p (tag_anchor h x a y) (Tag g) m)
+properties_follow n p ps (Tag g) m r e = again n p ps (Tag g) m r _ refl e (only_is p ps (Tag g) m)
 properties_follow n p ps k m r e = ap (λ (x : Progressed). after x (more (suc (suc (suc n))) r) r) (content_is p ps k m e)
     ∙ content_follows n p ps k m r (λ w. w)
 
@@ -443,14 +336,14 @@ flow_follows : (n : ℕ) (c : Open) (k : Content) (m : Marks) (r : List Event)
     → spends (suc (suc (suc n))) (want_of (flow_due c)) (config_of (flow_due c)) k m r ≡ (given_at_flow c k m r, step_ends (at_flow c k m) no_directives k m)
 flow_follows n (open_collection p o sequence s is) Key m r = refl
 flow_follows n (open_collection p o sequence s is) FlowSequenceEnd m r
-    = ap (λ (x : End). (end_of sequence m ∷ r, x)) (closed_flow st.YAML_PARSE_FLOW_SEQUENCE_ENTRY_STATE s.start p (collection o sequence s is no_last m))
+    = ap (λ (x : End). (end_of sequence m ∷ r, x)) (flow_waits p (collection o sequence s is no_last m))
 flow_follows n (open_collection p o sequence s is) FlowMappingEnd m r = refl
-flow_follows n (open_collection p o sequence s is) k m r = node_follows (suc n) (flow_entry (open_collection p o sequence s is)) k m r refl
+flow_follows n (open_collection p o sequence s is) k m r = node_follows (suc n) (flow_entry (open_collection p o sequence s is)) k m r
 flow_follows n (open_collection p o mapping s is) Key m r = refl
 flow_follows n (open_collection p o mapping s is) FlowSequenceEnd m r = refl
 flow_follows n (open_collection p o mapping s is) FlowMappingEnd m r
-    = ap (λ (x : End). (end_of mapping m ∷ r, x)) (closed_flow st.YAML_PARSE_FLOW_MAPPING_KEY_STATE s.start p (collection o mapping s is no_last m))
-flow_follows n (open_collection p o mapping s is) k m r = node_follows (suc n) (flow_entry (open_collection p o mapping s is)) k m r refl
+    = ap (λ (x : End). (end_of mapping m ∷ r, x)) (flow_waits p (collection o mapping s is no_last m))
+flow_follows n (open_collection p o mapping s is) k m r = node_follows (suc n) (flow_entry (open_collection p o mapping s is)) k m r
 
 -- at a document's place
 begins_follow : (n : ℕ) (f : Free) (k : Content) (m : Marks) (r : List Event)
@@ -459,7 +352,7 @@ begins_follow : (n : ℕ) (f : Free) (k : Content) (m : Marks) (r : List Event)
       document_start_at no_directives true m.start m.start ∷ given_on_due (block (root (implicit_root f))) None k m r,
       step_ends (on_due (block (root (implicit_root f))) None k m) no_directives k m,
     )
-begins_follow n f k m r = ap (emit (document_start_at no_directives true m.start m.start)) (node_follows n (block (root (implicit_root f))) k m r refl)
+begins_follow n f k m r = ap (emit (document_start_at no_directives true m.start m.start)) (node_follows n (block (root (implicit_root f))) k m r)
 
 free_follows : (n : ℕ) (f : Free) (k : Content) (m : Marks) (r : List Event)
     → spends (suc (suc (suc n))) AtState (free_config f no_handles) k m r ≡ (given_at_free f k m r, step_ends (at_free f k m) no_directives k m)

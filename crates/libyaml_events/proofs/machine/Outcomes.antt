@@ -1,8 +1,8 @@
 -- What a token does at a position, to the grammar and to the machine.
 use Rattle.std.proofs.Common.{◌≡◌, List, refl, sym, ap, ◌∙◌, subst, Bool, true, false}
 use Rattle.libyaml_grammar.proofs.lent.Cases.{IsTagHeld, IsHeaded, HeadGoes, TagGoes, step_tag, step_version, step_handle}
-use Rattle.libyaml_grammar.specs.sentences.Tokens.{Content, HandleDeclared, Mark, Marks, Tag, TagDirective, VersionAsked, VersionDirective, tok}
-use Rattle.libyaml_grammar.specs.sentences.Trees.{Directive, Directives, tag_directive, version}
+use Rattle.libyaml_grammar.specs.sentences.Tokens.{Content, Mark, Marks, Tag, TagDirective, VersionDirective, tok}
+use Rattle.libyaml_grammar.specs.sentences.Trees.{Before, Directive, Directives, tag_directive, version}
 use Rattle.libyaml_grammar.specs.sentences.Events.{Event}
 use Rattle.libyaml_grammar.specs.cuts.CutTrees.{Cut, at_directive}
 use Rattle.libyaml_grammar.specs.cuts.CutEvents.{shown_cut}
@@ -27,31 +27,23 @@ legal_ends q (VersionDirective a) m x e = ap (λ (u : Bool). directive_ends u (p
 legal_ends q (TagDirective g) m x e = ap (λ (u : Bool). directive_ends u (pending q) (TagDirective g) m x) e
 legal_ends q k m x e = refl
 
-illegal_version : (q p : Position) (a : VersionAsked) (m : Marks) → step q (VersionDirective a) m ≡ goes p → is_legal q (VersionDirective a) ≡ false
-    → IsHeaded p (pending q) (version a m) → ((n : Mark) (r : List Event) → shown p n r ≡ shown q m.start (gives q (VersionDirective a) m r))
-    → Does q (VersionDirective a) m
-illegal_version q (headed c ds d) a m e f (g, h) s
-    = is_bad (at_directive c ds) (ap (λ (x : Step). checked x (is_legal q (VersionDirective a))) e
-    ∙ ap (λ (u : Bool). checked (goes (headed c ds d)) u) f) (ap (λ (x : Step). step_ends x (pending q) (VersionDirective a) m) e
-    ∙ (ap (λ (u : Bool). directive_ends u (pending q) (VersionDirective a) m (waits (want_of (headed c ds d)) (config_of (headed c ds d)))) f
-    ∙ ap (λ (x : Directives). fails (directive_fault x (VersionDirective a) m.start)) (sym g)))
-    (λ r. ap (λ (x : Directive). shown (headed c ds x) m.start r) (sym h) ∙ s m.start r)
-illegal_version q _ a m e f h s = absurd h
-
-illegal_handle : (q p : Position) (a : HandleDeclared) (m : Marks) → step q (TagDirective a) m ≡ goes p → is_legal q (TagDirective a) ≡ false
-    → IsHeaded p (pending q) (tag_directive a m) → ((n : Mark) (r : List Event) → shown p n r ≡ shown q m.start (gives q (TagDirective a) m r))
-    → Does q (TagDirective a) m
-illegal_handle q (headed c ds d) a m e f (g, h) s
-    = is_bad (at_directive c ds) (ap (λ (x : Step). checked x (is_legal q (TagDirective a))) e ∙ ap (λ (u : Bool). checked (goes (headed c ds d)) u) f)
-    (ap (λ (x : Step). step_ends x (pending q) (TagDirective a) m) e
-    ∙ (ap (λ (u : Bool). directive_ends u (pending q) (TagDirective a) m (waits (want_of (headed c ds d)) (config_of (headed c ds d)))) f
-    ∙ ap (λ (x : Directives). fails (directive_fault x (TagDirective a) m.start)) (sym g)))
-    (λ r. ap (λ (x : Directive). shown (headed c ds x) m.start r) (sym h) ∙ s m.start r)
-illegal_handle q _ a m e f h s = absurd h
+illegal_directive : (q p : Position) (k : Content) (m : Marks) (x : Directive)
+    → ((e : End) → go_ends (pending q) k m e ≡ directive_ends (is_legal q k) (pending q) k m e)
+    → ((c : Before) (ds : Directives) (r : List Event) → shown_cut (at_directive c ds) m.start r ≡ shown (headed c ds x) m.start r)
+    → step q k m ≡ goes p → is_legal q k ≡ false → IsHeaded p (pending q) x → ((n : Mark) (r : List Event) → shown p n r ≡ shown q m.start (gives q k m r)) → Does q k m
+illegal_directive q (headed c ds d) k m x n b e f (g, h) s
+    = is_bad (at_directive c ds) (ap (λ (x : Step). checked x (is_legal q k)) e ∙ ap (λ (u : Bool). checked (goes (headed c ds d)) u) f)
+    (ap (λ (x : Step). step_ends x (pending q) k m) e ∙ n (waits (want_of (headed c ds d)) (config_of (headed c ds d)))
+    ∙ (ap (λ (u : Bool). directive_ends u (pending q) k m (waits (want_of (headed c ds d)) (config_of (headed c ds d)))) f
+    ∙ ap (λ (x : Directives). fails (directive_fault x k m.start)) (sym g)))
+    (λ r. b c ds r ∙ (ap (λ (x : Directive). shown (headed c ds x) m.start r) (sym h) ∙ s m.start r))
+illegal_directive q _ k m x n b e f h s = absurd h
 
 illegal : (q p : Position) (k : Content) (m : Marks) → step q k m ≡ goes p → is_legal q k ≡ false → Shows (goes p) q m (gives q k m) → Does q k m
-illegal q p (VersionDirective a) m e f s = illegal_version q p a m e f (subst (λ (x : Step). HeadGoes x (pending q) (version a m)) e (step_version q a m)) s
-illegal q p (TagDirective a) m e f s = illegal_handle q p a m e f (subst (λ (x : Step). HeadGoes x (pending q) (tag_directive a m)) e (step_handle q a m)) s
+illegal q p (VersionDirective a) m e f s
+    = illegal_directive q p _ m (version a m) (λ x. refl) (λ c ds r. refl) e f (subst (λ (x : Step). HeadGoes x (pending q) (version a m)) e (step_version q a m)) s
+illegal q p (TagDirective a) m e f s
+    = illegal_directive q p _ m (tag_directive a m) (λ x. refl) (λ c ds r. refl) e f (subst (λ (x : Step). HeadGoes x (pending q) (tag_directive a m)) e (step_handle q a m)) s
 illegal q p (Tag h) m e f s = is_doomed p e f
     (subst (λ (u : Bool). IsTagHeld p u m) f (subst (λ (x : Step). TagGoes x (is_legal q (Tag h)) m) e (step_tag q h m)))
     (ap (λ (x : Step). step_ends x (pending q) (Tag h) m) e)

@@ -91,7 +91,6 @@ fails_not_waits w c f e = cc
 
 not_held : (p : Position) (m : Marks) → IsTagHeld p false m → AtState ≡ want_of p → ⊥
 not_held (due p (Some ps)) m h e = cc
-not_held (due p None) m h e = absurd h
 not_held _ m h e = absurd h
 
 -- a token at which the machine fails at once is no unknown TAG
@@ -138,22 +137,11 @@ at_end_state q (whole (free f) m) e = ap (λ (x : Position). (config_of x).state
 at_end_state q (whole (behind d) m) e = ap (λ (x : Position). (config_of x).state) e
 
 pub never_stuck : (q : Position) (k : Content) (m : Marks) → Does q k m → stuck ≡ ends q k m → ⊥
-never_stuck q k m (is_good p x1 x2 x3 x4) g = no (want_of p) (config_of p) (g ∙ x4)
-  where
-    no : (w : Want) (c : Config) → stuck ≡ waits w c → ⊥
-    no w c i = cc
-never_stuck q k m (is_bad c x1 x2 x3) g = no (fault c k m.start) (g ∙ x2)
-  where
-    no : (f : Fault) → stuck ≡ fails f → ⊥
-    no f i = cc
-never_stuck q k m (is_doomed p x1 x2 x3 x4) g = no (want_of p) (config_of p) (g ∙ x4)
-  where
-    no : (w : Want) (c : Config) → stuck ≡ waits w c → ⊥
-    no w c i = cc
-never_stuck q k m (is_over x) g = no (document_start_fault m.start) (g ∙ ap (λ (s : Step). step_ends s (pending q) k m) x)
-  where
-    no : (f : Fault) → stuck ≡ fails f → ⊥
-    no f i = cc
+never_stuck q k m (is_good p x1 x2 x3 x4) g = let e : stuck ≡ waits (want_of p) (config_of p) = g ∙ x4 in cc
+never_stuck q k m (is_bad c x1 x2 x3) g = let e : stuck ≡ fails (fault c k m.start) = g ∙ x2 in cc
+never_stuck q k m (is_doomed p x1 x2 x3 x4) g = let e : stuck ≡ waits (want_of p) (config_of p) = g ∙ x4 in cc
+never_stuck q k m (is_over x) g
+    = let e : stuck ≡ fails (document_start_fault m.start) = g ∙ ap (λ (s : Step). step_ends s (pending q) k m) x in cc
 
 -- a step that was asked for at a position is not after the end
 pub not_done : (q : Position) (w : Want) (c : Config) → c ≡ config_of q → (c.state ≡ YAML_PARSE_END_STATE → ⊥) → (t : Stream) → q ≡ done t → ⊥

@@ -123,11 +123,8 @@ room _ c k = 6
 -- a rank is small
 pub rank_small : (s : yaml_parser_state_t) (k : Content) → rank s k ≤ 5
 rank_small st.YAML_PARSE_INDENTLESS_SEQUENCE_ENTRY_STATE BlockEntry = omega arith
-rank_small st.YAML_PARSE_INDENTLESS_SEQUENCE_ENTRY_STATE k = omega arith
 rank_small st.YAML_PARSE_BLOCK_MAPPING_KEY_STATE Value = omega arith
-rank_small st.YAML_PARSE_BLOCK_MAPPING_KEY_STATE k = omega arith
 rank_small st.YAML_PARSE_BLOCK_MAPPING_VALUE_STATE Value = omega arith
-rank_small st.YAML_PARSE_BLOCK_MAPPING_VALUE_STATE k = omega arith
 rank_small _ k = omega arith
 
 abbrev Bare : NodeHead → Type 0

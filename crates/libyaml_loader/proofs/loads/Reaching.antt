@@ -61,38 +61,51 @@ none_left : (s : State) → left_from s [] ≡ []
 none_left between = refl
 none_left (within o l) = refl
 
+module _ {S : Type 0} (gives : S → Answer → S → Type 0) (known : S → Option Coming) (MayBreak : S → Fault → Type 0) where
+  -- a load after events that were taken: by them a load by f comes to one by g
+  pub loads_behind : (f g : List Event → Ending → Load) (l k : List Event → List Event) (old mid new : Parser S) (a : List Event) (r : DocumentOrError)
+      → Took gives known old mid a → ((rest : List Event) (x : Ending) → f (a ++ rest) x ≡ g rest x) → ((rest : List Event) → l (a ++ rest) ≡ k rest)
+      → LoadsFrom gives known MayBreak g k mid r new → LoadsFrom gives known MayBreak f l old r new
+  loads_behind f g l k old mid new a r took load left h = go r h
+    where
+      both : (b : List Event) (rest : List Event) (x : Ending) → f ((a ++ b) ++ rest) x ≡ g (b ++ rest) x
+      both b rest x = ap (λ (m : List Event). f m x) (append_assoc a b rest) ∙ load (b ++ rest) x
+
+      go : (r : DocumentOrError) → LoadsFrom gives known MayBreak g k mid r new → LoadsFrom gives known MayBreak f l old r new
+      go (Ok d) (whole b more loads left_over stands) =
+          whole (a ++ b) (took_both gives known MayBreak old mid new a b took more)
+          (λ (rest : List Event) (x : Ending). both b rest x ∙ loads rest x)
+          (λ (rest : List Event). ap l (append_assoc a b rest) ∙ left (b ++ rest) ∙ left_over rest)
+          (λ (asked : List Token) (given : List Event) (history : History old asked given). stands _ _ (took.history asked given history).history)
+      go (Ok d) (at_end b more loads left_over ends is stands) =
+          at_end (a ++ b) (took_both gives known MayBreak old mid new a b took more) (λ (x : Ending). load b x ∙ loads x) (left b ∙ left_over)
+          (λ (events : List Event) (ending : Ending) (run : RunToCome known old events ending).
+          let t = took.runs events ending run in
+          let e = ends t.later ending t.run in
+          (t.all ∙ ap (λ (m : List Event). a ++ m) e.0, e.1))
+          is (λ (asked : List Token) (given : List Event) (history : History old asked given). stands _ _ (took.history asked given history).history)
+      go (Err y) (by_parser b p more fails loads)
+          = by_parser (a ++ b) p (took_both gives known MayBreak old mid p a b took more) fails (λ (x : Ending). load b x ∙ loads x)
+      go (Err y) (by_loader b p more f keeps loads) =
+          by_loader (a ++ b) p (took_both gives known MayBreak old mid p a b took more) f keeps
+          (λ (rest : List Event) (x : Ending). both b rest x ∙ loads rest x)
+      go (Err y) (by_memory b e p more keeps grows) =
+          by_memory (a ++ b) e p
+          (subst (λ (m : List Event). Took gives known old p m) (sym (append_assoc a b (e ∷ [])))
+          (took_both gives known MayBreak old mid p a (b ++ e ∷ []) took more)) keeps
+          (record {
+            most = grows.most;
+            opening = grows.opening;
+            loader = grows.loader;
+            stands = λ (rest : List Event) (x : Ending). both b rest x ∙ grows.stands rest x;
+            grows = grows.grows;
+          })
+
 module _ {S : Type 0} (gives : S → Answer → S → Type 0) (known : S → Option Coming) (MayBreak : S → Fault → Type 0) (n : ℕ) where
-  -- a load after events that were taken
   pub behind : (s t : State) (old mid new : Parser S) (a : List Event) (r : DocumentOrError) → Took gives known old mid a → Reaches n s t a
       → LoadsFrom gives known MayBreak (load_from n t) (left_from t) mid r new → LoadsFrom gives known MayBreak (load_from n s) (left_from s) old r new
-  behind s t old mid new a (Ok d) took h (whole b more loads left stands) =
-      whole (a ++ b) (took_both gives known MayBreak old mid new a b took more)
-      (λ (rest : List Event) (x : Ending). ap (λ (l : List Event). load_from n s l x) (append_assoc a b rest) ∙ h.load (b ++ rest) x ∙ loads rest x)
-      (λ (rest : List Event). ap (left_from s) (append_assoc a b rest) ∙ h.left (b ++ rest) ∙ left rest)
-      (λ (asked : List Token) (given : List Event) (history : History old asked given). stands _ _ (took.history asked given history).history)
-  behind s t old mid new a (Ok d) took h (at_end b more loads left ends is stands) =
-      at_end (a ++ b) (took_both gives known MayBreak old mid new a b took more)
-      (λ (x : Ending). h.load b x ∙ loads x) (h.left b ∙ left)
-      (λ (events : List Event) (ending : Ending) (run : RunToCome known old events ending). let l = took.runs events ending run in let e
-      = ends l.later ending l.run in (l.all ∙ ap (λ (r : List Event). a ++ r) e.0, e.1))
-      is (λ (asked : List Token) (given : List Event) (history : History old asked given). stands _ _ (took.history asked given history).history)
-  behind s t old mid new a (Err y) took h (by_parser b p more fails loads)
-      = by_parser (a ++ b) p (took_both gives known MayBreak old mid p a b took more) fails (λ (x : Ending). h.load b x ∙ loads x)
-  behind s t old mid new a (Err y) took h (by_loader b p more f keeps loads) =
-      by_loader (a ++ b) p (took_both gives known MayBreak old mid p a b took more) f keeps
-      (λ (rest : List Event) (x : Ending). ap (λ (l : List Event). load_from n s l x) (append_assoc a b rest) ∙ h.load (b ++ rest) x ∙ loads rest x)
-  behind s t old mid new a (Err y) took h (by_memory b e p more keeps grows) =
-      by_memory (a ++ b) e p
-      (subst (λ (l : List Event). Took gives known old p l) (sym (append_assoc a b (e ∷ [])))
-      (took_both gives known MayBreak old mid p a (b ++ e ∷ []) took more)) keeps
-      (record {
-        most = grows.most;
-        opening = grows.opening;
-        loader = grows.loader;
-        stands = λ (rest : List Event) (x : Ending). ap (λ (l : List Event). load_from n s l x) (append_assoc a b rest) ∙ h.load (b ++ rest) x
-            ∙ grows.stands rest x;
-        grows = grows.grows;
-      })
+  behind s t old mid new a r took h
+      = loads_behind gives known MayBreak (load_from n s) (load_from n t) (left_from s) (left_from t) old mid new a r took h.load h.left
 
   pub ended_load : (s : State) (old new : Parser S) (d : Document) → FindsEnd gives known old new → d ≡ empty_document None [] false false
       → Loads gives known (load_from n s) (left_from s) old new d
@@ -129,20 +142,3 @@ module _ {S : Type 0} (gives : S → Answer → S → Type 0) (known : S → Opt
       → LoadFails gives known MayBreak (load_from n (within o (loader_of before))) (left_from (within o (loader_of before))) old new
   fails_load o old new before bound (inl h) = parser_load (within o (loader_of before)) old new h
   fails_load o old new before bound (inr h) = loader_load o old new before bound h
-
-  pub same_loads : (f g : List Event → Ending → Load) (left : List Event → List Event) (old new : Parser S) (r : DocumentOrError)
-      → ((l : List Event) (x : Ending) → f l x ≡ g l x) → LoadsFrom gives known MayBreak f left old r new → LoadsFrom gives known MayBreak g left old r new
-  same_loads f g left old new (Ok d) same (whole a took loads l stands)
-      = whole a took (λ (rest : List Event) (x : Ending). sym (same (a ++ rest) x) ∙ loads rest x) l stands
-  same_loads f g left old new (Ok d) same (at_end a took loads l ends is stands) = at_end a took (λ (x : Ending). sym (same a x) ∙ loads x) l ends is stands
-  same_loads f g left old new (Err y) same (by_parser a p took fails loads) = by_parser a p took fails (λ (x : Ending). sym (same a x) ∙ loads x)
-  same_loads f g left old new (Err y) same (by_loader a p took h keeps loads)
-      = by_loader a p took h keeps (λ (rest : List Event) (x : Ending). sym (same (a ++ rest) x) ∙ loads rest x)
-  same_loads f g left old new (Err y) same (by_memory a e p took keeps grows) = by_memory a e p took keeps
-      (record {
-        most = grows.most;
-        opening = grows.opening;
-        loader = grows.loader;
-        stands = λ (rest : List Event) (x : Ending). sym (same (a ++ rest) x) ∙ grows.stands rest x;
-        grows = grows.grows;
-      })

@@ -32,8 +32,8 @@ use Rattle.libyaml_loader.specs.loads.LoadGrowth.{may_grow}
 use Rattle.libyaml_loader.specs.document.Refusals.{fault_by}
 use Rattle.libyaml_loader.specs.loads.ComposeSteps.{FindsEnd, LoaderFails, StepBy, ComposesBy, TakesEvent, closing}
 use Rattle.libyaml_loader.proofs.document.IdsKept.{ids_fresh, ids_kept}
-use Rattle.libyaml_loader.proofs.loads.Reaching.{Reaches, behind, closed_load, ended_load, fails_load, parser_load, reaches_both, reaches_none, reaches_open}
-use Rattle.libyaml_loader.proofs.loads.Reaching.{reaches_pass, reaches_step, same_loads}
+use Rattle.libyaml_loader.proofs.loads.Reaching.{Reaches, behind, closed_load, ended_load, fails_load, loads_behind, parser_load, reaches_both, reaches_none, reaches_open}
+use Rattle.libyaml_loader.proofs.loads.Reaching.{reaches_pass, reaches_step}
 use Rattle.libyaml_loader.proofs.loads.Taking.{Called, behind_end, took_both, took_event, took_none}
 
 module _ {S : Type 0} (gives : S → Answer → S → Type 0) (known : S → Option Coming) (MayBreak : S → Fault → Type 0) where
@@ -142,10 +142,13 @@ pub begun_is : (d b : Document) → d ≡ b → d ≡ with_nodes d.nodes b
 begun_is d b e = e ∙ ap (λ (x : List yaml_node_t). with_nodes x b) (ap (λ (x : Document). x.nodes) (sym e))
 
 module _ {S : Type 0} (gives : S → Answer → S → Type 0) (known : S → Option Coming) (MayBreak : S → Fault → Type 0) where
+<<<<<<< HEAD
   pub steps_at : (r q : Result ComposeStep yaml_error_type_t) (old new : Parser S) (before after : loader_ctx) → r ≡ q
       → ComposesBy gives known MayBreak r old new before after → ComposesBy gives known MayBreak q old new before after
   steps_at r q old new before after e h = subst (λ (x : Result ComposeStep yaml_error_type_t). ComposesBy gives known MayBreak x old new before after) e h
 
+=======
+>>>>>>> 56111d22a6ebf68b72b09d9916306d8cb17e3c47
   pub loads_fresh : (c : loader_ctx) (o : parts.Opening) (n : ℕ) (old new : Parser S) (r : DocumentOrError) → loader_of c ≡ fresh → c.max_entries ≡ n
       → LoadsFrom gives known MayBreak (load_from c.max_entries (within o (loader_of c))) (left_from (within o (loader_of c))) old r new
       → LoadsFrom gives known MayBreak (load_from n (within o fresh)) (left_from (within o fresh)) old r new
@@ -176,8 +179,8 @@ module _ {S : Type 0} (gives : S → Answer → S → Type 0) (known : S → Opt
       → LoadsFrom gives known MayBreak (load_from n between) (left_from between) now r new
       → LoadsFrom gives known MayBreak (next_bounded n) left_over first r new
   loads_between n first now new r w h =
-      same_loads gives known MayBreak n (load_from n between) (next_bounded n) left_over first new r (λ (l : List Event) (x : Ending). one_load l x n)
-      (behind gives known MayBreak n between between first now new w.taken r w.took w.reaches h)
+      loads_behind gives known MayBreak (next_bounded n) (load_from n between) left_over (left_from between) first now new w.taken r w.took
+      (λ (rest : List Event) (x : Ending). sym (one_load (w.taken ++ rest) x n) ∙ w.reaches.load rest x) w.reaches.left h
 
   pub skips_opens : (n : ℕ) (first now mid new : Parser S) (q : EventOrError) (c : Called gives known MayBreak now mid q) (e : Event) → q ≡ Ok e
       → is_event e.content ≡ true → (o : parts.Opening) → opening_of e ≡ Some o → (r : DocumentOrError)

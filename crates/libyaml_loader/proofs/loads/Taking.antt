@@ -40,16 +40,7 @@ ended_between p h = over_between (is_fault (kept_fault p).error) p.config.state 
 outside_end : (st : Stage) (content : unnamed_yaml_event_t_data) (m : yaml_mark_t) (c : Closing) → closing_in content m ≡ Some c
     → is_outside (after st content) ≡ true
 outside_end st (ev.DocumentEnd d) m c h = refl
-outside_end st ev.NoEvent m c h = absurd cc
-outside_end st (ev.StreamStart s) m c h = absurd cc
-outside_end st ev.StreamEnd m c h = absurd cc
-outside_end st (ev.DocumentStart d) m c h = absurd cc
-outside_end st (ev.Alias a) m c h = absurd cc
-outside_end st (ev.Scalar s) m c h = absurd cc
-outside_end st (ev.SequenceStart s) m c h = absurd cc
-outside_end st ev.SequenceEnd m c h = absurd cc
-outside_end st (ev.MappingStart s) m c h = absurd cc
-outside_end st ev.MappingEnd m c h = absurd cc
+outside_end st _ m c h = absurd cc
 
 module _ {S : Type 0} (gives : S → Answer → S → Type 0) (known : S → Option Coming) (MayBreak : S → Fault → Type 0) where
   pub took_none : (p : Parser S) → Took gives known p p []

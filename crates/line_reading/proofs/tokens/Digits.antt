@@ -36,33 +36,10 @@ digits-no b bs d = rw d refl
 behind-no : (b : ℕ) (bs : List ℕ) → is_ascii_digit b ≡ false → behind_digits (b ∷ bs) ≡ b ∷ bs
 behind-no b bs d = rw d refl
 
-pub read_more : (bytes : List ℕ) (i n : ℕ) → HasRead bytes i n → i < length bytes → is_ascii_digit (get_or bytes i 0) ≡ true
-    → n * 10 + (get_or bytes i 0 - 48) < 2 ^ 64 → HasRead bytes (i + 1) (n * 10 + (get_or bytes i 0 - 48))
-read_more bytes i n h small d fits =
-    let b = get_or bytes i 0 in
-    let r = drop (i + 1) bytes in
-    record {
-      digits = h.digits ∙ ap (λ x. take i bytes ++ x) (at_drop_more digits_of bytes i 0 small ∙ digits-yes b r d)
-          ∙ sym (append_assoc (take i bytes) (b ∷ []) (digits_of r))
-          ∙ ap (λ x. x ++ digits_of r) (sym (take_more bytes i 0 small));
-      behind = h.behind ∙ at_drop_more behind_digits bytes i 0 small ∙ behind-yes b r d;
-      value = h.value ∙ ap (value_after n) (at_drop_more digits_of bytes i 0 small ∙ digits-yes b r d) ∙ value_after-digit n b (digits_of r) d;
-      fits = fits;
-    }
-
 pub no_value : (ds : List ℕ) → value_of ds ≡ None → number_of ds ≡ None
 no_value [] h = refl
 no_value (d ∷ []) h = h
 no_value (d ∷ e ∷ ds) h = cond_both (d == 48) None (value_of (d ∷ e ∷ ds)) (λ o. o ≡ None) (λ _. refl) (λ _. h)
-
-pub read_too_much : (bytes : List ℕ) (i n : ℕ) → HasRead bytes i n → i < length bytes → is_ascii_digit (get_or bytes i 0) ≡ true
-    → 2 ^ 64 ≤ n * 10 + (get_or bytes i 0 - 48) → number_at bytes ≡ None
-read_too_much bytes i n h small d large =
-    let b = get_or bytes i 0 in
-    let r = drop (i + 1) bytes in
-    let none : value_of (digits_of bytes) ≡ None = h.value ∙ ap (value_after n) (at_drop_more digits_of bytes i 0 small ∙ digits-yes b r d)
-    ∙ value_after-digit n b (digits_of r) d ∙ value_after-large _ (digits_of r) large in
-    rw (no_value (digits_of bytes) none) refl
 
 -- the digits end at i
 ends : (bytes : List ℕ) (i n : ℕ) → HasRead bytes i n → digits_of (drop i bytes) ≡ [] → behind_digits (drop i bytes) ≡ drop i bytes → HasDigits bytes i n
@@ -74,43 +51,48 @@ ends bytes i n h none rest =
       value_is = ap value_of (sym all) ∙ h.value ∙ ap (value_after n) none ∙ value_after-end n h.fits;
     }
 
-pub ends_at_other : (bytes : List ℕ) (i n : ℕ) → HasRead bytes i n → i < length bytes → is_ascii_digit (get_or bytes i 0) ≡ false → HasDigits bytes i n
-ends_at_other bytes i n h small d =
-    let b = get_or bytes i 0 in
-    let r = drop (i + 1) bytes in
-    let whole : drop i bytes ≡ b ∷ r = at_drop_more (λ x. x) bytes i 0 small in
-    ends bytes i n h (ap digits_of whole ∙ digits-no b r d) (ap behind_digits whole ∙ behind-no b r d ∙ sym whole)
-
 pub ends_at_end : (bytes : List ℕ) (i n : ℕ) → HasRead bytes i n → length bytes ≤ i → HasDigits bytes i n
 ends_at_end bytes i n h large =
     let none : drop i bytes ≡ [] = at_drop_all (λ x. x) bytes i large in
     ends bytes i n h (ap digits_of none) (ap behind_digits none ∙ sym none)
 
--- the same, where the bytes that are looked at are a prefix of those
+-- the next byte, where the bytes that are looked at are a prefix of those
 
-byte_within : (bytes : List ℕ) (k i : ℕ) → i < length (take k bytes) → (i < length bytes) × (get_or (take k bytes) i 0 ≡ get_or bytes i 0)
-byte_within bytes k i small =
-    let within : i < min k (length bytes) = rw (sym (length-take k bytes)) small in
-    (omega (arith, within), get_or-take k bytes i 0 (omega (arith, within)))
+module _ (bytes : List ℕ) (k i n : ℕ) (h : HasRead bytes i n) (small : i < length (take k bytes)) where
+  abbrev byte : ℕ
+  byte = get_or (take k bytes) i 0
 
-pub more_within : (bytes : List ℕ) (k i n : ℕ) → HasRead bytes i n → i < length (take k bytes) → is_ascii_digit (get_or (take k bytes) i 0) ≡ true
-    → n * 10 + (get_or (take k bytes) i 0 - 48) < 2 ^ 64
-    → HasRead bytes (i + 1) (n * 10 + (get_or (take k bytes) i 0 - 48))
-more_within bytes k i n h small d fits =
-    let at = byte_within bytes k i small in
-    rw (at.1) (read_more bytes i n h at.0 (rw (sym at.1) d) (rw (sym at.1) fits))
+  abbrev rest : List ℕ
+  rest = drop (i + 1) bytes
 
-pub too_much_within : (bytes : List ℕ) (k i n : ℕ) → HasRead bytes i n → i < length (take k bytes) → is_ascii_digit (get_or (take k bytes) i 0) ≡ true
-    → 2 ^ 64 ≤ n * 10 + (get_or (take k bytes) i 0 - 48) → number_at bytes ≡ None
-too_much_within bytes k i n h small d large =
-    let at = byte_within bytes k i small in
-    read_too_much bytes i n h at.0 (rw (sym at.1) d) (rw (sym at.1) large)
+  within : (i < length bytes) × (byte ≡ get_or bytes i 0)
+  within =
+      let below : i < min k (length bytes) = rw (sym (length-take k bytes)) small in
+      (omega (arith, below), get_or-take k bytes i 0 (omega (arith, below)))
 
-pub ends_within : (bytes : List ℕ) (k i n : ℕ) → HasRead bytes i n → i < length (take k bytes) → is_ascii_digit (get_or (take k bytes) i 0) ≡ false
-    → HasDigits bytes i n
-ends_within bytes k i n h small d =
-    let at = byte_within bytes k i small in
-    ends_at_other bytes i n h at.0 (rw (sym at.1) d)
+  whole : drop i bytes ≡ byte ∷ rest
+  whole = at_drop_more (λ x. x) bytes i 0 within.0 ∙ ap (λ b. b ∷ rest) (sym within.1)
+
+  pub more_within : is_ascii_digit byte ≡ true → n * 10 + (byte - 48) < 2 ^ 64 → HasRead bytes (i + 1) (n * 10 + (byte - 48))
+  more_within d fits =
+      let digits : digits_of (drop i bytes) ≡ byte ∷ digits_of rest = ap digits_of whole ∙ digits-yes byte rest d in
+      record {
+        digits = h.digits ∙ ap (λ x. take i bytes ++ x) digits
+            ∙ sym (append_assoc (take i bytes) (byte ∷ []) (digits_of rest))
+            ∙ ap (λ x. x ++ digits_of rest) (ap (λ b. take i bytes ++ b ∷ []) within.1 ∙ sym (take_more bytes i 0 within.0));
+        behind = h.behind ∙ ap behind_digits whole ∙ behind-yes byte rest d;
+        value = h.value ∙ ap (value_after n) digits ∙ value_after-digit n byte (digits_of rest) d;
+        fits = fits;
+      }
+
+  pub too_much_within : is_ascii_digit byte ≡ true → 2 ^ 64 ≤ n * 10 + (byte - 48) → number_at bytes ≡ None
+  too_much_within d large =
+      let none : value_of (digits_of bytes) ≡ None = h.value ∙ ap (value_after n) (ap digits_of whole ∙ digits-yes byte rest d)
+      ∙ value_after-digit n byte (digits_of rest) d ∙ value_after-large _ (digits_of rest) large in
+      rw (no_value (digits_of bytes) none) refl
+
+  pub ends_within : is_ascii_digit byte ≡ false → HasDigits bytes i n
+  ends_within d = ends bytes i n h (ap digits_of whole ∙ digits-no byte rest d) (ap behind_digits whole ∙ behind-no byte rest d ∙ sym whole)
 
 pub ends_with_line : (line : List ℕ) (at end i n : ℕ) → end ≡ length line → HasRead (drop at line) i n → i ≤ length (take (end - at) (drop at line))
     → length (take (end - at) (drop at line)) ≤ i → HasDigits (drop at line) (end - at) n

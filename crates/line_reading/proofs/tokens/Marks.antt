@@ -66,7 +66,4 @@ pub with_marks : (result : Result (Unit {0}) LineProblem) (content : unnamed_yam
 with_marks (Ok u) content there start end h = rw h refl
 with_marks (Err BadTokenLine) content there start end h = rw h refl
 with_marks (Err Memory) content there start end h = tt
-with_marks (Err ReadFailed) content there start end h = h
-with_marks (Err LineTooLong) content there start end h = h
-with_marks (Err TooManyTokens) content there start end h = h
-with_marks (Err NoMoreTokens) content there start end h = h
+with_marks _ content there start end h = h

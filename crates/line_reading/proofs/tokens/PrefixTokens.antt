@@ -1,6 +1,6 @@
 -- a line read by its prefixes is read by its description
 use Rattle.std.proofs.Common.{◌≡◌, ◌≢◌, ℕ, ◌==◌, All, Bool, true, false, cond, List, [], ◌∷◌, ◌++◌, Option, Some, None, option_map, refl, ap, sym, ◌∙◌, subst}
-use Rattle.std.proofs.Common.{inl, inr}
+use Rattle.std.proofs.Common.{arith, inl, inr}
 use Rattle.std.proofs.lemmas.Bool.{cases_Bool, and_left, and_right, eqb-true}
 use Rattle.std.proofs.lemmas.List.{append-nil}
 use Rattle.std.proofs.lemmas.List.Elements.{All-nil, All-cons, All-head, All-tail}
@@ -107,18 +107,12 @@ no_number p e = no_value p (rw e refl)
 
 -- what follows the digits
 
-shape_end : (d : List ℕ) → All (λ x. x ≢ 32) d → All (λ x. x ≢ 58) d → Shape (d ++ []) d []
-shape_end d c32 c58 = last (record {
-  pieces = ap S (before-append 32 d [] c32 ∙ append-nil d) ∙ slice_split_none (λ b. b == 58) d (no_separator 58 d c58);
-  colon = refl;
-  field = ap Some (sym (behind-append 32 d [] c32));
-})
-
-shape_space : (d r : List ℕ) → All (λ x. x ≢ 32) d → All (λ x. x ≢ 58) d → Shape (d ++ 32 ∷ r) d (32 ∷ r)
-shape_space d r c32 c58 = last (record {
-  pieces = ap S (before-append 32 d (32 ∷ r) c32 ∙ append-nil d) ∙ slice_split_none (λ b. b == 58) d (no_separator 58 d c58);
-  colon = refl;
-  field = ap Some (sym (behind-append 32 d (32 ∷ r) c32));
+shape_last : (d t : List ℕ) → before_byte 32 t ≡ [] → behind_first 58 t ≡ None → behind_field t ≡ Some (behind_byte 32 t) → All (λ x. x ≢ 32) d
+    → All (λ x. x ≢ 58) d → Shape (d ++ t) d t
+shape_last d t none colon field c32 c58 = last (record {
+  pieces = ap S (before-append 32 d t c32 ∙ ap (λ x. d ++ x) none ∙ append-nil d) ∙ slice_split_none (λ b. b == 58) d (no_separator 58 d c58);
+  colon = colon;
+  field = field ∙ ap Some (sym (behind-append 32 d t c32));
 })
 
 shape_colon : (d r : List ℕ) → All (λ x. x ≢ 32) d → All (λ x. x ≢ 58) d → Shape (d ++ 58 ∷ r) d (58 ∷ r)
@@ -144,10 +138,10 @@ shape_other d x r c32 c58 digit e32 e58 =
     })
 
 shape_at : (d t : List ℕ) → All (λ x. x ≢ 32) d → All (λ x. x ≢ 58) d → BeginsOther t → Shape (d ++ t) d t
-shape_at d [] c32 c58 h = shape_end d c32 c58
+shape_at d [] c32 c58 h = shape_last d [] refl refl refl c32 c58
 shape_at d (x ∷ r) c32 c58 h =
     elim (cases_Bool (x == 32)) [
-      | inl e ↦ subst (λ y. Shape (d ++ y ∷ r) d (y ∷ r)) (sym (eqb-true x 32 e)) (shape_space d r c32 c58)
+      | inl e ↦ subst (λ y. Shape (d ++ y ∷ r) d (y ∷ r)) (sym (eqb-true x 32 e)) (shape_last d (32 ∷ r) refl refl refl c32 c58)
       | inr e32 ↦ elim (cases_Bool (x == 58)) [
         | inl e ↦ subst (λ y. Shape (d ++ y ∷ r) d (y ∷ r)) (sym (eqb-true x 58 e)) (shape_colon d r c32 c58)
         | inr e58 ↦ shape_other d x r c32 c58 h e32 e58
@@ -166,8 +160,7 @@ abbrev never : {A B : Type 0} → A → Option B
 never x = None
 
 none_behind : {A B : Type 0} (o : Option A) → (o >>= never {B = B}) ≡ None
-none_behind None = refl
-none_behind (Some x) = refl
+none_behind o = grind arith
 
 abbrev with_number : {A : Type 0} → (ℕ → List (List ℕ) → Option A) → List (List ℕ) → Option A
 with_number K [] = None
@@ -185,20 +178,17 @@ with_rest o t = option_map (λ n. (n, t)) o
 -- no further number
 nothing_last : {A : Type 0} (o : Option ℕ) (t : List ℕ) (k : ℕ → Option (List ℕ) → Option A) → behind_field t ≡ None
     → (with_rest o t >>= (λ r. behind_field r.1 >>= (λ f. k r.0 f))) ≡ None
-nothing_last None t k e = refl
-nothing_last (Some n) t k e = rw e refl
+nothing_last o t k e = grind arith
 
 the_last : {A : Type 0} (o : Option ℕ) (t : List ℕ) (f : Option (List ℕ)) (k : ℕ → Option (List ℕ) → Option A) → behind_field t ≡ Some f
     → (with_rest o t >>= (λ r. behind_field r.1 >>= (λ f. k r.0 f))) ≡ (o >>= (λ n. k n f))
-the_last None t f k e = refl
-the_last (Some n) t f k e = rw e refl
+the_last o t f k e = grind arith
 
 not_last : {A : Type 0} (K : ℕ → Option A) (p q : List ℕ) → None ≡ with_last K (p ∷ S q)
 not_last K p q = rw (split_first 58 q) refl
 
 no_last : {A : Type 0} (K : ℕ → Option A) (p : List ℕ) (more : List (List ℕ)) → number_of p ≡ None → None ≡ with_last K (p ∷ more)
-no_last K p [] e = rw e refl
-no_last K p (q ∷ more) e = refl
+no_last K p more e = grind arith
 
 last_step : {A : Type 0} (k : ℕ → Option (List ℕ) → Option A) (bytes : List ℕ) → Shape bytes (digits_of bytes) (behind_digits bytes)
     → (number_at bytes >>= (λ r. behind_field r.1 >>= (λ f. k r.0 f))) ≡ with_last (λ n. k n (behind_byte 32 bytes)) (S (before_byte 32 bytes))
@@ -211,17 +201,14 @@ last_step k bytes (other p more h)
 
 nothing_next : {A : Type 0} (o : Option ℕ) (t : List ℕ) (k : ℕ → List ℕ → Option A) → behind_first 58 t ≡ None
     → (with_rest o t >>= (λ x. behind_first 58 x.1 >>= (λ r. k x.0 r))) ≡ None
-nothing_next None t k e = refl
-nothing_next (Some n) t k e = rw e refl
+nothing_next o t k e = grind arith
 
 the_next : {A : Type 0} (o : Option ℕ) (t r : List ℕ) (k : ℕ → List ℕ → Option A) → behind_first 58 t ≡ Some r
     → (with_rest o t >>= (λ x. behind_first 58 x.1 >>= (λ r. k x.0 r))) ≡ (o >>= (λ n. k n r))
-the_next None t r k e = refl
-the_next (Some n) t r k e = rw e refl
+the_next o t r k e = grind arith
 
 same_behind : {A B : Type 0} (o : Option A) (f g : A → Option B) → ((x : A) → f x ≡ g x) → (o >>= f) ≡ (o >>= g)
-same_behind None f g h = refl
-same_behind (Some x) f g h = h x
+same_behind o f g h = grind arith
 
 no_next : {A : Type 0} (K : ℕ → List (List ℕ) → Option A) (p : List ℕ) (more : List (List ℕ)) → number_of p ≡ None → None ≡ with_number K (p ∷ more)
 no_next K p more e = rw e refl
@@ -279,20 +266,14 @@ index_at bytes = number_step (λ i r. number_at r
     (λ f i. refl) line_at bytes (shape bytes)
 
 one_too_few : (f : Option (List ℕ)) (o : Option ℕ) → (o >>= (λ i. line_with f i [])) ≡ None
-one_too_few f None = refl
-one_too_few f (Some i) = refl
+one_too_few f o = grind arith
 
 two_too_few : (f : Option (List ℕ)) (o p : Option ℕ) → (o >>= (λ i. p >>= (λ l. column_with f i l []))) ≡ None
-two_too_few f None p = refl
-two_too_few f (Some i) None = refl
-two_too_few f (Some i) (Some l) = refl
+two_too_few f o p = grind arith
 
 three : (f : Option (List ℕ)) (o p q : Option ℕ)
     → (o >>= (λ i. p >>= (λ l. q >>= (λ c. Some (taken (mark i l c) f))))) ≡ with_further (o >>= (λ i. p >>= (λ l. q >>= (λ c. Some (mark i l c))))) f
-three f None p q = refl
-three f (Some i) None q = refl
-three f (Some i) (Some l) None = refl
-three f (Some i) (Some l) (Some c) = refl
+three f o p q = grind arith
 
 numbers_with : (f : Option (List ℕ)) (ps : List (List ℕ)) → with_number (line_with f) ps ≡ with_further (mark_of_numbers ps) f
 numbers_with f [] = refl
@@ -312,17 +293,12 @@ token_with type start end = content_of type (pieces_of 32 end.1) >>= (λ content
 
 no_end : (o : Option yaml_token_type_t) (m : Option yaml_mark_t)
     → None ≡ (o >>= (λ type. with_further m None >>= (λ start. start.1 >>= (λ rest. mark_at rest >>= (token_with type start.0)))))
-no_end None m = refl
-no_end (Some type) None = refl
-no_end (Some type) (Some start) = refl
+no_end o m = grind arith
 
 both_ends : (o : Option yaml_token_type_t) (m n : Option yaml_mark_t) (rest : List ℕ) (f : Option (List ℕ)) → mark_at rest ≡ with_further n f
     → (o >>= (λ type. m >>= (λ start. n >>= (λ end. token_with type start (taken end f)))))
     ≡ (o >>= (λ type. with_further m (Some rest) >>= (λ start. start.1 >>= (λ rest. mark_at rest >>= (token_with type start.0)))))
-both_ends None m n rest f e = refl
-both_ends (Some type) None n rest f e = refl
-both_ends (Some type) (Some start) None rest f e = rw e refl
-both_ends (Some type) (Some start) (Some end) rest f e = rw e refl
+both_ends o m n rest f e = grind arith
 
 marks_is : (name marks : List ℕ) (f : Option (List ℕ)) → behind_byte 32 marks ≡ f
     → token_of_fields (name ∷ before_byte 32 marks ∷ pieces_of 32 f)

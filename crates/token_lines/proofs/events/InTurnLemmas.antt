@@ -8,15 +8,10 @@ use Rattle.std.specs.Io.KnownBytes.{Appends}
 use Rattle.libyaml_types.specs.declared.event.yaml_event_t.{yaml_event_t}
 use Rattle.libyaml_types.specs.declared.token.yaml_token_t.{yaml_token_t}
 use Rattle.libyaml_events.specs.machine.Config.{Parser}
-use Rattle.libyaml_events.specs.sources.Calls.{Gave}
-use Rattle.libyaml_events.specs.sources.History.{History, answers, is_over, is_stream_end}
+use Rattle.libyaml_events.specs.sources.History.{History, is_over, is_stream_end}
 use Rattle.libyaml_sources.specs.Fault.{Answer, Fault}
+use Rattle.libyaml_events.proofs.lent.CallsInTurn.{gave_both}
 use Rattle.token_lines.specs.events.InTurn.{AllWritten, Call, WrittenInTurn, gave_event, failed}
-
-module _ {S : Type 0} (gives : S → Answer → S → Type 0) where
-  pub gave_then : (l m : List yaml_token_t) (a b c : S) → Gave gives a (answers l []) b → Gave gives b (answers m []) c → Gave gives a (answers (l ++ m) []) c
-  gave_then [] m a b c h k = subst (λ x. Gave gives x (answers m []) c) h k
-  gave_then (t ∷ l) m a b c (mid, g, h) k = (mid, g, gave_then l m mid b c h k)
 
 module _ {S : Type 0} (p : Parser S) where
   pub history_none : (asked : List yaml_token_t) (given : List yaml_event_t) → History p asked given → History p (asked ++ []) (given ++ [])
@@ -57,7 +52,7 @@ module _ {S : Type 0} (text : yaml_event_t → List ℕ) (gives : S → Answer �
       go (gave_event e on wrote) = record {
         more = w.more ++ on.more;
         events = w.events ++ e ∷ [];
-        gave = gave_then gives w.more on.more first.source p.source q.source w.gave on.gave;
+        gave = gave_both gives w.more on.more first.source p.source q.source w.gave on.gave;
         history = history_more q asked w.more on.more given w.events (e ∷ []) on.history;
         running = on.ends ∙ wrote.0;
         wrote = subst (Appends a c) (texts_more w.events e) (Appends-trans a b c (concat (map text w.events)) (text e) w.wrote wrote.1);

@@ -18,13 +18,13 @@ use Rattle.token_lines.specs.events.LastCall.{Closes}
 use Rattle.token_lines.proofs.lines.RunLemmas.{keeps_then}
 
 -- a parser that had ended ends the run by its first step
-pub written_no_end : step.Written ≡ step.Ended → ⊥
+pub written_no_end : {A : Type 0} → step.Written ≡ step.Ended → A
 written_no_end h = cc
 
-pub failed_no_end : (f : yaml_parser_t_prefix) → step.Failed f ≡ step.Ended → ⊥
+pub failed_no_end : {A : Type 0} (f : yaml_parser_t_prefix) → step.Failed f ≡ step.Ended → A
 failed_no_end f h = cc
 
-pub output_no_end : step.OutputFailed ≡ step.Ended → ⊥
+pub output_no_end : {A : Type 0} → step.OutputFailed ≡ step.Ended → A
 output_no_end h = cc
 
 module _ {S : Type 0} (gives : S → Answer → S → Type 0) where

@@ -18,6 +18,7 @@ use Rattle.libyaml_events.specs.sources.History.{ForHistory, History, has_failed
 use Rattle.libyaml_events.specs.sources.RunToCome.{RunToCome}
 use Rattle.libyaml_grammar.specs.runs.Runs.{Ending}
 use Rattle.libyaml_sources.specs.Source.{Coming}
+use Rattle.libyaml_events.proofs.lent.CallsInTurn.{gave_both}
 use Rattle.libyaml_events.proofs.lent.Staged.{ran_staged}
 use Rattle.libyaml_graphs.specs.loads.Bounds.{bounded_loads, next_bounded}
 use Rattle.libyaml_graphs.specs.loads.Loads.{Load, left_over}
@@ -32,7 +33,7 @@ use Rattle.token_lines.specs.declared.run.RunStep.{RunStep}
 use Rattle.token_lines.specs.declared.run.RunStep.TheVariants as step
 use Rattle.token_lines.specs.nodes.LastLoad.{AllLoaded, LastLoad, WroteForLoad}
 use Rattle.token_lines.specs.nodes.NodeStep.{LoadTurn, NodeSteps, StepForLoad}
-use Rattle.token_lines.proofs.events.InTurnLemmas.{gave_then, history_more, history_none}
+use Rattle.token_lines.proofs.events.InTurnLemmas.{history_more, history_none}
 use Rattle.token_lines.proofs.lines.RunLemmas.{keeps_then}
 
 -- whether a document has nodes, by their count
@@ -114,7 +115,7 @@ module _ {S : Type 0} (gives : S → Answer → S → Type 0) (known : S → Opt
             more = w.more ++ on.more;
             events = w.events ++ taken;
             documents = w.documents ++ d ∷ [];
-            gave = gave_then gives w.more on.more first.source p.source q.source w.gave on.gave;
+            gave = gave_both gives w.more on.more first.source p.source q.source w.gave on.gave;
             history = history_more q asked w.more on.more given w.events taken on.history;
             loads = λ (rest : List yaml_event_t) (x : Ending). loads_more w.events taken rest x w.documents d some (λ (r : List yaml_event_t). w.loads r x)
                 (load rest x) (left rest);
@@ -124,6 +125,7 @@ module _ {S : Type 0} (gives : S → Answer → S → Type 0) (known : S → Opt
       go (Ok d) (at_end taken took load left ends is stands) (some, wrote) = absurd (some (ap (λ (x : Document). x.nodes) is))
       go (Err x) load wrote = absurd wrote
 
+<<<<<<< HEAD
   pub last_load : {W : Type 0} (contents : W
       → Option (List ℕ)) (outcome : Outcome) (s : RunStep) (first p q : Parser S) (writer : W) (a c d : Option (List ℕ)) (asked : List yaml_token_t)
       (given : List yaml_event_t) → AllLoaded gives n first p a (contents writer) asked given
@@ -142,6 +144,8 @@ module _ {S : Type 0} (gives : S → Answer → S → Type 0) (known : S → Opt
         ends = λ (is : outcome ≡ Ended). turn.ends (ended is) (asked ++ w.more) (given ++ w.events) w.history;
       }
 
+=======
+>>>>>>> 56111d22a6ebf68b72b09d9916306d8cb17e3c47
 -- nothing more was written
 pub loads_end : (outcome : Outcome) (kept : Fault) (b c d : Option (List ℕ)) → (outcome ≡ Ended) ⊎ (outcome ≡ OutputFailed) → Keeps c d → (r : DocumentOrError)
     → StepForLoad step.Ended r kept b c → WroteForLoad outcome r kept b d
@@ -204,5 +208,14 @@ pub last_load_at : {S W : Type 0} (gives : S → Answer → S → Type 0) (known
     → ((r : DocumentOrError) → StepForLoad s r (kept_fault q) (contents writer) c → WroteForLoad outcome r (kept_fault q) (contents writer) d)
     → (outcome ≡ Ended → s ≡ step.Ended) → LastLoad gives known MayBreak contents (magnitude first.max_entries) outcome first q a d asked given
 last_load_at gives known MayBreak contents outcome s first p q writer a c d asked given bound earlier turns wrote ended =
-    last_load gives known MayBreak (magnitude first.max_entries) contents outcome s first p q writer a c d asked given earlier
-    (turn_at gives known MayBreak s p q (contents writer) c p.max_entries first.max_entries bound turns) wrote ended
+    let failed = running gives known MayBreak (magnitude first.max_entries) p (asked ++ earlier.more) (given ++ earlier.events) earlier.history in
+    let turn = turn_at gives known MayBreak s p q (contents writer) c p.max_entries first.max_entries bound turns failed in
+    record {
+      parser = p;
+      writer = writer;
+      earlier = earlier;
+      loaded = turn.loaded;
+      load = turn.load;
+      wrote = wrote turn.loaded turn.wrote;
+      ends = λ (is : outcome ≡ Ended). turn.ends (ended is) (asked ++ earlier.more) (given ++ earlier.events) earlier.history;
+    }

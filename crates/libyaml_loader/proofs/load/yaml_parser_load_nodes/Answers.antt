@@ -7,19 +7,22 @@ use Rattle.libyaml_loader.specs.declared.load.ComposeStep.{ComposeStep}
 use Rattle.libyaml_loader.specs.declared.load.ComposeStep.TheVariants as step
 use Rattle.libyaml_loader.proofs.loads.Falling.{falls_since, has_fallen, stays_since}
 use Rattle.libyaml_loader.proofs.loads.Outside.{behind_step}
-use Rattle.libyaml_loader.proofs.loads.Stepping.{steps_at, way_closes, way_fails, way_finds_end, way_more, way_none}
+use Rattle.libyaml_loader.proofs.loads.Stepping.{way_closes, way_fails, way_finds_end, way_more, way_none}
 use Rattle.libyaml_loader.proofs.loads.Taking.{ended_between}
 use Rattle.libyaml_loader.proofs.load.yaml_parser_load_nodes.Goals as goal
 
 ok_step : (r : Result ComposeStep yaml_error_type_t) (s t : ComposeStep) → r ≡ Ok s → s ≡ t → r ≡ Ok t
 ok_step r s t e f = e ∙ ap (λ (x : ComposeStep). Ok x) f
 
+<<<<<<< HEAD
 composed_is_no_end : ◌≡◌ {A = ComposeStep} step.Composed step.Ended → ⊥
 composed_is_no_end h = cc
 
 closed_is_no_end : (x : Closing) → ◌≡◌ {A = ComposeStep} (step.Closed x) step.Ended → ⊥
 closed_is_no_end x h = cc
 
+=======
+>>>>>>> 56111d22a6ebf68b72b09d9916306d8cb17e3c47
 pub loop-ctx-init : goal.loop-ctx-init
 loop-ctx-init g c =
     let t = g.S.yaml_token_source_t in
@@ -31,10 +34,13 @@ loop-ctx-preserved g c =
     let call = c.compose_next in
     let is = ok_step call.result c.in_ok-compose_next.field-0 step.Composed c.in_ok-compose_next.was c.in-Composed.is in (
       way_more t.gives t.known t.may_break c.args.parser.now c.loop-ctx.parser call.new.parser c.args.ctx c.loop-ctx.ctx call.new.ctx c.loop-ctx.invariant.0
-          (steps_at t.gives t.known t.may_break call.result (Ok step.Composed) c.loop-ctx.parser call.new.parser c.loop-ctx.ctx call.new.ctx is
-          call.ensures.steps) call.ensures.bound,
+          (rw is at call.ensures.steps) call.ensures.bound,
       stays_since _ _ _ c.loop-ctx.invariant.1
+<<<<<<< HEAD
           (has_fallen (λ (x : ComposeStep). x ≡ step.Ended) call.result step.Composed _ _ is composed_is_no_end call.ensures.falls),
+=======
+          (has_fallen (λ (x : Step). x ≡ step.Ended) call.result step.Composed _ _ is (λ h. cc) call.ensures.falls),
+>>>>>>> 56111d22a6ebf68b72b09d9916306d8cb17e3c47
     )
 
 pub returns-in_err-compose_next-clause-loads : goal.returns-in_err-compose_next-clause-loads
@@ -44,8 +50,7 @@ returns-in_err-compose_next-clause-loads g c o begun =
     let e : c.from_residual.result ≡ Err c.in_err-compose_next.field-0.0 = search rules in
     way_fails t.gives t.known t.may_break c.args.parser.now c.loop-ctx.parser call.new.parser c.args.ctx c.loop-ctx.ctx c.loop-ctx.invariant.0 o
     c.from_residual.result c.in_err-compose_next.field-0.0 e
-    (steps_at t.gives t.known t.may_break call.result (Err c.in_err-compose_next.field-0.0) c.loop-ctx.parser call.new.parser c.loop-ctx.ctx call.new.ctx
-    c.in_err-compose_next.was call.ensures.steps)
+    (rw c.in_err-compose_next.was at call.ensures.steps)
 
 pub returns-in-Closed-clause-loads : goal.returns-in-Closed-clause-loads
 returns-in-Closed-clause-loads g c o begun =
@@ -53,9 +58,7 @@ returns-in-Closed-clause-loads g c o begun =
     let call = c.compose_next in
     let is = ok_step call.result c.in_ok-compose_next.field-0 (step.Closed c.in-Closed.closing) c.in_ok-compose_next.was c.in-Closed.is in
     way_closes t.gives t.known t.may_break c.args.parser.now c.loop-ctx.parser call.new.parser c.args.ctx c.loop-ctx.ctx c.loop-ctx.invariant.0 o call.new.ctx
-    c.in-Closed.closing c.into_document.result begun
-    (steps_at t.gives t.known t.may_break call.result (Ok (step.Closed c.in-Closed.closing)) c.loop-ctx.parser call.new.parser c.loop-ctx.ctx call.new.ctx is
-    call.ensures.steps) c.into_document.ensures
+    c.in-Closed.closing c.into_document.result begun (rw is at call.ensures.steps) c.into_document.ensures
 
 pub returns-in-Ended-clause-loads : goal.returns-in-Ended-clause-loads
 returns-in-Ended-clause-loads g c o begun =
@@ -63,22 +66,28 @@ returns-in-Ended-clause-loads g c o begun =
     let call = c.compose_next in
     let is = ok_step call.result c.in_ok-compose_next.field-0 step.Ended c.in_ok-compose_next.was c.in-Ended.is in
     way_finds_end t.gives t.known t.may_break c.args.parser.now c.loop-ctx.parser call.new.parser c.args.ctx c.loop-ctx.ctx c.loop-ctx.invariant.0 o
-    c.without_root.result
-    (steps_at t.gives t.known t.may_break call.result (Ok step.Ended) c.loop-ctx.parser call.new.parser c.loop-ctx.ctx call.new.ctx is call.ensures.steps)
-    c.without_root.ensures
+    c.without_root.result (rw is at call.ensures.steps) c.without_root.ensures
 
 pub loop-ctx-smaller : goal.loop-ctx-smaller
 loop-ctx-smaller g c =
     let call = c.compose_next in
     let is = ok_step call.result c.in_ok-compose_next.field-0 step.Composed c.in_ok-compose_next.was c.in-Composed.is in
+<<<<<<< HEAD
     has_fallen (λ (x : ComposeStep). x ≡ step.Ended) call.result step.Composed _ _ is composed_is_no_end call.ensures.falls
+=======
+    has_fallen (λ (x : Step). x ≡ step.Ended) call.result step.Composed _ _ is (λ h. cc) call.ensures.falls
+>>>>>>> 56111d22a6ebf68b72b09d9916306d8cb17e3c47
 
 pub returns-in-Closed-clause-falls : goal.returns-in-Closed-clause-falls
 returns-in-Closed-clause-falls g c =
     let call = c.compose_next in
     let is = ok_step call.result c.in_ok-compose_next.field-0 (step.Closed c.in-Closed.closing) c.in_ok-compose_next.was c.in-Closed.is in
     inr (falls_since _ _ _ c.loop-ctx.invariant.1
+<<<<<<< HEAD
     (has_fallen (λ (x : ComposeStep). x ≡ step.Ended) call.result (step.Closed c.in-Closed.closing) _ _ is (closed_is_no_end c.in-Closed.closing)
+=======
+    (has_fallen (λ (x : Step). x ≡ step.Ended) call.result (step.Closed c.in-Closed.closing) _ _ is (λ h. cc)
+>>>>>>> 56111d22a6ebf68b72b09d9916306d8cb17e3c47
     call.ensures.falls))
 
 pub returns-in-Ended-clause-falls : goal.returns-in-Ended-clause-falls
@@ -89,20 +98,23 @@ returns-in_err-compose_next-clause-between g c =
     let call = c.compose_next in
     ended_between call.new.parser (rw c.in_err-compose_next.was at call.ensures.fails).1
 
+<<<<<<< HEAD
 closed_goes_on : (x : Closing) → ◌≡◌ {A = ComposeStep} (step.Closed x) step.Composed → ⊥
 closed_goes_on x h = cc
 
 end_goes_on : ◌≡◌ {A = ComposeStep} step.Ended step.Composed → ⊥
 end_goes_on h = cc
 
+=======
+>>>>>>> 56111d22a6ebf68b72b09d9916306d8cb17e3c47
 pub returns-in-Closed-clause-between : goal.returns-in-Closed-clause-between
 returns-in-Closed-clause-between g c =
     let call = c.compose_next in
     let is = ok_step call.result c.in_ok-compose_next.field-0 (step.Closed c.in-Closed.closing) c.in_ok-compose_next.was c.in-Closed.is in
-    behind_step call.new.parser call.result (step.Closed c.in-Closed.closing) is (closed_goes_on c.in-Closed.closing) call.ensures.between
+    behind_step call.new.parser call.result (step.Closed c.in-Closed.closing) is (λ h. cc) call.ensures.between
 
 pub returns-in-Ended-clause-between : goal.returns-in-Ended-clause-between
 returns-in-Ended-clause-between g c =
     let call = c.compose_next in
     let is = ok_step call.result c.in_ok-compose_next.field-0 step.Ended c.in_ok-compose_next.was c.in-Ended.is in
-    behind_step call.new.parser call.result step.Ended is end_goes_on call.ensures.between
+    behind_step call.new.parser call.result step.Ended is (λ h. cc) call.ensures.between

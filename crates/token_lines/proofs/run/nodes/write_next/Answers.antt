@@ -1,22 +1,20 @@
 use Rattle.std.proofs.Common.{◌≡◌, Ok, Err, refl, sym, ap, ◌∙◌, subst}
 use Rattle.std.proofs.KnownBytes.{Appends-kept}
-use Rattle.libyaml_sources.specs.declared.fault.yaml_parser_t_prefix.{yaml_parser_t_prefix}
 use Rattle.libyaml_sources.specs.Fault.{Fault}
 use Rattle.libyaml_loader.specs.document.Ids.{magnitude}
 use Rattle.line_writing.specs.declared.refusal.line_refusal_t.{line_refusal_t}
+<<<<<<< HEAD
 use Rattle.token_lines.specs.declared.run.RunStep.TheVariants.{Ended, Failed, Written}
+=======
+use Rattle.token_lines.specs.declared.run.Step.TheVariants.{Ended, Written}
+>>>>>>> 56111d22a6ebf68b72b09d9916306d8cb17e3c47
 use Rattle.token_lines.specs.lines.RunSteps.{WritesPrefix}
 use Rattle.token_lines.specs.nodes.NodeStep.{run_ending, run_lines}
+use Rattle.token_lines.proofs.events.LastCallLemmas.{failed_no_end, written_no_end}
 use Rattle.token_lines.proofs.nodes.NodeStepLemmas.{step_cut, step_ended, step_failed, step_written}
 use Rattle.token_lines.proofs.nodes.NodeTurnLemmas.{has_none, has_some, turn_of}
 use Rattle.token_lines.proofs.lines.RunLemmas.{Keeps-same}
 use Rattle.token_lines.proofs.run.nodes.write_next.Goals as goal
-
-failed_is_no_end : {f : yaml_parser_t_prefix} {A : Type 0} → Failed f ≡ Ended → A
-failed_is_no_end h = cc
-
-written_is_no_end : {A : Type 0} → Written ≡ Ended → A
-written_is_no_end h = cc
 
 pub returns-in_default-clause-step : goal.returns-in_default-clause-step
 returns-in_default-clause-step g c events ending run =
@@ -59,7 +57,7 @@ returns-in_default-clause-turn g c running =
     let t = g.S.yaml_token_source_t in
     let call = c.yaml_parser_load-loaded in
     turn_of t.gives t.known t.may_break (magnitude c.args.parser.now.max_entries) _ c.args.parser.now call.new.parser _ _ call.result (Err c.in_default.field-0)
-    c.in_default.is (call.ensures.loads running) (c.prefix.ensures.kept, Keeps-same _) failed_is_no_end
+    c.in_default.is (call.ensures.loads running) (c.prefix.ensures.kept, Keeps-same _) (failed_no_end _)
 
 pub returns-then-is_empty-clause-turn : goal.returns-then-is_empty-clause-turn
 returns-then-is_empty-clause-turn g c running =
@@ -76,7 +74,7 @@ returns-clause-turn g c running =
     let some = has_some c.nodes.result.now c.in-Ok.document.nodes c.is_empty.result c.is_empty.ensures c.if-is_empty.false c.nodes.ensures.all in
     turn_of t.gives t.known t.may_break (magnitude c.args.parser.now.max_entries) Written c.args.parser.now call.new.parser _ _ call.result
     (Ok c.in-Ok.document) c.in-Ok.is (call.ensures.loads running)
-    (some, Appends-kept _ _ _ _ c.in-Ok-write_document.ensures.ok c.show.ensures) written_is_no_end
+    (some, Appends-kept _ _ _ _ c.in-Ok-write_document.ensures.ok c.show.ensures) written_no_end
 
 pub returns-in-Err-Memory-clause-turn : goal.returns-in-Err-Memory-clause-turn
 returns-in-Err-Memory-clause-turn g c running =
@@ -86,4 +84,4 @@ returns-in-Err-Memory-clause-turn g c running =
     c.in-Ok.is (call.ensures.loads running) (
       refl,
       c.write_document.ensures.memory (c.in-Err-Memory.is ∙ ap (λ (x : line_refusal_t). Err x) c.in-Err-Memory.field-0-is),
-    ) failed_is_no_end
+    ) (failed_no_end _)
