@@ -1,7 +1,7 @@
 -- Where reading stops with a cut tree, it has the tokens read, and fits.
 use Rattle.std.proofs.Common.{◌≡◌, List, [], ◌∷◌, ◌++◌, refl, sym, ap, ◌∙◌, subst, ◌⊎◌, inl, inr, Bool, true, false}
 use Rattle.libyaml_grammar.specs.sentences.Tokens.{Content, Marks, Token, marks_of, tok}
-use Rattle.libyaml_grammar.specs.sentences.Trees.{Stream, directive, tag}
+use Rattle.libyaml_grammar.specs.sentences.Trees.{Stream}
 use Rattle.libyaml_grammar.specs.sentences.Events.{Event}
 use Rattle.libyaml_grammar.specs.cuts.CutTrees.{Cut, at_tag, at_tag_behind, before_stream, cut_in_order, cut_tokens, declared}
 use Rattle.libyaml_grammar.specs.cuts.Fits.{Fits, FitsTag, IsUnknown, IsUnknownTag}

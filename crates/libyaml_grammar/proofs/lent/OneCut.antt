@@ -2,17 +2,17 @@
 use Rattle.std.proofs.Common.{◌≡◌, List, [], ◌∷◌, ◌++◌, Some, None, refl, sym, ap, ◌∙◌, subst, inl, inr, Bool, true, false}
 use Rattle.libyaml_grammar.specs.sentences.Tokens.{AnchorName, Content, HandleDeclared, Marks, Tag, TagDirective, TagName, Token, VersionAsked}
 use Rattle.libyaml_grammar.specs.sentences.Tokens.{VersionDirective, marks_of, tok}
-use Rattle.libyaml_grammar.specs.sentences.Trees.{Before, BlockNode, BlockSlot, Directive, Directives, Documents, FlowNode, FlowSlot, Free, Properties, alone}
-use Rattle.libyaml_grammar.specs.sentences.Trees.{anchor, anchor_tag, behind, directive, empty, explicit, flow, flow_node, flow_node_tokens, flow_nothing}
-use Rattle.libyaml_grammar.specs.sentences.Trees.{free, implicit, indentless, item, no_directives, no_parts, no_value, node, nothing, pair, part, sequence}
-use Rattle.libyaml_grammar.specs.sentences.Trees.{single, slot_of, tag, tag_directive, version, with_value}
+use Rattle.libyaml_grammar.specs.sentences.Trees.{Before, BlockNode, BlockSlot, Directive, Directives, Documents, FlowNode, FlowSlot, Free, Properties}
+use Rattle.libyaml_grammar.specs.sentences.Trees.{alone, anchor, anchor_tag, behind, directive, empty, explicit, flow, flow_node, flow_node_tokens}
+use Rattle.libyaml_grammar.specs.sentences.Trees.{flow_nothing, free, implicit, indentless, item, no_directives, no_parts, no_value, node, nothing, pair}
+use Rattle.libyaml_grammar.specs.sentences.Trees.{part, sequence, single, slot_of, tag, tag_directive, version, with_value}
 use Rattle.libyaml_grammar.specs.sentences.Order.{block_node_in_order, block_slot_in_order, both, declares, documents_in_order, flow_node_in_order}
-use Rattle.libyaml_grammar.specs.sentences.Order.{flow_slot_in_order, is_known, is_accepted, negated, no_version}
+use Rattle.libyaml_grammar.specs.sentences.Order.{flow_slot_in_order, is_accepted, is_known, negated, no_version}
 use Rattle.libyaml_grammar.specs.sentences.Events.{Event}
 use Rattle.libyaml_grammar.specs.cuts.CutTrees.{BlockPlace, Cut, Place, at_directive, at_tag, at_tag_behind, before_stream, block, block_place_in_order}
-use Rattle.libyaml_grammar.specs.cuts.CutTrees.{content_due, cut_in_order, cut_tokens, declared, declared_block, declared_open, document_due, entry, entry_due}
-use Rattle.libyaml_grammar.specs.cuts.CutTrees.{explicit_root, flow_entry, flow_key, flow_value, implicit_root, indentless_entry, open_collection, part_due}
-use Rattle.libyaml_grammar.specs.cuts.CutTrees.{part_place, place_in_order, place_tokens, root, separator_due, slot, start_due}
+use Rattle.libyaml_grammar.specs.cuts.CutTrees.{content_due, cut_in_order, cut_tokens, declared, declared_block, declared_open, document_due, entry}
+use Rattle.libyaml_grammar.specs.cuts.CutTrees.{entry_due, explicit_root, flow_entry, flow_key, flow_value, implicit_root, indentless_entry}
+use Rattle.libyaml_grammar.specs.cuts.CutTrees.{open_collection, part_due, part_place, place_in_order, place_tokens, root, separator_due, slot, start_due}
 use Rattle.libyaml_grammar.specs.cuts.Fits.{EndsEmpty, Fits, FitsDirective, FitsTag, IsUnknown, IsUnknownTag, WantsContent, ends_empty, is_directive}
 use Rattle.libyaml_grammar.specs.cuts.Fits.{last_empty}
 use Rattle.libyaml_grammar.proofs.lent.Positions.{Position, between, due, flow_due, headed, in_mapping, in_sequence, position_in_order, unopened}
@@ -21,9 +21,10 @@ use Rattle.libyaml_grammar.proofs.lent.Reading.{then_all}
 use Rattle.libyaml_grammar.proofs.lent.Completion.{reached_begins, reads_append}
 use Rattle.libyaml_grammar.proofs.lent.Orders.{feeds_order, fill_flow_orders, fill_orders, reads_from}
 use Rattle.libyaml_grammar.proofs.lent.ReadSteps.{IsNotDone, Moves, ReadStep, a_tag, begins_entry, begins_root, fails, filled, filled_block, first_handle}
-use Rattle.libyaml_grammar.proofs.lent.ReadSteps.{first_version, front, is_alone, is_past, leaves, moved_open, moves, next_handle, next_version, no_content}
-use Rattle.libyaml_grammar.proofs.lent.ReadSteps.{no_stream, not_past, read_step, tag_behind_anchor}
-use Rattle.libyaml_grammar.proofs.trees.Edge.{cut_reads, edge_block, edge_documents, edge_flow, edge_flow_slot, edge_slot, home, reached}
+use Rattle.libyaml_grammar.proofs.lent.ReadSteps.{first_version, front, is_alone, is_past, leaves, moved_open, moves, next_handle, next_version}
+use Rattle.libyaml_grammar.proofs.lent.ReadSteps.{no_content, no_stream, not_past, read_step, tag_behind_anchor}
+use Rattle.libyaml_grammar.proofs.trees.Edge.{cut_reads, edge_documents, edge_flow_slot, edge_slot, reached}
+use Rattle.libyaml_grammar.proofs.trees.Complete.{edge_block, edge_flow, home}
 
 -- a step that does not go on stops at this cut
 abbrev pub Stops : Step → Cut → Type 0

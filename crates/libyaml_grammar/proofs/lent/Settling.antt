@@ -5,14 +5,15 @@ use Rattle.libyaml_grammar.specs.sentences.Events.{Event, events, first_block, f
 use Rattle.libyaml_grammar.specs.sentences.Order.{in_order}
 use Rattle.libyaml_grammar.specs.sentences.Sentences.{IsBeginning, has_end}
 use Rattle.libyaml_grammar.specs.sentences.Tokens.{Mark, Marks, Token}
-use Rattle.libyaml_grammar.specs.sentences.Trees.{BlockNode, FlowNode, Stream, alone, empty, explicit, flow, flow_node, flow_nothing, implicit, indentless}
-use Rattle.libyaml_grammar.specs.sentences.Trees.{item, no_parts, no_value, node, nothing, pair, part, single, slot_of, tokens, with_value}
+use Rattle.libyaml_grammar.specs.sentences.Trees.{BlockNode, FlowNode, Stream, alone, explicit, flow, flow_node, flow_nothing, implicit, indentless, item}
+use Rattle.libyaml_grammar.specs.sentences.Trees.{no_value, node, nothing, pair, part, single, slot_of, tokens, with_value}
 use Rattle.libyaml_grammar.specs.cuts.CutEvents.{shown_block, shown_place}
 use Rattle.libyaml_grammar.specs.cuts.CutTrees.{BlockPlace, Cut, Place, at_directive, at_tag, at_tag_behind, before_stream, block, content_due, declared}
-use Rattle.libyaml_grammar.specs.cuts.CutTrees.{declared_block, document_due, entry, entry_due, explicit_root, flow_entry, flow_key, flow_value, implicit_root}
-use Rattle.libyaml_grammar.specs.cuts.CutTrees.{indentless_entry, part_due, part_place, root, separator_due, slot, start_due}
+use Rattle.libyaml_grammar.specs.cuts.CutTrees.{declared_block, document_due, entry, entry_due, explicit_root, flow_entry, flow_key, flow_value}
+use Rattle.libyaml_grammar.specs.cuts.CutTrees.{implicit_root, indentless_entry, part_due, part_place, root, separator_due, slot}
 use Rattle.libyaml_grammar.specs.cuts.Fits.{last_empty}
-use Rattle.libyaml_grammar.specs.cuts.Settled.{Begins, BeginsEach, IsFront, IsFrontPlace, IsOpen, IsSettled, next_event, sure, sure_block_node, sure_flow_node}
+use Rattle.libyaml_grammar.specs.cuts.Settled.{Begins, BeginsEach, IsFront, IsFrontPlace, IsOpen, IsSettled, next_event, sure, sure_block_node}
+use Rattle.libyaml_grammar.specs.cuts.Settled.{sure_flow_node}
 use Rattle.libyaml_grammar.specs.cuts.Rest.{rest}
 use Rattle.libyaml_grammar.proofs.lent.Given.{gives_all}
 use Rattle.libyaml_grammar.proofs.lent.Positions.{Position, done, position_rest, shown, unopened}
@@ -27,8 +28,8 @@ use Rattle.libyaml_grammar.proofs.lent.Run.{begin_events, given_shown}
 use Rattle.libyaml_grammar.proofs.lent.Shows.{block_shows, node_shows}
 use Rattle.libyaml_grammar.proofs.lent.Splits.{position_splits}
 use Rattle.libyaml_grammar.proofs.lent.StreamEnds.{IsDone, end_is_done, not_end_not_done}
-use Rattle.libyaml_grammar.proofs.trees.Complete.{stream_reads}
-use Rattle.libyaml_grammar.proofs.trees.Edge.{edge_block, edge_flow, reached}
+use Rattle.libyaml_grammar.proofs.trees.Complete.{edge_block, edge_flow, stream_reads}
+use Rattle.libyaml_grammar.proofs.trees.Edge.{reached}
 use Rattle.libyaml_grammar.proofs.runs.Prompt.{differ}
 
 -- what is sure is what is shown at the right edge

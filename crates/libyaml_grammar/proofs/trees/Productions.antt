@@ -3,12 +3,12 @@ use Rattle.std.proofs.Common.{◌≡◌, List, [], ◌∷◌, ◌++◌, None, re
 use Rattle.std.proofs.lemmas.List.{append_cancel_right}
 use Rattle.libyaml_grammar.specs.sentences.Tokens.{BlockEnd, BlockMappingStart, BlockSequenceStart, DocumentStart, FlowSequenceEnd, FlowSequenceStart, Key}
 use Rattle.libyaml_grammar.specs.sentences.Tokens.{StreamEnd, StreamStart, Token, Value, tok, zero_marks}
-use Rattle.libyaml_grammar.specs.sentences.Trees.{Before, BlockItems, BlockNode, BlockSlot, Directives, Documents, FlowItems, FlowLast, FlowMember, FlowNode}
-use Rattle.libyaml_grammar.specs.sentences.Trees.{FlowSlot, Parts, Properties, Slot, Stream, alone, before_tokens, behind, block_mapping, block_node_tokens}
-use Rattle.libyaml_grammar.specs.sentences.Trees.{block_sequence, block_slot_tokens, collection, directives_tokens, documents_tokens, explicit, flow}
-use Rattle.libyaml_grammar.specs.sentences.Trees.{flow_items_tokens, flow_last_tokens, flow_member_tokens, flow_node_tokens, flow_slot_tokens, free}
-use Rattle.libyaml_grammar.specs.sentences.Trees.{items_tokens, last, no_directives, no_items, no_parts, no_value, node, nothing, opened, pair, part}
-use Rattle.libyaml_grammar.specs.sentences.Trees.{parts_tokens, properties_tokens, sequence, slot_tokens, value, whole}
+use Rattle.libyaml_grammar.specs.sentences.Trees.{Before, BlockItems, BlockNode, BlockSlot, Directives, Documents, FlowItems, FlowLast, FlowMember}
+use Rattle.libyaml_grammar.specs.sentences.Trees.{FlowNode, FlowSlot, Parts, Properties, Slot, Stream, alone, before_tokens, behind, block_mapping}
+use Rattle.libyaml_grammar.specs.sentences.Trees.{block_node_tokens, block_sequence, block_slot_tokens, collection, directives_tokens, documents_tokens}
+use Rattle.libyaml_grammar.specs.sentences.Trees.{explicit, flow, flow_items_tokens, flow_last_tokens, flow_member_tokens, flow_node_tokens}
+use Rattle.libyaml_grammar.specs.sentences.Trees.{flow_slot_tokens, free, items_tokens, last, no_directives, no_items, no_parts, no_value, node, nothing}
+use Rattle.libyaml_grammar.specs.sentences.Trees.{opened, pair, part, parts_tokens, properties_tokens, sequence, slot_tokens, value, whole}
 use Rattle.libyaml_grammar.specs.cuts.CutTrees.{Place, block, flow_entry, implicit_root, place_tokens, root}
 use Rattle.libyaml_grammar.specs.cuts.Rest.{any_encoding}
 use Rattle.libyaml_grammar.proofs.lent.Positions.{Position, between, due, flow_due, unopened}
@@ -16,8 +16,9 @@ use Rattle.libyaml_grammar.proofs.lent.Reading.{feeds}
 use Rattle.libyaml_grammar.proofs.trees.Append.{before_append, block_slot_append, directives_append, flow_items_append, flow_last_append, items_append}
 use Rattle.libyaml_grammar.proofs.trees.Append.{parts_append, place_append}
 use Rattle.libyaml_grammar.proofs.lent.Completion.{one_tree_proof}
-use Rattle.libyaml_grammar.proofs.trees.Edge.{home, place_reads}
+use Rattle.libyaml_grammar.proofs.trees.Edge.{place_reads}
 use Rattle.libyaml_grammar.proofs.lent.OneCut.{goes_same}
+use Rattle.libyaml_grammar.proofs.trees.Complete.{home}
 
 -- two parts with equal tokens before one list have equal tokens before each
 abbrev Appends : (List Token → List Token) → Type 0
