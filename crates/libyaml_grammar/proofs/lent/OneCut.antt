@@ -16,15 +16,16 @@ use Rattle.libyaml_grammar.specs.cuts.CutTrees.{open_collection, part_due, part_
 use Rattle.libyaml_grammar.specs.cuts.Fits.{EndsEmpty, Fits, FitsDirective, FitsTag, IsUnknown, IsUnknownTag, WantsContent, ends_empty, is_directive}
 use Rattle.libyaml_grammar.specs.cuts.Fits.{last_empty}
 use Rattle.libyaml_grammar.proofs.lent.Positions.{Position, between, due, flow_due, headed, in_mapping, in_sequence, position_in_order, unopened}
-use Rattle.libyaml_grammar.proofs.lent.Reading.{Step, bad, broken, checked, feeds, fill, fill_flow, goes, keeps_order, on_due, over, reads, reads_all}
-use Rattle.libyaml_grammar.proofs.lent.Reading.{then_all}
+use Rattle.libyaml_grammar.proofs.lent.Reading.{Step, bad, bad_same, broken, checked, feeds, fill, fill_flow, goes, goes_same, keeps_order, on_due, over}
+use Rattle.libyaml_grammar.proofs.lent.Reading.{reads, reads_all, then_all}
 use Rattle.libyaml_grammar.proofs.lent.Completion.{reached_begins, reads_append}
-use Rattle.libyaml_grammar.proofs.lent.Orders.{feeds_order, fill_flow_orders, fill_orders, reads_from}
+use Rattle.libyaml_grammar.proofs.lent.Orders.{feeds_order, reads_from}
 use Rattle.libyaml_grammar.proofs.lent.ReadSteps.{IsNotDone, Moves, ReadStep, a_tag, begins_entry, begins_root, fails, filled, filled_block, first_handle}
 use Rattle.libyaml_grammar.proofs.lent.ReadSteps.{first_version, front, is_alone, is_past, leaves, moved_open, moves, next_handle, next_version}
 use Rattle.libyaml_grammar.proofs.lent.ReadSteps.{no_content, no_stream, not_past, read_step, tag_behind_anchor}
 use Rattle.libyaml_grammar.proofs.trees.Edge.{cut_reads, edge_documents, edge_flow_slot, edge_slot, reached}
 use Rattle.libyaml_grammar.proofs.trees.Complete.{edge_block, edge_flow, home}
+use Rattle.libyaml_grammar.proofs.lent.Keeps.{fill_flow_keeps, fill_keeps}
 
 -- a step that does not go on stops at this cut
 abbrev pub Stops : Step → Cut → Type 0
@@ -293,12 +294,12 @@ cut_stops l (separator_due c (pair e y (with_value v (flow_node x)))) k m t o r 
 -- the order of a cut tree is that of its edge
 edge_order_flow : (p : Place) (x : FlowNode) (r : Bool) → position_in_order (edge_flow p x) r ≡ place_in_order p (flow_node_in_order (declared p) x r)
 edge_order_flow p (alone ps) r = refl
-edge_order_flow p x r = fill_flow_orders p x r
+edge_order_flow p x r = (fill_flow_keeps p x).1 r
 
 edge_order_block : (c : BlockPlace) (x : BlockNode) (r : Bool)
     → position_in_order (edge_block c x) r ≡ block_place_in_order c (block_node_in_order (declared_block c) x r)
 edge_order_block c (flow x) r = edge_order_flow (block c) x r
-edge_order_block c x r = fill_orders c x r
+edge_order_block c x r = (fill_keeps c x).1 r
 
 edge_order_slot : (c : BlockPlace) (x : BlockSlot) (r : Bool)
     → position_in_order (edge_slot c x) r ≡ block_place_in_order c (block_slot_in_order (declared_block c) x r)
@@ -341,12 +342,6 @@ pub fits_stop : (l : List Token) (b : Token) (c : Cut) → Fits l b c → reads 
 fits_stop l b c f = cut_stops l c b.content (marks_of b) f.tokens f.order f.empty_end f.wants_content f.directive f.tag
     (λ q e. f.bad_token (reached_begins (l ++ b ∷ []) q (reads_append l (b ∷ []) unopened
     ∙ (ap (λ (s : Step). then_all s (reads_all (b ∷ []))) (fits_reach l b c f) ∙ ap (λ (s : Step). then_all s goes) e))))
-
-pub goes_same : (p q : Position) → goes p ≡ goes q → p ≡ q
-goes_same p q e = cc
-
-pub bad_same : (c d : Cut) → bad c ≡ bad d → c ≡ d
-bad_same c d e = cc
 
 pub one_cut_proof : (l : List Token) (b : Token) (c d : Cut) → Fits l b c → Fits l b d → c ≡ d
 one_cut_proof l b c d f g =

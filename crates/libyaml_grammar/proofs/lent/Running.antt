@@ -10,9 +10,9 @@ use Rattle.libyaml_sources.specs.Fault.{Fault}
 use Rattle.libyaml_grammar.specs.cuts.Fits.{Fits, FitsTag, IsUnknown}
 use Rattle.libyaml_grammar.specs.sentences.Order.{in_order}
 use Rattle.libyaml_grammar.proofs.lent.Positions.{Position, done, unopened}
-use Rattle.libyaml_grammar.proofs.lent.Reading.{Step, bad, checked, feed, goes, is_legal, over, reads, reads_all, then_all}
-use Rattle.libyaml_grammar.specs.runs.Runs.{HasFault, Ending, Ends, Fails, IsRun, amid_properties, has_token, is_behind, is_behind_properties, of_beginning}
-use Rattle.libyaml_grammar.specs.runs.Runs.{of_cut_tree, of_sentence}
+use Rattle.libyaml_grammar.proofs.lent.Reading.{Step, bad, bad_same, checked, feed, goes, goes_same, is_legal, over, reads, reads_all, then_all}
+use Rattle.libyaml_grammar.specs.runs.Runs.{Ending, Ends, Fails, HasFault, IsRun, amid_properties, has_token, is_behind, is_behind_properties}
+use Rattle.libyaml_grammar.specs.runs.Runs.{of_beginning, of_cut_tree, of_sentence}
 use Rattle.libyaml_grammar.specs.sentences.Sentences.{IsBeginning, IsSentence, has_end, is_end}
 use Rattle.libyaml_grammar.specs.cuts.Settled.{IsSettled, sure}
 use Rattle.libyaml_grammar.specs.runs.StreamEnds.{up_to_end}
@@ -24,10 +24,10 @@ use Rattle.libyaml_grammar.proofs.lent.Fitting.{over_done, stops_fits}
 use Rattle.libyaml_grammar.proofs.lent.Fronts.{begin_reads}
 use Rattle.libyaml_grammar.proofs.lent.ReadSteps.{IsNotDone}
 use Rattle.libyaml_grammar.proofs.lent.Keeps.{feeds_keep}
-use Rattle.libyaml_grammar.proofs.lent.OneCut.{bad_same, fits_reach, fits_stop, goes_same}
+use Rattle.libyaml_grammar.proofs.lent.OneCut.{fits_reach, fits_stop}
 use Rattle.libyaml_grammar.proofs.lent.Orders.{reads_to}
 use Rattle.libyaml_grammar.proofs.lent.Settling.{begin_front, front_settles, one_settled_proof}
-use Rattle.libyaml_grammar.proofs.lent.StreamEnds.{IsDone, end_is_done, not_end_not_done, sentence_has_end, read_done}
+use Rattle.libyaml_grammar.proofs.lent.StreamEnds.{IsDone, end_is_done, not_end_not_done, read_done, sentence_has_end}
 
 -- lists of tokens
 first_same : (a b : Token) (l r : List Token) → a ∷ l ≡ b ∷ r → a ≡ b

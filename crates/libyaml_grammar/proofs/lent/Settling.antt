@@ -17,12 +17,11 @@ use Rattle.libyaml_grammar.specs.cuts.Settled.{sure_flow_node}
 use Rattle.libyaml_grammar.specs.cuts.Rest.{rest}
 use Rattle.libyaml_grammar.proofs.lent.Given.{gives_all}
 use Rattle.libyaml_grammar.proofs.lent.Positions.{Position, done, position_rest, shown, unopened}
-use Rattle.libyaml_grammar.proofs.lent.Reading.{Step, bad, feed, feeds, goes, over, then_all}
+use Rattle.libyaml_grammar.proofs.lent.Reading.{Step, along, feeds, goes, then_all}
 use Rattle.libyaml_grammar.proofs.lent.Completion.{append_nil, position_begins, reached_begins, read_order}
 use Rattle.libyaml_grammar.proofs.lent.ReadSteps.{IsNotDone, front}
 use Rattle.libyaml_grammar.proofs.lent.Fronts.{begin_reads, front_not_done, front_of, front_reads, not_done_front}
 use Rattle.libyaml_grammar.proofs.lent.Keeps.{feeds_keep}
-use Rattle.libyaml_grammar.proofs.lent.OneCut.{goes_same}
 use Rattle.libyaml_grammar.proofs.lent.Orders.{reads_to}
 use Rattle.libyaml_grammar.proofs.lent.Run.{begin_events, given_shown}
 use Rattle.libyaml_grammar.proofs.lent.Shows.{block_shows, node_shows}
@@ -166,14 +165,8 @@ front_settles l c f = record { begins_each = begins_each l c f; longest = λ d b
         in_common d r s (sure c) o.first_events o.second_events (sym o.first_goes_on ∙ g) (sym o.second_goes_on ∙ h) o.differ
 
 feeds_append : (a b : List Token) (q p : Position) → feeds a q ≡ goes p → feeds (a ++ b) q ≡ feeds b p
-feeds_append [] b q p e = ap (feeds b) (goes_same q p e)
-feeds_append (t ∷ a) b q p e = go (λ (x : Position) (h : feeds a x ≡ goes p). feeds_append a b x p h) (feed q t) e
-  where
-    go : ((x : Position) → feeds a x ≡ goes p → feeds (a ++ b) x ≡ feeds b p) → (s : Step) → then_all s (feeds a) ≡ goes p
-        → then_all s (feeds (a ++ b)) ≡ feeds b p
-    go ih (goes x) h = ih x h
-    go ih (bad c) h = absurd cc
-    go ih over h = absurd cc
+feeds_append a b q p e = along (λ (l : List Token) (x : Position). feeds (l ++ b) x ≡ feeds b p) p refl
+    (λ t l y x f h. ap (λ (s : Step). then_all s (feeds (l ++ b))) f ∙ h) a q e
 
 -- a sentence begins itself alone
 only_itself : (s t : Stream) (rest : List Token) → tokens t ≡ tokens s ++ rest → s ≡ t

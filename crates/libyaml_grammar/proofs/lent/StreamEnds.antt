@@ -5,10 +5,9 @@ use Rattle.libyaml_grammar.specs.sentences.Sentences.{IsSentence, has_end, is_en
 use Rattle.libyaml_grammar.specs.sentences.Tokens.{Token}
 use Rattle.libyaml_grammar.specs.sentences.Trees.{Stream}
 use Rattle.libyaml_grammar.proofs.lent.Positions.{Position, done, unopened}
-use Rattle.libyaml_grammar.proofs.lent.Reading.{Step, bad, goes, over, reads, reads_all, then_all}
+use Rattle.libyaml_grammar.proofs.lent.Reading.{Step, bad, goes, goes_same, over, reads, reads_all, then_all}
 use Rattle.libyaml_grammar.proofs.lent.Completion.{sentence_reads}
 use Rattle.libyaml_grammar.proofs.lent.ReadSteps.{IsNotDone}
-use Rattle.libyaml_grammar.proofs.lent.OneCut.{goes_same}
 use Rattle.libyaml_grammar.proofs.trees.Ending.{Done, DoneAt, reads_done, stays_open}
 
 abbrev pub IsDone : Position → Type 0

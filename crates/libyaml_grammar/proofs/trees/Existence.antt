@@ -14,8 +14,8 @@ use Rattle.libyaml_grammar.specs.cuts.CutTrees.{part_place, place_tokens, root, 
 use Rattle.libyaml_grammar.specs.cuts.Fits.{EndsEmpty, FitsDirective, IsUnknownTag, WantsContent, empty_root, ends_empty, ends_empty_document}
 use Rattle.libyaml_grammar.specs.cuts.Fits.{is_directive, last_empty}
 use Rattle.libyaml_grammar.proofs.lent.Positions.{Position, between, due, headed, unopened}
-use Rattle.libyaml_grammar.proofs.lent.Reading.{Step, bad, broken, checked, feeds, goes, is_legal, over, reads, reads_all, step}
-use Rattle.libyaml_grammar.proofs.lent.OneCut.{bad_same, content_fails, goes_same, step_cut, stops_at_tag, stops_at_tag_behind}
+use Rattle.libyaml_grammar.proofs.lent.Reading.{Step, bad, bad_same, broken, checked, feeds, goes, goes_same, is_legal, over, reads, reads_all, step}
+use Rattle.libyaml_grammar.proofs.lent.OneCut.{content_fails, step_cut, stops_at_tag, stops_at_tag_behind}
 use Rattle.libyaml_grammar.proofs.lent.Orders.{reads_to}
 use Rattle.libyaml_grammar.proofs.lent.ReadSteps.{ReadStep, a_tag, fails, leaves, moves, no_document, no_document_start, no_stream, read_step}
 use Rattle.libyaml_grammar.proofs.lent.ReadSteps.{tag_behind_anchor}

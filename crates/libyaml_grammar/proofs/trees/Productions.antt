@@ -12,12 +12,11 @@ use Rattle.libyaml_grammar.specs.sentences.Trees.{opened, pair, part, parts_toke
 use Rattle.libyaml_grammar.specs.cuts.CutTrees.{Place, block, flow_entry, implicit_root, place_tokens, root}
 use Rattle.libyaml_grammar.specs.cuts.Rest.{any_encoding}
 use Rattle.libyaml_grammar.proofs.lent.Positions.{Position, between, due, flow_due, unopened}
-use Rattle.libyaml_grammar.proofs.lent.Reading.{feeds}
+use Rattle.libyaml_grammar.proofs.lent.Reading.{feeds, goes_same}
 use Rattle.libyaml_grammar.proofs.trees.Append.{before_append, block_slot_append, directives_append, flow_items_append, flow_last_append, items_append}
 use Rattle.libyaml_grammar.proofs.trees.Append.{parts_append, place_append}
 use Rattle.libyaml_grammar.proofs.lent.Completion.{one_tree_proof}
 use Rattle.libyaml_grammar.proofs.trees.Edge.{place_reads}
-use Rattle.libyaml_grammar.proofs.lent.OneCut.{goes_same}
 use Rattle.libyaml_grammar.proofs.trees.Complete.{home}
 
 -- two parts with equal tokens before one list have equal tokens before each
