@@ -11,10 +11,11 @@ use Rattle.libyaml_grammar.proofs.lent.Positions.{Position, between, done, due, 
 use Rattle.libyaml_grammar.proofs.lent.Reading.{Step, bad, feeds, goes, over, reads, reads_all, then_all}
 use Rattle.libyaml_grammar.proofs.lent.Completion.{not_done, reads_append}
 use Rattle.libyaml_grammar.proofs.lent.Fitting.{stops_fits}
-use Rattle.libyaml_grammar.proofs.lent.OneCut.{edge_order, fits_stop, one_cut_proof}
+use Rattle.libyaml_grammar.proofs.lent.OneCut.{fits_stop, one_cut_proof}
 use Rattle.libyaml_grammar.proofs.lent.ReadSteps.{IsNotDone, filled, front}
 use Rattle.libyaml_grammar.proofs.lent.Orders.{feeds_order, reads_from}
 use Rattle.libyaml_grammar.proofs.trees.Edge.{cut_reads, reached}
+use Rattle.libyaml_grammar.proofs.trees.Append.{edge_told}
 
 nothing_stops : (p : Place) (m : Marks) → reads (due p None) (tok NoToken m) ≡ bad (content_due p)
 nothing_stops (block (root (implicit_root f))) m = refl
@@ -89,7 +90,7 @@ never_goes q p e = go q refl
 pub front_reads : (l : List Token) (c : Cut) → IsFront l c → reads_all l unopened ≡ goes (reached c)
 front_reads l c f =
     let e : feeds l unopened ≡ goes (reached c) = subst (λ (x : List Token). feeds x unopened ≡ goes (reached c)) f.tokens (cut_reads c []) in
-    reads_from l unopened (reached c) e (sym (feeds_order l unopened (reached c) e true) ∙ (edge_order c true ∙ f.order))
+    reads_from l unopened (reached c) e (sym (feeds_order l unopened (reached c) e true) ∙ ((edge_told c).1 true ∙ f.order))
 
 front_fits : (l : List Token) (c : Cut) → IsFront l c → Fits l nowhere c
 front_fits l c f = record {

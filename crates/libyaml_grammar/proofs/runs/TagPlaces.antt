@@ -3,12 +3,12 @@ use Rattle.std.proofs.Common.{◌≡◌, ℕ, List, [], ◌∷◌, ◌++◌, Som
 use Rattle.libyaml_grammar.specs.sentences.Tokens.{Anchor, Marks, Tag, TagName, Token, tok, zero_marks}
 use Rattle.libyaml_grammar.specs.sentences.Trees.{anchor_tag, tag}
 use Rattle.libyaml_grammar.specs.sentences.Order.{both, is_known}
-use Rattle.libyaml_grammar.specs.cuts.CutTrees.{Place, declared, place_in_order, place_tokens}
+use Rattle.libyaml_grammar.specs.cuts.CutTrees.{Place, at_tag_behind, content_due, declared, place_in_order, place_tokens}
 use Rattle.libyaml_grammar.specs.sentences.Sentences.{IsBeginning, IsSentence}
 use Rattle.libyaml_grammar.specs.cuts.Fits.{NodeBegins}
 use Rattle.libyaml_grammar.proofs.lent.Positions.{Position, done, due, position_in_order, position_rest, position_tokens, unopened}
 use Rattle.libyaml_grammar.proofs.lent.Reading.{Step, bad, checked, goes, is_legal, over, reads, reads_all, step, then_all}
-use Rattle.libyaml_grammar.proofs.trees.Append.{place_append}
+use Rattle.libyaml_grammar.proofs.trees.Append.{cut_append}
 use Rattle.libyaml_grammar.proofs.lent.Cases.{IsTagHeld, TagGoes, step_tag}
 use Rattle.libyaml_grammar.proofs.lent.Completion.{append_nil, position_begins, read_order, reads_append, sentence_reads}
 use Rattle.libyaml_grammar.proofs.lent.Keeps.{feeds_keep}
@@ -61,11 +61,11 @@ module _ (l : List Token) (m : Marks) (s : List ℕ) where
   held : (x : Position) (b : Bool) → IsTagHeld x b m → position_tokens x [] ≡ l ++ tok (Tag whole_tag) m ∷ [] → position_in_order x true ≡ true → (p : Place)
       × NodeBegins l p
   held (due p (Some (tag h n))) b w e o =
-      let f = same_front (place_tokens p []) l (tok (Tag h) n) (tok (Tag whole_tag) m) (sym (place_append p [] (tok (Tag h) n ∷ [])) ∙ e) in
+      let f = same_front (place_tokens p []) l (tok (Tag h) n) (tok (Tag whole_tag) m) (sym (cut_append (content_due p) (tok (Tag h) n ∷ [])) ∙ e) in
       (p, (subst (λ (t : TagName). place_in_order p (both (is_known (declared p) t.handle) true) ≡ true) (same_tag h n f.1) o, inl f.0))
   held (due p (Some (anchor_tag a k h n))) b w e o =
       let f = same_front (place_tokens p (tok (Anchor a) k ∷ [])) l (tok (Tag h) n) (tok (Tag whole_tag) m)
-      (sym (place_append p (tok (Anchor a) k ∷ []) (tok (Tag h) n ∷ [])) ∙ e) in
+      (sym (cut_append (at_tag_behind p a k) (tok (Tag h) n ∷ [])) ∙ e) in
       (p, (subst (λ (t : TagName). place_in_order p (both (is_known (declared p) t.handle) true) ≡ true) (same_tag h n f.1) o, inr (a, k, f.0)))
   held _ b w e o = absurd w
 
@@ -89,7 +89,7 @@ module _ (l : List Token) (m : Marks) (s : List ℕ) where
       let r = position_rest zero_marks (due p (Some (tag whole_tag m))) in
       record {
         rest = r;
-        sentence = subst IsSentence (place_append p [] (tok (Tag whole_tag) m ∷ r)
+        sentence = subst IsSentence (cut_append (content_due p) (tok (Tag whole_tag) m ∷ r)
             ∙ (ap (λ (z : List Token). z ++ tok (Tag whole_tag) m ∷ r) e ∙ behind_front l r (tok (Tag whole_tag) m)))
             (position_begins zero_marks (due p (Some (tag whole_tag m))) o);
       }
@@ -97,7 +97,7 @@ module _ (l : List Token) (m : Marks) (s : List ℕ) where
       let r = position_rest zero_marks (due p (Some (anchor_tag a n whole_tag m))) in
       record {
         rest = r;
-        sentence = subst IsSentence (place_append p (tok (Anchor a) n ∷ []) (tok (Tag whole_tag) m ∷ r)
+        sentence = subst IsSentence (cut_append (at_tag_behind p a n) (tok (Tag whole_tag) m ∷ r)
             ∙ (ap (λ (z : List Token). z ++ tok (Tag whole_tag) m ∷ r) e ∙ behind_front l r (tok (Tag whole_tag) m)))
             (position_begins zero_marks (due p (Some (anchor_tag a n whole_tag m))) o);
       }
