@@ -74,7 +74,7 @@ pub gives_sure : (l : List Token) (c : Cut) → IsFront l c → (r : List Event)
 gives_sure l c f r =
     let e = (reads_to l unopened (reached c) (front_reads l c f)).0 in
     sym (given_shown l unopened (reached c) e zero_mark r)
-    ∙ (position_splits (reached c) zero_mark r ∙ ap (λ (x : List Event). x ++ r) (sure_shows c zero_mark f.place f.full))
+    ∙ ((position_splits (reached c) zero_mark).splits r ∙ ap (λ (x : List Event). x ++ r) (sure_shows c zero_mark f.place f.full))
 
 begins_each : (l : List Token) (c : Cut) → IsFront l c → BeginsEach l (sure c)
 begins_each l c f = λ t rest o e. (
