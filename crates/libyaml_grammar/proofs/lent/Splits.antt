@@ -74,7 +74,7 @@ items_split : (ds : Directives) (is : BlockItems) → Splits (items_events ds is
 items_split ds is = all_split (items_give ds is)
 
 parts_split : (ds : Directives) (ps : Parts) (m : Mark) → Splits (parts_events ds ps m)
-parts_split ds ps m = alike_split (parts_give ds ps m).1 (values_split (parts_give ds ps m).0)
+parts_split ds ps m = alike_split (parts_give ds ps m).same (values_split (parts_give ds ps m).vals)
 
 documents_split : (d : Documents) (m : Mark) → Splits (documents_events d m)
 documents_split d m =
