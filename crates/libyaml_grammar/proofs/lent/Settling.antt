@@ -1,5 +1,5 @@
 -- What a front tree settles is what its sentences' events have in common.
-use Rattle.std.proofs.Common.{◌≡◌, ◌↔◌, ℕ, List, [], ◌∷◌, ◌++◌, None, Bool, true, false, refl, sym, ap, ◌∙◌, subst, append_assoc, append-nil, arith}
+use Rattle.std.proofs.Common.{◌≡◌, ◌↔◌, ℕ, List, [], ◌∷◌, ◌++◌, None, true, false, refl, sym, ap, ◌∙◌, subst, append_assoc, arith, append-nil}
 use Rattle.libyaml_types.specs.Events.{zero_mark}
 use Rattle.libyaml_grammar.specs.sentences.Events.{Event, events, first_block, first_flow}
 use Rattle.libyaml_grammar.specs.sentences.Order.{in_order}
@@ -18,7 +18,7 @@ use Rattle.libyaml_grammar.specs.cuts.Rest.{rest}
 use Rattle.libyaml_grammar.proofs.lent.Given.{gives_all}
 use Rattle.libyaml_grammar.proofs.lent.Positions.{Position, done, position_rest, shown, unopened}
 use Rattle.libyaml_grammar.proofs.lent.Reading.{Step, along, feeds, goes, then_all}
-use Rattle.libyaml_grammar.proofs.lent.Completion.{append_nil, position_begins, reached_begins, read_order}
+use Rattle.libyaml_grammar.proofs.lent.Completion.{position_begins, reached_begins, read_order}
 use Rattle.libyaml_grammar.proofs.lent.ReadSteps.{IsNotDone, front}
 use Rattle.libyaml_grammar.proofs.lent.Fronts.{begin_reads, front_not_done, front_of, front_reads, not_done_front}
 use Rattle.libyaml_grammar.proofs.lent.Keeps.{feeds_keep}
@@ -26,7 +26,7 @@ use Rattle.libyaml_grammar.proofs.lent.Orders.{reads_to}
 use Rattle.libyaml_grammar.proofs.lent.Run.{begin_events, given_shown}
 use Rattle.libyaml_grammar.proofs.lent.Shows.{block_shows, node_shows}
 use Rattle.libyaml_grammar.proofs.lent.Splits.{position_splits}
-use Rattle.libyaml_grammar.proofs.lent.StreamEnds.{IsDone, end_is_done, not_end_not_done}
+use Rattle.libyaml_grammar.proofs.lent.StreamEnds.{IsDone, end_is_done, no_end_unless, not_end_not_done}
 use Rattle.libyaml_grammar.proofs.trees.Complete.{edge_block, edge_flow, stream_reads}
 use Rattle.libyaml_grammar.proofs.trees.Edge.{reached}
 use Rattle.libyaml_grammar.proofs.runs.Prompt.{differ}
@@ -180,7 +180,7 @@ only_itself s t rest e = go rest (sym (feeds_append (tokens s) rest unopened (do
 pub sentence_settles : (t : Stream) → in_order t ≡ true → IsSettled (tokens t) (events t)
 sentence_settles t o = record {
   begins_each = λ s rest i e. ([], sym (ap events (only_itself t s rest e)) ∙ sym (append-nil (events t)));
-  longest = λ d b. b t [] o (sym (append_nil (tokens t)));
+  longest = λ d b. b t [] o (sym (append-nil (tokens t)));
 }
 
 -- each beginning without STREAM-END
@@ -196,15 +196,14 @@ settled_open l e b h s =
 
 -- the laws as they stand in contracts
 pub front_begins : (l : List Token) (c : Cut) → IsFront l c → IsBeginning l × (has_end l ≡ false)
-front_begins l c f = (reached_begins l (reached c) (front_reads l c f), go (has_end l) refl)
+front_begins l c f = (
+  reached_begins l (reached c) (front_reads l c f),
+  no_end_unless l (λ e. open_still (reached c) (not_done_front l c f) (end_is_done l unopened (reached c) (front_reads l c f) e)),
+)
   where
     open_still : (q : Position) → IsNotDone q → IsDone q → ⊥
     open_still (done t) n d = n
     open_still _ n d = d
-
-    go : (b : Bool) → has_end l ≡ b → has_end l ≡ false
-    go true e = absurd (open_still (reached c) (not_done_front l c f) (end_is_done l unopened (reached c) (front_reads l c f) e))
-    go false e = e
 
 settled_is : (l : List Token) (d e : List Event) → IsSettled l d → IsSettled l e ↔ (e ≡ d)
 settled_is l d e s = (λ t. one_settled_proof l e d t s, λ f. subst (IsSettled l) (sym f) s)
