@@ -20,7 +20,7 @@ use Rattle.libyaml_grammar.specs.sentences.Sentences.{is_end, has_end}
 use Rattle.libyaml_grammar.specs.runs.StreamEnds.{up_to_end}
 use Rattle.libyaml_grammar.specs.cuts.Settled.{sure}
 use Rattle.libyaml_grammar.proofs.lent.Positions.{Position, unopened, done}
-use Rattle.libyaml_grammar.proofs.lent.Reading.{Step, feed, reads, reads_all, then_all, checked, is_legal, broken, goes, bad, over}
+use Rattle.libyaml_grammar.proofs.lent.Reading.{Step, feed, reads, reads_all, then_all, checked, is_legal, broken, goes, bad, over, goes_same, bad_same}
 use Rattle.libyaml_grammar.proofs.lent.Given.{gives, gives_all, if_all}
 use Rattle.libyaml_grammar.specs.runs.Runs.{Ending, Ends, Fails, IsRun, of_sentence, of_cut_tree, amid_properties, of_beginning, is_behind}
 use Rattle.libyaml_grammar.specs.runs.Runs.{is_behind_properties, has_token}
@@ -36,7 +36,7 @@ use Rattle.libyaml_grammar.proofs.lent.Completion.{sentence_reads}
 use Rattle.libyaml_grammar.proofs.lent.Fronts.{begin_reads, front_of}
 use Rattle.libyaml_grammar.proofs.lent.ReadSteps.{front}
 use Rattle.libyaml_events.proofs.machine.Link.{spends}
-use Rattle.libyaml_grammar.proofs.lent.OneCut.{fits_reach, fits_stop, goes_same, bad_same}
+use Rattle.libyaml_grammar.proofs.lent.OneCut.{fits_reach, fits_stop}
 use Rattle.libyaml_events.proofs.machine.Outcomes.{Does, is_good, is_bad, is_doomed, is_over as is_over_there}
 use Rattle.libyaml_events.proofs.machine.Outcomes as outcomes
 use Rattle.libyaml_grammar.proofs.lent.Running.{one_run_proof, sentence_run, cut_run, amid_run, begin_run}

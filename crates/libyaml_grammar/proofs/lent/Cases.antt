@@ -3,7 +3,7 @@ use Rattle.std.proofs.Common.{◌≡◌, List, Some, None, refl, sym, ap, ◌∙
 use Rattle.std.specs.Prelude.{Option}
 use Rattle.libyaml_grammar.specs.sentences.Tokens.{Content, HandleDeclared, Mark, Marks, Tag, TagDirective, TagName, VersionAsked, VersionDirective, tok}
 use Rattle.libyaml_grammar.specs.sentences.Trees.{Directive, Directives, FlowNode, alone, anchor_tag, no_directives, tag, tag_directive, version}
-use Rattle.libyaml_grammar.specs.sentences.Events.{Event}
+use Rattle.libyaml_grammar.specs.sentences.Events.{Event, directive_start}
 use Rattle.libyaml_grammar.specs.sentences.Order.{is_known}
 use Rattle.libyaml_grammar.specs.cuts.CutTrees.{Cut, Place, at_directive, block, declared, implicit_root, part_place, root, slot}
 use Rattle.libyaml_grammar.specs.cuts.CutEvents.{shown_cut}
@@ -12,8 +12,8 @@ use Rattle.libyaml_grammar.proofs.lent.Reading.{Step, bad, checked, fill_flow, g
 use Rattle.libyaml_grammar.proofs.lent.Given.{gives}
 use Rattle.libyaml_grammar.proofs.lent.Shows.{Shows, step_shows}
 use Rattle.libyaml_grammar.proofs.lent.StepsMeet.{IsMet, Meets, step_met}
-use Rattle.libyaml_grammar.proofs.lent.ReadSteps.{Moves, ReadStep, a_tag, fails, first_handle, first_version, is_alone, is_past, leaves, moves, next_handle}
-use Rattle.libyaml_grammar.proofs.lent.ReadSteps.{next_version, read_step, tag_behind_anchor}
+use Rattle.libyaml_grammar.proofs.lent.ReadSteps.{Moves, ReadStep, a_tag, fails, first_handle, first_version, is_alone, is_past, leaves, moves}
+use Rattle.libyaml_grammar.proofs.lent.ReadSteps.{next_handle, next_version, read_step, tag_behind_anchor}
 
 -- a tag that grammar takes is held
 abbrev pub IsTagHeld : Position → Bool → Marks → Type 0
@@ -94,25 +94,16 @@ pub data Case (q : Position) (k : Content) (m : Marks) : Type 0 where
   is_doomed : (p : Position) → step q k m ≡ goes p → is_legal q k ≡ false → IsTagHeld p false m → Case q k m
   is_over : step q k m ≡ over → Case q k m
 
-illegal_version : (q p : Position) (a : VersionAsked) (m : Marks) → step q (VersionDirective a) m ≡ goes p → is_legal q (VersionDirective a) ≡ false
-    → IsHeaded p (pending q) (version a m) → ((n : Mark) (r : List Event) → shown p n r ≡ shown q m.start (gives q (VersionDirective a) m r))
-    → Case q (VersionDirective a) m
-illegal_version q (headed c ds d) a m e f (g, h) s
-    = is_bad (at_directive c ds) (ap (λ (x : Step). checked x (is_legal q (VersionDirective a))) e
-    ∙ ap (λ (u : Bool). checked (goes (headed c ds d)) u) f) (λ r. ap (λ (x : Directive). shown (headed c ds x) m.start r) (sym h) ∙ s m.start r)
-illegal_version q _ a m e f h s = absurd h
-
-illegal_handle : (q p : Position) (a : HandleDeclared) (m : Marks) → step q (TagDirective a) m ≡ goes p → is_legal q (TagDirective a) ≡ false
-    → IsHeaded p (pending q) (tag_directive a m) → ((n : Mark) (r : List Event) → shown p n r ≡ shown q m.start (gives q (TagDirective a) m r))
-    → Case q (TagDirective a) m
-illegal_handle q (headed c ds d) a m e f (g, h) s
-    = is_bad (at_directive c ds) (ap (λ (x : Step). checked x (is_legal q (TagDirective a))) e ∙ ap (λ (u : Bool). checked (goes (headed c ds d)) u) f)
-    (λ r. ap (λ (x : Directive). shown (headed c ds x) m.start r) (sym h) ∙ s m.start r)
-illegal_handle q _ a m e f h s = absurd h
+illegal_directive : (q p : Position) (k : Content) (d : Directive) (m : Marks) → step q k m ≡ goes p → is_legal q k ≡ false → IsHeaded p (pending q) d
+    → directive_start d ≡ m.start → Shows (goes p) q m (gives q k m) → Case q k m
+illegal_directive q (headed c ds d) k x m e f (g, h) z s
+    = is_bad (at_directive c ds) (ap (λ (y : Step). checked y (is_legal q k)) e ∙ ap (λ (u : Bool). checked (goes (headed c ds d)) u) f)
+    (λ r. ap (λ (n : Mark). shown_cut (at_directive c ds) n r) (sym z) ∙ (ap (λ (y : Directive). shown (headed c ds y) m.start r) (sym h) ∙ s m.start r))
+illegal_directive q _ k x m e f h z s = absurd h
 
 illegal : (q p : Position) (k : Content) (m : Marks) → step q k m ≡ goes p → is_legal q k ≡ false → Shows (goes p) q m (gives q k m) → Case q k m
-illegal q p (VersionDirective a) m e f s = illegal_version q p a m e f (subst (λ (x : Step). HeadGoes x (pending q) (version a m)) e (step_version q a m)) s
-illegal q p (TagDirective a) m e f s = illegal_handle q p a m e f (subst (λ (x : Step). HeadGoes x (pending q) (tag_directive a m)) e (step_handle q a m)) s
+illegal q p (VersionDirective a) m e f s = illegal_directive q p _ (version a m) m e f (subst (λ (x : Step). HeadGoes x (pending q) (version a m)) e (step_version q a m)) refl s
+illegal q p (TagDirective a) m e f s = illegal_directive q p _ (tag_directive a m) m e f (subst (λ (x : Step). HeadGoes x (pending q) (tag_directive a m)) e (step_handle q a m)) refl s
 illegal q p (Tag h) m e f s = is_doomed p e f
     (subst (λ (u : Bool). IsTagHeld p u m) f (subst (λ (x : Step). TagGoes x (is_legal q (Tag h)) m) e (step_tag q h m)))
 illegal q p k m e f s = absurd cc

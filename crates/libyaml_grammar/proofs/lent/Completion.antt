@@ -1,10 +1,10 @@
 -- Each position can be completed to a stream, so reading goes on exactly through beginnings; and one list of tokens has one
 -- stream tree.
-use Rattle.std.proofs.Common.{◌≡◌, List, [], ◌∷◌, ◌++◌, refl, sym, ap, ◌∙◌, subst, ◌⊎◌, inl, inr, Bool, true}
+use Rattle.std.proofs.Common.{◌≡◌, List, [], ◌∷◌, ◌++◌, refl, sym, ap, ◌∙◌, subst, ◌⊎◌, inl, inr, Bool, true, append-nil}
 use Rattle.libyaml_grammar.specs.sentences.Tokens.{Marks, Token, empty_plain, zero_marks}
-use Rattle.libyaml_grammar.specs.sentences.Trees.{BlockNode, FlowNode, Stream, behind, block_mapping, block_sequence, collection, directive, explicit, flow}
-use Rattle.libyaml_grammar.specs.sentences.Trees.{flow_node, free, implicit, indentless, item, last, mapping, no_directives, no_last, no_value, node, nothing}
-use Rattle.libyaml_grammar.specs.sentences.Trees.{opened, pair, part, scalar, sequence, single, slot_of, tokens, whole, with_value}
+use Rattle.libyaml_grammar.specs.sentences.Trees.{BlockNode, FlowNode, Stream, behind, block_mapping, block_sequence, collection, directive, explicit}
+use Rattle.libyaml_grammar.specs.sentences.Trees.{flow, flow_node, free, implicit, indentless, item, last, mapping, no_directives, no_last, no_value, node}
+use Rattle.libyaml_grammar.specs.sentences.Trees.{nothing, opened, pair, part, scalar, sequence, single, slot_of, tokens, whole, with_value}
 use Rattle.libyaml_grammar.specs.sentences.Sentences.{IsBeginning, IsSentence}
 use Rattle.libyaml_grammar.specs.cuts.CutTrees.{BlockPlace, Cut, Place, at_directive, block, cut_in_order, cut_tokens, entry, explicit_root, flow_entry}
 use Rattle.libyaml_grammar.specs.cuts.CutTrees.{flow_key, flow_value, implicit_root, indentless_entry, open_collection, part_place, root, slot}
@@ -61,17 +61,13 @@ position_ends m (flow_behind (open_collection p o sequence s is) e) = flow_ends 
 position_ends m (flow_behind (open_collection p o mapping s is) e) = flow_ends m p (collection o mapping s is (last e) m)
 position_ends m (done t) = (t, refl, refl)
 
-pub append_nil : (l : List Token) → l ++ [] ≡ l
-append_nil [] = refl
-append_nil (t ∷ l) = ap (λ (r : List Token). t ∷ r) (append_nil l)
-
 -- a position in order is completed to a sentence
 pub position_begins : (m : Marks) (q : Position) → position_in_order q true ≡ true → IsSentence (position_tokens q (position_rest m q))
 position_begins m q h =
     let e = position_ends m q in
     record {
       tree = e.0;
-      all = sym (feeds_keep (position_rest m q) q (done e.0) e.1 [] ∙ ap (λ (l : List Token). position_tokens q l) (append_nil (position_rest m q)));
+      all = sym (feeds_keep (position_rest m q) q (done e.0) e.1 [] ∙ ap (λ (l : List Token). position_tokens q l) (append-nil (position_rest m q)));
       order = feeds_order (position_rest m q) q (done e.0) e.1 true ∙ (ap (position_in_order q) e.2 ∙ h);
     }
 
@@ -106,7 +102,15 @@ reached_begins l q e =
           = subst IsSentence (feeds_keep l unopened q f (position_rest zero_marks q)) (position_begins zero_marks q (read_order l q e));
     }
 
--- a sentence is read to its end
+-- what is read to the stream's end is a sentence, and a sentence is read to its end
+pub read_sentence : (l : List Token) (t : Stream) → reads_all l unopened ≡ goes (done t) → IsSentence l
+read_sentence l t e = record {
+  tree = t;
+  all = sym (feeds_keep l unopened (done t) (reads_to l unopened (done t) e).0 [] ∙ append-nil l);
+  order
+      = read_order l (done t) e;
+}
+
 pub sentence_reads : (l : List Token) (s : IsSentence l) → reads_all l unopened ≡ goes (done s.tree)
 sentence_reads l s =
     let e : feeds l unopened ≡ goes (done s.tree) = ap (λ (x : List Token). feeds x unopened) s.all ∙ stream_reads s.tree in

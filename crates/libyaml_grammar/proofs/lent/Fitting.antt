@@ -1,16 +1,16 @@
 -- Where reading stops with a cut tree, it has the tokens read, and fits.
-use Rattle.std.proofs.Common.{◌≡◌, List, [], ◌∷◌, ◌++◌, refl, sym, ap, ◌∙◌, subst, ◌⊎◌, inl, inr, Bool, true, false}
+use Rattle.std.proofs.Common.{◌≡◌, List, [], ◌∷◌, ◌++◌, refl, sym, ap, ◌∙◌, subst, ◌⊎◌, inl, inr, Bool, true, false, append-nil}
 use Rattle.libyaml_grammar.specs.sentences.Tokens.{Content, Marks, Token, marks_of, tok}
-use Rattle.libyaml_grammar.specs.sentences.Trees.{Stream, directive, tag}
+use Rattle.libyaml_grammar.specs.sentences.Trees.{Stream}
 use Rattle.libyaml_grammar.specs.sentences.Events.{Event}
 use Rattle.libyaml_grammar.specs.cuts.CutTrees.{Cut, at_tag, at_tag_behind, before_stream, cut_in_order, cut_tokens, declared}
 use Rattle.libyaml_grammar.specs.cuts.Fits.{Fits, FitsTag, IsUnknown, IsUnknownTag}
 use Rattle.libyaml_grammar.proofs.lent.Positions.{Position, done, position_in_order, position_tokens, unopened}
-use Rattle.libyaml_grammar.proofs.lent.Reading.{Step, bad, broken, checked, feeds, goes, is_legal, over, reads, reads_all, step, then_all}
-use Rattle.libyaml_grammar.proofs.lent.Keeps.{feeds_keep, leave_keeps, moved_tokens}
-use Rattle.libyaml_grammar.proofs.lent.Completion.{append_nil, not_done, read_order, reads_append}
-use Rattle.libyaml_grammar.proofs.lent.OneCut.{bad_same, goes_same}
-use Rattle.libyaml_grammar.proofs.lent.Orders.{leave_orders, moved_order, reads_to}
+use Rattle.libyaml_grammar.proofs.lent.Reading.{Step, bad, bad_same, broken, checked, feed, feeds, goes, goes_same, is_legal, over, reads, reads_all, step}
+use Rattle.libyaml_grammar.proofs.lent.Reading.{then_all}
+use Rattle.libyaml_grammar.proofs.lent.Keeps.{ToldAlike, feeds_keep, leave_keeps, moved_keeps}
+use Rattle.libyaml_grammar.proofs.lent.Completion.{not_done, read_order, reads_append}
+use Rattle.libyaml_grammar.proofs.lent.Orders.{reads_to}
 use Rattle.libyaml_grammar.proofs.lent.ReadSteps.{IsNotDone, ReadStep, a_tag, fails, first_handle, first_version, is_past, leaves, moved_open, moves}
 use Rattle.libyaml_grammar.proofs.lent.ReadSteps.{next_handle, next_version, no_stream, read_step, tag_behind_anchor}
 use Rattle.libyaml_grammar.proofs.trees.Edge.{cut_reads, reached}
@@ -49,6 +49,15 @@ over_done q k m e = go (open_or_done q)
     go (inl w) = absurd (subst NotTag e (not_tag q k m w))
     go (inr h) = h
 
+pub read_over : (q : Position) (t : Token) → reads q t ≡ over → (s : Stream) × (q ≡ done s)
+read_over q t e = over_done q t.content (marks_of t) (only_over (feed q t) (is_legal q t.content) e)
+  where
+    only_over : (s : Step) (b : Bool) → checked s b ≡ over → s ≡ over
+    only_over (goes p) true e = cc
+    only_over (goes p) false e = cc
+    only_over (bad c) b e = cc
+    only_over over b e = refl
+
 -- at a tag's place the token is a tag that is unknown there
 abbrev UnknownHere : Cut → Content → Type 0
 UnknownHere (at_tag p) k = IsUnknown (declared p) k
@@ -67,20 +76,18 @@ Placed (goes p) l q k = l ≡ false → Place_of q k (broken p)
 Placed (bad c) l q k = Place_of q k c
 Placed over l q k = Unit {0}
 
-place_as : {p q : Position} {k : Content} {c : Cut} → ((r : List Token) → position_tokens p r ≡ position_tokens q r)
-    → ((r : Bool) → position_in_order p r ≡ position_in_order q r) → Place_of p k c → Place_of q k c
-place_as e f h = record { tokens = λ r. h.tokens r ∙ e r; order = λ r. h.order r ∙ f r; unknown = h.unknown }
+place_as : {p q : Position} {k : Content} {c : Cut} → ToldAlike p q → Place_of p k c → Place_of q k c
+place_as e h = record { tokens = λ r. h.tokens r ∙ e.0 r; order = λ r. h.order r ∙ e.1 r; unknown = h.unknown }
 
-placed_as : (s : Step) (l : Bool) (p q : Position) (k : Content) → ((r : List Token) → position_tokens p r ≡ position_tokens q r)
-    → ((r : Bool) → position_in_order p r ≡ position_in_order q r) → Placed s l p k → Placed s l q k
-placed_as (goes x) l p q k e f h = λ g. place_as e f (h g)
-placed_as (bad c) l p q k e f h = place_as e f h
-placed_as over l p q k e f h = tt
+placed_as : (s : Step) (l : Bool) (p q : Position) (k : Content) → ToldAlike p q → Placed s l p k → Placed s l q k
+placed_as (goes x) l p q k e h = λ g. place_as e (h g)
+placed_as (bad c) l p q k e h = place_as e h
+placed_as over l p q k e h = tt
 
 placed : {m : Marks} {q : Position} {k : Content} {s : Step} {g : List Event → List Event} {l : Bool} → ReadStep m q k s g l → Placed s l q k
 placed is_past = tt
-placed (moves x h) = placed_as _ _ _ _ _ (moved_tokens x) (moved_order x) (placed h)
-placed (leaves p e h) = λ g. place_as (leave_keeps p) (leave_orders p) (placed h g)
+placed (moves x h) = placed_as _ _ _ _ _ (moved_keeps x) (placed h)
+placed (leaves p e h) = λ g. place_as (leave_keeps p) (placed h g)
 placed (fails no_stream) = record { tokens = λ r. refl; order = λ r. refl; unknown = tt }
 placed (fails _) = record { tokens = λ r. refl; order = λ r. refl; unknown = tt }
 placed (first_version b a) = λ f. record { tokens = λ r. refl; order = λ r. refl; unknown = tt }
@@ -110,7 +117,7 @@ fits_tag l _ k h f = f
 pub stops_fits : (l : List Token) (b : Token) (q : Position) (c : Cut) → reads_all l unopened ≡ goes q → reads q b ≡ bad c → Fits l b c
 stops_fits l b q c e f =
     let h = place_of q b.content (marks_of b) c f in
-    let u : cut_tokens c [] ≡ l = h.tokens [] ∙ (feeds_keep l unopened q (reads_to l unopened q e).0 [] ∙ append_nil l) in
+    let u : cut_tokens c [] ≡ l = h.tokens [] ∙ (feeds_keep l unopened q (reads_to l unopened q e).0 [] ∙ append-nil l) in
     let v : reached c ≡ q = goes_same (reached c) q (sym (cut_reads c []) ∙ (ap (λ (x : List Token). feeds x unopened) u ∙ (reads_to l unopened q e).0)) in
     let w : StopsAt c b.content (marks_of b) = subst (λ (x : Position). reads x b ≡ bad c) (sym v) f in
     let d = gives_directive c b.content (marks_of b) w in

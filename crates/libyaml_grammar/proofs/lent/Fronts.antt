@@ -2,7 +2,7 @@
 use Rattle.std.proofs.Common.{◌≡◌, List, [], ◌∷◌, ◌++◌, Option, Some, None, true, false, refl, sym, ap, ◌∙◌, subst}
 use Rattle.libyaml_grammar.specs.sentences.Sentences.{IsBeginning}
 use Rattle.libyaml_grammar.specs.sentences.Tokens.{Marks, NoToken, Token, marks_of, tok}
-use Rattle.libyaml_grammar.specs.sentences.Trees.{Properties, Stream, alone, directive, free, tag, tokens}
+use Rattle.libyaml_grammar.specs.sentences.Trees.{Properties, Stream, alone, free}
 use Rattle.libyaml_grammar.specs.cuts.CutTrees.{Cut, Place, at_directive, at_tag, at_tag_behind, block, content_due, document_due, implicit_root}
 use Rattle.libyaml_grammar.specs.cuts.CutTrees.{indentless_entry, part_place, root, slot, start_due}
 use Rattle.libyaml_grammar.specs.cuts.Fits.{EndsEmpty, Fits, FitsDirective, FitsTag, WantsContent, ends_empty, last_empty}
@@ -11,10 +11,11 @@ use Rattle.libyaml_grammar.proofs.lent.Positions.{Position, between, done, due, 
 use Rattle.libyaml_grammar.proofs.lent.Reading.{Step, bad, feeds, goes, over, reads, reads_all, then_all}
 use Rattle.libyaml_grammar.proofs.lent.Completion.{not_done, reads_append}
 use Rattle.libyaml_grammar.proofs.lent.Fitting.{stops_fits}
-use Rattle.libyaml_grammar.proofs.lent.OneCut.{edge_order, fits_stop, one_cut_proof}
+use Rattle.libyaml_grammar.proofs.lent.OneCut.{fits_stop, one_cut_proof}
 use Rattle.libyaml_grammar.proofs.lent.ReadSteps.{IsNotDone, filled, front}
 use Rattle.libyaml_grammar.proofs.lent.Orders.{feeds_order, reads_from}
 use Rattle.libyaml_grammar.proofs.trees.Edge.{cut_reads, reached}
+use Rattle.libyaml_grammar.proofs.trees.Append.{edge_told}
 
 nothing_stops : (p : Place) (m : Marks) → reads (due p None) (tok NoToken m) ≡ bad (content_due p)
 nothing_stops (block (root (implicit_root f))) m = refl
@@ -89,7 +90,7 @@ never_goes q p e = go q refl
 pub front_reads : (l : List Token) (c : Cut) → IsFront l c → reads_all l unopened ≡ goes (reached c)
 front_reads l c f =
     let e : feeds l unopened ≡ goes (reached c) = subst (λ (x : List Token). feeds x unopened ≡ goes (reached c)) f.tokens (cut_reads c []) in
-    reads_from l unopened (reached c) e (sym (feeds_order l unopened (reached c) e true) ∙ (edge_order c true ∙ f.order))
+    reads_from l unopened (reached c) e (sym (feeds_order l unopened (reached c) e true) ∙ ((edge_told c).1 true ∙ f.order))
 
 front_fits : (l : List Token) (c : Cut) → IsFront l c → Fits l nowhere c
 front_fits l c f = record {

@@ -1,13 +1,12 @@
 -- The events of a tree are those of its values.
-use Rattle.std.proofs.Common.{◌≡◌, ℕ, List, [], ◌∷◌, Option, None, Bool, true, false, refl, sym, ap, ◌∙◌}
-use Rattle.libyaml_types.specs.declared.event.unnamed_yaml_event_t_data_document_start.{unnamed_yaml_event_t_data_document_start}
+use Rattle.std.proofs.Common.{◌≡◌, ℕ, List, [], ◌∷◌, Option, Bool, true, false, refl, sym, ap, ◌∙◌}
 use Rattle.libyaml_types.specs.declared.event.unnamed_yaml_event_t_data.TheVariants as ev
-use Rattle.libyaml_grammar.specs.sentences.Events.{Event, event, version_of, tag_directives_of, Layout, anchor_of, before_events, block_layout}
-use Rattle.libyaml_grammar.specs.sentences.Events.{block_node_events, block_slot_events, document_end_at, document_start_at, documents_events, empty_at}
-use Rattle.libyaml_grammar.specs.sentences.Events.{end_at, ended_events, events, first_block, first_directive, first_entry, first_of, flow_items_events}
-use Rattle.libyaml_grammar.specs.sentences.Events.{flow_last_events, flow_layout, flow_member_events, flow_node_events, flow_slot_events, free_events}
-use Rattle.libyaml_grammar.specs.sentences.Events.{is_missing, items_events, member_end, missing_key, missing_value, parts_events, slot_events, start_at}
-use Rattle.libyaml_grammar.specs.sentences.Events.{stream_end_at, stream_start_at, tag_of}
+use Rattle.libyaml_types.specs.declared.event.unnamed_yaml_event_t_data_document_start.{unnamed_yaml_event_t_data_document_start}
+use Rattle.libyaml_grammar.specs.sentences.Events.{Event, Layout, before_events, block_layout, block_node_events, block_slot_events, document_end_at}
+use Rattle.libyaml_grammar.specs.sentences.Events.{documents_events, empty_at, end_at, ended_events, event, events, first_block, first_directive}
+use Rattle.libyaml_grammar.specs.sentences.Events.{flow_items_events, flow_last_events, flow_layout, flow_member_events, flow_node_events}
+use Rattle.libyaml_grammar.specs.sentences.Events.{flow_slot_events, free_events, items_events, member_end, missing_key, missing_value, parts_events}
+use Rattle.libyaml_grammar.specs.sentences.Events.{slot_events, start_at, stream_end_at, stream_start_at, tag_directives_of, version_of}
 use Rattle.libyaml_grammar.specs.sentences.Nesting.{AllHavePairs, HasPairs, IsEven, IsNested, Texts, TextsHavePairs, Value, Values, alias_value}
 use Rattle.libyaml_grammar.specs.sentences.Nesting.{collection_value, first_value, is_even, no_texts, no_values, scalar_value, text_behind, texts_events}
 use Rattle.libyaml_grammar.specs.sentences.Nesting.{value_events, values_events}
@@ -66,8 +65,8 @@ none_all k = record { vals = no_values; same = λ r. refl; pairs = tt; even = go
     go sequence = tt
     go mapping = refl
 
-both_all : (k : Sort) (g h : List Event → List Event) → GivesAll k g → GivesAll k h → GivesAll k (λ (r : List Event). g (h r))
-both_all k g h a b = record {
+both_all : {k : Sort} {g h : List Event → List Event} → GivesAll k g → GivesAll k h → GivesAll k (λ (r : List Event). g (h r))
+both_all {k} {h = h} a b = record {
   vals = join a.vals b.vals;
   same = λ r. a.same (h r)
       ∙ (ap (values_events a.vals) (b.same r) ∙ sym (of_join a.vals b.vals r));
@@ -76,11 +75,11 @@ both_all k g h a b = record {
       = join_even k a.vals b.vals a.even b.even;
 }
 
-one_all : (g : List Event → List Event) → Gives g → GivesAll sequence g
-one_all g a = record { vals = first_value a.val no_values; same = a.same; pairs = (a.pairs, tt); even = tt }
+one_all : {g : List Event → List Event} → Gives g → GivesAll sequence g
+one_all a = record { vals = first_value a.val no_values; same = a.same; pairs = (a.pairs, tt); even = tt }
 
-two_all : (k : Sort) (g h : List Event → List Event) → Gives g → Gives h → GivesAll k (λ (r : List Event). g (h r))
-two_all k g h a b = record {
+two_all : (k : Sort) {g h : List Event → List Event} → Gives g → Gives h → GivesAll k (λ (r : List Event). g (h r))
+two_all k {h = h} a b = record {
   vals = first_value a.val (first_value b.val no_values);
   same = λ r. a.same (h r) ∙ ap (value_events a.val) (b.same r);
   pairs
@@ -92,9 +91,9 @@ two_all k g h a b = record {
     go sequence = tt
     go mapping = refl
 
-collection_gives : (k : Sort) (a t : Option (List ℕ)) (i : Bool) (s : Layout) (m n p q : Mark) (g : List Event → List Event) → GivesAll k g
+collection_gives : (k : Sort) (s : Layout) (a t : Option (List ℕ)) (i : Bool) (m n p q : Mark) {g : List Event → List Event} → GivesAll k g
     → Gives (λ (r : List Event). start_at k a t i s m n ∷ g (end_at k p q ∷ r))
-collection_gives k a t i s m n p q g x
+collection_gives k s a t i m n p q x
     = record {
       val = collection_value k a t i s m n x.vals p q;
       same
@@ -111,34 +110,26 @@ mutual
   flow_node_gives ds (alone p) = record { val = scalar_value _ _ _; same = λ r. refl; pairs = tt }
   flow_node_gives ds (scalar o v m) = record { val = scalar_value _ _ _; same = λ r. refl; pairs = tt }
   flow_node_gives ds (collection o k m is l n)
-      = collection_gives k (anchor_of o) (tag_of ds o) (is_missing (tag_of ds o)) flow_layout (first_of o m.start) m.end n.start n.end _
-      (both_all k (flow_items_events ds k is) (flow_last_events ds k l n.start) (flow_items_give ds k is) (flow_last_gives ds k l n.start))
+      = collection_gives k flow_layout _ _ _ _ _ _ _ (both_all (flow_items_give ds k is) (flow_last_gives ds k l n.start))
 
   pub flow_items_give : (ds : Directives) (k : Sort) (is : FlowItems) → GivesAll k (flow_items_events ds k is)
   flow_items_give ds k no_items = none_all k
-  flow_items_give ds k (more_items is e m)
-      = both_all k (flow_items_events ds k is) (λ (r : List Event). flow_member_events ds k e m.start (member_end k e m.start r)) (flow_items_give ds k is)
-      (flow_member_gives ds k e m.start)
+  flow_items_give ds k (more_items is e m) = both_all (flow_items_give ds k is) (flow_member_gives ds k e m.start)
 
   flow_last_gives : (ds : Directives) (k : Sort) (l : FlowLast) (m : Mark) → GivesAll k (flow_last_events ds k l m)
   flow_last_gives ds k no_last m = none_all k
   flow_last_gives ds k (last e) m = flow_member_gives ds k e m
 
-  pub flow_member_gives : (ds : Directives) (k : Sort) (e : FlowMember) (m : Mark)
+  flow_member_gives : (ds : Directives) (k : Sort) (e : FlowMember) (m : Mark)
       → GivesAll k (λ (r : List Event). flow_member_events ds k e m (member_end k e m r))
-  flow_member_gives ds sequence (single n) m = one_all (flow_node_events ds n) (flow_node_gives ds n)
-  flow_member_gives ds mapping (single n) m
-      = two_all mapping (flow_node_events ds n) (λ (r : List Event). empty_at m ∷ r) (flow_node_gives ds n) (empty_gives m)
+  flow_member_gives ds sequence (single n) m = one_all (flow_node_gives ds n)
+  flow_member_gives ds mapping (single n) m = two_all mapping (flow_node_gives ds n) (empty_gives m)
   flow_member_gives ds sequence (pair s x no_value) m
-      = one_all _ (collection_gives mapping None None true flow_layout s.start s.end m m _
-      (two_all mapping (flow_slot_events ds x m) (λ (r : List Event). empty_at m ∷ r) (flow_slot_gives ds x m) (empty_gives m)))
-  flow_member_gives ds mapping (pair s x no_value) m
-      = two_all mapping (flow_slot_events ds x m) (λ (r : List Event). empty_at m ∷ r) (flow_slot_gives ds x m) (empty_gives m)
+      = one_all (collection_gives mapping flow_layout _ _ _ _ _ _ _ (two_all mapping (flow_slot_gives ds x m) (empty_gives m)))
+  flow_member_gives ds mapping (pair s x no_value) m = two_all mapping (flow_slot_gives ds x m) (empty_gives m)
   flow_member_gives ds sequence (pair s x (with_value v y)) m
-      = one_all _ (collection_gives mapping None None true flow_layout s.start s.end m m _
-      (two_all mapping (flow_slot_events ds x v.start) (flow_slot_events ds y m) (flow_slot_gives ds x v.start) (flow_slot_gives ds y m)))
-  flow_member_gives ds mapping (pair s x (with_value v y)) m
-      = two_all mapping (flow_slot_events ds x v.start) (flow_slot_events ds y m) (flow_slot_gives ds x v.start) (flow_slot_gives ds y m)
+      = one_all (collection_gives mapping flow_layout _ _ _ _ _ _ _ (two_all mapping (flow_slot_gives ds x v.start) (flow_slot_gives ds y m)))
+  flow_member_gives ds mapping (pair s x (with_value v y)) m = two_all mapping (flow_slot_gives ds x v.start) (flow_slot_gives ds y m)
 
   pub flow_slot_gives : (ds : Directives) (x : FlowSlot) (m : Mark) → Gives (flow_slot_events ds x m)
   flow_slot_gives ds flow_nothing m = empty_gives m
@@ -154,47 +145,47 @@ twice : (b : Bool) → negated (negated b) ≡ b
 twice true = refl
 twice false = refl
 
-abbrev pub Turned : (Bool → Bool) → (List Event → List Event) → Type 0
-Turned f g = (vals : Values) × ((r : List Event) → g r ≡ values_events vals r) × AllHavePairs vals × ((b : Bool) → turns vals b ≡ f b)
+pub record Turned (f : Bool → Bool) (g : List Event → List Event) : Type 0 where
+  pub vals : Values
+  pub same : (r : List Event) → g r ≡ values_events vals r
+  pub pairs : AllHavePairs vals
+  pub turned : (b : Bool) → turns vals b ≡ f b
 
-turned_as : (f h : Bool → Bool) (g : List Event → List Event) → ((b : Bool) → f b ≡ h b) → Turned f g → Turned h g
-turned_as f h g e a = (a.0, a.1, a.2, λ b. a.3 b ∙ e b)
+turned_as : {f h : Bool → Bool} {g : List Event → List Event} → ((b : Bool) → f b ≡ h b) → Turned f g → Turned h g
+turned_as e a = record { vals = a.vals; same = a.same; pairs = a.pairs; turned = λ b. a.turned b ∙ e b }
 
-turned_then : (f : Bool → Bool) (g h : List Event → List Event) → Turned f g → Gives h → Turned (λ (b : Bool). f (negated b)) (λ (r : List Event). g (h r))
-turned_then f g h a x = (
-  join a.0 (first_value x.val no_values),
-  λ r. a.1 (h r) ∙ (ap (values_events a.0) (x.same r) ∙ sym (of_join a.0 (first_value x.val no_values) r)),
-  join_pairs a.0 (first_value x.val no_values) a.2 (x.pairs, tt),
-  λ b. join_turns a.0 (first_value x.val no_values) b ∙ a.3 (negated b),
-)
+turned_then : {f : Bool → Bool} {g h : List Event → List Event} → Turned f g → Gives h
+    → Turned (λ (b : Bool). f (negated b)) (λ (r : List Event). g (h r))
+turned_then {h = h} a x =
+    let y : Values = first_value x.val no_values in
+    record {
+      vals = join a.vals y;
+      same = λ r. a.same (h r) ∙ (ap (values_events a.vals) (x.same r) ∙ sym (of_join a.vals y r));
+      pairs = join_pairs a.vals y a.pairs (x.pairs, tt);
+      turned = λ b. join_turns a.vals y b ∙ a.turned (negated b);
+    }
 
-pub turned_all : (g : List Event → List Event) → Turned (λ (b : Bool). b) g → GivesAll mapping g
-turned_all g a = record { vals = a.0; same = a.1; pairs = a.2; even = even_turns a.0 ∙ a.3 true }
+turned_all : {g : List Event → List Event} → Turned (λ (b : Bool). b) g → GivesAll mapping g
+turned_all a = record { vals = a.vals; same = a.same; pairs = a.pairs; even = even_turns a.vals ∙ a.turned true }
 
-pub whole_pairs : (ds : Directives) (ps : Parts) (m : Mark) → Turned (waits ps) (parts_events ds ps m)
+whole_pairs : (ds : Directives) (ps : Parts) (m : Mark) → Turned (waits ps) (parts_events ds ps m)
     → Turned (λ (b : Bool). b) (λ (r : List Event). parts_events ds ps m (missing_value ps m r))
 whole_pairs ds no_parts m a = a
-whole_pairs ds (part ps key v x) m a
-    = turned_as (λ (b : Bool). negated (negated b)) (λ (b : Bool). b) _ twice
-    (turned_then negated (parts_events ds (part ps key v x) m) (λ (r : List Event). empty_at m ∷ r) a (empty_gives m))
+whole_pairs ds (part ps key v x) m a = turned_as twice (turned_then a (empty_gives m))
 whole_pairs ds (part ps value v x) m a = a
 
-pub with_key : (ds : Directives) (ps : Parts) (m : Mark) → Turned (waits ps) (parts_events ds ps m)
+with_key : (ds : Directives) (ps : Parts) (m : Mark) → Turned (waits ps) (parts_events ds ps m)
     → Turned negated (λ (r : List Event). parts_events ds ps m (missing_key ps m r))
-with_key ds no_parts m a = turned_then (λ (b : Bool). b) (parts_events ds no_parts m) (λ (r : List Event). empty_at m ∷ r) a (empty_gives m)
+with_key ds no_parts m a = turned_then a (empty_gives m)
 with_key ds (part ps key v x) m a = a
-with_key ds (part ps value v x) m a
-    = turned_then (λ (b : Bool). b) (parts_events ds (part ps value v x) m) (λ (r : List Event). empty_at m ∷ r) a (empty_gives m)
+with_key ds (part ps value v x) m a = turned_then a (empty_gives m)
 
 mutual
   block_node_gives : (ds : Directives) (n : BlockNode) → Gives (block_node_events ds n)
   block_node_gives ds (flow n) = flow_node_gives ds n
-  block_node_gives ds (block_sequence o m is n)
-      = collection_gives sequence (anchor_of o) (tag_of ds o) (is_missing (tag_of ds o)) block_layout (first_of o m.start) m.end n.start n.end _
-      (items_give ds is)
+  block_node_gives ds (block_sequence o m is n) = collection_gives sequence block_layout _ _ _ _ _ _ _ (items_give ds is)
   block_node_gives ds (block_mapping o m ps n)
-      = collection_gives mapping (anchor_of o) (tag_of ds o) (is_missing (tag_of ds o)) block_layout (first_of o m.start) m.end n.start n.end _
-      (turned_all _ (whole_pairs ds ps n.start (parts_give ds ps n.start)))
+      = collection_gives mapping block_layout _ _ _ _ _ _ _ (turned_all (whole_pairs ds ps n.start (parts_give ds ps n.start)))
 
   pub block_slot_gives : (ds : Directives) (n : BlockSlot) (m : Mark) → Gives (block_slot_events ds n m)
   block_slot_gives ds nothing m = empty_gives m
@@ -202,25 +193,17 @@ mutual
 
   pub items_give : (ds : Directives) (is : BlockItems) → GivesAll sequence (items_events ds is)
   items_give ds empty = none_all sequence
-  items_give ds (item is e n) = both_all sequence (items_events ds is) (block_slot_events ds n e.end) (items_give ds is)
-      (one_all (block_slot_events ds n e.end) (block_slot_gives ds n e.end))
+  items_give ds (item is e n) = both_all (items_give ds is) (one_all (block_slot_gives ds n e.end))
 
   slot_gives : (ds : Directives) (x : Slot) (e m : Mark) → Gives (slot_events ds x e m)
   slot_gives ds (slot_of n) e m = block_slot_gives ds n e
   slot_gives ds (indentless o is s n) e m
-      = collection_gives sequence (anchor_of o) (tag_of ds o) (is_missing (tag_of ds o)) block_layout (first_of o (first_entry is s).start)
-      (first_entry is s).end m m _ (both_all sequence (items_events ds is) (block_slot_events ds n s.end) (items_give ds is)
-      (one_all (block_slot_events ds n s.end) (block_slot_gives ds n s.end)))
+      = collection_gives sequence block_layout _ _ _ _ _ _ _ (both_all (items_give ds is) (one_all (block_slot_gives ds n s.end)))
 
   pub parts_give : (ds : Directives) (ps : Parts) (m : Mark) → Turned (waits ps) (parts_events ds ps m)
-  parts_give ds no_parts m = (no_values, λ r. refl, tt, λ b. refl)
-  parts_give ds (part ps key v x) m
-      = turned_then (λ (b : Bool). b) (λ (r : List Event). parts_events ds ps v.start (missing_value ps v.start r)) (slot_events ds x v.end m)
-      (whole_pairs ds ps v.start (parts_give ds ps v.start)) (slot_gives ds x v.end m)
-  parts_give ds (part ps value v x) m
-      = turned_as (λ (b : Bool). negated (negated b)) (λ (b : Bool). b) _ twice
-      (turned_then negated (λ (r : List Event). parts_events ds ps v.start (missing_key ps v.start r)) (slot_events ds x v.end m)
-      (with_key ds ps v.start (parts_give ds ps v.start)) (slot_gives ds x v.end m))
+  parts_give ds no_parts m = record { vals = no_values; same = λ r. refl; pairs = tt; turned = λ b. refl }
+  parts_give ds (part ps key v x) m = turned_then (whole_pairs ds ps v.start (parts_give ds ps v.start)) (slot_gives ds x v.end m)
+  parts_give ds (part ps value v x) m = turned_as twice (turned_then (with_key ds ps v.start (parts_give ds ps v.start)) (slot_gives ds x v.end m))
 
 -- documents
 pub record AllTexts (g : List Event → List Event) : Type 0 where
@@ -256,37 +239,25 @@ ended_text g i m n x = record {
 abbrev head_of : Directives → Bool → unnamed_yaml_event_t_data_document_start
 head_of ds i = record { version_directive = version_of ds; tag_directives = tag_directives_of ds; implicit = i }
 
+last_text : {f h : List Event → List Event} (d : unnamed_yaml_event_t_data_document_start) (m n : Mark) → AllTexts f → Gives h
+    → LastText (λ (r : List Event). f (event (ev.DocumentStart d) m n ∷ h r))
+last_text {f} d m n a x = record {
+  before = f;
+  all_before = a;
+  content = d;
+  start = m;
+  start_end = n;
+  val = x.val;
+  same = λ r. ap (λ (l : List Event). f (event (ev.DocumentStart d) m n ∷ l)) (x.same r);
+  pairs = x.pairs;
+}
+
 mutual
   pub documents_give : (d : Documents) (m : Mark) → LastText (documents_events d m)
-  documents_give (implicit f n) m =
-      let x : Gives (block_node_events no_directives n) = block_node_gives no_directives n in
-      record {
-        before = free_events f;
-        all_before = free_gives f;
-        content = head_of no_directives true;
-        start = first_block n;
-        start_end = first_block n;
-        val
-            = x.val;
-        same = λ r. ap (λ (l : List Event). free_events f (document_start_at no_directives true (first_block n) (first_block n) ∷ l))
-            (x.same r);
-        pairs = x.pairs;
-      }
-  documents_give (explicit b ds s n) m =
-      let x : Gives (block_slot_events ds n m) = block_slot_gives ds n m in
-      record {
-        before = before_events b (first_directive ds s.start);
-        all_before = before_gives b (first_directive ds s.start);
-        content
-            = head_of ds false;
-        start = first_directive ds s.start;
-        start_end = s.end;
-        val = x.val;
-        same
-            = λ r. ap (λ (l : List Event). before_events b (first_directive ds s.start) (document_start_at ds false (first_directive ds s.start) s.end ∷ l))
-            (x.same r);
-        pairs = x.pairs;
-      }
+  documents_give (implicit f n) m
+      = last_text (head_of no_directives true) (first_block n) (first_block n) (free_gives f) (block_node_gives no_directives n)
+  documents_give (explicit b ds s n) m
+      = last_text (head_of ds false) (first_directive ds s.start) s.end (before_gives b (first_directive ds s.start)) (block_slot_gives ds n m)
 
   pub free_gives : (f : Free) → AllTexts (free_events f)
   free_gives (opened e m) = record { head = e; start = m.start; start_end = m.start; texts = no_texts; same = λ r. refl; pairs = tt }

@@ -1,15 +1,13 @@
 -- The events of each run begin events that nest, so they nest as far as they go.
-use Rattle.std.proofs.Common.{◌≡◌, ◌⊎◌, inl, inr, List, [], ◌∷◌, ◌++◌, refl, sym, ap, ◌∙◌, subst, append_assoc, true}
+use Rattle.std.proofs.Common.{◌≡◌, ◌⊎◌, inl, inr, List, [], ◌∷◌, ◌++◌, refl, sym, ap, ◌∙◌, subst, append_assoc}
 use Rattle.libyaml_types.specs.declared.event.unnamed_yaml_event_t_data.TheVariants as ev
 use Rattle.libyaml_grammar.specs.cuts.CutEvents.{cut_events, shown_cut, sort_of}
 use Rattle.libyaml_grammar.specs.cuts.CutTrees.{Cut, at_directive, document_due, open_collection, part_due, separator_due}
-use Rattle.libyaml_grammar.specs.sentences.Events.{Event, document_end_at, documents_events, end_at, event, events, member_end, missing_value, start_at}
-use Rattle.libyaml_grammar.specs.sentences.Events.{stream_end_at, stream_start_at}
+use Rattle.libyaml_grammar.specs.sentences.Events.{Event, document_end_at, event, events, stream_end_at, stream_start_at}
 use Rattle.libyaml_sources.specs.Fault.{Fault}
 use Rattle.libyaml_grammar.proofs.lent.Given.{gives_all}
-use Rattle.libyaml_grammar.specs.sentences.Nesting.{BeginsValue, IsNested, IsOpenDocument, NestsSoFar, Texts, TextsHavePairs, Value, Values, alias_value}
-use Rattle.libyaml_grammar.specs.sentences.Nesting.{collection_value, first_value, has_begun, no_texts, no_values, none_open, not_begun, one_open}
-use Rattle.libyaml_grammar.specs.sentences.Nesting.{scalar_value, text_behind, texts_events, value_events, values_events, whole}
+use Rattle.libyaml_grammar.specs.sentences.Nesting.{BeginsValue, IsNested, IsOpenDocument, NestsSoFar, Texts, TextsHavePairs, has_begun, no_texts}
+use Rattle.libyaml_grammar.specs.sentences.Nesting.{none_open, not_begun, one_open, text_behind, texts_events, value_events, whole}
 use Rattle.libyaml_grammar.proofs.lent.Positions.{Position, between, done, flow_behind, in_mapping, position_rest, shown, stand}
 use Rattle.libyaml_grammar.specs.runs.Runs.{Ending, Ends, IsRun, amid_properties, of_beginning, of_cut_tree, of_sentence}
 use Rattle.libyaml_grammar.specs.sentences.Tokens.{Mark, Marks, Token, marks_of}
@@ -19,19 +17,15 @@ use Rattle.libyaml_grammar.proofs.lent.Lists.{nil_right}
 use Rattle.libyaml_grammar.proofs.lent.Nesting.{events_nest_proof}
 use Rattle.libyaml_grammar.proofs.lent.Run.{first_mark, given_shown}
 use Rattle.libyaml_grammar.proofs.lent.Running.{ended_run}
-use Rattle.libyaml_grammar.proofs.lent.Splits.{Splits, behind_event, both_split, member_end_splits, missing_value_splits, position_splits}
+use Rattle.libyaml_grammar.proofs.lent.Splits.{Splits, both_split, event_splits, member_end_splits, missing_value_splits, position_splits, value_splits}
 
 -- what a cut tree shows stands before the events after it
 cut_splits : (c : Cut) (m : Mark) → Splits (shown_cut c m)
-cut_splits (document_due d) m = both_split (documents_events d m) (λ (r : List Event). document_end_at true m m
-    ∷ r) (position_splits (between (behind d)) m) (λ r. refl)
+cut_splits (document_due d) m = both_split (position_splits (between (behind d)) m) (event_splits _)
 cut_splits (at_directive (free f) no_directives) m = position_splits (between (free f)) m
-cut_splits (at_directive (behind d) no_directives) m
-    = both_split (documents_events d m) (λ (r : List Event). document_end_at true m m ∷ r) (position_splits (between (behind d)) m) (λ r. refl)
-cut_splits (part_due c o s ps) m
-    = both_split (shown (in_mapping c o s ps) m) (missing_value ps m) (position_splits (in_mapping c o s ps) m) (missing_value_splits ps m)
-cut_splits (separator_due c e) m
-    = both_split (shown (flow_behind c e) m) (member_end (sort_of c) e m) (position_splits (flow_behind c e) m) (member_end_splits (sort_of c) e m)
+cut_splits (at_directive (behind d) no_directives) m = both_split (position_splits (between (behind d)) m) (event_splits _)
+cut_splits (part_due c o s ps) m = both_split (position_splits (in_mapping c o s ps) m) (missing_value_splits ps m)
+cut_splits (separator_due c e) m = both_split (position_splits (flow_behind c e) m) (member_end_splits (sort_of c) e m)
 cut_splits c m = position_splits (stand c) m
 
 -- a tree whose events go on from those of a cut tree
@@ -56,7 +50,7 @@ tree_begins : (t : Stream) (l rest : List Event) → events t ≡ l ++ rest → 
 tree_begins t l rest e = (rest, subst IsNested e (events_nest_proof t))
 
 cut_begins : (c : Cut) (b : Token) → BeginsNested (cut_events c b)
-cut_begins c b = let g = goes_on c (marks_of b) in tree_begins g.0 (cut_events c b) g.1 (g.2 ∙ cut_splits c b.start_mark g.1)
+cut_begins c b = let g = goes_on c (marks_of b) in tree_begins g.0 (cut_events c b) g.1 (g.2 ∙ (cut_splits c b.start_mark).splits g.1)
 
 pub run_begins : (l : List Token) (f : Fault) (e : List Event) (x : Ending) → IsRun l f e x → BeginsNested e
 run_begins l f e x (of_sentence t a o g h) = tree_begins t e [] (sym g ∙ sym (nil_right e))
@@ -80,18 +74,6 @@ two_lists (t ∷ a) b (u ∷ c) d e = go (two_lists a b c d (cc))
     go (inl (x, h)) = inl (x, ap (λ (l : List Event). u ∷ l) h ∙ ap (λ (y : Event). y ∷ (a ++ x)) (sym same))
     go (inr (x, h, i)) = inr (x, ap (λ (l : List Event). t ∷ l) h ∙ ap (λ (y : Event). y ∷ (c ++ x)) same, i)
 
-mutual
-  value_splits : (v : Value) → Splits (value_events v)
-  value_splits (alias_value a m n) = λ r. refl
-  value_splits (scalar_value s m n) = λ r. refl
-  value_splits (collection_value k a t i s m n vs p q)
-      = behind_event (start_at k a t i s m n) (λ (r : List Event). values_events vs (end_at k p q ∷ r))
-      (both_split (values_events vs) (λ (r : List Event). end_at k p q ∷ r) (values_split vs) (λ r. refl))
-
-  values_split : (vs : Values) → Splits (values_events vs)
-  values_split no_values = λ r. refl
-  values_split (first_value v vs) = both_split (value_events v) (values_events vs) (value_splits v) (values_split vs)
-
 -- where a list ends that begins these documents and what follows them
 data EndsIn (l rest : List Event) (ts : Texts) (r : List Event) : Type 0 where
   among : (us : Texts) (o : List Event) → l ≡ texts_events us o → TextsHavePairs us → IsOpenDocument o → EndsIn l rest ts r
@@ -107,7 +89,7 @@ ends_in (text_behind ts d m n v i p q) l rest r h e = go (ends_in ts l rest (eve
     go : EndsIn l rest ts (event (ev.DocumentStart d) m n ∷ value_events v (document_end_at i p q ∷ r)) → EndsIn l rest (text_behind ts d m n v i p q) r
     go (among us o a b c) = among us o a b c
     go (past [] a b) = among ts [] a h.0 (none_open refl)
-    go (past (x ∷ k) a b) = further (two_lists k rest (value_events v []) (document_end_at i p q ∷ r) (tails ∙ value_splits v (document_end_at i p q ∷ r)))
+    go (past (x ∷ k) a b) = further (two_lists k rest (value_events v []) (document_end_at i p q ∷ r) (tails ∙ (value_splits v).splits (document_end_at i p q ∷ r)))
       where
         heads : x ≡ event (ev.DocumentStart d) m n
         heads = cc
@@ -125,7 +107,7 @@ ends_in (text_behind ts d m n v i p q) l rest r h e = go (ends_in ts l rest (eve
         further (inr (y ∷ ys, c, f)) = past ys (a
             ∙ ap (texts_events ts) (ap (λ (z : Event). z ∷ k) heads
             ∙ ap (λ (z : List Event). event (ev.DocumentStart d) m n ∷ z) (c
-            ∙ (ap (λ (z : Event). value_events v [] ++ z ∷ ys) first ∙ sym (value_splits v (document_end_at i p q ∷ ys)))))) others
+            ∙ (ap (λ (z : Event). value_events v [] ++ z ∷ ys) first ∙ sym ((value_splits v).splits (document_end_at i p q ∷ ys)))))) others
           where
             first : y ≡ document_end_at i p q
             first = cc

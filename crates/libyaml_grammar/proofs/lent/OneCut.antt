@@ -2,28 +2,29 @@
 use Rattle.std.proofs.Common.{◌≡◌, List, [], ◌∷◌, ◌++◌, Some, None, refl, sym, ap, ◌∙◌, subst, inl, inr, Bool, true, false}
 use Rattle.libyaml_grammar.specs.sentences.Tokens.{AnchorName, Content, HandleDeclared, Marks, Tag, TagDirective, TagName, Token, VersionAsked}
 use Rattle.libyaml_grammar.specs.sentences.Tokens.{VersionDirective, marks_of, tok}
-use Rattle.libyaml_grammar.specs.sentences.Trees.{Before, BlockNode, BlockSlot, Directive, Directives, Documents, FlowNode, FlowSlot, Free, Properties, alone}
-use Rattle.libyaml_grammar.specs.sentences.Trees.{anchor, anchor_tag, behind, directive, empty, explicit, flow, flow_node, flow_node_tokens, flow_nothing}
-use Rattle.libyaml_grammar.specs.sentences.Trees.{free, implicit, indentless, item, no_directives, no_parts, no_value, node, nothing, pair, part, sequence}
+use Rattle.libyaml_grammar.specs.sentences.Trees.{Before, BlockNode, Directive, Directives, Documents, FlowNode, Free, Properties, alone, anchor}
+use Rattle.libyaml_grammar.specs.sentences.Trees.{anchor_tag, behind, directive, empty, explicit, flow, flow_node, flow_node_tokens, flow_nothing, free}
+use Rattle.libyaml_grammar.specs.sentences.Trees.{implicit, indentless, item, no_directives, no_parts, no_value, node, nothing, pair, part, sequence}
 use Rattle.libyaml_grammar.specs.sentences.Trees.{single, slot_of, tag, tag_directive, version, with_value}
-use Rattle.libyaml_grammar.specs.sentences.Order.{block_node_in_order, block_slot_in_order, both, declares, documents_in_order, flow_node_in_order}
-use Rattle.libyaml_grammar.specs.sentences.Order.{flow_slot_in_order, is_known, is_accepted, negated, no_version}
+use Rattle.libyaml_grammar.specs.sentences.Order.{both, declares, flow_node_in_order, is_accepted, is_known, negated, no_version}
 use Rattle.libyaml_grammar.specs.sentences.Events.{Event}
-use Rattle.libyaml_grammar.specs.cuts.CutTrees.{BlockPlace, Cut, Place, at_directive, at_tag, at_tag_behind, before_stream, block, block_place_in_order}
-use Rattle.libyaml_grammar.specs.cuts.CutTrees.{content_due, cut_in_order, cut_tokens, declared, declared_block, declared_open, document_due, entry, entry_due}
-use Rattle.libyaml_grammar.specs.cuts.CutTrees.{explicit_root, flow_entry, flow_key, flow_value, implicit_root, indentless_entry, open_collection, part_due}
-use Rattle.libyaml_grammar.specs.cuts.CutTrees.{part_place, place_in_order, place_tokens, root, separator_due, slot, start_due}
+use Rattle.libyaml_grammar.specs.cuts.CutTrees.{BlockPlace, Cut, Place, at_directive, at_tag, at_tag_behind, before_stream, block, content_due}
+use Rattle.libyaml_grammar.specs.cuts.CutTrees.{cut_in_order, cut_tokens, declared, declared_open, document_due, entry, entry_due, explicit_root}
+use Rattle.libyaml_grammar.specs.cuts.CutTrees.{flow_entry, flow_key, flow_value, implicit_root, indentless_entry, open_collection, part_due, part_place}
+use Rattle.libyaml_grammar.specs.cuts.CutTrees.{place_in_order, place_tokens, root, separator_due, slot, start_due}
 use Rattle.libyaml_grammar.specs.cuts.Fits.{EndsEmpty, Fits, FitsDirective, FitsTag, IsUnknown, IsUnknownTag, WantsContent, ends_empty, is_directive}
 use Rattle.libyaml_grammar.specs.cuts.Fits.{last_empty}
-use Rattle.libyaml_grammar.proofs.lent.Positions.{Position, between, due, flow_due, headed, in_mapping, in_sequence, position_in_order, unopened}
-use Rattle.libyaml_grammar.proofs.lent.Reading.{Step, bad, broken, checked, feeds, fill, fill_flow, goes, keeps_order, on_due, over, reads, reads_all}
-use Rattle.libyaml_grammar.proofs.lent.Reading.{then_all}
+use Rattle.libyaml_grammar.proofs.lent.Positions.{Position, between, due, flow_due, headed, in_mapping, in_sequence, unopened}
+use Rattle.libyaml_grammar.proofs.lent.Reading.{Step, bad, bad_same, broken, checked, feeds, fill, fill_flow, goes, goes_same, keeps_order, on_due, over}
+use Rattle.libyaml_grammar.proofs.lent.Reading.{reads, reads_all, then_all}
 use Rattle.libyaml_grammar.proofs.lent.Completion.{reached_begins, reads_append}
-use Rattle.libyaml_grammar.proofs.lent.Orders.{feeds_order, fill_flow_orders, fill_orders, reads_from}
+use Rattle.libyaml_grammar.proofs.lent.Orders.{feeds_order, reads_from}
 use Rattle.libyaml_grammar.proofs.lent.ReadSteps.{IsNotDone, Moves, ReadStep, a_tag, begins_entry, begins_root, fails, filled, filled_block, first_handle}
-use Rattle.libyaml_grammar.proofs.lent.ReadSteps.{first_version, front, is_alone, is_past, leaves, moved_open, moves, next_handle, next_version, no_content}
-use Rattle.libyaml_grammar.proofs.lent.ReadSteps.{no_stream, not_past, read_step, tag_behind_anchor}
-use Rattle.libyaml_grammar.proofs.trees.Edge.{cut_reads, edge_block, edge_documents, edge_flow, edge_flow_slot, edge_slot, home, reached}
+use Rattle.libyaml_grammar.proofs.lent.ReadSteps.{first_version, front, is_alone, is_past, leaves, moved_open, moves, next_handle, next_version}
+use Rattle.libyaml_grammar.proofs.lent.ReadSteps.{no_content, no_stream, not_past, read_step, tag_behind_anchor}
+use Rattle.libyaml_grammar.proofs.trees.Edge.{cut_reads, edge_documents, reached}
+use Rattle.libyaml_grammar.proofs.trees.Complete.{edge_block, edge_flow, home}
+use Rattle.libyaml_grammar.proofs.trees.Append.{edge_told}
 
 -- a step that does not go on stops at this cut
 abbrev pub Stops : Step → Cut → Type 0
@@ -160,17 +161,12 @@ stops_nothing p x k m e d = go (on_due p None k m) (keeps_order no_directives (d
     go (bad c) l a b f n = let g = a c refl in cc
     go over l a b f n = absurd (b refl)
 
-filled_tokens : (p : Place) (x : FlowNode) (r : List Token) → cut_tokens (filled p x) r ≡ place_tokens p (flow_node_tokens x r)
-filled_tokens (block (root (implicit_root f))) x r = refl
-filled_tokens (block (slot (part_place c o s ps t v))) x r = refl
-filled_tokens (block (indentless_entry (part_place c o s ps t v) y is e)) x r = refl
-filled_tokens _ x r = refl
-
-filled_order : (p : Place) (x : FlowNode) (r : Bool) → cut_in_order (filled p x) r ≡ place_in_order p (flow_node_in_order (declared p) x r)
-filled_order (block (root (implicit_root f))) x r = refl
-filled_order (block (slot (part_place c o s ps t v))) x r = refl
-filled_order (block (indentless_entry (part_place c o s ps t v) y is e)) x r = refl
-filled_order _ x r = refl
+filled_told : (p : Place) (x : FlowNode) → ((r : List Token) → cut_tokens (filled p x) r ≡ place_tokens p (flow_node_tokens x r))
+    × ((r : Bool) → cut_in_order (filled p x) r ≡ place_in_order p (flow_node_in_order (declared p) x r))
+filled_told (block (root (implicit_root f))) x = (λ r. refl, λ r. refl)
+filled_told (block (slot (part_place c o s ps t v))) x = (λ r. refl, λ r. refl)
+filled_told (block (indentless_entry (part_place c o s ps t v) y is e)) x = (λ r. refl, λ r. refl)
+filled_told _ x = (λ r. refl, λ r. refl)
 
 -- what the conditions say of a cut after a whole node
 record Given (l : List Token) (c : Cut) (k : Content) : Type 0 where
@@ -182,7 +178,7 @@ record Given (l : List Token) (c : Cut) (k : Content) : Type 0 where
 no_tag : (p : Place) (ps : Properties) (k : Content) (l : List Token) → Given l (filled p (alone ps)) k → NoTag (due p (Some ps)) k
 no_tag p (anchor a m) k l g = λ e. g.none (record {
   place = p;
-  begins = (sym (filled_order p (alone (anchor a m)) true) ∙ g.good, inr (a, m, sym (filled_tokens p (alone (anchor a m)) []) ∙ g.same));
+  begins = (sym ((filled_told p (alone (anchor a m))).1 true) ∙ g.good, inr (a, m, sym ((filled_told p (alone (anchor a m))).0 []) ∙ g.same));
   unknown = e;
 })
 no_tag p _ k l g = tt
@@ -289,63 +285,16 @@ cut_stops l (separator_due c (pair e y (with_value v flow_nothing))) k m t o r w
 cut_stops l (separator_due c (pair e y (with_value v (flow_node x)))) k m t o r w d u n
     = stops_edge_flow (flow_value c e y v) x k m l (record { same = t; good = o; way = d; none = u }) n
 
--- the order of a cut tree is that of its edge
-edge_order_flow : (p : Place) (x : FlowNode) (r : Bool) → position_in_order (edge_flow p x) r ≡ place_in_order p (flow_node_in_order (declared p) x r)
-edge_order_flow p (alone ps) r = refl
-edge_order_flow p x r = fill_flow_orders p x r
-
-edge_order_block : (c : BlockPlace) (x : BlockNode) (r : Bool)
-    → position_in_order (edge_block c x) r ≡ block_place_in_order c (block_node_in_order (declared_block c) x r)
-edge_order_block c (flow x) r = edge_order_flow (block c) x r
-edge_order_block c x r = fill_orders c x r
-
-edge_order_slot : (c : BlockPlace) (x : BlockSlot) (r : Bool)
-    → position_in_order (edge_slot c x) r ≡ block_place_in_order c (block_slot_in_order (declared_block c) x r)
-edge_order_slot c nothing r = refl
-edge_order_slot c (node x) r = edge_order_block c x r
-
-edge_order_flow_slot : (p : Place) (x : FlowSlot) (r : Bool) → position_in_order (edge_flow_slot p x) r ≡ place_in_order p (flow_slot_in_order (declared p) x r)
-edge_order_flow_slot p flow_nothing r = refl
-edge_order_flow_slot p (flow_node x) r = edge_order_flow p x r
-
-edge_order_home : (p : Place) (r : Bool) → position_in_order (home p) r ≡ place_in_order p r
-edge_order_home (block (root (implicit_root f))) r = refl
-edge_order_home _ r = refl
-
-edge_order_documents : (d : Documents) (r : Bool) → position_in_order (edge_documents d) r ≡ documents_in_order d r
-edge_order_documents (implicit f x) r = edge_order_block (root (implicit_root f)) x r
-edge_order_documents (explicit b ds m x) r = edge_order_slot (root (explicit_root b ds m)) x r
-
-pub edge_order : (c : Cut) (r : Bool) → position_in_order (reached c) r ≡ cut_in_order c r
-edge_order (document_due d) r = edge_order_documents d r
-edge_order (at_directive (free f) no_directives) r = refl
-edge_order (at_directive (behind d) no_directives) r = edge_order_documents d r
-edge_order (content_due p) r = edge_order_home p r
-edge_order (at_tag p) r = edge_order_home p r
-edge_order (entry_due c o m (item is e x)) r = edge_order_slot (entry c o m is e) x r
-edge_order (part_due c o m (part ps t v (slot_of x))) r = edge_order_slot (slot (part_place c o m ps t v)) x r
-edge_order (part_due c o m (part ps t v (indentless y is e x))) r = edge_order_slot (indentless_entry (part_place c o m ps t v) y is e) x r
-edge_order (separator_due c (single x)) r = edge_order_flow (flow_entry c) x r
-edge_order (separator_due c (pair e x no_value)) r = edge_order_flow_slot (flow_key c e) x r
-edge_order (separator_due c (pair e x (with_value v y))) r = edge_order_flow_slot (flow_value c e x v) y r
-edge_order _ r = refl
-
 -- a cut tree that fits is where the reading stops
 pub fits_reach : (l : List Token) (b : Token) (c : Cut) → Fits l b c → reads_all l unopened ≡ goes (reached c)
 fits_reach l b c f =
     let e : feeds l unopened ≡ goes (reached c) = subst (λ (x : List Token). feeds x unopened ≡ goes (reached c)) f.tokens (cut_reads c []) in
-    reads_from l unopened (reached c) e (sym (feeds_order l unopened (reached c) e true) ∙ (edge_order c true ∙ f.order))
+    reads_from l unopened (reached c) e (sym (feeds_order l unopened (reached c) e true) ∙ ((edge_told c).1 true ∙ f.order))
 
 pub fits_stop : (l : List Token) (b : Token) (c : Cut) → Fits l b c → reads (reached c) b ≡ bad c
 fits_stop l b c f = cut_stops l c b.content (marks_of b) f.tokens f.order f.empty_end f.wants_content f.directive f.tag
     (λ q e. f.bad_token (reached_begins (l ++ b ∷ []) q (reads_append l (b ∷ []) unopened
     ∙ (ap (λ (s : Step). then_all s (reads_all (b ∷ []))) (fits_reach l b c f) ∙ ap (λ (s : Step). then_all s goes) e))))
-
-pub goes_same : (p q : Position) → goes p ≡ goes q → p ≡ q
-goes_same p q e = cc
-
-pub bad_same : (c d : Cut) → bad c ≡ bad d → c ≡ d
-bad_same c d e = cc
 
 pub one_cut_proof : (l : List Token) (b : Token) (c d : Cut) → Fits l b c → Fits l b d → c ≡ d
 one_cut_proof l b c d f g =

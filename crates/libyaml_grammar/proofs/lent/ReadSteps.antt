@@ -1,23 +1,24 @@
 -- What one token makes of a position: each kind of step of the reader, with the events that it gives and whether the token
 -- keeps the order. What holds of each step is proved by these kinds.
 use Rattle.std.proofs.Common.{Bool, List, None, Option, Some, false, refl, true, ◌∷◌, ◌≡◌}
-use Rattle.libyaml_grammar.specs.sentences.Tokens.{Alias, AliasName, Anchor, AnchorName, BlockEnd, BlockEntry, BlockMappingStart, BlockSequenceStart, Content}
-use Rattle.libyaml_grammar.specs.sentences.Tokens.{DocumentEnd, DocumentStart, FlowEntry, FlowMappingEnd, FlowMappingStart, FlowSequenceEnd, FlowSequenceStart}
-use Rattle.libyaml_grammar.specs.sentences.Tokens.{HandleDeclared, Key, Mark, Marks, Scalar, ScalarText, StreamEnd, StreamHead, StreamStart, Tag, TagDirective}
-use Rattle.libyaml_grammar.specs.sentences.Tokens.{TagName, Value, VersionAsked, VersionDirective}
+use Rattle.libyaml_grammar.specs.sentences.Tokens.{Alias, AliasName, Anchor, AnchorName, BlockEnd, BlockEntry, BlockMappingStart, BlockSequenceStart}
+use Rattle.libyaml_grammar.specs.sentences.Tokens.{Content, DocumentEnd, DocumentStart, FlowEntry, FlowMappingEnd, FlowMappingStart, FlowSequenceEnd}
+use Rattle.libyaml_grammar.specs.sentences.Tokens.{FlowSequenceStart, HandleDeclared, Key, Mark, Marks, Scalar, ScalarText, StreamEnd, StreamHead}
+use Rattle.libyaml_grammar.specs.sentences.Tokens.{StreamStart, Tag, TagDirective, TagName, Value, VersionAsked, VersionDirective}
 use Rattle.libyaml_grammar.specs.sentences.Trees.{Before, BlockItems, BlockNode, BlockSlot, Directive, Directives, Documents, Ended, FlowItems, FlowMember}
 use Rattle.libyaml_grammar.specs.sentences.Trees.{FlowNode, FlowSlot, Free, Parts, Properties, Role, Sort, Stream, again, alias, alone, anchor, anchor_tag}
-use Rattle.libyaml_grammar.specs.sentences.Trees.{behind, block_mapping, block_sequence, collection, directive, empty, ended, explicit, flow, flow_nothing}
-use Rattle.libyaml_grammar.specs.sentences.Trees.{free, indentless, item, key, last, mapping, more_items, no_directives, no_items, no_last, no_parts, no_value}
-use Rattle.libyaml_grammar.specs.sentences.Trees.{nothing, once, opened, pair, part, scalar, sequence, slot_of, tag, tag_anchor, tag_directive, value, version}
-use Rattle.libyaml_grammar.specs.sentences.Trees.{whole, with_value}
+use Rattle.libyaml_grammar.specs.sentences.Trees.{behind, block_mapping, block_sequence, collection, directive, empty, ended, flow, flow_nothing, free}
+use Rattle.libyaml_grammar.specs.sentences.Trees.{indentless, item, key, last, mapping, more_items, no_directives, no_items, no_last, no_parts, no_value}
+use Rattle.libyaml_grammar.specs.sentences.Trees.{nothing, once, opened, pair, part, scalar, sequence, tag, tag_anchor, tag_directive, value, version}
+use Rattle.libyaml_grammar.specs.sentences.Trees.{whole}
 use Rattle.libyaml_grammar.specs.sentences.Events.{Event, alias_at, alone_of, block_layout, document_end_at, document_start_at, empty_at, end_at, end_of}
 use Rattle.libyaml_grammar.specs.sentences.Events.{first_directive, flow_layout, member_end, missing_key, missing_value, opens_pair, scalar_of, start_of}
 use Rattle.libyaml_grammar.specs.sentences.Events.{stream_end_at, stream_start_at}
 use Rattle.libyaml_grammar.specs.sentences.Order.{is_known}
 use Rattle.libyaml_grammar.specs.cuts.CutTrees.{BlockPlace, Cut, Open, PartPlace, Place, before_stream, block, content_due, declared, declared_block}
-use Rattle.libyaml_grammar.specs.cuts.CutTrees.{declared_part, document_due, entry, entry_due, explicit_root, flow_entry, flow_key, flow_value, implicit_root}
-use Rattle.libyaml_grammar.specs.cuts.CutTrees.{indentless_entry, open_collection, part_due, part_place, root, separator_due, slot, start_due}
+use Rattle.libyaml_grammar.specs.cuts.CutTrees.{declared_part, document_due, entry, entry_due, explicit_root, flow_entry, flow_key, flow_value}
+use Rattle.libyaml_grammar.specs.cuts.CutTrees.{implicit_root, indentless_entry, open_collection, part_due, part_place, root, separator_due, slot}
+use Rattle.libyaml_grammar.specs.cuts.CutTrees.{start_due}
 use Rattle.libyaml_grammar.specs.cuts.Fits.{ends_empty, is_directive}
 use Rattle.libyaml_grammar.specs.cuts.CutEvents.{sort_of}
 use Rattle.libyaml_grammar.proofs.lent.Positions.{Position, between, done, due, flow_behind, flow_due, flow_keyed, headed, in_indentless, in_mapping}
@@ -209,34 +210,16 @@ module _ (m : Marks) where
   abbrev Left : Place → Content → Type 0
   Left p k = LeftIf p k (behind_whole (leave p) k m)
 
-  left_root : (b : Before) (ds : Directives) (s : Marks) (k : Content) → Left (block (root (explicit_root b ds s))) k
-  left_root b ds s (StreamStart e) = refl
-  left_root b ds s _ = refl
-
-  left_entry : (c : BlockPlace) (o : Option Properties) (s : Marks) (is : BlockItems) (e : Marks) (k : Content) → Left (block (entry c o s is e)) k
-  left_entry c o s is e (StreamStart x) = refl
-  left_entry c o s is e _ = refl
-
-  left_part : (c : BlockPlace) (o : Option Properties) (s : Marks) (ps : Parts) (t : Role) (v : Marks) (k : Content)
-      → Left (block (slot (part_place c o s ps t v))) k
-  left_part c o s ps t v (StreamStart x) = refl
-  left_part c o s ps t v _ = refl
-
-  left_indentless : (c : PartPlace) (o : Option Properties) (is : BlockItems) (e : Marks) (k : Content) → Left (block (indentless_entry c o is e)) k
-  left_indentless (part_place c o s ps t v) y is e (StreamStart x) = refl
-  left_indentless (part_place c o s ps t v) y is e _ = refl
-
-  left_key : (c : Open) (e : Marks) (k : Content) → Left (flow_key c e) k
-  left_key (open_collection p o sequence s is) e (StreamStart x) = refl
-  left_key (open_collection p o sequence s is) e _ = refl
-  left_key (open_collection p o mapping s is) e (StreamStart x) = refl
-  left_key (open_collection p o mapping s is) e _ = refl
-
-  left_value : (c : Open) (e : Marks) (x : FlowSlot) (v : Marks) (k : Content) → Left (flow_value c e x v) k
-  left_value (open_collection p o sequence s is) e x v (StreamStart y) = refl
-  left_value (open_collection p o sequence s is) e x v _ = refl
-  left_value (open_collection p o mapping s is) e x v (StreamStart y) = refl
-  left_value (open_collection p o mapping s is) e x v _ = refl
+  left_if : (p : Place) (k : Content) → Left p k
+  left_if (block (root (explicit_root b ds s))) (StreamStart x) = refl
+  left_if (block (entry c o s is e)) (StreamStart x) = refl
+  left_if (block (slot (part_place c o s ps t v))) (StreamStart x) = refl
+  left_if (block (indentless_entry (part_place c o s ps t v) y is e)) (StreamStart x) = refl
+  left_if (flow_key (open_collection p o sequence s is) e) (StreamStart x) = refl
+  left_if (flow_key (open_collection p o mapping s is) e) (StreamStart x) = refl
+  left_if (flow_value (open_collection p o sequence s is) e x v) (StreamStart y) = refl
+  left_if (flow_value (open_collection p o mapping s is) e x v) (StreamStart y) = refl
+  left_if _ _ = refl
 
   or_left : (p : Place) (k : Content) (s : Step) (g : List Event → List Event) (l : Bool) → ReadStep (leave p) k s g l → LeftIf p k s
       → ReadStep (due p None) k (or_bad s (content_due p)) (λ (r : List Event). if_goes s (empty_at (empty_mark p m.start) ∷ g r) r) l
@@ -244,20 +227,22 @@ module _ (m : Marks) where
   or_left p k (bad c) g l h e = fails (no_content e)
   or_left p k over g l h e = fails (no_content e)
 
-  left_step : (p : Place) (k : Content) (es : Directives)
-      → ReadStep (due p None) k (without p None k m) (given_without p None k m) (keeps_order no_directives es k)
+  -- a token after a node that is nothing
+  abbrev AtNothing : Place → Content → Directives → Type 0
+  AtNothing p k es = ReadStep (due p None) k (without p None k m) (given_without p None k m) (keeps_order no_directives es k)
+
+  or_fails : (p : Place) (k : Content) (es : Directives) → Behind (leave p) k es → AtNothing p k es
+  or_fails p k es h = or_left p k _ _ _ h (left_if p k)
+
+  left_step : (p : Place) (k : Content) (es : Directives) → AtNothing p k es
   left_step (block (root (implicit_root f))) k es = fails (no_content refl)
-  left_step (block (root (explicit_root b ds s))) k es
-      = or_left (block (root (explicit_root b ds s))) k _ _ _ (documents_step (explicit b ds s nothing) k es) (left_root b ds s k)
-  left_step (block (entry c o s is e)) k es = or_left (block (entry c o s is e)) k _ _ _ (item_step c o s (item is e nothing) k es) (left_entry c o s is e k)
-  left_step (block (slot (part_place c o s ps t v))) k es
-      = or_left (block (slot (part_place c o s ps t v))) k _ _ _ (part_step c o s (part ps t v (slot_of nothing)) k es) (left_part c o s ps t v k)
-  left_step (block (indentless_entry c o is e)) k es
-      = or_left (block (indentless_entry c o is e)) k _ _ _ (indentless_step c o is e nothing k es) (left_indentless c o is e k)
+  left_step (block (root (explicit_root b ds s))) k es = or_fails (block (root (explicit_root b ds s))) k es (documents_step _ k es)
+  left_step (block (entry c o s is e)) k es = or_fails (block (entry c o s is e)) k es (item_step c o s _ k es)
+  left_step (block (slot (part_place c o s ps t v))) k es = or_fails (block (slot (part_place c o s ps t v))) k es (part_step c o s _ k es)
+  left_step (block (indentless_entry c o is e)) k es = or_fails (block (indentless_entry c o is e)) k es (indentless_step c o is e nothing k es)
   left_step (flow_entry c) k es = fails (no_content refl)
-  left_step (flow_key c e) k es = or_left (flow_key c e) k _ _ _ (key_step c e flow_nothing k es) (left_key c e k)
-  left_step (flow_value c e x v) k es
-      = or_left (flow_value c e x v) k _ _ _ (member_step c (pair e x (with_value v flow_nothing)) k es) (left_value c e x v k)
+  left_step (flow_key c e) k es = or_fails (flow_key c e) k es (key_step c e flow_nothing k es)
+  left_step (flow_value c e x v) k es = or_fails (flow_value c e x v) k es (member_step c _ k es)
 
   without_step : (p : Place) (o : Option Properties) (k : Content) (es : Directives)
       → ReadStep (due p o) k (without p o k m) (given_without p o k m) (keeps_order no_directives es k)

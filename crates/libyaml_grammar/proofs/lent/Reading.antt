@@ -1,22 +1,22 @@
 -- Reading: what one token makes of a position. It is taken, or it is bad at a place. A reading step takes one token and closes at
 -- most a node that is nothing or properties alone, a sequence without tokens of its own or a pair, and the collection
 -- around it. A node is nothing exactly where the token is taken after it.
-use Rattle.std.specs.Prelude.{List, [], ◌∷◌, Option, Some, None, Bool, true, false}
-use Rattle.libyaml_grammar.specs.sentences.Tokens.{Alias, AliasName, Anchor, AnchorName, BlockEnd, BlockEntry, BlockMappingStart, BlockSequenceStart, Content}
-use Rattle.libyaml_grammar.specs.sentences.Tokens.{DocumentEnd, DocumentStart, FlowEntry, FlowMappingEnd, FlowMappingStart, FlowSequenceEnd}
+use Rattle.std.proofs.Common.{◌≡◌, List, [], ◌∷◌, Option, Some, None, Bool, true, false, sym, subst, refl}
+use Rattle.libyaml_grammar.specs.sentences.Tokens.{Alias, AliasName, Anchor, AnchorName, BlockEnd, BlockEntry, BlockMappingStart, BlockSequenceStart}
+use Rattle.libyaml_grammar.specs.sentences.Tokens.{Content, DocumentEnd, DocumentStart, FlowEntry, FlowMappingEnd, FlowMappingStart, FlowSequenceEnd}
 use Rattle.libyaml_grammar.specs.sentences.Tokens.{FlowSequenceStart, Key, Marks, Scalar, StreamEnd, StreamStart, Tag, TagDirective, TagName, Token, Value}
 use Rattle.libyaml_grammar.specs.sentences.Tokens.{VersionDirective, marks_of}
-use Rattle.libyaml_grammar.specs.sentences.Trees.{Before, BlockItems, BlockNode, BlockSlot, Directive, Directives, Documents, FlowLast, FlowMember, FlowNode}
-use Rattle.libyaml_grammar.specs.sentences.Trees.{FlowSlot, Free, Parts, Properties, Slot, Sort, again, alias, alone, anchor, anchor_tag, behind}
-use Rattle.libyaml_grammar.specs.sentences.Trees.{block_mapping, block_sequence, collection, directive, empty, ended, explicit, flow, flow_node, flow_nothing}
-use Rattle.libyaml_grammar.specs.sentences.Trees.{free, implicit, indentless, item, key, last, mapping, more_items, no_directives, no_items, no_last}
-use Rattle.libyaml_grammar.specs.sentences.Trees.{no_parts, no_value, node, nothing, once, opened, pair, part, scalar, sequence, single, slot_of, tag}
-use Rattle.libyaml_grammar.specs.sentences.Trees.{tag_anchor, tag_directive, value, version, whole, with_value}
-use Rattle.libyaml_grammar.specs.sentences.Order.{both, declares, is_known, is_accepted, negated, no_version}
+use Rattle.libyaml_grammar.specs.sentences.Trees.{Before, BlockItems, BlockNode, BlockSlot, Directive, Directives, Documents, FlowLast, FlowMember}
+use Rattle.libyaml_grammar.specs.sentences.Trees.{FlowNode, FlowSlot, Free, Parts, Properties, Slot, Sort, again, alias, alone, anchor, anchor_tag, behind}
+use Rattle.libyaml_grammar.specs.sentences.Trees.{block_mapping, block_sequence, collection, directive, empty, ended, explicit, flow, flow_node}
+use Rattle.libyaml_grammar.specs.sentences.Trees.{flow_nothing, free, implicit, indentless, item, key, last, mapping, more_items, no_directives, no_items}
+use Rattle.libyaml_grammar.specs.sentences.Trees.{no_last, no_parts, no_value, node, nothing, once, opened, pair, part, scalar, sequence, single, slot_of}
+use Rattle.libyaml_grammar.specs.sentences.Trees.{tag, tag_anchor, tag_directive, value, version, whole, with_value}
+use Rattle.libyaml_grammar.specs.sentences.Order.{both, declares, is_accepted, is_known, negated, no_version}
 use Rattle.libyaml_grammar.specs.cuts.CutTrees.{BlockPlace, Cut, Open, PartPlace, Place, at_directive, at_tag, at_tag_behind, before_stream, block}
 use Rattle.libyaml_grammar.specs.cuts.CutTrees.{content_due, declared, declared_open, document_due, entry, entry_due, explicit_root, flow_entry, flow_key}
-use Rattle.libyaml_grammar.specs.cuts.CutTrees.{flow_value, implicit_root, indentless_entry, open_collection, part_due, part_place, root, separator_due, slot}
-use Rattle.libyaml_grammar.specs.cuts.CutTrees.{start_due}
+use Rattle.libyaml_grammar.specs.cuts.CutTrees.{flow_value, implicit_root, indentless_entry, open_collection, part_due, part_place, root, separator_due}
+use Rattle.libyaml_grammar.specs.cuts.CutTrees.{slot, start_due}
 use Rattle.libyaml_grammar.proofs.lent.Positions.{Position, between, done, due, flow_behind, flow_due, flow_keyed, headed, in_indentless, in_mapping}
 use Rattle.libyaml_grammar.proofs.lent.Positions.{in_sequence, unopened}
 
@@ -265,3 +265,21 @@ reads q t = checked (feed q t) (is_legal q t.content)
 abbrev pub reads_all : List Token → Position → Step
 reads_all [] q = goes q
 reads_all (t ∷ r) q = then_all (reads q t) (reads_all r)
+
+pub goes_same : (p q : Position) → goes p ≡ goes q → p ≡ q
+goes_same p q e = cc
+
+pub bad_same : (c d : Cut) → bad c ≡ bad d → c ≡ d
+bad_same c d e = cc
+
+-- what holds at the position that a list leads to, and before each token where it holds after it, holds where the list begins
+pub along : (P : List Token → Position → Type 0) (p : Position) → P [] p
+    → ((t : Token) (l : List Token) (q x : Position) → feed q t ≡ goes x → P l x → P (t ∷ l) q) → (l : List Token) (q : Position) → feeds l q ≡ goes p
+    → P l q
+along P p z f [] q e = subst (P []) (sym (goes_same q p e)) z
+along P p z f (t ∷ l) q e = go (λ (x : Position) (h : feeds l x ≡ goes p). along P p z f l x h) (feed q t) refl e
+  where
+    go : ((x : Position) → feeds l x ≡ goes p → P l x) → (s : Step) → feed q t ≡ s → then_all s (feeds l) ≡ goes p → P (t ∷ l) q
+    go ih (goes x) g h = f t l q x g (ih x h)
+    go ih (bad c) g h = absurd cc
+    go ih over g h = absurd cc

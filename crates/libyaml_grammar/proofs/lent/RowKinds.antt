@@ -1,5 +1,5 @@
 -- How a worked row is shown: its tokens are read to their end, to the bad token, or to where they stop.
-use Rattle.std.proofs.Common.{◌≡◌, ◌++◌, ◌∷◌, ℕ, suc, List, [], ap, ◌∙◌, subst, true, false}
+use Rattle.std.proofs.Common.{◌≡◌, ◌++◌, ◌∷◌, ℕ, suc, List, [], ap, ◌∙◌, subst, true, false, append-nil}
 use Rattle.std.specs.Prelude.{take, drop}
 use Rattle.libyaml_grammar.specs.cuts.CutEvents.{cut_events}
 use Rattle.libyaml_grammar.specs.cuts.CutFaults.{fault}
@@ -13,7 +13,7 @@ use Rattle.libyaml_grammar.specs.sentences.Sentences.{has_end}
 use Rattle.libyaml_grammar.specs.cuts.Settled.{IsSettled, sure}
 use Rattle.libyaml_grammar.specs.sentences.Tokens.{Token}
 use Rattle.libyaml_grammar.specs.sentences.Trees.{Stream, tokens}
-use Rattle.libyaml_grammar.proofs.lent.Completion.{append_nil, reached_begins, read_order}
+use Rattle.libyaml_grammar.proofs.lent.Completion.{reached_begins, read_order}
 use Rattle.libyaml_grammar.proofs.lent.Fitting.{stops_fits}
 use Rattle.libyaml_grammar.proofs.lent.Fronts.{front_of}
 use Rattle.libyaml_grammar.proofs.lent.ReadSteps.{front}
@@ -27,7 +27,7 @@ use Rattle.libyaml_grammar.proofs.lent.StreamEnds.{not_end_not_done}
 pub sentence_row : (n : ℕ) (l : List Token) (f : Fault) (e : List Event) (t : Stream) → reads_all (take n l) unopened ≡ goes (done t) → take n l ++ drop n l ≡ l
     → events t ≡ e → IsRun l f e Ends
 sentence_row n l f e t r s g =
-    let x : tokens t ≡ take n l = feeds_keep (take n l) unopened (done t) (reads_to (take n l) unopened (done t) r).0 [] ∙ append_nil (take n l) in
+    let x : tokens t ≡ take n l = feeds_keep (take n l) unopened (done t) (reads_to (take n l) unopened (done t) r).0 [] ∙ append-nil (take n l) in
     subst (λ (d : List Event). IsRun l f d Ends) g
     (subst (λ (k : List Token). IsRun k f (events t) Ends) (ap (λ (k : List Token). k ++ drop n l) x
     ∙ s) (sentence_run t (drop n l) f (read_order (take n l) (done t) r)))

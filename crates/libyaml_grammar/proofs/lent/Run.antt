@@ -1,14 +1,14 @@
 -- What the tokens of a list give, one after the other, are the events of the position that they lead to, and of a whole
 -- tree the tree's.
-use Rattle.std.proofs.Common.{◌≡◌, List, [], ◌∷◌, ◌++◌, sym, ap, ◌∙◌, subst}
+use Rattle.std.proofs.Common.{◌≡◌, List, [], ◌∷◌, ◌++◌, sym, ap, ◌∙◌, subst, refl}
 use Rattle.libyaml_grammar.specs.sentences.Tokens.{Mark, Token, marks_of}
 use Rattle.libyaml_grammar.specs.sentences.Trees.{Stream, tokens}
 use Rattle.libyaml_grammar.specs.sentences.Events.{Event, events}
 use Rattle.libyaml_grammar.specs.cuts.CutTrees.{Cut}
 use Rattle.libyaml_grammar.specs.cuts.CutEvents.{shown_cut}
 use Rattle.libyaml_grammar.proofs.lent.Positions.{Position, done, shown, unopened}
-use Rattle.libyaml_grammar.proofs.lent.Reading.{Step, bad, feed, feeds, goes, over, then_all}
-use Rattle.libyaml_grammar.proofs.lent.Given.{gives_all, gives, if_all}
+use Rattle.libyaml_grammar.proofs.lent.Reading.{Step, along, bad, feed, feeds, goes}
+use Rattle.libyaml_grammar.proofs.lent.Given.{gives, gives_all, if_all}
 use Rattle.libyaml_grammar.proofs.trees.Complete.{stream_reads}
 use Rattle.libyaml_grammar.proofs.lent.Shows.{Shows, step_shows}
 
@@ -16,21 +16,13 @@ abbrev pub first_mark : List Token → Mark → Mark
 first_mark [] n = n
 first_mark (t ∷ l) n = t.start_mark
 
-goes_same : (p q : Position) → goes p ≡ goes q → p ≡ q
-goes_same p q e = cc
-
 -- the events of a position are those given by its tokens
 pub given_shown : (l : List Token) (q p : Position) → feeds l q ≡ goes p → (n : Mark) (r : List Event)
     → shown p n r ≡ shown q (first_mark l n) (gives_all l q r)
-given_shown [] q p e n r = ap (λ (x : Position). shown x n r) (goes_same p q (sym e))
-given_shown (t ∷ l) q p e n r = go (λ (x : Position) (h : feeds l x ≡ goes p). given_shown l x p h n r) (feed q t) (step_shows q t.content (marks_of t)) e
-  where
-    go : ((x : Position) → feeds l x ≡ goes p → shown p n r ≡ shown x (first_mark l n) (gives_all l x r)) → (s : Step)
-        → Shows s q (marks_of t) (gives q t.content (marks_of t)) → then_all s (feeds l) ≡ goes p
-        → shown p n r ≡ shown q t.start_mark (gives q t.content (marks_of t) (if_all s (gives_all l) r))
-    go ih (goes x) k h = ih x h ∙ k (first_mark l n) (gives_all l x r)
-    go ih (bad x) k h = cc
-    go ih over k h = cc
+given_shown l q p e n r = along (λ (a : List Token) (x : Position). shown p n r ≡ shown x (first_mark a n) (gives_all a x r)) p refl
+    (λ t a y x f h. h
+    ∙ (subst (λ (s : Step). Shows s y (marks_of t) (gives y t.content (marks_of t))) f (step_shows y t.content (marks_of t)) (first_mark a n) (gives_all a x r)
+    ∙ ap (λ (s : Step). shown y t.start_mark (gives y t.content (marks_of t) (if_all s (gives_all a) r))) (sym f))) l q e
 
 pub tree_run : (t : Stream) → gives_all (tokens t) unopened [] ≡ events t
 tree_run t =
@@ -45,14 +37,9 @@ cut_run l b q c e f =
     s [] ∙ given_shown l unopened q e b.start_mark (gives q b.content (marks_of b) [])
 
 pub given_append : (a b : List Token) (q p : Position) → feeds a q ≡ goes p → (r : List Event) → gives_all (a ++ b) q r ≡ gives_all a q (gives_all b p r)
-given_append [] b q p e r = ap (λ (x : Position). gives_all b x r) (goes_same q p e)
-given_append (t ∷ a) b q p e r = go (λ (x : Position) (h : feeds a x ≡ goes p). given_append a b x p h r) (feed q t) e
-  where
-    go : ((x : Position) → feeds a x ≡ goes p → gives_all (a ++ b) x r ≡ gives_all a x (gives_all b p r)) → (s : Step) → then_all s (feeds a) ≡ goes p
-        → gives q t.content (marks_of t) (if_all s (gives_all (a ++ b)) r) ≡ gives q t.content (marks_of t) (if_all s (gives_all a) (gives_all b p r))
-    go ih (goes x) h = ap (gives q t.content (marks_of t)) (ih x h)
-    go ih (bad x) h = cc
-    go ih over h = cc
+given_append a b q p e r = along (λ (l : List Token) (x : Position). gives_all (l ++ b) x r ≡ gives_all l x (gives_all b p r)) p refl
+    (λ t l y x f h. ap (gives y t.content (marks_of t))
+    (subst (λ (s : Step). if_all s (gives_all (l ++ b)) r ≡ if_all s (gives_all l) (gives_all b p r)) (sym f) h)) a q e
 
 -- what a beginning has given begins the events of each sentence that it begins
 pub begin_events : (a b : List Token) (q : Position) (t : Stream) → feeds a unopened ≡ goes q → a ++ b ≡ tokens t

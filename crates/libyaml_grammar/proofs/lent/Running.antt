@@ -1,5 +1,6 @@
 -- Each list has one run for each fault of its source.
-use Rattle.std.proofs.Common.{◌≡◌, ◌⊎◌, inl, inr, List, [], ◌∷◌, ◌++◌, Bool, true, false, refl, sym, ap, ◌∙◌, subst}
+use Rattle.std.proofs.Common.{◌≡◌, ◌⊎◌, inl, inr, List, [], ◌∷◌, ◌++◌, Bool, true, false, refl, sym, ap, ◌∙◌, subst, append-nil}
+use Rattle.std.proofs.lemmas.List.{append_cancel_left}
 use Rattle.libyaml_types.specs.declared.enums.yaml_error_type_t.TheVariants.{YAML_PARSER_ERROR}
 use Rattle.libyaml_sources.specs.Errors.{IsSourceError}
 use Rattle.libyaml_grammar.specs.cuts.CutEvents.{shown_cut}
@@ -10,24 +11,22 @@ use Rattle.libyaml_sources.specs.Fault.{Fault}
 use Rattle.libyaml_grammar.specs.cuts.Fits.{Fits, FitsTag, IsUnknown}
 use Rattle.libyaml_grammar.specs.sentences.Order.{in_order}
 use Rattle.libyaml_grammar.proofs.lent.Positions.{Position, done, unopened}
-use Rattle.libyaml_grammar.proofs.lent.Reading.{Step, bad, checked, feed, goes, is_legal, over, reads, reads_all, then_all}
-use Rattle.libyaml_grammar.specs.runs.Runs.{HasFault, Ending, Ends, Fails, IsRun, amid_properties, has_token, is_behind, is_behind_properties, of_beginning}
-use Rattle.libyaml_grammar.specs.runs.Runs.{of_cut_tree, of_sentence}
+use Rattle.libyaml_grammar.proofs.lent.Reading.{Step, bad, bad_same, goes, goes_same, over, reads, reads_all, then_all}
+use Rattle.libyaml_grammar.specs.runs.Runs.{Ending, Ends, Fails, HasFault, IsRun, amid_properties, has_token, is_behind, is_behind_properties}
+use Rattle.libyaml_grammar.specs.runs.Runs.{of_beginning, of_cut_tree, of_sentence}
 use Rattle.libyaml_grammar.specs.sentences.Sentences.{IsBeginning, IsSentence, has_end, is_end}
 use Rattle.libyaml_grammar.specs.cuts.Settled.{IsSettled, sure}
 use Rattle.libyaml_grammar.specs.runs.StreamEnds.{up_to_end}
-use Rattle.libyaml_grammar.specs.sentences.Tokens.{Anchor, Content, Tag, Token, marks_of}
+use Rattle.libyaml_grammar.specs.sentences.Tokens.{Anchor, Content, Tag, Token}
 use Rattle.libyaml_grammar.specs.sentences.Trees.{Directives, Stream, tokens}
-use Rattle.libyaml_grammar.proofs.lent.Completion.{Stops, append_nil, goes_or_stops, reached_begins, read_order, reads_append, sentence_reads}
+use Rattle.libyaml_grammar.proofs.lent.Completion.{Stops, goes_or_stops, reached_begins, read_sentence, reads_append, sentence_reads}
 use Rattle.libyaml_grammar.proofs.trees.Edge.{reached}
-use Rattle.libyaml_grammar.proofs.lent.Fitting.{over_done, stops_fits}
+use Rattle.libyaml_grammar.proofs.lent.Fitting.{read_over, stops_fits}
 use Rattle.libyaml_grammar.proofs.lent.Fronts.{begin_reads}
 use Rattle.libyaml_grammar.proofs.lent.ReadSteps.{IsNotDone}
-use Rattle.libyaml_grammar.proofs.lent.Keeps.{feeds_keep}
-use Rattle.libyaml_grammar.proofs.lent.OneCut.{bad_same, fits_reach, fits_stop, goes_same}
-use Rattle.libyaml_grammar.proofs.lent.Orders.{reads_to}
+use Rattle.libyaml_grammar.proofs.lent.OneCut.{fits_reach, fits_stop}
 use Rattle.libyaml_grammar.proofs.lent.Settling.{begin_front, front_settles, one_settled_proof}
-use Rattle.libyaml_grammar.proofs.lent.StreamEnds.{IsDone, end_is_done, not_end_not_done, sentence_has_end, read_done}
+use Rattle.libyaml_grammar.proofs.lent.StreamEnds.{IsDone, end_is_done, no_end_unless, not_end_not_done, read_done, sentence_has_end}
 
 -- lists of tokens
 first_same : (a b : Token) (l r : List Token) → a ∷ l ≡ b ∷ r → a ≡ b
@@ -35,14 +34,6 @@ first_same a b l r e = cc
 
 rest_same : (a b : Token) (l r : List Token) → a ∷ l ≡ b ∷ r → l ≡ r
 rest_same a b l r e = cc
-
-behind_same : (a l r : List Token) → a ++ l ≡ a ++ r → l ≡ r
-behind_same [] l r e = e
-behind_same (x ∷ a) l r e = behind_same a l r (rest_same x x (a ++ l) (a ++ r) e)
-
-both_ends : (b : Bool) → b ≡ true → b ≡ false → ⊥
-both_ends true e f = cc
-both_ends false e f = cc
 
 -- before the last of these tokens there is no STREAM-END
 end_last : (l a : List Token) (t : Token) (r : List Token) → up_to_end l ≡ a ++ t ∷ r → has_end a ≡ false
@@ -71,12 +62,7 @@ up_to_later (x ∷ a) l e = go (λ (f : has_end a ≡ false). up_to_later a l f)
     go ih false f = ap (λ (r : List Token). x ∷ r) (ih f)
 
 all_of_it : (l : List Token) → has_end l ≡ false → up_to_end l ≡ l
-all_of_it [] e = refl
-all_of_it (x ∷ l) e = go (λ (f : has_end l ≡ false). all_of_it l f) (is_end x.content) e
-  where
-    go : (has_end l ≡ false → up_to_end l ≡ l) → (b : Bool) → either b (has_end l) ≡ false → x ∷ elim b [ true ↦ [] | false ↦ up_to_end l ] ≡ x ∷ l
-    go ih true f = absurd cc
-    go ih false f = ap (λ (r : List Token). x ∷ r) (ih f)
+all_of_it l e = ap up_to_end (sym (append-nil l)) ∙ (up_to_later l [] e ∙ append-nil l)
 
 none_left : (l : List Token) (q p : Position) → IsDone q → reads_all l q ≡ goes p → l ≡ []
 none_left [] q p d e = refl
@@ -131,7 +117,7 @@ cut_same : (l : List Token) (f : Fault) (d e : List Event) (x y : Ending) (a b :
     → x ≡ elim (is_behind_properties c r) [ true ↦ Fails (fault c t.content t.start_mark) | false ↦ Fails f ] → e ≡ shown_cut c u.start_mark []
     → y ≡ elim (is_behind_properties c s) [ true ↦ Fails (fault c u.content u.start_mark) | false ↦ Fails f ] → Same d e x y
 cut_same l f d e x y a b t u r s c g h i j k m n =
-    let o : t ∷ r ≡ u ∷ s = behind_same a (t ∷ r) (u ∷ s) (sym g ∙ (h ∙ ap (λ (z : List Token). z ++ u ∷ s) (sym i))) in
+    let o : t ∷ r ≡ u ∷ s = append_cancel_left a (t ∷ r) (u ∷ s) (sym g ∙ (h ∙ ap (λ (z : List Token). z ++ u ∷ s) (sym i))) in
     let p : t ≡ u = first_same t u r s o in
     let q : r ≡ s = rest_same t u r s o in
     let ending : Token → List Token → Ending = λ z w. elim (is_behind_properties c w) [ true ↦ Fails (fault c z.content z.start_mark) | false ↦ Fails f ] in
@@ -171,15 +157,6 @@ same_shapes l f d e x y (is_beginning q g h i j) (is_beginning p k m n o) = (one
 pub one_run_proof : (l : List Token) (f : Fault) (d e : List Event) (x y : Ending) → IsRun l f d x → IsRun l f e y → (d ≡ e) × (x ≡ y)
 one_run_proof l f d e x y r s = same_shapes (up_to_end l) f d e x y (shape_of l f d x r) (shape_of l f e y s)
 
--- a list that is read to its end is a sentence
-read_sentence : (l : List Token) (t : Stream) → reads_all l unopened ≡ goes (done t) → IsSentence l
-read_sentence l t e = record {
-  tree = t;
-  all = sym (feeds_keep l unopened (done t) (reads_to l unopened (done t) e).0 [] ∙ append_nil l);
-  order
-      = read_order l (done t) e;
-}
-
 -- every list has a run
 abbrev HasRun : List Token → Fault → Type 0
 HasRun l f = (e : List Event) × (x : Ending) × IsRun l f e x
@@ -206,19 +183,13 @@ begin_has_run l f q e false h =
     let (c, i) = begin_front (up_to_end l) b h in
     (sure c, Fails f, of_beginning b h (front_settles (up_to_end l) c i) refl)
 
-only_over : (s : Step) (b : Bool) → checked s b ≡ over → s ≡ over
-only_over (goes p) true e = absurd cc
-only_over (goes p) false e = absurd cc
-only_over (bad c) b e = absurd cc
-only_over over b e = refl
-
 -- a token after a sentence is none of the prefix's
 not_past : (l before : List Token) (token : Token) (behind : List Token) (q : Position) → up_to_end l ≡ before ++ token ∷ behind
     → reads_all before unopened ≡ goes q → reads q token ≡ over → ⊥
 not_past l before token behind q e g h =
-    let (t, f) = over_done q token.content (marks_of token) (only_over (feed q token) (is_legal q token.content) h) in
+    let (t, f) = read_over q token h in
     let s = read_sentence before t (g ∙ ap goes f) in
-    both_ends (has_end before) (sentence_has_end before s) (end_last l before token behind e)
+    let f : false ≡ true = sym (end_last l before token behind e) ∙ sentence_has_end before s in cc
 
 pub some_run_proof : (l : List Token) (f : Fault) → HasRun l f
 some_run_proof l f = go (goes_or_stops (up_to_end l) unopened)
@@ -241,18 +212,11 @@ sentence_run t r f o =
 
 -- no cut tree has a STREAM-END
 cut_not_ended : (l : List Token) (b : Token) (c : Cut) → Fits l b c → has_end l ≡ false
-cut_not_ended l b c f = go (has_end l) refl
+cut_not_ended l b c f = no_end_unless l (λ e. no (reached c) refl (end_is_done l unopened (reached c) (fits_reach l b c f) e))
   where
-    no : IsDone (reached c) → ⊥
-    no d = at (reached c) refl d
-      where
-        at : (x : Position) → reached c ≡ x → IsDone x → ⊥
-        at (done t) g d = let h : bad c ≡ over = sym (fits_stop l b c f) ∙ ap (λ (y : Position). reads y b) g in cc
-        at _ g d = d
-
-    go : (x : Bool) → has_end l ≡ x → has_end l ≡ false
-    go true e = absurd (no (end_is_done l unopened (reached c) (fits_reach l b c f) e))
-    go false e = e
+    no : (x : Position) → reached c ≡ x → IsDone x → ⊥
+    no (done t) g d = let h : bad c ≡ over = sym (fits_stop l b c f) ∙ ap (λ (y : Position). reads y b) g in cc
+    no _ g d = d
 
 -- what follows the token of a cut tree
 behind_token : Token → List Token → List Token

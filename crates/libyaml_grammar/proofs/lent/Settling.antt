@@ -1,34 +1,34 @@
 -- What a front tree settles is what its sentences' events have in common.
-use Rattle.std.proofs.Common.{◌≡◌, ◌↔◌, ℕ, List, [], ◌∷◌, ◌++◌, None, Bool, true, false, refl, sym, ap, ◌∙◌, subst, append_assoc, append-nil, arith}
+use Rattle.std.proofs.Common.{◌≡◌, ◌↔◌, ℕ, List, [], ◌∷◌, ◌++◌, None, true, false, refl, sym, ap, ◌∙◌, subst, append_assoc, arith, append-nil}
 use Rattle.libyaml_types.specs.Events.{zero_mark}
 use Rattle.libyaml_grammar.specs.sentences.Events.{Event, events, first_block, first_flow}
 use Rattle.libyaml_grammar.specs.sentences.Order.{in_order}
 use Rattle.libyaml_grammar.specs.sentences.Sentences.{IsBeginning, has_end}
 use Rattle.libyaml_grammar.specs.sentences.Tokens.{Mark, Marks, Token}
-use Rattle.libyaml_grammar.specs.sentences.Trees.{BlockNode, FlowNode, Stream, alone, empty, explicit, flow, flow_node, flow_nothing, implicit, indentless}
-use Rattle.libyaml_grammar.specs.sentences.Trees.{item, no_parts, no_value, node, nothing, pair, part, single, slot_of, tokens, with_value}
+use Rattle.libyaml_grammar.specs.sentences.Trees.{BlockNode, FlowNode, Stream, alone, explicit, flow, flow_node, flow_nothing, implicit, indentless, item}
+use Rattle.libyaml_grammar.specs.sentences.Trees.{no_value, node, nothing, pair, part, single, slot_of, tokens, with_value}
 use Rattle.libyaml_grammar.specs.cuts.CutEvents.{shown_block, shown_place}
 use Rattle.libyaml_grammar.specs.cuts.CutTrees.{BlockPlace, Cut, Place, at_directive, at_tag, at_tag_behind, before_stream, block, content_due, declared}
-use Rattle.libyaml_grammar.specs.cuts.CutTrees.{declared_block, document_due, entry, entry_due, explicit_root, flow_entry, flow_key, flow_value, implicit_root}
-use Rattle.libyaml_grammar.specs.cuts.CutTrees.{indentless_entry, part_due, part_place, root, separator_due, slot, start_due}
+use Rattle.libyaml_grammar.specs.cuts.CutTrees.{declared_block, document_due, entry, entry_due, explicit_root, flow_entry, flow_key, flow_value}
+use Rattle.libyaml_grammar.specs.cuts.CutTrees.{implicit_root, indentless_entry, part_due, part_place, root, separator_due, slot}
 use Rattle.libyaml_grammar.specs.cuts.Fits.{last_empty}
-use Rattle.libyaml_grammar.specs.cuts.Settled.{Begins, BeginsEach, IsFront, IsFrontPlace, IsOpen, IsSettled, next_event, sure, sure_block_node, sure_flow_node}
+use Rattle.libyaml_grammar.specs.cuts.Settled.{Begins, BeginsEach, IsFront, IsFrontPlace, IsOpen, IsSettled, next_event, sure, sure_block_node}
+use Rattle.libyaml_grammar.specs.cuts.Settled.{sure_flow_node}
 use Rattle.libyaml_grammar.specs.cuts.Rest.{rest}
 use Rattle.libyaml_grammar.proofs.lent.Given.{gives_all}
 use Rattle.libyaml_grammar.proofs.lent.Positions.{Position, done, position_rest, shown, unopened}
-use Rattle.libyaml_grammar.proofs.lent.Reading.{Step, bad, feed, feeds, goes, over, then_all}
-use Rattle.libyaml_grammar.proofs.lent.Completion.{append_nil, position_begins, reached_begins, read_order}
+use Rattle.libyaml_grammar.proofs.lent.Reading.{Step, along, feeds, goes, then_all}
+use Rattle.libyaml_grammar.proofs.lent.Completion.{position_begins, reached_begins, read_order}
 use Rattle.libyaml_grammar.proofs.lent.ReadSteps.{IsNotDone, front}
 use Rattle.libyaml_grammar.proofs.lent.Fronts.{begin_reads, front_not_done, front_of, front_reads, not_done_front}
 use Rattle.libyaml_grammar.proofs.lent.Keeps.{feeds_keep}
-use Rattle.libyaml_grammar.proofs.lent.OneCut.{goes_same}
 use Rattle.libyaml_grammar.proofs.lent.Orders.{reads_to}
 use Rattle.libyaml_grammar.proofs.lent.Run.{begin_events, given_shown}
 use Rattle.libyaml_grammar.proofs.lent.Shows.{block_shows, node_shows}
 use Rattle.libyaml_grammar.proofs.lent.Splits.{position_splits}
-use Rattle.libyaml_grammar.proofs.lent.StreamEnds.{IsDone, end_is_done, not_end_not_done}
-use Rattle.libyaml_grammar.proofs.trees.Complete.{stream_reads}
-use Rattle.libyaml_grammar.proofs.trees.Edge.{edge_block, edge_flow, reached}
+use Rattle.libyaml_grammar.proofs.lent.StreamEnds.{IsDone, end_is_done, no_end_unless, not_end_not_done}
+use Rattle.libyaml_grammar.proofs.trees.Complete.{edge_block, edge_flow, stream_reads}
+use Rattle.libyaml_grammar.proofs.trees.Edge.{reached}
 use Rattle.libyaml_grammar.proofs.runs.Prompt.{differ}
 
 -- what is sure is what is shown at the right edge
@@ -74,7 +74,7 @@ pub gives_sure : (l : List Token) (c : Cut) → IsFront l c → (r : List Event)
 gives_sure l c f r =
     let e = (reads_to l unopened (reached c) (front_reads l c f)).0 in
     sym (given_shown l unopened (reached c) e zero_mark r)
-    ∙ (position_splits (reached c) zero_mark r ∙ ap (λ (x : List Event). x ++ r) (sure_shows c zero_mark f.place f.full))
+    ∙ ((position_splits (reached c) zero_mark).splits r ∙ ap (λ (x : List Event). x ++ r) (sure_shows c zero_mark f.place f.full))
 
 begins_each : (l : List Token) (c : Cut) → IsFront l c → BeginsEach l (sure c)
 begins_each l c f = λ t rest o e. (
@@ -165,14 +165,8 @@ front_settles l c f = record { begins_each = begins_each l c f; longest = λ d b
         in_common d r s (sure c) o.first_events o.second_events (sym o.first_goes_on ∙ g) (sym o.second_goes_on ∙ h) o.differ
 
 feeds_append : (a b : List Token) (q p : Position) → feeds a q ≡ goes p → feeds (a ++ b) q ≡ feeds b p
-feeds_append [] b q p e = ap (feeds b) (goes_same q p e)
-feeds_append (t ∷ a) b q p e = go (λ (x : Position) (h : feeds a x ≡ goes p). feeds_append a b x p h) (feed q t) e
-  where
-    go : ((x : Position) → feeds a x ≡ goes p → feeds (a ++ b) x ≡ feeds b p) → (s : Step) → then_all s (feeds a) ≡ goes p
-        → then_all s (feeds (a ++ b)) ≡ feeds b p
-    go ih (goes x) h = ih x h
-    go ih (bad c) h = absurd cc
-    go ih over h = absurd cc
+feeds_append a b q p e = along (λ (l : List Token) (x : Position). feeds (l ++ b) x ≡ feeds b p) p refl
+    (λ t l y x f h. ap (λ (s : Step). then_all s (feeds (l ++ b))) f ∙ h) a q e
 
 -- a sentence begins itself alone
 only_itself : (s t : Stream) (rest : List Token) → tokens t ≡ tokens s ++ rest → s ≡ t
@@ -186,7 +180,7 @@ only_itself s t rest e = go rest (sym (feeds_append (tokens s) rest unopened (do
 pub sentence_settles : (t : Stream) → in_order t ≡ true → IsSettled (tokens t) (events t)
 sentence_settles t o = record {
   begins_each = λ s rest i e. ([], sym (ap events (only_itself t s rest e)) ∙ sym (append-nil (events t)));
-  longest = λ d b. b t [] o (sym (append_nil (tokens t)));
+  longest = λ d b. b t [] o (sym (append-nil (tokens t)));
 }
 
 -- each beginning without STREAM-END
@@ -202,15 +196,14 @@ settled_open l e b h s =
 
 -- the laws as they stand in contracts
 pub front_begins : (l : List Token) (c : Cut) → IsFront l c → IsBeginning l × (has_end l ≡ false)
-front_begins l c f = (reached_begins l (reached c) (front_reads l c f), go (has_end l) refl)
+front_begins l c f = (
+  reached_begins l (reached c) (front_reads l c f),
+  no_end_unless l (λ e. open_still (reached c) (not_done_front l c f) (end_is_done l unopened (reached c) (front_reads l c f) e)),
+)
   where
     open_still : (q : Position) → IsNotDone q → IsDone q → ⊥
     open_still (done t) n d = n
     open_still _ n d = d
-
-    go : (b : Bool) → has_end l ≡ b → has_end l ≡ false
-    go true e = absurd (open_still (reached c) (not_done_front l c f) (end_is_done l unopened (reached c) (front_reads l c f) e))
-    go false e = e
 
 settled_is : (l : List Token) (d e : List Event) → IsSettled l d → IsSettled l e ↔ (e ≡ d)
 settled_is l d e s = (λ t. one_settled_proof l e d t s, λ f. subst (IsSettled l) (sym f) s)

@@ -1,14 +1,12 @@
 -- A STREAM-END is the last token of a sentence, and each sentence has one.
-use Rattle.std.proofs.Common.{◌≡◌, List, [], ◌∷◌, Bool, true, false, refl, ap, ◌∙◌, subst}
+use Rattle.std.proofs.Common.{◌≡◌, List, [], ◌∷◌, Bool, true, false, refl, subst}
 use Rattle.libyaml_grammar.specs.sentences.Events.{either}
 use Rattle.libyaml_grammar.specs.sentences.Sentences.{IsSentence, has_end, is_end}
 use Rattle.libyaml_grammar.specs.sentences.Tokens.{Token}
-use Rattle.libyaml_grammar.specs.sentences.Trees.{Stream}
 use Rattle.libyaml_grammar.proofs.lent.Positions.{Position, done, unopened}
-use Rattle.libyaml_grammar.proofs.lent.Reading.{Step, bad, goes, over, reads, reads_all, then_all}
+use Rattle.libyaml_grammar.proofs.lent.Reading.{Step, bad, goes, goes_same, over, reads, reads_all, then_all}
 use Rattle.libyaml_grammar.proofs.lent.Completion.{sentence_reads}
 use Rattle.libyaml_grammar.proofs.lent.ReadSteps.{IsNotDone}
-use Rattle.libyaml_grammar.proofs.lent.OneCut.{goes_same}
 use Rattle.libyaml_grammar.proofs.trees.Ending.{Done, DoneAt, reads_done, stays_open}
 
 abbrev pub IsDone : Position → Type 0
@@ -43,16 +41,18 @@ end_is_done (t ∷ l) q p e h = go (λ (x : Position) (f : reads_all l x ≡ goe
 
 -- where no STREAM-END has come, the end is not reached
 pub not_end_not_done : (l : List Token) (q : Position) → reads_all l unopened ≡ goes q → has_end l ≡ false → IsNotDone q
-not_end_not_done l q e h = go q refl
+not_end_not_done l q e h = open_at q (stays_open l unopened q refl h e)
   where
-    no : (t : Stream) → q ≡ done t → ⊥
-    no t f =
-        let g : false ≡ true = stays_open l unopened (done t) refl h (e ∙ ap goes f) in
-        cc
+    open_at : (x : Position) → DoneAt x false → IsNotDone x
+    open_at (done t) f = absurd cc
+    open_at _ f = tt
 
-    go : (x : Position) → q ≡ x → IsNotDone x
-    go (done t) f = no t f
-    go _ f = tt
+pub no_end_unless : (l : List Token) → (has_end l ≡ true → ⊥) → has_end l ≡ false
+no_end_unless l n = go (has_end l) refl
+  where
+    go : (b : Bool) → has_end l ≡ b → has_end l ≡ false
+    go true e = absurd (n e)
+    go false e = e
 
 pub sentence_has_end : (l : List Token) → IsSentence l → has_end l ≡ true
 sentence_has_end l s = go (has_end l) refl

@@ -1,19 +1,19 @@
 -- The events of a document depend on its own directives alone, and but for its start on the prefixes that these give.
 use Rattle.std.proofs.Common.{◌≡◌, ℕ, List, [], ◌∷◌, ◌++◌, Option, Some, None, true, false, refl, ap, ◌∙◌}
-use Rattle.libyaml_grammar.specs.sentences.Events.{Event, alone_of, anchor_of, before_events, before_part, block_layout, block_node_events, block_slot_events}
-use Rattle.libyaml_grammar.specs.sentences.Events.{document_start_at, documents_events, end_at, end_of, first_block, first_directive, first_entry, first_of}
-use Rattle.libyaml_grammar.specs.sentences.Events.{first_of_properties, flow_items_events, flow_last_events, flow_layout, flow_member_events}
-use Rattle.libyaml_grammar.specs.sentences.Events.{flow_node_events, flow_slot_events, free_events, is_missing, items_events, last_of_properties, member_end}
-use Rattle.libyaml_grammar.specs.sentences.Events.{opens_pair, parts_events, plain_flag, prefix_of, quoted_flag, resolved, scalar_at, scalar_of, slot_events}
-use Rattle.libyaml_grammar.specs.sentences.Events.{start_at, start_of, tag_from, tag_of, Layout}
+use Rattle.libyaml_grammar.specs.sentences.Events.{Event, Layout, alone_of, anchor_of, before_events, before_part, block_layout, block_node_events}
+use Rattle.libyaml_grammar.specs.sentences.Events.{block_slot_events, document_start_at, documents_events, end_at, end_of, first_block, first_directive}
+use Rattle.libyaml_grammar.specs.sentences.Events.{first_entry, first_of, first_of_properties, flow_items_events, flow_last_events, flow_layout}
+use Rattle.libyaml_grammar.specs.sentences.Events.{flow_member_events, flow_node_events, flow_slot_events, free_events, is_missing, items_events}
+use Rattle.libyaml_grammar.specs.sentences.Events.{last_of_properties, member_end, opens_pair, parts_events, plain_flag, prefix_of, quoted_flag, resolved}
+use Rattle.libyaml_grammar.specs.sentences.Events.{scalar_at, scalar_of, slot_events, start_at, start_of, tag_from, tag_of}
 use Rattle.libyaml_grammar.specs.sentences.Tokens.{Mark, Marks, ScalarText, TagName}
-use Rattle.libyaml_grammar.specs.sentences.Trees.{Before, BlockItems, BlockNode, BlockSlot, Directives, FlowItems, FlowLast, FlowMember, FlowNode, FlowSlot}
-use Rattle.libyaml_grammar.specs.sentences.Trees.{Free, Parts, Properties, Slot, Sort, alias, alone, anchor, anchor_tag, block_mapping, block_sequence}
-use Rattle.libyaml_grammar.specs.sentences.Trees.{collection, empty, explicit, flow, flow_node, flow_nothing, implicit, indentless, item, last, mapping}
-use Rattle.libyaml_grammar.specs.sentences.Trees.{more_items, no_directives, no_items, no_last, no_parts, no_value, node, nothing, pair, part, scalar}
-use Rattle.libyaml_grammar.specs.sentences.Trees.{sequence, single, slot_of, tag, tag_anchor, with_value}
+use Rattle.libyaml_grammar.specs.sentences.Trees.{Before, BlockItems, BlockNode, BlockSlot, Directives, FlowItems, FlowLast, FlowMember, FlowNode}
+use Rattle.libyaml_grammar.specs.sentences.Trees.{FlowSlot, Free, Parts, Properties, Slot, Sort, alias, alone, anchor, anchor_tag, block_mapping}
+use Rattle.libyaml_grammar.specs.sentences.Trees.{block_sequence, collection, empty, explicit, flow, flow_node, flow_nothing, implicit, indentless, item}
+use Rattle.libyaml_grammar.specs.sentences.Trees.{last, mapping, more_items, no_directives, no_items, no_last, no_parts, no_value, node, nothing, pair}
+use Rattle.libyaml_grammar.specs.sentences.Trees.{part, scalar, sequence, single, slot_of, tag, tag_anchor, with_value}
 use Rattle.libyaml_types.specs.declared.enums.yaml_scalar_style_t.TheVariants.{YAML_PLAIN_SCALAR_STYLE}
-use Rattle.libyaml_grammar.proofs.lent.Splits.{block_node_splits, block_slot_splits}
+use Rattle.libyaml_grammar.proofs.lent.Splits.{block_slot_splits}
 
 pub explicit_own : (ds : Directives) (s : Marks) (x : BlockSlot) (m : Mark) → (e : List Event)
     × ((b : Before) (r : List Event)
@@ -22,7 +22,7 @@ pub explicit_own : (ds : Directives) (s : Marks) (x : BlockSlot) (m : Mark) → 
 explicit_own ds s x m = (
   block_slot_events ds x m [],
   λ b r. ap (λ (l : List Event). before_events b (first_directive ds s.start) (document_start_at ds false (first_directive ds s.start) s.end ∷ l))
-      (block_slot_splits ds x m r),
+      ((block_slot_splits ds x m).splits r),
 )
 
 pub implicit_own : (n : BlockNode) → (e : List Event)
@@ -31,7 +31,7 @@ pub implicit_own : (n : BlockNode) → (e : List Event)
 implicit_own n = (
   block_node_events no_directives n [],
   λ f m r. ap (λ (l : List Event). free_events f (document_start_at no_directives true (first_block n) (first_block n) ∷ l))
-      (block_node_splits no_directives n r),
+      ((block_slot_splits no_directives (node n) m).splits r),
 )
 
 module _ (ds es : Directives) (same : (h : List ℕ) → prefix_of ds h ≡ prefix_of es h) where

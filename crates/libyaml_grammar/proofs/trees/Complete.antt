@@ -2,8 +2,8 @@
 -- next token is taken there. So a stream's tokens lead to the stream.
 use Rattle.std.proofs.Common.{◌≡◌, List, [], ◌∷◌, Option, Some, None, refl, sym, ap, ◌∙◌, subst, Bool}
 use Rattle.libyaml_grammar.specs.sentences.Tokens.{Alias, Anchor, BlockEnd, BlockEntry, BlockMappingStart, BlockSequenceStart, Content, DocumentEnd}
-use Rattle.libyaml_grammar.specs.sentences.Tokens.{DocumentStart, FlowEntry, FlowMappingEnd, FlowMappingStart, FlowSequenceEnd, FlowSequenceStart, Key, Marks}
-use Rattle.libyaml_grammar.specs.sentences.Tokens.{Scalar, StreamEnd, Tag, Token, Value, marks_of, tok}
+use Rattle.libyaml_grammar.specs.sentences.Tokens.{DocumentStart, FlowEntry, FlowMappingEnd, FlowMappingStart, FlowSequenceEnd, FlowSequenceStart, Key}
+use Rattle.libyaml_grammar.specs.sentences.Tokens.{Marks, Scalar, StreamEnd, Tag, TagDirective, Token, Value, VersionDirective, marks_of, tok}
 use Rattle.libyaml_grammar.specs.sentences.Trees.{Before, BlockItems, BlockNode, BlockSlot, Directive, Directives, Documents, Ended, FlowItems, FlowLast}
 use Rattle.libyaml_grammar.specs.sentences.Trees.{FlowMember, FlowNode, FlowSlot, Free, Parts, Properties, Slot, Sort, Stream, again, alias, alone, anchor}
 use Rattle.libyaml_grammar.specs.sentences.Trees.{before_tokens, behind, block_mapping, block_node_tokens, block_sequence, block_slot_tokens, closing}
@@ -11,15 +11,15 @@ use Rattle.libyaml_grammar.specs.sentences.Trees.{collection, directive, directi
 use Rattle.libyaml_grammar.specs.sentences.Trees.{explicit, flow, flow_items_tokens, flow_last_tokens, flow_member_tokens, flow_node, flow_node_tokens}
 use Rattle.libyaml_grammar.specs.sentences.Trees.{flow_nothing, flow_slot_tokens, free, free_tokens, implicit, indentless, item, items_tokens, key, last}
 use Rattle.libyaml_grammar.specs.sentences.Trees.{mapping, more_items, no_directives, no_items, no_last, no_parts, no_value, node, nothing, once, opened}
-use Rattle.libyaml_grammar.specs.sentences.Trees.{option_tokens, pair, part, parts_tokens, properties_tokens, scalar, sequence, single, slot_of, slot_tokens}
-use Rattle.libyaml_grammar.specs.sentences.Trees.{tokens, value, version, whole, with_value}
+use Rattle.libyaml_grammar.specs.sentences.Trees.{opening, option_tokens, pair, part, parts_tokens, properties_tokens, scalar, sequence, single, slot_of}
+use Rattle.libyaml_grammar.specs.sentences.Trees.{slot_tokens, tokens, value, version, whole, with_value}
 use Rattle.libyaml_grammar.specs.sentences.Events.{Event}
 use Rattle.libyaml_grammar.specs.cuts.CutTrees.{BlockPlace, Cut, Open, PartPlace, Place, block, content_due, entry, explicit_root, flow_entry, flow_key}
 use Rattle.libyaml_grammar.specs.cuts.CutTrees.{flow_value, implicit_root, indentless_entry, open_collection, part_place, root, slot}
 use Rattle.libyaml_grammar.proofs.lent.Positions.{Position, between, done, due, flow_behind, flow_due, flow_keyed, headed, in_indentless, in_mapping}
 use Rattle.libyaml_grammar.proofs.lent.Positions.{in_sequence, unopened}
-use Rattle.libyaml_grammar.proofs.lent.Reading.{Step, bad, behind_indentless, behind_key, behind_member, behind_whole, feed, feeds, fill, fill_block_slot}
-use Rattle.libyaml_grammar.proofs.lent.Reading.{fill_flow, fill_part, goes, leave, on_due, or_bad, over, step, then_all}
+use Rattle.libyaml_grammar.proofs.lent.Reading.{Step, bad, behind_whole, feed, feeds, fill, fill_block_slot, fill_flow, fill_flow_slot, fill_part, goes}
+use Rattle.libyaml_grammar.proofs.lent.Reading.{leave, on_due, or_bad, over, step, then_all}
 use Rattle.libyaml_grammar.proofs.lent.ReadSteps.{ReadStep, begins_explicit, ends_indentless, ends_stream, fails, first_handle, first_version, is_past}
 use Rattle.libyaml_grammar.proofs.lent.ReadSteps.{lacks_value, moves, no_stream, read_step}
 
@@ -33,6 +33,18 @@ Takes over = ⊥
 abbrev pub Ready : Position → List Token → Type 0
 Ready q [] = ⊥
 Ready q (t ∷ r) = Takes (feed q t)
+
+-- A position at which a token does what it does at another, wherever it is taken there.
+abbrev Follows : Position → Position → Type 0
+Follows q p = (k : Content) (m : Marks) → Takes (step p k m) → step q k m ≡ step p k m
+
+follows_feeds : (q p : Position) → Follows q p → (r : List Token) → Ready p r → feeds r q ≡ feeds r p
+follows_feeds q p f [] h = absurd h
+follows_feeds q p f (t ∷ r) h = ap (λ (s : Step). then_all s (feeds r)) (f t.content (marks_of t) h)
+
+follows_ready : (q p : Position) → Follows q p → (r : List Token) → Ready p r → Ready q r
+follows_ready q p f [] h = h
+follows_ready q p f (t ∷ r) h = subst Takes (sym (f t.content (marks_of t) h)) h
 
 -- a token that begins a node
 abbrev pub Begins : Content → Type 0
@@ -78,72 +90,51 @@ node_begins_behind (block (root (implicit_root f))) n k b = b
 node_begins_behind (block (slot (part_place c o s ps t v))) n k b = b
 node_begins_behind _ n k b = b
 
-never_flow : (p : Place) (n : FlowNode) (k : Content) (m : Marks) → Begins k → Takes (behind_whole (fill_flow p n) k m) → ⊥
-never_flow p n k m b h = never (read_step m (fill_flow p n) k) (node_begins_behind p n k b) (subst Takes (sym (whole_step p n k m)) h)
+-- properties alone, or nothing: where the token is taken after it, that is what the place does
+abbrev held : Place → Option Properties → Position
+held p None = leave p
+held p (Some ps) = fill_flow p (alone ps)
 
--- properties alone
-abbrev pub Alone : Place → Properties → Content → Marks → Type 0
-Alone p ps k m = Takes (behind_whole (fill_flow p (alone ps)) k m) → on_due p (Some ps) k m ≡ behind_whole (fill_flow p (alone ps)) k m
-
-pub alone_entry : (p : Place) (ps : Properties) (m : Marks) → Alone p ps BlockEntry m
-alone_entry (block (slot (part_place c o s es r v))) ps m h = absurd h
-alone_entry _ ps m h = refl
-
-pub alone_step : (p : Place) (ps : Properties) (k : Content) (m : Marks) → Alone p ps k m
-alone_step p ps (Alias a) m h = refl
-alone_step p ps (Anchor a) m h = absurd (never_flow p (alone ps) (Anchor a) m tt h)
-alone_step p ps (Tag a) m h = absurd (never_flow p (alone ps) (Tag a) m tt h)
-alone_step p ps (Scalar v) m h = absurd (never_flow p (alone ps) (Scalar v) m tt h)
-alone_step p ps FlowSequenceStart m h = absurd (never_flow p (alone ps) FlowSequenceStart m tt h)
-alone_step p ps FlowMappingStart m h = absurd (never_flow p (alone ps) FlowMappingStart m tt h)
-alone_step p ps BlockSequenceStart m h = absurd (never_flow p (alone ps) BlockSequenceStart m tt h)
-alone_step p ps BlockMappingStart m h = absurd (never_flow p (alone ps) BlockMappingStart m tt h)
-alone_step p ps BlockEntry m h = alone_entry p ps m h
-alone_step p ps k m h = refl
-
-pub alone_feeds : (p : Place) (ps : Properties) (r : List Token) → Ready (fill_flow p (alone ps)) r
-    → feeds r (due p (Some ps)) ≡ feeds r (fill_flow p (alone ps))
-alone_feeds p ps [] h = absurd h
-alone_feeds p ps (t ∷ r) h =
-    let e = whole_step p (alone ps) t.content (marks_of t) in
-    ap (λ (s : Step). then_all s (feeds r)) (alone_step p ps t.content (marks_of t) (subst Takes e h) ∙ sym e)
-
--- nothing
-pub or_bad_takes : (s : Step) (c : Cut) → Takes s → or_bad s c ≡ s
+or_bad_takes : (s : Step) (c : Cut) → Takes s → or_bad s c ≡ s
 or_bad_takes (goes x) c h = refl
 or_bad_takes (bad x) c h = absurd h
 or_bad_takes over c h = absurd h
 
--- nothing in a place: where the token is taken after it, that is what the place does
-left_entry : (p : Place) (m : Marks) → Takes (behind_whole (leave p) BlockEntry m) → on_due p None BlockEntry m ≡ behind_whole (leave p) BlockEntry m
-left_entry (block (slot (part_place c o s ps t v))) m h = absurd h
-left_entry p m h = or_bad_takes (behind_whole (leave p) BlockEntry m) (content_due p) h
+held_entry : (p : Place) (o : Option Properties) (m : Marks) → Takes (behind_whole (held p o) BlockEntry m)
+    → on_due p o BlockEntry m ≡ behind_whole (held p o) BlockEntry m
+held_entry (block (slot (part_place c o s es r v))) None m h = absurd h
+held_entry (block (slot (part_place c o s es r v))) (Some ps) m h = absurd h
+held_entry p None m h = or_bad_takes (behind_whole (leave p) BlockEntry m) (content_due p) h
+held_entry p (Some ps) m h = refl
 
-left_step : (p : Place) (k : Content) (m : Marks) → (Begins k → ⊥) → Takes (behind_whole (leave p) k m) → on_due p None k m ≡ behind_whole (leave p) k m
-left_step p (Alias a) m n h = absurd (n tt)
-left_step p (Anchor a) m n h = absurd (n tt)
-left_step p (Tag g) m n h = absurd (n tt)
-left_step p (Scalar v) m n h = absurd (n tt)
-left_step p FlowSequenceStart m n h = absurd (n tt)
-left_step p FlowMappingStart m n h = absurd (n tt)
-left_step p BlockSequenceStart m n h = absurd (n tt)
-left_step p BlockMappingStart m n h = absurd (n tt)
-left_step p BlockEntry m n h = left_entry p m h
-left_step p k m n h = or_bad_takes (behind_whole (leave p) k m) (content_due p) h
+held_step : (p : Place) (o : Option Properties) (k : Content) (m : Marks) → (Begins k → ⊥) → Takes (behind_whole (held p o) k m)
+    → on_due p o k m ≡ behind_whole (held p o) k m
+held_step p o (Alias a) m n h = absurd (n tt)
+held_step p o (Anchor a) m n h = absurd (n tt)
+held_step p o (Tag a) m n h = absurd (n tt)
+held_step p o (Scalar v) m n h = absurd (n tt)
+held_step p o FlowSequenceStart m n h = absurd (n tt)
+held_step p o FlowMappingStart m n h = absurd (n tt)
+held_step p o BlockSequenceStart m n h = absurd (n tt)
+held_step p o BlockMappingStart m n h = absurd (n tt)
+held_step p o BlockEntry m n h = held_entry p o m h
+held_step p None k m n h = or_bad_takes (behind_whole (leave p) k m) (content_due p) h
+held_step p (Some ps) k m n h = refl
 
-pub leave_step : (p : Place) (k : Content) (m : Marks) → Takes (step (leave p) k m) → on_due p None k m ≡ step (leave p) k m
-leave_step (block (root (implicit_root f))) k m h = refl
-leave_step (block (slot (part_place c o s ps t v))) k m h
-    = left_step (block (slot (part_place c o s ps t v))) k m (λ b. never (read_step m (leave (block (slot (part_place c o s ps t v)))) k) b h) h
-leave_step (flow_entry c) k m h = refl
-leave_step p k m h = left_step p k m (λ b. never (read_step m (leave p) k) b h) h
+alone_follows : (p : Place) (ps : Properties) → Follows (due p (Some ps)) (fill_flow p (alone ps))
+alone_follows p ps k m h =
+    let e = whole_step p (alone ps) k m in
+    held_step p (Some ps) k m (λ b. never (read_step m (fill_flow p (alone ps)) k) (node_begins_behind p (alone ps) k b) h) (subst Takes e h) ∙ sym e
 
-pub leave_feeds : (p : Place) (r : List Token) → Ready (leave p) r → feeds r (due p None) ≡ feeds r (leave p)
-leave_feeds p [] h = absurd h
-leave_feeds p (t ∷ r) h = ap (λ (s : Step). then_all s (feeds r)) (leave_step p t.content (marks_of t) h)
+leave_follows : (p : Place) → Follows (due p None) (leave p)
+leave_follows (block (root (implicit_root f))) k m h = refl
+leave_follows (block (slot (part_place c o s ps t v))) k m h
+    = held_step (block (slot (part_place c o s ps t v))) None k m (λ b. never (read_step m (leave (block (slot (part_place c o s ps t v)))) k) b h) h
+leave_follows (flow_entry c) k m h = refl
+leave_follows p k m h = held_step p None k m (λ b. never (read_step m (leave p) k) b h) h
 
 -- properties that come first
-pub properties_feed : (ps : Properties) (p : Place) (r : List Token) → feeds (properties_tokens ps r) (due p None) ≡ feeds r (due p (Some ps))
+properties_feed : (ps : Properties) (p : Place) (r : List Token) → feeds (properties_tokens ps r) (due p None) ≡ feeds r (due p (Some ps))
 properties_feed (anchor a m) p r = refl
 properties_feed _ p r = refl
 
@@ -151,113 +142,147 @@ pub option_feeds : (o : Option Properties) (p : Place) (r : List Token) → feed
 option_feeds None p r = refl
 option_feeds (Some ps) p r = properties_feed ps p r
 
--- a flow entry that begins with no KEY
-pub properties_begin : (ps : Properties) (c : Open) (r : List Token)
-    → feeds (properties_tokens ps r) (flow_due c) ≡ feeds (properties_tokens ps r) (due (flow_entry c) None)
-properties_begin (anchor a m) c r = refl
-properties_begin _ c r = refl
+-- the position at a place of which no token has come
+abbrev pub home : Place → Position
+home (block (root (implicit_root f))) = between (free f)
+home (flow_entry c) = flow_due c
+home p = due p None
 
-pub node_begins : (n : FlowNode) (c : Open) (r : List Token)
-    → feeds (flow_node_tokens n r) (flow_due c) ≡ feeds (flow_node_tokens n r) (due (flow_entry c) None)
-node_begins (alias a m) c r = refl
-node_begins (alone ps) c r = properties_begin ps c r
-node_begins (scalar None v m) c r = refl
-node_begins (scalar (Some ps) v m) c r = properties_begin ps c _
-node_begins (collection None sequence m is l n) c r = refl
-node_begins (collection None mapping m is l n) c r = refl
-node_begins (collection (Some ps) k m is l n) c r = properties_begin ps c _
+-- a token that begins a node does there what it does where the node is expected
+home_step : (p : Place) (k : Content) (m : Marks) → Begins k → step (home p) k m ≡ on_due p None k m
+home_step (block (root (implicit_root f))) (VersionDirective a) m b = absurd b
+home_step (block (root (implicit_root f))) (TagDirective a) m b = absurd b
+home_step (block (root (implicit_root f))) DocumentStart m b = absurd b
+home_step (block (root (implicit_root f))) DocumentEnd m b = absurd b
+home_step (block (root (implicit_root f))) StreamEnd m b = absurd b
+home_step (flow_entry c) Key m b = absurd b
+home_step (flow_entry c) FlowSequenceEnd m b = absurd b
+home_step (flow_entry c) FlowMappingEnd m b = absurd b
+home_step _ k m b = refl
+
+-- the list begins with such a token
+abbrev pub BeginsNode : List Token → Type 0
+BeginsNode [] = ⊥
+BeginsNode (t ∷ r) = Begins t.content
+
+pub home_feeds : (p : Place) (l : List Token) → BeginsNode l → feeds l (home p) ≡ feeds l (due p None)
+home_feeds p [] b = absurd b
+home_feeds p (t ∷ r) b = ap (λ (s : Step). then_all s (feeds r)) (home_step p t.content (marks_of t) b)
+
+properties_begin : (ps : Properties) (r : List Token) → BeginsNode (properties_tokens ps r)
+properties_begin (anchor a m) r = tt
+properties_begin _ r = tt
+
+pub option_begins : (o : Option Properties) (k : Content) (m : Marks) (r : List Token) → Begins k → BeginsNode (option_tokens o (tok k m ∷ r))
+option_begins None k m r b = b
+option_begins (Some ps) k m r b = properties_begin ps (tok k m ∷ r)
+
+pub opening_begins : (k : Sort) → Begins (opening k)
+opening_begins sequence = tt
+opening_begins mapping = tt
+
+pub flow_node_begins : (n : FlowNode) (r : List Token) → BeginsNode (flow_node_tokens n r)
+flow_node_begins (alias a m) r = tt
+flow_node_begins (alone ps) r = properties_begin ps r
+flow_node_begins (scalar o v m) r = option_begins o (Scalar v) m r tt
+flow_node_begins (collection o k m is l n) r = option_begins o (opening k) m _ (opening_begins k)
+
+pub block_node_begins : (n : BlockNode) (r : List Token) → BeginsNode (block_node_tokens n r)
+block_node_begins (flow n) r = flow_node_begins n r
+block_node_begins (block_sequence o m is n) r = option_begins o BlockSequenceStart m _ tt
+block_node_begins (block_mapping o m ps n) r = option_begins o BlockMappingStart m _ tt
+
+pub opening_feeds : (k : Sort) (m : Marks) (p : Place) (o : Option Properties) (r : List Token)
+    → feeds (tok (opening k) m ∷ r) (due p o) ≡ feeds r (flow_due (open_collection p o k m no_items))
+opening_feeds sequence m p o r = refl
+opening_feeds mapping m p o r = refl
 
 -- a pair whose key has come, and no VALUE
-pub keyed_step : (c : Open) (e : Marks) (x : FlowSlot) (k : Content) (m : Marks) → Takes (behind_member c (pair e x no_value) k m)
-    → behind_key c e x k m ≡ behind_member c (pair e x no_value) k m
-keyed_step c e x Value m h = absurd h
-keyed_step c e x k m h = refl
+keyed_follows : (c : Open) (e : Marks) (x : FlowSlot) → Follows (flow_keyed c e x) (flow_behind c (pair e x no_value))
+keyed_follows c e x Value m h = absurd h
+keyed_follows c e x k m h = refl
 
-pub keyed_feeds : (c : Open) (e : Marks) (x : FlowSlot) (r : List Token) → Ready (flow_behind c (pair e x no_value)) r
-    → feeds r (flow_keyed c e x) ≡ feeds r (flow_behind c (pair e x no_value))
-keyed_feeds c e x [] h = absurd h
-keyed_feeds c e x (t ∷ r) h = ap (λ (s : Step). then_all s (feeds r)) (keyed_step c e x t.content (marks_of t) h)
+-- the position after the last token of a part on the right edge, and that of the whole part
+abbrev pub edge_flow : Place → FlowNode → Position
+edge_flow p (alone ps) = due p (Some ps)
+edge_flow p n = fill_flow p n
 
-pub keyed_ready : (c : Open) (e : Marks) (x : FlowSlot) (r : List Token) → Ready (flow_behind c (pair e x no_value)) r → Ready (flow_keyed c e x) r
-keyed_ready c e x [] h = h
-keyed_ready c e x (t ∷ r) h = subst Takes (sym (keyed_step c e x t.content (marks_of t) h)) h
+abbrev pub edge_block : BlockPlace → BlockNode → Position
+edge_block c (flow n) = edge_flow (block c) n
+edge_block c n = fill c n
+
+flow_edge_whole : (n : FlowNode) (p : Place) (r : List Token) → Ready (fill_flow p n) r → feeds r (edge_flow p n) ≡ feeds r (fill_flow p n)
+flow_edge_whole (alone ps) p r h = follows_feeds (due p (Some ps)) (fill_flow p (alone ps)) (alone_follows p ps) r h
+flow_edge_whole _ p r h = refl
+
+block_edge_whole : (n : BlockNode) (c : BlockPlace) (r : List Token) → Ready (fill c n) r → feeds r (edge_block c n) ≡ feeds r (fill c n)
+block_edge_whole (flow n) c r h = flow_edge_whole n (block c) r h
+block_edge_whole _ c r h = refl
 
 mutual
-  pub flow_node_reads : (n : FlowNode) (p : Place) (r : List Token) → Ready (fill_flow p n) r
-      → feeds (flow_node_tokens n r) (due p None) ≡ feeds r (fill_flow p n)
-  flow_node_reads (alias a m) p r h = refl
-  flow_node_reads (alone ps) p r h = properties_feed ps p r ∙ alone_feeds p ps r h
-  flow_node_reads (scalar o v m) p r h = option_feeds o p (tok (Scalar v) m ∷ r)
-  flow_node_reads (collection o sequence m is l n) p r h = option_feeds o p _ ∙ (flow_items_read is p o sequence m _ ∙ flow_last_reads l p o sequence m is n r)
-  flow_node_reads (collection o mapping m is l n) p r h = option_feeds o p _ ∙ (flow_items_read is p o mapping m _ ∙ flow_last_reads l p o mapping m is n r)
+  pub flow_node_edge : (n : FlowNode) (p : Place) (r : List Token) → feeds (flow_node_tokens n r) (due p None) ≡ feeds r (edge_flow p n)
+  flow_node_edge (alias a m) p r = refl
+  flow_node_edge (alone ps) p r = properties_feed ps p r
+  flow_node_edge (scalar o v m) p r = option_feeds o p (tok (Scalar v) m ∷ r)
+  flow_node_edge (collection o k m is l n) p r
+      = option_feeds o p _ ∙ (opening_feeds k m p o _ ∙ (flow_items_read is p o k m _ ∙ flow_last_reads l p o k m is n r))
 
   pub flow_items_read : (is : FlowItems) (p : Place) (o : Option Properties) (k : Sort) (m : Marks) (r : List Token)
       → feeds (flow_items_tokens is r) (flow_due (open_collection p o k m no_items)) ≡ feeds r (flow_due (open_collection p o k m is))
   flow_items_read no_items p o k m r = refl
   flow_items_read (more_items is e n) p o k m r = flow_items_read is p o k m _ ∙ flow_member_reads e (open_collection p o k m is) (tok FlowEntry n ∷ r) tt
 
-  pub flow_last_reads : (l : FlowLast) (p : Place) (o : Option Properties) (k : Sort) (m : Marks) (is : FlowItems) (n : Marks) (r : List Token)
+  flow_last_reads : (l : FlowLast) (p : Place) (o : Option Properties) (k : Sort) (m : Marks) (is : FlowItems) (n : Marks) (r : List Token)
       → feeds (flow_last_tokens l (tok (closing k) n ∷ r)) (flow_due (open_collection p o k m is)) ≡ feeds r (fill_flow p (collection o k m is l n))
   flow_last_reads no_last p o sequence m is n r = refl
   flow_last_reads no_last p o mapping m is n r = refl
   flow_last_reads (last e) p o sequence m is n r = flow_member_reads e (open_collection p o sequence m is) (tok FlowSequenceEnd n ∷ r) tt
   flow_last_reads (last e) p o mapping m is n r = flow_member_reads e (open_collection p o mapping m is) (tok FlowMappingEnd n ∷ r) tt
 
-  pub flow_member_reads : (e : FlowMember) (c : Open) (r : List Token) → Ready (flow_behind c e) r
+  flow_member_reads : (e : FlowMember) (c : Open) (r : List Token) → Ready (flow_behind c e) r
       → feeds (flow_member_tokens e r) (flow_due c) ≡ feeds r (flow_behind c e)
-  flow_member_reads (single n) c r h = node_begins n c r ∙ flow_node_reads n (flow_entry c) r h
-  flow_member_reads (pair m k no_value) c r h = flow_key_reads k c m r (keyed_ready c m k r h) ∙ keyed_feeds c m k r h
-  flow_member_reads (pair m k (with_value n v)) c r h = flow_key_reads k c m (tok Value n ∷ flow_slot_tokens v r) tt ∙ flow_value_reads v c m k n r h
+  flow_member_reads (single n) c r h
+      = home_feeds (flow_entry c) (flow_node_tokens n r) (flow_node_begins n r) ∙ (flow_node_edge n (flow_entry c) r ∙ flow_edge_whole n (flow_entry c) r h)
+  flow_member_reads (pair m k no_value) c r h = flow_slot_reads k (flow_key c m) r
+      (follows_ready (flow_keyed c m k) (flow_behind c (pair m k no_value)) (keyed_follows c m k) r h)
+      ∙ follows_feeds (flow_keyed c m k) (flow_behind c (pair m k no_value)) (keyed_follows c m k) r h
+  flow_member_reads (pair m k (with_value n v)) c r h = flow_slot_reads k (flow_key c m) (tok Value n ∷ flow_slot_tokens v r) tt
+      ∙ flow_slot_reads v (flow_value c m k n) r h
 
-  pub flow_key_reads : (x : FlowSlot) (c : Open) (m : Marks) (r : List Token) → Ready (flow_keyed c m x) r
-      → feeds (flow_slot_tokens x r) (due (flow_key c m) None) ≡ feeds r (flow_keyed c m x)
-  flow_key_reads flow_nothing c m r h = leave_feeds (flow_key c m) r h
-  flow_key_reads (flow_node n) c m r h = flow_node_reads n (flow_key c m) r h
-
-  pub flow_value_reads : (x : FlowSlot) (c : Open) (m : Marks) (k : FlowSlot) (n : Marks) (r : List Token) → Ready (flow_behind c (pair m k (with_value n x))) r
-      → feeds (flow_slot_tokens x r) (due (flow_value c m k n) None) ≡ feeds r (flow_behind c (pair m k (with_value n x)))
-  flow_value_reads flow_nothing c m k n r h = leave_feeds (flow_value c m k n) r h
-  flow_value_reads (flow_node x) c m k n r h = flow_node_reads x (flow_value c m k n) r h
+  pub flow_slot_reads : (x : FlowSlot) (p : Place) (r : List Token) → Ready (fill_flow_slot p x) r
+      → feeds (flow_slot_tokens x r) (due p None) ≡ feeds r (fill_flow_slot p x)
+  flow_slot_reads flow_nothing p r h = follows_feeds (due p None) (leave p) (leave_follows p) r h
+  flow_slot_reads (flow_node n) p r h = flow_node_edge n p r ∙ flow_edge_whole n p r h
 
 -- after an indentless sequence the mapping goes on
-pub indentless_step : (c : PartPlace) (o : Option Properties) (is : BlockItems) (e : Marks) (n : BlockSlot) (k : Content) (m : Marks)
-    → Takes (step (fill_part c (indentless o is e n)) k m) → behind_indentless c o is e n k m ≡ step (fill_part c (indentless o is e n)) k m
-indentless_step (part_place c x s ps r v) o is e n BlockEntry m h = absurd h
-indentless_step (part_place c x s ps r v) o is e n k m h = refl
-
-pub indentless_feeds : (c : PartPlace) (o : Option Properties) (is : BlockItems) (e : Marks) (n : BlockSlot) (r : List Token)
-    → Ready (fill_part c (indentless o is e n)) r → feeds r (in_indentless c o is e n) ≡ feeds r (fill_part c (indentless o is e n))
-indentless_feeds c o is e n [] h = absurd h
-indentless_feeds c o is e n (t ∷ r) h = ap (λ (s : Step). then_all s (feeds r)) (indentless_step c o is e n t.content (marks_of t) h)
-
-pub indentless_ready : (c : PartPlace) (o : Option Properties) (is : BlockItems) (e : Marks) (n : BlockSlot) (r : List Token)
-    → Ready (fill_part c (indentless o is e n)) r → Ready (in_indentless c o is e n) r
-indentless_ready c o is e n [] h = h
-indentless_ready c o is e n (t ∷ r) h = subst Takes (sym (indentless_step c o is e n t.content (marks_of t) h)) h
+indentless_follows : (c : PartPlace) (o : Option Properties) (is : BlockItems) (e : Marks) (n : BlockSlot)
+    → Follows (in_indentless c o is e n) (fill_part c (indentless o is e n))
+indentless_follows (part_place c x s ps r v) o is e n BlockEntry m h = absurd h
+indentless_follows (part_place c x s ps r v) o is e n k m h = refl
 
 mutual
-  pub block_node_reads : (n : BlockNode) (c : BlockPlace) (r : List Token) → Ready (fill c n) r
-      → feeds (block_node_tokens n r) (due (block c) None) ≡ feeds r (fill c n)
-  block_node_reads (flow n) c r h = flow_node_reads n (block c) r h
-  block_node_reads (block_sequence o m is n) c r h = option_feeds o (block c) _ ∙ items_read is c o m (tok BlockEnd n ∷ r) tt
-  block_node_reads (block_mapping o m ps n) c r h = option_feeds o (block c) _ ∙ parts_read ps c o m (tok BlockEnd n ∷ r) tt
+  pub block_node_edge : (n : BlockNode) (c : BlockPlace) (r : List Token) → feeds (block_node_tokens n r) (due (block c) None) ≡ feeds r (edge_block c n)
+  block_node_edge (flow n) c r = flow_node_edge n (block c) r
+  block_node_edge (block_sequence o m is n) c r = option_feeds o (block c) _ ∙ items_read is c o m (tok BlockEnd n ∷ r) tt
+  block_node_edge (block_mapping o m ps n) c r = option_feeds o (block c) _ ∙ parts_read ps c o m (tok BlockEnd n ∷ r) tt
 
-  pub block_slot_reads : (x : BlockSlot) (c : BlockPlace) (r : List Token) → Ready (fill_block_slot c x) r
+  block_slot_reads : (x : BlockSlot) (c : BlockPlace) (r : List Token) → Ready (fill_block_slot c x) r
       → feeds (block_slot_tokens x r) (due (block c) None) ≡ feeds r (fill_block_slot c x)
-  block_slot_reads nothing c r h = leave_feeds (block c) r h
-  block_slot_reads (node n) c r h = block_node_reads n c r h
+  block_slot_reads nothing c r h = follows_feeds (due (block c) None) (leave (block c)) (leave_follows (block c)) r h
+  block_slot_reads (node n) c r h = block_node_edge n c r ∙ block_edge_whole n c r h
 
   pub items_read : (is : BlockItems) (c : BlockPlace) (o : Option Properties) (m : Marks) (r : List Token) → Ready (in_sequence c o m is) r
       → feeds (items_tokens is r) (in_sequence c o m empty) ≡ feeds r (in_sequence c o m is)
   items_read empty c o m r h = refl
   items_read (item is e n) c o m r h = items_read is c o m (tok BlockEntry e ∷ block_slot_tokens n r) tt ∙ block_slot_reads n (entry c o m is e) r h
 
-  pub slot_reads : (x : Slot) (c : PartPlace) (r : List Token) → Ready (fill_part c x) r
+  slot_reads : (x : Slot) (c : PartPlace) (r : List Token) → Ready (fill_part c x) r
       → feeds (slot_tokens x r) (due (block (slot c)) None) ≡ feeds r (fill_part c x)
   slot_reads (slot_of n) c r h = block_slot_reads n (slot c) r h
   slot_reads (indentless o is e n) c r h = option_feeds o (block (slot c)) _
       ∙ (entries_read is c o e (block_slot_tokens n r)
-      ∙ (block_slot_reads n (indentless_entry c o is e) r (indentless_ready c o is e n r h) ∙ indentless_feeds c o is e n r h))
+      ∙ (block_slot_reads n (indentless_entry c o is e) r (follows_ready (in_indentless c o is e n) (fill_part c (indentless o is e n)) (indentless_follows c o is e n) r h)
+      ∙ follows_feeds (in_indentless c o is e n) (fill_part c (indentless o is e n)) (indentless_follows c o is e n) r h))
 
   pub entries_read : (is : BlockItems) (c : PartPlace) (o : Option Properties) (e : Marks) (r : List Token)
       → feeds (items_tokens is (tok BlockEntry e ∷ r)) (due (block (slot c)) o) ≡ feeds r (due (block (indentless_entry c o is e)) None)
@@ -304,32 +329,10 @@ pub start_ready : (b : Before) (m : Marks) → Takes (feed (between b) (tok Docu
 start_ready (free f) m = tt
 start_ready (behind d) m = tt
 
-pub properties_begin_document : (ps : Properties) (f : Free) (r : List Token)
-    → feeds (properties_tokens ps r) (between (free f)) ≡ feeds (properties_tokens ps r) (due (block (root (implicit_root f))) None)
-properties_begin_document (anchor a m) f r = refl
-properties_begin_document _ f r = refl
-
-pub flow_begins_document : (n : FlowNode) (f : Free) (r : List Token)
-    → feeds (flow_node_tokens n r) (between (free f)) ≡ feeds (flow_node_tokens n r) (due (block (root (implicit_root f))) None)
-flow_begins_document (alias a m) f r = refl
-flow_begins_document (alone ps) f r = properties_begin_document ps f r
-flow_begins_document (scalar None v m) f r = refl
-flow_begins_document (scalar (Some ps) v m) f r = properties_begin_document ps f _
-flow_begins_document (collection None sequence m is l n) f r = refl
-flow_begins_document (collection None mapping m is l n) f r = refl
-flow_begins_document (collection (Some ps) k m is l n) f r = properties_begin_document ps f _
-
-pub begins_document : (n : BlockNode) (f : Free) (r : List Token)
-    → feeds (block_node_tokens n r) (between (free f)) ≡ feeds (block_node_tokens n r) (due (block (root (implicit_root f))) None)
-begins_document (flow n) f r = flow_begins_document n f r
-begins_document (block_sequence None m is n) f r = refl
-begins_document (block_sequence (Some ps) m is n) f r = properties_begin_document ps f _
-begins_document (block_mapping None m is n) f r = refl
-begins_document (block_mapping (Some ps) m is n) f r = properties_begin_document ps f _
-
 mutual
-  pub documents_read : (d : Documents) (r : List Token) → Ready (between (behind d)) r → feeds (documents_tokens d r) unopened ≡ feeds r (between (behind d))
-  documents_read (implicit f n) r h = free_reads f _ ∙ (begins_document n f r ∙ block_node_reads n (root (implicit_root f)) r h)
+  documents_read : (d : Documents) (r : List Token) → Ready (between (behind d)) r → feeds (documents_tokens d r) unopened ≡ feeds r (between (behind d))
+  documents_read (implicit f n) r h = free_reads f _
+      ∙ (home_feeds (block (root (implicit_root f))) (block_node_tokens n r) (block_node_begins n r) ∙ block_slot_reads (node n) (root (implicit_root f)) r h)
   documents_read (explicit b ds m n) r h = before_reads b _ (directives_ready ds b _ (start_ready b m))
       ∙ (directives_read ds b _ ∙ (start_feeds b ds m _ ∙ block_slot_reads n (root (explicit_root b ds m)) r h))
 
@@ -337,7 +340,7 @@ mutual
   free_reads (opened e m) r = refl
   free_reads (ended e) r = ended_reads e r
 
-  pub ended_reads : (e : Ended) (r : List Token) → feeds (ended_tokens e r) unopened ≡ feeds r (between (free (ended e)))
+  ended_reads : (e : Ended) (r : List Token) → feeds (ended_tokens e r) unopened ≡ feeds r (between (free (ended e)))
   ended_reads (once d m) r = documents_read d (tok DocumentEnd m ∷ r) tt
   ended_reads (again e m) r = ended_reads e (tok DocumentEnd m ∷ r)
 

@@ -1,35 +1,23 @@
 -- The position that a cut tree's tokens lead to: its right edge, with all that is open around it.
 use Rattle.std.proofs.Common.{◌≡◌, List, ◌∷◌, Option, Some, None, refl, ◌∙◌}
-use Rattle.libyaml_grammar.specs.sentences.Tokens.{BlockEnd, BlockEntry, BlockMappingStart, BlockSequenceStart, Key, Marks, Scalar, Token, Value, tok}
-use Rattle.libyaml_grammar.specs.sentences.Trees.{Before, BlockItems, BlockNode, BlockSlot, Directive, Directives, Documents, FlowMember, FlowNode, FlowSlot}
-use Rattle.libyaml_grammar.specs.sentences.Trees.{Parts, Properties, Sort, alias, alone, anchor, before_tokens, behind, block_mapping, block_node_tokens}
-use Rattle.libyaml_grammar.specs.sentences.Trees.{block_sequence, block_slot_tokens, collection, directive, directive_token, directives_tokens}
-use Rattle.libyaml_grammar.specs.sentences.Trees.{documents_tokens, empty, explicit, flow, flow_node, flow_node_tokens, flow_nothing, flow_slot_tokens, free}
-use Rattle.libyaml_grammar.specs.sentences.Trees.{implicit, indentless, item, key, mapping, no_directives, no_items, no_parts, no_value, node, nothing}
-use Rattle.libyaml_grammar.specs.sentences.Trees.{opening, option_tokens, pair, part, properties_tokens, scalar, sequence, single, slot_of, value, with_value}
-use Rattle.libyaml_grammar.specs.cuts.CutTrees.{BlockPlace, Cut, Open, PartPlace, Place, Root, at_directive, at_tag, at_tag_behind, before_stream, block}
+use Rattle.libyaml_grammar.specs.sentences.Tokens.{Anchor, BlockEntry, BlockMappingStart, BlockSequenceStart, Key, Marks, Token, Value, tok}
+use Rattle.libyaml_grammar.specs.sentences.Trees.{Before, BlockItems, BlockSlot, Directive, Directives, Documents, FlowMember, FlowSlot, Parts, Properties}
+use Rattle.libyaml_grammar.specs.sentences.Trees.{Sort, anchor, before_tokens, behind, block_node_tokens, block_slot_tokens, directive, directive_token}
+use Rattle.libyaml_grammar.specs.sentences.Trees.{directives_tokens, documents_tokens, empty, explicit, flow_node, flow_node_tokens, flow_nothing}
+use Rattle.libyaml_grammar.specs.sentences.Trees.{flow_slot_tokens, free, implicit, indentless, item, key, no_directives, no_items, no_parts, no_value}
+use Rattle.libyaml_grammar.specs.sentences.Trees.{node, nothing, opening, option_tokens, pair, part, single, slot_of, value, with_value}
+use Rattle.libyaml_grammar.specs.cuts.CutTrees.{BlockPlace, Cut, Open, PartPlace, Place, at_directive, at_tag, at_tag_behind, before_stream, block}
 use Rattle.libyaml_grammar.specs.cuts.CutTrees.{block_place_tokens, content_due, cut_tokens, document_due, entry, entry_due, explicit_root, flow_entry}
 use Rattle.libyaml_grammar.specs.cuts.CutTrees.{flow_key, flow_value, implicit_root, indentless_entry, open_collection, open_tokens, part_due, part_place}
 use Rattle.libyaml_grammar.specs.cuts.CutTrees.{part_place_tokens, place_tokens, root, separator_due, slot, start_due}
 use Rattle.libyaml_grammar.proofs.lent.Positions.{Position, between, due, flow_due, headed, in_mapping, in_sequence, unopened}
-use Rattle.libyaml_grammar.proofs.lent.Reading.{feeds, fill, fill_flow}
-use Rattle.libyaml_grammar.proofs.trees.Complete.{before_reads, begins_document, directive_feeds, directive_ready, directives_read, directives_ready}
-use Rattle.libyaml_grammar.proofs.trees.Complete.{entries_read, flow_items_read, flow_key_reads, flow_last_reads, free_reads, items_read, node_begins}
-use Rattle.libyaml_grammar.proofs.trees.Complete.{option_feeds, parts_read, properties_begin, properties_begin_document, properties_feed, start_feeds}
-use Rattle.libyaml_grammar.proofs.trees.Complete.{start_ready}
+use Rattle.libyaml_grammar.proofs.lent.Reading.{feeds}
+use Rattle.libyaml_grammar.proofs.trees.Complete.{before_reads, block_node_begins, block_node_edge, directive_feeds, directive_ready, directives_read}
+use Rattle.libyaml_grammar.proofs.trees.Complete.{directives_ready, edge_block, edge_flow, entries_read, flow_items_read, flow_node_begins, flow_node_edge}
+use Rattle.libyaml_grammar.proofs.trees.Complete.{flow_slot_reads, free_reads, home, home_feeds, items_read, opening_begins, opening_feeds, option_begins}
+use Rattle.libyaml_grammar.proofs.trees.Complete.{option_feeds, parts_read, start_feeds, start_ready}
 
--- the position after the last token of a part on the right edge
-abbrev pub edge_flow : Place → FlowNode → Position
-edge_flow p (alone ps) = due p (Some ps)
-edge_flow p (alias a m) = fill_flow p (alias a m)
-edge_flow p (scalar o v m) = fill_flow p (scalar o v m)
-edge_flow p (collection o k m is l n) = fill_flow p (collection o k m is l n)
-
-abbrev pub edge_block : BlockPlace → BlockNode → Position
-edge_block c (flow n) = edge_flow (block c) n
-edge_block c (block_sequence o m is n) = fill c (block_sequence o m is n)
-edge_block c (block_mapping o m ps n) = fill c (block_mapping o m ps n)
-
+-- the position after the last token of a place that is filled
 abbrev pub edge_slot : BlockPlace → BlockSlot → Position
 edge_slot c nothing = due (block c) None
 edge_slot c (node n) = edge_block c n
@@ -37,18 +25,6 @@ edge_slot c (node n) = edge_block c n
 abbrev pub edge_flow_slot : Place → FlowSlot → Position
 edge_flow_slot p flow_nothing = due p None
 edge_flow_slot p (flow_node n) = edge_flow p n
-
-flow_node_edge : (n : FlowNode) (p : Place) (r : List Token) → feeds (flow_node_tokens n r) (due p None) ≡ feeds r (edge_flow p n)
-flow_node_edge (alias a m) p r = refl
-flow_node_edge (alone ps) p r = properties_feed ps p r
-flow_node_edge (scalar o v m) p r = option_feeds o p (tok (Scalar v) m ∷ r)
-flow_node_edge (collection o sequence m is l n) p r = option_feeds o p _ ∙ (flow_items_read is p o sequence m _ ∙ flow_last_reads l p o sequence m is n r)
-flow_node_edge (collection o mapping m is l n) p r = option_feeds o p _ ∙ (flow_items_read is p o mapping m _ ∙ flow_last_reads l p o mapping m is n r)
-
-block_node_edge : (n : BlockNode) (c : BlockPlace) (r : List Token) → feeds (block_node_tokens n r) (due (block c) None) ≡ feeds r (edge_block c n)
-block_node_edge (flow n) c r = flow_node_edge n (block c) r
-block_node_edge (block_sequence o m is n) c r = option_feeds o (block c) _ ∙ items_read is c o m (tok BlockEnd n ∷ r) tt
-block_node_edge (block_mapping o m ps n) c r = option_feeds o (block c) _ ∙ parts_read ps c o m (tok BlockEnd n ∷ r) tt
 
 slot_edge : (x : BlockSlot) (c : BlockPlace) (r : List Token) → feeds (block_slot_tokens x r) (due (block c) None) ≡ feeds r (edge_slot c x)
 slot_edge nothing c r = refl
@@ -58,62 +34,21 @@ flow_slot_edge : (x : FlowSlot) (p : Place) (r : List Token) → feeds (flow_slo
 flow_slot_edge flow_nothing p r = refl
 flow_slot_edge (flow_node n) p r = flow_node_edge n p r
 
--- the position at a place of which no token has come
-abbrev pub home_root : Root → Position
-home_root (implicit_root f) = between (free f)
-home_root (explicit_root b ds m) = due (block (root (explicit_root b ds m))) None
-
-abbrev pub home_block : BlockPlace → Position
-home_block (root t) = home_root t
-home_block (entry c o m is e) = due (block (entry c o m is e)) None
-home_block (slot c) = due (block (slot c)) None
-home_block (indentless_entry c o is e) = due (block (indentless_entry c o is e)) None
-
-abbrev pub home : Place → Position
-home (block c) = home_block c
-home (flow_entry c) = flow_due c
-home (flow_key c k) = due (flow_key c k) None
-home (flow_value c k x v) = due (flow_value c k x v) None
-
-home_block_properties : (ps : Properties) (c : BlockPlace) (r : List Token)
-    → feeds (properties_tokens ps r) (home_block c) ≡ feeds (properties_tokens ps r) (due (block c) None)
-home_block_properties ps (root (implicit_root f)) r = properties_begin_document ps f r
-home_block_properties ps _ r = refl
-
-home_properties : (ps : Properties) (p : Place) (r : List Token) → feeds (properties_tokens ps r) (home p) ≡ feeds (properties_tokens ps r) (due p None)
-home_properties ps (block c) r = home_block_properties ps c r
-home_properties ps (flow_entry c) r = properties_begin ps c r
-home_properties ps (flow_key c k) r = refl
-home_properties ps (flow_value c k x v) r = refl
-
+-- a collection that begins at a place of which no token has come
 home_sequence : (o : Option Properties) (c : BlockPlace) (m : Marks) (r : List Token)
-    → feeds (option_tokens o (tok BlockSequenceStart m ∷ r)) (home_block c) ≡ feeds r (in_sequence c o m empty)
-home_sequence (Some ps) c m r = home_block_properties ps c _ ∙ properties_feed ps (block c) _
-home_sequence None (root (implicit_root f)) m r = refl
-home_sequence None _ m r = refl
+    → feeds (option_tokens o (tok BlockSequenceStart m ∷ r)) (home (block c)) ≡ feeds r (in_sequence c o m empty)
+home_sequence o c m r = home_feeds (block c) (option_tokens o (tok BlockSequenceStart m ∷ r)) (option_begins o BlockSequenceStart m r tt) ∙ option_feeds o (block c) _
 
 home_mapping : (o : Option Properties) (c : BlockPlace) (m : Marks) (r : List Token)
-    → feeds (option_tokens o (tok BlockMappingStart m ∷ r)) (home_block c) ≡ feeds r (in_mapping c o m no_parts)
-home_mapping (Some ps) c m r = home_block_properties ps c _ ∙ properties_feed ps (block c) _
-home_mapping None (root (implicit_root f)) m r = refl
-home_mapping None _ m r = refl
+    → feeds (option_tokens o (tok BlockMappingStart m ∷ r)) (home (block c)) ≡ feeds r (in_mapping c o m no_parts)
+home_mapping o c m r = home_feeds (block c) (option_tokens o (tok BlockMappingStart m ∷ r)) (option_begins o BlockMappingStart m r tt) ∙ option_feeds o (block c) _
 
 home_collection : (o : Option Properties) (p : Place) (k : Sort) (m : Marks) (r : List Token)
     → feeds (option_tokens o (tok (opening k) m ∷ r)) (home p) ≡ feeds r (flow_due (open_collection p o k m no_items))
-home_collection (Some ps) p sequence m r = home_properties ps p _ ∙ properties_feed ps p _
-home_collection (Some ps) p mapping m r = home_properties ps p _ ∙ properties_feed ps p _
-home_collection None (block (root (implicit_root f))) sequence m r = refl
-home_collection None (block (root (explicit_root b ds s))) sequence m r = refl
-home_collection None (block (entry c o s is e)) sequence m r = refl
-home_collection None (block (slot c)) sequence m r = refl
-home_collection None (block (indentless_entry c o is e)) sequence m r = refl
-home_collection None (flow_entry c) sequence m r = refl
-home_collection None (flow_key c e) sequence m r = refl
-home_collection None (flow_value c e x v) sequence m r = refl
-home_collection None _ _ m r = refl
+home_collection o p k m r = home_feeds p (option_tokens o (tok (opening k) m ∷ r)) (option_begins o (opening k) m r (opening_begins k)) ∙ (option_feeds o p _ ∙ opening_feeds k m p o r)
 
 mutual
-  block_place_reads : (c : BlockPlace) (r : List Token) → feeds (block_place_tokens c r) unopened ≡ feeds r (home_block c)
+  block_place_reads : (c : BlockPlace) (r : List Token) → feeds (block_place_tokens c r) unopened ≡ feeds r (home (block c))
   block_place_reads (root (implicit_root f)) r = free_reads f r
   block_place_reads (root (explicit_root b ds m)) r = before_reads b _ (directives_ready ds b _ (start_ready b m))
       ∙ (directives_read ds b _ ∙ start_feeds b ds m r)
@@ -130,7 +65,7 @@ mutual
   place_reads (block c) r = block_place_reads c r
   place_reads (flow_entry c) r = open_reads c r
   place_reads (flow_key c k) r = open_reads c (tok Key k ∷ r)
-  place_reads (flow_value c k x v) r = open_reads c _ ∙ flow_key_reads x c k (tok Value v ∷ r) tt
+  place_reads (flow_value c k x v) r = open_reads c _ ∙ flow_slot_reads x (flow_key c k) (tok Value v ∷ r) tt
 
   open_reads : (c : Open) (r : List Token) → feeds (open_tokens c r) unopened ≡ feeds r (flow_due c)
   open_reads (open_collection p o k m is) r = place_reads p _ ∙ (home_collection o p k m _ ∙ flow_items_read is p o k m r)
@@ -172,7 +107,8 @@ reached (part_due c o m ps) = edge_parts c o m ps
 reached (separator_due c e) = edge_member c e
 
 documents_edge : (d : Documents) (r : List Token) → feeds (documents_tokens d r) unopened ≡ feeds r (edge_documents d)
-documents_edge (implicit f n) r = free_reads f _ ∙ (begins_document n f r ∙ block_node_edge n (root (implicit_root f)) r)
+documents_edge (implicit f n) r = free_reads f _
+    ∙ (home_feeds (block (root (implicit_root f))) (block_node_tokens n r) (block_node_begins n r) ∙ block_node_edge n (root (implicit_root f)) r)
 documents_edge (explicit b ds m x) r = block_place_reads (root (explicit_root b ds m)) _ ∙ slot_edge x (root (explicit_root b ds m)) r
 
 headed_reads : (b : Before) (ds : Directives) (d : Directive) (r : List Token)
@@ -188,13 +124,13 @@ cut_reads (at_directive (behind d) no_directives) r = documents_edge d r
 cut_reads (at_directive b (directive ds d)) r = headed_reads b ds d r
 cut_reads (content_due p) r = place_reads p r
 cut_reads (at_tag p) r = place_reads p r
-cut_reads (at_tag_behind p a m) r = place_reads p _ ∙ home_properties (anchor a m) p r
+cut_reads (at_tag_behind p a m) r = place_reads p _ ∙ home_feeds p (tok (Anchor a) m ∷ r) tt
 cut_reads (entry_due c o m empty) r = block_place_reads c _ ∙ home_sequence o c m r
 cut_reads (entry_due c o m (item is e x)) r = block_place_reads (entry c o m is e) _ ∙ slot_edge x (entry c o m is e) r
 cut_reads (part_due c o m no_parts) r = block_place_reads c _ ∙ home_mapping o c m r
 cut_reads (part_due c o m (part ps k v (slot_of x))) r = part_place_reads (part_place c o m ps k v) _ ∙ slot_edge x (slot (part_place c o m ps k v)) r
 cut_reads (part_due c o m (part ps k v (indentless y is e x))) r = block_place_reads (indentless_entry (part_place c o m ps k v) y is e) _
     ∙ slot_edge x (indentless_entry (part_place c o m ps k v) y is e) r
-cut_reads (separator_due c (single n)) r = open_reads c _ ∙ (node_begins n c r ∙ flow_node_edge n (flow_entry c) r)
+cut_reads (separator_due c (single n)) r = open_reads c _ ∙ (home_feeds (flow_entry c) (flow_node_tokens n r) (flow_node_begins n r) ∙ flow_node_edge n (flow_entry c) r)
 cut_reads (separator_due c (pair k x no_value)) r = open_reads c _ ∙ flow_slot_edge x (flow_key c k) r
 cut_reads (separator_due c (pair k x (with_value v y))) r = place_reads (flow_value c k x v) _ ∙ flow_slot_edge y (flow_value c k x v) r

@@ -1,6 +1,6 @@
 -- Each list is a sentence or a beginning, or a cut tree fits it, and not both.
-use Rattle.std.proofs.Common.{◌≡◌, List, [], ◌∷◌, ◌++◌, refl, sym, ap, ◌∙◌, subst, Bool, true, false, ◌⊎◌, inl, inr}
-use Rattle.libyaml_grammar.specs.sentences.Tokens.{Marks, StreamEnd, Token, marks_of, tok, zero_marks}
+use Rattle.std.proofs.Common.{◌≡◌, List, [], ◌∷◌, ◌++◌, refl, sym, ap, ◌∙◌, subst, Bool, true, false, ◌⊎◌, inl, inr, append-nil}
+use Rattle.libyaml_grammar.specs.sentences.Tokens.{Marks, StreamEnd, Token, tok, zero_marks}
 use Rattle.libyaml_grammar.specs.sentences.Trees.{Stream}
 use Rattle.libyaml_grammar.specs.sentences.Events.{either}
 use Rattle.libyaml_grammar.specs.cuts.CutTrees.{Cut, cut_in_order, cut_tokens}
@@ -8,13 +8,11 @@ use Rattle.libyaml_grammar.specs.cuts.Rest.{rest}
 use Rattle.libyaml_grammar.specs.sentences.Sentences.{EitherNotBoth, IsBadToken, IsBeginning, IsSentence, has_end, is_end}
 use Rattle.libyaml_grammar.specs.cuts.Fits.{Fits, HasCut}
 use Rattle.libyaml_grammar.proofs.lent.Positions.{Position, done, unopened}
-use Rattle.libyaml_grammar.proofs.lent.Reading.{Step, bad, checked, feed, goes, is_legal, over, reads, reads_all, then_all}
+use Rattle.libyaml_grammar.proofs.lent.Reading.{Step, bad, goes, over, reads, reads_all, then_all}
 use Rattle.libyaml_grammar.proofs.trees.Append.{cut_append}
-use Rattle.libyaml_grammar.proofs.lent.Completion.{Stops, append_nil, cut_begins_proof, goes_or_stops, reached_begins, read_order, reads_append}
+use Rattle.libyaml_grammar.proofs.lent.Completion.{Stops, cut_begins_proof, goes_or_stops, reached_begins, read_sentence, reads_append}
 use Rattle.libyaml_grammar.proofs.trees.Ending.{ends_done, stays_open}
-use Rattle.libyaml_grammar.proofs.lent.Fitting.{over_done, stops_fits}
-use Rattle.libyaml_grammar.proofs.lent.Keeps.{feeds_keep}
-use Rattle.libyaml_grammar.proofs.lent.Orders.{reads_to}
+use Rattle.libyaml_grammar.proofs.lent.Fitting.{read_over, stops_fits}
 
 -- a prefix of a beginning is a beginning
 shift : (a b r : List Token) (t : Token) → (a ++ t ∷ []) ++ (b ++ r) ≡ (a ++ t ∷ b) ++ r
@@ -28,24 +26,9 @@ not_both : (l : List Token) → IsBeginning l → HasCut l → ⊥
 not_both l h c = c.fits.bad_token (begins_front c.before c.after c.token (subst IsBeginning c.all h))
 
 sentence_begins : (l : List Token) → IsSentence l → IsBeginning l
-sentence_begins l h = record { rest = []; sentence = subst IsSentence (sym (append_nil l)) h }
-
--- what is read to the stream's end is a sentence
-read_sentence : (l : List Token) (t : Stream) → reads_all l unopened ≡ goes (done t) → IsSentence l
-read_sentence l t e = record {
-  tree = t;
-  all = sym (append_nil l) ∙ sym (feeds_keep l unopened (done t) (reads_to l unopened (done t) e).0 []);
-  order
-      = read_order l (done t) e;
-}
+sentence_begins l h = record { rest = []; sentence = subst IsSentence (sym (append-nil l)) h }
 
 -- where reading stops there is a cut tree, or the stream had ended
-only_over : (s : Step) (b : Bool) → checked s b ≡ over → s ≡ over
-only_over (goes p) true e = cc
-only_over (goes p) false e = cc
-only_over (bad c) b e = cc
-only_over over b e = refl
-
 stopped : (l : List Token) (h : Stops l unopened) → HasCut l ⊎ ((t : Stream) × (reads_all h.before unopened ≡ goes (done t)))
 stopped l h = go (reads h.at h.token) refl
   where
@@ -61,7 +44,7 @@ stopped l h = go (reads h.at h.token) refl
           = stops_fits h.before h.token h.at c h.reached e;
     })
     go over e =
-        let (t, f) = over_done h.at h.token.content (marks_of h.token) (only_over (feed h.at h.token) (is_legal h.at h.token.content) e) in
+        let (t, f) = read_over h.at h.token e in
         inr (t, h.reached ∙ ap goes f)
 
 either_left : (a b : Bool) → either a b ≡ false → a ≡ false

@@ -1,63 +1,41 @@
 -- What documents load as, by the trees of their values: whole ones, and one whose end is missing.
 use Rattle.std.proofs.Common.{◌≡◌, ◌++◌, List, [], ◌∷◌, Option, Some, None, Bool, refl, sym, ap, ◌∙◌}
 use Rattle.libyaml_types.specs.declared.event.unnamed_yaml_event_t_data.TheVariants as ev
+use Rattle.libyaml_graphs.specs.loads.GraphLaws as law
 use Rattle.libyaml_types.specs.declared.event.unnamed_yaml_event_t_data_document_start.{unnamed_yaml_event_t_data_document_start}
-use Rattle.libyaml_grammar.specs.sentences.Events.{Event, document_end_at, end_at, event, stream_end_at}
+use Rattle.libyaml_grammar.specs.sentences.Events.{Event, document_end_at, event, stream_end_at}
 use Rattle.libyaml_sources.specs.Fault.{Fault}
-use Rattle.libyaml_grammar.specs.sentences.Nesting.{BeginsValue, HasBegun, IsNested, IsOpenDocument, NestsSoFar, Texts, Value, Values, alias_value}
-use Rattle.libyaml_grammar.specs.sentences.Nesting.{collection_value, first_value, has_begun, no_texts, no_values, none_open, not_begun, one_open}
-use Rattle.libyaml_grammar.specs.sentences.Nesting.{scalar_value, text_behind, texts_events, value_events, values_events, whole}
+use Rattle.libyaml_grammar.specs.sentences.Nesting.{BeginsValue, HasBegun, IsNested, IsOpenDocument, NestsSoFar, Texts, Value, has_begun, no_texts}
+use Rattle.libyaml_grammar.specs.sentences.Nesting.{none_open, not_begun, one_open, text_behind, texts_events, value_events, whole}
 use Rattle.libyaml_grammar.specs.runs.Runs.{Ending, Ends}
 use Rattle.libyaml_grammar.specs.sentences.Tokens.{Mark}
-use Rattle.libyaml_grammar.specs.sentences.Trees.{mapping, sequence}
 use Rattle.libyaml_documents.specs.declared.node.yaml_node_t.{yaml_node_t}
 use Rattle.libyaml_graphs.specs.graphs.ComposerFaults.{composer_fault}
 use Rattle.libyaml_graphs.specs.graphs.Graphs.{nodes_of}
 use Rattle.libyaml_graphs.specs.loads.GraphLaws.{NestedLoads, fault_or, open_load}
-use Rattle.libyaml_graphs.specs.loads.GraphLaws as law
 use Rattle.libyaml_graphs.specs.graphs.GraphParts.{Closing, Opening, Part, closing_of, graph, part_of, parts, with_part}
-use Rattle.libyaml_graphs.specs.loads.Loads.{Begun, Load, begun_behind, document_end, last_load, load_then, loads, loads_by, loads_of}
+use Rattle.libyaml_graphs.specs.loads.Loads.{Begun, Load, begun, begun_behind, document_end, last_load, load_then, loads, loads_by, loads_of}
+use Rattle.libyaml_grammar.proofs.lent.Splits.{value_splits}
 use Rattle.libyaml_graphs.proofs.graphs.TreeGraphs.{value_graph}
+use Rattle.libyaml_graphs.proofs.lent.Roots.{value_keeps}
 
 -- a value ends no document
-mutual
-  value_closing : (v : Value) (r : List Event) → document_end (value_events v r) ≡ document_end r
-  value_closing (alias_value a m n) r = refl
-  value_closing (scalar_value s m n) r = refl
-  value_closing (collection_value sequence a t i s m n vs p q) r = values_closing vs (end_at sequence p q ∷ r)
-  value_closing (collection_value mapping a t i s m n vs p q) r = values_closing vs (end_at mapping p q ∷ r)
+value_closing : (v : Value) (r : List Event) → document_end (value_events v r) ≡ document_end r
+value_closing v r = value_keeps (λ (l : List Event). document_end l ≡ document_end r)
+    (λ e s i k. ap (λ (c : Option Closing). elim c [ Some y ↦ Some y | None ↦ document_end s ]) i.1 ∙ k) v r refl
 
-  values_closing : (vs : Values) (r : List Event) → document_end (values_events vs r) ≡ document_end r
-  values_closing no_values r = refl
-  values_closing (first_value v vs) r = value_closing v (values_events vs r) ∙ values_closing vs r
-
-mutual
-  value_behind : (v : Value) (r : List Event) → begun_behind (value_events v r) ≡ begun_behind r
-  value_behind (alias_value a m n) r = refl
-  value_behind (scalar_value s m n) r = refl
-  value_behind (collection_value sequence a t i s m n vs p q) r = values_behind vs (end_at sequence p q ∷ r)
-  value_behind (collection_value mapping a t i s m n vs p q) r = values_behind vs (end_at mapping p q ∷ r)
-
-  values_behind : (vs : Values) (r : List Event) → begun_behind (values_events vs r) ≡ begun_behind r
-  values_behind no_values r = refl
-  values_behind (first_value v vs) r = value_behind v (values_events vs r) ∙ values_behind vs r
+value_behind : (v : Value) (r : List Event) → begun_behind (value_events v r) ≡ begun_behind r
+value_behind v r = value_keeps (λ (l : List Event). begun_behind l ≡ begun_behind r)
+    (λ e s i k. ap (λ (c : Option Closing). elim c [ Some y ↦ begun s | None ↦ begun_behind s ]) i.1 ∙ k) v r refl
 
 -- the parts of a value hang on those after it alone
-abbrev put : Part → List Part → List Part
-put p l = p ∷ l
+front_parts : (l r s : List Event) → parts r ≡ parts s → parts (l ++ r) ≡ parts (l ++ s)
+front_parts [] r s e = e
+front_parts (x ∷ l) r s e = ap (λ (P : List Part). elim (closing_of x) [ Some c ↦ [] | None ↦ with_part (part_of x) P ]) (front_parts l r s e)
 
-mutual
-  value_parts : (v : Value) (r s : List Event) → parts r ≡ parts s → parts (value_events v r) ≡ parts (value_events v s)
-  value_parts (alias_value a m n) r s e = ap (with_part (part_of (event (ev.Alias a) m n))) e
-  value_parts (scalar_value b m n) r s e = ap (with_part (part_of (event (ev.Scalar b) m n))) e
-  value_parts (collection_value sequence a t i b m n vs p q) r s e
-      = ap (put _) (values_parts vs (end_at sequence p q ∷ r) (end_at sequence p q ∷ s) (ap (put _) e))
-  value_parts (collection_value mapping a t i b m n vs p q) r s e
-      = ap (put _) (values_parts vs (end_at mapping p q ∷ r) (end_at mapping p q ∷ s) (ap (put _) e))
-
-  values_parts : (vs : Values) (r s : List Event) → parts r ≡ parts s → parts (values_events vs r) ≡ parts (values_events vs s)
-  values_parts no_values r s e = e
-  values_parts (first_value v vs) r s e = value_parts v (values_events vs r) (values_events vs s) (values_parts vs r s e)
+value_parts : (v : Value) (r s : List Event) → parts r ≡ parts s → parts (value_events v r) ≡ parts (value_events v s)
+value_parts v r s e = ap parts ((value_splits v).splits r)
+    ∙ (front_parts (value_events v []) r s e ∙ ap parts (sym ((value_splits v).splits s)))
 
 -- a load that has an end doesn't look at the run's ending
 ends_itself : (f : Option Fault) (c : Closing) (o : Opening) (ns : List yaml_node_t) (y z : Load) (l : List Load)

@@ -69,9 +69,16 @@ Has p [] = ⊥
 Has zero (h ∷ hs) = Unit {0}
 Has (suc p) (h ∷ hs) = Has p hs
 
+abbrev pub AllOf : (ℕ → Type 0) → List ℕ → Type 0
+AllOf P [] = Unit {0}
+AllOf P (p ∷ s) = P p × AllOf P s
+
+pub all_of : (P Q : ℕ → Type 0) (s : List ℕ) → ((p : ℕ) → P p → Q p) → AllOf P s → AllOf Q s
+all_of P Q [] f h = tt
+all_of P Q (p ∷ s) f h = (f p h.0, all_of P Q s f h.1)
+
 abbrev pub AllHas : List ℕ → List Held → Type 0
-AllHas [] hs = Unit {0}
-AllHas (p ∷ s) hs = Has p hs × AllHas s hs
+AllHas s hs = AllOf (λ p. Has p hs) s
 
 pub has_append : (p : ℕ) (hs r : List Held) → Has p hs → Has p (hs ++ r)
 has_append p [] r h = absurd h
@@ -90,12 +97,10 @@ has_last [] x = tt
 has_last (y ∷ hs) x = has_last hs x
 
 pub all_append : (s : List ℕ) (hs r : List Held) → AllHas s hs → AllHas s (hs ++ r)
-all_append [] hs r h = tt
-all_append (p ∷ s) hs r h = (has_append p hs r h.0, all_append s hs r h.1)
+all_append s hs r h = all_of (λ p. Has p hs) (λ p. Has p (hs ++ r)) s (λ p k. has_append p hs r k) h
 
 pub all_change : (s : List ℕ) (q : ℕ) (f : Held → Held) (hs : List Held) → AllHas s hs → AllHas s (change q f hs)
-all_change [] q f hs h = tt
-all_change (p ∷ s) q f hs h = (has_change p q f hs h.0, all_change s q f hs h.1)
+all_change s q f hs h = all_of (λ p. Has p hs) (λ p. Has p (change q f hs)) s (λ p k. has_change p q f hs k) h
 
 pub all_hold : (s t : List ℕ) (i : ℕ) (hs : List Held) → AllHas s hs → AllHas s (hold_top i t hs)
 all_hold s [] i hs h = h

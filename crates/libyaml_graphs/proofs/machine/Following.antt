@@ -1,6 +1,7 @@
 -- The loader follows the graph as it is built: its nodes are those built, and its stack is the open places with the keys that
 -- wait there.
-use Rattle.std.proofs.Common.{◌≡◌, ℕ, zero, suc, ℤ, pos, List, [], ◌∷◌, ◌++◌, length, refl, sym, ap, ◌∙◌, cond, Option, Some, None, Bool, true, false, nat_cmp}
+use Rattle.std.proofs.Common.{◌≡◌, ℕ, zero, suc, ℤ, pos, List, [], ◌∷◌, ◌++◌, length, refl, sym, ap, ◌∙◌, cond, Option, Some, None, Bool, true, false}
+use Rattle.std.proofs.Common.{nat_cmp}
 use Rattle.std.specs.Prelude.{slice_get}
 use Rattle.std.specs.Ordering.{eq_by_cmp}
 use Rattle.std.specs.Cmp.Lexicographic.{slice_cmp, texts_ties, nat_list_eq_equiv, nat_list_cmp_total}
@@ -13,11 +14,11 @@ use Rattle.libyaml_documents.specs.Nodes.{changed_at}
 use Rattle.libyaml_documents.specs.declared.node.yaml_node_t.{yaml_node_t}
 use Rattle.libyaml_graphs.specs.graphs.ComposerFaults.{alias_fault, anchor_fault, known_fault, part_fault, repeated_anchor}
 use Rattle.libyaml_graphs.specs.graphs.Graphs.{Carrier, Start, carrier, carries, id_or}
-use Rattle.libyaml_graphs.specs.machine.Loader.{Anchors, Loader, Open, Loading, Registered, closed_by, failed, going, hand, handed, key_after, known, load_part}
-use Rattle.libyaml_graphs.specs.machine.Loader.{no_anchors, on_alias, on_node, outer, register, registered, with_child}
+use Rattle.libyaml_graphs.specs.machine.Loader.{Anchors, Loader, Loading, Open, Registered, closed_by, failed, going, hand, handed, key_after, known}
+use Rattle.libyaml_graphs.specs.machine.Loader.{load_part, no_anchors, on_alias, on_node, outer, register, registered, with_child}
 use Rattle.libyaml_graphs.specs.graphs.GraphParts.{Part, alias_part, behind, end_part, leaf_part, start_of, start_part}
-use Rattle.libyaml_graphs.proofs.machine.Built.{AllHas, Built, Has, Held, all_append, all_end, all_hold, bare, below, build, change, end_at, end_top, has_last, hold}
-use Rattle.libyaml_graphs.proofs.machine.Built.{hold_top, length_end, length_hold, length_more, nodes_in, unbuilt}
+use Rattle.libyaml_graphs.proofs.machine.Built.{AllHas, AllOf, Built, Has, Held, all_append, all_end, all_hold, all_of, bare, below, build, change, end_at}
+use Rattle.libyaml_graphs.proofs.machine.Built.{end_top, has_last, hold, hold_top, length_end, length_hold, length_more, nodes_in, unbuilt}
 
 -- the key that waits at a place, and a stack of places with their keys
 abbrev pub key_in : ℕ → List Held → Option ℤ
@@ -39,8 +40,7 @@ Less zero (suc p) = Unit {0}
 Less (suc q) (suc p) = Less q p
 
 abbrev pub AllLess : List ℕ → ℕ → Type 0
-AllLess [] p = Unit {0}
-AllLess (q ∷ s) p = Less q p × AllLess s p
+AllLess s p = AllOf (λ q. Less q p) s
 
 abbrev pub Falls : List ℕ → Type 0
 Falls [] = Unit {0}
@@ -52,8 +52,7 @@ has_less zero (x ∷ hs) h = tt
 has_less (suc p) (x ∷ hs) h = has_less p hs h
 
 all_less : (s : List ℕ) (hs : List Held) → AllHas s hs → AllLess s (length hs)
-all_less [] hs h = tt
-all_less (p ∷ s) hs h = (has_less p hs h.0, all_less s hs h.1)
+all_less s hs h = all_of (λ p. Has p hs) (λ p. Less p (length hs)) s (λ p k. has_less p hs k) h
 
 -- a change at one place leaves the key of each other as it is
 key_below : (q p : ℕ) (f : Held → Held) (hs : List Held) → Less q p → key_in q (change p f hs) ≡ key_in q hs
@@ -84,23 +83,25 @@ key_last : (hs : List Held) (x : Held) → key_in (length hs) (hs ++ x ∷ []) �
 key_last [] x = refl
 key_last (y ∷ hs) x = key_last hs x
 
+-- a stack whose keys are the same
+stack_alike : (s : List ℕ) (hs ks : List Held) → AllOf (λ q. key_in q hs ≡ key_in q ks) s → stack_of s hs ≡ stack_of s ks
+stack_alike [] hs ks h = refl
+stack_alike (q ∷ s) hs ks h =
+    ap (λ (k : Option ℤ). record { node = pos (suc q); key = k } ∷ stack_of s hs) h.0
+    ∙ ap (λ (t : List Open). record { node = pos (suc q); key = key_in q ks } ∷ t) (stack_alike s hs ks h.1)
+
 stack_below : (s : List ℕ) (p : ℕ) (f : Held → Held) (hs : List Held) → AllLess s p → stack_of s (change p f hs) ≡ stack_of s hs
-stack_below [] p f hs h = refl
-stack_below (q ∷ s) p f hs h =
-    ap (λ (k : Option ℤ). record { node = pos (suc q); key = k } ∷ stack_of s (change p f hs)) (key_below q p f hs h.0)
-    ∙ ap (λ (t : List Open). record { node = pos (suc q); key = key_in q hs } ∷ t) (stack_below s p f hs h.1)
+stack_below s p f hs h = stack_alike s (change p f hs) hs (all_of (λ q. Less q p) _ s (λ q l. key_below q p f hs l) h)
 
 stack_ended : (s : List ℕ) (p : ℕ) (m : Mark) (hs : List Held) → stack_of s (change p (end_at m) hs) ≡ stack_of s hs
-stack_ended [] p m hs = refl
-stack_ended (q ∷ s) p m hs =
-    ap (λ (k : Option ℤ). record { node = pos (suc q); key = k } ∷ stack_of s (change p (end_at m) hs)) (key_ended q p m hs)
-    ∙ ap (λ (t : List Open). record { node = pos (suc q); key = key_in q hs } ∷ t) (stack_ended s p m hs)
+stack_ended s p m hs = stack_alike s (change p (end_at m) hs) hs (every s)
+  where
+    every : (t : List ℕ) → AllOf (λ q. key_in q (change p (end_at m) hs) ≡ key_in q hs) t
+    every [] = tt
+    every (q ∷ t) = (key_ended q p m hs, every t)
 
 stack_append : (s : List ℕ) (hs r : List Held) → AllHas s hs → stack_of s (hs ++ r) ≡ stack_of s hs
-stack_append [] hs r h = refl
-stack_append (p ∷ s) hs r h =
-    ap (λ (k : Option ℤ). record { node = pos (suc p); key = k } ∷ stack_of s (hs ++ r)) (key_append p hs r h.0)
-    ∙ ap (λ (t : List Open). record { node = pos (suc p); key = key_in p hs } ∷ t) (stack_append s hs r h.1)
+stack_append s hs r h = stack_alike s (hs ++ r) hs (all_of (λ p. Has p hs) _ s (λ p k. key_append p hs r k) h)
 
 pub nodes_append : (hs r : List Held) → nodes_in (hs ++ r) ≡ nodes_in hs ++ nodes_in r
 nodes_append [] r = refl
@@ -188,23 +189,23 @@ loader_same nodes ms s t xs e h = ap (λ (l : List yaml_node_t). record { nodes 
     ∙ ap (λ (l : List Open). record { nodes = ms; stack = l; anchors = xs }) h
 
 -- a node that is put after the others and handed to its parent, with what the stack is then
+put_with : {A : Type 0} (f : ℤ → List Open → List yaml_node_t → A) (x : yaml_node_t) (es : List Start) (b : Built) → Stands es b
+    → f (pos (suc (length (nodes_in b.held)))) (stack_of b.places b.held) (nodes_in b.held ++ x ∷ [])
+    ≡ f (pos (suc (length es))) (stack_of b.places (b.held ++ bare x ∷ [])) (nodes_in (b.held ++ bare x ∷ []))
+put_with f x es b s =
+    ap (λ (i : ℕ). f (pos (suc i)) (stack_of b.places b.held) (nodes_in b.held ++ x ∷ [])) (nodes_length b.held ∙ s.size)
+    ∙ (ap (λ (t : List Open). f (pos (suc (length es))) t (nodes_in b.held ++ x ∷ [])) (sym (stack_append b.places b.held (bare x ∷ []) s.there))
+    ∙ ap (f (pos (suc (length es))) (stack_of b.places (b.held ++ bare x ∷ []))) (sym (nodes_append b.held (bare x ∷ []))))
+
 put_nodes : (x : yaml_node_t) (es : List Start) (b : Built) → Stands es b
     → hand (pos (suc (length (nodes_in b.held)))) (stack_of b.places b.held) (nodes_in b.held ++ x ∷ [])
     ≡ nodes_in (hold_top (suc (length es)) b.places (b.held ++ bare x ∷ []))
-put_nodes x es b s =
-    ap (λ (i : ℕ). hand (pos (suc i)) (stack_of b.places b.held) (nodes_in b.held ++ x ∷ [])) (nodes_length b.held ∙ s.size)
-    ∙ (ap (λ (t : List Open). hand (pos (suc (length es))) t (nodes_in b.held ++ x ∷ [])) (sym (stack_append b.places b.held (bare x ∷ []) s.there))
-    ∙ (ap (hand (pos (suc (length es))) (stack_of b.places (b.held ++ bare x ∷ []))) (sym (nodes_append b.held (bare x ∷ [])))
-    ∙ hand_built (suc (length es)) b.places (b.held ++ bare x ∷ [])))
+put_nodes x es b s = put_with hand x es b s ∙ hand_built (suc (length es)) b.places (b.held ++ bare x ∷ [])
 
 put_stack : (x : yaml_node_t) (es : List Start) (b : Built) → Stands es b
     → handed (pos (suc (length (nodes_in b.held)))) (stack_of b.places b.held) (nodes_in b.held ++ x ∷ [])
     ≡ stack_of b.places (hold_top (suc (length es)) b.places (b.held ++ bare x ∷ []))
-put_stack x es b s =
-    ap (λ (i : ℕ). handed (pos (suc i)) (stack_of b.places b.held) (nodes_in b.held ++ x ∷ [])) (nodes_length b.held ∙ s.size)
-    ∙ (ap (λ (t : List Open). handed (pos (suc (length es))) t (nodes_in b.held ++ x ∷ [])) (sym (stack_append b.places b.held (bare x ∷ []) s.there))
-    ∙ (ap (handed (pos (suc (length es))) (stack_of b.places (b.held ++ bare x ∷ []))) (sym (nodes_append b.held (bare x ∷ [])))
-    ∙ handed_built (suc (length es)) b.places (b.held ++ bare x ∷ []) s.falls))
+put_stack x es b s = put_with handed x es b s ∙ handed_built (suc (length es)) b.places (b.held ++ bare x ∷ []) s.falls
 
 new_key : (i : ℕ) (s : List ℕ) (hs : List Held) (x : yaml_node_t) → AllHas s hs → key_in (length hs) (hold_top i s (hs ++ bare x ∷ [])) ≡ None
 new_key i [] hs x h = key_last hs (bare x)
