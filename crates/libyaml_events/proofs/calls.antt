@@ -8,6 +8,7 @@ pub mod ParsesNext
 pub mod NotOver
 pub mod Counting
 pub mod Falling
+pub mod Faultless
 pub mod Held
 pub mod Keeping
 pub mod Marked

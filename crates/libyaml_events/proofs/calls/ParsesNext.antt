@@ -13,6 +13,7 @@ use Rattle.libyaml_events.specs.sources.ParsesNext.{ParsesNext}
 use Rattle.libyaml_events.proofs.calls.Calling.{ran_links}
 use Rattle.libyaml_events.proofs.calls.Counting.{linked_begins_each, linked_count}
 use Rattle.libyaml_events.proofs.calls.Falling.{parse_falls}
+use Rattle.libyaml_events.proofs.calls.Faultless.{faultless}
 use Rattle.libyaml_events.proofs.calls.Held.{ran_holds}
 use Rattle.libyaml_events.proofs.calls.KnownRuns.{next_of_run, fault_of_run, ended_call, over_call, nothing_behind_end, linked_begins, run_given, more_to_come}
 use Rattle.libyaml_events.proofs.calls.LeadsOut.{stands_outside}
@@ -29,6 +30,7 @@ module _ {S : Type 0} (gives : S → Answer → S → Type 0) (token_bound : S �
     ended = ended_call gives known may_break follows old new r call same_bound;
     kept = kept;
     failed = failed;
+    faultless = faultless gives old new r call;
     bound = same_bound;
     carries_on = carried_on gives old new r call;
     fails = failed_by gives old new r call;

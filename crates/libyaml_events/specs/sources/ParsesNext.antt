@@ -13,7 +13,7 @@ use Rattle.libyaml_events.specs.sources.Calls.{EventOrError}
 use Rattle.libyaml_events.specs.sources.History.{ForHistory, has_failed, is_over, kept_fault, between_documents, stack_depth}
 use Rattle.libyaml_events.specs.sources.Parsing.{CarriesOn, FailsBy}
 use Rattle.libyaml_events.specs.sources.RunToCome.{RunToCome, ForRun, ForNextEvent, UnlessBroken}
-use Rattle.libyaml_events.specs.parsers.Stages.{stage_of, open_collections, is_outside}
+use Rattle.libyaml_events.specs.parsers.Stages.{is_event, stage_of, open_collections, is_outside}
 use Rattle.libyaml_events.specs.parsers.OutsideEvents.{is_outside_event}
 use Rattle.libyaml_events.specs.parsers.Lookahead.{HoldsLast, tokens_held}
 use Rattle.libyaml_events.specs.parsers.Pops.{PopsNothingBelow}
@@ -26,6 +26,8 @@ pub record ParsesNext {S : Type 0} (gives : S → Answer → S → Type 0) (toke
   -- a fault is kept for good
   pub kept : IfErr result (λ x. (x ≡ (kept_fault new).error) × (is_over new ≡ true))
   pub failed : IfErr result (λ _. has_failed new ≡ true)
+  -- with an event no fault is kept
+  pub faultless : IfOk result (λ e. is_event e.content ≡ true → has_failed new ≡ false)
   pub bound : new.max_entries ≡ old.max_entries
   -- over every source, by the tokens that were asked for and the events that were given
   pub carries_on : is_over old ≡ false → IfOk result (λ e. ForHistory old (CarriesOn gives old e new))
