@@ -142,13 +142,6 @@ pub begun_is : (d b : Document) → d ≡ b → d ≡ with_nodes d.nodes b
 begun_is d b e = e ∙ ap (λ (x : List yaml_node_t). with_nodes x b) (ap (λ (x : Document). x.nodes) (sym e))
 
 module _ {S : Type 0} (gives : S → Answer → S → Type 0) (known : S → Option Coming) (MayBreak : S → Fault → Type 0) where
-<<<<<<< HEAD
-  pub steps_at : (r q : Result ComposeStep yaml_error_type_t) (old new : Parser S) (before after : loader_ctx) → r ≡ q
-      → ComposesBy gives known MayBreak r old new before after → ComposesBy gives known MayBreak q old new before after
-  steps_at r q old new before after e h = subst (λ (x : Result ComposeStep yaml_error_type_t). ComposesBy gives known MayBreak x old new before after) e h
-
-=======
->>>>>>> 56111d22a6ebf68b72b09d9916306d8cb17e3c47
   pub loads_fresh : (c : loader_ctx) (o : parts.Opening) (n : ℕ) (old new : Parser S) (r : DocumentOrError) → loader_of c ≡ fresh → c.max_entries ≡ n
       → LoadsFrom gives known MayBreak (load_from c.max_entries (within o (loader_of c))) (left_from (within o (loader_of c))) old r new
       → LoadsFrom gives known MayBreak (load_from n (within o fresh)) (left_from (within o fresh)) old r new

@@ -125,27 +125,6 @@ module _ {S : Type 0} (gives : S → Answer → S → Type 0) (known : S → Opt
       go (Ok d) (at_end taken took load left ends is stands) (some, wrote) = absurd (some (ap (λ (x : Document). x.nodes) is))
       go (Err x) load wrote = absurd wrote
 
-<<<<<<< HEAD
-  pub last_load : {W : Type 0} (contents : W
-      → Option (List ℕ)) (outcome : Outcome) (s : RunStep) (first p q : Parser S) (writer : W) (a c d : Option (List ℕ)) (asked : List yaml_token_t)
-      (given : List yaml_event_t) → AllLoaded gives n first p a (contents writer) asked given
-      → (has_failed p ≡ false → LoadTurn gives known MayBreak n s p q (contents writer) c)
-      → ((r : DocumentOrError) → StepForLoad s r (kept_fault q) (contents writer) c → WroteForLoad outcome r (kept_fault q) (contents writer) d)
-      → (outcome ≡ Ended → s ≡ step.Ended) → LastLoad gives known MayBreak contents n outcome first q a d asked given
-  last_load contents outcome s first p q writer a c d asked given w turns wrote ended =
-      let turn = turns (running p (asked ++ w.more) (given ++ w.events) w.history) in
-      record {
-        parser = p;
-        writer = writer;
-        earlier = w;
-        loaded = turn.loaded;
-        load = turn.load;
-        wrote = wrote turn.loaded turn.wrote;
-        ends = λ (is : outcome ≡ Ended). turn.ends (ended is) (asked ++ w.more) (given ++ w.events) w.history;
-      }
-
-=======
->>>>>>> 56111d22a6ebf68b72b09d9916306d8cb17e3c47
 -- nothing more was written
 pub loads_end : (outcome : Outcome) (kept : Fault) (b c d : Option (List ℕ)) → (outcome ≡ Ended) ⊎ (outcome ≡ OutputFailed) → Keeps c d → (r : DocumentOrError)
     → StepForLoad step.Ended r kept b c → WroteForLoad outcome r kept b d

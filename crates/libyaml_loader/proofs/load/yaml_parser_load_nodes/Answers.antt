@@ -14,15 +14,6 @@ use Rattle.libyaml_loader.proofs.load.yaml_parser_load_nodes.Goals as goal
 ok_step : (r : Result ComposeStep yaml_error_type_t) (s t : ComposeStep) → r ≡ Ok s → s ≡ t → r ≡ Ok t
 ok_step r s t e f = e ∙ ap (λ (x : ComposeStep). Ok x) f
 
-<<<<<<< HEAD
-composed_is_no_end : ◌≡◌ {A = ComposeStep} step.Composed step.Ended → ⊥
-composed_is_no_end h = cc
-
-closed_is_no_end : (x : Closing) → ◌≡◌ {A = ComposeStep} (step.Closed x) step.Ended → ⊥
-closed_is_no_end x h = cc
-
-=======
->>>>>>> 56111d22a6ebf68b72b09d9916306d8cb17e3c47
 pub loop-ctx-init : goal.loop-ctx-init
 loop-ctx-init g c =
     let t = g.S.yaml_token_source_t in
@@ -36,11 +27,7 @@ loop-ctx-preserved g c =
       way_more t.gives t.known t.may_break c.args.parser.now c.loop-ctx.parser call.new.parser c.args.ctx c.loop-ctx.ctx call.new.ctx c.loop-ctx.invariant.0
           (rw is at call.ensures.steps) call.ensures.bound,
       stays_since _ _ _ c.loop-ctx.invariant.1
-<<<<<<< HEAD
-          (has_fallen (λ (x : ComposeStep). x ≡ step.Ended) call.result step.Composed _ _ is composed_is_no_end call.ensures.falls),
-=======
-          (has_fallen (λ (x : Step). x ≡ step.Ended) call.result step.Composed _ _ is (λ h. cc) call.ensures.falls),
->>>>>>> 56111d22a6ebf68b72b09d9916306d8cb17e3c47
+          (has_fallen (λ (x : ComposeStep). x ≡ step.Ended) call.result step.Composed _ _ is (λ h. cc) call.ensures.falls),
     )
 
 pub returns-in_err-compose_next-clause-loads : goal.returns-in_err-compose_next-clause-loads
@@ -72,22 +59,14 @@ pub loop-ctx-smaller : goal.loop-ctx-smaller
 loop-ctx-smaller g c =
     let call = c.compose_next in
     let is = ok_step call.result c.in_ok-compose_next.field-0 step.Composed c.in_ok-compose_next.was c.in-Composed.is in
-<<<<<<< HEAD
-    has_fallen (λ (x : ComposeStep). x ≡ step.Ended) call.result step.Composed _ _ is composed_is_no_end call.ensures.falls
-=======
-    has_fallen (λ (x : Step). x ≡ step.Ended) call.result step.Composed _ _ is (λ h. cc) call.ensures.falls
->>>>>>> 56111d22a6ebf68b72b09d9916306d8cb17e3c47
+    has_fallen (λ (x : ComposeStep). x ≡ step.Ended) call.result step.Composed _ _ is (λ h. cc) call.ensures.falls
 
 pub returns-in-Closed-clause-falls : goal.returns-in-Closed-clause-falls
 returns-in-Closed-clause-falls g c =
     let call = c.compose_next in
     let is = ok_step call.result c.in_ok-compose_next.field-0 (step.Closed c.in-Closed.closing) c.in_ok-compose_next.was c.in-Closed.is in
     inr (falls_since _ _ _ c.loop-ctx.invariant.1
-<<<<<<< HEAD
-    (has_fallen (λ (x : ComposeStep). x ≡ step.Ended) call.result (step.Closed c.in-Closed.closing) _ _ is (closed_is_no_end c.in-Closed.closing)
-=======
-    (has_fallen (λ (x : Step). x ≡ step.Ended) call.result (step.Closed c.in-Closed.closing) _ _ is (λ h. cc)
->>>>>>> 56111d22a6ebf68b72b09d9916306d8cb17e3c47
+    (has_fallen (λ (x : ComposeStep). x ≡ step.Ended) call.result (step.Closed c.in-Closed.closing) _ _ is (λ h. cc)
     call.ensures.falls))
 
 pub returns-in-Ended-clause-falls : goal.returns-in-Ended-clause-falls
@@ -98,15 +77,6 @@ returns-in_err-compose_next-clause-between g c =
     let call = c.compose_next in
     ended_between call.new.parser (rw c.in_err-compose_next.was at call.ensures.fails).1
 
-<<<<<<< HEAD
-closed_goes_on : (x : Closing) → ◌≡◌ {A = ComposeStep} (step.Closed x) step.Composed → ⊥
-closed_goes_on x h = cc
-
-end_goes_on : ◌≡◌ {A = ComposeStep} step.Ended step.Composed → ⊥
-end_goes_on h = cc
-
-=======
->>>>>>> 56111d22a6ebf68b72b09d9916306d8cb17e3c47
 pub returns-in-Closed-clause-between : goal.returns-in-Closed-clause-between
 returns-in-Closed-clause-between g c =
     let call = c.compose_next in

@@ -3,11 +3,7 @@ use Rattle.std.proofs.KnownBytes.{Appends-kept}
 use Rattle.libyaml_sources.specs.Fault.{Fault}
 use Rattle.libyaml_loader.specs.document.Ids.{magnitude}
 use Rattle.line_writing.specs.declared.refusal.line_refusal_t.{line_refusal_t}
-<<<<<<< HEAD
-use Rattle.token_lines.specs.declared.run.RunStep.TheVariants.{Ended, Failed, Written}
-=======
-use Rattle.token_lines.specs.declared.run.Step.TheVariants.{Ended, Written}
->>>>>>> 56111d22a6ebf68b72b09d9916306d8cb17e3c47
+use Rattle.token_lines.specs.declared.run.RunStep.TheVariants.{Ended, Written}
 use Rattle.token_lines.specs.lines.RunSteps.{WritesPrefix}
 use Rattle.token_lines.specs.nodes.NodeStep.{run_ending, run_lines}
 use Rattle.token_lines.proofs.events.LastCallLemmas.{failed_no_end, written_no_end}
