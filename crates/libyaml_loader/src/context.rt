@@ -25,7 +25,7 @@ use libyaml_documents::building::{
 };
 use libyaml_documents::{yaml_document_t, yaml_node_t};
 use libyaml_types::{
-    unnamed_yaml_event_t_data, unnamed_yaml_event_t_data_document_start,
+    ZERO_MARK, unnamed_yaml_event_t_data, unnamed_yaml_event_t_data_document_start,
     unnamed_yaml_event_t_data_mapping_start, unnamed_yaml_event_t_data_scalar,
     unnamed_yaml_event_t_data_sequence_start, yaml_event_t, yaml_mark_t,
 };
@@ -40,6 +40,8 @@ pub struct loader_ctx {
     pub stack: OpenCollections,
     pub anchors: Anchors,
     pub max_entries: usize,
+    /// Where the first node with a repeated anchor starts. Before `RepeatedAnchor` its value has no meaning.
+    pub first_mark: yaml_mark_t,
     pub alloc: Global,
 }
 
@@ -61,6 +63,7 @@ impl loader_ctx {
             stack: OpenCollections::new(alloc),
             anchors: Anchors::new(alloc),
             max_entries,
+            first_mark: ZERO_MARK,
             alloc,
         }
     }
@@ -86,7 +89,7 @@ impl loader_ctx {
     pub fn compose(&mut self, event: &mut yaml_event_t) -> Result<(), Refusal>
         requires { IdsAreIn (loader_of self.old) }
         ensures ok { OnOk result (Composed self.old self.new (part_of event.old)) }
-        ensures err { IfErr result (λ r. Refuses self.old (part_of event.old) r) }
+        ensures err { IfErr result (λ r. Refuses self.old self.new (part_of event.old) event.old.start_mark r) }
     {
         let start_mark = event.start_mark;
         let end_mark = event.end_mark;
@@ -134,11 +137,12 @@ impl loader_ctx {
     ) -> Result<(), Refusal>
         requires { IdsAreIn (loader_of self.old) }
         ensures ok { OnOk result (Composed self.old self.new (Some (alias_part anchor.now start_mark))) }
-        ensures err { IfErr result (λ r. Refuses self.old (Some (alias_part anchor.now start_mark)) r) }
+        ensures err { IfErr result (λ r. Refuses self.old self.new (Some (alias_part anchor.now start_mark))
+            start_mark r) }
     {
         match self.anchors.find(anchor) {
             Some(carrier) => self.yaml_parser_load_node_add(carrier.node),
-            None => Err(Refusal::UndefinedAlias(start_mark)),
+            None => Err(Refusal::UndefinedAlias),
         }
     }
 
@@ -154,8 +158,8 @@ impl loader_ctx {
         requires { IdsAreIn (loader_of self.old) }
         ensures ok { OnOk result (Composed self.old self.new
             (Some (leaf_part scalar.old.anchor (scalar_loaded scalar.old start_mark end_mark)))) }
-        ensures err { IfErr result (λ r. Refuses self.old
-            (Some (leaf_part scalar.old.anchor (scalar_loaded scalar.old start_mark end_mark))) r) }
+        ensures err { IfErr result (λ r. Refuses self.old self.new
+            (Some (leaf_part scalar.old.anchor (scalar_loaded scalar.old start_mark end_mark))) start_mark r) }
     {
         self.has_room(self.document.nodes().len())?;
         let anchor = scalar.anchor.take();
@@ -177,10 +181,10 @@ impl loader_ctx {
         ensures ok { OnOk result (Composed self.old self.new
             (Some (start_part start.old.anchor
             (sequence_loaded start.old.tag start.old.style [] start_mark end_mark)))) }
-        ensures err { IfErr result (λ r. Refuses self.old
+        ensures err { IfErr result (λ r. Refuses self.old self.new
             (Some (start_part start.old.anchor
             (sequence_loaded start.old.tag start.old.style [] start_mark end_mark)))
-            r) }
+            start_mark r) }
     {
         self.has_room(self.document.nodes().len())?;
         let anchor = start.anchor.take();
@@ -203,10 +207,10 @@ impl loader_ctx {
         ensures ok { OnOk result (Composed self.old self.new
             (Some (start_part start.old.anchor
             (mapping_loaded start.old.tag start.old.style [] start_mark end_mark)))) }
-        ensures err { IfErr result (λ r. Refuses self.old
+        ensures err { IfErr result (λ r. Refuses self.old self.new
             (Some (start_part start.old.anchor
             (mapping_loaded start.old.tag start.old.style [] start_mark end_mark)))
-            r) }
+            start_mark r) }
     {
         self.has_room(self.document.nodes().len())?;
         let anchor = start.anchor.take();
@@ -227,7 +231,7 @@ impl loader_ctx {
         ensures err { IfErr result (λ r. RefusesAnchor
             (register (option_map string_bytes anchor) (suc (length self.old.document.nodes)) node.start_mark
             self.old.anchors)
-            node.start_mark r) }
+            r self.new.first_mark) }
     {
         let mark = node.start_mark;
         let id = NodeId::new(append_node(&mut self.document, node)?);
@@ -250,17 +254,17 @@ impl loader_ctx {
         ensures rest { OnOk result (self.new ≡ record self.old { anchors = self.new.anchors }) }
         ensures err { IfErr result (λ r. RefusesAnchor
             (register (option_map string_bytes anchor) (id_of carrier.node) carrier.mark self.old.anchors)
-            carrier.mark r) }
+            r self.new.first_mark) }
     {
         let Some(anchor) = anchor else {
             return Ok(());
         };
         match self.anchors.register(anchor, carrier)? {
             None => Ok(()),
-            Some(first) => Err(Refusal::RepeatedAnchor {
-                first: first.mark,
-                second: carrier.mark,
-            }),
+            Some(first) => {
+                self.first_mark = first.mark;
+                Err(Refusal::RepeatedAnchor)
+            }
         }
     }
 

@@ -235,10 +235,13 @@ fn compose_next<S: yaml_token_source_t>(
     }
     match closing_of(&event.content, event.end_mark) {
         Some(closing) => Ok(ComposeStep::Closed(closing)),
-        None => match ctx.compose(event) {
-            Ok(()) => Ok(ComposeStep::Composed),
-            Err(refusal) => Err(keep_refusal(parser, refusal)),
-        },
+        None => {
+            let mark = event.start_mark;
+            match ctx.compose(event) {
+                Ok(()) => Ok(ComposeStep::Composed),
+                Err(refusal) => Err(keep_refusal(parser, refusal, ctx.first_mark, mark)),
+            }
+        }
     }
 }
 

@@ -9,18 +9,15 @@ use libyaml_events::{MEMORY_FAULT, NO_FAULT, yaml_parser_t, yaml_parser_t_prefix
 use libyaml_types::{yaml_error_type_t, yaml_mark_t, yaml_refusal_t};
 use std::alloc::AllocError;
 
-/// Why an event can't be composed.
+/// Why an event can't be composed. It is one byte, since each step of a load returns it.
 #[derive(Copy, Clone)]
 pub enum Refusal {
     /// An allocation failed, or a list has as many entries as it may.
     Memory,
     /// No node before this alias carries its anchor.
-    UndefinedAlias(yaml_mark_t),
-    /// The node that starts at `second` has the anchor of the one that starts at `first`.
-    RepeatedAnchor {
-        first: yaml_mark_t,
-        second: yaml_mark_t,
-    },
+    UndefinedAlias,
+    /// An earlier node, which starts at `loader_ctx::first_mark`, has the anchor of this one.
+    RepeatedAnchor,
 }
 
 impl From<AllocError> for Refusal {
@@ -50,19 +47,23 @@ pub fn has_failed<S>(parser: &yaml_parser_t<S>) -> bool
     !matches!(parser.prefix().error, yaml_error_type_t::YAML_NO_ERROR)
 }
 
-/// The parser keeps the fault of this refusal for good, unless it keeps one. Returns the kept error.
-pub fn keep_refusal<S>(parser: &mut yaml_parser_t<S>, refusal: Refusal) -> yaml_error_type_t
-    ensures kept { has_failed parser.old ≡ false → parser.new ≡ keeping (fault_by refusal) parser.old }
+/// The parser keeps the fault of this refusal for good, and its error is returned. The event that is refused
+/// starts at `mark`, and the first node with a repeated anchor at `first_mark`.
+#[cold]
+pub fn keep_refusal<S>(
+    parser: &mut yaml_parser_t<S>,
+    refusal: Refusal,
+    first_mark: yaml_mark_t,
+    mark: yaml_mark_t,
+) -> yaml_error_type_t
+    requires { has_failed parser.old ≡ false }
+    ensures kept { parser.new ≡ keeping (fault_by refusal first_mark mark) parser.old }
     ensures error { result ≡ (kept_fault parser.new).error }
     ensures failed { has_failed parser.new ≡ true }
     ensures ended { is_over parser.new ≡ true }
     ensures bound { parser.new.max_entries ≡ parser.old.max_entries }
 {
-    // After an event, the parser's call says only of a parser with a history that it keeps no fault.
-    if has_failed(parser) {
-        return parser.prefix().error;
-    }
-    let fault = fault_by(refusal);
+    let fault = fault_by(refusal, first_mark, mark);
     parser.keep_fault(fault);
     fault.error
 }
@@ -70,25 +71,25 @@ pub fn keep_refusal<S>(parser: &mut yaml_parser_t<S>, refusal: Refusal) -> yaml_
 /// Returns the fault of this refusal: out of memory, or a composer error.
 ///
 /// libyaml: `yaml_parser_set_composer_error` and `yaml_parser_set_composer_error_context`.
-fn fault_by(refusal: Refusal) -> yaml_parser_t_prefix
-    ensures fault { fault_of result ≡ fault_by refusal }
+fn fault_by(refusal: Refusal, first_mark: yaml_mark_t, mark: yaml_mark_t) -> yaml_parser_t_prefix
+    ensures fault { fault_of result ≡ fault_by refusal first_mark mark }
     ensures of_loader { (result.error ≡ yaml_error_type_t.YAML_MEMORY_ERROR)
         ⊎ (result.error ≡ yaml_error_type_t.YAML_COMPOSER_ERROR) }
 {
     match refusal {
         Refusal::Memory => MEMORY_FAULT,
-        Refusal::UndefinedAlias(mark) => yaml_parser_t_prefix {
+        Refusal::UndefinedAlias => yaml_parser_t_prefix {
             error: yaml_error_type_t::YAML_COMPOSER_ERROR,
             problem: Some("found undefined alias"),
             problem_mark: mark,
             ..NO_FAULT
         },
-        Refusal::RepeatedAnchor { first, second } => yaml_parser_t_prefix {
+        Refusal::RepeatedAnchor => yaml_parser_t_prefix {
             error: yaml_error_type_t::YAML_COMPOSER_ERROR,
             problem: Some("second occurrence"),
-            problem_mark: second,
+            problem_mark: mark,
             context: Some("found duplicate anchor; first occurrence"),
-            context_mark: first,
+            context_mark: first_mark,
             ..NO_FAULT
         },
     }

@@ -6,9 +6,9 @@ use row_checks::{gives_event, unless, unless_made};
 use std::alloc::Global;
 use token_lines::write_event;
 use unsafe_libyaml::{
-    yaml_error_type_t, yaml_event_t, yaml_list_source_t, yaml_parser_between_documents,
-    yaml_parser_initialize, yaml_parser_load, yaml_parser_load_all, yaml_parser_parse,
-    yaml_parser_parse_all, yaml_parser_t, yaml_source_fault_t,
+    YAML_MEMORY_ERROR, ZERO_MARK, yaml_error_type_t, yaml_event_t, yaml_list_source_t,
+    yaml_parser_between_documents, yaml_parser_initialize, yaml_parser_load, yaml_parser_load_all,
+    yaml_parser_parse, yaml_parser_parse_all, yaml_parser_t, yaml_source_fault_t,
 };
 
 type Parser = yaml_parser_t<yaml_list_source_t>;
@@ -72,7 +72,8 @@ fn goes_on_after_a_load(alloc: Global, two: &str) -> Result<bool> {
 
 /// A source that has no token and no memory.
 fn source_without_memory(alloc: Global) -> yaml_list_source_t {
-    yaml_list_source_t::new(Vec::new(alloc), yaml_source_fault_t::out_of_memory())
+    let fault = yaml_source_fault_t::new(YAML_MEMORY_ERROR, None, 0, 0, ZERO_MARK, None, ZERO_MARK);
+    yaml_list_source_t::new(Vec::new(alloc), fault)
 }
 
 fn gives_nothing_at_once(alloc: Global) -> bool {

@@ -8,7 +8,7 @@ use Rattle.libyaml_events.specs.sources.Calls.{EventOrError}
 use Rattle.libyaml_events.specs.machine.Config.{Parser}
 use Rattle.libyaml_grammar.specs.sentences.Events.{Event}
 use Rattle.libyaml_sources.specs.Fault.{Answer, Fault}
-use Rattle.libyaml_events.specs.sources.History.{History, has_failed, keeping}
+use Rattle.libyaml_events.specs.sources.History.{History, keeping}
 use Rattle.libyaml_sources.specs.Source.{Coming}
 use Rattle.libyaml_events.specs.parsers.Stages.{is_event}
 use Rattle.libyaml_grammar.specs.sentences.Tokens.{Token}
@@ -47,18 +47,17 @@ module _ {S : Type 0} (gives : S → Answer → S → Type 0) (known : S → Opt
   }
 
   pub loader_fails : (old mid new : Parser S) (r : EventOrError) (c : Called gives known MayBreak old mid r) (e : Event) (is : r ≡ Ok e)
-      → is_event e.content ≡ true → closing_of e ≡ None → (before : loader_ctx) (f : Refusal) → Refuses before (part_of e) f
-      → (has_failed mid ≡ false → new ≡ keeping (fault_by f) mid) → LoaderFails gives known old new before
-  loader_fails old mid new r c e is an_event no_end before f refuses keeps = record {
+      → is_event e.content ≡ true → closing_of e ≡ None → (before after : loader_ctx) (f : Refusal)
+      → Refuses before after (part_of e) e.start_mark f → new ≡ keeping (fault_by f after.first_mark e.start_mark) mid → LoaderFails gives known old new before
+  loader_fails old mid new r c e is an_event no_end before after f refuses keeps = record {
     event = e;
     parser = mid;
     took = took_event gives known MayBreak old mid r c e is an_event;
     no_end = no_end;
-    fault = fault_by f;
-    keeps = λ (asked : List Token) (given : List Event) (h : History mid asked given). keeps
-        (c.no_fault mid asked given h);
-    why = ⊎_elim (λ (m : (f ≡ Memory) × (may_grow (loader_of before) (part_of e) ≡ true)). inl (ap fault_by m.0, m.1))
-        (λ (w : bounded_option before.max_entries (loader_of before) (part_of e) ≡ failed (fault_by f)). inr w) refuses;
+    fault = fault_by f after.first_mark e.start_mark;
+    keeps = λ (asked : List Token) (given : List Event) (h : History mid asked given). keeps;
+    why = ⊎_elim (λ (m : (f ≡ Memory) × (may_grow (loader_of before) (part_of e) ≡ true)). inl (ap (λ (r : Refusal). fault_by r after.first_mark e.start_mark) m.0, m.1))
+        (λ (w : bounded_option before.max_entries (loader_of before) (part_of e) ≡ failed (fault_by f after.first_mark e.start_mark)). inr w) refuses;
   }
 
   pub steps_err : (r : Result ComposeStep yaml_error_type_t) (x : yaml_error_type_t) (old new : Parser S) (before after : loader_ctx) → r ≡ Err x

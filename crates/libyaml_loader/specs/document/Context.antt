@@ -2,6 +2,7 @@
 use Rattle.std.specs.Prelude.{◌≡◌, ◌++◌, ◌∷◌, ◌⊎◌, ℕ, suc, ℤ, pos, IfSome, List, [], length, Bool, true, false, Option, Some, None}
 use Rattle.std.specs.FinMap.{get}
 use Rattle.libyaml_types.specs.declared.mark.yaml_mark_t.{yaml_mark_t}
+use Rattle.libyaml_sources.specs.Fault.{Fault}
 use Rattle.libyaml_documents.specs.declared.node.yaml_node_t.{yaml_node_t}
 use Rattle.libyaml_documents.specs.Documents.{Document}
 use Rattle.libyaml_documents.specs.Nodes.{IsIdUpTo}
@@ -44,10 +45,10 @@ handed_to i c = record c { document = with_nodes (hand i c.stack c.document.node
 abbrev pub closed : yaml_mark_t → loader_ctx → loader_ctx
 closed m c = record c { document = with_nodes (closed_by m c.stack c.document.nodes) c.document; stack = outer c.stack }
 
--- why an anchor is not registered
-abbrev pub RefusesAnchor : Registered → yaml_mark_t → Refusal → Type 0
-RefusesAnchor (known first) m r = (r ≡ Memory) ⊎ (r ≡ RepeatedAnchor first m)
-RefusesAnchor (registered xs) m r = r ≡ Memory
+-- why an anchor is not registered, and where its first node starts
+abbrev pub RefusesAnchor : Registered → Refusal → (first_mark : yaml_mark_t) → Type 0
+RefusesAnchor (known first) r m = (r ≡ Memory) ⊎ ((r ≡ RepeatedAnchor) × (m ≡ first))
+RefusesAnchor (registered xs) r m = r ≡ Memory
 
 -- a node was put after the others, its anchor registered, and it was handed to its parent
 pub record NodeLoaded (old new : loader_ctx) (id : NodeId) (anchor : Option (List ℕ)) (node : yaml_node_t) : Type 0 where
@@ -69,8 +70,9 @@ ParentRefuses c r = (r ≡ Memory)
     × ((parent_grows c.stack c.document.nodes ≡ true) ⊎ (parent_full c.max_entries c.stack c.document.nodes ≡ true))
 
 -- an allocation failed, where there may be one, or the machine fails by this refusal
-abbrev pub RefusedBy : (grows : Bool) → Loading → Refusal → Type 0
-RefusedBy grows o r = ((r ≡ Memory) × (grows ≡ true)) ⊎ (o ≡ failed (fault_by r))
+abbrev pub RefusedBy : (grows : Bool) → Loading → Refusal → Fault → Type 0
+RefusedBy grows o r f = ((r ≡ Memory) × (grows ≡ true)) ⊎ (o ≡ failed f)
 
-abbrev pub Refuses : loader_ctx → Option Part → Refusal → Type 0
-Refuses old p r = RefusedBy (may_grow (loader_of old) p) (bounded_option old.max_entries (loader_of old) p) r
+-- of an event that starts at this mark
+abbrev pub Refuses : (old new : loader_ctx) → Option Part → yaml_mark_t → Refusal → Type 0
+Refuses old new p mark r = RefusedBy (may_grow (loader_of old) p) (bounded_option old.max_entries (loader_of old) p) r (fault_by r new.first_mark mark)

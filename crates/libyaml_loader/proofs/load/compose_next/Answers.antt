@@ -66,7 +66,7 @@ returns-in-Err-clause-steps g c =
     let an_event : is_event call.new.event.content ≡ true = sym c.is_event.ensures ∙ c.if-not-is_event.false in
     let no_end = sym c.in-None.ensures in
     inr (loader_fails t.gives t.known t.may_break c.args.parser.now call.new.parser c.keep_refusal.new.parser (answered call.result call.new.event) called event (ap (λ r. answered r call.new.event) c.in_ok-yaml_parser_parse_into.was)
-    an_event no_end c.args.ctx.now c.in-Err.refusal c.in-Err.ensures.err c.keep_refusal.ensures.kept)
+    an_event no_end c.args.ctx.now c.compose.new.self c.in-Err.refusal c.in-Err.ensures.err c.keep_refusal.ensures.kept)
 
 pub returns-in-Some-clause-falls : goal.returns-in-Some-clause-falls
 returns-in-Some-clause-falls g c =
