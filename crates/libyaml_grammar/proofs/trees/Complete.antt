@@ -300,11 +300,14 @@ abbrev pub heads : Before → Directives → Position
 heads b no_directives = between b
 heads b (directive ds d) = headed b ds d
 
+pub directive_feed : (b : Before) (ds : Directives) (d : Directive) → feed (heads b ds) (directive_token d) ≡ goes (headed b ds d)
+directive_feed (free f) no_directives (version x m) = refl
+directive_feed (behind f) no_directives (version x m) = refl
+directive_feed b (directive ds d) (version x m) = refl
+directive_feed _ _ _ = refl
+
 pub directive_feeds : (b : Before) (ds : Directives) (d : Directive) (r : List Token) → feeds (directive_token d ∷ r) (heads b ds) ≡ feeds r (headed b ds d)
-directive_feeds (free f) no_directives (version x m) r = refl
-directive_feeds (behind f) no_directives (version x m) r = refl
-directive_feeds b (directive ds d) (version x m) r = refl
-directive_feeds _ _ _ r = refl
+directive_feeds b ds d r = ap (λ (s : Step). then_all s (feeds r)) (directive_feed b ds d)
 
 pub directives_read : (ds : Directives) (b : Before) (r : List Token) → feeds (directives_tokens ds r) (between b) ≡ feeds r (heads b ds)
 directives_read no_directives b r = refl
