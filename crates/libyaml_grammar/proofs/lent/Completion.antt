@@ -67,7 +67,9 @@ position_begins m q h =
     let e = position_ends m q in
     record {
       tree = e.0;
-      all = sym (feeds_keep (position_rest m q) q (done e.0) e.1 [] ∙ ap (λ (l : List Token). position_tokens q l) (append-nil (position_rest m q)));
+      all
+          = sym (feeds_keep (position_rest m q) q (done e.0) e.1 []
+          ∙ ap (λ (l : List Token). position_tokens q l) (append-nil (position_rest m q)));
       order = feeds_order (position_rest m q) q (done e.0) e.1 true ∙ (ap (position_in_order q) e.2 ∙ h);
     }
 

@@ -161,7 +161,8 @@ stops_nothing p x k m e d = go (on_due p None k m) (keeps_order no_directives (d
     go (bad c) l a b f n = let g = a c refl in cc
     go over l a b f n = absurd (b refl)
 
-filled_told : (p : Place) (x : FlowNode) → ((r : List Token) → cut_tokens (filled p x) r ≡ place_tokens p (flow_node_tokens x r))
+filled_told : (p : Place) (x : FlowNode) → ((r : List Token)
+    → cut_tokens (filled p x) r ≡ place_tokens p (flow_node_tokens x r))
     × ((r : Bool) → cut_in_order (filled p x) r ≡ place_in_order p (flow_node_in_order (declared p) x r))
 filled_told (block (root (implicit_root f))) x = (λ r. refl, λ r. refl)
 filled_told (block (slot (part_place c o s ps t v))) x = (λ r. refl, λ r. refl)
@@ -178,7 +179,12 @@ record Given (l : List Token) (c : Cut) (k : Content) : Type 0 where
 no_tag : (p : Place) (ps : Properties) (k : Content) (l : List Token) → Given l (filled p (alone ps)) k → NoTag (due p (Some ps)) k
 no_tag p (anchor a m) k l g = λ e. g.none (record {
   place = p;
-  begins = (sym ((filled_told p (alone (anchor a m))).1 true) ∙ g.good, inr (a, m, sym ((filled_told p (alone (anchor a m))).0 []) ∙ g.same));
+  begins
+      = (
+        sym ((filled_told p (alone (anchor a m))).1 true)
+            ∙ g.good,
+        inr (a, m, sym ((filled_told p (alone (anchor a m))).0 []) ∙ g.same),
+      );
   unknown = e;
 })
 no_tag p _ k l g = tt
@@ -195,13 +201,17 @@ stops_edge_block c (flow x) k m l g = stops_edge_flow (block c) x k m l g
 stops_edge_block c x k m l g = stops_filled_block c x k m g.way
 
 stops_led : (q p : Position) (t : Token) → feed q t ≡ goes p → Stops (reads q t) (broken p)
-stops_led q p t e = subst (λ (s : Step). Stops (checked s (is_legal q t.content)) (broken p)) (sym e) (stops_order p (is_legal q t.content))
+stops_led q p t e
+    = subst (λ (s : Step). Stops (checked s (is_legal q t.content)) (broken p)) (sym e)
+    (stops_order p (is_legal q t.content))
 
-stops_heads : (b : Before) (ds : Directives) (k : Content) (m : Marks) → is_directive k ≡ true → Stops (reads (heads b ds) (tok k m)) (at_directive b ds)
+stops_heads : (b : Before) (ds : Directives) (k : Content) (m : Marks) → is_directive k ≡ true
+    → Stops (reads (heads b ds) (tok k m)) (at_directive b ds)
 stops_heads b ds (VersionDirective x) m e
     = stops_led (heads b ds) (headed b ds (version x m)) (tok (VersionDirective x) m) (directive_feed b ds (version x m))
 stops_heads b ds (TagDirective x) m e
-    = stops_led (heads b ds) (headed b ds (tag_directive x m)) (tok (TagDirective x) m) (directive_feed b ds (tag_directive x m))
+    = stops_led (heads b ds) (headed b ds (tag_directive x m)) (tok (TagDirective x) m)
+    (directive_feed b ds (tag_directive x m))
 stops_heads b ds _ m e = absurd cc
 
 directive_behind : (d : Documents) (k : Content) (m : Marks) → is_directive k ≡ true
@@ -246,7 +256,8 @@ cut_stops l (document_due (explicit b ds s (node x))) k m t o r w d u n
 cut_stops l (start_due b ds x) k m t o r w d u n = step_stops (read_step m (headed b ds x) k) tt d tt tt n
 cut_stops l (at_directive (free f) no_directives) k m t o r w d u n = stops_heads (free f) no_directives k m d n
 cut_stops l (at_directive (behind x) no_directives) k m t o r w d u n
-    = subst (λ (s : Step). Stops s (at_directive (behind x) no_directives)) (sym (directive_behind x k m d)) (stops_heads (behind x) no_directives k m d) n
+    = subst (λ (s : Step). Stops s (at_directive (behind x) no_directives)) (sym (directive_behind x k m d))
+    (stops_heads (behind x) no_directives k m d) n
 cut_stops l (at_directive b (directive ds x)) k m t o r w d u n = stops_heads b (directive ds x) k m d n
 cut_stops l (content_due p) k m t o r w d u n = stops_content p k m (w, d, λ e. u (record { place = p; begins = (o, inl t); unknown = e })) n
 cut_stops l (at_tag p) k m t o r w d u n = stops_at_tag p k m u
@@ -275,7 +286,8 @@ cut_stops l (separator_due c (pair e y (with_value v (flow_node x)))) k m t o r 
 pub fits_reach : (l : List Token) (b : Token) (c : Cut) → Fits l b c → reads_all l unopened ≡ goes (reached c)
 fits_reach l b c f =
     let e : feeds l unopened ≡ goes (reached c) = subst (λ (x : List Token). feeds x unopened ≡ goes (reached c)) f.tokens (cut_reads c []) in
-    reads_from l unopened (reached c) e (sym (feeds_order l unopened (reached c) e true) ∙ ((edge_told c).1 true ∙ f.order))
+    reads_from l unopened (reached c) e (sym (feeds_order l unopened (reached c) e true) ∙ ((edge_told c).1 true
+    ∙ f.order))
 
 pub fits_stop : (l : List Token) (b : Token) (c : Cut) → Fits l b c → reads (reached c) b ≡ bad c
 fits_stop l b c f = cut_stops l c b.content (marks_of b) f.tokens f.order f.empty_end f.wants_content f.directive f.tag

@@ -74,7 +74,8 @@ pub gives_sure : (l : List Token) (c : Cut) → IsFront l c → (r : List Event)
 gives_sure l c f r =
     let e = (reads_to l unopened (reached c) (front_reads l c f)).0 in
     sym (given_shown l unopened (reached c) e zero_mark r)
-    ∙ ((position_splits (reached c) zero_mark).splits r ∙ ap (λ (x : List Event). x ++ r) (sure_shows c zero_mark f.place f.full))
+    ∙ ((position_splits (reached c) zero_mark).splits r
+    ∙ ap (λ (x : List Event). x ++ r) (sure_shows c zero_mark f.place f.full))
 
 begins_each : (l : List Token) (c : Cut) → IsFront l c → BeginsEach l (sure c)
 begins_each l c f = λ t rest o e. (
@@ -198,7 +199,8 @@ settled_open l e b h s =
 pub front_begins : (l : List Token) (c : Cut) → IsFront l c → IsBeginning l × (has_end l ≡ false)
 front_begins l c f = (
   reached_begins l (reached c) (front_reads l c f),
-  no_end_unless l (λ e. open_still (reached c) (not_done_front l c f) (end_is_done l unopened (reached c) (front_reads l c f) e)),
+  no_end_unless l (λ e. open_still (reached c) (not_done_front l c f)
+      (end_is_done l unopened (reached c) (front_reads l c f) e)),
 )
   where
     open_still : (q : Position) → IsNotDone q → IsDone q → ⊥

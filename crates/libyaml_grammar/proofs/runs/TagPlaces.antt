@@ -56,7 +56,8 @@ module _ (l : List Token) (m : Marks) (s : List ℕ) where
   held : (x : Position) (b : Bool) → IsTagHeld x b m → position_tokens x [] ≡ l ++ tok (Tag whole_tag) m ∷ [] → position_in_order x true ≡ true → (p : Place)
       × NodeBegins l p
   held (due p (Some (tag h n))) b w e o =
-      let f = same_front (place_tokens p []) l (tok (Tag h) n) (tok (Tag whole_tag) m) (sym (cut_append (content_due p) (tok (Tag h) n ∷ [])) ∙ e) in
+      let f = same_front (place_tokens p []) l (tok (Tag h) n) (tok (Tag whole_tag) m)
+      (sym (cut_append (content_due p) (tok (Tag h) n ∷ [])) ∙ e) in
       (p, (subst (λ (t : TagName). place_in_order p (both (is_known (declared p) t.handle) true) ≡ true) (same_tag h n f.1) o, inl f.0))
   held (due p (Some (anchor_tag a k h n))) b w e o =
       let f = same_front (place_tokens p (tok (Anchor a) k ∷ [])) l (tok (Tag h) n) (tok (Tag whole_tag) m)

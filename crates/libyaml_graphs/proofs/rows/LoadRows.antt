@@ -18,11 +18,13 @@ use Rattle.libyaml_grammar.proofs.lent.RowKinds.{begin_row, cut_row, sentence_ro
 use Rattle.libyaml_graphs.specs.loads.Bounds.{IsBoundedLoads, bounded_loads}
 use Rattle.libyaml_graphs.specs.loads.Loads.{IsLoads, Load, loads}
 
-pub sentence_loads : (n : ℕ) (l : List Token) (f : Fault) (a : List Load) (t : Stream) → reads_all (take n l) unopened ≡ goes (done t) → take n l ++ drop n l ≡ l
+pub sentence_loads : (n : ℕ) (l : List Token) (f : Fault) (a : List Load) (t : Stream)
+    → reads_all (take n l) unopened ≡ goes (done t) → take n l ++ drop n l ≡ l
     → a ≡ loads (events t) Ends → IsLoads l f a
 sentence_loads n l f a t r s h = record { events = events t; ending = Ends; run = sentence_row n l f (events t) t r s refl; all = h }
 
-pub cut_loads : (n : ℕ) (l : List Token) (f : Fault) (a : List Load) (b : Token) (q : Position) (c : Cut) → take n l ++ b ∷ drop (suc n) l ≡ l
+pub cut_loads : (n : ℕ) (l : List Token) (f : Fault) (a : List Load) (b : Token) (q : Position) (c : Cut)
+    → take n l ++ b ∷ drop (suc n) l ≡ l
     → reads_all (take n l) unopened ≡ goes q → reads q b ≡ bad c → is_behind_properties c (drop (suc n) l) ≡ true
     → a ≡ loads (cut_events c b) (Fails (fault c b.content b.start_mark)) → IsLoads l f a
 cut_loads n l f a b q c s r h i k
@@ -34,10 +36,12 @@ cut_loads n l f a b q c s r h i k
       all = k;
     }
 
-pub begin_loads : (l : List Token) (f : Fault) (a : List Load) (q : Position) → reads_all l unopened ≡ goes q → has_end l ≡ false
+pub begin_loads : (l : List Token) (f : Fault) (a : List Load) (q : Position) → reads_all l unopened ≡ goes q
+    → has_end l ≡ false
     → a ≡ loads (sure (front q)) (Fails f) → IsLoads l f a
 begin_loads l f a q r h k = record { events = sure (front q); ending = Fails f; run = begin_row l f (sure (front q)) q r h refl; all = k }
 
-pub bounded_rows : (m n : ℕ) (l : List Token) (f : Fault) (a : List Load) (t : Stream) → reads_all (take n l) unopened ≡ goes (done t) → take n l ++ drop n l ≡ l
+pub bounded_rows : (m n : ℕ) (l : List Token) (f : Fault) (a : List Load) (t : Stream)
+    → reads_all (take n l) unopened ≡ goes (done t) → take n l ++ drop n l ≡ l
     → a ≡ bounded_loads m (events t) Ends → IsBoundedLoads m l f a
 bounded_rows m n l f a t r s h = record { events = events t; ending = Ends; run = sentence_row n l f (events t) t r s refl; all = h }
