@@ -19,10 +19,9 @@ use Rattle.libyaml_grammar.specs.cuts.Settled.{IsSettled, sure}
 use Rattle.libyaml_grammar.specs.runs.StreamEnds.{up_to_end}
 use Rattle.libyaml_grammar.specs.sentences.Tokens.{Anchor, Content, Tag, Token}
 use Rattle.libyaml_grammar.specs.sentences.Trees.{Directives, Stream, tokens}
-use Rattle.libyaml_grammar.proofs.lent.Completion.{Stops, goes_or_stops, reached_begins, read_sentence, reads_append, sentence_reads}
+use Rattle.libyaml_grammar.proofs.lent.Completion.{Stops, begin_reads, goes_or_stops, reached_begins, read_sentence, reads_append, sentence_reads}
 use Rattle.libyaml_grammar.proofs.trees.Edge.{reached}
 use Rattle.libyaml_grammar.proofs.lent.Fitting.{read_over, stops_fits}
-use Rattle.libyaml_grammar.proofs.lent.Fronts.{begin_reads}
 use Rattle.libyaml_grammar.proofs.lent.ReadSteps.{IsNotDone}
 use Rattle.libyaml_grammar.proofs.lent.OneCut.{fits_reach, fits_stop}
 use Rattle.libyaml_grammar.proofs.lent.Settling.{begin_front, front_settles, one_settled_proof}

@@ -18,9 +18,9 @@ use Rattle.libyaml_grammar.specs.cuts.Rest.{rest}
 use Rattle.libyaml_grammar.proofs.lent.Given.{gives_all}
 use Rattle.libyaml_grammar.proofs.lent.Positions.{Position, done, position_rest, shown, unopened}
 use Rattle.libyaml_grammar.proofs.lent.Reading.{Step, along, feeds, goes, then_all}
-use Rattle.libyaml_grammar.proofs.lent.Completion.{position_begins, reached_begins, read_order}
+use Rattle.libyaml_grammar.proofs.lent.Completion.{begin_reads, position_begins, reached_begins, read_order}
 use Rattle.libyaml_grammar.proofs.lent.ReadSteps.{IsNotDone, front}
-use Rattle.libyaml_grammar.proofs.lent.Fronts.{begin_reads, front_not_done, front_of, front_reads, not_done_front}
+use Rattle.libyaml_grammar.proofs.lent.Fronts.{front_not_done, front_of, front_reads, not_done_front}
 use Rattle.libyaml_grammar.proofs.lent.Keeps.{feeds_keep}
 use Rattle.libyaml_grammar.proofs.lent.Orders.{reads_to}
 use Rattle.libyaml_grammar.proofs.lent.Run.{begin_events, given_shown}

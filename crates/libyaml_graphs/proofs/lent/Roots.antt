@@ -100,16 +100,7 @@ left_roots (e ∷ r) h = go (opening_of e) (left_roots r h.1)
 -- a document that begins with a node and that nothing stops has nodes
 node_first : (k : unnamed_yaml_event_t_data) (m n : Mark) → BeginsNode (part_in k m n) → closing_in k n ≡ None
 node_first (ev.DocumentEnd d) m n h = absurd h
-node_first ev.NoEvent m n h = refl
-node_first (ev.StreamStart s) m n h = refl
-node_first ev.StreamEnd m n h = refl
-node_first (ev.DocumentStart d) m n h = refl
-node_first (ev.Alias a) m n h = refl
-node_first (ev.Scalar s) m n h = refl
-node_first (ev.SequenceStart s) m n h = refl
-node_first ev.SequenceEnd m n h = refl
-node_first (ev.MappingStart s) m n h = refl
-node_first ev.MappingEnd m n h = refl
+node_first _ m n h = refl
 
 part_first : (e : Event) (r : List Event) → closing_of e ≡ None → parts (e ∷ r) ≡ with_part (part_of e) (parts r)
 part_first e r h = ap (λ (c : Option Closing). elim c [ Some y ↦ [] | None ↦ with_part (part_of e) (parts r) ]) h
