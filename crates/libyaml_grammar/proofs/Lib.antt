@@ -1,4 +1,3 @@
 pub mod trees
 pub mod runs
-pub mod rows
 pub mod lent

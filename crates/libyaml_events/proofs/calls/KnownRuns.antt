@@ -32,8 +32,8 @@ use Rattle.libyaml_events.specs.sources.CallsInTurn.{KnowsRest}
 use Rattle.libyaml_events.specs.sources.RunToCome.{RunToCome, UnlessBroken, does, no_memory, breaks}
 use Rattle.libyaml_events.specs.machine.Want.{AtState}
 use Rattle.libyaml_grammar.proofs.lent.Lists.{nil_right, assoc}
-use Rattle.libyaml_grammar.proofs.lent.Completion.{sentence_reads}
-use Rattle.libyaml_grammar.proofs.lent.Fronts.{begin_reads, front_of}
+use Rattle.libyaml_grammar.proofs.lent.Completion.{begin_reads, sentence_reads}
+use Rattle.libyaml_grammar.proofs.lent.Fronts.{front_of}
 use Rattle.libyaml_grammar.proofs.lent.ReadSteps.{front}
 use Rattle.libyaml_events.proofs.machine.Link.{spends}
 use Rattle.libyaml_grammar.proofs.lent.OneCut.{fits_reach, fits_stop}

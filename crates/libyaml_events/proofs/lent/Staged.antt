@@ -339,9 +339,12 @@ refused_stage c g h before (t ∷ l) z
 
 -- a tree's events lead to the end
 pub tree_ends : (t : Stream) → is_at_end (stage_of (events t)) ≡ true
-tree_ends (whole (free f) m) = ap (λ (l : List Event). is_at_end (stage_of l)) ((position_splits (between (free f)) m.start).splits (stream_end_at m.start m.end ∷ []))
+tree_ends (whole (free f) m)
+    = ap (λ (l : List Event). is_at_end (stage_of l))
+    ((position_splits (between (free f)) m.start).splits (stream_end_at m.start m.end ∷ []))
     ∙ ap is_at_end (stage_more at_start (shown (between (free f)) m.start []) (stream_end_at m.start m.end ∷ []))
 tree_ends (whole (behind d) m)
     = ap (λ (l : List Event). is_at_end (stage_of l))
-    ((position_splits (between (behind d)) m.start).splits (document_end_at true m.start m.start ∷ stream_end_at m.start m.end ∷ []))
+    ((position_splits (between (behind d)) m.start).splits
+    (document_end_at true m.start m.start ∷ stream_end_at m.start m.end ∷ []))
     ∙ ap is_at_end (stage_more at_start (shown (between (behind d)) m.start []) (document_end_at true m.start m.start ∷ stream_end_at m.start m.end ∷ []))

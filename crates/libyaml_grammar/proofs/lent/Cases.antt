@@ -94,16 +94,23 @@ pub data Case (q : Position) (k : Content) (m : Marks) : Type 0 where
   is_doomed : (p : Position) → step q k m ≡ goes p → is_legal q k ≡ false → IsTagHeld p false m → Case q k m
   is_over : step q k m ≡ over → Case q k m
 
-illegal_directive : (q p : Position) (k : Content) (d : Directive) (m : Marks) → step q k m ≡ goes p → is_legal q k ≡ false → IsHeaded p (pending q) d
+illegal_directive : (q p : Position) (k : Content) (d : Directive) (m : Marks) → step q k m ≡ goes p
+    → is_legal q k ≡ false → IsHeaded p (pending q) d
     → directive_start d ≡ m.start → Shows (goes p) q m (gives q k m) → Case q k m
 illegal_directive q (headed c ds d) k x m e f (g, h) z s
-    = is_bad (at_directive c ds) (ap (λ (y : Step). checked y (is_legal q k)) e ∙ ap (λ (u : Bool). checked (goes (headed c ds d)) u) f)
-    (λ r. ap (λ (n : Mark). shown_cut (at_directive c ds) n r) (sym z) ∙ (ap (λ (y : Directive). shown (headed c ds y) m.start r) (sym h) ∙ s m.start r))
+    = is_bad (at_directive c ds) (ap (λ (y : Step). checked y (is_legal q k)) e
+    ∙ ap (λ (u : Bool). checked (goes (headed c ds d)) u) f)
+    (λ r. ap (λ (n : Mark). shown_cut (at_directive c ds) n r) (sym z)
+    ∙ (ap (λ (y : Directive). shown (headed c ds y) m.start r) (sym h) ∙ s m.start r))
 illegal_directive q _ k x m e f h z s = absurd h
 
 illegal : (q p : Position) (k : Content) (m : Marks) → step q k m ≡ goes p → is_legal q k ≡ false → Shows (goes p) q m (gives q k m) → Case q k m
-illegal q p (VersionDirective a) m e f s = illegal_directive q p _ (version a m) m e f (subst (λ (x : Step). HeadGoes x (pending q) (version a m)) e (step_version q a m)) refl s
-illegal q p (TagDirective a) m e f s = illegal_directive q p _ (tag_directive a m) m e f (subst (λ (x : Step). HeadGoes x (pending q) (tag_directive a m)) e (step_handle q a m)) refl s
+illegal q p (VersionDirective a) m e f s
+    = illegal_directive q p _ (version a m) m e f
+    (subst (λ (x : Step). HeadGoes x (pending q) (version a m)) e (step_version q a m)) refl s
+illegal q p (TagDirective a) m e f s
+    = illegal_directive q p _ (tag_directive a m) m e f
+    (subst (λ (x : Step). HeadGoes x (pending q) (tag_directive a m)) e (step_handle q a m)) refl s
 illegal q p (Tag h) m e f s = is_doomed p e f
     (subst (λ (u : Bool). IsTagHeld p u m) f (subst (λ (x : Step). TagGoes x (is_legal q (Tag h)) m) e (step_tag q h m)))
 illegal q p k m e f s = absurd cc

@@ -67,7 +67,9 @@ position_begins m q h =
     let e = position_ends m q in
     record {
       tree = e.0;
-      all = sym (feeds_keep (position_rest m q) q (done e.0) e.1 [] ∙ ap (λ (l : List Token). position_tokens q l) (append-nil (position_rest m q)));
+      all
+          = sym (feeds_keep (position_rest m q) q (done e.0) e.1 []
+          ∙ ap (λ (l : List Token). position_tokens q l) (append-nil (position_rest m q)));
       order = feeds_order (position_rest m q) q (done e.0) e.1 true ∙ (ap (position_in_order q) e.2 ∙ h);
     }
 
@@ -126,24 +128,24 @@ reads_append (t ∷ a) b q = go (λ (x : Position). reads_append a b x) (reads q
     go ih (bad x) = refl
     go ih over = refl
 
+pub goes_before : (s : Step) (f : Position → Step) (p : Position) → then_all s f ≡ goes p
+    → (q : Position) × (s ≡ goes q) × (f q ≡ goes p)
+goes_before (goes q) f p e = (q, refl, e)
+goes_before (bad c) f p e = cc
+goes_before over f p e = cc
+
+-- a beginning is read
+pub begin_reads : (a : List Token) → IsBeginning a → (q : Position) × (reads_all a unopened ≡ goes q)
+begin_reads a h =
+    let (q, e, f) = goes_before (reads_all a unopened) (reads_all h.rest) (done h.sentence.tree)
+    (sym (reads_append a h.rest unopened) ∙ sentence_reads (a ++ h.rest) h.sentence) in
+    (q, e)
+
 -- a list that stops begins no sentence
 pub not_done : (a : List Token) (s : Step) → ((q : Position) → s ≡ goes q → ⊥) → reads_all a unopened ≡ s → IsBeginning a → ⊥
-not_done a s n e h = go (reads_all a unopened) refl (sym (reads_append a h.rest unopened) ∙ sentence_reads (a ++ h.rest) h.sentence)
-  where
-    go : (x : Step) → reads_all a unopened ≡ x → then_all (reads_all a unopened) (reads_all h.rest) ≡ goes (done h.sentence.tree) → ⊥
-    go (goes q) f g = n q (sym e ∙ f)
-    go (bad c) f g = absurd (stops (reads_all a unopened) f g)
-      where
-        stops : (x : Step) → x ≡ bad c → then_all x (reads_all h.rest) ≡ goes (done h.sentence.tree) → ⊥
-        stops (goes q) f g = cc
-        stops (bad x) f g = cc
-        stops over f g = cc
-    go over f g = stops (reads_all a unopened) f g
-      where
-        stops : (x : Step) → x ≡ over → then_all x (reads_all h.rest) ≡ goes (done h.sentence.tree) → ⊥
-        stops (goes q) f g = cc
-        stops (bad x) f g = cc
-        stops over f g = cc
+not_done a s n e h =
+    let (q, f) = begin_reads a h in
+    n q (sym e ∙ f)
 
 pub record Stops (l : List Token) (q : Position) : Type 0 where
   pub before : List Token

@@ -1,6 +1,5 @@
 -- Each beginning that is no sentence has one front tree: the cut tree at which a NO-TOKEN, bad everywhere, is bad.
 use Rattle.std.proofs.Common.{◌≡◌, List, [], ◌∷◌, ◌++◌, Option, Some, None, true, false, refl, sym, ap, ◌∙◌, subst}
-use Rattle.libyaml_grammar.specs.sentences.Sentences.{IsBeginning}
 use Rattle.libyaml_grammar.specs.sentences.Tokens.{Marks, NoToken, Token, marks_of, tok}
 use Rattle.libyaml_grammar.specs.sentences.Trees.{Properties, Stream, alone, free}
 use Rattle.libyaml_grammar.specs.cuts.CutTrees.{Cut, Place, at_directive, at_tag, at_tag_behind, block, content_due, document_due, implicit_root}
@@ -90,7 +89,8 @@ never_goes q p e = go q refl
 pub front_reads : (l : List Token) (c : Cut) → IsFront l c → reads_all l unopened ≡ goes (reached c)
 front_reads l c f =
     let e : feeds l unopened ≡ goes (reached c) = subst (λ (x : List Token). feeds x unopened ≡ goes (reached c)) f.tokens (cut_reads c []) in
-    reads_from l unopened (reached c) e (sym (feeds_order l unopened (reached c) e true) ∙ ((edge_told c).1 true ∙ f.order))
+    reads_from l unopened (reached c) e (sym (feeds_order l unopened (reached c) e true) ∙ ((edge_told c).1 true
+    ∙ f.order))
 
 front_fits : (l : List Token) (c : Cut) → IsFront l c → Fits l nowhere c
 front_fits l c f = record {
@@ -117,15 +117,6 @@ pub front_of : (l : List Token) (q : Position) → reads_all l unopened ≡ goes
 front_of l q e n =
     let f = stops_fits l nowhere q (front q) e (none_stops q (marks_of nowhere) n) in
     record { tokens = f.tokens; order = f.order; place = front_place l (front q) f.directive f.tag; full = none_empty (last_empty (front q)) f.empty_end }
-
--- a beginning is read
-pub begin_reads : (a : List Token) → IsBeginning a → (p : Position) × (reads_all a unopened ≡ goes p)
-begin_reads a h = go (reads_all a unopened) refl
-  where
-    go : (s : Step) → reads_all a unopened ≡ s → (p : Position) × (reads_all a unopened ≡ goes p)
-    go (goes p) e = (p, e)
-    go (bad c) e = absurd (not_done a (bad c) (λ q f. cc) e h)
-    go over e = absurd (not_done a over (λ q f. cc) e h)
 
 -- a front tree is no whole stream
 pub front_not_done : (l : List Token) (c : Cut) → IsFront l c → (t : Stream) → reached c ≡ done t → ⊥

@@ -19,7 +19,8 @@ use Rattle.libyaml_grammar.specs.sentences.Order.{block_node_in_order, block_slo
 abbrev pub Keeps : Step → Position → Token → Bool → Type 0
 Keeps (goes p) q t b = ((r : List Token) → position_tokens p r ≡ position_tokens q (t ∷ r))
     × ((r : Bool) → position_in_order p r ≡ position_in_order q (both b r))
-Keeps (bad c) q t b = ((r : List Token) → cut_tokens c r ≡ position_tokens q r) × ((r : Bool) → cut_in_order c r ≡ position_in_order q r)
+Keeps (bad c) q t b = ((r : List Token) → cut_tokens c r ≡ position_tokens q r) × ((r : Bool)
+    → cut_in_order c r ≡ position_in_order q r)
 Keeps over q t b = Unit {0}
 
 -- a position's tokens and their order
@@ -30,24 +31,28 @@ abbrev pub ToldAlike : Position → Position → Type 0
 ToldAlike p q = Told p (position_tokens q) (position_in_order q)
 
 -- a place filled
-block_slot_keeps : (c : BlockPlace) (x : BlockSlot) → Told (fill_block_slot c x) (λ (r : List Token). block_place_tokens c (block_slot_tokens x r))
+block_slot_keeps : (c : BlockPlace) (x : BlockSlot)
+    → Told (fill_block_slot c x) (λ (r : List Token). block_place_tokens c (block_slot_tokens x r))
     (λ (r : Bool). block_place_in_order c (block_slot_in_order (declared_block c) x r))
 block_slot_keeps (root (implicit_root f)) nothing = (λ r. refl, λ r. refl)
 block_slot_keeps (slot (part_place c o m ps k v)) x = (λ r. refl, λ r. refl)
 block_slot_keeps _ x = (λ r. refl, λ r. refl)
 
-flow_slot_keeps : (p : Place) (x : FlowSlot) → Told (fill_flow_slot p x) (λ (r : List Token). place_tokens p (flow_slot_tokens x r))
+flow_slot_keeps : (p : Place) (x : FlowSlot)
+    → Told (fill_flow_slot p x) (λ (r : List Token). place_tokens p (flow_slot_tokens x r))
     (λ (r : Bool). place_in_order p (flow_slot_in_order (declared p) x r))
 flow_slot_keeps (block c) flow_nothing = block_slot_keeps c nothing
 flow_slot_keeps (block c) (flow_node n) = block_slot_keeps c (node (flow n))
 flow_slot_keeps (flow_entry c) flow_nothing = (λ r. refl, λ r. refl)
 flow_slot_keeps _ x = (λ r. refl, λ r. refl)
 
-pub fill_keeps : (c : BlockPlace) (n : BlockNode) → Told (fill c n) (λ (r : List Token). block_place_tokens c (block_node_tokens n r))
+pub fill_keeps : (c : BlockPlace) (n : BlockNode)
+    → Told (fill c n) (λ (r : List Token). block_place_tokens c (block_node_tokens n r))
     (λ (r : Bool). block_place_in_order c (block_node_in_order (declared_block c) n r))
 fill_keeps c n = block_slot_keeps c (node n)
 
-pub fill_flow_keeps : (p : Place) (n : FlowNode) → Told (fill_flow p n) (λ (r : List Token). place_tokens p (flow_node_tokens n r))
+pub fill_flow_keeps : (p : Place) (n : FlowNode)
+    → Told (fill_flow p n) (λ (r : List Token). place_tokens p (flow_node_tokens n r))
     (λ (r : Bool). place_in_order p (flow_node_in_order (declared p) n r))
 fill_flow_keeps p n = flow_slot_keeps p (flow_node n)
 
@@ -63,10 +68,12 @@ retold (goes x) p q t b e h = (λ r. h.0 r ∙ e.0 (t ∷ r), λ r. h.1 r ∙ e.
 retold (bad x) p q t b e h = (λ r. h.0 r ∙ e.0 r, λ r. h.1 r ∙ e.1 r)
 retold over p q t b e h = tt
 
-keeps : {m : Marks} {q : Position} {k : Content} {s : Step} {g : List Event → List Event} {l : Bool} → ReadStep m q k s g l → Keeps s q (tok k m) l
+keeps : {m : Marks} {q : Position} {k : Content} {s : Step} {g : List Event → List Event} {l : Bool}
+    → ReadStep m q k s g l → Keeps s q (tok k m) l
 keeps is_past = tt
 keeps (moves x h) = retold _ _ _ _ _ (moved_keeps x) (keeps h)
-keeps {m = m} {k = k} {l = l} (leaves p {x = x} e h) = retold (goes x) (leave p) (due p None) (tok k m) l (leave_keeps p) (keeps h)
+keeps {m = m} {k = k} {l = l} (leaves p {x = x} e h)
+    = retold (goes x) (leave p) (due p None) (tok k m) l (leave_keeps p) (keeps h)
 keeps (fails no_stream) = (λ r. refl, λ r. refl)
 keeps (an_alias p a) = fill_flow_keeps p _
 keeps (a_scalar p o v) = fill_flow_keeps p _
@@ -79,7 +86,8 @@ keeps (closes_at_mapping p) = fill_flow_keeps p _
 keeps _ = (λ r. refl, λ r. refl)
 
 pub step_keeps : (q p : Position) (t : Token) → feed q t ≡ goes p → Keeps (goes p) q t (is_legal q t.content)
-step_keeps q p t e = subst (λ (s : Step). Keeps s q t (is_legal q t.content)) e (keeps (read_step (marks_of t) q t.content))
+step_keeps q p t e
+    = subst (λ (s : Step). Keeps s q t (is_legal q t.content)) e (keeps (read_step (marks_of t) q t.content))
 
 -- the whole of a list
 pub feeds_keep : (l : List Token) (q p : Position) → feeds l q ≡ goes p → (r : List Token) → position_tokens p r ≡ position_tokens q (l ++ r)

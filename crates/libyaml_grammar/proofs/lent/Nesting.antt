@@ -65,7 +65,8 @@ none_all k = record { vals = no_values; same = λ r. refl; pairs = tt; even = go
     go sequence = tt
     go mapping = refl
 
-both_all : {k : Sort} {g h : List Event → List Event} → GivesAll k g → GivesAll k h → GivesAll k (λ (r : List Event). g (h r))
+both_all : {k : Sort} {g h : List Event → List Event} → GivesAll k g → GivesAll k h
+    → GivesAll k (λ (r : List Event). g (h r))
 both_all {k} {h = h} a b = record {
   vals = join a.vals b.vals;
   same = λ r. a.same (h r)
@@ -91,8 +92,8 @@ two_all k {h = h} a b = record {
     go sequence = tt
     go mapping = refl
 
-collection_gives : (k : Sort) (s : Layout) (a t : Option (List ℕ)) (i : Bool) (m n p q : Mark) {g : List Event → List Event} → GivesAll k g
-    → Gives (λ (r : List Event). start_at k a t i s m n ∷ g (end_at k p q ∷ r))
+collection_gives : (k : Sort) (s : Layout) (a t : Option (List ℕ)) (i : Bool) (m n p q : Mark)
+    {g : List Event → List Event} → GivesAll k g → Gives (λ (r : List Event). start_at k a t i s m n ∷ g (end_at k p q ∷ r))
 collection_gives k s a t i m n p q x
     = record {
       val = collection_value k a t i s m n x.vals p q;
@@ -125,11 +126,14 @@ mutual
   flow_member_gives ds sequence (single n) m = one_all (flow_node_gives ds n)
   flow_member_gives ds mapping (single n) m = two_all mapping (flow_node_gives ds n) (empty_gives m)
   flow_member_gives ds sequence (pair s x no_value) m
-      = one_all (collection_gives mapping flow_layout _ _ _ _ _ _ _ (two_all mapping (flow_slot_gives ds x m) (empty_gives m)))
+      = one_all (collection_gives mapping flow_layout _ _ _ _ _ _ _
+      (two_all mapping (flow_slot_gives ds x m) (empty_gives m)))
   flow_member_gives ds mapping (pair s x no_value) m = two_all mapping (flow_slot_gives ds x m) (empty_gives m)
   flow_member_gives ds sequence (pair s x (with_value v y)) m
-      = one_all (collection_gives mapping flow_layout _ _ _ _ _ _ _ (two_all mapping (flow_slot_gives ds x v.start) (flow_slot_gives ds y m)))
-  flow_member_gives ds mapping (pair s x (with_value v y)) m = two_all mapping (flow_slot_gives ds x v.start) (flow_slot_gives ds y m)
+      = one_all (collection_gives mapping flow_layout _ _ _ _ _ _ _
+      (two_all mapping (flow_slot_gives ds x v.start) (flow_slot_gives ds y m)))
+  flow_member_gives ds mapping (pair s x (with_value v y)) m
+      = two_all mapping (flow_slot_gives ds x v.start) (flow_slot_gives ds y m)
 
   pub flow_slot_gives : (ds : Directives) (x : FlowSlot) (m : Mark) → Gives (flow_slot_events ds x m)
   flow_slot_gives ds flow_nothing m = empty_gives m
@@ -185,7 +189,8 @@ mutual
   block_node_gives ds (flow n) = flow_node_gives ds n
   block_node_gives ds (block_sequence o m is n) = collection_gives sequence block_layout _ _ _ _ _ _ _ (items_give ds is)
   block_node_gives ds (block_mapping o m ps n)
-      = collection_gives mapping block_layout _ _ _ _ _ _ _ (turned_all (whole_pairs ds ps n.start (parts_give ds ps n.start)))
+      = collection_gives mapping block_layout _ _ _ _ _ _ _
+      (turned_all (whole_pairs ds ps n.start (parts_give ds ps n.start)))
 
   pub block_slot_gives : (ds : Directives) (n : BlockSlot) (m : Mark) → Gives (block_slot_events ds n m)
   block_slot_gives ds nothing m = empty_gives m
@@ -198,12 +203,15 @@ mutual
   slot_gives : (ds : Directives) (x : Slot) (e m : Mark) → Gives (slot_events ds x e m)
   slot_gives ds (slot_of n) e m = block_slot_gives ds n e
   slot_gives ds (indentless o is s n) e m
-      = collection_gives sequence block_layout _ _ _ _ _ _ _ (both_all (items_give ds is) (one_all (block_slot_gives ds n s.end)))
+      = collection_gives sequence block_layout _ _ _ _ _ _ _
+      (both_all (items_give ds is) (one_all (block_slot_gives ds n s.end)))
 
   pub parts_give : (ds : Directives) (ps : Parts) (m : Mark) → Turned (waits ps) (parts_events ds ps m)
   parts_give ds no_parts m = record { vals = no_values; same = λ r. refl; pairs = tt; turned = λ b. refl }
-  parts_give ds (part ps key v x) m = turned_then (whole_pairs ds ps v.start (parts_give ds ps v.start)) (slot_gives ds x v.end m)
-  parts_give ds (part ps value v x) m = turned_as twice (turned_then (with_key ds ps v.start (parts_give ds ps v.start)) (slot_gives ds x v.end m))
+  parts_give ds (part ps key v x) m
+      = turned_then (whole_pairs ds ps v.start (parts_give ds ps v.start)) (slot_gives ds x v.end m)
+  parts_give ds (part ps value v x) m
+      = turned_as twice (turned_then (with_key ds ps v.start (parts_give ds ps v.start)) (slot_gives ds x v.end m))
 
 -- documents
 pub record AllTexts (g : List Event → List Event) : Type 0 where
@@ -239,7 +247,8 @@ ended_text g i m n x = record {
 abbrev head_of : Directives → Bool → unnamed_yaml_event_t_data_document_start
 head_of ds i = record { version_directive = version_of ds; tag_directives = tag_directives_of ds; implicit = i }
 
-last_text : {f h : List Event → List Event} (d : unnamed_yaml_event_t_data_document_start) (m n : Mark) → AllTexts f → Gives h
+last_text : {f h : List Event → List Event} (d : unnamed_yaml_event_t_data_document_start) (m n : Mark) → AllTexts f
+    → Gives h
     → LastText (λ (r : List Event). f (event (ev.DocumentStart d) m n ∷ h r))
 last_text {f} d m n a x = record {
   before = f;
@@ -255,9 +264,11 @@ last_text {f} d m n a x = record {
 mutual
   pub documents_give : (d : Documents) (m : Mark) → LastText (documents_events d m)
   documents_give (implicit f n) m
-      = last_text (head_of no_directives true) (first_block n) (first_block n) (free_gives f) (block_node_gives no_directives n)
+      = last_text (head_of no_directives true) (first_block n) (first_block n) (free_gives f)
+      (block_node_gives no_directives n)
   documents_give (explicit b ds s n) m
-      = last_text (head_of ds false) (first_directive ds s.start) s.end (before_gives b (first_directive ds s.start)) (block_slot_gives ds n m)
+      = last_text (head_of ds false) (first_directive ds s.start) s.end (before_gives b (first_directive ds s.start))
+      (block_slot_gives ds n m)
 
   pub free_gives : (f : Free) → AllTexts (free_events f)
   free_gives (opened e m) = record { head = e; start = m.start; start_end = m.start; texts = no_texts; same = λ r. refl; pairs = tt }

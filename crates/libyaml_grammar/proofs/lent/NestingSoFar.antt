@@ -23,7 +23,8 @@ use Rattle.libyaml_grammar.proofs.lent.Splits.{Splits, both_split, event_splits,
 cut_splits : (c : Cut) (m : Mark) → Splits (shown_cut c m)
 cut_splits (document_due d) m = both_split (position_splits (between (behind d)) m) (event_splits _)
 cut_splits (at_directive (free f) no_directives) m = position_splits (between (free f)) m
-cut_splits (at_directive (behind d) no_directives) m = both_split (position_splits (between (behind d)) m) (event_splits _)
+cut_splits (at_directive (behind d) no_directives) m
+    = both_split (position_splits (between (behind d)) m) (event_splits _)
 cut_splits (part_due c o s ps) m = both_split (position_splits (in_mapping c o s ps) m) (missing_value_splits ps m)
 cut_splits (separator_due c e) m = both_split (position_splits (flow_behind c e) m) (member_end_splits (sort_of c) e m)
 cut_splits c m = position_splits (stand c) m
@@ -50,7 +51,9 @@ tree_begins : (t : Stream) (l rest : List Event) → events t ≡ l ++ rest → 
 tree_begins t l rest e = (rest, subst IsNested e (events_nest_proof t))
 
 cut_begins : (c : Cut) (b : Token) → BeginsNested (cut_events c b)
-cut_begins c b = let g = goes_on c (marks_of b) in tree_begins g.0 (cut_events c b) g.1 (g.2 ∙ (cut_splits c b.start_mark).splits g.1)
+cut_begins c b
+    = let g = goes_on c (marks_of b) in tree_begins g.0 (cut_events c b) g.1 (g.2
+    ∙ (cut_splits c b.start_mark).splits g.1)
 
 pub run_begins : (l : List Token) (f : Fault) (e : List Event) (x : Ending) → IsRun l f e x → BeginsNested e
 run_begins l f e x (of_sentence t a o g h) = tree_begins t e [] (sym g ∙ sym (nil_right e))
@@ -89,7 +92,9 @@ ends_in (text_behind ts d m n v i p q) l rest r h e = go (ends_in ts l rest (eve
     go : EndsIn l rest ts (event (ev.DocumentStart d) m n ∷ value_events v (document_end_at i p q ∷ r)) → EndsIn l rest (text_behind ts d m n v i p q) r
     go (among us o a b c) = among us o a b c
     go (past [] a b) = among ts [] a h.0 (none_open refl)
-    go (past (x ∷ k) a b) = further (two_lists k rest (value_events v []) (document_end_at i p q ∷ r) (tails ∙ (value_splits v).splits (document_end_at i p q ∷ r)))
+    go (past (x ∷ k) a b)
+        = further (two_lists k rest (value_events v []) (document_end_at i p q ∷ r) (tails
+        ∙ (value_splits v).splits (document_end_at i p q ∷ r)))
       where
         heads : x ≡ event (ev.DocumentStart d) m n
         heads = cc
@@ -107,7 +112,8 @@ ends_in (text_behind ts d m n v i p q) l rest r h e = go (ends_in ts l rest (eve
         further (inr (y ∷ ys, c, f)) = past ys (a
             ∙ ap (texts_events ts) (ap (λ (z : Event). z ∷ k) heads
             ∙ ap (λ (z : List Event). event (ev.DocumentStart d) m n ∷ z) (c
-            ∙ (ap (λ (z : Event). value_events v [] ++ z ∷ ys) first ∙ sym ((value_splits v).splits (document_end_at i p q ∷ ys)))))) others
+            ∙ (ap (λ (z : Event). value_events v [] ++ z ∷ ys) first
+            ∙ sym ((value_splits v).splits (document_end_at i p q ∷ ys)))))) others
           where
             first : y ≡ document_end_at i p q
             first = cc

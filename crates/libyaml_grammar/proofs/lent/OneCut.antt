@@ -2,11 +2,11 @@
 use Rattle.std.proofs.Common.{◌≡◌, List, [], ◌∷◌, ◌++◌, Some, None, refl, sym, ap, ◌∙◌, subst, inl, inr, Bool, true, false}
 use Rattle.libyaml_grammar.specs.sentences.Tokens.{AnchorName, Content, HandleDeclared, Marks, Tag, TagDirective, TagName, Token, VersionAsked}
 use Rattle.libyaml_grammar.specs.sentences.Tokens.{VersionDirective, marks_of, tok}
-use Rattle.libyaml_grammar.specs.sentences.Trees.{Before, BlockNode, Directive, Directives, Documents, FlowNode, Free, Properties, alone, anchor}
-use Rattle.libyaml_grammar.specs.sentences.Trees.{anchor_tag, behind, directive, empty, explicit, flow, flow_node, flow_node_tokens, flow_nothing, free}
-use Rattle.libyaml_grammar.specs.sentences.Trees.{implicit, indentless, item, no_directives, no_parts, no_value, node, nothing, pair, part, sequence}
-use Rattle.libyaml_grammar.specs.sentences.Trees.{single, slot_of, tag, tag_directive, version, with_value}
-use Rattle.libyaml_grammar.specs.sentences.Order.{both, declares, flow_node_in_order, is_accepted, is_known, negated, no_version}
+use Rattle.libyaml_grammar.specs.sentences.Trees.{Before, BlockNode, Directives, Documents, FlowNode, Properties, alone, anchor, anchor_tag, behind}
+use Rattle.libyaml_grammar.specs.sentences.Trees.{directive, empty, explicit, flow, flow_node, flow_node_tokens, flow_nothing, free, implicit, indentless}
+use Rattle.libyaml_grammar.specs.sentences.Trees.{item, no_directives, no_parts, no_value, node, nothing, pair, part, sequence, single, slot_of, tag}
+use Rattle.libyaml_grammar.specs.sentences.Trees.{tag_directive, version, with_value}
+use Rattle.libyaml_grammar.specs.sentences.Order.{flow_node_in_order, is_known}
 use Rattle.libyaml_grammar.specs.sentences.Events.{Event}
 use Rattle.libyaml_grammar.specs.cuts.CutTrees.{BlockPlace, Cut, Place, at_directive, at_tag, at_tag_behind, before_stream, block, content_due}
 use Rattle.libyaml_grammar.specs.cuts.CutTrees.{cut_in_order, cut_tokens, declared, declared_open, document_due, entry, entry_due, explicit_root}
@@ -15,15 +15,15 @@ use Rattle.libyaml_grammar.specs.cuts.CutTrees.{place_in_order, place_tokens, ro
 use Rattle.libyaml_grammar.specs.cuts.Fits.{EndsEmpty, Fits, FitsDirective, FitsTag, IsUnknown, IsUnknownTag, WantsContent, ends_empty, is_directive}
 use Rattle.libyaml_grammar.specs.cuts.Fits.{last_empty}
 use Rattle.libyaml_grammar.proofs.lent.Positions.{Position, between, due, flow_due, headed, in_mapping, in_sequence, unopened}
-use Rattle.libyaml_grammar.proofs.lent.Reading.{Step, bad, bad_same, broken, checked, feeds, fill, fill_flow, goes, goes_same, keeps_order, on_due, over}
-use Rattle.libyaml_grammar.proofs.lent.Reading.{reads, reads_all, then_all}
+use Rattle.libyaml_grammar.proofs.lent.Reading.{Step, bad, bad_same, broken, checked, feed, feeds, fill, fill_flow, goes, goes_same, is_legal, keeps_order}
+use Rattle.libyaml_grammar.proofs.lent.Reading.{on_due, over, reads, reads_all, then_all}
 use Rattle.libyaml_grammar.proofs.lent.Completion.{reached_begins, reads_append}
 use Rattle.libyaml_grammar.proofs.lent.Orders.{feeds_order, reads_from}
 use Rattle.libyaml_grammar.proofs.lent.ReadSteps.{IsNotDone, Moves, ReadStep, a_tag, begins_entry, begins_root, fails, filled, filled_block, first_handle}
 use Rattle.libyaml_grammar.proofs.lent.ReadSteps.{first_version, front, is_alone, is_past, leaves, moved_open, moves, next_handle, next_version}
 use Rattle.libyaml_grammar.proofs.lent.ReadSteps.{no_content, no_stream, not_past, read_step, tag_behind_anchor}
 use Rattle.libyaml_grammar.proofs.trees.Edge.{cut_reads, edge_documents, reached}
-use Rattle.libyaml_grammar.proofs.trees.Complete.{edge_block, edge_flow, home}
+use Rattle.libyaml_grammar.proofs.trees.Complete.{directive_feed, edge_block, edge_flow, heads, home}
 use Rattle.libyaml_grammar.proofs.trees.Append.{edge_told}
 
 -- a step that does not go on stops at this cut
@@ -161,7 +161,8 @@ stops_nothing p x k m e d = go (on_due p None k m) (keeps_order no_directives (d
     go (bad c) l a b f n = let g = a c refl in cc
     go over l a b f n = absurd (b refl)
 
-filled_told : (p : Place) (x : FlowNode) → ((r : List Token) → cut_tokens (filled p x) r ≡ place_tokens p (flow_node_tokens x r))
+filled_told : (p : Place) (x : FlowNode) → ((r : List Token)
+    → cut_tokens (filled p x) r ≡ place_tokens p (flow_node_tokens x r))
     × ((r : Bool) → cut_in_order (filled p x) r ≡ place_in_order p (flow_node_in_order (declared p) x r))
 filled_told (block (root (implicit_root f))) x = (λ r. refl, λ r. refl)
 filled_told (block (slot (part_place c o s ps t v))) x = (λ r. refl, λ r. refl)
@@ -178,7 +179,12 @@ record Given (l : List Token) (c : Cut) (k : Content) : Type 0 where
 no_tag : (p : Place) (ps : Properties) (k : Content) (l : List Token) → Given l (filled p (alone ps)) k → NoTag (due p (Some ps)) k
 no_tag p (anchor a m) k l g = λ e. g.none (record {
   place = p;
-  begins = (sym ((filled_told p (alone (anchor a m))).1 true) ∙ g.good, inr (a, m, sym ((filled_told p (alone (anchor a m))).0 []) ∙ g.same));
+  begins
+      = (
+        sym ((filled_told p (alone (anchor a m))).1 true)
+            ∙ g.good,
+        inr (a, m, sym ((filled_told p (alone (anchor a m))).0 []) ∙ g.same),
+      );
   unknown = e;
 })
 no_tag p _ k l g = tt
@@ -194,40 +200,29 @@ stops_edge_block : (c : BlockPlace) (x : BlockNode) (k : Content) (m : Marks) (l
 stops_edge_block c (flow x) k m l g = stops_edge_flow (block c) x k m l g
 stops_edge_block c x k m l g = stops_filled_block c x k m g.way
 
-pub stops_next : (b : Before) (ds : Directives) (d : Directive) (k : Content) (m : Marks) → is_directive k ≡ true
-    → Stops (reads (headed b ds d) (tok k m)) (at_directive b (directive ds d))
-stops_next b ds d (VersionDirective x) m e n
-    = stops_order (headed b (directive ds d) (version x m)) (both (no_version (directive ds d)) (is_accepted x.major x.minor)) n
-stops_next b ds d (TagDirective x) m e n = stops_order (headed b (directive ds d) (tag_directive x m)) (negated (declares (directive ds d) x.handle)) n
-stops_next b ds d _ m e n = cc
+stops_led : (q p : Position) (t : Token) → feed q t ≡ goes p → Stops (reads q t) (broken p)
+stops_led q p t e
+    = subst (λ (s : Step). Stops (checked s (is_legal q t.content)) (broken p)) (sym e)
+    (stops_order p (is_legal q t.content))
 
-stops_first : (f : Free) (k : Content) (m : Marks) → is_directive k ≡ true → Stops (reads (between (free f)) (tok k m)) (at_directive (free f) no_directives)
-stops_first f (VersionDirective x) m e n
-    = stops_order (headed (free f) no_directives (version x m)) (both (no_version no_directives) (is_accepted x.major x.minor)) n
-stops_first f (TagDirective x) m e n = stops_order (headed (free f) no_directives (tag_directive x m)) (negated (declares no_directives x.handle)) n
-stops_first f _ m e n = cc
+stops_heads : (b : Before) (ds : Directives) (k : Content) (m : Marks) → is_directive k ≡ true
+    → Stops (reads (heads b ds) (tok k m)) (at_directive b ds)
+stops_heads b ds (VersionDirective x) m e
+    = stops_led (heads b ds) (headed b ds (version x m)) (tok (VersionDirective x) m) (directive_feed b ds (version x m))
+stops_heads b ds (TagDirective x) m e
+    = stops_led (heads b ds) (headed b ds (tag_directive x m)) (tok (TagDirective x) m)
+    (directive_feed b ds (tag_directive x m))
+stops_heads b ds _ m e = absurd cc
 
-version_behind : (d : Documents) (x : VersionAsked) (m : Marks)
-    → reads (edge_documents d) (tok (VersionDirective x) m) ≡ checked (goes (headed (behind d) no_directives (version x m)))
-    (both (no_version no_directives) (is_accepted x.major x.minor))
-version_behind (implicit f (flow (alone ps))) x m = refl
-version_behind (explicit b ds z (node (flow (alone ps)))) x m = refl
-version_behind _ x m = refl
-
-handle_behind : (d : Documents) (x : HandleDeclared) (m : Marks)
-    → reads (edge_documents d) (tok (TagDirective x) m) ≡ checked (goes (headed (behind d) no_directives (tag_directive x m)))
-    (negated (declares no_directives x.handle))
-handle_behind (implicit f (flow (alone ps))) x m = refl
-handle_behind (explicit b ds z (node (flow (alone ps)))) x m = refl
-handle_behind _ x m = refl
-
-stops_behind : (d : Documents) (k : Content) (m : Marks) → is_directive k ≡ true
-    → Stops (reads (edge_documents d) (tok k m)) (at_directive (behind d) no_directives)
-stops_behind d (VersionDirective x) m e = subst (λ (s : Step). Stops s (at_directive (behind d) no_directives)) (sym (version_behind d x m))
-    (stops_order (headed (behind d) no_directives (version x m)) (both (no_version no_directives) (is_accepted x.major x.minor)))
-stops_behind d (TagDirective x) m e = subst (λ (s : Step). Stops s (at_directive (behind d) no_directives)) (sym (handle_behind d x m))
-    (stops_order (headed (behind d) no_directives (tag_directive x m)) (negated (declares no_directives x.handle)))
-stops_behind d _ m e = absurd cc
+directive_behind : (d : Documents) (k : Content) (m : Marks) → is_directive k ≡ true
+    → reads (edge_documents d) (tok k m) ≡ reads (between (behind d)) (tok k m)
+directive_behind (implicit f (flow (alone ps))) (VersionDirective x) m e = refl
+directive_behind (implicit f (flow (alone ps))) (TagDirective x) m e = refl
+directive_behind (explicit b ds z (node (flow (alone ps)))) (VersionDirective x) m e = refl
+directive_behind (explicit b ds z (node (flow (alone ps)))) (TagDirective x) m e = refl
+directive_behind _ (VersionDirective x) m e = refl
+directive_behind _ (TagDirective x) m e = refl
+directive_behind _ _ m e = absurd cc
 
 pub broken_by : (q : Position) (b : Bool) → b ≡ false → checked (goes q) b ≡ bad (broken q)
 broken_by q true e = cc
@@ -259,9 +254,11 @@ cut_stops l (document_due (explicit b ds s nothing)) k m t o r w d u n = stops_n
 cut_stops l (document_due (explicit b ds s (node x))) k m t o r w d u n
     = stops_edge_block (root (explicit_root b ds s)) x k m l (record { same = t; good = o; way = d; none = u }) n
 cut_stops l (start_due b ds x) k m t o r w d u n = step_stops (read_step m (headed b ds x) k) tt d tt tt n
-cut_stops l (at_directive (free f) no_directives) k m t o r w d u n = stops_first f k m d n
-cut_stops l (at_directive (behind x) no_directives) k m t o r w d u n = stops_behind x k m d n
-cut_stops l (at_directive b (directive ds x)) k m t o r w d u n = stops_next b ds x k m d n
+cut_stops l (at_directive (free f) no_directives) k m t o r w d u n = stops_heads (free f) no_directives k m d n
+cut_stops l (at_directive (behind x) no_directives) k m t o r w d u n
+    = subst (λ (s : Step). Stops s (at_directive (behind x) no_directives)) (sym (directive_behind x k m d))
+    (stops_heads (behind x) no_directives k m d) n
+cut_stops l (at_directive b (directive ds x)) k m t o r w d u n = stops_heads b (directive ds x) k m d n
 cut_stops l (content_due p) k m t o r w d u n = stops_content p k m (w, d, λ e. u (record { place = p; begins = (o, inl t); unknown = e })) n
 cut_stops l (at_tag p) k m t o r w d u n = stops_at_tag p k m u
 cut_stops l (at_tag_behind p a x) k m t o r w d u n = stops_at_tag_behind p a x k m u
@@ -289,7 +286,8 @@ cut_stops l (separator_due c (pair e y (with_value v (flow_node x)))) k m t o r 
 pub fits_reach : (l : List Token) (b : Token) (c : Cut) → Fits l b c → reads_all l unopened ≡ goes (reached c)
 fits_reach l b c f =
     let e : feeds l unopened ≡ goes (reached c) = subst (λ (x : List Token). feeds x unopened ≡ goes (reached c)) f.tokens (cut_reads c []) in
-    reads_from l unopened (reached c) e (sym (feeds_order l unopened (reached c) e true) ∙ ((edge_told c).1 true ∙ f.order))
+    reads_from l unopened (reached c) e (sym (feeds_order l unopened (reached c) e true) ∙ ((edge_told c).1 true
+    ∙ f.order))
 
 pub fits_stop : (l : List Token) (b : Token) (c : Cut) → Fits l b c → reads (reached c) b ≡ bad c
 fits_stop l b c f = cut_stops l c b.content (marks_of b) f.tokens f.order f.empty_end f.wants_content f.directive f.tag

@@ -16,7 +16,8 @@ tests [] q r = r
 tests (t ∷ l) q r = both (is_legal q t.content) (test_all (feed q t) (tests l) r)
 
 pub feeds_order : (l : List Token) (q p : Position) → feeds l q ≡ goes p → (r : Bool) → position_in_order p r ≡ position_in_order q (tests l q r)
-feeds_order l q p e r = along (λ (a : List Token) (x : Position). position_in_order p r ≡ position_in_order x (tests a x r)) p refl
+feeds_order l q p e r
+    = along (λ (a : List Token) (x : Position). position_in_order p r ≡ position_in_order x (tests a x r)) p refl
     (λ t a y x f h. h
     ∙ ((step_keeps y x t f).1 (tests a x r)
     ∙ ap (λ (s : Step). position_in_order y (both (is_legal y t.content) (test_all s (tests a) r))) (sym f))) l q e

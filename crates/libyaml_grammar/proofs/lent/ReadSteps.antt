@@ -229,17 +229,21 @@ module _ (m : Marks) where
 
   -- a token after a node that is nothing
   abbrev AtNothing : Place → Content → Directives → Type 0
-  AtNothing p k es = ReadStep (due p None) k (without p None k m) (given_without p None k m) (keeps_order no_directives es k)
+  AtNothing p k es = ReadStep (due p None) k (without p None k m) (given_without p None k m)
+      (keeps_order no_directives es k)
 
   or_fails : (p : Place) (k : Content) (es : Directives) → Behind (leave p) k es → AtNothing p k es
   or_fails p k es h = or_left p k _ _ _ h (left_if p k)
 
   left_step : (p : Place) (k : Content) (es : Directives) → AtNothing p k es
   left_step (block (root (implicit_root f))) k es = fails (no_content refl)
-  left_step (block (root (explicit_root b ds s))) k es = or_fails (block (root (explicit_root b ds s))) k es (documents_step _ k es)
+  left_step (block (root (explicit_root b ds s))) k es
+      = or_fails (block (root (explicit_root b ds s))) k es (documents_step _ k es)
   left_step (block (entry c o s is e)) k es = or_fails (block (entry c o s is e)) k es (item_step c o s _ k es)
-  left_step (block (slot (part_place c o s ps t v))) k es = or_fails (block (slot (part_place c o s ps t v))) k es (part_step c o s _ k es)
-  left_step (block (indentless_entry c o is e)) k es = or_fails (block (indentless_entry c o is e)) k es (indentless_step c o is e nothing k es)
+  left_step (block (slot (part_place c o s ps t v))) k es
+      = or_fails (block (slot (part_place c o s ps t v))) k es (part_step c o s _ k es)
+  left_step (block (indentless_entry c o is e)) k es
+      = or_fails (block (indentless_entry c o is e)) k es (indentless_step c o is e nothing k es)
   left_step (flow_entry c) k es = fails (no_content refl)
   left_step (flow_key c e) k es = or_fails (flow_key c e) k es (key_step c e flow_nothing k es)
   left_step (flow_value c e x v) k es = or_fails (flow_value c e x v) k es (member_step c _ k es)

@@ -272,14 +272,16 @@ goes_same p q e = cc
 pub bad_same : (c d : Cut) → bad c ≡ bad d → c ≡ d
 bad_same c d e = cc
 
--- what holds at the position that a list leads to, and before each token where it holds after it, holds where the list begins
+-- what holds at the position that a list leads to, and before a token where it holds after it, holds where the list begins
 pub along : (P : List Token → Position → Type 0) (p : Position) → P [] p
-    → ((t : Token) (l : List Token) (q x : Position) → feed q t ≡ goes x → P l x → P (t ∷ l) q) → (l : List Token) (q : Position) → feeds l q ≡ goes p
+    → ((t : Token) (l : List Token) (q x : Position) → feed q t ≡ goes x → P l x → P (t ∷ l) q)
+    → (l : List Token) (q : Position) → feeds l q ≡ goes p
     → P l q
 along P p z f [] q e = subst (P []) (sym (goes_same q p e)) z
 along P p z f (t ∷ l) q e = go (λ (x : Position) (h : feeds l x ≡ goes p). along P p z f l x h) (feed q t) refl e
   where
-    go : ((x : Position) → feeds l x ≡ goes p → P l x) → (s : Step) → feed q t ≡ s → then_all s (feeds l) ≡ goes p → P (t ∷ l) q
+    go : ((x : Position) → feeds l x ≡ goes p → P l x) → (s : Step) → feed q t ≡ s → then_all s (feeds l) ≡ goes p
+        → P (t ∷ l) q
     go ih (goes x) g h = f t l q x g (ih x h)
     go ih (bad c) g h = absurd cc
     go ih over g h = absurd cc

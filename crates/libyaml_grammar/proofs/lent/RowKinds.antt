@@ -27,7 +27,8 @@ use Rattle.libyaml_grammar.proofs.lent.StreamEnds.{not_end_not_done}
 pub sentence_row : (n : ℕ) (l : List Token) (f : Fault) (e : List Event) (t : Stream) → reads_all (take n l) unopened ≡ goes (done t) → take n l ++ drop n l ≡ l
     → events t ≡ e → IsRun l f e Ends
 sentence_row n l f e t r s g =
-    let x : tokens t ≡ take n l = feeds_keep (take n l) unopened (done t) (reads_to (take n l) unopened (done t) r).0 [] ∙ append-nil (take n l) in
+    let x : tokens t ≡ take n l = feeds_keep (take n l) unopened (done t)
+    (reads_to (take n l) unopened (done t) r).0 [] ∙ append-nil (take n l) in
     subst (λ (d : List Event). IsRun l f d Ends) g
     (subst (λ (k : List Token). IsRun k f (events t) Ends) (ap (λ (k : List Token). k ++ drop n l) x
     ∙ s) (sentence_run t (drop n l) f (read_order (take n l) (done t) r)))

@@ -19,9 +19,11 @@ first_mark (t ∷ l) n = t.start_mark
 -- the events of a position are those given by its tokens
 pub given_shown : (l : List Token) (q p : Position) → feeds l q ≡ goes p → (n : Mark) (r : List Event)
     → shown p n r ≡ shown q (first_mark l n) (gives_all l q r)
-given_shown l q p e n r = along (λ (a : List Token) (x : Position). shown p n r ≡ shown x (first_mark a n) (gives_all a x r)) p refl
+given_shown l q p e n r
+    = along (λ (a : List Token) (x : Position). shown p n r ≡ shown x (first_mark a n) (gives_all a x r)) p refl
     (λ t a y x f h. h
-    ∙ (subst (λ (s : Step). Shows s y (marks_of t) (gives y t.content (marks_of t))) f (step_shows y t.content (marks_of t)) (first_mark a n) (gives_all a x r)
+    ∙ (subst (λ (s : Step). Shows s y (marks_of t) (gives y t.content (marks_of t))) f
+    (step_shows y t.content (marks_of t)) (first_mark a n) (gives_all a x r)
     ∙ ap (λ (s : Step). shown y t.start_mark (gives y t.content (marks_of t) (if_all s (gives_all a) r))) (sym f))) l q e
 
 pub tree_run : (t : Stream) → gives_all (tokens t) unopened [] ≡ events t
@@ -37,7 +39,8 @@ cut_run l b q c e f =
     s [] ∙ given_shown l unopened q e b.start_mark (gives q b.content (marks_of b) [])
 
 pub given_append : (a b : List Token) (q p : Position) → feeds a q ≡ goes p → (r : List Event) → gives_all (a ++ b) q r ≡ gives_all a q (gives_all b p r)
-given_append a b q p e r = along (λ (l : List Token) (x : Position). gives_all (l ++ b) x r ≡ gives_all l x (gives_all b p r)) p refl
+given_append a b q p e r
+    = along (λ (l : List Token) (x : Position). gives_all (l ++ b) x r ≡ gives_all l x (gives_all b p r)) p refl
     (λ t l y x f h. ap (gives y t.content (marks_of t))
     (subst (λ (s : Step). if_all s (gives_all (l ++ b)) r ≡ if_all s (gives_all l) (gives_all b p r)) (sym f) h)) a q e
 

@@ -19,10 +19,9 @@ use Rattle.libyaml_grammar.specs.cuts.Settled.{IsSettled, sure}
 use Rattle.libyaml_grammar.specs.runs.StreamEnds.{up_to_end}
 use Rattle.libyaml_grammar.specs.sentences.Tokens.{Anchor, Content, Tag, Token}
 use Rattle.libyaml_grammar.specs.sentences.Trees.{Directives, Stream, tokens}
-use Rattle.libyaml_grammar.proofs.lent.Completion.{Stops, goes_or_stops, reached_begins, read_sentence, reads_append, sentence_reads}
+use Rattle.libyaml_grammar.proofs.lent.Completion.{Stops, begin_reads, goes_or_stops, reached_begins, read_sentence, reads_append, sentence_reads}
 use Rattle.libyaml_grammar.proofs.trees.Edge.{reached}
 use Rattle.libyaml_grammar.proofs.lent.Fitting.{read_over, stops_fits}
-use Rattle.libyaml_grammar.proofs.lent.Fronts.{begin_reads}
 use Rattle.libyaml_grammar.proofs.lent.ReadSteps.{IsNotDone}
 use Rattle.libyaml_grammar.proofs.lent.OneCut.{fits_reach, fits_stop}
 use Rattle.libyaml_grammar.proofs.lent.Settling.{begin_front, front_settles, one_settled_proof}
@@ -117,7 +116,8 @@ cut_same : (l : List Token) (f : Fault) (d e : List Event) (x y : Ending) (a b :
     → x ≡ elim (is_behind_properties c r) [ true ↦ Fails (fault c t.content t.start_mark) | false ↦ Fails f ] → e ≡ shown_cut c u.start_mark []
     → y ≡ elim (is_behind_properties c s) [ true ↦ Fails (fault c u.content u.start_mark) | false ↦ Fails f ] → Same d e x y
 cut_same l f d e x y a b t u r s c g h i j k m n =
-    let o : t ∷ r ≡ u ∷ s = append_cancel_left a (t ∷ r) (u ∷ s) (sym g ∙ (h ∙ ap (λ (z : List Token). z ++ u ∷ s) (sym i))) in
+    let o : t ∷ r ≡ u ∷ s = append_cancel_left a (t ∷ r) (u ∷ s) (sym g ∙ (h
+    ∙ ap (λ (z : List Token). z ++ u ∷ s) (sym i))) in
     let p : t ≡ u = first_same t u r s o in
     let q : r ≡ s = rest_same t u r s o in
     let ending : Token → List Token → Ending = λ z w. elim (is_behind_properties c w) [ true ↦ Fails (fault c z.content z.start_mark) | false ↦ Fails f ] in
@@ -212,7 +212,8 @@ sentence_run t r f o =
 
 -- no cut tree has a STREAM-END
 cut_not_ended : (l : List Token) (b : Token) (c : Cut) → Fits l b c → has_end l ≡ false
-cut_not_ended l b c f = no_end_unless l (λ e. no (reached c) refl (end_is_done l unopened (reached c) (fits_reach l b c f) e))
+cut_not_ended l b c f
+    = no_end_unless l (λ e. no (reached c) refl (end_is_done l unopened (reached c) (fits_reach l b c f) e))
   where
     no : (x : Position) → reached c ≡ x → IsDone x → ⊥
     no (done t) g d = let h : bad c ≡ over = sym (fits_stop l b c f) ∙ ap (λ (y : Position). reads y b) g in cc

@@ -18,9 +18,9 @@ use Rattle.libyaml_grammar.specs.cuts.Rest.{rest}
 use Rattle.libyaml_grammar.proofs.lent.Given.{gives_all}
 use Rattle.libyaml_grammar.proofs.lent.Positions.{Position, done, position_rest, shown, unopened}
 use Rattle.libyaml_grammar.proofs.lent.Reading.{Step, along, feeds, goes, then_all}
-use Rattle.libyaml_grammar.proofs.lent.Completion.{position_begins, reached_begins, read_order}
+use Rattle.libyaml_grammar.proofs.lent.Completion.{begin_reads, position_begins, reached_begins, read_order}
 use Rattle.libyaml_grammar.proofs.lent.ReadSteps.{IsNotDone, front}
-use Rattle.libyaml_grammar.proofs.lent.Fronts.{begin_reads, front_not_done, front_of, front_reads, not_done_front}
+use Rattle.libyaml_grammar.proofs.lent.Fronts.{front_not_done, front_of, front_reads, not_done_front}
 use Rattle.libyaml_grammar.proofs.lent.Keeps.{feeds_keep}
 use Rattle.libyaml_grammar.proofs.lent.Orders.{reads_to}
 use Rattle.libyaml_grammar.proofs.lent.Run.{begin_events, given_shown}
@@ -74,7 +74,8 @@ pub gives_sure : (l : List Token) (c : Cut) → IsFront l c → (r : List Event)
 gives_sure l c f r =
     let e = (reads_to l unopened (reached c) (front_reads l c f)).0 in
     sym (given_shown l unopened (reached c) e zero_mark r)
-    ∙ ((position_splits (reached c) zero_mark).splits r ∙ ap (λ (x : List Event). x ++ r) (sure_shows c zero_mark f.place f.full))
+    ∙ ((position_splits (reached c) zero_mark).splits r
+    ∙ ap (λ (x : List Event). x ++ r) (sure_shows c zero_mark f.place f.full))
 
 begins_each : (l : List Token) (c : Cut) → IsFront l c → BeginsEach l (sure c)
 begins_each l c f = λ t rest o e. (
@@ -198,7 +199,8 @@ settled_open l e b h s =
 pub front_begins : (l : List Token) (c : Cut) → IsFront l c → IsBeginning l × (has_end l ≡ false)
 front_begins l c f = (
   reached_begins l (reached c) (front_reads l c f),
-  no_end_unless l (λ e. open_still (reached c) (not_done_front l c f) (end_is_done l unopened (reached c) (front_reads l c f) e)),
+  no_end_unless l (λ e. open_still (reached c) (not_done_front l c f)
+      (end_is_done l unopened (reached c) (front_reads l c f) e)),
 )
   where
     open_still : (q : Position) → IsNotDone q → IsDone q → ⊥

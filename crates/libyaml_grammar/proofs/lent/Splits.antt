@@ -52,7 +52,8 @@ mutual
 
 texts_split : (ts : Texts) → Splits (texts_events ts)
 texts_split no_texts = nothing_splits
-texts_split (text_behind ts d m n v i p q) = both_split (texts_split ts) (behind_event _ (both_split (value_splits v) (event_splits _)))
+texts_split (text_behind ts d m n v i p q)
+    = both_split (texts_split ts) (behind_event _ (both_split (value_splits v) (event_splits _)))
 
 -- the parts of a tree, which give values
 given_splits : {g : List Event → List Event} → Gives g → Splits g
@@ -111,7 +112,8 @@ before_part_splits (part ps value v x) value m = event_splits _
 flow_member_splits : (ds : Directives) (k : Sort) (e : FlowMember) (m : Mark) → Splits (flow_member_events ds k e m)
 flow_member_splits ds k (single n) m = flow_slot_splits ds (flow_node n) m
 flow_member_splits ds k (pair s x no_value) m = both_split (opens_split k s) (flow_slot_splits ds x m)
-flow_member_splits ds k (pair s x (with_value v y)) m = both_split (opens_split k s) (both_split (flow_slot_splits ds x v.start) (flow_slot_splits ds y m))
+flow_member_splits ds k (pair s x (with_value v y)) m
+    = both_split (opens_split k s) (both_split (flow_slot_splits ds x v.start) (flow_slot_splits ds y m))
 
 -- what is shown at a place
 root_splits : (t : Root) (m : Mark) → Splits (shown_root t m)
@@ -121,9 +123,11 @@ root_splits (explicit_root b ds s) m = both_split (before_splits b (first_direct
 mutual
   block_place_splits : (c : BlockPlace) (m : Mark) → Splits (shown_block c m)
   block_place_splits (root t) m = root_splits t m
-  block_place_splits (entry c o s is e) m = both_split (block_place_splits c (first_of o s.start)) (behind_event _ (items_split (declared_block c) is))
+  block_place_splits (entry c o s is e) m
+      = both_split (block_place_splits c (first_of o s.start)) (behind_event _ (items_split (declared_block c) is))
   block_place_splits (slot c) m = part_place_splits c
-  block_place_splits (indentless_entry c o is e) m = both_split (part_place_splits c) (behind_event _ (items_split (declared_part c) is))
+  block_place_splits (indentless_entry c o is e) m
+      = both_split (part_place_splits c) (behind_event _ (items_split (declared_part c) is))
 
   part_place_splits : (c : PartPlace) → Splits (shown_part c)
   part_place_splits (part_place c o s ps k v) = both_split (block_place_splits c (first_of o s.start))
@@ -147,11 +151,14 @@ position_splits (between (free f)) m = texts_splits (free_gives f)
 position_splits (between (behind d)) m = documents_split d m
 position_splits (headed b ds d) m = before_splits b (first_directive (directive ds d) m)
 position_splits (due p o) m = place_splits p (first_of o m)
-position_splits (in_sequence c o s is) m = both_split (block_place_splits c (first_of o s.start)) (behind_event _ (items_split (declared_block c) is))
-position_splits (in_mapping c o s ps) m = both_split (block_place_splits c (first_of o s.start)) (behind_event _ (parts_split (declared_block c) ps m))
+position_splits (in_sequence c o s is) m
+    = both_split (block_place_splits c (first_of o s.start)) (behind_event _ (items_split (declared_block c) is))
+position_splits (in_mapping c o s ps) m
+    = both_split (block_place_splits c (first_of o s.start)) (behind_event _ (parts_split (declared_block c) ps m))
 position_splits (in_indentless c o is e n) m = both_split (part_place_splits c)
     (behind_event _ (both_split (items_split (declared_part c) is) (block_slot_splits (declared_part c) n e.end)))
 position_splits (flow_due c) m = open_splits c
-position_splits (flow_keyed c k x) m = both_split (open_splits c) (both_split (opens_split (sort_of c) k) (flow_slot_splits (declared_open c) x m))
+position_splits (flow_keyed c k x) m
+    = both_split (open_splits c) (both_split (opens_split (sort_of c) k) (flow_slot_splits (declared_open c) x m))
 position_splits (flow_behind c e) m = both_split (open_splits c) (flow_member_splits (declared_open c) (sort_of c) e m)
 position_splits (done (whole b n)) m = both_split (before_splits b n.start) (event_splits _)

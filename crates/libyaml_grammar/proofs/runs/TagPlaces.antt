@@ -7,13 +7,12 @@ use Rattle.libyaml_grammar.specs.cuts.CutTrees.{Place, at_tag_behind, content_du
 use Rattle.libyaml_grammar.specs.sentences.Sentences.{IsBeginning, IsSentence}
 use Rattle.libyaml_grammar.specs.cuts.Fits.{NodeBegins}
 use Rattle.libyaml_grammar.proofs.lent.Positions.{Position, due, position_in_order, position_rest, position_tokens, unopened}
-use Rattle.libyaml_grammar.proofs.lent.Reading.{Step, bad, checked, goes, is_legal, over, reads, reads_all, step, then_all}
+use Rattle.libyaml_grammar.proofs.lent.Reading.{Step, bad, checked, goes, is_legal, over, reads, reads_all, step}
 use Rattle.libyaml_grammar.proofs.trees.Append.{cut_append}
 use Rattle.libyaml_grammar.proofs.lent.Cases.{IsTagHeld, TagGoes, step_tag}
-use Rattle.libyaml_grammar.proofs.lent.Completion.{position_begins, read_order, reads_append}
+use Rattle.libyaml_grammar.proofs.lent.Completion.{begin_reads, goes_before, position_begins, read_order, reads_append}
 use Rattle.libyaml_grammar.proofs.lent.Keeps.{feeds_keep}
 use Rattle.libyaml_grammar.proofs.lent.Orders.{reads_to}
-use Rattle.libyaml_grammar.proofs.lent.Fronts.{begin_reads}
 
 same_front : (a b : List Token) (x y : Token) → a ++ x ∷ [] ≡ b ++ y ∷ [] → (a ≡ b) × (x ≡ y)
 same_front [] [] x y e = (refl, cc)
@@ -30,11 +29,6 @@ same_front (a ∷ s) (b ∷ r) x y e =
 
     head : a ∷ (s ++ x ∷ []) ≡ b ∷ (r ++ y ∷ []) → s ≡ r → a ∷ s ≡ b ∷ r
     head e f = cc
-
-goes_before : (s : Step) (f : Position → Step) (p : Position) → then_all s f ≡ goes p → (q : Position) × (s ≡ goes q) × (f q ≡ goes p)
-goes_before (goes q) f p e = (q, refl, e)
-goes_before (bad c) f p e = cc
-goes_before over f p e = cc
 
 legal_step : (s : Step) (b : Bool) (p : Position) → checked s b ≡ goes p → s ≡ goes p
 legal_step (goes q) true p e = e
@@ -56,7 +50,8 @@ module _ (l : List Token) (m : Marks) (s : List ℕ) where
   held : (x : Position) (b : Bool) → IsTagHeld x b m → position_tokens x [] ≡ l ++ tok (Tag whole_tag) m ∷ [] → position_in_order x true ≡ true → (p : Place)
       × NodeBegins l p
   held (due p (Some (tag h n))) b w e o =
-      let f = same_front (place_tokens p []) l (tok (Tag h) n) (tok (Tag whole_tag) m) (sym (cut_append (content_due p) (tok (Tag h) n ∷ [])) ∙ e) in
+      let f = same_front (place_tokens p []) l (tok (Tag h) n) (tok (Tag whole_tag) m)
+      (sym (cut_append (content_due p) (tok (Tag h) n ∷ [])) ∙ e) in
       (p, (subst (λ (t : TagName). place_in_order p (both (is_known (declared p) t.handle) true) ≡ true) (same_tag h n f.1) o, inl f.0))
   held (due p (Some (anchor_tag a k h n))) b w e o =
       let f = same_front (place_tokens p (tok (Anchor a) k ∷ [])) l (tok (Tag h) n) (tok (Tag whole_tag) m)

@@ -23,17 +23,20 @@ flow_told : (p : Place) (x : FlowNode) → Told (edge_flow p x) (λ (r : List To
 flow_told p (alone ps) = (λ r. refl, λ r. refl)
 flow_told p x = fill_flow_keeps p x
 
-block_told : (c : BlockPlace) (x : BlockNode) → Told (edge_block c x) (λ (r : List Token). block_place_tokens c (block_node_tokens x r))
+block_told : (c : BlockPlace) (x : BlockNode)
+    → Told (edge_block c x) (λ (r : List Token). block_place_tokens c (block_node_tokens x r))
     (λ (r : Bool). block_place_in_order c (block_node_in_order (declared_block c) x r))
 block_told c (flow x) = flow_told (block c) x
 block_told c x = fill_keeps c x
 
-slot_told : (c : BlockPlace) (x : BlockSlot) → Told (edge_slot c x) (λ (r : List Token). block_place_tokens c (block_slot_tokens x r))
+slot_told : (c : BlockPlace) (x : BlockSlot)
+    → Told (edge_slot c x) (λ (r : List Token). block_place_tokens c (block_slot_tokens x r))
     (λ (r : Bool). block_place_in_order c (block_slot_in_order (declared_block c) x r))
 slot_told c nothing = (λ r. refl, λ r. refl)
 slot_told c (node x) = block_told c x
 
-flow_slot_told : (p : Place) (x : FlowSlot) → Told (edge_flow_slot p x) (λ (r : List Token). place_tokens p (flow_slot_tokens x r))
+flow_slot_told : (p : Place) (x : FlowSlot)
+    → Told (edge_flow_slot p x) (λ (r : List Token). place_tokens p (flow_slot_tokens x r))
     (λ (r : Bool). place_in_order p (flow_slot_in_order (declared p) x r))
 flow_slot_told p flow_nothing = (λ r. refl, λ r. refl)
 flow_slot_told p (flow_node x) = flow_told p x
@@ -54,7 +57,8 @@ edge_told (content_due p) = home_told p
 edge_told (at_tag p) = home_told p
 edge_told (entry_due c o m (item is e x)) = slot_told (entry c o m is e) x
 edge_told (part_due c o m (part ps t v (slot_of x))) = slot_told (slot (part_place c o m ps t v)) x
-edge_told (part_due c o m (part ps t v (indentless y is e x))) = slot_told (indentless_entry (part_place c o m ps t v) y is e) x
+edge_told (part_due c o m (part ps t v (indentless y is e x)))
+    = slot_told (indentless_entry (part_place c o m ps t v) y is e) x
 edge_told (separator_due c (single x)) = flow_told (flow_entry c) x
 edge_told (separator_due c (pair e x no_value)) = flow_slot_told (flow_key c e) x
 edge_told (separator_due c (pair e x (with_value v y))) = flow_slot_told (flow_value c e x v) y
@@ -66,5 +70,6 @@ cut_append c r = sym ((edge_told c).0 r) ∙ feeds_keep (cut_tokens c []) unopen
 -- two cut trees with equal tokens before one list have equal tokens before each
 pub cut_swap : (c d : Cut) (r a : List Token) → cut_tokens c r ≡ cut_tokens d r → cut_tokens c a ≡ cut_tokens d a
 cut_swap c d r a e = cut_append c a
-    ∙ (ap (λ (l : List Token). l ++ a) (append_cancel_right (cut_tokens c []) (cut_tokens d []) r (sym (cut_append c r) ∙ (e ∙ cut_append d r)))
+    ∙ (ap (λ (l : List Token). l ++ a) (append_cancel_right (cut_tokens c []) (cut_tokens d []) r (sym (cut_append c r)
+    ∙ (e ∙ cut_append d r)))
     ∙ sym (cut_append d a))

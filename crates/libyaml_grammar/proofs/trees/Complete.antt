@@ -107,7 +107,8 @@ held_entry (block (slot (part_place c o s es r v))) (Some ps) m h = absurd h
 held_entry p None m h = or_bad_takes (behind_whole (leave p) BlockEntry m) (content_due p) h
 held_entry p (Some ps) m h = refl
 
-held_step : (p : Place) (o : Option Properties) (k : Content) (m : Marks) → (Begins k → ⊥) → Takes (behind_whole (held p o) k m)
+held_step : (p : Place) (o : Option Properties) (k : Content) (m : Marks) → (Begins k → ⊥)
+    → Takes (behind_whole (held p o) k m)
     → on_due p o k m ≡ behind_whole (held p o) k m
 held_step p o (Alias a) m n h = absurd (n tt)
 held_step p o (Anchor a) m n h = absurd (n tt)
@@ -124,17 +125,20 @@ held_step p (Some ps) k m n h = refl
 alone_follows : (p : Place) (ps : Properties) → Follows (due p (Some ps)) (fill_flow p (alone ps))
 alone_follows p ps k m h =
     let e = whole_step p (alone ps) k m in
-    held_step p (Some ps) k m (λ b. never (read_step m (fill_flow p (alone ps)) k) (node_begins_behind p (alone ps) k b) h) (subst Takes e h) ∙ sym e
+    held_step p (Some ps) k m (λ b. never (read_step m (fill_flow p (alone ps)) k)
+    (node_begins_behind p (alone ps) k b) h) (subst Takes e h) ∙ sym e
 
 leave_follows : (p : Place) → Follows (due p None) (leave p)
 leave_follows (block (root (implicit_root f))) k m h = refl
 leave_follows (block (slot (part_place c o s ps t v))) k m h
-    = held_step (block (slot (part_place c o s ps t v))) None k m (λ b. never (read_step m (leave (block (slot (part_place c o s ps t v)))) k) b h) h
+    = held_step (block (slot (part_place c o s ps t v))) None k m
+    (λ b. never (read_step m (leave (block (slot (part_place c o s ps t v)))) k) b h) h
 leave_follows (flow_entry c) k m h = refl
 leave_follows p k m h = held_step p None k m (λ b. never (read_step m (leave p) k) b h) h
 
 -- properties that come first
-properties_feed : (ps : Properties) (p : Place) (r : List Token) → feeds (properties_tokens ps r) (due p None) ≡ feeds r (due p (Some ps))
+properties_feed : (ps : Properties) (p : Place) (r : List Token)
+    → feeds (properties_tokens ps r) (due p None) ≡ feeds r (due p (Some ps))
 properties_feed (anchor a m) p r = refl
 properties_feed _ p r = refl
 
@@ -173,7 +177,8 @@ properties_begin : (ps : Properties) (r : List Token) → BeginsNode (properties
 properties_begin (anchor a m) r = tt
 properties_begin _ r = tt
 
-pub option_begins : (o : Option Properties) (k : Content) (m : Marks) (r : List Token) → Begins k → BeginsNode (option_tokens o (tok k m ∷ r))
+pub option_begins : (o : Option Properties) (k : Content) (m : Marks) (r : List Token) → Begins k
+    → BeginsNode (option_tokens o (tok k m ∷ r))
 option_begins None k m r b = b
 option_begins (Some ps) k m r b = properties_begin ps (tok k m ∷ r)
 
@@ -211,16 +216,19 @@ abbrev pub edge_block : BlockPlace → BlockNode → Position
 edge_block c (flow n) = edge_flow (block c) n
 edge_block c n = fill c n
 
-flow_edge_whole : (n : FlowNode) (p : Place) (r : List Token) → Ready (fill_flow p n) r → feeds r (edge_flow p n) ≡ feeds r (fill_flow p n)
+flow_edge_whole : (n : FlowNode) (p : Place) (r : List Token) → Ready (fill_flow p n) r
+    → feeds r (edge_flow p n) ≡ feeds r (fill_flow p n)
 flow_edge_whole (alone ps) p r h = follows_feeds (due p (Some ps)) (fill_flow p (alone ps)) (alone_follows p ps) r h
 flow_edge_whole _ p r h = refl
 
-block_edge_whole : (n : BlockNode) (c : BlockPlace) (r : List Token) → Ready (fill c n) r → feeds r (edge_block c n) ≡ feeds r (fill c n)
+block_edge_whole : (n : BlockNode) (c : BlockPlace) (r : List Token) → Ready (fill c n) r
+    → feeds r (edge_block c n) ≡ feeds r (fill c n)
 block_edge_whole (flow n) c r h = flow_edge_whole n (block c) r h
 block_edge_whole _ c r h = refl
 
 mutual
-  pub flow_node_edge : (n : FlowNode) (p : Place) (r : List Token) → feeds (flow_node_tokens n r) (due p None) ≡ feeds r (edge_flow p n)
+  pub flow_node_edge : (n : FlowNode) (p : Place) (r : List Token)
+      → feeds (flow_node_tokens n r) (due p None) ≡ feeds r (edge_flow p n)
   flow_node_edge (alias a m) p r = refl
   flow_node_edge (alone ps) p r = properties_feed ps p r
   flow_node_edge (scalar o v m) p r = option_feeds o p (tok (Scalar v) m ∷ r)
@@ -232,7 +240,8 @@ mutual
   flow_items_read no_items p o k m r = refl
   flow_items_read (more_items is e n) p o k m r = flow_items_read is p o k m _ ∙ flow_member_reads e (open_collection p o k m is) (tok FlowEntry n ∷ r) tt
 
-  flow_last_reads : (l : FlowLast) (p : Place) (o : Option Properties) (k : Sort) (m : Marks) (is : FlowItems) (n : Marks) (r : List Token)
+  flow_last_reads : (l : FlowLast) (p : Place) (o : Option Properties) (k : Sort) (m : Marks) (is : FlowItems)
+      (n : Marks) (r : List Token)
       → feeds (flow_last_tokens l (tok (closing k) n ∷ r)) (flow_due (open_collection p o k m is)) ≡ feeds r (fill_flow p (collection o k m is l n))
   flow_last_reads no_last p o sequence m is n r = refl
   flow_last_reads no_last p o mapping m is n r = refl
@@ -242,11 +251,13 @@ mutual
   flow_member_reads : (e : FlowMember) (c : Open) (r : List Token) → Ready (flow_behind c e) r
       → feeds (flow_member_tokens e r) (flow_due c) ≡ feeds r (flow_behind c e)
   flow_member_reads (single n) c r h
-      = home_feeds (flow_entry c) (flow_node_tokens n r) (flow_node_begins n r) ∙ (flow_node_edge n (flow_entry c) r ∙ flow_edge_whole n (flow_entry c) r h)
+      = home_feeds (flow_entry c) (flow_node_tokens n r) (flow_node_begins n r) ∙ (flow_node_edge n (flow_entry c) r
+      ∙ flow_edge_whole n (flow_entry c) r h)
   flow_member_reads (pair m k no_value) c r h = flow_slot_reads k (flow_key c m) r
       (follows_ready (flow_keyed c m k) (flow_behind c (pair m k no_value)) (keyed_follows c m k) r h)
       ∙ follows_feeds (flow_keyed c m k) (flow_behind c (pair m k no_value)) (keyed_follows c m k) r h
-  flow_member_reads (pair m k (with_value n v)) c r h = flow_slot_reads k (flow_key c m) (tok Value n ∷ flow_slot_tokens v r) tt
+  flow_member_reads (pair m k (with_value n v)) c r h
+      = flow_slot_reads k (flow_key c m) (tok Value n ∷ flow_slot_tokens v r) tt
       ∙ flow_slot_reads v (flow_value c m k n) r h
 
   pub flow_slot_reads : (x : FlowSlot) (p : Place) (r : List Token) → Ready (fill_flow_slot p x) r
@@ -261,7 +272,8 @@ indentless_follows (part_place c x s ps r v) o is e n BlockEntry m h = absurd h
 indentless_follows (part_place c x s ps r v) o is e n k m h = refl
 
 mutual
-  pub block_node_edge : (n : BlockNode) (c : BlockPlace) (r : List Token) → feeds (block_node_tokens n r) (due (block c) None) ≡ feeds r (edge_block c n)
+  pub block_node_edge : (n : BlockNode) (c : BlockPlace) (r : List Token)
+      → feeds (block_node_tokens n r) (due (block c) None) ≡ feeds r (edge_block c n)
   block_node_edge (flow n) c r = flow_node_edge n (block c) r
   block_node_edge (block_sequence o m is n) c r = option_feeds o (block c) _ ∙ items_read is c o m (tok BlockEnd n ∷ r) tt
   block_node_edge (block_mapping o m ps n) c r = option_feeds o (block c) _ ∙ parts_read ps c o m (tok BlockEnd n ∷ r) tt
@@ -281,7 +293,8 @@ mutual
   slot_reads (slot_of n) c r h = block_slot_reads n (slot c) r h
   slot_reads (indentless o is e n) c r h = option_feeds o (block (slot c)) _
       ∙ (entries_read is c o e (block_slot_tokens n r)
-      ∙ (block_slot_reads n (indentless_entry c o is e) r (follows_ready (in_indentless c o is e n) (fill_part c (indentless o is e n)) (indentless_follows c o is e n) r h)
+      ∙ (block_slot_reads n (indentless_entry c o is e) r
+      (follows_ready (in_indentless c o is e n) (fill_part c (indentless o is e n)) (indentless_follows c o is e n) r h)
       ∙ follows_feeds (in_indentless c o is e n) (fill_part c (indentless o is e n)) (indentless_follows c o is e n) r h))
 
   pub entries_read : (is : BlockItems) (c : PartPlace) (o : Option Properties) (e : Marks) (r : List Token)
@@ -300,11 +313,15 @@ abbrev pub heads : Before → Directives → Position
 heads b no_directives = between b
 heads b (directive ds d) = headed b ds d
 
+pub directive_feed : (b : Before) (ds : Directives) (d : Directive)
+    → feed (heads b ds) (directive_token d) ≡ goes (headed b ds d)
+directive_feed (free f) no_directives (version x m) = refl
+directive_feed (behind f) no_directives (version x m) = refl
+directive_feed b (directive ds d) (version x m) = refl
+directive_feed _ _ _ = refl
+
 pub directive_feeds : (b : Before) (ds : Directives) (d : Directive) (r : List Token) → feeds (directive_token d ∷ r) (heads b ds) ≡ feeds r (headed b ds d)
-directive_feeds (free f) no_directives (version x m) r = refl
-directive_feeds (behind f) no_directives (version x m) r = refl
-directive_feeds b (directive ds d) (version x m) r = refl
-directive_feeds _ _ _ r = refl
+directive_feeds b ds d r = ap (λ (s : Step). then_all s (feeds r)) (directive_feed b ds d)
 
 pub directives_read : (ds : Directives) (b : Before) (r : List Token) → feeds (directives_tokens ds r) (between b) ≡ feeds r (heads b ds)
 directives_read no_directives b r = refl
@@ -330,9 +347,11 @@ start_ready (free f) m = tt
 start_ready (behind d) m = tt
 
 mutual
-  documents_read : (d : Documents) (r : List Token) → Ready (between (behind d)) r → feeds (documents_tokens d r) unopened ≡ feeds r (between (behind d))
+  documents_read : (d : Documents) (r : List Token) → Ready (between (behind d)) r
+      → feeds (documents_tokens d r) unopened ≡ feeds r (between (behind d))
   documents_read (implicit f n) r h = free_reads f _
-      ∙ (home_feeds (block (root (implicit_root f))) (block_node_tokens n r) (block_node_begins n r) ∙ block_slot_reads (node n) (root (implicit_root f)) r h)
+      ∙ (home_feeds (block (root (implicit_root f))) (block_node_tokens n r) (block_node_begins n r)
+      ∙ block_slot_reads (node n) (root (implicit_root f)) r h)
   documents_read (explicit b ds m n) r h = before_reads b _ (directives_ready ds b _ (start_ready b m))
       ∙ (directives_read ds b _ ∙ (start_feeds b ds m _ ∙ block_slot_reads n (root (explicit_root b ds m)) r h))
 

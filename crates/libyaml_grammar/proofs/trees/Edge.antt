@@ -37,18 +37,25 @@ flow_slot_edge (flow_node n) p r = flow_node_edge n p r
 -- a collection that begins at a place of which no token has come
 home_sequence : (o : Option Properties) (c : BlockPlace) (m : Marks) (r : List Token)
     → feeds (option_tokens o (tok BlockSequenceStart m ∷ r)) (home (block c)) ≡ feeds r (in_sequence c o m empty)
-home_sequence o c m r = home_feeds (block c) (option_tokens o (tok BlockSequenceStart m ∷ r)) (option_begins o BlockSequenceStart m r tt) ∙ option_feeds o (block c) _
+home_sequence o c m r
+    = home_feeds (block c) (option_tokens o (tok BlockSequenceStart m ∷ r)) (option_begins o BlockSequenceStart m r tt)
+    ∙ option_feeds o (block c) _
 
 home_mapping : (o : Option Properties) (c : BlockPlace) (m : Marks) (r : List Token)
     → feeds (option_tokens o (tok BlockMappingStart m ∷ r)) (home (block c)) ≡ feeds r (in_mapping c o m no_parts)
-home_mapping o c m r = home_feeds (block c) (option_tokens o (tok BlockMappingStart m ∷ r)) (option_begins o BlockMappingStart m r tt) ∙ option_feeds o (block c) _
+home_mapping o c m r
+    = home_feeds (block c) (option_tokens o (tok BlockMappingStart m ∷ r)) (option_begins o BlockMappingStart m r tt)
+    ∙ option_feeds o (block c) _
 
 home_collection : (o : Option Properties) (p : Place) (k : Sort) (m : Marks) (r : List Token)
     → feeds (option_tokens o (tok (opening k) m ∷ r)) (home p) ≡ feeds r (flow_due (open_collection p o k m no_items))
-home_collection o p k m r = home_feeds p (option_tokens o (tok (opening k) m ∷ r)) (option_begins o (opening k) m r (opening_begins k)) ∙ (option_feeds o p _ ∙ opening_feeds k m p o r)
+home_collection o p k m r
+    = home_feeds p (option_tokens o (tok (opening k) m ∷ r)) (option_begins o (opening k) m r (opening_begins k))
+    ∙ (option_feeds o p _ ∙ opening_feeds k m p o r)
 
 mutual
-  block_place_reads : (c : BlockPlace) (r : List Token) → feeds (block_place_tokens c r) unopened ≡ feeds r (home (block c))
+  block_place_reads : (c : BlockPlace) (r : List Token)
+      → feeds (block_place_tokens c r) unopened ≡ feeds r (home (block c))
   block_place_reads (root (implicit_root f)) r = free_reads f r
   block_place_reads (root (explicit_root b ds m)) r = before_reads b _ (directives_ready ds b _ (start_ready b m))
       ∙ (directives_read ds b _ ∙ start_feeds b ds m r)
@@ -108,7 +115,8 @@ reached (separator_due c e) = edge_member c e
 
 documents_edge : (d : Documents) (r : List Token) → feeds (documents_tokens d r) unopened ≡ feeds r (edge_documents d)
 documents_edge (implicit f n) r = free_reads f _
-    ∙ (home_feeds (block (root (implicit_root f))) (block_node_tokens n r) (block_node_begins n r) ∙ block_node_edge n (root (implicit_root f)) r)
+    ∙ (home_feeds (block (root (implicit_root f))) (block_node_tokens n r) (block_node_begins n r)
+    ∙ block_node_edge n (root (implicit_root f)) r)
 documents_edge (explicit b ds m x) r = block_place_reads (root (explicit_root b ds m)) _ ∙ slot_edge x (root (explicit_root b ds m)) r
 
 headed_reads : (b : Before) (ds : Directives) (d : Directive) (r : List Token)
@@ -131,6 +139,8 @@ cut_reads (part_due c o m no_parts) r = block_place_reads c _ ∙ home_mapping o
 cut_reads (part_due c o m (part ps k v (slot_of x))) r = part_place_reads (part_place c o m ps k v) _ ∙ slot_edge x (slot (part_place c o m ps k v)) r
 cut_reads (part_due c o m (part ps k v (indentless y is e x))) r = block_place_reads (indentless_entry (part_place c o m ps k v) y is e) _
     ∙ slot_edge x (indentless_entry (part_place c o m ps k v) y is e) r
-cut_reads (separator_due c (single n)) r = open_reads c _ ∙ (home_feeds (flow_entry c) (flow_node_tokens n r) (flow_node_begins n r) ∙ flow_node_edge n (flow_entry c) r)
+cut_reads (separator_due c (single n)) r
+    = open_reads c _ ∙ (home_feeds (flow_entry c) (flow_node_tokens n r) (flow_node_begins n r)
+    ∙ flow_node_edge n (flow_entry c) r)
 cut_reads (separator_due c (pair k x no_value)) r = open_reads c _ ∙ flow_slot_edge x (flow_key c k) r
 cut_reads (separator_due c (pair k x (with_value v y))) r = place_reads (flow_value c k x v) _ ∙ flow_slot_edge y (flow_value c k x v) r

@@ -40,7 +40,8 @@ stream_law x y e = ap content_of (one_tree_proof (stream_of x) (stream_of y) e)
 pub slot_law : (s t : BlockSlot) (r : List Token) → block_slot_tokens s r ≡ block_slot_tokens t r → s ≡ t
 unfolding stream_of
 slot_law s t r e =
-    let c : BlockSlot → Cut = λ x. document_due (explicit (free (opened any_encoding zero_marks)) no_directives zero_marks x) in
+    let c : BlockSlot → Cut = λ x. document_due
+    (explicit (free (opened any_encoding zero_marks)) no_directives zero_marks x) in
     stream_law s t (cut_swap (c s) (c t) r (tok StreamEnd zero_marks ∷ []) (ap in_stream e))
 
 pub block_node_law : (s t : BlockNode) (r : List Token) → block_node_tokens s r ≡ block_node_tokens t r → s ≡ t
@@ -56,22 +57,27 @@ properties_law s t r e = let h = flow_node_law (alone s) (alone t) r e in cc
 pub items_law : (s t : BlockItems) (r : List Token) → items_tokens s r ≡ items_tokens t r → s ≡ t
 unfolding stream_of
 items_law s t r e =
-    let h = stream_law (node (block_sequence None zero_marks s zero_marks)) (node (block_sequence None zero_marks t zero_marks))
-    (cut_swap (entry_due top None zero_marks s) (entry_due top None zero_marks t) r (tok BlockEnd zero_marks ∷ tok StreamEnd zero_marks ∷ [])
+    let h = stream_law (node (block_sequence None zero_marks s zero_marks))
+    (node (block_sequence None zero_marks t zero_marks))
+    (cut_swap (entry_due top None zero_marks s) (entry_due top None zero_marks t) r
+    (tok BlockEnd zero_marks ∷ tok StreamEnd zero_marks ∷ [])
     (ap (λ (l : List Token). in_stream (tok BlockSequenceStart zero_marks ∷ l)) e)) in cc
 
 -- the keys and values of a block mapping
 pub parts_law : (s t : Parts) (r : List Token) → parts_tokens s r ≡ parts_tokens t r → s ≡ t
 unfolding stream_of
 parts_law s t r e =
-    let h = stream_law (node (block_mapping None zero_marks s zero_marks)) (node (block_mapping None zero_marks t zero_marks))
-    (cut_swap (part_due top None zero_marks s) (part_due top None zero_marks t) r (tok BlockEnd zero_marks ∷ tok StreamEnd zero_marks ∷ [])
+    let h = stream_law (node (block_mapping None zero_marks s zero_marks))
+    (node (block_mapping None zero_marks t zero_marks))
+    (cut_swap (part_due top None zero_marks s) (part_due top None zero_marks t) r
+    (tok BlockEnd zero_marks ∷ tok StreamEnd zero_marks ∷ [])
     (ap (λ (l : List Token). in_stream (tok BlockMappingStart zero_marks ∷ l)) e)) in cc
 
 -- one key or value of a block mapping
 pub part_law : (s t : Slot) (r : List Token) → slot_tokens s r ≡ slot_tokens t r → s ≡ t
 part_law s t r e =
-    let h = parts_law (part no_parts value zero_marks s) (part no_parts value zero_marks t) r (ap (λ (l : List Token). tok Value zero_marks ∷ l) e) in cc
+    let h = parts_law (part no_parts value zero_marks s) (part no_parts value zero_marks t) r
+    (ap (λ (l : List Token). tok Value zero_marks ∷ l) e) in cc
 
 -- the entries of a flow collection
 abbrev entries_cut : FlowItems → FlowLast → Cut
@@ -79,7 +85,8 @@ entries_cut s no_last = content_due (flow_entry (open_collection (block top) Non
 entries_cut s (last e) = separator_due (open_collection (block top) None sequence zero_marks s) e
 
 cut_entries : (s : FlowItems) (u : FlowLast) (r : List Token)
-    → cut_tokens (entries_cut s u) r ≡ in_stream (tok FlowSequenceStart zero_marks ∷ flow_items_tokens s (flow_last_tokens u r))
+    → cut_tokens (entries_cut s u) r ≡ in_stream
+    (tok FlowSequenceStart zero_marks ∷ flow_items_tokens s (flow_last_tokens u r))
 cut_entries s no_last r = refl
 cut_entries s (last e) r = refl
 
@@ -88,7 +95,8 @@ pub entries_law : (s t : FlowItems) (u v : FlowLast) (r : List Token) → flow_i
 unfolding stream_of
 entries_law s t u v r e =
     let a : List Token = tok FlowSequenceEnd zero_marks ∷ tok StreamEnd zero_marks ∷ [] in
-    let h = stream_law (node (flow (collection None sequence zero_marks s u zero_marks))) (node (flow (collection None sequence zero_marks t v zero_marks)))
+    let h = stream_law (node (flow (collection None sequence zero_marks s u zero_marks)))
+    (node (flow (collection None sequence zero_marks t v zero_marks)))
     (sym (cut_entries s u a)
     ∙ (cut_swap (entries_cut s u) (entries_cut t v) r a (cut_entries s u r
     ∙ (ap (λ (l : List Token). in_stream (tok FlowSequenceStart zero_marks ∷ l)) e ∙ sym (cut_entries t v r)))
@@ -100,7 +108,8 @@ entry_law s t r e = let h = (entries_law no_items no_items (last s) (last t) r e
 
 pub flow_slot_law : (s t : FlowSlot) (r : List Token) → flow_slot_tokens s r ≡ flow_slot_tokens t r → s ≡ t
 flow_slot_law s t r e =
-    let h = entry_law (pair zero_marks s no_value) (pair zero_marks t no_value) r (ap (λ (l : List Token). tok Key zero_marks ∷ l) e) in cc
+    let h = entry_law (pair zero_marks s no_value) (pair zero_marks t no_value) r
+    (ap (λ (l : List Token). tok Key zero_marks ∷ l) e) in cc
 
 -- documents, and what a stream holds before its end
 before_law : (s t : Before) (r : List Token) → before_tokens s r ≡ before_tokens t r → s ≡ t

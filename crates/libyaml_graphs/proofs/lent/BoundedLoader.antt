@@ -58,7 +58,8 @@ step : {A : Type 0} (n : ℕ) (p : Part) (es : List Start) (F : List Part) (b : 
     → ((ys : Anchors) → Within n (behind p es) (F ++ p ∷ []) (build es p b) → Agrees (behind p es) ys → K (loader_of (build es p b) ys) ≡ settled w X N)
     → if_going w.of_fault (bounded_part n (loader_of b xs) p) K ≡ settled w (stop_at n es F p X) N
 step n p es F b xs w N K X e s h ih =
-    ap (λ (c : Bool). if_going w.of_fault (unless_full c (if_child_fits (list_full n (loader_of b xs) p) (load_part (loader_of b xs) p))) K)
+    ap (λ (c : Bool). if_going w.of_fault
+    (unless_full c (if_child_fits (list_full n (loader_of b xs) p) (load_part (loader_of b xs) p))) K)
     (nodes_grow p n es b xs s.stands.size s.few)
     ∙ if_room (nat_lt n (length (behind p es))) refl
   where
@@ -91,7 +92,8 @@ step n p es F b xs w N K X e s h ih =
         ∙ ap (λ (x : Option Fault). settled w (if_wrong x (if_above (one_above n (list_sizes [] (F ++ p ∷ []))) X)) N) (sym y.0))))
 
     if_room : (c : Bool) → nat_lt n (length (behind p es)) ≡ c
-        → if_going w.of_fault (unless_full c (if_child_fits (list_full n (loader_of b xs) p) (load_part (loader_of b xs) p))) K
+        → if_going w.of_fault (unless_full c
+        (if_child_fits (list_full n (loader_of b xs) p) (load_part (loader_of b xs) p))) K
         ≡ settled w (if_above c (if_wrong (part_fault es p) (if_above (one_above n (list_sizes [] (F ++ p ∷ []))) X))) N
     if_room true q = refl
     if_room false q = second (load_part (loader_of b xs) p) q (part_follows p es b xs s.stands h)

@@ -122,9 +122,8 @@ pub hands_item : (n : ℕ) (i : ℤ) (o : Open) (s : List Open) (nodes : List ya
 hands_item n i o s nodes is = by_type n i o.node o.key o.key s nodes (item_behind i) (λ (m : ℕ). nat_lt n (suc m)) YAML_SEQUENCE_NODE (λ h. cc) takes is
   where
     takes : (c : unnamed_yaml_node_t_data) → node_type c ≡ YAML_SEQUENCE_NODE → Takes n o.key o.key i (item_behind i) (λ (m : ℕ). nat_lt n (suc m)) c
-    takes (Scalar s) h = absurd cc
     takes (Sequence s) h = (refl, refl, refl)
-    takes (Mapping s) h = absurd cc
+    takes _ h = absurd cc
 
 pub hands_key : (n : ℕ) (i : ℤ) (o : Open) (s : List Open) (nodes : List yaml_node_t) → o.key ≡ None → type_at nodes o.node ≡ YAML_MAPPING_NODE
     → Hands n i (o ∷ s) nodes nodes (record { node = o.node; key = Some i } ∷ s) (nat_lt n (suc (children_at nodes o.node)))
@@ -134,9 +133,8 @@ hands_key n i o s nodes none is =
     (same_nodes n i o.node _ _ nodes _ (by_type n i o.node None (Some i) s nodes (λ c. c) (λ (m : ℕ). nat_lt n (suc m)) YAML_MAPPING_NODE (λ h. cc) takes is))
   where
     takes : (c : unnamed_yaml_node_t_data) → node_type c ≡ YAML_MAPPING_NODE → Takes n None (Some i) i (λ c. c) (λ (m : ℕ). nat_lt n (suc m)) c
-    takes (Scalar s) h = absurd cc
-    takes (Sequence s) h = absurd cc
     takes (Mapping s) h = (refl, refl, refl)
+    takes _ h = absurd cc
 
 pub hands_value : (n : ℕ) (i : ℤ) (o : Open) (k : ℤ) (s : List Open) (nodes : List yaml_node_t) → o.key ≡ Some k → type_at nodes o.node ≡ YAML_MAPPING_NODE
     → Hands n i (o ∷ s) nodes (with_changed o.node (with_pair k i) nodes) (record { node = o.node; key = None } ∷ s) false
@@ -147,9 +145,8 @@ hands_value n i o k s nodes waits is =
   where
     takes : (c : unnamed_yaml_node_t_data) → node_type c ≡ YAML_MAPPING_NODE
         → Takes n (Some k) None i (pair_behind (record { key = k; value = i })) (λ (m : ℕ). false) c
-    takes (Scalar s) h = absurd cc
-    takes (Sequence s) h = absurd cc
     takes (Mapping s) h = (refl, refl, refl)
+    takes _ h = absurd cc
 
 pub hands_nothing : (n : ℕ) (i : ℤ) (o : Open) (s : List Open) (nodes : List yaml_node_t) → type_at nodes o.node ≡ YAML_SCALAR_NODE
     → Hands n i (o ∷ s) nodes nodes (o ∷ s) false
@@ -158,5 +155,4 @@ hands_nothing n i o s nodes is =
   where
     takes : (c : unnamed_yaml_node_t_data) → node_type c ≡ YAML_SCALAR_NODE → Takes n o.key o.key i (λ c. c) (λ (m : ℕ). false) c
     takes (Scalar s) h = (refl, refl, refl)
-    takes (Sequence s) h = absurd cc
-    takes (Mapping s) h = absurd cc
+    takes _ h = absurd cc

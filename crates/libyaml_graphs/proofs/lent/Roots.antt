@@ -24,21 +24,26 @@ abbrev pub IsInner : Event → Type 0
 IsInner e = (opening_of e ≡ None) × (closing_of e ≡ None)
 
 mutual
-  pub value_keeps : (P : List Event → Type 0) → ((e : Event) (r : List Event) → IsInner e → P r → P (e ∷ r)) → (v : Value) (r : List Event) → P r
+  pub value_keeps : (P : List Event → Type 0) → ((e : Event) (r : List Event) → IsInner e → P r → P (e ∷ r))
+      → (v : Value) (r : List Event) → P r
       → P (value_events v r)
   value_keeps P f (alias_value a m n) r h = f _ r (refl, refl) h
   value_keeps P f (scalar_value s m n) r h = f _ r (refl, refl) h
-  value_keeps P f (collection_value sequence a t i s m n vs p q) r h = f _ _ (refl, refl) (values_keep P f vs (end_at sequence p q ∷ r) (f _ r (refl, refl) h))
-  value_keeps P f (collection_value mapping a t i s m n vs p q) r h = f _ _ (refl, refl) (values_keep P f vs (end_at mapping p q ∷ r) (f _ r (refl, refl) h))
+  value_keeps P f (collection_value sequence a t i s m n vs p q) r h
+      = f _ _ (refl, refl) (values_keep P f vs (end_at sequence p q ∷ r) (f _ r (refl, refl) h))
+  value_keeps P f (collection_value mapping a t i s m n vs p q) r h
+      = f _ _ (refl, refl) (values_keep P f vs (end_at mapping p q ∷ r) (f _ r (refl, refl) h))
 
-  values_keep : (P : List Event → Type 0) → ((e : Event) (r : List Event) → IsInner e → P r → P (e ∷ r)) → (vs : Values) (r : List Event) → P r
+  values_keep : (P : List Event → Type 0) → ((e : Event) (r : List Event) → IsInner e → P r → P (e ∷ r))
+      → (vs : Values) (r : List Event) → P r
       → P (values_events vs r)
   values_keep P f no_values r h = h
   values_keep P f (first_value v vs) r h = value_keeps P f v (values_events vs r) (values_keep P f vs r h)
 
 -- in events that nest as far as they go each document's root follows its start
 value_roots : (v : Value) (r : List Event) → RootsFollow r → RootsFollow (value_events v r)
-value_roots v r h = value_keeps RootsFollow (λ e s i k. (subst (λ (o : Option Opening). RootFollows o s) (sym i.0) tt, k)) v r h
+value_roots v r h
+    = value_keeps RootsFollow (λ e s i k. (subst (λ (o : Option Opening). RootFollows o s) (sym i.0) tt, k)) v r h
 
 root_first : (v : Value) (r : List Event) (o : Opening) → RootFollows (Some o) (value_events v r)
 root_first (alias_value a m n) r o = tt
@@ -95,16 +100,7 @@ left_roots (e ∷ r) h = go (opening_of e) (left_roots r h.1)
 -- a document that begins with a node and that nothing stops has nodes
 node_first : (k : unnamed_yaml_event_t_data) (m n : Mark) → BeginsNode (part_in k m n) → closing_in k n ≡ None
 node_first (ev.DocumentEnd d) m n h = absurd h
-node_first ev.NoEvent m n h = refl
-node_first (ev.StreamStart s) m n h = refl
-node_first ev.StreamEnd m n h = refl
-node_first (ev.DocumentStart d) m n h = refl
-node_first (ev.Alias a) m n h = refl
-node_first (ev.Scalar s) m n h = refl
-node_first (ev.SequenceStart s) m n h = refl
-node_first ev.SequenceEnd m n h = refl
-node_first (ev.MappingStart s) m n h = refl
-node_first ev.MappingEnd m n h = refl
+node_first _ m n h = refl
 
 part_first : (e : Event) (r : List Event) → closing_of e ≡ None → parts (e ∷ r) ≡ with_part (part_of e) (parts r)
 part_first e r h = ap (λ (c : Option Closing). elim c [ Some y ↦ [] | None ↦ with_part (part_of e) (parts r) ]) h

@@ -31,7 +31,8 @@ value_behind v r = value_keeps (λ (l : List Event). begun_behind l ≡ begun_be
 -- the parts of a value hang on those after it alone
 front_parts : (l r s : List Event) → parts r ≡ parts s → parts (l ++ r) ≡ parts (l ++ s)
 front_parts [] r s e = e
-front_parts (x ∷ l) r s e = ap (λ (P : List Part). elim (closing_of x) [ Some c ↦ [] | None ↦ with_part (part_of x) P ]) (front_parts l r s e)
+front_parts (x ∷ l) r s e
+    = ap (λ (P : List Part). elim (closing_of x) [ Some c ↦ [] | None ↦ with_part (part_of x) P ]) (front_parts l r s e)
 
 value_parts : (v : Value) (r s : List Event) → parts r ≡ parts s → parts (value_events v r) ≡ parts (value_events v s)
 value_parts v r s e = ap parts ((value_splits v).splits r)

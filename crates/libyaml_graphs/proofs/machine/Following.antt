@@ -189,13 +189,16 @@ loader_same nodes ms s t xs e h = ap (λ (l : List yaml_node_t). record { nodes 
     ∙ ap (λ (l : List Open). record { nodes = ms; stack = l; anchors = xs }) h
 
 -- a node that is put after the others and handed to its parent, with what the stack is then
-put_with : {A : Type 0} (f : ℤ → List Open → List yaml_node_t → A) (x : yaml_node_t) (es : List Start) (b : Built) → Stands es b
+put_with : {A : Type 0} (f : ℤ → List Open → List yaml_node_t → A) (x : yaml_node_t) (es : List Start) (b : Built)
+    → Stands es b
     → f (pos (suc (length (nodes_in b.held)))) (stack_of b.places b.held) (nodes_in b.held ++ x ∷ [])
     ≡ f (pos (suc (length es))) (stack_of b.places (b.held ++ bare x ∷ [])) (nodes_in (b.held ++ bare x ∷ []))
 put_with f x es b s =
     ap (λ (i : ℕ). f (pos (suc i)) (stack_of b.places b.held) (nodes_in b.held ++ x ∷ [])) (nodes_length b.held ∙ s.size)
-    ∙ (ap (λ (t : List Open). f (pos (suc (length es))) t (nodes_in b.held ++ x ∷ [])) (sym (stack_append b.places b.held (bare x ∷ []) s.there))
-    ∙ ap (f (pos (suc (length es))) (stack_of b.places (b.held ++ bare x ∷ []))) (sym (nodes_append b.held (bare x ∷ []))))
+    ∙ (ap (λ (t : List Open). f (pos (suc (length es))) t (nodes_in b.held ++ x ∷ []))
+    (sym (stack_append b.places b.held (bare x ∷ []) s.there))
+    ∙ ap (f (pos (suc (length es))) (stack_of b.places (b.held ++ bare x ∷ [])))
+    (sym (nodes_append b.held (bare x ∷ []))))
 
 put_nodes : (x : yaml_node_t) (es : List Start) (b : Built) → Stands es b
     → hand (pos (suc (length (nodes_in b.held)))) (stack_of b.places b.held) (nodes_in b.held ++ x ∷ [])
