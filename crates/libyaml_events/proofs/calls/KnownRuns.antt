@@ -126,11 +126,13 @@ splits (t ∷ l) = let r = go (is_end t.content) (splits l) in record { after = 
     go true h = (l, refl)
     go false h = (h.after, ap (λ (x : List Token). t ∷ x) h.all)
 
-up_to_cut : (l before : List Token) (token : Token) (behind : List Token) (c : Cut) → up_to_end l ≡ before ++ token ∷ behind → Fits before token c
+up_to_cut : (l before : List Token) (token : Token) (behind : List Token) (c : Cut)
+    → up_to_end l ≡ before ++ token ∷ behind → Fits before token c
     → cut_events c token ≡ reads_given l unopened []
 up_to_cut l before token behind c a i =
     let s = splits l in
-    sym (ap (λ (y : List Token). reads_given y unopened []) (s.all ∙ (ap (λ (y : List Token). y ++ s.after) a ∙ assoc before (token ∷ behind) s.after))
+    sym (ap (λ (y : List Token). reads_given y unopened [])
+    (s.all ∙ (ap (λ (y : List Token). y ++ s.after) a ∙ assoc before (token ∷ behind) s.after))
     ∙ cut_given before token (behind ++ s.after) _ c (fits_reach before token c i) (fits_stop before token c i))
 
 -- the events of a run are what the list gives
