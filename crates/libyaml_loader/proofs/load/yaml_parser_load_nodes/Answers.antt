@@ -2,7 +2,6 @@ use Rattle.std.proofs.Common.{◌≡◌, Ok, Err, Result, rules, ap, ◌∙◌, 
 use Rattle.std.proofs.Math.Nat.{le_refl}
 use Rattle.libyaml_events.specs.parsers.EventsLeft.{events_left}
 use Rattle.libyaml_types.specs.declared.enums.yaml_error_type_t.{yaml_error_type_t}
-use Rattle.libyaml_loader.specs.declared.load.Closing.{Closing}
 use Rattle.libyaml_loader.specs.declared.load.Step.{Step}
 use Rattle.libyaml_loader.specs.declared.load.Step.TheVariants as step
 use Rattle.libyaml_loader.proofs.loads.Falling.{falls_since, has_fallen, stays_since}
