@@ -24,7 +24,7 @@ no_field x y = (λ e. refl, λ e. refl)
 pub one_field : {A : Type 0} (E : A → A → Bool) → ((x y : A) → Decides (E x y) (x ≡ y)) → (x y : A × Unit {0}) → Decides (E x.0 y.0) (x ≡ y)
 one_field {A} E decides x y = through (decides x.0 y.0) (λ p i. (p i, tt)) (λ e. ap (λ (z : A × Unit {0}). z.0) e)
 
--- what is said of a variant, and then of the variants behind it
+-- what is said of a variant, and then of the variants after it
 infixr 20 ◌then◌
 pub ◌then◌ : {A B : Type 0} → A → B → A × B
 one then rest = (one, rest)

@@ -27,7 +27,8 @@ use Rattle.libyaml_types.specs.declared.event.yaml_event_t.{yaml_event_t}
 use Rattle.libyaml_types.specs.contracts.event.yaml_event_tPartialEq.TheImpl as event_eq
 
 stream_start_decides : (a b : unnamed_yaml_event_t_data_stream_start) → Decides ((stream_start_eq.ghosts).eq a b) (a ≡ b)
-stream_start_decides a b = through (encoding_decides a.encoding b.encoding) (λ p i. record { encoding = p i }) (λ e. search)
+stream_start_decides a b
+    = through (encoding_decides a.encoding b.encoding) (λ p i. record { encoding = p i }) (λ e. search)
 
 document_start_decides : (a b : unnamed_yaml_event_t_data_document_start) → Decides ((document_start_eq.ghosts).eq a b) (a ≡ b)
 document_start_decides a b =
@@ -37,7 +38,8 @@ document_start_decides a b =
     (λ e. search)
 
 document_end_decides : (a b : unnamed_yaml_event_t_data_document_end) → Decides ((document_end_eq.ghosts).eq a b) (a ≡ b)
-document_end_decides a b = through (booleans_Decides a.implicit b.implicit) (λ p i. record { implicit = p i }) (λ e. search)
+document_end_decides a b
+    = through (booleans_Decides a.implicit b.implicit) (λ p i. record { implicit = p i }) (λ e. search)
 
 alias_decides : (a b : unnamed_yaml_event_t_data_alias) → Decides ((alias_eq.ghosts).eq a b) (a ≡ b)
 alias_decides a b = through (bytes_decides a.anchor b.anchor) (λ p i. record { anchor = p i }) (λ e. search)

@@ -26,7 +26,8 @@ use Rattle.libyaml_types.specs.declared.token.yaml_token_t.{yaml_token_t}
 use Rattle.libyaml_types.specs.contracts.token.yaml_token_tPartialEq.TheImpl as token_eq
 
 stream_start_decides : (a b : unnamed_yaml_token_t_data_stream_start) → Decides ((stream_start_eq.ghosts).eq a b) (a ≡ b)
-stream_start_decides a b = through (encoding_decides a.encoding b.encoding) (λ p i. record { encoding = p i }) (λ e. search)
+stream_start_decides a b
+    = through (encoding_decides a.encoding b.encoding) (λ p i. record { encoding = p i }) (λ e. search)
 
 version_directive_decides : (a b : unnamed_yaml_token_t_data_version_directive) → Decides ((version_directive_eq.ghosts).eq a b) (a ≡ b)
 version_directive_decides a b =

@@ -323,7 +323,8 @@ module _ {S : Type 0} (gives : S → Answer → S → Type 0) (known : S → Opt
       stands e x last given so_far =
           are_loads_so given x (Fails (kept_fault new)) (so_far ∙ ap (λ (t : List Load). oks loaded ++ t) last) (has_memory, tt) all items ends_so
 
-      abbrev by_parser_call : (taken : List Event) (parser : Parser S) → Took gives known old parser taken → ParserFails gives known MayBreak parser new
+      abbrev by_parser_call : (taken : List Event) (parser : Parser S) → Took gives known old parser taken
+          → ParserFails gives known MayBreak parser new
           → ((x : Ending) → next_bounded most taken x ≡ last_load x) → GathersLoads gives source all
       by_parser_call taken parser took fails last =
           let k = carried parser taken took in
@@ -350,7 +351,8 @@ module _ {S : Type 0} (gives : S → Answer → S → Type 0) (known : S → Opt
           sym (stands (taken ++ rest) x (fault_last (taken ++ rest) x (fails rest x ∙ ap (λ (g : Fault). Err g) (sym is_kept))) ((was.given ++ taken) ++ rest)
           (ap (λ (l : List Event). bounded_loads most l x) (append_assoc was.given taken rest) ∙ was.so_far (taken ++ rest) x))
 
-      abbrev by_loader_step : (taken : List Event) (parser : Parser S) → Took gives known old parser taken → (f : Fault) → KeptBy f parser new
+      abbrev by_loader_step : (taken : List Event) (parser : Parser S) → Took gives known old parser taken → (f : Fault)
+          → KeptBy f parser new
           → ((rest : List Event) (x : Ending) → next_bounded most (taken ++ rest) x ≡ Err f) → GathersLoads gives source all
       by_loader_step taken parser took f keeps fails =
           let k = carried parser taken took in
@@ -373,7 +375,8 @@ module _ {S : Type 0} (gives : S → Answer → S → Type 0) (known : S → Opt
       gathered : (g : GathersLoads gives source all) × (g.tokens.stands ≡ new.source)
       gathered = go (loads_of_call (Err y) is)
         where
-          go : LoadFails gives known MayBreak (next_bounded most) left_over old new → (g : GathersLoads gives source all) × (g.tokens.stands ≡ new.source)
+          go : LoadFails gives known MayBreak (next_bounded most) left_over old new
+              → (g : GathersLoads gives source all) × (g.tokens.stands ≡ new.source)
           go (by_parser taken parser took fails last) = (by_parser_call taken parser took fails last, refl)
           go (by_loader taken parser took f keeps fails) = (
             by_loader_step taken parser took f keeps fails,
@@ -386,7 +389,8 @@ module _ {S : Type 0} (gives : S → Answer → S → Type 0) (known : S → Opt
       pub gathers_to_fault : GathersLoads gives source all
       gathers_to_fault = gathered.0
 
-      pub loaded_to_fault : (l : List Token) (f : Fault) (a : List Load) → IsLoads l f a → known source ≡ Some (coming l f)
+      pub loaded_to_fault : (l : List Token) (f : Fault) (a : List Load) → IsLoads l f a
+          → known source ≡ Some (coming l f)
           → LoadsTo gives MayBreak source all a
       loaded_to_fault l f a h k =
           subst (λ (t : List Load). LoadsTo gives MayBreak source all t) (sym h.all)
@@ -399,10 +403,13 @@ module _ {S : Type 0} (gives : S → Answer → S → Type 0) (known : S → Opt
           b = was.left l f h.events x h.run k
 
           go : Failed (next_bounded most b.later x) → LoadsTo gives MayBreak source all (loads h.events x)
-          go (inl e) = told_all h.events x (Fails (kept_fault new)) b (fault_last b.later x e) (has_memory, tt) all items ends_so
+          go (inl e)
+              = told_all h.events x (Fails (kept_fault new)) b (fault_last b.later x e)
+              (has_memory, tt) all items ends_so
           go (inr (inl m)) = absurd (has_memory m)
           go (inr (inr m)) =
-              let first = loaded_first (bounded_loads most h.events x) (loads h.events x) (front_of_loads h.events x most) loaded
+              let first = loaded_first (bounded_loads most h.events x) (loads h.events x)
+              (front_of_loads h.events x most) loaded
               (bounded_loads most b.later x) b.all in
               let (g, at) = gathered in
               told.broken_off (answers g.asked g.last) new.source (kept_fault new)

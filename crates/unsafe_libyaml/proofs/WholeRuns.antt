@@ -70,7 +70,8 @@ stopped_by c asked given more f (cause.of_source l a b d) other = of_source l a 
 
 -- what a source was asked for, by a parser's history, and until a call failed
 module _ {S : Type 0} {gives : S → Answer → S → Type 0} {source : S} where
-  abbrev pub asked_all : Laws S → (p : Parser S) (asked : List Token) (given : List Event) → History p asked given → Gave gives source (answers asked []) p.source
+  abbrev pub asked_all : Laws S → (p : Parser S) (asked : List Token) (given : List Event) → History p asked given
+      → Gave gives source (answers asked []) p.source
       → Asked gives source asked [] given
   asked_all laws p asked given h gave
       = record { stands = p.source; gave = gave; needed = laws.needed p asked given h; needed_last = none_needed asked given }
@@ -168,7 +169,8 @@ module _ {S : Type 0} (gives : S → Answer → S → Type 0) (known : S → Opt
     last = [];
     tokens
         = subst (Asked gives source (reached.asked ++ on.more) []) (sym all)
-        (asked_all laws new _ _ on.history (gave_both gives reached.asked on.more source old.source new.source reached.gave on.gave));
+        (asked_all laws new _ _ on.history
+        (gave_both gives reached.asked on.more source old.source new.source reached.gave on.gave));
     begins = subst (BeginsEach (reached.asked ++ on.more)) (sym all) (laws.begins new _ _ on.history);
     nests = subst NestsSoFar (sym all) (laws.nests new _ _ on.history);
     whole = λ (h : run.fault ≡ None). subst (IsWhole (reached.asked ++ on.more)) (sym all) (on.whole last);

@@ -73,19 +73,23 @@ falls_on w c u = by _ _ _ (step_kind [] [] u w (taken c) u.content)
 abbrev HasRoom : ℕ → List Answer → Want → Config → Type 0
 HasRoom n a w c = (length c.states + 6 * length a ≤ n) × (c.lookahead ≡ None)
 
-falls_before : (m n : ℕ) (rest : List Answer) (o : Progressed) → FallsBelow o m → m + 6 * length rest ≤ n → Kept (HasRoom n rest) (λ e d. weight d < n) o
+falls_before : (m n : ℕ) (rest : List Answer) (o : Progressed) → FallsBelow o m → m + 6 * length rest ≤ n
+    → Kept (HasRoom n rest) (λ e d. weight d < n) o
 falls_before m n rest (Err f) h l = tt
 falls_before m n rest (Ok (Wants w, d)) h l = (omega arith, h.1)
 falls_before m n rest (Ok (Given e, d)) h l = omega arith
 
-call_falls : (n : ℕ) (a : List Answer) (w : Want) (c : Config) (e : Event) (d : Config) → HasRoom n a w c → Calls w c a (Ok e) d → weight d < n
+call_falls : (n : ℕ) (a : List Answer) (w : Want) (c : Config) (e : Event) (d : Config) → HasRoom n a w c
+    → Calls w c a (Ok e) d → weight d < n
 call_falls n = calls_keep (HasRoom n) (λ e d. weight d < n) steps
   where
-    steps : (t : Token) (rest : List Answer) (w : Want) (c : Config) → HasRoom n (Ok t ∷ rest) w c → Kept (HasRoom n rest) (λ e d. weight d < n) (step w c t)
+    steps : (t : Token) (rest : List Answer) (w : Want) (c : Config) → HasRoom n (Ok t ∷ rest) w c
+        → Kept (HasRoom n rest) (λ e d. weight d < n) (step w c t)
     steps t rest w c (h, i) =
         let same : taken c ≡ c = ap (λ (l : Option Token). let y : Config = record c { lookahead = l } in y) (sym i) in
         let l : FallsBelow (step w c t) (length c.states + room w (taken c) t.content)
-        = subst (λ (y : Config). FallsBelow (step w y t) (length c.states + room w (taken c) t.content)) same (falls_on w c t) in
+        = subst (λ (y : Config). FallsBelow (step w y t) (length c.states + room w (taken c) t.content)) same
+        (falls_on w c t) in
         let r = room_small w (taken c) t.content in
         falls_before (length c.states + room w (taken c) t.content) n rest (step w c t) l (omega arith)
 
@@ -96,7 +100,8 @@ held_falls c a None f e d z = call_falls _ a AtState (taken c) e d (omega arith,
 held_falls c a (Some t) f e d z =
     let n = length c.states + rank c.state t.content + 6 * length a in
     then_keeps (HasRoom n) (λ e d. weight d < n) a e d (λ w' c'. call_falls n a w' c' e d) (step AtState (taken c) t)
-    (falls_before (length c.states + rank c.state t.content) n a (step AtState (taken c) t) (falls_on AtState c t) (omega arith)) z
+    (falls_before (length c.states + rank c.state t.content) n a (step AtState (taken c) t) (falls_on AtState c t)
+    (omega arith)) z
 
 module _ {S : Type 0} (gives : S → Answer → S → Type 0) (bound : S → ℕ) (falls : (s t : S) (token : Token) → gives s (Ok token) t → bound s ≡ bound t + 1) where
   gave_falls : (more : List Token) (s t : S) → Gave gives s (answers more []) t → bound s ≡ bound t + length (answers more [])

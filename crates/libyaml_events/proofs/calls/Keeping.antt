@@ -23,11 +23,13 @@ ok_same e x h = cc
 
 -- before the results that are left, and at the event
 module _ (Before : List Answer → Want → Config → Type 0) (At : Event → Config → Type 0) where
-  pub then_keeps : (rest : List Answer) (e : Event) (d : Config) → ((w : Want) (c : Config) → Before rest w c → Calls w c rest (Ok e) d → At e d)
+  pub then_keeps : (rest : List Answer) (e : Event) (d : Config)
+      → ((w : Want) (c : Config) → Before rest w c → Calls w c rest (Ok e) d → At e d)
       → (o : Progressed) → Kept (Before rest) At o → Then o (λ w c. Calls w c rest (Ok e) d) rest (Ok e) d → At e d
   then_keeps rest e d ih (Err f) h z = absurd (not_err e f.error z.1)
   then_keeps rest e d ih (Ok (Wants w, c)) h z = ih w c h z
-  then_keeps rest e d ih (Ok (Given x, c)) h z = subst (At e) (sym z.2) (subst (λ (y : Event). At y c) (ok_same e x z.1) h)
+  then_keeps rest e d ih (Ok (Given x, c)) h z
+      = subst (At e) (sym z.2) (subst (λ (y : Event). At y c) (ok_same e x z.1) h)
 
   pub calls_keep : ((t : Token) (rest : List Answer) (w : Want) (c : Config) → Before (Ok t ∷ rest) w c → Kept (Before rest) At (step w c t))
       → (a : List Answer) (w : Want) (c : Config) (e : Event) (d : Config) → Before a w c → Calls w c a (Ok e) d → At e d

@@ -126,11 +126,13 @@ splits (t ∷ l) = let r = go (is_end t.content) (splits l) in record { after = 
     go true h = (l, refl)
     go false h = (h.after, ap (λ (x : List Token). t ∷ x) h.all)
 
-up_to_cut : (l before : List Token) (token : Token) (behind : List Token) (c : Cut) → up_to_end l ≡ before ++ token ∷ behind → Fits before token c
+up_to_cut : (l before : List Token) (token : Token) (behind : List Token) (c : Cut)
+    → up_to_end l ≡ before ++ token ∷ behind → Fits before token c
     → cut_events c token ≡ reads_given l unopened []
 up_to_cut l before token behind c a i =
     let s = splits l in
-    sym (ap (λ (y : List Token). reads_given y unopened []) (s.all ∙ (ap (λ (y : List Token). y ++ s.after) a ∙ assoc before (token ∷ behind) s.after))
+    sym (ap (λ (y : List Token). reads_given y unopened [])
+    (s.all ∙ (ap (λ (y : List Token). y ++ s.after) a ∙ assoc before (token ∷ behind) s.after))
     ∙ cut_given before token (behind ++ s.after) _ c (fits_reach before token c i) (fits_stop before token c i))
 
 -- the events of a run are what the list gives
@@ -248,27 +250,25 @@ module _ {S : Type 0} (gives_to : S → Answer → S → Type 0) (known : S → 
         knows = i.knows;
       }
 
+  gave_before : (more : List Token) (rest : List Answer) (s t : S) → Gave gives_to s (answers more rest) t
+      → (u : S) × Gave gives_to s (answers more []) u × Gave gives_to u rest t
+  gave_before [] rest s t g = (s, refl, g)
+  gave_before (x ∷ more) rest s t g = let (u, h, i) = gave_before more rest g.0 t g.2 in (u, (g.0, g.1, h), i)
+
   -- a fault that a known source gave ends its list, or breaks it off
   to_the_end : (more : List Token) (e : Fault) (s t : S) → Gave gives_to s (answers more (Err e ∷ [])) t → (list : List Token) (f : Fault)
       → known s ≡ Some (coming list f) → ((list ≡ more) × (e ≡ f)) ⊎ MayBreak t e
-  to_the_end [] e s t g list f k = go list (subst (λ (y : Option Coming). Follows (MayBreak g.0) y (Err e) (known g.0)) k (follows s g.0 (Err e) g.1))
+  to_the_end more e s t g list f k =
+      let (u, before, at) = gave_before more (Err e ∷ []) s t g in
+      let front = in_order more s u before list f k in
+      go front.rest at.0 (subst (λ (y : Option Coming). Follows (MayBreak at.0) y (Err e) (known at.0)) front.knows (follows u at.0 (Err e) at.1))
+      front.all at.2
     where
-      go : (list : List Token) → FollowsList (MayBreak g.0) list f (Err e) (known g.0) → ((list ≡ []) × (e ≡ f)) ⊎ MayBreak t e
-      go [] (inl h, i) = inl (refl, h)
-      go [] (inr h, i) = inr (subst (λ (x : S). MayBreak x e) (sym g.2) h)
-      go (u ∷ list) (h, i) = inr (subst (λ (x : S). MayBreak x e) (sym g.2) h)
-  to_the_end (x ∷ more) e s t g list f k
-      = go list (subst (λ (y : Option Coming). Follows (MayBreak g.0) y (Ok x) (known g.0)) k (follows s g.0 (Ok x) g.1))
-      (λ l h. to_the_end more e g.0 t g.2 l f h)
-    where
-      go : (list : List Token) → FollowsList (MayBreak g.0) list f (Ok x) (known g.0)
-          → ((l : List Token) → known g.0 ≡ Some (coming l f) → ((l ≡ more) × (e ≡ f)) ⊎ MayBreak t e) → ((list ≡ x ∷ more) × (e ≡ f)) ⊎ MayBreak t e
-      go [] h ih = absurd h
-      go (u ∷ list) h ih = one_more (ih list h.1)
-        where
-          one_more : ((list ≡ more) × (e ≡ f)) ⊎ MayBreak t e → ((u ∷ list ≡ x ∷ more) × (e ≡ f)) ⊎ MayBreak t e
-          one_more (inl (i, j)) = inl (ap (λ (l : List Token). u ∷ l) i ∙ ap (λ (y : Token). y ∷ more) (sym h.0), j)
-          one_more (inr i) = inr i
+      go : (rest : List Token) (u : S) → FollowsList (MayBreak u) rest f (Err e) (known u) → list ≡ more ++ rest → t ≡ u
+          → ((list ≡ more) × (e ≡ f)) ⊎ MayBreak t e
+      go [] u (inl h, i) all is = inl (all ∙ nil_right more, h)
+      go [] u (inr h, i) all is = inr (subst (λ (x : S). MayBreak x e) (sym is) h)
+      go (x ∷ rest) u (h, i) all is = inr (subst (λ (x : S). MayBreak x e) (sym is) h)
 
   module _ (old new : Parser S) where
     -- a call that gives an event gives the run's next

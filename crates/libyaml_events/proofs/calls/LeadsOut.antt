@@ -80,5 +80,6 @@ stands_outside gives old new (Ok e) h = go (ended_or_failed old.config) refl h.d
     go true over x outside = subst (λ (c : Config). (is_fault c.fault.error || is_between c.state)
         ≡ true) (sym x.2) (over_between (is_fault old.config.fault.error) old.config.state over)
     go false over x outside = with_between (is_fault new.config.fault.error) new.config.state
-        (calls_keep (λ a w c. Unit {0}) LeavesBetween (λ t rest w c k. leads_out w c t t.content) (held old.config ++ h.asked) AtState (taken old.config) e
+        (calls_keep (λ a w c. Unit {0}) LeavesBetween (λ t rest w c k. leads_out w c t t.content)
+        (held old.config ++ h.asked) AtState (taken old.config) e
         new.config tt x outside)

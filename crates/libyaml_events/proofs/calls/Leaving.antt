@@ -36,7 +36,8 @@ module _ (Before : Want → Config → Type 0) (At : Token → Event → Config 
   broken (Err g ∷ a) f w c x d n h = absurd (not_nil a (Err f) h.0)
   broken (Ok t ∷ a) f w c x d n h = go (step w c t) (steps t w c n) h (λ v e. broken a f v e x d)
     where
-      go : (o : Progressed) → Kept Before (At t) o → Then o (λ v e. Calls v e (a ++ Err f ∷ []) (Err x) d) (a ++ Err f ∷ []) (Err x) d
+      go : (o : Progressed) → Kept Before (At t) o
+          → Then o (λ v e. Calls v e (a ++ Err f ∷ []) (Err x) d) (a ++ Err f ∷ []) (Err x) d
           → ((v : Want) (e : Config) → Before v e → Calls v e (a ++ Err f ∷ []) (Err x) d → Broken f d) → Broken f d
       go (Ok (Wants v, e)) y z ih = ih v e y z
       go (Err g) y z ih = absurd (not_nil a (Err f) z.0)
@@ -45,7 +46,8 @@ module _ (Before : Want → Config → Type 0) (At : Token → Event → Config 
 left_none : (c d : Config) (x : yaml_error_type_t) → Left c x d → d.lookahead ≡ None
 left_none c d x (nothing e s) = e
 left_none c d x (broken_off a f h) =
-    let (w, e, none, is) = broken HoldsNone HoldsAtMost (λ t w c. held_on w c t t.content) a f AtState (taken c) x d refl h in
+    let (w, e, none, is) = broken HoldsNone HoldsAtMost (λ t w c. held_on w c t t.content) a f AtState
+    (taken c) x d refl h in
     ap (λ (z : Config). z.lookahead) is ∙ none
 
 left_depth : (c d : Config) (x : yaml_error_type_t) → Left c x d → (asked : List Token) (given : List Event) → Ran c asked given
@@ -53,7 +55,8 @@ left_depth : (c d : Config) (x : yaml_error_type_t) → Left c x d → (asked : 
 left_depth c d x (nothing e s) asked given run = let i : length d.states ≡ zero = ap length s in omega arith
 left_depth c d x (broken_off a f h) asked given run =
     let st = stage_of given in
-    let (w, e, good, is) = broken (GoodBefore c.fault st) (λ t. GoodEvent c.fault st) (good_step c.fault st) a f AtState (taken c) x d
+    let (w, e, good, is) = broken (GoodBefore c.fault st) (λ t. GoodEvent c.fault st) (good_step c.fault st) a f AtState
+    (taken c) x d
     (retake c.state c.states c.lookahead st (ran_staged run).good, refl, refl) h in
     let same : length d.states ≡ length e.states = ap (λ (z : Config). length z.states) is in
     let i = depth (kind_of w e) e.states e.lookahead st good.0 in

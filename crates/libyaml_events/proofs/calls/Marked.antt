@@ -90,4 +90,5 @@ marked_on w c u k = by _ _ _ (step_kind [] [] u w c k)
 pub ran_marked : {c : Config} {asked : List Token} {g : List Event} → Ran c asked g → IsMarked AtState c
 ran_marked begins = refl
 ran_marked (goes_on c asked g more e {d} {asked'} {given'} run running call x y)
-    = calls_keep (λ a. IsMarked) (λ e. IsMarked AtState) (λ t rest w c. marked_on w c t t.content) _ AtState (taken c) e d (ran_marked run) call
+    = calls_keep (λ a. IsMarked) (λ e. IsMarked AtState) (λ t rest w c. marked_on w c t t.content) _ AtState
+    (taken c) e d (ran_marked run) call

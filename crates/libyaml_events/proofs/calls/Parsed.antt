@@ -86,7 +86,8 @@ one_no_end b l e f = ap (λ (u : Bool). either u (has_end l)) e ∙ f
 waits_no_end : (l : List Token) (x : Cut) (b : Token) (later : List Token) (p : Position) → Waits x b later p → FitsTag l x b.content
     → has_end (b ∷ later) ≡ false
 waits_no_end l x b later p (behind_tag c h d u) t = one_no_end d [] (unknown_no_end (declared c) d.content t) refl
-waits_no_end l x b later p (behind_anchor c h d a m u) t = one_no_end d (tok (Anchor a) m ∷ []) (unknown_no_end (declared c) d.content t) refl
+waits_no_end l x b later p (behind_anchor c h d a m u) t
+    = one_no_end d (tok (Anchor a) m ∷ []) (unknown_no_end (declared c) d.content t) refl
 waits_no_end l x b later p (behind_both c a m h d u) t = one_no_end d [] (unknown_no_end (declared c) d.content t) refl
 
 standing_no_end : (l : List Token) (g : List Event) (w : Want) (c : Config) → Stands l g w c → has_end l ≡ false

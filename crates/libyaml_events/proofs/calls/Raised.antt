@@ -126,12 +126,8 @@ module _ (ss : List yaml_parser_state_t) (ms : List Mark) where
 
   same_refused_at : (b : Bool) (rest : List Answer) (c : Config) (st : Stage) → SameRefusals rest st → (o : Progressed) → GoodOn o c.fault st → MarkedOn o
       → RefusedAt b o (λ w' c'. Refused w' c' rest) rest → RefusedAt b (lifted o) (λ w' c'. Refused w' c' rest) rest
-  same_refused_at b [] c st ih (Err f) g m z = z
-  same_refused_at b [] c st ih (Ok (Wants w, c')) g m z = z
-  same_refused_at b [] c st ih (Ok (Given e, c')) g m z = z
-  same_refused_at b (a ∷ rest) c st ih (Err f) g m z = absurd z
   same_refused_at b (a ∷ rest) c st ih (Ok (Wants w, c')) g m z = ih w c' g.2 g.0 m z
-  same_refused_at b (a ∷ rest) c st ih (Ok (Given e, c')) g m z = absurd z
+  same_refused_at b _ c st ih _ g m z = z
 
   same_growth_at : (s : yaml_parser_state_t) (c : Config) (k : Content) → may_grow_at s c k ≡ may_grow_at s (raised ss ms c) k
   same_growth_at YAML_PARSE_IMPLICIT_DOCUMENT_START_STATE c k = refl

@@ -174,5 +174,7 @@ good_on st c n w u k = by _ _ _ (step_kind [] [] u w c k)
     by k o o' (ends_indentless l) h = (end_back c.states (Some u) st h, refl, refl)
 
 -- so for a call's steps, which keep a fault
-pub good_step : (f : Fault) (st : Stage) (t : Token) (w : Want) (c : Config) → GoodBefore f st w c → GoodOn (machine w c t t.content) f st
-good_step f st t w c h = subst (λ (f : Fault). GoodOn (machine w c t t.content) f st) h.1 (good_on st c h.2 w t t.content h.0)
+pub good_step : (f : Fault) (st : Stage) (t : Token) (w : Want) (c : Config) → GoodBefore f st w c
+    → GoodOn (machine w c t t.content) f st
+good_step f st t w c h
+    = subst (λ (f : Fault). GoodOn (machine w c t t.content) f st) h.1 (good_on st c h.2 w t t.content h.0)

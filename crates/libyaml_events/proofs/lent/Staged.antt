@@ -108,7 +108,8 @@ kind_stage kinds.node_due ss l st h
     = due_stage ss st h (λ x. (false ≡ is_at_end x) × (false ≡ is_outside x)) (refl, refl) (λ n. (refl, refl))
 kind_stage _ ss l st h = (sym (ap is_at_end h.1), sym (ap is_outside h.1))
 
-state_kind : (s : yaml_parser_state_t) → (is_end_state s ≡ is_end_kind (kind s)) × (is_between s ≡ is_outside_kind (kind s))
+state_kind : (s : yaml_parser_state_t)
+    → (is_end_state s ≡ is_end_kind (kind s)) × (is_between s ≡ is_outside_kind (kind s))
 state_kind state.YAML_PARSE_END_STATE = (refl, refl)
 state_kind _ = (refl, refl)
 
@@ -230,7 +231,8 @@ staged_whole c asked g links h e = go links
 pub leads_to_end : (st : Stage) (e : Event) → is_at_end st ≡ false → is_at_end (after st e.content) ≡ is_stream_end e
 leads_to_end st e h = go st e.content h
   where
-    go : (st : Stage) (k : unnamed_yaml_event_t_data) → is_at_end st ≡ false → is_at_end (after st k) ≡ is_stream_end (record e { content = k })
+    go : (st : Stage) (k : unnamed_yaml_event_t_data) → is_at_end st ≡ false
+        → is_at_end (after st k) ≡ is_stream_end (record e { content = k })
     go at_start ev.NoEvent h = h
     go outside ev.NoEvent h = h
     go before_root ev.NoEvent h = h

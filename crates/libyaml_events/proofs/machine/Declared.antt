@@ -1,19 +1,19 @@
 -- What the machine makes of directives and handles is what the grammar says of them.
-use Rattle.std.proofs.Common.{◌≡◌, ℕ, ◌++◌, List, [], ◌∷◌, Option, Some, None, refl, sym, ap, ◌∙◌, subst, Bool, true, false, cond, nat_cmp, codes}
+use Rattle.std.proofs.Common.{◌≡◌, ℕ, ◌++◌, List, [], ◌∷◌, Option, Some, None, refl, sym, ap, ◌∙◌, Bool, true, false, cond, nat_cmp, codes}
 use Rattle.std.specs.Ordering.{eq_by_cmp}
 use Rattle.std.specs.Cmp.Lexicographic.{slice_cmp, texts_ties, nat_list_eq_equiv, nat_list_cmp_total}
 use Rattle.std.specs.FinMap.{get, insert, get-insert, get-from_entries}
 use Rattle.libyaml_events.specs.machine.Machine as mach
-use Rattle.libyaml_grammar.specs.cuts.FaultTexts.{duplicate_version_fault, version_fault}
+use Rattle.libyaml_grammar.specs.cuts.CutFaults.{directive_fault}
 use Rattle.libyaml_grammar.specs.sentences.Tokens.{HandleDeclared, Mark, Marks, TagDirective, TagName, Token, VersionAsked, VersionDirective, tok}
 use Rattle.libyaml_grammar.specs.sentences.Trees.{Directives, directive, no_directives, tag_directive, version}
 use Rattle.libyaml_grammar.specs.sentences.Events.{Event, declaration, either, prefix_of, resolved, same_text, tag_directives_of, tag_directives_then}
 use Rattle.libyaml_grammar.specs.sentences.Events.{tag_from, version_of}
-use Rattle.libyaml_grammar.specs.sentences.Order.{both, declares, is_known, is_accepted, negated, no_version}
+use Rattle.libyaml_grammar.specs.sentences.Order.{declares, is_known, is_accepted, negated, no_version}
 use Rattle.libyaml_grammar.proofs.lent.Reading.{keeps_order}
 use Rattle.libyaml_events.specs.machine.Config.{Config, Handles}
 use Rattle.libyaml_events.specs.machine.Machine.{explicit_document, or_default, resolve, with_prefix}
-use Rattle.libyaml_events.proofs.machine.Link.{End, after, directive_ends, fails, handles_of, waits}
+use Rattle.libyaml_events.proofs.machine.Link.{End, after, directive_ends, handles_of, waits}
 use Rattle.libyaml_grammar.proofs.lent.Lists.{assoc}
 use Rattle.libyaml_events.specs.declared.pending.DirectivesRead.{DirectivesRead}
 use Rattle.libyaml_events.specs.machine.Want.{BehindDirective}
@@ -137,65 +137,18 @@ pub version_after : (s : Mark) (ds : Directives) (c : Config) (v : VersionAsked)
       directive_ends (keeps_order ds no_directives (VersionDirective v)) ds (VersionDirective v) m
           (waits (BehindDirective (read_so_far s (directive ds (version v m)))) c),
     )
-version_after s ds c v m f r = go (no_version ds) refl
+version_after s ds c v m f r = go (no_version ds) refl (is_accepted v.major v.minor) refl
   where
-    asked : yaml_version_directive_t
-    asked = record { major = v.major; minor = v.minor }
-
-    first : (o : Option yaml_version_directive_t) → o ≡ None → (u : Bool) → is_accepted v.major v.minor ≡ u
-        → after (mach.version_directive o (record { start_mark = s; version = o; tag_directives = tag_directives_of ds }) c m.start asked) f r
-        ≡ (r, elim u [ true ↦ waits (BehindDirective (read_so_far s (directive ds (version v m)))) c | false ↦ fails (version_fault m.start) ])
-    first (Some x) e u g = absurd (no x e)
-      where
-        no : (x : yaml_version_directive_t) → ◌≡◌ {A = Option yaml_version_directive_t} (Some x) None → ⊥
-        no x e = cc
-    first None e u g = ap (λ (w : Bool). after
-        (mach.first_version w (record { start_mark = s; version = None; tag_directives = tag_directives_of ds }) c m.start asked) f r) g ∙ by u
-      where
-        by : (u : Bool) → after (mach.first_version u (record { start_mark = s; version = None; tag_directives = tag_directives_of ds }) c m.start asked) f r
-            ≡ (r, elim u [ true ↦ waits (BehindDirective (read_so_far s (directive ds (version v m)))) c | false ↦ fails (version_fault m.start) ])
-        by true = refl
-        by false = refl
-
-    second : (o : Option yaml_version_directive_t) (x : yaml_version_directive_t) → o ≡ Some x
-        → after (mach.version_directive o (record { start_mark = s; version = o; tag_directives = tag_directives_of ds }) c m.start asked) f r
-        ≡ (r, fails (duplicate_version_fault m.start))
-    second o x e = subst (λ (y : Option yaml_version_directive_t). after
-        (mach.version_directive y (record { start_mark = s; version = y; tag_directives = tag_directives_of ds }) c m.start asked) f r
-        ≡ (r, fails (duplicate_version_fault m.start))) (sym e) refl
-
-    says : (n w : Bool) → no_version ds ≡ n → is_accepted v.major v.minor ≡ w
-        → directive_ends (keeps_order ds no_directives (VersionDirective v)) ds (VersionDirective v) m
-        (waits (BehindDirective (read_so_far s (directive ds (version v m)))) c)
-        ≡ elim n [
-          | true ↦ elim w [ true ↦ waits (BehindDirective (read_so_far s (directive ds (version v m)))) c | false ↦ fails (version_fault m.start) ]
-          | false ↦ fails (duplicate_version_fault m.start)
-        ]
-    says n w e g = ap (λ (x : Bool). directive_ends (both x (is_accepted v.major v.minor)) ds (VersionDirective v) m
-        (waits (BehindDirective (read_so_far s (directive ds (version v m)))) c)) e
-        ∙ (ap (λ (x : Bool). directive_ends (both n x) ds (VersionDirective v) m (waits (BehindDirective (read_so_far s (directive ds (version v m)))) c)) g
-        ∙ by n w e)
-      where
-        by : (n w : Bool) → no_version ds ≡ n
-            → directive_ends (both n w) ds (VersionDirective v) m (waits (BehindDirective (read_so_far s (directive ds (version v m)))) c)
-            ≡ elim n [
-              | true ↦ elim w [ true ↦ waits (BehindDirective (read_so_far s (directive ds (version v m)))) c | false ↦ fails (version_fault m.start) ]
-              | false ↦ fails (duplicate_version_fault m.start)
-            ]
-        by true true e = refl
-        by true false e = ap (λ (x : Bool). fails (elim x [ true ↦ version_fault m.start | false ↦ duplicate_version_fault m.start ])) e
-        by false w e = ap (λ (x : Bool). fails (elim x [ true ↦ version_fault m.start | false ↦ duplicate_version_fault m.start ])) e
-
-    go : (n : Bool) → no_version ds ≡ n
+    go : (n : Bool) → no_version ds ≡ n → (u : Bool) → is_accepted v.major v.minor ≡ u
         → after (explicit_document (read_so_far s ds) c (tok (VersionDirective v) m) (VersionDirective v)) f r
         ≡ (
           r,
           directive_ends (keeps_order ds no_directives (VersionDirective v)) ds (VersionDirective v) m
               (waits (BehindDirective (read_so_far s (directive ds (version v m)))) c),
         )
-    go true e = first (version_of ds) (version_found ds e) (is_accepted v.major v.minor) refl
-        ∙ ap (λ (x : End). (r, x)) (sym (says true (is_accepted v.major v.minor) e refl))
-    go false e = let t = version_there ds e in second (version_of ds) t.0 t.1 ∙ ap (λ (x : End). (r, x)) (sym (says false (is_accepted v.major v.minor) e refl))
+    go true e true g = rw (version_found ds e, e, g) refl
+    go true e false g = rw (version_found ds e, e, g) (rw (e, directive_fault) refl)
+    go false e u g = rw ((version_there ds e).1, e) (rw (e, directive_fault) refl)
 
 directives_then : (ds : Directives) (r : List yaml_tag_directive_t) → tag_directives_then ds r ≡ tag_directives_then ds [] ++ r
 directives_then no_directives r = refl
@@ -226,7 +179,5 @@ tag_after s ds c d m f r h = go (declares ds d.handle) refl
 
     go : (u : Bool) → declares ds d.handle ≡ u
         → after_it (get c.handles d.handle) ≡ (r, directive_ends (negated (declares ds d.handle)) ds (TagDirective d) m goes_on)
-    go true e = let t = already_declared ds d.handle e in ap after_it (ap (λ (x : Handles). get x d.handle) h ∙ t.1)
-        ∙ ap (λ (x : Bool). (r, directive_ends (negated x) ds (TagDirective d) m goes_on)) (sym e)
-    go false e = ap after_it (ap (λ (x : Handles). get x d.handle) h ∙ undeclared ds d.handle e)
-        ∙ (ap (λ (x : End). (r, x)) new ∙ ap (λ (x : Bool). (r, directive_ends (negated x) ds (TagDirective d) m goes_on)) (sym e))
+    go true e = rw (ap (λ (x : Handles). get x d.handle) h ∙ (already_declared ds d.handle e).1, e) refl
+    go false e = rw (ap (λ (x : Handles). get x d.handle) h ∙ undeclared ds d.handle e, e) (ap (λ (x : End). (r, x)) new)

@@ -62,12 +62,14 @@ documents_follow n d StreamEnd m r = refl
 documents_follow n d _ m r = refl
 
 -- where a whole node fills its place
-block_waits : (c : BlockPlace) (x : BlockNode) → waits AtState (popped (node_config (block c))) ≡ waits (want_of (fill c x)) (config_of (fill c x))
+block_waits : (c : BlockPlace) (x : BlockNode)
+    → waits AtState (popped (node_config (block c))) ≡ waits (want_of (fill c x)) (config_of (fill c x))
 block_waits (root (implicit_root f)) x = refl
 block_waits (slot (part_place c o m ps k v)) x = refl
 block_waits _ x = refl
 
-flow_waits : (p : Place) (x : FlowNode) → waits AtState (popped (node_config p)) ≡ waits (want_of (fill_flow p x)) (config_of (fill_flow p x))
+flow_waits : (p : Place) (x : FlowNode)
+    → waits AtState (popped (node_config p)) ≡ waits (want_of (fill_flow p x)) (config_of (fill_flow p x))
 flow_waits (block c) x = block_waits c (flow x)
 flow_waits (flow_entry (open_collection p o sequence m is)) x = refl
 flow_waits (flow_key (open_collection p o sequence m is) k) x = refl
@@ -176,7 +178,8 @@ unless_ended : (b : Bool) {A : Type 0} → A → UnlessEnded b A
 unless_ended true h = tt
 unless_ended false h = h
 
-node_follows : (n : ℕ) (p : Place) (k : Content) (m : Marks) (r : List Event) → UnlessEnded (ends_empty p k) (Node n p k m r)
+node_follows : (n : ℕ) (p : Place) (k : Content) (m : Marks) (r : List Event)
+    → UnlessEnded (ends_empty p k) (Node n p k m r)
 node_follows n p (Scalar v) m r = unless_ended (ends_empty p (Scalar v)) (scalar_follows p None v m r)
 node_follows n (block (root (implicit_root f))) _ m r = refl
 node_follows n (block (root (explicit_root b ds s))) _ m r = assumption
@@ -193,7 +196,8 @@ nothing_follows : (n : ℕ) (p : Place) (k : Content) (m : Marks) (r : List Even
       given_on_due p None k m r,
       step_ends (on_due p None k m) no_directives k m,
     )
-nothing_follows n (block (root (implicit_root f))) k m r w = node_follows (suc (suc n)) (block (root (implicit_root f))) k m r
+nothing_follows n (block (root (implicit_root f))) k m r w
+    = node_follows (suc (suc n)) (block (root (implicit_root f))) k m r
 nothing_follows n (block (root (explicit_root b ds s))) DocumentStart m r w = refl
 nothing_follows n (block (root (explicit_root b ds s))) k m r w = assumption (
   ap (emit (empty_at m.start)) (documents_follow (suc n) (explicit b ds s nothing) k m r),
@@ -338,12 +342,14 @@ flow_follows n (open_collection p o sequence s is) Key m r = refl
 flow_follows n (open_collection p o sequence s is) FlowSequenceEnd m r
     = ap (λ (x : End). (end_of sequence m ∷ r, x)) (flow_waits p (collection o sequence s is no_last m))
 flow_follows n (open_collection p o sequence s is) FlowMappingEnd m r = refl
-flow_follows n (open_collection p o sequence s is) k m r = node_follows (suc n) (flow_entry (open_collection p o sequence s is)) k m r
+flow_follows n (open_collection p o sequence s is) k m r
+    = node_follows (suc n) (flow_entry (open_collection p o sequence s is)) k m r
 flow_follows n (open_collection p o mapping s is) Key m r = refl
 flow_follows n (open_collection p o mapping s is) FlowSequenceEnd m r = refl
 flow_follows n (open_collection p o mapping s is) FlowMappingEnd m r
     = ap (λ (x : End). (end_of mapping m ∷ r, x)) (flow_waits p (collection o mapping s is no_last m))
-flow_follows n (open_collection p o mapping s is) k m r = node_follows (suc n) (flow_entry (open_collection p o mapping s is)) k m r
+flow_follows n (open_collection p o mapping s is) k m r
+    = node_follows (suc n) (flow_entry (open_collection p o mapping s is)) k m r
 
 -- at a document's place
 begins_follow : (n : ℕ) (f : Free) (k : Content) (m : Marks) (r : List Event)
@@ -352,7 +358,9 @@ begins_follow : (n : ℕ) (f : Free) (k : Content) (m : Marks) (r : List Event)
       document_start_at no_directives true m.start m.start ∷ given_on_due (block (root (implicit_root f))) None k m r,
       step_ends (on_due (block (root (implicit_root f))) None k m) no_directives k m,
     )
-begins_follow n f k m r = ap (emit (document_start_at no_directives true m.start m.start)) (node_follows n (block (root (implicit_root f))) k m r)
+begins_follow n f k m r
+    = ap (emit (document_start_at no_directives true m.start m.start))
+    (node_follows n (block (root (implicit_root f))) k m r)
 
 free_follows : (n : ℕ) (f : Free) (k : Content) (m : Marks) (r : List Event)
     → spends (suc (suc (suc n))) AtState (free_config f no_handles) k m r ≡ (given_at_free f k m r, step_ends (at_free f k m) no_directives k m)

@@ -30,9 +30,11 @@ legal_ends q k m x e = refl
 illegal_directive : (q p : Position) (k : Content) (m : Marks) (x : Directive)
     → ((e : End) → go_ends (pending q) k m e ≡ directive_ends (is_legal q k) (pending q) k m e)
     → ((c : Before) (ds : Directives) (r : List Event) → shown_cut (at_directive c ds) m.start r ≡ shown (headed c ds x) m.start r)
-    → step q k m ≡ goes p → is_legal q k ≡ false → IsHeaded p (pending q) x → ((n : Mark) (r : List Event) → shown p n r ≡ shown q m.start (gives q k m r)) → Does q k m
+    → step q k m ≡ goes p → is_legal q k ≡ false → IsHeaded p (pending q) x
+    → ((n : Mark) (r : List Event) → shown p n r ≡ shown q m.start (gives q k m r)) → Does q k m
 illegal_directive q (headed c ds d) k m x n b e f (g, h) s
-    = is_bad (at_directive c ds) (ap (λ (x : Step). checked x (is_legal q k)) e ∙ ap (λ (u : Bool). checked (goes (headed c ds d)) u) f)
+    = is_bad (at_directive c ds)
+    (ap (λ (x : Step). checked x (is_legal q k)) e ∙ ap (λ (u : Bool). checked (goes (headed c ds d)) u) f)
     (ap (λ (x : Step). step_ends x (pending q) k m) e ∙ n (waits (want_of (headed c ds d)) (config_of (headed c ds d)))
     ∙ (ap (λ (u : Bool). directive_ends u (pending q) k m (waits (want_of (headed c ds d)) (config_of (headed c ds d)))) f
     ∙ ap (λ (x : Directives). fails (directive_fault x k m.start)) (sym g)))
@@ -41,9 +43,11 @@ illegal_directive q _ k m x n b e f h s = absurd h
 
 illegal : (q p : Position) (k : Content) (m : Marks) → step q k m ≡ goes p → is_legal q k ≡ false → Shows (goes p) q m (gives q k m) → Does q k m
 illegal q p (VersionDirective a) m e f s
-    = illegal_directive q p _ m (version a m) (λ x. refl) (λ c ds r. refl) e f (subst (λ (x : Step). HeadGoes x (pending q) (version a m)) e (step_version q a m)) s
+    = illegal_directive q p _ m (version a m) (λ x. refl) (λ c ds r. refl) e f
+    (subst (λ (x : Step). HeadGoes x (pending q) (version a m)) e (step_version q a m)) s
 illegal q p (TagDirective a) m e f s
-    = illegal_directive q p _ m (tag_directive a m) (λ x. refl) (λ c ds r. refl) e f (subst (λ (x : Step). HeadGoes x (pending q) (tag_directive a m)) e (step_handle q a m)) s
+    = illegal_directive q p _ m (tag_directive a m) (λ x. refl) (λ c ds r. refl) e f
+    (subst (λ (x : Step). HeadGoes x (pending q) (tag_directive a m)) e (step_handle q a m)) s
 illegal q p (Tag h) m e f s = is_doomed p e f
     (subst (λ (u : Bool). IsTagHeld p u m) f (subst (λ (x : Step). TagGoes x (is_legal q (Tag h)) m) e (step_tag q h m)))
     (ap (λ (x : Step). step_ends x (pending q) (Tag h) m) e)

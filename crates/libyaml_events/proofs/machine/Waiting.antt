@@ -24,11 +24,13 @@ IsAnchor (Anchor a) = Unit {0}
 IsAnchor _ = ⊥
 
 -- after an unknown tag
-tag_fails : (p : Place) (ps : Properties) (h : TagName) (n : Mark) (k : Content) (m : Marks) → is_known (declared p) h.handle ≡ false
+tag_fails : (p : Place) (ps : Properties) (h : TagName) (n : Mark) (k : Content) (m : Marks)
+    → is_known (declared p) h.handle ≡ false
     → content_resolved (kind p) (read_of ps) (tag_read h n) (resolve (handles_of (declared p)) h.handle h.suffix) (node_config p) (tok k m) k
     ≡ Err (tag_fault (read_of ps).start_mark n)
 tag_fails p ps h n k m e
-    = ap (λ (o : Option (List ℕ)). content_resolved (kind p) (read_of ps) (tag_read h n) o (node_config p) (tok k m) k) (resolve_not (declared p) h e)
+    = ap (λ (o : Option (List ℕ)). content_resolved (kind p) (read_of ps) (tag_read h n) o (node_config p) (tok k m) k)
+    (resolve_not (declared p) h e)
 
 abbrev Reads : Place → Properties → Content → Marks → Progressed
 Reads p ps k m = machine (want_of (due p (Some ps))) (config_of (due p (Some ps))) (tok k m) k
@@ -50,10 +52,13 @@ unknown_tag_anchor p h x a y k m e = tag_fails p (tag_anchor h x a y) h x.start 
 
 -- the position after a bad TAG and some tokens more, while the parser waits
 pub data Waits : Cut → Token → List Token → Position → Type 0 where
-  behind_tag : (c : Place) (h : TagName) (b : Token) → is_known (declared c) h.handle ≡ false → Waits (at_tag c) b [] (due c (Some (tag h (marks_of b))))
-  behind_anchor : (c : Place) (h : TagName) (b : Token) (a : AnchorName) (m : Marks) → is_known (declared c) h.handle ≡ false
+  behind_tag : (c : Place) (h : TagName) (b : Token) → is_known (declared c) h.handle ≡ false
+      → Waits (at_tag c) b [] (due c (Some (tag h (marks_of b))))
+  behind_anchor : (c : Place) (h : TagName) (b : Token) (a : AnchorName) (m : Marks)
+      → is_known (declared c) h.handle ≡ false
       → Waits (at_tag c) b (tok (Anchor a) m ∷ []) (due c (Some (tag_anchor h (marks_of b) a m)))
-  behind_both : (c : Place) (a : AnchorName) (m : Marks) (h : TagName) (b : Token) → is_known (declared c) h.handle ≡ false
+  behind_both : (c : Place) (a : AnchorName) (m : Marks) (h : TagName) (b : Token)
+      → is_known (declared c) h.handle ≡ false
       → Waits (at_tag_behind c a m) b [] (due c (Some (anchor_tag a m h (marks_of b))))
 
 pub still_waits : (x : Cut) (b : Token) (later : List Token) (p : Position) → Waits x b later p → is_behind_properties x later ≡ false
@@ -83,14 +88,18 @@ tag_step c h b u t = go t.content (marks_of t)
 
 pub wait_step : (x : Cut) (b : Token) (later : List Token) (p : Position) → Waits x b later p → (t : Token) → Steps x b later p t
 wait_step x b later p (behind_tag c h d u) t = tag_step c h d u t
-wait_step x b later p (behind_anchor c h d a m u) t = found (unknown_tag_anchor c h (marks_of d) a m t.content (marks_of t) u) refl
-wait_step x b later p (behind_both c a m h d u) t = found (unknown_anchor_tag c a m h (marks_of d) t.content (marks_of t) u) refl
+wait_step x b later p (behind_anchor c h d a m u) t
+    = found (unknown_tag_anchor c h (marks_of d) a m t.content (marks_of t) u) refl
+wait_step x b later p (behind_both c a m h d u) t
+    = found (unknown_anchor_tag c a m h (marks_of d) t.content (marks_of t) u) refl
 
 -- a tag that grammar takes, and that is unknown, is waited after
 pub held_waits : (p : Position) (b : Token) → IsTagHeld p false (marks_of b) → Waits (broken p) b [] p
-held_waits (due p (Some (tag h n))) b (u, e) = subst (λ (y : Marks). Waits (at_tag p) b [] (due p (Some (tag h y)))) (sym e) (behind_tag p h b u)
+held_waits (due p (Some (tag h n))) b (u, e)
+    = subst (λ (y : Marks). Waits (at_tag p) b [] (due p (Some (tag h y)))) (sym e) (behind_tag p h b u)
 held_waits (due p (Some (anchor_tag a x h n))) b (u, e)
-    = subst (λ (y : Marks). Waits (at_tag_behind p a x) b [] (due p (Some (anchor_tag a x h y)))) (sym e) (behind_both p a x h b u)
+    = subst (λ (y : Marks). Waits (at_tag_behind p a x) b [] (due p (Some (anchor_tag a x h y)))) (sym e)
+    (behind_both p a x h b u)
 held_waits _ b u = absurd u
 
 pub doomed_shown : (p : Position) (m : Marks) (r : List Event) → IsTagHeld p false m → shown_cut (broken p) m.start r ≡ shown p m.start r

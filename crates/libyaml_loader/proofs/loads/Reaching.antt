@@ -64,28 +64,34 @@ none_left (within o l) = refl
 module _ {S : Type 0} (gives : S → Answer → S → Type 0) (known : S → Option Coming) (MayBreak : S → Fault → Type 0) where
   -- a load after events that were taken: by them a load by f comes to one by g
   pub loads_behind : (f g : List Event → Ending → Load) (l k : List Event → List Event) (old mid new : Parser S) (a : List Event) (r : DocumentOrError)
-      → Took gives known old mid a → ((rest : List Event) (x : Ending) → f (a ++ rest) x ≡ g rest x) → ((rest : List Event) → l (a ++ rest) ≡ k rest)
+      → Took gives known old mid a → ((rest : List Event) (x : Ending) → f (a ++ rest) x ≡ g rest x)
+      → ((rest : List Event) → l (a ++ rest) ≡ k rest)
       → LoadsFrom gives known MayBreak g k mid r new → LoadsFrom gives known MayBreak f l old r new
   loads_behind f g l k old mid new a r took load left h = go r h
     where
       both : (b : List Event) (rest : List Event) (x : Ending) → f ((a ++ b) ++ rest) x ≡ g (b ++ rest) x
       both b rest x = ap (λ (m : List Event). f m x) (append_assoc a b rest) ∙ load (b ++ rest) x
 
-      go : (r : DocumentOrError) → LoadsFrom gives known MayBreak g k mid r new → LoadsFrom gives known MayBreak f l old r new
+      go : (r : DocumentOrError) → LoadsFrom gives known MayBreak g k mid r new
+          → LoadsFrom gives known MayBreak f l old r new
       go (Ok d) (whole b more loads left_over stands) =
           whole (a ++ b) (took_both gives known MayBreak old mid new a b took more)
           (λ (rest : List Event) (x : Ending). both b rest x ∙ loads rest x)
           (λ (rest : List Event). ap l (append_assoc a b rest) ∙ left (b ++ rest) ∙ left_over rest)
-          (λ (asked : List Token) (given : List Event) (history : History old asked given). stands _ _ (took.history asked given history).history)
+          (λ (asked : List Token) (given : List Event) (history : History old asked given). stands _ _
+          (took.history asked given history).history)
       go (Ok d) (at_end b more loads left_over ends is stands) =
-          at_end (a ++ b) (took_both gives known MayBreak old mid new a b took more) (λ (x : Ending). load b x ∙ loads x) (left b ∙ left_over)
+          at_end (a ++ b) (took_both gives known MayBreak old mid new a b took more)
+          (λ (x : Ending). load b x ∙ loads x) (left b ∙ left_over)
           (λ (events : List Event) (ending : Ending) (run : RunToCome known old events ending).
           let t = took.runs events ending run in
           let e = ends t.later ending t.run in
           (t.all ∙ ap (λ (m : List Event). a ++ m) e.0, e.1))
-          is (λ (asked : List Token) (given : List Event) (history : History old asked given). stands _ _ (took.history asked given history).history)
+          is (λ (asked : List Token) (given : List Event) (history : History old asked given). stands _ _
+          (took.history asked given history).history)
       go (Err y) (by_parser b p more fails loads)
-          = by_parser (a ++ b) p (took_both gives known MayBreak old mid p a b took more) fails (λ (x : Ending). load b x ∙ loads x)
+          = by_parser (a ++ b) p (took_both gives known MayBreak old mid p a b took more) fails
+          (λ (x : Ending). load b x ∙ loads x)
       go (Err y) (by_loader b p more f keeps loads) =
           by_loader (a ++ b) p (took_both gives known MayBreak old mid p a b took more) f keeps
           (λ (rest : List Event) (x : Ending). both b rest x ∙ loads rest x)
@@ -105,7 +111,8 @@ module _ {S : Type 0} (gives : S → Answer → S → Type 0) (known : S → Opt
   pub behind : (s t : State) (old mid new : Parser S) (a : List Event) (r : DocumentOrError) → Took gives known old mid a → Reaches n s t a
       → LoadsFrom gives known MayBreak (load_from n t) (left_from t) mid r new → LoadsFrom gives known MayBreak (load_from n s) (left_from s) old r new
   behind s t old mid new a r took h
-      = loads_behind gives known MayBreak (load_from n s) (load_from n t) (left_from s) (left_from t) old mid new a r took h.load h.left
+      = loads_behind gives known MayBreak (load_from n s) (load_from n t) (left_from s)
+      (left_from t) old mid new a r took h.load h.left
 
   pub ended_load : (s : State) (old new : Parser S) (d : Document) → FindsEnd gives known old new → d ≡ empty_document None [] false false
       → Loads gives known (load_from n s) (left_from s) old new d

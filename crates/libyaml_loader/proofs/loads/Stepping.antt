@@ -171,7 +171,8 @@ module _ {S : Type 0} (gives : S → Answer → S → Type 0) (known : S → Opt
       → LoadsFrom gives known MayBreak (load_from n between) (left_from between) now r new
       → LoadsFrom gives known MayBreak (next_bounded n) left_over first r new
   loads_between n first now new r w h =
-      loads_behind gives known MayBreak (next_bounded n) (load_from n between) left_over (left_from between) first now new w.taken r w.took
+      loads_behind gives known MayBreak (next_bounded n) (load_from n between) left_over
+      (left_from between) first now new w.taken r w.took
       (λ (rest : List Event) (x : Ending). sym (one_load (w.taken ++ rest) x n) ∙ w.reaches.load rest x) w.reaches.left h
 
   pub skips_opens : (n : ℕ) (first now mid new : Parser S) (q : EventOrError) (c : Called gives known MayBreak now mid q) (e : Event) → q ≡ Ok e

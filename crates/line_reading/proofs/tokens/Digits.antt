@@ -73,13 +73,15 @@ module _ (bytes : List ℕ) (k i n : ℕ) (h : HasRead bytes i n) (small : i < l
   whole : drop i bytes ≡ byte ∷ rest
   whole = at_drop_more (λ x. x) bytes i 0 within.0 ∙ ap (λ b. b ∷ rest) (sym within.1)
 
-  pub more_within : is_ascii_digit byte ≡ true → n * 10 + (byte - 48) < 2 ^ 64 → HasRead bytes (i + 1) (n * 10 + (byte - 48))
+  pub more_within : is_ascii_digit byte ≡ true → n * 10 + (byte - 48) < 2 ^ 64
+      → HasRead bytes (i + 1) (n * 10 + (byte - 48))
   more_within d fits =
       let digits : digits_of (drop i bytes) ≡ byte ∷ digits_of rest = ap digits_of whole ∙ digits-yes byte rest d in
       record {
         digits = h.digits ∙ ap (λ x. take i bytes ++ x) digits
             ∙ sym (append_assoc (take i bytes) (byte ∷ []) (digits_of rest))
-            ∙ ap (λ x. x ++ digits_of rest) (ap (λ b. take i bytes ++ b ∷ []) within.1 ∙ sym (take_more bytes i 0 within.0));
+            ∙ ap (λ x. x ++ digits_of rest)
+            (ap (λ b. take i bytes ++ b ∷ []) within.1 ∙ sym (take_more bytes i 0 within.0));
         behind = h.behind ∙ ap behind_digits whole ∙ behind-yes byte rest d;
         value = h.value ∙ ap (value_after n) digits ∙ value_after-digit n byte (digits_of rest) d;
         fits = fits;
@@ -87,12 +89,15 @@ module _ (bytes : List ℕ) (k i n : ℕ) (h : HasRead bytes i n) (small : i < l
 
   pub too_much_within : is_ascii_digit byte ≡ true → 2 ^ 64 ≤ n * 10 + (byte - 48) → number_at bytes ≡ None
   too_much_within d large =
-      let none : value_of (digits_of bytes) ≡ None = h.value ∙ ap (value_after n) (ap digits_of whole ∙ digits-yes byte rest d)
+      let none : value_of (digits_of bytes) ≡ None = h.value
+      ∙ ap (value_after n) (ap digits_of whole ∙ digits-yes byte rest d)
       ∙ value_after-digit n byte (digits_of rest) d ∙ value_after-large _ (digits_of rest) large in
       rw (no_value (digits_of bytes) none) refl
 
   pub ends_within : is_ascii_digit byte ≡ false → HasDigits bytes i n
-  ends_within d = ends bytes i n h (ap digits_of whole ∙ digits-no byte rest d) (ap behind_digits whole ∙ behind-no byte rest d ∙ sym whole)
+  ends_within d
+      = ends bytes i n h (ap digits_of whole ∙ digits-no byte rest d)
+      (ap behind_digits whole ∙ behind-no byte rest d ∙ sym whole)
 
 pub ends_with_line : (line : List ℕ) (at end i n : ℕ) → end ≡ length line → HasRead (drop at line) i n → i ≤ length (take (end - at) (drop at line))
     → length (take (end - at) (drop at line)) ≤ i → HasDigits (drop at line) (end - at) n

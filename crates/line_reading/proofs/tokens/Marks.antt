@@ -6,7 +6,7 @@ use Rattle.libyaml_types.specs.declared.enums.yaml_token_type_t.{yaml_token_type
 use Rattle.libyaml_types.specs.declared.token.yaml_token_t.{yaml_token_t}
 use Rattle.libyaml_types.specs.declared.token.unnamed_yaml_token_t_data.{unnamed_yaml_token_t_data}
 use Rattle.line_reading.specs.declared.line_problem.LineProblem.{LineProblem}
-use Rattle.line_reading.specs.declared.line_problem.LineProblem.TheVariants.{Memory, ReadFailed, LineTooLong, BadTokenLine, TooManyTokens, NoMoreTokens}
+use Rattle.line_reading.specs.declared.line_problem.LineProblem.TheVariants.{Memory, BadTokenLine}
 use Rattle.line_reading.specs.tokens.Field.{◌>>=◌}
 use Rattle.line_reading.specs.tokens.Reading.{IsReadInto}
 use Rattle.line_reading.specs.tokens.Pieces.{pieces_of}

@@ -107,10 +107,12 @@ no_number p e = no_value p (rw e refl)
 
 -- what follows the digits
 
-shape_last : (d t : List ℕ) → before_byte 32 t ≡ [] → behind_first 58 t ≡ None → behind_field t ≡ Some (behind_byte 32 t) → All (λ x. x ≢ 32) d
+shape_last : (d t : List ℕ) → before_byte 32 t ≡ [] → behind_first 58 t ≡ None
+    → behind_field t ≡ Some (behind_byte 32 t) → All (λ x. x ≢ 32) d
     → All (λ x. x ≢ 58) d → Shape (d ++ t) d t
 shape_last d t none colon field c32 c58 = last (record {
-  pieces = ap S (before-append 32 d t c32 ∙ ap (λ x. d ++ x) none ∙ append-nil d) ∙ slice_split_none (λ b. b == 58) d (no_separator 58 d c58);
+  pieces = ap S (before-append 32 d t c32 ∙ ap (λ x. d ++ x) none ∙ append-nil d)
+      ∙ slice_split_none (λ b. b == 58) d (no_separator 58 d c58);
   colon = colon;
   field = field ∙ ap Some (sym (behind-append 32 d t c32));
 })
@@ -141,7 +143,8 @@ shape_at : (d t : List ℕ) → All (λ x. x ≢ 32) d → All (λ x. x ≢ 58) 
 shape_at d [] c32 c58 h = shape_last d [] refl refl refl c32 c58
 shape_at d (x ∷ r) c32 c58 h =
     elim (cases_Bool (x == 32)) [
-      | inl e ↦ subst (λ y. Shape (d ++ y ∷ r) d (y ∷ r)) (sym (eqb-true x 32 e)) (shape_last d (32 ∷ r) refl refl refl c32 c58)
+      | inl e ↦ subst (λ y. Shape (d ++ y ∷ r) d (y ∷ r)) (sym (eqb-true x 32 e))
+          (shape_last d (32 ∷ r) refl refl refl c32 c58)
       | inr e32 ↦ elim (cases_Bool (x == 58)) [
         | inl e ↦ subst (λ y. Shape (d ++ y ∷ r) d (y ∷ r)) (sym (eqb-true x 58 e)) (shape_colon d r c32 c58)
         | inr e58 ↦ shape_other d x r c32 c58 h e32 e58

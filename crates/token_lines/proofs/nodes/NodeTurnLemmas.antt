@@ -187,8 +187,10 @@ pub last_load_at : {S W : Type 0} (gives : S → Answer → S → Type 0) (known
     → ((r : DocumentOrError) → StepForLoad s r (kept_fault q) (contents writer) c → WroteForLoad outcome r (kept_fault q) (contents writer) d)
     → (outcome ≡ Ended → s ≡ step.Ended) → LastLoad gives known MayBreak contents (magnitude first.max_entries) outcome first q a d asked given
 last_load_at gives known MayBreak contents outcome s first p q writer a c d asked given bound earlier turns wrote ended =
-    let failed = running gives known MayBreak (magnitude first.max_entries) p (asked ++ earlier.more) (given ++ earlier.events) earlier.history in
-    let turn = turn_at gives known MayBreak s p q (contents writer) c p.max_entries first.max_entries bound turns failed in
+    let failed = running gives known MayBreak (magnitude first.max_entries) p (asked ++ earlier.more)
+    (given ++ earlier.events) earlier.history in
+    let turn = turn_at gives known MayBreak s p q
+    (contents writer) c p.max_entries first.max_entries bound turns failed in
     record {
       parser = p;
       writer = writer;
@@ -196,5 +198,6 @@ last_load_at gives known MayBreak contents outcome s first p q writer a c d aske
       loaded = turn.loaded;
       load = turn.load;
       wrote = wrote turn.loaded turn.wrote;
-      ends = λ (is : outcome ≡ Ended). turn.ends (ended is) (asked ++ earlier.more) (given ++ earlier.events) earlier.history;
+      ends = λ (is : outcome ≡ Ended). turn.ends (ended is) (asked ++ earlier.more)
+          (given ++ earlier.events) earlier.history;
     }

@@ -37,7 +37,8 @@ loop-writer-init g c = record {
 
 pub loop-writer-preserved : goal.loop-writer-preserved
 loop-writer-preserved g c = record {
-  ended = λ ended. written_no_end (c.in-Written.ensures.ended (ap is_over (c.loop-writer.invariant.ended ended).0 ∙ ended)).0;
+  ended = λ ended. written_no_end
+      (c.in-Written.ensures.ended (ap is_over (c.loop-writer.invariant.ended ended).0 ∙ ended)).0;
   in_turn = λ not_ended asked given history. one_more event_line g.S.yaml_token_source_t.gives _ c.loop-writer.parser c.write_next.new.parser _ _ _ asked given
       (c.loop-writer.invariant.in_turn not_ended asked given history) c.in-Written.ensures.turn;
   came = λ events ending run. takes_more g.S.yaml_token_source_t.known run_lines run_ending _ _ _ c.loop-writer.parser c.write_next.new.parser events ending
@@ -60,7 +61,8 @@ returns-in-Ended-clause-ended g c ended =
 
 pub returns-in-Failed-clause-ended : goal.returns-in-Failed-clause-ended
 returns-in-Failed-clause-ended g c ended
-    = failed_no_end c.in-Failed.fault (c.in-Failed.ensures.ended (ap is_over (c.loop-writer.invariant.ended ended).0 ∙ ended)).0
+    = failed_no_end c.in-Failed.fault
+    (c.in-Failed.ensures.ended (ap is_over (c.loop-writer.invariant.ended ended).0 ∙ ended)).0
 
 pub returns-in-OutputFailed-clause-ended : goal.returns-in-OutputFailed-clause-ended
 returns-in-OutputFailed-clause-ended g c ended

@@ -1,4 +1,4 @@
-use Rattle.std.proofs.Common.{◌≡◌, Ok, Err, refl, sym, ap, ◌∙◌, subst}
+use Rattle.std.proofs.Common.{Ok, Err, refl, sym, ap, ◌∙◌, subst}
 use Rattle.std.proofs.KnownBytes.{Appends-kept}
 use Rattle.libyaml_sources.specs.Fault.{Fault}
 use Rattle.libyaml_loader.specs.document.Ids.{magnitude}
