@@ -10,8 +10,10 @@
 ghost use Rattle.std.specs.Prelude.{◌≡◌, Ok, Err, OnOk, OnErr, true, is_some};
 ghost use Rattle.libyaml_sources.specs.Fault.{memory_fault};
 ghost use Rattle.libyaml_grammar.specs.sentences.Events.{event};
-ghost use Rattle.libyaml_events.specs.machine.Config.{with_config, with_fault, at, popped, popped_mark, pushed_mark};
-ghost use Rattle.libyaml_types.specs.declared.event.unnamed_yaml_event_t_data.TheVariants.{SequenceEnd, MappingEnd};
+ghost use Rattle.libyaml_events.specs.machine.Config.{with_config, with_fault, at};
+ghost use Rattle.libyaml_events.specs.machine.Config.{popped, popped_mark, pushed_mark};
+ghost use Rattle.libyaml_types.specs.declared.event.unnamed_yaml_event_t_data.TheVariants.{SequenceEnd};
+ghost use Rattle.libyaml_types.specs.declared.event.unnamed_yaml_event_t_data.TheVariants.{MappingEnd};
 ghost use Rattle.libyaml_events.specs.machine.Machine.{step, at_state, at_slot, process_empty_scalar};
 ghost use Rattle.libyaml_events.specs.machine.Machine.{close_collection};
 ghost use Rattle.libyaml_events.specs.machine.Steps.{Steps};
@@ -290,7 +292,8 @@ impl<S> Machine<S> {
     ) -> Result<Step, yaml_error_type_t>
         ensures ok { OnOk result ((result ≡ Ok Step.Wants)
             × (pending.new ≡ record pending.old { next = next })
-            × (self.new ≡ with_config self.old (at state (pushed_mark token.now.start_mark self.old.config)))) }
+            × (self.new ≡ with_config self.old (at state
+            (pushed_mark token.now.start_mark self.old.config)))) }
         ensures err { OnErr result ((result ≡ Err yaml_error_type_t.YAML_MEMORY_ERROR)
             × (self.new ≡ with_config self.old (with_fault self.old.config memory_fault))) }
     {

@@ -89,7 +89,8 @@ impl loader_ctx {
     pub fn compose(&mut self, event: &mut yaml_event_t) -> Result<(), Refusal>
         requires { IdsAreIn (loader_of self.old) }
         ensures ok { OnOk result (Composed self.old self.new (part_of event.old)) }
-        ensures err { IfErr result (λ r. Refuses self.old self.new (part_of event.old) event.old.start_mark r) }
+        ensures err { IfErr result (λ r. Refuses self.old self.new (part_of event.old)
+            event.old.start_mark r) }
     {
         let start_mark = event.start_mark;
         let end_mark = event.end_mark;
@@ -159,7 +160,8 @@ impl loader_ctx {
         ensures ok { OnOk result (Composed self.old self.new
             (Some (leaf_part scalar.old.anchor (scalar_loaded scalar.old start_mark end_mark)))) }
         ensures err { IfErr result (λ r. Refuses self.old self.new
-            (Some (leaf_part scalar.old.anchor (scalar_loaded scalar.old start_mark end_mark))) start_mark r) }
+            (Some (leaf_part scalar.old.anchor (scalar_loaded scalar.old start_mark end_mark)))
+            start_mark r) }
     {
         self.has_room(self.document.nodes().len())?;
         let anchor = scalar.anchor.take();
