@@ -4,5 +4,6 @@ mod EventsEqual
 mod Fields
 pub mod Ids
 pub mod Children
+mod Named
 mod NodesEqual
 mod TokensEqual

@@ -1,5 +1,5 @@
--- Nodes, their ids, and the nodes that the calls make (docs/DEFINITIONS.md, "Documents by calls").
-use Rattle.std.specs.Prelude.{◌≡◌, ℕ, suc, zero, ℤ, pos, negsuc, ◌≤ℤ◌, List, [], ◌∷◌, ◌++◌, Option, Some, None, length, slice_get, All, codes}
+-- Nodes, their ids, the nodes that ids name, and the nodes that the calls make (docs/DEFINITIONS.md, "Documents by calls").
+use Rattle.std.specs.Prelude.{◌≡◌, ℕ, suc, zero, ℤ, pos, negsuc, ◌≤ℤ◌, List, [], ◌∷◌, ◌++◌, Option, Some, None, length, map, slice_get, All, codes}
 use Rattle.libyaml_types.specs.declared.enums.yaml_node_type_t.{yaml_node_type_t}
 use Rattle.libyaml_types.specs.declared.enums.yaml_node_type_t.TheVariants.{YAML_NO_NODE, YAML_SCALAR_NODE, YAML_SEQUENCE_NODE, YAML_MAPPING_NODE}
 use Rattle.libyaml_types.specs.declared.enums.yaml_scalar_style_t.{yaml_scalar_style_t}
@@ -27,11 +27,45 @@ ids_of (Scalar s) = []
 ids_of (Sequence s) = s.items
 ids_of (Mapping m) = ids_of_pairs m.pairs
 
+-- the items of a sequence; no other node has any
+abbrev pub items_of : unnamed_yaml_node_t_data → List ℤ
+items_of (Scalar s) = []
+items_of (Sequence s) = s.items
+items_of (Mapping m) = []
+
+-- the pairs of a mapping; no other node has any
+abbrev pub pairs_of : unnamed_yaml_node_t_data → List yaml_node_pair_t
+pairs_of (Scalar s) = []
+pairs_of (Sequence s) = []
+pairs_of (Mapping m) = m.pairs
+
 -- the node of an id: they count from 1
 abbrev pub node_at : List yaml_node_t → ℤ → Option yaml_node_t
 node_at nodes (negsuc n) = None
 node_at nodes (pos zero) = None
 node_at nodes (pos (suc n)) = slice_get nodes n
+
+-- the nodes of a pair, where both its ids name one
+abbrev pub both_nodes : Option yaml_node_t → Option yaml_node_t → Option (yaml_node_t × yaml_node_t)
+both_nodes None value = None
+both_nodes (Some key) None = None
+both_nodes (Some key) (Some value) = Some (key, value)
+
+abbrev pub pair_at : List yaml_node_t → yaml_node_pair_t → Option (yaml_node_t × yaml_node_t)
+pair_at nodes p = both_nodes (node_at nodes p.key) (node_at nodes p.value)
+
+-- the values of a list up to its first `None`
+abbrev pub up_to_none : {A : Type 0} → List (Option A) → List A
+up_to_none [] = []
+up_to_none (None ∷ xs) = []
+up_to_none (Some x ∷ xs) = x ∷ up_to_none xs
+
+-- the nodes of ids, and those of pairs, up to the first that names no node
+abbrev pub nodes_named : List yaml_node_t → List ℤ → List yaml_node_t
+nodes_named nodes ids = up_to_none (map (λ id. node_at nodes id) ids)
+
+abbrev pub pairs_named : List yaml_node_t → List yaml_node_pair_t → List (yaml_node_t × yaml_node_t)
+pairs_named nodes pairs = up_to_none (map (λ p. pair_at nodes p) pairs)
 
 -- an id of one of n nodes
 abbrev pub IsIdUpTo : ℕ → ℤ → Type 0

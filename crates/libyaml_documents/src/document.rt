@@ -1,9 +1,11 @@
 //! Documents, and the calls that read them.
 
-ghost use Rattle.std.specs.Prelude.{◌≡◌, suc, ◌≤◌, ◌≤ℤ◌, ◌<◌, pos, ◌↔◌, IsSome, IfSome, length};
+ghost use Rattle.std.specs.Prelude.{◌≡◌, suc, ◌≤◌, ◌≤ℤ◌, ◌<◌, pos, ◌↔◌, IsSome, IfSome, Some};
+ghost use Rattle.std.specs.Prelude.{Contains, length, map};
 ghost use Rattle.std.specs.Option.{option_copied};
 ghost use Rattle.libyaml_documents.specs.Documents.{most_nodes};
 ghost use Rattle.libyaml_documents.specs.Nodes.{EveryIdNamesANode, node_at, node_type, type_at, IsIdUpTo};
+ghost use Rattle.libyaml_documents.specs.Nodes.{items_of, pairs_of, pair_at, nodes_named, pairs_named};
 
 mod add;
 mod append;
@@ -11,6 +13,7 @@ mod building;
 mod initialize;
 
 use crate::node::yaml_node_t;
+use crate::walk::{yaml_node_items_t, yaml_node_pairs_t};
 pub use add::{yaml_document_add_mapping, yaml_document_add_scalar, yaml_document_add_sequence};
 pub use append::{yaml_document_append_mapping_pair, yaml_document_append_sequence_item};
 pub use building::{append_child, append_node, begin_document, end_document, set_end_mark};
@@ -53,7 +56,7 @@ impl Model for yaml_document_t {
 }
 
 impl yaml_document_t {
-    /// The nodes in the order of their ids: the node of id 1 comes first.
+    /// Returns the nodes in the order of their ids: the node of id 1 comes first.
     ///
     /// Takes no memory.
     pub fn nodes(&self) -> &[yaml_node_t]
@@ -64,42 +67,76 @@ impl yaml_document_t {
         self.nodes.as_slice()
     }
 
-    /// The version that the document asks for, if it does.
+    /// Returns the root, which is the node of id 1, or `None` where the document has no nodes.
+    pub fn root(&self) -> Option<&yaml_node_t>
+        ensures found { IsSome result ↔ (0 < length self.now.nodes) }
+        ensures node { option_copied result ≡ node_at self.now.nodes (pos 1) }
+    {
+        yaml_document_get_root_node(self)
+    }
+
+    /// Returns an iterator over the nodes of a sequence's items, in their order. Of any other node it yields
+    /// nothing.
+    ///
+    /// It ends before the first id that names no node of this document. A node of this document has no such
+    /// id.
+    pub fn items<'a>(&'a self, node: &'a yaml_node_t) -> yaml_node_items_t<'a>
+        ensures nodes { result ≡ nodes_named self.now.nodes (items_of node.now.content) }
+        ensures each { Contains self.now.nodes node.now → map (λ item. Some item) result
+            ≡ map (λ id. node_at self.now.nodes id) (items_of node.now.content) }
+    {
+        yaml_node_items_t::new(self.nodes(), node.items())
+    }
+
+    /// Returns an iterator over the nodes of a mapping's pairs, each the key's node and the value's, in their
+    /// order. Of any other node it yields nothing.
+    ///
+    /// It ends before the first pair with an id that names no node of this document. A node of this document
+    /// has no such pair.
+    pub fn pairs<'a>(&'a self, node: &'a yaml_node_t) -> yaml_node_pairs_t<'a>
+        ensures nodes { result ≡ pairs_named self.now.nodes (pairs_of node.now.content) }
+        ensures each { Contains self.now.nodes node.now → map (λ pair. Some pair) result
+            ≡ map (λ pair. pair_at self.now.nodes pair) (pairs_of node.now.content) }
+    {
+        yaml_node_pairs_t::new(self.nodes(), node.pairs())
+    }
+
+    /// Returns the version that the document asks for, if it does.
     pub fn version_directive(&self) -> Option<yaml_version_directive_t>
         ensures { result ≡ self.now.version_directive }
     {
         self.version_directive
     }
 
-    /// The tag directives in their order.
+    /// Returns the tag directives in their order.
     pub fn tag_directives(&self) -> &[yaml_tag_directive_t]
         ensures { result.now ≡ self.now.tag_directives }
     {
         self.tag_directives.as_slice()
     }
 
-    /// Whether the document starts without a DOCUMENT-START.
+    /// Returns whether the document starts without a DOCUMENT-START.
     pub fn start_implicit(&self) -> bool
         ensures { result ≡ self.now.start_implicit }
     {
         self.start_implicit
     }
 
-    /// Whether the document ends without a DOCUMENT-END.
+    /// Returns whether the document ends without a DOCUMENT-END.
     pub fn end_implicit(&self) -> bool
         ensures { result ≡ self.now.end_implicit }
     {
         self.end_implicit
     }
 
-    /// Where the document begins.
+    /// Returns where the document begins.
     pub fn start_mark(&self) -> yaml_mark_t
         ensures { result ≡ self.now.start_mark }
     {
         self.start_mark
     }
 
-    /// Where the document ends.
+    /// Returns where the document ends.
     pub fn end_mark(&self) -> yaml_mark_t
         ensures { result ≡ self.now.end_mark }
     {
@@ -132,7 +169,7 @@ impl Eq for yaml_document_t {
     ghost laws = { same_document_equiv };
 }
 
-/// The place of the node of this id: ids count from 1, places from 0.
+/// Returns the place of the node of this id: ids count from 1, places from 0.
 fn place_of(id: i32) -> usize
     requires { pos 1 ≤ℤ id }
     ensures { id ≡ pos (suc result) }
@@ -140,14 +177,14 @@ fn place_of(id: i32) -> usize
     id as usize - 1
 }
 
-/// Gives the document's memory back.
+/// Frees the document.
 ///
 /// libyaml: `yaml_document_delete`.
 pub fn yaml_document_delete(document: yaml_document_t) {
     let _ = document;
 }
 
-/// The node of this id, or `None` where no node has it. Ids count from 1.
+/// Returns the node of this id, or `None` where no node has it. Ids count from 1.
 ///
 /// Takes no memory.
 ///
@@ -158,14 +195,22 @@ pub fn yaml_document_get_node(document: &yaml_document_t, index: i32) -> Option<
     ensures type_is { IfSome result (λ node. node_type node.now.content ≡ type_at document.now.nodes index) }
     ensures ids_in_range { EveryIdNamesANode document.now.nodes }
 {
-    let nodes = document.nodes();
-    if index < 1 {
-        return None;
-    }
-    nodes.get(place_of(index))
+    node_in(document.nodes(), index)
 }
 
-/// The node of id 1, or `None` where the document has no nodes.
+/// Returns the node of this id among these, or `None` where none has it.
+#[inline(always)]
+pub(crate) fn node_in(nodes: &[yaml_node_t], id: i32) -> Option<&yaml_node_t>
+    ensures found { IsSome result ↔ IsIdUpTo (length nodes.now) id }
+    ensures node { option_copied result ≡ node_at nodes.now id }
+{
+    if id < 1 {
+        return None;
+    }
+    nodes.get(place_of(id))
+}
+
+/// Returns the node of id 1, or `None` where the document has no nodes.
 ///
 /// Takes no memory.
 ///

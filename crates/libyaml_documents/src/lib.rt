@@ -8,6 +8,7 @@ pub mod laws;
 mod loaded;
 mod node;
 mod pairs;
+mod walk;
 
 pub use document::{
     yaml_document_add_mapping, yaml_document_add_scalar, yaml_document_add_sequence,
@@ -20,3 +21,4 @@ pub use node::{
     unnamed_yaml_node_t_data_sequence, yaml_alias_data_t, yaml_node_t,
 };
 pub use pairs::yaml_node_pair_t;
+pub use walk::{yaml_node_items_t, yaml_node_pairs_t};

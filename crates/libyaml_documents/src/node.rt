@@ -185,20 +185,20 @@ impl Eq for yaml_node_t {
     ghost laws = { same_node_equiv };
 }
 
-/// What a child is to the node that it was put into.
+/// What a child is to the node that it was appended to.
 #[derive(Copy, Clone)]
 pub enum ChildRole {
     /// An item of a sequence.
     Item,
-    /// A key of a mapping, which waits for its value.
+    /// A key of a mapping, whose value comes next.
     Key,
-    /// The value of the key that waited.
+    /// The value of the key before it.
     Value,
     /// No child of it: a scalar has none.
     Ignored,
 }
 
-/// Whether a list of this many entries may have one more.
+/// Returns an error where a list of this many entries may have no more.
 #[inline(always)]
 fn has_room(entries: usize, most: usize) -> Result<(), AllocError>
     ensures ok { OnOk result (nat_lt most (suc entries) ≡ false) }
@@ -212,10 +212,11 @@ fn has_room(entries: usize, most: usize) -> Result<(), AllocError>
 }
 
 impl yaml_node_t {
-    ghost use Rattle.libyaml_documents.specs.Nodes.{node_type, IsSequence, IsMapping, with_item, with_pair};
+    ghost use Rattle.libyaml_documents.specs.Nodes.{node_type, items_of, pairs_of};
+    ghost use Rattle.libyaml_documents.specs.Nodes.{IsSequence, IsMapping, with_item, with_pair};
     ghost use Rattle.libyaml_documents.specs.Children.{MayRefuseChild, PushedAs};
 
-    /// The type of the node, which is never `YAML_NO_NODE`.
+    /// Returns the type of the node, which is never `YAML_NO_NODE`.
     ///
     /// libyaml: the field `type`.
     pub fn type_(&self) -> yaml_node_type_t
@@ -228,8 +229,32 @@ impl yaml_node_t {
         }
     }
 
-    /// Puts a child after the others of this collection, whose list may have `most` entries: into a sequence
-    /// as an item; into a mapping as the value of the key that waits, or else as a key, which is only told.
+    /// Returns the items of a sequence, which are ids of nodes; no other node has any.
+    ///
+    /// libyaml: the field `items` of a sequence.
+    pub fn items(&self) -> &[yaml_node_item_t]
+        ensures { result.now ≡ items_of self.now.content }
+    {
+        match &self.content {
+            unnamed_yaml_node_t_data::Sequence(sequence) => sequence.items.as_slice(),
+            _ => &[],
+        }
+    }
+
+    /// Returns the pairs of a mapping, which are ids of nodes; no other node has any.
+    ///
+    /// libyaml: the field `pairs` of a mapping.
+    pub fn pairs(&self) -> &[yaml_node_pair_t]
+        ensures { result.now ≡ pairs_of self.now.content }
+    {
+        match &self.content {
+            unnamed_yaml_node_t_data::Mapping(mapping) => mapping.pairs.as_slice(),
+            _ => &[],
+        }
+    }
+
+    /// Appends a child to this collection, whose list may have `most` entries: to a sequence as an item; to a
+    /// mapping as the value of `key`, or else as a key, which changes nothing.
     #[inline(always)]
     pub(crate) fn push_child(
         &mut self,
@@ -261,7 +286,7 @@ impl yaml_node_t {
         }
     }
 
-    /// Puts an item after the others of this sequence.
+    /// Appends an item to this sequence.
     pub(crate) fn push_item(&mut self, item: yaml_node_item_t) -> Result<(), AllocError>
         requires { IsSequence self.old }
         ensures ok { OnOk result (self.new ≡ with_item item self.old) }
@@ -276,7 +301,7 @@ impl yaml_node_t {
         }
     }
 
-    /// Puts a pair after the others of this mapping.
+    /// Appends a pair to this mapping.
     pub(crate) fn push_pair(&mut self, pair: yaml_node_pair_t) -> Result<(), AllocError>
         requires { IsMapping self.old }
         ensures ok { OnOk result (self.new ≡ with_pair pair.key pair.value self.old) }

@@ -3,3 +3,4 @@ pub mod BoundedFronts
 pub mod BoundedLoader
 pub mod Machine
 pub mod Roots
+pub mod Building

@@ -1,4 +1,5 @@
 pub mod OneLoad
 pub mod Room
 pub mod RunLoads
+pub mod StopFaults
 pub mod TextLoads

@@ -1,3 +1,4 @@
 pub mod Loads
 pub mod Bounds
 pub mod GraphLaws
+pub mod Linear

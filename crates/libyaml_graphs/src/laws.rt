@@ -4,13 +4,15 @@
 pub mod machine;
 pub mod rows;
 
-ghost use Rattle.std.specs.Prelude.{◌≡◌, ◌≢◌, ◌++◌, ◌↔◌, ℕ, suc, List, [], ◌∷◌, None, true};
+ghost use Rattle.libyaml_graphs.specs.loads.Linear.{documents_size, size, total_size};
+ghost use Rattle.std.specs.Prelude.{◌≤◌, ◌*◌, length, map};
+ghost use Rattle.std.specs.Prelude.{◌≡◌, ◌≢◌, ◌++◌, ◌↔◌, ◌⊎◌, ℕ, suc, List, [], ◌∷◌, None, true};
 ghost use Rattle.std.specs.Prelude.{false, Ok, Err};
 ghost use Rattle.libyaml_grammar.specs.cuts.CutEvents.{cut_events};
 ghost use Rattle.libyaml_grammar.specs.cuts.CutFaults.{fault};
 ghost use Rattle.libyaml_grammar.specs.cuts.CutTrees.{Cut};
 ghost use Rattle.libyaml_grammar.specs.sentences.Events.{Event, events};
-ghost use Rattle.libyaml_sources.specs.Fault.{Fault};
+ghost use Rattle.libyaml_sources.specs.Fault.{Fault, memory_fault};
 ghost use Rattle.libyaml_grammar.specs.cuts.Fits.{Fits};
 ghost use Rattle.libyaml_grammar.specs.sentences.Nesting.{HasPairs, IsNested, NestsSoFar, Texts};
 ghost use Rattle.libyaml_grammar.specs.sentences.Nesting.{TextsHavePairs, Value, value_events};
@@ -33,6 +35,8 @@ ghost use Rattle.libyaml_graphs.specs.loads.Loads.{IsLoads, Load, last_load, lef
 ghost use Rattle.libyaml_graphs.specs.loads.Loads.{loads, loads_of, next_load};
 ghost use Rattle.libyaml_graphs.specs.graphs.GraphParts.{Part, graph, parts};
 
+use libyaml_types::yaml_error_type_t;
+
 /// The headline of loads: over a list whose only STREAM-END is its last token, the loads are the graphs of
 /// its one tree's documents, up to the first composer error, and then the document without root; or those
 /// of the one cut tree that fits, and then the composer error of the document that is open in it, or the
@@ -40,6 +44,32 @@ ghost use Rattle.libyaml_graphs.specs.graphs.GraphParts.{Part, graph, parts};
 pub fn headline()
     ensures { (l : List Token) (m : Marks) (f : Fault) → has_end l ≡ false
         → LoadsWhole (l ++ tok StreamEnd m ∷ []) f }
+{}
+
+/// The nodes of a document and the entries of all their lists together are at most twice its events, and so
+/// are those of all documents of a run: nothing that an alias names is counted again.
+pub fn linear_size()
+    ensures of_document { (e : List Event) → size (graph [] (parts e)) ≤ 2 * length e }
+    ensures of_loads { (e : List Event) (x : Ending) → total_size (loads e x) ≤ 2 * length e }
+    ensures of_one { (n : ℕ) (e : List Event) (x : Ending) (d : Document) → next_bounded n e x ≡ Ok d
+        → size d.nodes ≤ 2 * length e }
+    ensures within_bound { (n : ℕ) (e : List Event) (x : Ending) → total_size (bounded_loads n e x)
+        ≤ 2 * length e }
+    // so are those of the first documents among them
+    ensures first_of_loads { (e : List Event) (x : Ending) (ds : List Document) (l : List Load)
+        → loads e x ≡ map Ok ds ++ l → documents_size ds ≤ 2 * length e }
+    ensures first_within_bound { (n : ℕ) (e : List Event) (x : Ending) (ds : List Document) (l : List Load)
+        → bounded_loads n e x ≡ map Ok ds ++ l → documents_size ds ≤ 2 * length e }
+{}
+
+/// A fault that a load of events has whatever follows them, or where they end with the stream, is out of
+/// memory, at the bound, or a composer error: none of the parser or the source.
+pub fn faults_of_loads()
+    ensures whatever_follows { (n : ℕ) (e : List Event) (f : Fault)
+        → ((rest : List Event) (x : Ending) → next_bounded n (e ++ rest) x ≡ Err f)
+        → (f ≡ memory_fault) ⊎ (f.error ≡ yaml_error_type_t.YAML_COMPOSER_ERROR) }
+    ensures in_stream { (n : ℕ) (e : List Event) (f : Fault) → next_bounded n e Ends ≡ Err f
+        → (f ≡ memory_fault) ⊎ (f.error ≡ yaml_error_type_t.YAML_COMPOSER_ERROR) }
 {}
 
 /// Each list of tokens has one list of loads for each fault after it.

@@ -1,10 +1,10 @@
 -- what a fault says
-use Rattle.std.specs.Prelude.{ℕ, ℤ, pos, List, Option, None, Result, Ok, Err}
+use Rattle.std.specs.Prelude.{ℕ, ℤ, pos, List, Option, None, Some, Result, Ok, Err}
 use Rattle.std.specs.Option.{option_copied}
 use Rattle.libyaml_types.specs.declared.mark.yaml_mark_t.{yaml_mark_t}
 use Rattle.libyaml_types.specs.declared.token.yaml_token_t.{yaml_token_t}
 use Rattle.libyaml_types.specs.Events.{zero_mark}
-use Rattle.libyaml_types.specs.declared.enums.yaml_error_type_t.TheVariants.{YAML_NO_ERROR, YAML_MEMORY_ERROR}
+use Rattle.libyaml_types.specs.declared.enums.yaml_error_type_t.TheVariants.{YAML_NO_ERROR, YAML_MEMORY_ERROR, YAML_SCANNER_ERROR}
 use Rattle.libyaml_types.specs.declared.enums.yaml_error_type_t.{yaml_error_type_t}
 use Rattle.libyaml_sources.specs.declared.fault.yaml_parser_t_prefix.{yaml_parser_t_prefix}
 use Rattle.libyaml_sources.specs.declared.fault.yaml_source_fault_t.{yaml_source_fault_t}
@@ -33,6 +33,10 @@ no_fault = record {
 -- a failed allocation: its error alone
 abbrev pub memory_fault : Fault
 memory_fault = record no_fault { error = YAML_MEMORY_ERROR }
+
+-- a scanner's fault of a problem at a mark, and nothing else
+abbrev pub scanner_fault : (problem : List ℕ) → (mark : yaml_mark_t) → Fault
+scanner_fault problem mark = record no_fault { error = YAML_SCANNER_ERROR; problem = Some problem; problem_mark = mark }
 
 abbrev pub fault_of : yaml_parser_t_prefix → Fault
 fault_of p = record {

@@ -52,9 +52,9 @@ pub struct yaml_source_fault_t {
 }
 
 impl yaml_source_fault_t {
-    ghost use Rattle.libyaml_sources.specs.Fault.{source_fault, fault_of, memory_fault};
+    ghost use Rattle.libyaml_sources.specs.Fault.{source_fault, fault_of, memory_fault, scanner_fault};
 
-    /// The fault of these fields. Takes no memory.
+    /// Returns the fault of these fields. Takes no memory.
     pub fn new(
         error: yaml_error_type_t,
         problem: Option<&'static str>,
@@ -88,7 +88,22 @@ impl yaml_source_fault_t {
         }
     }
 
-    /// The fault of a failed allocation. Takes no memory.
+    /// Returns a scanner's fault: what went wrong, in words, and where. It has no context, and its offset and
+    /// value are 0. Takes no memory.
+    pub fn scanner_error(problem: &'static str, problem_mark: yaml_mark_t) -> Self
+        ensures { source_fault result ≡ scanner_fault problem.now problem_mark }
+    {
+        yaml_source_fault_t {
+            prefix: yaml_parser_t_prefix {
+                error: yaml_error_type_t::YAML_SCANNER_ERROR,
+                problem: Some(problem),
+                problem_mark,
+                ..NO_FAULT
+            },
+        }
+    }
+
+    /// Returns the fault of a failed allocation. Takes no memory.
     pub fn out_of_memory() -> Self
         ensures { source_fault result ≡ memory_fault }
     {
@@ -97,14 +112,14 @@ impl yaml_source_fault_t {
         }
     }
 
-    /// All fields, as a parser keeps them.
+    /// Returns all fields, as a parser keeps them.
     pub fn prefix(&self) -> yaml_parser_t_prefix
         ensures { fault_of result ≡ source_fault self.now }
     {
         self.prefix
     }
 
-    /// The kind of the fault.
+    /// Returns the kind of the fault.
     pub fn error(&self) -> yaml_error_type_t
         ensures value { result ≡ (source_fault self.now).error }
         ensures of_source { IsSourceError result }
@@ -112,42 +127,42 @@ impl yaml_source_fault_t {
         self.prefix.error
     }
 
-    /// What went wrong, in words.
+    /// Returns what went wrong, in words.
     pub fn problem(&self) -> Option<&'static str>
         ensures { option_copied result ≡ (source_fault self.now).problem }
     {
         self.prefix.problem
     }
 
-    /// How far the source had come, in units of its own.
+    /// Returns how far the source had come, in units of its own.
     pub fn problem_offset(&self) -> u64
         ensures { result ≡ (source_fault self.now).problem_offset }
     {
         self.prefix.problem_offset
     }
 
-    /// The value that did not fit, or -1.
+    /// Returns the value that did not fit, or -1.
     pub fn problem_value(&self) -> i32
         ensures { result ≡ (source_fault self.now).problem_value }
     {
         self.prefix.problem_value
     }
 
-    /// Where it went wrong.
+    /// Returns where it went wrong.
     pub fn problem_mark(&self) -> yaml_mark_t
         ensures { result ≡ (source_fault self.now).problem_mark }
     {
         self.prefix.problem_mark
     }
 
-    /// What was being read, in words.
+    /// Returns what was being read, in words.
     pub fn context(&self) -> Option<&'static str>
         ensures { option_copied result ≡ (source_fault self.now).context }
     {
         self.prefix.context
     }
 
-    /// Where that begins.
+    /// Returns where that begins.
     pub fn context_mark(&self) -> yaml_mark_t
         ensures { result ≡ (source_fault self.now).context_mark }
     {

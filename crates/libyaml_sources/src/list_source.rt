@@ -28,7 +28,7 @@ impl Model for yaml_list_source_t {
 }
 
 impl yaml_list_source_t {
-    /// The source of these tokens, which ends by this fault. Takes no memory.
+    /// Returns the source of these tokens, which ends by this fault. Takes no memory.
     pub fn new(tokens: Vec<yaml_token_t>, fault: yaml_source_fault_t) -> Self
         ensures { result ≡ coming tokens.items (source_fault fault) }
     {
@@ -49,7 +49,7 @@ impl From<Vec<yaml_token_t>> for yaml_list_source_t {
     }
 }
 
-/// The fault of a list that ends before its STREAM-END.
+/// Returns the fault of a list that ends before its STREAM-END.
 fn no_more_tokens() -> yaml_source_fault_t
     ensures { source_fault result ≡ no_more_tokens }
 {

@@ -9,23 +9,31 @@ use libyaml_types::yaml_token_t;
 
 /// A source of tokens, which ends in a fault.
 pub trait yaml_token_source_t {
-    /// How many tokens it may still give.
+    /// How many tokens may still come.
     ghost bound: { Self → ℕ };
 
-    /// From the first, the source may return this result and go on to the second.
+    /// Whether a call may return this result, from the source before it to the source after it.
     ghost gives: { Self → Answer → Self → Type 0 };
 
-    /// The tokens to come and the fault that ends them, where they are known.
+    /// The tokens to come and the fault after them, or `None` where the source does not know these.
     ghost known: { Self → Option Coming };
 
-    /// The faults by which it may have broken off, where it now stands so.
+    /// The faults by which the source may end before the list of `known` does, by the source as it then is.
     ghost may_break: { Self → Fault → Type 0 };
 
-    /// Returns the next token, or the fault that ends the tokens.
+    /// Returns the next token.
+    ///
+    /// # Errors
+    ///
+    /// The fault that ends the tokens; each later call returns it again.
     fn next_token(&mut self) -> Result<yaml_token_t, yaml_source_fault_t>
         ensures { gives self.old (answer_of result) self.new };
 
-    /// The same into a slot: after a fault `token` is any token.
+    /// Puts the next token into the caller's variable; after an error its value is unspecified.
+    ///
+    /// # Errors
+    ///
+    /// Those of `next_token`.
     fn next_token_into(&mut self, token: &mut yaml_token_t) -> Result<(), yaml_source_fault_t>
         ensures { gives self.old (answer_in result token.new) self.new }
     {
@@ -33,17 +41,20 @@ pub trait yaml_token_source_t {
         Ok(())
     }
 
-    /// Whether the next token may be long in coming, so that what is due should be shown first. Nothing
-    /// that is given depends on it.
+    /// Returns whether the next call may block, so callers flush output first. It does not affect the tokens.
     fn may_wait(&self) -> bool {
         false
     }
 
+    /// A proof that each token lowers the bound by exactly one.
     ghost falls: { (s t : Self) (token : yaml_token_t) → gives s (Ok token) t → bound s ≡ bound t + 1 };
 
+    /// A proof that each result agrees with `known`: the next token of that list, or its fault where no
+    /// token is left, or a fault of `may_break`, after which no token is left. With `known` at `None`, `tt`.
     ghost follows: { (s t : Self) (answer : Answer) → gives s answer t
         → Follows (may_break t) (known s) answer (known t) };
 
+    /// A proof that after a fault each call returns that fault.
     ghost repeats: { (s t u : Self) (fault : Fault) (answer : Answer) → gives s (Err fault) t
         → gives t answer u → answer ≡ Err fault };
 }

@@ -1,4 +1,5 @@
--- The type of a token or an event, by its content (docs/DEFINITIONS.md, "Numbers").
+-- What a token or an event is, by its content: its type, and an event's anchor (docs/DEFINITIONS.md, "Numbers" and "Events made by calls").
+use Rattle.std.specs.Prelude.{ℕ, List, Option, Some, None}
 use Rattle.libyaml_types.specs.declared.enums.yaml_token_type_t.{yaml_token_type_t}
 use Rattle.libyaml_types.specs.declared.enums.yaml_token_type_t.TheVariants.{YAML_NO_TOKEN, YAML_STREAM_START_TOKEN, YAML_STREAM_END_TOKEN}
 use Rattle.libyaml_types.specs.declared.enums.yaml_token_type_t.TheVariants.{YAML_VERSION_DIRECTIVE_TOKEN, YAML_TAG_DIRECTIVE_TOKEN}
@@ -55,3 +56,17 @@ event_type (ev.SequenceStart x) = YAML_SEQUENCE_START_EVENT
 event_type ev.SequenceEnd = YAML_SEQUENCE_END_EVENT
 event_type (ev.MappingStart x) = YAML_MAPPING_START_EVENT
 event_type ev.MappingEnd = YAML_MAPPING_END_EVENT
+
+-- the anchor of a node's event, and the anchor that an alias names
+abbrev pub event_anchor : unnamed_yaml_event_t_data → Option (List ℕ)
+event_anchor ev.NoEvent = None
+event_anchor (ev.StreamStart x) = None
+event_anchor ev.StreamEnd = None
+event_anchor (ev.DocumentStart x) = None
+event_anchor (ev.DocumentEnd x) = None
+event_anchor (ev.Alias x) = Some x.anchor
+event_anchor (ev.Scalar x) = x.anchor
+event_anchor (ev.SequenceStart x) = x.anchor
+event_anchor ev.SequenceEnd = None
+event_anchor (ev.MappingStart x) = x.anchor
+event_anchor ev.MappingEnd = None

@@ -5,6 +5,7 @@ ghost use Rattle.libyaml_types.specs.Numbers.{scalar_style_number, sequence_styl
 ghost use Rattle.libyaml_types.specs.Numbers.{mapping_style_number, token_type_number};
 ghost use Rattle.libyaml_types.specs.Numbers.{event_type_number, node_type_number};
 ghost use Rattle.libyaml_types.specs.Numbers.{parser_state_number};
+ghost use Rattle.libyaml_types.specs.Words.{event_type_name, node_type_name};
 
 /// The encoding of a stream.
 ///
@@ -254,6 +255,25 @@ impl yaml_event_type_t {
     {
         self as u32
     }
+
+    /// Returns the name of this type of event, as `sequence start`.
+    pub fn name(self) -> &'static str
+        ensures { result.now ≡ event_type_name self }
+    {
+        match self {
+            yaml_event_type_t::YAML_NO_EVENT => "no event",
+            yaml_event_type_t::YAML_STREAM_START_EVENT => "stream start",
+            yaml_event_type_t::YAML_STREAM_END_EVENT => "stream end",
+            yaml_event_type_t::YAML_DOCUMENT_START_EVENT => "document start",
+            yaml_event_type_t::YAML_DOCUMENT_END_EVENT => "document end",
+            yaml_event_type_t::YAML_ALIAS_EVENT => "alias",
+            yaml_event_type_t::YAML_SCALAR_EVENT => "scalar",
+            yaml_event_type_t::YAML_SEQUENCE_START_EVENT => "sequence start",
+            yaml_event_type_t::YAML_SEQUENCE_END_EVENT => "sequence end",
+            yaml_event_type_t::YAML_MAPPING_START_EVENT => "mapping start",
+            yaml_event_type_t::YAML_MAPPING_END_EVENT => "mapping end",
+        }
+    }
 }
 
 /// The type of a node.
@@ -277,6 +297,18 @@ impl yaml_node_type_t {
         ensures { result ≡ node_type_number self }
     {
         self as u32
+    }
+
+    /// Returns the name of this type of node, as `sequence`.
+    pub fn name(self) -> &'static str
+        ensures { result.now ≡ node_type_name self }
+    {
+        match self {
+            yaml_node_type_t::YAML_NO_NODE => "no node",
+            yaml_node_type_t::YAML_SCALAR_NODE => "scalar",
+            yaml_node_type_t::YAML_SEQUENCE_NODE => "sequence",
+            yaml_node_type_t::YAML_MAPPING_NODE => "mapping",
+        }
     }
 }
 

@@ -1,6 +1,7 @@
 //! Events, as a parser gives them.
 
 ghost use Rattle.std.specs.Prelude.{◌≡◌};
+ghost use Rattle.std.specs.Option.{option_copied};
 
 use crate::directive::{yaml_tag_directive_t, yaml_version_directive_t};
 use crate::enums::{
@@ -318,7 +319,7 @@ pub struct yaml_event_t {
 }
 
 impl yaml_event_t {
-    ghost use Rattle.libyaml_types.specs.Types.{event_type};
+    ghost use Rattle.libyaml_types.specs.Types.{event_type, event_anchor};
 
     /// Returns the type of the event.
     ///
@@ -341,6 +342,22 @@ impl yaml_event_t {
             unnamed_yaml_event_t_data::MappingStart(_) =>
                 yaml_event_type_t::YAML_MAPPING_START_EVENT,
             unnamed_yaml_event_t_data::MappingEnd => yaml_event_type_t::YAML_MAPPING_END_EVENT,
+        }
+    }
+
+    /// Returns the anchor of a scalar, of the start of a sequence or of a mapping, where it has one, and the
+    /// anchor that an alias names. For each other event: `None`.
+    ///
+    /// libyaml: the field `anchor` of these four.
+    pub fn anchor(&self) -> Option<&str>
+        ensures { option_copied result ≡ event_anchor self.now.content }
+    {
+        match &self.content {
+            unnamed_yaml_event_t_data::Alias(alias) => Some(alias.anchor.as_str()),
+            unnamed_yaml_event_t_data::Scalar(scalar) => scalar.anchor.as_deref(),
+            unnamed_yaml_event_t_data::SequenceStart(start) => start.anchor.as_deref(),
+            unnamed_yaml_event_t_data::MappingStart(start) => start.anchor.as_deref(),
+            _ => None,
         }
     }
 }

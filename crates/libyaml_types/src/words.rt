@@ -1,8 +1,8 @@
-//! What a kind of error says.
+//! What a kind of error, and the type of an event or a node, says.
 ghost use Rattle.std.specs.Prelude.{◌≡◌, Some};
-ghost use Rattle.libyaml_types.specs.Words.{error_words};
+ghost use Rattle.libyaml_types.specs.Words.{error_words, event_type_name, node_type_name};
 
-use crate::enums::yaml_error_type_t;
+use crate::enums::{yaml_error_type_t, yaml_event_type_t, yaml_node_type_t};
 use std::error::Error;
 use std::fmt;
 
@@ -34,3 +34,21 @@ impl fmt::Display for yaml_error_type_t {
 }
 
 impl Error for yaml_error_type_t {}
+
+/// Its name, as `name` returns it.
+impl fmt::Display for yaml_event_type_t {
+    ghost output = { λ e. Some (event_type_name e) };
+
+    fn fmt<W: fmt::Write>(&self, f: &mut fmt::Formatter<W>) -> fmt::Result {
+        f.write_str(self.name())
+    }
+}
+
+/// Its name, as `name` returns it.
+impl fmt::Display for yaml_node_type_t {
+    ghost output = { λ t. Some (node_type_name t) };
+
+    fn fmt<W: fmt::Write>(&self, f: &mut fmt::Formatter<W>) -> fmt::Result {
+        f.write_str(self.name())
+    }
+}

@@ -22,7 +22,7 @@ use std::alloc::Global;
 
 const MOST_NODES: usize = 2147483647;
 
-/// Whether an id is left for one more node.
+/// Returns an error where no id is left for one more node.
 pub(super) fn has_room(document: &yaml_document_t) -> Result<(), yaml_refusal_t>
     ensures ok { OnOk result (length document.now.nodes < most_nodes) }
     ensures err { OnErr result ((result ≡ Err yaml_refusal_t.TooManyNodes)
@@ -35,7 +35,7 @@ pub(super) fn has_room(document: &yaml_document_t) -> Result<(), yaml_refusal_t>
     }
 }
 
-/// The text of a given tag, or the tag of its kind where none is given. Takes no memory.
+/// Returns the text of a given tag, or the tag of its kind where none is given. Takes no memory.
 fn checked_tag<'a>(tag: Option<&'a [u8]>, default: &'a str) -> Result<&'a str, yaml_refusal_t>
     ensures ok { IfOk result (λ text. text.now ≡ tag_or default.now (option_copied tag.entry)) }
     ensures utf8 { OnOk result (IfSome (option_copied tag.entry) IsUtf8) }
@@ -48,7 +48,7 @@ fn checked_tag<'a>(tag: Option<&'a [u8]>, default: &'a str) -> Result<&'a str, y
     }
 }
 
-/// A node of this content, with a copy of the tag and zero marks.
+/// Returns a node of this content, with a copy of the tag and zero marks.
 fn new_node(
     alloc: Global,
     tag: &str,
@@ -65,7 +65,7 @@ fn new_node(
     })
 }
 
-/// Puts a node without children after the others, and returns its id.
+/// Appends a node without children, and returns its id.
 #[inline(always)]
 pub(super) fn push_node(
     document: &mut yaml_document_t,
@@ -87,12 +87,12 @@ pub(super) fn push_node(
     }
 }
 
-/// Adds a scalar, and returns its id: the count of nodes with it. Its marks are zero, and without
-/// a tag its tag is `tag:yaml.org,2002:str`.
+/// Appends a scalar, and returns its id, which is the new number of nodes. Its marks are zero, and without a
+/// tag its tag is `tag:yaml.org,2002:str`.
 ///
 /// # Errors
 ///
-/// `TooManyNodes` where 2147483647 nodes stand, else `NotUtf8` where the tag or the value
+/// `TooManyNodes` where the document has 2147483647 nodes, else `NotUtf8` where the tag or the value
 /// isn't UTF-8, else `Memory` where an allocation fails; the document is then as it was.
 ///
 /// libyaml: `yaml_document_add_scalar`.
@@ -132,12 +132,12 @@ pub fn yaml_document_add_scalar(
     push_node(document, node)
 }
 
-/// Adds a sequence without items, and returns its id: the count of nodes with it. Its marks are
+/// Appends a sequence without items, and returns its id, which is the new number of nodes. Its marks are
 /// zero, and without a tag its tag is `tag:yaml.org,2002:seq`.
 ///
 /// # Errors
 ///
-/// `TooManyNodes` where 2147483647 nodes stand, else `NotUtf8` where the tag isn't UTF-8,
+/// `TooManyNodes` where the document has 2147483647 nodes, else `NotUtf8` where the tag isn't UTF-8,
 /// else `Memory` where an allocation fails; the document is then as it was.
 ///
 /// libyaml: `yaml_document_add_sequence`.
@@ -175,12 +175,12 @@ pub fn yaml_document_add_sequence(
     push_node(document, node)
 }
 
-/// Adds a mapping without pairs, and returns its id: the count of nodes with it. Its marks are
-/// zero, and without a tag its tag is `tag:yaml.org,2002:map`.
+/// Appends a mapping without pairs, and returns its id, which is the new number of nodes. Its marks are zero,
+/// and without a tag its tag is `tag:yaml.org,2002:map`.
 ///
 /// # Errors
 ///
-/// `TooManyNodes` where 2147483647 nodes stand, else `NotUtf8` where the tag isn't UTF-8,
+/// `TooManyNodes` where the document has 2147483647 nodes, else `NotUtf8` where the tag isn't UTF-8,
 /// else `Memory` where an allocation fails; the document is then as it was.
 ///
 /// libyaml: `yaml_document_add_mapping`.

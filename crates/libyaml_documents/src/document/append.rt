@@ -9,9 +9,9 @@ use crate::items::yaml_node_item_t;
 use crate::pairs::yaml_node_pair_t;
 use libyaml_types::{yaml_node_type_t, yaml_refusal_t};
 
-/// Puts an item after the others of a sequence.
+/// Appends an item to a sequence.
 ///
-/// Both ids are of this document, and `sequence` is that of a sequence: `yaml_document_get_node`
+/// Both ids must name nodes of this document. `sequence` must be the id of a sequence: the node's `type_()`
 /// tells.
 ///
 /// # Errors
@@ -39,9 +39,9 @@ pub fn yaml_document_append_sequence_item(
     Ok(())
 }
 
-/// Puts a pair after the others of a mapping.
+/// Appends a pair to a mapping.
 ///
-/// All ids are of this document, and `mapping` is that of a mapping: `yaml_document_get_node`
+/// All ids must name nodes of this document. `mapping` must be the id of a mapping: the node's `type_()`
 /// tells.
 ///
 /// # Errors

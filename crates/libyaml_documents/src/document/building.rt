@@ -16,9 +16,9 @@ use libyaml_types::{
 };
 use std::alloc::Global;
 
-/// The document that this start event begins at this place, without nodes. Its directives are
-/// moved, and no memory is taken. Its end is not known yet: until `end_document` it is explicit, at
-/// the zero mark.
+/// Returns a document without nodes, which this start event begins at this mark. Its directives are moved
+/// out of the event, and nothing is allocated. Its end is not known yet: until `end_document` it is explicit,
+/// at the zero mark.
 pub fn begin_document(
     alloc: Global,
     start: unnamed_yaml_event_t_data_document_start,
@@ -37,7 +37,7 @@ pub fn begin_document(
     }
 }
 
-/// Says how and where the document ends, and changes nothing else. Takes no memory.
+/// Sets how and where the document ends, and changes nothing else. Takes no memory.
 pub fn end_document(document: &mut yaml_document_t, implicit: bool, end_mark: yaml_mark_t)
     ensures { document.new ≡ ended_document document.old implicit end_mark }
 {
@@ -45,11 +45,12 @@ pub fn end_document(document: &mut yaml_document_t, implicit: bool, end_mark: ya
     document.end_mark = end_mark;
 }
 
-/// Puts a node without children after the others, and returns its id: the count of nodes with it.
-/// The node is moved.
+/// Appends a node without children, and returns its id, which is the new number of nodes. The node is moved.
 ///
-/// Returns `TooManyNodes` where 2147483647 nodes stand, else `Memory` where the allocation fails;
-/// the document is then as it was.
+/// # Errors
+///
+/// `TooManyNodes` where the document has 2147483647 nodes, else `Memory` where the allocation fails; the
+/// document is then as it was.
 #[inline(always)]
 pub fn append_node(document: &mut yaml_document_t, node: yaml_node_t) -> Result<i32, yaml_refusal_t>
     requires childless { ids_of node.content ≡ [] }
@@ -71,7 +72,7 @@ pub fn append_node(document: &mut yaml_document_t, node: yaml_node_t) -> Result<
     push_node(document, node)
 }
 
-/// Says where the node of this id ends, and changes nothing else. Takes no memory.
+/// Sets where the node of this id ends, and changes nothing else. Takes no memory.
 pub fn set_end_mark(document: &mut yaml_document_t, id: i32, end_mark: yaml_mark_t)
     requires { IsIdUpTo (length document.old.nodes) id }
     ensures changed { document.new ≡ with_changed_node document.old id (with_end end_mark) }
@@ -83,9 +84,9 @@ pub fn set_end_mark(document: &mut yaml_document_t, id: i32, end_mark: yaml_mark
     document.nodes[place_of(id)].end_mark = end_mark;
 }
 
-/// Puts a child after the others of the node of this id, whose list may have `most` entries, in one look at
-/// that node, and returns what the child is to it: an item of a sequence; the value of `key` in a mapping,
-/// or, where no key waits, a key of it, which changes nothing; a scalar has no children.
+/// Appends a child to the node of this id, whose list may have `most` entries, in one look at that node, and
+/// returns what the child is to it: an item of a sequence; the value of `key` in a mapping, or, where no key
+/// waits, a key of it, which changes nothing; a scalar has no children.
 ///
 /// # Errors
 ///

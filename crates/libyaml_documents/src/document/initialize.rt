@@ -9,12 +9,15 @@ use libyaml_types::directive::directives_of_pairs;
 use libyaml_types::{ZERO_MARK, yaml_refusal_t, yaml_version_directive_t};
 use std::alloc::Global;
 
-/// A document without nodes, with this version and these tag directives, each a handle and its
+/// Returns a document without nodes, with this version and these tag directives, each a handle and its
 /// prefix, and with zero marks. It keeps `alloc` for its nodes.
 ///
-/// Refuses a handle or prefix that isn't UTF-8 as `NotUtf8`, before it allocates, and returns
-/// `Memory` where an allocation fails. Nothing else is looked at: a handle may be any text, and stand
-/// there twice.
+/// A handle may be any text, and may be there twice.
+///
+/// # Errors
+///
+/// `NotUtf8`, where a handle or prefix isn't UTF-8, before anything is allocated; `Memory`, where an
+/// allocation fails. Nothing else is checked.
 ///
 /// libyaml: `yaml_document_initialize`.
 pub fn yaml_document_initialize(

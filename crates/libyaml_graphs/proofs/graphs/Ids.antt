@@ -161,15 +161,15 @@ every_id v e = value_ids v (length (nodes_of v [] [])) [] [] [] e (subst (λ (n 
     (All-nil (Ids (length (nodes_of v [] []))))
 
 -- each node holds the ids of all its children
-abbrev even_list : List ℕ → Bool
+abbrev pub even_list : List ℕ → Bool
 even_list [] = true
 even_list (i ∷ is) = negated (even_list is)
 
-ids_even : (vs : Values) (es : List Start) → even_list (ids_of_all vs es) ≡ is_even vs
+pub ids_even : (vs : Values) (es : List Start) → even_list (ids_of_all vs es) ≡ is_even vs
 ids_even no_values es = refl
 ids_even (first_value v vs) es = ap negated (ids_even vs (starts_behind v es))
 
-twice : (b : Bool) → negated (negated b) ≡ true → b ≡ true
+pub twice : (b : Bool) → negated (negated b) ≡ true → b ≡ true
 twice true e = refl
 twice false e = e
 

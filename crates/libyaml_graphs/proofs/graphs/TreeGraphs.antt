@@ -24,7 +24,7 @@ mutual
   value_children (collection_value mapping a t i s m n vs p q) d es r
       = ap (if_outer d (suc (length es) ∷ [])) (values_children vs (suc d) (record { anchor = a; mark = m } ∷ es) (end_at mapping p q ∷ r))
 
-  values_children : (vs : Values) (d : ℕ) (es : List Start) (r : List Event)
+  pub values_children : (vs : Values) (d : ℕ) (es : List Start) (r : List Event)
       → children d es (parts (values_events vs r)) ≡ if_outer d (ids_of_all vs es) (children d (starts_behind_all vs es) (parts r))
   values_children no_values zero es r = refl
   values_children no_values (suc d) es r = refl

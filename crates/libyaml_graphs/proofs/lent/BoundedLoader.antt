@@ -29,17 +29,17 @@ pub record Within (n : ℕ) (es : List Start) (F : List Part) (b : Built) : Type
 pub within_unbuilt : (n : ℕ) → Within n [] [] unbuilt
 within_unbuilt n = record { stands = stands_unbuilt; few = none_below n; short = refl; reached = λ P. refl; all_begin = tt }
 
-all_begin_more : (F : List Part) (p : Part) → AllBegin F → BeginsEmpty p → AllBegin (F ++ p ∷ [])
+pub all_begin_more : (F : List Part) (p : Part) → AllBegin F → BeginsEmpty p → AllBegin (F ++ p ∷ [])
 all_begin_more [] p h e = (e, tt)
 all_begin_more (q ∷ F) p h e = (h.0, all_begin_more F p h.1 e)
 
-reaches : (p : Part) (es : List Start) (F : List Part) (b : Built) → BeginsEmpty p → Stands es b
+pub reaches : (p : Part) (es : List Start) (F : List Part) (b : Built) → BeginsEmpty p → Stands es b
     → ((P : List Part) → finished [] (F ++ P) unbuilt ≡ finished es P b) → (P : List Part)
     → finished [] ((F ++ p ∷ []) ++ P) unbuilt ≡ finished (behind p es) P (build es p b)
 reaches p es F b e s r P = ap (λ (Q : List Part). finished [] Q unbuilt) (append_assoc F (p ∷ []) P) ∙ (r (p ∷ P) ∙ sym (build_finished p es P b e s.there))
 
 -- what is built is the graph of the parts so far
-held_so_far : (es : List Start) (F : List Part) (b : Built) → ((P : List Part) → finished [] (F ++ P) unbuilt ≡ finished es P b) → b.held ≡ held_graph [] F
+pub held_so_far : (es : List Start) (F : List Part) (b : Built) → ((P : List Part) → finished [] (F ++ P) unbuilt ≡ finished es P b) → b.held ≡ held_graph [] F
 held_so_far es F b r = sym (finished_none es b) ∙ (sym (r []) ∙ ap (held_graph []) (append-nil F))
 
 nodes_so_far : (n : ℕ) (es : List Start) (F : List Part) (b : Built) → Within n es F b → nodes_in b.held ≡ graph [] F

@@ -20,11 +20,11 @@ use Rattle.libyaml_graphs.proofs.graphs.TreeGraphs.{value_graph}
 use Rattle.libyaml_graphs.proofs.lent.Roots.{value_keeps}
 
 -- a value ends no document
-value_closing : (v : Value) (r : List Event) → document_end (value_events v r) ≡ document_end r
+pub value_closing : (v : Value) (r : List Event) → document_end (value_events v r) ≡ document_end r
 value_closing v r = value_keeps (λ (l : List Event). document_end l ≡ document_end r)
     (λ e s i k. ap (λ (c : Option Closing). elim c [ Some y ↦ Some y | None ↦ document_end s ]) i.1 ∙ k) v r refl
 
-value_behind : (v : Value) (r : List Event) → begun_behind (value_events v r) ≡ begun_behind r
+pub value_behind : (v : Value) (r : List Event) → begun_behind (value_events v r) ≡ begun_behind r
 value_behind v r = value_keeps (λ (l : List Event). begun_behind l ≡ begun_behind r)
     (λ e s i k. ap (λ (c : Option Closing). elim c [ Some y ↦ begun s | None ↦ begun_behind s ]) i.1 ∙ k) v r refl
 
@@ -80,7 +80,7 @@ none_closes (e ∷ f) r h = go (closing_of e) h (none_closes f r)
     go (Some y) h k = cc
     go None h k = k h
 
-front_closes : (f : List Event) → BeginsValue f → document_end f ≡ None
+pub front_closes : (f : List Event) → BeginsValue f → document_end f ≡ None
 front_closes f b = none_closes f b.rest (ap document_end (sym b.all) ∙ value_closing b.val [])
 
 -- a document whose end is missing gives its composer error, if it has one, and else the run's ending

@@ -1,5 +1,0 @@
-use Rattle.std.proofs.Common.{rules}
-use Rattle.libyaml_documents.proofs.document.yaml_document_t.start_implicit.Goals as goal
-
-pub returns : goal.returns
-returns c = search rules
