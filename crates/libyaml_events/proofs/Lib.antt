@@ -2,3 +2,4 @@ pub mod machine
 pub mod calls
 pub mod code
 pub mod lent
+pub mod pushes

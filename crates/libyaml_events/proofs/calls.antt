@@ -18,3 +18,6 @@ pub mod LeadsOut
 pub mod Leaving
 pub mod LetGo
 pub mod NeededInTurn
+pub mod Remembering
+pub mod StackSizes
+pub mod Items

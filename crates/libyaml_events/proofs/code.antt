@@ -1,3 +1,4 @@
 pub mod HandleLemmas
 pub mod SourceErrors
 pub mod PropertyLemmas
+pub mod KeptLemmas

@@ -2,3 +2,6 @@
 pub mod CallsInTurn
 pub mod NextEvents
 pub mod Staged
+pub mod ListRuns
+pub mod OneOutcome
+pub mod RunStops

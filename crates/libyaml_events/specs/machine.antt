@@ -7,4 +7,6 @@ pub mod Machine
 pub mod Collections
 pub mod Growth
 pub mod Steps
+pub mod StepsOnto
 pub mod Answers
+pub mod Entering

@@ -5,3 +5,8 @@ pub mod CallsInTurn
 pub mod Parsing
 pub mod ParsesNext
 pub mod Needs
+pub mod Iterates
+pub mod Pushed
+pub mod Pushes
+pub mod Determined
+pub mod Iterated

@@ -3,6 +3,8 @@
 
 mod entries;
 mod event_kinds;
+mod iterate;
+mod kept;
 pub mod laws;
 mod next;
 mod node_head;
@@ -10,6 +12,7 @@ mod node_place;
 mod parse;
 mod parser;
 mod pending;
+mod push;
 mod slot;
 mod states;
 
@@ -19,6 +22,7 @@ pub use parser::{
     yaml_parser_between_documents, yaml_parser_delete, yaml_parser_initialize,
     yaml_parser_set_max_entries, yaml_parser_t,
 };
+pub use push::yaml_push_parser_t;
 // Where tokens come from, and what a fault says.
 pub use libyaml_sources::{
     MEMORY_FAULT, NO_FAULT, yaml_list_source_t, yaml_parser_t_prefix, yaml_source_fault_t,

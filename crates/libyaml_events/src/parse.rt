@@ -4,7 +4,7 @@ ghost use Rattle.libyaml_types.specs.Events.{empty_event};
 ghost use Rattle.libyaml_events.specs.machine.Config.{ended_or_failed};
 ghost use Rattle.libyaml_events.specs.parsers.Left.{Left};
 ghost use Rattle.libyaml_events.specs.sources.Calls.{Call, answered};
-ghost use Rattle.libyaml_events.specs.sources.History.{has_failed};
+ghost use Rattle.libyaml_events.specs.sources.History.{Remembers, has_failed};
 ghost use Rattle.libyaml_events.specs.sources.ParsesNext.{ParsesNext};
 
 use crate::event_kinds::no_event;
@@ -33,6 +33,13 @@ impl<S: yaml_token_source_t> Machine<S> {
         ensures left { IfErr result (λ e. Left self.old.config e self.new.config) }
     {
         pending.next = Next::AtState;
+        match self.enter(pending) {
+            Ok(_) => {}
+            Err(error) => {
+                self.let_go();
+                return Err(error);
+            }
+        }
         loop {
             self.next_token(token)?;
             match self.step(token, pending, event) {
@@ -58,6 +65,7 @@ impl<S: yaml_token_source_t> yaml_parser_t<S> {
         ensures bound { self.new.max_entries ≡ self.old.max_entries }
         ensures call { Call S.gives self.old (answered result event.new) self.new }
         ensures left { IfErr (answered result event.new) (λ e. Left self.old.config e self.new.config) }
+        ensures remembers { Remembers self.old }
     {
         if self.machine.is_over() {
             clear(event);
@@ -74,6 +82,7 @@ impl<S: yaml_token_source_t> yaml_parser_t<S> {
         ensures bound { self.new.max_entries ≡ self.old.max_entries }
         ensures call { Call S.gives self.old result self.new }
         ensures left { IfErr result (λ e. Left self.old.config e self.new.config) }
+        ensures remembers { Remembers self.old }
     {
         let mut event = no_event();
         self.next_event_into(&mut event)?;

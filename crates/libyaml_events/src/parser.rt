@@ -5,19 +5,22 @@ ghost use Rattle.libyaml_events.specs.machine.Config.{with_config, with_fault, m
 ghost use Rattle.libyaml_sources.specs.Source.{Coming, coming};
 ghost use Rattle.libyaml_grammar.specs.runs.Runs.{Ending, IsRun};
 ghost use Rattle.libyaml_events.specs.parsers.Stages.{is_outside, stage_of};
-ghost use Rattle.libyaml_events.specs.sources.History.{History, ForHistory, new_parser};
+ghost use Rattle.libyaml_events.specs.sources.History.{History, ForHistory, Remembers, new_parser};
 ghost use Rattle.libyaml_events.specs.sources.History.{is_over, has_failed, kept_fault, keeping};
 ghost use Rattle.libyaml_events.specs.sources.History.{between_documents};
 ghost use Rattle.libyaml_events.specs.sources.RunToCome.{RunToCome, ForRun};
+ghost use Rattle.libyaml_events.specs.sources.Pushes.{done_by};
 ghost use Rattle.libyaml_types.specs.declared.token.yaml_token_t.{yaml_token_t};
 ghost use Rattle.libyaml_types.specs.declared.event.yaml_event_t.{yaml_event_t};
 
+mod entering;
 mod faults;
 mod handles;
 mod stacks;
 mod tokens;
 
 use crate::entries::MaxEntries;
+use crate::kept::Kept;
 use crate::parser::tokens::no_token;
 use crate::pending::Pending;
 use libyaml_sources::{NO_FAULT, yaml_parser_t_prefix, yaml_token_source_t};
@@ -42,20 +45,23 @@ pub struct yaml_parser_t<S> {
 impl<S> Model for yaml_parser_t<S> {
     ghost use Rattle.std.specs.Coded.{codes};
     ghost use Rattle.libyaml_events.specs.machine.Config.{Parser, handles_code};
+    ghost use Rattle.libyaml_events.specs.sources.History.{Remembers};
 
     ghost Value = { Parser S };
 
     ghost coded = { Prim.hlevel (codes, handles_code) };
 
     ghost view = { λ p. p.machine };
+
+    ghost invariant = { λ p. Remembers p.machine };
 }
 
 /// What a parser keeps from one call to the next.
 #[derive(Drop)]
 pub struct Machine<S> {
     source: S,
-    /// Whether `held` is a token that stays, to be looked at again. Else its value has no meaning.
-    is_held: bool,
+    /// Which token stays in `held`, to be looked at again. Where none does, its value has no meaning.
+    kept: Kept,
     held: yaml_token_t,
     state: yaml_parser_state_t,
     states: Vec<u8>,
@@ -81,7 +87,7 @@ impl<S> Model for Machine<S> {
     ghost view = { λ p. record {
       source = p.source;
       config = record {
-        lookahead = kept_token p.is_held p.held;
+        lookahead = kept_token p.kept p.held;
         state = p.state;
         states = stack_of p.states.items;
         marks = reverse p.marks.items;
@@ -112,19 +118,7 @@ pub fn yaml_parser_initialize<S>(alloc: Global, source: S) -> yaml_parser_t<S>
         → IsRun tokens f events ending → RunToCome known result events ending }
 {
     yaml_parser_t {
-        machine: Machine {
-            source,
-            is_held: false,
-            held: no_token(),
-            state: yaml_parser_state_t::YAML_PARSE_STREAM_START_STATE,
-            states: Vec::new(alloc),
-            marks: Vec::new(alloc),
-            handles: BTreeMap::new(alloc),
-            behind_document_end: false,
-            prefix: NO_FAULT,
-            max_entries: MaxEntries::all(),
-            alloc,
-        },
+        machine: Machine::new(alloc, source),
         pending: Pending::new(alloc),
         token: no_token(),
     }
@@ -211,6 +205,20 @@ impl<S> yaml_parser_t<S> {
         self.machine.source.may_wait()
     }
 
+    /// Does nothing. A parser that keeps no fault has a history: some calls lead to a parser like it.
+    pub fn remembered(&self)
+        ensures { Remembers self.now }
+    {
+        let _ = &self.machine;
+    }
+
+    /// Returns whether no more events come.
+    pub fn is_over(&self) -> bool
+        ensures { result ≡ is_over self.now }
+    {
+        self.machine.is_over()
+    }
+
     /// Returns the allocator of the parser's memory.
     pub fn allocator(&self) -> Global {
         self.machine.alloc
@@ -218,8 +226,28 @@ impl<S> yaml_parser_t<S> {
 }
 
 impl<S> Machine<S> {
+    /// Returns a machine at the start of a stream, without an allocation.
+    #[inline(always)]
+    pub(crate) fn new(alloc: Global, source: S) -> Self
+        ensures { result ≡ new_parser source }
+    {
+        Machine {
+            source,
+            kept: Kept::Nothing,
+            held: no_token(),
+            state: yaml_parser_state_t::YAML_PARSE_STREAM_START_STATE,
+            states: Vec::new(alloc),
+            marks: Vec::new(alloc),
+            handles: BTreeMap::new(alloc),
+            behind_document_end: false,
+            prefix: NO_FAULT,
+            max_entries: MaxEntries::all(),
+            alloc,
+        }
+    }
+
     /// Returns the fault that is kept, or `NO_FAULT`.
-    fn kept_prefix(&self) -> &yaml_parser_t_prefix
+    pub(crate) fn kept_prefix(&self) -> &yaml_parser_t_prefix
         ensures { fault_of result.now ≡ self.now.config.fault }
     {
         &self.prefix
@@ -235,6 +263,16 @@ impl<S> Machine<S> {
     /// Returns the allocator of the parser's memory.
     pub(crate) fn allocator(&self) -> Global {
         self.alloc
+    }
+
+    /// Returns the error of the fault that is kept, if one is.
+    pub(crate) fn kept_error(&self) -> Result<(), yaml_error_type_t>
+        ensures { result ≡ done_by self.now.config.fault }
+    {
+        if self.has_failed() {
+            return Err(self.prefix.error);
+        }
+        Ok(())
     }
 
     /// Returns whether a fault is kept.

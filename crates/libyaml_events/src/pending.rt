@@ -47,7 +47,9 @@ pub struct Pending {
 impl Pending {
     /// Nothing read.
     #[inline(always)]
-    pub fn new(alloc: Global) -> Self {
+    pub fn new(alloc: Global) -> Self
+        ensures { result.next ≡ Next.AtState }
+    {
         Pending {
             next: Next::AtState,
             mark: ZERO_MARK,

@@ -48,11 +48,9 @@ fn give(
 )
     ensures { out.new ≡ event content start_mark end_mark }
 {
-    *out = yaml_event_t {
-        content,
-        start_mark,
-        end_mark,
-    };
+    out.start_mark = start_mark;
+    out.end_mark = end_mark;
+    out.content = content;
 }
 
 impl<S> Machine<S> {

@@ -8,7 +8,8 @@ use Rattle.libyaml_types.specs.declared.enums.yaml_error_type_t.TheVariants.{YAM
 use Rattle.libyaml_sources.specs.Errors.{IsSourceError}
 use Rattle.libyaml_sources.specs.Fault.{Answer}
 use Rattle.libyaml_types.specs.declared.enums.yaml_parser_state_t.TheVariants.{YAML_PARSE_END_STATE}
-use Rattle.libyaml_events.specs.machine.Config.{Config, Parser, taken, ended_or_failed, is_fault, is_end_state}
+use Rattle.libyaml_events.specs.machine.Entering.{MayEnter}
+use Rattle.libyaml_events.specs.machine.Config.{Config, Parser, with_config, taken, ended_or_failed, is_fault, is_end_state}
 use Rattle.libyaml_events.proofs.calls.NotOver.{NotOver, not_over}
 use Rattle.libyaml_events.specs.machine.Growth.{may_grow}
 use Rattle.libyaml_events.specs.machine.Machine.{step}
@@ -191,3 +192,29 @@ module _ {S : Type 0} (gives : S → Answer → S → Type 0) (bound : S → ℕ
   pub takes_one : Fetches gives old (Ok t) mid → (new.source ≡ mid.source) × (new.config.lookahead ≡ mid.config.lookahead)
       → bound new.source + length (held new.config) < bound old.source + length (held old.config)
   takes_one h k = smaller_at old.config.lookahead refl h k.0 k.1
+
+-- a call that begins where the opening token of a collection stayed
+module _ {S : Type 0} (gives : S → Answer → S → Type 0) (p : Parser S) (begun : ended_or_failed p.config ≡ false) where
+  first_reading : Reading gives p p AtState
+  first_reading = record {
+    begun = begun;
+    alive = begun_alive p.config begun;
+    bound = refl;
+    asked = [];
+    gave = refl;
+    of_source = tt;
+    goes_on = λ rest r new k. k;
+    refuses_on = λ rest k. k;
+  }
+
+  opened_hand : (t : yaml_token_t) → p.config.lookahead ≡ Some t → InHand gives p (with_config p (taken p.config)) AtState t
+  opened_hand t e = fetched gives p p AtState first_reading t (with_config p (taken p.config)) (rw e (refl, refl))
+
+  pub may_enter : (b : Bool) (w : Want) (new : Parser S) → MayEnter b p w new → Reading gives p new w
+  may_enter true w new h = wants_more gives p (with_config p (taken p.config)) AtState h.token (opened_hand h.token h.stayed) w new h.steps
+  may_enter false w new h = rw (h.0, h.1) first_reading
+
+  pub not_entered : (x : yaml_error_type_t) (new : Parser S) → (t : yaml_token_t) → p.config.lookahead ≡ Some t
+      → Steps (step AtState (taken p.config) t) (with_config p (taken p.config)) (Err x) new → may_grow AtState (taken p.config) t.content ≡ true
+      → Call gives p (Err x) new
+  not_entered x new t e s grows = gave_fault gives p (with_config p (taken p.config)) AtState t (opened_hand t e) x new s (λ _. grows)

@@ -3,7 +3,7 @@ use Rattle.std.proofs.Common.{◌≡◌, ◌≤◌, ◌+◌, ◌*◌, arith, ℕ
 use Rattle.std.proofs.Common.{false, Ok, Err}
 use Rattle.libyaml_events.specs.machine.Machine.{Progressed}
 use Rattle.libyaml_grammar.specs.cuts.Settled.{BeginsEach}
-use Rattle.libyaml_sources.specs.Fault.{no_fault}
+use Rattle.libyaml_sources.specs.Fault.{Fault, no_fault}
 use Rattle.libyaml_grammar.specs.sentences.Tokens.{Content, Marks, Token, marks_of, tok}
 use Rattle.libyaml_grammar.specs.sentences.Trees.{tokens}
 use Rattle.libyaml_grammar.specs.sentences.Events.{Event, events}
@@ -11,13 +11,13 @@ use Rattle.libyaml_grammar.specs.cuts.Rest.{rest}
 use Rattle.libyaml_grammar.proofs.lent.Positions.{Position, unopened}
 use Rattle.libyaml_grammar.proofs.lent.Reading.{Step, bad, checked, feed, goes, is_legal, over, reads_all, then_all}
 use Rattle.libyaml_grammar.proofs.lent.Given.{gives_all, gives, if_all}
-use Rattle.libyaml_grammar.specs.runs.Runs.{Ends, IsRun}
+use Rattle.libyaml_grammar.specs.runs.Runs.{Ending, Ends, IsRun}
 use Rattle.libyaml_events.specs.machine.Config.{Config, taken}
 use Rattle.libyaml_events.specs.machine.Machine.{machine}
 use Rattle.libyaml_events.proofs.machine.Link.{after}
 use Rattle.libyaml_events.proofs.machine.Follow.{follows, more}
 use Rattle.libyaml_events.proofs.machine.Giving.{given_split, gives_split}
-use Rattle.libyaml_events.proofs.calls.KnownRuns.{linked_begins, run_given}
+use Rattle.libyaml_events.proofs.calls.KnownRuns.{linked_begins, reads_given, run_given}
 use Rattle.libyaml_events.proofs.machine.Link.{End, config_of, emit, keeps_on, spends, want_of}
 use Rattle.libyaml_grammar.proofs.lent.Lists.{nil_right}
 use Rattle.libyaml_grammar.proofs.lent.Running.{sentence_run}
@@ -25,7 +25,7 @@ use Rattle.libyaml_events.proofs.machine.Stand.{Links, amid_token, at_position}
 use Rattle.libyaml_grammar.proofs.lent.StepsMeet.{IsMet, Meets, step_met}
 use Rattle.libyaml_events.specs.machine.Want.{Want, AtState, Given, Wants}
 
-length_append : {A : Type 0} (a b : List A) → length (a ++ b) ≡ length a + length b
+pub length_append : {A : Type 0} (a b : List A) → length (a ++ b) ≡ length a + length b
 length_append [] b = omega arith
 length_append (x ∷ a) b = let h : length (a ++ b) ≡ length a + length b = length_append a b in omega arith
 
@@ -43,7 +43,7 @@ spends_count : (n : ℕ) (w : Want) (c : Config) (k : Content) (m : Marks) → l
 spends_count zero w c k m = omega arith
 spends_count (suc n) w c k m = after_count n (machine w c (tok k m) k) (λ w' c' k' m'. spends_count n w' c' k' m')
 
-gives_count : (q : Position) (k : Content) (m : Marks) → IsMet q → length (gives q k m []) ≤ 4
+pub gives_count : (q : Position) (k : Content) (m : Marks) → IsMet q → length (gives q k m []) ≤ 4
 gives_count q k m w = subst (λ (x : List Event
     × End). length x.0 ≤ 4) (follows zero q k m [] w) (spends_count (suc (suc (suc (suc zero)))) (want_of q) (config_of q) k m)
 
@@ -87,3 +87,28 @@ linked_begins_each c asked g links t rest o e =
     = subst (λ (y : List Token). IsRun y no_fault (events t) Ends) (nil_right (tokens t) ∙ e) (sentence_run t [] no_fault o) in
     let b = linked_begins c asked g rest links in
     (b.0, run_given (asked ++ rest) no_fault (events t) Ends run ∙ b.1)
+
+-- a run has at most four events for each token
+reads_count : (l : List Token) (q : Position) → IsMet q → length (reads_given l q []) ≤ 4 * length l
+reads_count [] q w = omega arith
+reads_count (t ∷ l) q w = go (λ (x : Position) (v : IsMet x). reads_count l x v) (feed q t) (is_legal q t.content) (step_met q t.content (marks_of t) w)
+  where
+    few : (r : List Event) → length r ≤ 4 * length l → length (gives q t.content (marks_of t) r) ≤ 4 * suc (length l)
+    few r h =
+        let b : length (gives q t.content (marks_of t) []) ≤ 4 = gives_count q t.content (marks_of t) w in
+        let c : length (gives q t.content (marks_of t) r) ≡ length (gives q t.content (marks_of t) []) + length r
+        = ap length (gives_split q t.content (marks_of t) r w) ∙ length_append (gives q t.content (marks_of t) []) r in
+        omega arith
+
+    go : ((x : Position) → IsMet x → length (reads_given l x []) ≤ 4 * length l) → (s : Step) (b : Bool) → Meets s b
+        → length (gives q t.content (marks_of t) (if_all (checked s b) (reads_given l) [])) ≤ 4 * suc (length l)
+    go ih (goes x) true v = few (reads_given l x []) (ih x (v refl))
+    go ih (goes x) false v = few [] (omega arith)
+    go ih (bad c) b v = few [] (omega arith)
+    go ih over b v = few [] (omega arith)
+
+pub run_count : (l : List Token) (f : Fault) (e : List Event) (x : Ending) → IsRun l f e x → length e ≤ 4 * length l
+run_count l f e x r =
+    let a = reads_count l unopened tt in
+    let b = ap length (run_given l f e x r) in
+    omega arith

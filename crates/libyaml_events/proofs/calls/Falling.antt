@@ -18,11 +18,11 @@ use Rattle.libyaml_events.proofs.machine.StepKinds.{Kind, NodeStep, StepKind, be
 use Rattle.libyaml_events.proofs.machine.StepKinds.{ends_indentless, ends_pair, ends_stream, enters, entry, fails, fails_in, no_node, node, opens, property, room}
 use Rattle.libyaml_events.proofs.machine.StepKinds.{step_kind, wants, whole}
 
-abbrev weight : Config → ℕ
+abbrev pub weight : Config → ℕ
 weight c = length c.states + held_rank c.state c.lookahead
 
 -- a step leaves less than n
-abbrev FallsBelow : Progressed → ℕ → Type 0
+abbrev pub FallsBelow : Progressed → ℕ → Type 0
 FallsBelow o n = Kept (λ w d. (length d.states < n) × (d.lookahead ≡ None)) (λ e d. weight d < n) o
 
 room_small : (w : Want) (c : Config) (k : Content) → room w c k ≤ 6
@@ -39,7 +39,7 @@ back_kept : (ss : List yaml_parser_state_t) (k : Content) (n : ℕ) → length s
 back_kept [] k n h = omega arith
 back_kept (s ∷ ss) k n h = let r = rank_small s k in omega arith
 
-falls_on : (w : Want) (c : Config) (u : Token) → FallsBelow (step w (taken c) u) (length c.states + room w (taken c) u.content)
+pub falls_on : (w : Want) (c : Config) (u : Token) → FallsBelow (step w (taken c) u) (length c.states + room w (taken c) u.content)
 falls_on w c u = by _ _ _ (step_kind [] [] u w (taken c) u.content)
   where
     by_node : (n m : ℕ) (d : Config) (o o' : Progressed) → NodeStep [] [] u d m u.content o o' → d.lookahead ≡ None → length d.states + m ≤ n → FallsBelow o n

@@ -2,7 +2,7 @@
 use Rattle.std.proofs.Common.{◌≡◌, ◌⊎◌, inl, inr, ℤ, List, [], ◌∷◌, ◌++◌, Option, Some, refl, sym, ap, ◌∙◌, subst, Bool, true, false, Ok, Err, IfErr}
 use Rattle.libyaml_events.specs.sources.Parsing as pars
 use Rattle.libyaml_events.specs.sources.Parsing.{HasFailed, StopsShort, behind_beginning, Cause, of_memory, of_grammar, of_source, FailsBy}
-use Rattle.libyaml_events.proofs.calls.Parsed.{running_does, fails}
+use Rattle.libyaml_events.proofs.calls.Parsed.{running_does, fails, has_failed, stops_short}
 use Rattle.libyaml_events.proofs.lent.Staged.{ran_staged, staged_over, staged_whole, tree_ends}
 use Rattle.libyaml_events.specs.parsers.Stages.{is_at_end, stage_of}
 use Rattle.libyaml_types.specs.declared.enums.yaml_error_type_t.{yaml_error_type_t}
@@ -56,7 +56,7 @@ reads_given [] q r = r
 reads_given (t ∷ l) q r = gives q t.content (marks_of t) (if_all (reads q t) (reads_given l) r)
 
 -- a front that is read gives what it gives, and then the rest
-front_given : (l x : List Token) (q p : Position) → reads_all l q ≡ goes p → (r : List Event) → reads_given (l ++ x) q r ≡ gives_all l q (reads_given x p r)
+pub front_given : (l x : List Token) (q p : Position) → reads_all l q ≡ goes p → (r : List Event) → reads_given (l ++ x) q r ≡ gives_all l q (reads_given x p r)
 front_given [] x q p e r = ap (λ (y : Position). reads_given x y r) (goes_same q p e)
 front_given (t ∷ l) x q p e r = go (λ (y : Position) (h : reads_all l y ≡ goes p). front_given l x y p h r) (feed q t) (is_legal q t.content) e
   where
@@ -83,7 +83,7 @@ reached_met (t ∷ l) q p w e = go (λ (y : Position) (v : IsMet y) (h : reads_a
     go ih over b v h = absurd cc
 
 -- the events that a bad token leaves are those of its cut tree
-cut_given : (l : List Token) (b : Token) (x : List Token) (q : Position) (c : Cut) → reads_all l unopened ≡ goes q → reads q b ≡ bad c
+pub cut_given : (l : List Token) (b : Token) (x : List Token) (q : Position) (c : Cut) → reads_all l unopened ≡ goes q → reads q b ≡ bad c
     → reads_given (l ++ b ∷ x) unopened [] ≡ cut_events c b
 cut_given l b x q c e f = front_given l (b ∷ x) unopened q e []
     ∙ (ap (λ (s : Step). gives_all l unopened (gives q b.content (marks_of b) (if_all s (reads_given x) []))) f
@@ -272,7 +272,7 @@ module _ {S : Type 0} (gives_to : S → Answer → S → Type 0) (known : S → 
 
   module _ (old new : Parser S) where
     -- a call that gives an event gives the run's next
-    ok_run : (e : Event) → Call gives_to old (Ok e) new → ended_or_failed old.config ≡ false → (to_come : List Event) (ending : Ending)
+    pub ok_run : (e : Event) → Call gives_to old (Ok e) new → ended_or_failed old.config ≡ false → (to_come : List Event) (ending : Ending)
         → RunToCome known old to_come ending → (later : List Event) × (to_come ≡ e ∷ later) × RunToCome known new later ending
     ok_run e call begun to_come ending h = go (call_answers old.config h.asked h.given (ran_links h.history) begun call.asked (Ok e) new.config calls)
       where
@@ -310,7 +310,7 @@ module _ {S : Type 0} (gives_to : S → Answer → S → Type 0) (known : S → 
         go (faulted more w c i j k) = absurd (not_err e new.config.fault.error j)
 
     -- runs of the tokens that were asked for and known, by a call that fails
-    abbrev IsLast : List Event → Ending → Type 0
+    abbrev pub IsLast : List Event → Ending → Type 0
     IsLast to_come ending = (to_come ≡ []) × (ending ≡ Fails new.config.fault)
 
     last_by : (h_given to_come : List Event) (ending : Ending) (l : List Token) (f : Fault) (d : List Event) (x : Ending)
@@ -338,6 +338,21 @@ module _ {S : Type 0} (gives_to : S → Answer → S → Type 0) (known : S → 
         = last_by h.given to_come ending (before ++ token ∷ behind) h.fault (cut_events c token) (Fails h.fault)
         (subst (λ (y : List Token). IsRun y h.fault (h.given ++ to_come) ending) (ap (λ (y : List Token). h.asked ++ y) e ∙ i) h.run)
         (amid_run before token behind c h.fault fits w) g (ap Fails (sym f))
+
+    -- a fault that a call came to ends the run, or breaks it off
+    pub answered_run : (x : yaml_error_type_t) (to_come : List Event) (ending : Ending) → (h : RunToCome known old to_come ending) → (a : List Answer)
+        → Gave gives_to old.source a new.source → Answered (Err x) new.config h.asked a h.given → IsLast to_come ending ⊎ MayBreak new.source new.config.fault
+    answered_run x to_come ending h a g (gave more e i j k) = absurd (not_err e x (sym j))
+    answered_run x to_come ending h a g (failed more i j k) =
+        let front = in_order more old.source new.source (subst (λ (y : List Answer). Gave gives_to old.source y new.source) i g) h.rest h.fault h.knows in
+        inl (cut_last to_come ending h more front.rest front.all (has_failed (h.asked ++ more) h.given new.config.fault k))
+    answered_run x to_come ending h a g (faulted more w c i j k) = at_last (to_the_end more new.config.fault old.source new.source
+        (subst (λ (y : List Answer). Gave gives_to old.source y new.source) i g) h.rest h.fault h.knows)
+      where
+        at_last : ((h.rest ≡ more) × (new.config.fault ≡ h.fault)) ⊎ MayBreak new.source new.config.fault
+            → IsLast to_come ending ⊎ MayBreak new.source new.config.fault
+        at_last (inl (i, j)) = inl (short_last to_come ending h more i j (stops_short (h.asked ++ more) h.given w c k))
+        at_last (inr i) = inr i
 
     -- a call that fails ends the run, or breaks it off
     err_run : (x : yaml_error_type_t) → Call gives_to old (Err x) new → x ≡ new.config.fault.error → (to_come : List Event) (ending : Ending)

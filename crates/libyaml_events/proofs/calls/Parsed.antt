@@ -90,7 +90,7 @@ waits_no_end l x b later p (behind_anchor c h d a m u) t
     = one_no_end d (tok (Anchor a) m ∷ []) (unknown_no_end (declared c) d.content t) refl
 waits_no_end l x b later p (behind_both c a m h d u) t = one_no_end d [] (unknown_no_end (declared c) d.content t) refl
 
-standing_no_end : (l : List Token) (g : List Event) (w : Want) (c : Config) → Stands l g w c → has_end l ≡ false
+pub standing_no_end : (l : List Token) (g : List Event) (w : Want) (c : Config) → Stands l g w c → has_end l ≡ false
 standing_no_end l g w c s = go s.stood
   where
     go : Stood l g w c → has_end l ≡ false
@@ -107,7 +107,7 @@ each_needed c asked g a r d links begun h front x behind e =
     (standing_no_end (asked ++ front) g s.want s.config s.stands, standing_needs (asked ++ front) g s)
 
 -- where the tokens end too soon
-stops_short : (l : List Token) (g : List Event) (w : Want) (c : Config) → Stands l g w c → StopsShort l g
+pub stops_short : (l : List Token) (g : List Event) (w : Want) (c : Config) → Stands l g w c → StopsShort l g
 stops_short l g w c s = go s.stood
   where
     go : Stood l g w c → StopsShort l g
@@ -117,7 +117,7 @@ stops_short l g w c s = go s.stood
         behind_beginning (reached_begins l q e) (no_end l q e n) (subst (IsSettled l) (sym (i ∙ y)) (front_settles l (front q) x))
     go (amid_node before b later q x p e f h i j k m) = pub_.amid_properties before b later x e (stops_fits before b q x f h) (still_waits x b later p j) i
 
-has_failed : (l : List Token) (g : List Event) (f : Fault) → stand.Fails l g f → HasFailed l g f
+pub has_failed : (l : List Token) (g : List Event) (f : Fault) → stand.Fails l g f → HasFailed l g f
 has_failed l g f h = record {
   before = h.before;
   token = h.token;

@@ -1,19 +1,20 @@
 -- A call goes the same way whatever lies below its stacks.
-use Rattle.std.proofs.Common.{◌≡◌, ℕ, inl, inr, List, [], ◌∷◌, ◌++◌, None, Bool, true, false, Ok, Err, refl, sym, ap, subst}
+use Rattle.std.proofs.Common.{◌≡◌, ◌||◌, ℕ, inl, inr, List, [], ◌∷◌, ◌++◌, None, Bool, true, false, Ok, Err, refl, sym, ap, subst}
 use Rattle.libyaml_types.specs.declared.event.unnamed_yaml_event_t_data.{unnamed_yaml_event_t_data}
 use Rattle.libyaml_types.specs.declared.enums.yaml_parser_state_t.{yaml_parser_state_t}
+use Rattle.libyaml_types.specs.declared.mark.yaml_mark_t.{yaml_mark_t}
 use Rattle.libyaml_types.specs.declared.enums.yaml_parser_state_t.TheVariants.{YAML_PARSE_IMPLICIT_DOCUMENT_START_STATE}
 use Rattle.libyaml_sources.specs.Fault.{Answer, Fault}
 use Rattle.libyaml_grammar.specs.sentences.Events.{Event}
 use Rattle.libyaml_grammar.specs.sentences.Tokens.{Content, Mark, Token}
 use Rattle.libyaml_events.specs.machine.Want.{Want, AtState, Given, Wants}
-use Rattle.libyaml_events.specs.machine.Config.{Config, Parser, below, ended_or_failed, keep, popped, popped_mark, pushed, taken, top, top_mark}
+use Rattle.libyaml_events.specs.machine.Config.{Config, Parser, below, ended_or_failed, is_end_state, is_fault, keep, popped, popped_mark, pushed, taken, top, top_mark}
 use Rattle.libyaml_events.specs.machine.Growth.{may_grow, may_grow_at}
 use Rattle.libyaml_events.specs.machine.Machine.{Progressed, close_collection, give, give_at, machine, step}
 use Rattle.libyaml_events.specs.parsers.Pops.{raised, PopsNothingBelow}
 use Rattle.libyaml_events.specs.parsers.Stages.{Stage, stage_of}
 use Rattle.libyaml_events.specs.sources.Calls.{EventOrError, Calls, CallsUnlessRefused, Call, Parses, ParsesIf, Refused, RefusedAt, Then, held}
-use Rattle.libyaml_events.specs.sources.History.{History, Ran}
+use Rattle.libyaml_events.specs.sources.History.{History, Ran, Remembers}
 use Rattle.libyaml_events.proofs.calls.Marked.{IsMarked, MarkedOn, MarksAt, OneMore, MarksFit, marked_on, ran_marked}
 use Rattle.libyaml_events.proofs.lent.Staged.{ran_staged, retake}
 use Rattle.libyaml_events.proofs.calls.Staging.{IsStack, NodeDue, Good, GoodIn, GoodOn, good_on}
@@ -162,7 +163,23 @@ module _ (ss : List yaml_parser_state_t) (ms : List Mark) where
           ++ asked) r d (taken c) (stage_of events) refl (retake c.state c.states c.lookahead (stage_of events) (ran_staged ran).good) (ran_marked ran) z
 
 -- each call of a parser with a history
-pub pops_nothing_below : {S : Type 0} (gives : S → Answer → S → Type 0) (old : Parser S) (r : EventOrError) (new : Parser S) → Call gives old r new
+pops_nothing_below : {S : Type 0} (gives : S → Answer → S → Type 0) (old : Parser S) (r : EventOrError) (new : Parser S) → Call gives old r new
     → (l : List Token) (events : List Event) → History old l events → PopsNothingBelow gives old r new
 pops_nothing_below gives old r new call l events h
     = record { asked = call.asked; gave = call.gave; keeps = λ ss ms. same_parses ss ms old.config call.asked r new.config l events h call.does }
+
+-- a parser that keeps a fault looks at no stack
+failed_parses : (ss : List yaml_parser_state_t) (ms : List yaml_mark_t) (c : Config) (asked : List Answer) (r : EventOrError) (d : Config) → is_fault c.fault.error ≡ true
+    → Parses c asked r d → Parses (raised ss ms c) asked r (raised ss ms d)
+failed_parses ss ms c asked r d failed = go (ended_or_failed c) (ap (λ (b : Bool). b || is_end_state c.state) failed)
+  where
+    go : (over : Bool) → over ≡ true → ParsesIf over c asked r d → ParsesIf over (raised ss ms c) asked r (raised ss ms d)
+    go true e (i, j, k) = (i, j, ap (raised ss ms) k)
+    go false e z = absurd cc
+
+-- so each call
+pub pops_nothing : {S : Type 0} (gives : S → Answer → S → Type 0) (old : Parser S) (r : EventOrError) (new : Parser S) → Call gives old r new → Remembers old
+    → PopsNothingBelow gives old r new
+pops_nothing gives old r new call (inl failed)
+    = record { asked = call.asked; gave = call.gave; keeps = λ ss ms. failed_parses ss ms old.config call.asked r new.config failed call.does }
+pops_nothing gives old r new call (inr (l, events, h)) = pops_nothing_below gives old r new call l events h

@@ -88,7 +88,7 @@ due_stage (s ∷ ss) st h P b w = go (kind s) h
     go kinds.pair h = subst P (sym h.1) (w _)
     go _ h = absurd h
 
-due_takes : (ss : List yaml_parser_state_t) (st : Stage) (l : List Token) → NodeDue ss st → takes_no_memory st l ≡ false
+pub due_takes : (ss : List yaml_parser_state_t) (st : Stage) (l : List Token) → NodeDue ss st → takes_no_memory st l ≡ false
 due_takes ss st l h = due_stage ss st h (λ x. takes_no_memory x l ≡ false) refl (λ n. refl)
 
 -- the kinds of places at the stream's end, and where no document is open
@@ -200,7 +200,7 @@ at_end_done (flow_behind c x) e = absurd (member_state_goes c x e)
 at_end_done (done t) e = (t, refl)
 at_end_done _ e = absurd cc
 
-end_holds_none : (s : yaml_parser_state_t) (ss : List yaml_parser_state_t) (l : Option Token) (st : Stage) → GoodAt s ss l st → is_end_state s ≡ true
+pub end_holds_none : (s : yaml_parser_state_t) (ss : List yaml_parser_state_t) (l : Option Token) (st : Stage) → GoodAt s ss l st → is_end_state s ≡ true
     → (s ≡ state.YAML_PARSE_END_STATE) × (l ≡ None)
 end_holds_none state.YAML_PARSE_END_STATE ss l st h e = (refl, h.2)
 end_holds_none _ ss l st h e = absurd cc
@@ -279,7 +279,7 @@ directive_grows StreamEnd h = absurd cc
 directive_grows (VersionDirective v) h = absurd cc
 directive_grows _ h = refl
 
-outside_grows : (w : Want) (c : Config) (k : Content) → IsOutside w c → may_grow w c k ≡ true → is_quiet k ≡ false
+pub outside_grows : (w : Want) (c : Config) (k : Content) → IsOutside w c → may_grow w c k ≡ true → is_quiet k ≡ false
 outside_grows AtState c k o h = go c.state o h
   where
     go : (s : yaml_parser_state_t) → kind s ≡ kinds.between → may_grow_at s c k ≡ true → is_quiet k ≡ false
@@ -301,7 +301,7 @@ not_quiet (t ∷ u ∷ l) w c o h = go (λ v d s z. not_quiet (u ∷ l) v d s z)
     go ih (Ok (Wants v, d)) s z = ih v d s z
 
 -- the last token is that of the end of the list
-quiet_behind : (a : List Token) (t : Token) (l : List Token) → ends_quietly (a ++ t ∷ l) ≡ ends_quietly (t ∷ l)
+pub quiet_behind : (a : List Token) (t : Token) (l : List Token) → ends_quietly (a ++ t ∷ l) ≡ ends_quietly (t ∷ l)
 quiet_behind [] t l = refl
 quiet_behind (x ∷ []) t l = refl
 quiet_behind (x ∷ y ∷ a) t l = quiet_behind (y ∷ a) t l

@@ -11,6 +11,10 @@ use Rattle.libyaml_types.specs.declared.enums.yaml_error_type_t.TheVariants.{YAM
 use Rattle.libyaml_types.specs.declared.enums.yaml_error_type_t.TheVariants.{YAML_PARSER_ERROR, YAML_COMPOSER_ERROR, YAML_WRITER_ERROR, YAML_EMITTER_ERROR}
 use Rattle.libyaml_types.specs.declared.enums.yaml_parser_state_t.{yaml_parser_state_t}
 use Rattle.libyaml_types.specs.declared.enums.yaml_parser_state_t.TheVariants as st
+use Rattle.libyaml_types.specs.declared.token.unnamed_yaml_token_t_data.{unnamed_yaml_token_t_data}
+use Rattle.libyaml_types.specs.declared.token.unnamed_yaml_token_t_data.TheVariants as content_of
+use Rattle.libyaml_events.specs.declared.kept.Kept.{Kept}
+use Rattle.libyaml_events.specs.declared.kept.Kept.TheVariants as kept
 use Rattle.libyaml_sources.specs.Fault.{Fault, no_fault}
 use Rattle.libyaml_types.specs.Events.{zero_mark}
 
@@ -72,10 +76,37 @@ at state c = record c { state = state }
 abbrev pub keep : yaml_token_t → Config → Config
 keep token c = record c { lookahead = Some token }
 
--- the token that stays, where one does
-abbrev pub kept_token : Bool → yaml_token_t → Option yaml_token_t
-kept_token true t = Some t
-kept_token false t = None
+-- a token, where there is one
+abbrev pub token_if : Bool → yaml_token_t → Option yaml_token_t
+token_if true t = Some t
+token_if false t = None
+
+-- a token of this content with the marks of another
+abbrev pub token_at : unnamed_yaml_token_t_data → yaml_token_t → yaml_token_t
+token_at content t = record t { content = content }
+
+-- The token that stays, where one does. Of a token that opens a collection the marks alone are kept.
+abbrev pub kept_token : Kept → yaml_token_t → Option yaml_token_t
+kept_token kept.Nothing t = None
+kept_token kept.Token t = Some t
+kept_token kept.BlockSequence t = Some (token_at content_of.BlockSequenceStart t)
+kept_token kept.BlockMapping t = Some (token_at content_of.BlockMappingStart t)
+kept_token kept.FlowSequence t = Some (token_at content_of.FlowSequenceStart t)
+kept_token kept.FlowMapping t = Some (token_at content_of.FlowMappingStart t)
+
+-- which opening token stays, where one does
+abbrev pub opening_of : Kept → Option unnamed_yaml_token_t_data
+opening_of kept.Nothing = None
+opening_of kept.Token = None
+opening_of kept.BlockSequence = Some content_of.BlockSequenceStart
+opening_of kept.BlockMapping = Some content_of.BlockMappingStart
+opening_of kept.FlowSequence = Some content_of.FlowSequenceStart
+opening_of kept.FlowMapping = Some content_of.FlowMappingStart
+
+-- where the token that stays begins
+abbrev pub kept_start : Option yaml_token_t → yaml_mark_t
+kept_start None = zero_mark
+kept_start (Some t) = t.start_mark
 
 abbrev pub taken : Config → Config
 taken c = record c { lookahead = None }

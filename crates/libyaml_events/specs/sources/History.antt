@@ -1,5 +1,5 @@
 -- What a parser asked its source for and what it gave since it was initialized (docs/DEFINITIONS.md, "Histories").
-use Rattle.std.specs.Prelude.{◌≡◌, ◌++◌, ◌∷◌, ◌||◌, ℕ, List, [], length, Ok, Bool, true, false, pos}
+use Rattle.std.specs.Prelude.{◌≡◌, ◌⊎◌, ◌++◌, ◌∷◌, ◌||◌, ℕ, List, [], length, Ok, Bool, true, false, pos}
 use Rattle.libyaml_types.specs.declared.event.unnamed_yaml_event_t_data.TheVariants as ev
 use Rattle.libyaml_sources.specs.Fault.{Fault, Answer}
 use Rattle.libyaml_grammar.specs.sentences.Tokens.{Token}
@@ -28,6 +28,10 @@ History p asked given = Ran p.config asked given
 -- P holds of every history of the parser
 abbrev pub ForHistory : {S : Type 0} → Parser S → (List Token → List Event → Type 0) → Type 0
 ForHistory p P = (asked : List Token) (given : List Event) → History p asked given → P asked given
+
+-- a fault is kept, or some calls lead to a parser that stands so
+abbrev pub Remembers : {S : Type 0} → Parser S → Type 0
+Remembers p = (is_fault p.config.fault.error ≡ true) ⊎ ((asked : List Token) × (given : List Event) × History p asked given)
 
 -- the parser gave the stream end event, or keeps a fault
 abbrev pub is_over : {S : Type 0} → Parser S → Bool

@@ -39,7 +39,7 @@ pub record ParsesNext {S : Type 0} (gives : S → Answer → S → Type 0) (toke
   pub outside : IfOk result (λ e. is_outside_event e.content ≡ true → between_documents new ≡ true)
   pub at_most_four : ForHistory new (λ asked given. length given ≤ 4 * length asked)
   pub depth : ForHistory new (λ _ given. stack_depth new ≤ open_collections (stage_of given) + 1)
-  pub pops : ForHistory old (λ _ _. PopsNothingBelow gives old result new)
+  pub pops : PopsNothingBelow gives old result new
   pub one_ahead : ForHistory new (λ asked _. HoldsLast new asked)
   -- a call that failed leaves no token held, and the stack within the same depth
   pub none_held : IfErr result (λ _. tokens_held new ≡ [])

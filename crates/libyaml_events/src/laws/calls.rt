@@ -2,6 +2,7 @@
 
 ghost use Rattle.std.specs.Prelude.{◌≡◌, ◌≤◌, ◌+◌, ◌*◌, ◌++◌, ◌∷◌, List, [], Some, length, true, false};
 ghost use Rattle.libyaml_events.specs.sources.Calls.{Gave};
+ghost use Rattle.libyaml_events.specs.sources.Determined.{BeginsEachRun};
 ghost use Rattle.libyaml_events.specs.sources.CallsInTurn.{CarriedOn, KnowsRest};
 ghost use Rattle.libyaml_events.specs.machine.Config.{Parser};
 ghost use Rattle.libyaml_grammar.specs.sentences.Events.{Event};
@@ -11,6 +12,7 @@ ghost use Rattle.libyaml_events.specs.sources.History.{stack_depth};
 ghost use Rattle.libyaml_events.specs.sources.Needs.{EachWasNeeded};
 ghost use Rattle.libyaml_events.specs.parsers.Lookahead.{HoldsLast};
 ghost use Rattle.libyaml_grammar.specs.cuts.Settled.{BeginsEach};
+ghost use Rattle.libyaml_grammar.specs.runs.Runs.{Ending, IsRun};
 ghost use Rattle.libyaml_grammar.specs.sentences.Nesting.{NestsSoFar};
 ghost use Rattle.libyaml_events.specs.sources.Parsing.{CarriesOn, IsWhole};
 ghost use Rattle.libyaml_sources.specs.Source.{coming};
@@ -48,10 +50,19 @@ pub fn source_left<S: yaml_token_source_t>()
         → Gave S.gives s (answers more []) t → KnowsRest S.known more list f t }
 {}
 
+/// A run has at most four events for each token. So the stack of a parser has at most four states for each
+/// token that it asked for, and one.
+pub fn four_events<S: yaml_token_source_t>()
+    ensures stack { (p : Parser S) → ForHistory p (λ asked _. stack_depth p ≤ 4 * length asked + 1) }
+    ensures events { (l : List Token) (f : Fault) (e : List Event) (x : Ending) → IsRun l f e x
+        → length e ≤ 4 * length l }
+{}
+
 /// What each history of a parser says, whichever call led there.
 pub fn of_history<S: yaml_token_source_t>()
     ensures no_fault { (p : Parser S) → ForHistory p (λ _ _. has_failed p ≡ false) }
     ensures begins { (p : Parser S) → ForHistory p BeginsEach }
+    ensures begins_run { (p : Parser S) → ForHistory p BeginsEachRun }
     ensures nests { (p : Parser S) → ForHistory p (λ _ given. NestsSoFar given) }
     ensures at_most_four { (p : Parser S) → ForHistory p (λ asked given. length given ≤ 4 * length asked) }
     ensures depth { (p : Parser S) → ForHistory p (λ _ given. stack_depth p

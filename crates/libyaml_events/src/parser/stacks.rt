@@ -7,6 +7,7 @@ ghost use Rattle.libyaml_events.specs.machine.Config.{with_config, with_fault, a
 ghost use Rattle.libyaml_events.specs.machine.Config.{pushed_mark, popped_mark, top_mark};
 ghost use Rattle.libyaml_events.specs.parsers.Left.{let_go};
 
+use crate::kept::Kept;
 use crate::parser::Machine;
 use libyaml_types::{ZERO_MARK, yaml_error_type_t, yaml_mark_t, yaml_parser_state_t};
 
@@ -93,7 +94,7 @@ impl<S> Machine<S> {
     pub(crate) fn let_go(&mut self)
         ensures { self.new ≡ with_config self.old (let_go self.old.config) }
     {
-        self.is_held = false;
+        self.kept = Kept::Nothing;
         self.states.clear();
         self.marks.clear();
     }

@@ -1,9 +1,11 @@
 //! The next token: one that stayed, or else the source's.
-ghost use Rattle.std.specs.Prelude.{◌≡◌, Ok, Err, MatchResult, IfErr, true};
-ghost use Rattle.libyaml_events.specs.machine.Config.{with_config, with_fault, keep, is_fault};
+ghost use Rattle.std.specs.Prelude.{◌≡◌, Ok, Err, Some, MatchResult, IfErr, is_some, true};
+ghost use Rattle.libyaml_events.specs.machine.Config.{with_config, with_fault, keep, is_fault, taken};
+ghost use Rattle.libyaml_events.specs.machine.Config.{opening_of, token_if};
 ghost use Rattle.libyaml_sources.specs.Errors.{IsSourceError};
 ghost use Rattle.libyaml_events.specs.sources.Calls.{Fetches};
 
+use crate::kept::Kept;
 use crate::parser::Machine;
 use libyaml_sources::yaml_token_source_t;
 use libyaml_types::{ZERO_MARK, unnamed_yaml_token_t_data, yaml_error_type_t, yaml_token_t};
@@ -26,7 +28,53 @@ impl<S> Machine<S> {
         ensures { self.new ≡ with_config self.old (keep token.old self.old.config) }
     {
         mem::swap(&mut self.held, token);
-        self.is_held = true;
+        self.kept = Kept::Token;
+    }
+
+    /// The token that opens a collection stays, to be looked at again: its marks are kept.
+    #[inline(always)]
+    #[tactic(auto, using(crate::proofs::code::KeptLemmas::kept_opening))]
+    pub(crate) fn keep_opening(&mut self, kept: Kept, token: &yaml_token_t)
+        requires { opening_of kept ≡ Some token.now.content }
+        ensures { self.new ≡ with_config self.old (keep token.now self.old.config) }
+    {
+        self.held.start_mark = token.start_mark;
+        self.held.end_mark = token.end_mark;
+        self.kept = kept;
+    }
+
+    /// Puts the token that stayed into `token`.
+    #[inline(never)]
+    fn take_kept(&mut self, token: &mut yaml_token_t)
+        requires { is_some self.old.config.lookahead ≡ true }
+        ensures token { self.old.config.lookahead ≡ Some token.new }
+        ensures taken { self.new ≡ with_config self.old (taken self.old.config) }
+    {
+        mem::swap(token, &mut self.held);
+        match self.kept {
+            Kept::Nothing => unreachable!(),
+            Kept::Token => {}
+            Kept::BlockSequence => token.content = unnamed_yaml_token_t_data::BlockSequenceStart,
+            Kept::BlockMapping => token.content = unnamed_yaml_token_t_data::BlockMappingStart,
+            Kept::FlowSequence => token.content = unnamed_yaml_token_t_data::FlowSequenceStart,
+            Kept::FlowMapping => token.content = unnamed_yaml_token_t_data::FlowMappingStart,
+        }
+        self.kept = Kept::Nothing;
+    }
+
+    /// Puts the token that stayed into `token`, and returns whether one did.
+    #[inline(always)]
+    pub(crate) fn take_held(&mut self, token: &mut yaml_token_t) -> bool
+        ensures taken { self.new ≡ with_config self.old (taken self.old.config) }
+        ensures token { self.old.config.lookahead ≡ token_if result token.new }
+    {
+        match self.kept {
+            Kept::Nothing => false,
+            _ => {
+                self.take_kept(token);
+                true
+            }
+        }
     }
 }
 
@@ -59,11 +107,12 @@ impl<S: yaml_token_source_t> Machine<S> {
             (λ e. Fetches S.gives self.old (Err e) self.new) }
         ensures error { IfErr result (λ e. is_fault e ≡ true) }
     {
-        if self.is_held {
-            self.is_held = false;
-            mem::swap(token, &mut self.held);
-            return Ok(());
+        match self.kept {
+            Kept::Nothing => self.ask(token),
+            _ => {
+                self.take_kept(token);
+                Ok(())
+            }
         }
-        self.ask(token)
     }
 }

@@ -14,7 +14,7 @@
 //!   `parse_node_content`, or to `bare_scalar` where it is the whole node. The token after
 //!   properties alone goes there too, and stays.
 //! ```
-ghost use Rattle.std.specs.Prelude.{◌≡◌, Ok, Err, IfErr, None, false, true, option_map, string_bytes};
+ghost use Rattle.std.specs.Prelude.{◌≡◌, Some, Ok, Err, IfErr, None, false, true, option_map, string_bytes};
 ghost use Rattle.libyaml_types.specs.declared.event.unnamed_yaml_event_t_data_scalar.{unnamed_yaml_event_t_data_scalar};
 ghost use Rattle.libyaml_types.specs.declared.enums.yaml_scalar_style_t.TheVariants.{YAML_PLAIN_SCALAR_STYLE};
 ghost use Rattle.libyaml_grammar.specs.sentences.Events.{is_plain, plain_flag, quoted_flag, is_missing};
@@ -30,9 +30,10 @@ ghost use Rattle.libyaml_events.specs.machine.Growth.{joins, joins_before};
 ghost use Rattle.libyaml_events.specs.machine.Steps.{Steps};
 ghost use Rattle.libyaml_events.specs.machine.Answers.{answer, given};
 ghost use Rattle.libyaml_events.specs.machine.Want.{Given};
-ghost use Rattle.libyaml_events.specs.machine.Config.{with_config, with_fault};
+ghost use Rattle.libyaml_events.specs.machine.Config.{opening_of, with_config, with_fault};
 ghost use Rattle.libyaml_grammar.specs.cuts.FaultTexts.{content_fault};
 
+use crate::kept::Kept;
 use crate::next::{Next, Step};
 use crate::node_head::{NodeHead, PropertiesRead, TagRead};
 use crate::node_place::NodePlace;
@@ -209,6 +210,21 @@ impl<S> Machine<S> {
     {
         self.pop_state();
         let plain_implicit = is_plain(content.style);
+        out.start_mark = *start_mark;
+        out.end_mark = *end_mark;
+        if let unnamed_yaml_event_t_data::Scalar(event) = &mut out.content {
+            mem::swap(&mut event.value, &mut content.value);
+            event.plain_implicit = plain_implicit;
+            event.quoted_implicit = !plain_implicit;
+            event.style = content.style;
+            if event.anchor.is_some() {
+                event.anchor = None;
+            }
+            if event.tag.is_some() {
+                event.tag = None;
+            }
+            return;
+        }
         let event = unnamed_yaml_event_t_data_scalar {
             anchor: None,
             tag: None,
@@ -217,12 +233,7 @@ impl<S> Machine<S> {
             quoted_implicit: !plain_implicit,
             style: content.style,
         };
-        give(
-            out,
-            unnamed_yaml_event_t_data::Scalar(event),
-            *start_mark,
-            *end_mark,
-        );
+        out.content = unnamed_yaml_event_t_data::Scalar(event);
     }
 
     /// A node that begins with an alias or a property.
@@ -294,6 +305,50 @@ impl<S> Machine<S> {
             token.old token.old.content) self.old (given result out.new) self.new }
         ensures error { IfErr result (λ e. e ≡ yaml_error_type_t.YAML_PARSER_ERROR) }
     {
+        match token.content {
+            unnamed_yaml_token_t_data::FlowSequenceStart => {
+                let style = CollectionStyle::Sequence(
+                    yaml_sequence_style_t::YAML_FLOW_SEQUENCE_STYLE,
+                );
+                let state = yaml_parser_state_t::YAML_PARSE_FLOW_SEQUENCE_FIRST_ENTRY_STATE;
+                self.open_bare(style, state, Kept::FlowSequence, token, out)
+            }
+            unnamed_yaml_token_t_data::FlowMappingStart => {
+                let style = CollectionStyle::Mapping(yaml_mapping_style_t::YAML_FLOW_MAPPING_STYLE);
+                let state = yaml_parser_state_t::YAML_PARSE_FLOW_MAPPING_FIRST_KEY_STATE;
+                self.open_bare(style, state, Kept::FlowMapping, token, out)
+            }
+            unnamed_yaml_token_t_data::BlockSequenceStart if place.is_block() => {
+                let style = CollectionStyle::Sequence(
+                    yaml_sequence_style_t::YAML_BLOCK_SEQUENCE_STYLE,
+                );
+                let state = yaml_parser_state_t::YAML_PARSE_BLOCK_SEQUENCE_FIRST_ENTRY_STATE;
+                self.open_bare(style, state, Kept::BlockSequence, token, out)
+            }
+            unnamed_yaml_token_t_data::BlockMappingStart if place.is_block() => {
+                let style = CollectionStyle::Mapping(
+                    yaml_mapping_style_t::YAML_BLOCK_MAPPING_STYLE,
+                );
+                let state = yaml_parser_state_t::YAML_PARSE_BLOCK_MAPPING_FIRST_KEY_STATE;
+                self.open_bare(style, state, Kept::BlockMapping, token, out)
+            }
+            _ => return self.parse_other_content(place, token, out),
+        }
+        Ok(())
+    }
+
+    /// A node without properties that is no collection.
+    #[inline(never)]
+    fn parse_other_content(
+        &mut self,
+        place: NodePlace,
+        token: &mut yaml_token_t,
+        out: &mut yaml_event_t,
+    ) -> Result<(), yaml_error_type_t>
+        ensures steps { Steps (node_content place (head (no_properties token.old) None) self.old.config
+            token.old token.old.content) self.old (given result out.new) self.new }
+        ensures error { IfErr result (λ e. e ≡ yaml_error_type_t.YAML_PARSER_ERROR) }
+    {
         let head = NodeHead {
             anchor: None,
             tag: None,
@@ -303,7 +358,32 @@ impl<S> Machine<S> {
         self.parse_node_content(place, head, token, out)
     }
 
+    /// The start of a collection without properties, which most collections are.
+    #[inline(never)]
+    fn open_bare(
+        &mut self,
+        style: CollectionStyle,
+        state: yaml_parser_state_t,
+        kept: Kept,
+        token: &yaml_token_t,
+        out: &mut yaml_event_t,
+    )
+        requires { opening_of kept ≡ Some token.now.content }
+        ensures { Steps (open_collection (collection_start None None style) state token.now.start_mark
+            self.old.config token.now) self.old (Ok (Given out.new)) self.new }
+    {
+        self.set_state(state);
+        out.start_mark = token.start_mark;
+        out.end_mark = token.end_mark;
+        self.keep_opening(kept, token);
+        out.content = match style {
+            CollectionStyle::Sequence(style) => sequence_start(None, None, style),
+            CollectionStyle::Mapping(style) => mapping_start(None, None, style),
+        };
+    }
+
     /// After properties: the other one, or what the node is.
+    #[inline(never)]
     pub(super) fn parse_behind_properties(
         &mut self,
         token: &mut yaml_token_t,

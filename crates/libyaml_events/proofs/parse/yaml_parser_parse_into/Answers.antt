@@ -6,4 +6,4 @@ returns g c =
     let t = g.S.yaml_token_source_t in
     let met = g.met.S.yaml_token_source_t in
     let call = c.next_event_into.ensures in
-    parses_next t.gives t.bound t.known t.may_break met.falls met.follows _ _ _ call.call call.kept call.failed call.bound call.left
+    parses_next t.gives t.bound t.known t.may_break met.falls met.follows _ _ _ call.call call.kept call.failed call.bound call.left call.remembers

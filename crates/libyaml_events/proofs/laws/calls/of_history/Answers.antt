@@ -17,6 +17,11 @@ returns-clause-no_fault g c p asked given h = ap (λ (f : Fault). is_fault f.err
 pub returns-clause-begins : goal.returns-clause-begins
 returns-clause-begins g c p asked given h = linked_begins_each _ asked given (ran_links h)
 
+pub returns-clause-begins_run : goal.returns-clause-begins_run
+returns-clause-begins_run g c p asked given h rest f e x run =
+    let b = linked_begins _ asked given rest (ran_links h) in
+    (b.0, run_given (asked ++ rest) f e x run ∙ b.1)
+
 pub returns-clause-at_most_four : goal.returns-clause-at_most_four
 returns-clause-at_most_four g c p asked given h = linked_count _ asked given (ran_links h)
 

@@ -1,0 +1,435 @@
+-- Two outcomes that the contract of a parse allows are one.
+use Rattle.std.proofs.Common.{◌≡◌, ◌⊎◌, inl, inr, ℕ, Option, List, [], ◌∷◌, ◌++◌, Ok, Err, true, false, refl, sym, ap, ◌∙◌, subst}
+use Rattle.libyaml_types.specs.declared.enums.yaml_error_type_t.{yaml_error_type_t}
+use Rattle.libyaml_sources.specs.Fault.{Answer, Fault, no_fault, memory_fault}
+use Rattle.libyaml_sources.specs.Source.{Coming}
+use Rattle.libyaml_grammar.specs.sentences.Tokens.{Token}
+use Rattle.libyaml_grammar.specs.sentences.Trees.{tokens}
+use Rattle.libyaml_grammar.specs.sentences.Events.{Event}
+use Rattle.libyaml_grammar.specs.cuts.CutTrees.{Cut}
+use Rattle.libyaml_grammar.specs.cuts.CutEvents.{cut_events}
+use Rattle.libyaml_grammar.specs.cuts.CutFaults.{fault}
+use Rattle.libyaml_grammar.specs.cuts.Settled.{Begins, BeginsEach, next_event}
+use Rattle.libyaml_grammar.specs.runs.Runs.{Ending, Fails, IsRun, is_behind_properties}
+use Rattle.libyaml_grammar.proofs.lent.Lists.{nil_right, assoc}
+use Rattle.libyaml_grammar.proofs.lent.Running.{one_run_proof, some_run_proof, cut_run, amid_run}
+use Rattle.libyaml_events.specs.machine.Config.{Config, Parser, taken}
+use Rattle.libyaml_events.specs.machine.Machine.{Progressed, step}
+use Rattle.libyaml_events.specs.machine.Want.{Want, AtState, Given, Wants}
+use Rattle.libyaml_events.specs.parsers.Stages.{stage_of, takes_no_memory}
+use Rattle.libyaml_events.specs.sources.Calls.{EventOrError, Gave, Calls, MeetsRefusal, Then, held}
+use Rattle.libyaml_events.specs.sources.Determined.{AnswersOneWay, OneBegins, OneByAnswers, CarriesOnOrFails, RunsOut, Alike, OneOutcome, alike, first_runs_out, second_runs_out, results_of}
+use Rattle.libyaml_events.specs.sources.History.{Ran, begins, goes_on, History, answers, is_over, kept_fault}
+use Rattle.libyaml_events.specs.sources.Needs.{EachNeeded, NeedsMore, for_next_event, amid_properties, HasWaited, at_once, by_last}
+use Rattle.libyaml_events.specs.sources.Parsing.{CarriesOn, Cause, FailsBy, HasFailed, of_memory, of_grammar, of_source}
+use Rattle.libyaml_events.specs.sources.ParsesNext.{ParsesNext}
+
+-- lists
+
+pub head_same : {A : Type 0} (x y : A) (l m : List A) → x ∷ l ≡ y ∷ m → x ≡ y
+head_same x y l m e = cc
+
+pub tail_same : {A : Type 0} (x y : A) (l m : List A) → x ∷ l ≡ y ∷ m → l ≡ m
+tail_same x y l m e = cc
+
+pub front_same : {A : Type 0} (a l m : List A) → a ++ l ≡ a ++ m → l ≡ m
+front_same [] l m e = e
+front_same (x ∷ a) l m e = front_same a l m (tail_same x x (a ++ l) (a ++ m) e)
+
+pub not_cons : {A : Type 0} (x : A) (l : List A) → [] ≡ x ∷ l → ⊥
+not_cons x l e = cc
+
+ok_token : (t u : Token) → ◌≡◌ {A = Answer} (Ok t) (Ok u) → t ≡ u
+ok_token t u e = cc
+
+err_fault : (f g : Fault) → ◌≡◌ {A = Answer} (Err f) (Err g) → f ≡ g
+err_fault f g e = cc
+
+ok_no_err : (t : Token) (f : Fault) → ◌≡◌ {A = Answer} (Ok t) (Err f) → ⊥
+ok_no_err t f e = cc
+
+-- tokens as results, and then further results
+pub answers_then : (l : List Token) (r : List Answer) → answers l [] ++ r ≡ answers l r
+answers_then [] r = refl
+answers_then (t ∷ l) r = ap (λ (a : List Answer). Ok t ∷ a) (answers_then l r)
+
+pub same_tokens : (l m : List Token) → answers l [] ≡ answers m [] → l ≡ m
+same_tokens [] [] e = refl
+same_tokens [] (u ∷ m) e = absurd (not_cons (Ok u) (answers m []) e)
+same_tokens (t ∷ l) [] e = absurd (not_cons (Ok t) (answers l []) (sym e))
+same_tokens (t ∷ l) (u ∷ m) e =
+    let x = ok_token t u (head_same (Ok t) (Ok u) (answers l []) (answers m []) e) in
+    let y = same_tokens l m (tail_same (Ok t) (Ok u) (answers l []) (answers m []) e) in
+    ap (λ (z : Token). z ∷ l) x ∙ ap (λ (z : List Token). u ∷ z) y
+
+-- tokens alone are not tokens and then a fault
+pub not_faulted : (l m : List Token) (f : Fault) → answers l [] ≡ answers m (Err f ∷ []) → ⊥
+not_faulted [] [] f e = not_cons (Err f) [] e
+not_faulted [] (u ∷ m) f e = not_cons (Ok u) (answers m (Err f ∷ [])) e
+not_faulted (t ∷ l) [] f e = ok_no_err t f (head_same (Ok t) (Err f) (answers l []) [] e)
+not_faulted (t ∷ l) (u ∷ m) f e = not_faulted l m f (tail_same (Ok t) (Ok u) (answers l []) (answers m (Err f ∷ [])) e)
+
+pub same_ends : (l m : List Token) (f g : Fault) → answers l (Err f ∷ []) ≡ answers m (Err g ∷ []) → f ≡ g
+same_ends [] [] f g e = err_fault f g (head_same (Err f) (Err g) [] [] e)
+same_ends [] (u ∷ m) f g e = absurd (ok_no_err u f (sym (head_same (Err f) (Ok u) [] (answers m (Err g ∷ [])) e)))
+same_ends (t ∷ l) [] f g e = absurd (ok_no_err t g (head_same (Ok t) (Err g) (answers l (Err f ∷ [])) [] e))
+same_ends (t ∷ l) (u ∷ m) f g e = same_ends l m f g (tail_same (Ok t) (Ok u) (answers l (Err f ∷ [])) (answers m (Err g ∷ [])) e)
+
+-- nothing comes after a fault
+pub ends_there : (l m : List Token) (f : Fault) (x : Answer) (rest : List Answer) → answers m [] ≡ answers l (Err f ∷ []) ++ x ∷ rest → ⊥
+ends_there [] [] f x rest e = not_cons (Err f) (x ∷ rest) e
+ends_there [] (u ∷ m) f x rest e = ok_no_err u f (head_same (Ok u) (Err f) (answers m []) (x ∷ rest) e)
+ends_there (t ∷ l) [] f x rest e = not_cons (Ok t) (answers l (Err f ∷ []) ++ x ∷ rest) e
+ends_there (t ∷ l) (u ∷ m) f x rest e
+    = ends_there l m f x rest (tail_same (Ok u) (Ok t) (answers m []) (answers l (Err f ∷ []) ++ x ∷ rest) e)
+
+pub ends_here : (l m : List Token) (f g : Fault) (x : Answer) (rest : List Answer) → answers m (Err g ∷ []) ≡ answers l (Err f ∷ []) ++ x ∷ rest → ⊥
+ends_here [] [] f g x rest e = not_cons x rest (tail_same (Err g) (Err f) [] (x ∷ rest) e)
+ends_here [] (u ∷ m) f g x rest e = ok_no_err u f (head_same (Ok u) (Err f) (answers m (Err g ∷ [])) (x ∷ rest) e)
+ends_here (t ∷ l) [] f g x rest e = ok_no_err t g (sym (head_same (Err g) (Ok t) [] (answers l (Err f ∷ []) ++ x ∷ rest) e))
+ends_here (t ∷ l) (u ∷ m) f g x rest e
+    = ends_here l m f g x rest (tail_same (Ok u) (Ok t) (answers m (Err g ∷ [])) (answers l (Err f ∷ []) ++ x ∷ rest) e)
+
+-- two lists of results, of which one begins the other
+pub data Compared (l m : List Answer) : Type 0 where
+  same : l ≡ m → Compared l m
+  first_longer : (x : Answer) (rest : List Answer) → l ≡ m ++ x ∷ rest → Compared l m
+  second_longer : (x : Answer) (rest : List Answer) → m ≡ l ++ x ∷ rest → Compared l m
+
+pub compared : (l m : List Answer) → OneBegins l m → Compared l m
+compared l m (inl ([], e)) = same (sym (e ∙ nil_right l))
+compared l m (inl (x ∷ rest, e)) = second_longer x rest e
+compared l m (inr ([], e)) = same (e ∙ nil_right m)
+compared l m (inr (x ∷ rest, e)) = first_longer x rest e
+
+-- a source that returns in one way
+pub one_source_proof : {S : Type 0} (gives : S → Answer → S → Type 0) (s t u : S) (a b : List Answer) → AnswersOneWay gives s → Gave gives s a t
+    → Gave gives s b u → OneBegins a b × (a ≡ b → t ≡ u)
+one_source_proof gives s t u [] [] one g h = (inl ([], refl), λ e. g ∙ sym h)
+one_source_proof gives s t u [] (y ∷ b) one g h = (inl (y ∷ b, refl), λ e. absurd (not_cons y b e))
+one_source_proof gives s t u (x ∷ a) [] one g h = (inr (x ∷ a, refl), λ e. absurd (not_cons x a (sym e)))
+one_source_proof {S} gives s t u (x ∷ a) (y ∷ b) one (v, i, g) (w, j, h) =
+    let e = one [] s refl x y v w i j in
+    let z = one_source_proof gives v t u a b (λ k m n. one (x ∷ k) m (v, i, n)) g (subst (λ (n : S). Gave gives n b u) (sym e.1) h) in
+    (go e.0 z.0, λ k. z.1 (tail_same x y a b k))
+  where
+    go : x ≡ y → OneBegins a b → OneBegins (x ∷ a) (y ∷ b)
+    go e (inl (rest, f)) = inl (rest, ap (λ (z : Answer). z ∷ b) (sym e) ∙ ap (λ (z : List Answer). x ∷ z) f)
+    go e (inr (rest, f)) = inr (rest, ap (λ (z : Answer). z ∷ a) e ∙ ap (λ (z : List Answer). y ∷ z) f)
+
+-- events
+
+pub next_there : (given d r : List Event) (e : Event) → given ++ d ≡ (given ++ e ∷ []) ++ r → d ≡ e ∷ r
+next_there given d r e h = front_same given d (e ∷ r) (h ∙ assoc given (e ∷ []) r)
+
+not_ahead : (given r : List Event) (e : Event) → given ≡ (given ++ e ∷ []) ++ r → ⊥
+not_ahead given r e h = not_cons e r (next_there given [] r e (nil_right given ∙ h))
+
+-- what a parser says that gave an event after these tokens
+abbrev pub BeginsRuns : List Token → List Event → Type 0
+BeginsRuns l g = (rest : List Token) (f : Fault) (e : List Event) (x : Ending) → IsRun (l ++ rest) f e x → Begins g e
+
+pub run_here : (l : List Token) (f : Fault) (e : List Event) (x : Ending) → IsRun l f e x → IsRun (l ++ []) f e x
+run_here l f e x r = subst (λ (k : List Token). IsRun k f e x) (sym (nil_right l)) r
+
+-- after tokens that settle the next event no further one is needed
+pub settled_needs_no_more : (l : List Token) (given : List Event) (e : Event) → BeginsEach l (given ++ e ∷ []) → BeginsRuns l (given ++ e ∷ []) → NeedsMore l given → ⊥
+settled_needs_no_more l given e each runs (for_next_event o) =
+    let a = each o.first o.first_rest o.first_order o.first_tokens in
+    let b = each o.second o.second_rest o.second_order o.second_tokens in
+    let x = next_there given o.first_events a.0 e (sym o.first_goes_on ∙ a.1) in
+    let y = next_there given o.second_events b.0 e (sym o.second_goes_on ∙ b.1) in
+    o.differ (ap next_event x ∙ sym (ap next_event y))
+settled_needs_no_more l given e each runs (amid_properties before token behind c a i b g) =
+    let r = subst (λ (k : List Token). IsRun k no_fault (cut_events c token) (Fails no_fault)) (sym a) (amid_run before token behind c no_fault i b) in
+    let n = runs [] no_fault (cut_events c token) (Fails no_fault) (run_here l no_fault (cut_events c token) (Fails no_fault) r) in
+    not_ahead given n.0 e (g ∙ n.1)
+
+pub waited : (c : Cut) (l : List Token) → HasWaited c l → is_behind_properties c l ≡ true
+waited c l (at_once e f) = ap (is_behind_properties c) e ∙ f
+waited c l (by_last front t e f g) = g
+
+-- the run of tokens that have a fault
+pub faulty_run : (l : List Token) (given : List Event) (g : Fault) → HasFailed l given g → (f : Fault) → IsRun l f given (Fails g)
+faulty_run l given g h f
+    = subst (λ (k : List Token). IsRun k f given (Fails g)) (sym h.all_tokens)
+    (subst (λ (z : Fault). IsRun (h.before ++ h.token ∷ h.behind) f given (Fails z)) (sym h.fault_is)
+    (subst (λ (z : List Event). IsRun (h.before ++ h.token ∷ h.behind) f z (Fails (fault h.cut h.token.content h.token.start_mark))) (sym h.all_events)
+    (cut_run h.before h.token h.behind h.cut f h.fits (waited h.cut h.behind h.waited))))
+
+pub same_fault : (f g : Fault) → Fails f ≡ Fails g → f ≡ g
+same_fault f g e = cc
+
+two_faults : no_fault ≡ memory_fault → ⊥
+two_faults e = go (ap (λ (f : Fault). f.error) e)
+  where
+    go : no_fault.error ≡ memory_fault.error → ⊥
+    go h = cc
+
+-- after tokens that have a fault no further one is needed
+pub failed_needs_no_more : (l : List Token) (given other : List Event) (g : Fault) → HasFailed l given g → NeedsMore l other → ⊥
+failed_needs_no_more l given other g h (for_next_event o)
+    = h.fits.bad_token (record { rest = h.behind ++ o.first_rest; sentence = record { tree = o.first; all = sentence; order = o.first_order } })
+  where
+    sentence : (h.before ++ h.token ∷ []) ++ (h.behind ++ o.first_rest) ≡ tokens o.first
+    sentence = assoc h.before (h.token ∷ []) (h.behind ++ o.first_rest)
+        ∙ (sym (assoc h.before (h.token ∷ h.behind) o.first_rest) ∙ (ap (λ (k : List Token). k ++ o.first_rest) (sym h.all_tokens) ∙ sym o.first_tokens))
+failed_needs_no_more l given other g h (amid_properties before token behind c a i b k) =
+    two_faults (sym (at no_fault) ∙ at memory_fault)
+  where
+    at : (f : Fault) → g ≡ f
+    at f = same_fault g f (one_run_proof l f given (cut_events c token) (Fails g) (Fails f) (faulty_run l given g h f)
+        (subst (λ (z : List Token). IsRun z f (cut_events c token) (Fails f)) (sym a) (amid_run before token behind c f i b))).1
+
+-- where a call that met no refusal stopped: at the end of tokens after which none is needed, or at the source's fault
+data Stopped (asked : List Token) (given : List Event) (more : List Answer) : Type 0 where
+  at_token : (l : List Token) → more ≡ answers l [] → (NeedsMore (asked ++ l) given → ⊥) → Stopped asked given more
+  at_fault : (l : List Token) (f : Fault) → more ≡ answers l (Err f ∷ []) → Stopped asked given more
+
+-- no other such call asks for more
+not_further : (asked : List Token) (given : List Event) (a b : List Answer) → Stopped asked given a → Stopped asked given b → EachNeeded asked b given
+    → (x : Answer) (rest : List Answer) → b ≡ a ++ x ∷ rest → ⊥
+not_further asked given a b (at_token l e n) s needed x rest h
+    = n (needed l x rest (h ∙ (ap (λ (z : List Answer). z ++ x ∷ rest) e ∙ answers_then l (x ∷ rest)))).1
+not_further asked given a b (at_fault l f e) (at_token m g n) needed x rest h
+    = ends_there l m f x rest (sym g ∙ (h ∙ ap (λ (z : List Answer). z ++ x ∷ rest) e))
+not_further asked given a b (at_fault l f e) (at_fault m g k) needed x rest h
+    = ends_here l m f g x rest (sym k ∙ (h ∙ ap (λ (z : List Answer). z ++ x ∷ rest) e))
+
+same_answers : (asked : List Token) (given : List Event) (a b : List Answer) → OneBegins a b → EachNeeded asked a given → EachNeeded asked b given
+    → Stopped asked given a → Stopped asked given b → a ≡ b
+same_answers asked given a b one m n v w = go (compared a b one)
+  where
+    go : Compared a b → a ≡ b
+    go (same e) = e
+    go (first_longer x rest e) = absurd (not_further asked given b a w v m x rest e)
+    go (second_longer x rest e) = absurd (not_further asked given a b v w n x rest e)
+
+-- histories
+
+not_empty : (g : List Event) (e : Event) → [] ≡ g ++ e ∷ [] → ⊥
+not_empty [] e h = not_cons e [] h
+not_empty (x ∷ g) e h = not_cons x (g ++ e ∷ []) h
+
+pub before_last : (g h : List Event) (e f : Event) → g ++ e ∷ [] ≡ h ++ f ∷ [] → g ≡ h
+before_last [] [] e f i = refl
+before_last [] (y ∷ h) e f i = absurd (not_empty h f (tail_same e y [] (h ++ f ∷ []) i))
+before_last (x ∷ g) [] e f i = absurd (not_empty g e (sym (tail_same x f (g ++ e ∷ []) [] i)))
+before_last (x ∷ g) (y ∷ h) e f i
+    = ap (λ (z : Event). z ∷ g) (head_same x y (g ++ e ∷ []) (h ++ f ∷ []) i)
+    ∙ ap (λ (z : List Event). y ∷ z) (before_last g h e f (tail_same x y (g ++ e ∷ []) (h ++ f ∷ []) i))
+
+result_event : (e f : Event) → ◌≡◌ {A = EventOrError} (Ok e) (Ok f) → e ≡ f
+result_event e f h = cc
+
+no_event_there : (e : Event) (x : yaml_error_type_t) → ◌≡◌ {A = EventOrError} (Ok e) (Err x) → ⊥
+no_event_there e x h = cc
+
+record Once (a b : List Answer) (e f : Event) (c d : Config) : Type 0 where
+  looked : a ≡ b
+  event : e ≡ f
+  left : c ≡ d
+
+-- one more result that both looked at
+once_more : (x : Answer) (a b : List Answer) (e f : Event) (c d : Config) → Once a b e f c d → Once (x ∷ a) (x ∷ b) e f c d
+once_more x a b e f c d h = record { looked = ap (λ (z : List Answer). x ∷ z) h.looked; event = h.event; left = h.left }
+
+-- calls that look at results of one list look at the same, and do the same
+calls_once : (a b r s : List Answer) (w : Want) (k : Config) (e f : Event) (c d : Config) → Calls w k a (Ok e) c → Calls w k b (Ok f) d → a ++ r ≡ b ++ s
+    → Once a b e f c d
+calls_once [] b r s w k e f c d g h i = absurd g
+calls_once (Err z ∷ a) b r s w k e f c d g h i = absurd (no_event_there e z.error g.1)
+calls_once (Ok t ∷ a) [] r s w k e f c d g h i = absurd h
+calls_once (Ok t ∷ a) (Err z ∷ b) r s w k e f c d g h i = absurd (no_event_there f z.error h.1)
+calls_once (Ok t ∷ a) (Ok u ∷ b) r s w k e f c d g h i =
+    let v = ok_token t u (head_same (Ok t) (Ok u) (a ++ r) (b ++ s) i) in
+    subst (λ (z : Token). Once (Ok t ∷ a) (Ok z ∷ b) e f c d) v
+    (go (λ w' k' y z. calls_once a b r s w' k' e f c d y z (tail_same (Ok t) (Ok u) (a ++ r) (b ++ s) i)) (step w k t) g (subst (λ (z : Token). Then (step w k z) (λ w' k'. Calls w' k' b (Ok f) d) b (Ok f) d) (sym v) h))
+  where
+    go : ((w' : Want) (k' : Config) → Calls w' k' a (Ok e) c → Calls w' k' b (Ok f) d → Once a b e f c d)
+        → (o : Progressed) → Then o (λ w' k'. Calls w' k' a (Ok e) c) a (Ok e) c → Then o (λ w' k'. Calls w' k' b (Ok f) d) b (Ok f) d
+        → Once (Ok t ∷ a) (Ok t ∷ b) e f c d
+    go ih (Err x) y z = absurd (no_event_there e x.error y.1)
+    go ih (Ok (Given x, l)) y z
+        = record {
+          looked = ap (λ (m : List Answer). Ok t ∷ m) (y.0 ∙ sym z.0);
+          event = result_event e x y.1 ∙ sym (result_event f x z.1);
+          left = y.2 ∙ sym z.2;
+        }
+    go ih (Ok (Wants w', k')) y z = once_more (Ok t) a b e f c d (ih w' k' y z)
+
+answers_both : (l r : List Token) → answers (l ++ r) [] ≡ answers l [] ++ answers r []
+answers_both [] r = refl
+answers_both (t ∷ l) r = ap (λ (z : List Answer). Ok t ∷ z) (answers_both l r)
+
+-- of tokens of one list, and by the same events, calls lead to one configuration
+pub ran_once : {c d : Config} {a b : List Token} {g h : List Event} → Ran c a g → Ran d b h → (r s : List Token) → a ++ r ≡ b ++ s → g ≡ h
+    → (c ≡ d) × (a ≡ b)
+ran_once begins begins r s i j = (refl, refl)
+ran_once begins (goes_on c asked given more e run running call x y) r s i j = absurd (not_empty given e (j ∙ y))
+ran_once (goes_on c asked given more e run running call x y) begins r s i j = absurd (not_empty given e (sym j ∙ y))
+ran_once {c} {d} (goes_on c1 a1 g1 m1 e1 run1 running1 call1 x1 y1) (goes_on c2 a2 g2 m2 e2 run2 running2 call2 x2 y2) r s i j =
+    let k : a1 ++ (m1 ++ r) ≡ a2 ++ (m2 ++ s)
+    = sym (assoc a1 m1 r) ∙ (ap (λ (z : List Token). z ++ r) (sym x1) ∙ (i ∙ (ap (λ (z : List Token). z ++ s) x2 ∙ assoc a2 m2 s))) in
+    let before = ran_once run1 run2 (m1 ++ r) (m2 ++ s) k (before_last g1 g2 e1 e2 (sym y1 ∙ (j ∙ y2))) in
+    let n : m1 ++ r ≡ m2 ++ s = front_same a1 (m1 ++ r) (m2 ++ s) (k ∙ ap (λ (z : List Token). z ++ (m2 ++ s)) (sym before.1)) in
+    let call : Calls AtState (taken c1) (held c1 ++ answers m2 []) (Ok e2) d
+    = subst (λ (z : Config). Calls AtState (taken z) (held z ++ answers m2 []) (Ok e2) d) (sym before.0) call2 in
+    let l : (held c1 ++ answers m1 []) ++ answers r [] ≡ (held c1 ++ answers m2 []) ++ answers s []
+    = assoc (held c1) (answers m1 []) (answers r [])
+    ∙ (ap (λ (z : List Answer). held c1 ++ z) (sym (answers_both m1 r) ∙ (ap (λ (z : List Token). answers z []) n ∙ answers_both m2 s))
+    ∙ sym (assoc (held c1) (answers m2 []) (answers s []))) in
+    let o = calls_once (held c1 ++ answers m1 []) (held c1 ++ answers m2 []) (answers r []) (answers s []) AtState (taken c1) e1 e2 c d call1 call l in
+    let m : m1 ≡ m2 = same_tokens m1 m2 (front_same (held c1) (answers m1 []) (answers m2 []) o.looked) in
+    (o.left, x1 ∙ (ap (λ (z : List Token). z ++ m1) before.1 ∙ (ap (λ (z : List Token). a2 ++ z) m ∙ sym x2)))
+
+pub one_history_proof : {S : Type 0} (p q : Parser S) (asked : List Token) (given : List Event) → History p asked given → History q asked given
+    → p.config ≡ q.config
+one_history_proof p q asked given g h = (ran_once g h [] [] refl refl).0
+
+-- outcomes
+
+module _ {S : Type 0} (gives : S → Answer → S → Type 0) (token_bound : S → ℕ) (known : S → Option Coming) (may_break : S → Fault → Type 0) where
+  abbrev Next : Parser S → EventOrError → Parser S → Type 0
+  Next old r new = ParsesNext gives token_bound known may_break old r new
+
+  carried_stops : (old new : Parser S) (e : Event) (r : EventOrError) (asked : List Token) (given : List Event) → Next old r new
+      → (h : CarriesOn gives old e new asked given) → Stopped asked given (answers h.more [])
+  carried_stops old new e r asked given n h
+      = at_token h.more refl (settled_needs_no_more (asked ++ h.more) given e
+      (n.begins (asked ++ h.more) (given ++ e ∷ []) h.history) (n.begins_run (asked ++ h.more) (given ++ e ∷ []) h.history))
+
+  -- both gave an event
+  both_give : (old p q : Parser S) (e f : Event) (asked : List Token) (given : List Event) → Next old (Ok e) p → Next old (Ok f) q
+      → (g : CarriesOn gives old e p asked given) → (h : CarriesOn gives old f q asked given) → OneBegins (answers g.more []) (answers h.more [])
+      → OneOutcome gives old asked given (answers g.more []) (answers h.more []) (Ok e) p (Ok f) q
+  both_give old p q e f asked given n o g h one =
+      let w = same_answers asked given (answers g.more []) (answers h.more []) one g.needed h.needed
+      (carried_stops old p e (Ok e) asked given n g) (carried_stops old q f (Ok f) asked given o h) in
+      let m : g.more ≡ h.more = same_tokens g.more h.more w in
+      let (es, x, run) = some_run_proof (asked ++ g.more) no_fault in
+      let a = n.begins_run (asked ++ g.more) (given ++ e ∷ []) g.history [] no_fault es x (run_here (asked ++ g.more) no_fault es x run) in
+      let b = o.begins_run (asked ++ h.more) (given ++ f ∷ []) h.history [] no_fault es x (run_here (asked ++ h.more) no_fault es x
+      (subst (λ (z : List Token). IsRun (asked ++ z) no_fault es x) m run)) in
+      let same_event : e ≡ f = head_same e f a.0 b.0 (front_same given (e ∷ a.0) (f ∷ b.0)
+      (sym (assoc given (e ∷ []) a.0) ∙ (sym a.1 ∙ (b.1 ∙ assoc given (f ∷ []) b.0)))) in
+      let k = (ran_once g.history h.history [] [] (ap (λ (z : List Token). (asked ++ z) ++ []) m) (ap (λ (z : Event). given ++ z ∷ []) same_event)).0 in
+      alike w (record { result = ap Ok same_event; bound = n.bound ∙ sym o.bound; behind_event = k; behind_error = tt })
+
+  runs_out : (old new : Parser S) (x : yaml_error_type_t) (asked : List Token) (given : List Event) → Next old (Err x) new
+      → (h : FailsBy gives old new asked given) (l : List Token) → h.more ≡ answers l [] → takes_no_memory (stage_of given) (asked ++ l) ≡ false
+      → MeetsRefusal old.config h.more → kept_fault new ≡ memory_fault → RunsOut gives old (Err x) new asked given
+  runs_out old new x asked given n h l e take meets f
+      = record {
+        more = l;
+        gave = subst (λ (z : List Answer). Gave gives old.source z new.source) e h.gave;
+        needed = subst (λ (z : List Answer). EachNeeded asked z given) e h.needed;
+        may_take = take;
+        meets = subst (λ (z : List Answer). MeetsRefusal old.config z) e meets;
+        error = ap Err (n.kept.0 ∙ ap (λ (z : Fault). z.error) f);
+        fault = f;
+      }
+
+  grammar_stops : (asked : List Token) (given : List Event) (more : List Answer) (f : Fault) (l : List Token) → more ≡ answers l [] → HasFailed (asked ++ l) given f
+      → Stopped asked given more
+  grammar_stops asked given more f l i j = at_token l i (failed_needs_no_more (asked ++ l) given given f j)
+
+  -- one gave an event, and the other failed
+  gives_and_fails : (old p q : Parser S) (e : Event) (x : yaml_error_type_t) (asked : List Token) (given : List Event) → Next old (Ok e) p
+      → Next old (Err x) q → (g : CarriesOn gives old e p asked given) → (h : FailsBy gives old q asked given)
+      → OneBegins (answers g.more []) h.more → RunsOut gives old (Err x) q asked given
+  gives_and_fails old p q e x asked given n o g h one = go h.cause
+    where
+      alike_there : Stopped asked given h.more → answers g.more [] ≡ h.more
+      alike_there s = same_answers asked given (answers g.more []) h.more one g.needed h.needed (carried_stops old p e (Ok e) asked given n g) s
+
+      go : Cause old.config asked given h.more (kept_fault q) → RunsOut gives old (Err x) q asked given
+      go (of_memory l i take meets f) = runs_out old q x asked given o h l i take meets f
+      go (of_grammar l i f) =
+          let m : g.more ≡ l = same_tokens g.more l (alike_there (grammar_stops asked given h.more (kept_fault q) l i f) ∙ i) in
+          let run = subst (λ (z : List Token). IsRun (asked ++ z) no_fault given (Fails (kept_fault q))) (sym m)
+          (faulty_run (asked ++ l) given (kept_fault q) f no_fault) in
+          let b = n.begins_run (asked ++ g.more) (given ++ e ∷ []) g.history [] no_fault given (Fails (kept_fault q))
+          (run_here (asked ++ g.more) no_fault given (Fails (kept_fault q)) run) in
+          absurd (not_ahead given b.0 e b.1)
+      go (of_source l i s f) = absurd (not_faulted g.more l (kept_fault q) (alike_there (at_fault l (kept_fault q) i) ∙ i))
+
+  failed_alike : (old p q : Parser S) (x y : yaml_error_type_t) → Next old (Err x) p → Next old (Err y) q → kept_fault p ≡ kept_fault q
+      → Alike (Err x) p (Err y) q
+  failed_alike old p q x y n o f
+      = record {
+        result = ap Err (n.kept.0 ∙ (ap (λ (z : Fault). z.error) f ∙ sym o.kept.0));
+        bound = n.bound ∙ sym o.bound;
+        behind_event = tt;
+        behind_error = record { fault = f; failed = (n.failed, o.failed); over = (n.kept.1, o.kept.1); held = (n.none_held, o.none_held) };
+      }
+
+  -- both failed
+  both_fail : (old p q : Parser S) (x y : yaml_error_type_t) (asked : List Token) (given : List Event) → Next old (Err x) p → Next old (Err y) q
+      → (g : FailsBy gives old p asked given) → (h : FailsBy gives old q asked given) → OneBegins g.more h.more
+      → OneOutcome gives old asked given g.more h.more (Err x) p (Err y) q
+  both_fail old p q x y asked given n o g h one = go g.cause h.cause
+    where
+      alike_there : Stopped asked given g.more → Stopped asked given h.more → g.more ≡ h.more
+      alike_there s t = same_answers asked given g.more h.more one g.needed h.needed s t
+
+      go : Cause old.config asked given g.more (kept_fault p) → Cause old.config asked given h.more (kept_fault q)
+          → OneOutcome gives old asked given g.more h.more (Err x) p (Err y) q
+      go (of_memory l i take meets f) d = first_runs_out (runs_out old p x asked given n g l i take meets f)
+      go c (of_memory l i take meets f) = second_runs_out (runs_out old q y asked given o h l i take meets f)
+      go (of_grammar l i f) (of_grammar m j k) =
+          let w = alike_there (grammar_stops asked given g.more (kept_fault p) l i f) (grammar_stops asked given h.more (kept_fault q) m j k) in
+          let e : l ≡ m = same_tokens l m (sym i ∙ (w ∙ j)) in
+          let run = subst (λ (z : List Token). IsRun (asked ++ z) no_fault given (Fails (kept_fault q))) (sym e)
+          (faulty_run (asked ++ m) given (kept_fault q) k no_fault) in
+          let s = one_run_proof (asked ++ l) no_fault given given (Fails (kept_fault p)) (Fails (kept_fault q))
+          (faulty_run (asked ++ l) given (kept_fault p) f no_fault) run in
+          alike w (failed_alike old p q x y n o (same_fault (kept_fault p) (kept_fault q) s.1))
+      go (of_grammar l i f) (of_source m j s k) =
+          let w = alike_there (grammar_stops asked given g.more (kept_fault p) l i f) (at_fault m (kept_fault q) j) in
+          absurd (not_faulted l m (kept_fault q) (sym i ∙ (w ∙ j)))
+      go (of_source l i s f) (of_grammar m j k) =
+          let w = alike_there (at_fault l (kept_fault p) i) (grammar_stops asked given h.more (kept_fault q) m j k) in
+          absurd (not_faulted m l (kept_fault p) (sym j ∙ (sym w ∙ i)))
+      go (of_source l i s f) (of_source m j t k) =
+          let w = alike_there (at_fault l (kept_fault p) i) (at_fault m (kept_fault q) j) in
+          alike w (failed_alike old p q x y n o (same_ends l m (kept_fault p) (kept_fault q) (sym i ∙ (w ∙ j))))
+
+  turned : (a b : List Answer) → OneBegins a b → OneBegins b a
+  turned a b (inl h) = inr h
+  turned a b (inr h) = inl h
+
+  pub one_outcome_proof : (old p q : Parser S) (r s : EventOrError) (asked : List Token) (given : List Event) → Next old r p → Next old s q
+      → OneByAnswers gives old asked given r p s q
+  one_outcome_proof old p q (Ok e) (Ok f) asked given n o a b one = both_give old p q e f asked given n o a b one
+  one_outcome_proof old p q (Ok e) (Err y) asked given n o a b one = second_runs_out (gives_and_fails old p q e y asked given n o a b one)
+  one_outcome_proof old p q (Err x) (Ok f) asked given n o a b one
+      = first_runs_out (gives_and_fails old q p f x asked given o n b a (turned a.more (answers b.more []) one))
+  one_outcome_proof old p q (Err x) (Err y) asked given n o a b one = both_fail old p q x y asked given n o a b one
+
+  -- the outcome that the contract says
+  pub outcome_of : (old new : Parser S) (r : EventOrError) (asked : List Token) (given : List Event) → History old asked given → is_over old ≡ false → Next old r new
+      → CarriesOnOrFails gives old asked given r new
+  outcome_of old new (Ok e) asked given h running n = n.carries_on running asked given h
+  outcome_of old new (Err x) asked given h running n = n.fails asked given h
+
+  outcome_gave : (old new : Parser S) (r : EventOrError) (asked : List Token) (given : List Event) → (a : CarriesOnOrFails gives old asked given r new)
+      → Gave gives old.source (results_of gives old asked given r new a) new.source
+  outcome_gave old new (Ok e) asked given a = a.gave
+  outcome_gave old new (Err x) asked given a = a.gave
+
+  pub one_way_proof : (old p q : Parser S) (r s : EventOrError) (asked : List Token) (given : List Event) → History old asked given → is_over old ≡ false
+      → AnswersOneWay gives old.source → Next old r p → Next old s q
+      → (RunsOut gives old r p asked given ⊎ RunsOut gives old s q asked given) ⊎ (Alike r p s q × (p.source ≡ q.source))
+  one_way_proof old p q r s asked given h running one n o =
+      let a = outcome_of old p r asked given h running n in
+      let b = outcome_of old q s asked given h running o in
+      let z = one_source_proof gives old.source p.source q.source (results_of gives old asked given r p a) (results_of gives old asked given s q b) one
+      (outcome_gave old p r asked given a) (outcome_gave old q s asked given b) in
+      go (results_of gives old asked given r p a) (results_of gives old asked given s q b) z.1 (one_outcome_proof old p q r s asked given n o a b z.0)
+    where
+      go : (a b : List Answer) → (a ≡ b → p.source ≡ q.source) → OneOutcome gives old asked given a b r p s q
+          → (RunsOut gives old r p asked given ⊎ RunsOut gives old s q asked given) ⊎ (Alike r p s q × (p.source ≡ q.source))
+      go a b k (alike e f) = inr (f, k e)
+      go a b k (first_runs_out f) = inl (inl f)
+      go a b k (second_runs_out f) = inl (inr f)

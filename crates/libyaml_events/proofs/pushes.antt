@@ -1,0 +1,6 @@
+pub mod Feeding
+pub mod Handed
+pub mod Few
+pub mod Taking
+pub mod Pushing
+pub mod Histories

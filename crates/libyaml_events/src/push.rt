@@ -1,0 +1,215 @@
+//! A parser that is handed its tokens.
+ghost use Rattle.std.specs.Prelude.{◌≡◌, ◌≤◌, ◌<◌, [], None, IfErr, true, false};
+ghost use Rattle.std.specs.Vec.{vec_capacity, vec_len};
+ghost use Rattle.libyaml_sources.specs.Fault.{fault_of, no_fault};
+ghost use Rattle.libyaml_events.specs.machine.Answers.{wanted};
+ghost use Rattle.libyaml_events.specs.machine.Config.{ended_or_failed, is_fault};
+ghost use Rattle.libyaml_events.specs.machine.StepsOnto.{StepsOnto};
+ghost use Rattle.libyaml_events.specs.sources.Pushed.{made, standing, ForPushed, Pushed, fault_in};
+ghost use Rattle.libyaml_events.specs.sources.Pushed.{RemembersPushes};
+ghost use Rattle.libyaml_events.specs.sources.Pushes.{Pushes, Takes};
+
+use crate::event_kinds::no_event;
+use crate::next::{Next, Step};
+use crate::parser::Machine;
+use crate::pending::Pending;
+use libyaml_sources::yaml_parser_t_prefix;
+use libyaml_types::{yaml_error_type_t, yaml_event_t, yaml_parser_state_t, yaml_token_t};
+use std::alloc::Global;
+use std::marker::Model;
+
+/// A parser that is handed one token after another.
+#[derive(Drop)]
+pub struct yaml_push_parser_t {
+    machine: Machine<()>,
+    /// What was read of a node or of directives, and which function takes the next token.
+    pending: Pending,
+}
+
+impl Model for yaml_push_parser_t {
+    ghost use Rattle.std.specs.Prelude.{◌≡◌, None};
+    ghost use Rattle.std.specs.Coded.{codes};
+    ghost use Rattle.libyaml_events.specs.machine.Answers.{wanted};
+    ghost use Rattle.libyaml_events.specs.machine.Config.{handles_code};
+    ghost use Rattle.libyaml_events.specs.sources.Pushed.{PushParser, RemembersPushes, standing};
+
+    ghost Value = { PushParser };
+
+    ghost coded = { Prim.hlevel (codes, handles_code) };
+
+    ghost view = { λ p. standing (wanted p.pending) p.machine.config };
+
+    // no token is held between two pushes
+    ghost invariant = { λ p. (p.machine.config.lookahead ≡ None)
+        × RemembersPushes (standing (wanted p.pending) p.machine.config) };
+}
+
+impl yaml_push_parser_t {
+    /// Returns a parser at a stream's start, without an allocation.
+    pub fn new(alloc: Global) -> Self
+        ensures value { result ≡ made }
+        ensures begins { Pushed result [] [] }
+    {
+        yaml_push_parser_t {
+            machine: Machine::new(alloc, ()),
+            pending: Pending::new(alloc),
+        }
+    }
+
+    /// Takes a token, and appends the events that it settles: at most four. After the stream end event or a
+    /// fault it takes none.
+    ///
+    /// # Errors
+    ///
+    /// The error of a fault of the grammar or of an allocation that failed. The parser keeps it for good, and
+    /// each further call returns it.
+    pub fn push(
+        &mut self,
+        token: yaml_token_t,
+        events: &mut Vec<yaml_event_t>,
+    ) -> Result<(), yaml_error_type_t>
+        ensures { Pushes (vec_capacity events.old ≤ vec_len events.new) self.old token events.old.items result
+            self.new events.new.items }
+    {
+        let mut token = token;
+        self.push_from(&mut token, events)
+    }
+
+    /// Takes a token as `push` does, from a slot, so that a loop needs one token, which isn't moved.
+    /// Afterwards `token` is any token.
+    ///
+    /// # Errors
+    ///
+    /// As `push`.
+    pub fn push_from(
+        &mut self,
+        token: &mut yaml_token_t,
+        events: &mut Vec<yaml_event_t>,
+    ) -> Result<(), yaml_error_type_t>
+        ensures { Pushes (vec_capacity events.old ≤ vec_len events.new) self.old token.old events.old.items
+            result self.new events.new.items }
+    {
+        if self.machine.is_over() {
+            return self.machine.kept_error();
+        }
+        self.machine.feed(token, &mut self.pending, events)
+    }
+
+    /// Does nothing. A parser that keeps no fault has a history: some pushes lead to a parser like it.
+    pub fn remembered(&self)
+        ensures { RemembersPushes self.now }
+    {
+        let _ = &self.machine;
+    }
+
+    /// Returns the fault that the parser keeps, or `NO_FAULT` where it keeps none.
+    pub fn prefix(&self) -> &yaml_parser_t_prefix
+        ensures kept { fault_of result.now ≡ fault_in self.now }
+        ensures before_fault { ForPushed self.now (λ _ _. fault_of result.now ≡ no_fault) }
+    {
+        self.machine.kept_prefix()
+    }
+}
+
+impl<S> Machine<S> {
+    /// Takes the token in its slot, and then the one that stays, until a further one is wanted.
+    fn feed(
+        &mut self,
+        token: &mut yaml_token_t,
+        pending: &mut Pending,
+        events: &mut Vec<yaml_event_t>,
+    ) -> Result<(), yaml_error_type_t>
+        requires running { ended_or_failed self.old.config ≡ false }
+        requires none_held { self.old.config.lookahead ≡ None }
+        ensures kept { IfErr result (λ e. (e ≡ self.new.config.fault.error)
+            × (is_fault self.new.config.fault.error ≡ true)) }
+        ensures none_held { self.new.config.lookahead ≡ None }
+        ensures takes { Takes (vec_capacity events.old ≤ vec_len events.new)
+            (standing (wanted pending.old) self.old.config) token.old events.old.items result
+            (standing (wanted pending.new) self.new.config) events.new.items }
+    {
+        loop {
+            match self.step_onto(token, pending, events) {
+                Ok(Step::Wants) => return Ok(()),
+                Ok(Step::Given) => {}
+                Err(error) => {
+                    self.let_go();
+                    return Err(error);
+                }
+            }
+            pending.next = Next::AtState;
+            if !self.take_held(token) || self.is_over() {
+                return Ok(());
+            }
+        }
+    }
+
+    /// Does a step, whose event is appended.
+    #[inline(always)]
+    fn step_onto(
+        &mut self,
+        token: &mut yaml_token_t,
+        pending: &mut Pending,
+        events: &mut Vec<yaml_event_t>,
+    ) -> Result<Step, yaml_error_type_t>
+        requires { self.old.config.state ≡ yaml_parser_state_t.YAML_PARSE_END_STATE → ⊥ }
+        ensures steps { StepsOnto (vec_capacity events.old ≤ vec_len events.new) (wanted pending.old) self.old
+            token.old events.old.items result (wanted pending.new) self.new events.new.items }
+        ensures capacity { vec_capacity events.old ≤ vec_capacity events.new }
+    {
+        if events.len() < events.capacity() {
+            return self.step_in_place(token, pending, events);
+        }
+        self.step_aside(token, pending, events)
+    }
+
+    /// Does a step in a place at the list's end, which stays where an event is given.
+    #[inline(always)]
+    fn step_in_place(
+        &mut self,
+        token: &mut yaml_token_t,
+        pending: &mut Pending,
+        events: &mut Vec<yaml_event_t>,
+    ) -> Result<Step, yaml_error_type_t>
+        requires running { self.old.config.state ≡ yaml_parser_state_t.YAML_PARSE_END_STATE → ⊥ }
+        requires room { vec_len events.old < vec_capacity events.old }
+        ensures steps { StepsOnto (vec_capacity events.old ≤ vec_len events.new) (wanted pending.old) self.old
+            token.old events.old.items result (wanted pending.new) self.new events.new.items }
+        ensures capacity { vec_capacity events.new ≡ vec_capacity events.old }
+    {
+        let place = events.len();
+        events.push_reserved(no_event());
+        match self.step(token, pending, &mut events[place]) {
+            Ok(Step::Given) => Ok(Step::Given),
+            other => {
+                let _ = events.pop();
+                other
+            }
+        }
+    }
+
+    /// Does a step, and then makes room for its event.
+    #[cold]
+    #[inline(never)]
+    fn step_aside(
+        &mut self,
+        token: &mut yaml_token_t,
+        pending: &mut Pending,
+        events: &mut Vec<yaml_event_t>,
+    ) -> Result<Step, yaml_error_type_t>
+        requires { self.old.config.state ≡ yaml_parser_state_t.YAML_PARSE_END_STATE → ⊥ }
+        ensures steps { StepsOnto (vec_capacity events.old ≤ vec_len events.new) (wanted pending.old) self.old
+            token.old events.old.items result (wanted pending.new) self.new events.new.items }
+        ensures capacity { vec_capacity events.old ≤ vec_capacity events.new }
+    {
+        let mut event = no_event();
+        match self.step(token, pending, &mut event)? {
+            Step::Wants => return Ok(Step::Wants),
+            Step::Given => {}
+        }
+        if events.push(event).is_err() {
+            return Err(self.out_of_memory());
+        }
+        Ok(Step::Given)
+    }
+}

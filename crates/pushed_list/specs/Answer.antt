@@ -1,0 +1,14 @@
+-- The run of a list of tokens, as what a function returns.
+use Rattle.std.specs.Prelude.{◌≡◌, ◌⊎◌, List}
+use Rattle.libyaml_types.specs.declared.event.yaml_event_t.{yaml_event_t}
+use Rattle.libyaml_types.specs.declared.token.yaml_token_t.{yaml_token_t}
+use Rattle.libyaml_sources.specs.Fault.{Fault, memory_fault}
+use Rattle.libyaml_grammar.specs.runs.Runs.{IsRun, Ends, Fails}
+
+-- the events of the run over the tokens and a source's fault: to the stream's end, or to that fault
+abbrev pub GivesRun : List yaml_token_t → Fault → List yaml_event_t → Type 0
+GivesRun tokens source events = IsRun tokens source events Ends ⊎ IsRun tokens source events (Fails source)
+
+-- or the run's fault, or out of memory
+abbrev pub FailsSo : List yaml_token_t → Fault → Fault → Type 0
+FailsSo tokens source f = (f ≡ memory_fault) ⊎ ((events : List yaml_event_t) × IsRun tokens source events (Fails f))
