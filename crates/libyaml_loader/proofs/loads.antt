@@ -4,5 +4,10 @@ pub mod Stepping
 pub mod NextLoads
 pub mod Ended
 pub mod Falling
+pub mod Faultless
 pub mod Outside
 pub mod Rootless
+pub mod Large
+pub mod OneLoads
+pub mod Items
+pub mod Loops

@@ -92,23 +92,21 @@ impl loader_ctx {
         ensures err { IfErr result (λ r. Refuses self.old self.new (part_of event.old)
             event.old.start_mark r) }
     {
-        let start_mark = event.start_mark;
-        let end_mark = event.end_mark;
         match &mut event.content {
             unnamed_yaml_event_t_data::Alias(alias) => {
-                self.yaml_parser_load_alias(&alias.anchor, start_mark)
+                self.yaml_parser_load_alias(&alias.anchor, &event.start_mark)
             }
             unnamed_yaml_event_t_data::Scalar(scalar) => {
-                self.yaml_parser_load_scalar(scalar, start_mark, end_mark)
+                self.yaml_parser_load_scalar(scalar, &event.start_mark, &event.end_mark)
             }
             unnamed_yaml_event_t_data::SequenceStart(start) => {
-                self.yaml_parser_load_sequence(start, start_mark, end_mark)
+                self.yaml_parser_load_sequence(start, &event.start_mark, &event.end_mark)
             }
             unnamed_yaml_event_t_data::MappingStart(start) => {
-                self.yaml_parser_load_mapping(start, start_mark, end_mark)
+                self.yaml_parser_load_mapping(start, &event.start_mark, &event.end_mark)
             }
             unnamed_yaml_event_t_data::SequenceEnd | unnamed_yaml_event_t_data::MappingEnd => {
-                self.load_end(end_mark);
+                self.load_end(event.end_mark);
                 Ok(())
             }
             _ => Ok(()),
@@ -134,12 +132,12 @@ impl loader_ctx {
     fn yaml_parser_load_alias(
         &mut self,
         anchor: &str,
-        start_mark: yaml_mark_t,
+        start_mark: &yaml_mark_t,
     ) -> Result<(), Refusal>
         requires { IdsAreIn (loader_of self.old) }
-        ensures ok { OnOk result (Composed self.old self.new (Some (alias_part anchor.now start_mark))) }
-        ensures err { IfErr result (λ r. Refuses self.old self.new (Some (alias_part anchor.now start_mark))
-            start_mark r) }
+        ensures ok { OnOk result (Composed self.old self.new (Some (alias_part anchor.now start_mark.now))) }
+        ensures err { IfErr result (λ r. Refuses self.old self.new (Some (alias_part anchor.now start_mark.now))
+            start_mark.now r) }
     {
         match self.anchors.find(anchor) {
             Some(carrier) => self.yaml_parser_load_node_add(carrier.node),
@@ -153,20 +151,20 @@ impl loader_ctx {
     fn yaml_parser_load_scalar(
         &mut self,
         scalar: &mut unnamed_yaml_event_t_data_scalar,
-        start_mark: yaml_mark_t,
-        end_mark: yaml_mark_t,
+        start_mark: &yaml_mark_t,
+        end_mark: &yaml_mark_t,
     ) -> Result<(), Refusal>
         requires { IdsAreIn (loader_of self.old) }
         ensures ok { OnOk result (Composed self.old self.new
-            (Some (leaf_part scalar.old.anchor (scalar_loaded scalar.old start_mark end_mark)))) }
+            (Some (leaf_part scalar.old.anchor (scalar_loaded scalar.old start_mark.now end_mark.now)))) }
         ensures err { IfErr result (λ r. Refuses self.old self.new
-            (Some (leaf_part scalar.old.anchor (scalar_loaded scalar.old start_mark end_mark)))
-            start_mark r) }
+            (Some (leaf_part scalar.old.anchor (scalar_loaded scalar.old start_mark.now end_mark.now)))
+            start_mark.now r) }
     {
         self.has_room(self.document.nodes().len())?;
         let anchor = scalar.anchor.take();
         let node = scalar_of_event(self.alloc, scalar, start_mark, end_mark)?;
-        self.load_node(anchor, node)?;
+        self.load_node(anchor, node, start_mark)?;
         Ok(())
     }
 
@@ -176,22 +174,22 @@ impl loader_ctx {
     fn yaml_parser_load_sequence(
         &mut self,
         start: &mut unnamed_yaml_event_t_data_sequence_start,
-        start_mark: yaml_mark_t,
-        end_mark: yaml_mark_t,
+        start_mark: &yaml_mark_t,
+        end_mark: &yaml_mark_t,
     ) -> Result<(), Refusal>
         requires { IdsAreIn (loader_of self.old) }
         ensures ok { OnOk result (Composed self.old self.new
             (Some (start_part start.old.anchor
-            (sequence_loaded start.old.tag start.old.style [] start_mark end_mark)))) }
+            (sequence_loaded start.old.tag start.old.style [] start_mark.now end_mark.now)))) }
         ensures err { IfErr result (λ r. Refuses self.old self.new
             (Some (start_part start.old.anchor
-            (sequence_loaded start.old.tag start.old.style [] start_mark end_mark)))
-            start_mark r) }
+            (sequence_loaded start.old.tag start.old.style [] start_mark.now end_mark.now)))
+            start_mark.now r) }
     {
         self.has_room(self.document.nodes().len())?;
         let anchor = start.anchor.take();
         let node = sequence_of_event(self.alloc, start, start_mark, end_mark)?;
-        let id = self.load_node(anchor, node)?;
+        let id = self.load_node(anchor, node, start_mark)?;
         self.stack.push(id)?;
         Ok(())
     }
@@ -202,22 +200,22 @@ impl loader_ctx {
     fn yaml_parser_load_mapping(
         &mut self,
         start: &mut unnamed_yaml_event_t_data_mapping_start,
-        start_mark: yaml_mark_t,
-        end_mark: yaml_mark_t,
+        start_mark: &yaml_mark_t,
+        end_mark: &yaml_mark_t,
     ) -> Result<(), Refusal>
         requires { IdsAreIn (loader_of self.old) }
         ensures ok { OnOk result (Composed self.old self.new
             (Some (start_part start.old.anchor
-            (mapping_loaded start.old.tag start.old.style [] start_mark end_mark)))) }
+            (mapping_loaded start.old.tag start.old.style [] start_mark.now end_mark.now)))) }
         ensures err { IfErr result (λ r. Refuses self.old self.new
             (Some (start_part start.old.anchor
-            (mapping_loaded start.old.tag start.old.style [] start_mark end_mark)))
-            start_mark r) }
+            (mapping_loaded start.old.tag start.old.style [] start_mark.now end_mark.now)))
+            start_mark.now r) }
     {
         self.has_room(self.document.nodes().len())?;
         let anchor = start.anchor.take();
         let node = mapping_of_event(self.alloc, start, start_mark, end_mark)?;
-        let id = self.load_node(anchor, node)?;
+        let id = self.load_node(anchor, node, start_mark)?;
         self.stack.push(id)?;
         Ok(())
     }
@@ -225,9 +223,15 @@ impl loader_ctx {
     /// Appends a node without children, registers its anchor, puts the node into the innermost open
     /// collection, and returns its id.
     #[inline(always)]
-    fn load_node(&mut self, anchor: Option<String>, node: yaml_node_t) -> Result<NodeId, Refusal>
+    fn load_node(
+        &mut self,
+        anchor: Option<String>,
+        node: yaml_node_t,
+        start_mark: &yaml_mark_t,
+    ) -> Result<NodeId, Refusal>
         requires ids { IdsAreIn (loader_of self.old) }
         requires childless { ids_of node.content ≡ [] }
+        requires mark { node.start_mark ≡ start_mark.now }
         ensures ok { IfOk result
             (λ id. NodeLoaded self.old self.new id (option_map string_bytes anchor) node) }
         ensures err { IfErr result (λ r. RefusesAnchor
@@ -235,33 +239,36 @@ impl loader_ctx {
             self.old.anchors)
             r self.new.first_mark) }
     {
-        let mark = node.start_mark;
         let id = NodeId::new(append_node(&mut self.document, node)?);
-        self.yaml_parser_register_anchor(anchor, Carrier { node: id, mark })?;
+        self.yaml_parser_register_anchor(anchor, id, start_mark)?;
         self.yaml_parser_load_node_add(id)?;
         Ok(id)
     }
 
-    /// Registers this node as the carrier of the anchor, if there is an anchor.
+    /// Registers this node, which starts at `mark`, as the carrier of the anchor, if there is an anchor.
     ///
     /// libyaml: `yaml_parser_register_anchor`.
     #[inline(always)]
     fn yaml_parser_register_anchor(
         &mut self,
         anchor: Option<String>,
-        carrier: Carrier,
+        node: NodeId,
+        mark: &yaml_mark_t,
     ) -> Result<(), Refusal>
-        ensures ok { OnOk result (register (option_map string_bytes anchor) (id_of carrier.node) carrier.mark
+        ensures ok { OnOk result (register (option_map string_bytes anchor) (id_of node) mark.now
             self.old.anchors ≡ registered self.new.anchors) }
         ensures rest { OnOk result (self.new ≡ record self.old { anchors = self.new.anchors }) }
         ensures err { IfErr result (λ r. RefusesAnchor
-            (register (option_map string_bytes anchor) (id_of carrier.node) carrier.mark self.old.anchors)
+            (register (option_map string_bytes anchor) (id_of node) mark.now self.old.anchors)
             r self.new.first_mark) }
     {
         let Some(anchor) = anchor else {
             return Ok(());
         };
-        match self.anchors.register(anchor, carrier)? {
+        match self
+            .anchors
+            .register(anchor, Carrier { node, mark: *mark })?
+        {
             None => Ok(()),
             Some(first) => {
                 self.first_mark = first.mark;

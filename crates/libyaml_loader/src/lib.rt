@@ -3,9 +3,13 @@
 
 mod anchors;
 mod context;
+pub mod determined;
+mod documents;
 mod ids;
+pub mod laws;
 mod load;
 mod refusal;
 mod stack;
 
+pub use documents::{yaml_parser_documents, yaml_parser_documents_t};
 pub use load::yaml_parser_load;

@@ -1,5 +1,7 @@
 //! The next document of a parser.
 
+ghost use Rattle.libyaml_graphs.specs.loads.Linear.{size};
+ghost use Rattle.std.specs.Prelude.{◌≤◌, ◌*◌, length};
 ghost use Rattle.std.specs.Prelude.{◌≡◌, ◌<◌, ◌⊎◌, List, [], None, Ok, Err, IfOk, IfErr, true, false};
 ghost use Rattle.std.specs.Option.{option_map};
 ghost use Rattle.libyaml_types.specs.declared.event.yaml_event_t.{yaml_event_t};
@@ -16,7 +18,7 @@ ghost use Rattle.libyaml_graphs.specs.loads.Loads.{left_over};
 ghost use Rattle.libyaml_graphs.specs.graphs.GraphParts as parts;
 ghost use Rattle.libyaml_loader.specs.document.Context.{IdsAreIn, loader_of, with_nodes};
 ghost use Rattle.libyaml_loader.specs.document.Ids.{magnitude};
-ghost use Rattle.libyaml_loader.specs.loads.Loading.{HasEnded, LoadsFrom};
+ghost use Rattle.libyaml_loader.specs.loads.Loading.{HasEnded, LoadsFrom, Took};
 ghost use Rattle.libyaml_loader.specs.loads.NextLoad.{Answers};
 ghost use Rattle.libyaml_loader.specs.loads.ComposeSteps.{ComposesBy, closing, opening_at};
 
@@ -28,7 +30,7 @@ use libyaml_events::laws::calls::of_history;
 use libyaml_events::{
     is_event, no_event, yaml_parser_parse_into, yaml_parser_t, yaml_token_source_t,
 };
-use libyaml_graphs::laws::whole_documents_have_roots;
+use libyaml_graphs::laws::{linear_size, whole_documents_have_roots};
 use libyaml_types::{
     ZERO_MARK, unnamed_yaml_event_t_data, unnamed_yaml_event_t_data_document_start,
     yaml_error_type_t, yaml_event_t, yaml_mark_t,
@@ -63,9 +65,11 @@ enum ComposeStep {
 
 /// The next document, or at the stream's end the document without root.
 ///
-/// Returns the error of a fault, which the parser keeps for good: one of the parser; an alias whose
-/// anchor no node before it carries, or a second node with an anchor; out of memory, where a growth is
-/// refused or a list of the document would have more than `max_entries` entries.
+/// # Errors
+///
+/// The error of a fault, which the parser keeps for good: one of the parser; an alias whose anchor no
+/// node before it carries, or a second node with an anchor; out of memory, where an allocation failed
+/// or a list of the document would have more than `max_entries` entries.
 ///
 /// libyaml: `yaml_parser_load`.
 pub fn yaml_parser_load<S: yaml_token_source_t>(
@@ -80,6 +84,8 @@ pub fn yaml_parser_load<S: yaml_token_source_t>(
         → (result ≡ Ok (empty_document None [] false false)) × (parser.new ≡ parser.old) }
     ensures fails { IfErr result (λ x. (x ≡ (kept_fault parser.new).error) × (is_over parser.new ≡ true)) }
     ensures failed { IfErr result (λ _. has_failed parser.new ≡ true) }
+    // with a document no fault is kept
+    ensures faultless { has_failed parser.old ≡ false → IfOk result (λ _. has_failed parser.new ≡ false) }
     ensures bound { parser.new.max_entries ≡ parser.old.max_entries }
     ensures between { between_documents parser.new ≡ true }
     // so a loop over the documents ends
@@ -90,6 +96,9 @@ pub fn yaml_parser_load<S: yaml_token_source_t>(
     ensures loads { has_failed parser.old ≡ false
         → LoadsFrom S.gives S.known S.may_break (next_bounded (magnitude parser.old.max_entries)) left_over
         parser.old result parser.new }
+    // nodes and the entries of their lists are together at most twice the events that were taken
+    ensures linear { has_failed parser.old ≡ false → IfOk result (λ d. (taken : List yaml_event_t)
+        × Took S.gives S.known parser.old parser.new taken × (size d.nodes ≤ 2 * length taken)) }
     // a document without nodes is returned only where the parser has ended
     ensures without_root { IfOk result (λ d. d.nodes ≡ []
         → ForHistory parser.old (λ _ _. HasEnded parser.new)) }
@@ -102,9 +111,11 @@ pub fn yaml_parser_load<S: yaml_token_source_t>(
 {
     of_history::<S>();
     whole_documents_have_roots();
+    linear_size();
     if has_failed(parser) {
         return Err(parser.prefix().error);
     }
+    parser.remembered();
     next_document(parser)
 }
 

@@ -1,2 +1,5 @@
 mod WholeRuns
 mod WholeLoads
+mod LargeLoads
+mod OneRuns
+mod OneLoads

@@ -297,6 +297,7 @@ module _ {S : Type 0} (gives : S → Answer → S → Type 0) (known : S → Opt
               taken = was.given ++ taken;
               tokens = asked_all laws new _ _ k.history (gave_all new taken k);
               begins = laws.begins new _ _ k.history;
+              begins_run = laws.begins_run new _ _ k.history;
               nests = laws.nests new _ _ k.history;
               are_loads
                   = are_loads_so (was.given ++ taken) Ends Ends list tt all items ends
@@ -336,6 +337,7 @@ module _ {S : Type 0} (gives : S → Answer → S → Type 0) (known : S → Opt
             taken = was.given ++ taken;
             tokens = asked_until laws parser new _ _ k.history (gave_all parser taken k) call;
             begins = laws.begins parser _ _ k.history;
+            begins_run = laws.begins_run parser _ _ k.history;
             nests = laws.nests parser _ _ k.history;
             are_loads
                 = stands taken x (fault_last taken x (last x)) (was.given ++ taken) (was.so_far taken x)
@@ -363,6 +365,7 @@ module _ {S : Type 0} (gives : S → Answer → S → Type 0) (known : S → Opt
             taken = was.given ++ taken;
             tokens = asked_all laws parser _ _ k.history (gave_all parser taken k);
             begins = laws.begins parser _ _ k.history;
+            begins_run = laws.begins_run parser _ _ k.history;
             nests = laws.nests parser _ _ k.history;
             are_loads
                 = sym (error [] (ending_of all.fault))
@@ -378,9 +381,9 @@ module _ {S : Type 0} (gives : S → Answer → S → Type 0) (known : S → Opt
           go : LoadFails gives known MayBreak (next_bounded most) left_over old new
               → (g : GathersLoads gives source all) × (g.tokens.stands ≡ new.source)
           go (by_parser taken parser took fails last) = (by_parser_call taken parser took fails last, refl)
-          go (by_loader taken parser took f keeps fails) = (
-            by_loader_step taken parser took f keeps fails,
-            sym (ap (λ (q : Parser S). q.source) (keeps _ _ (carried parser taken took).history)),
+          go (by_loader before e parser took f keeps waits fails) = (
+            by_loader_step (before ++ e ∷ []) parser took f keeps fails,
+            sym (ap (λ (q : Parser S). q.source) (keeps _ _ (carried parser (before ++ e ∷ []) took).history)),
           )
           go (by_memory before e parser took keeps grows) =
               let k = carried parser (before ++ e ∷ []) took in

@@ -13,6 +13,7 @@ use Rattle.libyaml_grammar.specs.sentences.Nesting.{NestsSoFar}
 use Rattle.libyaml_grammar.specs.sentences.Order.{in_order}
 use Rattle.libyaml_grammar.specs.sentences.Trees.{Stream, tokens}
 use Rattle.libyaml_sources.specs.Fault.{Fault, Answer, fault_of}
+use Rattle.libyaml_events.specs.sources.Determined.{BeginsEachRun}
 use Rattle.libyaml_events.specs.sources.History.{ForHistory, History, answers, has_failed, is_over, is_stream_end, kept_fault}
 use Rattle.libyaml_events.specs.sources.Needs.{EachNeeded, EachWasNeeded}
 use Rattle.libyaml_events.specs.sources.Parsing.{CarriesOn, Cause, FailsBy, IsWhole}
@@ -45,6 +46,7 @@ pub record Reached {S : Type 0} (gives : S → Answer → S → Type 0) (known :
 pub record Laws (S : Type 0) : Type 0 where
   pub no_fault : (p : Parser S) → ForHistory p (λ (asked : List Token) (given : List Event). has_failed p ≡ false)
   pub begins : (p : Parser S) → ForHistory p BeginsEach
+  pub begins_run : (p : Parser S) → ForHistory p BeginsEachRun
   pub nests : (p : Parser S) → ForHistory p (λ (asked : List Token) (given : List Event). NestsSoFar given)
   pub needed : (p : Parser S) → ForHistory p (λ (asked : List Token) (given : List Event). EachWasNeeded [] asked [] given)
 

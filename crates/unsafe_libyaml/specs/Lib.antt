@@ -1,5 +1,6 @@
 pub mod WholeRun
 pub mod WholeLoads
+pub mod OneWhole
 -- what the public clauses reach, here and in the crates below (scripts/passed_on.py), so that a user names this crate alone
 pub use Rattle.libyaml_types.specs.Equal as EqualTypes
 pub use Rattle.libyaml_types.specs.Events as MadeEvents
@@ -30,6 +31,7 @@ pub use Rattle.libyaml_grammar.specs.sentences.Order
 pub use Rattle.libyaml_grammar.specs.sentences.Sentences
 pub use Rattle.libyaml_grammar.specs.sentences.Tokens
 pub use Rattle.libyaml_grammar.specs.sentences.Trees
+pub use Rattle.libyaml_events.specs.machine.Answers
 pub use Rattle.libyaml_events.specs.machine.Config
 pub use Rattle.libyaml_events.specs.machine.Growth
 pub use Rattle.libyaml_events.specs.machine.Machine
@@ -44,11 +46,16 @@ pub use Rattle.libyaml_events.specs.parsers.Stages
 pub use Rattle.libyaml_events.specs.rows.StackRows
 pub use Rattle.libyaml_events.specs.sources.Calls
 pub use Rattle.libyaml_events.specs.sources.CallsInTurn
+pub use Rattle.libyaml_events.specs.sources.Determined
 pub use Rattle.libyaml_events.specs.sources.History
 pub use Rattle.libyaml_sources.specs.ListLaws
 pub use Rattle.libyaml_events.specs.sources.Needs
+pub use Rattle.libyaml_events.specs.sources.Iterates
+pub use Rattle.libyaml_events.specs.sources.Iterated
 pub use Rattle.libyaml_events.specs.sources.ParsesNext
 pub use Rattle.libyaml_events.specs.sources.Parsing
+pub use Rattle.libyaml_events.specs.sources.Pushed
+pub use Rattle.libyaml_events.specs.sources.Pushes
 pub use Rattle.libyaml_events.specs.sources.RunToCome
 pub use Rattle.libyaml_sources.specs.Source
 pub use Rattle.libyaml_documents.specs.Documents
@@ -65,9 +72,11 @@ pub use Rattle.libyaml_graphs.specs.loads.GraphLaws
 pub use Rattle.libyaml_graphs.specs.graphs.Graphs
 pub use Rattle.libyaml_graphs.specs.rows.LoadRows
 pub use Rattle.libyaml_graphs.specs.machine.Loader
+pub use Rattle.libyaml_graphs.specs.loads.Linear
 pub use Rattle.libyaml_graphs.specs.loads.Loads
 pub use Rattle.libyaml_graphs.specs.graphs.GraphParts
 pub use Rattle.libyaml_loader.specs.loads.LoadGrowth
 pub use Rattle.libyaml_loader.specs.document.Ids
 pub use Rattle.libyaml_loader.specs.loads.Loading
+pub use Rattle.libyaml_loader.specs.loads.LoadsInTurn
 pub use Rattle.libyaml_loader.specs.loads.NextLoad

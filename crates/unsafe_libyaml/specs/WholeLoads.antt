@@ -9,6 +9,7 @@ use Rattle.libyaml_grammar.specs.sentences.Nesting.{NestsSoFar}
 use Rattle.libyaml_grammar.specs.sentences.Tokens.{Token}
 use Rattle.libyaml_sources.specs.declared.fault.yaml_parser_t_prefix.{yaml_parser_t_prefix}
 use Rattle.libyaml_events.specs.sources.Calls.{Gave}
+use Rattle.libyaml_events.specs.sources.Determined.{BeginsEachRun}
 use Rattle.libyaml_events.specs.sources.Parsing.{IsWhole}
 use Rattle.libyaml_graphs.specs.loads.Loads.{Load, last_load, loads}
 use Rattle.unsafe_libyaml.specs.declared.load_all.yaml_documents_t.{yaml_documents_t}
@@ -39,6 +40,7 @@ pub record GathersLoads {S : Type 0} (gives : S → Answer → S → Type 0) (so
   pub taken : List Event
   pub tokens : Asked gives source asked last taken
   pub begins : BeginsEach asked taken
+  pub begins_run : BeginsEachRun asked taken
   pub nests : NestsSoFar taken
   pub are_loads : as_loads all.documents.items (ending_of all.fault) ≡ loads taken (ending_of all.fault)
   pub whole : all.fault ≡ None → IsWhole asked taken

@@ -1,5 +1,6 @@
 //! All documents of a source at once.
-ghost use Rattle.std.specs.Prelude.{◌≡◌, ◌≢◌, ◌++◌, ◌∷◌, List, [], All, Some, true, IfOk, IfErr};
+ghost use Rattle.std.specs.Prelude.{◌≡◌, ◌≢◌, ◌≤◌, ◌*◌, ◌++◌, ◌∷◌, List, [], All, Some, true, IfOk, IfErr};
+ghost use Rattle.std.specs.Prelude.{length};
 ghost use Rattle.libyaml_grammar.specs.cuts.CutEvents.{cut_events};
 ghost use Rattle.libyaml_grammar.specs.cuts.CutFaults.{fault};
 ghost use Rattle.libyaml_grammar.specs.cuts.CutTrees.{Cut};
@@ -13,15 +14,16 @@ ghost use Rattle.libyaml_sources.specs.Source.{coming};
 ghost use Rattle.libyaml_grammar.specs.sentences.Tokens.{Token};
 ghost use Rattle.libyaml_grammar.specs.sentences.Trees.{Stream, tokens};
 ghost use Rattle.libyaml_graphs.specs.loads.GraphLaws.{NestedLoads};
+ghost use Rattle.libyaml_graphs.specs.loads.Linear.{documents_size};
 ghost use Rattle.libyaml_graphs.specs.loads.Loads.{IsLoads, Load, last_load, loads_of};
 ghost use Rattle.unsafe_libyaml.specs.WholeLoads.{GathersLoads, LoadsTo};
 
 use crate::parse_all::unless_memory;
 use libyaml_documents::yaml_document_t;
-use libyaml_events::laws::calls::of_history;
-use libyaml_events::laws::run_nests;
+use libyaml_events::laws::calls::{four_events, of_history};
+use libyaml_events::laws::{one_run, run_nests};
 use libyaml_events::{yaml_parser_initialize, yaml_parser_t_prefix, yaml_token_source_t};
-use libyaml_graphs::laws::{enough_room, loads_of_tree, whole_documents_have_roots};
+use libyaml_graphs::laws::{enough_room, linear_size, loads_of_tree, whole_documents_have_roots};
 use libyaml_loader::yaml_parser_load;
 use libyaml_types::yaml_error_type_t;
 use std::alloc::{AllocError, Global};
@@ -67,6 +69,11 @@ pub fn yaml_parser_load_all<S: yaml_token_source_t + Drop>(
         → IfOk result (λ all. LoadsTo S.gives S.may_break source all loads) }
     // over every source, also one that does not know its tokens
     ensures gathers { IfOk result (λ all. GathersLoads S.gives source all) }
+    // nodes and the entries of their lists are together at most twice the events that were taken, and eight
+    // for each token asked for
+    ensures linear { IfOk result (λ all. (g : GathersLoads S.gives source all)
+        × (documents_size all.documents.items ≤ 2 * length g.taken)
+        × (documents_size all.documents.items ≤ 8 * length g.asked)) }
     ensures roots { IfOk result (λ all. All (λ d. d.nodes ≢ []) all.documents.items) }
 {
     run_nests();
@@ -74,6 +81,9 @@ pub fn yaml_parser_load_all<S: yaml_token_source_t + Drop>(
     whole_documents_have_roots();
     enough_room();
     loads_of_tree();
+    linear_size();
+    one_run();
+    four_events::<S>();
     let mut parser = yaml_parser_initialize(alloc, source);
     let mut documents = Vec::new(alloc);
     loop {

@@ -56,7 +56,7 @@ module _ {S : Type 0} (gives : S → Answer → S → Type 0) (known : S → Opt
               ∙ ap last_load h.1) (ap (λ (x : yaml_error_type_t). Err x) k.0, refl)
           here (inr (inl m)) = no_memory (ap (λ (x : yaml_error_type_t). Err x) (k.0 ∙ ap (λ (f : Fault). f.error) m)) m
           here (inr (inr b)) = breaks (kept_fault new) b (ap (λ (x : yaml_error_type_t). Err x) k.0) refl
-      go (Err y) k (by_loader taken parser took f keeps gives_it) =
+      go (Err y) k (by_loader before e parser took f keeps waits gives_it) =
           let l = took.runs events ending run in
           let m : kept_fault new ≡ f = ap (λ (p : Parser S). kept_fault p) (keeps l.run.asked l.run.given l.run.history) in
           answered (Err f) (Err y) (ap (λ (x : List Event). load x ending) l.all ∙ gives_it l.later ending)

@@ -92,9 +92,12 @@ module _ {S : Type 0} (gives : S → Answer → S → Type 0) (known : S → Opt
       go (Err y) (by_parser b p more fails loads)
           = by_parser (a ++ b) p (took_both gives known MayBreak old mid p a b took more) fails
           (λ (x : Ending). load b x ∙ loads x)
-      go (Err y) (by_loader b p more f keeps loads) =
-          by_loader (a ++ b) p (took_both gives known MayBreak old mid p a b took more) f keeps
-          (λ (rest : List Event) (x : Ending). both b rest x ∙ loads rest x)
+      go (Err y) (by_loader b e p more fault keeps waits loads) =
+          by_loader (a ++ b) e p
+          (subst (λ (m : List Event). Took gives known old p m) (sym (append_assoc a b (e ∷ [])))
+          (took_both gives known MayBreak old mid p a (b ++ e ∷ []) took more)) fault keeps
+          (λ (x : Ending). load b x ∙ waits x)
+          (λ (rest : List Event) (x : Ending). ap (λ (m : List Event). f (m ++ rest) x) (append_assoc a b (e ∷ [])) ∙ both (b ++ e ∷ []) rest x ∙ loads rest x)
       go (Err y) (by_memory b e p more keeps grows) =
           by_memory (a ++ b) e p
           (subst (λ (m : List Event). Took gives known old p m) (sym (append_assoc a b (e ∷ [])))
@@ -140,8 +143,7 @@ module _ {S : Type 0} (gives : S → Answer → S → Type 0) (known : S → Opt
           → LoadFails gives known MayBreak (load_from n (within o (loader_of before))) (left_from (within o (loader_of before))) old new
       go (inl m) = by_memory [] h.event h.parser h.took (subst (λ (f : Fault). KeptBy f h.parser new) m.0 h.keeps)
           (record { most = n; opening = o; loader = loader_of before; stands = λ (rest : List Event) (x : Ending). refl; grows = m.1 })
-      go (inr w) = by_loader (h.event
-          ∷ []) h.parser h.took h.fault h.keeps
+      go (inr w) = by_loader [] h.event h.parser h.took h.fault h.keeps (λ (x : Ending). nothing_left n (within o (loader_of before)) x)
           (refuses n o (loader_of before) h.event h.fault h.no_end (ap (λ (m : ℕ). bounded_option m (loader_of before) (part_of h.event)) (sym bound) ∙ w))
 
   pub fails_load : (o : Opening) (old new : Parser S) (before : loader_ctx) → before.max_entries ≡ n → ParserFails gives known MayBreak old new

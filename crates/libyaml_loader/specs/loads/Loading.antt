@@ -63,14 +63,15 @@ pub data Loads {S : Type 0} (gives : S → Answer → S → Type 0) (known : S �
       → d ≡ empty_document None [] false false
       → ((asked : List Token) (given : List Event) → History old asked given → HasEnded new) → Loads gives known load left old new d
 
--- A load that failed: after the events that it took the parser did, and these have no fault of a load; or these have one,
--- which the parser keeps; or an allocation failed at the last of them, where the load may take memory.
+-- A load that failed: after the events that it took the parser did, and these have no fault of a load; or the last of these
+-- has one, which the parser keeps; or an allocation failed at the last of them, where the load may take memory.
 pub data LoadFails {S : Type 0} (gives : S → Answer → S → Type 0) (known : S → Option Coming) (MayBreak : S → Fault → Type 0) (load : List Event → Ending
     → Load) (left : List Event → List Event) (old new : Parser S) : Type 0 where
   by_parser : (taken : List Event) (parser : Parser S) → Took gives known old parser taken → ParserFails gives known MayBreak parser new
       → ((x : Ending) → load taken x ≡ last_load x) → LoadFails gives known MayBreak load left old new
-  by_loader : (taken : List Event) (parser : Parser S) → Took gives known old parser taken → (f : Fault) → KeptBy f parser new
-      → ((rest : List Event) (x : Ending) → load (taken ++ rest) x ≡ Err f) → LoadFails gives known MayBreak load left old new
+  by_loader : (before : List Event) (e : Event) (parser : Parser S) → Took gives known old parser (before ++ e ∷ []) → (f : Fault) → KeptBy f parser new
+      → ((x : Ending) → load before x ≡ last_load x) → ((rest : List Event) (x : Ending) → load ((before ++ e ∷ []) ++ rest) x ≡ Err f)
+      → LoadFails gives known MayBreak load left old new
   by_memory : (before : List Event) (e : Event) (parser : Parser S) → Took gives known old parser (before ++ e ∷ []) → KeptBy memory_fault parser new
       → GrowsAt load before e → LoadFails gives known MayBreak load left old new
 

@@ -2,6 +2,8 @@ use Rattle.std.proofs.Common.{◌≡◌, sym, ◌∙◌, true, false}
 use Rattle.libyaml_graphs.specs.loads.Bounds.{next_bounded}
 use Rattle.libyaml_graphs.specs.loads.Loads.{left_over}
 use Rattle.libyaml_loader.specs.document.Ids.{magnitude}
+use Rattle.libyaml_loader.proofs.loads.Faultless.{faultless}
+use Rattle.libyaml_loader.proofs.loads.Large.{linear}
 use Rattle.libyaml_loader.proofs.loads.NextLoads.{next_load}
 use Rattle.libyaml_loader.proofs.loads.Rootless.{rootless}
 use Rattle.libyaml_loader.proofs.load.yaml_parser_load.Goals as goal
@@ -42,3 +44,23 @@ returns-clause-without_root g c =
     let roots = c.whole_documents_have_roots.ensures in
     rootless roots.roots_follow roots.without_nodes t.gives t.known t.may_break (magnitude c.args.parser.now.max_entries) c.args.parser.now call.new.parser
     (c.of_history.ensures.nests call.new.parser) call.result call.ensures.loads
+
+pub returns-then-has_failed-clause-linear : goal.returns-then-has_failed-clause-linear
+returns-then-has_failed-clause-linear g c none = absurd (no (sym c.if-has_failed.true ∙ c.has_failed.ensures ∙ none))
+
+pub returns-clause-linear : goal.returns-clause-linear
+returns-clause-linear g c none =
+    let t = g.S.yaml_token_source_t in
+    let call = c.next_document in
+    linear (magnitude c.args.parser.now.max_entries) (c.linear_size.ensures.of_one (magnitude c.args.parser.now.max_entries)) t.gives t.known t.may_break
+    c.args.parser.now call.new.parser call.result call.ensures.loads
+
+pub returns-then-has_failed-clause-faultless : goal.returns-then-has_failed-clause-faultless
+returns-then-has_failed-clause-faultless g c none = tt
+
+pub returns-clause-faultless : goal.returns-clause-faultless
+returns-clause-faultless g c none =
+    let t = g.S.yaml_token_source_t in
+    let call = c.next_document in
+    faultless t.gives t.known t.may_break (next_bounded (magnitude c.args.parser.now.max_entries)) left_over c.of_history.ensures.no_fault
+    c.args.parser.now call.new.parser none c.remembered.ensures call.result call.ensures.loads

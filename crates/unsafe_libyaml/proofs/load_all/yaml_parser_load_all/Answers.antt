@@ -1,6 +1,7 @@
 use Rattle.std.proofs.Common.{◌≡◌, ◌≢◌, ◌++◌, ◌∷◌, [], All, ap, refl, sym, ◌∙◌, subst}
 use Rattle.unsafe_libyaml.proofs.WholeLoads.{LoadLaws, Called, bare, fewer, rooted, loaded_all, loaded_as, loaded_next, loaded_none, loaded_to_fault}
 use Rattle.unsafe_libyaml.proofs.WholeRuns.{if_ok}
+use Rattle.unsafe_libyaml.proofs.LargeLoads.{loads_linear}
 use Rattle.unsafe_libyaml.proofs.WholeLoads.{gathers_loads, gathers_to_fault, tree_loads}
 use Rattle.unsafe_libyaml.proofs.load_all.yaml_parser_load_all.Given as given
 use Rattle.unsafe_libyaml.proofs.load_all.yaml_parser_load_all.Goals as goal
@@ -54,7 +55,7 @@ returns-then-is_empty-clause-of_list g c l f a h k =
     let x = (goal.at.returns-then-is_empty-clause-of_list g c).After-yaml_parser_load in
     let say = c.of_history.ensures in
     let no_root : c.in-Ok.document.nodes ≡ [] = sym c.nodes.ensures.all ∙ bare c.nodes.result.now (sym c.if-is_empty.ensures) in
-    loaded_all t.gives t.known t.may_break c.args.source c.loop-document.parser c.yaml_parser_load.new.parser (record { no_fault = say.no_fault; begins = say.begins; nests = say.nests; needed = say.needed }) (load_laws_of g x)
+    loaded_all t.gives t.known t.may_break c.args.source c.loop-document.parser c.yaml_parser_load.new.parser (record { no_fault = say.no_fault; begins = say.begins; begins_run = say.begins_run; nests = say.nests; needed = say.needed }) (load_laws_of g x)
     c.yaml_parser_load.result (called_by g x) c.loop-document.documents.items c.loop-document.invariant c.in-Ok.document c.in-Ok.is no_root _ refl refl l f a
     h k
 
@@ -74,7 +75,7 @@ returns-then-is_empty-clause-gathers g c =
     let x = (goal.at.returns-then-is_empty-clause-gathers g c).After-yaml_parser_load in
     let say = c.of_history.ensures in
     let no_root : c.in-Ok.document.nodes ≡ [] = sym c.nodes.ensures.all ∙ bare c.nodes.result.now (sym c.if-is_empty.ensures) in
-    gathers_loads t.gives t.known t.may_break c.args.source c.loop-document.parser c.yaml_parser_load.new.parser (record { no_fault = say.no_fault; begins = say.begins; nests = say.nests; needed = say.needed }) (load_laws_of g x)
+    gathers_loads t.gives t.known t.may_break c.args.source c.loop-document.parser c.yaml_parser_load.new.parser (record { no_fault = say.no_fault; begins = say.begins; begins_run = say.begins_run; nests = say.nests; needed = say.needed }) (load_laws_of g x)
     c.yaml_parser_load.result (called_by g x) c.loop-document.documents.items c.loop-document.invariant c.in-Ok.document c.in-Ok.is no_root _ refl refl
 
 pub returns-then-is_empty-clause-roots : goal.returns-then-is_empty-clause-roots
@@ -91,7 +92,7 @@ loop-document-preserved g c =
     let x = (goal.at.loop-document-preserved g c).After-yaml_parser_load in
     let say = c.of_history.ensures in
     let has_root : c.in-Ok.document.nodes ≢ [] = λ e. rooted c.nodes.result.now (sym c.if-is_empty.ensures) (c.nodes.ensures.all ∙ e) in
-    let next = loaded_next t.gives t.known t.may_break c.args.source c.loop-document.parser c.yaml_parser_load.new.parser (record { no_fault = say.no_fault; begins = say.begins; nests = say.nests; needed = say.needed }) (load_laws_of g x)
+    let next = loaded_next t.gives t.known t.may_break c.args.source c.loop-document.parser c.yaml_parser_load.new.parser (record { no_fault = say.no_fault; begins = say.begins; begins_run = say.begins_run; nests = say.nests; needed = say.needed }) (load_laws_of g x)
     c.yaml_parser_load.result (called_by g x) c.loop-document.documents.items c.loop-document.invariant c.in-Ok.document c.in-Ok.is has_root in
     loaded_as t.gives t.known t.may_break c.args.source c.loop-document.parser c.yaml_parser_load.new.parser (c.loop-document.documents.items
     ++ c.in-Ok.document ∷ []) c.push.new.self.items c.in_ok-push-in-Ok.ensures.items next
@@ -101,7 +102,7 @@ returns-in-Err-clause-gathers g c =
     let t = g.S.yaml_token_source_t in
     let x = (goal.at.returns-in-Err-clause-gathers g c).After-yaml_parser_load in
     let say = c.of_history.ensures in
-    let gathers = gathers_to_fault t.gives t.known t.may_break c.args.source c.loop-document.parser c.yaml_parser_load.new.parser (record { no_fault = say.no_fault; begins = say.begins; nests = say.nests; needed = say.needed })
+    let gathers = gathers_to_fault t.gives t.known t.may_break c.args.source c.loop-document.parser c.yaml_parser_load.new.parser (record { no_fault = say.no_fault; begins = say.begins; begins_run = say.begins_run; nests = say.nests; needed = say.needed })
     (load_laws_of g x) c.yaml_parser_load.result (called_by g x) c.loop-document.documents.items c.loop-document.invariant c.in-Err.field-0 c.in-Err.is in
     if_ok c.failed_load.result _ _ c.failed_load.ensures.ok (λ all r. gathers all (ap (λ v. v.items) r.0) _ c.prefix.ensures.kept r.1 r.2)
 
@@ -110,7 +111,7 @@ returns-in-Err-clause-of_list g c l f a h k =
     let t = g.S.yaml_token_source_t in
     let x = (goal.at.returns-in-Err-clause-of_list g c).After-yaml_parser_load in
     let say = c.of_history.ensures in
-    let fails = loaded_to_fault t.gives t.known t.may_break c.args.source c.loop-document.parser c.yaml_parser_load.new.parser (record { no_fault = say.no_fault; begins = say.begins; nests = say.nests; needed = say.needed })
+    let fails = loaded_to_fault t.gives t.known t.may_break c.args.source c.loop-document.parser c.yaml_parser_load.new.parser (record { no_fault = say.no_fault; begins = say.begins; begins_run = say.begins_run; nests = say.nests; needed = say.needed })
     (load_laws_of g x) c.yaml_parser_load.result (called_by g x) c.loop-document.documents.items c.loop-document.invariant c.in-Err.field-0 c.in-Err.is in
     let kept = c.prefix.ensures.kept in
     if_ok c.failed_load.result _ _ c.failed_load.ensures.ok
@@ -130,3 +131,13 @@ pub returns-in-Err-clause-of_cut_tree : goal.returns-in-Err-clause-of_cut_tree
 returns-in-Err-clause-of_cut_tree g c before token behind cut f fits waited k =
     let a = c.loads_of_tree.ensures.cut_tree before token behind cut f fits waited in
     if_ok c.failed_load.result _ _ (returns-in-Err-clause-of_list g c _ f _ a.1 k) (λ all r. (a.0, a.2, r))
+
+pub returns-then-is_empty-clause-linear : goal.returns-then-is_empty-clause-linear
+returns-then-is_empty-clause-linear g c
+    = loads_linear c.one_run.ensures.some c.four_events.ensures.events c.linear_size.ensures.first_of_loads g.S.yaml_token_source_t.gives c.args.source _
+    (returns-then-is_empty-clause-gathers g c)
+
+pub returns-in-Err-clause-linear : goal.returns-in-Err-clause-linear
+returns-in-Err-clause-linear g c
+    = if_ok c.failed_load.result _ _ (returns-in-Err-clause-gathers g c)
+    (loads_linear c.one_run.ensures.some c.four_events.ensures.events c.linear_size.ensures.first_of_loads g.S.yaml_token_source_t.gives c.args.source)

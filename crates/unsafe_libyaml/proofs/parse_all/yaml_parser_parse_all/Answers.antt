@@ -60,7 +60,7 @@ returns-then-is_last-clause-gathers g c =
     let old = c.loop-event.invariant in
     let say = c.of_history.ensures in
     gathers_all t.gives t.known t.may_break c.args.source c.loop-event.parser c.yaml_parser_parse.new.parser
-    (record { no_fault = say.no_fault; begins = say.begins; nests = say.nests; needed = say.needed }) _ _ old
+    (record { no_fault = say.no_fault; begins = say.begins; begins_run = say.begins_run; nests = say.nests; needed = say.needed }) _ _ old
     (c.in-Ok.ensures.carries_on old.running old.asked _ old.history) (sym c.if-is_last.ensures) _ c.in_ok-push-in-Ok.ensures.items refl
 
 pub returns-in-Err-clause-gathers : goal.returns-in-Err-clause-gathers
@@ -69,5 +69,5 @@ returns-in-Err-clause-gathers g c =
     let old = c.loop-event.invariant in
     let say = c.of_history.ensures in
     if_ok c.failed_run.result _ _ c.failed_run.ensures.ok (λ r h. gathers_some t.gives t.known t.may_break c.args.source c.loop-event.parser
-    c.yaml_parser_parse.new.parser (record { no_fault = say.no_fault; begins = say.begins; nests = say.nests; needed = say.needed }) _ old
+    c.yaml_parser_parse.new.parser (record { no_fault = say.no_fault; begins = say.begins; begins_run = say.begins_run; nests = say.nests; needed = say.needed }) _ old
     (c.in-Err.ensures.fails old.asked _ old.history) r (ap (λ v. v.items) h.0) _ c.prefix.ensures.kept h.1 h.2)

@@ -1,0 +1,41 @@
+//! The laws of a loop over documents. The function does nothing when it runs: its contract is the law.
+
+ghost use Rattle.std.specs.Prelude.{◌≡◌, List, [], Some};
+ghost use Rattle.libyaml_sources.specs.Fault.{Fault};
+ghost use Rattle.libyaml_sources.specs.Source.{coming};
+ghost use Rattle.libyaml_grammar.specs.runs.Runs.{Ending};
+ghost use Rattle.libyaml_grammar.specs.sentences.Events.{Event};
+ghost use Rattle.libyaml_grammar.specs.sentences.Nesting.{NestsSoFar};
+ghost use Rattle.libyaml_grammar.specs.sentences.Tokens.{Token};
+ghost use Rattle.libyaml_documents.specs.Documents.{Document};
+ghost use Rattle.libyaml_events.specs.machine.Config.{Parser};
+ghost use Rattle.libyaml_events.specs.sources.History.{History};
+ghost use Rattle.libyaml_events.specs.sources.RunToCome.{RunToCome};
+ghost use Rattle.libyaml_graphs.specs.loads.Bounds.{IsBoundedLoads, bounded_loads};
+ghost use Rattle.libyaml_graphs.specs.loads.Loads.{Load};
+ghost use Rattle.libyaml_loader.specs.document.Ids.{magnitude};
+ghost use Rattle.libyaml_loader.specs.loads.LoadsInTurn.{AreLoadsOf, LoopYields};
+
+use libyaml_events::laws::calls::of_history;
+use libyaml_events::laws::run_nests;
+use libyaml_events::yaml_token_source_t;
+use libyaml_graphs::laws::whole_documents_have_roots;
+
+/// What a whole loop over the documents of a parser yielded: over a list of tokens from the start, or over
+/// events that are to come and nest, exactly the loads within the parser's bound; or memory ran out, or the
+/// source broke off, and the documents are a prefix of these.
+pub fn loop_yields_loads<S: yaml_token_source_t>()
+    ensures of_list { (old new : Parser S) (documents : List Document) (ending : Ending) (l : List Token)
+        (f : Fault) (loads : List Load) → History old [] [] → S.known old.source ≡ Some (coming l f)
+        → IsBoundedLoads (magnitude old.max_entries) l f loads
+        → LoopYields S.gives S.bound S.known S.may_break old documents ending new
+        → AreLoadsOf S.may_break new documents ending loads }
+    ensures of_run { (old new : Parser S) (documents : List Document) (ending : Ending) (e : List Event)
+        (x : Ending) → RunToCome S.known old e x → NestsSoFar e
+        → LoopYields S.gives S.bound S.known S.may_break old documents ending new
+        → AreLoadsOf S.may_break new documents ending (bounded_loads (magnitude old.max_entries) e x) }
+{
+    of_history::<S>();
+    run_nests();
+    whole_documents_have_roots();
+}

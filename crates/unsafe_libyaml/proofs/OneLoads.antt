@@ -1,0 +1,113 @@
+-- Two lists of documents that the contract of a whole load allows are one.
+use Rattle.std.proofs.Common.{◌≡◌, ◌⊎◌, inl, inr, List, [], ◌∷◌, map, Option, Some, None, Ok, Err, refl, sym, ap, ◌∙◌, subst}
+use Rattle.libyaml_documents.specs.Documents.{Document}
+use Rattle.libyaml_sources.specs.Fault.{Answer, fault_of}
+use Rattle.libyaml_sources.specs.declared.fault.yaml_parser_t_prefix.{yaml_parser_t_prefix}
+use Rattle.libyaml_grammar.specs.sentences.Events.{Event}
+use Rattle.libyaml_grammar.specs.cuts.Settled.{Begins}
+use Rattle.libyaml_grammar.specs.runs.Runs.{Ending, Ends, Fails}
+use Rattle.libyaml_events.specs.sources.Determined.{OneBegins}
+use Rattle.libyaml_events.specs.sources.History.{answers}
+use Rattle.libyaml_events.proofs.lent.OneOutcome.{head_same, tail_same, not_cons}
+use Rattle.libyaml_events.proofs.lent.RunStops.{RunStop, begins_stopped, ended_stop, one_run_by_answers, taken_comparable}
+use Rattle.libyaml_graphs.specs.loads.Loads.{Load, last_load, loads}
+use Rattle.unsafe_libyaml.specs.OneWhole.{OneDocuments}
+use Rattle.unsafe_libyaml.specs.WholeLoads.{ComposerError, GathersLoads, as_loads}
+use Rattle.unsafe_libyaml.specs.WholeRun.{StoppedBy, ending_of}
+use Rattle.unsafe_libyaml.specs.declared.load_all.yaml_documents_t.{yaml_documents_t}
+use Rattle.unsafe_libyaml.proofs.OneRuns.{failed_stop}
+
+-- lists of loads
+
+oks : List Document → List Load
+oks ds = map (λ (d : Document). Ok d) ds
+
+last_same : (x y : Ending) → last_load x ≡ last_load y → x ≡ y
+last_same Ends Ends e = refl
+last_same Ends (Fails f) e = absurd cc
+last_same (Fails f) Ends e = absurd cc
+last_same (Fails f) (Fails g) e = ap Fails (go e)
+  where
+    go : ◌≡◌ {A = Load} (Err f) (Err g) → f ≡ g
+    go h = cc
+
+document_same : (d c : Document) → ◌≡◌ {A = Load} (Ok d) (Ok c) → d ≡ c
+document_same d c e = cc
+
+loads_same : (c d : List Document) (x y : Ending) → as_loads c x ≡ as_loads d y → (c ≡ d) × (x ≡ y)
+loads_same [] [] x y e = (refl, last_same x y (head_same (last_load x) (last_load y) [] [] e))
+loads_same [] (b ∷ d) x y e = absurd (go d (tail_same (last_load x) (Ok b) [] (as_loads d y) e))
+  where
+    go : (d : List Document) → [] ≡ as_loads d y → ⊥
+    go [] h = not_cons (last_load y) [] h
+    go (b ∷ d) h = not_cons (Ok b) (as_loads d y) h
+loads_same (a ∷ c) [] x y e = absurd (go c (sym (tail_same (Ok a) (last_load y) (as_loads c x) [] e)))
+  where
+    go : (d : List Document) → [] ≡ as_loads d x → ⊥
+    go [] h = not_cons (last_load x) [] h
+    go (b ∷ d) h = not_cons (Ok b) (as_loads d x) h
+loads_same (a ∷ c) (b ∷ d) x y e =
+    let r = loads_same c d x y (tail_same (Ok a) (Ok b) (as_loads c x) (as_loads d y) e) in
+    let h = document_same a b (head_same (Ok a) (Ok b) (as_loads c x) (as_loads d y) e) in
+    (ap (λ (z : Document). z ∷ c) h ∙ ap (λ (z : List Document). b ∷ z) r.0, r.1)
+
+-- what a list of loads says of itself: it stopped as a run does, or by a composer error
+data LoadStop (a : List Answer) (taken : List Event) (all : yaml_documents_t) : Type 0 where
+  as_run : RunStop a taken (ending_of all.fault) → LoadStop a taken all
+  composer : ComposerError taken all → LoadStop a taken all
+
+load_stop : {S : Type 0} (gives : S → Answer → S → Type 0) (source : S) (all : yaml_documents_t) (g : GathersLoads gives source all) (o : Option yaml_parser_t_prefix)
+    → all.fault ≡ o → LoadStop (answers g.asked g.last) g.taken all
+load_stop gives source all g None e
+    = as_run (subst (λ (z : Option yaml_parser_t_prefix). RunStop (answers g.asked g.last) g.taken (ending_of z)) (sym e)
+    (ended_stop g.asked g.last g.taken g.tokens.needed_last (g.whole e)))
+load_stop gives source all g (Some f) e = go (g.stopped f e)
+  where
+    go : StoppedBy g.asked g.last g.taken (fault_of f) ⊎ ComposerError g.taken all → LoadStop (answers g.asked g.last) g.taken all
+    go (inl h) = as_run (subst (λ (z : Option yaml_parser_t_prefix). RunStop (answers g.asked g.last) g.taken (ending_of z)) (sym e)
+        (failed_stop g.asked g.last g.taken (fault_of f) h))
+    go (inr h) = composer h
+
+turned : (a b : List Answer) → OneBegins a b → OneBegins b a
+turned a b (inl h) = inr h
+turned a b (inr h) = inl h
+
+module _ {S : Type 0} (gives : S → Answer → S → Type 0) (source : S) where
+  abbrev AreOne : yaml_documents_t → yaml_documents_t → Type 0
+  AreOne a b = (a.documents.items ≡ b.documents.items) × (ending_of a.fault ≡ ending_of b.fault)
+
+  -- a composer error is one of all longer lists of events
+  by_composer : (a b : yaml_documents_t) (g : GathersLoads gives source a) (h : GathersLoads gives source b) → ComposerError g.taken a
+      → Begins g.taken h.taken → AreOne a b
+  by_composer a b g h e n
+      = loads_same a.documents.items b.documents.items (ending_of a.fault) (ending_of b.fault)
+      (sym (e n.0 (ending_of b.fault)) ∙ (ap (λ (z : List Event). loads z (ending_of b.fault)) (sym n.1) ∙ sym h.are_loads))
+
+  turned_one : (a b : yaml_documents_t) → AreOne b a → AreOne a b
+  turned_one a b o = (sym o.0, sym o.1)
+
+  pub one_documents_proof : (a b : yaml_documents_t) (g : GathersLoads gives source a) (h : GathersLoads gives source b) → OneDocuments gives source a b g h
+  one_documents_proof a b g h =
+      λ o. go o (load_stop gives source a g a.fault refl) (load_stop gives source b h b.fault refl)
+    where
+      go : OneBegins (answers g.asked g.last) (answers h.asked h.last) → LoadStop (answers g.asked g.last) g.taken a
+          → LoadStop (answers h.asked h.last) h.taken b → AreOne a b
+      go o (as_run s) (as_run t) =
+          let w = one_run_by_answers g.taken h.taken (ending_of a.fault) (ending_of b.fault)
+          (record { asked = g.asked; last = g.last; needed = g.tokens.needed; needed_last = g.tokens.needed_last; stop = s })
+          (record { asked = h.asked; last = h.last; needed = h.tokens.needed; needed_last = h.tokens.needed_last; stop = t }) o in
+          loads_same a.documents.items b.documents.items (ending_of a.fault) (ending_of b.fault)
+          (g.are_loads ∙ (ap (λ (z : List Event). loads z (ending_of a.fault)) w.1 ∙ (ap (loads h.taken) w.2 ∙ sym h.are_loads)))
+      go o (composer e) (as_run t)
+          = by_composer a b g h e
+          (begins_stopped g.asked g.last (answers h.asked h.last) g.taken h.taken (ending_of b.fault) g.tokens.needed g.begins_run t o)
+      go o (as_run s) (composer e)
+          = turned_one a b (by_composer b a h g e
+          (begins_stopped h.asked h.last (answers g.asked g.last) h.taken g.taken (ending_of a.fault) h.tokens.needed h.begins_run s
+          (turned (answers g.asked g.last) (answers h.asked h.last) o)))
+      go o (composer e) (composer f)
+          = both (taken_comparable g.asked h.asked g.last h.last g.taken h.taken g.begins_run h.begins_run o)
+        where
+          both : Begins g.taken h.taken ⊎ Begins h.taken g.taken → AreOne a b
+          both (inl n) = by_composer a b g h e n
+          both (inr n) = turned_one a b (by_composer b a h g f n)
