@@ -1,0 +1,3 @@
+pub mod parser
+pub mod runs
+pub mod loads

@@ -1,0 +1,3 @@
+pub mod parser
+pub mod loader
+pub mod rows

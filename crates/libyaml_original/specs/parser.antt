@@ -1,0 +1,4 @@
+pub mod Parser
+pub mod Texts
+pub mod Runs
+pub mod Differences

@@ -1,0 +1,4 @@
+pub mod Notation
+pub mod ExampleRows
+pub mod DifferenceRows
+pub mod TextRows
