@@ -1,3 +1,4 @@
 pub mod RunLemmas
 pub mod KnownLines
 pub mod ReadsBackLemmas
+pub mod OneOutputs

@@ -1,2 +1,3 @@
 pub mod NodeStepLemmas
 pub mod NodeTurnLemmas
+pub mod LargeRuns

@@ -1,3 +1,4 @@
 pub mod LineRun
 pub mod RunSteps
 pub mod ReadsBack
+pub mod OneOutput

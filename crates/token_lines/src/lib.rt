@@ -3,6 +3,7 @@
 //! A user names this crate alone: it re-exports the crates below it, for reading and for writing a line.
 #![tactic(auto)]
 
+pub mod determined;
 pub mod laws;
 mod run;
 

@@ -1,6 +1,8 @@
-//! What the words of the command line of `yamltokens` ask for.
+//! The program `yamltokens`, but for its `main`: what the words of its command line ask for.
 #![tactic(auto)]
 
+mod command;
 mod words;
 
+pub use command::program;
 pub use words::{Run, no_memory, refuse_words, run_words};

@@ -11,7 +11,7 @@ use Rattle.libyaml_types.specs.declared.event.yaml_event_t.{yaml_event_t}
 use Rattle.libyaml_types.specs.declared.token.yaml_token_t.{yaml_token_t}
 use Rattle.libyaml_documents.specs.declared.node.yaml_node_t.{yaml_node_t}
 use Rattle.libyaml_documents.specs.Documents.{Document}
-use Rattle.libyaml_events.specs.machine.Config.{Parser, is_fault}
+use Rattle.libyaml_events.specs.machine.Config.{Parser}
 use Rattle.libyaml_sources.specs.declared.fault.yaml_parser_t_prefix.{yaml_parser_t_prefix}
 use Rattle.libyaml_sources.specs.Fault.{Answer, Fault, fault_of}
 use Rattle.libyaml_events.specs.sources.History.{ForHistory, History, has_failed, kept_fault}
@@ -19,7 +19,6 @@ use Rattle.libyaml_events.specs.sources.RunToCome.{RunToCome}
 use Rattle.libyaml_grammar.specs.runs.Runs.{Ending}
 use Rattle.libyaml_sources.specs.Source.{Coming}
 use Rattle.libyaml_events.proofs.lent.CallsInTurn.{gave_both}
-use Rattle.libyaml_events.proofs.lent.Staged.{ran_staged}
 use Rattle.libyaml_graphs.specs.loads.Bounds.{bounded_loads, next_bounded}
 use Rattle.libyaml_graphs.specs.loads.Loads.{Load, left_over}
 use Rattle.libyaml_graphs.proofs.lent.Roots.{earlier_of}
@@ -52,6 +51,10 @@ keeps_both (Some x) None c h k = absurd h
 keeps_both (Some x) (Some y) None h k = absurd k
 keeps_both (Some x) (Some y) (Some z) h k = k ∙ h
 
+-- what the histories of parsers say
+abbrev pub NoFault : Type 0 → Type 0
+NoFault S = (p : Parser S) → ForHistory p (λ _ _. has_failed p ≡ false)
+
 module _ {S : Type 0} (gives : S → Answer → S → Type 0) (known : S → Option Coming) (MayBreak : S → Fault → Type 0) (n : ℕ) where
   pub turn_of : (s : RunStep) (p q : Parser S) (b c : Option (List ℕ)) (r a : DocumentOrError) → r ≡ a
       → LoadsFrom gives known MayBreak (next_bounded n) left_over p r q → StepForLoad s a (kept_fault q) b c
@@ -70,9 +73,6 @@ module _ {S : Type 0} (gives : S → Answer → S → Type 0) (known : S → Opt
     loads = λ (rest : List yaml_event_t) (x : Ending). refl;
     wrote = Appends-nil x;
   }
-
-  running : (p : Parser S) (asked : List yaml_token_t) (given : List yaml_event_t) → History p asked given → has_failed p ≡ false
-  running p asked given h = ap (λ (f : Fault). is_fault f.error) (ran_staged h).no_fault_kept
 
   texts_more : (ds : List Document) (d : Document)
       → concat (flat_map document_lines ds) ++ concat (document_lines d) ≡ concat (flat_map document_lines (ds ++ d ∷ []))
@@ -99,10 +99,10 @@ module _ {S : Type 0} (gives : S → Answer → S → Type 0) (known : S → Opt
       oks_more [] = refl
       oks_more (e ∷ l) = ap (λ (m : List Load). Ok e ∷ m) (oks_more l)
 
-  pub one_loaded : (first p q : Parser S) (a b c : Option (List ℕ)) (asked : List yaml_token_t) (given : List yaml_event_t)
+  pub one_loaded : NoFault S → (first p q : Parser S) (a b c : Option (List ℕ)) (asked : List yaml_token_t) (given : List yaml_event_t)
       → AllLoaded gives n first p a b asked given
       → (has_failed p ≡ false → LoadTurn gives known MayBreak n step.Written p q b c) → AllLoaded gives n first q a c asked given
-  one_loaded first p q a b c asked given w turns = go turn.loaded turn.load turn.wrote
+  one_loaded running first p q a b c asked given w turns = go turn.loaded turn.load turn.wrote
     where
       turn : LoadTurn gives known MayBreak n step.Written p q b c
       turn = turns (running p (asked ++ w.more) (given ++ w.events) w.history)
@@ -179,16 +179,15 @@ module _ {S : Type 0} (gives : S → Answer → S → Type 0) (known : S → Opt
       → (events : List yaml_event_t) (ending : Ending) → RunToCome known p events ending → NodeSteps known MayBreak (magnitude w) s q b c events ending
   steps_at steps events ending run = subst (λ (y : ℤ). NodeSteps known MayBreak (magnitude y) s q b c events ending) same (steps events ending run)
 
-pub last_load_at : {S W : Type 0} (gives : S → Answer → S → Type 0) (known : S → Option Coming) (MayBreak : S → Fault → Type 0) (contents : W
+pub last_load_at : {S W : Type 0} → NoFault S → (gives : S → Answer → S → Type 0) (known : S → Option Coming) (MayBreak : S → Fault → Type 0) (contents : W
     → Option (List ℕ)) (outcome : Outcome) (s : RunStep) (first p q : Parser S) (writer : W) (a c d : Option (List ℕ)) (asked : List yaml_token_t)
     (given : List yaml_event_t) → p.max_entries ≡ first.max_entries
     → AllLoaded gives (magnitude first.max_entries) first p a (contents writer) asked given
     → (has_failed p ≡ false → LoadTurn gives known MayBreak (magnitude p.max_entries) s p q (contents writer) c)
     → ((r : DocumentOrError) → StepForLoad s r (kept_fault q) (contents writer) c → WroteForLoad outcome r (kept_fault q) (contents writer) d)
     → (outcome ≡ Ended → s ≡ step.Ended) → LastLoad gives known MayBreak contents (magnitude first.max_entries) outcome first q a d asked given
-last_load_at gives known MayBreak contents outcome s first p q writer a c d asked given bound earlier turns wrote ended =
-    let failed = running gives known MayBreak (magnitude first.max_entries) p (asked ++ earlier.more)
-    (given ++ earlier.events) earlier.history in
+last_load_at running gives known MayBreak contents outcome s first p q writer a c d asked given bound earlier turns wrote ended =
+    let failed = running p (asked ++ earlier.more) (given ++ earlier.events) earlier.history in
     let turn = turn_at gives known MayBreak s p q
     (contents writer) c p.max_entries first.max_entries bound turns failed in
     record {

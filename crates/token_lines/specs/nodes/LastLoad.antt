@@ -1,6 +1,6 @@
 -- That no document is held back: the text of each is written before anything of the next is asked for
 -- (docs/DEFINITIONS.md, "Runs over lines").
-use Rattle.std.specs.Prelude.{◌≡◌, ◌++◌, ◌⊎◌, ◌∷◌, ℕ, List, [], map, Option, Ok, Err}
+use Rattle.std.specs.Prelude.{◌≡◌, ◌≤◌, ◌*◌, ◌++◌, ◌⊎◌, ◌∷◌, ℕ, List, [], length, map, Option, Ok, Err}
 use Rattle.std.specs.List.{concat, flat_map}
 use Rattle.std.specs.Io.KnownBytes.{Appends, Keeps}
 use Rattle.libyaml_types.specs.declared.event.yaml_event_t.{yaml_event_t}
@@ -13,6 +13,7 @@ use Rattle.libyaml_events.specs.sources.History.{History, answers, kept_fault}
 use Rattle.libyaml_grammar.specs.runs.Runs.{Ending}
 use Rattle.libyaml_sources.specs.Source.{Coming}
 use Rattle.libyaml_graphs.specs.loads.Bounds.{bounded_loads, next_bounded}
+use Rattle.libyaml_graphs.specs.loads.Linear.{documents_size}
 use Rattle.libyaml_graphs.specs.loads.Loads.{Load, left_over}
 use Rattle.libyaml_loader.specs.loads.Loading.{DocumentOrError, HasEnded, LoadsFrom}
 use Rattle.line_reading.specs.sources.LineSource.{LineSource, BreaksOff, Gives, known_of}
@@ -78,7 +79,8 @@ abbrev pub most_entries : ℕ
 most_entries = 2147483647
 
 -- A run over a reader's lines, by a parser that started there: what it wrote, where its source may have broken off as it
--- then was; and each document in its turn.
+-- then was; and each document in its turn. The nodes of the documents that it wrote, and the entries of their lists, are
+-- together at most eight for each token that was asked for.
 pub record NodesOver {R W : Type 0} (remaining : R → Option (List ℕ)) (contents : W
     → Option (List ℕ)) (reader : R) (outcome : Outcome) (before after : Option (List ℕ)) : Type 0 where
   pub first : Parser (LineSource R)
@@ -86,3 +88,4 @@ pub record NodesOver {R W : Type 0} (remaining : R → Option (List ℕ)) (conte
   pub starts : StartsAt reader first
   pub writes : WritesNodesOf (remaining reader) (BreaksOff last.source) outcome before after
   pub in_turn : LastLoad (Gives remaining) (known_of remaining) BreaksOff contents most_entries outcome first last before after [] []
+  pub linear : documents_size in_turn.earlier.documents ≤ 8 * length in_turn.earlier.more

@@ -2,9 +2,10 @@ use Rattle.std.proofs.Common.{ℤ, [], ap, ◌∙◌, subst}
 use Rattle.libyaml_graphs.specs.loads.Bounds.{bounded_loads}
 use Rattle.libyaml_loader.specs.document.Ids.{magnitude}
 use Rattle.line_reading.specs.sources.LineSource.{BreaksOff, Gives, known_of}
-use Rattle.token_lines.specs.nodes.LastLoad.{LastLoad}
+use Rattle.token_lines.specs.nodes.LastLoad.{LastLoad, most_entries}
 use Rattle.token_lines.specs.nodes.NodeRun.{WritesLoads}
 use Rattle.token_lines.proofs.lines.KnownLines.{writes_of_lines, writes_of_runs}
+use Rattle.token_lines.proofs.nodes.LargeRuns.{loaded_linear}
 use Rattle.token_lines.proofs.run.nodes.run_nodes.Goals as goal
 
 pub returns : goal.returns
@@ -14,6 +15,8 @@ returns g c =
     let remaining = g.R.Read.remaining in
     let known = known_of remaining in
     let contents = g.W.Write.contents in
+    let in_turn = subst (λ (z : ℤ). LastLoad (Gives remaining) known BreaksOff contents (magnitude z) run.result parser.result run.new.parser
+    (contents c.args.writer.now) (contents run.new.writer) [] []) parser.ensures.bound (run.ensures.in_turn [] [] parser.ensures.begins) in
     record {
       first = parser.result;
       last = run.new.parser;
@@ -23,6 +26,7 @@ returns g c =
           (bounded_loads (magnitude z) events ending)) parser.ensures.bound
           (run.ensures.writes events ending
           (parser.ensures.run_to_come known tokens f (ap known c.new-source.ensures.value ∙ e) events ending is))));
-      in_turn = subst (λ (z : ℤ). LastLoad (Gives remaining) known BreaksOff contents (magnitude z) run.result parser.result run.new.parser
-          (contents c.args.writer.now) (contents run.new.writer) [] []) parser.ensures.bound (run.ensures.in_turn [] [] parser.ensures.begins);
+      in_turn = in_turn;
+      linear = loaded_linear (Gives remaining) most_entries c.of_history.ensures.at_most_four c.linear_size.ensures.first_within_bound parser.result
+          in_turn.parser _ _ in_turn.earlier;
     }

@@ -38,7 +38,7 @@ loop-writer-preserved g c =
       between = c.write_next.ensures.between;
       bound = c.write_next.ensures.bound ∙ bound;
       kept = λ failed. absurd (c.in-Written.ensures.kept (ap has_failed (c.loop-writer.invariant.kept failed).0 ∙ failed)).0;
-      in_turn = λ asked given history. one_loaded t.gives t.known t.may_break n c.args.parser.now p q (contents c.args.writer.now)
+      in_turn = λ asked given history. one_loaded t.gives t.known t.may_break n c.of_history.ensures.no_fault c.args.parser.now p q (contents c.args.writer.now)
           (contents c.loop-writer.writer) (contents c.write_next.new.writer) asked given (c.loop-writer.invariant.in_turn asked given history)
           (turn_at t.gives t.known t.may_break step.Written p q (contents c.loop-writer.writer) (contents c.write_next.new.writer) _ _ bound
           c.in-Written.ensures.turn);
@@ -101,7 +101,7 @@ pub returns-in-Ended-clause-in_turn : goal.returns-in-Ended-clause-in_turn
 returns-in-Ended-clause-in_turn g c asked given history =
     let t = g.S.yaml_token_source_t in
     let at = c.loop-writer in
-    last_load_at t.gives t.known t.may_break g.W.Write.contents c.flushed.result step.Ended c.args.parser.now at.parser c.write_next.new.parser at.writer _ _ _
+    last_load_at c.of_history.ensures.no_fault t.gives t.known t.may_break g.W.Write.contents c.flushed.result step.Ended c.args.parser.now at.parser c.write_next.new.parser at.writer _ _ _
     asked given at.invariant.bound (at.invariant.in_turn asked given history) c.in-Ended.ensures.turn
     (loads_end c.flushed.result _ _ _ _ c.flushed.ensures.outcome c.flushed.ensures.keeps) (λ is. refl)
 
@@ -109,7 +109,7 @@ pub returns-in-Failed-clause-in_turn : goal.returns-in-Failed-clause-in_turn
 returns-in-Failed-clause-in_turn g c asked given history =
     let t = g.S.yaml_token_source_t in
     let at = c.loop-writer in
-    last_load_at t.gives t.known t.may_break g.W.Write.contents c.faulted.result (step.Failed c.in-Failed.fault) c.args.parser.now at.parser
+    last_load_at c.of_history.ensures.no_fault t.gives t.known t.may_break g.W.Write.contents c.faulted.result (step.Failed c.in-Failed.fault) c.args.parser.now at.parser
     c.write_next.new.parser at.writer _ _ _ asked given at.invariant.bound (at.invariant.in_turn asked given history) c.in-Failed.ensures.turn
     (loads_failed c.faulted.result c.in-Failed.fault _ _ _ _ c.faulted.ensures.not_ended c.faulted.ensures.writes)
     (λ is. absurd (c.faulted.ensures.not_ended is))
@@ -120,7 +120,7 @@ returns-in-OutputFailed-clause-in_turn g c asked given history =
     let at = c.loop-writer in
     let contents = g.W.Write.contents in
     let q = c.write_next.new.parser in
-    last_load_at t.gives t.known t.may_break contents _ step.OutputFailed c.args.parser.now at.parser q at.writer (contents c.args.writer.now)
+    last_load_at c.of_history.ensures.no_fault t.gives t.known t.may_break contents _ step.OutputFailed c.args.parser.now at.parser q at.writer (contents c.args.writer.now)
     (contents c.write_next.new.writer) (contents c.write_next.new.writer) asked given at.invariant.bound (at.invariant.in_turn asked given history)
     c.in-OutputFailed.ensures.turn (loads_output (kept_fault q) (contents at.writer) (contents c.write_next.new.writer) (contents c.write_next.new.writer))
     output_is_no_end

@@ -1,5 +1,0 @@
-use Rattle.std.proofs.Common.{rules}
-use Rattle.line_reading.proofs.line_problem.fault_at.Goals as goal
-
-pub returns : goal.returns
-returns c = search rules
