@@ -7,7 +7,7 @@
 use crate::growing::listed;
 use crate::lines::{LinesOf, write_lines};
 use anyhow::Result;
-use row_checks::{EVERY_CALL, PieceReader, Table};
+use row_checks::{EVERY_CALL, PieceReader, Table, Tables};
 use std::alloc::Global;
 use token_lines::{MAX_TOKENS, Outcome, run_events, run_nodes, yaml_line_source_t};
 use unsafe_libyaml::{
@@ -167,16 +167,31 @@ fn try_list(alloc: Global, kinds: &str, number: u64) -> Result<(u64, bool)> {
 /// # Errors
 ///
 /// An allocation fails, or printing does.
-pub fn show(rt: &(impl Print + AllocGlobal), kinds: &str) -> Result<()> {
-    let mut table = Table::new("drawn lists");
+pub fn show(rt: &(impl Print + AllocGlobal), tables: &mut Tables<'_>, kinds: &str) -> Result<()> {
+    let Some(mut table) = tables.begin("drawn lists") else {
+        return Ok(());
+    };
     let mut tokens = 0u64;
     for number in 0..LISTS {
-        let (more, is_right) = try_list(rt.alloc(), kinds, number)?;
-        tokens = tokens.saturating_add(more);
-        let name = format!(in rt.alloc(); "list {number}")?;
-        table.count(rt, name.as_str(), is_right)?;
+        tokens = tokens.saturating_add(count_list(rt, &mut table, kinds, number)?);
     }
-    table.show(rt)?;
+    tables.show(rt, table)?;
     println!(rt; "drawn lists: {tokens} tokens")?;
     Ok(())
+}
+
+/// Counts the list of this number, if it is asked for, and returns how many tokens it has.
+fn count_list(
+    rt: &(impl Print + AllocGlobal),
+    table: &mut Table<'_>,
+    kinds: &str,
+    number: u64,
+) -> Result<u64> {
+    let name = format!(in rt.alloc(); "list {number}")?;
+    if !table.has(name.as_str()) {
+        return Ok(0);
+    }
+    let (tokens, is_right) = try_list(rt.alloc(), kinds, number)?;
+    table.count(rt, name.as_str(), is_right)?;
+    Ok(tokens)
 }

@@ -6,7 +6,7 @@
 use crate::calls::{Constructor, built, calls, constructed, constructors, refuses_bytes_first};
 use crate::growing::{Grown, lists};
 use crate::lines::{LinesOf, are_same_or_cut, lines_of};
-use row_checks::Table;
+use row_checks::Tables;
 use std::alloc::Global;
 use std::io;
 
@@ -16,20 +16,28 @@ fn is_constructor_right(alloc: Global, constructor: Constructor) -> bool {
     are_same_or_cut(&one, &other)
 }
 
-fn show_constructors(rt: &(impl Print + AllocGlobal)) -> io::Result<()> {
-    let mut table = Table::new("constructors, called again");
+fn show_constructors(rt: &(impl Print + AllocGlobal), tables: &mut Tables<'_>) -> io::Result<()> {
+    let Some(mut table) = tables.begin("constructors, called again") else {
+        return Ok(());
+    };
     for (name, constructor) in constructors() {
-        table.count(rt, name, is_constructor_right(rt.alloc(), *constructor))?;
+        if table.has(name) {
+            table.count(rt, name, is_constructor_right(rt.alloc(), *constructor))?;
+        }
     }
-    table.show(rt)
+    tables.show(rt, table)
 }
 
-fn show_bytes(rt: &(impl Print + AllocGlobal)) -> io::Result<()> {
-    let mut table = Table::new("bytes that are no text, refused first");
+fn show_bytes(rt: &(impl Print + AllocGlobal), tables: &mut Tables<'_>) -> io::Result<()> {
+    let Some(mut table) = tables.begin("bytes that are no text, refused first") else {
+        return Ok(());
+    };
     for (name, constructor) in constructors() {
-        table.count(rt, name, refuses_bytes_first(rt.alloc(), *constructor))?;
+        if table.has(name) {
+            table.count(rt, name, refuses_bytes_first(rt.alloc(), *constructor))?;
+        }
     }
-    table.show(rt)
+    tables.show(rt, table)
 }
 
 fn is_document_right(alloc: Global, most: usize) -> bool {
@@ -39,13 +47,17 @@ fn is_document_right(alloc: Global, most: usize) -> bool {
 }
 
 /// Shows the calls on a document, with the last of which all are made.
-fn show_calls(rt: &(impl Print + AllocGlobal)) -> io::Result<()> {
-    let mut table = Table::new("calls on a document, made again");
+fn show_calls(rt: &(impl Print + AllocGlobal), tables: &mut Tables<'_>) -> io::Result<()> {
+    let Some(mut table) = tables.begin("calls on a document, made again") else {
+        return Ok(());
+    };
     for (index, (name, _)) in calls().iter().enumerate() {
         let most = index.saturating_add(1);
-        table.count(rt, name, is_document_right(rt.alloc(), most))?;
+        if table.has(name) {
+            table.count(rt, name, is_document_right(rt.alloc(), most))?;
+        }
     }
-    table.show(rt)
+    tables.show(rt, table)
 }
 
 fn is_computed_right(alloc: Global, grown: Grown, of: LinesOf) -> bool {
@@ -62,19 +74,23 @@ fn is_list_right(alloc: Global, grown: Grown) -> bool {
     ] == [true; 2]
 }
 
-fn show_lists(rt: &(impl Print + AllocGlobal)) -> io::Result<()> {
-    let mut table = Table::new("lists that are computed");
+fn show_lists(rt: &(impl Print + AllocGlobal), tables: &mut Tables<'_>) -> io::Result<()> {
+    let Some(mut table) = tables.begin("lists that are computed") else {
+        return Ok(());
+    };
     for (name, list) in lists() {
         let grown = Grown { list: *list, n: 3 };
-        table.count(rt, name, is_list_right(rt.alloc(), grown))?;
+        if table.has(name) {
+            table.count(rt, name, is_list_right(rt.alloc(), grown))?;
+        }
     }
-    table.show(rt)
+    tables.show(rt, table)
 }
 
 /// Shows the tables of this module.
-pub fn show(rt: &(impl Print + AllocGlobal)) -> io::Result<()> {
-    show_constructors(rt)?;
-    show_bytes(rt)?;
-    show_calls(rt)?;
-    show_lists(rt)
+pub fn show(rt: &(impl Print + AllocGlobal), tables: &mut Tables<'_>) -> io::Result<()> {
+    show_constructors(rt, tables)?;
+    show_bytes(rt, tables)?;
+    show_calls(rt, tables)?;
+    show_lists(rt, tables)
 }

@@ -1,13 +1,18 @@
 //! Work that takes no more memory where there is more of it (`scripts/flat_memory.sh`).
 
+use crate::calls::append_item;
 use crate::growing::Grown;
 use anyhow::{Result, bail};
 use computed_tokens::{ComputedTokens, GrowingList};
 use row_checks::{gives_event, next_nodes};
 use std::alloc::{AllocError, Global};
+use token_lines::{MAX_TOKENS, yaml_line_source_t};
 use unsafe_libyaml::{
-    YAML_ANY_SCALAR_STYLE, ZERO_MARK, unnamed_yaml_token_t_data, unnamed_yaml_token_t_data_anchor,
-    yaml_event_delete, yaml_parser_delete, yaml_parser_initialize, yaml_parser_t, yaml_refusal_t,
+    YAML_ANY_MAPPING_STYLE, YAML_ANY_SCALAR_STYLE, YAML_ANY_SEQUENCE_STYLE, YAML_PARSER_ERROR,
+    ZERO_MARK, unnamed_yaml_token_t_data, unnamed_yaml_token_t_data_anchor,
+    yaml_document_add_mapping, yaml_document_add_scalar, yaml_document_add_sequence,
+    yaml_document_delete, yaml_document_initialize, yaml_document_t, yaml_event_delete,
+    yaml_parser_delete, yaml_parser_initialize, yaml_parser_t, yaml_refusal_t,
     yaml_scalar_event_initialize, yaml_token_delete, yaml_token_t,
 };
 
@@ -107,6 +112,92 @@ fn delete_tokens_and_events(alloc: Global, n: u32) -> Result<u64, AllocError> {
     delete_all(alloc, text.as_str(), n)
 }
 
+fn load_aliases(alloc: Global) -> u64 {
+    let mut parser = parser_over(alloc, GrowingList::Aliases, 3);
+    count_all_nodes(&mut parser)
+}
+
+fn parse_directives(alloc: Global) -> u64 {
+    let mut parser = parser_over(alloc, GrowingList::TagDirectives, 3);
+    count_events(&mut parser)
+}
+
+/// Loads a sequence of three aliases of itself n times, and counts the nodes.
+fn load_anchored(alloc: Global, n: u32) -> u64 {
+    let mut nodes = 0u64;
+    for _ in 0..n {
+        nodes = nodes.saturating_add(load_aliases(alloc));
+    }
+    nodes
+}
+
+/// Parses three tag directives and the fault of a fourth n times, and counts the events.
+fn parse_handles(alloc: Global, n: u32) -> u64 {
+    let mut events = 0u64;
+    for _ in 0..n {
+        events = events.saturating_add(parse_directives(alloc));
+    }
+    events
+}
+
+/// The lines of a document with a directive, an anchor and its alias, and open collections before a fault.
+const LEFT_OPEN: &str = "STREAM-START 0:0:0 0:0:0 utf8\n\
+    TAG-DIRECTIVE 0:0:0 0:0:0 =!e! =tag:example.org,2000:\n\
+    DOCUMENT-START 0:0:0 0:0:0\n\
+    FLOW-SEQUENCE-START 0:0:0 0:0:0\n\
+    ANCHOR 0:0:0 0:0:0 =a\n\
+    TAG 0:0:0 0:0:0 =!e! =t\n\
+    FLOW-MAPPING-START 0:0:0 0:0:0\n\
+    KEY 0:0:0 0:0:0\n\
+    ALIAS 0:0:0 0:0:0 =a\n\
+    VALUE 0:0:0 0:0:0\n\
+    SCALAR 0:0:0 0:0:0 =text plain\n\
+    BLOCK-END 0:0:0 0:0:0\n";
+
+/// Whether a load of these lines ends by a fault.
+fn is_left_open(alloc: Global) -> bool {
+    let source = yaml_line_source_t::new(alloc, LEFT_OPEN.as_bytes(), MAX_TOKENS);
+    let mut parser = yaml_parser_initialize(alloc, source);
+    next_nodes(&mut parser) == Some(Err(YAML_PARSER_ERROR))
+}
+
+/// Loads so far as a fault in open collections n times, and counts the faults.
+fn load_open(alloc: Global, n: u32) -> u64 {
+    let mut faults = 0u64;
+    for _ in 0..n {
+        faults = faults.saturating_add(u64::from(is_left_open(alloc)));
+    }
+    faults
+}
+
+/// Builds a document by calls, deletes it, and returns how many nodes it had.
+fn delete_built(alloc: Global) -> Result<u64, yaml_refusal_t> {
+    let directives: [(&[u8], &[u8]); 1] = [(b"!e!", b"tag:example.org,2000:")];
+    let mut document = yaml_document_initialize(alloc, None, directives.as_slice(), true, true)?;
+    add_nodes(&mut document)?;
+    let nodes = document.nodes().len() as u64;
+    yaml_document_delete(document);
+    Ok(nodes)
+}
+
+/// Adds a sequence, an item of it and a mapping, each with a tag.
+fn add_nodes(document: &mut yaml_document_t) -> Result<(), yaml_refusal_t> {
+    let tag = Some(b"!t".as_slice());
+    let list = yaml_document_add_sequence(document, tag, YAML_ANY_SEQUENCE_STYLE)?;
+    let item = yaml_document_add_scalar(document, tag, b"text", YAML_ANY_SCALAR_STYLE)?;
+    yaml_document_add_mapping(document, tag, YAML_ANY_MAPPING_STYLE)?;
+    append_item(document, list, item)
+}
+
+/// Builds and deletes n documents, and counts their nodes.
+fn delete_documents(alloc: Global, n: u32) -> u64 {
+    let mut nodes = 0u64;
+    for _ in 0..n {
+        nodes = nodes.saturating_add(delete_built(alloc).unwrap_or(0));
+    }
+    nodes
+}
+
 /// Does so much of the work that this word names, and prints what it counted.
 ///
 /// # Errors
@@ -118,6 +209,10 @@ pub fn show(rt: &(impl Print + AllocGlobal), work: &str, n: u32) -> Result<()> {
         "loaded" => load_documents(rt.alloc(), n),
         "left" => leave_runs(rt.alloc(), n),
         "deleted" => delete_tokens_and_events(rt.alloc(), n)?,
+        "anchored" => load_anchored(rt.alloc(), n),
+        "handles" => parse_handles(rt.alloc(), n),
+        "open" => load_open(rt.alloc(), n),
+        "built" => delete_documents(rt.alloc(), n),
         _ => bail!("no such work"),
     };
     println!(rt; "{counted}")?;

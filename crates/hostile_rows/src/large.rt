@@ -1,10 +1,11 @@
 //! Whole runs and loads of large lists: over the source that computes the tokens, and over a list of the same
-//! tokens, which has to give the same.
+//! tokens, which has to give the same. Of documents the value of each node is compared too.
 
 use crate::growing::{Grown, lists};
+use crate::shapes::is_shaped;
 use anyhow::Result;
 use computed_tokens::GrowingList;
-use row_checks::Table;
+use row_checks::Tables;
 use std::alloc::Global;
 use unsafe_libyaml::{
     yaml_document_t, yaml_documents_t, yaml_parser_load_all, yaml_parser_parse_all,
@@ -12,7 +13,7 @@ use unsafe_libyaml::{
 };
 
 /// How large and deep the lists are.
-const N: u32 = 100_000;
+pub const N: u32 = 100_000;
 
 /// How many events and documents a list gives, and how many nodes each of these has.
 fn counts(list: GrowingList) -> (usize, usize, usize) {
@@ -64,10 +65,17 @@ fn is_parsed(alloc: Global, grown: Grown) -> Result<bool> {
     is_run_of_list(alloc, grown, &run)
 }
 
-/// Whether each document has so many nodes.
-fn have_nodes(documents: &[yaml_document_t], nodes: usize) -> bool {
+/// Whether a document of a list has so many nodes, and these are what they should be.
+fn is_document(list: GrowingList, document: &yaml_document_t, nodes: usize) -> bool {
+    [
+        document.nodes().len() == nodes,
+        is_shaped(list, document.nodes()),
+    ] == [true; 2]
+}
+
+fn are_all(list: GrowingList, documents: &[yaml_document_t], nodes: usize) -> bool {
     for document in documents {
-        if document.nodes().len() != nodes {
+        if !is_document(list, document, nodes) {
             return false;
         }
     }
@@ -78,7 +86,7 @@ fn are_documents(list: GrowingList, one: &yaml_documents_t, other: &yaml_documen
     let (_, documents, nodes) = counts(list);
     one.documents.len() == documents
         && one.documents.as_slice() == other.documents.as_slice()
-        && have_nodes(one.documents.as_slice(), nodes)
+        && are_all(list, one.documents.as_slice(), nodes)
         && is_end(list, &one.fault)
         && one.fault == other.fault
 }
@@ -94,23 +102,31 @@ fn is_loaded(alloc: Global, grown: Grown) -> Result<bool> {
     are_documents_of_list(alloc, grown, &documents)
 }
 
-fn show_runs(rt: &(impl Print + AllocGlobal)) -> Result<()> {
-    let mut table = Table::new("large lists, parsed");
+fn show_runs(rt: &(impl Print + AllocGlobal), tables: &mut Tables<'_>) -> Result<()> {
+    let Some(mut table) = tables.begin("large lists, parsed") else {
+        return Ok(());
+    };
     for (name, list) in lists() {
-        let grown = Grown { list: *list, n: N };
-        table.count(rt, name, is_parsed(rt.alloc(), grown)?)?;
+        if table.has(name) {
+            let grown = Grown { list: *list, n: N };
+            table.count(rt, name, is_parsed(rt.alloc(), grown)?)?;
+        }
     }
-    table.show(rt)?;
+    tables.show(rt, table)?;
     Ok(())
 }
 
-fn show_loads(rt: &(impl Print + AllocGlobal)) -> Result<()> {
-    let mut table = Table::new("large lists, loaded");
+fn show_loads(rt: &(impl Print + AllocGlobal), tables: &mut Tables<'_>) -> Result<()> {
+    let Some(mut table) = tables.begin("large lists, loaded") else {
+        return Ok(());
+    };
     for (name, list) in lists() {
-        let grown = Grown { list: *list, n: N };
-        table.count(rt, name, is_loaded(rt.alloc(), grown)?)?;
+        if table.has(name) {
+            let grown = Grown { list: *list, n: N };
+            table.count(rt, name, is_loaded(rt.alloc(), grown)?)?;
+        }
     }
-    table.show(rt)?;
+    tables.show(rt, table)?;
     Ok(())
 }
 
@@ -119,7 +135,7 @@ fn show_loads(rt: &(impl Print + AllocGlobal)) -> Result<()> {
 /// # Errors
 ///
 /// An allocation fails, or printing does.
-pub fn show(rt: &(impl Print + AllocGlobal)) -> Result<()> {
-    show_runs(rt)?;
-    show_loads(rt)
+pub fn show(rt: &(impl Print + AllocGlobal), tables: &mut Tables<'_>) -> Result<()> {
+    show_runs(rt, tables)?;
+    show_loads(rt, tables)
 }

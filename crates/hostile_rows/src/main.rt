@@ -1,8 +1,9 @@
 //! Hostile use: lists that are large, deep or drawn, texts of every length, and allocations that fail.
 //!
 //! The program makes the checks of each module, counts the rows of each table and names those that differ.
-//! `hostile_rows failing` makes those of `failing` alone, for `scripts/allocation_failures.sh`, and
-//! `hostile_rows WORK N` does the work of `scripts/flat_memory.sh`.
+//! `hostile_rows TABLE` makes those of one table, `hostile_rows TABLE ROW` those of one row, and
+//! `hostile_rows failing` those of `failing`, for `scripts/allocation_failures.sh`. `hostile_rows work
+//! WORK N` does the work of `scripts/flat_memory.sh`.
 #![tactic(auto)]
 
 mod calls;
@@ -13,41 +14,46 @@ mod growing;
 mod large;
 mod lines;
 mod nested;
+mod shapes;
 mod texts;
 
-use anyhow::{Context, Result, bail};
-use std::rt::{Env, Files};
-use std::{env, fs};
+use anyhow::{Context, Result};
+use row_checks::{Tables, read_text, read_words};
+use std::rt::Files;
 
-fn show_all(rt: &(impl Files + Print + AllocGlobal)) -> Result<()> {
-    let row = fs::read_to_string(rt, "text.tokens")?;
-    let kinds = fs::read_to_string(rt, "kinds")?;
-    large::show(rt)?;
-    nested::show(rt)?;
-    texts::show(rt, row.as_str())?;
-    drawn::show(rt, kinds.as_str())?;
-    failing::show(rt)?;
+fn show_tables(rt: &(impl Files + Print + AllocGlobal), tables: &mut Tables<'_>) -> Result<()> {
+    let row = read_text(rt, "text.tokens")?;
+    let kinds = read_text(rt, "kinds")?;
+    large::show(rt, tables)?;
+    nested::show(rt, tables)?;
+    texts::show(rt, tables, row.as_str())?;
+    drawn::show(rt, tables, kinds.as_str())?;
+    failing::show(rt, tables)?;
     Ok(())
 }
 
-fn run_words(rt: &(impl Files + Print + AllocGlobal), words: &[String]) -> Result<()> {
-    match words {
-        [] => show_all(rt),
-        [word] if word.as_str() == "failing" => Ok(failing::show(rt)?),
-        [work, n] => {
-            let n = n.as_str().parse::<u32>().context("no number")?;
-            flat::show(rt, work.as_str(), n)
-        }
-        _ => bail!("no such words"),
-    }
+fn show_all(rt: &(impl Files + Print + AllocGlobal), words: &[String]) -> Result<()> {
+    let mut tables = Tables::asked(words)?;
+    show_tables(rt, &mut tables)?;
+    tables.end()
 }
 
-/// The words after the program's name.
-fn read_words(rt: &(impl Env + AllocGlobal)) -> Result<Vec<String>> {
-    Ok(env::args(rt)?.skip(1).collect(rt.alloc())?)
+fn show_failing(rt: &(impl Print + AllocGlobal)) -> Result<()> {
+    let mut tables = Tables::asked(&[])?;
+    failing::show(rt, &mut tables)?;
+    tables.end()
+}
+
+fn do_work(rt: &(impl Print + AllocGlobal), work: &str, n: &str) -> Result<()> {
+    let n = n.parse::<u32>().context("no number")?;
+    flat::show(rt, work, n)
 }
 
 fn main(rt: HostRuntime) -> Result<()> {
     let words = read_words(&rt)?;
-    run_words(&rt, words.as_slice())
+    match words.as_slice() {
+        [word] if word.as_str() == "failing" => show_failing(&rt),
+        [word, work, n] if word.as_str() == "work" => do_work(&rt, work.as_str(), n.as_str()),
+        words => show_all(&rt, words),
+    }
 }

@@ -1,7 +1,7 @@
 //! A deep document, built by calls.
 
 use crate::calls::append_item;
-use row_checks::Table;
+use row_checks::Tables;
 use std::alloc::Global;
 use std::io;
 use unsafe_libyaml::{
@@ -32,7 +32,7 @@ fn is_link(node: &yaml_node_t, next: usize, is_last: bool) -> bool {
 }
 
 /// Whether each node is a sequence with the next as its only item, and the last is empty.
-fn is_chain(nodes: &[yaml_node_t]) -> bool {
+pub fn is_chain(nodes: &[yaml_node_t]) -> bool {
     for (index, node) in nodes.iter().enumerate() {
         let next = index.saturating_add(2);
         if !is_link(node, next, next > nodes.len()) {
@@ -58,9 +58,11 @@ fn are_nested(alloc: Global) -> Result<bool, yaml_refusal_t> {
 }
 
 /// Shows the table of this module.
-pub fn show(rt: &(impl Print + AllocGlobal)) -> io::Result<()> {
-    let mut table = Table::new("deep documents, by calls");
+pub fn show(rt: &(impl Print + AllocGlobal), tables: &mut Tables<'_>) -> io::Result<()> {
+    let Some(mut table) = tables.begin("deep documents, by calls") else {
+        return Ok(());
+    };
     let is_right = are_nested(rt.alloc()).unwrap_or(false);
     table.count(rt, "sequences in sequences", is_right)?;
-    table.show(rt)
+    tables.show(rt, table)
 }

@@ -2,7 +2,7 @@
 
 use crate::calls::{Constructor, Texts, construct, constructors};
 use crate::lines::RowError;
-use row_checks::Table;
+use row_checks::{Table, Tables};
 use std::alloc::Global;
 use token_lines::{Outcome, run_events, run_nodes};
 use unsafe_libyaml::{
@@ -79,23 +79,31 @@ fn is_taken(alloc: Global, row: &str, len: usize) -> Result<bool, RowError> {
 
 fn count(
     rt: &(impl Print + AllocGlobal),
-    table: &mut Table,
+    table: &mut Table<'_>,
     row: &str,
     len: usize,
 ) -> anyhow::Result<()> {
     let name = format!(in rt.alloc(); "{len} bytes")?;
-    let is_right = is_taken(rt.alloc(), row, len).unwrap_or(false);
-    table.count(rt, name.as_str(), is_right)?;
+    if table.has(name.as_str()) {
+        let is_right = is_taken(rt.alloc(), row, len).unwrap_or(false);
+        table.count(rt, name.as_str(), is_right)?;
+    }
     Ok(())
 }
 
 /// Shows the table of this module, of the lengths of 0 to 70 bytes and of a long one.
-pub fn show(rt: &(impl Print + AllocGlobal), row: &str) -> anyhow::Result<()> {
-    let mut table = Table::new("texts of every length");
+pub fn show(
+    rt: &(impl Print + AllocGlobal),
+    tables: &mut Tables<'_>,
+    row: &str,
+) -> anyhow::Result<()> {
+    let Some(mut table) = tables.begin("texts of every length") else {
+        return Ok(());
+    };
     for len in 0..=70usize {
         count(rt, &mut table, row, len)?;
     }
     count(rt, &mut table, row, LONG)?;
-    table.show(rt)?;
+    tables.show(rt, table)?;
     Ok(())
 }

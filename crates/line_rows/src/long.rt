@@ -1,8 +1,9 @@
 //! The longest line, and more lines than are read.
 
+use crate::memory;
 use crate::runs::{LinesOf, Run};
 use anyhow::Result;
-use row_checks::Table;
+use row_checks::Tables;
 use std::alloc::{AllocError, Global};
 use token_lines::{Outcome, run_events};
 
@@ -78,17 +79,19 @@ fn long_text(
     [before, middle.as_str(), behind].concat(alloc)
 }
 
-/// Whether a run is right in pieces that are none of a line's length.
-fn is_right_in_pieces(alloc: Global, run: Run<'_>) -> bool {
-    [
-        run.is_right(alloc, 4093),
-        run.is_right(alloc, 65_536),
-        run.is_right(alloc, usize::MAX),
-    ] == [true; 3]
+/// Whether a run is right in pieces that are none of a line's length, and in memory.
+fn is_run_right(rt: &(impl Print + AllocGlobal), run: Run<'_>) -> Result<bool> {
+    Ok(
+        run.is_right(rt, 4093)?
+            && run.is_right(rt, 65_536)?
+            && run.is_right(rt, usize::MAX)?
+            && memory::is_right(rt, run)?,
+    )
 }
 
-fn is_right(alloc: Global, row: Row) -> Result<bool, AllocError> {
+fn is_right(rt: &(impl Print + AllocGlobal), row: Row) -> Result<bool> {
     let (_, of, scalar, before, len, behind, outcome) = row;
+    let alloc: Global = rt.alloc();
     let front = "STREAM-START 0:0:0 1:0:1 utf8\nSCALAR 2:0:2 3:0:3 =";
     let tokens = long_text(
         alloc,
@@ -104,7 +107,7 @@ fn is_right(alloc: Global, row: Row) -> Result<bool, AllocError> {
         lines: lines.as_bytes(),
         outcome,
     };
-    Ok(is_right_in_pieces(alloc, run))
+    is_run_right(rt, run)
 }
 
 /// Runs over the start of a stream and so many open sequences, and says what was written.
@@ -120,13 +123,20 @@ fn run_open_sequences(rt: &(impl Print + AllocGlobal), sequences: usize) -> Resu
     Ok(())
 }
 
-/// Shows the table of this module, and runs over a million open sequences.
-pub fn show(rt: &(impl Print + AllocGlobal)) -> Result<()> {
-    let mut table = Table::new("lines as long as any, and longer");
+/// The table of the rows of long lines.
+const NAME: &str = "lines as long as any, and longer";
+
+/// Shows the table of this module, and after it runs over a million open sequences.
+pub fn show(rt: &(impl Print + AllocGlobal), tables: &mut Tables<'_>) -> Result<()> {
+    let Some(mut table) = tables.begin(NAME) else {
+        return Ok(());
+    };
     for row in rows() {
-        table.count(rt, row.0, is_right(rt.alloc(), *row) == Ok(true))?;
+        if table.has(row.0) {
+            table.count(rt, row.0, is_right(rt, *row)?)?;
+        }
     }
-    table.show(rt)?;
+    tables.show(rt, table)?;
     run_open_sequences(rt, 2)?;
     run_open_sequences(rt, 1_000_000)
 }

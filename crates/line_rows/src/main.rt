@@ -3,11 +3,12 @@
 //!
 //! The program makes each check of `Check` for each run that the file `names` names, and for each line of
 //! `good_lines` and `bad_lines`; it counts the rows of each table and names those that differ. It also runs
-//! over more lines than are read. `line_rows failing` makes the checks of `failing` alone, for
-//! `scripts/allocation_failures.sh`.
+//! over more lines than are read. `line_rows TABLE` makes the checks of one table, `line_rows TABLE ROW`
+//! those of one row, and `line_rows failing` those of `failing`, for `scripts/allocation_failures.sh`.
 #![tactic(auto)]
 
 mod failing;
+mod flushes;
 mod long;
 mod memory;
 mod runs;
@@ -15,12 +16,10 @@ mod source;
 mod words;
 
 use anyhow::{Context, Result};
-use row_checks::Table;
+use row_checks::{Table, Tables, read_data, read_text, read_words};
 use runs::{LinesOf, Run};
-use std::alloc::Global;
 use std::io::BufRead;
 use std::rt::Files;
-use std::{env, fs};
 use token_lines::Outcome;
 
 /// What is checked of a run.
@@ -32,27 +31,30 @@ enum Check {
     Reads,
     /// Each of its writes, and its last flush, fails in turn.
     Writes,
+    /// Each line that is settled is flushed before the next token is read, and a flush may fail.
+    Flushes,
     /// It writes its lines to memory.
     Memory,
     /// An allocation may fail.
     Allocations,
     /// An allocation may fail where each event or document is written by itself.
     Parts,
-    /// All but the last two.
+    /// `Pieces`, `Reads`, `Writes` and `Memory`.
     Line,
 }
 
 impl Check {
-    fn is_right(self, alloc: Global, run: Run<'_>) -> bool {
-        match self {
-            Check::Pieces => run.is_right_in_pieces(alloc),
-            Check::Reads => run.is_cut_at_each_read(alloc),
-            Check::Writes => run.is_cut_at_each_write(alloc),
-            Check::Memory => memory::is_right(alloc, run),
-            Check::Allocations => failing::is_right(alloc, run),
-            Check::Parts => failing::is_right_in_parts(alloc, run),
-            Check::Line => run.is_line_right(alloc) && memory::is_right(alloc, run),
-        }
+    fn is_right(self, rt: &(impl Print + AllocGlobal), run: Run<'_>) -> Result<bool> {
+        Ok(match self {
+            Check::Pieces => run.is_right_in_pieces(rt)?,
+            Check::Reads => run.is_cut_at_each_read(rt)?,
+            Check::Writes => run.is_cut_at_each_write(rt)?,
+            Check::Flushes => flushes::are_right(rt.alloc(), run)?,
+            Check::Memory => memory::is_right(rt, run)?,
+            Check::Allocations => failing::is_right(rt.alloc(), run),
+            Check::Parts => failing::is_right_in_parts(rt.alloc(), run),
+            Check::Line => run.is_line_right(rt)? && memory::is_right(rt, run)?,
+        })
     }
 }
 
@@ -71,50 +73,73 @@ fn ending_of(of: &str, outcome: &str) -> Option<(LinesOf, Outcome)> {
 }
 
 /// Makes a check of the run that a row of `names` names.
-fn is_row_right(rt: &(impl Files + AllocGlobal), row: &str, check: Check) -> Result<bool> {
+fn is_row_right(rt: &(impl Files + Print + AllocGlobal), row: &str, check: Check) -> Result<bool> {
     let (name, ending) = row.split_once(' ').context("no name")?;
     let (extension, outcome) = ending.split_once(' ').context("no outcome")?;
     let (of, outcome) = ending_of(extension, outcome).context("no such run")?;
-    let tokens = fs::read(rt, format!(in rt.alloc(); "runs/{name}.tokens")?)?;
-    let lines = fs::read(rt, format!(in rt.alloc(); "runs/{name}.{extension}")?)?;
+    let tokens = read_data(rt, format!(in rt.alloc(); "runs/{name}.tokens")?.as_str())?;
+    let lines = read_data(
+        rt,
+        format!(in rt.alloc(); "runs/{name}.{extension}")?.as_str(),
+    )?;
     let run = Run {
         tokens: tokens.as_slice(),
         of,
         lines: lines.as_slice(),
         outcome,
     };
-    Ok(check.is_right(rt.alloc(), run))
+    check.is_right(rt, run)
 }
 
 fn show_runs(
     rt: &(impl Files + Print + AllocGlobal),
+    tables: &mut Tables<'_>,
     name: &'static str,
     check: Check,
 ) -> Result<()> {
-    let names = fs::read_to_string(rt, "names")?;
-    let mut table = Table::new(name);
+    let Some(mut table) = tables.begin(name) else {
+        return Ok(());
+    };
+    let names = read_text(rt, "names")?;
     for row in names.lines() {
-        table.count(rt, row, is_row_right(rt, row, check)?)?;
+        if table.has(row) {
+            table.count(rt, row, is_row_right(rt, row, check)?)?;
+        }
     }
-    table.show(rt)?;
+    tables.show(rt, table)?;
     Ok(())
 }
 
 /// Makes all checks of the run over this line alone, whose fault has this text.
-fn is_line_right(alloc: Global, line: &[u8], fault: &[u8]) -> bool {
+fn is_line_right(rt: &(impl Print + AllocGlobal), line: &[u8], fault: &[u8]) -> Result<bool> {
     let run = Run {
         tokens: line,
         of: LinesOf::Events,
         lines: fault,
         outcome: Outcome::Faulted,
     };
-    Check::Line.is_right(alloc, run)
+    Check::Line.is_right(rt, run)
+}
+
+/// Counts a line, whose fault has this text, if it is asked for.
+fn count_line(
+    rt: &(impl Print + AllocGlobal),
+    table: &mut Table<'_>,
+    line: &[u8],
+    fault: &[u8],
+) -> Result<()> {
+    let row = str::from_utf8(line).unwrap_or("a line that is no text");
+    let row = row.trim_end_matches('\n');
+    if table.has(row) {
+        table.count(rt, row, is_line_right(rt, line, fault)?)?;
+    }
+    Ok(())
 }
 
 /// Counts each of these lines, which all have a fault of this text.
 fn count_lines(
     rt: &(impl Print + AllocGlobal),
-    table: &mut Table,
+    table: &mut Table<'_>,
     inputs: &[u8],
     fault: &[u8],
 ) -> Result<()> {
@@ -125,8 +150,7 @@ fn count_lines(
         if inputs.read_until(b'\n', &mut line)? == 0 {
             break;
         }
-        let row = str::from_utf8(line.as_slice()).unwrap_or("a line that is no text");
-        table.count(rt, row, is_line_right(rt.alloc(), line.as_slice(), fault))?;
+        count_line(rt, table, line.as_slice(), fault)?;
     }
     Ok(())
 }
@@ -134,45 +158,78 @@ fn count_lines(
 /// Shows the table of the lines in `inputs`, whose fault is in `fault`.
 fn show_lines(
     rt: &(impl Files + Print + AllocGlobal),
+    tables: &mut Tables<'_>,
     name: &'static str,
     inputs: &str,
     fault: &str,
 ) -> Result<()> {
-    let inputs = fs::read(rt, inputs)?;
-    let fault = fs::read(rt, fault)?;
-    let mut table = Table::new(name);
+    let Some(mut table) = tables.begin(name) else {
+        return Ok(());
+    };
+    let inputs = read_data(rt, inputs)?;
+    let fault = read_data(rt, fault)?;
     count_lines(rt, &mut table, inputs.as_slice(), fault.as_slice())?;
-    table.show(rt)?;
+    tables.show(rt, table)?;
     Ok(())
 }
 
-fn show_failing(rt: &(impl Files + Print + AllocGlobal)) -> Result<()> {
-    show_runs(rt, "runs, allocations that fail", Check::Allocations)?;
+fn show_failing_tables(
+    rt: &(impl Files + Print + AllocGlobal),
+    tables: &mut Tables<'_>,
+) -> Result<()> {
+    let parts = "events and documents, allocations that fail";
     show_runs(
         rt,
-        "events and documents, allocations that fail",
-        Check::Parts,
-    )
+        tables,
+        "runs, allocations that fail",
+        Check::Allocations,
+    )?;
+    show_runs(rt, tables, parts, Check::Parts)
 }
 
-fn show_all(rt: &(impl Files + Print + AllocGlobal)) -> Result<()> {
-    show_runs(rt, "runs in pieces", Check::Pieces)?;
-    show_runs(rt, "runs, reads that fail", Check::Reads)?;
-    show_runs(rt, "runs, writes that fail", Check::Writes)?;
-    show_runs(rt, "runs in memory", Check::Memory)?;
-    show_lines(rt, "lines of one token", "good_lines", "good_line.events")?;
-    show_lines(rt, "lines of no token", "bad_lines", "bad_line.events")?;
-    words::show(rt)?;
-    source::show(rt)?;
-    long::show(rt)?;
-    show_failing(rt)
+fn show_tables(rt: &(impl Files + Print + AllocGlobal), tables: &mut Tables<'_>) -> Result<()> {
+    show_runs(rt, tables, "runs in pieces", Check::Pieces)?;
+    show_runs(rt, tables, "runs, reads that fail", Check::Reads)?;
+    show_runs(rt, tables, "runs, writes that fail", Check::Writes)?;
+    show_runs(rt, tables, "runs, flushes", Check::Flushes)?;
+    show_runs(rt, tables, "runs in memory", Check::Memory)?;
+    show_lines(
+        rt,
+        tables,
+        "lines of one token",
+        "good_lines",
+        "good_line.events",
+    )?;
+    show_lines(
+        rt,
+        tables,
+        "lines of no token",
+        "bad_lines",
+        "bad_line.events",
+    )?;
+    flushes::show(rt, tables)?;
+    words::show(rt, tables)?;
+    source::show(rt, tables)?;
+    long::show(rt, tables)?;
+    show_failing_tables(rt, tables)
+}
+
+fn show_all(rt: &(impl Files + Print + AllocGlobal), words: &[String]) -> Result<()> {
+    let mut tables = Tables::asked(words)?;
+    show_tables(rt, &mut tables)?;
+    tables.end()
+}
+
+fn show_failing(rt: &(impl Files + Print + AllocGlobal)) -> Result<()> {
+    let mut tables = Tables::asked(&[])?;
+    show_failing_tables(rt, &mut tables)?;
+    tables.end()
 }
 
 fn main(rt: HostRuntime) -> Result<()> {
-    let words = env::args(&rt)?.count();
-    if words > 1 {
-        show_failing(&rt)
-    } else {
-        show_all(&rt)
+    let words = read_words(&rt)?;
+    match words.as_slice() {
+        [word] if word.as_str() == "failing" => show_failing(&rt),
+        words => show_all(&rt, words),
     }
 }

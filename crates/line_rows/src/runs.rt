@@ -1,7 +1,8 @@
 //! Whole runs, from token lines to the lines of events or of documents.
 
-use row_checks::{EVERY_CALL, PieceReader, PieceWriter};
+use row_checks::{EVERY_CALL, PieceReader, PieceWriter, show_difference};
 use std::alloc::Global;
+use std::io;
 use std::io::{BufRead, Write};
 use token_lines::{Outcome, run_events, run_nodes};
 
@@ -54,22 +55,31 @@ impl Run<'_> {
         [written == self.lines, ended == self.outcome] == [true; 2]
     }
 
+    /// The same. If not, prints the first line that differs.
+    pub fn is_wanted(self, rt: &impl Print, written: &[u8], ended: Outcome) -> io::Result<bool> {
+        let is_whole = self.is_whole(written, ended);
+        if !is_whole {
+            show_difference(rt, self.lines, written)?;
+        }
+        Ok(is_whole)
+    }
+
     /// Whether the run is right in pieces of so many bytes.
-    pub fn is_right(self, alloc: Global, piece: usize) -> bool {
+    pub fn is_right(self, rt: &(impl Print + AllocGlobal), piece: usize) -> io::Result<bool> {
         let reader = PieceReader::new(self.tokens, piece, EVERY_CALL);
-        let mut writer = PieceWriter::new(alloc, piece, EVERY_CALL);
-        let ended = run_lines(self.of, alloc, reader, &mut writer);
-        self.is_whole(writer.written(), ended)
+        let mut writer = PieceWriter::new(rt.alloc(), piece, EVERY_CALL);
+        let ended = run_lines(self.of, rt.alloc(), reader, &mut writer);
+        self.is_wanted(rt, writer.written(), ended)
     }
 
     /// Whether the run is right whole and in pieces.
-    pub fn is_right_in_pieces(self, alloc: Global) -> bool {
+    pub fn is_right_in_pieces(self, rt: &(impl Print + AllocGlobal)) -> io::Result<bool> {
         for piece in PIECES {
-            if !self.is_right(alloc, piece) {
-                return false;
+            if !self.is_right(rt, piece)? {
+                return Ok(false);
             }
         }
-        true
+        Ok(true)
     }
 
     /// Whether this is what a run writes whose reader fails after so many bytes.
@@ -80,35 +90,43 @@ impl Run<'_> {
         are_same_but_the_problem(written, lines.as_slice())
     }
 
-    /// How a run whose reader failed after so many bytes came through, by what it wrote and returned.
-    fn passage_of(self, alloc: Global, bytes: usize, written: &[u8], ended: Outcome) -> Passage {
+    /// How a run whose reader failed after so many bytes came through, by what it wrote and returned. Where
+    /// that is wrong, prints the first line that differs.
+    fn passage_of(
+        self,
+        rt: &(impl Print + AllocGlobal),
+        bytes: usize,
+        written: &[u8],
+        ended: Outcome,
+    ) -> io::Result<Passage> {
         if self.is_whole(written, ended) {
-            Passage::Whole
-        } else if ended == Outcome::Faulted && self.is_cut_front(alloc, bytes, written) {
-            Passage::Cut
-        } else {
-            Passage::Wrong
+            return Ok(Passage::Whole);
         }
+        if ended == Outcome::Faulted && self.is_cut_front(rt.alloc(), bytes, written) {
+            return Ok(Passage::Cut);
+        }
+        show_difference(rt, self.lines, written)?;
+        Ok(Passage::Wrong)
     }
 
     /// The same of a run whose reader hands out a byte a call, and fails after so many calls.
-    fn comes_through(self, alloc: Global, calls: usize) -> Passage {
+    fn comes_through(self, rt: &(impl Print + AllocGlobal), calls: usize) -> io::Result<Passage> {
         let reader = PieceReader::new(self.tokens, 1, calls);
-        let mut writer = PieceWriter::new(alloc, 4096, EVERY_CALL);
-        let ended = run_lines(self.of, alloc, reader, &mut writer);
-        self.passage_of(alloc, calls, writer.written(), ended)
+        let mut writer = PieceWriter::new(rt.alloc(), 4096, EVERY_CALL);
+        let ended = run_lines(self.of, rt.alloc(), reader, &mut writer);
+        self.passage_of(rt, calls, writer.written(), ended)
     }
 
     /// Whether the run is cut at each read that fails, and at last comes through. There is a call for each
     /// byte, and one for the end.
-    pub fn is_cut_at_each_read(self, alloc: Global) -> bool {
+    pub fn is_cut_at_each_read(self, rt: &(impl Print + AllocGlobal)) -> io::Result<bool> {
         for calls in 0..self.tokens.len().saturating_add(2) {
-            let came = self.comes_through(alloc, calls);
+            let came = self.comes_through(rt, calls)?;
             if came != Passage::Cut {
-                return came == Passage::Whole;
+                return Ok(came == Passage::Whole);
             }
         }
-        false
+        Ok(false)
     }
 
     /// How the run ends whose writer takes a byte a call, and so many calls. The last flush fails with no
@@ -122,35 +140,39 @@ impl Run<'_> {
     }
 
     /// Whether the run fails where its writer does, and has written all before.
-    fn is_cut_at_write(self, alloc: Global, calls: usize) -> bool {
-        let front = self.lines.get(..calls).unwrap_or(self.lines);
-        let mut writer = PieceWriter::new(alloc, 1, calls);
-        let ended = run_lines(self.of, alloc, self.tokens, &mut writer);
-        [ended == self.end_at_write(calls), writer.written() == front] == [true; 2]
+    fn is_cut_at_write(self, rt: &(impl Print + AllocGlobal), calls: usize) -> io::Result<bool> {
+        let mut writer = PieceWriter::new(rt.alloc(), 1, calls);
+        let ended = run_lines(self.of, rt.alloc(), self.tokens, &mut writer);
+        let front = Run {
+            lines: self.lines.get(..calls).unwrap_or(self.lines),
+            outcome: self.end_at_write(calls),
+            ..self
+        };
+        front.is_wanted(rt, writer.written(), ended)
     }
 
     /// Whether the run is cut at each write that fails, and at the last flush.
-    pub fn is_cut_at_each_write(self, alloc: Global) -> bool {
+    pub fn is_cut_at_each_write(self, rt: &(impl Print + AllocGlobal)) -> io::Result<bool> {
         for calls in 0..self.lines.len().saturating_add(2) {
-            if !self.is_cut_at_write(alloc, calls) {
-                return false;
+            if !self.is_cut_at_write(rt, calls)? {
+                return Ok(false);
             }
         }
-        true
+        Ok(true)
     }
 
     /// Whether all of that is right.
-    pub fn is_line_right(self, alloc: Global) -> bool {
-        [
-            self.is_right_in_pieces(alloc),
-            self.is_cut_at_each_read(alloc),
-            self.is_cut_at_each_write(alloc),
-        ] == [true; 3]
+    pub fn is_line_right(self, rt: &(impl Print + AllocGlobal)) -> io::Result<bool> {
+        Ok(
+            self.is_right_in_pieces(rt)?
+                && self.is_cut_at_each_read(rt)?
+                && self.is_cut_at_each_write(rt)?,
+        )
     }
 }
 
 /// The lines that are whole, each with its LF.
-fn whole_lines(bytes: &[u8]) -> &[u8] {
+pub fn whole_lines(bytes: &[u8]) -> &[u8] {
     let mut end = 0usize;
     for (index, byte) in bytes.iter().enumerate() {
         if *byte == b'\n' {

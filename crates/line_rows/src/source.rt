@@ -1,41 +1,58 @@
 //! What stays in the reader of a line source: after the stream's end, and after its bound on tokens.
 
-use row_checks::Table;
+use row_checks::Tables;
 use std::alloc::Global;
 use std::io;
 use token_lines::{MAX_TOKENS, yaml_line_source_t};
 use unsafe_libyaml::{
-    YAML_READER_ERROR, yaml_parser_delete, yaml_parser_initialize, yaml_parser_parse,
-    yaml_parser_t, yaml_source_fault_t, yaml_token_source_t, yaml_token_t,
+    YAML_READER_ERROR, ZERO_MARK, unnamed_yaml_token_t_data, yaml_mark_t, yaml_parser_delete,
+    yaml_parser_initialize, yaml_parser_parse, yaml_parser_t, yaml_parser_t_prefix,
+    yaml_source_fault_t, yaml_token_source_t, yaml_token_t,
 };
 
 /// The lines of a stream with one scalar, and what is no line after them.
 const STREAM_AND_JUNK: &[u8] =
     b"STREAM-START 0:0:0 1:0:1 utf8\nSCALAR 2:0:2 3:0:3 =a plain\nSTREAM-END 4:0:4 5:0:5\njunk";
 
-fn is_bound(next: &Result<yaml_token_t, yaml_source_fault_t>) -> bool {
+/// The fault of a bound of one token.
+fn bound_of_one() -> yaml_source_fault_t {
+    let problem = Some("too many tokens");
+    let at = yaml_mark_t {
+        index: 1,
+        line: 1,
+        column: 0,
+    };
+    yaml_source_fault_t::new(YAML_READER_ERROR, problem, 1, -1, at, None, ZERO_MARK)
+}
+
+fn is_start(token: &yaml_token_t) -> bool {
+    matches!(token.content, unnamed_yaml_token_t_data::StreamStart(_))
+}
+
+/// What the next call of a source returned: whether it was the start of a stream, or its fault.
+fn kind_of(next: &Result<yaml_token_t, yaml_source_fault_t>) -> Result<bool, yaml_parser_t_prefix> {
     match next {
-        Ok(_) => false,
-        Err(fault) => {
-            fault.error() == YAML_READER_ERROR
-                && fault.problem() == Some("too many tokens")
-                && fault.problem_offset() == 1
-        }
+        Ok(token) => Ok(is_start(token)),
+        Err(fault) => Err(fault.prefix()),
     }
 }
 
-/// Whether the next call of a source returns the fault of a bound of one.
-fn stops<S: yaml_token_source_t>(source: &mut S) -> bool {
+fn next_kind<S: yaml_token_source_t>(source: &mut S) -> Result<bool, yaml_parser_t_prefix> {
     let next = source.next_token();
-    is_bound(&next)
+    kind_of(&next)
 }
 
-/// Whether a source that may give one token gives its first, then a fault again and again, and leaves the
-/// other lines in its reader.
+/// Whether the next call of a source returns the fault of a bound of one, with all its fields.
+fn stops<S: yaml_token_source_t>(source: &mut S) -> bool {
+    next_kind(source) == Err(bound_of_one().prefix())
+}
+
+/// Whether a source that may give one token gives its first, the start of the stream, then the bound's fault
+/// again and again, and leaves the other lines in its reader.
 fn stops_at_its_bound(alloc: Global) -> bool {
     let mut source = yaml_line_source_t::new(alloc, STREAM_AND_JUNK, 1);
     [
-        !stops(&mut source),
+        next_kind(&mut source) == Ok(true),
         stops(&mut source),
         stops(&mut source),
         source
@@ -64,9 +81,11 @@ fn leaves_what_follows(alloc: Global) -> bool {
 }
 
 /// Shows the table of this module.
-pub fn show(rt: &(impl Print + AllocGlobal)) -> io::Result<()> {
-    let mut table = Table::new("what stays in a reader");
+pub fn show(rt: &(impl Print + AllocGlobal), tables: &mut Tables<'_>) -> io::Result<()> {
+    let Some(mut table) = tables.begin("what stays in a reader") else {
+        return Ok(());
+    };
     table.count(rt, "behind the bound", stops_at_its_bound(rt.alloc()))?;
     table.count(rt, "behind the end", leaves_what_follows(rt.alloc()))?;
-    table.show(rt)
+    tables.show(rt, table)
 }

@@ -1,10 +1,11 @@
 //! The words of a command line: what they ask for, and what is told where they ask for nothing. That a run by
 //! words writes what any run over the same lines does is proved.
 
-use row_checks::{PieceWriter, Table};
+use row_checks::{PieceWriter, Tables};
 use std::alloc::{AllocError, Global};
 use std::io;
-use token_words::run_words;
+use std::io::Write;
+use token_words::{no_memory, refuse_words, run_words};
 
 /// A line that is read.
 const LINE: &[u8] = b"STREAM-START 0:0:0 0:0:0 utf8\n";
@@ -80,25 +81,84 @@ fn is_asked(alloc: Global, word: &str, lines: &str) -> Result<bool, AllocError> 
     )
 }
 
-fn show_asked(rt: &(impl Print + AllocGlobal)) -> io::Result<()> {
-    let mut table = Table::new("words that ask for a run");
-    for (word, lines) in asked() {
-        table.count(rt, word, is_asked(rt.alloc(), word, lines) == Ok(true))?;
-    }
-    table.show(rt)
+/// Whether a refusal that takes a writer writes this line, and returns its status also where it can't.
+fn is_told(alloc: Global, refusal: Refusal) -> bool {
+    let mut errors = Vec::new(alloc);
+    let mut full = PieceWriter::new(alloc, 1, 0);
+    [
+        refusal.tell(&mut errors) == refusal.status(),
+        refusal.tell(&mut full) == refusal.status(),
+        errors.as_slice() == refusal.line().as_bytes(),
+    ] == [true; 3]
 }
 
-fn show_refused(rt: &(impl Print + AllocGlobal)) -> io::Result<()> {
-    let mut table = Table::new("words that are refused");
+/// What is told without a run.
+#[derive(Copy, Clone)]
+enum Refusal {
+    Words,
+    NoMemory,
+}
+
+impl Refusal {
+    fn tell<E: Write>(self, errors: &mut E) -> u8 {
+        match self {
+            Refusal::Words => refuse_words(errors),
+            Refusal::NoMemory => no_memory(errors),
+        }
+    }
+
+    fn status(self) -> u8 {
+        match self {
+            Refusal::Words => 2,
+            Refusal::NoMemory => 3,
+        }
+    }
+
+    fn line(self) -> &'static str {
+        match self {
+            Refusal::Words => "usage: yamltokens events|nodes\n",
+            Refusal::NoMemory => "yamltokens: no memory\n",
+        }
+    }
+}
+
+fn show_asked(rt: &(impl Print + AllocGlobal), tables: &mut Tables<'_>) -> io::Result<()> {
+    let Some(mut table) = tables.begin("words that ask for a run") else {
+        return Ok(());
+    };
+    for (word, lines) in asked() {
+        if table.has(word) {
+            table.count(rt, word, is_asked(rt.alloc(), word, lines) == Ok(true))?;
+        }
+    }
+    tables.show(rt, table)
+}
+
+fn show_refused(rt: &(impl Print + AllocGlobal), tables: &mut Tables<'_>) -> io::Result<()> {
+    let Some(mut table) = tables.begin("words that are refused") else {
+        return Ok(());
+    };
     for words in refused() {
         let row = words.last().unwrap_or(&"no word");
-        table.count(rt, row, are_refused(rt.alloc(), words) == Ok(true))?;
+        if table.has(row) {
+            table.count(rt, row, are_refused(rt.alloc(), words) == Ok(true))?;
+        }
     }
-    table.show(rt)
+    tables.show(rt, table)
+}
+
+fn show_told(rt: &(impl Print + AllocGlobal), tables: &mut Tables<'_>) -> io::Result<()> {
+    let Some(mut table) = tables.begin("what is told without a run") else {
+        return Ok(());
+    };
+    table.count(rt, "words", is_told(rt.alloc(), Refusal::Words))?;
+    table.count(rt, "no memory", is_told(rt.alloc(), Refusal::NoMemory))?;
+    tables.show(rt, table)
 }
 
 /// Shows the tables of this module.
-pub fn show(rt: &(impl Print + AllocGlobal)) -> io::Result<()> {
-    show_asked(rt)?;
-    show_refused(rt)
+pub fn show(rt: &(impl Print + AllocGlobal), tables: &mut Tables<'_>) -> io::Result<()> {
+    show_asked(rt, tables)?;
+    show_refused(rt, tables)?;
+    show_told(rt, tables)
 }

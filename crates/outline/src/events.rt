@@ -5,7 +5,7 @@ use std::alloc::Global;
 use std::fmt::Write;
 use unsafe_libyaml::{
     unnamed_yaml_event_t_data, yaml_event_t, yaml_list_source_t, yaml_parser_initialize,
-    yaml_parser_parse, yaml_token_t,
+    yaml_token_t,
 };
 
 /// Returns by how many levels the events after this one are deeper.
@@ -49,13 +49,8 @@ pub fn outline_of(alloc: Global, tokens: Vec<yaml_token_t>) -> Result<String> {
     let mut parser = yaml_parser_initialize(alloc, yaml_list_source_t::from(tokens));
     let mut outline = String::new(alloc);
     let mut depth = 0u32;
-    for _ in 0..u64::MAX {
-        let Ok(event) = yaml_parser_parse(&mut parser) else {
-            return Err((*parser.prefix()).into());
-        };
-        if matches!(event.content, unnamed_yaml_event_t_data::StreamEnd) {
-            break;
-        }
+    for event in parser.by_ref() {
+        let event = event?;
         write_line(&mut outline, &event, depth)?;
         depth = depth.saturating_add_signed(i32::from(depth_change(&event)));
     }

@@ -1,5 +1,6 @@
 //! What a check of a program of rows returns: what is wrong, if anything is.
 
+use crate::tables::Tables;
 use anyhow::Result;
 use std::io;
 
@@ -13,8 +14,17 @@ pub fn unless_made(answer: Result<bool>, what: &'static str) -> Option<&'static 
     unless(matches!(answer, Ok(true)), what)
 }
 
-/// Names what is wrong, and counts the checks, of which each returns that.
-pub fn show_checks(rt: &impl Print, of: &str, checks: &[Option<&'static str>]) -> io::Result<()> {
+/// Names what is wrong, and counts the checks, of which each returns that, where the table of this name is
+/// asked for.
+pub fn show_checks(
+    rt: &impl Print,
+    tables: &mut Tables<'_>,
+    of: &str,
+    checks: &[Option<&'static str>],
+) -> io::Result<()> {
+    if !tables.has(of) {
+        return Ok(());
+    }
     let mut differ = 0u64;
     for check in checks {
         if let Some(what) = check {
@@ -23,5 +33,6 @@ pub fn show_checks(rt: &impl Print, of: &str, checks: &[Option<&'static str>]) -
         }
     }
     let made = checks.len();
+    tables.add(made as u64, differ);
     println!(rt; "{of}: {made} checks, {differ} differ")
 }

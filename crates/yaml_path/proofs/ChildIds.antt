@@ -1,16 +1,15 @@
 -- The ids of items and values name nodes of their document.
-use Rattle.std.proofs.Common.{◌≡◌, ℕ, zero, suc, ℤ, pos, negsuc, List, [], ◌∷◌, All, IfSome, Option, Some, None, Bool, true, false, cond, length, get_or, slice_get, Bor, ltb-true, sym, subst}
+use Rattle.std.proofs.Common.{◌≡◌, ℕ, zero, suc, ℤ, pos, negsuc, List, [], ◌∷◌, All, IfSome, Option, Some, None, Bool, true, false, cond, length, slice_get, sym, subst}
 use Rattle.std.specs.List.{AllByRecursion, find}
-use Rattle.std.specs.Option.{option_map, option_copied, is_some}
-use Rattle.std.proofs.Math.Dec.{ltb}
+use Rattle.std.specs.Option.{option_map}
 use Rattle.std.specs.Prelude.{option_and_then}
-use Rattle.std.proofs.lemmas.List.Elements.{All-from_recursion, recursion_from_All}
+use Rattle.std.proofs.lemmas.List.Elements.{recursion_from_All}
 use Rattle.libyaml_documents.specs.declared.pairs.yaml_node_pair_t.{yaml_node_pair_t}
 use Rattle.libyaml_documents.specs.declared.node.yaml_node_t.{yaml_node_t}
 use Rattle.libyaml_documents.specs.declared.node.unnamed_yaml_node_t_data.{unnamed_yaml_node_t_data}
 use Rattle.libyaml_documents.specs.declared.node.unnamed_yaml_node_t_data.TheVariants.{Scalar, Sequence, Mapping}
-use Rattle.libyaml_documents.specs.Nodes.{ids_of, ids_of_pairs, node_at, IsIdUpTo, EveryIdNamesANode}
-use Rattle.yaml_path.specs.Paths.{items_of, pairs_of, value_at, pair_of, is_scalar_at}
+use Rattle.libyaml_documents.specs.Nodes.{ids_of, ids_of_pairs, items_of, pairs_of, node_at, IsIdUpTo, EveryIdNamesANode}
+use Rattle.yaml_path.specs.Paths.{item_at, value_at, pair_of, is_scalar_at}
 
 -- what holds of each element holds of the one at an index, and of the first that passes a test
 at_index : {X : Type 0} (P : X → Type 0) (xs : List X) (i : ℕ) → AllByRecursion P xs → IfSome (slice_get xs i) P
@@ -55,20 +54,14 @@ mapped_holds : (P : ℤ → Type 0) (o : Option yaml_node_pair_t) → IfSome o (
 mapped_holds P None h = tt
 mapped_holds P (Some p) h = h
 
--- the items of a node of the document, and one that `get` gives
-pub items_name : (nodes : List yaml_node_t) (id : ℤ) (node : yaml_node_t) → EveryIdNamesANode nodes → Some node ≡ node_at nodes id
-    → All (IsIdUpTo (length nodes)) (items_of node.content)
-items_name nodes id node h is =
+-- the id of an item, and that of a value
+pub item_names : (nodes : List yaml_node_t) (id : ℤ) (index : ℕ) → EveryIdNamesANode nodes → IfSome (item_at nodes id index) (IsIdUpTo (length nodes))
+item_names nodes id index h =
     let P = IsIdUpTo (length nodes) in
     let Q = λ (node : yaml_node_t). All P (ids_of node.content) in
-    let ids : Q node = subst (λ (o : Option yaml_node_t). IfSome o Q) (sym is) (node_holds Q nodes id h) in
-    All-from_recursion P (items_of node.content) (items_hold P node.content ids)
-
-pub got_item : (P : ℤ → Type 0) (xs items : List ℤ) (i : ℕ) (o : Option (Bor ℤ)) → All P xs → items ≡ xs → is_some o ≡ ltb i (length items)
-    → IfSome o (λ x. x.now ≡ get_or items i x.now) → IfSome (option_copied o) P
-got_item P xs items i None h e within is = tt
-got_item P xs items i (Some x) h e within is =
-    subst P (sym is) (subst (λ l. All P l) (sym e) h i x.now (ltb-true i (length items) (sym within)))
+    then_holds Q P (node_at nodes id) (λ (node : yaml_node_t). slice_get (items_of node.content) index)
+    (λ node k. at_index P (items_of node.content) index (items_hold P node.content k))
+    (node_holds Q nodes id h)
 
 pub value_names : (nodes : List yaml_node_t) (id : ℤ) (key : List ℕ) → EveryIdNamesANode nodes → IfSome (value_at nodes id key) (IsIdUpTo (length nodes))
 value_names nodes id key h =

@@ -1,8 +1,11 @@
 -- What `parse` reads is the number of a word of decimal digits.
-use Rattle.std.proofs.Common.{◌≡◌, ◌≢◌, ℕ, ◌^◌, ◌<◌, nat_lt, ◌&&◌, if◌then◌else◌, lt-ltb, ltb-true, get_or, List, [], ◌∷◌, Some, None, Result, Ok, Err, Bool, true, false, length, refl, ap, ◌∙◌, arith}
+use Rattle.std.proofs.Common.{◌≡◌, ◌≢◌, ℕ, ◌^◌, ◌<◌, nat_lt, ◌&&◌, if◌then◌else◌, lt-ltb, ltb-true, get_or, List, [], ◌∷◌, Some, None, Result, Ok, Err, Bool, true, false, length, refl, ap, sym, ◌∙◌, arith}
 use Rattle.std.specs.Result.{OkIff, result_ok}
-use Rattle.std.specs.Str.{all_ascii_digits}
+use Rattle.std.specs.Bool.{MatchBool}
+use Rattle.std.specs.Str.{all_ascii_digits, IsCharBoundary}
+use Rattle.std.specs.Str.Pattern.{FindsCharPrefix}
 use Rattle.std.specs.Str.Parse.{digits_value, ParsesUnsigned}
+use Rattle.std.proofs.lemmas.Str.Pattern.{starts_char}
 use Rattle.std.proofs.lemmas.Str.Parse.{numerals_by_value, tells_all_ascii_digits, parse_plain}
 use Rattle.yaml_path.specs.Paths.{index_of}
 
@@ -29,3 +32,8 @@ number_read (d ∷ ds) (Err e) h =
 
 pub word_read : {E : Type 0} (bs : List ℕ) (r : Result ℕ E) → ParsesUnsigned 64 10 bs r → get_or bs 0 0 ≢ 43 → result_ok r ≡ index_of bs
 word_read bs r h unsigned = number_read bs r (parse_plain (numerals_by_value _ tells_all_ascii_digits) 64 bs r h unsigned)
+
+-- a word that does not begin with a plus sign
+pub without_plus : (bs : List ℕ) (r : Bool) → MatchBool r ((n : ℕ) × FindsCharPrefix 43 bs (Some n) × IsCharBoundary bs n) (FindsCharPrefix 43 bs None)
+    → r ≡ false → get_or bs 0 0 ≢ 43
+without_plus bs r h is_false = λ plus. let not : true ≡ false = sym ((starts_char 43 bs r h (omega arith) (omega arith)).1 plus) ∙ is_false in (cc)

@@ -7,25 +7,13 @@ use Rattle.libyaml_documents.specs.declared.pairs.yaml_node_pair_t.{yaml_node_pa
 use Rattle.libyaml_documents.specs.declared.node.yaml_node_t.{yaml_node_t}
 use Rattle.libyaml_documents.specs.declared.node.unnamed_yaml_node_t_data.{unnamed_yaml_node_t_data}
 use Rattle.libyaml_documents.specs.declared.node.unnamed_yaml_node_t_data.TheVariants.{Scalar, Sequence, Mapping}
-use Rattle.libyaml_documents.specs.Nodes.{node_at}
+use Rattle.libyaml_documents.specs.Nodes.{items_of, node_at, pairs_of}
 
 -- the text of a scalar; a sequence and a mapping have none
 abbrev pub text_of : unnamed_yaml_node_t_data → Option (List ℕ)
 text_of (Scalar s) = Some s.value
 text_of (Sequence s) = None
 text_of (Mapping m) = None
-
--- the items of a sequence; no other node has any
-abbrev pub items_of : unnamed_yaml_node_t_data → List ℤ
-items_of (Scalar s) = []
-items_of (Sequence s) = s.items
-items_of (Mapping m) = []
-
--- the pairs of a mapping; no other node has any
-abbrev pub pairs_of : unnamed_yaml_node_t_data → List yaml_node_pair_t
-pairs_of (Scalar s) = []
-pairs_of (Sequence s) = []
-pairs_of (Mapping m) = m.pairs
 
 -- the item of this number, from 0, of the node of this id
 abbrev pub item_at : List yaml_node_t → ℤ → ℕ → Option ℤ

@@ -1,11 +1,11 @@
 //! Paths: words that lead from the root to a node.
-ghost use Rattle.std.specs.Prelude.{◌≡◌, IfSome, length, map};
+ghost use Rattle.std.specs.Prelude.{◌≡◌, ◌≢◌, IfSome, get_or, length, map};
 ghost use Rattle.std.specs.Option.{option_copied};
 ghost use Rattle.libyaml_documents.specs.Nodes.{IsIdUpTo};
 ghost use Rattle.yaml_path.specs.Paths.{index_of, child_at, id_at, text_at};
 
 use crate::step::{as_str, item_at, node_of, value_at};
-use libyaml_documents::{yaml_document_get_root_node, yaml_document_t};
+use libyaml_documents::yaml_document_t;
 
 /// The id of the root, where a document has one.
 const ROOT: i32 = 1;
@@ -19,7 +19,7 @@ pub fn id_at(document: &yaml_document_t, path: &[&str]) -> Option<i32>
     ensures end { result ≡ id_at document.now.nodes (map (λ word. word.now) path.now) }
     ensures in_document { IfSome result (IsIdUpTo (length document.now.nodes)) }
 {
-    yaml_document_get_root_node(document)?;
+    document.root()?;
     let mut id = ROOT;
     for word in path {
         id = child_at(document, id, word)?;
@@ -48,11 +48,21 @@ fn child_at(document: &yaml_document_t, id: i32, word: &str) -> Option<i32>
 }
 
 /// Returns the number that a word of decimal digits alone writes.
+#[tactic(auto, using(crate::proofs::Numerals::without_plus))]
 fn index_of(word: &str) -> Option<usize>
     ensures { result ≡ index_of word.now }
 {
     if word.starts_with('+') {
         return None;
     }
+    number_of(word)
+}
+
+/// Returns the number that a word without a plus sign writes.
+#[tactic(auto, using(crate::proofs::Numerals::word_read))]
+fn number_of(word: &str) -> Option<usize>
+    requires { get_or word.now 0 0 ≢ 43 }
+    ensures { result ≡ index_of word.now }
+{
     word.parse().ok()
 }

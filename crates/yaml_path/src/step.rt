@@ -2,11 +2,10 @@
 ghost use Rattle.std.specs.Prelude.{◌≡◌, IsSome, IfSome, length, ◌↔◌};
 ghost use Rattle.std.specs.Option.{option_copied};
 ghost use Rattle.libyaml_documents.specs.Nodes.{EveryIdNamesANode, IsIdUpTo, node_at};
-ghost use Rattle.yaml_path.specs.Paths.{text_of, items_of, pairs_of, item_at, value_at, is_scalar_at};
+ghost use Rattle.yaml_path.specs.Paths.{text_of, item_at, value_at, is_scalar_at};
 
 use libyaml_documents::{
-    unnamed_yaml_node_t_data, yaml_document_get_node, yaml_document_t, yaml_node_item_t,
-    yaml_node_pair_t, yaml_node_t,
+    unnamed_yaml_node_t_data, yaml_document_get_node, yaml_document_t, yaml_node_t,
 };
 
 /// Returns the node of this id, or `None` where no node has it. Ids count from 1.
@@ -36,8 +35,16 @@ pub fn item_at(document: &yaml_document_t, id: i32, index: usize) -> Option<i32>
     ensures item { result ≡ item_at document.now.nodes id index }
     ensures in_document { IfSome result (IsIdUpTo (length document.now.nodes)) }
 {
+    found_item(document, id, index)
+}
+
+/// Returns the same.
+fn found_item(document: &yaml_document_t, id: i32, index: usize) -> Option<i32>
+    ensures item { result ≡ item_at document.now.nodes id index }
+    ensures ids_in_range { EveryIdNamesANode document.now.nodes }
+{
     let node = node_of(document, id)?;
-    items_of(node).get(index).copied()
+    node.items().get(index).copied()
 }
 
 /// Returns the id of the value of the first pair whose key is a scalar of exactly this text, or `None`
@@ -46,34 +53,22 @@ pub fn value_at(document: &yaml_document_t, id: i32, key: &str) -> Option<i32>
     ensures value { result ≡ value_at document.now.nodes id key.now }
     ensures in_document { IfSome result (IsIdUpTo (length document.now.nodes)) }
 {
+    found_value(document, id, key)
+}
+
+/// Returns the same.
+fn found_value(document: &yaml_document_t, id: i32, key: &str) -> Option<i32>
+    ensures value { result ≡ value_at document.now.nodes id key.now }
+    ensures ids_in_range { EveryIdNamesANode document.now.nodes }
+{
     let node = node_of(document, id)?;
-    let pairs = pairs_of(node);
+    let pairs = node.pairs();
     for pair in pairs {
         if is_scalar(document, pair.key, key) {
             return Some(pair.value);
         }
     }
     None
-}
-
-/// Returns the items of a sequence; no other node has any.
-fn items_of(node: &yaml_node_t) -> &[yaml_node_item_t]
-    ensures { result.now ≡ items_of node.now.content }
-{
-    match &node.content {
-        unnamed_yaml_node_t_data::Sequence(sequence) => sequence.items.as_slice(),
-        _ => &[],
-    }
-}
-
-/// Returns the pairs of a mapping; no other node has any.
-fn pairs_of(node: &yaml_node_t) -> &[yaml_node_pair_t]
-    ensures { result.now ≡ pairs_of node.now.content }
-{
-    match &node.content {
-        unnamed_yaml_node_t_data::Mapping(mapping) => mapping.pairs.as_slice(),
-        _ => &[],
-    }
 }
 
 /// Returns whether the node of this id is a scalar of exactly this text.

@@ -1,9 +1,11 @@
 //! How many tokens the calls of a parser have asked for.
 
+use crate::tables::Text;
 use anyhow::Result;
 use row_checks::gives_event;
 use std::alloc::Global;
 use std::fmt::Write;
+use std::io;
 use token_lines::{MAX_TOKENS, yaml_line_source_t};
 use unsafe_libyaml::{
     yaml_parser_delete, yaml_parser_initialize, yaml_parser_t, yaml_token_source_t,
@@ -11,10 +13,10 @@ use unsafe_libyaml::{
 
 /// Whether the tokens that each call has asked for are those that are wanted: a number a line, up to the
 /// first call that gives no event.
-pub fn is_counted(alloc: Global, tokens: &str, wanted: &str) -> bool {
-    let mut counts = String::new(alloc);
-    let is_written = write_counts(alloc, tokens, &mut counts).is_ok();
-    [is_written, counts.as_str() == wanted] == [true; 2]
+pub fn is_counted(rt: &(impl Print + AllocGlobal), text: Text<'_>) -> io::Result<bool> {
+    let mut counts = String::new(rt.alloc());
+    let is_written = write_counts(rt.alloc(), text.tokens, &mut counts).is_ok();
+    text.is_wanted(rt, "tokens asked for", counts.as_bytes(), is_written)
 }
 
 fn write_counts(alloc: Global, tokens: &str, counts: &mut String) -> Result<()> {

@@ -1,10 +1,11 @@
 //! Lists that are cut before each token, with each error of a source after the cut.
 
 use crate::reading::write_given;
-use crate::tables::Case;
+use crate::tables::{Case, Text};
 use crate::tokens::{end_of, front_of};
 use anyhow::Result;
 use std::alloc::Global;
+use std::io;
 use token_lines::write_fault;
 use unsafe_libyaml::{
     YAML_MEMORY_ERROR, YAML_READER_ERROR, YAML_SCANNER_ERROR, yaml_mark_t, yaml_parser_t_prefix,
@@ -39,25 +40,19 @@ struct Cut {
     end: yaml_source_fault_t,
 }
 
-/// What differs where a list is read call by call, whole or cut, if anything does.
-pub fn first_wrong_cut(alloc: Global, case: Case<'_>) -> Option<&'static str> {
-    let Ok((tokens, end)) = end_of(alloc, case.tokens) else {
-        return Some("its tokens have no end");
-    };
-    if !is_whole_right(alloc, case, Cut { tokens, end }) {
-        return Some("calls over a list give something else");
-    }
-    (!are_cuts_right(alloc, case, tokens)).then_some("a cut list gives something else")
+/// Whether a list is right that is read call by call, whole and cut.
+pub fn are_right(rt: &(impl Print + AllocGlobal), case: Case<'_>) -> Result<bool> {
+    let (tokens, end) = end_of(rt.alloc(), case.text.tokens)?;
+    Ok(is_whole_right(rt, case, Cut { tokens, end })? && are_cuts_right(rt, case, tokens)?)
 }
 
 /// Whether calls over all tokens, and then the lines' own fault, give exactly what is wanted.
-fn is_whole_right(alloc: Global, case: Case<'_>, whole: Cut) -> bool {
-    let mut out = Vec::new(alloc);
-    let kept = write_cut(alloc, case, whole, &mut out);
-    [
-        has_all_fields(&kept, &whole.end),
-        out.as_slice() == case.wanted.as_bytes(),
-    ] == [true; 2]
+fn is_whole_right(rt: &(impl Print + AllocGlobal), case: Case<'_>, whole: Cut) -> io::Result<bool> {
+    let mut out = Vec::new(rt.alloc());
+    let kept = write_cut(rt.alloc(), case, whole, &mut out);
+    let has_fields = has_all_fields(&kept, &whole.end);
+    case.text
+        .is_wanted(rt, "calls over a list", out.as_slice(), has_fields)
 }
 
 /// Writes what the tokens before a cut give, call by call, and returns the fault that is kept then.
@@ -67,7 +62,7 @@ fn write_cut(
     cut: Cut,
     out: &mut Vec<u8>,
 ) -> Result<yaml_parser_t_prefix> {
-    let front = front_of(alloc, case.tokens, cut.tokens, cut.end)?;
+    let front = front_of(alloc, case.text.tokens, cut.tokens, cut.end)?;
     write_given(alloc, front, case.given, out)
 }
 
@@ -89,41 +84,69 @@ fn is_of_no_source(kept: &yaml_parser_t_prefix) -> bool {
     ] == [false; 4]
 }
 
-fn are_cuts_right(alloc: Global, case: Case<'_>, tokens: usize) -> bool {
+fn are_cuts_right(
+    rt: &(impl Print + AllocGlobal),
+    case: Case<'_>,
+    tokens: usize,
+) -> io::Result<bool> {
     for end in ends_of_sources() {
-        if !are_cuts_with(alloc, case, Cut { tokens, end }) {
-            return false;
+        if !are_cuts_with(rt, case, Cut { tokens, end })? {
+            return Ok(false);
         }
     }
-    true
+    Ok(true)
 }
 
 /// Whether the list is right with this fault after it, whole and cut before each token.
-fn are_cuts_with(alloc: Global, case: Case<'_>, whole: Cut) -> bool {
-    let mut fault = Vec::new(alloc);
+fn are_cuts_with(rt: &(impl Print + AllocGlobal), case: Case<'_>, whole: Cut) -> io::Result<bool> {
+    let mut fault = Vec::new(rt.alloc());
     let is_written = write_fault(&whole.end.prefix(), &mut fault).is_ok();
-    [
-        is_written,
-        is_each_right(alloc, case, whole, fault.as_slice()),
-    ] == [true; 2]
+    let is_right = is_each_right(rt, case, whole, fault.as_slice());
+    is_right.map(|is_right| is_right && is_written)
 }
 
-fn is_each_right(alloc: Global, case: Case<'_>, whole: Cut, fault: &[u8]) -> bool {
+fn is_each_right(
+    rt: &(impl Print + AllocGlobal),
+    case: Case<'_>,
+    whole: Cut,
+    fault: &[u8],
+) -> io::Result<bool> {
     for tokens in 0..whole.tokens {
-        if !is_right(alloc, case, Cut { tokens, ..whole }, fault, false) {
-            return false;
+        if !is_right(rt, case, Cut { tokens, ..whole }, fault, false)? {
+            return Ok(false);
         }
     }
-    is_right(alloc, case, whole, fault, true)
+    is_right(rt, case, whole, fault, true)
 }
 
-fn is_right(alloc: Global, case: Case<'_>, cut: Cut, fault: &[u8], is_whole: bool) -> bool {
-    let mut out = Vec::new(alloc);
-    let kept = write_cut(alloc, case, cut, &mut out);
-    [
-        has_all_fields(&kept, &cut.end),
-        ends_right(out.as_slice(), case.wanted.as_bytes(), fault, is_whole),
-    ] == [true; 2]
+fn is_right(
+    rt: &(impl Print + AllocGlobal),
+    case: Case<'_>,
+    cut: Cut,
+    fault: &[u8],
+    is_whole: bool,
+) -> io::Result<bool> {
+    let mut out = Vec::new(rt.alloc());
+    let kept = write_cut(rt.alloc(), case, cut, &mut out);
+    let has_fields = has_all_fields(&kept, &cut.end);
+    is_front(rt, case.text, out.as_slice(), fault, is_whole, has_fields)
+}
+
+/// Whether a cut list gives a beginning of what is wanted and its source's fault, with all fields. Where not,
+/// prints the first line that differs from the whole text.
+fn is_front(
+    rt: &impl Print,
+    text: Text<'_>,
+    given: &[u8],
+    fault: &[u8],
+    is_whole: bool,
+    has_fields: bool,
+) -> io::Result<bool> {
+    if ends_right(given, text.wanted.as_bytes(), fault, is_whole) && has_fields {
+        return Ok(true);
+    }
+    text.is_wanted(rt, "a cut list", given, false)?;
+    Ok(false)
 }
 
 /// Whether what is given is wanted, up to the fault of the source where that comes. After the last token it

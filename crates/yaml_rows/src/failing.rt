@@ -8,9 +8,8 @@ use crate::reading::write_given;
 use crate::tables::Given;
 use crate::tokens::list_of;
 use anyhow::Result;
-use row_checks::{FAILED, Table};
+use row_checks::{FAILED, Table, Tables, read_text};
 use std::alloc::Global;
-use std::fs;
 use std::rt::Files;
 use unsafe_libyaml::{YAML_MEMORY_ERROR, ZERO_MARK, yaml_parser_t_prefix, yaml_source_fault_t};
 
@@ -62,19 +61,36 @@ fn is_right(alloc: Global, tokens: &str, given: Given) -> bool {
     are_same_or_cut(one.as_deref(), other.as_deref())
 }
 
-/// Counts each list of a folder.
+/// Counts a list of a folder.
+fn count_list(
+    rt: &(impl Files + Print + AllocGlobal),
+    table: &mut Table<'_>,
+    folder: &str,
+    name: &str,
+    given: Given,
+) -> Result<()> {
+    let tokens = read_text(
+        rt,
+        format!(in rt.alloc(); "{folder}/{name}.tokens")?.as_str(),
+    )?;
+    table.count(rt, name, is_right(rt.alloc(), tokens.as_str(), given))?;
+    Ok(())
+}
+
+/// Counts each list of a folder that is asked for.
 fn count_lists(
     rt: &(impl Files + Print + AllocGlobal),
-    table: &mut Table,
+    table: &mut Table<'_>,
     folder: &str,
     given: Given,
 ) -> Result<()> {
-    let index = fs::read_to_string(rt, format!(in rt.alloc(); "{folder}/index")?)?;
+    let index = read_text(rt, format!(in rt.alloc(); "{folder}/index")?.as_str())?;
     for line in index.lines() {
         let (texts, _) = line.split_once(": ").unwrap_or((line, ""));
         let (name, _) = texts.split_once(' ').unwrap_or((texts, ""));
-        let tokens = fs::read_to_string(rt, format!(in rt.alloc(); "{folder}/{name}.tokens")?)?;
-        table.count(rt, name, is_right(rt.alloc(), tokens.as_str(), given))?;
+        if table.has(name) {
+            count_list(rt, table, folder, name, given)?;
+        }
     }
     Ok(())
 }
@@ -84,12 +100,24 @@ fn count_lists(
 /// # Errors
 ///
 /// A file is missing, an allocation for its text failed, or printing did.
-pub fn show(rt: &(impl Files + Print + AllocGlobal)) -> Result<()> {
+pub fn show(rt: &(impl Files + Print + AllocGlobal), tables: &mut Tables<'_>) -> Result<()> {
     for (name, given) in READINGS {
-        let mut table = Table::new(name);
-        count_lists(rt, &mut table, "rows", given)?;
-        count_lists(rt, &mut table, "loads", given)?;
-        table.show(rt)?;
+        if let Some(table) = tables.begin(name) {
+            show_table(rt, tables, table, given)?;
+        }
     }
+    Ok(())
+}
+
+fn show_table(
+    rt: &(impl Files + Print + AllocGlobal),
+    tables: &mut Tables<'_>,
+    table: Table<'_>,
+    given: Given,
+) -> Result<()> {
+    let mut table = table;
+    count_lists(rt, &mut table, "rows", given)?;
+    count_lists(rt, &mut table, "loads", given)?;
+    tables.show(rt, table)?;
     Ok(())
 }

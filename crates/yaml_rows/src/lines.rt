@@ -5,6 +5,7 @@ use crate::tokens::list_of;
 use anyhow::Result;
 use row_checks::{EVERY_CALL, PieceReader, PieceWriter};
 use std::alloc::Global;
+use std::io;
 use token_lines::{
     MAX_TOKENS, Outcome, run_events, run_nodes, write_document, write_event, write_fault,
     write_nodes, yaml_line_source_t,
@@ -18,22 +19,21 @@ use unsafe_libyaml::{
 const PIECES: [usize; 5] = [1, 2, 3, 7, usize::MAX];
 
 /// Whether a run over a list's lines gives what is wanted, however the bytes are cut.
-pub fn are_given_in_pieces(alloc: Global, case: Case<'_>) -> bool {
+pub fn are_given_in_pieces(rt: &(impl Print + AllocGlobal), case: Case<'_>) -> Result<bool> {
     for piece in PIECES {
-        if !is_given(alloc, case, piece) {
-            return false;
+        if !is_given(rt, case, piece)? {
+            return Ok(false);
         }
     }
-    true
+    Ok(true)
 }
 
-fn is_given(alloc: Global, case: Case<'_>, piece: usize) -> bool {
-    let mut writer = PieceWriter::new(alloc, piece, EVERY_CALL);
-    let ended = run(alloc, case, piece, &mut writer);
-    [
-        ended == wanted_end(case.wanted),
-        writer.written() == case.wanted.as_bytes(),
-    ] == [true; 2]
+fn is_given(rt: &(impl Print + AllocGlobal), case: Case<'_>, piece: usize) -> io::Result<bool> {
+    let mut writer = PieceWriter::new(rt.alloc(), piece, EVERY_CALL);
+    let ended = run(rt.alloc(), case, piece, &mut writer);
+    let is_end = ended == wanted_end(case.text.wanted);
+    case.text
+        .is_wanted(rt, "a run over its lines", writer.written(), is_end)
 }
 
 /// How a run ends that writes these lines.
@@ -46,7 +46,7 @@ fn wanted_end(lines: &str) -> Outcome {
 }
 
 fn run(alloc: Global, case: Case<'_>, piece: usize, writer: &mut PieceWriter) -> Outcome {
-    let reader = PieceReader::new(case.tokens.as_bytes(), piece, EVERY_CALL);
+    let reader = PieceReader::new(case.text.tokens.as_bytes(), piece, EVERY_CALL);
     match case.given {
         Given::Events => run_events(alloc, reader, writer),
         Given::Nodes => run_nodes(alloc, reader, writer),
@@ -67,24 +67,25 @@ fn run_within(
 }
 
 /// Whether all that a list of the tokens gives as one value is what is wanted. None is given within a bound.
-pub fn are_given_at_once(alloc: Global, case: Case<'_>) -> bool {
-    let mut out = Vec::new(alloc);
-    let is_written = write_at_once(alloc, case, &mut out).is_ok();
-    [is_written, out.as_slice() == case.wanted.as_bytes()] == [true; 2]
+pub fn are_given_at_once(rt: &(impl Print + AllocGlobal), case: Case<'_>) -> io::Result<bool> {
+    let mut out = Vec::new(rt.alloc());
+    let is_written = write_at_once(rt.alloc(), case, &mut out).is_ok();
+    case.text
+        .is_wanted(rt, "all at once", out.as_slice(), is_written)
 }
 
 fn write_at_once(alloc: Global, case: Case<'_>, out: &mut Vec<u8>) -> Result<()> {
     match case.given {
         Given::Events => {
-            let run = yaml_parser_parse_all(alloc, list_of(alloc, case.tokens)?)?;
+            let run = yaml_parser_parse_all(alloc, list_of(alloc, case.text.tokens)?)?;
             write_run(alloc, &run, out)
         }
         Given::Nodes => {
-            let all = yaml_parser_load_all(alloc, list_of(alloc, case.tokens)?)?;
+            let all = yaml_parser_load_all(alloc, list_of(alloc, case.text.tokens)?)?;
             write_all(alloc, &all, out)
         }
         Given::NodesWithin(_) => {
-            out.extend_from_slice(case.wanted.as_bytes())?;
+            out.extend_from_slice(case.text.wanted.as_bytes())?;
             Ok(())
         }
     }

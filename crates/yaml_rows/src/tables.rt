@@ -1,9 +1,9 @@
 //! Tables of lists, read from files.
 
-use crate::{asked, cuts, lines};
+use crate::{asked, cuts, lines, one_by_one};
 use anyhow::{Context, Result};
-use std::alloc::Global;
-use std::fs;
+use row_checks::{Tables, read_text, show_difference};
+use std::io;
 use std::rt::Files;
 
 /// A text of a list.
@@ -34,11 +34,42 @@ impl Given {
     }
 }
 
-/// A list of tokens, and what it is to give.
+/// A text of a list: its name, the list's token lines, and what is wanted.
 #[derive(Copy, Clone)]
-pub struct Case<'a> {
+pub struct Text<'a> {
+    pub name: &'a str,
     pub tokens: &'a str,
     pub wanted: &'a str,
+}
+
+impl Text<'_> {
+    /// Whether this way to read the list gave the text that is wanted, and what else has to hold does. If
+    /// not, prints the first line that differs.
+    ///
+    /// # Errors
+    ///
+    /// Printing failed.
+    pub fn is_wanted(
+        self,
+        rt: &impl Print,
+        way: &str,
+        given: &[u8],
+        holds: bool,
+    ) -> io::Result<bool> {
+        let Text { name, wanted, .. } = self;
+        if given == wanted.as_bytes() && holds {
+            return Ok(true);
+        }
+        println!(rt; "{name}, {way}:")?;
+        show_difference(rt, wanted.as_bytes(), given)?;
+        Ok(false)
+    }
+}
+
+/// A text of events or nodes.
+#[derive(Copy, Clone)]
+pub struct Case<'a> {
+    pub text: Text<'a>,
     pub given: Given,
 }
 
@@ -50,43 +81,62 @@ struct Count {
     differ: u64,
 }
 
-/// Compares the texts of each list of a table, names those that differ, and counts.
+/// Compares the texts of each list of a table that is asked for, says where they differ, and counts.
 ///
 /// # Errors
 ///
 /// A file that is missing, an index of another form, and a failed output or allocation.
-pub fn show_table(rt: &(impl Files + Print + AllocGlobal), table: &str) -> Result<()> {
-    let index = fs::read_to_string(rt, format!(in rt.alloc(); "{table}/index")?)?;
-    show_lists(rt, table, index.as_str())
+pub fn show_table(
+    rt: &(impl Files + Print + AllocGlobal),
+    tables: &mut Tables<'_>,
+    table: &str,
+) -> Result<()> {
+    if !tables.has(table) {
+        return Ok(());
+    }
+    let index = read_text(rt, format!(in rt.alloc(); "{table}/index")?.as_str())?;
+    show_lists(rt, tables, table, index.as_str())
 }
 
-fn show_lists(rt: &(impl Files + Print + AllocGlobal), table: &str, index: &str) -> Result<()> {
+fn show_lists(
+    rt: &(impl Files + Print + AllocGlobal),
+    tables: &mut Tables<'_>,
+    table: &str,
+    index: &str,
+) -> Result<()> {
     let mut count = Count {
         lists: 0,
         texts: 0,
         differ: 0,
     };
     for line in index.lines() {
-        show_list(rt, table, line, &mut count)?;
+        show_list(rt, tables, table, line, &mut count)?;
     }
     let Count {
         lists,
         texts,
         differ,
     } = count;
+    tables.add(texts, differ);
     println!(rt; "{table}: {lists} lists, {texts} texts, {differ} differ")?;
     Ok(())
 }
 
-/// Compares the texts of the list that a line of an index names.
+/// Compares the texts of the list that a line of an index names, where it is asked for.
 fn show_list(
     rt: &(impl Files + Print + AllocGlobal),
+    tables: &Tables<'_>,
     table: &str,
     line: &str,
     count: &mut Count,
 ) -> Result<()> {
-    let (texts, _) = line.split_once(": ").context("nothing is said of a list")?;
+    let (texts, _) = line
+        .split_once(": ")
+        .context("a line of an index without ': '")?;
     let (name, others) = texts.split_once(' ').unwrap_or((texts, ""));
+    if !tables.has_row(name) {
+        return Ok(());
+    }
     count.lists = count.lists.wrapping_add(1);
     show_text(rt, table, name, "events", count)?;
     show_text(rt, table, name, "nodes", count)?;
@@ -105,23 +155,34 @@ fn show_text(
     count: &mut Count,
 ) -> Result<()> {
     count.texts = count.texts.wrapping_add(1);
-    if let Some(what) = difference_of(rt, table, name, text)? {
+    if !is_right(rt, table, name, text)? {
         count.differ = count.differ.wrapping_add(1);
-        println!(rt; "{table}/{name}.{text}: {what}")?;
     }
     Ok(())
 }
 
-fn difference_of(
-    rt: &(impl Files + AllocGlobal),
+fn is_right(
+    rt: &(impl Files + Print + AllocGlobal),
     table: &str,
     name: &str,
     text: &str,
-) -> Result<Option<&'static str>> {
+) -> Result<bool> {
     let view = view_of(text)?;
-    let tokens = fs::read_to_string(rt, format!(in rt.alloc(); "{table}/{name}.tokens")?)?;
-    let wanted = fs::read_to_string(rt, format!(in rt.alloc(); "{table}/{name}.{text}")?)?;
-    Ok(difference(rt.alloc(), view, tokens.as_str(), wanted.as_str()))
+    let tokens = read_text(
+        rt,
+        format!(in rt.alloc(); "{table}/{name}.tokens")?.as_str(),
+    )?;
+    let name = format!(in rt.alloc(); "{table}/{name}.{text}")?;
+    let wanted = read_text(rt, name.as_str())?;
+    is_text_right(
+        rt,
+        view,
+        Text {
+            name: name.as_str(),
+            tokens: tokens.as_str(),
+            wanted: wanted.as_str(),
+        },
+    )
 }
 
 fn view_of(text: &str) -> Result<View> {
@@ -136,29 +197,18 @@ fn view_of(text: &str) -> Result<View> {
     })
 }
 
-/// What differs where these tokens are to give this text, if anything does.
-fn difference(alloc: Global, view: View, tokens: &str, wanted: &str) -> Option<&'static str> {
+fn is_text_right(rt: &(impl Print + AllocGlobal), view: View, text: Text<'_>) -> Result<bool> {
     match view {
-        View::Asked => (!asked::is_counted(alloc, tokens, wanted)).then_some("other counts"),
-        View::Given(given) => {
-            difference_of_case(
-                alloc,
-                Case {
-                    tokens,
-                    wanted,
-                    given,
-                },
-            )
-        }
+        View::Asked => Ok(asked::is_counted(rt, text)?),
+        View::Given(given) => is_case_right(rt, Case { text, given }),
     }
 }
 
-fn difference_of_case(alloc: Global, case: Case<'_>) -> Option<&'static str> {
-    if !lines::are_given_in_pieces(alloc, case) {
-        return Some("a run over its lines gives something else");
-    }
-    if !lines::are_given_at_once(alloc, case) {
-        return Some("all at once is something else");
-    }
-    cuts::first_wrong_cut(alloc, case)
+fn is_case_right(rt: &(impl Print + AllocGlobal), case: Case<'_>) -> Result<bool> {
+    Ok(
+        lines::are_given_in_pieces(rt, case)?
+            && lines::are_given_at_once(rt, case)?
+            && one_by_one::is_right(rt, case)?
+            && cuts::are_right(rt, case)?,
+    )
 }

@@ -1,11 +1,14 @@
-use Rattle.std.proofs.Common.{length, sym, subst, IfSome}
-use Rattle.libyaml_documents.specs.Nodes.{IsIdUpTo}
-use Rattle.yaml_path.proofs.ChildIds.{items_name, got_item}
+use Rattle.std.proofs.Common.{w32}
+use Rattle.std.proofs.lemmas.Int.{to_z-of_z}
+use mir.Val.{SFits}
+use Rattle.yaml_path.specs.Paths.{item_at}
+use Rattle.yaml_path.proofs.ChildIds.{item_names, answer_names}
 use Rattle.yaml_path.proofs.step.item_at.Goals as goal
 
 pub returns-clause-in_document : goal.returns-clause-in_document
 returns-clause-in_document c =
-    let P = IsIdUpTo (length c.args.document.now.nodes) in
-    let named = items_name c.args.document.now.nodes _ c.in_ok-node.node.now c.node_of.ensures.ids_in_range c.in_ok-node.ensures.node in
-    subst (λ r. IfSome r P) (sym c.copied.ensures)
-    (got_item P _ c.items_of.result.now c.args.index c.get.result named c.items_of.ensures c.get.ensures.lookup.0 c.get.ensures.lookup.1)
+    let nodes = c.args.document.now.nodes in
+    let fits : SFits w32 c.args.id = c.ranges.id in
+    let found = simp to_z-of_z at c.found_item.ensures.item in
+    answer_names nodes (item_at nodes c.args.id c.args.index) c.found_item.result found
+    (item_names nodes c.args.id c.args.index c.found_item.ensures.ids_in_range)

@@ -2,7 +2,7 @@ use Rattle.std.proofs.Common.{◌≡◌, drop}
 use Rattle.std.specs.Option.{option_map}
 use Rattle.libyaml_documents.specs.declared.pairs.yaml_node_pair_t.{yaml_node_pair_t}
 use Rattle.yaml_path.specs.Paths.{pair_of, value_at}
-use Rattle.yaml_path.proofs.step.value_at.Given as goal
+use Rattle.yaml_path.proofs.step.found_value.Given as goal
 
 -- the first pair of the key is among those to come
 abbrev pub invariant-loop-pair : goal.invariant-loop-pair

@@ -1,0 +1,203 @@
+//! A source that copies tokens, each into the slot in which it is wanted, as a scanner makes it there.
+
+ghost use Rattle.std.specs.Prelude.{◌≡◌, None, length};
+ghost use Rattle.libyaml_sources.specs.Fault.{memory_fault, source_fault};
+ghost use Rattle.bench_lists.specs.Copying.{Gives, gives_repeats};
+
+use libyaml_events::{
+    ZERO_MARK, unnamed_yaml_token_t_data, unnamed_yaml_token_t_data_alias,
+    unnamed_yaml_token_t_data_anchor, unnamed_yaml_token_t_data_scalar,
+    unnamed_yaml_token_t_data_stream_start, unnamed_yaml_token_t_data_tag,
+    unnamed_yaml_token_t_data_tag_directive, unnamed_yaml_token_t_data_version_directive,
+    yaml_error_type_t, yaml_source_fault_t, yaml_token_source_t, yaml_token_t,
+};
+use std::alloc::AllocError;
+use std::marker::Model;
+
+/// Copies of tokens, one after another, and then a fault for good.
+#[derive(Drop)]
+pub struct Copying<'a> {
+    /// The tokens of which no copy was made yet.
+    tokens: &'a [yaml_token_t],
+    fault: yaml_source_fault_t,
+}
+
+impl<'a> Model for Copying<'a> {
+    ghost use Rattle.std.specs.Prelude.{length};
+    ghost use Rattle.libyaml_sources.specs.Fault.{source_fault};
+    ghost use Rattle.bench_lists.specs.Copying.{Copies};
+
+    ghost Value = { Copies };
+
+    ghost view = { λ s. record { left = length s.tokens.now; fault = source_fault s.fault } };
+}
+
+impl<'a> Copying<'a> {
+    /// A source of copies of these tokens. Takes no memory.
+    pub fn new(tokens: &'a [yaml_token_t]) -> Self
+        ensures { result.left ≡ length tokens.now }
+    {
+        let fault = end_of_list();
+        Copying { tokens, fault }
+    }
+
+    /// Leaves no token, for out of memory.
+    #[cold]
+    fn break_off(&mut self)
+        ensures { self.new ≡ record { left = 0; fault = memory_fault } }
+    {
+        self.tokens = &[];
+        self.fault = yaml_source_fault_t::out_of_memory();
+    }
+}
+
+impl<'a> yaml_token_source_t for Copying<'a> {
+    ghost bound = { λ s. s.left };
+
+    ghost gives = { Gives };
+
+    ghost known = { λ _. None };
+
+    ghost may_break = { λ _ _. ⊥ };
+
+    ghost falls = { λ s t token h. h.0 };
+
+    ghost follows = { λ s t answer h. tt };
+
+    ghost repeats = { gives_repeats };
+
+    fn next_token(&mut self) -> Result<yaml_token_t, yaml_source_fault_t> {
+        let mut token = no_token();
+        self.next_token_into(&mut token)?;
+        Ok(token)
+    }
+
+    #[inline(always)]
+    fn next_token_into(&mut self, token: &mut yaml_token_t) -> Result<(), yaml_source_fault_t> {
+        let Some((first, others)) = self.tokens.split_first() else {
+            return Err(self.fault);
+        };
+        self.tokens = others;
+        if copy_into(first, token).is_err() {
+            self.break_off();
+            return Err(self.fault);
+        }
+        Ok(())
+    }
+}
+
+/// The fault after the last token.
+fn end_of_list() -> yaml_source_fault_t {
+    let problem = Some("no more tokens");
+    yaml_source_fault_t::new(
+        yaml_error_type_t::YAML_READER_ERROR,
+        problem,
+        0,
+        -1,
+        ZERO_MARK,
+        None,
+        ZERO_MARK,
+    )
+}
+
+/// A token for a slot.
+pub fn no_token() -> yaml_token_t {
+    yaml_token_t::new(unnamed_yaml_token_t_data::NoToken, ZERO_MARK, ZERO_MARK)
+}
+
+/// Makes a copy in a slot.
+#[inline(always)]
+pub fn copy_into(token: &yaml_token_t, slot: &mut yaml_token_t) -> Result<(), AllocError> {
+    slot.start_mark = token.start_mark;
+    slot.end_mark = token.end_mark;
+    copy_content(&token.content, &mut slot.content)
+}
+
+#[inline(never)]
+fn copy_content(
+    content: &unnamed_yaml_token_t_data,
+    slot: &mut unnamed_yaml_token_t_data,
+) -> Result<(), AllocError> {
+    use unnamed_yaml_token_t_data as Content;
+    match content {
+        Content::StreamEnd => *slot = Content::StreamEnd,
+        Content::DocumentStart => *slot = Content::DocumentStart,
+        Content::DocumentEnd => *slot = Content::DocumentEnd,
+        Content::BlockSequenceStart => *slot = Content::BlockSequenceStart,
+        Content::BlockMappingStart => *slot = Content::BlockMappingStart,
+        Content::BlockEnd => *slot = Content::BlockEnd,
+        Content::FlowSequenceStart => *slot = Content::FlowSequenceStart,
+        Content::FlowSequenceEnd => *slot = Content::FlowSequenceEnd,
+        Content::FlowMappingStart => *slot = Content::FlowMappingStart,
+        Content::FlowMappingEnd => *slot = Content::FlowMappingEnd,
+        Content::BlockEntry => *slot = Content::BlockEntry,
+        Content::FlowEntry => *slot = Content::FlowEntry,
+        Content::Key => *slot = Content::Key,
+        Content::Value => *slot = Content::Value,
+        Content::Scalar(scalar) => {
+            *slot = Content::Scalar(unnamed_yaml_token_t_data_scalar {
+                value: scalar.value.clone()?,
+                style: scalar.style,
+            });
+        }
+        _ => *slot = copied_rare(content)?,
+    }
+    Ok(())
+}
+
+/// Returns a copy of a token's content that is neither bare nor a scalar's.
+fn copied_rare(
+    content: &unnamed_yaml_token_t_data,
+) -> Result<unnamed_yaml_token_t_data, AllocError> {
+    use unnamed_yaml_token_t_data as Content;
+    match content {
+        Content::Alias(alias) => {
+            let value = alias.value.clone()?;
+            Ok(Content::Alias(unnamed_yaml_token_t_data_alias { value }))
+        }
+        Content::Anchor(anchor) => {
+            let value = anchor.value.clone()?;
+            Ok(Content::Anchor(unnamed_yaml_token_t_data_anchor { value }))
+        }
+        Content::Tag(tag) => Ok(Content::Tag(copy_tag(tag)?)),
+        Content::TagDirective(directive) => {
+            Ok(Content::TagDirective(copy_directive(directive)?))
+        }
+        _ => Ok(copied_small(content)),
+    }
+}
+
+/// Returns a copy of a token's content that has no text.
+fn copied_small(content: &unnamed_yaml_token_t_data) -> unnamed_yaml_token_t_data {
+    use unnamed_yaml_token_t_data as Content;
+    match content {
+        Content::StreamStart(start) => {
+            let encoding = start.encoding;
+            Content::StreamStart(unnamed_yaml_token_t_data_stream_start { encoding })
+        }
+        Content::VersionDirective(version) => {
+            let (major, minor) = (version.major, version.minor);
+            let version = unnamed_yaml_token_t_data_version_directive { major, minor };
+            Content::VersionDirective(version)
+        }
+        _ => Content::NoToken,
+    }
+}
+
+fn copy_tag(
+    tag: &unnamed_yaml_token_t_data_tag,
+) -> Result<unnamed_yaml_token_t_data_tag, AllocError> {
+    Ok(unnamed_yaml_token_t_data_tag {
+        handle: tag.handle.clone()?,
+        suffix: tag.suffix.clone()?,
+    })
+}
+
+fn copy_directive(
+    directive: &unnamed_yaml_token_t_data_tag_directive,
+) -> Result<unnamed_yaml_token_t_data_tag_directive, AllocError> {
+    Ok(unnamed_yaml_token_t_data_tag_directive {
+        handle: directive.handle.clone()?,
+        prefix: directive.prefix.clone()?,
+    })
+}

@@ -1,0 +1,112 @@
+//! The events of a list one by one: from the parser as an iterator, and from one that is handed each token.
+
+use crate::tables::{Case, Given, Text};
+use crate::tokens::list_of;
+use anyhow::Result;
+use std::alloc::Global;
+use std::io;
+use token_lines::{MAX_TOKENS, write_event, write_fault, yaml_line_source_t};
+use unsafe_libyaml::{
+    YAML_NO_ERROR, yaml_event_t, yaml_parser_initialize, yaml_parser_t_prefix, yaml_push_parser_t,
+    yaml_token_source_t,
+};
+
+/// Whether both give the events and the fault that are wanted.
+pub fn is_right(rt: &(impl Print + AllocGlobal), case: Case<'_>) -> io::Result<bool> {
+    match case.given {
+        Given::Events => Ok(are_iterated(rt, case.text)? && are_pushed(rt, case.text)?),
+        _ => Ok(true),
+    }
+}
+
+fn are_iterated(rt: &(impl Print + AllocGlobal), text: Text<'_>) -> io::Result<bool> {
+    let mut out = Vec::new(rt.alloc());
+    let is_written = write_iterated(rt.alloc(), text.tokens, &mut out).is_ok();
+    text.is_wanted(rt, "by the iterator", out.as_slice(), is_written)
+}
+
+fn write_iterated(alloc: Global, tokens: &str, out: &mut Vec<u8>) -> Result<()> {
+    let mut parser = yaml_parser_initialize(alloc, list_of(alloc, tokens)?);
+    for item in parser.by_ref() {
+        write_item(alloc, &item, out)?;
+    }
+    Ok(())
+}
+
+fn write_item(
+    alloc: Global,
+    item: &Result<yaml_event_t, yaml_parser_t_prefix>,
+    out: &mut Vec<u8>,
+) -> Result<()> {
+    match item {
+        Ok(event) => write_event(alloc, event, out)?,
+        Err(fault) => write_fault(fault, out)?,
+    }
+    Ok(())
+}
+
+fn are_pushed(rt: &(impl Print + AllocGlobal), text: Text<'_>) -> io::Result<bool> {
+    let mut out = Vec::new(rt.alloc());
+    let is_written = write_pushed(rt.alloc(), text.tokens, &mut out).is_ok();
+    let wanted = without_fault_of_source(text.wanted);
+    Text { wanted, ..text }.is_wanted(rt, "each token pushed", out.as_slice(), is_written)
+}
+
+/// What stands before the fault of a source over lines, of which a parser that is handed its tokens knows
+/// nothing.
+fn without_fault_of_source(wanted: &str) -> &str {
+    let before = wanted.split_once("FAULT reader ");
+    match before.or(wanted.split_once("FAULT scanner ")) {
+        Some((before, _)) => before,
+        None => wanted,
+    }
+}
+
+fn write_pushed(alloc: Global, tokens: &str, out: &mut Vec<u8>) -> Result<()> {
+    let mut parser = yaml_push_parser_t::new(alloc);
+    let mut events = Vec::new(alloc);
+    push_all(alloc, tokens, &mut parser, &mut events);
+    write_events(alloc, events.as_slice(), out)?;
+    write_kept(parser.prefix(), out)
+}
+
+/// Pushes the token of each line, until there is none or the parser has a fault.
+fn push_all(
+    alloc: Global,
+    tokens: &str,
+    parser: &mut yaml_push_parser_t,
+    events: &mut Vec<yaml_event_t>,
+) {
+    let mut source = yaml_line_source_t::new(alloc, tokens.as_bytes(), MAX_TOKENS);
+    for _ in 0..MAX_TOKENS {
+        if !push_next(&mut source, parser, events) {
+            break;
+        }
+    }
+}
+
+fn push_next<S: yaml_token_source_t>(
+    source: &mut S,
+    parser: &mut yaml_push_parser_t,
+    events: &mut Vec<yaml_event_t>,
+) -> bool {
+    match source.next_token() {
+        Ok(token) => parser.push(token, events).is_ok(),
+        Err(_) => false,
+    }
+}
+
+fn write_events(alloc: Global, events: &[yaml_event_t], out: &mut Vec<u8>) -> Result<()> {
+    for event in events {
+        write_event(alloc, event, out)?;
+    }
+    Ok(())
+}
+
+/// Writes the fault that a parser keeps, if it keeps one.
+fn write_kept(kept: &yaml_parser_t_prefix, out: &mut Vec<u8>) -> Result<()> {
+    if kept.error != YAML_NO_ERROR {
+        write_fault(kept, out)?;
+    }
+    Ok(())
+}
