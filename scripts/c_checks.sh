@@ -6,8 +6,8 @@
 # DIR has the library that build_c.sh made there; without it, that is run first.
 #
 # The samples and a file with each kind of broken text, under the address and undefined behaviour sanitizers and under
-# valgrind; each allocation refused in turn; an output that is full or closed; a header that C++ takes. The status is 0
-# where all is as it should be. Needs what build_c.sh needs, and valgrind and c++.
+# valgrind; each allocation refused in turn; an output that is full or closed; the header in C of 1989 and in C++; the shared
+# library. The status is 0 where all is as it should be. Needs what build_c.sh needs, and valgrind and c++.
 set -u
 cd "$(dirname "$0")/.." || exit 2
 work=$(mktemp -d) || exit 2
@@ -23,7 +23,7 @@ complain() {
 expect() {
     status=$1
     shift
-    "$@" > "$work/out" 2> "$work/err"
+    timeout 300 "$@" > "$work/out" 2> "$work/err"
     got=$?
     runs=$((runs + 1))
     [ "$got" = "$status" ] || complain "$* has status $got, not $status"
@@ -77,28 +77,34 @@ check_failures() {
 
 # ---- Each allocation refused in turn ----
 
+# Runs the program with its Nth allocation refused; N is the first word.
+run_refused() {
+    timeout 60 env REFUSE="$1" LD_PRELOAD="$work/fail_allocation.so" "$yaml" $mode "$file" > "$work/out" 2> "$work/err"
+    got=$?
+}
+
 check_refused() {
     mode=$1
     file=$2
-    "$yaml" $mode "$file" > "$work/whole" 2> "$work/err"
-    whole=$?
-    n=1 ended=0 stopped=0 same=0
-    while :; do
-        REFUSE=$n LD_PRELOAD="$work/fail_allocation.so" "$yaml" $mode "$file" > "$work/out" 2> "$work/err"
-        got=$?
-        if grep -q 'no allocation failed' "$work/err"; then
-            cmp -s "$work/out" "$work/whole" && [ $got = $whole ] || complain "$mode of $file, none refused: status $got"
-            break
-        fi
-        if [ $got = $whole ] && cmp -s "$work/out" "$work/whole"; then
+    run_refused 0
+    whole=$got
+    cp "$work/out" "$work/whole"
+    allocations=$(sed -n 's/^\([1-9][0-9]*\) allocations$/\1/p' "$work/err")
+    [ -n "$allocations" ] || complain "$mode of $file: how many allocations it makes is not seen"
+    n=0 stopped=0 same=0
+    while n=$((n + 1)) && [ $n -le "${allocations:-0}" ]; do
+        run_refused $n
+        if [ $got = $whole ] && cmp -s "$work/out" "$work/whole" && ! grep -q '^no allocation failed$' "$work/err"; then
             same=$((same + 1))
         elif [ $got = 3 ] && [ ! -s "$work/out" ] && [ "$(wc -l < "$work/err")" -eq 1 ]; then
             stopped=$((stopped + 1))
         else
             complain "$mode of $file, allocation $n refused: status $got, $(wc -c < "$work/out") bytes"
         fi
-        n=$((n + 1))
     done
+    run_refused $n
+    [ $got = $whole ] && cmp -s "$work/out" "$work/whole" && grep -q '^no allocation failed$' "$work/err" ||
+        complain "$mode of $file makes more than $allocations allocations now"
     echo "$mode of ${file##*/}: $((n - 1)) allocations refused in turn: $stopped ended by status 3 with no output, $same had the whole output"
 }
 
@@ -106,16 +112,24 @@ check_refused() {
 
 [ $# -eq 1 ] || sh scripts/build_c.sh "$work/plain" || exit 2
 library=${1:-$work/plain}/libtoken_lines.a
+shared=${library%.a}.so
 yaml=$work/yaml
 sanitized=$work/sanitized
 build="${CC:-cc} -O1 -g -Wall -Wextra -Werror examples/yaml.c $library -lyaml"
 $build -o "$yaml" || exit 2
 $build -fsanitize=address,undefined -fno-sanitize-recover=all -o "$sanitized" || exit 2
 ${CC:-cc} -O2 -Wall -Wextra -fPIC -shared -o "$work/fail_allocation.so" scripts/fail_allocation.c || exit 2
-printf '#include "token_lines.h"\nint main() { size_t w, n; uint8_t t = 0, o = 0;\n return token_lines_run_events(&t, 0, &o, 1, 9, &w, &n) == TOKEN_LINES_FAULTED && w == 1 && n == 34 ? 0 : 1; }\n' \
-    > "$work/header.cpp"
-${CXX:-c++} -Wall -Wextra -Werror -Iexamples "$work/header.cpp" "$library" -o "$work/header" && "$work/header" ||
-    complain "the header in C++"
+# The header, in C of 1989 and in C++, and a program over the shared library, which it names without a path.
+printf '%s\n' '#include "token_lines.h"' 'int main(void) { size_t w, n; uint8_t t = 0, o = 0;' \
+    'return token_lines_run_events(&t, 0, &o, 1, 9, &w, &n) == TOKEN_LINES_FAULTED && w == 1 && n == 34 ? 0 : 1; }' \
+    > "$work/header.c"
+cp "$work/header.c" "$work/header.cpp"
+strict='-Wall -Wextra -Werror -pedantic -Iexamples'
+${CC:-cc} -std=c89 $strict "$work/header.c" "$library" -o "$work/header" && "$work/header" || complain "the header in C of 1989"
+${CXX:-c++} $strict "$work/header.cpp" "$library" -o "$work/header" && "$work/header" || complain "the header in C++"
+${CC:-cc} $strict "$work/header.c" "$shared" -o "$work/header" && LD_LIBRARY_PATH=${shared%/*} "$work/header" ||
+    complain "a program over the shared library"
+readelf -d "$work/header" | grep -q 'NEEDED.*\[libtoken_lines\.so\]' || complain "the shared library has no name of its own"
 
 check_texts plain "$yaml"
 check_texts sanitizers "$sanitized"

@@ -6,8 +6,8 @@
 FRONT is the command of a front, as `python3 examples/yaml.py` or a built `examples/yaml.c`; it is called with `nodes` and
 each file of `scripts/broken`. What stands in NAME.fault is expected of it. libyaml (through PyYAML's CLoader) and PyYAML
 itself parse the same text; where one of them says something else, `scripts/broken/differences` names that with the reason,
-one line each: NAME SIDE REASON. The exit status is 1 where a fault is another than expected, a difference is not named, or
-a named one is none. With --write, NAME.fault is written from the front.
+one line each: NAME SIDE REASON. The exit status is 1 where a fault is another than expected, a difference is not named, a
+named one is none or of no text, or a text or its fault stands alone. With --write, NAME.fault is written from the front.
 """
 import re
 import subprocess
@@ -68,8 +68,21 @@ def read_differences():
     return named
 
 
+def unpaired(texts, named):
+    """What is wrong with the folder: a text or a fault without the other, a named difference of no text or no side."""
+    names = {path.stem for path in texts}
+    faults = {path.stem for path in BROKEN.glob("*.fault")}
+    for name in sorted(names ^ faults):
+        yield f"{name}: {'no .fault' if name in names else 'no .yaml'}"
+    for name, side in sorted(named):
+        if name not in names or side not in SIDES:
+            yield f"{name} {side}: named, but there is no such text or side"
+
+
 def compare(front, path, named):
     """What is wrong with one text."""
+    if not path.with_suffix(".fault").exists():
+        return
     expected, told = path.with_suffix(".fault").read_text(), front_fault(front, path)
     if told != expected:
         yield f"{path.stem}: the front says\n{told}and not\n{expected}"
@@ -92,7 +105,7 @@ def main():
             path.with_suffix(".fault").write_text(front_fault(front, path))
         return
     named = read_differences()
-    wrong = [line for path in texts for line in compare(front, path, named)]
+    wrong = [*unpaired(texts, named), *(line for path in texts for line in compare(front, path, named))]
     print("\n".join([*wrong, f"{len(texts)} broken texts, {len(named)} named differences, {len(wrong)} wrong"]))
     sys.exit(1 if wrong else 0)
 

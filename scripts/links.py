@@ -4,10 +4,11 @@
 - a relative link to a missing file, or to a heading that its page does not have;
 - a path of this repository, in backticks or in a command, that does not exist (what a build makes is left out);
 - a heading of a page, as in `docs/DEFINITIONS.md, "Runs"`, that it does not have; comments of code are read for these too;
-- a Rust block or a clause of a contract that no file of crates/ has word for word;
+- a Rust block or a clause of a contract that no file of crates/ or examples/ has word for word;
 - a row of ARCHITECTURE's table of layers, or a line "Stands on" of a crate's README, that is not as crates.txt has it;
 - a room of definitions or proofs in ARCHITECTURE that has other files than its folder;
-- an edit that WRONG_BODIES lists and no crate has, or the other way round.
+- an edit that WRONG_BODIES lists and no crate has, or the other way round;
+- a script that CONTRIBUTING doesn't list.
 
     python3 scripts/links.py
 """
@@ -144,6 +145,14 @@ def wrong_edits():
     yield from (f"docs/WRONG_BODIES.md: {name} is {'no edit' if name in listed else 'not listed'}" for name in sorted(listed ^ there))
 
 
+def unlisted_scripts():
+    text = (TOP / "CONTRIBUTING.md").read_text()
+    for path in [*TOP.glob("scripts/*.sh"), *TOP.glob("scripts/*.py"), *TOP.glob("scripts/*/run.sh")]:
+        name = str(path.relative_to(TOP / "scripts"))
+        if not re.search(rf"(`|/){re.escape(name)}`", text):
+            yield f"CONTRIBUTING.md: {name} is not listed"
+
+
 def comments():
     """The files of code, definitions and examples, each with its comments, joined over the ends of lines."""
     for path in [*TOP.glob("crates/**/*.rt"), *TOP.glob("crates/**/*.antt"), *TOP.glob("examples/*"), *TOP.glob("scripts/*.*")]:
@@ -152,13 +161,14 @@ def comments():
 
 
 def problems():
-    code = unindented("\n".join(path.read_text() for path in TOP.glob("crates/*/src/**/*.rt")))
+    files = [*TOP.glob("crates/*/src/**/*.rt"), *TOP.glob("examples/*.txt")]
+    code = unindented("\n".join(path.read_text() for path in files))
     for page in PAGES:
         text = page.read_text()
         found = [*broken_links(page, text), *missing_paths(page, text), *missing_headings(text), *missing_blocks(text, code)]
         yield from (f"{page.relative_to(TOP)}: {problem}" for problem in found)
     yield from (f"docs/ARCHITECTURE.md: {problem}" for problem in [*wrong_layers(), *wrong_rooms()])
-    yield from [*wrong_readmes(), *wrong_edits()]
+    yield from [*wrong_readmes(), *wrong_edits(), *unlisted_scripts()]
     for path, text in comments():
         yield from (f"{path.relative_to(TOP)}: {problem}" for problem in missing_headings(text))
 

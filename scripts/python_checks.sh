@@ -25,7 +25,7 @@ complain() {
 
 # Runs a command of the shell: its status, and the one line of its messages, or none where the pattern is empty.
 expect() {
-    timeout 60 sh -c "$3" > out 2> err
+    timeout 300 sh -c "$3" > out 2> err
     got=$?
     runs=$((runs + 1))
     [ "$got" = "$1" ] || complain "$3: status $got, not $1"
@@ -150,6 +150,9 @@ expect 3 'yaml.py: out of memory' "python3 $front events --program ./refusing ok
 expect 3 'yaml.py: ./failing failed, with status 9' "python3 $front events --program ./failing ok.yaml"
 expect 3 'yaml.py: ./killed failed, with status -9' "python3 $front events --program ./killed ok.yaml"
 expect 3 'yaml.py: cannot run ./nosuch: No such file or directory' "python3 $front events --program ./nosuch ok.yaml"
+mkdir alone && cp "$front" alone
+expect 3 'yaml.py: cannot run yamltokens: No such file or directory; to build it: (cd crates/yamltokens && rt run*' \
+    "PATH=$work $(python3 -c 'import sys; print(sys.executable)') alone/yaml.py events ok.yaml"
 expect 3 'yaml.py: cannot run /: Permission denied' "python3 $front nodes --program / ok.yaml"
 expect 3 'yaml.py: cannot use ./ok.yaml: *' "python3 $front nodes --library ./ok.yaml ok.yaml"
 expect 3 'yaml.py: cannot use ./nosuch.so: *' "python3 $front nodes --library ./nosuch.so ok.yaml"
@@ -163,7 +166,16 @@ done
 
 # ---- Interrupted: status 130 ----
 
-expect 130 'yaml.py: interrupted' "sleep 5 | timeout --preserve-status -s INT 2 python3 $front tokens -"
+# It is interrupted once it has taken the first byte of its input, and so reads.
+echo 'import array, fcntl, signal, subprocess, sys, termios, time
+run, left = subprocess.Popen(sys.argv[1:], stdin=subprocess.PIPE, bufsize=0), array.array("i", [1])
+run.stdin.write(b"a")
+while left[0] and run.poll() is None:
+    time.sleep(0.05)
+    fcntl.ioctl(run.stdin, termios.FIONREAD, left)
+run.send_signal(signal.SIGINT)
+sys.exit(run.wait())' > interrupt.py
+expect 130 'yaml.py: interrupted' "python3 interrupt.py python3 $front tokens -"
 
 echo "$runs cases, $wrong wrong"
 [ "$wrong" = 0 ]

@@ -1,22 +1,49 @@
 #!/bin/sh
-# Copies crates of this repository, and those below them, into another project, and prints their lines for its crates.txt:
+# Copies crates of this repository, and those below them, into another project; adds to what it copied there, or updates it:
 #
-#     sh scripts/vendor.sh DEST [CRATE..] >> DEST/crates.txt
+#     sh scripts/vendor.sh DEST [CRATE..]
 #
-# DEST is the top of that project. Where no CRATE is named it is unsafe_libyaml; token_lines and yaml_path are others.
-# Of each crate its README.md, src, specs and proofs are copied to DEST/crates, and the licence beside them; kept work and
-# must-fail edits are not. Nothing is overwritten: the exit status is 1 where one of the crates is there already or is no
-# crate of this repository, and 2 for wrong words.
+# DEST is the top of that project. Where no CRATE is named it is unsafe_libyaml, or what it copied there earlier; token_lines
+# and yaml_path are others. What it copied there earlier is updated too, so that all is of one state. Of each crate README.md,
+# src, specs and proofs are copied to DEST/crates, and the licence beside them; kept work and edits are not, and what
+# a check kept there stays. Its line is put into DEST/crates.txt, whose other lines stay. DEST/vendored.txt says which commit
+# the crates are of, and has a checksum of each.
+#
+# It prints what it did with each crate: added, updated, or as it was. The exit status is 2 for wrong words. It is 1, and
+# nothing is changed, where a name is no crate of this repository, and where a crate there was not copied by this script or
+# was changed since.
 set -eu
+fail() {
+    echo "vendor.sh: $*" >&2
+    exit 1
+}
 [ $# -ge 1 ] || { echo "usage: sh scripts/vendor.sh DEST [CRATE..]" >&2; exit 2; }
 [ -d "$1" ] || { echo "vendor.sh: no folder $1" >&2; exit 2; }
 dest=$(cd "$1" && pwd)
 shift
-[ $# -gt 0 ] || set -- unsafe_libyaml
 cd "$(dirname "$0")/.."
+[ "$dest" != "$PWD" ] || fail "$dest is this repository"
+parts='LICENSE README.md src specs proofs'
+record=$dest/vendored.txt
+work=$(mktemp -d)
+trap 'rm -rf "$work"' EXIT
+
+# The checksum of a crate's copied files.
+sum() {
+    (cd "$1" && find $parts -type f -print0 2> /dev/null | LC_ALL=C sort -z | xargs -0 -r sha256sum | sha256sum | cut -d ' ' -f 1)
+}
+
+# The crates copied earlier, those of them that this repository still has, and what is asked for.
+earlier=
+[ ! -f "$record" ] || earlier=$(sed -n 's/^\([a-z0-9_]*\) [0-9a-f]*$/\1/p' "$record")
+[ $# -gt 0 ] || [ -n "$earlier" ] || set -- unsafe_libyaml
+gone=
+for crate in $earlier; do
+    if [ -d "crates/$crate" ]; then set -- "$@" "$crate"; else gone="$gone $crate"; fi
+done
 
 # The lines of the named crates and of all below them, in the order of crates.txt.
-lines=$(awk -v named="$*" '
+awk -v named="$*" '
     { sub(/#.*/, ""); if (split($0, half, ":") < 2) next }
     { split(half[1], words, " "); name = words[1]; order[++count] = name; line[name] = $0; below[name] = half[2] }
     END {
@@ -30,17 +57,51 @@ lines=$(awk -v named="$*" '
             for (i = 1; i <= n; i++) todo[++left] = deps[i]
         }
         for (i = 1; i <= count; i++) if (order[i] in taken) print line[order[i]]
-    }' crates.txt)
-crates=$(printf '%s\n' "$lines" | sed 's/[: ].*//')
+    }' crates.txt > "$work/lines"
+crates=$(sed 's/[: ].*//' "$work/lines")
 
 for crate in $crates; do
-    [ ! -e "$dest/crates/$crate" ] || { echo "vendor.sh: $dest/crates/$crate is there already" >&2; exit 1; }
-done
-for crate in $crates; do
-    mkdir -p "$dest/crates/$crate"
-    for part in README.md src specs proofs; do
-        [ ! -e "crates/$crate/$part" ] || cp -R "crates/$crate/$part" "$dest/crates/$crate/"
+    at=$dest/crates/$crate
+    known=$(sed -n "s/^$crate //p" "$record" 2> /dev/null || true)
+    [ ! -e "$at" ] || [ -n "$known" ] || fail "$at is there, and not copied by this script"
+    [ ! -e "$at" ] || [ "$(sum "$at")" = "$known" ] || fail "$at was changed since it was copied"
+    mkdir -p "$work/crates/$crate"
+    cp LICENSE "$work/crates/$crate/"
+    for part in $parts; do
+        [ ! -e "crates/$crate/$part" ] || cp -R "crates/$crate/$part" "$work/crates/$crate/"
     done
-    cp LICENSE "$dest/crates/$crate/"
 done
-printf '%s\n' "$lines"
+
+commit=$(git rev-parse --short HEAD 2> /dev/null || echo unknown)
+[ -z "$(git status --porcelain -- crates 2> /dev/null)" ] || commit="$commit with changes"
+echo "# Copied by scripts/vendor.sh of Pokhvizi, commit $commit: crates and their checksums." > "$work/record"
+for crate in $crates; do
+    at=$dest/crates/$crate
+    new=$(sum "$work/crates/$crate")
+    echo "$crate $new" >> "$work/record"
+    if [ ! -e "$at" ]; then
+        did=added
+    elif [ "$new" = "$(sum "$at")" ]; then
+        did='as it was'
+    else
+        did=updated
+    fi
+    echo "$crate: $did"
+    [ "$did" != 'as it was' ] || continue
+    mkdir -p "$at"
+    for part in $parts; do
+        rm -rf "${at:?}/$part"
+        [ ! -e "$work/crates/$crate/$part" ] || cp -R "$work/crates/$crate/$part" "$at/"
+    done
+done
+for crate in $gone; do
+    sed -n "/^$crate /p" "$record" >> "$work/record"
+    echo "$crate: left, though this repository has it no more"
+done
+
+# The lines of other crates stay where they are; those of the copied crates come first.
+touch "$dest/crates.txt"
+awk 'NR == FNR { split($0, words, /[: ]/); taken[words[1]] = 1; print; next } { split($0, words, /[: ]/) } !(words[1] in taken)' \
+    "$work/lines" "$dest/crates.txt" > "$work/crates.txt"
+cmp -s "$work/crates.txt" "$dest/crates.txt" || { cp "$work/crates.txt" "$dest/crates.txt"; echo "crates.txt: updated"; }
+cp "$work/record" "$record"

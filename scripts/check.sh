@@ -1,0 +1,44 @@
+#!/bin/sh
+# Checks what needs no proof, in some seconds: the pages and tables against the sources, and each crate's layout.
+#
+#     sh scripts/check.sh
+#
+# Every check is run; one that fails is named after what it says. The last line is `N passed, M failed`, and the exit
+# status is 1 where one failed. No file is changed. Needs python3 and `rt`.
+set -u
+cd "$(dirname "$0")/.." || exit 2
+work=$(mktemp -d) || exit 2
+trap 'rm -rf "$work"' EXIT
+export PYTHONDONTWRITEBYTECODE=1
+passed=0
+failed=0
+
+check() {
+    if "$@" > "$work/said" 2>&1; then
+        passed=$((passed + 1))
+    else
+        cat "$work/said"
+        echo "failed: $*"
+        failed=$((failed + 1))
+    fi
+}
+
+# Lays out a copy of each crate: `rt fmt` has to say nothing and to change nothing. It also says which edit of must-fail/
+# can't be applied.
+layout() {
+    mkdir "$work/copy" && tar -cf - --exclude=out crates crates.txt | tar -xf - -C "$work/copy" || return 1
+    (cd "$work/copy/crates" && ls | xargs -P 4 -I NAME sh -c 'cd NAME && rt fmt || echo "rt fmt fails in NAME"') > "$work/fmt" 2>&1
+    cat "$work/fmt"
+    diff -r -U 1 --exclude=out crates "$work/copy/crates" && [ ! -s "$work/fmt" ]
+}
+
+check python3 scripts/links.py
+check python3 scripts/words.py
+check python3 scripts/surface.py
+check python3 scripts/definitions.py --check
+check python3 scripts/unused_dependencies.py
+check python3 scripts/lent.py
+check python3 scripts/passed_on.py
+check layout
+echo "$passed passed, $failed failed"
+[ "$failed" -eq 0 ]

@@ -1,0 +1,94 @@
+#!/bin/sh
+# Checks what no proof covers, with programs as they are built, and the copies that another project takes.
+#
+#     sh scripts/check_programs.sh [all] [ci]
+#
+# The programs are those that `rt ci` or `rt run` left in crates/NAME/out; the libraries for C are built here, in minutes where
+# nothing has been proved yet. With `all` the longest checks have all their cases; without it everything takes some ten
+# minutes on four cores. With `ci`, right after `rt ci` in a fresh checkout, the libraries are made of what it left
+# (build_c.sh).
+#
+# Every check is run. It is passed, failed, or skipped: where a tool, a library or a program isn't there, which is named; it
+# doesn't count as passed. A check that doesn't end within half an hour fails. The last line is `N passed, M failed`, and
+# `, K skipped` where some were; the exit status is 1 where one failed. Tools: a C and a C++ compiler, binutils, python3 with
+# PyYAML, libyaml's header, valgrind, GNU time (Debian: build-essential python3-yaml libyaml-dev valgrind time), and `rt`.
+set -u
+all='' ci=''
+for word in "$@"; do
+    case $word in
+    all) all=all ;;
+    ci) ci=ci ;;
+    *) echo "usage: sh scripts/check_programs.sh [all] [ci]" >&2; exit 2 ;;
+    esac
+done
+cd "$(dirname "$0")/.." || exit 2
+work=$(mktemp -d) || exit 2
+trap 'rm -rf "$work"' EXIT
+export PYTHONDONTWRITEBYTECODE=1
+passed=0
+failed=0
+skipped=0
+
+is_there() {
+    case $1 in
+    yaml.h) echo '#include <yaml.h>' | cc -E - ;;
+    PyYAML) python3 -c 'import yaml; yaml.CLoader' ;;
+    */*) [ -e "$1" ] ;;
+    *) command -v "$1" ;;
+    esac > /dev/null 2>&1
+}
+
+# check NAME NEED.. -- COMMAND WORD..
+check() {
+    name=$1
+    lacks=
+    shift
+    while [ "$1" != -- ]; do
+        is_there "$1" || lacks="$lacks ${1#"$work/"}"
+        shift
+    done
+    shift
+    if [ -n "$lacks" ]; then
+        echo "skipped: $name, which lacks$lacks"
+        skipped=$((skipped + 1))
+        return
+    fi
+    begun=$(date +%s)
+    if timeout 1800 "$@" > "$work/said" 2>&1; then
+        passed=$((passed + 1))
+        echo "passed: $name, $(($(date +%s) - begun)) s: $(tail -n 1 "$work/said")"
+    else
+        status=$?
+        failed=$((failed + 1))
+        tail -n 100 "$work/said"
+        echo "failed: $name, with status $status: $*"
+    fi
+}
+
+yamltokens=crates/yamltokens/out/yamltokens
+libraries=$work/c
+yaml=$libraries/yaml
+front="python3 examples/yaml.py"
+lists=2000
+[ -z "$all" ] || lists=100000
+
+check vendor sha256sum -- sh scripts/vendor_checks.sh
+check calling rt -- sh scripts/calling_steps.sh
+check statuses $yamltokens -- sh scripts/statuses.sh $yamltokens
+check slow_pipe python3 $yamltokens -- python3 scripts/slow_pipe.py $yamltokens
+check inlined nm $yamltokens -- sh scripts/inlined.sh $yamltokens
+check faults_of_yaml.py PyYAML $yamltokens -- python3 scripts/compare_faults.py $front
+for rows in hostile_rows line_rows yaml_rows; do
+    check "allocations_of_$rows" cc timeout crates/$rows/out/$rows -- sh scripts/allocation_failures.sh $rows
+done
+check flat_memory /usr/bin/time crates/hostile_rows/out/hostile_rows -- sh scripts/flat_memory.sh
+check differential python3 cc yaml.h $yamltokens -- env JOBS=4 sh scripts/differential/run.sh $lists
+
+check libraries_for_c rt cc ld objcopy ar nm yaml.h -- sh scripts/build_c.sh "$libraries" $ci
+check faults_of_yaml.c PyYAML "$yaml" -- python3 scripts/compare_faults.py "$yaml"
+check fronts PyYAML $yamltokens "$yaml" -- python3 scripts/compare_fronts.py "$yaml"
+check python PyYAML timeout truncate $yamltokens "$yaml" -- sh scripts/python_checks.sh $yamltokens "$libraries/libtoken_lines.so"
+check c cc c++ readelf valgrind yaml.h "$yaml" -- sh scripts/c_checks.sh "$libraries"
+
+echo "$passed passed, $failed failed$([ $skipped -eq 0 ] || echo ", $skipped skipped")"
+[ "$failed" -eq 0 ]

@@ -1,0 +1,258 @@
+/* Calls of libyaml where examples/libyaml_preload.c is preloaded: each allocation refused in turn, parsers that are
+ * deleted at each event, moved, used after a fault or after the end, and by several threads; documents. Says what was
+ * wrong, and exits with 1 where anything was. */
+#include <pthread.h>
+#include <stdio.h>
+#include <stdlib.h>
+#include <string.h>
+#include <yaml.h>
+
+static const char *const TEXT =
+    "%TAG !e! tag:e,2000:\n--- !e!x\n- &a [b, {c: d}, 'e f']\n- ? *a\n  : |\n   g\n- \"\\0\\u00e9 %\"\n...\nbare\n";
+static const char *const BROKEN[] = {"[a, b", "a: b: c\n", "a: 'x", "a: \xFF\n", "--- a\n--- [b}\n"};
+enum { EVENTS = 22, NODES = 11 };
+
+/* ---- The C library's allocator, of which one call may be refused ---- */
+
+extern void *__libc_malloc(size_t), *__libc_realloc(void *, size_t), *__libc_calloc(size_t, size_t);
+extern void __libc_free(void *);
+static __thread long refused_at, live, allocations;
+
+static int refuse(void)
+{
+    allocations++;
+    return refused_at > 0 && --refused_at == 0;
+}
+
+void *malloc(size_t size)
+{
+    void *block = refuse() ? NULL : __libc_malloc(size);
+    live += block != NULL;
+    return block;
+}
+
+void *calloc(size_t count, size_t size)
+{
+    void *block = refuse() ? NULL : __libc_calloc(count, size);
+    live += block != NULL;
+    return block;
+}
+
+void *realloc(void *block, size_t size)
+{
+    void *more = refuse() ? NULL : __libc_realloc(block, size);
+    live += block == NULL && more != NULL;
+    return more;
+}
+
+void free(void *block)
+{
+    live -= block != NULL;
+    __libc_free(block);
+}
+
+/* ---- The calls ---- */
+
+static int wrong;
+
+static void expect(int is, const char *what, long at)
+{
+    if (!is) {
+        printf("wrong: %s, at %ld\n", what, at);
+        wrong = 1;
+    }
+}
+
+static int begin(yaml_parser_t *parser, const char *text)
+{
+    if (!yaml_parser_initialize(parser))
+        return 0;
+    yaml_parser_set_input_string(parser, (const unsigned char *)text, strlen(text));
+    return 1;
+}
+
+/* Parses so many events at most; how many there were, and a sum over what they have. */
+static long parse(yaml_parser_t *parser, long most, unsigned long *sum)
+{
+    yaml_event_t event;
+    long count = 0;
+    int more = 1;
+
+    while (more && count < most && yaml_parser_parse(parser, &event) && event.type != YAML_NO_EVENT) {
+        *sum = *sum * 31 + event.type + event.start_mark.index * 7 + event.end_mark.column;
+        for (size_t i = 0; event.type == YAML_SCALAR_EVENT && i < event.data.scalar.length; i++)
+            *sum = *sum * 31 + event.data.scalar.value[i];
+        more = event.type != YAML_STREAM_END_EVENT;
+        yaml_event_delete(&event);
+        count++;
+    }
+    return count;
+}
+
+static long parse_text(const char *text, long most, unsigned long *sum, yaml_error_type_t *error)
+{
+    yaml_parser_t parser;
+    long count = 0;
+
+    *error = YAML_MEMORY_ERROR;
+    if (begin(&parser, text)) {
+        count = parse(&parser, most, sum);
+        *error = parser.error;
+    }
+    yaml_parser_delete(&parser);
+    return count;
+}
+
+/* Loads all documents; how many nodes there were, or -1 by a fault. */
+static long load_text(const char *text, yaml_error_type_t *error)
+{
+    yaml_parser_t parser;
+    yaml_document_t document;
+    long nodes = 0;
+    int more = begin(&parser, text);
+
+    *error = YAML_MEMORY_ERROR;
+    while (more && (more = yaml_parser_load(&parser, &document))) {
+        more = yaml_document_get_root_node(&document) != NULL;
+        nodes += document.nodes.top - document.nodes.start;
+        yaml_document_delete(&document);
+        *error = YAML_NO_ERROR;
+    }
+    if (parser.error != YAML_NO_ERROR)
+        *error = parser.error;
+    yaml_parser_delete(&parser);
+    return nodes;
+}
+
+static void check_whole(void)
+{
+    unsigned long sum = 0;
+    yaml_error_type_t error;
+
+    expect(parse_text(TEXT, 1000, &sum, &error) == EVENTS && error == YAML_NO_ERROR, "events", 0);
+    expect(load_text(TEXT, &error) == NODES && error == YAML_NO_ERROR, "nodes", 0);
+}
+
+/* Each allocation refused in turn: a memory fault or the same events, and everything given back. */
+static long check_refusals(void)
+{
+    unsigned long whole = 0, sum;
+    yaml_error_type_t error;
+    long at = 0, before, memory = 0, count;
+
+    parse_text(TEXT, 1000, &whole, &error);
+    do {
+        sum = 0;
+        before = live;
+        refused_at = ++at;
+        count = parse_text(TEXT, 1000, &sum, &error);
+        expect(live == before, "blocks are lost", at);
+        expect(error == YAML_MEMORY_ERROR || (error == YAML_NO_ERROR && count == EVENTS && sum == whole), "a refusal", at);
+        memory += error == YAML_MEMORY_ERROR;
+    } while (refused_at == 0);
+    refused_at = 0;
+    expect(memory > 20, "refusals are told", memory);
+    return at - 1;
+}
+
+static void check_deleted(void)
+{
+    unsigned long sum;
+    yaml_error_type_t error;
+
+    for (long most = 0; most <= EVENTS; most++) {
+        long before = live;
+        expect(parse_text(TEXT, most, &sum, &error) == most, "deleted", most);
+        expect(live == before, "blocks are lost", most);
+    }
+}
+
+static void check_faults(void)
+{
+    yaml_parser_t parser;
+    yaml_event_t event;
+    unsigned long sum = 0;
+
+    for (size_t i = 0; i < sizeof BROKEN / sizeof *BROKEN; i++) {
+        long before = live;
+        if (!begin(&parser, BROKEN[i]))
+            abort();
+        parse(&parser, 1000, &sum);
+        yaml_error_type_t error = parser.error;
+        expect(error != YAML_NO_ERROR && parser.problem != NULL && parser.problem[0] != '\0', "a fault", i);
+        expect(yaml_parser_parse(&parser, &event) && event.type == YAML_NO_EVENT && parser.error == error, "after it", i);
+        yaml_parser_delete(&parser);
+        expect(live == before, "blocks are lost", i);
+    }
+}
+
+/* A parser that is moved before each call, as it may be where its input is no string. */
+static void check_moved(void)
+{
+    yaml_parser_t parsers[2];
+    yaml_event_t event;
+    unsigned long whole = 0, sum = 0;
+    yaml_error_type_t error;
+    long at = 0;
+    FILE *file = tmpfile();
+
+    if (file == NULL || fputs(TEXT, file) < 0 || !yaml_parser_initialize(&parsers[0]))
+        abort();
+    rewind(file);
+    yaml_parser_set_input_file(&parsers[0], file);
+    sum = 0;
+    while (parse(&parsers[at % 2], 1, &sum) == 1) {
+        parsers[(at + 1) % 2] = parsers[at % 2];
+        memset(&parsers[at % 2], 0xAA, sizeof *parsers);
+        at++;
+    }
+    parse_text(TEXT, 1000, &whole, &error);
+    expect(at == EVENTS && sum == whole, "moved", at);
+    expect(yaml_parser_parse(&parsers[at % 2], &event) && event.type == YAML_NO_EVENT, "after the end", at);
+    yaml_parser_delete(&parsers[at % 2]);
+    fclose(file);
+}
+
+static void *many(void *whole)
+{
+    yaml_error_type_t error;
+
+    for (int i = 0; i < 500; i++) {
+        unsigned long sum = 0;
+        if (parse_text(TEXT, 1000, &sum, &error) != EVENTS || sum != *(unsigned long *)whole)
+            return whole;
+    }
+    return NULL;
+}
+
+static void check_threads(void)
+{
+    pthread_t threads[8];
+    unsigned long whole = 0;
+    yaml_error_type_t error;
+    void *returned;
+
+    parse_text(TEXT, 1000, &whole, &error);
+    for (int i = 0; i < 8; i++)
+        if (pthread_create(&threads[i], NULL, many, &whole) != 0)
+            abort();
+    for (int i = 0; i < 8; i++) {
+        pthread_join(threads[i], &returned);
+        expect(returned == NULL, "threads", i);
+    }
+}
+
+int main(void)
+{
+    check_whole();
+    if (wrong)
+        return 1;
+    check_deleted();
+    check_faults();
+    check_moved();
+    check_threads();
+    long refused = check_refusals();
+    printf("%ld allocations refused, parsers deleted, moved, used after a fault and by threads: %s\n", refused,
+           wrong ? "wrong" : "as they should be");
+    return wrong;
+}

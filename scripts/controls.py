@@ -1,0 +1,110 @@
+#!/usr/bin/env python3
+"""Tries the edits of equal meaning, `crates/*/controls/*.edit`; fails where one is refused, or one by shape is proved.
+
+    python3 scripts/controls.py CRATE..        (no crate: each that has an edit in must-fail/)
+
+Such an edit has the form of those in must-fail/, and changes how a function is written and nothing in what it does. Each
+is made in a copy, and `rt check --only` has to prove the function. One whose first line is `by shape` has to be refused:
+there the answers of the function (`proofs/**/Answers.antt`) fit no other way to write it, so they refuse an edit of
+must-fail/ whatever it means. Each function that has answers and an edit in must-fail/ has one here, named as that edit
+begins; others may have one. Needs `rt`; some ten seconds an edit, after the crates below are proved.
+"""
+import re
+import subprocess
+import sys
+import tempfile
+from pathlib import Path
+
+from answers import TOP, answers, copied
+
+
+def edited(crate, edit):
+    """The files that an edit changes, with their texts, as `rt must-fail` makes them."""
+    path, old, texts = None, None, {}
+    for line in edit.read_text().splitlines():
+        key, _, text = line.partition(":")
+        text = text.removeprefix(" ")
+        if key == "file":
+            path = crate / text
+            texts.setdefault(path, path.read_text())
+        elif key == "old":
+            old = text
+            if texts[path].count(old) != 1:
+                sys.exit(f"{edit}: {old!r} is {texts[path].count(old)} times in {path.name}")
+        elif key == "new":
+            texts[path] = texts[path].replace(old, text)
+    return texts
+
+
+def answered(crate, edit):
+    """The path of the function with answers that an edit is named after, None where it has none."""
+    begins = edit.stem.partition("-")[0]
+    found = [name for name in answers(crate) if re.search(rf"(^|_){re.escape(begins)}$", name.replace("::", "_"))]
+    file = re.search(r"^file: src/(.*)\.rt$", edit.read_text(), flags=re.M)
+    module = file[1].replace("/", "::") + "::" if file else ""
+    own = [name for name in found if name.startswith(module) and begins in (name.split("::")[-1], "_".join(name.split("::")[-2:]))]
+    return own[0] if own else None
+
+
+def is_by_shape(edit):
+    return edit.read_text().startswith("by shape\n")
+
+
+def proved(crate, function):
+    """Whether `rt check --only` proves a function, and what it wrote."""
+    run = subprocess.run(["rt", "check", "--only", function], cwd=crate, stdin=subprocess.DEVNULL, capture_output=True, text=True)
+    said = run.stdout + run.stderr
+    count = re.search(r"^only=(\d+) proved=(\d+)", said, flags=re.M)
+    if not count or count[1] == "0":
+        sys.exit(f"{crate.name}: no verdict on {function}:\n{said[-2000:]}")
+    return run.returncode == 0, said
+
+
+def tried(crate, edit):
+    """What an edit comes to: `proved`, `by shape`, or what is wrong with it."""
+    function = answered(crate, edit) or edit.stem.partition("-")[0]
+    texts = edited(crate, edit)
+    was = {path: path.read_text() for path in texts}
+    if was == texts:
+        return "wrong: it changes nothing"
+    for path, text in texts.items():
+        path.write_text(text)
+    is_proved, said = proved(crate, function)
+    for path, text in was.items():
+        path.write_text(text)
+    if re.search(r"\berror\[[\w-]+\]", said):
+        return f"wrong: it does not compile:\n{said[-1500:]}"
+    if is_proved:
+        return "wrong: it is proved, so it is not by shape" if is_by_shape(edit) else "proved"
+    first = next((line for line in said.splitlines() if re.search(r":\d+:\d+:", line)), "")
+    return "by shape" if is_by_shape(edit) else f"wrong: refused: {first}"
+
+
+def lacking(crate):
+    """The functions with answers and an edit in must-fail/ that have no edit here."""
+    turned = {answered(crate, edit) for edit in crate.glob("must-fail/*.edit")} - {None}
+    return sorted(turned - {answered(crate, edit) for edit in crate.glob("controls/*.edit")})
+
+
+def main(names):
+    names = names or sorted({path.parent.parent.name for path in TOP.glob("crates/*/must-fail/*.edit")})
+    wrong = 0
+    with tempfile.TemporaryDirectory() as room:
+        copied(Path(room))
+        for name in names:
+            crate = Path(room) / "crates" / name
+            if not crate.is_dir():
+                sys.exit(f"no crate {name}")
+            for function in lacking(crate):
+                print(f"{name}: {function} has answers and no edit of equal meaning", flush=True)
+                wrong += 1
+            for edit in sorted(crate.glob("controls/*.edit")):
+                came = tried(crate, edit)
+                print(f"{name}/{edit.name}: {came}", flush=True)
+                wrong += came.startswith("wrong")
+    if wrong:
+        sys.exit(f"{wrong} not as they should be")
+
+
+if __name__ == "__main__":
+    main(sys.argv[1:])

@@ -1,0 +1,134 @@
+#!/usr/bin/env python3
+"""Writes into docs/WRONG_BODIES.md which clause refuses each edit, as `rt must-fail` says.
+
+    python3 scripts/refusals.py CRATE..           (runs `rt must-fail CRATE..`)
+    python3 scripts/refusals.py --from FILE       (reads what `rt must-fail` wrote, in place of running it)
+    python3 scripts/refusals.py --check ..        (changes nothing, and fails where the page says something else)
+
+A refusal is by shape where the prover only misses a step that the hand-written answers (`proofs/**/Answers.antt`) name, or
+where it stands in such answers and there is no edit of equal meaning that is proved over them (`controls/`). The last line
+counts. Needs `rt` but with --from.
+"""
+import re
+import subprocess
+import sys
+
+from answers import TOP, answers
+from controls import answered, is_by_shape
+
+PAGE = TOP / "docs" / "WRONG_BODIES.md"
+SAID = re.compile(r"must-fail (\w+)/([\w.-]+)\.edit: (.*)")
+SHAPE = "by shape"
+
+
+def clauses(crate, function):
+    """The names of a function's clauses, None for one without a name, as its file of code has them."""
+    *modules, name = function.split("::")
+    for end in range(len(modules), -1, -1):
+        path = crate / "src" / ("/".join(modules[:end]) + ".rt" if end else "lib.rt")
+        head = re.search(rf"^[^\n/]*\bfn {name}\b.*?\{{$", path.read_text(), flags=re.M | re.S) if path.exists() else None
+        if head:
+            return [found or None for found in re.findall(r"\bensures\s*(\w*)\s*\{", head[0])]
+    return []
+
+
+def function_at(crate, path, line):
+    """The function that a line of code stands in, by its module and name."""
+    lines = (crate / path).read_text().splitlines()
+    while lines[line - 1].strip().startswith("#"):
+        line += 1
+    names = [match[1] for text in lines[:line] if (match := re.match(r"\s*(?:pub(?:\([^)]*\))? )?(?:const )?fn (\w+)", text))]
+    module = path.removeprefix("src/").removesuffix(".rt").replace("/", "::")
+    return "::".join([module, *names[-1:]]).removeprefix("lib::")
+
+
+def clause_of(crate, function, goal):
+    """What a goal is about, in words. Its name may be cut off at its end."""
+    names = clauses(crate, function)
+    if match := re.search(r"-clause-(\w+)$", goal):
+        whole = [name for name in names if name and name.startswith(match[1])]
+        return f"`{whole[0] if len(whole) == 1 else match[1]}`"
+    if goal.startswith("invariant_of-"):
+        return "the invariant of its type"
+    if re.match(r"loop-.*-(preserved|entered|entry)", goal):
+        return "the invariant of its loop"
+    if match := re.match(r"(.*)-requires", goal):
+        return f"what `{re.sub(r'-.*', '', match[1])}` requires"
+    if goal.startswith("returns"):
+        return f"`{names[0]}`" if len(names) == 1 and names[0] else "its clause" if len(names) < 2 else "its clauses"
+    return f"`{goal}`"
+
+
+def is_proved_over(crate, function):
+    """Whether an edit of equal meaning is proved over the answers of this function."""
+    edits = [edit for edit in crate.glob("controls/*.edit") if answered(crate, edit) == function]
+    return any(not is_by_shape(edit) for edit in edits)
+
+
+def reason(crate, edit, said):
+    """What refused an edit: a clause, or its shape; None where it was not refused or nothing tells what refused it."""
+    if not said.startswith("refused, as it must be"):
+        return None
+    if "only because a proof file names" in said:
+        return SHAPE
+    goal = re.search(r"\(`([^`]+)(?:`|$)|error: `([^`]+)`", said)
+    of_answers = re.search(r"proofs/([\w/+]+)/Answers\.antt:", said)
+    of_code = re.search(r"(src/[\w/]+\.rt):(\d+):", said)
+    if not goal or not (of_answers or of_code):
+        return None
+    if of_answers:
+        function = of_answers[1].replace("/", "::")
+        if not is_proved_over(crate, function):
+            return SHAPE
+    else:
+        function = function_at(crate, of_code[1], int(of_code[2]))
+    name = function.split("::")[-1]
+    clause = clause_of(crate, function, goal[1] or goal[2])
+    own = re.search(rf"(^|_){name}$", edit.partition("-")[0])
+    return clause if own else re.sub(r"\bits (?!type)", "the ", clause) + f" of `{name}`"
+
+
+def written(page, reasons):
+    """The page with the reason at the end of each edit's line that has one here."""
+    lines, crate = [], ""
+    for line in page.splitlines():
+        crate = (re.match(r"## `(\w+)`", line) or [None, crate])[1]
+        edit = re.match(r"- `([^`]+)`: ", line)
+        if edit and (crate, edit[1]) in reasons:
+            line = re.sub(r" Refused by (?:[^.`]|`[^`]*`)*\.$", "", line)
+            line += f" Refused by {reasons[crate, edit[1]].removeprefix('by ')}."
+        lines.append(line)
+    return "\n".join(lines) + "\n"
+
+
+def main(words):
+    checks = "--check" in words
+    words = [word for word in words if word != "--check"]
+    if words[:1] == ["--from"]:
+        said = open(words[1]).read()
+    elif words:
+        said = subprocess.run(["rt", "must-fail", *words], cwd=TOP, stdin=subprocess.DEVNULL, capture_output=True, text=True).stdout
+    else:
+        sys.exit(__doc__)
+    reasons, unknown = {}, []
+    for crate, edit, text in SAID.findall(said):
+        why = reason(TOP / "crates" / crate, edit, text)
+        if why:
+            reasons[crate, edit] = why
+        else:
+            unknown.append(f"{crate}/{edit}: {text[:200]}")
+    page = PAGE.read_text()
+    now = written(page, reasons)
+    if not checks:
+        PAGE.write_text(now)
+    elif now != page:
+        differ = [f"- {a}\n+ {b}" for a, b in zip(page.splitlines(), now.splitlines()) if a != b]
+        sys.exit("docs/WRONG_BODIES.md differs:\n" + "\n".join(differ))
+    shapes = sum(why == SHAPE for why in reasons.values())
+    print("\n".join([*unknown, f"{len(reasons) - shapes} by a clause, {shapes} by shape, {len(unknown)} not known"]))
+    if unknown or not reasons:
+        sys.exit(1)
+
+
+if __name__ == "__main__":
+    main(sys.argv[1:])

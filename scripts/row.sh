@@ -1,0 +1,33 @@
+#!/bin/sh
+# Runs a program of rows without any proof: all its rows, those of one table, or one row. Each row that differs is named,
+# and where it has a text the first line that differs. The exit status is 0 where rows ran and none differs.
+#
+#     scripts/row.sh CRATE [TABLE [ROW]]
+#     scripts/row.sh --write CRATE
+#
+# CRATE is yaml_rows, line_rows or hostile_rows; the names of tables are those that it prints. With --write all rows run,
+# and where none differs what the program printed, the counts of its tables, becomes its `stdout`. Unproved, a program runs
+# with checks that make it many times slower: of line_rows and hostile_rows ask for a table. Proved and built, they run by
+# `rt run -- [TABLE [ROW]]` in their folder.
+set -u
+cd "$(dirname "$0")/../crates" || exit 2
+write=no
+[ "${1-}" != --write ] || { write=yes; shift; }
+crate=${1:-none}
+[ -d "$crate/data" ] || { echo 'usage: scripts/row.sh CRATE [TABLE [ROW]] | --write CRATE; no such program of rows' >&2; exit 2; }
+shift
+cd "$crate" || exit 2
+
+# The files of `data` go where the program runs; none of their names has a space.
+files=$(cd data && find . -type f | sed 's|^\./||; s|.*|--data &=data/&|')
+out=$(mktemp) || exit 2
+trap 'rm -f "$out"' EXIT
+# shellcheck disable=SC2086
+rt try --seconds 600 $files -- "$@" >"$out"
+ended=$?
+cat "$out"
+[ "$ended" = 0 ] || exit "$ended"
+if [ $write = yes ]; then
+    cp "$out" stdout
+    git diff --stat -- stdout
+fi

@@ -1,0 +1,79 @@
+#!/bin/sh
+# Tries scripts/vendor.sh on a project of its own: crates added, added to, updated, and what it refuses. The exit status is 1
+# where one does something else than vendor.sh says.
+#
+#     sh scripts/vendor_checks.sh
+set -u
+cd "$(dirname "$0")/.." || exit 2
+work=$(mktemp -d) || exit 2
+trap 'rm -rf "$work"' EXIT
+project=$work/project
+types=$project/crates/libyaml_types
+wrong=0
+
+complain() {
+    echo "wrong: $*"
+    cat "$work/said"
+    wrong=$((wrong + 1))
+}
+
+# Runs vendor.sh with these words: its exit status, and how many crates it says that it added and updated.
+expect() {
+    status=$1 added=$2 updated=$3
+    shift 3
+    sh scripts/vendor.sh "$@" > "$work/said" 2>&1
+    got="$? $(grep -c ': added$' "$work/said") $(grep -c '^[a-z_]*: updated$' "$work/said")"
+    [ "$got" = "$status $added $updated" ] || complain "vendor.sh $*: status, added and updated are $got, not $status $added $updated"
+}
+
+# A refusal names what it is about, and changes nothing.
+refuse() {
+    word=$1
+    shift
+    cp -R "$project" "$work/before"
+    expect 1 0 0 "$@"
+    grep -q "$word" "$work/said" || complain "it does not name $word"
+    diff -r "$work/before" "$project" > /dev/null || complain "what is refused changes the project"
+    rm -r "$work/before"
+}
+
+# Whether the project has the crates as they are here, and each line of crates.txt once.
+is_whole() {
+    for crate in "$project"/crates/*; do
+        name=${crate##*/}
+        [ "$name" = mine ] && continue
+        diff -r -x out -x must-fail -x controls -x LICENSE "crates/$name" "$crate" > /dev/null || complain "$name is not as it is here"
+        [ "$(grep -c "^${name}[: ]" "$project/crates.txt")" = 1 ] || complain "$name stands in crates.txt another number of times"
+        grep -qxF "$(grep "^${name}[: ]" crates.txt)" "$project/crates.txt" || complain "$name has another line in crates.txt"
+    done
+    grep -qx 'mine: unsafe_libyaml' "$project/crates.txt" || complain "the project's own line is lost"
+}
+
+mkdir -p "$project/crates/mine"
+echo 'mine: unsafe_libyaml' > "$project/crates.txt"
+: > "$work/said"
+expect 2 0 0
+expect 2 0 0 "$work/nowhere"
+expect 1 0 0 .
+refuse no_such_crate "$project" no_such_crate
+below=$(grep '^unsafe_libyaml:' crates.txt | wc -w)
+expect 0 "$below" 0 "$project"
+is_whole
+expect 0 1 0 "$project" yaml_path
+is_whole
+expect 0 0 0 "$project"
+
+# As if an earlier state of this repository had been copied, and checked there.
+mkdir "$types/out" && touch "$types/out/kept" "$types/src/gone.rt"
+echo '// earlier' >> "$types/src/lib.rt"
+sed -i 's/^libyaml_types:.*/libyaml_types: thiserror/' "$project/crates.txt"
+refuse libyaml_types "$project"
+now=$(cd "$types" && find LICENSE README.md src specs proofs -type f -print0 | LC_ALL=C sort -z | xargs -0 sha256sum | sha256sum | cut -d ' ' -f 1)
+sed -i "s/^libyaml_types .*/libyaml_types $now/" "$project/vendored.txt"
+expect 0 0 1 "$project"
+is_whole
+[ -e "$types/out/kept" ] || complain "kept work is lost"
+
+mkdir "$project/crates/token_lines" && refuse token_lines "$project" token_lines
+echo "$wrong wrong"
+[ "$wrong" = 0 ]
