@@ -1,0 +1,242 @@
+#!/usr/bin/env python3
+"""measure.py DIR [--clock] [--out FIGURES] KIND..: what a token takes in each list of DIR, and a line of the program.
+
+DIR has the lists of lists.py and the programs `bench_lists`, `yamltokens`, `libyaml`, `libyaml_lines` and, maybe,
+`unsafe_libyaml`. KIND is a kind of list, `growth` or `program`. Instructions are counted by valgrind's callgrind: of a list, the
+difference of two runs that differ in their rounds alone. All programs must agree in their counts and checksums.
+`--clock` takes the time too, the programs in turn; FIGURES is written for chart.py. $JOBS runs go on at a time (2)."""
+import json
+import math
+import os
+import re
+import statistics
+import subprocess
+import sys
+import time
+from concurrent.futures import ThreadPoolExecutor
+
+from lists import GROWING, KINDS
+
+# Each measure of a list: its program, and the word of its work there.
+MEASURES = {
+    "libyaml events": ("libyaml", "events"),
+    "unsafe events": ("unsafe_libyaml", "events"),
+    "place events": ("bench_lists", "place-events"),
+    "list events": ("bench_lists", "list-events"),
+    "push events": ("bench_lists", "push-events"),
+    "list alone": ("bench_lists", "list-tokens"),
+    "floor events": ("libyaml", "floor-events"),
+    "libyaml nodes": ("libyaml", "nodes"),
+    "unsafe nodes": ("unsafe_libyaml", "nodes"),
+    "place nodes": ("bench_lists", "place-nodes"),
+    "list nodes": ("bench_lists", "list-nodes"),
+    "floor nodes": ("libyaml", "floor-nodes"),
+}
+# The columns of a table: their heads, and the measures below them.
+EVENTS = {
+    "libyaml": "libyaml events",
+    "`unsafe-libyaml`": "unsafe events",
+    "ours, in place": "place events",
+    "over a list": "list events",
+    "pushed": "push events",
+    "the list alone": "list alone",
+    "floor": "floor events",
+}
+NODES = {
+    "libyaml": "libyaml nodes",
+    "`unsafe-libyaml`": "unsafe nodes",
+    "ours, in place": "place nodes",
+    "over a list": "list nodes",
+    "floor": "floor nodes",
+}
+MEASURED_TOKENS = 40000
+CLOCKED_TOKENS = 1000000
+PAIRS = 15
+
+
+class Failed(Exception):
+    """A program or a tool failed, or two programs disagree."""
+
+
+def run(words, path):
+    """What a command writes of a file on its standard input, and the other things that it says."""
+    with open(path, "rb") as lines:
+        done = subprocess.run(words, stdin=lines, stdout=subprocess.PIPE, stderr=subprocess.PIPE, check=False)
+    if done.returncode != 0:
+        said = done.stderr.decode(errors="replace").strip()
+        raise Failed(f"{' '.join(words)} < {path}: status {done.returncode}: {said}")
+    return done.stdout, done.stderr.decode(errors="replace")
+
+
+def instructions(words, path):
+    """How many instructions a command takes, and what it writes."""
+    written, said = run(["valgrind", "--tool=callgrind", "--callgrind-out-file=/dev/null"] + words, path)
+    count = re.search(r"Collected : (\d+)", said)
+    if count is None:
+        raise Failed(f"{' '.join(words)}: valgrind counted nothing")
+    return int(count.group(1)), written
+
+
+class Bench:
+    """The programs and the lists of a folder."""
+
+    def __init__(self, directory):
+        self.directory = directory
+
+    def program(self, name):
+        return os.path.join(self.directory, name)
+
+    def has(self, name):
+        return os.path.exists(self.program(name))
+
+    def tokens(self, kind):
+        return os.path.join(self.directory, kind + ".tokens")
+
+    def token_count(self, kind):
+        with open(self.tokens(kind), encoding="ascii") as lines:
+            return sum(1 for _ in lines)
+
+    def measure(self, kind, measure):
+        """Instructions a token, and the count and checksum of a round; None for the one program that may be missing."""
+        name, work = MEASURES[measure]
+        if name == "unsafe_libyaml" and not self.has(name):
+            return None
+        count, path = self.token_count(kind), self.tokens(kind)
+        few = max(2, math.ceil(MEASURED_TOKENS / 4 / count))
+        more = few + max(2, math.ceil(MEASURED_TOKENS / count))
+        first, _ = instructions([self.program(name), work, str(few)], path)
+        last, written = instructions([self.program(name), work, str(more)], path)
+        word, items, checksum, counted = written.split()
+        if word.decode() != work or int(counted) != more * int(items):
+            raise Failed(f"{name} {work} of {kind} wrote {written!r}")
+        return (last - first) / (more - few) / count, (int(items), int(checksum))
+
+    def check(self, kind, measured):
+        """Raises where two programs disagree about the events or the nodes of a list."""
+        for what in ("events", "nodes"):
+            seen = {m: r[1] for m, r in measured.items() if r is not None and m.endswith(what)}
+            if len(set(seen.values())) != 1:
+                raise Failed(f"{kind}: the programs disagree about its {what}: {seen}")
+
+    def lines(self, what):
+        """Instructions of the program and of libyaml over the program's lines; their output is the same."""
+        path = self.tokens("program")
+        ours, written = instructions([self.program("yamltokens"), what], path)
+        theirs, other = instructions([self.program("libyaml_lines"), what], path)
+        if written != other:
+            raise Failed(f"yamltokens and libyaml_lines write different {what}")
+        return ours, theirs
+
+    def seconds(self, words, path):
+        start = time.perf_counter()
+        run(words, path)
+        return time.perf_counter() - start
+
+    def pairs(self, ours, theirs, path):
+        """The median times of two commands run in turn, and the median of the ratios of a turn."""
+        times = []
+        for turn in range(PAIRS):
+            if turn % 2 == 0:
+                times.append((self.seconds(ours, path), self.seconds(theirs, path)))
+            else:
+                other = self.seconds(theirs, path)
+                times.append((self.seconds(ours, path), other))
+        medians = [statistics.median(column) for column in zip(*times)]
+        return medians[0], medians[1], statistics.median(b / a for a, b in times)
+
+    def clock(self, kind, what):
+        rounds = str(math.ceil(CLOCKED_TOKENS / self.token_count(kind)))
+        ours = [self.program("bench_lists"), "place-" + what, rounds]
+        return self.pairs(ours, [self.program("libyaml"), what, rounds], self.tokens(kind))
+
+
+def shown(measured, measure):
+    result = measured[measure]
+    return "missing" if result is None else f"{result[0]:,.1f}"
+
+
+def print_table(what, columns, figures):
+    print(f"\n| {what} | " + " | ".join(columns) + " |")
+    print("|---|" + "---|" * len(columns))
+    for kind, measured in figures.items():
+        print(f"| {KINDS[kind]} | " + " | ".join(shown(measured, m) for m in columns.values()) + " |")
+
+
+def measure_lists(bench, kinds):
+    """The measures of each kind."""
+    jobs = [(kind, measure) for kind in kinds for measure in MEASURES]
+    with ThreadPoolExecutor(int(os.environ.get("JOBS", "2"))) as pool:
+        results = list(pool.map(lambda job: bench.measure(*job), jobs))
+    figures = {kind: {} for kind in kinds}
+    for (kind, measure), result in zip(jobs, results):
+        figures[kind][measure] = result
+    for kind in kinds:
+        bench.check(kind, figures[kind])
+    return figures
+
+
+def print_growth(bench):
+    """Instructions a token of lists that have ten times as many tokens."""
+    print("\n| list | tokens | events, instructions a token | nodes, instructions a token |\n|---|---|---|---|")
+    for kind, title in GROWING.items():
+        few, many = kind + "-few", kind + "-many"
+        cells = [f"{bench.token_count(few):,}, {bench.token_count(many):,}"]
+        for measure in ("place events", "place nodes"):
+            first, last = (bench.measure(list_, measure)[0] for list_ in (few, many))
+            cells.append(f"{first:,.1f}, {last:,.1f}")
+        print(f"| {title} | " + " | ".join(cells) + " |")
+
+
+def print_program(bench):
+    count = bench.token_count("program")
+    print(f"\n| over {count:,} lines | instructions | a line | libyaml's are |\n|---|---|---|---|")
+    for what in ("events", "nodes"):
+        ours, theirs = bench.lines(what)
+        print(f"| `yamltokens {what}` | {ours / 1e6:.1f} million | {ours / count:,.0f} | {theirs / ours:.2f} times as many |")
+        print(f"| libyaml | {theirs / 1e6:.1f} million | {theirs / count:,.0f} | |")
+
+
+def print_clock(bench, kinds, program):
+    print("\n| by the clock | ours | libyaml | median of the ratios |\n|---|---|---|---|")
+    for what in ("events", "nodes"):
+        for kind in kinds:
+            ours, theirs, ratio = bench.clock(kind, what)
+            print(f"| {KINDS[kind]}, {what} | {ours:.3f} s | {theirs:.3f} s | {ratio:.2f} |")
+        if program:
+            words = [[bench.program("yamltokens"), what], [bench.program("libyaml_lines"), what]]
+            ours, theirs, ratio = bench.pairs(*words, bench.tokens("program"))
+            print(f"| `yamltokens {what}` | {ours:.3f} s | {theirs:.3f} s | {ratio:.2f} |")
+
+
+def main():
+    words = sys.argv[1:]
+    clock = "--clock" in words
+    out = words[words.index("--out") + 1] if "--out" in words else None
+    words = [word for word in words if word not in ("--clock", "--out", out)]
+    growth, program = "growth" in words, "program" in words
+    kinds = [kind for kind in KINDS if kind in words[1:]]
+    if len(words) != 1 + len(kinds) + growth + program or len(words) == 1:
+        sys.exit(f"usage: measure.py DIR [--clock] [--out FIGURES] KIND..: of {' '.join(KINDS)} growth program")
+    bench = Bench(words[0])
+    if kinds:
+        if not bench.has("unsafe_libyaml"):
+            print("The column of `unsafe-libyaml` is missing: UNSAFE_LIBYAML names no sources, or rustc is missing.")
+        figures = measure_lists(bench, kinds)
+        print_table("events, instructions a token", EVENTS, figures)
+        print_table("nodes, instructions a token", NODES, figures)
+        if out is not None:
+            with open(out, "w", encoding="ascii") as written:
+                json.dump({k: {m: r and r[0] for m, r in v.items()} for k, v in figures.items()}, written)
+    if growth:
+        print_growth(bench)
+    if program:
+        print_program(bench)
+    if clock:
+        print_clock(bench, kinds, program)
+
+
+if __name__ == "__main__":
+    try:
+        main()
+    except (Failed, OSError) as failure:
+        sys.exit(f"measure.py: {failure}")

@@ -1,0 +1,60 @@
+#!/bin/sh
+# Prints the tables of docs/PERFORMANCE.md, and draws docs/performance.svg:
+#
+#     sh bench/run.sh [clock] [KIND..]
+#
+# KIND is a kind of list that bench/lists.py names, `growth` or `program`; without one all are measured, and only then
+# the drawing is made. `clock` takes the time too: let nothing else run. UNSAFE_LIBYAML=DIR is the folder of the Rust
+# crate, version 0.2.11, with its src; without it that column is missing. Debian has it from release 13 on, as
+# librust-unsafe-libyaml-dev in /usr/share/cargo/registry. BENCH_LISTS and YAMLTOKENS may name programs that are built
+# already, as earlier builds. JOBS=N counts go on at a time (2).
+#
+# Needs the kit, valgrind, a C compiler, Python, Debian's libyaml-dev, and rustc for the Rust crate. The first run proves
+# the crates. Fails where a tool, a program or a peer fails, or where two of them disagree.
+set -eu
+top=$(CDPATH='' cd -- "$(dirname -- "$0")/.." && pwd)
+work=$(mktemp -d)
+trap 'rm -rf "$work"' EXIT
+export PYTHONDONTWRITEBYTECODE=1
+
+clock=
+if [ "${1-}" = clock ]; then
+    clock=--clock
+    shift
+fi
+for tool in rt valgrind python3 "${CC:=cc}"; do
+    command -v "$tool" > /dev/null || { echo "run.sh: $tool is missing" >&2; exit 1; }
+done
+
+# build CRATE PROGRAM WORD..: proves and builds a program of the repository, unless PROGRAM is built already.
+build() {
+    crate=$1 built=$2
+    shift 2
+    if [ -z "$built" ]; then
+        built=$top/crates/$crate/out/$crate
+        (cd "$top/crates/$crate" && rt run -- "$@" < "$top/examples/list.tokens") > "$work/log" 2>&1 ||
+            { tail -n 5 "$work/log" >&2; exit 1; }
+    fi
+    cp "$built" "$work/$crate"
+}
+
+build bench_lists "${BENCH_LISTS-}"
+build yamltokens "${YAMLTOKENS-}" events
+cd "$top/bench"
+flags='-std=gnu11 -O2 -Wall -Wextra'
+"$CC" $flags -c -o "$work/read_tokens.o" read_tokens.c
+"$CC" $flags -o "$work/libyaml" libyaml.c "$work/read_tokens.o" -Wl,-Bstatic -lyaml -Wl,-Bdynamic
+"$CC" $flags -o "$work/libyaml_lines" libyaml_lines.c -Wl,-Bstatic -lyaml -Wl,-Bdynamic
+if [ -n "${UNSAFE_LIBYAML-}" ] && command -v rustc > /dev/null; then
+    rustc --edition 2021 -O -C codegen-units=1 -C panic=abort -o "$work/unsafe_libyaml" unsafe_libyaml.rs \
+        -C link-arg="$work/read_tokens.o" -C link-arg=-lyaml
+fi
+python3 lists.py "$work"
+
+if [ $# -gt 0 ]; then
+    python3 measure.py "$work" $clock "$@"
+else
+    kinds=$(python3 -c 'import lists; print(*lists.KINDS)')
+    python3 measure.py "$work" $clock --out "$work/figures" $kinds growth program
+    python3 chart.py "$work/figures" "$top/docs/performance.svg"
+fi
