@@ -38,7 +38,7 @@
  * `wanted` of its own.
  *
  * Link `libtoken_lines.a` or `libtoken_lines.so`, which scripts/build_c.sh makes of `crates/token_lines_c` and the
- * toolchain's allocator: they need nothing but the C library, and hand out no names but these two functions.
+ * toolchain's allocator: they need nothing but the C library, and export no symbols but these two functions.
  *
  * What the library does is proved; that the caller keeps to this is not:
  *
@@ -61,7 +61,7 @@ extern "C" {
 enum {
     TOKEN_LINES_ENDED = 0,     /* the run went to its end */
     TOKEN_LINES_FAULTED = 1,   /* the last of its bytes are the text of a fault */
-    TOKEN_LINES_NO_MEMORY = 2, /* an allocation failed: its bytes are the text of that fault alone */
+    TOKEN_LINES_NO_MEMORY = 2  /* an allocation failed: its bytes are the text of that fault alone */
 };
 
 /* The lines of the events. */

@@ -25,7 +25,8 @@ the parser and the composer counts. Marks are index, line and column in characte
 stands. It is told in words on standard error too, with line and column from 1.
 
 exit status: 0 the text was read to its end, 1 it has a fault, 2 wrong words, 3 anything else (as a file that is not
-there, output that failed, no PyYAML or refused memory), 130 interrupted. Each but 0 comes with one message.
+there, output that failed, no PyYAML, or out of memory), 130 interrupted. Every status but 0 comes with one line on
+standard error.
 """
 
 if sys.version_info < (3, 8):
@@ -46,6 +47,7 @@ SMALL = [str(number) for number in range(1000)]
 TOKENS_AT_ONCE = 2048
 BYTES_AT_ONCE = 1 << 16
 LONGEST_FAULT = 4096
+HOW_TO_BUILD = "(cd crates/yamltokens && rt run -- events) < examples/list.tokens"
 NO_MEMORY = 2
 NO_LIMIT = (1 << 64) - 1
 
@@ -167,6 +169,9 @@ class Program:
         try:
             self.process = subprocess.Popen([self.path, mode], bufsize=0, stdin=pipe, stdout=pipe,
                                             stderr=subprocess.DEVNULL)
+        except FileNotFoundError as error:
+            failure = Failure.of("cannot run %s" % self.path, error)
+            raise failure if path else Failure("%s; to build it: %s" % (failure, HOW_TO_BUILD))
         except OSError as error:
             raise Failure.of("cannot run %s" % self.path, error)
         self.into, self.out = self.process.stdin.fileno(), self.process.stdout.fileno()
@@ -312,7 +317,7 @@ class Scanner:
                 kind = type(token)
                 name, fields, is_point = forms.get(kind) or self.directive(token)
                 place = token.start_mark
-                if place.index != index:
+                if place.index != index or place.line != line:
                     index, column = place.index, place.column
                     if place.line != line:
                         line = place.line
@@ -321,7 +326,7 @@ class Scanner:
                 start = mark
                 if not is_point:
                     place = token.end_mark
-                    if place.index != index:
+                    if place.index != index or place.line != line:
                         index, column = place.index, place.column
                         if place.line != line:
                             line = place.line

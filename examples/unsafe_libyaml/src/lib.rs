@@ -1,0 +1,107 @@
+//! `unsafe-libyaml` with this parser and loader in place of its own: its scanner, emitter, types and memory stay.
+//!
+//! A project that uses `unsafe-libyaml`, as by `serde_yaml`, takes it by two lines of its `Cargo.toml`:
+//!
+//! ```toml
+//! [patch.crates-io]
+//! unsafe-libyaml = { path = "PATH/examples/unsafe_libyaml" }
+//! ```
+//!
+//! The original is taken from the folder `original` of this crate, a link or a copy that is made once:
+//!
+//! ```sh
+//! ln -s ~/.cargo/registry/src/*/unsafe-libyaml-0.2.11 PATH/examples/unsafe_libyaml/original
+//! ```
+//!
+//! The environment's `TOKEN_LINES_LIB` names the folder of `libtoken_lines.a`, which scripts/build_c.sh makes.
+//!
+//! [`yaml_parser_parse`], [`yaml_parser_load`] and [`yaml_parser_delete`] are replaced. What a parser needs here is kept by
+//! the `yaml_parser_t` itself, in `problem_offset` while there is no error: so it may be moved and deleted as before, at
+//! any time, and two parsers share nothing.
+//!
+//! What is other than in the original, beside docs/DIFFERENCES.md:
+//!
+//! - The first call reads the stream to its end: memory is that of all tokens.
+//! - A failed allocation of the library is the fault `YAML_MEMORY_ERROR`; one of Rust's ends the process, as there.
+//! - A tag, an anchor, an alias or a tag directive that makes a line of more than 1,048,576 bytes, or that isn't UTF-8, is
+//!   the scanner's fault `line too long` or `bad token line`, with the mark of its token. A scalar's value has 2147483647
+//!   bytes at most, or else the scanner's fault `scalar too long` comes.
+//! - A parser parses or loads. The other call is the parser's fault `parse and load by one parser`.
+//! - A load after a fault fails again with that fault.
+
+#![allow(non_camel_case_types, clippy::missing_safety_doc)]
+
+mod documents;
+mod events;
+mod fields;
+mod run;
+mod tokens;
+
+use run::{Mode, Run};
+use std::ops::Deref;
+use std::ptr;
+
+pub use original::*;
+
+/// Whether a call succeeded.
+#[must_use]
+pub struct Success {
+    pub ok: bool,
+}
+
+/// The opposite of [`Success`], to which that dereferences.
+pub struct Failure {
+    pub fail: bool,
+}
+
+impl Deref for Success {
+    type Target = Failure;
+
+    fn deref(&self) -> &Failure {
+        if self.ok {
+            &Failure { fail: false }
+        } else {
+            &Failure { fail: true }
+        }
+    }
+}
+
+/// Parses the input and produces the next event, as libyaml's `yaml_parser_parse`; after the last, and after a fault, none.
+pub unsafe fn yaml_parser_parse(parser: *mut yaml_parser_t, event: *mut yaml_event_t) -> Success {
+    ptr::write_bytes(event, 0, 1);
+    if run::prefix(parser).error != YAML_NO_ERROR {
+        return Success { ok: true };
+    }
+    let given = Run::of(parser, Mode::Events).and_then(|run| match run {
+        Some(run) => events::next(run, event),
+        None => Ok(true),
+    });
+    Success {
+        ok: run::settle(parser, given),
+    }
+}
+
+/// Loads the next document, as libyaml's `yaml_parser_load`; after the last, one without nodes.
+pub unsafe fn yaml_parser_load(parser: *mut yaml_parser_t, document: *mut yaml_document_t) -> Success {
+    let (none, no_tags) = (ptr::null_mut(), ptr::null_mut());
+    ptr::write_bytes(document, 0, 1);
+    if run::prefix(parser).error != YAML_NO_ERROR {
+        return Success { ok: false };
+    }
+    let given = Run::of(parser, Mode::Nodes).and_then(|run| match run.filter(|run| !run.is_over()) {
+        Some(run) => documents::next(run, document).map(|()| false),
+        None => match yaml_document_initialize(document, none, no_tags, no_tags, false, false).ok {
+            true => Ok(true),
+            false => Err(run::Fault::memory()),
+        },
+    });
+    Success {
+        ok: run::settle(parser, given),
+    }
+}
+
+/// Destroys a parser, as libyaml's `yaml_parser_delete`.
+pub unsafe fn yaml_parser_delete(parser: *mut yaml_parser_t) {
+    run::discard(parser);
+    original::yaml_parser_delete(parser);
+}
