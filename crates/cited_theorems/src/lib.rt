@@ -1,0 +1,15 @@
+//! Theorems that a user's crate states by citing the public ones: each is the contract of a small function, over the
+//! words that `unsafe_libyaml` and `token_lines` pass on, and is proved by a call of the public function.
+#![tactic(auto)]
+
+mod laws;
+mod lines;
+mod loading;
+mod parsing;
+mod runs;
+
+pub use laws::{headline, of_every_history, one_tree};
+pub use lines::{lines_of_reader, texts_of_reader};
+pub use loading::{load_fails_after_parse, next_document, next_load_fails};
+pub use parsing::next_event;
+pub use runs::{all_documents, all_events};
