@@ -33,6 +33,7 @@ layout() {
 }
 
 check python3 scripts/links.py
+check python3 scripts/layers.py
 check python3 scripts/words.py
 check python3 scripts/surface.py
 check python3 scripts/definitions.py --check

@@ -5,7 +5,7 @@
 - a path of this repository, in backticks or in a command, that does not exist (what a build makes is left out);
 - a heading of a page, as in `docs/DEFINITIONS.md, "Runs"`, that it does not have; comments of code are read for these too;
 - a Rust block or a clause of a contract that no file of crates/ or examples/ has word for word;
-- a row of ARCHITECTURE's table of layers, or a line "Stands on" of a crate's README, that is not as crates.txt has it;
+- a line "Stands on" of a crate's README that is not as crates.txt has it;
 - a room of definitions or proofs in ARCHITECTURE that has other files than its folder;
 - an edit that WRONG_BODIES lists and no crate has, or the other way round;
 - a script that CONTRIBUTING doesn't list.
@@ -99,20 +99,8 @@ def missing_blocks(text, code):
 
 def crates_listed():
     """Each crate of crates.txt with the crates that it lists."""
-    lines = [line.split("#")[0].partition(":") for line in (TOP / "crates.txt").read_text().splitlines() if ":" in line]
-    return {name.split()[0]: set(listed.split()) for name, _, listed in lines}
-
-
-def wrong_layers():
-    """Where the table of layers, of this repository's crates, differs from crates.txt; programs of rows have no row each."""
-    listed = crates_listed()
-    rows = re.findall(r"^\| `(\w+)` \| [^|]* \| ([^|]*) \|$", (TOP / "docs" / "ARCHITECTURE.md").read_text(), flags=re.M)
-    shown = {name: set(re.findall(r"`(\w+)`", below)) for name, below in rows}
-    for name in listed:
-        below = listed[name] & set(listed)
-        if shown.pop(name, below if name.startswith("row_") or name.endswith("_rows") else None) != below:
-            yield f"row of {name} in the table of layers: crates.txt has {' '.join(sorted(below)) or 'nothing'}"
-    yield from (f"row of {name} in the table of layers: no such crate" for name in shown)
+    lines = re.findall(r"^(\w+).*:(.*)", (TOP / "crates.txt").read_text(), flags=re.MULTILINE)
+    return {name: set(listed.split()) for name, listed in lines}
 
 
 def wrong_readmes():
@@ -167,7 +155,7 @@ def problems():
         text = page.read_text()
         found = [*broken_links(page, text), *missing_paths(page, text), *missing_headings(text), *missing_blocks(text, code)]
         yield from (f"{page.relative_to(TOP)}: {problem}" for problem in found)
-    yield from (f"docs/ARCHITECTURE.md: {problem}" for problem in [*wrong_layers(), *wrong_rooms()])
+    yield from (f"docs/ARCHITECTURE.md: {problem}" for problem in wrong_rooms())
     yield from [*wrong_readmes(), *wrong_edits(), *unlisted_scripts()]
     for path, text in comments():
         yield from (f"{path.relative_to(TOP)}: {problem}" for problem in missing_headings(text))

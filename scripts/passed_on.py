@@ -14,7 +14,7 @@ from pathlib import Path
 from definitions import ROOT, WORD, closure, imports, read_specs
 
 FACADES = ["unsafe_libyaml", "token_lines"]
-CRATES = [line.split(":")[0].split()[0] for line in (ROOT / "crates.txt").read_text().splitlines() if line.strip()]
+CRATES = re.findall(r"^(\w+).*:", (ROOT / "crates.txt").read_text(), flags=re.MULTILINE)
 ITEM = r"^pub (?:const )?(?:fn|struct|enum|trait|const|type) {}\b"
 REEXPORT = re.compile(r"^pub use ([\w:]+?)(?:::\{([^}]*)\})?(?: as (\w+))?;", re.MULTILINE)
 

@@ -60,8 +60,7 @@ def items_of(path):
 
 def crates():
     """The folders of crates.txt, in its order."""
-    lines = (TOP / "crates.txt").read_text().splitlines()
-    return [line.split(":")[0].split()[0] for line in lines if ":" in line]
+    return re.findall(r"^(\w+).*:", (TOP / "crates.txt").read_text(), flags=re.MULTILINE)
 
 
 def root(crate):

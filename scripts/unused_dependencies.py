@@ -13,7 +13,7 @@ TOP = Path(__file__).resolve().parent.parent
 def lines():
     """Pairs of a crate and the crates that its line lists."""
     for line in (TOP / "crates.txt").read_text().splitlines():
-        name, colon, listed = line.partition(":")
+        name, colon, listed = line.partition("#")[0].partition(":")
         if colon:
             yield name.split()[0], listed.split()
 

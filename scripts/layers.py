@@ -1,0 +1,74 @@
+#!/usr/bin/env python3
+"""Draws the layers of crates.txt at the head of docs/ARCHITECTURE.md, and writes the last column of its table.
+
+    python3 scripts/layers.py           fails where the picture or a row is not as crates.txt has it
+    python3 scripts/layers.py --write   writes both
+
+Both have what a crate needs directly: crates that one of these needs itself are left out, and so are the kit's crates. The
+picture leaves out examples, tests and the bench, which are the last two layers.
+"""
+import re
+import sys
+from pathlib import Path
+
+TOP = Path(__file__).resolve().parent.parent
+PAGE = TOP / "docs" / "ARCHITECTURE.md"
+PICTURE = re.compile(r"^```mermaid\n.*?^```\n", re.MULTILINE | re.DOTALL)
+ROW = re.compile(r"^\| `(\w+)` \| ([^|]*) \| ([^|]*) \|$", re.MULTILINE)
+
+
+def layers():
+    """The title of each layer, and its crates, each with the crates of this repository that it lists."""
+    found = []
+    for line in (TOP / "crates.txt").read_text().splitlines():
+        if line.startswith("#"):
+            found.append((re.match(r"# ([^:.]*)", line)[1], {}))
+        elif ":" in line:
+            name, _, listed = line.partition(":")
+            found[-1][1][name.split()[0]] = listed.split()
+    crates = {name for _, layer in found for name in layer}
+    return [(title, {name: set(listed) & crates for name, listed in layer.items()}) for title, layer in found if layer]
+
+
+def direct(listed):
+    """Of each crate's list, those that no other crate of the list needs."""
+    def needs(name):
+        return set().union(*({below} | needs(below) for below in listed[name]))
+
+    return {name: below - set().union(*map(needs, below)) for name, below in listed.items()}
+
+
+def picture(found, needed):
+    lines = ["```mermaid", "flowchart BT"]
+    for number, (title, layer) in enumerate(found[:-2]):
+        lines += [f'    subgraph layer{number}["{title}"]', *(f"        {name}" for name in layer), "    end"]
+    lines += [f"    {name} --> {below}" for _, layer in found[:-2] for name in layer for below in sorted(needed[name])]
+    return "\n".join([*lines, "```", ""])
+
+
+def main():
+    found = layers()
+    needed = direct({name: below for _, layer in found for name, below in layer.items()})
+    text = PAGE.read_text()
+    rows = {name for name, _, _ in ROW.findall(text)}
+    tests = {name for name in needed if name.startswith("row_") or name.endswith("_rows")}
+    wrong = [f"{PAGE.name}: no row of {name}" for name in needed if name not in rows | tests]
+
+    def row(match):
+        name, says, below = match.groups()
+        if name in needed:
+            below = " ".join(f"`{other}`" for other in sorted(needed[name])) or "nothing"
+        return f"| `{name}` | {says} | {below} |"
+
+    head, table, rest = text.partition("| crate | what it does | depends on |\n")
+    rows_text, gap, rest = rest.partition("\n\n")
+    made = PICTURE.sub(lambda _: picture(found, needed), head) + table + ROW.sub(row, rows_text) + gap + rest
+    if "--write" in sys.argv[1:]:
+        PAGE.write_text(made)
+    elif made != text:
+        wrong.append(f"{PAGE.name}: the layers are not as crates.txt has them; run python3 scripts/layers.py --write")
+    print("\n".join(wrong), end="\n" if wrong else "")
+    return 1 if wrong else 0
+
+
+sys.exit(main())
