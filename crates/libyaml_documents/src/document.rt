@@ -21,7 +21,7 @@ pub use initialize::yaml_document_initialize;
 use libyaml_types::{yaml_mark_t, yaml_tag_directive_t, yaml_version_directive_t};
 use std::marker::Model;
 
-/// A document: nodes, which are named by ids from 1 on, and the fields of its start and end.
+/// A document: its nodes, which ids from 1 on name, and the fields of its start and end.
 ///
 /// Every id in the items and pairs of its nodes names one of its nodes.
 ///

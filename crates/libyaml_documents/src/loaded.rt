@@ -18,7 +18,11 @@ use libyaml_types::{
 use std::alloc::{AllocError, Global};
 use std::mem;
 
-/// Returns the tag of a loaded node: the given one, moved out, but `default` where none is given, or `!`.
+/// Returns the tag of a loaded node: the given one, moved out, or `default` where none is given, or `!`.
+///
+/// # Errors
+///
+/// `AllocError` where the copy of `default` can't be allocated; `tag` is then as it was.
 #[inline(always)]
 fn tag_of(alloc: Global, tag: &mut Option<String>, default: &str) -> Result<String, AllocError>
     ensures ok { IfOk result (λ text. string_bytes text
@@ -32,8 +36,12 @@ fn tag_of(alloc: Global, tag: &mut Option<String>, default: &str) -> Result<Stri
     }
 }
 
-/// Returns the given tag, moved out, or the default one in place of `!`. A function of its own, for few nodes
-/// have a tag.
+/// Returns the given tag, moved out, or the default one in place of `!`. It is a function of its own since
+/// few nodes have a tag.
+///
+/// # Errors
+///
+/// `AllocError` where the copy of `default` can't be allocated; `tag` is then as it was.
 #[inline(never)]
 fn given_tag(alloc: Global, tag: &mut String, default: &str) -> Result<String, AllocError>
     ensures ok { IfOk result (λ text. string_bytes text
@@ -88,8 +96,8 @@ pub fn scalar_of_event(
     })
 }
 
-/// Returns the node, without items, of a sequence whose start event is at these marks. Its tag is moved out of
-/// the event. Its end mark is to be set when the sequence ends.
+/// Returns the node, without items, of a sequence whose start event is at these marks. Its tag is moved out
+/// of the event. Its end mark is to be set when the sequence ends.
 ///
 /// Without a tag, or with `!`, its tag is `tag:yaml.org,2002:seq`, and only then it allocates.
 ///

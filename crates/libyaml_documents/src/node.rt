@@ -15,7 +15,9 @@ use std::marker::Model;
 /// libyaml: `unnamed_yaml_node_t_data_scalar`.
 #[derive(Debug, Drop)]
 pub struct unnamed_yaml_node_t_data_scalar {
+    /// The text.
     pub value: String,
+    /// How it is written.
     pub style: yaml_scalar_style_t,
 }
 
@@ -55,7 +57,9 @@ impl Eq for unnamed_yaml_node_t_data_scalar {
 /// libyaml: `unnamed_yaml_node_t_data_sequence`.
 #[derive(Debug, Drop)]
 pub struct unnamed_yaml_node_t_data_sequence {
+    /// The ids of the items' nodes, in order.
     pub items: Vec<yaml_node_item_t>,
+    /// How it is written.
     pub style: yaml_sequence_style_t,
 }
 
@@ -94,7 +98,9 @@ impl Eq for unnamed_yaml_node_t_data_sequence {
 /// libyaml: `unnamed_yaml_node_t_data_mapping`.
 #[derive(Debug, Drop)]
 pub struct unnamed_yaml_node_t_data_mapping {
+    /// The ids of the keys' and values' nodes, in order.
     pub pairs: Vec<yaml_node_pair_t>,
+    /// How it is written.
     pub style: yaml_mapping_style_t,
 }
 
@@ -133,8 +139,11 @@ impl Eq for unnamed_yaml_node_t_data_mapping {
 /// libyaml: the union `unnamed_yaml_node_t_data`.
 #[derive(PartialEq, Eq, Debug, Drop)]
 pub enum unnamed_yaml_node_t_data {
+    /// A scalar.
     Scalar(unnamed_yaml_node_t_data_scalar),
+    /// A sequence.
     Sequence(unnamed_yaml_node_t_data_sequence),
+    /// A mapping.
     Mapping(unnamed_yaml_node_t_data_mapping),
 }
 
@@ -143,9 +152,13 @@ pub enum unnamed_yaml_node_t_data {
 /// libyaml: `yaml_node_t`.
 #[derive(Debug, Drop)]
 pub struct yaml_node_t {
+    /// The tag; a loaded node without one, or with `!`, has that of its type.
     pub tag: String,
+    /// What it holds.
     pub content: unnamed_yaml_node_t_data,
+    /// Where it begins.
     pub start_mark: yaml_mark_t,
+    /// Where it ends.
     pub end_mark: yaml_mark_t,
 }
 
@@ -185,7 +198,7 @@ impl Eq for yaml_node_t {
     ghost laws = { same_node_equiv };
 }
 
-/// What a child is to the node that it was appended to.
+/// The role of a child in the node that it was appended to.
 #[derive(Copy, Clone)]
 pub enum ChildRole {
     /// An item of a sequence.
@@ -194,11 +207,15 @@ pub enum ChildRole {
     Key,
     /// The value of the key before it.
     Value,
-    /// No child of it: a scalar has none.
+    /// None: the node is a scalar, which has no children.
     Ignored,
 }
 
-/// Returns an error where a list of this many entries may have no more.
+/// Checks that a list of this many entries may have one more.
+///
+/// # Errors
+///
+/// `AllocError` where it has `most` or more.
 #[inline(always)]
 fn has_room(entries: usize, most: usize) -> Result<(), AllocError>
     ensures ok { OnOk result (nat_lt most (suc entries) ≡ false) }
@@ -253,8 +270,13 @@ impl yaml_node_t {
         }
     }
 
-    /// Appends a child to this collection, whose list may have `most` entries: to a sequence as an item; to a
+    /// Appends a child to this node, whose list may have `most` entries: to a sequence as an item; to a
     /// mapping as the value of `key`, or else as a key, which changes nothing.
+    ///
+    /// # Errors
+    ///
+    /// `AllocError` where the list of an item or a key has `most` entries, or an allocation fails; the node
+    /// is then as it was.
     #[inline(always)]
     pub(crate) fn push_child(
         &mut self,
@@ -287,6 +309,10 @@ impl yaml_node_t {
     }
 
     /// Appends an item to this sequence.
+    ///
+    /// # Errors
+    ///
+    /// `AllocError` where an allocation fails; the node is then as it was.
     pub(crate) fn push_item(&mut self, item: yaml_node_item_t) -> Result<(), AllocError>
         requires { IsSequence self.old }
         ensures ok { OnOk result (self.new ≡ with_item item self.old) }
@@ -302,6 +328,10 @@ impl yaml_node_t {
     }
 
     /// Appends a pair to this mapping.
+    ///
+    /// # Errors
+    ///
+    /// `AllocError` where an allocation fails; the node is then as it was.
     pub(crate) fn push_pair(&mut self, pair: yaml_node_pair_t) -> Result<(), AllocError>
         requires { IsMapping self.old }
         ensures ok { OnOk result (self.new ≡ with_pair pair.key pair.value self.old) }
@@ -322,8 +352,11 @@ impl yaml_node_t {
 /// libyaml: `yaml_alias_data_t`.
 #[derive(Debug, Drop)]
 pub struct yaml_alias_data_t {
+    /// The name of the anchor.
     pub anchor: String,
+    /// The id of the node.
     pub index: i32,
+    /// Where the node begins.
     pub mark: yaml_mark_t,
 }
 

@@ -19,7 +19,7 @@ impl<'a> yaml_node_items_t<'a> {
     ghost use Rattle.std.specs.Prelude.{◌≡◌};
     ghost use Rattle.libyaml_documents.specs.Nodes.{nodes_named};
 
-    /// Returns the nodes among these that the ids name.
+    /// Returns an iterator over the nodes among these that the ids name.
     pub(crate) fn new(nodes: &'a [yaml_node_t], items: &'a [yaml_node_item_t]) -> Self
         ensures { result ≡ nodes_named nodes.now items.now }
     {
@@ -63,7 +63,7 @@ impl<'a> yaml_node_pairs_t<'a> {
     ghost use Rattle.std.specs.Prelude.{◌≡◌};
     ghost use Rattle.libyaml_documents.specs.Nodes.{pairs_named};
 
-    /// Returns the nodes among these that the ids of the pairs name.
+    /// Returns an iterator over the nodes among these that the ids of the pairs name.
     pub(crate) fn new(nodes: &'a [yaml_node_t], pairs: &'a [yaml_node_pair_t]) -> Self
         ensures { result ≡ pairs_named nodes.now pairs.now }
     {

@@ -47,7 +47,8 @@ pub fn headline()
 {}
 
 /// The nodes of a document and the entries of all their lists together are at most twice its events, and so
-/// are those of all documents of a run: nothing that an alias names is counted again.
+/// are those of all documents of a run: an alias adds at most an entry, and no node. The bytes of texts are
+/// not counted: each tag holds a copy of its directive's prefix.
 pub fn linear_size()
     ensures of_document { (e : List Event) → size (graph [] (parts e)) ≤ 2 * length e }
     ensures of_loads { (e : List Event) (x : Ending) → total_size (loads e x) ≤ 2 * length e }
@@ -55,14 +56,14 @@ pub fn linear_size()
         → size d.nodes ≤ 2 * length e }
     ensures within_bound { (n : ℕ) (e : List Event) (x : Ending) → total_size (bounded_loads n e x)
         ≤ 2 * length e }
-    // so are those of the first documents among them
+    // the first documents among them
     ensures first_of_loads { (e : List Event) (x : Ending) (ds : List Document) (l : List Load)
         → loads e x ≡ map Ok ds ++ l → documents_size ds ≤ 2 * length e }
     ensures first_within_bound { (n : ℕ) (e : List Event) (x : Ending) (ds : List Document) (l : List Load)
         → bounded_loads n e x ≡ map Ok ds ++ l → documents_size ds ≤ 2 * length e }
 {}
 
-/// A fault that a load of events has whatever follows them, or where they end with the stream, is out of
+/// A fault that a load of events has whatever follows them, or where the stream ends after them, is out of
 /// memory, at the bound, or a composer error: none of the parser or the source.
 pub fn faults_of_loads()
     ensures whatever_follows { (n : ℕ) (e : List Event) (f : Fault)
@@ -72,7 +73,7 @@ pub fn faults_of_loads()
         → (f ≡ memory_fault) ⊎ (f.error ≡ yaml_error_type_t.YAML_COMPOSER_ERROR) }
 {}
 
-/// Each list of tokens has one list of loads for each fault after it.
+/// For each list of tokens and each fault after it there is exactly one list of loads.
 pub fn one_loads()
     ensures some { (l : List Token) (f : Fault) → (a : List Load) × IsLoads l f a }
     ensures one { (l : List Token) (f : Fault) (a b : List Load) → IsLoads l f a → IsLoads l f b → a ≡ b }
@@ -103,13 +104,13 @@ pub fn loads_of_tree()
         → IsSettled l e → (a : List Load) × IsLoads l f a × NestedLoads e (Fails f) a }
 {}
 
-/// The graph by a document's parts is the graph by the tree of its value.
+/// The graph of a value by its parts is its graph by its tree.
 pub fn graph_of_tree()
     ensures { (v : Value) (es : List Start) (r : List Event)
         → graph es (parts (value_events v r)) ≡ nodes_of v es (graph (starts_behind v es) (parts r)) }
 {}
 
-/// The composer error is one of the heads alone.
+/// A document's composer error is that of its heads: the ends of collections have none.
 pub fn fault_of_heads()
     ensures { (l : List Part) (es : List Start) → composer_fault es l ≡ composer_fault es (heads l) }
 {}

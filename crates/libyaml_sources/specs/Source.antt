@@ -1,4 +1,4 @@
--- what a source that knows its tokens may return
+-- What a source that knows its tokens may return.
 use Rattle.std.specs.Prelude.{◌≡◌, List, [], ◌∷◌, Option, Some, None, Result, Ok, Err, ◌⊎◌, negsuc, codes}
 use Rattle.libyaml_types.specs.declared.enums.yaml_error_type_t.TheVariants.{YAML_READER_ERROR}
 use Rattle.libyaml_types.specs.declared.token.yaml_token_t.{yaml_token_t}

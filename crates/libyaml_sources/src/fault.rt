@@ -6,7 +6,7 @@ ghost use Rattle.libyaml_sources.specs.Errors.{IsSourceError};
 
 use libyaml_types::{ZERO_MARK, yaml_error_type_t, yaml_mark_t};
 
-/// What a parser keeps of its fault. Before a fault it is `NO_FAULT`.
+/// A fault with all its fields, as a parser keeps it. A parser without fault keeps `NO_FAULT`.
 ///
 /// libyaml: `yaml_parser_t_prefix`.
 #[derive(Copy, Clone, PartialEq, Eq, Debug)]
@@ -23,11 +23,11 @@ pub struct yaml_parser_t_prefix {
     pub problem_mark: yaml_mark_t,
     /// What was being read, in words.
     pub context: Option<&'static str>,
-    /// Where that begins.
+    /// Where what was being read begins.
     pub context_mark: yaml_mark_t,
 }
 
-/// The prefix of a parser that met no fault.
+/// What a parser without fault keeps.
 pub const NO_FAULT: yaml_parser_t_prefix = yaml_parser_t_prefix {
     error: yaml_error_type_t::YAML_NO_ERROR,
     problem: None,
@@ -38,13 +38,14 @@ pub const NO_FAULT: yaml_parser_t_prefix = yaml_parser_t_prefix {
     context_mark: ZERO_MARK,
 };
 
-/// The prefix of a parser that met a failed allocation.
+/// What a parser keeps after a failed allocation.
 pub const MEMORY_FAULT: yaml_parser_t_prefix = yaml_parser_t_prefix {
     error: yaml_error_type_t::YAML_MEMORY_ERROR,
     ..NO_FAULT
 };
 
-/// The fault of a token source: out of memory, or a fault of its reader or scanner.
+/// The fault of a token source. Its error is `YAML_MEMORY_ERROR`, `YAML_READER_ERROR` or
+/// `YAML_SCANNER_ERROR`.
 #[derive(Copy, Clone, PartialEq, Eq, Debug)]
 pub struct yaml_source_fault_t {
     prefix: yaml_parser_t_prefix,
@@ -54,7 +55,8 @@ pub struct yaml_source_fault_t {
 impl yaml_source_fault_t {
     ghost use Rattle.libyaml_sources.specs.Fault.{source_fault, fault_of, memory_fault, scanner_fault};
 
-    /// Returns the fault of these fields. Takes no memory.
+    /// Returns the fault of these fields. `error` must be one of the three that a source may have. Takes no
+    /// memory.
     pub fn new(
         error: yaml_error_type_t,
         problem: Option<&'static str>,
@@ -88,8 +90,8 @@ impl yaml_source_fault_t {
         }
     }
 
-    /// Returns a scanner's fault: what went wrong, in words, and where. It has no context, and its offset and
-    /// value are 0. Takes no memory.
+    /// Returns a scanner's fault of this problem at this mark. It has no context, and its offset and value
+    /// are 0. Takes no memory.
     pub fn scanner_error(problem: &'static str, problem_mark: yaml_mark_t) -> Self
         ensures { source_fault result ≡ scanner_fault problem.now problem_mark }
     {
@@ -162,7 +164,7 @@ impl yaml_source_fault_t {
         self.prefix.context
     }
 
-    /// Returns where that begins.
+    /// Returns where what was being read begins.
     pub fn context_mark(&self) -> yaml_mark_t
         ensures { result ≡ (source_fault self.now).context_mark }
     {

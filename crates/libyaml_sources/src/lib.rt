@@ -1,4 +1,4 @@
-//! Where tokens come from: what a source of tokens is, what a fault is and says, and a source over a list.
+//! Sources of tokens: the trait of a source, its faults and their messages, and a source over a list.
 #![tactic(auto)]
 
 mod fault;

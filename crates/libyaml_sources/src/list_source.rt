@@ -10,7 +10,7 @@ use libyaml_types::{ZERO_MARK, yaml_error_type_t, yaml_token_t};
 use std::marker::Model;
 use std::vec::IntoIter;
 
-/// The tokens of a list, and then a fault for good.
+/// A source that gives the tokens of a list, and from then on returns its fault.
 #[derive(Drop)]
 pub struct yaml_list_source_t {
     tokens: IntoIter<yaml_token_t>,
@@ -28,7 +28,7 @@ impl Model for yaml_list_source_t {
 }
 
 impl yaml_list_source_t {
-    /// Returns the source of these tokens, which ends by this fault. Takes no memory.
+    /// Returns a source of these tokens, and of this fault after the last of them. Takes no memory.
     pub fn new(tokens: Vec<yaml_token_t>, fault: yaml_source_fault_t) -> Self
         ensures { result ≡ coming tokens.items (source_fault fault) }
     {
@@ -39,8 +39,8 @@ impl yaml_list_source_t {
     }
 }
 
-/// The source of a list that ends itself: after its last token, which is STREAM-END, nothing is asked for.
-/// A list that ends too soon ends by `no more tokens`.
+/// The source of a whole list: after STREAM-END a parser asks for no token. After a list without STREAM-END
+/// the source returns the reader error `no more tokens`.
 impl From<Vec<yaml_token_t>> for yaml_list_source_t {
     ghost from_gives = { λ tokens source. source ≡ coming tokens.items no_more_tokens };
 

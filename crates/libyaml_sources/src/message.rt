@@ -1,4 +1,4 @@
-//! What faults say, for a reader.
+//! The messages of faults.
 ghost use Rattle.std.specs.Prelude.{Some};
 ghost use Rattle.libyaml_sources.specs.Fault.{fault_of, source_fault};
 ghost use Rattle.libyaml_sources.specs.Message.{message};
@@ -8,8 +8,8 @@ use libyaml_types::yaml_error_words;
 use std::error::Error;
 use std::fmt;
 
-/// The problem with its place, or else the kind of the fault; and after it the context with its place, if
-/// there is one.
+/// The problem and its place, or the kind of the error where there is no problem; then the context and its
+/// place, where there is one.
 impl fmt::Display for yaml_parser_t_prefix {
     ghost output = { λ p. Some (message (fault_of p)) };
 
@@ -33,7 +33,7 @@ impl fmt::Display for yaml_parser_t_prefix {
 
 impl Error for yaml_parser_t_prefix {}
 
-/// As that of the prefix that a parser keeps of it.
+/// The message of `prefix()`.
 impl fmt::Display for yaml_source_fault_t {
     ghost output = { λ s. Some (message (source_fault s)) };
 

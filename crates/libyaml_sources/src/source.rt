@@ -1,4 +1,4 @@
-//! Where a parser's tokens come from.
+//! The trait of a source of tokens.
 ghost use Rattle.std.specs.Prelude.{◌≡◌, ℕ, ◌+◌, Option, Ok, Err};
 ghost use Rattle.libyaml_types.specs.declared.token.yaml_token_t.{yaml_token_t};
 ghost use Rattle.libyaml_sources.specs.Fault.{Fault, Answer, answer_of};
@@ -7,18 +7,23 @@ ghost use Rattle.libyaml_sources.specs.Source.{Coming, Follows, answer_in};
 use crate::fault::yaml_source_fault_t;
 use libyaml_types::yaml_token_t;
 
-/// A source of tokens, which ends in a fault.
+/// A source of tokens, which ends by a fault.
+///
+/// Of the seven ghost items the first four say what the source does, and the last three are proofs of it. A
+/// program that `rt try` runs may leave each as a hole, `{ ? }`.
 pub trait yaml_token_source_t {
-    /// How many tokens may still come.
+    /// How many tokens may still come. Each token lowers it by exactly one, which `falls` proves.
     ghost bound: { Self → ℕ };
 
-    /// Whether a call may return this result, from the source before it to the source after it.
+    /// What a call may do: the source before it, its result, and the source after it. This is the contract of
+    /// `next_token`.
     ghost gives: { Self → Answer → Self → Type 0 };
 
-    /// The tokens to come and the fault after them, or `None` where the source does not know these.
+    /// The tokens to come and the fault after them, or `None` where the source does not know them in advance.
     ghost known: { Self → Option Coming };
 
-    /// The faults by which the source may end before the list of `known` does, by the source as it then is.
+    /// The faults with which the source may end before the list of `known` does, as where its input fails or
+    /// memory runs out. The source is the one after that call.
     ghost may_break: { Self → Fault → Type 0 };
 
     /// Returns the next token.
@@ -49,12 +54,13 @@ pub trait yaml_token_source_t {
     /// A proof that each token lowers the bound by exactly one.
     ghost falls: { (s t : Self) (token : yaml_token_t) → gives s (Ok token) t → bound s ≡ bound t + 1 };
 
-    /// A proof that each result agrees with `known`: the next token of that list, or its fault where no
-    /// token is left, or a fault of `may_break`, after which no token is left. With `known` at `None`, `tt`.
+    /// A proof that each result agrees with `known`: it is the next token of that list, or the fault of the
+    /// list where no token is left, or a fault of `may_break`, after which no token is left. Where `known` is
+    /// `None` there is nothing to prove: `λ s t answer h. tt`.
     ghost follows: { (s t : Self) (answer : Answer) → gives s answer t
         → Follows (may_break t) (known s) answer (known t) };
 
-    /// A proof that after a fault each call returns that fault.
+    /// A proof that after a fault each later call returns that fault again.
     ghost repeats: { (s t u : Self) (fault : Fault) (answer : Answer) → gives s (Err fault) t
         → gives t answer u → answer ≡ Err fault };
 }

@@ -83,7 +83,11 @@ pub fn directives_of_pairs(
     Ok(copied_pairs(alloc, pairs)?)
 }
 
-/// The list of these handles and prefixes.
+/// Returns the directives of these handles and prefixes, each text a copy.
+///
+/// # Errors
+///
+/// `AllocError`, where an allocation fails.
 fn copied_pairs(
     alloc: Global,
     pairs: &[(&[u8], &[u8])],
@@ -98,7 +102,11 @@ fn copied_pairs(
     Ok(list)
 }
 
-/// The directive of this handle and prefix.
+/// Returns the directive of this handle and prefix, each a copy.
+///
+/// # Errors
+///
+/// `AllocError`, where an allocation fails.
 fn copied_pair(alloc: Global, pair: &(&[u8], &[u8])) -> Result<yaml_tag_directive_t, AllocError>
     requires { PairIsUtf8 pair.now }
     ensures { IfOk result (λ directive. directive ≡ directive_of pair.now) }

@@ -55,7 +55,7 @@ impl yaml_break_t {
     }
 }
 
-/// What kind of fault ended a run.
+/// The kind of an error.
 ///
 /// libyaml: `yaml_error_type_t`.
 #[derive(Copy, Clone, PartialEq, Eq, PartialOrd, Ord, Hash, Debug)]

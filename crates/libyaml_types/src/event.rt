@@ -114,8 +114,8 @@ impl Eq for unnamed_yaml_event_t_data_alias {
     ghost laws = { same_alias_equiv };
 }
 
-/// A scalar: `plain_implicit` where its tag may be left out if it is written plain,
-/// `quoted_implicit` if it is written otherwise.
+/// A scalar: its properties, its text, and whether its tag may be left out, by the style that it is written
+/// in.
 ///
 /// libyaml: `unnamed_yaml_event_t_data_scalar`.
 #[derive(Debug, Drop)]
@@ -126,9 +126,9 @@ pub struct unnamed_yaml_event_t_data_scalar {
     pub tag: Option<String>,
     /// The text.
     pub value: String,
-    /// Whether the tag may be left out where it is written plain.
+    /// Whether the tag may be left out where the scalar is written plain.
     pub plain_implicit: bool,
-    /// Whether the tag may be left out where it is written in quotes.
+    /// Whether the tag may be left out where the scalar is written in any other style.
     pub quoted_implicit: bool,
     /// How it is written.
     pub style: yaml_scalar_style_t,

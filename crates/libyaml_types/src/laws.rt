@@ -19,28 +19,28 @@ use crate::mark::yaml_mark_t;
 use std::cmp::Ordering;
 use std::hash::{Hash, Hasher};
 
-/// `yaml_encoding_t` is ordered as its numbers are.
+/// Compares two of `yaml_encoding_t` by their numbers.
 pub fn order_of_encodings(encoding: yaml_encoding_t, other: yaml_encoding_t) -> Ordering
     ensures { result ≡ nat_cmp (encoding_number encoding) (encoding_number other) }
 {
     encoding.cmp(&other)
 }
 
-/// `yaml_break_t` is ordered as its numbers are.
+/// Compares two of `yaml_break_t` by their numbers.
 pub fn order_of_breaks(line_break: yaml_break_t, other: yaml_break_t) -> Ordering
     ensures { result ≡ nat_cmp (break_number line_break) (break_number other) }
 {
     line_break.cmp(&other)
 }
 
-/// `yaml_error_type_t` is ordered as its numbers are.
+/// Compares two of `yaml_error_type_t` by their numbers.
 pub fn order_of_error_types(error_type: yaml_error_type_t, other: yaml_error_type_t) -> Ordering
     ensures { result ≡ nat_cmp (error_type_number error_type) (error_type_number other) }
 {
     error_type.cmp(&other)
 }
 
-/// `yaml_scalar_style_t` is ordered as its numbers are.
+/// Compares two of `yaml_scalar_style_t` by their numbers.
 pub fn order_of_scalar_styles(
     scalar_style: yaml_scalar_style_t,
     other: yaml_scalar_style_t,
@@ -50,7 +50,7 @@ pub fn order_of_scalar_styles(
     scalar_style.cmp(&other)
 }
 
-/// `yaml_sequence_style_t` is ordered as its numbers are.
+/// Compares two of `yaml_sequence_style_t` by their numbers.
 pub fn order_of_sequence_styles(
     sequence_style: yaml_sequence_style_t,
     other: yaml_sequence_style_t,
@@ -60,7 +60,7 @@ pub fn order_of_sequence_styles(
     sequence_style.cmp(&other)
 }
 
-/// `yaml_mapping_style_t` is ordered as its numbers are.
+/// Compares two of `yaml_mapping_style_t` by their numbers.
 pub fn order_of_mapping_styles(
     mapping_style: yaml_mapping_style_t,
     other: yaml_mapping_style_t,
@@ -70,56 +70,56 @@ pub fn order_of_mapping_styles(
     mapping_style.cmp(&other)
 }
 
-/// `yaml_token_type_t` is ordered as its numbers are.
+/// Compares two of `yaml_token_type_t` by their numbers.
 pub fn order_of_token_types(token_type: yaml_token_type_t, other: yaml_token_type_t) -> Ordering
     ensures { result ≡ nat_cmp (token_type_number token_type) (token_type_number other) }
 {
     token_type.cmp(&other)
 }
 
-/// `yaml_event_type_t` is ordered as its numbers are.
+/// Compares two of `yaml_event_type_t` by their numbers.
 pub fn order_of_event_types(event_type: yaml_event_type_t, other: yaml_event_type_t) -> Ordering
     ensures { result ≡ nat_cmp (event_type_number event_type) (event_type_number other) }
 {
     event_type.cmp(&other)
 }
 
-/// `yaml_node_type_t` is ordered as its numbers are.
+/// Compares two of `yaml_node_type_t` by their numbers.
 pub fn order_of_node_types(node_type: yaml_node_type_t, other: yaml_node_type_t) -> Ordering
     ensures { result ≡ nat_cmp (node_type_number node_type) (node_type_number other) }
 {
     node_type.cmp(&other)
 }
 
-/// `yaml_parser_state_t` is ordered as its numbers are.
+/// Compares two of `yaml_parser_state_t` by their numbers.
 pub fn order_of_parser_states(state: yaml_parser_state_t, other: yaml_parser_state_t) -> Ordering
     ensures { result ≡ nat_cmp (parser_state_number state) (parser_state_number other) }
 {
     state.cmp(&other)
 }
 
-/// Two of `yaml_encoding_t` are equal exactly where their numbers are.
+/// Returns whether two of `yaml_encoding_t` are equal, which is exactly where their numbers are.
 pub fn equality_of_encodings(encoding: yaml_encoding_t, other: yaml_encoding_t) -> bool
     ensures { IsTrue result ↔ (encoding_number encoding ≡ encoding_number other) }
 {
     encoding == other
 }
 
-/// Two of `yaml_break_t` are equal exactly where their numbers are.
+/// Returns whether two of `yaml_break_t` are equal, which is exactly where their numbers are.
 pub fn equality_of_breaks(line_break: yaml_break_t, other: yaml_break_t) -> bool
     ensures { IsTrue result ↔ (break_number line_break ≡ break_number other) }
 {
     line_break == other
 }
 
-/// Two of `yaml_error_type_t` are equal exactly where their numbers are.
+/// Returns whether two of `yaml_error_type_t` are equal, which is exactly where their numbers are.
 pub fn equality_of_error_types(error_type: yaml_error_type_t, other: yaml_error_type_t) -> bool
     ensures { IsTrue result ↔ (error_type_number error_type ≡ error_type_number other) }
 {
     error_type == other
 }
 
-/// Two of `yaml_scalar_style_t` are equal exactly where their numbers are.
+/// Returns whether two of `yaml_scalar_style_t` are equal, which is exactly where their numbers are.
 pub fn equality_of_scalar_styles(
     scalar_style: yaml_scalar_style_t,
     other: yaml_scalar_style_t,
@@ -129,7 +129,7 @@ pub fn equality_of_scalar_styles(
     scalar_style == other
 }
 
-/// Two of `yaml_sequence_style_t` are equal exactly where their numbers are.
+/// Returns whether two of `yaml_sequence_style_t` are equal, which is exactly where their numbers are.
 pub fn equality_of_sequence_styles(
     sequence_style: yaml_sequence_style_t,
     other: yaml_sequence_style_t,
@@ -139,7 +139,7 @@ pub fn equality_of_sequence_styles(
     sequence_style == other
 }
 
-/// Two of `yaml_mapping_style_t` are equal exactly where their numbers are.
+/// Returns whether two of `yaml_mapping_style_t` are equal, which is exactly where their numbers are.
 pub fn equality_of_mapping_styles(
     mapping_style: yaml_mapping_style_t,
     other: yaml_mapping_style_t,
@@ -149,112 +149,112 @@ pub fn equality_of_mapping_styles(
     mapping_style == other
 }
 
-/// Two of `yaml_token_type_t` are equal exactly where their numbers are.
+/// Returns whether two of `yaml_token_type_t` are equal, which is exactly where their numbers are.
 pub fn equality_of_token_types(token_type: yaml_token_type_t, other: yaml_token_type_t) -> bool
     ensures { IsTrue result ↔ (token_type_number token_type ≡ token_type_number other) }
 {
     token_type == other
 }
 
-/// Two of `yaml_event_type_t` are equal exactly where their numbers are.
+/// Returns whether two of `yaml_event_type_t` are equal, which is exactly where their numbers are.
 pub fn equality_of_event_types(event_type: yaml_event_type_t, other: yaml_event_type_t) -> bool
     ensures { IsTrue result ↔ (event_type_number event_type ≡ event_type_number other) }
 {
     event_type == other
 }
 
-/// Two of `yaml_node_type_t` are equal exactly where their numbers are.
+/// Returns whether two of `yaml_node_type_t` are equal, which is exactly where their numbers are.
 pub fn equality_of_node_types(node_type: yaml_node_type_t, other: yaml_node_type_t) -> bool
     ensures { IsTrue result ↔ (node_type_number node_type ≡ node_type_number other) }
 {
     node_type == other
 }
 
-/// Two of `yaml_parser_state_t` are equal exactly where their numbers are.
+/// Returns whether two of `yaml_parser_state_t` are equal, which is exactly where their numbers are.
 pub fn equality_of_parser_states(state: yaml_parser_state_t, other: yaml_parser_state_t) -> bool
     ensures { IsTrue result ↔ (parser_state_number state ≡ parser_state_number other) }
 {
     state == other
 }
 
-/// `yaml_encoding_t` is hashed as its number is, as an `isize`.
+/// Hashes one of `yaml_encoding_t` as its number, an `isize`.
 pub fn hash_of_encodings<H: Hasher>(encoding: yaml_encoding_t, hasher: &mut H)
     ensures { hasher.new ≡ fold H.write hasher.old (fed.isize (pos (encoding_number encoding))) }
 {
     encoding.hash(hasher);
 }
 
-/// `yaml_break_t` is hashed as its number is, as an `isize`.
+/// Hashes one of `yaml_break_t` as its number, an `isize`.
 pub fn hash_of_breaks<H: Hasher>(line_break: yaml_break_t, hasher: &mut H)
     ensures { hasher.new ≡ fold H.write hasher.old (fed.isize (pos (break_number line_break))) }
 {
     line_break.hash(hasher);
 }
 
-/// `yaml_error_type_t` is hashed as its number is, as an `isize`.
+/// Hashes one of `yaml_error_type_t` as its number, an `isize`.
 pub fn hash_of_error_types<H: Hasher>(error_type: yaml_error_type_t, hasher: &mut H)
     ensures { hasher.new ≡ fold H.write hasher.old (fed.isize (pos (error_type_number error_type))) }
 {
     error_type.hash(hasher);
 }
 
-/// `yaml_scalar_style_t` is hashed as its number is, as an `isize`.
+/// Hashes one of `yaml_scalar_style_t` as its number, an `isize`.
 pub fn hash_of_scalar_styles<H: Hasher>(scalar_style: yaml_scalar_style_t, hasher: &mut H)
     ensures { hasher.new ≡ fold H.write hasher.old (fed.isize (pos (scalar_style_number scalar_style))) }
 {
     scalar_style.hash(hasher);
 }
 
-/// `yaml_sequence_style_t` is hashed as its number is, as an `isize`.
+/// Hashes one of `yaml_sequence_style_t` as its number, an `isize`.
 pub fn hash_of_sequence_styles<H: Hasher>(sequence_style: yaml_sequence_style_t, hasher: &mut H)
     ensures { hasher.new ≡ fold H.write hasher.old (fed.isize (pos (sequence_style_number sequence_style))) }
 {
     sequence_style.hash(hasher);
 }
 
-/// `yaml_mapping_style_t` is hashed as its number is, as an `isize`.
+/// Hashes one of `yaml_mapping_style_t` as its number, an `isize`.
 pub fn hash_of_mapping_styles<H: Hasher>(mapping_style: yaml_mapping_style_t, hasher: &mut H)
     ensures { hasher.new ≡ fold H.write hasher.old (fed.isize (pos (mapping_style_number mapping_style))) }
 {
     mapping_style.hash(hasher);
 }
 
-/// `yaml_token_type_t` is hashed as its number is, as an `isize`.
+/// Hashes one of `yaml_token_type_t` as its number, an `isize`.
 pub fn hash_of_token_types<H: Hasher>(token_type: yaml_token_type_t, hasher: &mut H)
     ensures { hasher.new ≡ fold H.write hasher.old (fed.isize (pos (token_type_number token_type))) }
 {
     token_type.hash(hasher);
 }
 
-/// `yaml_event_type_t` is hashed as its number is, as an `isize`.
+/// Hashes one of `yaml_event_type_t` as its number, an `isize`.
 pub fn hash_of_event_types<H: Hasher>(event_type: yaml_event_type_t, hasher: &mut H)
     ensures { hasher.new ≡ fold H.write hasher.old (fed.isize (pos (event_type_number event_type))) }
 {
     event_type.hash(hasher);
 }
 
-/// `yaml_node_type_t` is hashed as its number is, as an `isize`.
+/// Hashes one of `yaml_node_type_t` as its number, an `isize`.
 pub fn hash_of_node_types<H: Hasher>(node_type: yaml_node_type_t, hasher: &mut H)
     ensures { hasher.new ≡ fold H.write hasher.old (fed.isize (pos (node_type_number node_type))) }
 {
     node_type.hash(hasher);
 }
 
-/// `yaml_parser_state_t` is hashed as its number is, as an `isize`.
+/// Hashes one of `yaml_parser_state_t` as its number, an `isize`.
 pub fn hash_of_parser_states<H: Hasher>(state: yaml_parser_state_t, hasher: &mut H)
     ensures { hasher.new ≡ fold H.write hasher.old (fed.isize (pos (parser_state_number state))) }
 {
     state.hash(hasher);
 }
 
-/// Two of `yaml_mark_t` are equal exactly where all their fields are.
+/// Returns whether two of `yaml_mark_t` are equal, which is exactly where all their fields are.
 pub fn equality_of_marks(mark: yaml_mark_t, other: yaml_mark_t) -> bool
     ensures { IsTrue result ↔ (mark ≡ other) }
 {
     mark == other
 }
 
-/// Two of `yaml_version_directive_t` are equal exactly where all their fields are.
+/// Returns whether two of `yaml_version_directive_t` are equal, which is exactly where all their fields are.
 pub fn equality_of_versions(
     version: yaml_version_directive_t,
     other: yaml_version_directive_t,
@@ -264,7 +264,8 @@ pub fn equality_of_versions(
     version == other
 }
 
-/// Two lists of `yaml_tag_directive_t` are equal exactly where their members are, in order.
+/// Returns whether two lists of `yaml_tag_directive_t` are equal, which is exactly where their members are,
+/// in order.
 pub fn equality_of_directives(
     directives: &[yaml_tag_directive_t],
     other: &[yaml_tag_directive_t],

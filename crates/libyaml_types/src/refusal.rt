@@ -1,4 +1,4 @@
-//! Why a call refuses its arguments.
+//! The errors of constructors and of the calls on a document.
 
 ghost use Rattle.std.specs.Prelude.{◌≡◌};
 ghost use Rattle.libyaml_types.specs.Numbers.{refusal_number};
@@ -7,7 +7,7 @@ ghost use Rattle.libyaml_types.specs.declared.refusal.yaml_refusal_t.TheVariants
 use std::alloc::AllocError;
 use thiserror::Error;
 
-/// Why a constructor or a call on a document gives nothing.
+/// Why a constructor or a call on a document failed.
 ///
 /// libyaml: none; its calls return `FAIL`, or an id of 0, without a cause.
 #[derive(PartialEq, Eq, Debug, Drop, Error)]
@@ -24,7 +24,7 @@ pub enum yaml_refusal_t {
 }
 
 impl yaml_refusal_t {
-    /// Returns the number of this cause, from 1.
+    /// Returns the number of this variant, counted from 1.
     pub fn number(&self) -> u32
         ensures { result ≡ refusal_number self.now }
     {

@@ -1,4 +1,4 @@
-//! What a kind of error, and the type of an event or a node, says.
+//! The words for the kinds of errors, and the names of the types of events and nodes.
 ghost use Rattle.std.specs.Prelude.{◌≡◌, Some};
 ghost use Rattle.libyaml_types.specs.Words.{error_words, event_type_name, node_type_name};
 
@@ -24,7 +24,7 @@ pub fn yaml_error_words(error: yaml_error_type_t) -> &'static str
     }
 }
 
-/// Its words, as `yaml_error_words` returns them.
+/// The words of `yaml_error_words`.
 impl fmt::Display for yaml_error_type_t {
     ghost output = { λ e. Some (error_words e) };
 
@@ -35,7 +35,7 @@ impl fmt::Display for yaml_error_type_t {
 
 impl Error for yaml_error_type_t {}
 
-/// Its name, as `name` returns it.
+/// The name that `name` returns.
 impl fmt::Display for yaml_event_type_t {
     ghost output = { λ e. Some (event_type_name e) };
 
@@ -44,7 +44,7 @@ impl fmt::Display for yaml_event_type_t {
     }
 }
 
-/// Its name, as `name` returns it.
+/// The name that `name` returns.
 impl fmt::Display for yaml_node_type_t {
     ghost output = { λ t. Some (node_type_name t) };
 

@@ -22,7 +22,11 @@ use std::alloc::Global;
 
 const MOST_NODES: usize = 2147483647;
 
-/// Returns an error where no id is left for one more node.
+/// Checks that an id is left for one more node.
+///
+/// # Errors
+///
+/// `TooManyNodes` where the document has 2147483647 nodes.
 pub(super) fn has_room(document: &yaml_document_t) -> Result<(), yaml_refusal_t>
     ensures ok { OnOk result (length document.now.nodes < most_nodes) }
     ensures err { OnErr result ((result ≡ Err yaml_refusal_t.TooManyNodes)
@@ -35,7 +39,11 @@ pub(super) fn has_room(document: &yaml_document_t) -> Result<(), yaml_refusal_t>
     }
 }
 
-/// Returns the text of a given tag, or the tag of its kind where none is given. Takes no memory.
+/// Returns the text of a given tag, or `default` where none is given. Takes no memory.
+///
+/// # Errors
+///
+/// `NotUtf8` where the tag isn't UTF-8.
 fn checked_tag<'a>(tag: Option<&'a [u8]>, default: &'a str) -> Result<&'a str, yaml_refusal_t>
     ensures ok { IfOk result (λ text. text.now ≡ tag_or default.now (option_copied tag.entry)) }
     ensures utf8 { OnOk result (IfSome (option_copied tag.entry) IsUtf8) }
@@ -49,6 +57,10 @@ fn checked_tag<'a>(tag: Option<&'a [u8]>, default: &'a str) -> Result<&'a str, y
 }
 
 /// Returns a node of this content, with a copy of the tag and zero marks.
+///
+/// # Errors
+///
+/// `Memory` where an allocation fails.
 fn new_node(
     alloc: Global,
     tag: &str,
@@ -66,6 +78,10 @@ fn new_node(
 }
 
 /// Appends a node without children, and returns its id.
+///
+/// # Errors
+///
+/// `Memory` where an allocation fails; the document is then as it was.
 #[inline(always)]
 pub(super) fn push_node(
     document: &mut yaml_document_t,
@@ -115,7 +131,7 @@ pub fn yaml_document_add_scalar(
         × IfSome (option_copied tag.entry) IsUtf8 × IsUtf8 value.now }
     ensures unchanged { OnErr result (document.new ≡ document.old) }
 
-    // What a caller of the next call wants: the new id's type, and that the others stay.
+    // For the next call: the type of the new id, and that each other id keeps its type.
     ensures count { OnOk result (length document.new.nodes ≡ length document.old.nodes + 1) }
     ensures type_is { IfOk result (λ id. type_at document.new.nodes id ≡ yaml_node_type_t.YAML_SCALAR_NODE) }
     ensures types_kept { KeepsTypes document.old.nodes document.new.nodes }
@@ -158,7 +174,7 @@ pub fn yaml_document_add_sequence(
         × IfSome (option_copied tag.entry) IsUtf8 }
     ensures unchanged { OnErr result (document.new ≡ document.old) }
 
-    // What a caller of the next call wants: the new id's type, and that the others stay.
+    // For the next call: the type of the new id, and that each other id keeps its type.
     ensures count { OnOk result (length document.new.nodes ≡ length document.old.nodes + 1) }
     ensures type_is { IfOk result (λ id. type_at document.new.nodes id
         ≡ yaml_node_type_t.YAML_SEQUENCE_NODE) }
@@ -201,7 +217,7 @@ pub fn yaml_document_add_mapping(
         × IfSome (option_copied tag.entry) IsUtf8 }
     ensures unchanged { OnErr result (document.new ≡ document.old) }
 
-    // What a caller of the next call wants: the new id's type, and that the others stay.
+    // For the next call: the type of the new id, and that each other id keeps its type.
     ensures count { OnOk result (length document.new.nodes ≡ length document.old.nodes + 1) }
     ensures type_is { IfOk result (λ id. type_at document.new.nodes id ≡ yaml_node_type_t.YAML_MAPPING_NODE) }
     ensures types_kept { KeepsTypes document.old.nodes document.new.nodes }

@@ -1,4 +1,4 @@
-//! The calls that put a child after those of a collection.
+//! The calls that append a child to a collection.
 
 ghost use Rattle.std.specs.Prelude.{◌≡◌, OnOk, OnErr, length};
 ghost use Rattle.libyaml_documents.specs.Documents.{with_changed_node};
@@ -30,7 +30,7 @@ pub fn yaml_document_append_sequence_item(
     ensures refused { OnErr result (result ≡ Err yaml_refusal_t.Memory) }
     ensures unchanged { OnErr result (document.new ≡ document.old) }
 
-    // What a caller of the next call wants: the ids stay what they are.
+    // For the next call: each id keeps its type.
     ensures count { length document.new.nodes ≡ length document.old.nodes }
     ensures types_kept { KeepsTypes document.old.nodes document.new.nodes }
 {
@@ -62,7 +62,7 @@ pub fn yaml_document_append_mapping_pair(
     ensures refused { OnErr result (result ≡ Err yaml_refusal_t.Memory) }
     ensures unchanged { OnErr result (document.new ≡ document.old) }
 
-    // What a caller of the next call wants: the ids stay what they are.
+    // For the next call: each id keeps its type.
     ensures count { length document.new.nodes ≡ length document.old.nodes }
     ensures types_kept { KeepsTypes document.old.nodes document.new.nodes }
 {

@@ -63,7 +63,7 @@ pub fn append_node(document: &mut yaml_document_t, node: yaml_node_t) -> Result<
         ⊎ (result ≡ Err yaml_refusal_t.Memory)) }
     ensures unchanged { OnErr result (document.new ≡ document.old) }
 
-    // What a caller of the next call wants: the new id's type, and that the others stay.
+    // For the next call: the type of the new id, and that each other id keeps its type.
     ensures count { OnOk result (length document.new.nodes ≡ length document.old.nodes + 1) }
     ensures type_is { IfOk result (λ id. type_at document.new.nodes id ≡ node_type node.content) }
     ensures types_kept { KeepsTypes document.old.nodes document.new.nodes }
@@ -77,16 +77,16 @@ pub fn set_end_mark(document: &mut yaml_document_t, id: i32, end_mark: yaml_mark
     requires { IsIdUpTo (length document.old.nodes) id }
     ensures changed { document.new ≡ with_changed_node document.old id (with_end end_mark) }
 
-    // What a caller of the next call wants: the ids stay what they are.
+    // For the next call: each id keeps its type.
     ensures count { length document.new.nodes ≡ length document.old.nodes }
     ensures types_kept { KeepsTypes document.old.nodes document.new.nodes }
 {
     document.nodes[place_of(id)].end_mark = end_mark;
 }
 
-/// Appends a child to the node of this id, whose list may have `most` entries, in one look at that node, and
-/// returns what the child is to it: an item of a sequence; the value of `key` in a mapping, or, where no key
-/// waits, a key of it, which changes nothing; a scalar has no children.
+/// Appends a child to the node of this id, whose list may have `most` entries, and returns its role: an item
+/// of a sequence; the value of `key` in a mapping, or, where no key waits, a key of it, which changes
+/// nothing; a scalar has no children. The node is looked up once.
 ///
 /// # Errors
 ///

@@ -7,7 +7,7 @@ ghost use Rattle.libyaml_grammar.specs.runs.Runs.{Ending};
 ghost use Rattle.libyaml_graphs.specs.loads.Bounds.{next_bounded};
 ghost use Rattle.libyaml_graphs.specs.machine.Loader.{between, load_from};
 
-/// From between documents to the end of the next, it gives the next load within its bound.
+/// From between documents to the end of the next, the machine gives the next load within its bound.
 pub fn one_load()
     ensures { (r : List Event) (x : Ending) (n : ℕ) → load_from n between r x ≡ next_bounded n r x }
 {}

@@ -16,8 +16,8 @@ ghost use Rattle.libyaml_graphs.specs.rows.LoadRows.{RowTagThatIsAnExclamationMa
 ghost use Rattle.libyaml_graphs.specs.rows.LoadRows.{RowUndefinedAliasBeforeSourceEnds};
 ghost use Rattle.libyaml_graphs.specs.rows.LoadRows.{RowUndefinedAliasBehindKey};
 
-/// A stream without documents, directives, an explicit end, documents without content, and a start that no
-/// root follows.
+/// Shows a stream without documents, directives, an explicit end, documents without content, and a start that
+/// no root follows.
 pub fn documents()
     ensures empty_stream { RowEmptyStream }
     ensures directives { RowDirectives }
@@ -26,27 +26,27 @@ pub fn documents()
     ensures start_without_root { RowStartWithoutRoot }
 {}
 
-/// Pairs, and collections in one another.
+/// Shows pairs, and collections in one another.
 pub fn collections()
     ensures pairs { RowPairs }
     ensures collections_in_pairs { RowCollectionsInPairs }
 {}
 
-/// The tag `!`, and an empty one.
+/// Shows the tag `!`, and an empty one.
 pub fn tags()
     ensures tag_that_is_an_exclamation_mark { RowTagThatIsAnExclamationMark }
     ensures exclamation_marks_of_collections { RowExclamationMarksOfCollections }
     ensures empty_tag { RowEmptyTag }
 {}
 
-/// Nodes that hold themselves, and nodes that stand more than once.
+/// Shows nodes that hold themselves, and nodes that stand more than once.
 pub fn aliases()
     ensures holds_itself { RowHoldsItself }
     ensures item_twice { RowItemTwice }
     ensures nested_holds_itself { RowNestedHoldsItself }
 {}
 
-/// Undefined aliases, and an anchor that two nodes carry.
+/// Shows undefined aliases, and an anchor that two nodes carry.
 pub fn composer_faults()
     ensures undefined_alias { RowUndefinedAlias }
     ensures second_alias_undefined { RowSecondAliasUndefined }
@@ -54,14 +54,14 @@ pub fn composer_faults()
     ensures second_anchor { RowSecondAnchor }
 {}
 
-/// Runs that a fault of the parser or the source cuts off.
+/// Shows runs that a fault of the parser or the source cuts off.
 pub fn cut_off()
     ensures parser_fault { RowParserFault }
     ensures source_ends { RowSourceEnds }
     ensures undefined_alias_before_source_ends { RowUndefinedAliasBeforeSourceEnds }
 {}
 
-/// Loads within a bound: its order against the composer errors, and a pair that counts at its key.
+/// Shows loads within a bound: its order against the composer errors, and a pair that counts at its key.
 pub fn bounds()
     ensures nodes_in_bound { RowNodesInBound }
     ensures nodes_beyond_bound { RowNodesBeyondBound }
