@@ -54,6 +54,9 @@
 #include <stddef.h>
 #include <stdint.h>
 
+/* The version of Pokhvizi that this header is of: CHANGELOG.md says what it changes. */
+#define TOKEN_LINES_VERSION "0.2.0"
+
 #ifdef __cplusplus
 extern "C" {
 #endif

@@ -8,7 +8,8 @@
 - a line "Stands on" of a crate's README that is not as crates.txt has it;
 - a room of definitions or proofs in ARCHITECTURE that has other files than its folder;
 - an edit that WRONG_BODIES lists and no crate has, or the other way round;
-- a script that CONTRIBUTING doesn't list.
+- a script that CONTRIBUTING doesn't list;
+- another version than that of the file VERSION, in CHANGELOG's first entry or in the macro of examples/token_lines.h.
 
     python3 scripts/links.py
 """
@@ -18,7 +19,7 @@ from pathlib import Path
 
 TOP = Path(__file__).resolve().parent.parent
 PAGES = [*TOP.glob("*.md"), *TOP.glob("docs/*.md"), *TOP.glob("crates/*/README.md")]
-MADE = re.compile(r"(^|/)(out|build|my_project)(/|$)|^list\.tokens$|\b(NAME|FILE|DEST)\b")
+MADE = re.compile(r"(^|/)(out|build|my_project)(/|$)|^(list\.tokens|vendored\.txt)$|\b(NAME|FILE|DEST)\b")
 FILE = r"rt|antt|oantt|edit|md|py|sh|c|h|txt|yaml|tokens|events|nodes"
 PATH = re.compile(rf"[\w.*-]+(/[\w.*-]+)+/?|\w+\.({FILE})")
 IN_COMMAND = re.compile(r"(?<![\w./])(?:crates|docs|scripts|examples)/[\w./*-]*[\w*/]")
@@ -141,6 +142,14 @@ def unlisted_scripts():
             yield f"CONTRIBUTING.md: {name} is not listed"
 
 
+def other_versions():
+    version = (TOP / "VERSION").read_text().strip()
+    for name, form in [("CHANGELOG.md", r"^## (.*)$"), ("examples/token_lines.h", r'^#define TOKEN_LINES_VERSION "(.*)"$')]:
+        shown = re.search(form, (TOP / name).read_text(), flags=re.M)
+        if shown is None or shown[1] != version:
+            yield f"{name}: the version is {shown and shown[1]}, and VERSION says {version}"
+
+
 def comments():
     """The files of code, definitions and examples, each with its comments, joined over the ends of lines."""
     for path in [*TOP.glob("crates/**/*.rt"), *TOP.glob("crates/**/*.antt"), *TOP.glob("examples/*"), *TOP.glob("scripts/*.*")]:
@@ -156,7 +165,7 @@ def problems():
         found = [*broken_links(page, text), *missing_paths(page, text), *missing_headings(text), *missing_blocks(text, code)]
         yield from (f"{page.relative_to(TOP)}: {problem}" for problem in found)
     yield from (f"docs/ARCHITECTURE.md: {problem}" for problem in wrong_rooms())
-    yield from [*wrong_readmes(), *wrong_edits(), *unlisted_scripts()]
+    yield from [*wrong_readmes(), *wrong_edits(), *unlisted_scripts(), *other_versions()]
     for path, text in comments():
         yield from (f"{path.relative_to(TOP)}: {problem}" for problem in missing_headings(text))
 

@@ -6,8 +6,8 @@
 # DEST is the top of that project. Where no CRATE is named it is unsafe_libyaml, or what it copied there earlier; token_lines
 # and yaml_path are others. What it copied there earlier is updated too, so that all is of one state. Of each crate README.md,
 # src, specs and proofs are copied to DEST/crates, and the licence beside them; kept work and edits are not, and what
-# a check kept there stays. Its line is put into DEST/crates.txt, whose other lines stay. DEST/vendored.txt says which commit
-# the crates are of, and has a checksum of each.
+# a check kept there stays. Its line is put into DEST/crates.txt, whose other lines stay. DEST/vendored.txt says which version
+# and commit the crates are of, and has a checksum of each.
 #
 # It prints what it did with each crate: added, updated, or as it was. The exit status is 2 for wrong words. It is 1, and
 # nothing is changed, where a name is no crate of this repository, and where a crate there was not copied by this script or
@@ -74,7 +74,7 @@ done
 
 commit=$(git rev-parse --short HEAD 2> /dev/null || echo unknown)
 [ -z "$(git status --porcelain -- crates 2> /dev/null)" ] || commit="$commit with changes"
-echo "# Copied by scripts/vendor.sh of Pokhvizi, commit $commit: crates and their checksums." > "$work/record"
+echo "# Copied by scripts/vendor.sh of Pokhvizi $(cat VERSION), commit $commit: crates and their checksums." > "$work/record"
 for crate in $crates; do
     at=$dest/crates/$crate
     new=$(sum "$work/crates/$crate")

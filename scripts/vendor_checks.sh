@@ -63,6 +63,11 @@ expect 0 1 0 "$project" yaml_path
 is_whole
 expect 0 0 0 "$project"
 
+# The first line of vendored.txt names the version, and the commit.
+named="^# Copied by scripts/vendor.sh of Pokhvizi $(sed 's/\./\\./g' VERSION), commit \([0-9a-f]\{7,\}\|unknown\)\( with changes\)\?:"
+head -n 1 "$project/vendored.txt" > "$work/said"
+grep -q "$named" "$work/said" || complain "vendored.txt names another version, or no commit"
+
 # As if an earlier state of this repository had been copied, and checked there.
 mkdir "$types/out" && touch "$types/out/kept" "$types/src/gone.rt"
 echo '// earlier' >> "$types/src/lib.rt"
