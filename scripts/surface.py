@@ -1,57 +1,136 @@
 #!/usr/bin/env python3
-"""Lists every public item of the libraries, with its crate and the first sentence of its doc, in docs/SURFACE.md.
+"""Lists every public item of the libraries in docs/SURFACE.md: first those that a program uses first, then the others by their
+crates, each with its signature, its fields or its variants and the first sentence of its doc; then the laws, by their names.
 
     python3 scripts/surface.py           fails where the page is stale, or an item has no doc
     python3 scripts/surface.py --write   writes the page
+
+The examples and the programs of rows are left out.
 """
 import re
 import sys
+import textwrap
 from pathlib import Path
 
 TOP = Path(__file__).resolve().parent.parent
 PAGE = TOP / "docs" / "SURFACE.md"
 ITEM = re.compile(r"pub (?:extern \"C\" )?(fn|struct|enum|trait|type|const) (\w+)")
 METHOD = re.compile(r"    (pub )?fn (\w+)")
-IMPL = re.compile(r"impl(?:<.*?>)? (?:(.+?) for )?(\w+)")
+IMPL = re.compile(r"impl(<.*?>)? (?:(.+?) for )?(\w+)")
 USE = re.compile(r"pub use ([\w:]+?)(?:::\{([^}]*)\}| as (\w+))?;")
+LAWS = re.compile(r"(?:laws|rows|determined)::")
+EXAMPLES = {"computed_tokens", "pushed_list", "restated", "row_checks"}
+WIDTH = 110
 
 HEAD = """# Every public item
 
-Made from the sources by `python3 scripts/surface.py --write`. You name `unsafe_libyaml`, which re-exports the crates of
-events, documents and loads, and `token_lines`, which re-exports the crates of lines.
-[CALLING.md](CALLING.md) says how to use them.
+Made from the sources by `python3 scripts/surface.py --write`. You name `unsafe_libyaml`, which re-exports the crates of events, documents and loads, and `token_lines`, which re-exports the crates of lines. Here `fn T::f` is a method or a function of the type `T`, and `..` stands for private fields. [CALLING.md](CALLING.md) shows their use; errors and conditions of a call are in the comment and the contract beside it.
 """
+
+FIRST = [
+    ("Tokens, and where they come from", """yaml_token_t yaml_token_t::new unnamed_yaml_token_t_data unnamed_yaml_token_t_data_scalar yaml_mark_t
+        yaml_list_source_t::from yaml_list_source_t::new yaml_line_source_t::new yaml_token_source_t::next_token
+        yaml_source_fault_t::scanner_error"""),
+    ("Events", """yaml_parser_initialize yaml_parser_t yaml_parser_t::iterator yaml_parser_parse yaml_parser_parse_into yaml_parser_parse_all yaml_run_t
+        yaml_parser_t::prefix yaml_parser_t_prefix yaml_parser_delete yaml_push_parser_t::new yaml_push_parser_t::push
+        yaml_push_parser_t::prefix yaml_event_t unnamed_yaml_event_t_data unnamed_yaml_event_t_data_scalar yaml_event_t::type_
+        yaml_event_t::anchor"""),
+    ("Documents, and `text_at` of `yaml_path`", """yaml_parser_documents yaml_parser_documents_t::iterator yaml_parser_load yaml_parser_load_all yaml_parser_set_max_entries yaml_document_t::root
+        yaml_document_t::items yaml_document_t::pairs yaml_document_get_node yaml_node_t unnamed_yaml_node_t_data
+        unnamed_yaml_node_t_data_scalar text_at"""),
+    ("Lines", "run_events run_nodes Outcome write_event write_document"),
+]
 
 
 def sentence(docs):
-    """The first sentence of a doc comment."""
+    """The first sentence of a doc comment, and the next where that says that nothing is done."""
     text = " ".join(docs).split("  ")[0].strip()
-    end = re.search(r"\.(?= [A-Z`]|$)", text)
-    return (text[: end.end()] if end else text).replace("|", r"\|")
+    end = re.search(r"^(?:Does nothing\. )?.*?\.(?= [A-Z`]|$)", text)
+    return end[0] if end else text
+
+
+def signature(text):
+    """What stands before a function's contract and body, on one line, without `pub`."""
+    text = re.sub(r"//.*", "", text)
+    end = re.search(r"\s*(?:\n\s*(?:ensures|requires|\{)|\{|;|\Z)", text)
+    packed = re.sub(r"\s+", " ", text[: end.start()].replace("pub ", "", 1)).strip().rstrip(",")
+    return re.sub(r",? \)", ")", packed.replace("( ", "("))
+
+
+def wrapped(code):
+    """The lines of an item's code, which breaks between parameters, fields or variants, and before a result."""
+    for whole in (r"<[^<>]*>", r"<[^<>]*(?:<[^<>]*>[^<>]*)*>", r"-> .*", r"\w+: [^,)]*", r"\{ \.\. \}", r"^fn \S+"):
+        code = re.sub(whole, lambda part: part[0].replace(" ", "\0"), code)
+    lines = textwrap.wrap(code, WIDTH, subsequent_indent="    ", break_long_words=False, break_on_hyphens=False)
+    return [line.replace("\0", " ") for line in lines]
+
+
+def members(text):
+    """The public fields or the variants of a type, from its first line on."""
+    body = text[: text.index("\n}")] if "{" in text.split("\n")[0] else ""
+    code = [line.strip() for line in body.split("\n")[1:] if not line.strip().startswith(("//", "#"))]
+    found = [line.rstrip(",").replace("pub ", "") for line in code if re.match(r"pub \w+:|[A-Z]\w*(\(.*\))?,$", line)]
+    private = any(re.match(r"\w+:", line) for line in code)
+    return found + [".."] * private
 
 
 class Item:
-    def __init__(self, kind, name, docs):
-        self.kind, self.name, self.says = kind, name, sentence(docs)
+    """A public item: its name, what its doc says first, and its code on one line."""
+
+    def __init__(self, kind, name, docs, code):
+        self.kind, self.name, self.says, self.code = kind, name, sentence(docs), code
+
+    def lines(self):
+        if self.says and not self.name.startswith("unnamed_"):
+            yield from textwrap.wrap(self.says, WIDTH, initial_indent="/// ", subsequent_indent="/// ", break_on_hyphens=False)
+        yield from wrapped(self.code)
+
+
+def code_of(kind, name, text, owner=None):
+    """An item's code, from its first line on."""
+    if kind == "fn":
+        return signature(text).replace(f"fn {name.split('::')[-1]}", f"fn {name}", 1)
+    if kind in ("struct", "enum"):
+        head = re.sub(r"\s*\{?$", "", text.split("\n")[0].replace("pub ", ""))
+        inner = ", ".join(members(text))
+        return f"{head} {{ {inner} }}" if inner else head
+    if kind == "trait":
+        return f"trait {name}"
+    return re.sub(r"\s*(=\s*yaml_.*)?\{?$", "", text.split("\n")[0].replace("pub ", "")).rstrip(";")
+
+
+def iterated(trait, name, text):
+    """What an implementation for a type gives to its users: a way to make it, or the items that it yields."""
+    if item := re.search(r"^    type Item = (.*);", text, re.M):
+        return Item("impl", f"{name}::iterator", ["A"], f"impl Iterator<Item = {item[1]}> for {name}")
+    if trait.startswith("From<Vec"):
+        return Item("fn", f"{name}::from", ["A"], f"fn {name}::from(tokens: {trait[5:-1]}) -> Self")
+    return None
 
 
 def items_of(path):
     """The public items of a file, methods and trait methods among them as `Type::name`."""
     docs, owner, is_trait, found = [], None, False, []
-    for line in path.read_text().splitlines():
+    lines = path.read_text().splitlines()
+    for number, line in enumerate(lines):
         if line.strip().startswith("///"):
-            text = line.strip()[3:].strip()
-            docs.append(text or "  ")
+            docs.append(line.strip()[3:].strip() or "  ")
             continue
         if re.match(r"\s*#\[", line):
             continue
+        text = "\n".join(lines[number : number + 60])
         if match := ITEM.match(line):
-            found.append(Item(match[1], match[2], docs))
+            found.append(Item(match[1], match[2], docs, code_of(match[1], match[2], text)))
             owner, is_trait = (match[2], True) if match[1] == "trait" else (None, False)
         elif match := IMPL.match(line):
-            owner, is_trait = (None if match[1] else match[2]), False
+            owner, is_trait = (None if match[2] else match[3]), False
+            body = text[: text.find("\n}")]
+            if match[2] and (item := iterated(match[2], match[3], body)):
+                item.says = sentence(docs) if item.kind == "fn" else ""
+                found.append(item)
         elif owner and (match := METHOD.match(line)) and (match[1] or is_trait):
-            found.append(Item("fn", f"{owner}::{match[2]}", docs))
+            name = f"{owner}::{match[2]}"
+            found.append(Item("fn", name, docs, code_of("fn", name, text)))
         elif line.startswith("}"):
             owner, is_trait = None, False
         docs = []
@@ -108,27 +187,75 @@ def public_of(crate):
     return public
 
 
-def table(rows):
-    yield "| item | kind | what it is |"
-    yield "|---|---|---|"
-    for item_name, item in rows:
-        yield f"| `{item_name}` | {item.kind} | {item.says} |"
+def grouped(rows):
+    """The items, each type before its methods; a method that many types have alike stands once."""
+    alike = {}
+    for name, item in rows:
+        key = (name.split("::")[-1], item.says, item.code.split("(", 1)[-1]) if item.kind == "fn" and "::" in name else name
+        alike.setdefault(key, []).append(item)
+    for items in alike.values():
+        alike_says = items[0].says
+        if len(items) > 2:
+            owners = ", ".join(item.name.split("::")[0] for item in items)
+            name = items[0].name.split("::")[-1]
+            items = [Item("fn", name, [], f"fn T::{name}({items[0].code.split('(', 1)[1]}")]
+            items[0].says = f"{alike_says} T is {owners}."
+        yield from items
+
+
+def in_order(rows):
+    """Types with their methods after them, and then functions and constants."""
+    owners = {name: number for number, (name, item) in enumerate(rows) if item.kind in ("struct", "enum", "trait")}
+
+    def place(row):
+        number, (name, item) = row
+        owner = name.split("::")[0]
+        return (0, owners[owner], name != owner, number) if owner in owners else (1, number)
+
+    return [row for _, row in sorted(enumerate(rows), key=place)]
+
+
+def block(items):
+    yield "```rs"
+    for item in items:
+        yield from item.lines()
+    yield "```"
 
 
 def page():
     """The page, and the items that have no doc."""
-    lines, without = [HEAD.rstrip()], []
-    passing = {user: set(name for _, name in names_passed_on(user)) for user in ("unsafe_libyaml", "token_lines")}
+    listed, laws, without, everything = {}, [], [], {}
     for crate in crates():
-        if root(crate) is None or crate.endswith("_rows") or crate == "row_checks":
+        if root(crate) is None or root(crate).name == "main.rt" or crate in EXAMPLES:
             continue
         rows = [(name, item) for name, item in public_of(crate).items() if item is not None]
-        if not rows:
-            continue
+        without += [f"{crate}: {name}" for name, item in rows if not item.says and item.kind != "impl"]
+        of_crate = [name for name, _ in rows if LAWS.match(name)]
+        laws += [(crate, of_crate)] if of_crate else []
+        listed[crate] = [(name, item) for name, item in rows if not LAWS.match(name)]
+        everything.update(listed[crate])
+    first = {name for _, names in FIRST for name in names.split()}
+    without += [f"{name}, which surface.py puts first, is no item" for name in sorted(first - set(everything))]
+    if without:
+        return "", without
+    lines = [HEAD.rstrip(), "", "## What a program uses first"]
+    for title, names in FIRST:
+        lines += ["", f"### {title}", "", *block(everything[name] for name in names.split())]
+    lines += ["", "## The others, by their crates"]
+    passing = {user: set(name for _, name in names_passed_on(user)) for user in ("unsafe_libyaml", "token_lines")}
+    for crate, rows in listed.items():
         users = [user for user, names in passing.items() if crate != user and any(name in names for name, _ in rows)]
-        lines += ["", f"## `{crate}`" + (f", re-exported by `{'` and `'.join(users)}`" if users else ""), ""]
-        lines += table(rows)
-        without += [f"{crate}: {name}" for name, item in rows if not item.says]
+        left = [(name, item) for name, item in in_order(rows) if name not in first]
+        if left:
+            title = f"### `{crate}`" + (f", re-exported by `{'` and `'.join(users)}`" if users else "")
+            lines += ["", title, "", *block(grouped(left))]
+    lines += ["", "## Laws", "", "A law is a function whose contract is a theorem. [PROVED.md](PROVED.md) says what they say.", ""]
+    lines += ["| crate | module and laws |", "|---|---|"]
+    for crate, names in laws:
+        modules = {}
+        for name in names:
+            modules.setdefault("::".join(name.split("::")[:-1]), []).append(name.split("::")[-1])
+        lines.append(f"| `{crate}` | " + "; ".join(f"`{module}`: {', '.join(inner)}" for module, inner in modules.items()) + " |")
     return "\n".join(lines) + "\n", without
 
 
