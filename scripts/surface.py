@@ -28,17 +28,37 @@ Made from the sources by `python3 scripts/surface.py --write`. You name `unsafe_
 """
 
 FIRST = [
-    ("Tokens, and where they come from", """yaml_token_t yaml_token_t::new unnamed_yaml_token_t_data unnamed_yaml_token_t_data_scalar yaml_mark_t
-        yaml_list_source_t::from yaml_list_source_t::new yaml_line_source_t::new yaml_token_source_t::next_token
-        yaml_source_fault_t::scanner_error"""),
-    ("Events", """yaml_parser_initialize yaml_parser_t yaml_parser_t::iterator yaml_parser_parse yaml_parser_parse_into yaml_parser_parse_all yaml_run_t
-        yaml_parser_t::prefix yaml_parser_t_prefix yaml_parser_delete yaml_push_parser_t::new yaml_push_parser_t::push
-        yaml_push_parser_t::prefix yaml_event_t unnamed_yaml_event_t_data unnamed_yaml_event_t_data_scalar yaml_event_t::type_
-        yaml_event_t::anchor"""),
-    ("Documents, and `text_at` of `yaml_path`", """yaml_parser_documents yaml_parser_documents_t::iterator yaml_parser_load yaml_parser_load_all yaml_parser_set_max_entries yaml_document_t::root
-        yaml_document_t::items yaml_document_t::pairs yaml_document_get_node yaml_node_t unnamed_yaml_node_t_data
-        unnamed_yaml_node_t_data_scalar text_at"""),
-    ("Lines", "run_events run_nodes Outcome write_event write_document"),
+    (
+        "Tokens, and where they come from",
+        """
+        yaml_token_t yaml_token_t::new unnamed_yaml_token_t_data unnamed_yaml_token_t_data_scalar yaml_mark_t
+        yaml_list_source_t::from yaml_list_source_t::new yaml_line_source_t::new
+        yaml_token_source_t::next_token yaml_source_fault_t::scanner_error
+        """,
+    ),
+    (
+        "Events",
+        """
+        yaml_parser_initialize yaml_parser_t yaml_parser_t::iterator yaml_parser_parse yaml_parser_parse_into
+        yaml_parser_parse_all yaml_run_t yaml_parser_t::prefix yaml_parser_t_prefix yaml_parser_delete
+        yaml_push_parser_t::new yaml_push_parser_t::push yaml_push_parser_t::prefix yaml_event_t
+        unnamed_yaml_event_t_data unnamed_yaml_event_t_data_scalar yaml_event_t::type_ yaml_event_t::anchor
+        """,
+    ),
+    (
+        "Documents, and `text_at` of `yaml_path`",
+        """
+        yaml_parser_documents yaml_parser_documents_t::iterator yaml_parser_load yaml_parser_load_all
+        yaml_parser_set_max_entries yaml_document_t::root yaml_document_t::items yaml_document_t::pairs
+        yaml_document_get_node yaml_node_t unnamed_yaml_node_t_data unnamed_yaml_node_t_data_scalar text_at
+        """,
+    ),
+    (
+        "Lines",
+        """
+        run_events run_nodes Outcome write_event write_document
+        """,
+    ),
 ]
 
 

@@ -1,11 +1,10 @@
 #!/usr/bin/env python3
-"""Fails where a page or a comment has a word that docs/TERMS.md gives up ("Words that are no longer used").
+"""Fails where a page or a comment has a word that is given up, and says what stands in its place: the table below.
 
     python3 scripts/words.py [CRATE..]     pages, examples, and the comments of these crates, or of all where none is named
 
 The lines of a paragraph or of a comment are read as one text, so that a phrase over two of them is found; the first is named.
-Names of code, in backticks or in blocks, are not words. TERMS itself, SURFACE, which is made of comments, and GATE's table
-of past runs are left out.
+Names of code, in backticks or in blocks, are not words. SURFACE, which is made of comments, is left out.
 """
 import re
 import sys
@@ -13,19 +12,24 @@ from itertools import groupby
 from pathlib import Path
 
 TOP = Path(__file__).resolve().parent.parent
-GIVEN_UP = re.compile(
-    r"want of memory|refused growth|growths? (?:is|was|are|were|that is) refused|growth refused|\banswer(?:s|ed|ing)?\b"
-    r"|\bbehind\b|\bfronts? of (?:an?|the|its|these|this|each)\b|composer(?:'s)? faults?\b|faults? of the composer|\bamid\b",
-    re.IGNORECASE,
-)
-LEFT_OUT = {"TERMS.md", "SURFACE.md"}
+INSTEAD = {
+    r"want of memory": "out of memory",
+    r"refused growth|growths? (?:is|was|are|were|that is) refused|growth refused": "an allocation fails, a failed allocation",
+    r"\banswer(?:s|ed|ing)?\b": "returns, result",
+    r"\bbehind\b": "follows, after",
+    r"\bfronts? of (?:an?|the|its|these|this|each)\b": "prefix",
+    r"composer(?:'s)? faults?\b|faults? of the composer": "composer error",
+    r"\bamid\b": "within, in the middle of",
+}
+GIVEN_UP = re.compile("|".join(f"({word})" for word in INSTEAD), re.IGNORECASE)
+LEFT_OUT = {"SURFACE.md"}
 
 
 def lines_of_page(text):
     """The lines of a page, each without blocks of code and without what makes it a quote or a comment of C."""
     text = re.sub(r"^```.*?^```", lambda block: "\n" * block.group().count("\n"), text, flags=re.M | re.S)
     for line in text.split("\n"):
-        yield "" if re.match(r"\| 20\d\d-", line) else re.sub(r"^\s*(?:/?\*+/?|//+|>)\s", "", line)
+        yield re.sub(r"^\s*(?:/?\*+/?|//+|>)\s", "", line)
 
 
 def comments_of(path):
@@ -37,7 +41,7 @@ def comments_of(path):
 
 
 def given_up(lines):
-    """The number of the line where each word begins that is given up, and the word."""
+    """The number of the line where each word begins that is given up, and the word with what stands in its place."""
     for is_text, block in groupby(enumerate(lines, 1), lambda line: bool(line[1].strip())):
         if not is_text:
             continue
@@ -47,7 +51,8 @@ def given_up(lines):
             text += line.strip() + " "
         text = re.sub(r"`[^`]*`", lambda code: "`" * len(code.group()), text)
         for match in GIVEN_UP.finditer(text):
-            yield max(number for begin, number in begins if begin <= match.start()), match.group()
+            instead = list(INSTEAD.values())[match.lastindex - 1]
+            yield max(number for begin, number in begins if begin <= match.start()), f"{match.group()} (now: {instead})"
 
 
 def files(crates):
