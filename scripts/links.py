@@ -5,8 +5,7 @@
 - a path of this repository, in backticks or in a command, that does not exist (what a build makes is left out);
 - a heading of a page, as in `docs/DEFINITIONS.md, "Runs"`, that it does not have; comments of code are read for these too;
 - a Rust block or a clause of a contract that no file of crates/ or examples/ has word for word;
-- a line "Stands on" of a crate's README that is not as crates.txt has it;
-- a room of definitions or proofs in ARCHITECTURE that has other files than its folder;
+- a line "Stands on" of a crate's README, that is not as crates.txt has it;
 - an edit that WRONG_BODIES lists and no crate has, or the other way round;
 - a script that CONTRIBUTING doesn't list;
 - another version than that of the file VERSION, in CHANGELOG's first entry or in the macro of examples/token_lines.h.
@@ -113,21 +112,6 @@ def wrong_readmes():
             yield f"crates/{name}/README.md: stands on other crates than crates.txt says"
 
 
-def wrong_rooms():
-    """Where ARCHITECTURE lists other files of a room than its folder has."""
-    top = None
-    for line in (TOP / "docs" / "ARCHITECTURE.md").read_text().splitlines():
-        if match := re.search(r"[Ii]n `(\w+/(?:specs|proofs))`:$", line):
-            top = TOP / "crates" / match[1]
-        match = re.match(r"\| `(\w+)`(?:: [^|]*)? \| ([^|]*) \|$", line)
-        if match and top and (top / match[1]).is_dir():
-            listed = set(re.findall(r"\b[A-Z]\w+", match[2]))
-            there = {path.stem for path in (top / match[1]).glob("*.antt")} - {"Lib"}
-            for name in sorted(listed ^ there):
-                where = "is not there" if name in listed else "is not listed"
-                yield f"{(top / match[1]).relative_to(TOP)}: {name} {where}"
-
-
 def wrong_edits():
     listed = set(re.findall(r"^- `([^`]+)`", (TOP / "docs" / "WRONG_BODIES.md").read_text(), flags=re.M))
     there = {path.stem for path in TOP.glob("crates/*/must-fail/*.edit")}
@@ -164,7 +148,6 @@ def problems():
         text = page.read_text()
         found = [*broken_links(page, text), *missing_paths(page, text), *missing_headings(text), *missing_blocks(text, code)]
         yield from (f"{page.relative_to(TOP)}: {problem}" for problem in found)
-    yield from (f"docs/ARCHITECTURE.md: {problem}" for problem in wrong_rooms())
     yield from [*wrong_readmes(), *wrong_edits(), *unlisted_scripts(), *other_versions()]
     for path, text in comments():
         yield from (f"{path.relative_to(TOP)}: {problem}" for problem in missing_headings(text))
