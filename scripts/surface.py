@@ -19,7 +19,7 @@ METHOD = re.compile(r"    (pub )?fn (\w+)")
 IMPL = re.compile(r"impl(<.*?>)? (?:(.+?) for )?(\w+)")
 USE = re.compile(r"pub use ([\w:]+?)(?:::\{([^}]*)\}| as (\w+))?;")
 LAWS = re.compile(r"(?:laws|rows|determined)::")
-EXAMPLES = {"computed_tokens", "pushed_list", "restated", "row_checks"}
+EXAMPLES = {"computed_tokens", "pushed_list", "cited_theorems", "row_checks"}
 WIDTH = 110
 
 HEAD = """# Every public item
