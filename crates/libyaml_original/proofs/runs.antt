@@ -1,7 +1,7 @@
-pub mod Whole
 pub mod Apart
-pub mod Fronts
+pub mod Laws
+pub mod Does
+pub mod Ended
 pub mod Total
 pub mod Within
-pub mod Nests
 pub mod Texts

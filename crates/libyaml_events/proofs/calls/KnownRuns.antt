@@ -3,7 +3,7 @@ use Rattle.std.proofs.Common.{◌≡◌, ◌⊎◌, inl, inr, ℤ, List, [], ◌
 use Rattle.libyaml_events.specs.sources.Parsing as pars
 use Rattle.libyaml_events.specs.sources.Parsing.{HasFailed, StopsShort, behind_beginning, Cause, of_memory, of_grammar, of_source, FailsBy}
 use Rattle.libyaml_events.proofs.calls.Parsed.{running_does, fails, has_failed, stops_short}
-use Rattle.libyaml_events.proofs.lent.Staged.{ran_staged, staged_over, staged_whole, tree_ends}
+use Rattle.libyaml_events.proofs.calls.Staged.{ran_staged, staged_over, staged_whole, tree_ends}
 use Rattle.libyaml_events.specs.parsers.Stages.{is_at_end, stage_of}
 use Rattle.libyaml_types.specs.declared.enums.yaml_error_type_t.{yaml_error_type_t}
 use Rattle.libyaml_sources.specs.Fault.{Fault, Answer}

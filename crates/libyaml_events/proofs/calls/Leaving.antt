@@ -17,7 +17,7 @@ use Rattle.libyaml_events.specs.sources.History.{Ran}
 use Rattle.libyaml_events.proofs.calls.Held.{HoldsAtMost, HoldsNone, held_on}
 use Rattle.libyaml_events.proofs.calls.Keeping.{Kept}
 use Rattle.libyaml_events.proofs.calls.Staging.{GoodBefore, GoodEvent, good_step}
-use Rattle.libyaml_events.proofs.lent.Staged.{depth, ran_staged, retake}
+use Rattle.libyaml_events.proofs.calls.Staged.{depth, ran_staged, retake}
 use Rattle.libyaml_events.proofs.machine.StepKinds.{kind_of}
 
 not_nil : (a : List Answer) (b : Answer) → a ++ b ∷ [] ≡ [] → ⊥

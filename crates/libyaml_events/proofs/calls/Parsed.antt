@@ -33,7 +33,7 @@ use Rattle.libyaml_events.proofs.calls.Calling.{Answered, gave, failed, faulted,
 use Rattle.libyaml_events.proofs.calls.Calling.{starts}
 use Rattle.libyaml_events.proofs.calls.Needed.{open_there, standing_needs}
 use Rattle.libyaml_events.proofs.calls.NeededInTurn.{both_needed, none_needed, one_needed}
-use Rattle.libyaml_events.proofs.lent.Staged.{Staged, call_staged, ran_staged, stage_snoc, staged_over, staged_whole, leads_to_end, refused_stage}
+use Rattle.libyaml_events.proofs.calls.Staged.{Staged, call_staged, ran_staged, stage_snoc, staged_over, staged_whole, leads_to_end, refused_stage}
 use Rattle.libyaml_events.specs.parsers.Lookahead.{HoldsLast, tokens_held}
 use Rattle.libyaml_events.specs.parsers.Stages.{at_start, is_event, is_at_end, stage_of, takes_no_memory}
 use Rattle.libyaml_events.proofs.calls.Held.{held_first, ran_holds}

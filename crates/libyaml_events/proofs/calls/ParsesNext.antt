@@ -20,7 +20,7 @@ use Rattle.libyaml_events.proofs.calls.LeadsOut.{stands_outside}
 use Rattle.libyaml_events.proofs.calls.Leaving.{none_held, depth_left}
 use Rattle.libyaml_events.proofs.calls.Parsed.{carried_on, failed_by}
 use Rattle.libyaml_events.proofs.calls.Raised.{pops_nothing}
-use Rattle.libyaml_events.proofs.lent.Staged.{ran_staged, staged_depth, staged_between}
+use Rattle.libyaml_events.proofs.calls.Staged.{ran_staged, staged_depth, staged_between}
 
 module _ {S : Type 0} (gives : S → Answer → S → Type 0) (token_bound : S → ℕ) (known : S → Option Coming) (may_break : S → Fault → Type 0) (falls : (s t : S) (token : Token)
     → gives s (Ok token) t → token_bound s ≡ token_bound t + 1) (follows : (s t : S) (a : Answer) → gives s a t → Follows (may_break t) (known s) a (known t)) where

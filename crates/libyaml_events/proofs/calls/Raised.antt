@@ -16,7 +16,7 @@ use Rattle.libyaml_events.specs.parsers.Stages.{Stage, stage_of}
 use Rattle.libyaml_events.specs.sources.Calls.{EventOrError, Calls, CallsUnlessRefused, Call, Parses, ParsesIf, Refused, RefusedAt, Then, held}
 use Rattle.libyaml_events.specs.sources.History.{History, Ran, Remembers}
 use Rattle.libyaml_events.proofs.calls.Marked.{IsMarked, MarkedOn, MarksAt, OneMore, MarksFit, marked_on, ran_marked}
-use Rattle.libyaml_events.proofs.lent.Staged.{ran_staged, retake}
+use Rattle.libyaml_events.proofs.calls.Staged.{ran_staged, retake}
 use Rattle.libyaml_events.proofs.calls.Staging.{IsStack, NodeDue, Good, GoodIn, GoodOn, good_on}
 use Rattle.libyaml_events.proofs.machine.StepKinds.{Kind, NodeStep, StepKind, begins_document, closes, ends_document}
 use Rattle.libyaml_events.proofs.machine.StepKinds.{ends_indentless, entry, fails_in, no_node, node, opens, property}

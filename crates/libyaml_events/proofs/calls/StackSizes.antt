@@ -9,7 +9,7 @@ use Rattle.libyaml_events.specs.machine.Config.{Parser}
 use Rattle.libyaml_events.specs.sources.History.{ForHistory, stack_depth}
 use Rattle.libyaml_events.proofs.calls.Calling.{ran_links}
 use Rattle.libyaml_events.proofs.calls.Counting.{linked_count}
-use Rattle.libyaml_events.proofs.lent.Staged.{ran_staged, staged_depth}
+use Rattle.libyaml_events.proofs.calls.Staged.{ran_staged, staged_depth}
 
 leaf_open : (s : Stage) → open_collections (leaf s) ≤ open_collections s
 leaf_open before_root = omega arith

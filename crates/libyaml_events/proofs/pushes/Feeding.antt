@@ -9,7 +9,7 @@ use Rattle.libyaml_grammar.specs.sentences.Events.{Event}
 use Rattle.libyaml_grammar.proofs.lent.Positions.{unopened}
 use Rattle.libyaml_events.specs.machine.Config.{Config, taken, is_fault, is_end_state, ended_or_failed}
 use Rattle.libyaml_events.specs.machine.Machine.{Progressed, step}
-use Rattle.libyaml_events.specs.machine.Want.{Want, AtState}
+use Rattle.libyaml_events.specs.machine.Want.{Want, AtState, Wants}
 use Rattle.libyaml_events.specs.parsers.Stages.{at_start, stage_of}
 use Rattle.libyaml_events.specs.sources.Calls.{held_token}
 use Rattle.libyaml_events.specs.sources.Parsing.{IsWhole}
@@ -17,7 +17,7 @@ use Rattle.libyaml_events.specs.sources.Pushed.{Fed, begins, takes, wants, gives
 use Rattle.libyaml_events.proofs.calls.CallLemmas.{begun_alive}
 use Rattle.libyaml_events.proofs.calls.Calling.{Starts, ready, holding, starts, not_ended}
 use Rattle.libyaml_events.proofs.calls.Staging.{Good, GoodBefore, GoodEvent, GoodOn, good_step}
-use Rattle.libyaml_events.proofs.lent.Staged.{Staged, end_holds_none, retake, stage_snoc, staged_over, staged_whole}
+use Rattle.libyaml_events.proofs.calls.Staged.{Staged, end_holds_none, retake, stage_snoc, staged_over, staged_whole}
 use Rattle.libyaml_events.proofs.machine.Stand.{Leads, Links, Stands, at_place, stand_leads}
 
 -- between two tokens: a further one is wanted, or the stream has ended
@@ -96,6 +96,20 @@ module _ (l : List Token) (g : List Event) (e : Event) (d : Config) (links : Lin
           from (holding u i s) = subst (λ (x : Option Token). FedTo AtState (taken d) x l (g ++ e ∷ [])) (sym (token_held d.lookahead u i) ∙ same)
               (record { good = good_taken; alive = not_ended d h; leads = s })
 
+-- a further token is wanted
+module _ (w : Want) (c : Config) (t : Token) (l : List Token) (g : List Event) (v : Want) (d : Config) (b : InHand w c t l g) (i : step w c t ≡ Ok (Wants v, d)) where
+  wanted_good : GoodBefore no_fault (stage_of g) v d
+  wanted_good = subst (λ (o : Progressed). GoodOn o no_fault (stage_of g)) i (good_step no_fault (stage_of g) t w c b.good)
+
+  wanted_stands : Stands l g v d
+  wanted_stands = subst (λ (o : Progressed). Leads o l g) i b.leads
+
+  pub wanted_runs : ended_or_failed d ≡ false
+  wanted_runs = running d wanted_good.1 wanted_stands.goes_on
+
+  wanted_to : Between v d l g
+  wanted_to = record { good = wanted_good; running = runs wanted_runs wanted_stands }
+
 pub fed_to : {w : Want} {c : Config} {o : Option Token} {l : List Token} {g : List Event} → Fed w c o l g → FedTo w c o l g
 fed_to begins = record { good = ((refl, refl), refl, refl); running = runs refl (record { stood = at_place unopened refl tt refl refl refl; goes_on = λ e. cc }) }
 fed_to (takes w c l g t {l'} f h i) = subst (λ (x : List Token). InHand w c t x g) (sym i) (from (fed_to f))
@@ -106,14 +120,7 @@ fed_to (takes w c l g t {l'} f h i) = subst (λ (x : List Token). InHand w c t x
         by : Running w c l g → InHand w c t (l ++ t ∷ []) g
         by (runs k s) = record { good = b.good; alive = begun_alive c h; leads = stand_leads l t g w c s }
         by (has_ended k m) = absurd (not_both (ended_or_failed c) h k)
-fed_to (wants w c t {w'} {c'} {l} {g} f i) = from (fed_to f)
-  where
-    from : InHand w c t l g → Between w' c' l g
-    from b =
-        let s : Stands l g w' c' = subst (λ (o : Progressed). Leads o l g) i b.leads in
-        let k : GoodBefore no_fault (stage_of g) w' c' = subst (λ (o : Progressed). GoodOn o no_fault (stage_of g)) i
-        (good_step no_fault (stage_of g) t w c b.good) in
-        record { good = k; running = runs (running c' k.1 s.goes_on) s }
+fed_to (wants w c t {w'} {c'} {l} {g} f i) = wanted_to w c t l g w' c' (fed_to f) i
 fed_to (gives w c t g e d {c'} {o} {l} {g'} f i j k m) = subst (λ (x : List Event). FedTo AtState c' o l x) (sym m)
     (subst (λ (x : Config). FedTo AtState x o l (g ++ e ∷ [])) (sym j) (from (fed_to f)))
   where

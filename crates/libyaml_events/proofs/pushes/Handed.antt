@@ -29,7 +29,7 @@ use Rattle.libyaml_events.proofs.calls.KnownRuns.{linked_begins, run_given}
 use Rattle.libyaml_events.proofs.calls.Parsed.{standing_no_end, stops_short}
 use Rattle.libyaml_events.proofs.calls.Held.{HeldOn, held_on}
 use Rattle.libyaml_events.proofs.calls.Staging.{Good, GoodIn}
-use Rattle.libyaml_events.proofs.lent.Staged.{due_takes, outside_grows, quiet_behind}
+use Rattle.libyaml_events.proofs.calls.Staged.{due_takes, outside_grows, quiet_behind}
 use Rattle.libyaml_events.proofs.machine.StepKinds as kinds
 use Rattle.libyaml_events.proofs.machine.StepKinds.{Kind, kind, kind_of}
 use Rattle.libyaml_events.proofs.machine.Stand.{Leads, Links}

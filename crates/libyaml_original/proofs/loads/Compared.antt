@@ -3,12 +3,11 @@
 use Rattle.std.proofs.Common.{◌≡◌, ◌∷◌, ◌++◌, ◌∙◌, ℕ, List, [], Err, map, refl, sym, ap}
 use Rattle.libyaml_types.specs.declared.event.unnamed_yaml_event_t_data.{unnamed_yaml_event_t_data}
 use Rattle.libyaml_types.specs.declared.event.unnamed_yaml_event_t_data.TheVariants as ev
-use Rattle.libyaml_sources.specs.Errors.{IsSourceError}
 use Rattle.libyaml_sources.specs.Fault.{Fault}
 use Rattle.libyaml_grammar.specs.runs.Runs.{Ending, Ends}
 use Rattle.libyaml_grammar.specs.sentences.Events.{Event, event}
 use Rattle.libyaml_grammar.specs.sentences.Tokens.{Mark, Token}
-use Rattle.libyaml_graphs.specs.loads.Bounds.{IsBoundedLoads}
+use Rattle.libyaml_graphs.specs.loads.Bounds.{IsBoundedLoads, bounded_loads}
 use Rattle.libyaml_graphs.specs.loads.Loads.{Load}
 use Rattle.libyaml_original.specs.loader.Loader as orig
 use Rattle.libyaml_original.specs.loader.Loader.{FAIL, Loaded, OK, State, between, loads_from, loads_there, new_loader}
@@ -17,9 +16,6 @@ use Rattle.libyaml_original.specs.loader.LoadsThere.{LoadsCompare, LoadsThere, l
 use Rattle.libyaml_original.specs.parser.Differences.{Compares, parts, same}
 use Rattle.libyaml_original.specs.parser.Runs.{new_parser}
 use Rattle.libyaml_original.specs.parser.Texts.{as_held}
-use Rattle.libyaml_original.proofs.loads.Loads.{run_agrees}
-use Rattle.libyaml_original.proofs.runs.Apart.{compared}
-use Rattle.libyaml_original.proofs.runs.Whole.{runs_as_here}
 
 -- the loads a, but the last, begin both b and c
 record Shares (a b c : List Load) : Type 0 where
@@ -72,14 +68,15 @@ module _ (n : ℕ) (r t : List Event) (x y : Ending) where
   shared [] (within o l) = one _ _ _
   shared (e ∷ b) s = event_shared e.content e.start_mark e.end_mark b (shared b) s
 
-pub loads_compared : (n : ℕ) (l : List Token) (f : Fault) (a b : List Load) → IsSourceError f.error → LoadsThere n l f a
-    → IsBoundedLoads n (map as_held l) f b → LoadsCompare n (new_parser (map as_held l) f) a b
-loads_compared n l f a b i there here
-    = go (compared there.run here.events here.ending
-    (runs_as_here (map as_held l) f i here.events here.ending here.run))
+pub loads_compared : (n : ℕ) (l : List Token) (f : Fault) (a b : List Load) (there : LoadsThere n l f a)
+    → (here : IsBoundedLoads n (map as_held l) f b)
+    → Compares (new_parser (map as_held l) f) there.events there.ending here.events here.ending
+    → loads_there n here.events here.ending ≡ bounded_loads n here.events here.ending
+    → LoadsCompare n (new_parser (map as_held l) f) a b
+loads_compared n l f a b there here compares alike = go compares
   where
     here_too : b ≡ loads_there n here.events here.ending
-    here_too = here.all ∙ sym (run_agrees n (map as_held l) f here.events here.ending i here.run)
+    here_too = here.all ∙ sym alike
 
     go : Compares (new_parser (map as_held l) f) there.events there.ending here.events here.ending
         → LoadsCompare n (new_parser (map as_held l) f) a b

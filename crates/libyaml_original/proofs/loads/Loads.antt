@@ -1,18 +1,15 @@
 -- The original's loader loads what this repository's does.
-use Rattle.std.proofs.Common.{◌≡◌, ◌∷◌, ℕ, List, [], Option, Some, None, Bool, true, false, refl, sym, ap, ◌∙◌, subst}
+use Rattle.std.proofs.Common.{◌≡◌, ◌∷◌, ℕ, List, [], Option, Some, None, Bool, refl, sym, ap, ◌∙◌, subst}
 use Rattle.libyaml_types.specs.declared.event.unnamed_yaml_event_t_data.TheVariants as ev
 use Rattle.libyaml_documents.specs.declared.node.yaml_node_t.{yaml_node_t}
-use Rattle.libyaml_sources.specs.Errors.{IsSourceError}
 use Rattle.libyaml_sources.specs.Fault.{Fault}
-use Rattle.libyaml_grammar.specs.runs.Runs.{Ending, Ends, Fails, IsRun}
-use Rattle.libyaml_grammar.specs.sentences.Events.{Event, document_end_at, end_at as end_event, event, stream_end_at}
+use Rattle.libyaml_grammar.specs.runs.Runs.{Ending, Ends, Fails}
+use Rattle.libyaml_grammar.specs.sentences.Events.{Event, document_end_at, event, stream_end_at}
 use Rattle.libyaml_grammar.specs.sentences.Nesting.{HasBegun, HasPairs, IsNested, IsOpenDocument, Texts, TextsHavePairs}
-use Rattle.libyaml_grammar.specs.sentences.Nesting.{Value, Values, alias_value, collection_value, first_value, no_texts}
-use Rattle.libyaml_grammar.specs.sentences.Nesting.{no_values, none_open, one_open, scalar_value, NestsSoFar, has_begun}
+use Rattle.libyaml_grammar.specs.sentences.Nesting.{Value, no_texts}
+use Rattle.libyaml_grammar.specs.sentences.Nesting.{none_open, one_open, NestsSoFar, has_begun}
 use Rattle.libyaml_grammar.specs.sentences.Nesting.{not_begun, text_behind, texts_events, whole, value_events}
-use Rattle.libyaml_grammar.specs.sentences.Nesting.{values_events}
-use Rattle.libyaml_grammar.specs.sentences.Trees.{mapping, sequence}
-use Rattle.libyaml_grammar.specs.sentences.Tokens.{Mark, Token}
+use Rattle.libyaml_grammar.specs.sentences.Tokens.{Mark}
 use Rattle.libyaml_graphs.specs.graphs.GraphParts.{Closing, Opening, graph, parts}
 use Rattle.libyaml_graphs.specs.loads.Loads.{Load, begun_behind, behind_document, document_end, last_load, load_then}
 use Rattle.libyaml_graphs.specs.loads.Loads.{loads_by}
@@ -22,10 +19,6 @@ use Rattle.libyaml_graphs.proofs.lent.Building.{front_closes, value_behind, unbu
 use Rattle.libyaml_graphs.proofs.lent.Roots.{value_keeps}
 use Rattle.libyaml_types.specs.declared.event.unnamed_yaml_event_t_data_document_start.{unnamed_yaml_event_t_data_document_start}
 use Rattle.libyaml_graphs.proofs.lent.Building as built
-use Rattle.libyaml_grammar.proofs.lent.NestingSoFar.{run_nests_so_far}
-use Rattle.libyaml_original.specs.parser.Runs.{RunsThere}
-use Rattle.libyaml_original.proofs.runs.Nests.{run_nests}
-use Rattle.libyaml_original.proofs.runs.Whole.{NoEnd, failed_no_end}
 use Rattle.libyaml_original.specs.loader.Loader as orig
 use Rattle.libyaml_original.proofs.loads.Halves.{halves}
 use Rattle.libyaml_original.proofs.loads.Documents.{document_same}
@@ -104,25 +97,6 @@ module _ (limit : ℕ) where
   whole_agree l h
       = subst (Agree Ends) (sym h.all) (texts_agree Ends h.texts (stream_end_at h.end h.end_end ∷ []) h.pairs refl)
 
--- a run that fails is no whole stream
-mutual
-  behind_value : (v : Value) (r : List Event) → NoEnd (value_events v r) → NoEnd r
-  behind_value (alias_value a m n) r h = h.1
-  behind_value (scalar_value s m n) r h = h.1
-  behind_value (collection_value sequence a t i s m n vs p q) r h
-      = (behind_values vs (end_event sequence p q ∷ r) h.1).1
-  behind_value (collection_value mapping a t i s m n vs p q) r h = (behind_values vs (end_event mapping p q ∷ r) h.1).1
-
-  behind_values : (vs : Values) (r : List Event) → NoEnd (values_events vs r) → NoEnd r
-  behind_values no_values r h = h
-  behind_values (first_value v vs) r h = behind_values vs r (behind_value v (values_events vs r) h)
-
-behind_texts : (ts : Texts) (r : List Event) → NoEnd (texts_events ts r) → NoEnd r
-behind_texts no_texts r h = h
-behind_texts (text_behind ts d m n v i p q) r h
-    = (behind_value v (document_end_at i p q ∷ r)
-    (behind_texts ts (event (ev.DocumentStart d) m n ∷ value_events v (document_end_at i p q ∷ r)) h).1).1
-
 -- events that nest, whole ones with the stream's end alone
 pub nested_agree : (n : ℕ) (e : List Event) (x : Ending) → NestsSoFar e → (IsNested e → x ≡ Ends) → Agree n x e
 nested_agree n e x (not_begun h) w = subst (Agree n x) (sym h) (go x)
@@ -132,24 +106,3 @@ nested_agree n e x (not_begun h) w = subst (Agree n x) (sym h) (go x)
     go (Fails f) = refl
 nested_agree n e x (has_begun h) w = begun_agree n e h x
 nested_agree n e x (whole h) w = subst (λ (y : Ending). Agree n y e) (sym (w h)) (whole_agree n e h)
-
--- events without a stream end are no whole stream
-unended : (e : List Event) → NoEnd e → IsNested e → ⊥
-unended e n h = no_end (behind_texts h.texts (stream_end_at h.end h.end_end ∷ []) (subst NoEnd h.all n).1).0
-  where
-    no_end : true ≡ false → ⊥
-    no_end k = cc
-
-ends_whole : (e : List Event) (x : Ending) → ((g : Fault) → x ≡ Fails g → NoEnd e) → IsNested e → x ≡ Ends
-ends_whole e Ends n h = refl
-ends_whole e (Fails g) n h = absurd (unended e (n g refl) h)
-
--- so a run's events do, here and there
-pub run_agrees : (n : ℕ) (l : List Token) (f : Fault) (e : List Event) (x : Ending) → IsSourceError f.error
-    → IsRun l f e x → Agree n x e
-run_agrees n l f e x i r = nested_agree n e x (run_nests_so_far l f e x r)
-    (ends_whole e x (λ g h. failed_no_end f i g l e (subst (λ (y : Ending). IsRun l f e y) h r)))
-
-pub run_there_agrees : (n : ℕ) (l : List Token) (f : Fault) (e : List Event) (x : Ending) → IsSourceError f.error
-    → RunsThere l f e x → Agree n x e
-run_there_agrees n l f e x i r = let h = run_nests l f e x i r in nested_agree n e x h.nests (ends_whole e x h.unended)

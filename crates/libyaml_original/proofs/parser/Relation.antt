@@ -17,20 +17,20 @@ abbrev pub tk : Content → Mark → Mark → Token
 tk k m n = record { content = k; start_mark = m; end_mark = n }
 
 -- a call of this repository's machine, fed with a list of tokens after which the source fails
-pub data Fed : Type 0 where
-  given : Event → Config → List Token → Fed
-  stopped : Fault → Fed
+pub data HereCall : Type 0 where
+  given : Event → Config → List Token → HereCall
+  stopped : Fault → HereCall
 
-abbrev pub led : Progressed → List Token → (Want → Config → Fed) → Fed
+abbrev pub led : Progressed → List Token → (Want → Config → HereCall) → HereCall
 led (Err g) l more = stopped g
 led (Ok (Given e, d)) l more = given e d l
 led (Ok (Wants v, d)) l more = more v d
 
-abbrev pub feed : Fault → Want → Config → List Token → Fed
+abbrev pub feed : Fault → Want → Config → List Token → HereCall
 feed f w c [] = stopped f
 feed f w c (t ∷ l) = led (step w c t) l (λ v d. feed f v d l)
 
-abbrev pub fed : Fault → Progressed → List Token → Fed
+abbrev pub fed : Fault → Progressed → List Token → HereCall
 fed f o l = led o l (λ v d. feed f v d l)
 
 abbrev pub tokens_of : Option Token → List Token → List Token
@@ -143,7 +143,7 @@ standing {tags} {flag} {ended} {state} i fits fresh
     = record { tags = tags; flag = flag; state = state; ended = ended; is = i; fits = fits; fresh = fresh }
 
 -- the same event, and parsers that stand so again; or the same fault
-abbrev pub Matches : Fault → Outcome → Fed → Type 0
+abbrev pub Matches : Fault → Outcome → HereCall → Type 0
 Matches f (OK e q) (given x d l) = (e ≡ x) × Stands f q d l
 Matches f (OK e q) (stopped h) = ⊥
 Matches f (FAIL g) (given x d l) = ⊥

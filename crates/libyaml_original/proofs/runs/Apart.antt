@@ -167,6 +167,14 @@ apart p = go (p.stream_end_produced || is_end_state p.state) (apart_at p p.state
     go true h = inl refl
     go false h = h
 
+pub may_differ : (p : Parser) → (call_there p ≡ call_here p) ⊎ ((true ≡ true) × Differs p (call_there p) (call_here p))
+may_differ p = go (apart p)
+  where
+    go : Apart p (call_there p) (call_here p)
+        → (call_there p ≡ call_here p) ⊎ ((true ≡ true) × Differs p (call_there p) (call_here p))
+    go (inl i) = inl i
+    go (inr i) = inr (refl, i)
+
 -- runs
 ok_same : {e d : Event} {p q : Parser} → OK e p ≡ OK d q → (e ≡ d) × (p ≡ q)
 ok_same {p} h = (ap event_of h, ap (parser_of p) h)

@@ -1,7 +1,7 @@
 use Rattle.std.proofs.Common.{◌||◌, ◌∙◌, Bool, ap}
 use Rattle.libyaml_events.specs.machine.Config.{is_between}
 use Rattle.libyaml_events.specs.sources.History.{between_documents}
-use Rattle.libyaml_events.proofs.lent.Staged.{ran_staged, staged_between}
+use Rattle.libyaml_events.proofs.calls.Staged.{ran_staged, staged_between}
 use Rattle.libyaml_events.proofs.parser.yaml_parser_between_documents.Goals as goal
 
 pub returns-clause-failed : goal.returns-clause-failed

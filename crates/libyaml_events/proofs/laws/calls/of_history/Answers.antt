@@ -8,7 +8,7 @@ use Rattle.libyaml_events.proofs.calls.KnownRuns.{linked_begins, run_given}
 use Rattle.libyaml_grammar.proofs.lent.NestingSoFar.{run_front_nests}
 use Rattle.libyaml_grammar.proofs.lent.Running.{some_run_proof}
 use Rattle.libyaml_events.proofs.calls.Parsed.{ran_needed}
-use Rattle.libyaml_events.proofs.lent.Staged.{ran_staged, staged_depth, staged_over, staged_whole}
+use Rattle.libyaml_events.proofs.calls.Staged.{ran_staged, staged_depth, staged_over, staged_whole}
 use Rattle.libyaml_events.proofs.laws.calls.of_history.Goals as goal
 
 pub returns-clause-no_fault : goal.returns-clause-no_fault

@@ -1,5 +1,5 @@
 use Rattle.std.proofs.Common.{ap, ◌∙◌}
-use Rattle.libyaml_events.proofs.lent.Staged.{ran_staged}
+use Rattle.libyaml_events.proofs.calls.Staged.{ran_staged}
 use Rattle.libyaml_events.proofs.parser.yaml_parser_t.prefix.Goals as goal
 
 pub returns-clause-before_fault : goal.returns-clause-before_fault

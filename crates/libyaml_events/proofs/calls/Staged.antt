@@ -123,6 +123,15 @@ between_stage s ss l st h = (state_kind s).1 ∙ (kind_stage (kind s) ss l st h)
 pub staged_over : (c : Config) (g : List Event) → Staged c g → ended_or_failed c ≡ is_at_end (stage_of g)
 staged_over c g h = ap (λ (f : Fault). is_fault f.error || is_end_state c.state) h.no_fault_kept ∙ end_stage c.state c.states c.lookahead (stage_of g) h.good
 
+-- nor has it in the middle of a call, where its state isn't the last one
+pub alive_stage : (w : Want) (c : Config) (st : Stage) → Good w c st → (c.state ≡ state.YAML_PARSE_END_STATE → ⊥) → is_at_end st ≡ false
+alive_stage AtState c st g n = sym (end_stage c.state c.states c.lookahead st g) ∙ go c.state n
+  where
+    go : (s : yaml_parser_state_t) → (s ≡ state.YAML_PARSE_END_STATE → ⊥) → is_end_state s ≡ false
+    go state.YAML_PARSE_END_STATE n = absurd (n refl)
+    go _ n = refl
+alive_stage w c st g n = sym (kind_stage (kind_of w c) c.states c.lookahead st g).0
+
 -- and it stands between documents exactly where none of the events leaves one open
 pub staged_between : (c : Config) (g : List Event) → Staged c g → is_fault c.fault.error || is_between c.state ≡ is_outside (stage_of g)
 staged_between c g h = ap (λ (f : Fault). is_fault f.error || is_between c.state) h.no_fault_kept
