@@ -55,6 +55,7 @@ pub use Rattle.libyaml_events.specs.sources.Iterated
 pub use Rattle.libyaml_events.specs.sources.ParsesNext
 pub use Rattle.libyaml_events.specs.sources.Parsing
 pub use Rattle.libyaml_events.specs.sources.Pushed
+pub use Rattle.libyaml_events.specs.sources.OnePush
 pub use Rattle.libyaml_events.specs.sources.Pushes
 pub use Rattle.libyaml_events.specs.sources.RunToCome
 pub use Rattle.libyaml_sources.specs.Source
