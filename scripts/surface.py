@@ -119,18 +119,20 @@ def code_of(kind, name, text, owner=None):
     return re.sub(r"\s*(=\s*yaml_.*)?\{?$", "", text.split("\n")[0].replace("pub ", "")).rstrip(";")
 
 
-def iterated(trait, name, text):
-    """What an implementation for a type gives to its users: a way to make it, or the items that it yields."""
+def implemented(trait, name, docs, text):
+    """What an implementation for a type gives to its users: a way to make it, the items that it yields, or its text."""
     if item := re.search(r"^    type Item = (.*);", text, re.M):
-        return Item("impl", f"{name}::iterator", ["A"], f"impl Iterator<Item = {item[1]}> for {name}")
+        return Item("impl", f"{name}::iterator", docs, f"impl Iterator<Item = {item[1]}> for {name}")
     if trait.startswith("From<Vec"):
-        return Item("fn", f"{name}::from", ["A"], f"fn {name}::from(tokens: {trait[5:-1]}) -> Self")
+        return Item("fn", f"{name}::from", docs, f"fn {name}::from(tokens: {trait[5:-1]}) -> Self")
+    if trait == "fmt::Display":
+        return Item("impl", f"{name}::display", docs, f"impl Display for {name}")
     return None
 
 
 def items_of(path):
     """The public items of a file, methods and trait methods among them as `Type::name`."""
-    docs, owner, is_trait, found = [], None, False, []
+    docs, owner, bounds, is_trait, found = [], None, "", False, []
     lines = path.read_text().splitlines()
     for number, line in enumerate(lines):
         if line.strip().startswith("///"):
@@ -141,16 +143,15 @@ def items_of(path):
         text = "\n".join(lines[number : number + 60])
         if match := ITEM.match(line):
             found.append(Item(match[1], match[2], docs, code_of(match[1], match[2], text)))
-            owner, is_trait = (match[2], True) if match[1] == "trait" else (None, False)
+            owner, bounds, is_trait = (match[2], "", True) if match[1] == "trait" else (None, "", False)
         elif match := IMPL.match(line):
-            owner, is_trait = (None if match[2] else match[3]), False
-            body = text[: text.find("\n}")]
-            if match[2] and (item := iterated(match[2], match[3], body)):
-                item.says = sentence(docs) if item.kind == "fn" else ""
+            owner, bounds, is_trait = (None if match[2] else match[3]), match[1] or "", False
+            if match[2] and (item := implemented(match[2], match[3], docs, text[: text.find("\n}")])):
                 found.append(item)
         elif owner and (match := METHOD.match(line)) and (match[1] or is_trait):
             name = f"{owner}::{match[2]}"
-            found.append(Item("fn", name, docs, code_of("fn", name, text)))
+            code = code_of("fn", name, text)
+            found.append(Item("fn", name, docs, code.replace("::", bounds + "::", 1) if ":" in bounds else code))
         elif line.startswith("}"):
             owner, is_trait = None, False
         docs = []
