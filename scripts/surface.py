@@ -1,6 +1,7 @@
 #!/usr/bin/env python3
-"""Lists every public item of the libraries in docs/SURFACE.md: first those that a program uses first, then the others by their
-crates, each with its signature, its fields or its variants and the first sentence of its doc; then the laws, by their names.
+"""Lists every public item of the libraries in docs/SURFACE.md: first those that a program uses first, then the others that a
+user can name, by their crates, each with its signature, its fields or its variants and the first sentence of its doc; then, by
+their names, those that only crates above use, and the laws.
 
     python3 scripts/surface.py           fails where the page is stale, or an item has no doc
     python3 scripts/surface.py --write   writes the page
@@ -19,6 +20,7 @@ METHOD = re.compile(r"    (pub )?fn (\w+)")
 IMPL = re.compile(r"impl(<.*?>)? (?:(.+?) for )?(\w+)")
 USE = re.compile(r"pub use ([\w:]+?)(?:::\{([^}]*)\}| as (\w+))?;")
 LAWS = re.compile(r"(?:laws|rows|determined)::")
+NAMED = ("unsafe_libyaml", "token_lines", "memory_runs", "token_lines_c", "yaml_path")
 EXAMPLES = {"computed_tokens", "pushed_list", "cited_theorems", "row_checks"}
 WIDTH = 110
 
@@ -173,9 +175,9 @@ def module_files(crate, module):
     return [path for path in [folder / f"{module}.rt", *sorted((folder / module).glob("*.rt"))] if path.exists()]
 
 
-def names_passed_on(crate):
-    """What a crate's root gives by `pub use`: pairs of the path and a name."""
-    text = re.sub(r"\s+", " ", root(crate).read_text())
+def names_passed_on(crate, file=None):
+    """What a crate's root, or a module's file, gives by `pub use`: pairs of the path and a name."""
+    text = re.sub(r"\s+", " ", (file or root(crate)).read_text())
     for path, group, renamed in USE.findall(text):
         if group:
             for name in group.split(","):
@@ -201,6 +203,9 @@ def public_of(crate):
             for item in items_of(path):
                 if item.name.split("::")[0] not in public:
                     public[f"{prefix}::{item.name}"] = item
+            for _, name in names_passed_on(crate, path):
+                if name in own and name not in public:
+                    public[f"{prefix}::{name}"] = own[name]
     for name, item in list(own.items()):
         owner = name.split("::")[0]
         if "::" in name and owner in public and public[owner] is not None:
@@ -263,20 +268,25 @@ def page():
     for title, names in FIRST:
         lines += ["", f"### {title}", "", *block(everything[name] for name in names.split())]
     lines += ["", "## The others, by their crates"]
-    passing = {user: set(name for _, name in names_passed_on(user)) for user in ("unsafe_libyaml", "token_lines")}
+    passing = {user: {name for _, name in names_passed_on(user)} for user in NAMED if user in listed}
+    inner = []
     for crate, rows in listed.items():
         users = [user for user, names in passing.items() if crate != user and any(name in names for name, _ in rows)]
-        left = [(name, item) for name, item in in_order(rows) if name not in first]
+        can_name = [(n, i) for n, i in rows if crate in NAMED or any(n.split("::")[0] in passing[user] for user in users)]
+        inner += [(crate, [row[0] for row in rows if row not in can_name])] if len(can_name) < len(rows) else []
+        left = [(name, item) for name, item in in_order(can_name) if name not in first]
         if left:
             title = f"### `{crate}`" + (f", re-exported by `{'` and `'.join(users)}`" if users else "")
             lines += ["", title, "", *block(grouped(left))]
+    lines += ["", "## For the crates above alone", "", "| crate | items |", "|---|---|"]
+    lines += [f"| `{crate}` | {', '.join(names)} |" for crate, names in inner]
     lines += ["", "## Laws", "", "A law is a function whose contract is a theorem. [PROVED.md](PROVED.md) says what they say.", ""]
     lines += ["| crate | module and laws |", "|---|---|"]
     for crate, names in laws:
         modules = {}
         for name in names:
             modules.setdefault("::".join(name.split("::")[:-1]), []).append(name.split("::")[-1])
-        lines.append(f"| `{crate}` | " + "; ".join(f"`{module}`: {', '.join(inner)}" for module, inner in modules.items()) + " |")
+        lines.append(f"| `{crate}` | " + "; ".join(f"`{module}`: {', '.join(its)}" for module, its in modules.items()) + " |")
     return "\n".join(lines) + "\n", without
 
 
