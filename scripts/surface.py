@@ -102,8 +102,13 @@ class Item:
     def __init__(self, kind, name, docs, code):
         self.kind, self.name, self.says, self.code = kind, name, sentence(docs), code
 
+    def says_itself(self):
+        """Whether the code says enough: the parts of a content, a short reader of a value, and the names of types."""
+        reads = re.search(r"::\w+\(&?self\) -> ", self.code) and len(self.says.split()) <= 10
+        return self.name.startswith("unnamed_") or reads or self.name.endswith("::display") and "`name`" in self.says
+
     def lines(self):
-        if self.says and not self.name.startswith("unnamed_"):
+        if self.says and not self.says_itself():
             yield from textwrap.wrap(self.says, WIDTH, initial_indent="/// ", subsequent_indent="/// ", break_on_hyphens=False)
         yield from wrapped(self.code)
 
