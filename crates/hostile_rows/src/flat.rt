@@ -1,9 +1,8 @@
 //! Work that takes no more memory where there is more of it (`scripts/flat_memory.sh`).
 
 use crate::calls::append_item;
-use crate::growing::Grown;
+use crate::growing::{ComputedTokens, GrowingList, Grown};
 use anyhow::{Result, bail};
-use computed_tokens::{ComputedTokens, GrowingList};
 use row_checks::{gives_event, next_nodes};
 use std::alloc::{AllocError, Global};
 use token_lines::{MAX_TOKENS, yaml_line_source_t};

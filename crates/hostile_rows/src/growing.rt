@@ -1,6 +1,10 @@
 //! Lists that grow by a number, over the source that computes them and over a list of the same tokens.
 
-use computed_tokens::{ComputedTokens, GrowingList};
+mod computed;
+mod list;
+
+pub use computed::ComputedTokens;
+pub use list::GrowingList;
 use row_checks::push_tokens;
 use std::alloc::{AllocError, Global};
 use unsafe_libyaml::{

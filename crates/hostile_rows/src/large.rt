@@ -1,10 +1,9 @@
 //! Whole runs and loads of large lists: over the source that computes the tokens, and over a list of the same
 //! tokens, which has to give the same. Of documents the value of each node is compared too.
 
-use crate::growing::{Grown, lists};
+use crate::growing::{GrowingList, Grown, lists};
 use crate::shapes::is_shaped;
 use anyhow::Result;
-use computed_tokens::GrowingList;
 use row_checks::Tables;
 use std::alloc::Global;
 use unsafe_libyaml::{

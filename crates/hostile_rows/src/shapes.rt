@@ -1,8 +1,8 @@
 //! The nodes that large lists give.
 
+use crate::growing::GrowingList;
 use crate::large::N;
 use crate::nested::is_chain;
-use computed_tokens::GrowingList;
 use unsafe_libyaml::{
     YAML_PLAIN_SCALAR_STYLE, unnamed_yaml_node_t_data, yaml_node_item_t, yaml_node_pair_t,
     yaml_node_t,

@@ -1,0 +1,2 @@
+pub mod ComputedTokens
+pub mod ComputedTokensLaws
