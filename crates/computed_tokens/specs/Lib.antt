@@ -1,2 +1,2 @@
-pub mod ComputedTokens
-pub mod ComputedTokensLaws
+pub mod Letters
+pub mod LettersLaws

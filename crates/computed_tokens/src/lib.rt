@@ -1,13 +1,9 @@
-//! A source of tokens of one's own, as an example: it computes each token from the number of the call,
-//! and keeps no list.
+//! A token source of one's own, as an example: the tokens of a text of brackets, commas and letters.
 //!
-//! A source is a type with an `impl yaml_token_source_t`. That says what each call may return and what it
-//! makes of the source, how many tokens may still come, and which ones, where the source knows. This one
-//! doesn't say which: of a parser over it all is known that is known over every source, and nothing more.
+//! A source is a type with an `impl yaml_token_source_t`. This one says which tokens come and which fault ends
+//! them, so the contracts of a parser over it say which events come.
 #![tactic(auto)]
 
-mod list;
-mod source;
+mod letters;
 
-pub use list::GrowingList;
-pub use source::ComputedTokens;
+pub use letters::Letters;
