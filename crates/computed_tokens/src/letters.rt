@@ -98,11 +98,11 @@ impl<'a> yaml_token_source_t for Letters<'a> {
     }
 }
 
-/// Returns the content of a character's token, or `None` for a character that is none.
+/// Returns the content of a character's token, or `None` for a character that is no token.
 ///
 /// # Errors
 ///
-/// Out of memory.
+/// Out of memory, for a character that is a token.
 fn content(alloc: Global, character: u8) -> Result<Option<unnamed_yaml_token_t_data>, AllocError>
     ensures ok { IfOk result (λ content. content ≡ content_of character) }
     ensures err { IfErr result (λ _. content_of character ≢ None) }
