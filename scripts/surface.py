@@ -285,7 +285,7 @@ def page():
             lines += ["", title, "", *block(grouped(left))]
     lines += ["", "## For the crates above alone", "", "| crate | items |", "|---|---|"]
     lines += [f"| `{crate}` | {', '.join(names)} |" for crate, names in inner]
-    lines += ["", "## Laws", "", "A law is a function whose contract is a theorem. [PROVED.md](PROVED.md) says what they say.", ""]
+    lines += ["", "## Laws", "", "[PROVED.md](PROVED.md) says what each says.", ""]
     lines += ["| crate | module and laws |", "|---|---|"]
     for crate, names in laws:
         modules = {}
