@@ -1,3 +1,4 @@
 pub mod Ids
 pub mod TreeGraphs
 pub mod Linear
+pub mod Nestings

@@ -7,6 +7,7 @@ pub mod rows;
 ghost use Rattle.libyaml_graphs.specs.loads.Linear.{documents_size, size, total_size};
 ghost use Rattle.std.specs.Prelude.{◌≤◌, ◌*◌, length, map};
 ghost use Rattle.std.specs.Prelude.{◌≡◌, ◌≢◌, ◌++◌, ◌↔◌, ◌⊎◌, ℕ, suc, List, [], ◌∷◌, None, true};
+ghost use Rattle.std.specs.Prelude.{Option, Some, codes};
 ghost use Rattle.std.specs.Prelude.{false, Ok, Err};
 ghost use Rattle.libyaml_grammar.specs.cuts.CutEvents.{cut_events};
 ghost use Rattle.libyaml_grammar.specs.cuts.CutFaults.{fault};
@@ -15,12 +16,12 @@ ghost use Rattle.libyaml_grammar.specs.sentences.Events.{Event, events};
 ghost use Rattle.libyaml_sources.specs.Fault.{Fault, memory_fault};
 ghost use Rattle.libyaml_grammar.specs.cuts.Fits.{Fits};
 ghost use Rattle.libyaml_grammar.specs.sentences.Nesting.{HasPairs, IsNested, NestsSoFar, Texts};
-ghost use Rattle.libyaml_grammar.specs.sentences.Nesting.{TextsHavePairs, Value, value_events};
+ghost use Rattle.libyaml_grammar.specs.sentences.Nesting.{TextsHavePairs, Value, scalar_value, value_events};
 ghost use Rattle.libyaml_grammar.specs.sentences.Order.{in_order};
 ghost use Rattle.libyaml_grammar.specs.runs.Runs.{Ending, Ends, Fails, is_behind_properties};
 ghost use Rattle.libyaml_grammar.specs.sentences.Sentences.{IsBeginning, has_end};
 ghost use Rattle.libyaml_grammar.specs.cuts.Settled.{IsSettled};
-ghost use Rattle.libyaml_grammar.specs.sentences.Tokens.{Marks, StreamEnd, Token, tok};
+ghost use Rattle.libyaml_grammar.specs.sentences.Tokens.{Mark, Marks, StreamEnd, Token, tok};
 ghost use Rattle.libyaml_grammar.specs.sentences.Trees.{Stream, tokens};
 ghost use Rattle.libyaml_documents.specs.Documents.{Document};
 ghost use Rattle.libyaml_documents.specs.Nodes.{EveryIdNamesANode};
@@ -28,14 +29,15 @@ ghost use Rattle.libyaml_graphs.specs.loads.Bounds.{HasRoom, NoneLacksMemory, St
 ghost use Rattle.libyaml_graphs.specs.loads.Bounds.{first_stop, next_bounded};
 ghost use Rattle.libyaml_graphs.specs.graphs.ComposerFaults.{composer_fault, heads};
 ghost use Rattle.libyaml_graphs.specs.loads.GraphLaws.{ChildrenAreLater, EachHoldsItsChildren};
-ghost use Rattle.libyaml_graphs.specs.loads.GraphLaws.{EachIdNames, HoldsItsChildren, LoadsWhole};
+ghost use Rattle.libyaml_graphs.specs.loads.GraphLaws.{EachIdNames, EachIsLater, HoldsItsChildren};
+ghost use Rattle.libyaml_graphs.specs.loads.GraphLaws.{LoadsWhole};
 ghost use Rattle.libyaml_graphs.specs.loads.GraphLaws.{NestedLoads, RootsFollow, load_at, unless_fault};
 ghost use Rattle.libyaml_graphs.specs.graphs.Graphs.{Start, nodes_of, starts_behind};
 ghost use Rattle.libyaml_graphs.specs.loads.Loads.{IsLoads, Load, last_load, left_over};
 ghost use Rattle.libyaml_graphs.specs.loads.Loads.{loads, loads_of, next_load};
 ghost use Rattle.libyaml_graphs.specs.graphs.GraphParts.{Part, graph, parts};
 
-use libyaml_types::yaml_error_type_t;
+use libyaml_types::{unnamed_yaml_event_t_data_scalar, yaml_error_type_t};
 
 /// The headline of loads: over a list whose only STREAM-END is its last token, the loads are the graphs of
 /// its one tree's documents, up to the first composer error, and then the document without root; or those
@@ -110,6 +112,17 @@ pub fn graph_of_tree()
         → graph es (parts (value_events v r)) ≡ nodes_of v es (graph (starts_behind v es) (parts r)) }
 {}
 
+/// A document's graph doesn't determine its events, not even up to marks and styles: of a scalar it forgets
+/// the anchor, which only aliases name, and whether the tag is missing or `!`.
+pub fn graph_forgets()
+    ensures anchor { (s : unnamed_yaml_event_t_data_scalar) (a : Option (List ℕ)) (m n : Mark)
+        (es : List Start) → nodes_of (scalar_value (record s { anchor = a }) m n) es []
+        ≡ nodes_of (scalar_value s m n) es [] }
+    ensures tag { (s : unnamed_yaml_event_t_data_scalar) (m n : Mark) (es : List Start)
+        → nodes_of (scalar_value (record s { tag = Some (codes "!") }) m n) es []
+        ≡ nodes_of (scalar_value (record s { tag = None }) m n) es [] }
+{}
+
 /// A document's composer error is that of its heads: the ends of collections have none.
 pub fn fault_of_heads()
     ensures { (l : List Part) (es : List Start) → composer_fault es l ≡ composer_fault es (heads l) }
@@ -132,7 +145,16 @@ pub fn no_value_lacks()
 /// A child that is no alias has a greater id than its parent, and an alias's id is that of an earlier or
 /// enclosing node.
 pub fn children_later()
-    ensures { (v : Value) (es : List Start) → ChildrenAreLater v es }
+    ensures of_value { (v : Value) (es : List Start) → ChildrenAreLater v es }
+    ensures of_documents { (ts : Texts) → EachIsLater ts }
+{}
+
+/// Events nest in one way: those of a value are of no other, whatever comes after them, and events that nest
+/// to the end are those of one list of documents. So each document has one graph.
+pub fn one_nesting()
+    ensures of_value { (v w : Value) (r s : List Event) → value_events v r ≡ value_events w s
+        → (v ≡ w) × (r ≡ s) }
+    ensures of_documents { (l : List Event) (a b : IsNested l) → a.texts ≡ b.texts }
 {}
 
 /// The first load is the next load's result, and those after it are its fault again and again, or the

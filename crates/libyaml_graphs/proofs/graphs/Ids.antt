@@ -13,7 +13,7 @@ use Rattle.libyaml_grammar.specs.sentences.Trees.{Sort, mapping, sequence}
 use Rattle.libyaml_documents.specs.Nodes.{EveryIdNamesANode, IsIdUpTo, ids_of, ids_of_pairs}
 use Rattle.libyaml_documents.specs.declared.node.yaml_node_t.{yaml_node_t}
 use Rattle.libyaml_graphs.specs.graphs.ComposerFaults.{alias_fault, anchor_fault, composer_fault, heads, or_else, part_fault}
-use Rattle.libyaml_graphs.specs.loads.GraphLaws.{AllHoldTheirChildren, AllLater, ChildrenAreLater, EachHoldsItsChildren, HoldsItsChildren, IsLater}
+use Rattle.libyaml_graphs.specs.loads.GraphLaws.{AllHoldTheirChildren, AllLater, ChildrenAreLater, EachHoldsItsChildren, EachIsLater, HoldsItsChildren, IsLater}
 use Rattle.libyaml_graphs.specs.graphs.Graphs.{Carrier, Start, carrier, carries, collection_loaded, id_of, id_or, ids_of_all, items, nodes_of, nodes_of_all, pairs}
 use Rattle.libyaml_graphs.specs.graphs.Graphs.{starts_behind, starts_behind_all}
 use Rattle.libyaml_graphs.specs.graphs.GraphParts.{Part, alias_part, end_part, leaf_part, parts, start_of, start_part}
@@ -212,6 +212,10 @@ mutual
   all_later : (vs : Values) (n : ℕ) (es : List Start) → n ≤ length es → AllLater n vs es
   all_later no_values n es h = tt
   all_later (first_value v vs) n es h = (is_later n v es h, children_later v es, all_later vs n (starts_behind v es) (le_trans h (starts_grow v es)))
+
+pub texts_later : (ts : Texts) → EachIsLater ts
+texts_later no_texts = tt
+texts_later (text_behind ts d m n v i p q) = (texts_later ts, children_later v [])
 
 -- the ends of collections have no composer error
 pub fault_of_heads : (P : List Part) (es : List Start) → composer_fault es P ≡ composer_fault es (heads P)

@@ -35,6 +35,11 @@ abbrev mutual
   AllLater n no_values es = Unit {0}
   AllLater n (first_value v vs) es = IsLater n v es × ChildrenAreLater v es × AllLater n vs (starts_behind v es)
 
+-- and so it is in the value of each document
+abbrev pub EachIsLater : Texts → Type 0
+EachIsLater no_texts = Unit {0}
+EachIsLater (text_behind ts d m n v i p q) = EachIsLater ts × ChildrenAreLater v []
+
 -- each node in a value holds the ids of all its children, in their order; so no pair lacks its value
 abbrev mutual
   pub HoldsItsChildren : Value → List Start → Type 0
