@@ -1,0 +1,50 @@
+-- One directive more.
+use Rattle.std.proofs.Common.{arith, ◌≡◌, ◌++◌, ◌+◌, ◌<◌, ℕ, List, [], ◌∷◌, length, get_or, take, refl, ap, ◌∙◌, sym, subst, append_assoc}
+use Rattle.std.proofs.lemmas.List.{append-nil, length-append, take_more}
+use Rattle.libyaml_types.specs.declared.directive.yaml_tag_directive_t.{yaml_tag_directive_t}
+use Rattle.token_records.specs.declared.records.directive_record_t.{directive_record_t}
+use Rattle.token_records.specs.Puts.{Puts}
+use Rattle.token_records.proofs.Filling.{puts_then}
+use Rattle.token_records.specs.EventRecords.{directive_bytes, directives_bytes, directive_record, directive_records}
+
+bytes_append : (xs ys : List yaml_tag_directive_t) → directives_bytes (xs ++ ys) ≡ directives_bytes xs ++ directives_bytes ys
+bytes_append [] ys = refl
+bytes_append (x ∷ xs) ys = ap (λ l. directive_bytes x ++ l) (bytes_append xs ys) ∙ sym (append_assoc (directive_bytes x) (directives_bytes xs) (directives_bytes ys))
+
+at_place : (n a b : ℕ) → n + a + b ≡ n + (a + b)
+at_place n a b = omega arith
+
+records_append : (n : ℕ) (xs ys : List yaml_tag_directive_t)
+    → directive_records n (xs ++ ys) ≡ directive_records n xs ++ directive_records (n + length (directives_bytes xs)) ys
+records_append n [] ys = let same : n ≡ n + 0 = omega arith in ap (λ m. directive_records m ys) same
+records_append n (x ∷ xs) ys =
+    let same = at_place n (length (directive_bytes x)) (length (directives_bytes xs)) ∙ ap (λ m. n + m) (sym (length-append (directive_bytes x) (directives_bytes xs))) in
+    ap (λ l. directive_record n x ∷ l) (records_append (n + length (directive_bytes x)) xs ys
+    ∙ ap (λ m. directive_records (n + length (directive_bytes x)) xs ++ directive_records m ys) same)
+
+pub bytes_more : (ds : List yaml_tag_directive_t) (i : ℕ) (d : yaml_tag_directive_t) → i < length ds
+    → directives_bytes (take (i + 1) ds) ≡ directives_bytes (take i ds) ++ directive_bytes (get_or ds i d)
+bytes_more ds i d h = ap directives_bytes (take_more ds i d h) ∙ bytes_append (take i ds) (get_or ds i d ∷ [])
+    ∙ ap (λ l. directives_bytes (take i ds) ++ l) (append-nil _)
+
+pub records_more : (n : ℕ) (ds : List yaml_tag_directive_t) (i : ℕ) (d : yaml_tag_directive_t) → i < length ds
+    → directive_records n (take (i + 1) ds)
+    ≡ directive_records n (take i ds) ++ directive_record (n + length (directives_bytes (take i ds))) (get_or ds i d) ∷ []
+records_more n ds i d h = ap (directive_records n) (take_more ds i d h) ∙ records_append n (take i ds) (get_or ds i d ∷ [])
+
+-- one directive more was put
+pub put_more : (ds : List yaml_tag_directive_t) (i : ℕ) (d : yaml_tag_directive_t) (within : i < length ds) (item : d ≡ get_or ds i d)
+    (d0 d1 d2 n0 n1 n2 : ℕ) (D0 D1 D2 : List directive_record_t) (T0 T1 T2 : List ℕ) (made : directive_record_t)
+    → Puts D0 d0 (directive_records n0 (take i ds)) D1 d1 → Puts T0 n0 (directives_bytes (take i ds)) T1 n1
+    → made ≡ directive_record n1 d → Puts T1 n1 (directive_bytes d) T2 n2 → Puts D1 d1 (made ∷ []) D2 d2
+    → Puts D0 d0 (directive_records n0 (take (i + 1) ds)) D2 d2 × Puts T0 n0 (directives_bytes (take (i + 1) ds)) T2 n2
+put_more ds i d within item d0 d1 d2 n0 n1 n2 D0 D1 D2 T0 T1 T2 made ds_put ts_put is t_put d_put =
+    let which : made ≡ directive_record (n0 + length (directives_bytes (take i ds))) (get_or ds i d)
+    = is ∙ (λ k. directive_record (ts_put.counts k) (item k)) in
+    let records = records_more n0 ds i d within in
+    let bytes = bytes_more ds i d within ∙ ap (λ x. directives_bytes (take i ds) ++ directive_bytes x) (sym item) in (
+      subst (λ (l : List directive_record_t). Puts D0 d0 l D2 d2)
+          (ap (λ x. directive_records n0 (take i ds) ++ x ∷ []) which ∙ sym records)
+          (puts_then D0 D1 D2 d0 d1 d2 (directive_records n0 (take i ds)) (made ∷ []) ds_put d_put),
+      subst (λ (l : List ℕ). Puts T0 n0 l T2 n2) (sym bytes) (puts_then T0 T1 T2 n0 n1 n2 (directives_bytes (take i ds)) (directive_bytes d) ts_put t_put),
+    )

@@ -1,0 +1,6 @@
+mod Texts
+mod Running
+mod WholeRuns
+mod Filling
+mod DirectiveLemmas
+mod ReadBack

@@ -1,0 +1,61 @@
+-- What a whole run hands out.
+use Rattle.std.proofs.Common.{arith, ◌≡◌, ◌+◌, ◌++◌, ◌⊎◌, ℕ, List, [], length, min, sym, ap, ◌∙◌, inl, inr}
+use Rattle.std.proofs.lemmas.List.{take_all, length-append}
+use Rattle.libyaml_types.specs.declared.event.yaml_event_t.{yaml_event_t}
+use Rattle.libyaml_sources.specs.Fault.{Fault, memory_fault}
+use Rattle.libyaml_grammar.specs.runs.Runs.{Ending}
+use Rattle.token_records.specs.EventRecords.{nothing, record_events}
+use Rattle.token_records.specs.Puts.{Puts, filled}
+use Rattle.token_records.specs.RecordRun.{Buffers, EndsBy, HandsOut, HandsOutRun, Holds, PutsRun, Stops, WithinRoom, fault_bytes, fault_record, no_counts}
+use Rattle.token_records.specs.declared.records.fault_record_t.{fault_record_t}
+use Rattle.token_records.specs.declared.records.record_counts_t.{record_counts_t}
+use Rattle.token_records.specs.declared.records.records_run_t.{records_run_t}
+
+untouched : {A : Type 0} (old : List A) → old ≡ filled old []
+untouched old = ap (λ l. l ++ old) (sym (take_all (length old) [] (omega arith)))
+
+begins : (old : Buffers) → old.counts ≡ no_counts → Holds old old nothing
+begins old none = record {
+  events = untouched old.events;
+  events_counted = ap (λ (k : record_counts_t). k.events) none;
+  directives = untouched old.directives;
+  directives_counted = ap (λ (k : record_counts_t). k.directives) none;
+  texts = untouched old.texts;
+  texts_counted = ap (λ (k : record_counts_t). k.texts) none;
+}
+
+handed_out : {A : Type 0} (all old new : List A) (wanted written : ℕ) → new ≡ filled old all → wanted ≡ length all → written ≡ min wanted (length old)
+    → HandsOut all old new wanted written
+handed_out all old new wanted written new_is wanted_is written_is
+    = record { wanted_is = wanted_is; written_is = written_is ∙ ap (λ k. min k (length old)) wanted_is; filled_so = new_is }
+
+-- a run that was put up to where it stops, and then its fault
+pub hands_out : (MayBreak : Fault → Type 0) → ((f : Fault) → MayBreak f → f ≡ memory_fault) → (old mid new : Buffers) (f : Fault) (run : records_run_t) (r : fault_record_t)
+    (events : List yaml_event_t) (ending : Ending) → old.counts ≡ no_counts → PutsRun MayBreak f old mid events ending
+    → r ≡ fault_record mid.counts.texts f → Puts mid.texts mid.counts.texts (fault_bytes f) new.texts new.counts.texts
+    → new.events ≡ mid.events → new.directives ≡ mid.directives → new.counts.events ≡ mid.counts.events → new.counts.directives ≡ mid.counts.directives
+    → run.wanted ≡ new.counts → run.fault ≡ r → WithinRoom old run → HandsOutRun old new run events ending
+hands_out MayBreak only old mid new f run r events ending none put made words same_events same_directives events_count directives_count wanted fault room =
+    let holds = put.recorded old nothing (begins old none) in
+    let all = record_events nothing put.first in
+    let long = length-append all.texts (fault_bytes f) in
+    record {
+      first = put.first;
+      later = put.later;
+      all = put.all;
+      fault = f;
+      ends = go put.stops;
+      fault_is = fault ∙ made ∙ ap (λ n. fault_record n f) holds.texts_counted;
+      event_records = handed_out all.events old.events new.events run.wanted.events run.written.events (same_events ∙ holds.events)
+          (ap (λ (k : record_counts_t). k.events) wanted ∙ events_count ∙ holds.events_counted) room.events;
+      directive_records = handed_out all.directives old.directives new.directives run.wanted.directives run.written.directives (same_directives ∙ holds.directives)
+          (ap (λ (k : record_counts_t). k.directives) wanted ∙ directives_count ∙ holds.directives_counted) room.directives;
+      texts = handed_out (all.texts ++ fault_bytes f) old.texts new.texts run.wanted.texts run.written.texts
+          (words.fills old.texts all.texts holds.texts holds.texts_counted)
+          (ap (λ (k : record_counts_t). k.texts) wanted ∙ words.counts ∙ ap (λ k. k + length (fault_bytes f)) holds.texts_counted ∙ sym long) room.texts;
+    }
+  where
+    go : Stops MayBreak f put.later ending → ((put.later ≡ []) × EndsBy f ending) ⊎ (f ≡ memory_fault)
+    go (inl h) = inl h
+    go (inr (inl h)) = inr h
+    go (inr (inr h)) = inr (only f h)

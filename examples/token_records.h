@@ -1,0 +1,150 @@
+/* Token records in, event records out: the run of `token_records`, as a static library for C and C++.
+ *
+ * A run takes the tokens of a whole stream as records, and makes the records of its events, those of their tag
+ * directives, and the texts that both name. A record is a plain struct of fixed size; a text is a range of a buffer of
+ * bytes, that of the tokens in `texts` and that of the events in `out`. After the texts in `out` come the words of a
+ * fault, if there is one. The caller gives three buffers; on each return `*run` has
+ *
+ * - `fault`: why there are no more events, or `error` 0 where the stream ended. An error of 1 is that an allocation
+ *   failed, 2 and 3 that a token record is bad or that the tokens ended before STREAM-END (below), 4 that the tokens are
+ *   no stream of YAML;
+ * - `wanted`: how many event records, directive records and bytes of texts the run has;
+ * - `written`: how many of them are in the caller's buffers: as many as `wanted`, or as a buffer has room for. Read none
+ *   after these; they are as they were.
+ *
+ * So all is there exactly where each of `written` is that of `wanted`. Where it isn't, run again with more room. Up to a
+ * fault the events are those of the stream; where an allocation failed they are the first of them. A second run over the
+ * same tokens may have another outcome, since memory may run out in one and not in the other: take what the last run
+ * says, and nothing of an earlier one.
+ *
+ *     token_records_run_events(tokens, count, texts, texts_length, events, events_room, directives, directives_room,
+ *                              out, out_room, &run);
+ *     if (run.written.events == run.wanted.events && run.written.directives == run.wanted.directives &&
+ *         run.written.texts == run.wanted.texts)
+ *         ... // all of it is there
+ *
+ * examples/record_driver.c is a program with that loop, over libyaml's scanner. The numbers of kinds, styles, encodings
+ * and errors are those of libyaml's yaml_token_type_t, yaml_event_type_t and so on, and marks count from 0 as libyaml's.
+ *
+ * Faults of the records themselves, each with `problem_offset` and the mark's index and line the number of the record,
+ * from 0:
+ *
+ *     error   problem                   when
+ *     3       bad token record          its kind, style or encoding is no number of libyaml's
+ *     2       text outside the buffer   a range of it goes past `texts_length`
+ *     2       text is not UTF-8         a text of it isn't
+ *     2       no more tokens            the run needed a token after the last
+ *
+ * Ownership. All buffers are the caller's, before, during and after the call; the library keeps nothing of them, and
+ * gives back what it allocates before it returns. Threads. Several may call at once, each with `events`, `directives`,
+ * `out` and `run` of its own.
+ *
+ * Link `libtoken_records.a` or `libtoken_records.so`, which scripts/build_c.sh makes of `crates/token_records_c` and the
+ * toolchain's allocator: they need nothing but the C library, and export no symbol but this function.
+ *
+ * What the library does is proved; that the caller keeps to this is not:
+ *
+ * - No pointer is null, also where its length is 0, and each is aligned for its type. Each array has as many entries,
+ *   and not bytes, as the length after it says. No two of them overlap each other or `*run`, and nobody else writes to
+ *   them during the call.
+ * - `size_t` has 64 bits, and the structs are laid out as on x86-64: scripts/records_checks.sh compares them with the
+ *   library's.
+ * - `malloc`, `realloc` and `free` are of one allocator, and align a block to each power of two up to 16 that divides
+ *   its size, as the C library's do.
+ * - The run is called neither from a signal handler nor in the forked child of a process with threads. */
+#ifndef TOKEN_RECORDS_H
+#define TOKEN_RECORDS_H
+
+#include <stddef.h>
+#include <stdint.h>
+
+#ifdef __cplusplus
+extern "C" {
+#endif
+
+/* A place in a text, laid out as libyaml's yaml_mark_t. */
+typedef struct {
+    uint64_t index;  /* characters from the start of the text */
+    uint64_t line;   /* lines before this one */
+    uint64_t column; /* characters before this one in its line */
+} mark_record_t;
+
+/* Some neighbours in a buffer. A text that isn't there has the place TOKEN_RECORDS_ABSENT and no length. */
+typedef struct {
+    size_t place;  /* how many stand before them */
+    size_t length; /* how many they are */
+} range_record_t;
+
+#define TOKEN_RECORDS_ABSENT SIZE_MAX
+
+/* A token. What a token of its kind has no use for is not looked at. */
+typedef struct {
+    uint32_t kind;  /* yaml_token_type_t */
+    uint32_t style; /* SCALAR: yaml_scalar_style_t; STREAM-START: yaml_encoding_t */
+    int32_t major;  /* VERSION-DIRECTIVE */
+    int32_t minor;
+    mark_record_t start_mark;
+    mark_record_t end_mark;
+    range_record_t first;  /* ALIAS, ANCHOR, SCALAR: the text; TAG, TAG-DIRECTIVE: the handle */
+    range_record_t second; /* TAG: the suffix; TAG-DIRECTIVE: the prefix */
+} token_record_t;
+
+/* A tag directive of a document. */
+typedef struct {
+    range_record_t handle;
+    range_record_t prefix;
+} directive_record_t;
+
+/* An event. What an event of its kind has no use for is 0, and its ranges are absent. */
+typedef struct {
+    uint32_t kind;           /* yaml_event_type_t */
+    uint8_t style;           /* of a scalar, sequence or mapping; STREAM-START: yaml_encoding_t */
+    uint8_t implicit;        /* of a scalar: plain_implicit */
+    uint8_t quoted_implicit; /* of a scalar */
+    uint8_t has_version;     /* of a document's start: 1 where it has a version */
+    int32_t major;
+    int32_t minor;
+    mark_record_t start_mark;
+    mark_record_t end_mark;
+    range_record_t anchor; /* of an alias: that which it names */
+    range_record_t tag;
+    range_record_t value;      /* of a scalar */
+    range_record_t directives; /* of a document's start: which of the directive records */
+} event_record_t;
+
+/* Why a run gave no more events: the fields of libyaml's yaml_parser_t from `error` to `context_mark`. */
+typedef struct {
+    uint32_t error; /* yaml_error_type_t */
+    int32_t problem_value;
+    uint64_t problem_offset;
+    range_record_t problem; /* words in `out`, as those of `context` */
+    mark_record_t problem_mark;
+    range_record_t context;
+    mark_record_t context_mark;
+} fault_record_t;
+
+/* How many of each kind. */
+typedef struct {
+    size_t events;
+    size_t directives;
+    size_t texts; /* bytes, the words of the fault among them */
+} record_counts_t;
+
+/* What a run did. */
+typedef struct {
+    record_counts_t wanted;
+    record_counts_t written;
+    fault_record_t fault;
+} records_run_t;
+
+/* The run over the tokens of these records. */
+void token_records_run_events(const token_record_t *tokens, size_t tokens_length, const uint8_t *texts,
+                              size_t texts_length, event_record_t *events, size_t events_length,
+                              directive_record_t *directives, size_t directives_length, uint8_t *out,
+                              size_t out_length, records_run_t *run);
+
+#ifdef __cplusplus
+}
+#endif
+
+#endif
