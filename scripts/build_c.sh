@@ -3,9 +3,12 @@
 #
 #     sh scripts/build_c.sh DIR [ci]
 #
-#     libtoken_lines.a    the runs and the toolchain's allocator in one object, whose only global names are the two runs
-#     libtoken_lines.so   the same as a shared library, which has that name in the programs that are linked to it
-#     yaml                examples/yaml.c over it; CFLAGS are taken from the environment
+#     libtoken_lines.a     the runs over lines and the toolchain's allocator in one object, whose only global names are the
+#                          two runs
+#     libtoken_lines.so    the same as a shared library, which has that name in the programs that are linked to it
+#     libtoken_records.a   likewise the run over records
+#     libtoken_records.so
+#     yaml                 examples/yaml.c over the first; CFLAGS are taken from the environment
 #
 # Needs the kit, a C compiler, binutils, and Debian's libyaml-dev. The first run proves the crates below, which takes many
 # minutes and is told in DIR/rt_lib.log. With the word `ci`, right after `rt ci` in a fresh checkout, the libraries that it
@@ -19,11 +22,12 @@ cd "$(dirname "$0")/.."
 top=$PWD
 kit=$(dirname "$(rt doc)")
 cc=${CC:-cc}
-runs='token_lines_run_events token_lines_run_nodes'
+: > "$dir/rt_lib.log"
 
-# Builds the crate over the libraries that `rt ci` left: `rt lib` would prove each of these again.
+# Builds a crate over the libraries that `rt ci` left: `rt lib` would prove each of these again.
 build_over_ci() {
-    below=$(sed -n 's/^token_lines_c staticlib: *//p' "$top/crates.txt")
+    name=$(basename "$PWD")
+    below=$(sed -n "s/^$name staticlib: *//p" "$top/crates.txt")
     set -- --extern "std=$kit/rlibs/std.rlib" -L "dependency=$kit/rlibs"
     for crate in $below; do
         made=$top/crates/$crate/out/rlib/$crate.rlib
@@ -34,35 +38,40 @@ build_over_ci() {
         set -- "$@" -L "dependency=$folder"
     done
     mkdir -p out
-    "$kit/bin/rattle" build --crate-name token_lines_c src/lib.rt "$@" --antt-project "$kit/rattle/logic/antt-project.json" \
-        --logic-built "$kit/logic_built" --jobs 1 --links token_lines_c= --crate-type staticlib \
-        --toolchain "$kit/toolchain" --backend llvm -o out/libtoken_lines_c.a
+    "$kit/bin/rattle" build --crate-name "$name" src/lib.rt "$@" --antt-project "$kit/rattle/logic/antt-project.json" \
+        --logic-built "$kit/logic_built" --jobs 1 --links "$name=" --crate-type staticlib \
+        --toolchain "$kit/toolchain" --backend llvm -o "out/lib$name.a"
 }
 
-how='rt lib'
-if [ "$after" = ci ] && [ ! -e crates/memory_runs/out/rlib/stamp ]; then
-    how=build_over_ci
-fi
-echo "building crates/token_lines_c ($how); what it says goes to $dir/rt_lib.log"
-(cd crates/token_lines_c && $how > "$dir/rt_lib.log" 2>&1) || { tail -5 "$dir/rt_lib.log" >&2; exit 1; }
+# Makes libNAME.a and libNAME.so of the crate NAME_c, where CRATE is what it stands on: they hand out these names alone.
+build_library() {
+    name=$1 crate=$2
+    shift 2
+    wanted=$(printf '%s\n' "$@" | sort)
+    how='rt lib'
+    if [ "$after" = ci ] && [ ! -e "crates/$crate/out/rlib/stamp" ]; then
+        how=build_over_ci
+    fi
+    echo "building crates/${name}_c ($how); what it says goes to $dir/rt_lib.log"
+    (cd "crates/${name}_c" && $how >> "$dir/rt_lib.log" 2>&1) || { tail -5 "$dir/rt_lib.log" >&2; exit 1; }
+    ld -r -o "$dir/$name.o" --whole-archive "crates/${name}_c/out/lib${name}_c.a" "$kit/c/liblibc_c.a"
+    for run in $wanted; do
+        set -- "$@" "--keep-global-symbol=$run"
+        shift
+    done
+    objcopy "$@" "$dir/$name.o"
+    rm -f "$dir/lib$name.a"
+    ar rcs "$dir/lib$name.a" "$dir/$name.o"
+    "$cc" -shared -Wl,-soname,"lib$name.so" -o "$dir/lib$name.so" "$dir/$name.o"
+    static=$(nm -g --defined-only "$dir/lib$name.a" | awk 'NF == 3 { print $3 }' | sort)
+    shared=$(nm -D --defined-only "$dir/lib$name.so" | awk 'NF == 3 { print $3 }' | sort)
+    if [ "$static" != "$wanted" ] || [ "$shared" != "$wanted" ]; then
+        printf 'other names are exported:\n%s\n%s\n' "$static" "$shared" >&2
+        exit 1
+    fi
+}
 
-set --
-for run in $runs; do
-    set -- "$@" "--keep-global-symbol=$run"
-done
-ld -r -o "$dir/token_lines.o" --whole-archive crates/token_lines_c/out/libtoken_lines_c.a "$kit/c/liblibc_c.a"
-objcopy "$@" "$dir/token_lines.o"
-rm -f "$dir/libtoken_lines.a"
-ar rcs "$dir/libtoken_lines.a" "$dir/token_lines.o"
-"$cc" -shared -Wl,-soname,libtoken_lines.so -o "$dir/libtoken_lines.so" "$dir/token_lines.o"
-
-# Each library hands out the runs and nothing else.
-wanted=$(printf '%s\n' $runs | sort)
-static=$(nm -g --defined-only "$dir/libtoken_lines.a" | awk 'NF == 3 { print $3 }' | sort)
-shared=$(nm -D --defined-only "$dir/libtoken_lines.so" | awk 'NF == 3 { print $3 }' | sort)
-if [ "$static" != "$wanted" ] || [ "$shared" != "$wanted" ]; then
-    printf 'other names are exported:\n%s\n%s\n' "$static" "$shared" >&2
-    exit 1
-fi
+build_library token_lines memory_runs token_lines_run_events token_lines_run_nodes
+build_library token_records token_records token_records_run_events
 
 "$cc" ${CFLAGS:--O2 -Wall -Wextra} examples/yaml.c "$dir/libtoken_lines.a" -lyaml -o "$dir/yaml"

@@ -89,6 +89,7 @@ check faults_of_yaml.c PyYAML "$yaml" -- python3 scripts/compare_faults.py "$yam
 check fronts PyYAML $yamltokens "$yaml" -- python3 scripts/compare_fronts.py "$yaml"
 check python PyYAML timeout truncate $yamltokens "$yaml" -- sh scripts/python_checks.sh $yamltokens "$libraries/libtoken_lines.so"
 check c cc c++ readelf valgrind yaml.h "$yaml" -- sh scripts/c_checks.sh "$libraries"
+check records cc c++ python3 readelf valgrind yaml.h "$libraries/libtoken_records.a" -- sh scripts/records_checks.sh "$libraries"
 
 echo "$passed passed, $failed failed$([ $skipped -eq 0 ] || echo ", $skipped skipped")"
 [ "$failed" -eq 0 ]
