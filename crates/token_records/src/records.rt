@@ -2,7 +2,7 @@
 
 /// A place in a text, as `yaml_mark_t`.
 #[repr(C)]
-#[derive(Copy, Clone, PartialEq, Eq, Debug)]
+#[derive(Copy, Clone, Default, PartialEq, Eq, Debug)]
 pub struct mark_record_t {
     /// Characters from the start of the text.
     pub index: u64,
@@ -14,7 +14,7 @@ pub struct mark_record_t {
 
 /// Some neighbours in a buffer: so many, from this place on. A text that isn't there has the place `ABSENT`.
 #[repr(C)]
-#[derive(Copy, Clone, PartialEq, Eq, Debug)]
+#[derive(Copy, Clone, Default, PartialEq, Eq, Debug)]
 pub struct range_record_t {
     /// How many stand before them.
     pub place: usize,
@@ -33,7 +33,7 @@ pub(crate) const NO_RANGE: range_record_t = range_record_t {
 
 /// A token. Its numbers are libyaml's. Fields that a token of its kind has no use for are not looked at.
 #[repr(C)]
-#[derive(Copy, Clone, PartialEq, Eq, Debug)]
+#[derive(Copy, Clone, Default, PartialEq, Eq, Debug)]
 pub struct token_record_t {
     /// The number of a `yaml_token_type_t`.
     pub kind: u32,
@@ -55,7 +55,7 @@ pub struct token_record_t {
 
 /// A tag directive of a document: a handle and its prefix.
 #[repr(C)]
-#[derive(Copy, Clone, PartialEq, Eq, Debug)]
+#[derive(Copy, Clone, Default, PartialEq, Eq, Debug)]
 pub struct directive_record_t {
     /// The handle, as `!!`.
     pub handle: range_record_t,
@@ -66,7 +66,7 @@ pub struct directive_record_t {
 /// An event. Its numbers are libyaml's. Fields that an event of its kind has no use for are 0, and ranges
 /// absent.
 #[repr(C)]
-#[derive(Copy, Clone, PartialEq, Eq, Debug)]
+#[derive(Copy, Clone, Default, PartialEq, Eq, Debug)]
 pub struct event_record_t {
     /// The number of a `yaml_event_type_t`.
     pub kind: u32,
@@ -98,7 +98,7 @@ pub struct event_record_t {
 
 /// Why a run gave no more events.
 #[repr(C)]
-#[derive(Copy, Clone, PartialEq, Eq, Debug)]
+#[derive(Copy, Clone, Default, PartialEq, Eq, Debug)]
 pub struct fault_record_t {
     /// The number of its `yaml_error_type_t`: 0 where there is no fault, 1 where an allocation failed.
     pub error: u32,
@@ -118,7 +118,7 @@ pub struct fault_record_t {
 
 /// How many there are of each kind that a run puts into its caller's buffers.
 #[repr(C)]
-#[derive(Copy, Clone, PartialEq, Eq, Debug)]
+#[derive(Copy, Clone, Default, PartialEq, Eq, Debug)]
 pub struct record_counts_t {
     /// Event records.
     pub events: usize,
@@ -130,7 +130,7 @@ pub struct record_counts_t {
 
 /// What a run did.
 #[repr(C)]
-#[derive(Copy, Clone, PartialEq, Eq, Debug)]
+#[derive(Copy, Clone, Default, PartialEq, Eq, Debug)]
 pub struct records_run_t {
     /// How many the whole run has.
     pub wanted: record_counts_t,
