@@ -1,0 +1,56 @@
+//! Token lines on standard input, event lines on standard output, by records: each token becomes a record,
+//! `events_of_records` runs over them, and each event record becomes an event again, whose line is written.
+#![tactic(auto)]
+
+mod events;
+mod tokens;
+
+use crate::events::event_of;
+use crate::tokens::Tokens;
+use anyhow::{Result, bail};
+use line_reading::yaml_line_source_t;
+use line_writing::write_event;
+use std::io::BufReader;
+use token_records::{directive_record_t, event_record_t, events_of_records};
+
+/// The program reads at most this many tokens.
+const MAX_TOKENS: u64 = 1_000_000;
+
+/// There is room for this many tag directives, and for this many bytes of texts.
+const DIRECTIVES: usize = 64;
+
+const TEXTS: usize = 1 << 16;
+
+fn main(rt: HostRuntime) -> Result<()> {
+    let alloc = rt.alloc();
+    let reader = BufReader::new(alloc, rt.stdin())?;
+    let mut tokens = Tokens::new(alloc);
+    tokens.read_all(
+        yaml_line_source_t::new(alloc, reader, MAX_TOKENS),
+        MAX_TOKENS,
+    )?;
+    let room = tokens.records.len().saturating_mul(4);
+    let mut events = vec![in alloc; event_record_t::default(); room]?;
+    let mut directives = vec![in alloc; directive_record_t::default(); DIRECTIVES]?;
+    let mut texts = vec![in alloc; 0u8; TEXTS]?;
+    let run = events_of_records(
+        alloc,
+        tokens.records.as_slice(),
+        tokens.texts.as_slice(),
+        events.as_mut_slice(),
+        directives.as_mut_slice(),
+        texts.as_mut_slice(),
+    );
+    if run.written != run.wanted {
+        bail!("the buffers are too small");
+    }
+    let mut output = rt.stdout();
+    for made in events.iter().take(run.written.events) {
+        let event = event_of(alloc, made, directives.as_slice(), texts.as_slice())?;
+        write_event(alloc, &event, &mut output)?;
+    }
+    if run.fault.error != 0 {
+        bail!("the tokens have a fault");
+    }
+    Ok(())
+}
