@@ -4,25 +4,38 @@ use Rattle.libyaml_types.specs.declared.event.unnamed_yaml_event_t_data.TheVaria
 use Rattle.libyaml_documents.specs.declared.node.yaml_node_t.{yaml_node_t}
 use Rattle.libyaml_sources.specs.Fault.{Fault}
 use Rattle.libyaml_grammar.specs.runs.Runs.{Ending, Ends, Fails}
-use Rattle.libyaml_grammar.specs.sentences.Events.{Event, document_end_at, event, stream_end_at}
+use Rattle.libyaml_grammar.specs.sentences.Events.{Event, document_end_at, end_at as end_event, event, stream_end_at}
 use Rattle.libyaml_grammar.specs.sentences.Nesting.{HasBegun, HasPairs, IsNested, IsOpenDocument, Texts, TextsHavePairs}
-use Rattle.libyaml_grammar.specs.sentences.Nesting.{Value, no_texts}
-use Rattle.libyaml_grammar.specs.sentences.Nesting.{none_open, one_open, NestsSoFar, has_begun}
+use Rattle.libyaml_grammar.specs.sentences.Nesting.{Value, Values, alias_value, collection_value, first_value, no_texts}
+use Rattle.libyaml_grammar.specs.sentences.Nesting.{no_values, none_open, one_open, scalar_value, NestsSoFar, has_begun}
 use Rattle.libyaml_grammar.specs.sentences.Nesting.{not_begun, text_behind, texts_events, whole, value_events}
+use Rattle.libyaml_grammar.specs.sentences.Nesting.{values_events}
 use Rattle.libyaml_grammar.specs.sentences.Tokens.{Mark}
+use Rattle.libyaml_grammar.specs.sentences.Trees.{mapping, sequence}
 use Rattle.libyaml_graphs.specs.graphs.GraphParts.{Closing, Opening, graph, parts}
 use Rattle.libyaml_graphs.specs.loads.Loads.{Load, begun_behind, behind_document, document_end, last_load, load_then}
 use Rattle.libyaml_graphs.specs.loads.Loads.{loads_by}
 use Rattle.libyaml_graphs.specs.loads.Bounds.{bounded_loads, first_stop}
 use Rattle.libyaml_graphs.proofs.lent.BoundedLoader.{within_unbuilt}
 use Rattle.libyaml_graphs.proofs.lent.Building.{front_closes, value_behind, unbuilt}
-use Rattle.libyaml_graphs.proofs.lent.Roots.{value_keeps}
 use Rattle.libyaml_types.specs.declared.event.unnamed_yaml_event_t_data_document_start.{unnamed_yaml_event_t_data_document_start}
 use Rattle.libyaml_graphs.proofs.lent.Building as built
 use Rattle.libyaml_original.specs.loader.Loader as orig
 use Rattle.libyaml_original.proofs.loads.Halves.{halves}
 use Rattle.libyaml_original.proofs.loads.Documents.{document_same}
 use Rattle.libyaml_original.proofs.loads.Keys.{none_half, value_keys}
+
+-- no document ends within a value
+mutual
+  value_left : (v : Value) (r : List Event) → behind_document (value_events v r) ≡ behind_document r
+  value_left (alias_value a m n) r = refl
+  value_left (scalar_value s m n) r = refl
+  value_left (collection_value sequence a t i s m n vs p q) r = values_left vs (end_event sequence p q ∷ r)
+  value_left (collection_value mapping a t i s m n vs p q) r = values_left vs (end_event mapping p q ∷ r)
+
+  values_left : (vs : Values) (r : List Event) → behind_document (values_events vs r) ≡ behind_document r
+  values_left no_values r = refl
+  values_left (first_value v vs) r = value_left v (values_events vs r) ∙ values_left vs r
 
 -- loads within the bound
 module _ (limit : ℕ) where
@@ -34,12 +47,6 @@ module _ (limit : ℕ) where
       ≡ load_then (first_stop limit [] [] (parts r)) (document_end r) o (halves (built.held_graph [] (parts r)))
       (last_load x) (orig.loads_from limit orig.between (behind_document r) x)
   begun_same x o r = document_same limit o x r [] [] unbuilt [] (within_unbuilt limit) (λ a. refl) tt
-
-  left : (v : Value) (r : List Event) (i : Bool) (p q : Mark)
-      → behind_document (value_events v (document_end_at i p q ∷ r)) ≡ r
-  left v r i p q = value_keeps (λ (l : List Event). behind_document l ≡ r)
-      (λ e s h k. ap (λ (c : Option Closing). elim c [ Some y ↦ s | None ↦ behind_document s ]) h.1 ∙ k) v
-      (document_end_at i p q ∷ r) refl
 
   text_agrees : (x : Ending) (d : unnamed_yaml_event_t_data_document_start) (m n : Mark) (v : Value) (i : Bool)
       (p q : Mark) (r : List Event) → HasPairs v → Agree x r
@@ -54,7 +61,7 @@ module _ (limit : ℕ) where
       (parts V) [])
       ∙ ap (λ (l : List Load). load_then (first_stop limit [] [] (parts V)) (document_end V) o (graph [] (parts V))
       (last_load x) l)
-      (ap (λ (l : List Event). orig.loads_from limit orig.between l x) (left v r i p q) ∙
+      (ap (λ (l : List Event). orig.loads_from limit orig.between l x) (value_left v (document_end_at i p q ∷ r)) ∙
       (g ∙ sym (ap (loads_by (first_stop limit [] []) x) (value_behind v (document_end_at i p q ∷ r))))))
 
   texts_agree : (x : Ending) (ts : Texts) (r : List Event) → TextsHavePairs ts → Agree x r → Agree x (texts_events ts r)
