@@ -8,12 +8,12 @@ use Rattle.std.proofs.lemmas.Nat.{and_block, or_block, xor_block, and_le_r, or_l
 use Rattle.std.specs.Slice.Scan.{little_endian, HoldsNowhere, HoldsSomewhere}
 use Rattle.byte_words.specs.Clean.{is_odd, is_odd_at}
 
-abbrev AreBytes : List ℕ → Type 0
+abbrev pub AreBytes : List ℕ → Type 0
 AreBytes [] = Unit {0}
 AreBytes (b ∷ bs) = (b < 2 ^ 8) × AreBytes bs
 
 -- the word whose bytes are f of each byte, the first lowest
-abbrev word : (ℕ → ℕ) → List ℕ → ℕ
+abbrev pub word : (ℕ → ℕ) → List ℕ → ℕ
 word f [] = 0
 word f (b ∷ bs) = word f bs * 2 ^ 8 + f b
 
@@ -199,11 +199,11 @@ some_marked (b ∷ bs) fit e = go (marked b == 0) refl (some_marked bs fit.1)
 
 -- the bytes at a place
 
-bytes_of : (xs : List ℕ) → ((i : ℕ) → i < length xs → get_or xs i 0 < 2 ^ 8) → AreBytes xs
+pub bytes_of : (xs : List ℕ) → ((i : ℕ) → i < length xs → get_or xs i 0 < 2 ^ 8) → AreBytes xs
 bytes_of [] f = tt
 bytes_of (x ∷ xs) f = (f 0 (omega arith), bytes_of xs (λ i h. f (suc i) (omega arith)))
 
-eight_are : (xs : List ℕ) → length xs ≡ 8
+pub eight_are : (xs : List ℕ) → length xs ≡ 8
     → word (λ b. b) xs
     ≡ get_or xs 0 0 + get_or xs 1 0 * 256 + get_or xs 2 0 * 65536 + get_or xs 3 0 * 16777216
     + get_or xs 4 0 * 4294967296 + get_or xs 5 0 * 1099511627776 + get_or xs 6 0 * 281474976710656 + get_or xs 7 0 * 72057594037927936

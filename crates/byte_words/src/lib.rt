@@ -2,6 +2,8 @@
 #![tactic(auto)]
 
 mod clean;
+mod same;
 mod word;
 
 pub use clean::is_clean;
+pub use same::end_alike;

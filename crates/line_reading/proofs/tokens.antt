@@ -5,3 +5,4 @@ pub mod WholeNumbers
 pub mod Marks
 pub mod PrefixTokens
 pub mod Digits
+pub mod Repeats

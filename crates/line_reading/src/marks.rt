@@ -7,21 +7,41 @@
 //! That 0 is there in place of an `Option` for speed, since each token has six numbers: a `NumberRead` has
 //! 16 bytes and is returned in two registers, while an `Option` of it would have 24 and be returned in
 //! memory. Outside this file the 0 becomes an `Option` (`number.rt`) or an error (`token_line.rt`).
-ghost use Rattle.std.specs.Prelude.{◌≡◌, ◌+◌, ◌≤◌, ◌<◌, Some, None, true, false, length, drop};
+ghost use Rattle.std.specs.Prelude.{◌≡◌, ◌+◌, ◌≤◌, ◌<◌, Some, None, true, false, length, drop, slice_index};
 ghost use Rattle.line_reading.specs.tokens.Prefixes.{behind_first, behind_field, further, mark_at};
-ghost use Rattle.line_reading.specs.tokens.Prefixes.{HasDigits, IsNumberRead};
+ghost use Rattle.line_reading.specs.tokens.Prefixes.{HasDigits, IsNumberRead, IsRowRead, BeginsWithNoDigit};
+ghost use Rattle.std.specs.Char.{is_ascii_digit};
 
+use byte_words::end_alike;
 use libyaml_types::yaml_mark_t;
+
+/// Where the line number of a mark is, and its value; the end is 0 where there is none.
+#[derive(Copy, Clone)]
+pub struct RowRead {
+    pub at: usize,
+    pub end: usize,
+    pub value: u64,
+}
+
+/// No line number.
+pub const NO_ROW: RowRead = RowRead {
+    at: 0,
+    end: 0,
+    value: 0,
+};
 
 /// Reads the field at `at` into `mark`, and returns the index of the field's end, or 0 where it is no mark.
 ///
-/// A mark counts characters, lines and columns, each from 0.
+/// A mark counts characters, lines and columns, each from 0. `row` is the line number of a mark that was read
+/// before in the same line, and becomes that of this mark: most often it is the same.
 #[inline(always)]
-pub fn read_mark(line: &[u8], at: usize, mark: &mut yaml_mark_t) -> usize
-    requires { at ≤ length line.now }
+pub fn read_mark(line: &[u8], at: usize, row: &mut RowRead, mark: &mut yaml_mark_t) -> usize
+    requires at { at ≤ length line.now }
+    requires row { IsRowRead line.now row.old }
     ensures within { result ≤ length line.now }
     ensures none { result ≡ 0 → mark_at (drop at line.now) ≡ None }
     ensures some { 0 < result → mark_at (drop at line.now) ≡ Some (mark.new, further (drop result line.now)) }
+    ensures row { 0 < result → IsRowRead line.now row.new }
 {
     let index = read_number(line, at);
     if index.end == 0 {
@@ -30,24 +50,54 @@ pub fn read_mark(line: &[u8], at: usize, mark: &mut yaml_mark_t) -> usize
     if !is_byte_at(line, index.end, b':') {
         return 0;
     }
-    let row = read_number(line, index.end + 1);
-    if row.end == 0 {
+    let number = read_row(line, index.end + 1, row);
+    if number.end == 0 {
         return 0;
     }
-    if !is_byte_at(line, row.end, b':') {
+    if !is_byte_at(line, number.end, b':') {
         return 0;
     }
-    let column = read_number(line, row.end + 1);
+    let column = read_short_number(line, number.end + 1);
     if column.end == 0 {
         return 0;
     }
     if !ends_field(line, column.end) {
         return 0;
     }
+    row.at = index.end + 1;
+    row.end = number.end;
+    row.value = number.value;
     mark.index = index.value;
-    mark.line = row.value;
+    mark.line = number.value;
     mark.column = column.value;
     column.end
+}
+
+/// Reads the number that begins at `at`: where the digits of `earlier` and the byte after them stand there again,
+/// it is the same number.
+#[inline(always)]
+fn read_row(line: &[u8], at: usize, earlier: &RowRead) -> NumberRead
+    requires at { at ≤ length line.now }
+    requires earlier { IsRowRead line.now earlier.now }
+    ensures { IsNumberRead line.now at result }
+{
+    let RowRead {
+        at: earlier_at,
+        end: earlier_end,
+        value,
+    } = *earlier;
+    if earlier_end < 7 {
+        return read_number(line, at);
+    }
+    let len = earlier_end - earlier_at;
+    let end = at + len;
+    if len > 7 || end < 7 || end >= line.len() {
+        return read_number(line, at);
+    }
+    if end_alike(&line[..earlier_end + 1], &line[..end + 1], len + 1) {
+        return NumberRead { value, end };
+    }
+    read_number(line, at)
 }
 
 /// Returns whether there is a byte at `at`, and it is this one.
@@ -94,6 +144,42 @@ pub fn read_number(line: &[u8], at: usize) -> NumberRead
         return read_any_number(line, at);
     }
     ended_number(line, at, digits)
+}
+
+/// Reads the number that begins at `at`, which most often has one digit or two.
+#[inline(always)]
+fn read_short_number(line: &[u8], at: usize) -> NumberRead
+    requires { at ≤ length line.now }
+    ensures { IsNumberRead line.now at result }
+{
+    if !is_digit_at(line, at) {
+        return NO_NUMBER;
+    }
+    let first = u64::from(line[at] - b'0');
+    if !is_digit_at(line, at + 1) {
+        return NumberRead {
+            value: first,
+            end: at + 1,
+        };
+    }
+    if first == 0 || is_digit_at(line, at + 2) {
+        return read_number(line, at);
+    }
+    NumberRead {
+        value: first * 10 + u64::from(line[at + 1] - b'0'),
+        end: at + 2,
+    }
+}
+
+/// Returns whether there is a digit at `at`.
+#[inline(always)]
+fn is_digit_at(line: &[u8], at: usize) -> bool
+    requires { at ≤ length line.now }
+    ensures yes { result ≡ true → (at < length line.now)
+        × (is_ascii_digit (slice_index line.now at) ≡ true) }
+    ensures no { result ≡ false → BeginsWithNoDigit (drop at line.now) }
+{
+    at < line.len() && line[at].is_ascii_digit()
 }
 
 /// The bytes, at most, in which `read_number` looks for a number's end before it calls a function for longer

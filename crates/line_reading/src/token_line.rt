@@ -7,7 +7,7 @@ ghost use Rattle.line_reading.specs.tokens.Reading.{IsReadInto};
 
 use crate::field::{read_encoding, read_scalar_style, read_text, read_version};
 use crate::line_problem::LineProblem;
-use crate::marks::read_mark;
+use crate::marks::{NO_ROW, read_mark};
 use crate::pieces::Pieces;
 use crate::search::len_before;
 use crate::token_name::read_token_type;
@@ -44,11 +44,12 @@ fn take_token(alloc: Global, line: &[u8], token: &mut yaml_token_t) -> Result<()
         return Err(LineProblem::BadTokenLine);
     }
     let type_ = read_token_type(&line[..name]).ok_or(LineProblem::BadTokenLine)?;
-    let start = read_mark(line, name + 1, &mut token.start_mark);
+    let mut row = NO_ROW;
+    let start = read_mark(line, name + 1, &mut row, &mut token.start_mark);
     if start == 0 || start == line.len() {
         return Err(LineProblem::BadTokenLine);
     }
-    let end = read_mark(line, start + 1, &mut token.end_mark);
+    let end = read_mark(line, start + 1, &mut row, &mut token.end_mark);
     if end == 0 {
         return Err(LineProblem::BadTokenLine);
     }

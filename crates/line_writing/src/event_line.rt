@@ -5,8 +5,8 @@ ghost use Rattle.line_writing.specs.EventText.{event_name, event_fields, event_l
 ghost use Rattle.line_writing.specs.FieldTexts.{behind_spaces, line_rest};
 
 use crate::field_text::{
-    append_directives, append_encoding, append_flag, append_mapping_style, append_number,
-    append_properties, append_scalar_end, append_sequence_style, append_string, append_two_flags,
+    append_directives, append_encoding, append_flag, append_flags_and_style, append_mapping_style,
+    append_node_text, append_number, append_properties, append_sequence_style, append_string,
     append_version,
 };
 use crate::marks::append_marks;
@@ -121,10 +121,13 @@ fn append_scalar(
     ensures { OnOk result (string_bytes line.new ≡ string_bytes line.old
         ++ line_rest (event_fields (unnamed_yaml_event_t_data.Scalar scalar.now))) }
 {
-    append_properties(line, &scalar.anchor, &scalar.tag)?;
-    append_string(line, &scalar.value)?;
-    append_two_flags(line, scalar.plain_implicit, scalar.quoted_implicit)?;
-    append_scalar_end(line, scalar.style)
+    append_node_text(line, &scalar.anchor, &scalar.tag, &scalar.value)?;
+    append_flags_and_style(
+        line,
+        scalar.plain_implicit,
+        scalar.quoted_implicit,
+        scalar.style,
+    )
 }
 
 fn append_sequence_start(

@@ -110,6 +110,29 @@ pub(crate) fn append_properties(
     append_optional_string(line, tag)
 }
 
+/// Appends the anchor, the tag and the text of a scalar, what most have before the text by one constant.
+pub(crate) fn append_node_text(
+    line: &mut String,
+    anchor: &Option<String>,
+    tag: &Option<String>,
+    text: &str,
+) -> Result<(), AllocError>
+    ensures { OnOk result (string_bytes line.new ≡ string_bytes line.old
+        ++ behind_spaces (optional_string_text (option_map string_bytes anchor.now)
+        ∷ optional_string_text (option_map string_bytes tag.now) ∷ string_text text.now ∷ [])) }
+{
+    match (anchor, tag) {
+        (None, None) => {
+            line.push_str(" - - =")?;
+            append_escaped(line, text)
+        }
+        _ => {
+            append_properties(line, anchor, tag)?;
+            append_string(line, text)
+        }
+    }
+}
+
 /// Appends the handle and the prefix of each directive.
 pub(crate) fn append_directives(
     line: &mut String,
@@ -155,6 +178,28 @@ pub(crate) fn append_scalar_end(
         yaml_scalar_style_t::YAML_DOUBLE_QUOTED_SCALAR_STYLE => line.push_str(" double\n"),
         yaml_scalar_style_t::YAML_LITERAL_SCALAR_STYLE => line.push_str(" literal\n"),
         yaml_scalar_style_t::YAML_FOLDED_SCALAR_STYLE => line.push_str(" folded\n"),
+    }
+}
+
+/// Appends the flags and the style of a scalar, and the line feed: those of most by one constant.
+pub(crate) fn append_flags_and_style(
+    line: &mut String,
+    plain_implicit: bool,
+    quoted_implicit: bool,
+    style: yaml_scalar_style_t,
+) -> Result<(), AllocError>
+    ensures { OnOk result (string_bytes line.new ≡ string_bytes line.old
+        ++ line_rest (flag_text plain_implicit ∷ flag_text quoted_implicit
+        ∷ scalar_style_text style ∷ [])) }
+{
+    match (plain_implicit, quoted_implicit, style) {
+        (true, false, yaml_scalar_style_t::YAML_PLAIN_SCALAR_STYLE) => {
+            line.push_str(" 1 0 plain\n")
+        }
+        _ => {
+            append_two_flags(line, plain_implicit, quoted_implicit)?;
+            append_scalar_end(line, style)
+        }
     }
 }
 

@@ -4,6 +4,7 @@ use Rattle.std.specs.Char.{is_ascii_digit}
 use Rattle.libyaml_types.specs.declared.mark.yaml_mark_t.{yaml_mark_t}
 use Rattle.libyaml_types.specs.declared.token.yaml_token_t.{yaml_token_t}
 use Rattle.line_reading.specs.declared.marks.NumberRead.{NumberRead}
+use Rattle.line_reading.specs.declared.marks.RowRead.{RowRead}
 use Rattle.line_reading.specs.tokens.Number.{value_of, number_of}
 use Rattle.line_reading.specs.tokens.Field.{◌>>=◌}
 use Rattle.line_reading.specs.tokens.Pieces.{pieces_of}
@@ -58,6 +59,17 @@ pub record IsNumberRead (line : List ℕ) (at : ℕ) (read : NumberRead) : Type 
   pub within : read.end ≤ length line
   pub none : read.end ≡ 0 → number_at (drop at line) ≡ None
   pub some : 0 < read.end → number_at (drop at line) ≡ Some (read.value, drop read.end line)
+
+-- no digit begins the bytes
+pub record BeginsWithNoDigit (bytes : List ℕ) : Type 0 where
+  pub digits : digits_of bytes ≡ []
+  pub behind : behind_digits bytes ≡ bytes
+
+-- a line number that was read, and that a byte follows; the end is 0 where there is none
+pub record IsRowRead (line : List ℕ) (row : RowRead) : Type 0 where
+  pub order : row.at ≤ row.end
+  pub within : 0 < row.end → row.end < length line
+  pub some : 0 < row.end → number_at (drop row.at line) ≡ Some (row.value, drop row.end line)
 
 -- a mark that is the first field, and the further fields, if there are some
 abbrev pub mark_at : List ℕ → Option (yaml_mark_t × Option (List ℕ))
