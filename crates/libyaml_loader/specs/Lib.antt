@@ -1,2 +1,3 @@
 pub mod document
 pub mod loads
+pub mod pushes

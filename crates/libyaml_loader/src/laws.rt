@@ -1,25 +1,31 @@
-//! The laws of a loop over documents. The function does nothing when it runs: its contract is the law.
+//! The laws of a loop over documents, and of pushes to a loader. Each function does nothing when it runs: its
+//! contract is the law.
 
-ghost use Rattle.std.specs.Prelude.{◌≡◌, List, [], Some};
+ghost use Rattle.std.specs.Prelude.{◌≡◌, ◌≤◌, ◌*◌, ◌++◌, List, [], Err, Some, length, false, true};
 ghost use Rattle.libyaml_sources.specs.Fault.{Fault};
 ghost use Rattle.libyaml_sources.specs.Source.{coming};
-ghost use Rattle.libyaml_grammar.specs.runs.Runs.{Ending};
+ghost use Rattle.libyaml_grammar.specs.runs.Runs.{Ending, Ends};
 ghost use Rattle.libyaml_grammar.specs.sentences.Events.{Event};
 ghost use Rattle.libyaml_grammar.specs.sentences.Nesting.{NestsSoFar};
+ghost use Rattle.libyaml_grammar.specs.sentences.Sentences.{has_end};
 ghost use Rattle.libyaml_grammar.specs.sentences.Tokens.{Token};
 ghost use Rattle.libyaml_documents.specs.Documents.{Document};
 ghost use Rattle.libyaml_events.specs.machine.Config.{Parser};
 ghost use Rattle.libyaml_events.specs.sources.History.{History};
 ghost use Rattle.libyaml_events.specs.sources.RunToCome.{RunToCome};
 ghost use Rattle.libyaml_graphs.specs.loads.Bounds.{IsBoundedLoads, bounded_loads};
-ghost use Rattle.libyaml_graphs.specs.loads.Loads.{Load};
+ghost use Rattle.libyaml_graphs.specs.loads.Linear.{documents_size};
+ghost use Rattle.libyaml_graphs.specs.loads.Loads.{Load, last_load};
 ghost use Rattle.libyaml_loader.specs.document.Ids.{magnitude};
 ghost use Rattle.libyaml_loader.specs.loads.LoadsInTurn.{AreLoadsOf, LoopYields};
+ghost use Rattle.libyaml_loader.specs.pushes.Loaded.{ForLoaded, PushLoader, has_stopped, keeps_fault};
+ghost use Rattle.libyaml_loader.specs.pushes.PushesLoads.{AreThen, BeginsEachLoads};
 
 use libyaml_events::laws::calls::of_history;
+use libyaml_events::laws::pushes::{in_hand, of_pushed};
 use libyaml_events::laws::run_nests;
 use libyaml_events::yaml_token_source_t;
-use libyaml_graphs::laws::whole_documents_have_roots;
+use libyaml_graphs::laws::{linear_size, whole_documents_have_roots};
 
 /// What a whole loop over the documents of a parser yielded: over a list of tokens from the start, or over
 /// events that are to come and nest, exactly the loads within the parser's bound; or memory ran out, or the
@@ -38,4 +44,22 @@ pub fn loop_yields_loads<S: yaml_token_source_t>()
     of_history::<S>();
     run_nests();
     whole_documents_have_roots();
+}
+
+/// What a loader was handed and gave says, whichever push led there.
+pub fn of_loaded()
+    ensures so_far { (l : PushLoader) → ForLoaded l (λ tokens documents. has_end tokens ≡ false
+        → (source : Fault) → AreThen l.max_entries tokens source documents (Err source)) }
+    ensures whole { (l : PushLoader) → ForLoaded l (λ tokens documents. has_end tokens ≡ true
+        → (more : List Token) (source : Fault)
+        → AreThen l.max_entries (tokens ++ more) source documents (last_load Ends)) }
+    ensures ended { (l : PushLoader) → ForLoaded l (λ tokens _. has_stopped l ≡ has_end tokens) }
+    ensures faultless { (l : PushLoader) → ForLoaded l (λ _ _. keeps_fault l ≡ false) }
+    ensures begins { (l : PushLoader) → ForLoaded l (BeginsEachLoads l.max_entries) }
+    ensures linear { (l : PushLoader) → ForLoaded l (λ tokens documents. documents_size documents
+        ≤ 8 * length tokens) }
+{
+    of_pushed();
+    in_hand();
+    linear_size();
 }

@@ -2,14 +2,17 @@
 #![tactic(auto)]
 
 mod anchors;
+mod composer;
 mod context;
 pub mod determined;
 mod documents;
 mod ids;
 pub mod laws;
 mod load;
+mod push;
 mod refusal;
 mod stack;
 
 pub use documents::{yaml_parser_documents, yaml_parser_documents_t};
 pub use load::yaml_parser_load;
+pub use push::yaml_push_loader_t;

@@ -71,7 +71,11 @@ pub fn keep_refusal<S>(
 /// Returns the fault of this refusal: out of memory, or a composer error.
 ///
 /// libyaml: `yaml_parser_set_composer_error` and `yaml_parser_set_composer_error_context`.
-fn fault_by(refusal: Refusal, first_mark: yaml_mark_t, mark: yaml_mark_t) -> yaml_parser_t_prefix
+pub fn fault_by(
+    refusal: Refusal,
+    first_mark: yaml_mark_t,
+    mark: yaml_mark_t,
+) -> yaml_parser_t_prefix
     ensures fault { fault_of result ≡ fault_by refusal first_mark mark }
     ensures of_loader { (result.error ≡ yaml_error_type_t.YAML_MEMORY_ERROR)
         ⊎ (result.error ≡ yaml_error_type_t.YAML_COMPOSER_ERROR) }

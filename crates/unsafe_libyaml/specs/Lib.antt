@@ -78,6 +78,12 @@ pub use Rattle.libyaml_graphs.specs.loads.Loads
 pub use Rattle.libyaml_graphs.specs.graphs.GraphParts
 pub use Rattle.libyaml_loader.specs.loads.LoadGrowth
 pub use Rattle.libyaml_loader.specs.document.Ids
+pub use Rattle.libyaml_loader.specs.document.Anchors
+pub use Rattle.libyaml_loader.specs.document.Context
 pub use Rattle.libyaml_loader.specs.loads.Loading
 pub use Rattle.libyaml_loader.specs.loads.LoadsInTurn
 pub use Rattle.libyaml_loader.specs.loads.NextLoad
+pub use Rattle.libyaml_loader.specs.pushes.Leads
+pub use Rattle.libyaml_loader.specs.pushes.Composing
+pub use Rattle.libyaml_loader.specs.pushes.Loaded
+pub use Rattle.libyaml_loader.specs.pushes.PushesLoads

@@ -1,0 +1,4 @@
+pub mod Leading
+pub mod Steps
+pub mod InTurn
+pub mod Pushing

@@ -1,0 +1,4 @@
+pub mod Leads
+pub mod Composing
+pub mod Loaded
+pub mod PushesLoads

@@ -1,0 +1,35 @@
+-- How a loader goes on by events that it is handed (docs/DEFINITIONS.md, "Documents pushed").
+use Rattle.std.specs.Prelude.{◌≡◌, ◌++◌, ℕ, List, [], ◌∷◌, map, Option, Some, None, Ok, Err, true}
+use Rattle.libyaml_documents.specs.Documents.{Document}
+use Rattle.libyaml_grammar.specs.sentences.Events.{Event}
+use Rattle.libyaml_grammar.specs.runs.Runs.{Ending}
+use Rattle.libyaml_graphs.specs.graphs.GraphParts.{Closing, Opening, closing_of, part_of}
+use Rattle.libyaml_graphs.specs.loads.Bounds.{bounded_loads}
+use Rattle.libyaml_graphs.specs.loads.Loads.{Load, behind_document, document_end}
+use Rattle.libyaml_graphs.specs.machine.Loader.{Loader, State, between, load_from, within}
+use Rattle.libyaml_loader.specs.loads.LoadGrowth.{may_grow}
+
+-- a load, and after a document that is whole these
+abbrev pub whole_then : Option Closing → Load → List Load → List Load
+whole_then c (Err f) l = Err f ∷ []
+whole_then None (Ok d) l = Ok d ∷ []
+whole_then (Some c) (Ok d) l = Ok d ∷ l
+
+-- The loads of the events to come, where no document is open, or one is: within the bound n.
+abbrev pub loads_from : ℕ → State → List Event → Ending → List Load
+loads_from n between e x = bounded_loads n e x
+loads_from n (within o l) e x = whole_then (document_end e) (load_from n (within o l) e x) (bounded_loads n (behind_document e) x)
+
+-- documents as loads
+abbrev pub as_loads : List Document → List Load
+as_loads documents = map (λ (d : Document). Ok d) documents
+
+-- From the one state these events lead to the other, and give these documents: whatever events come after them.
+abbrev pub Leads : ℕ → State → List Event → List Document → State → Type 0
+Leads n old events documents new = (rest : List Event) (x : Ending) → loads_from n old (events ++ rest) x ≡ as_loads documents ++ loads_from n new rest x
+
+-- At this event memory is needed: for a node, an item or a pair of the document that is open; or it ends a document, for which the
+-- list of documents has no room.
+pub data NeedsMemoryAt (Full : Type 0) (here : State) (e : Event) : Type 0 where
+  for_node : (o : Opening) (l : Loader) → here ≡ within o l → may_grow l (part_of e) ≡ true → NeedsMemoryAt Full here e
+  for_document : (c : Closing) → closing_of e ≡ Some c → Full → NeedsMemoryAt Full here e

@@ -1,0 +1,52 @@
+-- What a loader was handed since it was made, and the documents that it gave (docs/DEFINITIONS.md, "Documents pushed").
+use Rattle.std.specs.Prelude.{◌≡◌, ◌⊎◌, ◌||◌, ℕ, List, Bool, true}
+use Rattle.libyaml_sources.specs.Fault.{Fault, no_fault}
+use Rattle.libyaml_grammar.specs.sentences.Tokens.{Token}
+use Rattle.libyaml_grammar.specs.sentences.Events.{Event}
+use Rattle.libyaml_documents.specs.Documents.{Document}
+use Rattle.libyaml_events.specs.machine.Config.{is_fault}
+use Rattle.libyaml_events.specs.sources.Pushed as pushed
+use Rattle.libyaml_events.specs.sources.Pushed.{PushParser, Pushed}
+use Rattle.libyaml_graphs.specs.machine.Loader.{State, between}
+use Rattle.libyaml_loader.specs.pushes.Leads.{Leads}
+
+-- What is kept between two tokens: the parser; whether a document is open, and its nodes so far; the fault; and how many entries
+-- each list of a document may have.
+pub record PushLoader : Type 0 where
+  pub parser : PushParser
+  pub state : State
+  pub fault : Fault
+  pub max_entries : ℕ
+
+abbrev pub standing : PushParser → State → Fault → ℕ → PushLoader
+standing p s f n = record { parser = p; state = s; fault = f; max_entries = n }
+
+-- a loader that no token was handed to
+abbrev pub made : ℕ → PushLoader
+made n = standing pushed.made between no_fault n
+
+-- Since the loader was made it was handed these tokens and gave these documents, without a fault: its parser gave some events,
+-- and the loads of all that begin so are these documents and then those from where it stands.
+pub record Loaded (l : PushLoader) (tokens : List Token) (documents : List Document) : Type 0 where
+  pub events : List Event
+  pub pushed : Pushed l.parser tokens events
+  pub leads : Leads l.max_entries between events documents l.state
+  pub none_kept : l.fault ≡ no_fault
+
+-- P holds of all that the loader was handed and gave
+abbrev pub ForLoaded : PushLoader → (List Token → List Document → Type 0) → Type 0
+ForLoaded l P = (tokens : List Token) (documents : List Document) → Loaded l tokens documents → P tokens documents
+
+abbrev pub fault_in : PushLoader → Fault
+fault_in l = l.fault
+
+abbrev pub keeps_fault : PushLoader → Bool
+keeps_fault l = is_fault l.fault.error
+
+-- the stream's end was handed to the loader, or it keeps a fault
+abbrev pub has_stopped : PushLoader → Bool
+has_stopped l = keeps_fault l || pushed.has_stopped l.parser
+
+-- a fault is kept, or some pushes lead to a loader that stands so
+abbrev pub RemembersLoads : PushLoader → Type 0
+RemembersLoads l = (keeps_fault l ≡ true) ⊎ ((tokens : List Token) × (documents : List Document) × Loaded l tokens documents)

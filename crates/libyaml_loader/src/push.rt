@@ -1,0 +1,119 @@
+//! A loader that is handed its tokens.
+ghost use Rattle.std.specs.Prelude.{◌≡◌, ◌≤◌, [], pos, ◌≤ℤ◌};
+ghost use Rattle.std.specs.Vec.{vec_capacity, vec_len};
+ghost use Rattle.libyaml_sources.specs.Fault.{fault_of, no_fault};
+ghost use Rattle.libyaml_loader.specs.document.Ids.{magnitude};
+ghost use Rattle.libyaml_loader.specs.pushes.Loaded.{ForLoaded, Loaded, RemembersLoads, fault_in, made};
+ghost use Rattle.libyaml_loader.specs.pushes.PushesLoads.{PushesLoads};
+
+use crate::composer::Composer;
+use libyaml_documents::yaml_document_t;
+use libyaml_events::laws::pushes::{in_hand, of_pushed};
+use libyaml_events::{yaml_parser_t_prefix, yaml_push_parser_t};
+use libyaml_graphs::laws::linear_size;
+use libyaml_types::{yaml_error_type_t, yaml_event_t, yaml_token_t};
+use std::alloc::Global;
+use std::marker::Model;
+
+/// A loader that is handed one token after another.
+#[derive(Drop)]
+pub struct yaml_push_loader_t {
+    parser: yaml_push_parser_t,
+    composer: Composer,
+    /// The events of a push. Between two pushes it is empty.
+    events: Vec<yaml_event_t>,
+}
+
+impl Model for yaml_push_loader_t {
+    ghost use Rattle.std.specs.Prelude.{◌≡◌, []};
+    ghost use Rattle.std.specs.Coded.{codes};
+    ghost use Rattle.libyaml_events.specs.machine.Config.{handles_code};
+    ghost use Rattle.libyaml_sources.specs.Fault.{fault_of};
+    ghost use Rattle.libyaml_loader.specs.document.Anchors.{anchors_code};
+    ghost use Rattle.libyaml_loader.specs.pushes.Composing.{IsSound, state_of};
+    ghost use Rattle.libyaml_loader.specs.pushes.Loaded.{PushLoader, RemembersLoads, standing};
+
+    ghost Value = { PushLoader };
+
+    ghost coded = { Prim.hlevel (codes, handles_code, anchors_code) };
+
+    ghost view = { λ l. standing l.parser (state_of l.composer.open) (fault_of l.composer.fault)
+        l.composer.max_entries };
+
+    ghost invariant = { λ l. (l.events.items ≡ []) × IsSound l.composer
+        × RemembersLoads (standing l.parser (state_of l.composer.open) (fault_of l.composer.fault)
+        l.composer.max_entries) };
+}
+
+impl yaml_push_loader_t {
+    /// Returns a loader at a stream's start, without an allocation. Each list of a document may have
+    /// 2147483647 entries.
+    pub fn new(alloc: Global) -> Self
+        ensures value { result ≡ made 2147483647 }
+        ensures begins { Loaded result [] [] }
+    {
+        Self::with_max_entries(alloc, i32::MAX)
+    }
+
+    /// Returns a loader at a stream's start, without an allocation. Each list of a document may have `n`
+    /// entries, and `n` must be at least 1.
+    pub fn with_max_entries(alloc: Global, n: i32) -> Self
+        requires at_least_one { pos 1 ≤ℤ n }
+        ensures value { result ≡ made (magnitude n) }
+        ensures begins { Loaded result [] [] }
+    {
+        yaml_push_loader_t {
+            parser: yaml_push_parser_t::new(alloc),
+            composer: Composer::new(alloc, n as usize),
+            events: Vec::new(alloc),
+        }
+    }
+
+    /// Takes a token, and appends the documents that end with it. After the stream's end or a fault it takes
+    /// none.
+    ///
+    /// # Errors
+    ///
+    /// The error of a fault, which the loader keeps for good, so that each further call returns it: one of
+    /// the grammar; an alias whose anchor no node before it carries, or a second node with an anchor; out of
+    /// memory, where an allocation failed or a list of the document would have more entries than it may. The
+    /// documents that ended before it are appended.
+    pub fn push(
+        &mut self,
+        token: yaml_token_t,
+        documents: &mut Vec<yaml_document_t>,
+    ) -> Result<(), yaml_error_type_t>
+        ensures { PushesLoads (vec_capacity documents.old ≤ vec_len documents.new) self.old token
+            documents.old.items result self.new documents.new.items }
+    {
+        of_pushed();
+        in_hand();
+        linear_size();
+        self.composer.kept()?;
+        let mut token = token;
+        let pushed = self.parser.push_from(&mut token, &mut self.events);
+        let composed = self.composer.compose_all(&mut self.events, documents);
+        self.events.clear();
+        composed?;
+        if let Err(error) = pushed {
+            self.composer.keep(*self.parser.prefix());
+            return Err(error);
+        }
+        Ok(())
+    }
+
+    /// Does nothing. A loader that keeps no fault has a history: some pushes lead to a loader like it.
+    pub fn remembered(&self)
+        ensures { RemembersLoads self.now }
+    {
+        let _ = &self.parser;
+    }
+
+    /// Returns the fault that the loader keeps, or `NO_FAULT` where it keeps none.
+    pub fn prefix(&self) -> &yaml_parser_t_prefix
+        ensures kept { fault_of result.now ≡ fault_in self.now }
+        ensures before_fault { ForLoaded self.now (λ _ _. fault_of result.now ≡ no_fault) }
+    {
+        &self.composer.fault
+    }
+}
