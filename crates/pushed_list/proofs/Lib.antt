@@ -1,1 +1,2 @@
 mod Turn
+mod LoadTurn
