@@ -14,6 +14,7 @@ mod documents;
 mod enums;
 mod failing;
 mod lines;
+mod loaded;
 mod one_by_one;
 mod parsers;
 mod reading;

@@ -1,5 +1,6 @@
 //! The events of a list one by one: from the parser as an iterator, and from one that is handed each token.
 
+use crate::loaded::are_loaded;
 use crate::tables::{Case, Given, Text};
 use crate::tokens::list_of;
 use anyhow::Result;
@@ -11,11 +12,11 @@ use unsafe_libyaml::{
     yaml_token_source_t,
 };
 
-/// Whether both give the events and the fault that are wanted.
+/// Whether both give what is wanted: the events or the documents, and the fault.
 pub fn is_right(rt: &(impl Print + AllocGlobal), case: Case<'_>) -> io::Result<bool> {
     match case.given {
         Given::Events => Ok(are_iterated(rt, case.text)? && are_pushed(rt, case.text)?),
-        _ => Ok(true),
+        _ => are_loaded(rt, case),
     }
 }
 
@@ -54,7 +55,7 @@ fn are_pushed(rt: &(impl Print + AllocGlobal), text: Text<'_>) -> io::Result<boo
 
 /// What stands before the fault of a source over lines, of which a parser that is handed its tokens knows
 /// nothing.
-fn without_fault_of_source(wanted: &str) -> &str {
+pub fn without_fault_of_source(wanted: &str) -> &str {
     let before = wanted.split_once("FAULT reader ");
     match before.or(wanted.split_once("FAULT scanner ")) {
         Some((before, _)) => before,
@@ -104,7 +105,7 @@ fn write_events(alloc: Global, events: &[yaml_event_t], out: &mut Vec<u8>) -> Re
 }
 
 /// Writes the fault that a parser keeps, if it keeps one.
-fn write_kept(kept: &yaml_parser_t_prefix, out: &mut Vec<u8>) -> Result<()> {
+pub fn write_kept(kept: &yaml_parser_t_prefix, out: &mut Vec<u8>) -> Result<()> {
     if kept.error != YAML_NO_ERROR {
         write_fault(kept, out)?;
     }
