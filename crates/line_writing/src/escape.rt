@@ -10,6 +10,7 @@ use std::alloc::AllocError;
 pub(crate) const ESCAPED: AsciiSet = ascii_set!(CONTROLS.add(b' ').add(b'%'));
 
 /// Appends the text, escaped.
+#[inline(always)]
 pub(crate) fn append_escaped(line: &mut String, text: &str) -> Result<(), AllocError>
     ensures { OnOk result (string_bytes line.new ≡ string_bytes line.old ++ escaped text.now) }
 {
