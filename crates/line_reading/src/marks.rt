@@ -215,10 +215,12 @@ fn read_few_digits(line: &[u8], at: usize, end: usize) -> DigitsRead
 {
     let mut value = 0u64;
     for (len, digit) in line[at..end].iter().enumerate() {
-        if !digit.is_ascii_digit() {
+        // a byte below `0`, which is 48, wraps to a large number
+        let ones = u64::from(*digit).wrapping_sub(48);
+        if ones > 9 {
             return DigitsRead { len, value };
         }
-        value = value * 10 + u64::from(*digit - b'0');
+        value = value * 10 + ones;
     }
     DigitsRead {
         len: end - at,

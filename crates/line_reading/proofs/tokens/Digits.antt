@@ -1,11 +1,11 @@
 -- a number that begins some bytes
-use Rattle.std.proofs.Common.{◌≡◌, leb, ◌==◌, ℕ, ◌+◌, ◌-◌, ◌*◌, ◌<◌, ◌≤◌, ◌^◌, true, false, List, [], ◌∷◌, ◌++◌, length, take, drop, get_or, None, refl}
+use Rattle.std.proofs.Common.{◌≡◌, leb, ◌==◌, ℕ, ◌+◌, ◌-◌, ◌*◌, ◌%◌, ◌<◌, ◌≤◌, ◌^◌, true, false, List, [], ◌∷◌, ◌++◌, length, take, drop, get_or, None, refl}
 use Rattle.std.proofs.Common.{ap, sym, ◌∙◌, arith}
 use Rattle.std.proofs.lemmas.Bool.{cond_both}
 use Rattle.std.proofs.lemmas.List.{at_drop_more, at_drop_all, take_more, append-nil}
 use Rattle.std.proofs.Common.{append_assoc, min}
 use Rattle.std.proofs.lemmas.List.{get_or-take, length-take, length-drop}
-use Rattle.std.proofs.lemmas.Bool.{leb-true, and_parts}
+use Rattle.std.proofs.lemmas.Bool.{leb-true, le-leb, and_parts}
 use Rattle.std.proofs.Math.Nat.{pow-suc, pow-le-pow_right}
 use Rattle.std.proofs.Math.Numerals.{add-one}
 use Rattle.std.specs.Char.{is_ascii_digit}
@@ -150,3 +150,15 @@ few_more_within bytes k i n short few small d =
       read = more_within bytes k i n few.read small d (few_room bytes k i n short few small d);
       below = few_below i n (get_or (take k bytes) i 0) few.below bounds.1 bounds.0;
     }
+
+-- a digit by its value, which wraps for a byte below `0`
+abbrev ones : ℕ → ℕ
+ones b = (b + 18446744073709551568) % 18446744073709551616
+
+ones_within : (b : ℕ) → b < 18446744073709551616 → ones b ≤ 9 → (48 ≤ b) × (b ≤ 57) × (ones b ≡ b - 48)
+ones_within b fits few = (omega (arith, few), omega (arith, few), omega (arith, few))
+
+pub ones_digit : (b : ℕ) → b < 18446744073709551616 → ones b ≤ 9 → (is_ascii_digit b ≡ true) × (ones b ≡ b - 48)
+ones_digit b fits few =
+    let bounds = ones_within b fits few in
+    (rw (le-leb 48 b bounds.0, le-leb b 57 bounds.1) refl, bounds.2)
