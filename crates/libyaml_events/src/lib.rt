@@ -15,6 +15,7 @@ mod pending;
 mod push;
 mod slot;
 mod states;
+mod texts;
 
 pub use event_kinds::{is_event, is_stream_end, no_event};
 pub use parse::{yaml_parser_parse, yaml_parser_parse_into};

@@ -9,6 +9,7 @@ ghost use Rattle.libyaml_events.specs.machine.Steps.{Resolves};
 
 use crate::node_head::TagRead;
 use crate::parser::Machine;
+use crate::texts::is_text;
 use libyaml_types::{yaml_error_type_t, yaml_mark_t};
 use std::alloc::{AllocError, Global};
 use std::collections::BTreeMap;
@@ -17,9 +18,9 @@ use std::collections::BTreeMap;
 fn default_prefix_of(handle: &str) -> Option<&'static str>
     ensures { option_copied result ≡ undeclared_prefix handle.now }
 {
-    if handle == "!" {
+    if is_text(handle, "!") {
         Some("!")
-    } else if handle == "!!" {
+    } else if is_text(handle, "!!") {
         Some("tag:yaml.org,2002:")
     } else {
         None

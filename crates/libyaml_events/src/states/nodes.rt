@@ -18,7 +18,8 @@ ghost use Rattle.std.specs.Prelude.{◌≡◌, Some, Ok, Err, IfErr, None, false
 ghost use Rattle.libyaml_types.specs.declared.event.unnamed_yaml_event_t_data_scalar.{unnamed_yaml_event_t_data_scalar};
 ghost use Rattle.libyaml_types.specs.declared.enums.yaml_scalar_style_t.TheVariants.{YAML_PLAIN_SCALAR_STYLE};
 ghost use Rattle.libyaml_grammar.specs.sentences.Events.{is_plain, plain_flag, quoted_flag, is_missing};
-ghost use Rattle.libyaml_events.specs.machine.Machine.{scalar, sequence_start, mapping_start};
+ghost use Rattle.libyaml_types.specs.declared.event.unnamed_yaml_event_t_data.TheVariants.{Alias};
+ghost use Rattle.libyaml_events.specs.machine.Machine.{give, scalar, sequence_start, mapping_start};
 ghost use Rattle.libyaml_events.specs.machine.Machine.{no_content};
 ghost use Rattle.libyaml_events.specs.machine.Machine.{open_collection, scalar_content};
 ghost use Rattle.libyaml_events.specs.machine.Collections.{collection_start};
@@ -30,7 +31,7 @@ ghost use Rattle.libyaml_events.specs.machine.Growth.{joins, joins_before};
 ghost use Rattle.libyaml_events.specs.machine.Steps.{Steps};
 ghost use Rattle.libyaml_events.specs.machine.Answers.{answer, given};
 ghost use Rattle.libyaml_events.specs.machine.Want.{Given};
-ghost use Rattle.libyaml_events.specs.machine.Config.{opening_of, with_config, with_fault};
+ghost use Rattle.libyaml_events.specs.machine.Config.{opening_of, popped, with_config, with_fault};
 ghost use Rattle.libyaml_grammar.specs.cuts.FaultTexts.{content_fault};
 
 use crate::kept::Kept;
@@ -40,13 +41,14 @@ use crate::node_place::NodePlace;
 use crate::parser::Machine;
 use crate::pending::Pending;
 use crate::states::give;
+use crate::texts::is_text;
 use libyaml_types::{
     unnamed_yaml_event_t_data, unnamed_yaml_event_t_data_alias,
     unnamed_yaml_event_t_data_mapping_start, unnamed_yaml_event_t_data_scalar,
     unnamed_yaml_event_t_data_sequence_start, unnamed_yaml_token_t_data,
-    unnamed_yaml_token_t_data_scalar, unnamed_yaml_token_t_data_tag, yaml_error_type_t,
-    yaml_event_t, yaml_mapping_style_t, yaml_mark_t, yaml_parser_state_t, yaml_scalar_style_t,
-    yaml_sequence_style_t, yaml_token_t,
+    unnamed_yaml_token_t_data_alias, unnamed_yaml_token_t_data_scalar,
+    unnamed_yaml_token_t_data_tag, yaml_error_type_t, yaml_event_t, yaml_mapping_style_t,
+    yaml_mark_t, yaml_parser_state_t, yaml_scalar_style_t, yaml_sequence_style_t, yaml_token_t,
 };
 use std::alloc::Global;
 use std::mem;
@@ -77,7 +79,7 @@ fn is_plain_implicit(tag: &Option<String>, style: yaml_scalar_style_t) -> bool
 {
     match tag {
         None => is_plain(style),
-        Some(tag) => tag.as_str() == "!",
+        Some(tag) => is_text(tag.as_str(), "!"),
     }
 }
 
@@ -236,6 +238,31 @@ impl<S> Machine<S> {
         out.content = unnamed_yaml_event_t_data::Scalar(event);
     }
 
+    /// An alias, which is the whole node.
+    #[inline(always)]
+    fn alias(
+        &mut self,
+        content: &mut unnamed_yaml_token_t_data_alias,
+        start_mark: &yaml_mark_t,
+        end_mark: &yaml_mark_t,
+        out: &mut yaml_event_t,
+    )
+        ensures { Steps (give (Alias (record { anchor = content.old.value })) start_mark.now end_mark.now
+            (popped self.old.config)) self.old (Ok (Given out.new)) self.new }
+    {
+        self.pop_state();
+        out.start_mark = *start_mark;
+        out.end_mark = *end_mark;
+        if let unnamed_yaml_event_t_data::Alias(event) = &mut out.content {
+            mem::swap(&mut event.anchor, &mut content.value);
+            return;
+        }
+        let event = unnamed_yaml_event_t_data_alias {
+            anchor: mem::replace(&mut content.value, String::new(self.allocator())),
+        };
+        out.content = unnamed_yaml_event_t_data::Alias(event);
+    }
+
     /// A node that begins with an alias or a property.
     #[inline(never)]
     fn parse_alias_or_property(
@@ -249,41 +276,27 @@ impl<S> Machine<S> {
             (answer result pending.new out.new) self.new }
         ensures error { IfErr result (λ e. e ≡ yaml_error_type_t.YAML_PARSER_ERROR) }
     {
-        let start_mark = token.start_mark;
-        let end_mark = token.end_mark;
         match &mut token.content {
             unnamed_yaml_token_t_data::Alias(alias) => {
-                self.pop_state();
-                let event = unnamed_yaml_event_t_data_alias {
-                    anchor: mem::replace(&mut alias.value, String::new(self.allocator())),
-                };
-                give(
-                    out,
-                    unnamed_yaml_event_t_data::Alias(event),
-                    start_mark,
-                    end_mark,
-                );
+                self.alias(alias, &token.start_mark, &token.end_mark, out);
                 Ok(Step::Given)
             }
             unnamed_yaml_token_t_data::Anchor(anchor) => {
                 let anchor = mem::replace(&mut anchor.value, String::new(self.allocator()));
                 pending.place = place;
-                pending.properties = PropertiesRead {
-                    anchor: Some(anchor),
-                    tag: None,
-                    start_mark,
-                    end_mark,
-                };
+                pending.properties.anchor = Some(anchor);
+                pending.properties.tag = None;
+                pending.properties.start_mark = token.start_mark;
+                pending.properties.end_mark = token.end_mark;
                 Ok(pending.want(Next::BehindProperties))
             }
             unnamed_yaml_token_t_data::Tag(tag) => {
+                let tag = tag_read(self.allocator(), tag, token.start_mark);
                 pending.place = place;
-                pending.properties = PropertiesRead {
-                    anchor: None,
-                    tag: Some(tag_read(self.allocator(), tag, start_mark)),
-                    start_mark,
-                    end_mark,
-                };
+                pending.properties.anchor = None;
+                pending.properties.tag = Some(tag);
+                pending.properties.start_mark = token.start_mark;
+                pending.properties.end_mark = token.end_mark;
                 Ok(pending.want(Next::BehindProperties))
             }
             _ => {
@@ -456,10 +469,9 @@ impl<S> Machine<S> {
             (given result out.new) self.new }
         ensures error { IfErr result (λ e. e ≡ yaml_error_type_t.YAML_PARSER_ERROR) }
     {
-        let end_mark = token.end_mark;
         match &mut token.content {
             unnamed_yaml_token_t_data::Scalar(scalar) => {
-                self.scalar_content(head, scalar, end_mark, out)
+                self.scalar_content(head, scalar, &token.end_mark, out)
             }
             unnamed_yaml_token_t_data::FlowSequenceStart => {
                 let style = CollectionStyle::Sequence(
@@ -499,31 +511,40 @@ impl<S> Machine<S> {
         Ok(())
     }
 
+    #[inline(always)]
     fn scalar_content(
         &mut self,
         head: NodeHead,
         content: &mut unnamed_yaml_token_t_data_scalar,
-        end_mark: yaml_mark_t,
+        end_mark: &yaml_mark_t,
         out: &mut yaml_event_t,
     )
-        ensures { Steps (scalar_content head self.old.config content.old end_mark) self.old
+        ensures { Steps (scalar_content head self.old.config content.old end_mark.now) self.old
             (Ok (Given out.new)) self.new }
     {
         self.pop_state();
+        let plain_implicit = is_plain_implicit(&head.tag, content.style);
+        let quoted_implicit = is_quoted_implicit(&head.tag, content.style);
+        out.start_mark = head.start_mark;
+        out.end_mark = *end_mark;
+        if let unnamed_yaml_event_t_data::Scalar(event) = &mut out.content {
+            mem::swap(&mut event.value, &mut content.value);
+            event.anchor = head.anchor;
+            event.tag = head.tag;
+            event.plain_implicit = plain_implicit;
+            event.quoted_implicit = quoted_implicit;
+            event.style = content.style;
+            return;
+        }
         let event = unnamed_yaml_event_t_data_scalar {
-            plain_implicit: is_plain_implicit(&head.tag, content.style),
-            quoted_implicit: is_quoted_implicit(&head.tag, content.style),
             anchor: head.anchor,
             tag: head.tag,
             value: mem::replace(&mut content.value, String::new(self.allocator())),
+            plain_implicit,
+            quoted_implicit,
             style: content.style,
         };
-        give(
-            out,
-            unnamed_yaml_event_t_data::Scalar(event),
-            head.start_mark,
-            end_mark,
-        );
+        out.content = unnamed_yaml_event_t_data::Scalar(event);
     }
 
     /// The start of a collection, at the token that opens it. As in libyaml, that token is seen twice: here

@@ -1,0 +1,12 @@
+//! Whether two texts are the same.
+ghost use Rattle.std.specs.Prelude.{◌≡◌};
+ghost use Rattle.libyaml_grammar.specs.sentences.Events.{same_text};
+
+/// Whether a text is this one. Most differ in their lengths, which are looked at first: the comparison is a call.
+#[inline(always)]
+#[tactic(auto, using(crate::proofs::code::TextLemmas::other_length))]
+pub fn is_text(text: &str, wanted: &str) -> bool
+    ensures { result ≡ same_text text.now wanted.now }
+{
+    text.len() == wanted.len() && text == wanted
+}
