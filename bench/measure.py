@@ -4,7 +4,11 @@
 DIR has the lists of lists.py and the programs `bench_lists`, `yamltokens`, `libyaml`, `libyaml_lines` and, maybe,
 `unsafe_libyaml`. KIND is a kind of list, `growth` or `program`. Instructions are counted by valgrind's callgrind: of a list, the
 difference of two runs that differ in their rounds alone. All programs must agree in their counts and checksums.
-`--clock` takes the time too, the programs in turn; FIGURES is written for chart.py. $JOBS runs go on at a time (2)."""
+`--clock` takes the time too, the programs in turn; FIGURES is written for chart.py. $JOBS runs go on at a time (2).
+
+Nodes are counted twice. As glibc is set, what a block costs hangs on where the blocks before it lie: it keeps seven freed
+blocks of a size, joins the others where a list of nodes grows, and cuts new ones from what it joined. With KEEPS_BLOCKS
+it keeps every freed block, and the figures differ by what the parsers and loaders do alone."""
 import json
 import math
 import os
@@ -17,7 +21,10 @@ from concurrent.futures import ThreadPoolExecutor
 
 from lists import GROWING, KINDS
 
-# Each measure of a list: its program, and the word of its work there.
+# glibc's malloc keeps every freed block for a request of its size, up to a size of 1,032 bytes.
+KEEPS_BLOCKS = {"GLIBC_TUNABLES": "glibc.malloc.tcache_count=65535"}
+
+# Each measure of a list: its program, and the word of its work there; `kept` where malloc keeps every freed block.
 MEASURES = {
     "libyaml events": ("libyaml", "events"),
     "unsafe events": ("unsafe_libyaml", "events"),
@@ -31,6 +38,9 @@ MEASURES = {
     "place nodes": ("bench_lists", "place-nodes"),
     "list nodes": ("bench_lists", "list-nodes"),
     "floor nodes": ("libyaml", "floor-nodes"),
+    "kept libyaml nodes": ("libyaml", "nodes"),
+    "kept unsafe nodes": ("unsafe_libyaml", "nodes"),
+    "kept place nodes": ("bench_lists", "place-nodes"),
 }
 # The columns of a table: their heads, and the measures below them.
 EVENTS = {
@@ -49,6 +59,11 @@ NODES = {
     "over a list": "list nodes",
     "floor": "floor nodes",
 }
+KEPT_NODES = {
+    "libyaml": "kept libyaml nodes",
+    "`unsafe-libyaml`": "kept unsafe nodes",
+    "ours, in place": "kept place nodes",
+}
 MEASURED_TOKENS = 40000
 CLOCKED_TOKENS = 1000000
 PAIRS = 15
@@ -58,19 +73,20 @@ class Failed(Exception):
     """A program or a tool failed, or two programs disagree."""
 
 
-def run(words, path):
+def run(words, path, settings=None):
     """What a command writes of a file on its standard input, and the other things that it says."""
+    env = {**os.environ, **(settings or {})}
     with open(path, "rb") as lines:
-        done = subprocess.run(words, stdin=lines, stdout=subprocess.PIPE, stderr=subprocess.PIPE, check=False)
+        done = subprocess.run(words, stdin=lines, stdout=subprocess.PIPE, stderr=subprocess.PIPE, check=False, env=env)
     if done.returncode != 0:
         said = done.stderr.decode(errors="replace").strip()
         raise Failed(f"{' '.join(words)} < {path}: status {done.returncode}: {said}")
     return done.stdout, done.stderr.decode(errors="replace")
 
 
-def instructions(words, path):
+def instructions(words, path, settings=None):
     """How many instructions a command takes, and what it writes."""
-    written, said = run(["valgrind", "--tool=callgrind", "--callgrind-out-file=/dev/null"] + words, path)
+    written, said = run(["valgrind", "--tool=callgrind", "--callgrind-out-file=/dev/null"] + words, path, settings)
     count = re.search(r"Collected : (\d+)", said)
     if count is None:
         raise Failed(f"{' '.join(words)}: valgrind counted nothing")
@@ -104,8 +120,9 @@ class Bench:
         count, path = self.token_count(kind), self.tokens(kind)
         few = max(2, math.ceil(MEASURED_TOKENS / 4 / count))
         more = few + max(2, math.ceil(MEASURED_TOKENS / count))
-        first, _ = instructions([self.program(name), work, str(few)], path)
-        last, written = instructions([self.program(name), work, str(more)], path)
+        settings = KEEPS_BLOCKS if measure.startswith("kept") else None
+        first, _ = instructions([self.program(name), work, str(few)], path, settings)
+        last, written = instructions([self.program(name), work, str(more)], path, settings)
         word, items, checksum, counted = written.split()
         if word.decode() != work or int(counted) != more * int(items):
             raise Failed(f"{name} {work} of {kind} wrote {written!r}")
@@ -224,6 +241,7 @@ def main():
         figures = measure_lists(bench, kinds)
         print_table("events, instructions a token", EVENTS, figures)
         print_table("nodes, instructions a token", NODES, figures)
+        print_table("nodes, where malloc keeps every freed block", KEPT_NODES, figures)
         if out is not None:
             with open(out, "w", encoding="ascii") as written:
                 json.dump({k: {m: r and r[0] for m, r in v.items()} for k, v in figures.items()}, written)
