@@ -1,0 +1,210 @@
+#!/usr/bin/env python3
+"""Tells which row sees each edit of crates/*/must-fail; fails where none does and WRONG_BODIES doesn't say so.
+
+    python3 scripts/edit_rows.py [--write] [CRATE | CRATE/EDIT]..        (no such word: every edit)
+
+Each edit is made in a copy, and the programs of its crate's line in PROGRAMS are run over it in turn, without proof
+(`rt try`), until one ends otherwise than it should: `yamltokens` over the lists of `yaml_rows` and `line_rows`, the
+programs of rows table by table, other programs over what is stored beside them. Of the Rust crate's definitions the
+worked rows are proved. The program that WRONG_BODIES names goes first. With --write the place goes into WRONG_BODIES; where there is none, what the page says after
+"Seen in no row" stays. Two edits at a time (JOBS), half a minute to three minutes a program; needs `rt`.
+"""
+import os
+import re
+import subprocess
+import sys
+import tempfile
+from concurrent.futures import ThreadPoolExecutor, as_completed
+from pathlib import Path
+
+from answers import TOP, copied
+from controls import edited
+
+PAGE = TOP / "docs" / "WRONG_BODIES.md"
+PROGRAMS = {
+    "libyaml_types": ["yaml_rows", "push_scanner", "hostile_rows"],
+    "libyaml_sources": ["yaml_rows", "outline"],
+    "libyaml_events": ["yamltokens", "yaml_rows", "line_rows", "hostile_rows"],
+    "libyaml_original": ["rows"],
+    "libyaml_documents": ["yaml_rows", "keys", "hostile_rows"],
+    "libyaml_loader": ["yamltokens", "yaml_rows", "keys", "hostile_rows"],
+    "unsafe_libyaml": ["yaml_rows", "hostile_rows"],
+    "byte_words": ["yamltokens", "hostile_rows"],
+    "line_reading": ["yamltokens", "line_rows"],
+    "line_writing": ["yamltokens", "line_rows"],
+    "token_lines": ["yamltokens", "line_rows"],
+    "token_words": ["yamltokens", "line_rows"],
+    "computed_tokens": ["hostile_rows"],
+    "memory_runs": ["line_rows"],
+    "token_lines_c": [],
+    "yaml_path": ["yamlvalue"],
+}
+# Tables that take minutes without proof: they are tried only for an edit of which the page names them.
+SLOW = {
+    "lines as long as any, and longer",
+    "large lists, parsed",
+    "large lists, loaded",
+    "deep documents, by calls",
+    "drawn lists",
+}
+SECONDS = "240"
+
+
+class NotRun(Exception):
+    """A program was not built over an edit, or gave no answer."""
+
+
+class Case:
+    """A run of a program: its words, what it reads, and what it has to write (None: anything) and end with."""
+
+    def __init__(self, words, stdin="", stdout=None, status=0):
+        self.words, self.stdin, self.stdout, self.status = words, stdin, stdout, status
+
+
+def lists():
+    """The runs of `yamltokens` over each list of tokens, by the list's table and name."""
+    tables = [TOP / "crates/yaml_rows/data" / name for name in ("rows", "completed", "loads", "libyaml_differs", "suite", "real")]
+    for table in [*tables, TOP / "crates/line_rows/data/runs"]:
+        for tokens in sorted(table.glob("*.tokens")):
+            for kind in ("events", "nodes"):
+                wanted = tokens.with_suffix("." + kind)
+                if wanted.exists():
+                    text = wanted.read_text()
+                    status = int(bool(re.search(r"^FAULT ", text, flags=re.M)))
+                    yield f"`yamltokens {kind}` over `{tokens.stem}` of table \"{table.name}\"", Case([kind], tokens.read_text(), text, status)
+
+
+def cases_of(program, named):
+    """The runs of a program, by what the page calls them; slow ones only where they are named."""
+    home = TOP / "crates" / program
+    if program == "yamltokens":
+        return dict(lists())
+    stored = {name: (home / name).read_text() for name in ("args", "stdin", "stdout", "status") if (home / name).exists()}
+    if (home / "data").is_dir():
+        tables = re.findall(r"^(.*): \d+ (?:lists|rows|checks), ", stored["stdout"], flags=re.M)
+        tables = [table for table in dict.fromkeys(tables) if table not in SLOW or f'"{table}"' in named]
+        return {f'`{program}`, table "{table}"': Case([table]) for table in tables}
+    words = stored.get("args", "").splitlines()
+    return {f"the stored run of `{program}`": Case(words, stored.get("stdin", ""), stored.get("stdout", ""), int(stored.get("status", "0")))}
+
+
+def first_row(said):
+    """The first row that a program of rows tells as another, in words."""
+    named = re.search(r"^(?:.*?: this (?:row )?differs: (.*)|\w+/([\w.@-]+), (.*):)$", said, flags=re.M)
+    if not named:
+        return ""
+    return ": " + (named[1] or f"`{named[2]}`, {named[3]}").rstrip(".")
+
+
+def made(folder, cases):
+    """Writes the files of these runs into a folder, as `rt try --cases` takes them."""
+    for at, case in enumerate(cases):
+        path = folder / f"{at:03}"
+        path.write_text(case.stdin)
+        path.with_suffix(".args").write_text("".join(f"{word}\n" for word in case.words))
+        if case.stdout is not None:
+            path.with_suffix(".stdout").write_text(case.stdout)
+
+
+def ends_as_wanted(end, case):
+    """Whether a run of this case, of which `rt try` says this, ended as it should."""
+    return f"run=ended status={case.status} " in end and "output=differs" not in end
+
+
+def run_cases(room, program, cases):
+    """The first of these runs that does not end as it should, in words; None where each does."""
+    home = room / "crates" / program
+    files = [path for path in sorted(home.glob("data/**/*")) if path.is_file()]
+    data = [word for path in files for word in ("--data", f"{path.relative_to(home / 'data')}={path.relative_to(home)}")]
+    names, lines, ended = list(cases), [], 0
+    with tempfile.TemporaryDirectory() as folder, tempfile.TemporaryFile("w+", errors="replace") as texts:
+        made(Path(folder), cases.values())
+        command = ["rt", "try", "--seconds", SECONDS, "--cases", folder, *data]
+        run = subprocess.Popen(command, cwd=home, stdin=subprocess.DEVNULL, stdout=texts, stderr=subprocess.PIPE, text=True, errors="replace")
+        for line in run.stderr:
+            lines.append(line)
+            case = re.match(r"case=(\d+) (.*)", line)
+            ended += bool(case)
+            if case and not ends_as_wanted(case[2], cases[names[int(case[1])]]):
+                run.terminate()
+                run.wait()
+                texts.seek(0)
+                how = "" if "run=ended" in case[2] else f" ({case[2].partition(' runners')[0]})"
+                return names[int(case[1])] + first_row(texts.read()) + how
+        run.wait()
+    if ended < len(cases):
+        raise NotRun(f"{program}: {''.join(lines)[-1500:]}")
+    return None
+
+
+def run_laws(room, _):
+    """Whether the worked rows of the Rust crate's definitions are proved no more."""
+    home = room / "crates/libyaml_original"
+    run = subprocess.run(["rt", "check", "--only", "rows"], cwd=home, stdin=subprocess.DEVNULL, capture_output=True, text=True)
+    said = run.stdout + run.stderr
+    if not re.search(r"^only=[1-9]", said, flags=re.M):
+        raise NotRun(f"libyaml_original: {said[-1500:]}")
+    return None if run.returncode == 0 else "the worked rows of its module `rows`"
+
+
+def tried(crate, edit):
+    """Where an edit is seen, in words, and None where it is not; or why that is not known."""
+    try:
+        return place(crate, edit)
+    except NotRun as why:
+        return why
+
+
+def place(crate, edit):
+    """Where an edit is seen, in words; None where it is not."""
+    with tempfile.TemporaryDirectory() as room:
+        copied(Path(room))
+        for path, text in edited(Path(room) / "crates" / crate, edit).items():
+            path.write_text(text)
+        named = line_of(crate, edit.stem)[2] or ""
+        for program in sorted(PROGRAMS[crate], key=lambda name: f"`{name}" not in named):
+            seen = run_laws(Path(room), program) if program == "rows" else run_cases(Path(room), program, cases_of(program, named))
+            if seen:
+                return seen
+    return None
+
+
+def line_of(crate, edit):
+    """The line of an edit in WRONG_BODIES: what it gets wrong, where it is seen, and what refuses it."""
+    part = re.search(rf"(?ms)^## `{crate}`.*?(?=^## |\Z)", PAGE.read_text())
+    line = re.compile(rf"(?m)^(- `{re.escape(edit)}`: .*?)( Seen in [^\n]*?\.)?( Refused by [^\n]*)?$")
+    return part and line.search(PAGE.read_text(), *part.span())
+
+
+def write(crate, edit, seen):
+    """Puts into its line where an edit is seen."""
+    line, page = line_of(crate, edit), PAGE.read_text()
+    now = f"{line[1]} Seen in {seen or 'no row'}.{line[3] or ''}"
+    PAGE.write_text(page[: line.start()] + now + page[line.end() :])
+
+
+def main(words):
+    writes = "--write" in words
+    words = [word for word in words if word != "--write"]
+    edits = [(path.parent.parent.name, path) for path in sorted(TOP.glob("crates/*/must-fail/*.edit"))]
+    edits = [(crate, path) for crate, path in edits if not words or crate in words or f"{crate}/{path.stem}" in words]
+    if not edits:
+        sys.exit(__doc__)
+    wrong = 0
+    with ThreadPoolExecutor(int(os.environ.get("JOBS", "2"))) as pool:
+        tries = {pool.submit(tried, *edit): edit for edit in edits}
+        for done in as_completed(tries):
+            (crate, path), seen = tries[done], done.result()
+            known = not isinstance(seen, NotRun)
+            told = (line_of(crate, path.stem)[2] or "").startswith(" Seen in no row")
+            says = "seen in " + seen if known and seen else "seen in no row" if known else f"not known: {seen}"
+            print(f"{crate}/{path.stem}: {says}", flush=True)
+            wrong += not known or not seen and not told
+            if writes and known and (seen or not told):
+                write(crate, path.stem, seen)
+    if wrong:
+        sys.exit(f"{wrong} seen in no row, or not known")
+
+
+if __name__ == "__main__":
+    main(sys.argv[1:])
