@@ -9,7 +9,7 @@ use unsafe_libyaml::{
     YAML_DOUBLE_QUOTED_SCALAR_STYLE, YAML_FLOW_MAPPING_STYLE, YAML_FLOW_SEQUENCE_STYLE,
     YAML_FOLDED_SCALAR_STYLE, YAML_PLAIN_SCALAR_STYLE, yaml_alias_event_initialize,
     yaml_document_start_event_initialize, yaml_event_delete, yaml_event_t,
-    yaml_mapping_start_event_initialize, yaml_refusal_t, yaml_scalar_event_initialize,
+    yaml_mapping_start_event_initialize, yaml_mark_t, yaml_refusal_t, yaml_scalar_event_initialize,
     yaml_sequence_start_event_initialize, yaml_version_directive_t,
 };
 
@@ -116,6 +116,14 @@ fn refuses_a_prefix(alloc: Global) -> bool {
     is_no_text(yaml_document_start_event_initialize(alloc, None, &pairs, false))
 }
 
+fn refuses_surrogates(alloc: Global) -> bool {
+    let surrogate = b"\xed\xa0\x80".as_slice();
+    [
+        is_no_text(scalar(alloc, surrogate)),
+        is_no_text(yaml_alias_event_initialize(alloc, surrogate)),
+    ] == [true; 2]
+}
+
 fn empties_twice(event: &mut yaml_event_t) -> bool {
     yaml_event_delete(event);
     let is_emptied = is_empty(event);
@@ -125,6 +133,11 @@ fn empties_twice(event: &mut yaml_event_t) -> bool {
 
 fn is_emptied_twice(alloc: Global) -> Result<bool> {
     let mut event = scalar(alloc, b"x")?;
+    event.end_mark = yaml_mark_t {
+        index: 1,
+        line: 0,
+        column: 1,
+    };
     Ok(empties_twice(&mut event))
 }
 
@@ -142,7 +155,7 @@ pub fn checks(alloc: Global) -> [Option<&'static str>; 11] {
             is_no_text(scalar(alloc, b"\xf4\x90\x80\x80")),
             "past the last character",
         ),
-        unless(is_no_text(scalar(alloc, b"\xed\xa0\x80")), "a surrogate"),
+        unless(refuses_surrogates(alloc), "a surrogate"),
         unless(refuses_a_prefix(alloc), "a prefix that is no text"),
         unless_made(is_emptied_twice(alloc), "an event is emptied twice"),
     ]

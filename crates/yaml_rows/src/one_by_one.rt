@@ -71,7 +71,7 @@ fn write_pushed(alloc: Global, tokens: &str, out: &mut Vec<u8>) -> Result<()> {
     write_kept(parser.prefix(), out)
 }
 
-/// Pushes the token of each line, until there is none or the parser has a fault.
+/// Pushes the token of each line, also after a fault or the stream's end, where a push appends nothing.
 fn push_all(
     alloc: Global,
     tokens: &str,
@@ -86,13 +86,17 @@ fn push_all(
     }
 }
 
+/// Pushes the next token, and returns whether there is one.
 fn push_next<S: yaml_token_source_t>(
     source: &mut S,
     parser: &mut yaml_push_parser_t,
     events: &mut Vec<yaml_event_t>,
 ) -> bool {
     match source.next_token() {
-        Ok(token) => parser.push(token, events).is_ok(),
+        Ok(token) => {
+            let _ = parser.push(token, events);
+            true
+        }
         Err(_) => false,
     }
 }

@@ -6,9 +6,10 @@ use row_checks::{gives_event, unless, unless_made};
 use std::alloc::Global;
 use token_lines::write_event;
 use unsafe_libyaml::{
-    YAML_MEMORY_ERROR, ZERO_MARK, yaml_error_type_t, yaml_event_t, yaml_list_source_t,
-    yaml_parser_between_documents, yaml_parser_initialize, yaml_parser_load, yaml_parser_load_all,
-    yaml_parser_parse, yaml_parser_parse_all, yaml_parser_t, yaml_source_fault_t,
+    YAML_MEMORY_ERROR, YAML_READER_ERROR, ZERO_MARK, yaml_error_type_t, yaml_event_t,
+    yaml_list_source_t, yaml_parser_between_documents, yaml_parser_initialize, yaml_parser_load,
+    yaml_parser_load_all, yaml_parser_parse, yaml_parser_parse_all, yaml_parser_t,
+    yaml_source_fault_t,
 };
 
 type Parser = yaml_parser_t<yaml_list_source_t>;
@@ -82,8 +83,17 @@ fn gives_nothing_at_once(alloc: Global) -> bool {
     [run, all] == [true; 2]
 }
 
+/// Whether a list without a fault of its own, and without a token, ends by a reader's fault.
+fn ends_by_a_reader(alloc: Global) -> bool {
+    let mut parser = yaml_parser_initialize(alloc, yaml_list_source_t::from(Vec::new(alloc)));
+    [
+        yaml_parser_parse(&mut parser).is_err(),
+        parser.prefix().error == YAML_READER_ERROR,
+    ] == [true; 2]
+}
+
 /// What is wrong with parsers, over the lines of one scalar and those of two documents.
-pub fn checks(alloc: Global, scalar: &str, two: &str) -> [Option<&'static str>; 3] {
+pub fn checks(alloc: Global, scalar: &str, two: &str) -> [Option<&'static str>; 4] {
     [
         unless_made(
             stands_between_documents(alloc, scalar),
@@ -93,6 +103,10 @@ pub fn checks(alloc: Global, scalar: &str, two: &str) -> [Option<&'static str>; 
         unless(
             gives_nothing_at_once(alloc),
             "a source without memory gives nothing at once",
+        ),
+        unless(
+            ends_by_a_reader(alloc),
+            "a list that ends too soon ends by a reader's fault",
         ),
     ]
 }
