@@ -31,8 +31,8 @@ pub fn is_clean(bytes: &[u8]) -> bool
     is_clean_at(bytes, len - 8)
 }
 
-/// The same of the eight bytes from an index on: a bit of the word is left for each that is odd. No sum goes
-/// over into the next byte.
+/// The same of the eight bytes from an index on: each byte that is not clean leaves its high bit set, and no
+/// addition carries into the next byte.
 #[inline(always)]
 fn is_clean_at(bytes: &[u8], at: usize) -> bool
     requires { at + 8 ≤ length bytes.now }

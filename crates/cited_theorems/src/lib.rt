@@ -1,5 +1,5 @@
-//! Theorems that a user's crate states by citing the public ones: each is the contract of a small function, over the
-//! words that `unsafe_libyaml` and `token_lines` pass on, and is proved by a call of the public function.
+//! Theorems that a user's crate states by citing the public ones: each is the contract of a small function,
+//! over the words that `unsafe_libyaml` and `token_lines` pass on, and is proved by a call of the public one.
 #![tactic(auto)]
 
 mod laws;

@@ -76,7 +76,7 @@ impl yaml_push_parser_t {
     }
 
     /// Takes a token as `push` does, from a slot, so that a loop needs one token, which isn't moved.
-    /// Afterwards `token` is any token.
+    /// Afterwards the value of `token` is unspecified.
     ///
     /// # Errors
     ///

@@ -2,7 +2,8 @@
 ghost use Rattle.std.specs.Prelude.{◌≡◌};
 ghost use Rattle.libyaml_grammar.specs.sentences.Events.{same_text};
 
-/// Whether a text is this one. Most differ in their lengths, which are looked at first: the comparison is a call.
+/// Returns whether a text is this one. Most differ in their lengths, which are compared first, since a
+/// comparison of bytes is a call.
 #[inline(always)]
 #[tactic(auto, using(crate::proofs::code::TextLemmas::other_length))]
 pub fn is_text(text: &str, wanted: &str) -> bool

@@ -33,7 +33,7 @@ use std::alloc::Global;
 
 /// A document that is being composed. Each of its lists may have at most `max_entries` entries.
 ///
-/// libyaml: `loader_ctx`, with the parser's fields `document` and `aliases`.
+/// Extends libyaml's `loader_ctx` by the parser's fields `document` and `aliases`.
 #[derive(Drop)]
 pub struct loader_ctx {
     pub document: yaml_document_t,

@@ -63,7 +63,7 @@ enum ComposeStep {
     Ended,
 }
 
-/// The next document, or at the stream's end the document without root.
+/// Returns the next document, or at the stream's end the document without root.
 ///
 /// # Errors
 ///

@@ -40,14 +40,14 @@ impl From<yaml_refusal_t> for Refusal {
     }
 }
 
-/// Whether the parser keeps a fault.
+/// Returns whether the parser keeps a fault.
 pub fn has_failed<S>(parser: &yaml_parser_t<S>) -> bool
     ensures { result ≡ has_failed parser.now }
 {
     !matches!(parser.prefix().error, yaml_error_type_t::YAML_NO_ERROR)
 }
 
-/// The parser keeps the fault of this refusal for good, and its error is returned. The event that is refused
+/// Keeps the fault of this refusal for good, and returns its error. The event that is refused
 /// starts at `mark`, and the first node with a repeated anchor at `first_mark`.
 #[cold]
 pub fn keep_refusal<S>(

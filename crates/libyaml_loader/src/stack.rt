@@ -62,7 +62,7 @@ impl OpenCollections {
         self.inner.last().copied()
     }
 
-    /// Lets this key wait in the innermost collection, or none.
+    /// Sets or clears the pending key of the innermost collection.
     pub fn set_key(&mut self, key: Option<NodeId>)
         ensures { self.new ≡ with_key (number_of key) self.old }
     {

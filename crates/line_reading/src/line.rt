@@ -48,7 +48,7 @@ enum LineEnd {
 }
 
 /// Takes a line into an empty `line`: up to an LF, which is taken too, or to the end. Returns how it ended,
-/// or none where it has not ended with the byte that is too many.
+/// or `None` after `MAX_LINE` + 1 bytes without a line end.
 fn take_line<R: BufRead>(
     reader: &mut R,
     line: &mut Vec<u8>,

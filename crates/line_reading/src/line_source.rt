@@ -16,7 +16,7 @@ use std::alloc::Global;
 use std::io::BufRead;
 use std::marker::Model;
 
-/// The tokens of a reader's lines, and then a fault for good.
+/// The tokens of a reader's lines, and from then on its fault.
 ///
 /// Each call reads one line, and no byte after it and its LF.
 #[derive(Drop)]
@@ -102,7 +102,7 @@ impl<R: BufRead> yaml_token_source_t for yaml_line_source_t<R> {
         Ok(token)
     }
 
-    /// Puts the token of the next line straight into `token`, which after a fault is any token.
+    /// Puts the token of the next line straight into `token`; after a fault its value is unspecified.
     fn next_token_into(&mut self, token: &mut yaml_token_t) -> Result<(), yaml_source_fault_t>
         ensures gives { Gives R.remaining self.old (answer_in result token.new) self.new }
         ensures leaves { IfOk result (λ _. IsBehindLine (R.remaining self.old.reader)

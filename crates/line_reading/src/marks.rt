@@ -73,8 +73,8 @@ pub fn read_mark(line: &[u8], at: usize, row: &mut RowRead, mark: &mut yaml_mark
     column.end
 }
 
-/// Reads the number that begins at `at`: where the digits of `earlier` and the byte after them stand there again,
-/// it is the same number.
+/// Reads the number that begins at `at`: where the digits of `earlier` and the byte after them stand there
+/// again, it is the same number.
 #[inline(always)]
 fn read_row(line: &[u8], at: usize, earlier: &RowRead) -> NumberRead
     requires at { at ≤ length line.now }

@@ -34,7 +34,7 @@ impl<'a> Pieces<'a> {
         }
     }
 
-    /// Returns the pieces of what follows a piece, if it goes on there.
+    /// Returns the pieces of `rest`; none if it is `None`.
     pub fn behind(rest: Option<&'a [u8]>, separator: u8) -> Self
         ensures { result ≡ pieces_of separator (option_copied rest.entry) }
     {

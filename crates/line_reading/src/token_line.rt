@@ -23,8 +23,8 @@ use std::alloc::Global;
 ///
 /// # Errors
 ///
-/// `BadTokenLine`, where the line is no token line, and `Memory`, where an allocation fails. Then `token` is
-/// any token.
+/// `BadTokenLine`, where the line is no token line, and `Memory`, where an allocation fails. Then the value of
+/// `token` is unspecified.
 pub fn read_token_line(
     alloc: Global,
     line: &[u8],
@@ -35,7 +35,7 @@ pub fn read_token_line(
     take_token(alloc, line, token)
 }
 
-/// The same, by prefixes of the line.
+/// Reads the token; this contract follows the code, prefix by prefix.
 fn take_token(alloc: Global, line: &[u8], token: &mut yaml_token_t) -> Result<(), LineProblem>
     ensures { IsReadInto result token.new (token_at line.now) }
 {

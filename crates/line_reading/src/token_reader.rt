@@ -49,8 +49,8 @@ impl TokenReader {
     ///
     /// # Errors
     ///
-    /// Why there is none; then `token` is any token. A kept problem is returned again; then `too many tokens`
-    /// comes before a line is read.
+    /// Why there is none; then the value of `token` is unspecified. A kept problem is returned again; then
+    /// `too many tokens` comes before a line is read.
     pub(crate) fn next_token_into<R: BufRead>(
         &mut self,
         reader: &mut R,

@@ -101,7 +101,7 @@ fn append_node(line: &mut String, id: usize, node: &yaml_node_t) -> Result<(), A
     append_node_rest(line, &node.content)
 }
 
-/// Appends the tag, the default of the node's kind by one constant.
+/// Appends the tag, the default of the node's kind with one `push_str`.
 fn append_tag(line: &mut String, node: &yaml_node_t) -> Result<(), AllocError>
     ensures { OnOk result (string_bytes line.new ≡ string_bytes line.old
         ++ behind_spaces (string_text node.now.tag ∷ [])) }

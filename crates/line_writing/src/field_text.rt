@@ -55,7 +55,7 @@ pub(crate) fn append_flag(line: &mut String, flag: bool) -> Result<(), AllocErro
     line.push_str(if flag { " 1" } else { " 0" })
 }
 
-/// Appends two flags by one constant.
+/// Appends two flags with one `push_str`.
 pub(crate) fn append_two_flags(
     line: &mut String,
     first: bool,

@@ -17,7 +17,7 @@ use libyaml_types::{
 };
 use std::alloc::Global;
 
-/// Reads the token of a record into `token`. Only the token's texts take memory, and each is looked at before.
+/// Reads the token of a record into `token`. Only the token's texts take memory; each is looked at before.
 ///
 /// # Errors
 ///
