@@ -1,5 +1,5 @@
 #!/usr/bin/env python3
-"""Fails where a page or a comment has a word that is given up, and says what stands in its place: the table below.
+"""Fails where a page, a comment or the name of an edit has a word that is given up, and says what stands in its place: the table below.
 
     python3 scripts/words.py [CRATE..]     pages, examples, and the comments of these crates, or of all where none is named
 
@@ -66,12 +66,20 @@ def files(crates):
                     yield path, comments_of(path)
 
 
+def edits():
+    """The words given up that the name of an edit has after its function's."""
+    for path in sorted(TOP.glob("crates/*/must-fail/*.edit")):
+        for match in GIVEN_UP.finditer(path.stem.partition("-")[2].replace("_", " ")):
+            yield path, list(INSTEAD.values())[match.lastindex - 1]
+
+
 def main():
     found = [
         f"{path.relative_to(TOP)}:{number}: {word}"
         for path, lines in files(sys.argv[1:] or sorted(crate.name for crate in TOP.glob("crates/*")))
         for number, word in given_up(lines)
     ]
+    found += [f"{path.relative_to(TOP)}: its name (now: {instead})" for path, instead in edits()]
     if found:
         sys.exit("\n".join(found))
 
