@@ -161,10 +161,13 @@ class Bench:
         medians = [statistics.median(column) for column in zip(*times)]
         return medians[0], medians[1], statistics.median(b / a for a, b in times)
 
-    def clock(self, kind, what):
-        rounds = str(math.ceil(CLOCKED_TOKENS / self.token_count(kind)))
-        ours = [self.program("bench_lists"), "place-" + what, rounds]
-        return self.pairs(ours, [self.program("libyaml"), what, rounds], self.tokens(kind))
+    def clock(self, kind, what, peer):
+        """Nanoseconds a token of ours and of a peer, medians of runs in turn, and the median of the ratios of a turn."""
+        count = self.token_count(kind)
+        rounds = math.ceil(CLOCKED_TOKENS / count)
+        ours = [self.program("bench_lists"), "place-" + what, str(rounds)]
+        first, second, ratio = self.pairs(ours, [self.program(peer), what, str(rounds)], self.tokens(kind))
+        return first * 1e9 / (rounds * count), second * 1e9 / (rounds * count), ratio
 
 
 def shown(measured, measure):
@@ -214,15 +217,19 @@ def print_program(bench):
 
 
 def print_clock(bench, kinds, program):
-    print("\n| by the clock | ours | libyaml | median of the ratios |\n|---|---|---|---|")
+    """The time of ours beside each peer's; the ratio says how many times as long the peer takes."""
+    peers = [peer for peer in ("libyaml", "unsafe_libyaml") if bench.has(peer)]
     for what in ("events", "nodes"):
+        heads = "".join(f" {peer.replace('_', '-')} | ratio |" for peer in peers)
+        print(f"\n| {what}, nanoseconds a token | ours |{heads}\n|---|---|" + "---|---|" * len(peers))
         for kind in kinds:
-            ours, theirs, ratio = bench.clock(kind, what)
-            print(f"| {KINDS[kind]}, {what} | {ours:.3f} s | {theirs:.3f} s | {ratio:.2f} |")
+            measured = [bench.clock(kind, what, peer) for peer in peers]
+            cells = "".join(f" {theirs:.1f} | {ratio:.2f} |" for _, theirs, ratio in measured)
+            print(f"| {KINDS[kind]} | {measured[0][0]:.1f} |{cells}", flush=True)
         if program:
             words = [[bench.program("yamltokens"), what], [bench.program("libyaml_lines"), what]]
             ours, theirs, ratio = bench.pairs(*words, bench.tokens("program"))
-            print(f"| `yamltokens {what}` | {ours:.3f} s | {theirs:.3f} s | {ratio:.2f} |")
+            print(f"`yamltokens {what}`: {ours:.3f} s, libyaml: {theirs:.3f} s, ratio {ratio:.2f}")
 
 
 def main():
