@@ -3,7 +3,7 @@
 user can name, by their crates, each with its signature, its fields or its variants and the first sentence of its doc; then, by
 their names, those that only crates above use, and the laws.
 
-    python3 scripts/surface.py           fails where the page is stale, or an item has no doc
+    python3 scripts/surface.py           fails where the page is stale, an item has no doc, or one is `pub` for its crate alone
     python3 scripts/surface.py --write   writes the page
 
 The examples and the programs of rows are left out.
@@ -218,6 +218,23 @@ def public_of(crate):
     return public
 
 
+def hidden(crate):
+    """The items, as a file, a line and a name, that say `pub` where no path from the root reaches them."""
+    public = public_of(crate)
+    for path in sorted((TOP / "crates" / crate / "src").rglob("*.rt")):
+        owner = None
+        for number, line in enumerate(path.read_text().splitlines()):
+            if match := ITEM.match(line):
+                name = match[2]
+            elif match := IMPL.match(line):
+                owner, name = None if match[2] else match[3], None
+            else:
+                match = METHOD.match(line)
+                name = f"{owner}::{match[2]}" if owner and match and match[1] else None
+            if name and not any(key == name or key.endswith("::" + name) for key in public):
+                yield path, number, name
+
+
 def grouped(rows):
     """The items, each type before its methods; a method that many types have alike stands once."""
     alike = {}
@@ -254,13 +271,14 @@ def block(items):
 
 
 def page():
-    """The page, and the items that have no doc."""
+    """The page, and what is wrong with an item."""
     listed, laws, without, everything = {}, [], [], {}
     for crate in crates():
         if root(crate) is None or root(crate).name == "main.rt" or crate in EXAMPLES:
             continue
         rows = [(name, item) for name, item in public_of(crate).items() if item is not None]
-        without += [f"{crate}: {name}" for name, item in rows if not item.says and item.kind != "impl"]
+        without += [f"{crate}: {name} has no doc" for name, item in rows if not item.says and item.kind != "impl"]
+        without += [f"{crate}: {name} is no public item, so `pub(crate)`" for _, _, name in hidden(crate)]
         of_crate = [name for name, _ in rows if LAWS.match(name)]
         laws += [(crate, of_crate)] if of_crate else []
         listed[crate] = [(name, item) for name, item in rows if not LAWS.match(name)]
@@ -298,7 +316,7 @@ def page():
 def main():
     text, without = page()
     if without:
-        sys.exit("no doc:\n" + "\n".join(without))
+        sys.exit("\n".join(without))
     if sys.argv[1:] == ["--write"]:
         PAGE.write_text(text)
     elif not PAGE.exists() or PAGE.read_text() != text:

@@ -2,7 +2,7 @@
 
 /// Which token stays. Of one that opens a collection the marks alone are kept: it has no texts.
 #[derive(Copy, Clone)]
-pub enum Kept {
+pub(crate) enum Kept {
     Nothing,
     Token,
     BlockSequence,

@@ -2,7 +2,7 @@
 
 /// Which function takes the next token: that of the parser's state, or that of what the token comes after.
 #[derive(Copy, Clone)]
-pub enum Next {
+pub(crate) enum Next {
     AtState,
     BehindDirective,
     BehindProperties,
@@ -21,7 +21,7 @@ pub enum Next {
 
 /// What a step of the parser led to.
 #[derive(Copy, Clone)]
-pub enum Step {
+pub(crate) enum Step {
     /// Its event stands in `out`.
     Given,
     /// A further token is wanted. `Pending` says for what, and has what was read before it.

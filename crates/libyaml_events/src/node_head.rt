@@ -5,7 +5,7 @@ use std::marker::Model;
 
 /// A tag as it is written.
 #[derive(Drop)]
-pub struct TagRead {
+pub(crate) struct TagRead {
     pub handle: String,
     pub suffix: String,
     /// The start of its token.
@@ -27,7 +27,7 @@ impl Model for TagRead {
 
 /// The properties of a node, read so far: at least one.
 #[derive(Drop)]
-pub struct PropertiesRead {
+pub(crate) struct PropertiesRead {
     pub anchor: Option<String>,
     pub tag: Option<TagRead>,
     /// The start of the first.
@@ -52,7 +52,7 @@ impl Model for PropertiesRead {
 
 /// What stands before a node's content: its properties, the tag in full, or neither.
 #[derive(Drop)]
-pub struct NodeHead {
+pub(crate) struct NodeHead {
     pub anchor: Option<String>,
     pub tag: Option<String>,
     /// The start of the first property, or else of the content.

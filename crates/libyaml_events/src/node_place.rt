@@ -3,7 +3,7 @@ ghost use Rattle.std.specs.Prelude.{◌≡◌};
 
 /// The kinds of node that may stand at a place.
 #[derive(Copy, Clone)]
-pub enum NodePlace {
+pub(crate) enum NodePlace {
     /// Any but an indentless sequence.
     Block,
     /// Any: a key or value of a block mapping.
@@ -16,7 +16,7 @@ impl NodePlace {
     ghost use Rattle.libyaml_events.specs.machine.Machine.{is_block_place, may_be_indentless};
 
     /// Whether a block collection may stand here.
-    pub fn is_block(self) -> bool
+    pub(crate) fn is_block(self) -> bool
         ensures { result ≡ is_block_place self }
     {
         match self {
@@ -26,7 +26,7 @@ impl NodePlace {
     }
 
     /// Whether a sequence may stand here without its own start and end tokens.
-    pub fn may_be_indentless(self) -> bool
+    pub(crate) fn may_be_indentless(self) -> bool
         ensures { result ≡ may_be_indentless self }
     {
         match self {

@@ -58,7 +58,7 @@ impl<S> Model for yaml_parser_t<S> {
 
 /// What a parser keeps from one call to the next.
 #[derive(Drop)]
-pub struct Machine<S> {
+pub(crate) struct Machine<S> {
     source: S,
     /// Which token stays in `held`, to be looked at again. Where none does, its value has no meaning.
     kept: Kept,

@@ -11,7 +11,7 @@ use std::marker::Model;
 
 /// The directives of a document, read so far.
 #[derive(Drop)]
-pub struct DirectivesRead {
+pub(crate) struct DirectivesRead {
     /// The start of the first.
     pub start_mark: yaml_mark_t,
     pub version: Option<yaml_version_directive_t>,
@@ -33,7 +33,7 @@ impl Model for DirectivesRead {
 
 /// What the parser has of a document or node, where a further token is wanted.
 #[derive(Drop)]
-pub struct Pending {
+pub(crate) struct Pending {
     /// Which function takes the next token.
     pub next: Next,
     /// The end of the token after which it is wanted.
@@ -47,7 +47,7 @@ pub struct Pending {
 impl Pending {
     /// Nothing read.
     #[inline(always)]
-    pub fn new(alloc: Global) -> Self
+    pub(crate) fn new(alloc: Global) -> Self
         ensures { result.next ≡ Next.AtState }
     {
         Pending {
@@ -70,7 +70,7 @@ impl Pending {
 
     /// A further token is wanted, for the function that `next` names.
     #[inline(always)]
-    pub fn want(&mut self, next: Next) -> Step
+    pub(crate) fn want(&mut self, next: Next) -> Step
         ensures step { result ≡ Step.Wants }
         ensures next { self.new ≡ record self.old { next = next } }
     {

@@ -8,7 +8,7 @@ use libyaml_types::{unnamed_yaml_token_t_data, yaml_parser_state_t};
 
 /// A place where a node may be nothing (docs/DEFINITIONS.md, "Where a node may be nothing").
 #[derive(Copy, Clone)]
-pub enum Slot {
+pub(crate) enum Slot {
     BlockEntry,
     IndentlessEntry,
     BlockKey,
@@ -25,7 +25,7 @@ impl Slot {
 
     /// Whether the node is nothing before this token.
     #[inline(always)]
-    pub fn is_nothing_before(self, content: &unnamed_yaml_token_t_data) -> bool
+    pub(crate) fn is_nothing_before(self, content: &unnamed_yaml_token_t_data) -> bool
         ensures { result ≡ is_nothing_before self content.now }
     {
         match self {
@@ -79,7 +79,7 @@ impl Slot {
 
     /// The state after the node. A document's is on the stack already.
     #[inline(always)]
-    pub fn state_behind(self) -> Option<yaml_parser_state_t>
+    pub(crate) fn state_behind(self) -> Option<yaml_parser_state_t>
         ensures value { result ≡ state_behind self }
         ensures back { IfSome result (λ s. IsBackByte (parser_state_number s)) }
     {
@@ -104,7 +104,7 @@ impl Slot {
 
     /// The kinds of node that may stand here.
     #[inline(always)]
-    pub fn place(self) -> NodePlace
+    pub(crate) fn place(self) -> NodePlace
         ensures { result ≡ place self }
     {
         match self {

@@ -15,7 +15,7 @@ use std::marker::Model;
 ///
 /// libyaml: the parser's field `aliases`.
 #[derive(Drop)]
-pub struct Anchors {
+pub(crate) struct Anchors {
     inner: BTreeMap<String, Carrier>,
 }
 
@@ -32,7 +32,7 @@ impl Model for Anchors {
 
 impl Anchors {
     /// No anchors. Takes no memory.
-    pub fn new(alloc: Global) -> Self
+    pub(crate) fn new(alloc: Global) -> Self
         ensures { result ≡ no_anchors }
     {
         Anchors {
@@ -42,14 +42,14 @@ impl Anchors {
 
     /// The carrier of this anchor.
     #[tactic(auto, using(crate::proofs::document::AnchorLemmas::get_anchor))]
-    pub fn find(&self, anchor: &str) -> Option<Carrier>
+    pub(crate) fn find(&self, anchor: &str) -> Option<Carrier>
         ensures { option_map carrier_of result ≡ get self.now anchor.now }
     {
         self.inner.get(anchor).copied()
     }
 
     /// Registers the carrier of this anchor, and returns the one that it had before.
-    pub fn register(
+    pub(crate) fn register(
         &mut self,
         anchor: String,
         carrier: Carrier,

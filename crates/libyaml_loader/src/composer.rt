@@ -19,7 +19,7 @@ use std::alloc::Global;
 
 /// What is kept between two events.
 #[derive(Drop)]
-pub struct Composer {
+pub(crate) struct Composer {
     /// The document that is open, if one is.
     pub open: Option<loader_ctx>,
     /// The fault that is kept, or `NO_FAULT`.
@@ -31,7 +31,7 @@ pub struct Composer {
 
 impl Composer {
     /// No document is open, and no fault is kept.
-    pub fn new(alloc: Global, max_entries: usize) -> Self
+    pub(crate) fn new(alloc: Global, max_entries: usize) -> Self
         ensures open { result.open ≡ None }
         ensures fault { fault_of result.fault ≡ no_fault }
         ensures bound { result.max_entries ≡ max_entries }
@@ -45,7 +45,7 @@ impl Composer {
     }
 
     /// Returns the error of the fault that is kept, if there is one.
-    pub fn kept(&self) -> Result<(), yaml_error_type_t>
+    pub(crate) fn kept(&self) -> Result<(), yaml_error_type_t>
         ensures { result ≡ done_by (fault_of self.now.fault) }
     {
         match self.fault.error {
@@ -56,7 +56,7 @@ impl Composer {
 
     /// Keeps this fault for good. The document that is open is dropped.
     #[cold]
-    pub fn keep(&mut self, fault: yaml_parser_t_prefix)
+    pub(crate) fn keep(&mut self, fault: yaml_parser_t_prefix)
         ensures open { self.new.open ≡ None }
         ensures fault { self.new.fault ≡ fault }
         ensures bound { self.new.max_entries ≡ self.old.max_entries }
@@ -66,7 +66,7 @@ impl Composer {
     }
 
     /// Composes these events, and appends the documents that end with them.
-    pub fn compose_all(
+    pub(crate) fn compose_all(
         &mut self,
         events: &mut Vec<yaml_event_t>,
         documents: &mut Vec<yaml_document_t>,

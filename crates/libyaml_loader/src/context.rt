@@ -35,7 +35,7 @@ use std::alloc::Global;
 ///
 /// Extends libyaml's `loader_ctx` by the parser's fields `document` and `aliases`.
 #[derive(Drop)]
-pub struct loader_ctx {
+pub(crate) struct loader_ctx {
     pub document: yaml_document_t,
     pub stack: OpenCollections,
     pub anchors: Anchors,
@@ -47,7 +47,7 @@ pub struct loader_ctx {
 
 impl loader_ctx {
     /// Returns the document that this start event begins, without nodes.
-    pub fn new(
+    pub(crate) fn new(
         alloc: Global,
         max_entries: usize,
         start: unnamed_yaml_event_t_data_document_start,
@@ -69,7 +69,7 @@ impl loader_ctx {
     }
 
     /// Ends the document at `end_mark`, implicitly or explicitly, and returns it.
-    pub fn into_document(self, implicit: bool, end_mark: yaml_mark_t) -> yaml_document_t
+    pub(crate) fn into_document(self, implicit: bool, end_mark: yaml_mark_t) -> yaml_document_t
         ensures { result ≡ ended_document self.document implicit end_mark }
     {
         let mut document = self.document;
@@ -86,7 +86,7 @@ impl loader_ctx {
     /// `Memory`, where an allocation fails or a list has `max_entries` entries already; `UndefinedAlias`,
     /// where no earlier node has the alias's anchor; `RepeatedAnchor`, where an earlier node has the anchor
     /// of this one.
-    pub fn compose(&mut self, event: &mut yaml_event_t) -> Result<(), Refusal>
+    pub(crate) fn compose(&mut self, event: &mut yaml_event_t) -> Result<(), Refusal>
         requires { IdsAreIn (loader_of self.old) }
         ensures ok { OnOk result (Composed self.old self.new (part_of event.old)) }
         ensures err { IfErr result (λ r. Refuses self.old self.new (part_of event.old)

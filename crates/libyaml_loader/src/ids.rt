@@ -6,14 +6,14 @@ use libyaml_types::yaml_mark_t;
 
 /// The id of a node. Ids count from 1.
 #[derive(Copy, Clone)]
-pub struct NodeId {
+pub(crate) struct NodeId {
     pub number: i32,
     ghost positive: { pos 1 ≤ℤ number },
 }
 
 impl NodeId {
     /// The id of this number.
-    pub fn new(number: i32) -> Self
+    pub(crate) fn new(number: i32) -> Self
         requires { pos 1 ≤ℤ number }
         ensures { result.number ≡ number }
     {
@@ -23,14 +23,14 @@ impl NodeId {
 
 /// The node that carries an anchor, and where it starts.
 #[derive(Copy, Clone)]
-pub struct Carrier {
+pub(crate) struct Carrier {
     pub node: NodeId,
     pub mark: yaml_mark_t,
 }
 
 /// An open collection: its node, and of a mapping the key that waits for its value.
 #[derive(Copy, Clone)]
-pub struct Open {
+pub(crate) struct Open {
     pub node: NodeId,
     pub key: Option<NodeId>,
 }

@@ -40,14 +40,14 @@ use std::mem;
 
 /// The start of a document.
 #[derive(Drop)]
-pub struct Opening {
+pub(crate) struct Opening {
     pub start: unnamed_yaml_event_t_data_document_start,
     pub mark: yaml_mark_t,
 }
 
 /// The end of a document.
 #[derive(Copy, Clone)]
-pub struct Closing {
+pub(crate) struct Closing {
     pub implicit: bool,
     pub mark: yaml_mark_t,
 }
@@ -257,7 +257,7 @@ fn compose_next<S: yaml_token_source_t>(
 }
 
 /// Moves the start of a document out of the event, if it is one.
-pub fn opening_of(event: &mut yaml_event_t, alloc: Global) -> Option<Opening>
+pub(crate) fn opening_of(event: &mut yaml_event_t, alloc: Global) -> Option<Opening>
     ensures { option_map opening_at result ≡ parts.opening_of event.old }
 {
     let start_mark = event.start_mark;
@@ -275,7 +275,10 @@ pub fn opening_of(event: &mut yaml_event_t, alloc: Global) -> Option<Opening>
 }
 
 /// The end of a document, if the event is one.
-pub fn closing_of(content: &unnamed_yaml_event_t_data, end_mark: yaml_mark_t) -> Option<Closing>
+pub(crate) fn closing_of(
+    content: &unnamed_yaml_event_t_data,
+    end_mark: yaml_mark_t,
+) -> Option<Closing>
     ensures { option_map closing result ≡ parts.closing_in content.now end_mark }
 {
     match content {

@@ -11,7 +11,7 @@ use std::alloc::AllocError;
 
 /// Why an event can't be composed. It is one byte, since each step of a load returns it.
 #[derive(Copy, Clone)]
-pub enum Refusal {
+pub(crate) enum Refusal {
     /// An allocation failed, or a list has as many entries as it may.
     Memory,
     /// No node before this alias carries its anchor.
@@ -41,7 +41,7 @@ impl From<yaml_refusal_t> for Refusal {
 }
 
 /// Returns whether the parser keeps a fault.
-pub fn has_failed<S>(parser: &yaml_parser_t<S>) -> bool
+pub(crate) fn has_failed<S>(parser: &yaml_parser_t<S>) -> bool
     ensures { result ≡ has_failed parser.now }
 {
     !matches!(parser.prefix().error, yaml_error_type_t::YAML_NO_ERROR)
@@ -50,7 +50,7 @@ pub fn has_failed<S>(parser: &yaml_parser_t<S>) -> bool
 /// Keeps the fault of this refusal for good, and returns its error. The event that is refused
 /// starts at `mark`, and the first node with a repeated anchor at `first_mark`.
 #[cold]
-pub fn keep_refusal<S>(
+pub(crate) fn keep_refusal<S>(
     parser: &mut yaml_parser_t<S>,
     refusal: Refusal,
     first_mark: yaml_mark_t,
@@ -71,7 +71,7 @@ pub fn keep_refusal<S>(
 /// Returns the fault of this refusal: out of memory, or a composer error.
 ///
 /// libyaml: `yaml_parser_set_composer_error` and `yaml_parser_set_composer_error_context`.
-pub fn fault_by(
+pub(crate) fn fault_by(
     refusal: Refusal,
     first_mark: yaml_mark_t,
     mark: yaml_mark_t,

@@ -14,7 +14,7 @@ use std::marker::Model;
 ///
 /// libyaml: `loader_ctx`.
 #[derive(Drop)]
-pub struct OpenCollections {
+pub(crate) struct OpenCollections {
     inner: Vec<Open>,
 }
 
@@ -31,7 +31,7 @@ impl Model for OpenCollections {
 
 impl OpenCollections {
     /// No open collections. Takes no memory.
-    pub fn new(alloc: Global) -> Self
+    pub(crate) fn new(alloc: Global) -> Self
         ensures { result ≡ [] }
     {
         OpenCollections {
@@ -40,7 +40,7 @@ impl OpenCollections {
     }
 
     /// Opens the collection of this node.
-    pub fn push(&mut self, node: NodeId) -> Result<(), AllocError>
+    pub(crate) fn push(&mut self, node: NodeId) -> Result<(), AllocError>
         ensures { OnOk result (self.new ≡ opened node ∷ self.old) }
     {
         self.inner.push(Open { node, key: None })?;
@@ -48,7 +48,7 @@ impl OpenCollections {
     }
 
     /// Takes the innermost collection off.
-    pub fn pop(&mut self) -> Option<Open>
+    pub(crate) fn pop(&mut self) -> Option<Open>
         ensures top { option_map open_of result ≡ innermost self.old }
         ensures rest { self.new ≡ outer self.old }
     {
@@ -56,14 +56,14 @@ impl OpenCollections {
     }
 
     /// The innermost collection.
-    pub fn innermost(&self) -> Option<Open>
+    pub(crate) fn innermost(&self) -> Option<Open>
         ensures { option_map open_of result ≡ innermost self.now }
     {
         self.inner.last().copied()
     }
 
     /// Sets or clears the pending key of the innermost collection.
-    pub fn set_key(&mut self, key: Option<NodeId>)
+    pub(crate) fn set_key(&mut self, key: Option<NodeId>)
         ensures { self.new ≡ with_key (number_of key) self.old }
     {
         let count = self.inner.len();
@@ -76,7 +76,7 @@ impl OpenCollections {
 impl Open {
     /// Returns the number of the key that waits.
     #[inline(always)]
-    pub fn key_number(&self) -> Option<i32>
+    pub(crate) fn key_number(&self) -> Option<i32>
         ensures { result ≡ number_of self.now.key }
     {
         match self.key {

@@ -16,7 +16,7 @@ use percent_encoding::{ascii_str, percent_decode};
 use std::alloc::Global;
 
 /// Reads two signed numbers with a point between them.
-pub fn read_version(field: &[u8]) -> Option<unnamed_yaml_token_t_data_version_directive>
+pub(crate) fn read_version(field: &[u8]) -> Option<unnamed_yaml_token_t_data_version_directive>
     ensures { result ≡ version_of field.now }
 {
     let mut pieces = Pieces::new(field, b'.');
@@ -36,7 +36,7 @@ pub fn read_version(field: &[u8]) -> Option<unnamed_yaml_token_t_data_version_di
 /// # Errors
 ///
 /// `BadTokenLine`, where it is none, and `Memory`, where an allocation fails.
-pub fn read_text(alloc: Global, field: &[u8]) -> Result<String, LineProblem>
+pub(crate) fn read_text(alloc: Global, field: &[u8]) -> Result<String, LineProblem>
     ensures { IsTextReadAs result (text_of field.now) }
 {
     let [b'=', escaped @ ..] = field else {
@@ -68,7 +68,7 @@ fn decoded_text(alloc: Global, escaped: &[u8]) -> Result<String, LineProblem>
 }
 
 /// Returns an encoding by its name.
-pub fn read_encoding(name: &[u8]) -> Option<yaml_encoding_t>
+pub(crate) fn read_encoding(name: &[u8]) -> Option<yaml_encoding_t>
     ensures { result ≡ encoding_of name.now }
 {
     if name == b"any".as_slice() {
@@ -85,7 +85,7 @@ pub fn read_encoding(name: &[u8]) -> Option<yaml_encoding_t>
 }
 
 /// Returns a scalar style by its name.
-pub fn read_scalar_style(name: &[u8]) -> Option<yaml_scalar_style_t>
+pub(crate) fn read_scalar_style(name: &[u8]) -> Option<yaml_scalar_style_t>
     ensures { result ≡ scalar_style_of name.now }
 {
     if name == b"any".as_slice() {

@@ -19,7 +19,7 @@ use std::io::BufRead;
 /// # Errors
 ///
 /// `NoMoreTokens` at the end, `LineTooLong`, `ReadFailed`, and `Memory`, where an allocation fails.
-pub fn read_line<R: BufRead>(
+pub(crate) fn read_line<R: BufRead>(
     reader: &mut R,
     line: &mut Vec<u8>,
     left: &mut usize,

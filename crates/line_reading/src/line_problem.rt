@@ -11,7 +11,7 @@ use std::io;
 
 /// Why a line source gave no token.
 #[derive(Copy, Clone, PartialEq, Eq, Debug)]
-pub enum LineProblem {
+pub(crate) enum LineProblem {
     /// An allocation failed.
     Memory,
     /// The reader returned an error.
@@ -50,7 +50,7 @@ impl From<io::Error> for LineProblem {
 
 impl LineProblem {
     /// Returns the fault of a source that has given so many tokens.
-    pub fn fault(self, given: u64) -> yaml_source_fault_t
+    pub(crate) fn fault(self, given: u64) -> yaml_source_fault_t
         ensures { source_fault result ≡ line_fault self given }
     {
         let reader = yaml_error_type_t::YAML_READER_ERROR;

@@ -17,14 +17,14 @@ use libyaml_types::yaml_mark_t;
 
 /// Where the line number of a mark is, and its value; the end is 0 where there is none.
 #[derive(Copy, Clone)]
-pub struct RowRead {
+pub(crate) struct RowRead {
     pub at: usize,
     pub end: usize,
     pub value: u64,
 }
 
 /// No line number.
-pub const NO_ROW: RowRead = RowRead {
+pub(crate) const NO_ROW: RowRead = RowRead {
     at: 0,
     end: 0,
     value: 0,
@@ -35,7 +35,7 @@ pub const NO_ROW: RowRead = RowRead {
 /// A mark counts characters, lines and columns, each from 0. `row` is the line number of a mark that was read
 /// before in the same line, and becomes that of this mark: most often it is the same.
 #[inline(always)]
-pub fn read_mark(line: &[u8], at: usize, row: &mut RowRead, mark: &mut yaml_mark_t) -> usize
+pub(crate) fn read_mark(line: &[u8], at: usize, row: &mut RowRead, mark: &mut yaml_mark_t) -> usize
     requires at { at ≤ length line.now }
     requires row { IsRowRead line.now row.old }
     ensures within { result ≤ length line.now }
@@ -123,7 +123,7 @@ fn ends_field(line: &[u8], at: usize) -> bool
 
 /// A number, and the index after its last digit; that index is 0 where there is no number.
 #[derive(Copy, Clone)]
-pub struct NumberRead {
+pub(crate) struct NumberRead {
     pub value: u64,
     pub end: usize,
 }
@@ -132,7 +132,7 @@ const NO_NUMBER: NumberRead = NumberRead { value: 0, end: 0 };
 
 /// Reads the number that begins at `at`: digits without a leading zero, of a value within 64 bits.
 #[inline(always)]
-pub fn read_number(line: &[u8], at: usize) -> NumberRead
+pub(crate) fn read_number(line: &[u8], at: usize) -> NumberRead
     requires { at ≤ length line.now }
     ensures { IsNumberRead line.now at result }
 {

@@ -19,7 +19,7 @@ fn whole_number(digits: &[u8]) -> Option<u64>
 }
 
 /// Reads a number, or `-` and a number other than 0, within 32 bits.
-pub fn read_signed(field: &[u8]) -> Option<i32>
+pub(crate) fn read_signed(field: &[u8]) -> Option<i32>
     ensures { result ≡ signed_of field.now }
 {
     match field {

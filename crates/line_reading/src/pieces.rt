@@ -9,7 +9,7 @@ use std::marker::Model;
 
 /// The pieces of a text between the occurrences of one byte. Contracts see those that are still to be taken.
 #[derive(Drop)]
-pub struct Pieces<'a> {
+pub(crate) struct Pieces<'a> {
     rest: Option<&'a [u8]>,
     separator: u8,
 }
@@ -25,7 +25,7 @@ impl<'a> Model for Pieces<'a> {
 
 impl<'a> Pieces<'a> {
     /// Returns the pieces of `text` between the occurrences of `separator`: one at least.
-    pub fn new(text: &'a [u8], separator: u8) -> Self
+    pub(crate) fn new(text: &'a [u8], separator: u8) -> Self
         ensures { result ≡ slice_split (λ b. b == separator) text.now }
     {
         Pieces {
@@ -35,14 +35,14 @@ impl<'a> Pieces<'a> {
     }
 
     /// Returns the pieces of `rest`; none if it is `None`.
-    pub fn behind(rest: Option<&'a [u8]>, separator: u8) -> Self
+    pub(crate) fn behind(rest: Option<&'a [u8]>, separator: u8) -> Self
         ensures { result ≡ pieces_of separator (option_copied rest.entry) }
     {
         Pieces { rest, separator }
     }
 
     /// Takes the next piece and returns it.
-    pub fn next(&mut self) -> Option<&'a [u8]>
+    pub(crate) fn next(&mut self) -> Option<&'a [u8]>
         ensures { MatchOption result ((self.old ≡ [])
             × (self.new ≡ [])) (λ piece. self.old ≡ piece.now ∷ self.new) }
     {

@@ -25,7 +25,7 @@ use std::alloc::Global;
 ///
 /// `BadTokenLine`, where the line is no token line, and `Memory`, where an allocation fails. Then the value of
 /// `token` is unspecified.
-pub fn read_token_line(
+pub(crate) fn read_token_line(
     alloc: Global,
     line: &[u8],
     token: &mut yaml_token_t,

@@ -5,7 +5,7 @@ ghost use Rattle.line_reading.specs.tokens.TokenName.{token_type_of};
 use libyaml_types::yaml_token_type_t;
 
 /// Returns a token's type by its name in lines.
-pub fn read_token_type(name: &[u8]) -> Option<yaml_token_type_t>
+pub(crate) fn read_token_type(name: &[u8]) -> Option<yaml_token_type_t>
     ensures { result ≡ token_type_of name.now }
 {
     if name == b"NO-TOKEN".as_slice() {

@@ -16,14 +16,14 @@ pub enum memory_outcome_t {
 }
 
 /// The text of the fault of a failed allocation.
-pub const MEMORY_TEXT: &[u8] = b"FAULT memory 0:0:0 -\n";
+pub(crate) const MEMORY_TEXT: &[u8] = b"FAULT memory 0:0:0 -\n";
 
 /// The last words of a failed read's text.
 const READ_FAILED: &[u8] = b"read failed\n";
 
 /// Returns how a run that wrote these bytes ended. A fault's text says whether the run was cut short:
 /// by a failed allocation, or by a failed read, which memory doesn't know.
-pub fn outcome_of(outcome: Outcome, bytes: &[u8]) -> memory_outcome_t
+pub(crate) fn outcome_of(outcome: Outcome, bytes: &[u8]) -> memory_outcome_t
     ensures { EndsAs outcome bytes.now result }
 {
     match outcome {

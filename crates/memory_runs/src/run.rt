@@ -18,7 +18,7 @@ pub struct memory_run_t {
 }
 
 /// Hands out what a run wrote: its bytes where it was whole, and else the text of a failed allocation.
-pub fn hand_out(outcome: Outcome, bytes: &[u8], out: &mut [u8]) -> memory_run_t
+pub(crate) fn hand_out(outcome: Outcome, bytes: &[u8], out: &mut [u8]) -> memory_run_t
     ensures outcome { EndsAs outcome bytes.now result.outcome }
     ensures bytes { HandsOut (bytes_of result.outcome bytes.now) out.old out.new result }
 {

@@ -23,7 +23,7 @@ use std::alloc::AllocError;
 /// # Errors
 ///
 /// Where they are more than can be counted.
-pub fn put_event(
+pub(crate) fn put_event(
     event: &yaml_event_t,
     events: &mut [event_record_t],
     directives: &mut [directive_record_t],
@@ -267,7 +267,7 @@ fn mapping_start_record(
 }
 
 /// Puts a text after the texts, and returns its range.
-pub fn put_text(
+pub(crate) fn put_text(
     texts: &mut [u8],
     wanted: &mut usize,
     text: &str,
@@ -300,7 +300,7 @@ fn put_option(
     }
 }
 
-pub fn mark_record(mark: &yaml_mark_t) -> mark_record_t
+pub(crate) fn mark_record(mark: &yaml_mark_t) -> mark_record_t
     ensures { result ≡ spec.mark_record mark.now }
 {
     mark_record_t {

@@ -22,7 +22,7 @@ use std::alloc::Global;
 /// # Errors
 ///
 /// Why there is none. Then `token` is any token.
-pub fn read_token_record(
+pub(crate) fn read_token_record(
     alloc: Global,
     texts: &[u8],
     from: &token_record_t,

@@ -10,7 +10,7 @@ use std::alloc::AllocError;
 
 /// Why a record source gave no token.
 #[derive(Copy, Clone, PartialEq, Eq, Debug)]
-pub enum RecordProblem {
+pub(crate) enum RecordProblem {
     /// An allocation failed.
     Memory,
     /// The record's kind, style or encoding is no number of libyaml's.
@@ -37,7 +37,7 @@ impl From<AllocError> for RecordProblem {
 impl RecordProblem {
     /// Returns the fault of a source that has given so many tokens.
     #[cold]
-    pub fn fault(self, given: usize) -> yaml_source_fault_t
+    pub(crate) fn fault(self, given: usize) -> yaml_source_fault_t
         ensures { source_fault result ≡ record_fault self given }
     {
         let reader = yaml_error_type_t::YAML_READER_ERROR;

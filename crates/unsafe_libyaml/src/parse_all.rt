@@ -98,7 +98,7 @@ fn failed_run(
 }
 
 /// Returns this fault, but out of memory as `AllocError`.
-pub fn unless_memory(fault: yaml_parser_t_prefix) -> Result<yaml_parser_t_prefix, AllocError>
+pub(crate) fn unless_memory(fault: yaml_parser_t_prefix) -> Result<yaml_parser_t_prefix, AllocError>
     ensures ok { IfOk result (λ f. (f ≡ fault) × (fault.error ≢ yaml_error_type_t.YAML_MEMORY_ERROR)) }
     ensures memory { IfErr result (λ _. fault.error ≡ yaml_error_type_t.YAML_MEMORY_ERROR) }
 {
