@@ -1,3 +1,4 @@
 pub mod Appended
 pub mod LinesLemmas
 pub mod Problems
+pub mod OneLines

@@ -5,3 +5,4 @@ pub mod LineSource
 pub mod LineSourceLaws
 pub mod NextLine
 pub mod ReadLines
+pub mod OneLine

@@ -1,6 +1,7 @@
 //! Token lines as they are read.
 #![tactic(auto)]
 
+pub mod determined;
 mod field;
 mod line;
 mod line_problem;
