@@ -15,7 +15,7 @@ pub(crate) enum NodePlace {
 impl NodePlace {
     ghost use Rattle.libyaml_events.specs.machine.Machine.{is_block_place, may_be_indentless};
 
-    /// Whether a block collection may stand here.
+    /// Returns whether a block collection may stand here.
     pub(crate) fn is_block(self) -> bool
         ensures { result ≡ is_block_place self }
     {
@@ -25,7 +25,7 @@ impl NodePlace {
         }
     }
 
-    /// Whether a sequence may stand here without its own start and end tokens.
+    /// Returns whether a sequence may stand here without its own start and end tokens.
     pub(crate) fn may_be_indentless(self) -> bool
         ensures { result ≡ may_be_indentless self }
     {

@@ -115,8 +115,8 @@ pub fn yaml_parser_parse<S: yaml_token_source_t>(
     parser.next_event()
 }
 
-/// Puts the next event of the stream into `event`, as `yaml_parser_parse` returns it, and drops the event that
-/// was there, so a loop can reuse one variable. After an error its value is unspecified.
+/// Puts the next event of the stream into `event`, as `yaml_parser_parse` returns it, and drops the event
+/// that was there, so a loop can reuse one variable. After an error its value is unspecified.
 ///
 /// # Errors
 ///

@@ -45,7 +45,7 @@ pub(crate) struct Pending {
 }
 
 impl Pending {
-    /// Nothing read.
+    /// Returns what a parser has before it read anything.
     #[inline(always)]
     pub(crate) fn new(alloc: Global) -> Self
         ensures { result.next ≡ Next.AtState }
@@ -68,7 +68,7 @@ impl Pending {
         }
     }
 
-    /// A further token is wanted, for the function that `next` names.
+    /// Asks for a further token, for the function that `next` names.
     #[inline(always)]
     pub(crate) fn want(&mut self, next: Next) -> Step
         ensures step { result ≡ Step.Wants }

@@ -23,7 +23,7 @@ pub(crate) enum Slot {
 impl Slot {
     ghost use Rattle.libyaml_events.specs.machine.Slots.{is_nothing_before, state_behind, place};
 
-    /// Whether the node is nothing before this token.
+    /// Returns whether the node is nothing before this token.
     #[inline(always)]
     pub(crate) fn is_nothing_before(self, content: &unnamed_yaml_token_t_data) -> bool
         ensures { result ≡ is_nothing_before self content.now }
@@ -77,7 +77,7 @@ impl Slot {
         }
     }
 
-    /// The state after the node. A document's is on the stack already.
+    /// Returns the state after the node. A document's is on the stack already.
     #[inline(always)]
     pub(crate) fn state_behind(self) -> Option<yaml_parser_state_t>
         ensures value { result ≡ state_behind self }
@@ -102,7 +102,7 @@ impl Slot {
         }
     }
 
-    /// The kinds of node that may stand here.
+    /// Returns the kinds of node that may stand here.
     #[inline(always)]
     pub(crate) fn place(self) -> NodePlace
         ensures { result ≡ place self }

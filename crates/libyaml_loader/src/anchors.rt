@@ -31,7 +31,7 @@ impl Model for Anchors {
 }
 
 impl Anchors {
-    /// No anchors. Takes no memory.
+    /// Returns a map without anchors. Takes no memory.
     pub(crate) fn new(alloc: Global) -> Self
         ensures { result ≡ no_anchors }
     {
@@ -40,7 +40,7 @@ impl Anchors {
         }
     }
 
-    /// The carrier of this anchor.
+    /// Returns the carrier of this anchor.
     #[tactic(auto, using(crate::proofs::document::AnchorLemmas::get_anchor))]
     pub(crate) fn find(&self, anchor: &str) -> Option<Carrier>
         ensures { option_map carrier_of result ≡ get self.now anchor.now }
@@ -49,6 +49,10 @@ impl Anchors {
     }
 
     /// Registers the carrier of this anchor, and returns the one that it had before.
+    ///
+    /// # Errors
+    ///
+    /// An allocation failed.
     pub(crate) fn register(
         &mut self,
         anchor: String,

@@ -30,7 +30,7 @@ pub(crate) struct Composer {
 }
 
 impl Composer {
-    /// No document is open, and no fault is kept.
+    /// Returns a composer without an open document and without a fault.
     pub(crate) fn new(alloc: Global, max_entries: usize) -> Self
         ensures open { result.open ≡ None }
         ensures fault { fault_of result.fault ≡ no_fault }
@@ -44,7 +44,11 @@ impl Composer {
         }
     }
 
-    /// Returns the error of the fault that is kept, if there is one.
+    /// Tells the fault that is kept, if there is one.
+    ///
+    /// # Errors
+    ///
+    /// The error of that fault.
     pub(crate) fn kept(&self) -> Result<(), yaml_error_type_t>
         ensures { result ≡ done_by (fault_of self.now.fault) }
     {
@@ -66,6 +70,10 @@ impl Composer {
     }
 
     /// Composes these events, and appends the documents that end with them.
+    ///
+    /// # Errors
+    ///
+    /// The error of the fault that is then kept.
     pub(crate) fn compose_all(
         &mut self,
         events: &mut Vec<yaml_event_t>,

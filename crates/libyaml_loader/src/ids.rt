@@ -12,7 +12,7 @@ pub(crate) struct NodeId {
 }
 
 impl NodeId {
-    /// The id of this number.
+    /// Returns the id of this number.
     pub(crate) fn new(number: i32) -> Self
         requires { pos 1 ≤ℤ number }
         ensures { result.number ≡ number }

@@ -274,7 +274,7 @@ pub(crate) fn opening_of(event: &mut yaml_event_t, alloc: Global) -> Option<Open
     }
 }
 
-/// The end of a document, if the event is one.
+/// Returns the end of a document, if the event is one.
 pub(crate) fn closing_of(
     content: &unnamed_yaml_event_t_data,
     end_mark: yaml_mark_t,

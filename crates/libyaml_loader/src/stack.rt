@@ -30,7 +30,7 @@ impl Model for OpenCollections {
 }
 
 impl OpenCollections {
-    /// No open collections. Takes no memory.
+    /// Returns a stack without open collections. Takes no memory.
     pub(crate) fn new(alloc: Global) -> Self
         ensures { result ≡ [] }
     {
@@ -40,6 +40,10 @@ impl OpenCollections {
     }
 
     /// Opens the collection of this node.
+    ///
+    /// # Errors
+    ///
+    /// An allocation failed.
     pub(crate) fn push(&mut self, node: NodeId) -> Result<(), AllocError>
         ensures { OnOk result (self.new ≡ opened node ∷ self.old) }
     {
@@ -55,7 +59,7 @@ impl OpenCollections {
         self.inner.pop()
     }
 
-    /// The innermost collection.
+    /// Returns the innermost collection.
     pub(crate) fn innermost(&self) -> Option<Open>
         ensures { option_map open_of result ≡ innermost self.now }
     {

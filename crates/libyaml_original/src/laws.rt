@@ -34,8 +34,8 @@ fn some_run()
     of_pushed();
 }
 
-/// The Rust crate has one run over each list of tokens and fault of a source after it. Its events nest, and to
-/// the end only where it ends. A run that is computed within so many calls is a run.
+/// The Rust crate has one run over each list of tokens and fault of a source after it. Its events nest, and
+/// to the end only where it ends. A run that is computed within so many calls is a run.
 pub fn runs_there()
     ensures some { (l : List Token) (f : Fault) → (e : List Event) × (x : Ending) × RunsThere l f e x }
     ensures one { (l : List Token) (f : Fault) (e d : List Event) (x y : Ending) → RunsThere l f e x

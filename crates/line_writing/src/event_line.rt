@@ -40,6 +40,10 @@ pub fn write_event<W: Write>(
 }
 
 /// Writes a line whose text is made.
+///
+/// # Errors
+///
+/// The write failed.
 pub fn write_line<W: Write>(line: &String, writer: &mut W) -> Result<(), line_refusal_t>
     ensures ok { OnOk result (Appends (W.contents writer.old) (W.contents writer.new)
         (string_bytes line.now)) }
@@ -51,7 +55,11 @@ pub fn write_line<W: Write>(line: &String, writer: &mut W) -> Result<(), line_re
     }
 }
 
-/// Appends the event's line. After an error `line` holds some prefix of it.
+/// Appends the event's line.
+///
+/// # Errors
+///
+/// An allocation failed; `line` then holds some prefix of the event's line after what it held.
 #[inline(never)]
 pub fn append_event(line: &mut String, event: &yaml_event_t) -> Result<(), AllocError>
     ensures { OnOk result (string_bytes line.new ≡ string_bytes line.old ++ event_line event.now) }

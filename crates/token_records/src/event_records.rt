@@ -267,6 +267,10 @@ fn mapping_start_record(
 }
 
 /// Puts a text after the texts, and returns its range.
+///
+/// # Errors
+///
+/// The texts have more bytes than 64 bits count.
 pub(crate) fn put_text(
     texts: &mut [u8],
     wanted: &mut usize,

@@ -34,7 +34,7 @@ pub(crate) fn fault_record(
     })
 }
 
-/// The record of a failed allocation.
+/// Returns the record of a failed allocation.
 pub(crate) fn memory_record() -> fault_record_t
     ensures { result ≡ spec.memory_record }
 {

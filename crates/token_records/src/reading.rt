@@ -21,7 +21,7 @@ use std::alloc::Global;
 ///
 /// # Errors
 ///
-/// Why there is none. Then `token` is any token.
+/// Why there is none. Then the value of `token` is unspecified.
 pub(crate) fn read_token_record(
     alloc: Global,
     texts: &[u8],

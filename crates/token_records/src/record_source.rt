@@ -68,7 +68,8 @@ impl<'a> yaml_token_source_t for yaml_record_source_t<'a> {
         Ok(token)
     }
 
-    /// Puts the token of the next record straight into `token`, which after a fault is any token.
+    /// Puts the token of the next record straight into `token`; after a fault its value is
+    /// unspecified.
     fn next_token_into(&mut self, token: &mut yaml_token_t) -> Result<(), yaml_source_fault_t> {
         if self.is_broken {
             return Err(yaml_source_fault_t::out_of_memory());

@@ -97,7 +97,11 @@ fn failed_run(
     })
 }
 
-/// Returns this fault, but out of memory as `AllocError`.
+/// Returns this fault.
+///
+/// # Errors
+///
+/// The fault is that memory ran out.
 pub(crate) fn unless_memory(fault: yaml_parser_t_prefix) -> Result<yaml_parser_t_prefix, AllocError>
     ensures ok { IfOk result (λ f. (f ≡ fault) × (fault.error ≢ yaml_error_type_t.YAML_MEMORY_ERROR)) }
     ensures memory { IfErr result (λ _. fault.error ≡ yaml_error_type_t.YAML_MEMORY_ERROR) }
