@@ -71,7 +71,7 @@ def lists():
                 if wanted.exists():
                     text = wanted.read_text()
                     status = int(bool(re.search(r"^FAULT ", text, flags=re.M)))
-                    yield f"`yamltokens {kind}` over `{tokens.stem}` of table \"{table.name}\"", Case([kind], tokens.read_text(), text, status)
+                    yield f"`yamltokens {kind}` over `{tokens.stem}` of \"{table.name}\"", Case([kind], tokens.read_text(), text, status)
 
 
 def cases_of(program, named):
@@ -83,7 +83,7 @@ def cases_of(program, named):
     if (home / "data").is_dir():
         tables = re.findall(r"^(.*): \d+ (?:lists|rows|checks), ", stored["stdout"], flags=re.M)
         tables = [table for table in dict.fromkeys(tables) if table not in SLOW or f'"{table}"' in named]
-        return {f'`{program}`, table "{table}"': Case([table]) for table in tables}
+        return {f'`{program}`, "{table}"': Case([table]) for table in tables}
     words = stored.get("args", "").splitlines()
     return {f"the stored run of `{program}`": Case(words, stored.get("stdin", ""), stored.get("stdout", ""), int(stored.get("status", "0")))}
 
@@ -93,7 +93,8 @@ def first_row(said):
     named = re.search(r"^(?:.*?: this (?:row )?differs: (.*)|\w+/([\w.@-]+), (.*):)$", said, flags=re.M)
     if not named:
         return ""
-    return ": " + (named[1] or f"`{named[2]}`, {named[3]}").rstrip(".")
+    how = "" if named[3] == "a run over its lines" else f", {named[3]}"
+    return ": " + (named[1] or f"`{named[2]}`{how}").rstrip(".")
 
 
 def made(folder, cases):
