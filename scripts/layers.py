@@ -1,11 +1,11 @@
 #!/usr/bin/env python3
-"""Draws the layers of crates.txt at the head of docs/ARCHITECTURE.md, and writes the last column of its table.
+"""Draws the layers of crates.txt at the head of docs/ARCHITECTURE.md.
 
-    python3 scripts/layers.py           fails where the picture or a row is not as crates.txt has it
-    python3 scripts/layers.py --write   writes both
+    python3 scripts/layers.py           fails where the picture is not as crates.txt has it, or a crate has no row in the table
+    python3 scripts/layers.py --write   writes the picture
 
-Both have what a crate needs directly: crates that one of these needs itself are left out, and so are the kit's crates. The
-picture leaves out examples, tests and the bench, which are the last two layers.
+It has what a crate needs directly: crates that one of these needs itself are left out, and so are the kit's crates, and
+examples, tests and the bench, which are the last two layers.
 """
 import re
 import sys
@@ -14,7 +14,7 @@ from pathlib import Path
 TOP = Path(__file__).resolve().parent.parent
 PAGE = TOP / "docs" / "ARCHITECTURE.md"
 PICTURE = re.compile(r"^```mermaid\n.*?^```\n", re.MULTILINE | re.DOTALL)
-ROW = re.compile(r"^\| `(\w+)` \| ([^|]*) \| ([^|]*) \|$", re.MULTILINE)
+ROW = re.compile(r"^\| (`\w+`(?:, `\w+`)*) \| [^|]* \|$", re.MULTILINE)
 
 
 def layers():
@@ -50,19 +50,9 @@ def main():
     found = layers()
     needed = direct({name: below for _, layer in found for name, below in layer.items()})
     text = PAGE.read_text()
-    rows = {name for name, _, _ in ROW.findall(text)}
-    tests = {name for name in needed if name.startswith("row_") or name.endswith("_rows")}
-    wrong = [f"{PAGE.name}: no row of {name}" for name in needed if name not in rows | tests]
-
-    def row(match):
-        name, says, below = match.groups()
-        if name in needed:
-            below = " ".join(f"`{other}`" for other in sorted(needed[name])) or "nothing"
-        return f"| `{name}` | {says} | {below} |"
-
-    head, table, rest = text.partition("| crate | what it does | depends on |\n")
-    rows_text, gap, rest = rest.partition("\n\n")
-    made = PICTURE.sub(lambda _: picture(found, needed), head) + table + ROW.sub(row, rows_text) + gap + rest
+    rows = {name for names in ROW.findall(text) for name in re.findall(r"\w+", names)}
+    wrong = [f"{PAGE.name}: no row of {name}" for name in needed if name not in rows]
+    made = PICTURE.sub(lambda _: picture(found, needed), text)
     if "--write" in sys.argv[1:]:
         PAGE.write_text(made)
     elif made != text:
