@@ -1,7 +1,7 @@
 #!/usr/bin/env python3
 """Lists every public item of the libraries in docs/SURFACE.md: first those that a program uses first, then the others that a
-user can name, by their crates, each with its signature, its fields or its variants and the first sentence of its doc, but of
-the others without what a function returns; then, by their names, those that only crates above use, and the laws.
+user can name, by their crates, each with its signature, its fields or its variants; with the first sentence of its doc, but of
+the others only where it says what a function does; then, by their names, those that only crates above use, and the laws.
 
     python3 scripts/surface.py           fails where the page is stale, an item has no doc, or one is `pub` for its crate alone
     python3 scripts/surface.py --write   writes the page
@@ -26,7 +26,7 @@ WIDTH = 110
 
 HEAD = """# Every public item
 
-Made from the sources by `python3 scripts/surface.py --write`. You name `unsafe_libyaml`, which re-exports the crates of events, documents and loads, and `token_lines`, which re-exports the crates of lines. Here `fn T::f` is a method or a function of the type `T`, and `..` stands for private fields. [CALLING.md](CALLING.md) shows their use; what a call returns, its errors and its conditions are in the comment and the contract beside it.
+Made from the sources by `python3 scripts/surface.py --write`. You name `unsafe_libyaml`, which re-exports the crates of events, documents and loads, and `token_lines`, which re-exports the crates of lines. Here `fn T::f` is a method or a function of the type `T`, and `..` stands for private fields. [CALLING.md](CALLING.md) shows their use; what a type is, and what a call returns, its errors and its conditions, are in the comment and the contract beside it.
 """
 
 FIRST = [
@@ -108,8 +108,10 @@ class Item:
         return self.name.startswith("unnamed_") or reads or self.name.endswith("::display") and "`name`" in self.says
 
     def lines(self, is_brief):
-        """The code after what the doc says first. A brief one leaves out what a function returns, which its code shows."""
-        says = re.sub(r"^Returns .*?\.(?= T is |$) ?", "", self.says) if is_brief and self.kind == "fn" else self.says
+        """The code after what the doc says first; a brief one without what a type is and what a function returns."""
+        says = self.says
+        if is_brief:
+            says = re.sub(r"^Returns .*?\.(?= T is |$) ?", "", says) if self.kind in ("fn", "impl") else ""
         if says and not self.says_itself():
             yield from textwrap.wrap(says, WIDTH, initial_indent="/// ", subsequent_indent="/// ", break_on_hyphens=False)
         yield from wrapped(self.code)
