@@ -12,7 +12,6 @@ mod pieces;
 mod search;
 mod token_line;
 mod token_name;
-mod token_reader;
 
 pub use line_source::yaml_line_source_t;
 

@@ -1,6 +1,6 @@
 //! A source of tokens over the lines of a reader.
 ghost use Rattle.std.specs.Prelude.{◌≡◌, ◌+◌, ◌-◌, IfOk, IfSome, Some, None, Err};
-ghost use Rattle.libyaml_sources.specs.Fault.{answer_of};
+ghost use Rattle.libyaml_sources.specs.Fault.{answer_of, source_fault};
 ghost use Rattle.libyaml_sources.specs.Source.{answer_in};
 ghost use Rattle.line_reading.specs.sources.LineSource.{Gives, known_of, BreaksOff};
 ghost use Rattle.line_reading.specs.sources.LineSourceLaws.{source_falls, source_follows, source_repeats};
@@ -9,7 +9,9 @@ ghost use Rattle.line_reading.specs.sources.NextLine.{TakesAtMost, IsBehindLine,
 ghost use Rattle.line_reading.specs.sources.LineFault.{line_fault};
 ghost use Rattle.line_reading.specs.declared.line_problem.LineProblem.TheVariants.{BadTokenLine, LineTooLong};
 
-use crate::token_reader::TokenReader;
+use crate::line::read_line;
+use crate::line_problem::LineProblem;
+use crate::token_line::read_token_line;
 use libyaml_sources::{yaml_source_fault_t, yaml_token_source_t};
 use libyaml_types::{ZERO_MARK, unnamed_yaml_token_t_data, yaml_token_t};
 use std::alloc::Global;
@@ -22,16 +24,24 @@ use std::marker::Model;
 #[derive(Drop)]
 pub struct yaml_line_source_t<R> {
     reader: R,
-    tokens: TokenReader,
+    given: u64,
+    max_tokens: u64,
+    problem: Option<LineProblem>,
+    /// How many bytes were in the reader's buffer after the last line.
+    left: usize,
     line: Vec<u8>,
+    alloc: Global,
 }
 
+/// Fewer bytes than these after a line may hold no token that brings an event: a read may follow, and wait.
+const FEW_BYTES: usize = 1024;
+
 impl<R> Model for yaml_line_source_t<R> {
-    ghost use Rattle.line_reading.specs.sources.LineSource.{LineSource, source_over};
+    ghost use Rattle.line_reading.specs.sources.LineSource.{LineSource, source_at};
 
     ghost Value = { LineSource R };
 
-    ghost view = { λ s. source_over s.reader s.tokens };
+    ghost view = { λ s. source_at s.reader s.given s.max_tokens s.problem };
 }
 
 impl<R: BufRead> yaml_line_source_t<R> {
@@ -49,8 +59,12 @@ impl<R: BufRead> yaml_line_source_t<R> {
     {
         yaml_line_source_t {
             reader,
-            tokens: TokenReader::new(alloc, max_tokens),
+            given: 0,
+            max_tokens,
+            problem: None,
+            left: 0,
             line: Vec::new(alloc),
+            alloc,
         }
     }
 
@@ -60,6 +74,15 @@ impl<R: BufRead> yaml_line_source_t<R> {
     {
         let yaml_line_source_t { reader, .. } = self;
         reader
+    }
+
+    /// Keeps a problem for good, and returns it as a fault.
+    fn keep(&mut self, problem: LineProblem) -> yaml_source_fault_t
+        ensures fault { source_fault result ≡ line_fault problem self.old.given }
+        ensures kept { self.new ≡ record self.old { fault = Some (line_fault problem self.old.given) } }
+    {
+        self.problem = Some(problem);
+        problem.fault(self.given)
     }
 }
 
@@ -117,12 +140,24 @@ impl<R: BufRead> yaml_token_source_t for yaml_line_source_t<R> {
         ensures takes { TakesAtMost (longest_line + 1) (R.remaining self.old.reader)
             (R.remaining self.new.reader) }
     {
-        self.tokens
-            .next_token_into(&mut self.reader, &mut self.line, token)
+        if let Some(problem) = self.problem {
+            return Err(problem.fault(self.given));
+        }
+        if self.given >= self.max_tokens {
+            return Err(self.keep(LineProblem::TooManyTokens));
+        }
+        if let Err(problem) = read_line(&mut self.reader, &mut self.line, &mut self.left) {
+            return Err(self.keep(problem));
+        }
+        if let Err(problem) = read_token_line(self.alloc, &self.line, token) {
+            return Err(self.keep(problem));
+        }
+        self.given += 1;
+        Ok(())
     }
 
     /// Returns whether fewer than 1,024 bytes are in the reader's buffer after the last line.
     fn may_wait(&self) -> bool {
-        self.tokens.is_low()
+        self.left < FEW_BYTES
     }
 }

@@ -4,9 +4,8 @@ use Rattle.std.proofs.lemmas.Bool.{lt-ltb}
 use Rattle.libyaml_sources.specs.Fault.{Fault}
 use Rattle.line_reading.specs.declared.line_problem.LineProblem.{LineProblem}
 use Rattle.line_reading.specs.declared.line_problem.LineProblem.TheVariants.{Memory, ReadFailed, LineTooLong, BadTokenLine, TooManyTokens, NoMoreTokens}
-use Rattle.line_reading.specs.declared.token_reader.TokenReader.{TokenReader}
 use Rattle.line_reading.specs.sources.LineFault.{line_fault}
-use Rattle.line_reading.specs.sources.LineSource.{Gives, source_over}
+use Rattle.line_reading.specs.sources.LineSource.{Gives, LineSource}
 use Rattle.line_reading.specs.sources.NextLine.{BeginsTooLong, HasNoLine, TakesNoLine, KnownAnswer, LineAnswer, first_answer}
 use Rattle.line_reading.specs.sources.ReadLines.{lines, longest_line}
 
@@ -28,12 +27,12 @@ line_answer_of : (before : Option (List ℕ)) (n : ℕ) (problem : LineProblem) 
 line_answer_of None n problem f after e h = (problem, e)
 line_answer_of (Some bytes) n problem f after e h = known_answer bytes n problem f after e h
 
-pub gives_no_line : {R : Type 0} (remaining : R → Option (List ℕ)) (r s : R) (t : TokenReader) (problem : LineProblem) (f : Fault)
-    → t.problem ≡ None → t.given < t.max_tokens → f ≡ line_fault problem t.given → TakesNoLine (remaining r) problem
-    → Gives remaining (source_over r t) (Err f) (source_over s (record t { problem = Some problem }))
-gives_no_line remaining r s t problem f none below e h =
+pub gives_no_line : {R : Type 0} (remaining : R → Option (List ℕ)) (s : LineSource R) (r : R) (problem : LineProblem) (f : Fault) → s.fault ≡ None
+    → s.given < s.max_tokens → f ≡ line_fault problem s.given → TakesNoLine (remaining s.reader) problem
+    → Gives remaining s (Err f) (record { reader = r; given = s.given; max_tokens = s.max_tokens; fault = Some (line_fault problem s.given) })
+gives_no_line remaining s r problem f none below e h =
     rw none (record {
-      below = λ _. line_answer_of (remaining r) t.given problem f (remaining s) e h;
+      below = λ _. line_answer_of (remaining s.reader) s.given problem f (remaining r) e h;
       at_bound = λ bound. absurd (omega (arith, below, bound));
       unread = λ bound. absurd (omega (arith, below, bound));
       given = omega arith;

@@ -2,7 +2,7 @@
 use Rattle.std.specs.Prelude.{◌≡◌, ◌<◌, ◌≤◌, ℕ, ◌+◌, List, [], Option, Some, None, Ok, Err, option_map}
 use Rattle.libyaml_sources.specs.Fault.{Fault, Answer}
 use Rattle.libyaml_sources.specs.Source.{Coming, coming}
-use Rattle.line_reading.specs.declared.token_reader.TokenReader.{TokenReader}
+use Rattle.line_reading.specs.declared.line_problem.LineProblem.{LineProblem}
 use Rattle.line_reading.specs.declared.line_problem.LineProblem.TheVariants.{TooManyTokens}
 use Rattle.line_reading.specs.sources.LineFault.{line_fault}
 use Rattle.line_reading.specs.sources.ReadLines.{lines, coming_from}
@@ -15,13 +15,13 @@ pub record LineSource (R : Type 0) : Type 0 where
   pub max_tokens : ℕ
   pub fault : Option Fault
 
--- the source that reads its tokens off this reader's lines
-abbrev pub source_over : {R : Type 0} → R → TokenReader → LineSource R
-source_over reader tokens = record {
+-- a source that keeps this problem, or none
+abbrev pub source_at : {R : Type 0} → R → (given max_tokens : ℕ) → Option LineProblem → LineSource R
+source_at reader given max_tokens problem = record {
   reader = reader;
-  given = tokens.given;
-  max_tokens = tokens.max_tokens;
-  fault = option_map (λ problem. line_fault problem tokens.given) tokens.problem;
+  given = given;
+  max_tokens = max_tokens;
+  fault = option_map (λ p. line_fault p given) problem;
 }
 
 -- how many tokens, and which fault, a result is
