@@ -8,8 +8,8 @@ ghost use Rattle.line_reading.specs.sources.OneLine.{LineOutcome, OneLine, Sourc
 use std::io::BufRead;
 
 /// Two results, both of which the contract of `next_token` allows, of line sources that keep the same, over
-/// readers of the same known bytes: they are one, and leave sources that keep the same over readers of the same
-/// bytes, unless an allocation or a read failed in one of them.
+/// readers of the same known bytes: they are one, and leave sources that keep the same over readers of the
+/// same bytes, unless an allocation or a read failed in one of them.
 pub fn one_line<R: BufRead>()
     ensures { (s t u v : LineSource R) (a b : Answer) (bytes : List ℕ) → R.remaining s.reader ≡ Some bytes
         → SourcesAlike R.remaining s u → LineOutcome R.remaining s a t → LineOutcome R.remaining u b v

@@ -1,5 +1,6 @@
 -- What `parse` reads is the number of a word of decimal digits.
-use Rattle.std.proofs.Common.{◌≡◌, ◌≢◌, ℕ, ◌^◌, ◌<◌, nat_lt, ◌&&◌, if◌then◌else◌, lt-ltb, ltb-true, get_or, List, [], ◌∷◌, Some, None, Result, Ok, Err, Bool, true, false, length, refl, ap, sym, ◌∙◌, arith}
+use Rattle.std.proofs.Common.{◌≡◌, ◌≢◌, ℕ, ◌^◌, ◌<◌, nat_lt, ◌&&◌, if◌then◌else◌, lt-ltb, ltb-true, get_or, List, []}
+use Rattle.std.proofs.Common.{◌∷◌, Some, None, Result, Ok, Err, Bool, true, false, length, refl, ap, sym, ◌∙◌, arith}
 use Rattle.std.specs.Result.{OkIff, result_ok}
 use Rattle.std.specs.Bool.{MatchBool}
 use Rattle.std.specs.Str.{all_ascii_digits, IsCharBoundary}
@@ -25,7 +26,8 @@ number_read : {E : Type 0} (bs : List ℕ) (r : Result ℕ E)
 number_read [] (Ok x) h = absurd (omega (arith, h.0.1))
 number_read [] (Err e) h = refl
 number_read (d ∷ ds) (Ok x) h =
-    ap (λ (n : ℕ). Some n) h.1 ∙ both (all_ascii_digits (d ∷ ds)) (nat_lt (digits_value 10 (d ∷ ds)) (2 ^ 64)) (digits_value 10 (d ∷ ds)) h.0.0 (lt-ltb _ _ h.0.2)
+    ap (λ (n : ℕ). Some n) h.1 ∙ both (all_ascii_digits (d ∷ ds)) (nat_lt (digits_value 10 (d ∷ ds)) (2 ^ 64))
+    (digits_value 10 (d ∷ ds)) h.0.0 (lt-ltb _ _ h.0.2)
 number_read (d ∷ ds) (Err e) h =
     not_both (all_ascii_digits (d ∷ ds)) (nat_lt (digits_value 10 (d ∷ ds)) (2 ^ 64)) (digits_value 10 (d ∷ ds))
     (λ k. h (k.0, omega arith, ltb-true _ _ k.1))
