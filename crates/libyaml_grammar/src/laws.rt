@@ -49,7 +49,7 @@ pub fn tree_or_cut()
 {}
 
 /// The tokens of a cut tree in order, with its rest after them, are a sentence; so the token of a cut tree
-/// that fits is the first with which no sentence goes on.
+/// that fits is the first that no sentence has at its place.
 pub fn cut_begins()
     ensures completed { (c : Cut) → cut_in_order c true ≡ true
         → IsSentence (cut_tokens c [] ++ rest zero_marks c) }

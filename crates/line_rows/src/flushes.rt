@@ -1,4 +1,4 @@
-//! Flushes: how much a run has flushed when its reader is asked for bytes, which may be long in coming.
+//! Flushes: how much a run has flushed when its reader is asked for bytes, for which it may have to wait.
 
 use crate::runs::{LinesOf, Run, run_lines, whole_lines};
 use anyhow::Result;

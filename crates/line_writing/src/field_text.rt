@@ -110,7 +110,7 @@ pub(crate) fn append_properties(
     append_optional_string(line, tag)
 }
 
-/// Appends the anchor, the tag and the text of a scalar, what most have before the text by one constant.
+/// Appends the anchor, the tag and the text of a scalar; what most have before the text with one `push_str`.
 pub(crate) fn append_node_text(
     line: &mut String,
     anchor: &Option<String>,
@@ -181,7 +181,7 @@ pub(crate) fn append_scalar_end(
     }
 }
 
-/// Appends the flags and the style of a scalar, and the line feed: those of most by one constant.
+/// Appends the flags and the style of a scalar, and the line feed: those of most with one `push_str`.
 pub(crate) fn append_flags_and_style(
     line: &mut String,
     plain_implicit: bool,

@@ -50,7 +50,7 @@ fn faulted<W: Write>(prefix: &yaml_parser_t_prefix, writer: &mut W) -> Outcome
     }
 }
 
-/// Flushes the writer where the parser's next token may be long in coming, so that whoever reads what is
+/// Flushes the writer where the parser may have to wait for its next token, so that whoever reads what is
 /// written then has all of it.
 #[inline(always)]
 fn show<S: yaml_token_source_t, W: Write>(
