@@ -155,6 +155,25 @@ pub(super) fn mapping_start(
     })
 }
 
+/// Puts the tag of a token that begins at `mark`, moved out of it, into `read`.
+#[inline(always)]
+fn put_tag(
+    alloc: Global,
+    tag: &mut unnamed_yaml_token_t_data_tag,
+    mark: yaml_mark_t,
+    read: &mut Option<TagRead>,
+)
+    ensures { read.new ≡ Some (record { handle = tag.old.handle; suffix = tag.old.suffix; mark = mark }) }
+{
+    if let Some(earlier) = read {
+        mem::swap(&mut earlier.handle, &mut tag.handle);
+        mem::swap(&mut earlier.suffix, &mut tag.suffix);
+        earlier.mark = mark;
+        return;
+    }
+    *read = Some(tag_read(alloc, tag, mark));
+}
+
 /// The tag of a token that begins at `mark`, moved out of it.
 fn tag_read(alloc: Global, tag: &mut unnamed_yaml_token_t_data_tag, mark: yaml_mark_t) -> TagRead
     ensures { result ≡ record { handle = tag.old.handle; suffix = tag.old.suffix; mark = mark } }
@@ -291,10 +310,14 @@ impl<S> Machine<S> {
                 Ok(pending.want(Next::BehindProperties))
             }
             unnamed_yaml_token_t_data::Tag(tag) => {
-                let tag = tag_read(self.allocator(), tag, token.start_mark);
+                put_tag(
+                    self.allocator(),
+                    tag,
+                    token.start_mark,
+                    &mut pending.properties.tag,
+                );
                 pending.place = place;
                 pending.properties.anchor = None;
-                pending.properties.tag = Some(tag);
                 pending.properties.start_mark = token.start_mark;
                 pending.properties.end_mark = token.end_mark;
                 Ok(pending.want(Next::BehindProperties))
@@ -443,18 +466,80 @@ impl<S> Machine<S> {
             → joins pending.old.properties.tag self.old.config.handles ≡ true }
     {
         let start_mark = pending.properties.start_mark;
-        let end_mark = pending.properties.end_mark;
-        let tag = match pending.properties.tag.take() {
+        let tag = match &mut pending.properties.tag {
             None => None,
-            Some(tag) => Some(self.resolve_tag(tag, start_mark)?),
+            Some(tag) => Some(self.resolve_tag(tag, &start_mark)?),
         };
-        let head = NodeHead {
-            anchor: pending.properties.anchor.take(),
+        match &mut token.content {
+            unnamed_yaml_token_t_data::Scalar(scalar) => {
+                self.scalar_behind(tag, scalar, &token.end_mark, &mut pending.properties, out);
+                Ok(())
+            }
+            _ => self.parse_other_behind(pending.place, tag, token, &mut pending.properties, out),
+        }
+    }
+
+    /// A scalar after properties, with its tag in full.
+    #[inline(never)]
+    fn scalar_behind(
+        &mut self,
+        tag: Option<String>,
+        content: &mut unnamed_yaml_token_t_data_scalar,
+        end_mark: &yaml_mark_t,
+        properties: &mut PropertiesRead,
+        out: &mut yaml_event_t,
+    )
+        ensures { Steps (scalar_content (head properties.old (option_map string_bytes tag)) self.old.config
+            content.old end_mark.now) self.old (Ok (Given out.new)) self.new }
+    {
+        self.pop_state();
+        out.start_mark = properties.start_mark;
+        out.end_mark = *end_mark;
+        if let unnamed_yaml_event_t_data::Scalar(event) = &mut out.content {
+            event.plain_implicit = is_plain_implicit(&tag, content.style);
+            event.quoted_implicit = is_quoted_implicit(&tag, content.style);
+            event.style = content.style;
+            event.tag = tag;
+            mem::swap(&mut event.value, &mut content.value);
+            if properties.anchor.is_some() || event.anchor.is_some() {
+                event.anchor = properties.anchor.take();
+            }
+            return;
+        }
+        let plain_implicit = is_plain_implicit(&tag, content.style);
+        let quoted_implicit = is_quoted_implicit(&tag, content.style);
+        let event = unnamed_yaml_event_t_data_scalar {
+            anchor: properties.anchor.take(),
             tag,
-            start_mark,
-            end_mark,
+            value: mem::replace(&mut content.value, String::new(self.allocator())),
+            plain_implicit,
+            quoted_implicit,
+            style: content.style,
         };
-        self.parse_node_content(pending.place, head, token, out)
+        out.content = unnamed_yaml_event_t_data::Scalar(event);
+    }
+
+    /// What a node is that is no scalar, after its properties.
+    #[inline(never)]
+    fn parse_other_behind(
+        &mut self,
+        place: NodePlace,
+        tag: Option<String>,
+        token: &mut yaml_token_t,
+        properties: &mut PropertiesRead,
+        out: &mut yaml_event_t,
+    ) -> Result<(), yaml_error_type_t>
+        ensures steps { Steps (node_content place (head properties.old (option_map string_bytes tag))
+            self.old.config token.old token.old.content) self.old (given result out.new) self.new }
+        ensures error { IfErr result (λ e. e ≡ yaml_error_type_t.YAML_PARSER_ERROR) }
+    {
+        let head = NodeHead {
+            anchor: properties.anchor.take(),
+            tag,
+            start_mark: properties.start_mark,
+            end_mark: properties.end_mark,
+        };
+        self.parse_node_content(place, head, token, out)
     }
 
     #[inline(always)]
