@@ -1,37 +1,31 @@
 /* This parser in the place of libyaml's, in programs that link libyaml's shared library and stay as they are:
  *
  *     cc -O2 -shared -fPIC -fvisibility=hidden -Wl,--exclude-libs,ALL -o libyaml_preload.so \
- *         examples/libyaml_preload.c DIR/libtoken_lines.a -lyaml
+ *         examples/libyaml_preload.c DIR/libtoken_records.a -lyaml
  *     LD_PRELOAD=$PWD/libyaml_preload.so PROGRAM
  *
  * DIR is that of scripts/build_c.sh. Only `yaml_parser_parse` is replaced. libyaml's scanner gives the tokens, its
- * constructors make the events, its `yaml_event_delete` and `yaml_parser_delete` free all there is, and its
- * `yaml_parser_load` composes documents of these events.
+ * `yaml_event_delete` and `yaml_parser_delete` free all there is, and its `yaml_parser_load` composes documents of these
+ * events.
  *
- * Memory. What a parser needs here stands in the yaml_parser_t itself, in the place of two lists that libyaml's parser
+ * Memory. What a parser needs here stands in the yaml_parser_t itself, in the place of three lists that libyaml's parser
  * alone uses and its `yaml_parser_delete` frees: so a parser may be moved and deleted as with libyaml, at any time, and
  * two parsers share nothing. A failed allocation is the fault YAML_MEMORY_ERROR, after which a call gives no event.
  *
  * What is other than with libyaml, beside docs/DIFFERENCES.md:
  *
- * - The first call reads the stream to its end: memory is that of all tokens, and a pipe gives no event before it is closed.
+ * - The first call reads the stream to its end: memory is that of all tokens and events, and a pipe gives no event before
+ *   it is closed.
  * - `problem` and `context` are valid until the parser is deleted.
- * - A tag, an anchor, an alias or a tag directive that makes a line of more than 1,048,576 bytes, or that isn't UTF-8, is
- *   the scanner's fault `line too long` or `bad token line`, with the mark of its token. Values of scalars have no bound.
- * - Not in a forked child of a process with threads (token_lines.h). */
-#include "token_lines.h"
+ * - A tag, an anchor, an alias or a tag directive that isn't UTF-8 is the scanner's fault `text is not UTF-8`, with the mark
+ *   of its token. Values of scalars may have any bytes.
+ * - Not in a forked child of a process with threads (token_records.h). */
+#include "token_records.h"
 #include <assert.h>
 #include <stdio.h>
 #include <stdlib.h>
 #include <string.h>
 #include <yaml.h>
-
-/* Bytes that grow. Once `failed` is set, memory was refused, and they are not to be used. */
-struct text {
-    unsigned char *bytes;
-    size_t length, room;
-    int failed;
-};
 
 /* What a parser tells of a fault; `error` is YAML_NO_ERROR where there is none. */
 struct fault {
@@ -42,13 +36,25 @@ struct fault {
     yaml_mark_t problem_mark, context_mark;
 };
 
-/* A run over all tokens of a stream, in the place of `parser->states`. The values of its scalars take the place of
- * `parser->marks`: the parser hands a value on unread, so a line has only where it begins and how long it is. */
+/* All tokens of a stream. The values of its scalars stay as the scanner made them: the parser hands a value on unread, so a
+ * record has one byte in its place, the first of `texts`, and the events with a value have these in turn. */
+struct tokens {
+    token_record_t *records;
+    uint8_t *texts;
+    yaml_tag_directive_t *values;  /* each a `handle`: yaml_parser_delete frees a list of these with what they name */
+    size_t *lengths;
+    size_t count, texts_length, scalars;
+    size_t records_room, texts_room, values_room, lengths_room;
+};
+
+/* All events of a stream, in the place of `parser->states`. Their records follow this, then those of tag directives, then
+ * the texts. The values take the place of `parser->tag_directives`, their lengths that of `parser->marks`. */
 struct run {
-    struct fault scanners;  /* the fault that ended the tokens */
-    yaml_mark_t refused;    /* where the token begins whose line was refused */
-    size_t at;              /* where the next line begins */
-    char lines[];
+    records_run_t made;
+    record_counts_t room;
+    size_t given, values_given;  /* how many events and values were given */
+    struct fault fault;          /* what comes after the events */
+    char problem[64], context[64];
 };
 
 static int out_of_memory(yaml_parser_t *parser)
@@ -57,267 +63,198 @@ static int out_of_memory(yaml_parser_t *parser)
     return 0;
 }
 
-/* ---- Token lines ---- */
+/* ---- Tokens ---- */
 
-static const char *const TOKENS[] = {
-    "NO-TOKEN", "STREAM-START", "STREAM-END", "VERSION-DIRECTIVE", "TAG-DIRECTIVE", "DOCUMENT-START",
-    "DOCUMENT-END", "BLOCK-SEQUENCE-START", "BLOCK-MAPPING-START", "BLOCK-END", "FLOW-SEQUENCE-START",
-    "FLOW-SEQUENCE-END", "FLOW-MAPPING-START", "FLOW-MAPPING-END", "BLOCK-ENTRY", "FLOW-ENTRY", "KEY",
-    "VALUE", "ALIAS", "ANCHOR", "TAG", "SCALAR",
-};
-static const char *const ENCODINGS[] = {"any", "utf8", "utf16le", "utf16be", NULL};
-static const char *const STYLES[] = {"any", "plain", "single", "double", "literal", "folded", NULL};
-static const char *const COLLECTIONS[] = {"any", "block", "flow", NULL};
-static const char *const ERRORS[] = {"none", "memory", "reader", "scanner", "parser", "composer", NULL};
-static const char *const EVENTS[] = {
-    "NO-EVENT", "STREAM-START", "STREAM-END", "DOCUMENT-START", "DOCUMENT-END", "ALIAS", "SCALAR",
-    "SEQUENCE-START", "SEQUENCE-END", "MAPPING-START", "MAPPING-END", NULL,
-};
-
-/* Makes room for so many bytes more; 0 where memory is refused. */
-static int reserve(struct text *text, size_t more)
+/* Makes room for so many entries of an array; 0 where memory is refused. */
+static int reserve(void *array, size_t *room, size_t wanted, size_t size)
 {
-    if (text->failed || more > SIZE_MAX / 2 - text->length)
-        return !(text->failed = 1);
-    if (text->length + more <= text->room)
+    void *entries, *more;
+
+    if (wanted <= *room)
         return 1;
-    size_t room = 2 * (text->length + more);
-    unsigned char *bytes = realloc(text->bytes, room);
-    if (bytes == NULL)
-        return !(text->failed = 1);
-    text->bytes = bytes;
-    text->room = room;
+    memcpy(&entries, array, sizeof entries);
+    if (wanted > SIZE_MAX / 4 / size || (more = realloc(entries, 2 * wanted * size)) == NULL)
+        return 0;
+    memcpy(array, &more, sizeof more);
+    *room = 2 * wanted;
     return 1;
 }
 
-static void put(struct text *text, const void *bytes, size_t length)
+static int put_text(struct tokens *tokens, range_record_t *range, const yaml_char_t *text)
 {
-    if (length > 0 && reserve(text, length)) {
-        memcpy(text->bytes + text->length, bytes, length);
-        text->length += length;
-    }
+    size_t length = strlen((const char *)text);
+
+    if (!reserve(&tokens->texts, &tokens->texts_room, tokens->texts_length + length, 1))
+        return 0;
+    memcpy(tokens->texts + tokens->texts_length, text, length);
+    range->place = tokens->texts_length;
+    range->length = length;
+    tokens->texts_length += length;
+    return 1;
 }
 
-static void put_words(struct text *text, const char *words)
+/* Takes the value of a scalar's token. */
+static int take_value(struct tokens *tokens, token_record_t *record, yaml_token_t *token)
 {
-    put(text, words, strlen(words));
+    size_t wanted = tokens->scalars + 1;
+
+    if (!reserve(&tokens->values, &tokens->values_room, wanted, sizeof *tokens->values) ||
+        !reserve(&tokens->lengths, &tokens->lengths_room, wanted, sizeof *tokens->lengths))
+        return 0;
+    record->style = token->data.scalar.style;
+    record->first.length = 1;
+    tokens->values[tokens->scalars].handle = token->data.scalar.value;
+    tokens->values[tokens->scalars].prefix = NULL;
+    tokens->lengths[tokens->scalars] = token->data.scalar.length;
+    token->data.scalar.value = NULL;
+    tokens->scalars++;
+    return 1;
 }
 
-/* A text field: `=` and the bytes, those that need it as `%` and two digits. */
-static void put_string(struct text *text, const yaml_char_t *string)
+/* Fills in what a record of the token's kind has. */
+static int put_fields(struct tokens *tokens, token_record_t *record, yaml_token_t *token)
 {
-    static const char DIGITS[] = "0123456789ABCDEF";
-    size_t length = strlen((const char *)string);
-
-    put(text, " =", 2);
-    if (length > SIZE_MAX / 8 || !reserve(text, 3 * length)) {
-        text->failed = 1;
-        return;
-    }
-    for (; *string != '\0'; string++) {
-        if (*string > 0x20 && *string < 0x7F && *string != '%') {
-            text->bytes[text->length++] = *string;
-        } else {
-            text->bytes[text->length++] = '%';
-            text->bytes[text->length++] = DIGITS[*string >> 4];
-            text->bytes[text->length++] = DIGITS[*string & 15];
-        }
-    }
-}
-
-/* What follows a token's marks. */
-static void put_fields(struct text *lines, struct text *values, const yaml_token_t *token)
-{
-    char words[80];
-
     switch (token->type) {
     case YAML_STREAM_START_TOKEN:
-        put(lines, " ", 1);
-        put_words(lines, ENCODINGS[token->data.stream_start.encoding]);
-        break;
+        record->style = token->data.stream_start.encoding;
+        return 1;
     case YAML_VERSION_DIRECTIVE_TOKEN:
-        snprintf(words, sizeof words, " %d.%d", token->data.version_directive.major, token->data.version_directive.minor);
-        put_words(lines, words);
-        break;
+        record->major = token->data.version_directive.major;
+        record->minor = token->data.version_directive.minor;
+        return 1;
     case YAML_TAG_DIRECTIVE_TOKEN:
-        put_string(lines, token->data.tag_directive.handle);
-        put_string(lines, token->data.tag_directive.prefix);
-        break;
+        return put_text(tokens, &record->first, token->data.tag_directive.handle) &&
+               put_text(tokens, &record->second, token->data.tag_directive.prefix);
     case YAML_ALIAS_TOKEN:
-        put_string(lines, token->data.alias.value);
-        break;
+        return put_text(tokens, &record->first, token->data.alias.value);
     case YAML_ANCHOR_TOKEN:
-        put_string(lines, token->data.anchor.value);
-        break;
+        return put_text(tokens, &record->first, token->data.anchor.value);
     case YAML_TAG_TOKEN:
-        put_string(lines, token->data.tag.handle);
-        put_string(lines, token->data.tag.suffix);
-        break;
+        return put_text(tokens, &record->first, token->data.tag.handle) &&
+               put_text(tokens, &record->second, token->data.tag.suffix);
     case YAML_SCALAR_TOKEN:
-        snprintf(words, sizeof words, " =%zu+%zu %s", values->length, token->data.scalar.length,
-                 STYLES[token->data.scalar.style]);
-        put_words(lines, words);
-        put(values, token->data.scalar.value, token->data.scalar.length);
-        break;
+        return take_value(tokens, record, token);
     default:
-        break;
+        return 1;
     }
 }
 
-static void put_token(struct text *lines, struct text *values, const yaml_token_t *token)
+static mark_record_t mark_record(yaml_mark_t mark)
 {
-    const yaml_mark_t *start = &token->start_mark, *end = &token->end_mark;
-    char marks[160];
+    mark_record_t made = {mark.index, mark.line, mark.column};
+    return made;
+}
 
-    snprintf(marks, sizeof marks, " %zu:%zu:%zu %zu:%zu:%zu", start->index, start->line, start->column, end->index,
-             end->line, end->column);
-    put_words(lines, TOKENS[token->type]);
-    put_words(lines, marks);
-    put_fields(lines, values, token);
-    put(lines, "\n", 1);
+static yaml_mark_t mark_of(mark_record_t mark)
+{
+    yaml_mark_t made = {mark.index, mark.line, mark.column};
+    return made;
+}
+
+static int put_token(struct tokens *tokens, yaml_token_t *token)
+{
+    if (!reserve(&tokens->records, &tokens->records_room, tokens->count + 1, sizeof *tokens->records))
+        return 0;
+    token_record_t *record = &tokens->records[tokens->count++];
+    memset(record, 0, sizeof *record);
+    record->kind = token->type;
+    record->start_mark = mark_record(token->start_mark);
+    record->end_mark = mark_record(token->end_mark);
+    return put_fields(tokens, record, token);
 }
 
 /* Scans to the end of the stream, or to the scanner's fault, which the parser then keeps; 0 where memory is refused. */
-static int scan(yaml_parser_t *parser, struct text *lines, struct text *values)
+static int scan(yaml_parser_t *parser, struct tokens *tokens)
 {
+    static const yaml_char_t IN_PLACE_OF_A_VALUE[] = "-";
+    range_record_t range;
     yaml_token_t token;
     yaml_token_type_t type;
+    int put = reserve(&tokens->records, &tokens->records_room, 1, sizeof *tokens->records) &&
+              put_text(tokens, &range, IN_PLACE_OF_A_VALUE);
 
-    do {
-        if (!yaml_parser_scan(parser, &token))
-            break;
+    while (put && yaml_parser_scan(parser, &token)) {
         type = token.type;
-        put_token(lines, values, &token);
+        if (type == YAML_NO_TOKEN)
+            break;
+        put = put_token(tokens, &token);
         yaml_token_delete(&token);
-    } while (type != YAML_STREAM_END_TOKEN && type != YAML_NO_TOKEN && !lines->failed && !values->failed);
-    return parser->error != YAML_MEMORY_ERROR && reserve(lines, 1) && reserve(values, 1);
-}
-
-/* ---- The fields of a line ---- */
-
-/* The next field of a line, as a string; `at` is then after it. */
-static char *field(char **at)
-{
-    char *begin = *at, *end = begin + strcspn(begin, " \n");
-
-    *at = *end == ' ' ? end + 1 : end;
-    *end = '\0';
-    return begin;
-}
-
-static yaml_mark_t mark_field(char **at)
-{
-    char *end = field(at);
-    yaml_mark_t mark;
-
-    mark.index = strtoull(end, &end, 10);
-    mark.line = strtoull(end + 1, &end, 10);
-    mark.column = strtoull(end + 1, &end, 10);
-    return mark;
-}
-
-static int flag_field(char **at)
-{
-    return field(at)[0] == '1';
-}
-
-/* The place of a field in a list of words; the library writes no other. */
-static int word_field(char **at, const char *const *words)
-{
-    const char *word = field(at);
-    int place = 0;
-
-    while (words[place] != NULL && strcmp(words[place], word) != 0)
-        place++;
-    assert(words[place] != NULL);
-    return place;
-}
-
-static int digit(char c)
-{
-    return c <= '9' ? c - '0' : c - 'A' + 10;
-}
-
-/* A text field, unescaped where it stands, or NULL where there is no text. */
-static yaml_char_t *text_field(char **at)
-{
-    char *from = field(at), *to = from;
-    yaml_char_t *text = (yaml_char_t *)from;
-
-    if (*from++ != '=')
-        return NULL;
-    for (; *from != '\0'; from++) {
-        if (*from == '%') {
-            *to++ = (char)(digit(from[1]) * 16 + digit(from[2]));
-            from += 2;
-        } else {
-            *to++ = *from;
-        }
+        if (type == YAML_STREAM_END_TOKEN)
+            break;
     }
-    *to = '\0';
-    return text;
+    return put && parser->error != YAML_MEMORY_ERROR;
+}
+
+/* Frees the tokens, and the values with them where they are no parser's. */
+static void free_tokens(struct tokens *tokens, int with_values)
+{
+    free(tokens->records);
+    free(tokens->texts);
+    if (!with_values)
+        return;
+    for (size_t i = 0; i < tokens->scalars; i++)
+        free(tokens->values[i].handle);
+    free(tokens->values);
+    free(tokens->lengths);
 }
 
 /* ---- The run ---- */
 
-/* Where the last line of so many bytes begins. */
-static char *last_line(char *lines, size_t length)
+static event_record_t *events_of(struct run *run)
 {
-    size_t at = length > 0 ? length - 1 : 0;
-
-    while (at > 0 && lines[at - 1] != '\n')
-        at--;
-    return lines + at;
+    return (event_record_t *)(void *)(run + 1);
 }
 
-/* Where the token begins before which so many were given. */
-static yaml_mark_t start_of_token(struct text *tokens, size_t given)
+static directive_record_t *directives_of(struct run *run)
 {
-    char *line = (char *)tokens->bytes;
-
-    for (; given > 0; given--)
-        line = strchr(line, '\n') + 1;
-    field(&line);
-    return mark_field(&line);
+    return (directive_record_t *)(void *)(events_of(run) + run->room.events);
 }
 
-/* Notes where the token begins whose line was refused, if one was. */
-static void note_refused(struct run *run, size_t length, struct text *tokens)
+static uint8_t *texts_of(struct run *run)
 {
-    size_t given;
-    char kind[16], problem[16];
-
-    if (sscanf(last_line(run->lines, length), "FAULT %15s %zu:%*u:%*u %15[^\n]", kind, &given, problem) != 3)
-        return;
-    if (strcmp(problem, "line too long") == 0 || strcmp(problem, "bad token line") == 0)
-        run->refused = start_of_token(tokens, given);
+    return (uint8_t *)(directives_of(run) + run->room.directives);
 }
 
-/* Makes the event lines of these tokens; NULL where memory is refused. */
-static struct run *run_over(struct text *tokens)
+/* A run with room for so much, of which nothing is made; NULL where memory is refused. */
+static struct run *new_run(record_counts_t room)
 {
-    struct run *run = NULL, *more;
-    size_t room = 4096 + tokens->length, written = 0, wanted = room;
-    uint32_t outcome = TOKEN_LINES_NO_MEMORY;
+    const size_t most = SIZE_MAX / 8;
+    struct run *run;
 
-    tokens->bytes[tokens->length] = '\0';
-    do {
-        room = wanted;
-        more = room > SIZE_MAX / 2 ? NULL : realloc(run, sizeof *run + room + 1);
-        if (more != NULL) {
-            run = more;
-            outcome = token_lines_run_events(tokens->bytes, tokens->length, (uint8_t *)run->lines, room, UINT64_MAX,
-                                             &written, &wanted);
-        }
-    } while (more != NULL && outcome != TOKEN_LINES_NO_MEMORY && written != wanted);
-    if (more == NULL || outcome == TOKEN_LINES_NO_MEMORY) {
-        free(run);
+    if (room.events > most / sizeof(event_record_t) || room.directives > most / sizeof(directive_record_t) ||
+        room.texts > most)
         return NULL;
+    run = malloc(sizeof *run + room.events * sizeof(event_record_t) + room.directives * sizeof(directive_record_t) +
+                 room.texts);
+    if (run != NULL) {
+        memset(run, 0, sizeof *run);
+        run->room = room;
     }
-    memset(run, 0, sizeof *run);
-    run->lines[written] = '\0';
-    if (outcome == TOKEN_LINES_FAULTED)
-        note_refused(run, written, tokens);
+    return run;
+}
+
+static int is_all_there(const records_run_t *made)
+{
+    return made->written.events == made->wanted.events && made->written.directives == made->wanted.directives &&
+           made->written.texts == made->wanted.texts;
+}
+
+/* Makes the events of these tokens; NULL where memory is refused. */
+static struct run *run_over(const struct tokens *tokens)
+{
+    record_counts_t room = {tokens->count + 64, 8, tokens->scalars + 4 * tokens->texts_length + 256};
+    struct run *run = new_run(room);
+
+    while (run != NULL) {
+        token_records_run_events(tokens->records, tokens->count, tokens->texts, tokens->texts_length, events_of(run),
+                                 room.events, directives_of(run), room.directives, texts_of(run), room.texts, &run->made);
+        if (run->made.fault.error != YAML_MEMORY_ERROR && is_all_there(&run->made))
+            break;
+        int refused = run->made.fault.error == YAML_MEMORY_ERROR;
+        room = run->made.wanted;
+        free(run);
+        run = refused ? NULL : new_run(room);
+    }
     return run;
 }
 
@@ -348,13 +285,44 @@ static int give_fault(yaml_parser_t *parser, const struct fault *fault)
     return 0;
 }
 
-/* Puts a run and its values into the parser, as lists with no entry. */
-static void keep(yaml_parser_t *parser, struct run *run, struct text *values)
+/* Keeps the words of a range as a string; NULL where there are none. */
+static const char *words_of(struct run *run, range_record_t range, char *kept, size_t room)
+{
+    if (range.place == TOKEN_RECORDS_ABSENT)
+        return NULL;
+    snprintf(kept, room, "%.*s", (int)range.length, (const char *)texts_of(run) + range.place);
+    return kept;
+}
+
+/* Sets the fault that a run ends with: the scanner's own, where the tokens ran out by it. */
+static void set_fault(struct run *run, const struct tokens *tokens, const struct fault *scanners)
+{
+    const fault_record_t *made = &run->made.fault;
+    int of_a_record = made->error == YAML_READER_ERROR || made->error == YAML_SCANNER_ERROR;
+
+    run->fault.error = (yaml_error_type_t)made->error;
+    run->fault.problem = words_of(run, made->problem, run->problem, sizeof run->problem);
+    run->fault.problem_mark = mark_of(made->problem_mark);
+    run->fault.context = words_of(run, made->context, run->context, sizeof run->context);
+    run->fault.context_mark = mark_of(made->context_mark);
+    if (of_a_record && made->problem_offset < tokens->count) {
+        run->fault.error = YAML_SCANNER_ERROR;
+        run->fault.problem_mark = mark_of(tokens->records[made->problem_offset].start_mark);
+    } else if (of_a_record && scanners->error != YAML_NO_ERROR) {
+        run->fault = *scanners;
+    }
+}
+
+/* Puts a run, and the values of its scalars, into the parser. */
+static void keep(yaml_parser_t *parser, struct run *run, const struct tokens *tokens)
 {
     free(parser->states.start);
     free(parser->marks.start);
+    free(parser->tag_directives.start);
     parser->states.start = parser->states.end = parser->states.top = (yaml_parser_state_t *)(void *)run;
-    parser->marks.start = parser->marks.end = parser->marks.top = (yaml_mark_t *)(void *)values->bytes;
+    parser->marks.start = parser->marks.end = parser->marks.top = (yaml_mark_t *)(void *)tokens->lengths;
+    parser->tag_directives.start = tokens->values;
+    parser->tag_directives.end = parser->tag_directives.top = tokens->values + tokens->scalars;
     parser->state = YAML_PARSE_DOCUMENT_CONTENT_STATE;
     parser->stream_end_produced = 0;  /* the scanner set it, and yaml_parser_load looks at it */
 }
@@ -362,167 +330,137 @@ static void keep(yaml_parser_t *parser, struct run *run, struct text *values)
 /* Scans the whole stream and runs over its tokens; 0 where memory is refused. */
 static int begin(yaml_parser_t *parser)
 {
-    struct text tokens = {0}, values = {0};
+    struct tokens tokens = {0};
     struct run *run = NULL;
 
-    if (scan(parser, &tokens, &values))
+    if (scan(parser, &tokens))
         run = run_over(&tokens);
-    free(tokens.bytes);
     if (run == NULL) {
-        free(values.bytes);
+        free_tokens(&tokens, 1);
         return out_of_memory(parser);
     }
-    run->scanners = take_fault(parser);
-    keep(parser, run, &values);
+    struct fault scanners = take_fault(parser);
+    set_fault(run, &tokens, &scanners);
+    keep(parser, run, &tokens);
+    free_tokens(&tokens, 0);
     return 1;
 }
 
 /* ---- Events ---- */
 
-/* The fault that a run ends with: the scanner's own, where the tokens ran out by it. */
-static int fault_of_line(yaml_parser_t *parser, struct run *run, char *at)
+/* Copies a text, if there is one; 0 where memory is refused. */
+static int copy(struct run *run, range_record_t range, yaml_char_t **to)
 {
-    struct fault fault = {0};
-
-    fault.error = (yaml_error_type_t)word_field(&at, ERRORS);
-    fault.problem_mark = mark_field(&at);
-    fault.problem = at;
-    at += strcspn(at, "\n");
-    if (*at == '\n')
-        *at++ = '\0';
-    if (strcmp(fault.problem, "no more tokens") == 0 && run->scanners.error != YAML_NO_ERROR)
-        return give_fault(parser, &run->scanners);
-    if (strcmp(fault.problem, "line too long") == 0 || strcmp(fault.problem, "bad token line") == 0) {
-        fault.error = YAML_SCANNER_ERROR;
-        fault.problem_mark = run->refused;
-    }
-    if (strncmp(at, "CONTEXT ", strlen("CONTEXT ")) == 0) {
-        at += strlen("CONTEXT ");
-        fault.context_mark = mark_field(&at);
-        fault.context = at;
-        at[strcspn(at, "\n")] = '\0';
-    }
-    return give_fault(parser, &fault);
-}
-
-static int document_start(yaml_event_t *event, char *at)
-{
-    int implicit = flag_field(&at);
-    char *version = field(&at);
-    yaml_version_directive_t directive = {0, 0};
-    size_t count = strtoull(field(&at), NULL, 10);
-    yaml_tag_directive_t *tags = NULL;
-
-    if (strcmp(version, "-") != 0)
-        sscanf(version, "%d.%d", &directive.major, &directive.minor);
-    if (count > 0 && (tags = calloc(count, sizeof *tags)) == NULL)
+    if (range.place == TOKEN_RECORDS_ABSENT)
+        return 1;
+    if ((*to = malloc(range.length + 1)) == NULL)
         return 0;
-    for (size_t i = 0; i < count; i++) {
-        tags[i].handle = text_field(&at);
-        tags[i].prefix = text_field(&at);
-    }
-    int made = yaml_document_start_event_initialize(event, strcmp(version, "-") == 0 ? NULL : &directive, tags,
-                                                    count > 0 ? tags + count : NULL, implicit);
-    free(tags);
-    return made;
-}
-
-/* Gives a scalar event its value. It is copied here: the constructor's length is an int. */
-static int set_value(yaml_event_t *event, const yaml_char_t *value, size_t length)
-{
-    yaml_char_t *copy = realloc(event->data.scalar.value, length + 1);
-
-    if (copy == NULL) {
-        yaml_event_delete(event);
-        return 0;
-    }
-    memcpy(copy, value, length);
-    copy[length] = '\0';
-    event->data.scalar.value = copy;
-    event->data.scalar.length = length;
+    memcpy(*to, texts_of(run) + range.place, range.length);
+    (*to)[range.length] = '\0';
     return 1;
 }
 
-static int scalar(yaml_event_t *event, const yaml_char_t *values, char *at)
+static int document_start(struct run *run, const event_record_t *made, yaml_event_t *event)
 {
-    yaml_char_t *anchor = text_field(&at), *tag = text_field(&at);
-    char *value = field(&at) + 1;
-    int plain = flag_field(&at), quoted = flag_field(&at);
-    yaml_scalar_style_t style = (yaml_scalar_style_t)word_field(&at, STYLES);
+    const directive_record_t *directives = directives_of(run) + made->directives.place;
+    size_t count = made->directives.length;
+    yaml_version_directive_t *version;
+    yaml_tag_directive_t *tags;
 
-    if (!yaml_scalar_event_initialize(event, anchor, tag, (const yaml_char_t *)"", 0, plain, quoted, style))
-        return 0;
-    if (*value == '\0')
+    event->data.document_start.implicit = made->implicit;
+    if (made->has_version) {
+        if ((version = malloc(sizeof *version)) == NULL)
+            return 0;
+        version->major = made->major;
+        version->minor = made->minor;
+        event->data.document_start.version_directive = version;
+    }
+    if (count == 0)
         return 1;
-    size_t start = strtoull(value, &value, 10);
-    return set_value(event, values + start, strtoull(value + 1, NULL, 10));
+    if ((tags = calloc(count, sizeof *tags)) == NULL)
+        return 0;
+    event->data.document_start.tag_directives.start = tags;
+    event->data.document_start.tag_directives.end = tags + count;
+    for (size_t i = 0; i < count; i++)
+        if (!copy(run, directives[i].handle, &tags[i].handle) || !copy(run, directives[i].prefix, &tags[i].prefix))
+            return 0;
+    return 1;
 }
 
-static int sequence_start(yaml_event_t *event, char *at)
+/* A value is the scanner's, or an empty one that the parser made. */
+static int scalar(yaml_parser_t *parser, struct run *run, const event_record_t *made, yaml_event_t *event)
 {
-    yaml_char_t *anchor = text_field(&at), *tag = text_field(&at);
-    int implicit = flag_field(&at);
-
-    return yaml_sequence_start_event_initialize(event, anchor, tag, implicit,
-                                                (yaml_sequence_style_t)word_field(&at, COLLECTIONS));
+    event->data.scalar.plain_implicit = made->implicit;
+    event->data.scalar.quoted_implicit = made->quoted_implicit;
+    event->data.scalar.style = (yaml_scalar_style_t)made->style;
+    if (!copy(run, made->anchor, &event->data.scalar.anchor) || !copy(run, made->tag, &event->data.scalar.tag))
+        return 0;
+    if (made->value.length == 0)
+        return copy(run, made->value, &event->data.scalar.value);
+    yaml_char_t **value = &parser->tag_directives.start[run->values_given].handle;
+    event->data.scalar.value = *value;
+    event->data.scalar.length = ((size_t *)(void *)parser->marks.start)[run->values_given++];
+    *value = NULL;
+    return 1;
 }
 
-static int mapping_start(yaml_event_t *event, char *at)
+static int sequence_start(struct run *run, const event_record_t *made, yaml_event_t *event)
 {
-    yaml_char_t *anchor = text_field(&at), *tag = text_field(&at);
-    int implicit = flag_field(&at);
-
-    return yaml_mapping_start_event_initialize(event, anchor, tag, implicit,
-                                               (yaml_mapping_style_t)word_field(&at, COLLECTIONS));
+    event->data.sequence_start.implicit = made->implicit;
+    event->data.sequence_start.style = (yaml_sequence_style_t)made->style;
+    return copy(run, made->anchor, &event->data.sequence_start.anchor) &&
+           copy(run, made->tag, &event->data.sequence_start.tag);
 }
 
-/* Makes the event of a type whose fields begin here, without its marks; 0 where memory is refused. */
-static int make_event(yaml_event_t *event, yaml_event_type_t type, const yaml_char_t *values, char *at)
+static int mapping_start(struct run *run, const event_record_t *made, yaml_event_t *event)
 {
-    switch (type) {
+    event->data.mapping_start.implicit = made->implicit;
+    event->data.mapping_start.style = (yaml_mapping_style_t)made->style;
+    return copy(run, made->anchor, &event->data.mapping_start.anchor) &&
+           copy(run, made->tag, &event->data.mapping_start.tag);
+}
+
+/* Makes the event of a record; 0 where memory is refused, and then the event has what was made of it. */
+static int make_event(yaml_parser_t *parser, struct run *run, const event_record_t *made, yaml_event_t *event)
+{
+    event->type = (yaml_event_type_t)made->kind;
+    event->start_mark = mark_of(made->start_mark);
+    event->end_mark = mark_of(made->end_mark);
+    switch (event->type) {
     case YAML_STREAM_START_EVENT:
-        return yaml_stream_start_event_initialize(event, (yaml_encoding_t)word_field(&at, ENCODINGS));
-    case YAML_STREAM_END_EVENT:
-        return yaml_stream_end_event_initialize(event);
+        event->data.stream_start.encoding = (yaml_encoding_t)made->style;
+        return 1;
     case YAML_DOCUMENT_START_EVENT:
-        return document_start(event, at);
+        return document_start(run, made, event);
     case YAML_DOCUMENT_END_EVENT:
-        return yaml_document_end_event_initialize(event, flag_field(&at));
+        event->data.document_end.implicit = made->implicit;
+        return 1;
     case YAML_ALIAS_EVENT:
-        return yaml_alias_event_initialize(event, text_field(&at));
+        return copy(run, made->anchor, &event->data.alias.anchor);
     case YAML_SCALAR_EVENT:
-        return scalar(event, values, at);
+        return scalar(parser, run, made, event);
     case YAML_SEQUENCE_START_EVENT:
-        return sequence_start(event, at);
-    case YAML_SEQUENCE_END_EVENT:
-        return yaml_sequence_end_event_initialize(event);
+        return sequence_start(run, made, event);
     case YAML_MAPPING_START_EVENT:
-        return mapping_start(event, at);
-    case YAML_MAPPING_END_EVENT:
-        return yaml_mapping_end_event_initialize(event);
+        return mapping_start(run, made, event);
     default:
         return 1;
     }
 }
 
-/* Gives the event of the next line, or the fault. */
+/* Gives the next event, or the fault. */
 static int next(yaml_parser_t *parser, yaml_event_t *event)
 {
     struct run *run = (struct run *)(void *)parser->states.start;
-    char *at = run->lines + run->at, *end = at + strcspn(at, "\n");
 
-    if (strncmp(at, "FAULT ", strlen("FAULT ")) == 0)
-        return fault_of_line(parser, run, at + strlen("FAULT "));
-    run->at = (size_t)(end - run->lines) + (*end == '\n');
-    yaml_event_type_t type = (yaml_event_type_t)word_field(&at, EVENTS);
-    yaml_mark_t start_mark = mark_field(&at), end_mark = mark_field(&at);
-    if (!make_event(event, type, (const yaml_char_t *)(void *)parser->marks.start, at)) {
-        memset(event, 0, sizeof *event);
+    if (run->given == run->made.written.events)
+        return give_fault(parser, &run->fault);
+    if (!make_event(parser, run, &events_of(run)[run->given], event)) {
+        yaml_event_delete(event);
         return out_of_memory(parser);
     }
-    event->start_mark = start_mark;
-    event->end_mark = end_mark;
-    if (type == YAML_STREAM_END_EVENT) {
+    run->given++;
+    if (event->type == YAML_STREAM_END_EVENT) {
         parser->state = YAML_PARSE_END_STATE;
         parser->stream_end_produced = 1;
     }

@@ -8,8 +8,8 @@
 Scanner, composer, resolver and constructor are PyYAML's (Debian: python3-yaml), and so are the events, nodes, marks and
 errors: an error has the text and the snippet of PyYAML without its C part. `ProvedParser` before any loader of that form
 makes another: `class Mine(ProvedParser, yaml.FullLoader): pass`. `use_library(PATH)` or the environment's
-TOKEN_LINES_LIBRARY says where libtoken_lines.so is, which scripts/build_c.sh makes; without them it is looked for beside
-this file, in build/ beside its folder, and where the system looks for libraries.
+TOKEN_RECORDS_LIBRARY says where libtoken_records.so is, which scripts/build_c.sh makes; without them it is looked for
+beside this file, in build/ beside its folder, and where the system looks for libraries.
 
 What is other than with PyYAML's parser, beside docs/DIFFERENCES.md, which is about libyaml's:
 
@@ -17,17 +17,15 @@ What is other than with PyYAML's parser, beside docs/DIFFERENCES.md, which is ab
 - As with libyaml: a collection whose tag is `!` alone is not implicit, an empty node with that tag is a string, and versions
   other than 1.1 and 1.2 are refused.
 - A directive that is neither YAML nor TAG is left out: the document starts at the next directive or `---`.
-- A tag, an anchor, an alias or a tag directive that makes a line of more than 1,048,576 bytes is a ScannerError, `line too
-  long`; a number past 32 bits in a version one, `bad token line`. Values of scalars have no bound.
 
 A loader is for one thread; several loaders may be used at once. An error is raised again by each later call for an event.
 """
+import collections
 import ctypes
 import importlib
 import os
-import re
+import struct
 import sys
-from urllib.parse import unquote
 
 __all__ = ["LibraryError", "ProvedLoader", "ProvedParser", "ProvedSafeLoader", "use_library"]
 
@@ -56,45 +54,69 @@ class LibraryError(Exception):
     """The library isn't there, or is another."""
 
 
-class Library:
-    """The events of token lines, by libtoken_lines.so."""
+class Counts(ctypes.Structure):
+    """How many event records, directive records and bytes of texts: record_counts_t of token_records.h."""
 
-    NO_MEMORY = 2
-    NO_LIMIT = (1 << 64) - 1
-    PLACES = os.path.join(HERE, "libtoken_lines.so"), os.path.join(HERE, os.pardir, "build", "libtoken_lines.so")
+    _fields_ = [("events", ctypes.c_size_t), ("directives", ctypes.c_size_t), ("texts", ctypes.c_size_t)]
+
+    def __iter__(self):
+        return iter((self.events, self.directives, self.texts))
+
+
+class Run(ctypes.Structure):
+    """What a run did: records_run_t, where a range is two numbers and a mark three."""
+
+    _fields_ = [
+        ("wanted", Counts), ("written", Counts), ("error", ctypes.c_uint32), ("problem_value", ctypes.c_int32),
+        ("problem_offset", ctypes.c_uint64), ("problem", ctypes.c_size_t * 2), ("problem_mark", ctypes.c_uint64 * 3),
+        ("context", ctypes.c_size_t * 2), ("context_mark", ctypes.c_uint64 * 3)]
+
+
+class Library:
+    """The events of token records, by libtoken_records.so."""
+
+    TOKEN = struct.Struct("=2I2i10Q")
+    EVENT = struct.Struct("=I4B2i14Q")
+    DIRECTIVE = struct.Struct("=4Q")
+    SIZES = EVENT.size, DIRECTIVE.size, 1
+    ABSENT = (1 << 64) - 1
+    MEMORY, READER, SCANNER = 1, 2, 3
+    PLACES = os.path.join(HERE, "libtoken_records.so"), os.path.join(HERE, os.pardir, "build", "libtoken_records.so")
     used = None
 
     def __init__(self, path):
         try:
-            self.function = ctypes.CDLL(path).token_lines_run_events
+            self.function = ctypes.CDLL(path).token_records_run_events
         except (OSError, AttributeError) as error:
-            raise LibraryError("cannot use %s: %s; TOKEN_LINES_LIBRARY says where libtoken_lines.so is, which "
+            raise LibraryError("cannot use %s: %s; TOKEN_RECORDS_LIBRARY says where libtoken_records.so is, which "
                                "scripts/build_c.sh makes" % (path, error)) from None
-        size = ctypes.POINTER(ctypes.c_size_t)
-        self.function.argtypes = [ctypes.c_char_p, ctypes.c_size_t, ctypes.c_void_p, ctypes.c_size_t, ctypes.c_uint64,
-                                  size, size]
-        self.function.restype = ctypes.c_uint32
+        self.function.argtypes = [ctypes.c_void_p, ctypes.c_size_t] * 5 + [ctypes.POINTER(Run)]
+        self.function.restype = None
 
     @classmethod
     def get(cls):
         """Returns the library, which the first use opens."""
         if cls.used is None:
-            there = next(filter(os.path.exists, cls.PLACES), "libtoken_lines.so")
-            cls.used = cls(os.environ.get("TOKEN_LINES_LIBRARY") or there)
+            there = next(filter(os.path.exists, cls.PLACES), "libtoken_records.so")
+            cls.used = cls(os.environ.get("TOKEN_RECORDS_LIBRARY") or there)
         return cls.used
 
-    def event_lines(self, tokens, max_tokens=NO_LIMIT):
-        """Runs, with as much room as the run before wanted, and returns the lines of the events, the fault's with them."""
-        written, wanted = ctypes.c_size_t(), ctypes.c_size_t(2 * len(tokens) + 4096)
+    def run(self, records, texts):
+        """Runs, with as much room as the run before wanted. Returns what it did, and the bytes of the event records, the
+        directive records and the texts."""
+        count = len(records) // self.TOKEN.size
+        tokens = ctypes.create_string_buffer(bytes(records))
+        run, rooms = Run(), (count + 64, 8, count + 4 * len(texts) + 256)
         while True:
-            room = wanted.value
-            out = ctypes.create_string_buffer(room)
-            outcome = self.function(tokens, len(tokens), out, room, max_tokens, ctypes.byref(written),
-                                    ctypes.byref(wanted))
-            if outcome == self.NO_MEMORY:
+            buffers = [ctypes.create_string_buffer(room * size) for room, size in zip(rooms, self.SIZES)]
+            words = [word for pair in zip(buffers, rooms) for word in pair]
+            self.function(tokens, count, bytes(texts), len(texts), *words, ctypes.byref(run))
+            if run.error == self.MEMORY:
                 raise MemoryError
-            if written.value == wanted.value:
-                return ctypes.string_at(out, written.value).decode("ascii").splitlines()
+            if tuple(run.written) == tuple(run.wanted):
+                written = zip(buffers, run.written, self.SIZES)
+                return (run, *(ctypes.string_at(buffer, count * size) for buffer, count, size in written))
+            rooms = tuple(run.wanted)
 
 
 def use_library(path):
@@ -102,45 +124,45 @@ def use_library(path):
     Library.used = Library(path)
 
 
-# ---- Tokens as lines ----
-
-ENCODINGS = {"utf-8": "utf8", "utf-16-le": "utf16le", "utf-16-be": "utf16be"}
-STYLES = {None: "plain", "": "plain", "'": "single", '"': "double", "|": "literal", ">": "folded"}
-
-
-def escaped(text):
-    """Returns a text field: its UTF-8 bytes, those that need it as `%` and two digits."""
-    return "=" + re.sub("[^!-$&-~]", lambda found: found.group().encode().hex("%").join(("%", "")).upper(), text or "")
-
+# ---- Tokens as records ----
 
 class Tokens:
-    """The tokens of a scanner to its end or its failure, as lines.
+    """The tokens of a scanner to its end or its failure, as records.
 
-    The parser hands a scalar's value on unread: its line has the number of the token in its place, counted from 0.
+    The parser hands on marks and the values of scalars unread. So a record has the number of a mark in its place: of the
+    token with the number N, from 0, the start is 2 N and the end 2 N + 1. A value's place is taken by the first byte of
+    the texts: the events that have one are those of the scalars, in their order.
     """
 
-    FIELDS = {
-        yaml.StreamStartToken: lambda token: [ENCODINGS.get(token.encoding, "any")],
-        yaml.AliasToken: lambda token: [escaped(token.value)],
-        yaml.AnchorToken: lambda token: [escaped(token.value)],
-        yaml.TagToken: lambda token: [escaped(part) for part in token.value],
+    KINDS = {
+        yaml.StreamStartToken: 1, yaml.StreamEndToken: 2, yaml.DocumentStartToken: 5, yaml.DocumentEndToken: 6,
+        yaml.BlockSequenceStartToken: 7, yaml.BlockMappingStartToken: 8, yaml.BlockEndToken: 9,
+        yaml.FlowSequenceStartToken: 10, yaml.FlowSequenceEndToken: 11, yaml.FlowMappingStartToken: 12,
+        yaml.FlowMappingEndToken: 13, yaml.BlockEntryToken: 14, yaml.FlowEntryToken: 15, yaml.KeyToken: 16,
+        yaml.ValueToken: 17, yaml.AliasToken: 18, yaml.AnchorToken: 19, yaml.TagToken: 20, yaml.ScalarToken: 21,
     }
+    DIRECTIVES = {"YAML": 3, "TAG": 4}
+    ENCODINGS = {"utf-8": 1, "utf-16-le": 2, "utf-16-be": 3}
+    STYLES = {None: 1, "": 1, "'": 2, '"': 3, "|": 4, ">": 5}
+    NO_TEXT, VALUE = (0, 0), (0, 1)
+    MOST = (1 << 31) - 1
 
     def __init__(self, scanner):
-        self.all, self.marks, self.failure, lines = [], {}, None, []
+        self.all, self.marks, self.scalars, self.failure = [], [], [], None
+        self.records, self.texts = bytearray(), bytearray(b"-")
         try:
             while not self.all or type(self.all[-1]) is not yaml.StreamEndToken:
                 token = scanner.get_token()
-                if type(token) is yaml.DirectiveToken and token.name not in ("YAML", "TAG"):
+                if type(token) is yaml.DirectiveToken and token.name not in self.DIRECTIVES:
                     self.leave_out(scanner)
                     continue
-                lines.append(self.line(token))
+                self.records += self.record(token, type(token))
+                self.marks += token.start_mark, token.end_mark
                 self.all.append(token)
         except MemoryError:
             raise
         except Exception as failure:
             self.failure = failure
-        self.lines = "".join(lines).encode()
 
     @staticmethod
     def leave_out(scanner):
@@ -150,44 +172,39 @@ class Tokens:
             raise yaml.parser.ParserError(None, None, "expected '<document start>', but found %r" % token.id,
                                           token.start_mark)
 
-    def line(self, token):
-        kind = type(token)
-        words = [name_of(kind), self.mark_field(token.start_mark), self.mark_field(token.end_mark)]
+    def record(self, token, kind):
+        number, style, version, first, second = self.KINDS.get(kind), 0, (0, 0), self.NO_TEXT, self.NO_TEXT
         if kind is yaml.ScalarToken:
-            words += ["=%d" % len(self.all), STYLES[token.style]]
-        elif kind is yaml.DirectiveToken and token.name == "YAML":
-            words[0] = "VERSION-DIRECTIVE"
-            words.append("%d.%d" % token.value)
+            style, first = self.STYLES[token.style], self.VALUE
+            self.scalars.append(token)
+        elif kind is yaml.StreamStartToken:
+            style = self.ENCODINGS.get(token.encoding, 0)
+        elif kind is yaml.AliasToken or kind is yaml.AnchorToken:
+            first = self.put(token.value)
+        elif kind is yaml.TagToken:
+            first, second = map(self.put, token.value)
         elif kind is yaml.DirectiveToken:
-            words[0] = "TAG-DIRECTIVE"
-            words += map(escaped, token.value)
-        elif kind in self.FIELDS:
-            words += self.FIELDS[kind](token)
-        return " ".join(words) + "\n"
+            number = self.DIRECTIVES[token.name]
+            if token.name == "YAML":
+                version = [min(part, self.MOST) for part in token.value]
+            else:
+                first, second = map(self.put, token.value)
+        start = len(self.marks)
+        return Library.TOKEN.pack(number, style, *version, start, 0, 0, start + 1, 0, 0, *first, *second)
 
-    def mark_field(self, mark):
-        field = "%d:%d:%d" % (mark.index, mark.line, mark.column)
-        self.marks[field] = mark
-        return field
-
-    def last_read(self, mark):
-        """Returns the token at which a run faulted, of those that start at a mark: without it, a token is wanting."""
-        at_mark = [number for number, token in enumerate(self.all) if token.start_mark.index == mark.index]
-        for number in at_mark[:-1]:
-            lines = Library.get().event_lines(self.lines, number + 1)
-            if not any(line.startswith("FAULT") and line.endswith("too many tokens") for line in lines[-1:]):
-                return self.all[number]
-        return self.all[at_mark[-1]]
+    def put(self, text):
+        """Appends a text, and returns its range."""
+        start, added = len(self.texts), (text or "").encode()
+        self.texts += added
+        return start, len(added)
 
 
-def name_of(kind, names={}):
-    """Returns the name in the lines of a kind of token: `FlowSequenceStartToken` is `FLOW-SEQUENCE-START`."""
-    if kind not in names:
-        names[kind] = re.sub(r"\B([A-Z])", r"-\1", kind.__name__[:-len("Token")]).upper()
-    return names[kind]
+# ---- Records as events ----
 
+EventRecord = collections.namedtuple(
+    "EventRecord", "kind style implicit quoted_implicit has_version major minor start start_line start_column end end_line "
+    "end_column anchor anchor_length tag tag_length value value_length directives directives_length")
 
-# ---- Lines as events ----
 
 class Events:
     """The events of a run over tokens."""
@@ -204,96 +221,94 @@ class Events:
         "found duplicate %TAG directive": "duplicate tag handle %r",
         "found duplicate %YAML directive": "found duplicate YAML directive",
     }
-    OF_A_LINE = ("line too long", "bad token line")
+    FLOW = 2
 
     def __init__(self, tokens):
         self.tokens = tokens
+        self.scalars = iter(tokens.scalars)
+        self.run, self.records, directives, self.texts = Library.get().run(tokens.records, tokens.texts)
+        self.directives = list(Library.DIRECTIVE.iter_unpack(directives))
 
     def __iter__(self):
-        lines = Library.get().event_lines(self.tokens.lines)
-        for number, line in enumerate(lines):
-            name, start, end, *fields = line.split(" ")
-            if name == "FAULT":
-                raise self.fault(line, lines[number + 1:])
-            yield self.MAKERS[name](self, iter(fields), self.tokens.marks[start], self.tokens.marks[end])
+        marks = self.tokens.marks
+        for record in map(EventRecord._make, Library.EVENT.iter_unpack(self.records)):
+            yield self.MAKERS[record.kind](self, record, marks[record.start], marks[record.end])
+        if self.run.error:
+            raise self.fault()
 
-    def fault(self, line, context):
+    def text(self, place, length):
+        """Returns the text of a range, or None where there is none."""
+        return None if place == Library.ABSENT else self.texts[place:place + length].decode()
+
+    def fault(self):
         """Returns the error of a fault: the scanner's own, where the tokens ran out by it."""
-        _, _, field, problem = line.split(" ", 3)
-        if problem == "no more tokens" and self.tokens.failure:
+        run, marks, context_mark = self.run, self.tokens.marks, None
+        if run.error in (Library.READER, Library.SCANNER):
             return self.tokens.failure
-        if problem in self.OF_A_LINE:
-            return yaml.scanner.ScannerError(None, None, problem, self.tokens.all[int(field.split(":")[0])].start_mark)
-        mark, words, context_mark = self.tokens.marks[field], None, None
-        if context:
-            _, field, words = context[0].split(" ", 2)
-            context_mark = self.tokens.marks[field]
-        return yaml.parser.ParserError(words, context_mark, self.problem(problem, mark), mark)
+        context = self.text(*run.context)
+        if context is not None:
+            context_mark = marks[run.context_mark[0]]
+        number = run.problem_mark[0]
+        problem = self.problem(self.text(*run.problem), self.tokens.all[number // 2])
+        return yaml.parser.ParserError(context, context_mark, problem, marks[number])
 
-    def problem(self, problem, mark):
-        """Returns PyYAML's words for a problem that has a mark."""
+    def problem(self, problem, token):
+        """Returns PyYAML's words for a problem of a token."""
         words = self.PROBLEMS.get(problem, problem)
         if "handle %r" in words:
-            return words % self.tokens.last_read(mark).value[0]
+            return words % token.value[0]
         if "%r" in words:
-            return words % self.tokens.last_read(mark).id
-        if problem == "found incompatible YAML document" and self.tokens.last_read(mark).value[0] != 1:
+            return words % token.id
+        if problem == "found incompatible YAML document" and token.value[0] != 1:
             return problem + " (version 1.* is required)"
         return words
 
-    def stream_start(self, fields, start, end):
+    def stream_start(self, record, start, end):
         return yaml.StreamStartEvent(start, end, encoding=self.tokens.all[0].encoding)
 
-    def stream_end(self, fields, start, end):
+    def stream_end(self, record, start, end):
         return yaml.StreamEndEvent(start, end)
 
-    def document_start(self, fields, start, end):
-        explicit, version, count = next(fields) == "0", next(fields), int(next(fields))
-        version = None if version == "-" else tuple(map(int, version.split(".")))
-        tags = {text(fields): text(fields) for _ in range(count)} or None
-        return yaml.DocumentStartEvent(start, end, explicit=explicit, version=version, tags=tags)
+    def document_start(self, record, start, end):
+        version = (record.major, record.minor) if record.has_version else None
+        directives = self.directives[record.directives:][:record.directives_length]
+        tags = {self.text(*place[:2]): self.text(*place[2:]) for place in directives} or None
+        return yaml.DocumentStartEvent(start, end, explicit=not record.implicit, version=version, tags=tags)
 
-    def document_end(self, fields, start, end):
-        return yaml.DocumentEndEvent(start, end, explicit=next(fields) == "0")
+    def document_end(self, record, start, end):
+        return yaml.DocumentEndEvent(start, end, explicit=not record.implicit)
 
-    def alias(self, fields, start, end):
-        return yaml.AliasEvent(text(fields), start, end)
+    def alias(self, record, start, end):
+        return yaml.AliasEvent(self.text(record.anchor, record.anchor_length), start, end)
 
-    def scalar(self, fields, start, end):
-        anchor, tag, number = text(fields), text(fields), text(fields)
-        token = self.tokens.all[int(number)] if number else None
-        implicit = next(fields) == "1", next(fields) == "1"
+    def scalar(self, record, start, end):
+        anchor, tag = self.properties(record)
+        token = next(self.scalars) if record.value_length else None
+        implicit = record.implicit == 1, record.quoted_implicit == 1
         return yaml.ScalarEvent(anchor, tag, implicit, token.value if token else "", start, end,
                                 style=token.style if token else None)
 
-    def sequence_start(self, fields, start, end):
-        return self.collection_start(yaml.SequenceStartEvent, fields, start, end)
+    def sequence_start(self, record, start, end):
+        anchor, tag = self.properties(record)
+        return yaml.SequenceStartEvent(anchor, tag, record.implicit == 1, start, end,
+                                       flow_style=record.style == self.FLOW)
 
-    def mapping_start(self, fields, start, end):
-        return self.collection_start(yaml.MappingStartEvent, fields, start, end)
+    def mapping_start(self, record, start, end):
+        anchor, tag = self.properties(record)
+        return yaml.MappingStartEvent(anchor, tag, record.implicit == 1, start, end,
+                                      flow_style=record.style == self.FLOW)
 
-    @staticmethod
-    def collection_start(kind, fields, start, end):
-        anchor, tag, implicit = text(fields), text(fields), next(fields) == "1"
-        return kind(anchor, tag, implicit, start, end, flow_style=next(fields) == "flow")
+    def properties(self, record):
+        return self.text(record.anchor, record.anchor_length), self.text(record.tag, record.tag_length)
 
-    def sequence_end(self, fields, start, end):
+    def sequence_end(self, record, start, end):
         return yaml.SequenceEndEvent(start, end)
 
-    def mapping_end(self, fields, start, end):
+    def mapping_end(self, record, start, end):
         return yaml.MappingEndEvent(start, end)
 
-    MAKERS = {
-        "STREAM-START": stream_start, "STREAM-END": stream_end, "DOCUMENT-START": document_start,
-        "DOCUMENT-END": document_end, "ALIAS": alias, "SCALAR": scalar, "SEQUENCE-START": sequence_start,
-        "SEQUENCE-END": sequence_end, "MAPPING-START": mapping_start, "MAPPING-END": mapping_end,
-    }
-
-
-def text(fields):
-    """Returns the text of the next field, or None where there is none."""
-    field = next(fields)
-    return None if field == "-" else unquote(field[1:], errors="strict")
+    MAKERS = (None, stream_start, stream_end, document_start, document_end, alias, scalar, sequence_start, sequence_end,
+              mapping_start, mapping_end)
 
 
 # ---- Loaders ----
@@ -307,7 +322,7 @@ class ProvedParser:
 
     def check_event(self, *choices):
         """Returns whether there is a next event, of one of these kinds where some are named."""
-        event = self.peek_event()
+        event = self.current_event or self.peek_event()
         return event is not None and (not choices or isinstance(event, choices))
 
     def peek_event(self):

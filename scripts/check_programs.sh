@@ -4,9 +4,9 @@
 #     sh scripts/check_programs.sh [all] [ci]
 #
 # The programs are those that `rt ci` or `rt run` left in crates/NAME/out; the libraries for C are built here, in minutes where
-# nothing has been proved yet. With `all` the longest checks have all their cases; without it everything takes some ten
-# minutes on four cores. With `ci`, right after `rt ci` in a fresh checkout, the libraries are made of what it left
-# (build_c.sh).
+# nothing has been proved yet. With `all` the longest checks have all their cases, and each check of clients.sh is run too,
+# which says what it needs; without it everything takes some ten minutes on four cores. With `ci`, right after `rt ci` in a
+# fresh checkout, the libraries are made of what it left (build_c.sh).
 #
 # Every check is run. It is passed, failed, or skipped: where a tool, a library or a program isn't there, which is named; it
 # doesn't count as passed. A check that doesn't end within half an hour fails. The last line is `N passed, M failed`, and
@@ -65,6 +65,28 @@ check() {
     fi
 }
 
+# Runs the checks of clients.sh, which are passed, failed or skipped there.
+check_clients() {
+    if ! is_there "$libraries/libtoken_records.so"; then
+        echo "skipped: clients.sh, which lacks c/libtoken_records.so"
+        skipped=$((skipped + 1))
+        return
+    fi
+    begun=$(date +%s)
+    timeout 3600 sh scripts/clients.sh "$libraries" > "$work/said" 2>&1
+    grep -E '^(passed|failed|skipped): ' "$work/said"
+    if counts=$(tail -n 1 "$work/said" | grep -E '^[0-9]+ passed, [0-9]+ failed(, [0-9]+ skipped)?$'); then
+        case $counts in *", 0 failed"*) ;; *) tail -n 100 "$work/said" ;; esac
+        echo "clients.sh, $(($(date +%s) - begun)) s: $counts"
+        set -- $(echo "$counts" | tr -cd '0-9 ')
+        passed=$((passed + $1)) failed=$((failed + $2)) skipped=$((skipped + ${3:-0}))
+    else
+        failed=$((failed + 1))
+        tail -n 100 "$work/said"
+        echo "failed: clients.sh"
+    fi
+}
+
 yamltokens=crates/yamltokens/out/yamltokens
 libraries=$work/c
 yaml=$libraries/yaml
@@ -90,6 +112,9 @@ check fronts PyYAML $yamltokens "$yaml" -- python3 scripts/compare_fronts.py "$y
 check python PyYAML timeout truncate $yamltokens "$yaml" -- sh scripts/python_checks.sh $yamltokens "$libraries/libtoken_lines.so"
 check c cc c++ readelf valgrind yaml.h "$yaml" -- sh scripts/c_checks.sh "$libraries"
 check records cc c++ python3 readelf valgrind yaml.h "$libraries/libtoken_records.a" -- sh scripts/records_checks.sh "$libraries"
+if [ -n "$all" ]; then
+    check_clients
+fi
 
 echo "$passed passed, $failed failed$([ $skipped -eq 0 ] || echo ", $skipped skipped")"
 [ "$failed" -eq 0 ]

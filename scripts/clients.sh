@@ -3,7 +3,7 @@
 #
 #     sh scripts/clients.sh DIR [CHECK..]
 #
-# DIR has the library that build_c.sh made there. Each check compares the two; what differs is listed by name, with its
+# DIR has the libraries that build_c.sh made there. Each check compares the two; what differs is listed by name, with its
 # reason, in a file of scripts/clients/, and anything else fails, as does a name that is listed and doesn't differ. The
 # checks, of which all are run where none is named:
 #
@@ -18,14 +18,15 @@
 #
 # Sources are those of Debian's packages pyyaml (6.0.2 or later) and libyaml-pp-perl (which has the YAML test suite), by
 # `apt-get source`, which needs deb-src lines; or their .orig.tar files in the folder that CLIENT_SOURCES names. Crates are
-# those of Debian's packages librust-unsafe-libyaml-dev, librust-serde-yaml-dev, librust-serde-derive-dev, librust-anyhow-dev and librust-indoc-dev
-# (release 13 and later), or those in the folder that CLIENT_CRATES names. PYTHON and RUBY are Debian's, whose YAML part
+# those of Debian's packages librust-unsafe-libyaml-dev, librust-serde-yaml-dev, librust-serde-derive-dev, librust-anyhow-dev
+# and librust-indoc-dev (release 13 and later), or those in the folder that CLIENT_CRATES names. PYTHON and RUBY are Debian's, whose YAML part
 # links libyaml; SAMPLE is how many files of the machine psych reads, 2000 where it isn't set.
 #
 # A check that lacks something is skipped, which is said with what it lacks. The last line is `N passed, M failed`, and
 # `, K skipped` where some were; the exit status is 1 where one failed, 2 for wrong words.
 set -u
-[ $# -ge 1 ] && dir=$(realpath "$1") && [ -f "$dir/libtoken_lines.a" ] && [ -f "$dir/libtoken_lines.so" ] || {
+[ $# -ge 1 ] && dir=$(realpath "$1") && [ -f "$dir/libtoken_lines.a" ] && [ -f "$dir/libtoken_records.a" ] &&
+    [ -f "$dir/libtoken_records.so" ] || {
     echo "usage: sh scripts/clients.sh DIR [CHECK..], where build_c.sh made DIR" >&2
     exit 2
 }
@@ -41,7 +42,7 @@ crates=${CLIENT_CRATES:-/usr/share/cargo/registry}
 suite=$work/libyaml-pp-perl/test-suite/yaml-test-suite-data
 tests=$work/pyyaml/tests/legacy_tests
 preloaded=$work/libyaml_preload.so
-export PYTHONDONTWRITEBYTECODE=1 TOKEN_LINES_LIBRARY="$dir/libtoken_lines.so" TOKEN_LINES_LIB="$dir"
+export PYTHONDONTWRITEBYTECODE=1 TOKEN_RECORDS_LIBRARY="$dir/libtoken_records.so" TOKEN_LINES_LIB="$dir"
 export CARGO_HOME="$work/cargo" CARGO_TARGET_DIR="$work/target"
 export RUSTFLAGS="--cap-lints allow"  # the originals are older than some lints
 passed=0
@@ -110,7 +111,7 @@ as_listed() {
 
 build_preload() {
     cc -O2 -Wall -Wextra -Werror -shared -fPIC -fvisibility=hidden -Wl,--exclude-libs,ALL -o "$preloaded" \
-        examples/libyaml_preload.c "$dir/libtoken_lines.a" -lyaml
+        examples/libyaml_preload.c "$dir/libtoken_records.a" -lyaml
 }
 
 # libyaml's parser and loader over this parser, with each allocation refused in turn, and with parsers that are deleted at

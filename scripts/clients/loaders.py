@@ -34,6 +34,18 @@ def said(made):
     return made[1].split("\n")[-1 if len(made[1].split("\n")) < 2 else 0] if isinstance(made, tuple) else "read"
 
 
+# More events than tokens, and more bytes of tags than the text has.
+MADE = {"documents": b"---\n" * 500, "tags": b"%TAG !e! tag:" + b"x" * 2000 + b"\n---\n" + b"- &a !e!b c\n" * 100}
+
+
+def texts(folders):
+    """Gives the name and the text of each file in the folders, and of those that are made."""
+    yield from MADE.items()
+    for name, path in files(folders):
+        with open(path, "rb") as file:
+            yield name, file.read()
+
+
 def files(folders):
     for folder in folders:
         for path, names, files_there in os.walk(folder):
@@ -46,16 +58,14 @@ def files(folders):
 def main(words):
     turned = words[:1] == ["--turned"]
     count = 0
-    for name, path in files(words[turned:]):
-        with open(path, "rb") as file:
-            text = file.read()
+    for name, text in texts(words[turned:]):
         count += 1
         for read in (events, documents):
             plain = outcome(read, text, yaml.SafeLoader)
             proved = outcome(read, text + b"\n---\nturned: [" if turned else text, ProvedSafeLoader)
             if plain != proved:
                 print(name, read.__name__, said(plain), "|", said(proved), sep="\t")
-    print("%d files" % count, file=sys.stderr)
+    print("%d texts" % count, file=sys.stderr)
 
 
 main(sys.argv[1:])

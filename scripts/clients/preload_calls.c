@@ -1,6 +1,6 @@
 /* Calls of libyaml where examples/libyaml_preload.c is preloaded: each allocation refused in turn, parsers that are
- * deleted at each event, moved, used after a fault or after the end, and by several threads; documents. Says what was
- * wrong, and exits with 1 where anything was. */
+ * deleted at each event, moved, used after a fault or after the end, and by several threads; documents; more events and
+ * texts than there was room for at first. Says what was wrong, and exits with 1 where anything was. */
 #include <pthread.h>
 #include <stdio.h>
 #include <stdlib.h>
@@ -9,7 +9,19 @@
 
 static const char *const TEXT =
     "%TAG !e! tag:e,2000:\n--- !e!x\n- &a [b, {c: d}, 'e f']\n- ? *a\n  : |\n   g\n- \"\\0\\u00e9 %\"\n...\nbare\n";
-static const char *const BROKEN[] = {"[a, b", "a: b: c\n", "a: 'x", "a: \xFF\n", "--- a\n--- [b}\n"};
+static const struct {
+    const char *text;
+    yaml_error_type_t error;
+    const char *problem, *context;
+    size_t at;
+} BROKEN[] = {
+    {"[a, b", YAML_PARSER_ERROR, "did not find expected ',' or ']'", "while parsing a flow sequence", 5},
+    {"a: b: c\n", YAML_SCANNER_ERROR, "mapping values are not allowed in this context", NULL, 4},
+    {"a: 'x", YAML_SCANNER_ERROR, "found unexpected end of stream", "while scanning a quoted scalar", 5},
+    {"a: \xFF\n", YAML_READER_ERROR, "invalid leading UTF-8 octet", NULL, 0},
+    {"--- a\n--- [b}\n", YAML_PARSER_ERROR, "did not find expected ',' or ']'", "while parsing a flow sequence", 12},
+    {"- a\n- &b !<%ED%A0%80> c\n", YAML_SCANNER_ERROR, "text is not UTF-8", NULL, 9},
+};
 enum { EVENTS = 22, NODES = 11 };
 
 /* ---- The C library's allocator, of which one call may be refused ---- */
@@ -175,15 +187,39 @@ static void check_faults(void)
 
     for (size_t i = 0; i < sizeof BROKEN / sizeof *BROKEN; i++) {
         long before = live;
-        if (!begin(&parser, BROKEN[i]))
+        if (!begin(&parser, BROKEN[i].text))
             abort();
         parse(&parser, 1000, &sum);
         yaml_error_type_t error = parser.error;
-        expect(error != YAML_NO_ERROR && parser.problem != NULL && parser.problem[0] != '\0', "a fault", i);
+        expect(error == BROKEN[i].error && strcmp(parser.problem, BROKEN[i].problem) == 0, "a fault", i);
+        expect(parser.problem_mark.index == BROKEN[i].at, "where it is", parser.problem_mark.index);
+        expect(BROKEN[i].context ? parser.context && strcmp(parser.context, BROKEN[i].context) == 0 : !parser.context,
+               "its context", i);
         expect(yaml_parser_parse(&parser, &event) && event.type == YAML_NO_EVENT && parser.error == error, "after it", i);
         yaml_parser_delete(&parser);
         expect(live == before, "blocks are lost", i);
     }
+}
+
+/* Documents without content, of which each has three events for one token, and a long tag that each has. */
+static void check_room(void)
+{
+    enum { DOCUMENTS = 500, PREFIX = 2000, TAGS = 100 };
+    static char text[PREFIX + 4 * DOCUMENTS + 8 * TAGS + 100];
+    unsigned long sum;
+    yaml_error_type_t error;
+    char *at = text;
+
+    for (int i = 0; i < DOCUMENTS; i++)
+        at += sprintf(at, "---\n");
+    expect(parse_text(text, 10000, &sum, &error) == 2 + 3 * DOCUMENTS && error == YAML_NO_ERROR, "documents", DOCUMENTS);
+    at = text + sprintf(text, "%%TAG !e! tag:");
+    memset(at, 'x', PREFIX);
+    at += PREFIX;
+    at += sprintf(at, "\n---\n");
+    for (int i = 0; i < TAGS; i++)
+        at += sprintf(at, "- !e!a b\n");
+    expect(parse_text(text, 10000, &sum, &error) == 6 + TAGS && error == YAML_NO_ERROR, "tags", TAGS);
 }
 
 /* A parser that is moved before each call, as it may be where its input is no string. */
@@ -249,6 +285,7 @@ int main(void)
         return 1;
     check_deleted();
     check_faults();
+    check_room();
     check_moved();
     check_threads();
     long refused = check_refusals();

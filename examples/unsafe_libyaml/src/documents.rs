@@ -1,7 +1,8 @@
 //! Documents of document and node lines.
 
 use crate::fields::{number, split, Fields};
-use crate::run::{Fault, Run};
+use crate::lines::Lines;
+use crate::run::Fault;
 use original::*;
 
 /// An item, or a pair of a key and its value, of a node that is there: all nodes come before any of them.
@@ -11,7 +12,7 @@ enum Child {
 }
 
 /// Writes the next document.
-pub unsafe fn next(run: &mut Run, document: *mut yaml_document_t) -> Result<(), Fault> {
+pub unsafe fn next(run: &mut Lines, document: *mut yaml_document_t) -> Result<(), Fault> {
     begin(run.next_line()?.0, document)?;
     let mut children = Vec::new();
     while run.peek().first().map_or(false, u8::is_ascii_digit) {

@@ -1,19 +1,10 @@
 //! The fields of the lines that the library writes. It writes no others, so a field that isn't there reads as an empty one.
 
+use crate::texts::{Directives, Text};
 use original::*;
-use std::ptr;
 
 /// The fields of a line, from the left.
 pub struct Fields<'a>(pub &'a [u8]);
-
-/// A text with a zero byte at its end, or none.
-pub struct Text(Option<Vec<u8>>);
-
-impl Text {
-    pub fn as_ptr(&self) -> *const u8 {
-        self.0.as_ref().map_or(ptr::null(), |text| text.as_ptr())
-    }
-}
 
 /// Returns the number that these digits are.
 pub fn number(digits: &[u8]) -> u64 {
@@ -29,10 +20,10 @@ pub fn split(text: &[u8], at: u8) -> (&[u8], &[u8]) {
     }
 }
 
-/// Returns a text with its `%` and two digits undone, and a zero byte after it.
+/// Returns a text with its `%` and two digits undone.
 fn unescaped(mut text: &[u8]) -> Vec<u8> {
     let digit = |digit: u8| (digit as char).to_digit(16).unwrap_or(0) as u8;
-    let mut bytes = Vec::with_capacity(text.len() + 1);
+    let mut bytes = Vec::with_capacity(text.len());
     while let [byte, rest @ ..] = text {
         text = match (byte, rest) {
             (b'%', [high, low, rest @ ..]) => {
@@ -45,7 +36,6 @@ fn unescaped(mut text: &[u8]) -> Vec<u8> {
             }
         };
     }
-    bytes.push(0);
     bytes
 }
 
@@ -74,7 +64,7 @@ impl<'a> Fields<'a> {
     }
 
     pub fn text(&mut self) -> Text {
-        Text(self.word().strip_prefix(b"=").map(unescaped))
+        Text::new(self.word().strip_prefix(b"=").map(unescaped).as_deref())
     }
 
     /// Returns the value of a scalar, of those that the scanner gave; an empty field is that of a scalar it didn't give.
@@ -82,15 +72,6 @@ impl<'a> Fields<'a> {
         let (start, length) = split(self.word().get(1..).unwrap_or(&[]), b'+');
         let start = number(start) as usize;
         &values[start..start + number(length) as usize]
-    }
-
-    pub fn encoding(&mut self) -> yaml_encoding_t {
-        match self.word() {
-            b"utf8" => YAML_UTF8_ENCODING,
-            b"utf16le" => YAML_UTF16LE_ENCODING,
-            b"utf16be" => YAML_UTF16BE_ENCODING,
-            _ => YAML_ANY_ENCODING,
-        }
     }
 
     pub fn scalar_style(&mut self) -> yaml_scalar_style_t {
@@ -128,37 +109,5 @@ impl<'a> Fields<'a> {
             version: (version != b"-").then(|| (number(major) as i32, number(minor) as i32)),
             tags: (0..count).map(|_| (self.text(), self.text())).collect(),
         }
-    }
-}
-
-/// The directives of a document.
-pub struct Directives {
-    version: Option<(i32, i32)>,
-    tags: Vec<(Text, Text)>,
-}
-
-impl Directives {
-    /// Calls with the directives as libyaml's constructors take them: the version, and the start and end of the tags.
-    pub unsafe fn with<R>(
-        &self,
-        call: impl FnOnce(*mut yaml_version_directive_t, *mut yaml_tag_directive_t, *mut yaml_tag_directive_t) -> R,
-    ) -> R {
-        let mut version: yaml_version_directive_t = std::mem::zeroed();
-        if let Some((major, minor)) = self.version {
-            (version.major, version.minor) = (major, minor);
-        }
-        let version = self.version.map_or(ptr::null_mut(), |_| &mut version as *mut _);
-        let tag = |(handle, prefix): &(Text, Text)| {
-            let mut tag: yaml_tag_directive_t = std::mem::zeroed();
-            tag.handle = handle.as_ptr().cast_mut();
-            tag.prefix = prefix.as_ptr().cast_mut();
-            tag
-        };
-        let mut tags: Vec<_> = self.tags.iter().map(tag).collect();
-        if tags.is_empty() {
-            return call(version, ptr::null_mut(), ptr::null_mut());
-        }
-        let range = tags.as_mut_ptr_range();
-        call(version, range.start, range.end)
     }
 }

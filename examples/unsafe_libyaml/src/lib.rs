@@ -13,7 +13,8 @@
 //! ln -s ~/.cargo/registry/src/*/unsafe-libyaml-0.2.11 PATH/examples/unsafe_libyaml/original
 //! ```
 //!
-//! The environment's `TOKEN_LINES_LIB` names the folder of `libtoken_lines.a`, which scripts/build_c.sh makes.
+//! The environment's `TOKEN_LINES_LIB` names the folder of `libtoken_records.a` and `libtoken_lines.a`, which
+//! scripts/build_c.sh makes. Events come by the records of the first, documents by the lines of the second.
 //!
 //! [`yaml_parser_parse`], [`yaml_parser_load`] and [`yaml_parser_delete`] are replaced. What a parser needs here is kept by
 //! the `yaml_parser_t` itself, in `problem_offset` while there is no error: so it may be moved and deleted as before, at
@@ -21,11 +22,11 @@
 //!
 //! What is other than in the original, beside docs/DIFFERENCES.md:
 //!
-//! - The first call reads the stream to its end: memory is that of all tokens.
+//! - The first call reads the stream to its end: memory is that of all tokens, and of all events or nodes.
 //! - A failed allocation of the library is the fault `YAML_MEMORY_ERROR`; one of Rust's ends the process, as there.
-//! - A tag, an anchor, an alias or a tag directive that makes a line of more than 1,048,576 bytes, or that isn't UTF-8, is
-//!   the scanner's fault `line too long` or `bad token line`, with the mark of its token. A scalar's value has 2147483647
-//!   bytes at most, or else the scanner's fault `scalar too long` comes.
+//! - A tag, an anchor, an alias or a tag directive that isn't UTF-8 is the scanner's fault `text is not UTF-8`, with the
+//!   mark of its token. A load says `bad token line` of it, and `line too long` where it makes a line of more than 1,048,576
+//!   bytes; and of a value of more than 2147483647 bytes, `scalar too long`.
 //! - A parser parses or loads. The other call is the parser's fault `parse and load by one parser`.
 //! - A load after a fault fails again with that fault.
 
@@ -34,10 +35,12 @@
 mod documents;
 mod events;
 mod fields;
+mod lines;
+mod records;
 mod run;
+mod texts;
 mod tokens;
 
-use run::{Mode, Run};
 use std::ops::Deref;
 use std::ptr;
 
@@ -72,8 +75,8 @@ pub unsafe fn yaml_parser_parse(parser: *mut yaml_parser_t, event: *mut yaml_eve
     if run::prefix(parser).error != YAML_NO_ERROR {
         return Success { ok: true };
     }
-    let given = Run::of(parser, Mode::Events).and_then(|run| match run {
-        Some(run) => events::next(run, event),
+    let given = run::events(parser).and_then(|events| match events {
+        Some(events) => events.next(event),
         None => Ok(true),
     });
     Success {
@@ -88,8 +91,8 @@ pub unsafe fn yaml_parser_load(parser: *mut yaml_parser_t, document: *mut yaml_d
     if run::prefix(parser).error != YAML_NO_ERROR {
         return Success { ok: false };
     }
-    let given = Run::of(parser, Mode::Nodes).and_then(|run| match run.filter(|run| !run.is_over()) {
-        Some(run) => documents::next(run, document).map(|()| false),
+    let given = run::nodes(parser).and_then(|lines| match lines.filter(|lines| !lines.is_over()) {
+        Some(lines) => documents::next(lines, document).map(|()| false),
         None => match yaml_document_initialize(document, none, no_tags, no_tags, false, false).ok {
             true => Ok(true),
             false => Err(run::Fault::memory()),

@@ -1,7 +1,7 @@
-//! A run of the library over all tokens of a parser's stream, and what stops it.
+//! What a parser keeps over its calls, and its faults.
 
-use crate::fields::{split, Fields};
-use crate::tokens::Tokens;
+use crate::events::Events;
+use crate::lines::Lines;
 use original::*;
 use std::ffi::{c_char, CStr, CString};
 use std::mem::MaybeUninit;
@@ -10,46 +10,11 @@ use std::ptr;
 use std::sync::{Mutex, PoisonError};
 
 type Prefix = <yaml_parser_t as Deref>::Target;
-type RunLines = unsafe extern "C" fn(*const u8, usize, *mut u8, usize, u64, *mut usize, *mut usize) -> u32;
 
-const NO_MEMORY: u32 = 2;
-
-extern "C" {
-    fn token_lines_run_events(
-        tokens: *const u8,
-        tokens_length: usize,
-        out: *mut u8,
-        out_length: usize,
-        max_tokens: u64,
-        written: *mut usize,
-        wanted: *mut usize,
-    ) -> u32;
-    fn token_lines_run_nodes(
-        tokens: *const u8,
-        tokens_length: usize,
-        out: *mut u8,
-        out_length: usize,
-        max_tokens: u64,
-        written: *mut usize,
-        wanted: *mut usize,
-    ) -> u32;
-}
-
-/// What a run makes of the tokens.
-#[derive(Clone, Copy, PartialEq)]
-pub enum Mode {
-    Events,
-    Nodes,
-}
-
-/// The lines that a run made, and where the next begins.
-pub struct Run {
-    mode: Mode,
-    lines: Vec<u8>,
-    at: usize,
-    pub values: Vec<u8>,
-    tokens: Vec<u8>,
-    scanners: Option<Fault>,
+/// What is made of a parser's tokens.
+enum Run {
+    Events(Events),
+    Nodes(Lines),
 }
 
 /// What a parser tells of a fault.
@@ -64,8 +29,10 @@ pub struct Fault {
     context_mark: yaml_mark_t,
 }
 
+/// Returns the mark of the first character.
 fn no_mark() -> yaml_mark_t {
-    Fields(b"").mark()
+    // SAFETY: a mark is three numbers.
+    unsafe { std::mem::zeroed() }
 }
 
 impl Fault {
@@ -81,13 +48,18 @@ impl Fault {
         }
     }
 
-    fn new(error: yaml_error_type_t, problem: &[u8], problem_mark: yaml_mark_t) -> Fault {
+    pub fn new(error: yaml_error_type_t, problem: &[u8], problem_mark: yaml_mark_t) -> Fault {
         Fault {
             error,
             problem: kept(problem),
             problem_mark,
             ..Fault::memory()
         }
+    }
+
+    pub fn set_context(&mut self, context: &[u8], mark: yaml_mark_t) {
+        self.context = kept(context);
+        self.context_mark = mark;
     }
 
     /// Takes the fault of a parser, which then has none.
@@ -165,158 +137,71 @@ pub unsafe fn settle(parser: *mut yaml_parser_t, given: Result<bool, Fault>) -> 
     }
 }
 
-/// Scans to the end of the stream; the fault is that of the scanner, or none.
-unsafe fn scan(parser: *mut yaml_parser_t, tokens: &mut Tokens) -> Option<Fault> {
+/// Scans to the end of the stream, and hands each token out before it is deleted; the fault is that of the scanner or of
+/// `put`, or none.
+pub unsafe fn scan(
+    parser: *mut yaml_parser_t,
+    mut put: impl FnMut(&mut yaml_token_t) -> Result<(), Fault>,
+) -> Option<Fault> {
     loop {
         let mut token = MaybeUninit::<yaml_token_t>::uninit();
         let token = token.as_mut_ptr();
         if !yaml_parser_scan(parser, token).ok {
             return Fault::take(parser);
         }
-        let (kind, start) = ((*token).type_, (*token).start_mark);
-        let too_long = kind == YAML_SCALAR_TOKEN && (*token).data.scalar.length > i32::MAX as u64;
-        if kind != YAML_NO_TOKEN && !too_long {
-            tokens.put_token(&*token);
-        }
+        let kind = (*token).type_;
+        let refused = if kind == YAML_NO_TOKEN {
+            None
+        } else {
+            put(&mut *token).err()
+        };
         yaml_token_delete(token);
-        if too_long {
-            return Some(Fault::new(YAML_SCANNER_ERROR, b"scalar too long", start));
-        }
-        if kind == YAML_NO_TOKEN || kind == YAML_STREAM_END_TOKEN {
-            return None;
+        if kind == YAML_NO_TOKEN || kind == YAML_STREAM_END_TOKEN || refused.is_some() {
+            return refused;
         }
     }
 }
 
-/// Returns the lines of a run, with as much room as the run before wanted.
-fn run_lines(mode: Mode, tokens: &[u8]) -> Result<Vec<u8>, Fault> {
-    let run: RunLines = match mode {
-        Mode::Events => token_lines_run_events,
-        Mode::Nodes => token_lines_run_nodes,
-    };
-    let mut lines = Vec::new();
-    let (mut written, mut wanted) = (0, 4096 + tokens.len());
-    loop {
-        lines.clear();
-        lines.try_reserve_exact(wanted).map_err(|_| Fault::memory())?;
-        let room = lines.capacity();
-        // SAFETY: the pointers are to as many bytes as are said, and to two numbers; the lines have what was written.
-        let outcome = unsafe {
-            let out: *mut u8 = lines.as_mut_ptr();
-            let outcome = run(
-                tokens.as_ptr(),
-                tokens.len(),
-                out,
-                room,
-                u64::MAX,
-                &mut written,
-                &mut wanted,
-            );
-            lines.set_len(written);
-            outcome
-        };
-        if outcome == NO_MEMORY {
-            return Err(Fault::memory());
-        }
-        if written == wanted {
-            return Ok(lines);
-        }
-    }
-}
-
-impl Run {
-    /// Returns the run of a parser, which the first call makes; none where its stream has been read to its end.
-    pub unsafe fn of<'a>(parser: *mut yaml_parser_t, mode: Mode) -> Result<Option<&'a mut Run>, Fault> {
-        if kept_run(parser).is_null() {
-            let Some(run) = Run::begin(parser, mode)? else {
-                return Ok(None);
-            };
-            prefix(parser).problem_offset = Box::into_raw(Box::new(run)) as usize as u64;
-        }
-        let run = &mut *kept_run(parser);
-        if run.mode == mode {
-            return Ok(Some(run));
-        }
-        Err(Fault::new(
-            YAML_PARSER_ERROR,
-            b"parse and load by one parser",
-            no_mark(),
-        ))
-    }
-
-    unsafe fn begin(parser: *mut yaml_parser_t, mode: Mode) -> Result<Option<Run>, Fault> {
-        let mut tokens = Tokens::default();
-        let scanners = scan(parser, &mut tokens);
-        if tokens.lines.is_empty() && scanners.is_none() {
+/// Returns the run of a parser, which the first call makes; none where its stream has been read to its end.
+unsafe fn run<'a>(
+    parser: *mut yaml_parser_t,
+    begin: unsafe fn(*mut yaml_parser_t) -> Result<Option<Run>, Fault>,
+) -> Result<Option<&'a mut Run>, Fault> {
+    if kept_run(parser).is_null() {
+        let Some(run) = begin(parser)? else {
             return Ok(None);
-        }
-        let lines = run_lines(mode, &tokens.lines)?;
-        Ok(Some(Run {
-            mode,
-            lines,
-            at: 0,
-            values: tokens.values,
-            tokens: tokens.lines,
-            scanners,
-        }))
-    }
-
-    pub fn is_over(&self) -> bool {
-        self.at == self.lines.len()
-    }
-
-    /// Returns the next line without taking it, or an empty one after the last.
-    pub fn peek(&self) -> &[u8] {
-        split(&self.lines[self.at..], b'\n').0
-    }
-
-    /// Returns the next line, and the values of the scalars.
-    ///
-    /// # Errors
-    ///
-    /// The fault that the line is.
-    pub fn next_line(&mut self) -> Result<(&[u8], &[u8]), Fault> {
-        if let Some(fault) = self.peek().strip_prefix(b"FAULT ") {
-            return Err(self.fault(Fields(fault)));
-        }
-        let begin = self.at;
-        let length = self.peek().len();
-        self.at = (begin + length + 1).min(self.lines.len());
-        Ok((&self.lines[begin..begin + length], &self.values))
-    }
-
-    /// Returns the fault that a run ends with: the scanner's own, where the tokens ran out by it.
-    fn fault(&self, mut fields: Fields<'_>) -> Fault {
-        let error = match fields.word() {
-            b"memory" => YAML_MEMORY_ERROR,
-            b"reader" => YAML_READER_ERROR,
-            b"scanner" => YAML_SCANNER_ERROR,
-            b"composer" => YAML_COMPOSER_ERROR,
-            _ => YAML_PARSER_ERROR,
         };
-        let mark = fields.mark();
-        match (fields.0, &self.scanners) {
-            (b"no more tokens", Some(scanners)) => return scanners.clone(),
-            (problem @ (b"line too long" | b"bad token line"), _) => {
-                return Fault::new(YAML_SCANNER_ERROR, problem, self.start_of_token(mark.index));
-            }
-            _ => {}
-        }
-        let mut fault = Fault::new(error, fields.0, mark);
-        let after = split(&self.lines[self.at..], b'\n').1;
-        if let Some(context) = split(after, b'\n').0.strip_prefix(b"CONTEXT ") {
-            let mut fields = Fields(context);
-            fault.context_mark = fields.mark();
-            fault.context = kept(fields.0);
-        }
-        fault
+        prefix(parser).problem_offset = Box::into_raw(Box::new(run)) as usize as u64;
     }
+    Ok(Some(&mut *kept_run(parser)))
+}
 
-    /// Returns where the token begins before which so many were given.
-    fn start_of_token(&self, given: u64) -> yaml_mark_t {
-        let lines = self.tokens.split(|byte| *byte == b'\n');
-        let mut fields = Fields(lines.skip(1).nth((given as usize).wrapping_sub(1)).unwrap_or(b""));
-        fields.word();
-        fields.mark()
+fn other_run() -> Fault {
+    Fault::new(YAML_PARSER_ERROR, b"parse and load by one parser", no_mark())
+}
+
+/// Returns the events of a parser, or none after the last.
+///
+/// # Errors
+///
+/// Where memory is refused, or documents were loaded.
+pub unsafe fn events<'a>(parser: *mut yaml_parser_t) -> Result<Option<&'a mut Events>, Fault> {
+    match run(parser, |parser| Ok(Events::begin(parser)?.map(Run::Events)))? {
+        Some(Run::Events(events)) => Ok(Some(events)),
+        Some(Run::Nodes(_)) => Err(other_run()),
+        None => Ok(None),
+    }
+}
+
+/// Returns the lines of a parser's documents and nodes, or none after the last.
+///
+/// # Errors
+///
+/// Where memory is refused, or events were parsed.
+pub unsafe fn nodes<'a>(parser: *mut yaml_parser_t) -> Result<Option<&'a mut Lines>, Fault> {
+    match run(parser, |parser| Ok(Lines::begin(parser)?.map(Run::Nodes)))? {
+        Some(Run::Nodes(lines)) => Ok(Some(lines)),
+        Some(Run::Events(_)) => Err(other_run()),
+        None => Ok(None),
     }
 }

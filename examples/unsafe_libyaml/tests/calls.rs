@@ -289,11 +289,31 @@ fn a_parser_parses_or_loads() {
 }
 
 #[test]
-fn a_line_that_is_too_long_is_a_fault_with_its_mark() {
-    let text = [b"- a\n- !<", "t".repeat(1 << 20).as_bytes(), b"> b\n"].concat();
-    let (told, fault) = here::events(&text);
-    assert_eq!(told.len(), 4);
+fn long_texts_are_as_there() {
+    let tag = [b"- a\n- !<", "t".repeat(1 << 20).as_bytes(), b"> b\n"].concat();
+    assert_eq!(here::events(&tag), there::events(&tag));
+    let fault = here::documents(&tag).1;
     assert!(fault.starts_with("3 line too long 6:1:2 "), "{fault}");
-    let long = "v".repeat(3 << 20);
-    assert_eq!(here::events(long.as_bytes()), there::events(long.as_bytes()));
+    let value = "v".repeat(3 << 20);
+    assert_eq!(here::events(value.as_bytes()), there::events(value.as_bytes()));
+    assert_eq!(here::documents(value.as_bytes()), there::documents(value.as_bytes()));
+}
+
+#[test]
+fn more_events_than_tokens_are_as_there() {
+    let documents = b"---\n".repeat(500);
+    assert_eq!(here::events(&documents), there::events(&documents));
+    let prefix = "x".repeat(2000);
+    let tags = ["%TAG !e! tag:", &prefix, "\n---\n", &"- &a !e!b c\n".repeat(100)].concat();
+    assert_eq!(here::events(tags.as_bytes()), there::events(tags.as_bytes()));
+}
+
+#[test]
+fn a_tag_that_is_not_utf_8_is_a_fault_with_its_mark() {
+    let text = b"- a\n- &b !<%ED%A0%80> c\n";
+    let (told, fault) = here::events(text);
+    assert_eq!(told.len(), 4);
+    assert!(fault.starts_with("3 text is not UTF-8 9:1:5 "), "{fault}");
+    let fault = here::documents(text).1;
+    assert!(fault.starts_with("3 bad token line 9:1:5 "), "{fault}");
 }

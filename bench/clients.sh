@@ -1,0 +1,78 @@
+#!/bin/sh
+# Times programs that stand on unsafe-libyaml, libyaml and PyYAML over this parser beside the same without it:
+#
+#     sh bench/clients.sh DIR [TURNS]
+#
+# DIR has the libraries that build_c.sh made there. Each line has the median of the ratios of TURNS turns (21), in which the
+# two run one after another: let nothing else run. The text has 350 KB: examples/compose.yaml as many documents. psych reads
+# the YAML files of this machine, SAMPLE at most (2000), and each once before.
+#
+# Needs a C compiler, cargo, Debian's libyaml-dev, ruby and python3-yaml, and the crate unsafe-libyaml 0.2.11 in the folder
+# that CLIENT_CRATES names, /usr/share/cargo/registry where it isn't set. PYTHON and RUBY are Debian's.
+set -eu
+[ $# -ge 1 ] || { echo "usage: sh bench/clients.sh DIR [TURNS]" >&2; exit 2; }
+dir=$(realpath "$1")
+turns=${2:-21}
+cd "$(dirname "$0")/.."
+work=$(mktemp -d)
+trap 'rm -rf "$work"' EXIT
+python=${PYTHON:-/usr/bin/python3}
+ruby=${RUBY:-ruby}
+crates=$(realpath "${CLIENT_CRATES:-/usr/share/cargo/registry}")
+export PYTHONDONTWRITEBYTECODE=1 TOKEN_RECORDS_LIBRARY="$dir/libtoken_records.so" TOKEN_LINES_LIB="$dir"
+export CARGO_TARGET_DIR="$work/target" CARGO_HOME="$work/cargo" RUSTFLAGS="--cap-lints allow"
+
+while [ "$(cat "$work/text.yaml" 2> /dev/null | wc -c)" -lt 350000 ]; do
+    { echo ---; cat examples/compose.yaml; } >> "$work/text.yaml"
+done
+
+# The runner of unsafe-libyaml's tests over the YAML test suite, which prints all events.
+mkdir -p "$CARGO_HOME"
+printf '[source.crates-io]\nreplace-with = "debian"\n[source.debian]\ndirectory = "%s"\n[net]\noffline = true\n' "$crates" \
+    > "$CARGO_HOME/config.toml"
+cp -R examples/unsafe_libyaml "$work/unsafe_libyaml"
+rm -rf "$work/unsafe_libyaml/original"
+ln -s "$crates/unsafe-libyaml-0.2.11" "$work/unsafe_libyaml/original"
+for how in plain proved; do
+    mkdir -p "$work/$how"
+    cp -R "$crates/unsafe-libyaml-0.2.11/src/bin" "$work/$how/src"
+    {
+        printf '[package]\nname = "runner_%s"\nversion = "0.0.0"\nedition = "2021"\n[[bin]]\nname = "runner_%s"\n' $how $how
+        printf 'path = "src/run-parser-test-suite.rs"\n[workspace]\n[dependencies]\nunsafe-libyaml = "0.2"\n'
+        [ $how = plain ] || printf '[patch.crates-io]\nunsafe-libyaml = { path = "%s" }\n' "$work/unsafe_libyaml"
+    } > "$work/$how/Cargo.toml"
+    (cd "$work/$how" && cargo build -q --release)
+    "$CARGO_TARGET_DIR/release/runner_$how" "$work/text.yaml" > "$work/$how.events"
+done
+cmp "$work/plain.events" "$work/proved.events"
+runner=$CARGO_TARGET_DIR/release/runner
+"$python" bench/paired.py "$turns" "unsafe-libyaml's runner" "${runner}_proved $work/text.yaml" "${runner}_plain $work/text.yaml"
+
+cc -O2 -shared -fPIC -fvisibility=hidden -Wl,--exclude-libs,ALL -o "$work/libyaml_preload.so" examples/libyaml_preload.c \
+    "$dir/libtoken_records.a" -lyaml
+find / -xdev \( -path /proc -o -path /tmp -o -path /sys \) -prune -o -type f \( -name '*.yaml' -o -name '*.yml' \) \
+    -size -1000k -print 2> /dev/null | sort | head -n "${SAMPLE:-2000}" > "$work/files"
+cat > "$work/psych.rb" << 'RUBY'
+require "psych"
+File.foreach(ARGV[0], chomp: true) do |name|
+  Psych.parse_stream(File.binread(name))
+rescue Psych::SyntaxError
+end
+RUBY
+psych="$ruby $work/psych.rb"
+"$python" bench/paired.py "$turns" "psych, $(wc -l < "$work/files") files" \
+    "LD_PRELOAD=$work/libyaml_preload.so $psych $work/files" "$psych $work/files"
+yes "$work/text.yaml" | head -n 20 > "$work/text_again" || true
+"$python" bench/paired.py "$turns" "psych, the text 20 times" \
+    "LD_PRELOAD=$work/libyaml_preload.so $psych $work/text_again" "$psych $work/text_again"
+
+cat > "$work/load.py" << 'PYTHON'
+import sys
+from proved_yaml import ProvedSafeLoader, yaml
+with open(sys.argv[2]) as text:
+    count = sum(1 for _ in yaml.load_all(text, Loader=ProvedSafeLoader if sys.argv[1] == "proved" else yaml.SafeLoader))
+assert count > 600
+PYTHON
+cp examples/proved_yaml.py "$work"
+"$python" bench/paired.py "$(((turns + 2) / 3))" "PyYAML's loader in Python" "$python $work/load.py proved $work/text.yaml" \
+    "$python $work/load.py plain $work/text.yaml"
