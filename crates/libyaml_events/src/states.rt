@@ -23,6 +23,7 @@ ghost use Rattle.libyaml_events.specs.machine.Want.{Given};
 ghost use Rattle.libyaml_events.specs.machine.Growth.{enters, may_grow, may_grow_at};
 
 mod block;
+mod contents;
 mod documents;
 mod flow;
 mod nodes;
@@ -32,7 +33,7 @@ use crate::node_place::NodePlace;
 use crate::parser::Machine;
 use crate::pending::Pending;
 use crate::slot::Slot;
-use crate::states::nodes::plain_scalar;
+use crate::states::contents::{put_empty_scalar, put_mapping_end, put_sequence_end};
 use libyaml_types::{
     unnamed_yaml_event_t_data, yaml_error_type_t, yaml_event_t, yaml_mark_t, yaml_parser_state_t,
     yaml_token_t,
@@ -275,8 +276,9 @@ impl<S> Machine<S> {
             self.new }
     {
         self.keep(token);
-        let text = String::new(self.allocator());
-        give(out, plain_scalar(None, None, text, true), mark, mark);
+        out.start_mark = mark;
+        out.end_mark = mark;
+        put_empty_scalar(self.allocator(), &mut out.content);
     }
 
     /// At the token that starts a collection: its start is kept, and `state` says what comes in it.
@@ -315,8 +317,9 @@ impl<S> Machine<S> {
             self.new }
     {
         self.leave_collection();
-        let content = unnamed_yaml_event_t_data::SequenceEnd;
-        give(out, content, token.start_mark, token.end_mark);
+        out.start_mark = token.start_mark;
+        out.end_mark = token.end_mark;
+        put_sequence_end(&mut out.content);
     }
 
     /// Gives the end event of a mapping, at the token that closes it.
@@ -326,7 +329,8 @@ impl<S> Machine<S> {
             self.new }
     {
         self.leave_collection();
-        let content = unnamed_yaml_event_t_data::MappingEnd;
-        give(out, content, token.start_mark, token.end_mark);
+        out.start_mark = token.start_mark;
+        out.end_mark = token.end_mark;
+        put_mapping_end(&mut out.content);
     }
 }

@@ -40,6 +40,7 @@ use crate::node_head::{NodeHead, PropertiesRead, TagRead};
 use crate::node_place::NodePlace;
 use crate::parser::Machine;
 use crate::pending::Pending;
+use crate::states::contents::{put_bare_scalar, put_mapping_start, put_sequence_start};
 use crate::states::give;
 use crate::texts::is_text;
 use libyaml_types::{
@@ -60,7 +61,7 @@ enum CollectionStyle {
     Mapping(yaml_mapping_style_t),
 }
 
-fn is_plain(style: yaml_scalar_style_t) -> bool
+pub(super) fn is_plain(style: yaml_scalar_style_t) -> bool
     ensures { result ≡ is_plain style }
 {
     match style {
@@ -123,7 +124,7 @@ pub(super) fn plain_scalar(
     })
 }
 
-fn sequence_start(
+pub(super) fn sequence_start(
     anchor: Option<String>,
     tag: Option<String>,
     style: yaml_sequence_style_t,
@@ -230,31 +231,9 @@ impl<S> Machine<S> {
             self.old.config content.old end_mark.now) self.old (Ok (Given out.new)) self.new }
     {
         self.pop_state();
-        let plain_implicit = is_plain(content.style);
         out.start_mark = *start_mark;
         out.end_mark = *end_mark;
-        if let unnamed_yaml_event_t_data::Scalar(event) = &mut out.content {
-            mem::swap(&mut event.value, &mut content.value);
-            event.plain_implicit = plain_implicit;
-            event.quoted_implicit = !plain_implicit;
-            event.style = content.style;
-            if event.anchor.is_some() {
-                event.anchor = None;
-            }
-            if event.tag.is_some() {
-                event.tag = None;
-            }
-            return;
-        }
-        let event = unnamed_yaml_event_t_data_scalar {
-            anchor: None,
-            tag: None,
-            value: mem::replace(&mut content.value, String::new(self.allocator())),
-            plain_implicit,
-            quoted_implicit: !plain_implicit,
-            style: content.style,
-        };
-        out.content = unnamed_yaml_event_t_data::Scalar(event);
+        put_bare_scalar(self.allocator(), content, &mut out.content);
     }
 
     /// An alias, which is the whole node.
@@ -412,10 +391,10 @@ impl<S> Machine<S> {
         out.start_mark = token.start_mark;
         out.end_mark = token.end_mark;
         self.keep_opening(kept, token);
-        out.content = match style {
-            CollectionStyle::Sequence(style) => sequence_start(None, None, style),
-            CollectionStyle::Mapping(style) => mapping_start(None, None, style),
-        };
+        match style {
+            CollectionStyle::Sequence(style) => put_sequence_start(style, &mut out.content),
+            CollectionStyle::Mapping(style) => put_mapping_start(style, &mut out.content),
+        }
     }
 
     /// After properties: the other one, or what the node is.

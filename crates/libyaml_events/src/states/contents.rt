@@ -1,0 +1,192 @@
+//! The content of an event, put where another event's content stands.
+//!
+//! Where that is of the same kind, it is written over field by field. Else it is dropped, which functions of their own
+//! do: to drop a content takes six registers, which the function then needn't save.
+ghost use Rattle.std.specs.Prelude.{◌≡◌, None, false, true};
+ghost use Rattle.libyaml_types.specs.declared.event.unnamed_yaml_event_t_data.TheVariants.{MappingEnd};
+ghost use Rattle.libyaml_types.specs.declared.event.unnamed_yaml_event_t_data.TheVariants.{SequenceEnd};
+ghost use Rattle.libyaml_grammar.specs.sentences.Events.{plain_flag, quoted_flag};
+ghost use Rattle.libyaml_events.specs.machine.Machine.{empty_scalar, mapping_start, scalar};
+ghost use Rattle.libyaml_events.specs.machine.Machine.{sequence_start};
+
+use crate::states::nodes::{is_plain, mapping_start, plain_scalar, sequence_start};
+use libyaml_types::{
+    unnamed_yaml_event_t_data, unnamed_yaml_event_t_data_scalar, unnamed_yaml_token_t_data_scalar,
+    yaml_mapping_style_t, yaml_scalar_style_t, yaml_sequence_style_t,
+};
+use std::alloc::Global;
+use std::mem;
+
+/// Drops the properties of a node.
+#[inline(never)]
+fn drop_properties(anchor: &mut Option<String>, tag: &mut Option<String>)
+    ensures anchor { anchor.new ≡ None }
+    ensures tag { tag.new ≡ None }
+{
+    *anchor = None;
+    *tag = None;
+}
+
+/// Puts a scalar without properties into `content`. Its text is moved out of its token.
+#[inline(always)]
+pub(super) fn put_bare_scalar(
+    alloc: Global,
+    token: &mut unnamed_yaml_token_t_data_scalar,
+    content: &mut unnamed_yaml_event_t_data,
+)
+    ensures { content.new ≡ scalar None None token.old.value (plain_flag None token.old.style)
+        (quoted_flag None token.old.style) token.old.style }
+{
+    if let unnamed_yaml_event_t_data::Scalar(event) = content {
+        let plain_implicit = is_plain(token.style);
+        mem::swap(&mut event.value, &mut token.value);
+        event.plain_implicit = plain_implicit;
+        event.quoted_implicit = !plain_implicit;
+        event.style = token.style;
+        if event.anchor.is_some() || event.tag.is_some() {
+            drop_properties(&mut event.anchor, &mut event.tag);
+        }
+        return;
+    }
+    replace_by_scalar(alloc, token, content);
+}
+
+/// Puts a scalar without properties in the place of `content`.
+#[inline(never)]
+fn replace_by_scalar(
+    alloc: Global,
+    token: &mut unnamed_yaml_token_t_data_scalar,
+    content: &mut unnamed_yaml_event_t_data,
+)
+    ensures { content.new ≡ scalar None None token.old.value (plain_flag None token.old.style)
+        (quoted_flag None token.old.style) token.old.style }
+{
+    let plain_implicit = is_plain(token.style);
+    let event = unnamed_yaml_event_t_data_scalar {
+        anchor: None,
+        tag: None,
+        value: mem::replace(&mut token.value, String::new(alloc)),
+        plain_implicit,
+        quoted_implicit: !plain_implicit,
+        style: token.style,
+    };
+    *content = unnamed_yaml_event_t_data::Scalar(event);
+}
+
+/// Puts a scalar that is left out into `content`.
+#[inline(always)]
+pub(super) fn put_empty_scalar(alloc: Global, content: &mut unnamed_yaml_event_t_data)
+    ensures { content.new ≡ empty_scalar }
+{
+    if let unnamed_yaml_event_t_data::Scalar(event) = content {
+        event.plain_implicit = true;
+        event.quoted_implicit = false;
+        event.style = yaml_scalar_style_t::YAML_PLAIN_SCALAR_STYLE;
+        if event.anchor.is_some() || event.tag.is_some() {
+            drop_properties(&mut event.anchor, &mut event.tag);
+        }
+        event.value = String::new(alloc);
+        return;
+    }
+    replace_by_empty_scalar(alloc, content);
+}
+
+/// Puts a scalar that is left out in the place of `content`.
+#[inline(never)]
+fn replace_by_empty_scalar(alloc: Global, content: &mut unnamed_yaml_event_t_data)
+    ensures { content.new ≡ empty_scalar }
+{
+    *content = plain_scalar(None, None, String::new(alloc), true);
+}
+
+/// Puts the start of a sequence without properties into `content`.
+#[inline(always)]
+pub(super) fn put_sequence_start(
+    style: yaml_sequence_style_t,
+    content: &mut unnamed_yaml_event_t_data,
+)
+    ensures { content.new ≡ sequence_start None None style }
+{
+    if let unnamed_yaml_event_t_data::SequenceStart(event) = content {
+        event.implicit = true;
+        event.style = style;
+        if event.anchor.is_some() || event.tag.is_some() {
+            drop_properties(&mut event.anchor, &mut event.tag);
+        }
+        return;
+    }
+    replace_by_sequence_start(style, content);
+}
+
+/// Puts the start of a sequence without properties in the place of `content`.
+#[inline(never)]
+fn replace_by_sequence_start(style: yaml_sequence_style_t, content: &mut unnamed_yaml_event_t_data)
+    ensures { content.new ≡ sequence_start None None style }
+{
+    *content = sequence_start(None, None, style);
+}
+
+/// Puts the start of a mapping without properties into `content`.
+#[inline(always)]
+pub(super) fn put_mapping_start(
+    style: yaml_mapping_style_t,
+    content: &mut unnamed_yaml_event_t_data,
+)
+    ensures { content.new ≡ mapping_start None None style }
+{
+    if let unnamed_yaml_event_t_data::MappingStart(event) = content {
+        event.implicit = true;
+        event.style = style;
+        if event.anchor.is_some() || event.tag.is_some() {
+            drop_properties(&mut event.anchor, &mut event.tag);
+        }
+        return;
+    }
+    replace_by_mapping_start(style, content);
+}
+
+/// Puts the start of a mapping without properties in the place of `content`.
+#[inline(never)]
+fn replace_by_mapping_start(style: yaml_mapping_style_t, content: &mut unnamed_yaml_event_t_data)
+    ensures { content.new ≡ mapping_start None None style }
+{
+    *content = mapping_start(None, None, style);
+}
+
+/// Puts the end of a sequence into `content`.
+#[inline(always)]
+pub(super) fn put_sequence_end(content: &mut unnamed_yaml_event_t_data)
+    ensures { content.new ≡ SequenceEnd }
+{
+    match content {
+        unnamed_yaml_event_t_data::SequenceEnd => {}
+        _ => replace_by_sequence_end(content),
+    }
+}
+
+/// Puts the end of a sequence in the place of `content`.
+#[inline(never)]
+fn replace_by_sequence_end(content: &mut unnamed_yaml_event_t_data)
+    ensures { content.new ≡ SequenceEnd }
+{
+    *content = unnamed_yaml_event_t_data::SequenceEnd;
+}
+
+/// Puts the end of a mapping into `content`.
+#[inline(always)]
+pub(super) fn put_mapping_end(content: &mut unnamed_yaml_event_t_data)
+    ensures { content.new ≡ MappingEnd }
+{
+    match content {
+        unnamed_yaml_event_t_data::MappingEnd => {}
+        _ => replace_by_mapping_end(content),
+    }
+}
+
+/// Puts the end of a mapping in the place of `content`.
+#[inline(never)]
+fn replace_by_mapping_end(content: &mut unnamed_yaml_event_t_data)
+    ensures { content.new ≡ MappingEnd }
+{
+    *content = unnamed_yaml_event_t_data::MappingEnd;
+}
