@@ -175,8 +175,11 @@ gives_directive (document_due d) k m e
     = document_fails (read_step m (edge_documents d) k) d (step_fails (edge_documents d) k m (document_due d) (λ f. f) e)
 gives_directive (start_due b ds d) k m e
     = start_fails (read_step m (headed b ds d) k) b ds d (step_fails (headed b ds d) k m (start_due b ds d) (λ f. f) e)
-gives_directive (at_directive (free f) no_directives) k m e = true_unless_false (is_directive k) (λ g. no_directive (read_step m (between (free f)) k) (free f) no_directives g e)
-gives_directive (at_directive (behind d) no_directives) k m e = true_unless_false (is_directive k) (λ g. no_directive (read_step m (edge_documents d) k) (behind d) no_directives g e)
-gives_directive (at_directive b (directive ds d)) k m e = true_unless_false (is_directive k) (λ g. no_directive (read_step m (headed b ds d) k) b (directive ds d) g e)
+gives_directive (at_directive (free f) no_directives) k m e =
+    true_unless_false (is_directive k) (λ g. no_directive (read_step m (between (free f)) k) (free f) no_directives g e)
+gives_directive (at_directive (behind d) no_directives) k m e =
+    true_unless_false (is_directive k) (λ g. no_directive (read_step m (edge_documents d) k) (behind d) no_directives g e)
+gives_directive (at_directive b (directive ds d)) k m e =
+    true_unless_false (is_directive k) (λ g. no_directive (read_step m (headed b ds d) k) b (directive ds d) g e)
 gives_directive (content_due (block (root (implicit_root f)))) k m e = no_root f k m e
 gives_directive _ k m e = tt

@@ -14,7 +14,8 @@ use Rattle.libyaml_documents.specs.Nodes.{EveryIdNamesANode, IsIdUpTo, ids_of, i
 use Rattle.libyaml_documents.specs.declared.node.yaml_node_t.{yaml_node_t}
 use Rattle.libyaml_graphs.specs.graphs.ComposerFaults.{alias_fault, anchor_fault, composer_fault, heads, or_else, part_fault}
 use Rattle.libyaml_graphs.specs.loads.GraphLaws.{AllHoldTheirChildren, AllLater, ChildrenAreLater, EachHoldsItsChildren, EachIsLater, HoldsItsChildren, IsLater}
-use Rattle.libyaml_graphs.specs.graphs.Graphs.{Carrier, Start, carrier, carries, collection_loaded, id_of, id_or, ids_of_all, items, nodes_of, nodes_of_all, pairs}
+use Rattle.libyaml_graphs.specs.graphs.Graphs.{Carrier, Start, carrier, carries, collection_loaded, id_of, id_or}
+use Rattle.libyaml_graphs.specs.graphs.Graphs.{ids_of_all, items, nodes_of, nodes_of_all, pairs}
 use Rattle.libyaml_graphs.specs.graphs.Graphs.{starts_behind, starts_behind_all}
 use Rattle.libyaml_graphs.specs.graphs.GraphParts.{Part, alias_part, end_part, leaf_part, parts, start_of, start_part}
 

@@ -14,7 +14,8 @@ use Rattle.libyaml_graphs.specs.graphs.Graphs.{Start, carrier, id_or, items, pai
 use Rattle.libyaml_graphs.specs.graphs.GraphParts.{Closing, Opening, Part, alias_part, children, closing_of, end_part, graph, if_outer, leaf_part}
 use Rattle.libyaml_graphs.specs.graphs.GraphParts.{opening_of, part_in, part_of, parts, start_of, start_part, with_children, with_part}
 use Rattle.libyaml_graphs.specs.loads.Linear.{documents_size, size, total_size}
-use Rattle.libyaml_graphs.specs.loads.Loads.{Begun, Load, Stop, answer, behind_document, document, next_by, begun, begun_behind, document_end, last_load, load_then, loads_by}
+use Rattle.libyaml_graphs.specs.loads.Loads.{Begun, Load, Stop, answer, behind_document, document, next_by, begun}
+use Rattle.libyaml_graphs.specs.loads.Loads.{begun_behind, document_end, last_load, load_then, loads_by}
 
 -- a leaf has no children
 abbrev pub Bare : List Part → Type 0
@@ -52,7 +53,8 @@ outer_more (suc (suc k)) es i es' r p h =
     omega arith
 
 outer_start : (k : ℕ) (es : List Start) (i : ℕ) (es' : List Start) (r : List Part) (p : Part)
-    → ((d : ℕ) → children d es (p ∷ r) ≡ if_outer d (i ∷ []) (children (suc d) es' r)) → among k es (p ∷ r) + length (children 0 es' r) ≤ suc (among (suc k) es' r)
+    → ((d : ℕ) → children d es (p ∷ r) ≡ if_outer d (i ∷ []) (children (suc d) es' r))
+    → among k es (p ∷ r) + length (children 0 es' r) ≤ suc (among (suc k) es' r)
 outer_start zero es i es' r p h = omega arith
 outer_start (suc zero) es i es' r p h = let e = ap length (h 0) in omega arith
 outer_start (suc (suc k)) es i es' r p h =

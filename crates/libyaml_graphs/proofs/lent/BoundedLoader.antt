@@ -11,9 +11,11 @@ use Rattle.libyaml_graphs.specs.graphs.Graphs.{Start}
 use Rattle.libyaml_graphs.specs.machine.Loader.{Anchors, Loader, Loading, between, bounded_option, bounded_part, failed, fresh, going, if_child_fits}
 use Rattle.libyaml_graphs.specs.machine.Loader.{if_going, list_full, load_from, load_part, no_anchors, nodes_full, unless_full, within}
 use Rattle.libyaml_graphs.specs.loads.Loads.{Load, answer, begun, begun_behind, document, document_end, last_load, next_by}
-use Rattle.libyaml_graphs.specs.graphs.GraphParts.{Closing, Opening, Part, alias_part, behind, closing_of, end_part, graph, leaf_part, opening_of, part_of, parts}
+use Rattle.libyaml_graphs.specs.graphs.GraphParts.{Closing, Opening, Part, alias_part, behind, closing_of, end_part}
+use Rattle.libyaml_graphs.specs.graphs.GraphParts.{graph, leaf_part, opening_of, part_of, parts}
 use Rattle.libyaml_graphs.specs.graphs.GraphParts.{start_part, with_part}
-use Rattle.libyaml_graphs.proofs.machine.Built.{BeginsEmpty, Built, Held, build, build_finished, finished, finished_none, graph_nodes, held_graph, nodes_in, unbuilt}
+use Rattle.libyaml_graphs.proofs.machine.Built.{BeginsEmpty, Built, Held, build, build_finished, finished}
+use Rattle.libyaml_graphs.proofs.machine.Built.{finished_none, graph_nodes, held_graph, nodes_in, unbuilt}
 use Rattle.libyaml_graphs.proofs.machine.Following.{Agrees, Follows, Stands, build_stands, loader_of, nodes_length, none_known, part_follows, stands_unbuilt}
 use Rattle.libyaml_graphs.proofs.machine.LoaderLoads.{Answering, IfBeginsEmpty, begins_empty, settled}
 use Rattle.libyaml_graphs.proofs.machine.Sizes.{AllBegin, graph_sizes, list_grows, none_below, sizes}

@@ -15,7 +15,8 @@ use Rattle.libyaml_graphs.specs.loads.Bounds.{bounded_loads, first_stop, if_abov
 use Rattle.libyaml_graphs.specs.loads.GraphLaws.{BeginsNode, RootFollows, RootsFollow}
 use Rattle.libyaml_graphs.specs.loads.Loads.{Begun, Load, answer, begun, begun_behind, behind_document, document, document_end, last_load, left_by, left_over}
 use Rattle.libyaml_graphs.specs.loads.Loads.{load_then, loads_by, next_by}
-use Rattle.libyaml_graphs.specs.graphs.GraphParts.{Closing, Opening, Part, alias_part, closing_in, closing_of, end_part, graph, leaf_part, opening_of, part_in, part_of}
+use Rattle.libyaml_graphs.specs.graphs.GraphParts.{Closing, Opening, Part, alias_part, closing_in, closing_of}
+use Rattle.libyaml_graphs.specs.graphs.GraphParts.{end_part, graph, leaf_part, opening_of, part_in, part_of}
 use Rattle.libyaml_graphs.specs.graphs.GraphParts.{parts, start_part, with_part}
 use Rattle.libyaml_graphs.proofs.loads.OneLoad.{Follow, follow}
 

@@ -13,7 +13,8 @@ use Rattle.libyaml_graphs.specs.loads.Bounds.{list_sizes, next_bounded, one_abov
 use Rattle.libyaml_graphs.specs.graphs.ComposerFaults.{composer_fault, or_else, part_fault}
 use Rattle.libyaml_graphs.specs.graphs.Graphs.{Start, carrier, id_or}
 use Rattle.libyaml_graphs.specs.loads.Loads.{Begun, Load, answer, begun, document_end, last_load, load_then, loads, loads_by, next_by, next_load}
-use Rattle.libyaml_graphs.specs.graphs.GraphParts.{Closing, Part, alias_part, behind, children, end_part, graph, if_outer, leaf_part, parts, start_of, start_part}
+use Rattle.libyaml_graphs.specs.graphs.GraphParts.{Closing, Part, alias_part, behind, children, end_part, graph}
+use Rattle.libyaml_graphs.specs.graphs.GraphParts.{if_outer, leaf_part, parts, start_of, start_part}
 use Rattle.libyaml_graphs.proofs.machine.Sizes.{either_false, either_none}
 
 outer_append : (d : ℕ) (is a x : List ℕ) → if_outer d is (a ++ x) ≡ if_outer d is a ++ x

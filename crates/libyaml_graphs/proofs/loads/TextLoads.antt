@@ -52,7 +52,8 @@ text_loads d m n v i p q r x =
     let o : Opening = record { start = d; mark = m } in
     let w : List Event = document_end_at i p q ∷ r in
     let c : Closing = record { is_implicit = i; mark = q } in
-    ap (λ (l : List Part). load_then (composer_fault [] l) (document_end (value_events v w)) o (graph [] l) (last_load x) (loads_by (composer_fault []) x (begun_behind (value_events v w))))
+    ap (λ (l : List Part). load_then (composer_fault [] l) (document_end (value_events v w)) o (graph [] l)
+    (last_load x) (loads_by (composer_fault []) x (begun_behind (value_events v w))))
     (value_parts v w [] refl)
     ∙ (ap (λ (y : Option Closing). load_then (composer_fault [] (parts (value_events v []))) y o (graph [] (parts (value_events v []))) (last_load x)
     (loads_by (composer_fault []) x (begun_behind (value_events v w)))) (value_closing v w)
@@ -91,7 +92,8 @@ open_loads d m n f x e =
     (loads_by (composer_fault []) x (begun_behind f))) e
     ∙ go (composer_fault [] (parts f))
   where
-    go : (g : Option Fault) → load_then g None (record { start = d; mark = m }) (graph [] (parts f)) (last_load x) (loads_by (composer_fault []) x (begun_behind f)) ≡ fault_or g (last_load x)
+    go : (g : Option Fault) → load_then g None (record { start = d; mark = m }) (graph [] (parts f)) (last_load x)
+        (loads_by (composer_fault []) x (begun_behind f)) ≡ fault_or g (last_load x)
         ∷ []
     go (Some g) = refl
     go None = refl

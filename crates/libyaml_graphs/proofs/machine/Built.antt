@@ -12,7 +12,8 @@ use Rattle.libyaml_documents.specs.declared.node.yaml_node_t.{yaml_node_t}
 use Rattle.libyaml_documents.specs.declared.pairs.yaml_node_pair_t.{yaml_node_pair_t}
 use Rattle.libyaml_graphs.specs.graphs.Graphs.{Start, carrier, id_or, items, pairs}
 use Rattle.libyaml_graphs.specs.machine.Loader.{content_with, key_behind, with_child}
-use Rattle.libyaml_graphs.specs.graphs.GraphParts.{Part, alias_part, behind, children, end_in, end_part, ended, graph, leaf_part, start_of, start_part, with_children}
+use Rattle.libyaml_graphs.specs.graphs.GraphParts.{Part, alias_part, behind, children, end_in, end_part, ended, graph}
+use Rattle.libyaml_graphs.specs.graphs.GraphParts.{leaf_part, start_of, start_part, with_children}
 
 pub record Held : Type 0 where
   pub node : yaml_node_t

@@ -222,7 +222,8 @@ opened_stack x es b s =
     let hs : List Held = hold_top (suc (length es)) b.places (b.held ++ bare x ∷ []) in
     ap (λ (t : List Open). record { node = pos (suc (length (nodes_in b.held))); key = None } ∷ t) (put_stack x es b s)
     ∙ (ap (λ (n : ℕ). record { node = pos (suc n); key = None } ∷ stack_of b.places hs) (nodes_length b.held)
-    ∙ ap (λ (k : Option ℤ). record { node = pos (suc (length b.held)); key = k } ∷ stack_of b.places hs) (sym (new_key (suc (length es)) b.places b.held x s.there)))
+    ∙ ap (λ (k : Option ℤ). record { node = pos (suc (length b.held)); key = k } ∷ stack_of b.places hs)
+    (sym (new_key (suc (length es)) b.places b.held x s.there)))
 
 -- the map of anchors has the carriers
 abbrev pub Agrees : List Start → Anchors → Type 0

@@ -13,7 +13,8 @@ use Rattle.libyaml_graphs.specs.loads.Bounds.{entries, list_sizes, one_above, pa
 use Rattle.libyaml_graphs.specs.graphs.Graphs.{Start, carrier, id_or, items, pairs}
 use Rattle.libyaml_graphs.specs.machine.Loader.{Anchors, content_full, content_with, key_behind, list_full, node_full, parent_full}
 use Rattle.libyaml_graphs.specs.graphs.GraphParts.{Part, alias_part, children, end_part, leaf_part, start_of, start_part, with_children}
-use Rattle.libyaml_graphs.proofs.machine.Built.{AllHas, BeginsEmpty, Built, Has, Held, bare, build, change, end_at, end_top, grown_key, held_graph, hold, hold_top}
+use Rattle.libyaml_graphs.proofs.machine.Built.{AllHas, BeginsEmpty, Built, Has, Held, bare, build, change, end_at}
+use Rattle.libyaml_graphs.proofs.machine.Built.{end_top, grown_key, held_graph, hold, hold_top}
 use Rattle.libyaml_graphs.proofs.machine.Built.{nodes_in, paired}
 use Rattle.libyaml_graphs.proofs.machine.Following.{key_append, key_in, loader_of, stack_of}
 
