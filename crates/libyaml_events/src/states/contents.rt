@@ -3,7 +3,7 @@
 //! Where that is of the same kind, it is written over field by field. Else it is dropped, which functions of their own
 //! do: to drop a content takes six registers, which the function then needn't save.
 ghost use Rattle.std.specs.Prelude.{◌≡◌, None, false, true};
-ghost use Rattle.libyaml_types.specs.declared.event.unnamed_yaml_event_t_data.TheVariants.{MappingEnd};
+ghost use Rattle.libyaml_types.specs.declared.event.unnamed_yaml_event_t_data.TheVariants.{Alias, MappingEnd};
 ghost use Rattle.libyaml_types.specs.declared.event.unnamed_yaml_event_t_data.TheVariants.{SequenceEnd};
 ghost use Rattle.libyaml_grammar.specs.sentences.Events.{plain_flag, quoted_flag};
 ghost use Rattle.libyaml_events.specs.machine.Machine.{empty_scalar, mapping_start, scalar};
@@ -11,8 +11,9 @@ ghost use Rattle.libyaml_events.specs.machine.Machine.{sequence_start};
 
 use crate::states::nodes::{is_plain, mapping_start, plain_scalar, sequence_start};
 use libyaml_types::{
-    unnamed_yaml_event_t_data, unnamed_yaml_event_t_data_scalar, unnamed_yaml_token_t_data_scalar,
-    yaml_mapping_style_t, yaml_scalar_style_t, yaml_sequence_style_t,
+    unnamed_yaml_event_t_data, unnamed_yaml_event_t_data_alias, unnamed_yaml_event_t_data_scalar,
+    unnamed_yaml_token_t_data_alias, unnamed_yaml_token_t_data_scalar, yaml_mapping_style_t,
+    yaml_scalar_style_t, yaml_sequence_style_t,
 };
 use std::alloc::Global;
 use std::mem;
@@ -189,4 +190,35 @@ fn replace_by_mapping_end(content: &mut unnamed_yaml_event_t_data)
     ensures { content.new ≡ MappingEnd }
 {
     *content = unnamed_yaml_event_t_data::MappingEnd;
+}
+
+/// Puts an alias into `content`. Its name is moved out of its token.
+#[inline(always)]
+pub(super) fn put_alias(
+    alloc: Global,
+    token: &mut unnamed_yaml_token_t_data_alias,
+    content: &mut unnamed_yaml_event_t_data,
+)
+    ensures { content.new ≡ Alias (record { anchor = token.old.value }) }
+{
+    if let unnamed_yaml_event_t_data::Alias(event) = content {
+        mem::swap(&mut event.anchor, &mut token.value);
+        return;
+    }
+    replace_by_alias(alloc, token, content);
+}
+
+/// Puts an alias in the place of `content`.
+#[inline(never)]
+fn replace_by_alias(
+    alloc: Global,
+    token: &mut unnamed_yaml_token_t_data_alias,
+    content: &mut unnamed_yaml_event_t_data,
+)
+    ensures { content.new ≡ Alias (record { anchor = token.old.value }) }
+{
+    let event = unnamed_yaml_event_t_data_alias {
+        anchor: mem::replace(&mut token.value, String::new(alloc)),
+    };
+    *content = unnamed_yaml_event_t_data::Alias(event);
 }

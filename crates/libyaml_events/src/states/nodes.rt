@@ -40,14 +40,13 @@ use crate::node_head::{NodeHead, PropertiesRead, TagRead};
 use crate::node_place::NodePlace;
 use crate::parser::Machine;
 use crate::pending::Pending;
-use crate::states::contents::{put_bare_scalar, put_mapping_start, put_sequence_start};
+use crate::states::contents::{put_alias, put_bare_scalar, put_mapping_start, put_sequence_start};
 use crate::states::give;
 use crate::texts::is_text;
 use libyaml_types::{
-    unnamed_yaml_event_t_data, unnamed_yaml_event_t_data_alias,
-    unnamed_yaml_event_t_data_mapping_start, unnamed_yaml_event_t_data_scalar,
-    unnamed_yaml_event_t_data_sequence_start, unnamed_yaml_token_t_data,
-    unnamed_yaml_token_t_data_alias, unnamed_yaml_token_t_data_scalar,
+    unnamed_yaml_event_t_data, unnamed_yaml_event_t_data_mapping_start,
+    unnamed_yaml_event_t_data_scalar, unnamed_yaml_event_t_data_sequence_start,
+    unnamed_yaml_token_t_data, unnamed_yaml_token_t_data_alias, unnamed_yaml_token_t_data_scalar,
     unnamed_yaml_token_t_data_tag, yaml_error_type_t, yaml_event_t, yaml_mapping_style_t,
     yaml_mark_t, yaml_parser_state_t, yaml_scalar_style_t, yaml_sequence_style_t, yaml_token_t,
 };
@@ -251,14 +250,7 @@ impl<S> Machine<S> {
         self.pop_state();
         out.start_mark = *start_mark;
         out.end_mark = *end_mark;
-        if let unnamed_yaml_event_t_data::Alias(event) = &mut out.content {
-            mem::swap(&mut event.anchor, &mut content.value);
-            return;
-        }
-        let event = unnamed_yaml_event_t_data_alias {
-            anchor: mem::replace(&mut content.value, String::new(self.allocator())),
-        };
-        out.content = unnamed_yaml_event_t_data::Alias(event);
+        put_alias(self.allocator(), content, &mut out.content);
     }
 
     /// A node that begins with an alias or a property.
