@@ -2,3 +2,4 @@ pub mod Leads
 pub mod Composing
 pub mod Loaded
 pub mod PushesLoads
+pub mod OnePushLoads

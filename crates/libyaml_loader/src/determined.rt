@@ -1,9 +1,12 @@
-//! That the contract of a load leaves its result open nowhere: two outcomes that it allows are one.
+//! That the contracts of a load and of a push leave their results open nowhere: two outcomes that they allow
+//! are one.
 
-ghost use Rattle.std.specs.Prelude.{◌≡◌, ◌⊎◌, ℕ, List};
+ghost use Rattle.std.specs.Prelude.{◌≡◌, ◌≤◌, ◌⊎◌, ◌++◌, ◌∷◌, ℕ, List, [], true, false};
+ghost use Rattle.libyaml_documents.specs.Documents.{Document};
 ghost use Rattle.libyaml_events.specs.machine.Config.{Parser};
 ghost use Rattle.libyaml_events.specs.sources.Determined.{AnswersOneWay};
 ghost use Rattle.libyaml_events.specs.sources.History.{History};
+ghost use Rattle.libyaml_events.specs.sources.Pushes.{Done};
 ghost use Rattle.libyaml_grammar.specs.sentences.Events.{Event};
 ghost use Rattle.libyaml_grammar.specs.sentences.Tokens.{Token};
 ghost use Rattle.libyaml_graphs.specs.loads.Bounds.{next_bounded};
@@ -11,9 +14,12 @@ ghost use Rattle.libyaml_graphs.specs.loads.Loads.{left_over};
 ghost use Rattle.libyaml_loader.specs.loads.Loading.{DocumentOrError};
 ghost use Rattle.libyaml_loader.specs.loads.OneLoad.{LoadOutcome, LoadRunsOut, LoadsAlike};
 ghost use Rattle.libyaml_loader.specs.loads.OneLoad.{OneLoadByAnswers, results_of};
+ghost use Rattle.libyaml_loader.specs.pushes.Loaded.{Loaded, PushLoader, has_stopped};
+ghost use Rattle.libyaml_loader.specs.pushes.OnePushLoads.{OnePushLoads};
+ghost use Rattle.libyaml_loader.specs.pushes.PushesLoads.{PushesLoads};
 
 use libyaml_events::laws::calls::of_history;
-use libyaml_events::laws::determined::one_source;
+use libyaml_events::laws::determined::{one_pushed, one_source};
 use libyaml_events::yaml_token_source_t;
 
 /// Two outcomes of one load, both of which the clauses `loads`, `fails` and `bound` of `yaml_parser_load`
@@ -37,4 +43,30 @@ pub fn one_load<S: yaml_token_source_t>()
 {
     of_history::<S>();
     one_source::<S>();
+}
+
+/// Loaders with one bound that were handed the same tokens, without a fault, gave the same documents and stand
+/// the same.
+pub fn one_loaded()
+    ensures { (p q : PushLoader) (tokens : List Token) (documents given : List Document)
+        → p.max_entries ≡ q.max_entries → Loaded p tokens documents → Loaded q tokens given
+        → (p ≡ q) × (documents ≡ given) }
+{
+    one_pushed();
+}
+
+/// Two outcomes of one push to a loader, both of which the contract of `push` allows, of a list of documents
+/// with this room: they are one, unless memory ran out in one of them, where memory may be taken or the list of
+/// documents has no room. A loader that has stopped has one outcome.
+pub fn one_push()
+    ensures running { (room m n : ℕ) (old p q : PushLoader) (t : Token) (before after later : List Document)
+        (r s : Done) (tokens : List Token) (documents : List Document) → Loaded old tokens documents
+        → has_stopped old ≡ false → PushesLoads (room ≤ m) old t before r p after
+        → PushesLoads (room ≤ n) old t before s q later
+        → OnePushLoads (room ≤ m) (room ≤ n) (tokens ++ t ∷ []) documents before r p after s q later }
+    ensures stopped { (room m n : ℕ) (old p q : PushLoader) (t : Token) (before after later : List Document)
+        (r s : Done) → has_stopped old ≡ true → PushesLoads (room ≤ m) old t before r p after
+        → PushesLoads (room ≤ n) old t before s q later → (r ≡ s) × (p ≡ q) × (after ≡ later) }
+{
+    one_pushed();
 }

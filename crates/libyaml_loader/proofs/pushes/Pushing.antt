@@ -58,13 +58,13 @@ are_then n tokens source events x documents here run leads = record {
   events = events;
   ending = x;
   run = run;
-  all = sym (ap (λ (l : List Event). bounded_loads n l x) (sym (append-nil events)) ∙ (leads [] x ∙ ap (λ (l : List Load). as_loads documents ++ l) (from_none n here x)));
+  all = sym (ap (λ (l : List Event). bounded_loads n l x) (sym (append-nil events)) ∙ (leads.loads [] x ∙ ap (λ (l : List Load). as_loads documents ++ l) (from_none n here x)));
 }
 
 -- or begin those of a run
 front_loads : (n : ℕ) (events : List Event) (documents : List Document) (here : State) (all rest : List Event) (x : Ending) → all ≡ events ++ rest
     → Leads n between events documents here → bounded_loads n all x ≡ as_loads documents ++ loads_from n here rest x
-front_loads n events documents here all rest x is leads = ap (λ (l : List Event). bounded_loads n l x) is ∙ leads rest x
+front_loads n events documents here all rest x is leads = ap (λ (l : List Event). bounded_loads n l x) is ∙ leads.loads rest x
 
 pub begin_loads : (n : ℕ) (tokens : List Token) (events : List Event) (documents : List Document) (here : State) → BeginsEachRun tokens events
     → Leads n between events documents here → BeginsEachLoads n tokens documents

@@ -1,12 +1,13 @@
 -- How a loader goes on by events that it is handed (docs/DEFINITIONS.md, "Documents pushed").
 use Rattle.std.specs.Prelude.{◌≡◌, ◌++◌, ℕ, List, [], ◌∷◌, map, Option, Some, None, Ok, Err, true}
 use Rattle.libyaml_documents.specs.Documents.{Document}
+use Rattle.libyaml_sources.specs.Fault.{Fault}
 use Rattle.libyaml_grammar.specs.sentences.Events.{Event}
 use Rattle.libyaml_grammar.specs.runs.Runs.{Ending}
-use Rattle.libyaml_graphs.specs.graphs.GraphParts.{Closing, Opening, closing_of, part_of}
+use Rattle.libyaml_graphs.specs.graphs.GraphParts.{Closing, Opening, closing_of, opening_of, part_of}
 use Rattle.libyaml_graphs.specs.loads.Bounds.{bounded_loads}
 use Rattle.libyaml_graphs.specs.loads.Loads.{Load, behind_document, document_end}
-use Rattle.libyaml_graphs.specs.machine.Loader.{Loader, State, between, load_from, within}
+use Rattle.libyaml_graphs.specs.machine.Loader.{Loader, State, between, bounded_option, fresh, if_going, load_from, within}
 use Rattle.libyaml_loader.specs.loads.LoadGrowth.{may_grow}
 
 -- a load, and after a document that is whole these
@@ -24,9 +25,20 @@ loads_from n (within o l) e x = whole_then (document_end e) (load_from n (within
 abbrev pub as_loads : List Document → List Load
 as_loads documents = map (λ (d : Document). Ok d) documents
 
+-- where a loader stands after an event: one that refuses it drops its document
+abbrev pub behind_event : ℕ → State → Event → State
+behind_event n between e = elim (opening_of e) [ None ↦ between | Some o ↦ within o fresh ]
+behind_event n (within o l) e
+    = elim (closing_of e) [ Some c ↦ between | None ↦ if_going (λ (f : Fault). between) (bounded_option n l (part_of e)) (λ (k : Loader). within o k) ]
+
+abbrev pub behind_events : ℕ → State → List Event → State
+behind_events n s [] = s
+behind_events n s (e ∷ r) = behind_events n (behind_event n s e) r
+
 -- From the one state these events lead to the other, and give these documents: whatever events come after them.
-abbrev pub Leads : ℕ → State → List Event → List Document → State → Type 0
-Leads n old events documents new = (rest : List Event) (x : Ending) → loads_from n old (events ++ rest) x ≡ as_loads documents ++ loads_from n new rest x
+pub record Leads (n : ℕ) (old : State) (events : List Event) (documents : List Document) (new : State) : Type 0 where
+  pub loads : (rest : List Event) (x : Ending) → loads_from n old (events ++ rest) x ≡ as_loads documents ++ loads_from n new rest x
+  pub state : new ≡ behind_events n old events
 
 -- At this event memory is needed: for a node, an item or a pair of the document that is open; or it ends a document, for which the
 -- list of documents has no room.
