@@ -1,5 +1,6 @@
 -- Two results of line sources that keep the same, over readers of the same bytes, are one.
-use Rattle.std.proofs.Common.{◌≡◌, ◌<◌, ◌≤◌, ◌+◌, ◌⊎◌, inl, inr, ◌==◌, ℕ, List, [], ◌∷◌, Bool, true, false, cond, drop, length, nat_lt, Option, Some, None, Ok, Err}
+use Rattle.std.proofs.Common.{◌≡◌, ◌<◌, ◌≤◌, ◌+◌, ◌⊎◌, inl, inr, ◌==◌, ℕ, List, [], ◌∷◌, Bool, true, false, cond}
+use Rattle.std.proofs.Common.{drop, length, nat_lt, Option, Some, None, Ok, Err}
 use Rattle.std.proofs.Common.{refl, sym, ap, subst, ◌∙◌, arith}
 use Rattle.std.proofs.lemmas.Bool.{cases_lt}
 use Rattle.std.specs.Io.KnownBytes.{Consumes}
@@ -59,7 +60,8 @@ module _ {R : Type 0} (remaining : R → Option (List ℕ)) where
   left_by_line : (bytes line : List ℕ) (n : ℕ) (a b : Answer) (x y : Option (List ℕ)) (is_long : Bool) → nat_lt longest_line (length line) ≡ is_long
       → line_answer n line ≡ a → a ≡ b → Leaves bytes n a x → Leaves bytes n b y → x ≡ y
   left_by_line bytes line n a b x y true l e i h k =
-      let long : Err (line_fault LineTooLong n) ≡ a = sym (ap (λ (c : Bool). cond c (Err (line_fault LineTooLong n)) (token_or_fault (token_of_line line) n)) l) ∙ e in
+      let long : Err (line_fault LineTooLong n) ≡ a =
+      sym (ap (λ (c : Bool). cond c (Err (line_fault LineTooLong n)) (token_or_fault (token_of_line line) n)) l) ∙ e in
       h.too_long (sym long) ∙ sym (k.too_long (sym (long ∙ i)))
   left_by_line bytes line n a b x y false l e i h k =
       let short : token_or_fault (token_of_line line) n ≡ a =

@@ -1,5 +1,6 @@
 -- digits that stand again
-use Rattle.std.proofs.Common.{◌≡◌, ℕ, zero, suc, ◌+◌, ◌-◌, ◌<◌, ◌≤◌, Bool, true, false, List, [], ◌∷◌, length, length-drop, take, drop, Option, Some, None, option_map, refl, ap, sym, ◌∙◌, arith, min}
+use Rattle.std.proofs.Common.{◌≡◌, ℕ, zero, suc, ◌+◌, ◌-◌, ◌<◌, ◌≤◌, Bool, true, false, List, [], ◌∷◌, length}
+use Rattle.std.proofs.Common.{length-drop, take, drop, Option, Some, None, option_map, refl, ap, sym, ◌∙◌, arith, min}
 use Rattle.std.proofs.lemmas.List.{drop-drop, drop-take, length-take}
 use Rattle.std.specs.Char.{is_ascii_digit}
 use Rattle.line_reading.specs.tokens.Number.{number_of}
@@ -49,7 +50,8 @@ again n (x ∷ xs) (y ∷ ys) l h e = go (is_ascii_digit x) refl n l h (cc) (cc)
 pair_in : (x y : ℕ × List ℕ) → Some x ≡ Some y → x ≡ y
 pair_in x y h = cc
 
-digits_there : (bytes rest : List ℕ) (value : ℕ) → number_at bytes ≡ Some (value, rest) → (number_of (digits_of bytes) ≡ Some value) × (behind_digits bytes ≡ rest)
+digits_there : (bytes rest : List ℕ) (value : ℕ) → number_at bytes ≡ Some (value, rest)
+    → (number_of (digits_of bytes) ≡ Some value) × (behind_digits bytes ≡ rest)
 digits_there bytes rest value h = go (number_of (digits_of bytes)) refl h
   where
     go : (o : Option ℕ) → number_of (digits_of bytes) ≡ o → option_map {U = ℕ × List ℕ} (λ n. (n, behind_digits bytes)) o ≡ Some (value, rest)
@@ -82,7 +84,8 @@ number_again line row at h some within same =
     let there = digits_there xs (drop row.end line) row.value (h.some some) in
     let order = digits_before line row.at row.end row.value (omega (arith, h.order, h.within some)) (omega (arith, h.within some)) (h.some some) in
     let next : n + 1 ≡ suc n = omega arith in
-    let both = again n xs ys order.1 (omega (arith, length-drop row.at line, h.within some, order.0)) (ap (λ k. take k xs) (sym next) ∙ same ∙ ap (λ k. take k ys) next) in
+    let both = again n xs ys order.1 (omega (arith, length-drop row.at line, h.within some, order.0))
+    (ap (λ k. take k xs) (sym next) ∙ same ∙ ap (λ k. take k ys) next) in
     let behind : behind_digits ys ≡ drop (at + n) line = both.1 ∙ drop-drop n at line in
     rw (both.0, there.0, behind) refl
 

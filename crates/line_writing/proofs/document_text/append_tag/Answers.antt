@@ -25,7 +25,8 @@ pushed old new read tag default text (Ok x) written equal is grown =
     grown ∙ ap (λ l. old ++ l) (sym written ∙ ap (λ t. behind_spaces (string_text t ∷ [])) (sym (same_text read default equal) ∙ is))
 
 pub returns-in-Scalar : goal.returns-in-Scalar
-returns-in-Scalar c = rw (← c.node.view_is) (pushed _ _ _ _ _ _ c.push_str.result scalar_tag c.if-eq.ensures c.as_str-tag.ensures.value c.push_str.ensures.bytes)
+returns-in-Scalar c = rw (← c.node.view_is)
+    (pushed _ _ _ _ _ _ c.push_str.result scalar_tag c.if-eq.ensures c.as_str-tag.ensures.value c.push_str.ensures.bytes)
 
 pub returns-in-Sequence : goal.returns-in-Sequence
 returns-in-Sequence c =
