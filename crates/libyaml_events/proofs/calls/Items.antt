@@ -1,94 +1,23 @@
 -- The items of a loop over the events of a parser, one after another.
-use Rattle.std.proofs.Common.{◌≡◌, ◌++◌, ◌∷◌, ℕ, List, [], Option, Some, Ok, Err, true, false, refl, sym, ap, ◌∙◌, subst, append_assoc}
+use Rattle.std.proofs.Common.{◌≡◌, ◌++◌, ◌∷◌, ℕ, List, [], Option, Some, Ok, Err, true, false, refl, sym, ap, ◌∙◌, subst}
 use Rattle.std.specs.Iterator.{Yields}
-use Rattle.libyaml_sources.specs.Fault.{Fault, Answer, fault_of}
+use Rattle.libyaml_sources.specs.Fault.{Fault, Answer}
 use Rattle.libyaml_sources.specs.declared.fault.yaml_parser_t_prefix.{yaml_parser_t_prefix}
-use Rattle.libyaml_sources.specs.Source.{Coming}
-use Rattle.libyaml_grammar.specs.runs.Runs.{Ending}
-use Rattle.libyaml_grammar.specs.sentences.Tokens.{Token}
+use Rattle.libyaml_sources.specs.Source.{Coming, Follows}
 use Rattle.libyaml_grammar.specs.sentences.Events.{Event}
 use Rattle.libyaml_events.specs.machine.Config.{Parser}
-use Rattle.libyaml_events.specs.sources.Calls.{EventOrError}
 use Rattle.libyaml_events.specs.sources.CallsInTurn.{CarriedOn}
-use Rattle.libyaml_events.specs.sources.History.{is_over, kept_fault}
-use Rattle.libyaml_events.specs.sources.Iterated.{FailedBehind, GaveEvents, GaveFault, InTurn, Item, all_events, items_then, then_fault}
+use Rattle.libyaml_events.specs.sources.History.{ForHistory, is_over}
+use Rattle.libyaml_events.specs.sources.Iterated.{GaveEvents, GaveFault, InTurn, Item, all_events, items_then, then_fault}
 use Rattle.libyaml_events.specs.sources.Iterates.{YieldsEvent}
-use Rattle.libyaml_events.specs.sources.Parsing.{CarriesOn, FailsBy}
-use Rattle.libyaml_events.specs.sources.ParsesNext.{ParsesNext}
-use Rattle.libyaml_events.specs.sources.RunToCome.{FailsHere, RunToCome}
+use Rattle.libyaml_events.specs.sources.RunToCome.{FailsHere}
 use Rattle.libyaml_events.proofs.lent.CallsInTurn.{both_calls, no_call, one_call}
-use Rattle.libyaml_events.proofs.lent.NextEvents.{First, Says, fails_here, first_event}
+use Rattle.libyaml_events.proofs.calls.KnownRuns.{fails_behind, further}
 
-module _ {S : Type 0} (gives : S → Answer → S → Type 0) (bound : S → ℕ) (known : S → Option Coming) (may_break : S → Fault → Type 0) where
-  abbrev Parsed : Parser S → EventOrError → Parser S → Type 0
-  Parsed = ParsesNext gives bound known may_break
-
+module _ {S : Type 0} (gives : S → Answer → S → Type 0) (bound : S → ℕ) (known : S → Option Coming) (may_break : S → Fault → Type 0)
+    (follows : (s t : S) (a : Answer) → gives s a t → Follows (may_break t) (known s) a (known t)) where
   abbrev Step : Parser S → Option Item → Parser S → Type 0
   Step = YieldsEvent gives bound known may_break
-
-  says : (old new : Parser S) (r : EventOrError) → Parsed old r new → Says known may_break old new r
-  says old new r c = record { next = c.next_of_run; end = c.end_of_run; fault = c.fault_of_run }
-
-  no_events : (p : Parser S) → GaveEvents gives known p p []
-  no_events p = record { history = λ asked given h. no_call gives p p p asked given h; run = λ to_come ending r. (to_come, refl, r) }
-
-  -- an event, and then these
-  module _ (p j q : Parser S) (e : Event) (alive : is_over p ≡ false) (c : Parsed p (Ok e) j) where
-    first_of : (to_come : List Event) (ending : Ending) → RunToCome known p to_come ending → First known may_break p j e to_come ending
-    first_of to_come ending r = first_event known may_break p j (Ok e) e refl (c.carries_on alive r.asked r.given r.history).an_event (says p j (Ok e) c) to_come ending r
-
-    event_then : (events : List Event) → GaveEvents gives known j q events → GaveEvents gives known p q (e ∷ events)
-    event_then events g = record {
-      history = λ asked given h.
-          let a : CarriesOn gives p e j asked given = c.carries_on alive asked given h in
-          let b : CarriedOn gives p j asked given (e ∷ []) = one_call gives p p j asked given e a in
-          both_calls gives p j q asked given (e ∷ []) events b (g.history (asked ++ b.more) (given ++ e ∷ []) b.history);
-      run = λ to_come ending r.
-          let a = first_of to_come ending r in
-          let b = g.run a.later ending a.run in
-          (b.0, a.first ∙ ap (λ (l : List Event). e ∷ l) b.1, b.2);
-    }
-
-    fault_then : (events : List Event) (f : yaml_parser_t_prefix) → GaveFault gives known may_break j q events f → GaveFault gives known may_break p q (e ∷ events) f
-    unfolding both_calls
-    fault_then events f g = record {
-      kept = g.kept;
-      over = g.over;
-      history = λ asked given h.
-          let a : CarriesOn gives p e j asked given = c.carries_on alive asked given h in
-          let b : CarriedOn gives p j asked given (e ∷ []) = one_call gives p p j asked given e a in
-          let k : FailedBehind gives j q events (asked ++ b.more) (given ++ e ∷ []) = g.history (asked ++ b.more) (given ++ e ∷ []) b.history in
-          record {
-            last = k.last;
-            gave = both_calls gives p j k.last asked given (e ∷ []) events b k.gave;
-            fails = subst (λ (l : List Token). FailsBy gives k.last q l (given ++ e ∷ events)) (append_assoc asked b.more k.gave.more)
-                (subst (λ (l : List Event). FailsBy gives k.last q ((asked ++ b.more) ++ k.gave.more) l) (append_assoc given (e ∷ []) events) k.fails);
-          };
-      run = λ to_come ending r.
-          let a = first_of to_come ending r in
-          let b = g.run a.later ending a.run in
-          (b.0, a.first ∙ ap (λ (l : List Event). e ∷ l) b.1, b.2);
-    }
-
-  -- a fault
-  only_fault : (p q : Parser S) (f : yaml_parser_t_prefix) → is_over p ≡ false → Parsed p (Err f.error) q → fault_of f ≡ kept_fault q → GaveFault gives known may_break p q [] f
-  only_fault p q f alive c kept = record {
-    kept = kept;
-    over = c.kept.1;
-    history = λ asked given h.
-        let b : CarriedOn gives p p asked given [] = no_call gives p p p asked given h in
-        record {
-          last = p;
-          gave = b;
-          fails = c.fails (asked ++ b.more) (given ++ []) b.history;
-        };
-    run = λ to_come ending r. (
-      to_come,
-      refl,
-      subst (λ (g : Fault). FailsHere (may_break q.source) g to_come ending) (sym kept)
-          (fails_here known may_break p q (Err f.error) f.error refl (says p q (Err f.error) c) to_come ending r),
-    );
-  }
 
   -- after a fault there is no item
   over_gives_none : (p q : Parser S) (x : Item) → is_over p ≡ true → Step p (Some x) q → ⊥
@@ -123,14 +52,43 @@ module _ {S : Type 0} (gives : S → Answer → S → Type 0) (bound : S → ℕ
   fault_more p q r events f y s
       = subst (λ (l : List Item). Yields Step p l r) (item_behind (Err f ∷ []) events) (yields_more (items_then [] events) p q r (Err f) y s)
 
+  carried : (events : List Event) (p q : Parser S) → Yields Step p (items_then [] events) q → ForHistory p (λ asked given. CarriedOn gives p q asked given events)
+  carried [] p q e asked given h = subst (λ (x : Parser S). CarriedOn gives p x asked given []) e (no_call gives p p p asked given h)
+  carried (e ∷ events) p q (j, s, y) asked given h =
+      let a : CarriedOn gives p j asked given (e ∷ []) = one_call gives p p j asked given e (s.1.carries_on s.0 asked given h) in
+      both_calls gives p j q asked given (e ∷ []) events a (carried events j q y (asked ++ a.more) (given ++ e ∷ []) a.history)
+
   pub gave_events : (events : List Event) (p q : Parser S) → Yields Step p (items_then [] events) q → GaveEvents gives known p q events
-  gave_events [] p q e = subst (λ (x : Parser S). GaveEvents gives known p x []) e (no_events p)
-  gave_events (e ∷ events) p q (j, s, y) = event_then p j q e s.0 s.1 events (gave_events events j q y)
+  gave_events events p q y = let h = carried events p q y in record {
+    history = h;
+    run = λ to_come ending r.
+        let k = h r.asked r.given r.history in
+        further gives known may_break follows p q to_come ending r k.more events k.gave k.history;
+  }
+
+  -- a fault is the last item
+  last_of : (events : List Event) (f : yaml_parser_t_prefix) (p q : Parser S) → Yields Step p (items_then (Err f ∷ []) events) q
+      → (last : Parser S) × Yields Step p (items_then [] events) last × Step last (Some (Err f)) q
+  last_of [] f p q (j, s, e) = (p, refl, subst (λ (x : Parser S). Step p (Some (Err f)) x) e s)
+  last_of (e ∷ events) f p q (j, s, y) = let (last, a, b) = last_of events f j q y in (last, (j, s, a), b)
 
   pub gave_fault : (events : List Event) (f : yaml_parser_t_prefix) (p q : Parser S) → Yields Step p (items_then (Err f ∷ []) events) q
       → GaveFault gives known may_break p q events f
-  gave_fault [] f p q (j, s, e) = subst (λ (x : Parser S). GaveFault gives known may_break p x [] f) e (only_fault p j f s.0 s.1 s.2)
-  gave_fault (e ∷ events) f p q (j, s, y) = fault_then p j q e s.0 s.1 events f (gave_fault events f j q y)
+  gave_fault events f p q y =
+      let (last, a, b) = last_of events f p q y in
+      let h = carried events p last a in
+      record {
+        kept = b.2;
+        over = b.1.kept.1;
+        history = λ asked given i.
+            let k = h asked given i in
+            record { last = last; gave = k; fails = b.1.fails (asked ++ k.more) (given ++ events) k.history };
+        run = λ to_come ending r.
+            let k = h r.asked r.given r.history in
+            let (later, all, here) = fails_behind gives known may_break follows p last q to_come ending r k.more events k.gave k.history
+            (b.1.fails (r.asked ++ k.more) (r.given ++ events) k.history) in
+            (later, all, subst (λ (g : Fault). FailsHere (may_break q.source) g later ending) (sym b.2) here);
+      }
 
   pub in_turn : (items : List Item) (p q : Parser S) → Yields Step p items q → InTurn items
   in_turn [] p q e = all_events [] refl

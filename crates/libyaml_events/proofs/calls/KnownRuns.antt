@@ -1,20 +1,18 @@
 -- A parser over a known source gives its run.
-use Rattle.std.proofs.Common.{◌≡◌, ◌⊎◌, inl, inr, ℤ, List, [], ◌∷◌, ◌++◌, Option, Some, refl, sym, ap, ◌∙◌, subst, Bool, true, false, Ok, Err, IfErr}
-use Rattle.libyaml_events.specs.sources.Parsing as pars
-use Rattle.libyaml_events.specs.sources.Parsing.{HasFailed, StopsShort, behind_beginning, Cause, of_memory, of_grammar, of_source, FailsBy}
-use Rattle.libyaml_events.proofs.calls.Parsed.{running_does, fails, has_failed, stops_short}
+use Rattle.std.proofs.Common.{◌≡◌, ◌⊎◌, inl, inr, ⊎_elim, ℤ, List, [], ◌∷◌, ◌++◌, Option, Some, refl, sym, ap, ◌∙◌, subst, Bool, true, false, Ok, Err, IfErr}
+use Rattle.libyaml_events.specs.sources.Parsing.{HasFailed, IsWhole, StopsShort, Cause, of_memory, of_grammar, of_source, FailsBy}
+use Rattle.libyaml_events.proofs.calls.Parsed.{carried_on, fails}
 use Rattle.libyaml_events.proofs.calls.Staged.{ran_staged, staged_over, staged_whole, tree_ends}
 use Rattle.libyaml_events.specs.parsers.Stages.{is_at_end, stage_of}
 use Rattle.libyaml_types.specs.declared.enums.yaml_error_type_t.{yaml_error_type_t}
 use Rattle.libyaml_sources.specs.Fault.{Fault, Answer}
 use Rattle.libyaml_types.specs.Events.{empty_event, zero_mark}
 use Rattle.libyaml_sources.specs.Source.{Coming, coming, Follows, FollowsList}
-use Rattle.libyaml_grammar.specs.sentences.Tokens.{Anchor, Content, Token, marks_of}
+use Rattle.libyaml_grammar.specs.sentences.Tokens.{Token, marks_of}
 use Rattle.libyaml_grammar.specs.sentences.Trees.{Stream}
 use Rattle.libyaml_grammar.specs.sentences.Events.{Event, events, either}
-use Rattle.libyaml_grammar.specs.cuts.CutTrees.{Cut, at_tag, at_tag_behind}
+use Rattle.libyaml_grammar.specs.cuts.CutTrees.{Cut}
 use Rattle.libyaml_grammar.specs.cuts.CutEvents.{shown_cut, cut_events}
-use Rattle.libyaml_grammar.specs.cuts.CutFaults.{fault}
 use Rattle.libyaml_grammar.specs.cuts.Fits.{Fits}
 use Rattle.libyaml_grammar.specs.sentences.Sentences.{is_end, has_end}
 use Rattle.libyaml_grammar.specs.runs.StreamEnds.{up_to_end}
@@ -22,14 +20,12 @@ use Rattle.libyaml_grammar.specs.cuts.Settled.{sure}
 use Rattle.libyaml_grammar.proofs.lent.Positions.{Position, unopened, done}
 use Rattle.libyaml_grammar.proofs.lent.Reading.{Step, feed, reads, reads_all, then_all, checked, is_legal, broken, goes, bad, over, goes_same, bad_same}
 use Rattle.libyaml_grammar.proofs.lent.Given.{gives, gives_all, if_all}
-use Rattle.libyaml_grammar.specs.runs.Runs.{Ending, Ends, Fails, IsRun, of_sentence, of_cut_tree, amid_properties, of_beginning, is_behind}
-use Rattle.libyaml_grammar.specs.runs.Runs.{is_behind_properties, has_token}
+use Rattle.libyaml_grammar.specs.runs.Runs.{Ending, Ends, Fails, IsRun, of_sentence, of_cut_tree, amid_properties, of_beginning}
 use Rattle.libyaml_events.specs.machine.Config.{Config, Parser, taken, ended_or_failed}
-use Rattle.libyaml_events.specs.sources.Calls.{EventOrError, Gave, held, Calls, Call, ParsesIf}
-use Rattle.libyaml_events.specs.sources.Needs.{HasWaited, at_once, by_last}
-use Rattle.libyaml_events.specs.sources.History.{goes_on, is_over, answers, kept_fault}
+use Rattle.libyaml_events.specs.sources.Calls.{EventOrError, Gave, Call, ParsesIf}
+use Rattle.libyaml_events.specs.sources.History.{History, is_over, answers, kept_fault}
 use Rattle.libyaml_events.specs.sources.CallsInTurn.{KnowsRest}
-use Rattle.libyaml_events.specs.sources.RunToCome.{RunToCome, UnlessBroken, does, no_memory, breaks}
+use Rattle.libyaml_events.specs.sources.RunToCome.{FailsHere, ForRun, RestOfRun, RunToCome, UnlessBroken, does, no_memory, breaks}
 use Rattle.libyaml_events.specs.machine.Want.{AtState}
 use Rattle.libyaml_grammar.proofs.lent.Lists.{nil_right, assoc}
 use Rattle.libyaml_grammar.proofs.lent.Completion.{begin_reads, sentence_reads}
@@ -39,7 +35,7 @@ use Rattle.libyaml_events.proofs.machine.Link.{spends}
 use Rattle.libyaml_grammar.proofs.lent.OneCut.{fits_reach, fits_stop}
 use Rattle.libyaml_events.proofs.machine.Outcomes.{Does, is_good, is_bad, is_doomed, is_over as is_over_there}
 use Rattle.libyaml_events.proofs.machine.Outcomes as outcomes
-use Rattle.libyaml_grammar.proofs.lent.Running.{one_run_proof, sentence_run, cut_run, amid_run, begin_run}
+use Rattle.libyaml_grammar.proofs.lent.Running.{one_run_proof}
 use Rattle.libyaml_grammar.proofs.lent.Settling.{front_settles, gives_sure, one_settled_proof}
 use Rattle.libyaml_grammar.proofs.lent.Shows.{Shows, step_shows}
 use Rattle.libyaml_grammar.proofs.lent.StepsMeet.{IsMet, Meets, step_met}
@@ -47,8 +43,9 @@ use Rattle.libyaml_grammar.proofs.lent.StreamEnds.{not_end_not_done}
 use Rattle.libyaml_events.proofs.machine.Giving.{given_split, gives_split, shown_given}
 use Rattle.libyaml_events.proofs.machine.Waiting.{doomed_shown}
 use Rattle.libyaml_events.proofs.machine.Stand.{Links, at_position, amid_token}
-use Rattle.libyaml_events.proofs.calls.Calling.{Answered, gave, failed, faulted, call_answers, ran_links}
-use Rattle.libyaml_events.proofs.calls.Keeping.{not_err, ok_same}
+use Rattle.libyaml_events.proofs.calls.Calling.{ran_links}
+use Rattle.libyaml_events.proofs.lent.OneOutcome.{failed_run}
+use Rattle.libyaml_events.proofs.lent.RunStops.{short_run, whole_run}
 
 -- the events of a list, up to its first bad token, or its stream's end
 abbrev pub reads_given : List Token → Position → List Event → List Event
@@ -199,36 +196,15 @@ behind_same : (a l r : List Event) → a ++ l ≡ a ++ r → l ≡ r
 behind_same [] l r e = e
 behind_same (x ∷ a) l r e = behind_same a l r (rest_same x x (a ++ l) (a ++ r) e)
 
--- more tokens follow the properties, too
-longer : (c : Cut) (l r : List Token) → is_behind_properties c l ≡ true → is_behind_properties c (l ++ r) ≡ true
-longer (at_tag p) [] r e = absurd cc
-longer (at_tag p) (t ∷ l) r e = go t.content l e
-  where
-    tokens_there : (l : List Token) → has_token l ≡ true → has_token (l ++ r) ≡ true
-    tokens_there [] f = absurd cc
-    tokens_there (x ∷ l) f = refl
-
-    go : (k : Content) (l : List Token) → is_behind k l ≡ true → is_behind k (l ++ r) ≡ true
-    go (Anchor a) l f = tokens_there l f
-    go _ l f = refl
-longer (at_tag_behind p a m) [] r e = absurd cc
-longer (at_tag_behind p a m) (t ∷ l) r e = refl
-longer _ l r e = refl
-
-all_waited : (c : Cut) (l : List Token) → HasWaited c l → is_behind_properties c l ≡ true
-all_waited c l (at_once e f) = ap (is_behind_properties c) e ∙ f
-all_waited c l (by_last front t e f g) = g
-
 -- a parser that has given the stream end event has nothing more of its run before it
 pub nothing_behind_end : {S : Type 0} (known : S → Option Coming) (p : Parser S) → is_over p ≡ true → (later : List Event) (ending : Ending)
     → RunToCome known p later ending → (later ≡ []) × (ending ≡ Ends)
 nothing_behind_end known p ended later ending r =
     let staged = ran_staged r.history in
     let whole = staged_whole p.config r.asked r.given (ran_links r.history) staged (sym (staged_over p.config r.given staged) ∙ ended) in
-    let sentence = subst (λ (l : List Token). IsRun (l ++ r.rest) r.fault (events whole.tree) Ends) (sym whole.all_tokens)
-    (sentence_run whole.tree r.rest r.fault whole.order) in
-    let same = one_run_proof (r.asked ++ r.rest) r.fault (r.given ++ later) (events whole.tree) ending Ends r.run sentence in
-    (behind_same r.given later [] (same.0 ∙ (sym whole.all_events ∙ sym (nil_right r.given))), same.1)
+    let sentence = whole_run r.asked r.given r.rest r.fault whole in
+    let same = one_run_proof (r.asked ++ r.rest) r.fault (r.given ++ later) r.given ending Ends r.run sentence in
+    (behind_same r.given later [] (same.0 ∙ sym (nil_right r.given)), same.1)
 
 module _ {S : Type 0} (gives_to : S → Answer → S → Type 0) (known : S → Option Coming) (MayBreak : S → Fault → Type 0) (follows : (s t : S) (a : Answer)
     → gives_to s a t → Follows (MayBreak t) (known s) a (known t)) where
@@ -255,6 +231,13 @@ module _ {S : Type 0} (gives_to : S → Answer → S → Type 0) (known : S → 
   gave_before [] rest s t g = (s, refl, g)
   gave_before (x ∷ more) rest s t g = let (u, h, i) = gave_before more rest g.0 t g.2 in (u, (g.0, g.1, h), i)
 
+  pub asked_front : (asked : List Token) (more : List Answer) (s t : S) → Gave gives_to s (answers asked more) t → (list : List Token) (f : Fault)
+      → known s ≡ Some (coming list f) → (rest : List Token) × (list ≡ asked ++ rest)
+  asked_front asked more s t g list f k =
+      let (u, before, at) = gave_before asked more s t g in
+      let front = in_order asked s u before list f k in
+      (front.rest, front.all)
+
   -- a fault that a known source gave ends its list, or breaks it off
   to_the_end : (more : List Token) (e : Fault) (s t : S) → Gave gives_to s (answers more (Err e ∷ [])) t → (list : List Token) (f : Fault)
       → known s ≡ Some (coming list f) → ((list ≡ more) × (e ≡ f)) ⊎ MayBreak t e
@@ -270,112 +253,113 @@ module _ {S : Type 0} (gives_to : S → Answer → S → Type 0) (known : S → 
       go [] u (inr h, i) all is = inr (subst (λ (x : S). MayBreak x e) (sym is) h)
       go (x ∷ rest) u (h, i) all is = inr (subst (λ (x : S). MayBreak x e) (sym is) h)
 
+  -- what further calls gave begins the run that was to come, and the rest of it is to come
+  unfoldable rest_of : (s : S) (new : Parser S) (asked more list : List Token) (f : Fault) (given events to_come : List Event) (ending : Ending)
+      → known s ≡ Some (coming list f) → IsRun (asked ++ list) f (given ++ to_come) ending → Gave gives_to s (answers more []) new.source
+      → History new (asked ++ more) (given ++ events) → RestOfRun known new events to_come ending
+  rest_of s new asked more list f given events to_come ending k r g h =
+      let front = in_order more s new.source g list f k in
+      let run : IsRun ((asked ++ more) ++ front.rest) f (given ++ to_come) ending
+      = subst (λ (y : List Token). IsRun y f (given ++ to_come) ending)
+      (ap (λ (y : List Token). asked ++ y) front.all ∙ sym (assoc asked more front.rest)) r in
+      let b = linked_begins new.config (asked ++ more) (given ++ events) front.rest (ran_links h) in
+      let all : to_come ≡ events ++ b.0 = behind_same given to_come (events ++ b.0)
+      (run_given ((asked ++ more) ++ front.rest) f (given ++ to_come) ending run ∙ (b.1 ∙ assoc given events b.0)) in
+      record {
+        later = b.0;
+        all = all;
+        run = record {
+          asked = asked ++ more;
+          given = given ++ events;
+          rest = front.rest;
+          fault = f;
+          history = h;
+          knows = front.knows;
+          run = subst (λ (y : List Event). IsRun ((asked ++ more) ++ front.rest) f y ending)
+              (ap (λ (y : List Event). given ++ y) all ∙ sym (assoc given events b.0)) run;
+        };
+      }
+
+  -- tokens that were asked for after these tell the run of the list
+  module _ (before : List Token) (s t : S) (list : List Token) (f : Fault) (k : known s ≡ Some (coming list f)) (e : List Event) (x : Ending)
+      (run : IsRun (before ++ list) f e x) (asked : List Token) (given : List Event) where
+    is_that : (rest : List Token) → list ≡ asked ++ rest → (y : Ending) → IsRun ((before ++ asked) ++ rest) f given y → (given ≡ e) × (y ≡ x)
+    is_that rest all y r = one_run_proof (before ++ list) f given e y x
+        (subst (λ (l : List Token). IsRun l f given y) (assoc before asked rest ∙ ap (λ (l : List Token). before ++ l) (sym all)) r) run
+
+    pub whole_known : (more : List Answer) → Gave gives_to s (answers asked more) t → IsWhole (before ++ asked) given → (given ≡ e) × (Ends ≡ x)
+    whole_known more g w
+        = let (rest, all) = asked_front asked more s t g list f k in is_that rest all Ends (whole_run (before ++ asked) given rest f w)
+
+    pub failed_known : (y : Fault) → Gave gives_to s (answers asked []) t → HasFailed (before ++ asked) given y → (given ≡ e) × (Fails y ≡ x)
+    failed_known y g h
+        = let (rest, all) = asked_front asked [] s t g list f k in is_that rest all (Fails y) (failed_run (before ++ asked) given y rest f h)
+
+    pub short_known : (y : Fault) → Gave gives_to s (answers asked (Err y ∷ [])) t → StopsShort (before ++ asked) given
+        → ((given ≡ e) × (Fails y ≡ x)) ⊎ MayBreak t y
+    short_known y g h = go (to_the_end asked y s t g list f k)
+      where
+        go : ((list ≡ asked) × (y ≡ f)) ⊎ MayBreak t y → ((given ≡ e) × (Fails y ≡ x)) ⊎ MayBreak t y
+        go (inl (a, b)) = inl (is_that [] (a ∙ sym (nil_right asked)) (Fails y) (subst (λ (z : Fault). IsRun ((before ++ asked) ++ []) f given (Fails z)) (sym b)
+            (subst (λ (l : List Token). IsRun l f given (Fails f)) (sym (nil_right (before ++ asked))) (short_run (before ++ asked) given f h))))
+        go (inr a) = inr a
+
+  module _ (old new : Parser S) where
+    -- a call that fails ends the run, unless memory ran out or the source broke off
+    ends_here : (asked rest : List Token) (f : Fault) (given to_come : List Event) (ending : Ending) → known old.source ≡ Some (coming rest f)
+        → IsRun (asked ++ rest) f (given ++ to_come) ending → FailsBy gives_to old new asked given
+        → FailsHere (MayBreak new.source) (kept_fault new) to_come ending
+    ends_here asked rest f given to_come ending knows run k = by k.cause
+      where
+        last : (given ≡ given ++ to_come) × (Fails (kept_fault new) ≡ ending) → (to_come ≡ []) × (ending ≡ Fails (kept_fault new))
+        last (a, b) = (behind_same given to_come [] (sym a ∙ sym (nil_right given)), sym b)
+
+        gave_so : (a : List Answer) → k.more ≡ a → Gave gives_to old.source a new.source
+        gave_so a i = subst (λ (y : List Answer). Gave gives_to old.source y new.source) i k.gave
+
+        by : Cause old.config asked given k.more (kept_fault new) → FailsHere (MayBreak new.source) (kept_fault new) to_come ending
+        by (of_memory l i j z m) = inr (inl m)
+        by (of_grammar l i j) = inl (last (failed_known asked old.source new.source rest f knows (given ++ to_come) ending run l given (kept_fault new)
+            (gave_so (answers l []) i) j))
+        by (of_source l i j m) = ⊎_elim (λ e. inl (last e)) (λ b. inr (inr b)) (short_known asked old.source new.source rest f knows (given ++ to_come) ending
+            run l given (kept_fault new) (gave_so (answers l (Err (kept_fault new) ∷ [])) i) m)
+
+    module _ (to_come : List Event) (ending : Ending) (r : RunToCome known old to_come ending) where
+      pub further : (more : List Token) (given : List Event) → Gave gives_to old.source (answers more []) new.source
+          → History new (r.asked ++ more) (r.given ++ given) → RestOfRun known new given to_come ending
+      further more given gave history
+          = rest_of old.source new r.asked more r.rest r.fault r.given given to_come ending r.knows r.run gave history
+
+      pub fails_here : FailsBy gives_to old new r.asked r.given → FailsHere (MayBreak new.source) (kept_fault new) to_come ending
+      fails_here = ends_here r.asked r.rest r.fault r.given to_come ending r.knows r.run
+
+  -- and after further calls
+  pub fails_behind : (old mid new : Parser S) (to_come : List Event) (ending : Ending) (r : RunToCome known old to_come ending) (more : List Token)
+      (given : List Event) → Gave gives_to old.source (answers more []) mid.source → History mid (r.asked ++ more) (r.given ++ given)
+      → FailsBy gives_to mid new (r.asked ++ more) (r.given ++ given)
+      → (later : List Event) × (to_come ≡ given ++ later) × FailsHere (MayBreak new.source) (kept_fault new) later ending
+  unfolding rest_of
+  fails_behind old mid new to_come ending r more given gave history fails =
+      let m = rest_of old.source mid r.asked more r.rest r.fault r.given given to_come ending r.knows r.run gave history in
+      (m.later, m.all, ends_here mid new m.run.asked m.run.rest m.run.fault m.run.given m.later ending m.run.knows m.run.run fails)
+
   module _ (old new : Parser S) where
     -- a call that gives an event gives the run's next
-    pub ok_run : (e : Event) → Call gives_to old (Ok e) new → ended_or_failed old.config ≡ false → (to_come : List Event) (ending : Ending)
-        → RunToCome known old to_come ending → (later : List Event) × (to_come ≡ e ∷ later) × RunToCome known new later ending
-    ok_run e call begun to_come ending h = go (call_answers old.config h.asked h.given (ran_links h.history) begun call.asked (Ok e) new.config calls)
+    ok_run : (e : Event) → Call gives_to old (Ok e) new → ended_or_failed old.config ≡ false → ForRun known old (RestOfRun known new (e ∷ []))
+    ok_run e call begun to_come ending r =
+        let k = carried_on gives_to old new (Ok e) call begun r.asked r.given r.history in
+        further old new to_come ending r k.more (e ∷ []) k.gave k.history
+
+    -- a call that fails does what the run says, or its fault is not the run's
+    err_run : {Does : Type 0} (x : yaml_error_type_t) → Call gives_to old (Err x) new → x ≡ new.config.fault.error → (to_come : List Event) (ending : Ending)
+        → RunToCome known old to_come ending → ((to_come ≡ []) × (ending ≡ Fails (kept_fault new)) → Does)
+        → UnlessBroken {A = Event} MayBreak (Err x) new Does
+    err_run {Does} x call kept to_come ending h last = go (fails_here old new to_come ending h (fails gives_to old new x call h.asked h.given h.history))
       where
-        calls : Calls AtState (taken old.config) (held old.config ++ call.asked) (Ok e) new.config
-        calls = running_does old.config call.asked (Ok e) new.config begun call.does
-
-        go : Answered (Ok e) new.config h.asked call.asked h.given → (later : List Event) × (to_come ≡ e ∷ later) × RunToCome known new later ending
-        go (gave more x i j k) =
-            let front = in_order more old.source new.source (subst (λ (y : List Answer). Gave gives_to old.source y new.source) i call.gave) h.rest h.fault
-            h.knows in
-            let same : h.asked ++ h.rest ≡ (h.asked ++ more) ++ front.rest = ap (λ (y : List Token). h.asked ++ y) front.all
-            ∙ sym (assoc h.asked more front.rest) in
-            let links : Links new.config (h.asked ++ more) (h.given ++ e ∷ [])
-            = subst (λ (y : Event). Links new.config (h.asked ++ more) (h.given ++ y ∷ [])) (ok_same e x j) k in
-            let b = linked_begins new.config (h.asked ++ more) (h.given ++ e ∷ []) front.rest links in
-            let run : IsRun ((h.asked ++ more) ++ front.rest) h.fault (h.given ++ to_come) ending
-            = subst (λ (y : List Token). IsRun y h.fault (h.given ++ to_come) ending) same h.run in
-            let f : to_come ≡ e ∷ b.0 = behind_same h.given to_come (e
-            ∷ b.0) (run_given ((h.asked ++ more) ++ front.rest) h.fault (h.given ++ to_come) ending run ∙ (b.1 ∙ assoc h.given (e ∷ []) b.0)) in (
-              b.0,
-              f,
-              record {
-                asked = h.asked ++ more;
-                given = h.given ++ e ∷ [];
-                rest = front.rest;
-                fault = h.fault;
-                history = goes_on old.config h.asked h.given more e h.history begun
-                    (subst (λ (y : List Answer). Calls AtState (taken old.config) (held old.config ++ y) (Ok e) new.config) i calls) refl refl;
-                knows = front.knows;
-                run = subst (λ (y : List Event). IsRun ((h.asked ++ more) ++ front.rest) h.fault y ending) (ap (λ (y : List Event). h.given ++ y) f
-                    ∙ sym (assoc h.given (e ∷ []) b.0)) run;
-              },
-            )
-        go (failed more i j k) = absurd (not_err e new.config.fault.error j)
-        go (faulted more w c i j k) = absurd (not_err e new.config.fault.error j)
-
-    -- runs of the tokens that were asked for and known, by a call that fails
-    abbrev pub IsLast : List Event → Ending → Type 0
-    IsLast to_come ending = (to_come ≡ []) × (ending ≡ Fails new.config.fault)
-
-    last_by : (h_given to_come : List Event) (ending : Ending) (l : List Token) (f : Fault) (d : List Event) (x : Ending)
-        → IsRun l f (h_given ++ to_come) ending → IsRun l f d x → h_given ≡ d → x ≡ Fails new.config.fault → IsLast to_come ending
-    last_by g to_come ending l f d x r s i j = let (a, b)
-        = one_run_proof l f (g ++ to_come) d ending x r s in (behind_same g to_come [] (a ∙ (sym i ∙ sym (nil_right g))), b ∙ j)
-
-    cut_last : (to_come : List Event) (ending : Ending) → (h : RunToCome known old to_come ending) → (more rest : List Token) → h.rest ≡ more ++ rest
-        → HasFailed (h.asked ++ more) h.given new.config.fault → IsLast to_come ending
-    cut_last to_come ending h more rest e k =
-        let same : h.asked ++ h.rest ≡ k.before ++ k.token ∷ (k.behind ++ rest) = ap (λ (y : List Token). h.asked ++ y) e
-        ∙ (sym (assoc h.asked more rest) ∙ (ap (λ (y : List Token). y ++ rest) k.all_tokens ∙ assoc k.before (k.token ∷ k.behind) rest)) in
-        last_by h.given to_come ending (k.before ++ k.token ∷ (k.behind ++ rest)) h.fault (cut_events k.cut k.token)
-        (Fails (fault k.cut k.token.content k.token.start_mark)) (subst (λ (y : List Token). IsRun y h.fault (h.given ++ to_come) ending) same h.run)
-        (cut_run k.before k.token (k.behind ++ rest) k.cut h.fault k.fits (longer k.cut k.behind rest (all_waited k.cut k.behind k.waited))) k.all_events
-        (ap Fails (sym k.fault_is))
-
-    short_last : (to_come : List Event) (ending : Ending) → (h : RunToCome known old to_come ending) → (more : List Token) → h.rest ≡ more
-        → new.config.fault ≡ h.fault → StopsShort (h.asked ++ more) h.given → IsLast to_come ending
-    short_last to_come ending h more e f (behind_beginning b n s)
-        = last_by h.given to_come ending (h.asked
-        ++ more) h.fault h.given (Fails h.fault) (subst (λ (y : List Token). IsRun (h.asked ++ y) h.fault (h.given ++ to_come) ending) e h.run)
-        (begin_run (h.asked ++ more) h.given h.fault b n s) refl (ap Fails (sym f))
-    short_last to_come ending h more e f (pars.amid_properties before token behind c i fits w g)
-        = last_by h.given to_come ending (before ++ token ∷ behind) h.fault (cut_events c token) (Fails h.fault)
-        (subst (λ (y : List Token). IsRun y h.fault (h.given ++ to_come) ending) (ap (λ (y : List Token). h.asked ++ y) e ∙ i) h.run)
-        (amid_run before token behind c h.fault fits w) g (ap Fails (sym f))
-
-    -- a fault that a call came to ends the run, or breaks it off
-    pub answered_run : (x : yaml_error_type_t) (to_come : List Event) (ending : Ending) → (h : RunToCome known old to_come ending) → (a : List Answer)
-        → Gave gives_to old.source a new.source → Answered (Err x) new.config h.asked a h.given → IsLast to_come ending ⊎ MayBreak new.source new.config.fault
-    answered_run x to_come ending h a g (gave more e i j k) = absurd (not_err e x (sym j))
-    answered_run x to_come ending h a g (failed more i j k) =
-        let front = in_order more old.source new.source (subst (λ (y : List Answer). Gave gives_to old.source y new.source) i g) h.rest h.fault h.knows in
-        inl (cut_last to_come ending h more front.rest front.all (has_failed (h.asked ++ more) h.given new.config.fault k))
-    answered_run x to_come ending h a g (faulted more w c i j k) = at_last (to_the_end more new.config.fault old.source new.source
-        (subst (λ (y : List Answer). Gave gives_to old.source y new.source) i g) h.rest h.fault h.knows)
-      where
-        at_last : ((h.rest ≡ more) × (new.config.fault ≡ h.fault)) ⊎ MayBreak new.source new.config.fault
-            → IsLast to_come ending ⊎ MayBreak new.source new.config.fault
-        at_last (inl (i, j)) = inl (short_last to_come ending h more i j (stops_short (h.asked ++ more) h.given w c k))
-        at_last (inr i) = inr i
-
-    -- a call that fails ends the run, or breaks it off
-    err_run : (x : yaml_error_type_t) → Call gives_to old (Err x) new → x ≡ new.config.fault.error → (to_come : List Event) (ending : Ending)
-        → RunToCome known old to_come ending → UnlessBroken {A = Event} MayBreak (Err x) new (IsLast to_come ending)
-    err_run x call kept to_come ending h = go (fails gives_to old new x call h.asked h.given h.history)
-      where
-        go : FailsBy gives_to old new h.asked h.given → UnlessBroken {A = Event} MayBreak (Err x) new (IsLast to_come ending)
-        go k = by k.cause
-          where
-            by : Cause old.config h.asked h.given k.more (kept_fault new) → UnlessBroken {A = Event} MayBreak (Err x) new (IsLast to_come ending)
-            by (of_memory l i j z m) = no_memory (ap Err (kept ∙ ap (λ (y : Fault). y.error) m)) m
-            by (of_grammar l i j) =
-                let front = in_order l old.source new.source (subst (λ (y : List Answer). Gave gives_to old.source y new.source) i k.gave) h.rest h.fault
-                h.knows in
-                does (cut_last to_come ending h l front.rest front.all j)
-            by (of_source l i j m) = at_last
-                (to_the_end l (kept_fault new) old.source new.source (subst (λ (y : List Answer). Gave gives_to old.source y new.source) i k.gave) h.rest
-                h.fault h.knows)
-              where
-                at_last : ((h.rest ≡ l) × (kept_fault new ≡ h.fault)) ⊎ MayBreak new.source (kept_fault new)
-                    → UnlessBroken {A = Event} MayBreak (Err x) new (IsLast to_come ending)
-                at_last (inl (a, b)) = does (short_last to_come ending h l a b m)
-                at_last (inr a) = breaks (kept_fault new) a (ap Err kept) refl
+        go : FailsHere (MayBreak new.source) (kept_fault new) to_come ending → UnlessBroken {A = Event} MayBreak (Err x) new Does
+        go (inl i) = does (last i)
+        go (inr (inl m)) = no_memory (ap Err (kept ∙ ap (λ (y : Fault). y.error) m)) m
+        go (inr (inr b)) = breaks (kept_fault new) b (ap Err kept) refl
 
     pub more_to_come : (e : Event) (later : List Event) (ending : Ending) → RunToCome known old (e ∷ later) ending → ended_or_failed old.config ≡ false
     more_to_come e later ending h = go (ended_or_failed old.config) refl
@@ -388,18 +372,15 @@ module _ {S : Type 0} (gives_to : S → Answer → S → Type 0) (known : S → 
         → (e : Event) (later : List Event) (ending : Ending) → RunToCome known old (e ∷ later) ending
         → UnlessBroken MayBreak r new ((r ≡ Ok e) × RunToCome known new later ending)
     next_of_run (Ok x) call kept e later ending h =
-        let (m, f, i) = ok_run x call (more_to_come e later ending h) (e ∷ later) ending h in
-        does (ap Ok (sym (first_same e x later m f)), subst (λ (y : List Event). RunToCome known new y ending) (sym (rest_same e x later m f)) i)
-    next_of_run (Err x) call kept e later ending h = go (err_run x call kept.0 (e ∷ later) ending h)
+        let k = ok_run x call (more_to_come e later ending h) (e ∷ later) ending h in
+        does (
+          ap Ok (sym (first_same e x later k.later k.all)),
+          subst (λ (y : List Event). RunToCome known new y ending) (sym (rest_same e x later k.later k.all)) k.run,
+        )
+    next_of_run (Err x) call kept e later ending h = err_run x call kept.0 (e ∷ later) ending h (λ i. absurd (no i.0))
       where
         no : e ∷ later ≡ [] → ⊥
         no z = cc
-
-        go : UnlessBroken {A = Event} MayBreak (Err x) new (IsLast (e ∷ later) ending)
-            → UnlessBroken {A = Event} MayBreak (Err x) new ((Err x ≡ Ok e) × RunToCome known new later ending)
-        go (does d) = absurd (no d.0)
-        go (no_memory i j) = no_memory i j
-        go (breaks f i j k) = breaks f i j k
 
     pub fault_of_run : (r : EventOrError) → Call gives_to old r new → IfErr r (λ x. (x ≡ new.config.fault.error) × (ended_or_failed new.config ≡ true))
         → (f : Fault) → RunToCome known old [] (Fails f) → UnlessBroken MayBreak r new ((r ≡ Err f.error) × (kept_fault new ≡ f))
@@ -407,20 +388,15 @@ module _ {S : Type 0} (gives_to : S → Answer → S → Type 0) (known : S → 
       where
         go : (b : Bool) → ended_or_failed old.config ≡ b → ⊥
         go true i = let z : Fails f ≡ Ends = (nothing_behind_end known old i [] (Fails f) h).1 in cc
-        go false i = let (m, j, k) = ok_run x call i [] (Fails f) h in no m j
+        go false i = let k = ok_run x call i [] (Fails f) h in no k.later k.all
           where
             no : (m : List Event) → [] ≡ x ∷ m → ⊥
             no m z = cc
-    fault_of_run (Err x) call kept f h = go (err_run x call kept.0 [] (Fails f) h)
+    fault_of_run (Err x) call kept f h
+        = err_run x call kept.0 [] (Fails f) h (λ i. let s = same i.1 in (ap Err (kept.0 ∙ ap (λ (y : Fault). y.error) s), s))
       where
-        same : Fails f ≡ Fails new.config.fault → new.config.fault ≡ f
+        same : Fails f ≡ Fails (kept_fault new) → kept_fault new ≡ f
         same z = cc
-
-        go : UnlessBroken {A = Event} MayBreak (Err x) new (IsLast [] (Fails f))
-            → UnlessBroken {A = Event} MayBreak (Err x) new (◌≡◌ {A = EventOrError} (Err x) (Err f.error) × (kept_fault new ≡ f))
-        go (does d) = let s = same d.1 in does (ap Err (kept.0 ∙ ap (λ (y : Fault). y.error) s), s)
-        go (no_memory i j) = no_memory i j
-        go (breaks g i j k) = breaks g i j k
 
     -- where the run ends well and all its events were given, the parser has ended
     pub end_of_run : RunToCome known old [] Ends → ended_or_failed old.config ≡ true

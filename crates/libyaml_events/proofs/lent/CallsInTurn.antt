@@ -35,7 +35,7 @@ module _ {S : Type 0} (gives : S → Answer → S → Type 0) where
           (subst (λ (l : List Event). History old asked l) (sym (nil_right given)) h);
     }
 
-    unfoldable pub both_calls : (a b : List Event) (h : CarriedOn gives old mid asked given a) → CarriedOn gives mid new (asked ++ h.more) (given ++ a) b
+    pub both_calls : (a b : List Event) (h : CarriedOn gives old mid asked given a) → CarriedOn gives mid new (asked ++ h.more) (given ++ a) b
         → CarriedOn gives old new asked given (a ++ b)
     both_calls a b h k = record {
       more = h.more ++ k.more;

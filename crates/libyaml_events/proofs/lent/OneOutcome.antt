@@ -3,14 +3,13 @@ use Rattle.std.proofs.Common.{◌≡◌, ◌⊎◌, inl, inr, ℕ, Option, List,
 use Rattle.libyaml_types.specs.declared.enums.yaml_error_type_t.{yaml_error_type_t}
 use Rattle.libyaml_sources.specs.Fault.{Answer, Fault, no_fault, memory_fault}
 use Rattle.libyaml_sources.specs.Source.{Coming}
-use Rattle.libyaml_grammar.specs.sentences.Tokens.{Token}
+use Rattle.libyaml_grammar.specs.sentences.Tokens.{Anchor, Content, Token}
 use Rattle.libyaml_grammar.specs.sentences.Trees.{tokens}
 use Rattle.libyaml_grammar.specs.sentences.Events.{Event}
-use Rattle.libyaml_grammar.specs.cuts.CutTrees.{Cut}
+use Rattle.libyaml_grammar.specs.cuts.CutTrees.{Cut, at_tag, at_tag_behind}
 use Rattle.libyaml_grammar.specs.cuts.CutEvents.{cut_events}
-use Rattle.libyaml_grammar.specs.cuts.CutFaults.{fault}
 use Rattle.libyaml_grammar.specs.cuts.Settled.{Begins, BeginsEach, next_event}
-use Rattle.libyaml_grammar.specs.runs.Runs.{Ending, Fails, IsRun, is_behind_properties}
+use Rattle.libyaml_grammar.specs.runs.Runs.{Ending, Fails, IsRun, has_token, is_behind, is_behind_properties}
 use Rattle.libyaml_grammar.proofs.lent.Lists.{nil_right, assoc}
 use Rattle.libyaml_grammar.proofs.lent.Running.{one_run_proof, some_run_proof, cut_run, amid_run}
 use Rattle.libyaml_events.specs.machine.Config.{Config, Parser, taken}
@@ -149,13 +148,30 @@ pub waited : (c : Cut) (l : List Token) → HasWaited c l → is_behind_properti
 waited c l (at_once e f) = ap (is_behind_properties c) e ∙ f
 waited c l (by_last front t e f g) = g
 
--- the run of tokens that have a fault
+some_token : (a b : List Token) → has_token a ≡ true → has_token (a ++ b) ≡ true
+some_token [] b h = absurd cc
+some_token (t ∷ a) b h = refl
+
+behind_more : (c : Cut) (a b : List Token) → is_behind_properties c a ≡ true → is_behind_properties c (a ++ b) ≡ true
+behind_more (at_tag p) [] b h = absurd cc
+behind_more (at_tag p) (t ∷ a) b h = go t.content h
+  where
+    go : (k : Content) → is_behind k a ≡ true → is_behind k (a ++ b) ≡ true
+    go (Anchor x) h = some_token a b h
+    go _ h = refl
+behind_more (at_tag_behind p x m) a b h = some_token a b h
+behind_more _ a b h = refl
+
+-- the run of tokens that have a fault, whatever comes after them
+pub failed_run : (l : List Token) (g : List Event) (f : Fault) (more : List Token) (s : Fault) → HasFailed l g f → IsRun (l ++ more) s g (Fails f)
+failed_run l g f more s h = subst (λ (x : List Token). IsRun x s g (Fails f))
+    (sym (ap (λ (x : List Token). x ++ more) h.all_tokens ∙ assoc h.before (h.token ∷ h.behind) more))
+    (subst (λ (x : List Event). IsRun (h.before ++ h.token ∷ (h.behind ++ more)) s x (Fails f)) (sym h.all_events)
+    (subst (λ (x : Fault). IsRun (h.before ++ h.token ∷ (h.behind ++ more)) s (cut_events h.cut h.token) (Fails x)) (sym h.fault_is)
+    (cut_run h.before h.token (h.behind ++ more) h.cut s h.fits (behind_more h.cut h.behind more (waited h.cut h.behind h.waited)))))
+
 pub faulty_run : (l : List Token) (given : List Event) (g : Fault) → HasFailed l given g → (f : Fault) → IsRun l f given (Fails g)
-faulty_run l given g h f
-    = subst (λ (k : List Token). IsRun k f given (Fails g)) (sym h.all_tokens)
-    (subst (λ (z : Fault). IsRun (h.before ++ h.token ∷ h.behind) f given (Fails z)) (sym h.fault_is)
-    (subst (λ (z : List Event). IsRun (h.before ++ h.token ∷ h.behind) f z (Fails (fault h.cut h.token.content h.token.start_mark))) (sym h.all_events)
-    (cut_run h.before h.token h.behind h.cut f h.fits (waited h.cut h.behind h.waited))))
+faulty_run l given g h f = subst (λ (k : List Token). IsRun k f given (Fails g)) (nil_right l) (failed_run l given g [] f h)
 
 pub same_fault : (f g : Fault) → Fails f ≡ Fails g → f ≡ g
 same_fault f g e = cc

@@ -34,10 +34,9 @@ never b e f = go (sym e ∙ f)
     go : true ≡ false → ⊥
     go h = cc
 
-pub whole_run : (l : List Token) (given : List Event) → IsWhole l given → (f : Fault) → IsRun l f given Ends
-whole_run l given w f
-    = subst (λ (z : List Token). IsRun z f given Ends) (nil_right (tokens w.tree) ∙ sym w.all_tokens)
-    (subst (λ (z : List Event). IsRun (tokens w.tree ++ []) f z Ends) (sym w.all_events) (sentence_run w.tree [] f w.order))
+pub whole_run : (l : List Token) (g : List Event) (more : List Token) (f : Fault) → IsWhole l g → IsRun (l ++ more) f g Ends
+whole_run l g more f h = subst (λ (x : List Token). IsRun (x ++ more) f g Ends) (sym h.all_tokens)
+    (subst (λ (x : List Event). IsRun (tokens h.tree ++ more) f x Ends) (sym h.all_events) (sentence_run h.tree more f h.order))
 
 pub short_run : (l : List Token) (given : List Event) (f : Fault) → StopsShort l given → IsRun l f given (Fails f)
 short_run l given f (behind_beginning b h s) = begin_run l given f b h s
@@ -59,7 +58,7 @@ pub ended_stop : (asked : List Token) (last : List Answer) (given : List Event) 
     → RunStop (answers asked last) given Ends
 ended_stop asked last given n w
     = at_token asked (ap (answers asked) (nothing_last asked last given w n)) (λ g h k. never (has_end asked) (whole_ends asked given w) h)
-    (whole_run asked given w)
+    (λ f. subst (λ (z : List Token). IsRun z f given Ends) (nil_right asked) (whole_run asked given [] f w))
 
 pub grammar_stop : (asked : List Token) (last : List Answer) (given : List Event) (f : Fault) (l : List Token) → last ≡ answers l [] → HasFailed (asked ++ l) given f
     → RunStop (answers asked last) given (Fails f)

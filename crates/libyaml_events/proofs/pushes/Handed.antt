@@ -1,19 +1,15 @@
 -- The clauses of what a parser was handed and gave.
 use Rattle.std.proofs.Common.{◌≡◌, ◌≤◌, ◌+◌, ◌*◌, arith, ◌⊎◌, inl, inr, ◌++◌, ◌∷◌, List, [], length, Option, Some, None, true, false, refl, sym, ap, ◌∙◌, subst}
 use Rattle.libyaml_sources.specs.Fault.{Fault, no_fault}
-use Rattle.libyaml_grammar.specs.sentences.Tokens.{Anchor, Content, Token}
-use Rattle.libyaml_grammar.specs.sentences.Trees.{tokens}
+use Rattle.libyaml_grammar.specs.sentences.Tokens.{Content, Token}
 use Rattle.libyaml_grammar.specs.sentences.Events.{Event, events}
 use Rattle.libyaml_grammar.specs.sentences.Sentences.{has_end}
 use Rattle.libyaml_grammar.specs.sentences.Nesting.{NestsSoFar, not_begun}
-use Rattle.libyaml_grammar.specs.cuts.CutTrees.{Cut, at_tag, at_tag_behind}
-use Rattle.libyaml_grammar.specs.cuts.CutEvents.{cut_events}
 use Rattle.libyaml_grammar.specs.cuts.Settled.{BeginsEach}
-use Rattle.libyaml_grammar.specs.runs.Runs.{Ends, Fails, IsRun, has_token, is_behind, is_behind_properties}
+use Rattle.libyaml_grammar.specs.runs.Runs.{IsRun}
 use Rattle.libyaml_grammar.proofs.lent.Lists.{assoc}
 use Rattle.libyaml_grammar.proofs.lent.NestingSoFar.{run_front_nests}
-use Rattle.libyaml_grammar.proofs.lent.Running.{cut_run, sentence_run, some_run_proof}
-use Rattle.libyaml_grammar.proofs.lent.StreamEnds.{sentence_has_end}
+use Rattle.libyaml_grammar.proofs.lent.Running.{some_run_proof}
 use Rattle.libyaml_events.specs.machine.Config.{Config, is_fault, ended_or_failed}
 use Rattle.libyaml_events.specs.machine.Machine.{Progressed}
 use Rattle.libyaml_events.specs.machine.Growth.{may_grow, may_grow_at}
@@ -22,7 +18,7 @@ use Rattle.libyaml_events.specs.parsers.Stages.{Stage, ends_quietly, is_quiet, s
 use Rattle.libyaml_events.specs.sources.Determined.{BeginsEachRun}
 use Rattle.libyaml_types.specs.declared.enums.yaml_parser_state_t.{yaml_parser_state_t}
 use Rattle.libyaml_types.specs.declared.enums.yaml_parser_state_t.TheVariants as state
-use Rattle.libyaml_events.specs.sources.Parsing.{HasFailed, StopsShort, IsWhole}
+use Rattle.libyaml_events.specs.sources.Parsing.{StopsShort, IsWhole}
 use Rattle.libyaml_events.specs.sources.Pushed.{Fed, begins, takes, wants, gives}
 use Rattle.libyaml_events.proofs.calls.Counting.{length_append, linked_begins_each, linked_count}
 use Rattle.libyaml_events.proofs.calls.KnownRuns.{linked_begins, run_given}
@@ -33,7 +29,7 @@ use Rattle.libyaml_events.proofs.calls.Staged.{due_takes, outside_grows, quiet_b
 use Rattle.libyaml_events.proofs.machine.StepKinds as kinds
 use Rattle.libyaml_events.proofs.machine.StepKinds.{Kind, kind, kind_of}
 use Rattle.libyaml_events.proofs.machine.Stand.{Leads, Links}
-use Rattle.libyaml_events.proofs.lent.OneOutcome.{waited}
+use Rattle.libyaml_events.proofs.lent.RunStops.{whole_ends}
 use Rattle.libyaml_events.proofs.pushes.Feeding.{Running, fed_to, has_ended, not_both, runs}
 
 -- what holds at the start, stays by a token, and holds after each event
@@ -121,42 +117,13 @@ fed_grows {w} {c} {u} {l} {g} f h =
     let (before, e) = fed_last f in
     grows_so w c u (stage_of g) (fed_to f).good.0 h l (ap ends_quietly e ∙ quiet_behind before u [])
 
--- the runs of what was handed over
-pub whole_run : (l : List Token) (g : List Event) (more : List Token) (f : Fault) → IsWhole l g → IsRun (l ++ more) f g Ends
-whole_run l g more f h = subst (λ (x : List Token). IsRun (x ++ more) f g Ends) (sym h.all_tokens)
-    (subst (λ (x : List Event). IsRun (tokens h.tree ++ more) f x Ends) (sym h.all_events) (sentence_run h.tree more f h.order))
-
-some_token : (a b : List Token) → has_token a ≡ true → has_token (a ++ b) ≡ true
-some_token [] b h = absurd cc
-some_token (t ∷ a) b h = refl
-
-behind_more : (c : Cut) (a b : List Token) → is_behind_properties c a ≡ true → is_behind_properties c (a ++ b) ≡ true
-behind_more (at_tag p) [] b h = absurd cc
-behind_more (at_tag p) (t ∷ a) b h = go t.content h
-  where
-    go : (k : Content) → is_behind k a ≡ true → is_behind k (a ++ b) ≡ true
-    go (Anchor x) h = some_token a b h
-    go _ h = refl
-behind_more (at_tag_behind p x m) a b h = some_token a b h
-behind_more _ a b h = refl
-
-pub failed_run : (l : List Token) (g : List Event) (f : Fault) (more : List Token) (s : Fault) → HasFailed l g f → IsRun (l ++ more) s g (Fails f)
-failed_run l g f more s h = subst (λ (x : List Token). IsRun x s g (Fails f))
-    (sym (ap (λ (x : List Token). x ++ more) h.all_tokens ∙ assoc h.before (h.token ∷ h.behind) more))
-    (subst (λ (x : List Event). IsRun (h.before ++ h.token ∷ (h.behind ++ more)) s x (Fails f)) (sym h.all_events)
-    (subst (λ (x : Fault). IsRun (h.before ++ h.token ∷ (h.behind ++ more)) s (cut_events h.cut h.token) (Fails x)) (sym h.fault_is)
-    (cut_run h.before h.token (h.behind ++ more) h.cut s h.fits (behind_more h.cut h.behind more (waited h.cut h.behind h.waited)))))
-
-whole_has_end : (l : List Token) (g : List Event) → IsWhole l g → has_end l ≡ true
-whole_has_end l g h = sentence_has_end l (record { tree = h.tree; all = h.all_tokens; order = h.order })
-
 module _ {w : Want} {c : Config} {l : List Token} {g : List Event} (f : Fed w c None l g) where
   pub fed_settled : has_end l ≡ false → StopsShort l g
   fed_settled h = by (fed_to f).running
     where
       by : Running w c l g → StopsShort l g
       by (runs k s) = stops_short l g w c s
-      by (has_ended k m) = absurd (not_both (has_end l) h (whole_has_end l g m))
+      by (has_ended k m) = absurd (not_both (has_end l) h (whole_ends l g m))
 
   pub fed_whole : has_end l ≡ true → IsWhole l g
   fed_whole h = by (fed_to f).running
@@ -170,7 +137,7 @@ module _ {w : Want} {c : Config} {l : List Token} {g : List Event} (f : Fed w c 
     where
       by : Running w c l g → ended_or_failed c ≡ has_end l
       by (runs k s) = k ∙ sym (standing_no_end l g w c s)
-      by (has_ended k m) = k ∙ sym (whole_has_end l g m)
+      by (has_ended k m) = k ∙ sym (whole_ends l g m)
 
   pub fed_faultless : is_fault c.fault.error ≡ false
   fed_faultless = ap (λ (x : Fault). is_fault x.error) (fed_to f).good.1

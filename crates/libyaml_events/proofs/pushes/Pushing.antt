@@ -5,8 +5,8 @@ use Rattle.libyaml_grammar.specs.sentences.Events.{Event}
 use Rattle.libyaml_events.specs.sources.Pushed.{PushParser, fault_in, has_stopped, keeps_fault}
 use Rattle.libyaml_events.specs.sources.Pushes.{Done, Pushes, Takes, done_by, done_if}
 use Rattle.libyaml_events.proofs.pushes.Feeding.{not_both}
-use Rattle.libyaml_events.proofs.pushes.Handed.{fed_begins, fed_begins_run, fed_count, fed_ended, fed_faultless, fed_nests, fed_settled, fed_whole, whole_run}
-use Rattle.libyaml_events.proofs.lent.RunStops.{short_run}
+use Rattle.libyaml_events.proofs.pushes.Handed.{fed_begins, fed_begins_run, fed_count, fed_ended, fed_faultless, fed_nests, fed_settled, fed_whole}
+use Rattle.libyaml_events.proofs.lent.RunStops.{short_run, whole_run}
 
 module _ (Full : Type 0) (old : PushParser) (t : Token) (before : List Event) (r : Done) where
   abbrev Keeps : PushParser → Type 0

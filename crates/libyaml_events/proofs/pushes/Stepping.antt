@@ -15,7 +15,7 @@ use Rattle.libyaml_events.proofs.calls.Staging.{Good, GoodEvent, GoodOn, good_st
 use Rattle.libyaml_events.proofs.calls.Staged.{alive_stage, leads_to_end, stage_snoc, staged_over}
 use Rattle.libyaml_events.proofs.machine.Stand.{Leads}
 use Rattle.libyaml_events.proofs.pushes.Feeding.{fed_to, running, wanted_runs}
-use Rattle.libyaml_events.proofs.pushes.Handed.{failed_run}
+use Rattle.libyaml_events.proofs.lent.OneOutcome.{failed_run}
 
 pub none_kept : {w : Want} {c : Config} {o : Option Token} {l : List Token} {g : List Event} → Fed w c o l g
     → is_fault c.fault.error ≡ false

@@ -24,7 +24,7 @@ use Rattle.libyaml_events.proofs.machine.StepKinds.{room}
 use Rattle.libyaml_events.proofs.machine.Stand.{Leads, Links}
 use Rattle.libyaml_events.proofs.pushes.Feeding.{InHand, Running, fed_to, has_ended, not_both, running, runs}
 use Rattle.libyaml_events.proofs.pushes.Few.{few}
-use Rattle.libyaml_events.proofs.pushes.Handed.{failed_run}
+use Rattle.libyaml_events.proofs.lent.OneOutcome.{failed_run}
 
 -- a step that gives an event after which the token stays leaves less
 pub step_falls : (w : Want) (c : Config) (u : Token) (e : Event) (d : Config) (v : Token) → c.lookahead ≡ None → step w c u ≡ Ok (Given e, d)

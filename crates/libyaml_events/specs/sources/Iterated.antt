@@ -11,7 +11,7 @@ use Rattle.libyaml_events.specs.sources.CallsInTurn.{CarriedOn}
 use Rattle.libyaml_events.specs.sources.History.{ForHistory, is_over, kept_fault}
 use Rattle.libyaml_events.specs.sources.Iterates.{YieldsEvent}
 use Rattle.libyaml_events.specs.sources.Parsing.{FailsBy}
-use Rattle.libyaml_events.specs.sources.RunToCome.{FailsHere, ForRun, RunToCome}
+use Rattle.libyaml_events.specs.sources.RunToCome.{FailsHere, ForRun, RestOfRun}
 
 abbrev pub Item : Type 0
 Item = Result Event yaml_parser_t_prefix
@@ -28,7 +28,7 @@ Iterated gives bound known may_break = Yields (YieldsEvent gives bound known may
 -- After these events: the history went on by them, and the run that was to come begins with them.
 pub record GaveEvents {S : Type 0} (gives : S → Answer → S → Type 0) (known : S → Option Coming) (old new : Parser S) (events : List Event) : Type 0 where
   pub history : ForHistory old (λ asked given. CarriedOn gives old new asked given events)
-  pub run : ForRun known old (λ to_come ending. (later : List Event) × (to_come ≡ events ++ later) × RunToCome known new later ending)
+  pub run : ForRun known old (RestOfRun known new events)
 
 -- the history went on by these events, and then a call failed
 pub record FailedBehind {S : Type 0} (gives : S → Answer → S → Type 0) (old new : Parser S) (events : List Event) (asked : List Token) (given : List Event)

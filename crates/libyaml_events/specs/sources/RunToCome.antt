@@ -21,6 +21,12 @@ pub record RunToCome {S : Type 0} (known : S → Option Coming) (p : Parser S) (
   pub knows : known p.source ≡ Some (coming rest fault)
   pub run : IsRun (asked ++ rest) fault (given ++ to_come) ending
 
+-- of a run that was to come these events were given, and the others are to come
+pub record RestOfRun {S : Type 0} (known : S → Option Coming) (new : Parser S) (given to_come : List Event) (ending : Ending) : Type 0 where
+  pub later : List Event
+  pub all : to_come ≡ given ++ later
+  pub run : RunToCome known new later ending
+
 -- P holds of every run that the parser has before it, with its ending
 abbrev pub ForRun : {S : Type 0} → (S → Option Coming) → Parser S → (List Event → Ending → Type 0) → Type 0
 ForRun known p P = (to_come : List Event) (ending : Ending) → RunToCome known p to_come ending → P to_come ending

@@ -1,20 +1,22 @@
 //! The laws of calls in turn: what a loop over the events of a parser carries on.
 
-ghost use Rattle.std.specs.Prelude.{◌≡◌, ◌≤◌, ◌+◌, ◌*◌, ◌++◌, ◌∷◌, List, [], Some, length, true, false};
+ghost use Rattle.std.specs.Prelude.{◌≡◌, ◌⊎◌, ◌≤◌, ◌+◌, ◌*◌, ◌++◌, ◌∷◌, List, [], Some, Err, length, true, false};
 ghost use Rattle.libyaml_events.specs.sources.Calls.{Gave};
 ghost use Rattle.libyaml_events.specs.sources.Determined.{BeginsEachRun};
 ghost use Rattle.libyaml_events.specs.sources.CallsInTurn.{CarriedOn, KnowsRest};
 ghost use Rattle.libyaml_events.specs.machine.Config.{Parser};
 ghost use Rattle.libyaml_grammar.specs.sentences.Events.{Event};
 ghost use Rattle.libyaml_sources.specs.Fault.{Fault, Answer};
-ghost use Rattle.libyaml_events.specs.sources.History.{ForHistory, History, answers, has_failed, is_over};
+ghost use Rattle.libyaml_events.specs.sources.History.{ForHistory, History, answers, has_failed, is_over, kept_fault};
 ghost use Rattle.libyaml_events.specs.sources.History.{stack_depth};
 ghost use Rattle.libyaml_events.specs.sources.Needs.{EachWasNeeded};
 ghost use Rattle.libyaml_events.specs.parsers.Lookahead.{HoldsLast};
 ghost use Rattle.libyaml_grammar.specs.cuts.Settled.{BeginsEach};
-ghost use Rattle.libyaml_grammar.specs.runs.Runs.{Ending, IsRun};
+ghost use Rattle.libyaml_grammar.specs.runs.Runs.{Ending, Ends, Fails, IsRun};
 ghost use Rattle.libyaml_grammar.specs.sentences.Nesting.{NestsSoFar};
-ghost use Rattle.libyaml_events.specs.sources.Parsing.{CarriesOn, IsWhole};
+ghost use Rattle.libyaml_events.specs.sources.Parsing.{CarriesOn, FailsBy, HasFailed, IsWhole};
+ghost use Rattle.libyaml_events.specs.sources.Parsing.{StopsShort};
+ghost use Rattle.libyaml_events.specs.sources.RunToCome.{FailsHere, RestOfRun, RunToCome};
 ghost use Rattle.libyaml_sources.specs.Source.{coming};
 ghost use Rattle.libyaml_events.specs.parsers.Stages.{after, open_collections, stage_from, stage_of};
 ghost use Rattle.libyaml_grammar.specs.sentences.Tokens.{Token};
@@ -48,6 +50,41 @@ pub fn calls_in_turn<S: yaml_token_source_t>()
 pub fn source_left<S: yaml_token_source_t>()
     ensures { (s t : S) (more list : List Token) (f : Fault) → S.known s ≡ Some (coming list f)
         → Gave S.gives s (answers more []) t → KnowsRest S.known more list f t }
+{}
+
+/// Over a source that knows its tokens, the events that a parser gave are the first of the run that it had to come,
+/// and the others are to come. A call that fails does so where the run does, unless an allocation failed or the
+/// source broke off.
+pub fn rest_of_run<S: yaml_token_source_t>()
+    ensures further { (p q : Parser S) (more : List Token) (events to_come : List Event) (ending : Ending)
+        (r : RunToCome S.known p to_come ending) → Gave S.gives p.source (answers more []) q.source
+        → History q (r.asked ++ more) (r.given ++ events) → RestOfRun S.known q events to_come ending }
+    ensures fails { (p q : Parser S) (to_come : List Event) (ending : Ending)
+        (r : RunToCome S.known p to_come ending) → FailsBy S.gives p q r.asked r.given
+        → FailsHere (S.may_break q.source) (kept_fault q) to_come ending }
+    ensures fails_behind { (p q new : Parser S) (more : List Token) (events to_come : List Event)
+        (ending : Ending) (r : RunToCome S.known p to_come ending)
+        → Gave S.gives p.source (answers more []) q.source → History q (r.asked ++ more) (r.given ++ events)
+        → FailsBy S.gives q new (r.asked ++ more) (r.given ++ events)
+        → (later : List Event) × (to_come ≡ events ++ later)
+        × FailsHere (S.may_break new.source) (kept_fault new) later ending }
+{}
+
+/// The tokens that were asked of a source that knows its list tell the run of the list: those of a whole tree; those
+/// that have a fault of the grammar; and those that end too soon before the source's own fault, unless it broke off.
+pub fn run_of_asked<S: yaml_token_source_t>()
+    ensures front { (s t : S) (asked l : List Token) (more : List Answer) (f : Fault)
+        → S.known s ≡ Some (coming l f) → Gave S.gives s (answers asked more) t
+        → (rest : List Token) × (l ≡ asked ++ rest) }
+    ensures whole { (s t : S) (asked l : List Token) (more : List Answer) (f : Fault) (given e : List Event)
+        (x : Ending) → S.known s ≡ Some (coming l f) → IsRun l f e x → Gave S.gives s (answers asked more) t
+        → IsWhole asked given → (given ≡ e) × (Ends ≡ x) }
+    ensures grammar { (s t : S) (asked l : List Token) (f g : Fault) (given e : List Event) (x : Ending)
+        → S.known s ≡ Some (coming l f) → IsRun l f e x → Gave S.gives s (answers asked []) t
+        → HasFailed asked given g → (given ≡ e) × (Fails g ≡ x) }
+    ensures source { (s t : S) (asked l : List Token) (f g : Fault) (given e : List Event) (x : Ending)
+        → S.known s ≡ Some (coming l f) → IsRun l f e x → Gave S.gives s (answers asked (Err g ∷ [])) t
+        → StopsShort asked given → ((given ≡ e) × (Fails g ≡ x)) ⊎ S.may_break t g }
 {}
 
 /// A run has at most four events for each token. So the stack of a parser has at most four states for each

@@ -1,5 +1,5 @@
-use Rattle.libyaml_events.proofs.pushes.Handed.{fed_begins, fed_begins_run, fed_count, fed_ended, fed_faultless, fed_nests, fed_settled, fed_whole, whole_run}
-use Rattle.libyaml_events.proofs.lent.RunStops.{short_run}
+use Rattle.libyaml_events.proofs.pushes.Handed.{fed_begins, fed_begins_run, fed_count, fed_ended, fed_faultless, fed_nests, fed_settled, fed_whole}
+use Rattle.libyaml_events.proofs.lent.RunStops.{short_run, whole_run}
 use Rattle.libyaml_events.proofs.laws.pushes.of_pushed.Goals as goal
 
 pub returns-clause-settled : goal.returns-clause-settled
