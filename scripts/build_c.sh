@@ -43,13 +43,13 @@ build_over_ci() {
         --toolchain "$kit/toolchain" --backend llvm -o "out/lib$name.a"
 }
 
-# Makes libNAME.a and libNAME.so of the crate NAME_c, where CRATE is what it stands on: they hand out these names alone.
+# Makes libNAME.a and libNAME.so of the crate NAME_c, which stands on the crate NAME: they hand out these names alone.
 build_library() {
-    name=$1 crate=$2
-    shift 2
+    name=$1
+    shift
     wanted=$(printf '%s\n' "$@" | sort)
     how='rt lib'
-    if [ "$after" = ci ] && [ ! -e "crates/$crate/out/rlib/stamp" ]; then
+    if [ "$after" = ci ] && [ ! -e "crates/$name/out/rlib/stamp" ]; then
         how=build_over_ci
     fi
     echo "building crates/${name}_c ($how); what it says goes to $dir/rt_lib.log"
@@ -71,7 +71,7 @@ build_library() {
     fi
 }
 
-build_library token_lines memory_runs token_lines_run_events token_lines_run_nodes
-build_library token_records token_records token_records_run_events
+build_library token_lines token_lines_run_events token_lines_run_nodes
+build_library token_records token_records_run_events
 
 "$cc" ${CFLAGS:--O2 -Wall -Wextra} examples/yaml.c "$dir/libtoken_lines.a" -lyaml -o "$dir/yaml"

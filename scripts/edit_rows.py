@@ -35,7 +35,6 @@ PROGRAMS = {
     "token_lines": ["yamltokens", "line_rows"],
     "token_words": ["yamltokens", "line_rows"],
     "computed_tokens": ["hostile_rows"],
-    "memory_runs": ["line_rows"],
     "token_lines_c": [],
     "yaml_path": ["yamlvalue"],
 }

@@ -20,7 +20,7 @@ METHOD = re.compile(r"    (pub )?fn (\w+)")
 IMPL = re.compile(r"impl(<.*?>)? (?:(.+?) for )?(\w+)")
 USE = re.compile(r"pub use ([\w:]+?)(?:::\{([^}]*)\}| as (\w+))?;")
 LAWS = re.compile(r"(?:laws|rows|determined)::")
-NAMED = ("unsafe_libyaml", "token_lines", "memory_runs", "token_lines_c", "yaml_path")
+NAMED = ("unsafe_libyaml", "token_lines", "token_lines_c", "yaml_path")
 EXAMPLES = {"computed_tokens", "pushed_list", "cited_theorems", "row_checks"}
 WIDTH = 110
 
@@ -180,8 +180,10 @@ def root(crate):
 
 
 def module_files(crate, module):
-    folder = TOP / "crates" / crate / "src"
-    return [path for path in [folder / f"{module}.rt", *sorted((folder / module).glob("*.rt"))] if path.exists()]
+    """The file of a public module, and those of its public modules."""
+    path = TOP / "crates" / crate / "src" / f"{module}.rt"
+    inner = re.findall(r"^pub mod (\w+);", path.read_text(), re.M)
+    return [path, *(path.with_suffix("") / f"{name}.rt" for name in sorted(inner))]
 
 
 def names_passed_on(crate, file=None):

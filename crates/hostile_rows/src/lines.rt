@@ -2,7 +2,7 @@
 
 use row_checks::is_cut;
 use std::alloc::{AllocError, Global};
-use token_lines::{Outcome, write_document, write_event, write_events, write_nodes};
+use token_lines::{run_end_t, write_document, write_event, write_events, write_nodes};
 use unsafe_libyaml::{
     yaml_document_t, yaml_event_t, yaml_parser_initialize, yaml_refusal_t, yaml_token_source_t,
 };
@@ -71,11 +71,11 @@ pub fn write_lines<S: yaml_token_source_t + Drop>(
     of: LinesOf,
     source: S,
     lines: &mut Vec<u8>,
-) -> Outcome {
+) -> run_end_t {
     let mut parser = yaml_parser_initialize(alloc, source);
     match of {
-        LinesOf::Events => write_events(alloc, &mut parser, lines),
-        LinesOf::Documents => write_nodes(alloc, &mut parser, lines),
+        LinesOf::Events => write_events(&mut parser, lines),
+        LinesOf::Documents => write_nodes(&mut parser, lines),
     }
 }
 
@@ -87,7 +87,7 @@ pub fn write_lines<S: yaml_token_source_t + Drop>(
 pub fn lines_of<S: yaml_token_source_t + Drop>(alloc: Global, of: LinesOf, source: S) -> Lines {
     let mut lines = Vec::new(alloc);
     match write_lines(alloc, of, source, &mut lines) {
-        Outcome::OutputFailed => Err(RowError::Memory),
+        run_end_t::OutputFailed => Err(RowError::Memory),
         _ => Ok(lines),
     }
 }

@@ -13,6 +13,7 @@ mod search;
 mod token_line;
 mod token_name;
 
+pub use line_problem::READ_FAILED;
 pub use line_source::yaml_line_source_t;
 
 /// A token line has at most this many bytes, its LF not counted.

@@ -26,6 +26,9 @@ pub(crate) enum LineProblem {
     NoMoreTokens,
 }
 
+/// The words of the fault of a failed read.
+pub const READ_FAILED: &str = "read failed";
+
 impl From<AllocError> for LineProblem {
     ghost use Rattle.std.specs.Prelude.{◌≡◌};
     ghost use Rattle.line_reading.specs.declared.line_problem.LineProblem.TheVariants.{Memory};
@@ -57,7 +60,7 @@ impl LineProblem {
         let scanner = yaml_error_type_t::YAML_SCANNER_ERROR;
         match self {
             LineProblem::Memory => yaml_source_fault_t::out_of_memory(),
-            LineProblem::ReadFailed => fault_at(reader, "read failed", given),
+            LineProblem::ReadFailed => fault_at(reader, READ_FAILED, given),
             LineProblem::LineTooLong => fault_at(reader, "line too long", given),
             LineProblem::BadTokenLine => fault_at(scanner, "bad token line", given),
             LineProblem::TooManyTokens => fault_at(reader, "too many tokens", given),

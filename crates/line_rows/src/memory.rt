@@ -2,10 +2,10 @@
 //! are compared.
 
 use crate::runs::{LinesOf, Run};
-use memory_runs::{events_in_memory, memory_outcome_t, memory_run_t, nodes_in_memory};
 use row_checks::show_difference;
 use std::alloc::Global;
 use std::io;
+use token_lines::memory::{events_in_memory, memory_outcome_t, memory_run_t, nodes_in_memory};
 use token_lines::{MAX_TOKENS, Outcome};
 
 /// How many bytes the buffer has: more than any run writes but those of long lines.

@@ -2,3 +2,4 @@ pub mod RunLemmas
 pub mod KnownLines
 pub mod ReadsBackLemmas
 pub mod OneOutputs
+pub mod WholeRuns

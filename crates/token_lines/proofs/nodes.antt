@@ -1,3 +1,4 @@
 pub mod NodeStepLemmas
 pub mod NodeTurnLemmas
 pub mod LargeRuns
+pub mod NoBound

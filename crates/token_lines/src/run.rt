@@ -1,8 +1,8 @@
 //! Runs: from token lines to the lines of events or of documents.
-ghost use Rattle.std.specs.Prelude.{◌≡◌, ◌≢◌, ◌⊎◌};
-ghost use Rattle.std.specs.Io.KnownBytes.{Appends, Keeps};
+ghost use Rattle.std.specs.Prelude.{◌≡◌, ◌⊎◌};
+ghost use Rattle.std.specs.Io.KnownBytes.{Keeps};
 ghost use Rattle.libyaml_sources.specs.Fault.{fault_of};
-ghost use Rattle.line_writing.specs.FaultText.{fault_text};
+ghost use Rattle.token_lines.specs.lines.LineRun.{WroteFault, outcome_of};
 
 mod events;
 mod nodes;
@@ -25,6 +25,30 @@ pub enum Outcome {
     OutputFailed,
 }
 
+/// How a run ended, with the fault whose text it wrote.
+#[derive(Copy, Clone, PartialEq, Eq, Debug)]
+pub enum run_end_t {
+    /// All was written, or nothing was left to write.
+    Ended,
+    /// The text of this fault was written.
+    Faulted(yaml_parser_t_prefix),
+    /// A write or a flush failed.
+    OutputFailed,
+}
+
+impl run_end_t {
+    /// Returns how the run ended, without its fault.
+    pub fn outcome(&self) -> Outcome
+        ensures { result ≡ outcome_of self.now }
+    {
+        match self {
+            run_end_t::Ended => Outcome::Ended,
+            run_end_t::Faulted(_) => Outcome::Faulted,
+            run_end_t::OutputFailed => Outcome::OutputFailed,
+        }
+    }
+}
+
 /// What came of the next event or document.
 #[derive(Copy, Clone)]
 enum RunStep {
@@ -39,14 +63,12 @@ enum RunStep {
 }
 
 /// Writes the text of a fault.
-fn faulted<W: Write>(prefix: &yaml_parser_t_prefix, writer: &mut W) -> Outcome
-    ensures not_ended { result ≢ Outcome.Ended }
-    ensures writes { result ≡ Outcome.Faulted
-        → Appends (W.contents writer.old) (W.contents writer.new) (fault_text (fault_of prefix.now)) }
+fn faulted<W: Write>(prefix: &yaml_parser_t_prefix, writer: &mut W) -> run_end_t
+    ensures { WroteFault result (fault_of prefix.now) (W.contents writer.old) (W.contents writer.new) }
 {
     match write_fault(prefix, writer) {
-        Ok(()) => flushed(Outcome::Faulted, writer),
-        Err(_) => Outcome::OutputFailed,
+        Ok(()) => flushed(run_end_t::Faulted(*prefix), writer),
+        Err(_) => run_end_t::OutputFailed,
     }
 }
 
@@ -66,12 +88,12 @@ fn show<S: yaml_token_source_t, W: Write>(
 }
 
 /// Flushes the writer after all that a run has written.
-fn flushed<W: Write>(outcome: Outcome, writer: &mut W) -> Outcome
-    ensures outcome { (result ≡ outcome) ⊎ (result ≡ Outcome.OutputFailed) }
+fn flushed<W: Write>(end: run_end_t, writer: &mut W) -> run_end_t
+    ensures end { (result ≡ end) ⊎ (result ≡ run_end_t.OutputFailed) }
     ensures keeps { Keeps (W.contents writer.old) (W.contents writer.new) }
 {
     match writer.flush() {
-        Ok(()) => outcome,
-        Err(_) => Outcome::OutputFailed,
+        Ok(()) => end,
+        Err(_) => run_end_t::OutputFailed,
     }
 }

@@ -1,8 +1,8 @@
 -- What a run over memory tells a caller in C (docs/DEFINITIONS.md, "Runs over memory").
 use Rattle.std.specs.Prelude.{◌≡◌, ℕ, List}
-use Rattle.memory_runs.specs.InMemory.{InMemory}
-use Rattle.memory_runs.specs.declared.outcome.memory_outcome_t.{memory_outcome_t}
-use Rattle.memory_runs.specs.declared.outcome.memory_outcome_t.TheVariants.{Ended, Faulted, OutOfMemory}
+use Rattle.token_lines.specs.lines.InMemory.{InMemory}
+use Rattle.token_lines.specs.declared.memory.memory_outcome_t.{memory_outcome_t}
+use Rattle.token_lines.specs.declared.memory.memory_outcome_t.TheVariants.{Ended, Faulted, OutOfMemory}
 
 abbrev pub status_of : memory_outcome_t → ℕ
 status_of Ended = 0

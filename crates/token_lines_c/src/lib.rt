@@ -4,11 +4,11 @@
 #![tactic(auto)]
 
 ghost use Rattle.std.specs.Prelude.{◌≡◌};
-ghost use Rattle.memory_runs.specs.InMemory.{has_events, has_nodes};
+ghost use Rattle.token_lines.specs.lines.InMemory.{has_events, has_nodes};
 ghost use Rattle.token_lines_c.specs.ForC.{ForC, status_of};
 
-use memory_runs::{events_in_memory, memory_outcome_t, nodes_in_memory};
 use std::alloc::Global;
+use token_lines::memory::{events_in_memory, memory_outcome_t, nodes_in_memory};
 
 /// Does what `events_in_memory` does, and returns its outcome: 0 where the run ended, 1 where it had a
 /// fault, 2 where an allocation failed. `written` and `wanted` are set on each return.

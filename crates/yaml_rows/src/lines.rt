@@ -63,7 +63,7 @@ fn run_within(
     let source = yaml_line_source_t::new(alloc, reader, MAX_TOKENS);
     let mut parser = yaml_parser_initialize(alloc, source);
     yaml_parser_set_max_entries(&mut parser, most.max(1));
-    write_nodes(alloc, &mut parser, writer)
+    write_nodes(&mut parser, writer).outcome()
 }
 
 /// Whether all that a list of the tokens gives as one value is what is wanted. None is given within a bound.

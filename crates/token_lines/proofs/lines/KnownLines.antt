@@ -9,11 +9,11 @@ use Rattle.libyaml_graphs.specs.loads.Bounds.{bounded_loads}
 use Rattle.libyaml_graphs.specs.loads.Loads.{Load}
 use Rattle.libyaml_graphs.proofs.lent.BoundedFronts.{front_of_loads}
 use Rattle.line_reading.specs.sources.LineSource.{coming_of}
-use Rattle.token_lines.specs.declared.run.Outcome.{Outcome}
+use Rattle.token_lines.specs.declared.run.run_end_t.{run_end_t}
 use Rattle.token_lines.specs.events.EventRun.{IsRunOf, most_tokens}
 use Rattle.token_lines.specs.nodes.LastLoad.{most_entries}
 use Rattle.token_lines.specs.nodes.NodeRun.{WritesLoads, WritesNodesOf}
-use Rattle.token_lines.proofs.lent.NoBound.{writes_all}
+use Rattle.token_lines.proofs.nodes.NoBound.{writes_all}
 
 -- what is written of every run of a known input's lines
 pub writes_of_lines : (bytes : Option (List ℕ)) (Wrote : List yaml_event_t → Ending → Type 0)
@@ -24,9 +24,9 @@ writes_of_lines None Wrote h = tt
 writes_of_lines (Some bytes) Wrote h = λ events ending run. h _ _ refl events ending run
 
 -- what is written of the loads of every run of a known input's lines
-pub writes_of_runs : (bytes : Option (List ℕ)) (MayBreak : Fault → Type 0) (outcome : Outcome) (old new : Option (List ℕ))
+pub writes_of_runs : (bytes : Option (List ℕ)) (MayBreak : Fault → Type 0) (end : run_end_t) (old new : Option (List ℕ))
     → IfSome bytes (λ known. (events : List yaml_event_t) (ending : Ending) → IsRunOf known events ending
-    → WritesLoads MayBreak outcome old new (bounded_loads most_entries events ending)) → WritesNodesOf bytes MayBreak outcome old new
-writes_of_runs None MayBreak outcome old new h = tt
-writes_of_runs (Some bytes) MayBreak outcome old new h = λ loads is. subst (λ (l : List Load). WritesLoads MayBreak outcome old new l) (sym is.all)
-    (writes_all MayBreak outcome old new _ _ (front_of_loads is.events is.ending most_entries) (h is.events is.ending is.run))
+    → WritesLoads MayBreak end old new (bounded_loads most_entries events ending)) → WritesNodesOf bytes MayBreak end old new
+writes_of_runs None MayBreak end old new h = tt
+writes_of_runs (Some bytes) MayBreak end old new h = λ loads is. subst (λ (l : List Load). WritesLoads MayBreak end old new l) (sym is.all)
+    (writes_all MayBreak end old new _ _ (front_of_loads is.events is.ending most_entries) (h is.events is.ending is.run))

@@ -26,14 +26,15 @@ use Rattle.libyaml_loader.specs.document.Ids.{magnitude}
 use Rattle.libyaml_loader.specs.loads.Loading.{DocumentOrError, HasEnded, LoadsFrom, at_end, whole}
 use Rattle.line_writing.specs.DocumentText.{document_lines}
 use Rattle.line_writing.specs.FaultText.{fault_text}
-use Rattle.token_lines.specs.declared.run.Outcome.{Outcome}
-use Rattle.token_lines.specs.declared.run.Outcome.TheVariants.{Ended, Faulted, OutputFailed}
+use Rattle.token_lines.specs.declared.run.run_end_t.{run_end_t}
+use Rattle.token_lines.specs.declared.run.run_end_t.TheVariants.{Ended, Faulted, OutputFailed}
 use Rattle.token_lines.specs.declared.run.RunStep.{RunStep}
 use Rattle.token_lines.specs.declared.run.RunStep.TheVariants as step
 use Rattle.token_lines.specs.nodes.LastLoad.{AllLoaded, LastLoad, WroteForLoad}
 use Rattle.token_lines.specs.nodes.NodeStep.{LoadTurn, NodeSteps, StepForLoad}
+use Rattle.token_lines.specs.lines.LineRun.{WroteFault}
 use Rattle.token_lines.proofs.events.InTurnLemmas.{history_more, history_none}
-use Rattle.token_lines.proofs.lines.RunLemmas.{keeps_then}
+use Rattle.token_lines.proofs.events.LastCallLemmas.{fault_after}
 
 -- whether a document has nodes, by their count
 pub has_some : (ns ms : List yaml_node_t) (b : Bool) → b ≡ (length ns == 0) → b ≡ false → ns ≡ ms → ms ≢ []
@@ -126,46 +127,40 @@ module _ {S : Type 0} (gives : S → Answer → S → Type 0) (known : S → Opt
       go (Err x) load wrote = absurd wrote
 
 -- nothing more was written
-pub loads_end : (outcome : Outcome) (kept : Fault) (b c d : Option (List ℕ)) → (outcome ≡ Ended) ⊎ (outcome ≡ OutputFailed) → Keeps c d → (r : DocumentOrError)
-    → StepForLoad step.Ended r kept b c → WroteForLoad outcome r kept b d
+pub loads_end : (end : run_end_t) (kept : Fault) (b c d : Option (List ℕ)) → (end ≡ Ended) ⊎ (end ≡ OutputFailed) → Keeps c d → (r : DocumentOrError)
+    → StepForLoad step.Ended r kept b c → WroteForLoad end r kept b d
 loads_end Ended kept b c d is keeps (Ok x) w = (w.0, keeps_both b c d w.1 keeps)
-loads_end Faulted kept b c d (inl is) keeps (Ok x) w = cc
-loads_end Faulted kept b c d (inr is) keeps (Ok x) w = cc
+loads_end (Faulted f) kept b c d (inl is) keeps (Ok x) w = cc
+loads_end (Faulted f) kept b c d (inr is) keeps (Ok x) w = cc
 loads_end OutputFailed kept b c d is keeps (Ok x) w = tt
-loads_end outcome kept b c d is keeps (Err x) w = absurd w
+loads_end end kept b c d is keeps (Err x) w = absurd w
 
 -- the text of a fault was written
-pub loads_failed : (outcome : Outcome) (f : yaml_parser_t_prefix) (kept : Fault) (b c d : Option (List ℕ)) → outcome ≢ Ended
-    → (outcome ≡ Faulted → Appends c d (fault_text (fault_of f))) → (r : DocumentOrError) → StepForLoad (step.Failed f) r kept b c
-    → WroteForLoad outcome r kept b d
-loads_failed Ended f kept b c d not wrote r w = absurd (not refl)
-loads_failed Faulted f kept b c d not wrote (Ok x) w =
-    let cut = w.1 in
-    record {
-      written = cut.written;
-      line = cut.line;
-      rest = cut.rest;
-      all = cut.all;
-      wrote
-          = subst (λ (g : Fault). Appends b d (concat cut.written ++ fault_text g)) w.0
-          (Appends-trans b c d (concat cut.written) (fault_text (fault_of f)) cut.wrote (wrote refl));
-    }
-loads_failed Faulted f kept b c d not wrote (Err x) w
-    = subst (λ (g : Fault). Appends b d (fault_text g)) w.0 (keeps_then b c d (fault_text (fault_of f)) w.1 (wrote refl))
-loads_failed OutputFailed f kept b c d not wrote (Ok x) w = tt
-loads_failed OutputFailed f kept b c d not wrote (Err x) w = tt
+pub loads_failed : (end : run_end_t) (f : yaml_parser_t_prefix) (kept : Fault) (b c d : Option (List ℕ)) → WroteFault end (fault_of f) c d
+    → (r : DocumentOrError) → StepForLoad (step.Failed f) r kept b c → WroteForLoad end r kept b d
+loads_failed Ended f kept b c d wrote r w = absurd wrote
+loads_failed (Faulted told) f kept b c d wrote (Ok x) w =
+    let cut = w.1 in (
+      wrote.0 ∙ w.0,
+      record {
+        written = cut.written;
+        line = cut.line;
+        rest = cut.rest;
+        all = cut.all;
+        wrote
+            = subst (λ (g : Fault). Appends b d (concat cut.written ++ fault_text g)) w.0
+            (Appends-trans b c d (concat cut.written) (fault_text (fault_of f)) cut.wrote wrote.1);
+      },
+    )
+loads_failed OutputFailed f kept b c d wrote (Ok x) w = tt
+loads_failed (Faulted told) f kept b c d wrote (Err x) w = fault_after (Faulted told) f kept b c d w wrote
+loads_failed OutputFailed f kept b c d wrote (Err x) w = tt
 
 -- the output failed at a document's text
 pub loads_output : (kept : Fault) (b c d : Option (List ℕ)) (r : DocumentOrError) → StepForLoad step.OutputFailed r kept b c
     → WroteForLoad OutputFailed r kept b d
 loads_output kept b c d (Ok x) w = tt
 loads_output kept b c d (Err x) w = absurd w
-
--- that text was of a fault which was kept
-pub not_ended_is : (outcome : Outcome) → outcome ≢ Ended → (outcome ≡ Faulted) ⊎ (outcome ≡ OutputFailed)
-not_ended_is Ended not = absurd (not refl)
-not_ended_is Faulted not = inl refl
-not_ended_is OutputFailed not = inr refl
 
 -- the bound of the first parser
 module _ {S : Type 0} (gives : S → Answer → S → Type 0) (known : S → Option Coming) (MayBreak : S → Fault
@@ -180,13 +175,13 @@ module _ {S : Type 0} (gives : S → Answer → S → Type 0) (known : S → Opt
   steps_at steps events ending run = subst (λ (y : ℤ). NodeSteps known MayBreak (magnitude y) s q b c events ending) same (steps events ending run)
 
 pub last_load_at : {S W : Type 0} → NoFault S → (gives : S → Answer → S → Type 0) (known : S → Option Coming) (MayBreak : S → Fault → Type 0) (contents : W
-    → Option (List ℕ)) (outcome : Outcome) (s : RunStep) (first p q : Parser S) (writer : W) (a c d : Option (List ℕ)) (asked : List yaml_token_t)
+    → Option (List ℕ)) (end : run_end_t) (s : RunStep) (first p q : Parser S) (writer : W) (a c d : Option (List ℕ)) (asked : List yaml_token_t)
     (given : List yaml_event_t) → p.max_entries ≡ first.max_entries
     → AllLoaded gives (magnitude first.max_entries) first p a (contents writer) asked given
     → (has_failed p ≡ false → LoadTurn gives known MayBreak (magnitude p.max_entries) s p q (contents writer) c)
-    → ((r : DocumentOrError) → StepForLoad s r (kept_fault q) (contents writer) c → WroteForLoad outcome r (kept_fault q) (contents writer) d)
-    → (outcome ≡ Ended → s ≡ step.Ended) → LastLoad gives known MayBreak contents (magnitude first.max_entries) outcome first q a d asked given
-last_load_at running gives known MayBreak contents outcome s first p q writer a c d asked given bound earlier turns wrote ended =
+    → ((r : DocumentOrError) → StepForLoad s r (kept_fault q) (contents writer) c → WroteForLoad end r (kept_fault q) (contents writer) d)
+    → (end ≡ Ended → s ≡ step.Ended) → LastLoad gives known MayBreak contents (magnitude first.max_entries) end first q a d asked given
+last_load_at running gives known MayBreak contents end s first p q writer a c d asked given bound earlier turns wrote ended =
     let failed = running p (asked ++ earlier.more) (given ++ earlier.events) earlier.history in
     let turn = turn_at gives known MayBreak s p q
     (contents writer) c p.max_entries first.max_entries bound turns failed in
@@ -197,6 +192,6 @@ last_load_at running gives known MayBreak contents outcome s first p q writer a 
       loaded = turn.loaded;
       load = turn.load;
       wrote = wrote turn.loaded turn.wrote;
-      ends = λ (is : outcome ≡ Ended). turn.ends (ended is) (asked ++ earlier.more)
+      ends = λ (is : end ≡ Ended). turn.ends (ended is) (asked ++ earlier.more)
           (given ++ earlier.events) earlier.history;
     }

@@ -5,7 +5,7 @@ use Rattle.libyaml_sources.specs.Fault.{Fault}
 use Rattle.libyaml_grammar.specs.runs.Runs.{Ending, IsRun}
 use Rattle.line_reading.specs.sources.ReadLines.{read_lines}
 use Rattle.line_writing.specs.EventText.{event_line}
-use Rattle.token_lines.specs.declared.run.Outcome.{Outcome}
+use Rattle.token_lines.specs.declared.run.run_end_t.{run_end_t}
 use Rattle.token_lines.specs.lines.LineRun.{Writes}
 
 -- a run reads at most so many tokens
@@ -21,7 +21,7 @@ abbrev pub IsRunOf : List ℕ → List yaml_event_t → Ending → Type 0
 IsRunOf bytes events ending = IsRun (read_lines bytes most_tokens).tokens (read_lines bytes most_tokens).fault events ending
 
 -- what a run writes of an input, where its bytes are known
-abbrev pub WritesRunOf : (bytes : Option (List ℕ)) → (MayBreak : Fault → Type 0) → Outcome → (old new : Option (List ℕ)) → Type 0
-WritesRunOf bytes MayBreak outcome old new =
+abbrev pub WritesRunOf : (bytes : Option (List ℕ)) → (MayBreak : Fault → Type 0) → run_end_t → (old new : Option (List ℕ)) → Type 0
+WritesRunOf bytes MayBreak end old new =
     IfSome bytes (λ known. (events : List yaml_event_t) (ending : Ending) → IsRunOf known events ending
-    → Writes MayBreak outcome old new (event_lines events) ending)
+    → Writes MayBreak end old new (event_lines events) ending)

@@ -1,6 +1,6 @@
 -- That no document is held back: the text of each is written before anything of the next is asked for
 -- (docs/DEFINITIONS.md, "Runs over lines").
-use Rattle.std.specs.Prelude.{◌≡◌, ◌≤◌, ◌*◌, ◌++◌, ◌⊎◌, ◌∷◌, ℕ, List, [], length, map, Option, Ok, Err}
+use Rattle.std.specs.Prelude.{◌≡◌, ◌≤◌, ◌*◌, ◌++◌, ◌∷◌, ℕ, List, [], length, map, Option, Ok, Err}
 use Rattle.std.specs.List.{concat, flat_map}
 use Rattle.std.specs.Io.KnownBytes.{Appends, Keeps}
 use Rattle.libyaml_types.specs.declared.event.yaml_event_t.{yaml_event_t}
@@ -8,7 +8,7 @@ use Rattle.libyaml_types.specs.declared.token.yaml_token_t.{yaml_token_t}
 use Rattle.libyaml_documents.specs.Documents.{Document}
 use Rattle.libyaml_events.specs.sources.Calls.{Gave}
 use Rattle.libyaml_events.specs.machine.Config.{Parser}
-use Rattle.libyaml_sources.specs.Fault.{Answer, Fault, memory_fault}
+use Rattle.libyaml_sources.specs.Fault.{Answer, Fault, fault_of, memory_fault}
 use Rattle.libyaml_events.specs.sources.History.{History, answers, kept_fault}
 use Rattle.libyaml_grammar.specs.runs.Runs.{Ending}
 use Rattle.libyaml_sources.specs.Source.{Coming}
@@ -20,8 +20,10 @@ use Rattle.line_reading.specs.sources.LineSource.{LineSource, BreaksOff, Gives, 
 use Rattle.line_writing.specs.DocumentText.{document_lines}
 use Rattle.line_writing.specs.FaultText.{fault_text}
 use Rattle.token_lines.specs.declared.run.Outcome.{Outcome}
-use Rattle.token_lines.specs.declared.run.Outcome.TheVariants.{Ended, Faulted, OutputFailed}
+use Rattle.token_lines.specs.declared.run.run_end_t.{run_end_t}
+use Rattle.token_lines.specs.declared.run.run_end_t.TheVariants.{Ended, Faulted, OutputFailed}
 use Rattle.token_lines.specs.events.LastCall.{StartsAt}
+use Rattle.token_lines.specs.lines.LineRun.{WroteFault, outcome_of}
 use Rattle.token_lines.specs.nodes.NodeRun.{WritesNodesOf}
 
 -- where memory ran out for one of these lines, those before it were written, and then the text of a failed allocation
@@ -34,13 +36,11 @@ pub record CutText (before after : Option (List ℕ)) (lines : List (List ℕ)) 
 
 -- What a run wrote after a last load that returned this: nothing, where it is the document without root; the text of the
 -- fault that is kept; or a document's text that was cut. Where the output failed, nothing is said.
-abbrev pub WroteForLoad : Outcome → DocumentOrError → (kept : Fault) → (before after : Option (List ℕ)) → Type 0
+abbrev pub WroteForLoad : run_end_t → DocumentOrError → (kept : Fault) → (before after : Option (List ℕ)) → Type 0
 WroteForLoad Ended (Ok d) kept before after = (d.nodes ≡ []) × Keeps before after
-WroteForLoad Faulted (Ok d) kept before after = CutText before after (document_lines d)
+WroteForLoad (Faulted f) (Ok d) kept before after = (fault_of f ≡ memory_fault) × CutText before after (document_lines d)
 WroteForLoad OutputFailed (Ok d) kept before after = Unit {0}
-WroteForLoad Ended (Err x) kept before after = ⊥
-WroteForLoad Faulted (Err x) kept before after = Appends before after (fault_text kept)
-WroteForLoad OutputFailed (Err x) kept before after = Unit {0}
+WroteForLoad end (Err x) kept before after = WroteFault end kept before after
 
 -- From the first parser to this one the source gave these tokens more and the parser these events, whose loads are these
 -- documents, whatever follows them; and the text of each document was written.
@@ -57,22 +57,21 @@ pub record AllLoaded {S : Type 0} (gives : S → Answer → S
 -- The last load: the writer held the text of each document that was loaded before, and what was written since is of this
 -- load.
 pub record LastLoad {S W : Type 0} (gives : S → Answer → S → Type 0) (known : S → Option Coming) (MayBreak : S → Fault → Type 0) (contents : W
-    → Option (List ℕ)) (n : ℕ) (outcome : Outcome) (first last : Parser S) (before after : Option (List ℕ)) (asked : List yaml_token_t)
+    → Option (List ℕ)) (n : ℕ) (end : run_end_t) (first last : Parser S) (before after : Option (List ℕ)) (asked : List yaml_token_t)
     (given : List yaml_event_t) : Type 0 where
   pub parser : Parser S
   pub writer : W
   pub earlier : AllLoaded gives n first parser before (contents writer) asked given
   pub loaded : DocumentOrError
   pub load : LoadsFrom gives known MayBreak (next_bounded n) left_over parser loaded last
-  pub wrote : WroteForLoad outcome loaded (kept_fault last) (contents writer) after
+  pub wrote : WroteForLoad end loaded (kept_fault last) (contents writer) after
   -- the run ends only where the parser has ended
-  pub ends : outcome ≡ Ended → HasEnded last
+  pub ends : end ≡ Ended → HasEnded last
 
 -- a fault that the parser kept was written again
-pub record WritesKept {S : Type 0} (outcome : Outcome) (old new : Parser S) (before after : Option (List ℕ)) : Type 0 where
-  pub not_ended : (outcome ≡ Faulted) ⊎ (outcome ≡ OutputFailed)
+pub record WritesKept {S : Type 0} (end : run_end_t) (old new : Parser S) (before after : Option (List ℕ)) : Type 0 where
   pub parser : new ≡ old
-  pub wrote : outcome ≡ Faulted → Appends before after (fault_text (kept_fault old))
+  pub wrote : WroteFault end (kept_fault old) before after
 
 -- each list of a document that a new parser loads has at most so many entries
 abbrev pub most_entries : ℕ
@@ -83,9 +82,11 @@ most_entries = 2147483647
 -- together at most eight for each token that was asked for.
 pub record NodesOver {R W : Type 0} (remaining : R → Option (List ℕ)) (contents : W
     → Option (List ℕ)) (reader : R) (outcome : Outcome) (before after : Option (List ℕ)) : Type 0 where
+  pub end : run_end_t
+  pub outcome_is : outcome ≡ outcome_of end
   pub first : Parser (LineSource R)
   pub last : Parser (LineSource R)
   pub starts : StartsAt reader first
-  pub writes : WritesNodesOf (remaining reader) (BreaksOff last.source) outcome before after
-  pub in_turn : LastLoad (Gives remaining) (known_of remaining) BreaksOff contents most_entries outcome first last before after [] []
+  pub writes : WritesNodesOf (remaining reader) (BreaksOff last.source) end before after
+  pub in_turn : LastLoad (Gives remaining) (known_of remaining) BreaksOff contents most_entries end first last before after [] []
   pub linear : documents_size in_turn.earlier.documents ≤ 8 * length in_turn.earlier.more

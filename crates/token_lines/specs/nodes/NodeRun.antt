@@ -7,7 +7,7 @@ use Rattle.libyaml_grammar.specs.runs.Runs.{Ending, Ends, Fails}
 use Rattle.libyaml_graphs.specs.loads.Loads.{IsLoads, Load}
 use Rattle.line_reading.specs.sources.ReadLines.{read_lines}
 use Rattle.line_writing.specs.DocumentText.{document_lines}
-use Rattle.token_lines.specs.declared.run.Outcome.{Outcome}
+use Rattle.token_lines.specs.declared.run.run_end_t.{run_end_t}
 use Rattle.token_lines.specs.events.EventRun.{most_tokens}
 use Rattle.token_lines.specs.lines.LineRun.{Writes}
 
@@ -30,13 +30,13 @@ loads_ending (Ok d ∷ loads) = loads_ending loads
 loads_ending (Err f ∷ loads) = Fails f
 
 -- what was written of these loads
-abbrev pub WritesLoads : (MayBreak : Fault → Type 0) → Outcome → (old new : Option (List ℕ)) → List Load → Type 0
-WritesLoads MayBreak outcome old new loads = Writes MayBreak outcome old new (loads_lines loads) (loads_ending loads)
+abbrev pub WritesLoads : (MayBreak : Fault → Type 0) → run_end_t → (old new : Option (List ℕ)) → List Load → Type 0
+WritesLoads MayBreak end old new loads = Writes MayBreak end old new (loads_lines loads) (loads_ending loads)
 
 -- the loads of the token lines of an input
 abbrev pub AreLoadsOf : List ℕ → List Load → Type 0
 AreLoadsOf bytes loads = IsLoads (read_lines bytes most_tokens).tokens (read_lines bytes most_tokens).fault loads
 
 -- what a run writes of an input, where its bytes are known
-abbrev pub WritesNodesOf : (bytes : Option (List ℕ)) → (MayBreak : Fault → Type 0) → Outcome → (old new : Option (List ℕ)) → Type 0
-WritesNodesOf bytes MayBreak outcome old new = IfSome bytes (λ known. (loads : List Load) → AreLoadsOf known loads → WritesLoads MayBreak outcome old new loads)
+abbrev pub WritesNodesOf : (bytes : Option (List ℕ)) → (MayBreak : Fault → Type 0) → run_end_t → (old new : Option (List ℕ)) → Type 0
+WritesNodesOf bytes MayBreak end old new = IfSome bytes (λ known. (loads : List Load) → AreLoadsOf known loads → WritesLoads MayBreak end old new loads)

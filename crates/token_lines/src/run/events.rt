@@ -11,7 +11,7 @@ ghost use Rattle.token_lines.specs.events.EventStep.{EventSteps, Turn};
 ghost use Rattle.token_lines.specs.events.LastCall.{LastCall, NothingLeft, RunsOver};
 ghost use Rattle.token_lines.specs.lines.LineRun.{Writes};
 
-use super::{Outcome, RunStep, faulted, flushed, show};
+use super::{Outcome, RunStep, faulted, flushed, run_end_t, show};
 use crate::MAX_TOKENS;
 use libyaml_events::{
     MEMORY_FAULT, is_event, is_stream_end, no_event, yaml_parser_initialize,
@@ -34,22 +34,21 @@ pub fn run_events<R: BufRead + Drop, W: Write>(alloc: Global, reader: R, writer:
 {
     let source = yaml_line_source_t::new(alloc, reader, MAX_TOKENS);
     let mut parser = yaml_parser_initialize(alloc, source);
-    write_events(alloc, &mut parser, writer)
+    write_events(&mut parser, writer).outcome()
 }
 
 /// Writes the line of each event that is to come, before the next event is parsed, and then the text
-/// of the fault, if there is one. The parser may have given events before; after the stream end event
-/// or a fault nothing is left to write, and `Ended` is returned.
+/// of the fault, if there is one, which is returned. The parser may have given events before; after the
+/// stream end event or a fault nothing is left to write, and `Ended` is returned.
 ///
 /// If memory runs out for a line, the fault of a failed allocation is written. The writer is flushed
 /// before `Ended` and `Faulted`. After `OutputFailed`, and after the fault of a line that found no
 /// memory, the parser has given the event whose line was to be written: a further call goes on after
 /// that event, whose line is lost.
 pub fn write_events<S: yaml_token_source_t, W: Write>(
-    alloc: Global,
     parser: &mut yaml_parser_t<S>,
     writer: &mut W,
-) -> Outcome
+) -> run_end_t
     ensures ended { is_over parser.old ≡ true
         → NothingLeft result parser.old parser.new (W.contents writer.old) (W.contents writer.new) }
     ensures writes { (events : List yaml_event_t) (ending : Ending)
@@ -62,14 +61,14 @@ pub fn write_events<S: yaml_token_source_t, W: Write>(
         → LastCall S.gives W.contents result parser.old parser.new (W.contents writer.old)
         (W.contents writer.new) asked given }
 {
-    let mut line = String::new(alloc);
+    let mut line = String::new(parser.allocator());
     let mut event = no_event();
     loop {
         match write_next(parser, &mut event, &mut line, writer) {
             RunStep::Written => {}
-            RunStep::Ended => return flushed(Outcome::Ended, writer),
+            RunStep::Ended => return flushed(run_end_t::Ended, writer),
             RunStep::Failed(fault) => return faulted(&fault, writer),
-            RunStep::OutputFailed => return Outcome::OutputFailed,
+            RunStep::OutputFailed => return run_end_t::OutputFailed,
         }
     }
 }

@@ -12,7 +12,7 @@ ghost use Rattle.token_lines.specs.nodes.LastLoad.{LastLoad, NodesOver, WritesKe
 ghost use Rattle.token_lines.specs.nodes.NodeRun.{WritesLoads};
 ghost use Rattle.token_lines.specs.nodes.NodeStep.{IsKept, LoadTurn, NodeSteps};
 
-use super::{Outcome, RunStep, faulted, flushed, show};
+use super::{Outcome, RunStep, faulted, flushed, run_end_t, show};
 use crate::MAX_TOKENS;
 use libyaml_events::laws::calls::of_history;
 use libyaml_events::{MEMORY_FAULT, yaml_parser_initialize, yaml_parser_t, yaml_token_source_t};
@@ -36,22 +36,22 @@ pub fn run_nodes<R: BufRead + Drop, W: Write>(alloc: Global, reader: R, writer: 
     of_history::<yaml_line_source_t<R>>();
     let source = yaml_line_source_t::new(alloc, reader, MAX_TOKENS);
     let mut parser = yaml_parser_initialize(alloc, source);
-    write_nodes(alloc, &mut parser, writer)
+    write_nodes(&mut parser, writer).outcome()
 }
 
 /// Writes the text of each document that is to come, before the next is loaded, and then the text of the
-/// fault, if there is one. The parser may have given documents before. The document without root, which
-/// comes at the stream's end, writes nothing; a fault that the parser keeps is written again.
+/// fault, if there is one, which is returned. The parser may have given documents before. The document
+/// without root, which comes at the stream's end, writes nothing; a fault that the parser keeps is written
+/// again.
 ///
 /// If memory runs out for a line, the fault of a failed allocation follows the lines before it. The
 /// writer is flushed before `Ended` and `Faulted`. After `OutputFailed`, and after the fault of a line that
 /// found no memory, the parser has loaded the document whose text was to be written: a further call goes
 /// on after that document, the rest of whose text is lost.
 pub fn write_nodes<S: yaml_token_source_t, W: Write>(
-    alloc: Global,
     parser: &mut yaml_parser_t<S>,
     writer: &mut W,
-) -> Outcome
+) -> run_end_t
     requires between { between_documents parser.old ≡ true }
     ensures kept { has_failed parser.old ≡ true
         → WritesKept result parser.old parser.new (W.contents writer.old) (W.contents writer.new) }
@@ -68,18 +68,17 @@ pub fn write_nodes<S: yaml_token_source_t, W: Write>(
 {
     of_history::<S>();
     loop {
-        match write_next(alloc, parser, writer) {
+        match write_next(parser, writer) {
             RunStep::Written => {}
-            RunStep::Ended => return flushed(Outcome::Ended, writer),
+            RunStep::Ended => return flushed(run_end_t::Ended, writer),
             RunStep::Failed(fault) => return faulted(&fault, writer),
-            RunStep::OutputFailed => return Outcome::OutputFailed,
+            RunStep::OutputFailed => return run_end_t::OutputFailed,
         }
     }
 }
 
 /// Writes the text of the next document.
 fn write_next<S: yaml_token_source_t, W: Write>(
-    alloc: Global,
     parser: &mut yaml_parser_t<S>,
     writer: &mut W,
 ) -> RunStep
@@ -104,7 +103,7 @@ fn write_next<S: yaml_token_source_t, W: Write>(
     if document.nodes().is_empty() {
         return RunStep::Ended;
     }
-    match write_document(alloc, document, writer) {
+    match write_document(parser.allocator(), document, writer) {
         Ok(()) => {}
         Err(line_refusal_t::Memory) => return RunStep::Failed(MEMORY_FAULT),
         Err(line_refusal_t::Output) => return RunStep::OutputFailed,

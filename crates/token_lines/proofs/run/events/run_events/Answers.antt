@@ -9,6 +9,8 @@ returns g c =
     let run = c.write_events in
     let known = known_of g.R.Read.remaining in
     record {
+      end = run.result;
+      outcome_is = c.outcome.ensures;
       first = parser.result;
       last = run.new.parser;
       starts = record { source = ap (λ p. p.source) parser.ensures.value ∙ c.new-source.ensures.value; begins = parser.ensures.begins };

@@ -2,11 +2,12 @@ use Rattle.std.proofs.Common.{refl, ap, ◌∙◌, subst}
 use Rattle.std.specs.Io.KnownBytes.{Keeps}
 use Rattle.libyaml_sources.specs.Fault.{fault_of}
 use Rattle.libyaml_events.specs.sources.History.{is_over}
-use Rattle.token_lines.specs.declared.run.Outcome.TheVariants.{OutputFailed}
+use Rattle.token_lines.specs.declared.run.run_end_t.TheVariants.{OutputFailed}
 use Rattle.line_writing.specs.EventText.{event_line}
 use Rattle.token_lines.specs.events.EventRun.{event_lines}
 use Rattle.token_lines.specs.events.EventStep.{run_ending, run_lines}
-use Rattle.token_lines.specs.events.LastCall.{WroteForEvent, WroteForFault}
+use Rattle.token_lines.specs.events.LastCall.{WroteForEvent}
+use Rattle.token_lines.specs.lines.LineRun.{WroteFault}
 use Rattle.token_lines.proofs.events.LastCallLemmas.{ends_by, fails_by, output_fails, written_no_end, failed_no_end, output_no_end}
 use Rattle.token_lines.proofs.events.InTurnLemmas.{last_call, none_yet, one_more}
 use Rattle.token_lines.proofs.lines.RunLemmas.{takes_none, takes_more, takes_last, takes_failed, writes_ended, writes_faulted}
@@ -17,16 +18,16 @@ returns-in-Ended-clause-writes g c events ending run =
     let known = g.S.yaml_token_source_t.known in
     let written = takes_last known run_lines run_ending _ _ _ _ c.loop-writer.parser events ending (c.loop-writer.invariant.came events ending run) c.in-Ended.ensures.step
     c.flushed.ensures.keeps in
-    writes_ended (g.S.yaml_token_source_t.may_break c.write_next.new.parser.source) c.flushed.result _ _ (event_lines events) ending c.flushed.ensures.outcome
+    writes_ended (g.S.yaml_token_source_t.may_break c.write_next.new.parser.source) c.flushed.result _ _ (event_lines events) ending c.flushed.ensures.end
     written
 
 pub returns-in-Failed-clause-writes : goal.returns-in-Failed-clause-writes
 returns-in-Failed-clause-writes g c events ending run =
     let known = g.S.yaml_token_source_t.known in
     let may_break = g.S.yaml_token_source_t.may_break c.write_next.new.parser.source in
-    writes_faulted may_break c.faulted.result _ _ (event_lines events) ending c.faulted.ensures.not_ended
-    (λ faulted. takes_failed known run_lines run_ending may_break _ _ _ _ c.loop-writer.parser (fault_of c.in-Failed.fault) events ending
-    (c.loop-writer.invariant.came events ending run) c.in-Failed.ensures.step (c.faulted.ensures.writes faulted))
+    writes_faulted may_break c.faulted.result (fault_of c.in-Failed.fault) _ _ _ (event_lines events) ending c.faulted.ensures
+    (takes_failed known run_lines run_ending may_break _ _ _ _ c.loop-writer.parser (fault_of c.in-Failed.fault) events ending
+    (c.loop-writer.invariant.came events ending run) c.in-Failed.ensures.step)
 
 pub loop-writer-init : goal.loop-writer-init
 loop-writer-init g c = record {
@@ -54,7 +55,7 @@ returns-in-Ended-clause-ended g c ended =
     let still = c.loop-writer.invariant.ended ended in
     let last = c.in-Ended.ensures.ended (ap is_over still.0 ∙ ended) in
     record {
-      ended = c.flushed.ensures.outcome;
+      ended = c.flushed.ensures.end;
       parser = last.1 ∙ still.0;
       keeps = subst (λ w. Keeps (contents w) (contents c.flushed.new.writer)) (last.2 ∙ still.1) c.flushed.ensures.keeps;
     }
@@ -71,23 +72,23 @@ returns-in-OutputFailed-clause-ended g c ended
 pub returns-in-Ended-clause-in_turn : goal.returns-in-Ended-clause-in_turn
 returns-in-Ended-clause-in_turn g c not_ended asked given history =
     let gives = g.S.yaml_token_source_t.gives in
-    last_call event_line gives (WroteForEvent c.flushed.result) (WroteForFault c.flushed.result) g.W.Write.contents _ c.loop-writer.parser c.write_next.new.parser c.loop-writer.writer (g.W.Write.contents c.args.writer.now) _ asked
+    last_call event_line gives (WroteForEvent c.flushed.result) (WroteFault c.flushed.result) g.W.Write.contents _ c.loop-writer.parser c.write_next.new.parser c.loop-writer.writer (g.W.Write.contents c.args.writer.now) _ asked
     given (c.loop-writer.invariant.in_turn not_ended asked given history)
-    (λ running asked' given' h. ends_by gives c.flushed.result _ _ _ _ _ asked' given' c.flushed.ensures.outcome
+    (λ running asked' given' h. ends_by gives c.flushed.result _ _ _ _ _ asked' given' c.flushed.ensures.end
     (c.in-Ended.ensures.turn running asked' given' h) c.flushed.ensures.keeps)
 
 pub returns-in-Failed-clause-in_turn : goal.returns-in-Failed-clause-in_turn
 returns-in-Failed-clause-in_turn g c not_ended asked given history =
     let gives = g.S.yaml_token_source_t.gives in
-    last_call event_line gives (WroteForEvent c.faulted.result) (WroteForFault c.faulted.result) g.W.Write.contents _ c.loop-writer.parser c.write_next.new.parser c.loop-writer.writer (g.W.Write.contents c.args.writer.now) _ asked
+    last_call event_line gives (WroteForEvent c.faulted.result) (WroteFault c.faulted.result) g.W.Write.contents _ c.loop-writer.parser c.write_next.new.parser c.loop-writer.writer (g.W.Write.contents c.args.writer.now) _ asked
     given (c.loop-writer.invariant.in_turn not_ended asked given history)
-    (λ running asked' given' h. fails_by gives c.faulted.result c.in-Failed.fault _ _ _ _ _ asked' given' c.faulted.ensures.not_ended
-    (c.in-Failed.ensures.turn running asked' given' h) c.faulted.ensures.writes)
+    (λ running asked' given' h. fails_by gives c.faulted.result c.in-Failed.fault _ _ _ _ _ asked' given'
+    (c.in-Failed.ensures.turn running asked' given' h) c.faulted.ensures)
 
 pub returns-in-OutputFailed-clause-in_turn : goal.returns-in-OutputFailed-clause-in_turn
 returns-in-OutputFailed-clause-in_turn g c not_ended asked given history =
     let gives = g.S.yaml_token_source_t.gives in
-    last_call event_line gives (WroteForEvent OutputFailed) (WroteForFault OutputFailed) g.W.Write.contents _ c.loop-writer.parser c.write_next.new.parser c.loop-writer.writer (g.W.Write.contents c.args.writer.now)
+    last_call event_line gives (WroteForEvent OutputFailed) (WroteFault OutputFailed) g.W.Write.contents _ c.loop-writer.parser c.write_next.new.parser c.loop-writer.writer (g.W.Write.contents c.args.writer.now)
     (g.W.Write.contents c.write_next.new.writer) asked given (c.loop-writer.invariant.in_turn not_ended asked given history)
     (λ running asked' given' h. output_fails gives c.loop-writer.parser c.write_next.new.parser (g.W.Write.contents c.loop-writer.writer)
     (g.W.Write.contents c.write_next.new.writer) (g.W.Write.contents c.write_next.new.writer) asked' given' (c.in-OutputFailed.ensures.turn running asked' given' h))

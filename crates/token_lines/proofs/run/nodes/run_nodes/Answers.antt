@@ -18,6 +18,8 @@ returns g c =
     let in_turn = subst (λ (z : ℤ). LastLoad (Gives remaining) known BreaksOff contents (magnitude z) run.result parser.result run.new.parser
     (contents c.args.writer.now) (contents run.new.writer) [] []) parser.ensures.bound (run.ensures.in_turn [] [] parser.ensures.begins) in
     record {
+      end = run.result;
+      outcome_is = c.outcome.ensures;
       first = parser.result;
       last = run.new.parser;
       starts = record { source = ap (λ p. p.source) parser.ensures.value ∙ c.new-source.ensures.value; begins = parser.ensures.begins };

@@ -1,13 +1,12 @@
 use Rattle.std.proofs.Common.{◌≡◌, refl, ap, ◌∙◌, subst}
-use Rattle.std.specs.Io.KnownBytes.{Appends}
 use Rattle.libyaml_sources.specs.Fault.{Fault, fault_of}
 use Rattle.libyaml_events.specs.sources.History.{has_failed, kept_fault}
 use Rattle.libyaml_loader.specs.document.Ids.{magnitude}
-use Rattle.line_writing.specs.FaultText.{fault_text}
-use Rattle.token_lines.specs.declared.run.Outcome.TheVariants.{Ended, OutputFailed}
+use Rattle.token_lines.specs.declared.run.run_end_t.TheVariants.{Ended, OutputFailed}
 use Rattle.token_lines.specs.declared.run.RunStep.TheVariants as step
+use Rattle.token_lines.specs.lines.LineRun.{WroteFault}
 use Rattle.token_lines.specs.nodes.NodeStep.{run_ending, run_lines}
-use Rattle.token_lines.proofs.nodes.NodeTurnLemmas.{last_load_at, loads_end, loads_failed, loads_output, none_loaded, not_ended_is, one_loaded, steps_at, turn_at}
+use Rattle.token_lines.proofs.nodes.NodeTurnLemmas.{last_load_at, loads_end, loads_failed, loads_output, none_loaded, one_loaded, steps_at, turn_at}
 use Rattle.token_lines.proofs.lines.RunLemmas.{takes_failed, takes_last, takes_more, takes_none, writes_ended, writes_faulted}
 use Rattle.token_lines.proofs.run.nodes.write_nodes.Goals as goal
 
@@ -59,7 +58,7 @@ returns-in-Ended-clause-writes g c events ending run =
     let n = magnitude c.args.parser.now.max_entries in
     let steps = steps_at t.gives t.known t.may_break step.Ended at.parser c.write_next.new.parser (contents at.writer) (contents c.write_next.new.writer) _ _
     at.invariant.bound c.in-Ended.ensures.step in
-    writes_ended (t.may_break c.write_next.new.parser.source) c.flushed.result _ _ (run_lines n events ending) (run_ending n events ending) c.flushed.ensures.outcome
+    writes_ended (t.may_break c.write_next.new.parser.source) c.flushed.result _ _ (run_lines n events ending) (run_ending n events ending) c.flushed.ensures.end
     (takes_last t.known (run_lines n) (run_ending n) (contents c.args.writer.now) (contents at.writer) (contents c.write_next.new.writer) (contents c.flushed.new.writer) at.parser
     events ending (at.invariant.came events ending run) steps c.flushed.ensures.keeps)
 
@@ -72,10 +71,9 @@ returns-in-Failed-clause-writes g c events ending run =
     let may_break = t.may_break c.write_next.new.parser.source in
     let steps = steps_at t.gives t.known t.may_break (step.Failed c.in-Failed.fault) at.parser c.write_next.new.parser (contents at.writer)
     (contents c.write_next.new.writer) _ _ at.invariant.bound c.in-Failed.ensures.step in
-    writes_faulted may_break c.faulted.result _ _ (run_lines n events ending) (run_ending n events ending) c.faulted.ensures.not_ended
-    (λ faulted. takes_failed t.known (run_lines n) (run_ending n) may_break (contents c.args.writer.now) (contents at.writer) (contents c.write_next.new.writer)
-    (contents c.faulted.new.writer) at.parser (fault_of c.in-Failed.fault) events ending (at.invariant.came events ending run) steps
-    (c.faulted.ensures.writes faulted))
+    writes_faulted may_break c.faulted.result (fault_of c.in-Failed.fault) _ _ _ (run_lines n events ending) (run_ending n events ending) c.faulted.ensures
+    (takes_failed t.known (run_lines n) (run_ending n) may_break (contents c.args.writer.now) (contents at.writer) (contents c.write_next.new.writer)
+    (contents c.faulted.new.writer) at.parser (fault_of c.in-Failed.fault) events ending (at.invariant.came events ending run) steps)
 
 pub returns-in-Ended-clause-kept : goal.returns-in-Ended-clause-kept
 returns-in-Ended-clause-kept g c failed = absurd (c.in-Ended.ensures.kept (ap has_failed (c.loop-writer.invariant.kept failed).0 ∙ failed)).0
@@ -89,12 +87,11 @@ returns-in-Failed-clause-kept g c failed =
     let still = c.loop-writer.invariant.kept failed in
     let last = c.in-Failed.ensures.kept (ap has_failed still.0 ∙ failed) in
     record {
-      not_ended = not_ended_is c.faulted.result c.faulted.ensures.not_ended;
       parser = last.1 ∙ still.0;
-      wrote = λ faulted. subst (λ (f : Fault). Appends (contents c.args.writer.now) (contents c.faulted.new.writer) (fault_text f)) (last.0
+      wrote = subst (λ (f : Fault). WroteFault c.faulted.result f (contents c.args.writer.now) (contents c.faulted.new.writer)) (last.0
           ∙ ap kept_fault still.0)
-          (subst (λ w. Appends (contents w) (contents c.faulted.new.writer) (fault_text (fault_of c.in-Failed.fault))) (last.2
-          ∙ still.1) (c.faulted.ensures.writes faulted));
+          (subst (λ w. WroteFault c.faulted.result (fault_of c.in-Failed.fault) (contents w) (contents c.faulted.new.writer)) (last.2
+          ∙ still.1) c.faulted.ensures);
     }
 
 pub returns-in-Ended-clause-in_turn : goal.returns-in-Ended-clause-in_turn
@@ -103,7 +100,7 @@ returns-in-Ended-clause-in_turn g c asked given history =
     let at = c.loop-writer in
     last_load_at c.of_history.ensures.no_fault t.gives t.known t.may_break g.W.Write.contents c.flushed.result step.Ended c.args.parser.now at.parser c.write_next.new.parser at.writer _ _ _
     asked given at.invariant.bound (at.invariant.in_turn asked given history) c.in-Ended.ensures.turn
-    (loads_end c.flushed.result _ _ _ _ c.flushed.ensures.outcome c.flushed.ensures.keeps) (λ is. refl)
+    (loads_end c.flushed.result _ _ _ _ c.flushed.ensures.end c.flushed.ensures.keeps) (λ is. refl)
 
 pub returns-in-Failed-clause-in_turn : goal.returns-in-Failed-clause-in_turn
 returns-in-Failed-clause-in_turn g c asked given history =
@@ -111,8 +108,8 @@ returns-in-Failed-clause-in_turn g c asked given history =
     let at = c.loop-writer in
     last_load_at c.of_history.ensures.no_fault t.gives t.known t.may_break g.W.Write.contents c.faulted.result (step.Failed c.in-Failed.fault) c.args.parser.now at.parser
     c.write_next.new.parser at.writer _ _ _ asked given at.invariant.bound (at.invariant.in_turn asked given history) c.in-Failed.ensures.turn
-    (loads_failed c.faulted.result c.in-Failed.fault _ _ _ _ c.faulted.ensures.not_ended c.faulted.ensures.writes)
-    (λ is. absurd (c.faulted.ensures.not_ended is))
+    (loads_failed c.faulted.result c.in-Failed.fault _ _ _ _ c.faulted.ensures)
+    (λ is. absurd ((rw is at c.faulted.ensures)))
 
 pub returns-in-OutputFailed-clause-in_turn : goal.returns-in-OutputFailed-clause-in_turn
 returns-in-OutputFailed-clause-in_turn g c asked given history =

@@ -1,7 +1,7 @@
 use Rattle.std.proofs.Common.{ℕ, List, sym, ◌∙◌, subst}
-use Rattle.memory_runs.specs.InMemory.{HandsOut, bytes_of}
-use Rattle.memory_runs.specs.declared.outcome.memory_outcome_t.{memory_outcome_t}
-use Rattle.memory_runs.proofs.run.hand_out.Goals as goal
+use Rattle.token_lines.specs.lines.InMemory.{HandsOut, bytes_of}
+use Rattle.token_lines.specs.declared.memory.memory_outcome_t.{memory_outcome_t}
+use Rattle.token_lines.proofs.memory.hand_out.Goals as goal
 
 pub returns-in-OutOfMemory-clause-bytes : goal.returns-in-OutOfMemory-clause-bytes
 returns-in-OutOfMemory-clause-bytes c =

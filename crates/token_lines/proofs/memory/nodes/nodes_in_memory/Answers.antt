@@ -4,17 +4,17 @@ use Rattle.libyaml_graphs.specs.loads.Bounds.{bounded_loads}
 use Rattle.libyaml_graphs.specs.loads.Loads.{Load}
 use Rattle.libyaml_loader.specs.document.Ids.{magnitude}
 use Rattle.line_reading.specs.sources.LineSource.{BreaksOff, known_of}
-use Rattle.memory_runs.specs.InMemory.{bytes_of}
-use Rattle.memory_runs.proofs.WholeRuns.{has_bytes}
+use Rattle.token_lines.specs.lines.InMemory.{bytes_of}
+use Rattle.token_lines.proofs.lines.WholeRuns.{has_bytes}
 use Rattle.token_lines.specs.nodes.LastLoad.{most_entries}
 use Rattle.token_lines.specs.nodes.NodeRun.{WritesLoads}
-use Rattle.token_lines.proofs.lent.NoBound.{writes_all}
-use Rattle.memory_runs.proofs.nodes.nodes_in_memory.Goals as goal
+use Rattle.token_lines.proofs.nodes.NoBound.{writes_all}
+use Rattle.token_lines.proofs.memory.nodes.nodes_in_memory.Goals as goal
 
 pub returns : goal.returns
 returns c =
     let parser = c.yaml_parser_initialize-parser in
-    let run = c.write_nodes-outcome in
+    let run = c.write_nodes-end in
     let known = known_of (λ s. Some s.now) in
     let old = Some c.new-bytes.result.items in
     let new = Some run.new.writer.items in

@@ -1,10 +1,11 @@
 //! The lines of events, in memory.
-ghost use Rattle.memory_runs.specs.InMemory.{InMemory, has_events};
+ghost use Rattle.token_lines.specs.lines.InMemory.{InMemory, has_events};
 
-use crate::run::{hand_out, memory_run_t};
+use super::{hand_out, memory_run_t};
+use crate::run::write_events;
 use libyaml_events::yaml_parser_initialize;
+use line_reading::yaml_line_source_t;
 use std::alloc::Global;
-use token_lines::{write_events, yaml_line_source_t};
 
 /// Runs over these token lines, of which it reads at most `max_tokens`, and puts the lines of their events
 /// into `out`, followed by the text of a fault, if there is one: as many bytes as `out` has room for. The
@@ -22,6 +23,6 @@ pub fn events_in_memory(
     let source = yaml_line_source_t::new(alloc, tokens, max_tokens);
     let mut parser = yaml_parser_initialize(alloc, source);
     let mut bytes = Vec::new(alloc);
-    let outcome = write_events(alloc, &mut parser, &mut bytes);
-    hand_out(outcome, bytes.as_slice(), out)
+    let end = write_events(&mut parser, &mut bytes);
+    hand_out(&end, bytes.as_slice(), out)
 }

@@ -2,16 +2,19 @@
 use Rattle.std.specs.Prelude.{◌≡◌, ◌++◌, ℕ, List, length, min, take, drop, codes}
 use Rattle.std.specs.List.{concat}
 use Rattle.libyaml_types.specs.declared.event.yaml_event_t.{yaml_event_t}
-use Rattle.libyaml_sources.specs.Fault.{Fault}
+use Rattle.libyaml_sources.specs.Fault.{Fault, fault_of}
 use Rattle.libyaml_grammar.specs.runs.Runs.{Ending, Ends, Fails, IsRun}
 use Rattle.libyaml_graphs.specs.loads.Loads.{IsLoads, Load}
+use Rattle.line_reading.specs.sources.NextLine.{BreaksOffAt}
 use Rattle.line_reading.specs.sources.ReadLines.{read_lines}
 use Rattle.line_writing.specs.FaultText.{fault_text}
 use Rattle.token_lines.specs.events.EventRun.{event_lines}
 use Rattle.token_lines.specs.nodes.NodeRun.{loads_ending, loads_lines}
-use Rattle.memory_runs.specs.declared.outcome.memory_outcome_t.{memory_outcome_t}
-use Rattle.memory_runs.specs.declared.outcome.memory_outcome_t.TheVariants.{Ended, Faulted, OutOfMemory}
-use Rattle.memory_runs.specs.declared.run.memory_run_t.{memory_run_t}
+use Rattle.token_lines.specs.declared.memory.memory_outcome_t.{memory_outcome_t}
+use Rattle.token_lines.specs.declared.memory.memory_outcome_t.TheVariants.{Ended, Faulted, OutOfMemory}
+use Rattle.token_lines.specs.declared.memory.memory_run_t.{memory_run_t}
+use Rattle.token_lines.specs.declared.run.run_end_t.{run_end_t}
+use Rattle.token_lines.specs.declared.run.run_end_t.TheVariants as end
 
 -- the text of the fault of a failed allocation
 abbrev pub memory_text : List ℕ
@@ -23,6 +26,14 @@ abbrev pub Has : memory_outcome_t → (lines : List (List ℕ)) → Ending → (
 Has Ended lines ending bytes = (ending ≡ Ends) × (bytes ≡ concat lines)
 Has Faulted lines ending bytes = (f : Fault) × (ending ≡ Fails f) × (bytes ≡ concat lines ++ fault_text f)
 Has OutOfMemory lines ending bytes = bytes ≡ memory_text
+
+-- How a run in memory that ended so tells it. A fault that is told is none of a failed allocation or a failed read; of
+-- where one of these is told nothing is asked here.
+abbrev pub EndsAs : run_end_t → memory_outcome_t → Type 0
+EndsAs end.Ended Ended = Unit {0}
+EndsAs (end.Faulted f) Faulted = (n : ℕ) → BreaksOffAt n (fault_of f) → ⊥
+EndsAs _ OutOfMemory = Unit {0}
+EndsAs _ _ = ⊥
 
 -- the bytes of the lines of the events of these token lines, of which at most so many are read
 abbrev pub has_events : (tokens : List ℕ) (max : ℕ) → memory_outcome_t → (bytes : List ℕ) → Type 0

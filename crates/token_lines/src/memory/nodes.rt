@@ -1,10 +1,11 @@
 //! The lines of documents and their nodes, in memory.
-ghost use Rattle.memory_runs.specs.InMemory.{InMemory, has_nodes};
+ghost use Rattle.token_lines.specs.lines.InMemory.{InMemory, has_nodes};
 
-use crate::run::{hand_out, memory_run_t};
+use super::{hand_out, memory_run_t};
+use crate::run::write_nodes;
 use libyaml_events::yaml_parser_initialize;
+use line_reading::yaml_line_source_t;
 use std::alloc::Global;
-use token_lines::{write_nodes, yaml_line_source_t};
 
 /// Runs over these token lines in the same way as `events_in_memory`, and puts the lines of their documents
 /// and nodes into `out`.
@@ -19,6 +20,6 @@ pub fn nodes_in_memory(
     let source = yaml_line_source_t::new(alloc, tokens, max_tokens);
     let mut parser = yaml_parser_initialize(alloc, source);
     let mut bytes = Vec::new(alloc);
-    let outcome = write_nodes(alloc, &mut parser, &mut bytes);
-    hand_out(outcome, bytes.as_slice(), out)
+    let end = write_nodes(&mut parser, &mut bytes);
+    hand_out(&end, bytes.as_slice(), out)
 }

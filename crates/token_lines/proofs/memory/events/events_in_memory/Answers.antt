@@ -1,13 +1,13 @@
 use Rattle.std.proofs.Common.{ap, ◌∙◌, Some}
 use Rattle.line_reading.specs.sources.LineSource.{known_of}
-use Rattle.memory_runs.specs.InMemory.{bytes_of}
-use Rattle.memory_runs.proofs.WholeRuns.{has_bytes}
-use Rattle.memory_runs.proofs.events.events_in_memory.Goals as goal
+use Rattle.token_lines.specs.lines.InMemory.{bytes_of}
+use Rattle.token_lines.proofs.lines.WholeRuns.{has_bytes}
+use Rattle.token_lines.proofs.memory.events.events_in_memory.Goals as goal
 
 pub returns : goal.returns
 returns c =
     let parser = c.yaml_parser_initialize-parser in
-    let run = c.write_events-outcome in
+    let run = c.write_events-end in
     let known = known_of (λ s. Some s.now) in
     record {
       bytes = bytes_of c.hand_out.result.outcome c.as_slice.result.now;

@@ -2,12 +2,12 @@
 use Rattle.std.proofs.Common.{◌≡◌, ◌++◌, ◌∷◌, ℕ, List, [], map, Option, Ok, Err, refl, sym, ap, ◌∙◌, subst, inl, append_assoc}
 use Rattle.std.proofs.lemmas.List.{append-nil}
 use Rattle.libyaml_documents.specs.Documents.{Document}
-use Rattle.libyaml_sources.specs.Fault.{memory_fault, Fault}
+use Rattle.libyaml_sources.specs.Fault.{Fault, fault_of, memory_fault}
 use Rattle.libyaml_grammar.specs.runs.Runs.{Ends, Fails}
 use Rattle.libyaml_graphs.specs.loads.Loads.{Load}
 use Rattle.libyaml_graphs.proofs.lent.BoundedFronts.{IsFront, met, same}
-use Rattle.token_lines.specs.declared.run.Outcome.{Outcome}
-use Rattle.token_lines.specs.declared.run.Outcome.TheVariants.{Ended, Faulted, OutputFailed}
+use Rattle.token_lines.specs.declared.run.run_end_t.{run_end_t}
+use Rattle.token_lines.specs.declared.run.run_end_t.TheVariants.{Ended, Faulted, OutputFailed}
 use Rattle.token_lines.specs.lines.LineRun.{WritesFault, broken_off, whole}
 use Rattle.token_lines.specs.nodes.NodeRun.{WritesLoads, load_lines, loads_ending, loads_lines}
 
@@ -26,10 +26,10 @@ no_end : (f : Fault) → Fails f ≡ Ends → ⊥
 no_end f h = cc
 
 -- so what was written of the loads within the bound was written of the loads
-pub writes_all : (MayBreak : Fault → Type 0) (outcome : Outcome) (old new : Option (List ℕ)) (b l : List Load) → IsFront b l
-    → WritesLoads MayBreak outcome old new b → WritesLoads MayBreak outcome old new l
-writes_all MayBreak outcome old new b l (same e) w = subst (WritesLoads MayBreak outcome old new) e w
-writes_all MayBreak outcome old new b l (met ds rest i j) w = go outcome w
+pub writes_all : (MayBreak : Fault → Type 0) (end : run_end_t) (old new : Option (List ℕ)) (b l : List Load) → IsFront b l
+    → WritesLoads MayBreak end old new b → WritesLoads MayBreak end old new l
+writes_all MayBreak end old new b l (same e) w = subst (WritesLoads MayBreak end old new) e w
+writes_all MayBreak end old new b l (met ds rest i j) w = go end w
   where
     lines : loads_lines l ≡ loads_lines b ++ loads_lines rest
     lines =
@@ -41,13 +41,13 @@ writes_all MayBreak outcome old new b l (met ds rest i j) w = go outcome w
     fails : loads_ending b ≡ Fails memory_fault
     fails = ap loads_ending i ∙ ends_so ds memory_fault
 
-    fault : WritesFault MayBreak old new (loads_lines b) (loads_ending b) → WritesFault MayBreak old new (loads_lines l) (loads_ending l)
-    fault (whole f e wrote) = broken_off (loads_lines b) (loads_lines rest) f lines (inl (fails_is f memory_fault (sym fails ∙ e))) wrote
-    fault (broken_off written later f e why wrote)
-        = broken_off written (later ++ loads_lines rest) f (lines ∙ ap (λ (m : List (List ℕ)). m ++ loads_lines rest) e
+    fault : (f : Fault) → WritesFault MayBreak f old new (loads_lines b) (loads_ending b) → WritesFault MayBreak f old new (loads_lines l) (loads_ending l)
+    fault f (whole e wrote) = broken_off (loads_lines b) (loads_lines rest) lines (inl (fails_is f memory_fault (sym fails ∙ e))) wrote
+    fault f (broken_off written later e why wrote)
+        = broken_off written (later ++ loads_lines rest) (lines ∙ ap (λ (m : List (List ℕ)). m ++ loads_lines rest) e
         ∙ append_assoc written later (loads_lines rest)) why wrote
 
-    go : (o : Outcome) → WritesLoads MayBreak o old new b → WritesLoads MayBreak o old new l
+    go : (o : run_end_t) → WritesLoads MayBreak o old new b → WritesLoads MayBreak o old new l
     go Ended h = absurd (no_end memory_fault (sym fails ∙ h.0))
-    go Faulted h = fault h
+    go (Faulted f) h = fault (fault_of f) h
     go OutputFailed h = tt

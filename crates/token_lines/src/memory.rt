@@ -1,0 +1,87 @@
+//! Runs over token lines in memory, which put as many bytes of the lines as a buffer has room for there.
+ghost use Rattle.std.specs.Prelude.{◌≡◌, ℕ, min, true};
+ghost use Rattle.libyaml_sources.specs.Fault.{fault_of};
+ghost use Rattle.line_reading.specs.sources.NextLine.{BreaksOffAt};
+ghost use Rattle.token_lines.specs.lines.InMemory.{EndsAs, HandsOut, bytes_of};
+
+mod events;
+mod nodes;
+
+use crate::run::run_end_t;
+pub use events::events_in_memory;
+use libyaml_sources::yaml_parser_t_prefix;
+use libyaml_types::yaml_error_type_t;
+use line_reading::READ_FAILED;
+pub use nodes::nodes_in_memory;
+
+/// How a run over memory ended.
+#[derive(Copy, Clone, PartialEq, Eq, Debug)]
+pub enum memory_outcome_t {
+    /// The bytes are all lines of the run.
+    Ended,
+    /// The bytes are all lines of the run, followed by the text of its fault.
+    Faulted,
+    /// An allocation failed. The bytes are the text of that fault alone.
+    OutOfMemory,
+}
+
+/// What a run put into its caller's buffer.
+#[derive(Copy, Clone, PartialEq, Eq, Debug)]
+pub struct memory_run_t {
+    /// How the run ended.
+    pub outcome: memory_outcome_t,
+    /// How many bytes were put into the buffer: as many as there are, or as it has room for.
+    pub written: usize,
+    /// How many bytes the whole run has.
+    pub wanted: usize,
+}
+
+/// The text of the fault of a failed allocation.
+const MEMORY_TEXT: &[u8] = b"FAULT memory 0:0:0 -\n";
+
+/// Hands out what a run wrote: its bytes where it was whole, and else the text of a failed allocation.
+fn hand_out(end: &run_end_t, bytes: &[u8], out: &mut [u8]) -> memory_run_t
+    ensures outcome { EndsAs end.now result.outcome }
+    ensures bytes { HandsOut (bytes_of result.outcome bytes.now) out.old out.new result }
+{
+    let outcome = outcome_of(end);
+    match outcome {
+        memory_outcome_t::OutOfMemory => put(outcome, MEMORY_TEXT, out),
+        _ => put(outcome, bytes, out),
+    }
+}
+
+/// Returns how a run in memory ended.
+fn outcome_of(end: &run_end_t) -> memory_outcome_t
+    ensures { EndsAs end.now result }
+{
+    match end {
+        run_end_t::Ended => memory_outcome_t::Ended,
+        run_end_t::Faulted(fault) if !cuts_short(fault) => memory_outcome_t::Faulted,
+        _ => memory_outcome_t::OutOfMemory,
+    }
+}
+
+/// Returns whether this is the fault of a failed allocation, or of a failed read, which memory doesn't know.
+fn cuts_short(fault: &yaml_parser_t_prefix) -> bool
+    ensures { (n : ℕ) → BreaksOffAt n (fault_of fault.now) → result ≡ true }
+{
+    match fault.problem {
+        Some(problem) => problem == READ_FAILED,
+        None => fault.error == yaml_error_type_t::YAML_MEMORY_ERROR,
+    }
+}
+
+/// Puts the prefix of these bytes that `out` has room for into it.
+fn put(outcome: memory_outcome_t, bytes: &[u8], out: &mut [u8]) -> memory_run_t
+    ensures outcome { result.outcome ≡ outcome }
+    ensures bytes { HandsOut bytes.now out.old out.new result }
+{
+    let written = bytes.len().min(out.len());
+    out[..written].copy_from_slice(&bytes[..written]);
+    memory_run_t {
+        outcome,
+        written,
+        wanted: bytes.len(),
+    }
+}
