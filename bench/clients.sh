@@ -3,9 +3,10 @@
 #
 #     sh bench/clients.sh DIR [TURNS]
 #
-# DIR has the libraries that build_c.sh made there. Each line has the median of the ratios of TURNS turns (21), in which the
-# two run one after another: let nothing else run. The text has 350 KB: examples/compose.yaml as many documents. psych reads
-# the YAML files of this machine, SAMPLE at most (2000), and each once before.
+# DIR has the libraries that build_c.sh made there. Each line has the median of the ratios of TURNS turns (21; of PyYAML a
+# third as many), in which the two run one after another, by processor time: best where nothing else runs. The text has 350 KB,
+# examples/compose.yaml as many documents. psych reads the YAML files of this machine, SAMPLE at most (2000), and then that
+# text ten times.
 #
 # Needs a C compiler, cargo, Debian's libyaml-dev, ruby and python3-yaml, and the crate unsafe-libyaml 0.2.11 in the folder
 # that CLIENT_CRATES names, /usr/share/cargo/registry where it isn't set. PYTHON and RUBY are Debian's.
@@ -62,8 +63,10 @@ RUBY
 psych="$ruby $work/psych.rb"
 "$python" bench/paired.py "$turns" "psych, $(wc -l < "$work/files") files" \
     "LD_PRELOAD=$work/libyaml_preload.so $psych $work/files" "$psych $work/files"
-yes "$work/text.yaml" | head -n 20 > "$work/text_again" || true
-"$python" bench/paired.py "$turns" "psych, the text 20 times" \
+for again in 1 2 3 4 5 6 7 8 9 10; do
+    echo "$work/text.yaml"
+done > "$work/text_again"
+"$python" bench/paired.py "$turns" "psych, the text ten times" \
     "LD_PRELOAD=$work/libyaml_preload.so $psych $work/text_again" "$psych $work/text_again"
 
 cat > "$work/load.py" << 'PYTHON'

@@ -1,19 +1,20 @@
 #!/usr/bin/env python3
 """paired.py TURNS NAME COMMAND PEER: how many times as long as PEER COMMAND takes, two lines of the shell that run in turn.
 
-Prints the median of the ratios of all turns, after one that isn't counted, the middle half of them, and both medians in
-milliseconds. Fails where a command does.
+Times are those of the processor, of the program and of the system for it. Prints the median of the ratios of all turns, after
+one that isn't counted, the middle half of them, and both medians in milliseconds. Fails where a command does.
 """
+import resource
 import statistics
 import subprocess
 import sys
-import time
 
 
 def taken(command):
-    begun = time.perf_counter()
+    before = resource.getrusage(resource.RUSAGE_CHILDREN)
     subprocess.run(command, shell=True, check=True, stdout=subprocess.DEVNULL, stdin=subprocess.DEVNULL)
-    return 1e3 * (time.perf_counter() - begun)
+    after = resource.getrusage(resource.RUSAGE_CHILDREN)
+    return 1e3 * (after.ru_utime + after.ru_stime - before.ru_utime - before.ru_stime)
 
 
 def main(turns, name, command, peer):

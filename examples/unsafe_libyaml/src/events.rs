@@ -147,7 +147,6 @@ unsafe fn make(
     values: &mut vec::IntoIter<Value>,
 ) -> bool {
     let implicit = record.implicit == 1;
-    let (anchor, tag) = (buffers.text(record.anchor), buffers.text(record.tag));
     match record.kind {
         1 => yaml_stream_start_event_initialize(event, encoding(record.style)).ok,
         2 => yaml_stream_end_event_initialize(event).ok,
@@ -155,14 +154,16 @@ unsafe fn make(
             .directives(record)
             .with(|version, start, end| yaml_document_start_event_initialize(event, version, start, end, implicit).ok),
         4 => yaml_document_end_event_initialize(event, implicit).ok,
-        5 => yaml_alias_event_initialize(event, anchor.as_ptr()).ok,
-        6 => scalar(event, record, anchor, tag, values),
+        5 => yaml_alias_event_initialize(event, buffers.text(record.anchor).as_ptr()).ok,
+        6 => scalar(event, record, buffers, values),
         7 => {
+            let (anchor, tag) = (buffers.text(record.anchor), buffers.text(record.tag));
             let style = sequence_style(record.style);
             yaml_sequence_start_event_initialize(event, anchor.as_ptr(), tag.as_ptr(), implicit, style).ok
         }
         8 => yaml_sequence_end_event_initialize(event).ok,
         9 => {
+            let (anchor, tag) = (buffers.text(record.anchor), buffers.text(record.tag));
             let style = mapping_style(record.style);
             yaml_mapping_start_event_initialize(event, anchor.as_ptr(), tag.as_ptr(), implicit, style).ok
         }
@@ -175,20 +176,17 @@ unsafe fn make(
 unsafe fn scalar(
     event: *mut yaml_event_t,
     record: &EventRecord,
-    anchor: Text,
-    tag: Text,
+    buffers: &Buffers,
     values: &mut vec::IntoIter<Value>,
 ) -> bool {
-    let (plain, quoted, style) = (
-        record.implicit == 1,
-        record.quoted_implicit == 1,
-        scalar_style(record.style),
-    );
+    let (plain, quoted) = (record.implicit == 1, record.quoted_implicit == 1);
+    let style = scalar_style(record.style);
     let value = if record.value.length > 0 { values.next() } else { None };
-    let is_bare = anchor.as_ptr().is_null() && tag.as_ptr().is_null();
+    let is_bare = record.anchor.is_absent() && record.tag.is_absent();
     if value.is_none() || !is_bare {
-        let (anchor, tag) = (anchor.as_ptr(), tag.as_ptr());
-        if !yaml_scalar_event_initialize(event, anchor, tag, b"\0".as_ptr(), 0, plain, quoted, style).ok {
+        let (anchor, tag) = (buffers.text(record.anchor), buffers.text(record.tag));
+        let (anchor, tag, empty) = (anchor.as_ptr(), tag.as_ptr(), b"\0".as_ptr());
+        if !yaml_scalar_event_initialize(event, anchor, tag, empty, 0, plain, quoted, style).ok {
             return false;
         }
     }

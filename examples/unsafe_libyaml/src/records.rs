@@ -126,9 +126,13 @@ impl MarkRecord {
 }
 
 impl RangeRecord {
+    pub fn is_absent(self) -> bool {
+        self.place == usize::MAX
+    }
+
     /// Returns the text of the range, or none where it is absent.
     pub fn text(self, texts: &[u8]) -> Option<&[u8]> {
-        (self.place != usize::MAX).then(|| &texts[self.place..self.place + self.length])
+        (!self.is_absent()).then(|| &texts[self.place..self.place + self.length])
     }
 }
 
