@@ -224,9 +224,16 @@ def public_of(crate):
     return public
 
 
+def named_above(crate):
+    """The types of a crate that specs and proofs of the crates above name."""
+    texts = (path.read_text() for other in crates() if other != crate for path in (TOP / "crates" / other).glob("[ps]*s/**/*.antt"))
+    paths = (match for text in texts for match in re.findall(rf"Rattle\.{crate}\.specs\.declared\.([\w.]+)", text))
+    return {name for path in paths for name in path.split(".")}
+
+
 def hidden(crate):
-    """The items, as a file, a line and a name, that say `pub` where no path from the root reaches them."""
-    public = public_of(crate)
+    """The items, as a file, a line and a name, that say `pub` where no path from the root reaches them, and no proof above."""
+    public = [*public_of(crate), *named_above(crate)]
     for path in sorted((TOP / "crates" / crate / "src").rglob("*.rt")):
         owner = None
         for number, line in enumerate(path.read_text().splitlines()):

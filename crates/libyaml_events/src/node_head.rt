@@ -5,7 +5,7 @@ use std::marker::Model;
 
 /// A tag as it is written.
 #[derive(Drop)]
-pub(crate) struct TagRead {
+pub struct TagRead {
     pub handle: String,
     pub suffix: String,
     /// The start of its token.
@@ -52,7 +52,7 @@ impl Model for PropertiesRead {
 
 /// What stands before a node's content: its properties, the tag in full, or neither.
 #[derive(Drop)]
-pub(crate) struct NodeHead {
+pub struct NodeHead {
     pub anchor: Option<String>,
     pub tag: Option<String>,
     /// The start of the first property, or else of the content.

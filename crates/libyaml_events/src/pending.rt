@@ -11,7 +11,7 @@ use std::marker::Model;
 
 /// The directives of a document, read so far.
 #[derive(Drop)]
-pub(crate) struct DirectivesRead {
+pub struct DirectivesRead {
     /// The start of the first.
     pub start_mark: yaml_mark_t,
     pub version: Option<yaml_version_directive_t>,

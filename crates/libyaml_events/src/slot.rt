@@ -8,7 +8,7 @@ use libyaml_types::{unnamed_yaml_token_t_data, yaml_parser_state_t};
 
 /// A place where a node may be nothing (docs/DEFINITIONS.md, "Where a node may be nothing").
 #[derive(Copy, Clone)]
-pub(crate) enum Slot {
+pub enum Slot {
     BlockEntry,
     IndentlessEntry,
     BlockKey,
