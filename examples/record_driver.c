@@ -1,11 +1,12 @@
-/* The events of YAML files by token records, beside libyaml's own: its scanner (Debian: libyaml-dev) gives the tokens,
- * our static library makes the events, and each is compared with the one that `yaml_parser_parse` gives.
+/* The events and the documents of YAML files by token records, beside libyaml's own: its scanner (Debian: libyaml-dev)
+ * gives the tokens, our static library makes the events and the documents, and each is compared with the one that
+ * `yaml_parser_parse` or `yaml_parser_load` gives.
  *
  *     cc -O2 -o record_driver examples/record_driver.c DIR/libtoken_records.a -lyaml
  *     record_driver FILE..            compares; the status is 1 where a file differs
  *     record_driver times N FILE      the least time of N runs of each part
  *
- * DIR is that of scripts/build_c.sh. A program of your own takes `scan` and `run_records`. */
+ * DIR is that of scripts/build_c.sh. A program of your own takes `scan`, and `run_records` or `run_documents`. */
 #define _POSIX_C_SOURCE 200809L
 #include "token_records.h"
 #include <stdio.h>
@@ -159,15 +160,23 @@ static void free_events(struct events *events)
     free(events->texts);
 }
 
+/* Runs once, and puts what has room. */
+static void run_records_once(const struct tokens *tokens, struct events *events)
+{
+    const record_counts_t *room = &events->room;
+
+    token_records_run_events(tokens->records, tokens->count, tokens->texts.at, tokens->texts.length, events->records,
+                             room->events, events->directives, room->directives, events->texts, room->texts,
+                             &events->run);
+}
+
 /* Runs until all has room. The buffers may be used again. */
 static void run_records(const struct tokens *tokens, struct events *events)
 {
     record_counts_t *room = &events->room;
 
     for (;;) {
-        token_records_run_events(tokens->records, tokens->count, tokens->texts.at, tokens->texts.length, events->records,
-                                 room->events, events->directives, room->directives, events->texts, room->texts,
-                                 &events->run);
+        run_records_once(tokens, events);
         record_counts_t wanted = events->run.wanted, written = events->run.written;
         if (written.events == wanted.events && written.directives == wanted.directives && written.texts == wanted.texts)
             return;
@@ -175,6 +184,71 @@ static void run_records(const struct tokens *tokens, struct events *events)
         events->directives = grown(events->directives, &room->directives, wanted.directives, sizeof *events->directives);
         events->texts = grown(events->texts, &room->texts, wanted.texts, 1);
     }
+}
+
+/* ---- Documents of records ---- */
+
+struct documents {
+    document_record_t *records;
+    node_record_t *nodes;
+    int32_t *items;
+    pair_record_t *pairs;
+    directive_record_t *directives;
+    uint8_t *texts;
+    document_counts_t room;
+    documents_run_t run;
+};
+
+/* Makes room for at least so many of each. */
+static void widen(struct documents *documents, document_counts_t wanted)
+{
+    document_counts_t *room = &documents->room;
+
+    documents->records = grown(documents->records, &room->documents, wanted.documents, sizeof *documents->records);
+    documents->nodes = grown(documents->nodes, &room->nodes, wanted.nodes, sizeof *documents->nodes);
+    documents->items = grown(documents->items, &room->items, wanted.items, sizeof *documents->items);
+    documents->pairs = grown(documents->pairs, &room->pairs, wanted.pairs, sizeof *documents->pairs);
+    documents->directives
+        = grown(documents->directives, &room->directives, wanted.directives, sizeof *documents->directives);
+    documents->texts = grown(documents->texts, &room->texts, wanted.texts, 1);
+}
+
+static void new_documents(struct documents *documents, document_counts_t room)
+{
+    memset(documents, 0, sizeof *documents);
+    widen(documents, room);
+    documents->room = room;
+}
+
+static void free_documents(struct documents *documents)
+{
+    free(documents->records);
+    free(documents->nodes);
+    free(documents->items);
+    free(documents->pairs);
+    free(documents->directives);
+    free(documents->texts);
+}
+
+/* Runs once, and puts what has room. */
+static void run_documents_once(const struct tokens *tokens, struct documents *documents)
+{
+    const document_counts_t *room = &documents->room;
+
+    token_records_run_documents(tokens->records, tokens->count, tokens->texts.at, tokens->texts.length,
+                                documents->records, room->documents, documents->nodes, room->nodes, documents->items,
+                                room->items, documents->pairs, room->pairs, documents->directives, room->directives,
+                                documents->texts, room->texts, &documents->run);
+}
+
+/* Runs until all has room. The buffers may be used again. */
+static void run_documents(const struct tokens *tokens, struct documents *documents)
+{
+    documents_run_t *run = &documents->run;
+
+    for (run_documents_once(tokens, documents); memcmp(&run->written, &run->wanted, sizeof run->wanted) != 0;
+         run_documents_once(tokens, documents))
+        widen(documents, run->wanted);
 }
 
 /* ---- Beside libyaml's events ---- */
@@ -199,22 +273,31 @@ static int mark_is(mark_record_t mark, yaml_mark_t other)
     return mark.index == other.index && mark.line == other.line && mark.column == other.column;
 }
 
-static int document_start_is(const struct events *events, const event_record_t *made, const yaml_event_t *event)
+/* Whether these directive records are libyaml's tag directives from `first` up to `end`. */
+static int directives_are(const struct events *events, range_record_t range, const yaml_tag_directive_t *first,
+                          const yaml_tag_directive_t *end)
 {
-    yaml_version_directive_t *version = event->data.document_start.version_directive;
-    yaml_tag_directive_t *directive = event->data.document_start.tag_directives.start;
-    size_t count = event->data.document_start.tag_directives.end - directive;
-    const directive_record_t *record = events->directives + made->directives.place;
+    const directive_record_t *record = events->directives + range.place;
 
-    if (made->implicit != event->data.document_start.implicit || made->has_version != (version != NULL) ||
-        made->directives.length != count)
+    if (range.length != (size_t)(end - first))
         return 0;
-    if (version != NULL && (version->major != made->major || version->minor != made->minor))
-        return 0;
-    for (; count > 0; count--, directive++, record++)
-        if (!string_is(events, record->handle, directive->handle) || !string_is(events, record->prefix, directive->prefix))
+    for (; first != end; first++, record++)
+        if (!string_is(events, record->handle, first->handle) || !string_is(events, record->prefix, first->prefix))
             return 0;
     return 1;
+}
+
+static int version_is(int has_version, int32_t major, int32_t minor, const yaml_version_directive_t *version)
+{
+    return version == NULL ? !has_version : has_version && version->major == major && version->minor == minor;
+}
+
+static int document_start_is(const struct events *events, const event_record_t *made, const yaml_event_t *event)
+{
+    return made->implicit == event->data.document_start.implicit &&
+           version_is(made->has_version, made->major, made->minor, event->data.document_start.version_directive) &&
+           directives_are(events, made->directives, event->data.document_start.tag_directives.start,
+                          event->data.document_start.tag_directives.end);
 }
 
 static int scalar_is(const struct events *events, const event_record_t *made, const yaml_event_t *event)
@@ -295,6 +378,108 @@ static int is_alike(const struct bytes *yaml, const struct events *events, int s
     return alike;
 }
 
+/* ---- Beside libyaml's documents ---- */
+
+/* What documents share with events: their texts, directives and fault. */
+static struct events shared(const struct documents *documents)
+{
+    struct events events = {.directives = documents->directives, .texts = documents->texts};
+
+    events.run.written.texts = documents->run.written.texts;
+    events.run.fault = documents->run.fault;
+    return events;
+}
+
+static int sequence_is(const struct documents *documents, range_record_t range, const yaml_node_t *node)
+{
+    const yaml_node_item_t *item = node->data.sequence.items.start;
+
+    if (range.length != (size_t)(node->data.sequence.items.top - item))
+        return 0;
+    for (size_t i = 0; i < range.length; i++)
+        if (documents->items[range.place + i] != item[i])
+            return 0;
+    return 1;
+}
+
+static int mapping_is(const struct documents *documents, range_record_t range, const yaml_node_t *node)
+{
+    const yaml_node_pair_t *pair = node->data.mapping.pairs.start;
+
+    if (range.length != (size_t)(node->data.mapping.pairs.top - pair))
+        return 0;
+    for (size_t i = 0; i < range.length; i++)
+        if (documents->pairs[range.place + i].key != pair[i].key || documents->pairs[range.place + i].value != pair[i].value)
+            return 0;
+    return 1;
+}
+
+/* Whether a record is that of a node of libyaml's. */
+static int node_is(const struct documents *documents, const node_record_t *made, const yaml_node_t *node)
+{
+    struct events events = shared(documents);
+    int is_scalar = node->type == YAML_SCALAR_NODE;
+
+    if (made->kind != node->type || !mark_is(made->start_mark, node->start_mark) ||
+        !mark_is(made->end_mark, node->end_mark) || !string_is(&events, made->tag, node->tag) ||
+        (is_scalar ? made->children.place : made->value.place) != TOKEN_RECORDS_ABSENT)
+        return 0;
+    switch (node->type) {
+    case YAML_SCALAR_NODE:
+        return made->style == node->data.scalar.style &&
+               text_is(&events, made->value, node->data.scalar.value, node->data.scalar.length);
+    case YAML_SEQUENCE_NODE:
+        return made->style == node->data.sequence.style && sequence_is(documents, made->children, node);
+    default:
+        return made->style == node->data.mapping.style && mapping_is(documents, made->children, node);
+    }
+}
+
+/* Whether a record, and those of its nodes, are those of a document of libyaml's. */
+static int document_is(const struct documents *documents, const document_record_t *made, const yaml_document_t *document)
+{
+    struct events events = shared(documents);
+    const yaml_node_t *node = document->nodes.start;
+    int alike = made->nodes.length == (size_t)(document->nodes.top - node) &&
+                made->start_implicit == document->start_implicit && made->end_implicit == document->end_implicit &&
+                version_is(made->has_version, made->major, made->minor, document->version_directive) &&
+                directives_are(&events, made->directives, document->tag_directives.start, document->tag_directives.end) &&
+                mark_is(made->start_mark, document->start_mark) && mark_is(made->end_mark, document->end_mark);
+
+    for (size_t i = 0; alike && i < made->nodes.length; i++)
+        alike = node_is(documents, &documents->nodes[made->nodes.place + i], &node[i]);
+    return alike;
+}
+
+/* Compares the documents of a text; 1 where all are alike, and the fault. */
+static int are_documents_alike(const struct bytes *yaml, const struct documents *documents, int scanned)
+{
+    struct events events = shared(documents);
+    yaml_parser_t parser;
+    yaml_document_t document;
+    size_t count = 0, written = documents->run.written.documents;
+    int alike = 1, more = 1;
+
+    if (!yaml_parser_initialize(&parser))
+        exit(3);
+    yaml_parser_set_input_string(&parser, yaml->at, yaml->length);
+    while (alike && more) {
+        if (!yaml_parser_load(&parser, &document)) {
+            alike = fault_is(&events, &parser, scanned) && count == written;
+            break;
+        }
+        more = yaml_document_get_root_node(&document) != NULL;
+        if (more)
+            alike = count < written && document_is(documents, &documents->records[count], &document);
+        else
+            alike = count == written && documents->run.fault.error == 0;
+        count++;
+        yaml_document_delete(&document);
+    }
+    yaml_parser_delete(&parser);
+    return alike;
+}
+
 static int read_file(const char *name, struct bytes *bytes)
 {
     FILE *file = fopen(name, "rb");
@@ -309,11 +494,37 @@ static int read_file(const char *name, struct bytes *bytes)
     return fclose(file) == 0;
 }
 
+struct counts {
+    size_t events, nodes, faults;
+};
+
+/* Whether the events and the documents of a text are libyaml's, made in buffers of so many entries; they are counted. */
+static int is_alike_in(size_t room, const struct bytes *yaml, const struct tokens *tokens, int scanned, struct counts *counts)
+{
+    record_counts_t events_room = {room, room, room};
+    document_counts_t documents_room = {room, room, room, room, room, room};
+    struct events events;
+    struct documents documents;
+
+    new_events(&events, events_room);
+    new_documents(&documents, documents_room);
+    run_records(tokens, &events);
+    run_documents(tokens, &documents);
+    int alike = is_alike(yaml, &events, scanned) && are_documents_alike(yaml, &documents, scanned);
+    counts->events += events.run.written.events;
+    counts->nodes += documents.run.written.nodes;
+    counts->faults += documents.run.fault.error != 0;
+    free_events(&events);
+    free_documents(&documents);
+    return alike;
+}
+
 /* Each file, with buffers of one entry, of three, and of many. */
 static int compare(char **names)
 {
     static const size_t rooms[] = {1, 3, 65536};
-    size_t files = 0, events = 0, faults = 0, differ = 0;
+    struct counts all = {0}, again = {0};
+    size_t files = 0, differ = 0;
 
     for (; *names != NULL; names++) {
         struct bytes yaml = {0};
@@ -323,16 +534,8 @@ static int compare(char **names)
             return 3;
         }
         int scanned = scan(&yaml, &tokens), alike = 1;
-        for (size_t i = 0; i < sizeof rooms / sizeof *rooms; i++) {
-            record_counts_t room = {rooms[i], rooms[i], rooms[i]};
-            struct events made;
-            new_events(&made, room);
-            run_records(&tokens, &made);
-            alike = alike && is_alike(&yaml, &made, scanned);
-            events += i == 0 ? made.run.written.events : 0;
-            faults += i == 0 && made.run.fault.error != 0;
-            free_events(&made);
-        }
+        for (size_t i = 0; i < sizeof rooms / sizeof *rooms; i++)
+            alike = is_alike_in(rooms[i], &yaml, &tokens, scanned, i == 0 ? &all : &again) && alike;
         if (!alike)
             printf("%s differs\n", *names);
         differ += !alike;
@@ -340,7 +543,7 @@ static int compare(char **names)
         free_tokens(&tokens);
         free(yaml.at);
     }
-    printf("%zu files, %zu events, %zu faults, %zu differ\n", files, events, faults, differ);
+    printf("%zu files, %zu events, %zu nodes, %zu faults, %zu differ\n", files, all.events, all.nodes, all.faults, differ);
     return differ != 0;
 }
 
@@ -369,19 +572,40 @@ static void parse_all(const struct bytes *yaml)
     yaml_parser_delete(&parser);
 }
 
+static void load_all(const struct bytes *yaml)
+{
+    yaml_parser_t parser;
+    yaml_document_t document;
+    int more = 1;
+
+    if (!yaml_parser_initialize(&parser))
+        exit(3);
+    yaml_parser_set_input_string(&parser, yaml->at, yaml->length);
+    while (more && yaml_parser_load(&parser, &document)) {
+        more = yaml_document_get_root_node(&document) != NULL;
+        yaml_document_delete(&document);
+    }
+    yaml_parser_delete(&parser);
+}
+
 static int times(int count, const char *name)
 {
-    static const char *const parts[] = {"libyaml's scanner and parser", "its scanner, and records", "the run over records"};
+    static const char *const parts[] = {"libyaml's scanner and parser", "its scanner, and records", "the run over events",
+                                        "libyaml's scanner, parser and loader", "the run over documents"};
     struct bytes yaml = {0};
     struct tokens tokens = {0};
     record_counts_t room = {1, 1, 1};
+    document_counts_t documents_room = {1, 1, 1, 1, 1, 1};
     struct events events;
+    struct documents documents;
 
     if (!read_file(name, &yaml))
         return 3;
     new_events(&events, room);
+    new_documents(&documents, documents_room);
     scan(&yaml, &tokens);
     run_records(&tokens, &events);
+    run_documents(&tokens, &documents);
     for (size_t part = 0; part < sizeof parts / sizeof *parts; part++) {
         double least = 1e9;
         for (int i = 0; i < count; i++) {
@@ -390,14 +614,19 @@ static int times(int count, const char *name)
                 parse_all(&yaml);
             else if (part == 1)
                 scan(&yaml, &tokens);
-            else
+            else if (part == 2)
                 run_records(&tokens, &events);
+            else if (part == 3)
+                load_all(&yaml);
+            else
+                run_documents(&tokens, &documents);
             double taken = now() - begun;
             least = taken < least ? taken : least;
         }
         printf("%s: %.3f ms, %zu tokens, %zu events\n", parts[part], least, tokens.count, events.run.written.events);
     }
     free_events(&events);
+    free_documents(&documents);
     free_tokens(&tokens);
     free(yaml.at);
     return 0;

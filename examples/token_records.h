@@ -1,9 +1,10 @@
-/* Token records in, event records out: the run of `token_records`, as a static library for C and C++.
+/* Token records in, event records or document records out: the runs of `token_records` and `document_records`, as a
+ * static library for C and C++.
  *
- * A run takes the tokens of a whole stream as records, and makes the records of its events, those of their tag
- * directives, and the texts that both name. A record is a plain struct of fixed size; a text is a range of a buffer of
- * bytes, that of the tokens in `texts` and that of the events in `out`. After the texts in `out` come the words of a
- * fault, if there is one. The caller gives three buffers; on each return `*run` has
+ * A run takes the tokens of a whole stream as records. The run over events makes the records of its events, those of
+ * their tag directives, and the texts that both name. A record is a plain struct of fixed size; a text is a range of a
+ * buffer of bytes, that of the tokens in `texts` and that of what is made in `out`. After the texts in `out` come the
+ * words of a fault, if there is one. The caller gives three buffers; on each return `*run` has
  *
  * - `fault`: why there are no more events, or `error` 0 where the stream ended. An error of 1 is that an allocation
  *   failed, 2 and 3 that a token record is bad or that the tokens ended before STREAM-END (below), 4 that the tokens are
@@ -23,7 +24,16 @@
  *         run.written.texts == run.wanted.texts)
  *         ... // all of it is there
  *
- * examples/record_driver.c is a program with that loop, over libyaml's scanner. The numbers of kinds, styles, encodings
+ * The run over documents, `token_records_run_documents`, does the same with six buffers: the records of documents, of
+ * their nodes and of their tag directives, the items of sequences, the pairs of mappings, and the texts. A document
+ * names its nodes as neighbours among the node records; their ids count from 1 within it, and its root has the id 1. A
+ * sequence names its items among the items, a mapping its pairs among the pairs: each is the id of a node of the same
+ * document, or two. Documents are as `yaml_parser_load` composes them: an alias is the id of the node with its anchor.
+ * An alias without such a node, and an anchor that comes twice, are errors of 5; a list of more than 2147483647 nodes,
+ * items or pairs is out of memory. Up to a fault the documents are those of the stream, and nothing is put of the
+ * document that the fault is in.
+ *
+ * examples/record_driver.c is a program with these loops, over libyaml's scanner. The numbers of kinds, styles, encodings
  * and errors are those of libyaml's yaml_token_type_t, yaml_event_type_t and so on, and marks count from 0 as libyaml's.
  *
  * Faults of the records themselves, each with `problem_offset` and the mark's index and line the number of the record,
@@ -36,11 +46,11 @@
  *     2       no more tokens            the run needed a token after the last
  *
  * Ownership. All buffers are the caller's, before, during and after the call; the library keeps nothing of them, and
- * gives back what it allocates before it returns. Threads. Several may call at once, each with `events`, `directives`,
- * `out` and `run` of its own.
+ * gives back what it allocates before it returns. Threads. Several may call at once, each with `run` and the buffers to
+ * be filled of its own.
  *
  * Link `libtoken_records.a` or `libtoken_records.so`, which scripts/build_c.sh makes of `crates/token_records_c` and the
- * toolchain's allocator: they need nothing but the C library, and export no symbol but this function.
+ * toolchain's allocator: they need nothing but the C library, and export no symbols but these two functions.
  *
  * What the library does is proved; that the caller keeps to this is not:
  *
@@ -51,7 +61,7 @@
  *   library's.
  * - `malloc`, `realloc` and `free` are of one allocator, and align a block to each power of two up to 16 that divides
  *   its size, as the C library's do.
- * - The run is called neither from a signal handler nor in the forked child of a process with threads. */
+ * - A run is called neither from a signal handler nor in the forked child of a process with threads. */
 #ifndef TOKEN_RECORDS_H
 #define TOKEN_RECORDS_H
 
@@ -137,11 +147,65 @@ typedef struct {
     fault_record_t fault;
 } records_run_t;
 
-/* The run over the tokens of these records. */
+/* The run over the tokens of these records, which makes events. */
 void token_records_run_events(const token_record_t *tokens, size_t tokens_length, const uint8_t *texts,
                               size_t texts_length, event_record_t *events, size_t events_length,
                               directive_record_t *directives, size_t directives_length, uint8_t *out,
                               size_t out_length, records_run_t *run);
+
+/* A document. */
+typedef struct {
+    uint32_t has_version; /* 1 where it has a version */
+    int32_t major;
+    int32_t minor;
+    uint16_t start_implicit;
+    uint16_t end_implicit;
+    mark_record_t start_mark;
+    mark_record_t end_mark;
+    range_record_t directives; /* which of the directive records */
+    range_record_t nodes;      /* which of the node records: the first has the id 1 */
+} document_record_t;
+
+/* A node. Ranges that a node of its kind has no use for are absent. */
+typedef struct {
+    uint32_t kind;  /* yaml_node_type_t */
+    uint32_t style; /* yaml_scalar_style_t, yaml_sequence_style_t or yaml_mapping_style_t */
+    mark_record_t start_mark;
+    mark_record_t end_mark;
+    range_record_t tag;
+    range_record_t value;    /* of a scalar: its text */
+    range_record_t children; /* of a sequence: which of the items; of a mapping: which of the pairs */
+} node_record_t;
+
+/* A pair of a mapping: the ids of its nodes. */
+typedef struct {
+    int32_t key;
+    int32_t value;
+} pair_record_t;
+
+/* How many of each kind. */
+typedef struct {
+    size_t documents;
+    size_t nodes;
+    size_t items;
+    size_t pairs;
+    size_t directives;
+    size_t texts; /* bytes, the words of the fault among them */
+} document_counts_t;
+
+/* What a run did. */
+typedef struct {
+    document_counts_t wanted;
+    document_counts_t written;
+    fault_record_t fault;
+} documents_run_t;
+
+/* The run over the tokens of these records, which makes documents. An item is the id of a node. */
+void token_records_run_documents(const token_record_t *tokens, size_t tokens_length, const uint8_t *texts,
+                                 size_t texts_length, document_record_t *documents, size_t documents_length,
+                                 node_record_t *nodes, size_t nodes_length, int32_t *items, size_t items_length,
+                                 pair_record_t *pairs, size_t pairs_length, directive_record_t *directives,
+                                 size_t directives_length, uint8_t *out, size_t out_length, documents_run_t *run);
 
 #ifdef __cplusplus
 }

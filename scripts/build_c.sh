@@ -6,7 +6,7 @@
 #     libtoken_lines.a     the runs over lines and the toolchain's allocator in one object, whose only global names are the
 #                          two runs
 #     libtoken_lines.so    the same as a shared library, which has that name in the programs that are linked to it
-#     libtoken_records.a   likewise the run over records
+#     libtoken_records.a   likewise the two runs over records
 #     libtoken_records.so
 #     yaml                 examples/yaml.c over the first; CFLAGS are taken from the environment
 #
@@ -72,6 +72,6 @@ build_library() {
 }
 
 build_library token_lines token_lines_run_events token_lines_run_nodes
-build_library token_records token_records_run_events
+build_library token_records token_records_run_documents token_records_run_events
 
 "$cc" ${CFLAGS:--O2 -Wall -Wextra} examples/yaml.c "$dir/libtoken_lines.a" -lyaml -o "$dir/yaml"

@@ -1,6 +1,6 @@
 #!/usr/bin/env python3
-"""Writes a C program that the compiler refuses unless examples/token_records.h has the structs of
-crates/token_records/src/records.rt: as many bytes, and each field by its name, with its type, at its offset.
+"""Writes a C program that the compiler refuses unless examples/token_records.h has the structs of the files `records.rt` of
+crates/token_records and crates/document_records: as many bytes, and each field by its name, with its type, at its offset.
 
     python3 scripts/layout.py > layout.c && cc -Iexamples -fsyntax-only layout.c
 
@@ -11,17 +11,17 @@ import re
 from pathlib import Path
 
 TOP = Path(__file__).resolve().parent.parent
-SOURCE = TOP / "crates" / "token_records" / "src" / "records.rt"
+SOURCES = [TOP / "crates" / name / "src" / "records.rt" for name in ("token_records", "document_records")]
 STRUCT = re.compile(r"#\[repr\(C\)\]\n(?:#\[[^\n]*\]\n)*pub struct (\w+) \{\n(.*?)^\}", re.M | re.S)
 FIELD = re.compile(r"^    pub (\w+): (\w+),$", re.M)
 # the name in C, and the size, which is the alignment too
-NUMBERS = {"u8": ("uint8_t", 1), "u32": ("uint32_t", 4), "i32": ("int32_t", 4), "u64": ("uint64_t", 8), "usize": ("size_t", 8)}
+NUMBERS = {"u8": ("uint8_t", 1), "u16": ("uint16_t", 2), "u32": ("uint32_t", 4), "i32": ("int32_t", 4), "u64": ("uint64_t", 8), "usize": ("size_t", 8)}
 
 
 def main():
     types = {name: (c, size, size) for name, (c, size) in NUMBERS.items()}
     print('#include "token_records.h"')
-    for name, body in STRUCT.findall(SOURCE.read_text()):
+    for name, body in STRUCT.findall("".join(source.read_text() for source in SOURCES)):
         fields = FIELD.findall(body)
         if len(fields) != body.count("pub "):
             raise SystemExit(f"{name}: a field that this script can't read")

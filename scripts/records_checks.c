@@ -1,4 +1,4 @@
-/* What no proof covers of the run over token records, for scripts/records_checks.sh:
+/* What no proof covers of the runs over token records, for scripts/records_checks.sh:
  *
  *     records_checks bad              bad records, texts outside their buffer, lists that end too soon
  *     records_checks refused FILE..   each allocation of a run refused in turn; only where REFUSES is defined
@@ -11,32 +11,93 @@
 #include <pthread.h>
 
 static const record_counts_t ROOM = {1 << 14, 1 << 10, 1 << 18};
+static const document_counts_t DOCUMENTS_ROOM = {1 << 10, 1 << 14, 1 << 14, 1 << 14, 1 << 10, 1 << 18};
+
+/* What both runs made of the same tokens. */
+struct made {
+    struct events events;
+    struct documents documents;
+};
+
+static void new_made(struct made *made)
+{
+    new_events(&made->events, ROOM);
+    new_documents(&made->documents, DOCUMENTS_ROOM);
+}
+
+static void free_made(struct made *made)
+{
+    free_events(&made->events);
+    free_documents(&made->documents);
+}
+
+static void run_both(const struct tokens *tokens, struct made *made)
+{
+    run_records_once(tokens, &made->events);
+    run_documents_once(tokens, &made->documents);
+}
+
+/* Whether so many of the one are the first of the other, where it has them. */
+static int are_first(const void *some, size_t count, const void *all, size_t whole, size_t size)
+{
+    return count <= whole && memcmp(some, all, count * size) == 0;
+}
+
+/* Whether what was put into the buffers are the first of the whole run's records, and its texts. */
+static int begins(const struct events *whole, const struct events *made)
+{
+    record_counts_t n = made->run.written, w = whole->run.written;
+
+    return memcmp(&n, &made->run.wanted, sizeof n) == 0 &&
+           are_first(made->records, n.events, whole->records, w.events, sizeof *made->records) &&
+           are_first(made->directives, n.directives, whole->directives, w.directives, sizeof *made->directives) &&
+           are_first(made->texts, n.texts, whole->texts, w.texts, 1);
+}
+
+static int documents_begin(const struct documents *whole, const struct documents *made)
+{
+    document_counts_t n = made->run.written, w = whole->run.written;
+
+    return memcmp(&n, &made->run.wanted, sizeof n) == 0 &&
+           are_first(made->records, n.documents, whole->records, w.documents, sizeof *made->records) &&
+           are_first(made->nodes, n.nodes, whole->nodes, w.nodes, sizeof *made->nodes) &&
+           are_first(made->items, n.items, whole->items, w.items, sizeof *made->items) &&
+           are_first(made->pairs, n.pairs, whole->pairs, w.pairs, sizeof *made->pairs) &&
+           are_first(made->directives, n.directives, whole->directives, w.directives, sizeof *made->directives) &&
+           are_first(made->texts, n.texts, whole->texts, w.texts, 1);
+}
 
 /* ---- Bad records ---- */
 
 static int wrong, lists;
 
-/* Runs, and wants this error with these words at this record; or the stream's end, where the error is 0. */
+/* Whether a run has this error with these words at this record; or ended, where the error is 0. */
+static int has(const struct events *events, uint32_t error, size_t at, const char *problem)
+{
+    const fault_record_t *fault = &events->run.fault;
+    yaml_mark_t mark = {at, at, 0};
+
+    return fault->error == error &&
+           (error == 0 || (fault->problem_offset == at && fault->problem_value == -1 &&
+                           string_is(events, fault->problem, problem) && mark_is(fault->problem_mark, mark) &&
+                           fault->context.place == TOKEN_RECORDS_ABSENT));
+}
+
+/* Runs both, and wants that of each. */
 static void want(const char *what, const struct tokens *tokens, uint32_t error, size_t at, const char *problem)
 {
-    struct events events;
+    struct made made;
 
-    new_events(&events, ROOM);
-    run_records(tokens, &events);
-    const fault_record_t *fault = &events.run.fault;
-    int is_right = fault->error == error;
-    if (error != 0) {
-        yaml_mark_t mark = {at, at, 0};
-        is_right = is_right && fault->problem_offset == at && fault->problem_value == -1 &&
-                   string_is(&events, fault->problem, problem) && mark_is(fault->problem_mark, mark) &&
-                   fault->context.place == TOKEN_RECORDS_ABSENT;
-    }
-    if (!is_right) {
-        printf("wrong: %s: error %u at %llu\n", what, fault->error, (unsigned long long)fault->problem_offset);
+    new_made(&made);
+    run_both(tokens, &made);
+    struct events of_documents = shared(&made.documents);
+    if (!has(&made.events, error, at, problem) || !has(&of_documents, error, at, problem)) {
+        printf("wrong: %s: error %u, and %u with documents\n", what, made.events.run.fault.error,
+               made.documents.run.fault.error);
         wrong++;
     }
     lists++;
-    free_events(&events);
+    free_made(&made);
 }
 
 static struct tokens *fresh(struct tokens *tokens)
@@ -111,19 +172,6 @@ void free(void *block)
     __libc_free(block);
 }
 
-/* Whether what was put into the buffers are the first of the whole run's records, and its texts. */
-static int begins(const struct events *whole, const struct events *made)
-{
-    record_counts_t n = made->run.written, w = made->run.wanted;
-
-    return n.events == w.events && n.directives == w.directives && n.texts == w.texts &&
-           n.events <= whole->run.written.events && n.directives <= whole->run.written.directives &&
-           n.texts <= whole->run.written.texts &&
-           memcmp(made->records, whole->records, n.events * sizeof *made->records) == 0 &&
-           memcmp(made->directives, whole->directives, n.directives * sizeof *made->directives) == 0 &&
-           memcmp(made->texts, whole->texts, n.texts) == 0;
-}
-
 /* Whether the run's fault is that of a failed allocation, without words. */
 static int is_memory(const fault_record_t *fault)
 {
@@ -131,43 +179,54 @@ static int is_memory(const fault_record_t *fault)
            fault->context.place == TOKEN_RECORDS_ABSENT;
 }
 
+/* What was seen: the allocations that were refused, and the events and documents before them. */
+static long refusals, events_before, documents_before;
+
+/* Refuses the n-th allocation of both runs, where there is one, and looks at what each made. */
+static int refuse(long n, const struct tokens *tokens, const struct made *whole, struct made *made)
+{
+    until_refused = n;
+    blocks = 0;
+    watches = 1;
+    run_records_once(tokens, &made->events);
+    int in_events = until_refused == 0;
+    until_refused = n;
+    run_documents_once(tokens, &made->documents);
+    int in_documents = until_refused == 0;
+    watches = 0;
+    wrong += blocks != 0 || !begins(&whole->events, &made->events) ||
+             !documents_begin(&whole->documents, &made->documents);
+    wrong += in_events ? !is_memory(&made->events.run.fault)
+                       : made->events.run.fault.error != whole->events.run.fault.error;
+    wrong += in_documents ? !is_memory(&made->documents.run.fault)
+                          : made->documents.run.fault.error != whole->documents.run.fault.error;
+    refusals += in_events + in_documents;
+    events_before += in_events ? made->events.run.written.events : 0;
+    documents_before += in_documents ? made->documents.run.written.documents : 0;
+    return in_events || in_documents;
+}
+
 static int refused(char **names)
 {
-    long refusals = 0, events_before = 0;
-
     for (; *names != NULL; names++) {
         struct bytes yaml = {0};
         struct tokens tokens = {0};
-        struct events whole, made;
+        struct made whole, made;
         if (!read_file(*names, &yaml))
             return 3;
         scan(&yaml, &tokens);
-        new_events(&whole, ROOM);
-        new_events(&made, ROOM);
-        run_records(&tokens, &whole);
-        for (long n = 1;; n++) {
-            until_refused = n;
-            blocks = 0;
-            watches = 1;
-            token_records_run_events(tokens.records, tokens.count, tokens.texts.at, tokens.texts.length, made.records,
-                                     made.room.events, made.directives, made.room.directives, made.texts,
-                                     made.room.texts, &made.run);
-            watches = 0;
-            wrong += blocks != 0 || !begins(&whole, &made);
-            if (until_refused > 0) {
-                wrong += made.run.fault.error != whole.run.fault.error;
-                break;
-            }
-            wrong += !is_memory(&made.run.fault);
-            refusals++;
-            events_before += made.run.written.events;
-        }
-        free_events(&whole);
-        free_events(&made);
+        new_made(&whole);
+        new_made(&made);
+        run_both(&tokens, &whole);
+        for (long n = 1; refuse(n, &tokens, &whole, &made);)
+            n++;
+        free_made(&whole);
+        free_made(&made);
         free_tokens(&tokens);
         free(yaml.at);
     }
-    printf("%ld allocations refused in turn, %ld events before them, %d wrong\n", refusals, events_before, wrong);
+    printf("%ld allocations refused in turn, %ld events and %ld documents before them, %d wrong\n", refusals,
+           events_before, documents_before, wrong);
     return wrong != 0 || refusals == 0;
 }
 #else
@@ -184,29 +243,28 @@ enum { THREADS = 8, ROUNDS = 20 };
 
 struct work {
     const struct tokens *tokens;
-    const struct events *alone;
+    const struct made *alone;
     int differs;
 };
 
-static int is_same(const struct events *one, const struct events *other)
+static int is_same(const struct made *one, const struct made *other)
 {
-    return memcmp(&one->run, &other->run, sizeof one->run) == 0 &&
-           memcmp(one->records, other->records, one->run.written.events * sizeof *one->records) == 0 &&
-           memcmp(one->directives, other->directives, one->run.written.directives * sizeof *one->directives) == 0 &&
-           memcmp(one->texts, other->texts, one->run.written.texts) == 0;
+    return memcmp(&one->events.run, &other->events.run, sizeof one->events.run) == 0 &&
+           memcmp(&one->documents.run, &other->documents.run, sizeof one->documents.run) == 0 &&
+           begins(&one->events, &other->events) && documents_begin(&one->documents, &other->documents);
 }
 
 static void *run_rounds(void *word)
 {
     struct work *work = word;
-    struct events events;
+    struct made made;
 
-    new_events(&events, ROOM);
+    new_made(&made);
     for (int round = 0; round < ROUNDS; round++) {
-        run_records(work->tokens, &events);
-        work->differs |= !is_same(&events, work->alone);
+        run_both(work->tokens, &made);
+        work->differs |= !is_same(&made, work->alone);
     }
-    free_events(&events);
+    free_made(&made);
     return NULL;
 }
 
@@ -218,14 +276,14 @@ static int threads(char **names)
     for (; *names != NULL; names++) {
         struct bytes yaml = {0};
         struct tokens tokens = {0};
-        struct events alone;
+        struct made alone;
         pthread_t made[THREADS];
         struct work work[THREADS];
         if (!read_file(*names, &yaml))
             return 3;
         scan(&yaml, &tokens);
-        new_events(&alone, ROOM);
-        run_records(&tokens, &alone);
+        new_made(&alone);
+        run_both(&tokens, &alone);
         for (int i = 0; i < THREADS; i++) {
             work[i] = (struct work){&tokens, &alone, 0};
             if (pthread_create(&made[i], NULL, run_rounds, &work[i]) != 0)
@@ -235,7 +293,7 @@ static int threads(char **names)
             pthread_join(made[i], NULL);
             wrong += work[i].differs;
         }
-        free_events(&alone);
+        free_made(&alone);
         free_tokens(&tokens);
         free(yaml.at);
         files++;

@@ -1,11 +1,11 @@
 #!/bin/sh
-# Tries the run over token records in every way that no proof covers, and says what it saw:
+# Tries the runs over token records in every way that no proof covers, and says what it saw:
 #
 #     sh scripts/records_checks.sh [DIR]
 #
 # DIR has the libraries that build_c.sh made there; without it, that is run first.
 #
-# The structs of the header against those of the crate; the header in C of 1989 and in C++; events beside libyaml's own over
+# The structs of the header against those of the crate; the header in C of 1989 and in C++; events and documents beside libyaml's own over
 # samples, rows and broken texts, plainly, under the address and undefined behaviour sanitizers and under valgrind; bad
 # records; each allocation refused in turn; eight threads at once; the shared library. The status is 0 where all is as it
 # should be. Needs what build_c.sh needs, and valgrind, c++, readelf and python3.
@@ -63,7 +63,7 @@ readelf -d "$work/header" | grep -q 'NEEDED.*\[libtoken_records\.so\]' || compla
 
 set -- examples/*.yaml scripts/broken/*.yaml scripts/whole/*.yaml
 memory='valgrind -q --leak-check=full --errors-for-leak-kinds=all --error-exitcode=9'
-check "beside libyaml's events" "$work/driver" "$@"
+check "beside libyaml's events and documents" "$work/driver" "$@"
 check "the same, sanitizers" "$work/sanitized_driver" "$@"
 check "the same, valgrind" $memory "$work/driver" examples/*.yaml scripts/broken/*.yaml
 check "bad records" "$work/plain" bad

@@ -4,7 +4,7 @@ use Rattle.std.proofs.lemmas.List.{append-nil, length-append, take_more}
 use Rattle.libyaml_types.specs.declared.directive.yaml_tag_directive_t.{yaml_tag_directive_t}
 use Rattle.token_records.specs.declared.records.directive_record_t.{directive_record_t}
 use Rattle.token_records.specs.Puts.{Puts}
-use Rattle.token_records.proofs.Filling.{puts_then}
+use Rattle.token_records.proofs.lent.Filling.{puts_then}
 use Rattle.token_records.specs.EventRecords.{directive_bytes, directives_bytes, directive_record, directive_records}
 
 bytes_append : (xs ys : List yaml_tag_directive_t) → directives_bytes (xs ++ ys) ≡ directives_bytes xs ++ directives_bytes ys

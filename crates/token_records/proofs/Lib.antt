@@ -1,6 +1,5 @@
 mod Texts
 mod Running
 mod WholeRuns
-mod Filling
+pub mod lent
 mod DirectiveLemmas
-mod ReadBack

@@ -137,7 +137,13 @@ fn document_start_record(
 {
     let place = wanted.directives;
     let members = start.tag_directives.as_slice();
-    put_directives(members, directives, texts, wanted)?;
+    put_directives(
+        members,
+        directives,
+        &mut wanted.directives,
+        texts,
+        &mut wanted.texts,
+    )?;
     let versionless = event_record_t {
         implicit: flag(start.implicit),
         directives: range_record_t {
@@ -167,22 +173,26 @@ fn with_version(
     }
 }
 
-/// Puts the records and the texts of these directives.
-fn put_directives(
+/// Puts the records and the texts of these directives, each after those that were counted.
+///
+/// # Errors
+///
+/// Where they are more than can be counted.
+pub fn put_directives(
     members: &[yaml_tag_directive_t],
     directives: &mut [directive_record_t],
+    directives_wanted: &mut usize,
     texts: &mut [u8],
-    wanted: &mut record_counts_t,
+    texts_wanted: &mut usize,
 ) -> Result<(), AllocError>
-    ensures events { OnOk result (wanted.new.events ≡ wanted.old.events) }
-    ensures directives { OnOk result (Puts directives.old wanted.old.directives
-        (spec.directive_records wanted.old.texts members.now) directives.new wanted.new.directives) }
-    ensures texts { OnOk result (Puts texts.old wanted.old.texts (spec.directives_bytes members.now)
-        texts.new wanted.new.texts) }
+    ensures directives { OnOk result (Puts directives.old directives_wanted.old
+        (spec.directive_records texts_wanted.old members.now) directives.new directives_wanted.new) }
+    ensures texts { OnOk result (Puts texts.old texts_wanted.old (spec.directives_bytes members.now)
+        texts.new texts_wanted.new) }
 {
     for directive in members {
-        let of_directive = directive_record(directive, texts, &mut wanted.texts)?;
-        put(directives, &mut wanted.directives, &[of_directive])?;
+        let of_directive = directive_record(directive, texts, texts_wanted)?;
+        put(directives, directives_wanted, &[of_directive])?;
     }
     Ok(())
 }
@@ -271,7 +281,7 @@ fn mapping_start_record(
 /// # Errors
 ///
 /// The texts have more bytes than 64 bits count.
-pub(crate) fn put_text(
+pub fn put_text(
     texts: &mut [u8],
     wanted: &mut usize,
     text: &str,
@@ -304,7 +314,8 @@ fn put_option(
     }
 }
 
-pub(crate) fn mark_record(mark: &yaml_mark_t) -> mark_record_t
+/// Returns the record of a mark.
+pub fn mark_record(mark: &yaml_mark_t) -> mark_record_t
     ensures { result ≡ spec.mark_record mark.now }
 {
     mark_record_t {
@@ -314,7 +325,8 @@ pub(crate) fn mark_record(mark: &yaml_mark_t) -> mark_record_t
     }
 }
 
-fn flag(is_set: bool) -> u8
+/// Returns 1 where it is set.
+pub fn flag(is_set: bool) -> u8
     ensures { result ≡ spec.flag is_set }
 {
     if is_set { 1 } else { 0 }
@@ -326,19 +338,22 @@ fn encoding_number(encoding: yaml_encoding_t) -> u8
     encoding as u8
 }
 
-fn scalar_style_number(style: yaml_scalar_style_t) -> u8
+/// Returns the number of a scalar's style.
+pub fn scalar_style_number(style: yaml_scalar_style_t) -> u8
     ensures { result ≡ numbers.scalar_style_number style }
 {
     style as u8
 }
 
-fn sequence_style_number(style: yaml_sequence_style_t) -> u8
+/// Returns the number of a sequence's style.
+pub fn sequence_style_number(style: yaml_sequence_style_t) -> u8
     ensures { result ≡ numbers.sequence_style_number style }
 {
     style as u8
 }
 
-fn mapping_style_number(style: yaml_mapping_style_t) -> u8
+/// Returns the number of a mapping's style.
+pub fn mapping_style_number(style: yaml_mapping_style_t) -> u8
     ensures { result ≡ numbers.mapping_style_number style }
 {
     style as u8

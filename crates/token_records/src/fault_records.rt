@@ -16,7 +16,7 @@ use std::alloc::AllocError;
 /// # Errors
 ///
 /// Where the texts are more than can be counted.
-pub(crate) fn fault_record(
+pub fn fault_record(
     fault: &yaml_parser_t_prefix,
     texts: &mut [u8],
     wanted: &mut usize,
@@ -35,7 +35,7 @@ pub(crate) fn fault_record(
 }
 
 /// Returns the record of a failed allocation.
-pub(crate) fn memory_record() -> fault_record_t
+pub fn memory_record() -> fault_record_t
     ensures { result ≡ spec.memory_record }
 {
     wordless(&MEMORY_FAULT)

@@ -7,6 +7,7 @@ mod event_records;
 mod fault_records;
 pub mod laws;
 mod puts;
+pub mod putting;
 mod reading;
 mod record_problem;
 mod record_source;

@@ -9,7 +9,7 @@ use std::alloc::AllocError;
 /// # Errors
 ///
 /// Where they are more than can be counted.
-pub(crate) fn put<T: Copy>(out: &mut [T], wanted: &mut usize, items: &[T]) -> Result<(), AllocError>
+pub fn put<T: Copy>(out: &mut [T], wanted: &mut usize, items: &[T]) -> Result<(), AllocError>
     ensures { OnOk result (Puts out.old wanted.old items.now out.new wanted.new) }
 {
     let place = *wanted;

@@ -1,5 +1,5 @@
 use Rattle.std.proofs.Common.{rules}
-use Rattle.token_records.proofs.Filling.{puts_part}
+use Rattle.token_records.proofs.lent.Filling.{puts_part}
 use Rattle.token_records.proofs.puts.put.Goals as goal
 
 pub returns-then-place-out : goal.returns-then-place-out

@@ -66,7 +66,7 @@ properties_back all front back a t n bound h k = (
 value_place : (front a t : List ℕ) (n : ℕ) → n ≡ length front → n + length a + length t ≡ length (front ++ (a ++ t))
 value_place front a t n k = let one = length-append front (a ++ t) in let two = length-append a t in omega (arith, k, one, two)
 
-directives_back : (all front back : List ℕ) (ds : List yaml_tag_directive_t) (n : ℕ) → all ≡ front ++ (directives_bytes ds ++ back) → n ≡ length front
+pub directives_back : (all front back : List ℕ) (ds : List yaml_tag_directive_t) (n : ℕ) → all ≡ front ++ (directives_bytes ds ++ back) → n ≡ length front
     → map (directive_by all) (directive_records n ds) ≡ ds
 directives_back all front back [] n h k = refl
 directives_back all front back (d ∷ ds) n h k =
@@ -80,12 +80,12 @@ directives_back all front back (d ∷ ds) n h k =
     (after all front (directive_bytes d) (directives_bytes ds) back h) (further front (directive_bytes d) n k) in
     (λ i. first i ∷ others i)
 
-as_many : (n : ℕ) (ds : List yaml_tag_directive_t) → length ds ≡ length (directive_records n ds)
+pub as_many : (n : ℕ) (ds : List yaml_tag_directive_t) → length ds ≡ length (directive_records n ds)
 as_many n [] = refl
 as_many n (d ∷ ds) = let rest = as_many (n + length (directive_bytes d)) ds in omega (arith, rest)
 
 -- numbers and flags
-flag_back : (b : Bool) → (flag b == 1) ≡ b
+pub flag_back : (b : Bool) → (flag b == 1) ≡ b
 flag_back true = refl
 flag_back false = refl
 
@@ -95,7 +95,7 @@ encoding_back YAML_UTF8_ENCODING = refl
 encoding_back YAML_UTF16LE_ENCODING = refl
 encoding_back YAML_UTF16BE_ENCODING = refl
 
-scalar_style_back : (x : yaml_scalar_style_t) → scalar_style_by (scalar_style_number x) ≡ x
+pub scalar_style_back : (x : yaml_scalar_style_t) → scalar_style_by (scalar_style_number x) ≡ x
 scalar_style_back YAML_ANY_SCALAR_STYLE = refl
 scalar_style_back YAML_PLAIN_SCALAR_STYLE = refl
 scalar_style_back YAML_SINGLE_QUOTED_SCALAR_STYLE = refl
@@ -103,12 +103,12 @@ scalar_style_back YAML_DOUBLE_QUOTED_SCALAR_STYLE = refl
 scalar_style_back YAML_LITERAL_SCALAR_STYLE = refl
 scalar_style_back YAML_FOLDED_SCALAR_STYLE = refl
 
-sequence_style_back : (x : yaml_sequence_style_t) → sequence_style_by (sequence_style_number x) ≡ x
+pub sequence_style_back : (x : yaml_sequence_style_t) → sequence_style_by (sequence_style_number x) ≡ x
 sequence_style_back YAML_ANY_SEQUENCE_STYLE = refl
 sequence_style_back YAML_BLOCK_SEQUENCE_STYLE = refl
 sequence_style_back YAML_FLOW_SEQUENCE_STYLE = refl
 
-mapping_style_back : (x : yaml_mapping_style_t) → mapping_style_by (mapping_style_number x) ≡ x
+pub mapping_style_back : (x : yaml_mapping_style_t) → mapping_style_by (mapping_style_number x) ≡ x
 mapping_style_back YAML_ANY_MAPPING_STYLE = refl
 mapping_style_back YAML_BLOCK_MAPPING_STYLE = refl
 mapping_style_back YAML_FLOW_MAPPING_STYLE = refl

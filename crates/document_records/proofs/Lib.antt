@@ -1,0 +1,4 @@
+mod Adding
+mod Loops
+mod WholeRuns
+mod ReadBack

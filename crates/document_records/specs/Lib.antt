@@ -1,0 +1,4 @@
+pub mod Buffers
+pub mod DocumentRecords
+pub mod DocumentRun
+pub mod ReadsBack
