@@ -1,5 +1,6 @@
 -- how the steps of a call make the call
-use Rattle.std.proofs.Common.{◌≡◌, ◌++◌, ◌∷◌, ◌||◌, List, [], Option, Some, None, Ok, Err, Bool, true, false, refl, ap, sym, ◌∙◌, subst, inl, inr, append_assoc, ℕ, ◌+◌, ◌<◌, length, arith}
+use Rattle.std.proofs.Common.{◌≡◌, ◌++◌, ◌∷◌, ◌||◌, List, [], Option, Some, None, Ok, Err, Bool, true, false, refl}
+use Rattle.std.proofs.Common.{ap, sym, ◌∙◌, subst, inl, inr, append_assoc, ℕ, ◌+◌, ◌<◌, length, arith}
 use Rattle.std.proofs.lemmas.List.{append-nil}
 use Rattle.libyaml_types.specs.declared.token.yaml_token_t.{yaml_token_t}
 use Rattle.libyaml_types.specs.declared.event.yaml_event_t.{yaml_event_t}
@@ -14,7 +15,8 @@ use Rattle.libyaml_events.proofs.calls.NotOver.{NotOver, not_over}
 use Rattle.libyaml_events.specs.machine.Growth.{may_grow}
 use Rattle.libyaml_events.specs.machine.Machine.{step}
 use Rattle.libyaml_events.specs.machine.Steps.{Steps}
-use Rattle.libyaml_events.specs.sources.Calls.{EventOrError, Gave, held, held_token, Fetches, FetchesFrom, Then, Calls, RefusedAt, Refused, Parses, ParsesIf, AreOfSource}
+use Rattle.libyaml_events.specs.sources.Calls.{EventOrError, Gave, held, held_token, Fetches, FetchesFrom, Then}
+use Rattle.libyaml_events.specs.sources.Calls.{Calls, RefusedAt, Refused, Parses, ParsesIf, AreOfSource}
 use Rattle.libyaml_events.specs.sources.Calls.{Call}
 use Rattle.libyaml_events.specs.machine.Want.{Want, AtState, Given, Wants}
 

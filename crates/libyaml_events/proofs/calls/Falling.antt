@@ -14,8 +14,10 @@ use Rattle.libyaml_events.specs.sources.History.{answers}
 use Rattle.libyaml_events.proofs.calls.Asking.{AreTokens}
 use Rattle.libyaml_events.proofs.calls.Keeping.{Kept, calls_keep, not_err, then_keeps}
 use Rattle.libyaml_events.proofs.calls.Parsed.{running_does, tokens_behind}
-use Rattle.libyaml_events.proofs.machine.StepKinds.{Kind, NodeStep, StepKind, begins_document, begins_pair, begins_stream, closes, declares, empty, ends_document, rank_small}
-use Rattle.libyaml_events.proofs.machine.StepKinds.{ends_indentless, ends_pair, ends_stream, enters, entry, fails, fails_in, no_node, node, opens, property, room}
+use Rattle.libyaml_events.proofs.machine.StepKinds.{Kind, NodeStep, StepKind, begins_document, begins_pair}
+use Rattle.libyaml_events.proofs.machine.StepKinds.{begins_stream, closes, declares, empty, ends_document, rank_small}
+use Rattle.libyaml_events.proofs.machine.StepKinds.{ends_indentless, ends_pair, ends_stream, enters, entry, fails}
+use Rattle.libyaml_events.proofs.machine.StepKinds.{fails_in, no_node, node, opens, property, room}
 use Rattle.libyaml_events.proofs.machine.StepKinds.{step_kind, wants, whole}
 
 abbrev pub weight : Config → ℕ

@@ -6,7 +6,8 @@ use Rattle.libyaml_grammar.specs.sentences.Tokens.{Content, Token}
 use Rattle.libyaml_events.specs.machine.Want.{Want, Given, Wants}
 use Rattle.libyaml_events.specs.machine.Config.{Config}
 use Rattle.libyaml_events.specs.machine.Machine.{Progressed, machine}
-use Rattle.libyaml_events.proofs.machine.StepKinds.{Kind, NodeStep, StepKind, declares, enters, entry, inner, kind, node, property, step_kind, stream_end, wants}
+use Rattle.libyaml_events.proofs.machine.StepKinds.{Kind, NodeStep, StepKind, declares, enters, entry, inner, kind}
+use Rattle.libyaml_events.proofs.machine.StepKinds.{node, property, step_kind, stream_end, wants}
 
 abbrev pub NotOver : Progressed → Type 0
 NotOver (Ok (Wants w, c)) = c.state ≡ YAML_PARSE_END_STATE → ⊥

@@ -22,9 +22,12 @@ use Rattle.libyaml_events.proofs.calls.Parsed.{carried_on, failed_by}
 use Rattle.libyaml_events.proofs.calls.Raised.{pops_nothing}
 use Rattle.libyaml_events.proofs.calls.Staged.{ran_staged, staged_depth, staged_between}
 
-module _ {S : Type 0} (gives : S → Answer → S → Type 0) (token_bound : S → ℕ) (known : S → Option Coming) (may_break : S → Fault → Type 0) (falls : (s t : S) (token : Token)
-    → gives s (Ok token) t → token_bound s ≡ token_bound t + 1) (follows : (s t : S) (a : Answer) → gives s a t → Follows (may_break t) (known s) a (known t)) where
-  pub parses_next : (old new : Parser S) (r : EventOrError) → Call gives old r new → IfErr r (λ e. (e ≡ new.config.fault.error) × (ended_or_failed new.config ≡ true))
+module _ {S : Type 0} (gives : S → Answer → S → Type 0) (token_bound : S → ℕ) (known : S → Option Coming)
+    (may_break : S → Fault → Type 0) (falls : (s t : S) (token : Token)
+    → gives s (Ok token) t → token_bound s ≡ token_bound t + 1)
+    (follows : (s t : S) (a : Answer) → gives s a t → Follows (may_break t) (known s) a (known t)) where
+  pub parses_next : (old new : Parser S) (r : EventOrError) → Call gives old r new
+      → IfErr r (λ e. (e ≡ new.config.fault.error) × (ended_or_failed new.config ≡ true))
       → IfErr r (λ _. has_failed new ≡ true) → new.max_entries ≡ old.max_entries → IfErr r (λ e. Left old.config e new.config) → Remembers old
       → ParsesNext gives token_bound known may_break old r new
   parses_next old new r call kept failed same_bound left remembered = record {

@@ -8,7 +8,8 @@ use Rattle.libyaml_sources.specs.Fault.{Answer, Fault}
 use Rattle.libyaml_grammar.specs.sentences.Events.{Event}
 use Rattle.libyaml_grammar.specs.sentences.Tokens.{Content, Mark, Token}
 use Rattle.libyaml_events.specs.machine.Want.{Want, AtState, Given, Wants}
-use Rattle.libyaml_events.specs.machine.Config.{Config, Parser, below, ended_or_failed, is_end_state, is_fault, keep, popped, popped_mark, pushed, taken, top, top_mark}
+use Rattle.libyaml_events.specs.machine.Config.{Config, Parser, below, ended_or_failed, is_end_state, is_fault, keep}
+use Rattle.libyaml_events.specs.machine.Config.{popped, popped_mark, pushed, taken, top, top_mark}
 use Rattle.libyaml_events.specs.machine.Growth.{may_grow, may_grow_at}
 use Rattle.libyaml_events.specs.machine.Machine.{Progressed, close_collection, give, give_at, machine, step}
 use Rattle.libyaml_events.specs.parsers.Pops.{raised, PopsNothingBelow}
@@ -93,7 +94,8 @@ module _ (ss : List yaml_parser_state_t) (ms : List Mark) where
       by_node d o o' (whole false l r) f = goes_back _ _ _ d f
       by_node d o o' (opens s i b r) f = refl
 
-      by : {n : ℕ} {x : Content} (k : Kind) (o o' : Progressed) → StepKind ss ms u c n x k o o' → GoodIn k c.states c.lookahead st → MarksAt k c.states c.marks → o' ≡ lifted o
+      by : {n : ℕ} {x : Content} (k : Kind) (o o' : Progressed) → StepKind ss ms u c n x k o o'
+          → GoodIn k c.states c.lookahead st → MarksAt k c.states c.marks → o' ≡ lifted o
       by k o o' (fails_in f) g m = fault_raised f c.marks (marks_full c.states c.marks m)
       by k o o' (begins_document d s true i l) g m = refl
       by k o o' (ends_document d s b true i l) g m = refl
@@ -169,7 +171,8 @@ pops_nothing_below gives old r new call l events h
     = record { asked = call.asked; gave = call.gave; keeps = λ ss ms. same_parses ss ms old.config call.asked r new.config l events h call.does }
 
 -- a parser that keeps a fault looks at no stack
-failed_parses : (ss : List yaml_parser_state_t) (ms : List yaml_mark_t) (c : Config) (asked : List Answer) (r : EventOrError) (d : Config) → is_fault c.fault.error ≡ true
+failed_parses : (ss : List yaml_parser_state_t) (ms : List yaml_mark_t) (c : Config) (asked : List Answer)
+    (r : EventOrError) (d : Config) → is_fault c.fault.error ≡ true
     → Parses c asked r d → Parses (raised ss ms c) asked r (raised ss ms d)
 failed_parses ss ms c asked r d failed = go (ended_or_failed c) (ap (λ (b : Bool). b || is_end_state c.state) failed)
   where

@@ -12,14 +12,17 @@ use Rattle.libyaml_events.specs.machine.Config.{Config, taken, is_fault, is_end_
 use Rattle.libyaml_grammar.specs.sentences.Trees.{behind, whole}
 use Rattle.libyaml_events.specs.sources.History.{answers, is_stream_end, Ran, begins, goes_on}
 use Rattle.libyaml_events.specs.sources.Parsing.{IsWhole}
-use Rattle.libyaml_events.proofs.calls.Staging.{DueOn, Good, GoodAt, GoodBefore, GoodEvent, GoodIn, InPair, Inside, IsStack, NodeDue, StackOn, around, deeper, good_step}
+use Rattle.libyaml_events.proofs.calls.Staging.{DueOn, Good, GoodAt, GoodBefore, GoodEvent, GoodIn, InPair, Inside}
+use Rattle.libyaml_events.proofs.calls.Staging.{IsStack, NodeDue, StackOn, around, deeper, good_step}
 use Rattle.libyaml_events.proofs.machine.StepKinds as kinds
 use Rattle.libyaml_events.proofs.machine.StepKinds.{Goes, Kind, StepKind, kind, kind_of, step_kind}
 use Rattle.libyaml_grammar.specs.cuts.CutTrees.{open_collection}
 use Rattle.libyaml_events.specs.sources.Calls.{held}
 use Rattle.libyaml_grammar.proofs.lent.Lists.{nil_right}
 use Rattle.libyaml_grammar.proofs.lent.Reading.{reads_all, goes}
-use Rattle.libyaml_events.specs.parsers.Stages.{Stage, at_end, at_start, before_root, behind_root, outside, within_root, after, is_event, is_outside, is_at_end, stage_from, stage_of}
+use Rattle.libyaml_events.specs.parsers.Stages.{Stage, at_end, at_start, before_root, behind_root, outside}
+use Rattle.libyaml_events.specs.parsers.Stages.{within_root, after, is_event, is_outside, is_at_end, stage_from}
+use Rattle.libyaml_events.specs.parsers.Stages.{stage_of}
 use Rattle.libyaml_events.specs.parsers.Stages.{open_collections, is_quiet, ends_quietly, takes_no_memory}
 use Rattle.libyaml_grammar.specs.sentences.Events.{events}
 use Rattle.libyaml_grammar.specs.sentences.Tokens.{Content, DocumentEnd, StreamEnd, StreamStart, Token, VersionDirective}

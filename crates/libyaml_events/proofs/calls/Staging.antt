@@ -10,9 +10,11 @@ use Rattle.libyaml_events.specs.machine.Config.{Config, below, popped, pushed, t
 use Rattle.libyaml_events.specs.machine.Machine.{Progressed, begin_document, end_document, machine}
 use Rattle.libyaml_events.specs.parsers.Stages.{Stage, at_start, outside, before_root, within_root, behind_root, at_end, leaf, opened, closed, after, is_event}
 use Rattle.libyaml_events.proofs.machine.StepKinds.{Begins, Goes, Kind, NodeStep, StepKind, a_mapping, a_scalar, a_sequence, an_alias, at_first, at_indentless}
-use Rattle.libyaml_events.proofs.machine.StepKinds.{begins_document, begins_pair, begins_stream, between, closes, declares, empty, ends_document, ends_indentless}
+use Rattle.libyaml_events.proofs.machine.StepKinds.{begins_document, begins_pair, begins_stream, between, closes}
+use Rattle.libyaml_events.proofs.machine.StepKinds.{declares, empty, ends_document, ends_indentless}
 use Rattle.libyaml_events.proofs.machine.StepKinds.{ends_pair, ends_stream, enters, entry, fails, fails_in, from_key, hold, in_indentless, in_inner, in_pair}
-use Rattle.libyaml_events.proofs.machine.StepKinds.{indentless, inner, kind, kind_of, mapping_end, no_node, node, node_due, opens, pair, pair_key, property, root_end}
+use Rattle.libyaml_events.proofs.machine.StepKinds.{indentless, inner, kind, kind_of, mapping_end, no_node, node}
+use Rattle.libyaml_events.proofs.machine.StepKinds.{node_due, opens, pair, pair_key, property, root_end}
 use Rattle.libyaml_events.proofs.machine.StepKinds.{sequence_end, step_kind, stream_end, stream_start, wants, whole}
 
 -- how many collections a stack of states has around the innermost, with the innermost
@@ -144,7 +146,8 @@ good_on st c n w u k = by _ _ _ (step_kind [] [] u w c k)
     given true d x f h = (h (Some u), f, refl)
     given false d x f h = (h d.lookahead, f, refl)
 
-    by_node : {n : ℕ} {x : Content} (d : Config) (o o' : Progressed) → NodeStep [] [] u d n x o o' → d.fault ≡ c.fault → d.lookahead ≡ None → NodeDue d.states st → GoodOn o c.fault st
+    by_node : {n : ℕ} {x : Content} (d : Config) (o o' : Progressed) → NodeStep [] [] u d n x o o' → d.fault ≡ c.fault
+        → d.lookahead ≡ None → NodeDue d.states st → GoodOn o c.fault st
     by_node d o o' no_node f l h = tt
     by_node d o o' (property r) f l h = (h, f, l)
     by_node d o o' (whole kept (an_alias a) r) f l h = given kept (popped d) (leaf st) f (λ t. node_back d.states t st h)

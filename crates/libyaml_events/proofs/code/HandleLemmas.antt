@@ -1,5 +1,6 @@
 -- the map of handles, by its entries
-use Rattle.std.proofs.Common.{◌≡◌, ℕ, List, [], ◌∷◌, Option, Some, None, Bool, true, false, cond, nat_cmp, refl, ap, sym, ◌∙◌, option_map, is_some, String, string_bytes}
+use Rattle.std.proofs.Common.{◌≡◌, ℕ, List, [], ◌∷◌, Option, Some, None, Bool, true, false, cond, nat_cmp, refl, ap}
+use Rattle.std.proofs.Common.{sym, ◌∙◌, option_map, is_some, String, string_bytes}
 use Rattle.std.specs.Cmp.{eq_by_cmp_equiv}
 use Rattle.std.specs.Cmp.Lexicographic.{slice_cmp, nat_list_cmp_total}
 use Rattle.std.specs.BTreeMap.{BTreeMap, is_at, get_by_text, UpdatesBy}
@@ -12,7 +13,8 @@ use Rattle.std.proofs.lemmas.Map.Text.{btree_map_updates_text, is_eq-slice_cmp}
 use Rattle.libyaml_events.specs.machine.Config.{handles_of, text_entries}
 
 module _ {Y : Type 0} where
-  mapped : (b : Bool) (p : String Y) (o : Option (String Y)) → cond b (Some (string_bytes p)) (option_map string_bytes o) ≡ option_map string_bytes (cond b (Some p) o)
+  mapped : (b : Bool) (p : String Y) (o : Option (String Y))
+      → cond b (Some (string_bytes p)) (option_map string_bytes o) ≡ option_map string_bytes (cond b (Some p) o)
   mapped true p o = refl
   mapped false p o = refl
 
@@ -28,7 +30,8 @@ module _ {Y : Type 0} where
   some_mapped None = refl
   some_mapped (Some p) = refl
 
-  pub is_declared : (m : BTreeMap (String Y) (String Y)) (h : String Y) → is_some (get_by_text m (string_bytes h)) ≡ is_some (get (handles_of m.entries) (string_bytes h))
+  pub is_declared : (m : BTreeMap (String Y) (String Y)) (h : String Y) → is_some (get_by_text m (string_bytes h))
+      ≡ is_some (get (handles_of m.entries) (string_bytes h))
   is_declared m h = some_mapped (get_by_text m (string_bytes h)) ∙ ap is_some (sym (get_handle m (string_bytes h)))
 
   -- maps that differ at one handle are seen so
@@ -38,5 +41,6 @@ module _ {Y : Type 0} where
       get_handle n q ∙ ap (option_map string_bytes) (btree_map_updates_text (string_bytes h) m n (Some p) updates q)
       ∙ sym (mapped (bytes_eq (string_bytes h) q) p (get_by_text m q))
       ∙ sym (get-insert nat_list_cmp_total (handles_of m.entries) (string_bytes h) (string_bytes p) q
-      ∙ ap (λ b. cond b (Some (string_bytes p)) (get (handles_of m.entries) q)) ((eq_by_cmp_equiv nat_list_cmp_total).symm q (string_bytes h) ∙ is_eq-slice_cmp (string_bytes h) q)
+      ∙ ap (λ b. cond b (Some (string_bytes p)) (get (handles_of m.entries) q))
+      ((eq_by_cmp_equiv nat_list_cmp_total).symm q (string_bytes h) ∙ is_eq-slice_cmp (string_bytes h) q)
       ∙ ap (cond (bytes_eq (string_bytes h) q) (Some (string_bytes p))) (get_handle m q)))

@@ -32,7 +32,8 @@ use Rattle.libyaml_events.specs.declared.pending.DirectivesRead.{DirectivesRead}
 use Rattle.libyaml_events.specs.machine.Config.{Config, at, declared, keep, popped, pushed, pushed_mark, top_mark}
 use Rattle.libyaml_events.specs.machine.Machine as mach
 use Rattle.libyaml_events.specs.machine.Machine.{Progressed, anchor_behind, at_state, begin_document, behind_properties, close_collection, content_behind}
-use Rattle.libyaml_events.specs.machine.Machine.{content_resolved, end_document, explicit_document, first_version, further_document_end, give, machine, may_open}
+use Rattle.libyaml_events.specs.machine.Machine.{content_resolved, end_document, explicit_document, first_version}
+use Rattle.libyaml_events.specs.machine.Machine.{further_document_end, give, machine, may_open}
 use Rattle.libyaml_events.specs.machine.Machine.{no_content, node_content, parse_document_start, parse_implicit_document_start, parse_node}
 use Rattle.libyaml_events.specs.machine.Machine.{process_empty_scalar, resolve, tag_behind, version_directive, want}
 use Rattle.libyaml_events.specs.machine.Slots.{is_nothing_before}
@@ -289,7 +290,8 @@ module _ (ss : List yaml_parser_state_t) (ms : List Mark) (u : Token) where
   rooted false c k = node (parsed Block c _ k (omega arith))
 
   -- after an event the state says what comes
-  at_a_state : (s : yaml_parser_state_t) (c : Config) (k : Content) → kind c.state ≡ kind s → StepKind c (rank s k) k (kind s) (at_state s c u k) (at_state s (raised ss ms c) u k)
+  at_a_state : (s : yaml_parser_state_t) (c : Config) (k : Content) → kind c.state ≡ kind s
+      → StepKind c (rank s k) k (kind s) (at_state s c u k) (at_state s (raised ss ms c) u k)
   at_a_state st.YAML_PARSE_STREAM_START_STATE c (StreamStart x) e = begins_stream _ (omega arith)
   at_a_state st.YAML_PARSE_STREAM_START_STATE c k e = fails
   at_a_state st.YAML_PARSE_IMPLICIT_DOCUMENT_START_STATE c k e = implicit_start c _ k e (omega arith)
@@ -317,7 +319,8 @@ module _ (ss : List yaml_parser_state_t) (ms : List Mark) (u : Token) where
   at_a_state st.YAML_PARSE_FLOW_SEQUENCE_ENTRY_STATE c FlowEntry e = wants _ refl (omega arith)
   at_a_state st.YAML_PARSE_FLOW_SEQUENCE_ENTRY_STATE c FlowSequenceEnd e = closes sequence_end (omega arith)
   at_a_state st.YAML_PARSE_FLOW_SEQUENCE_ENTRY_STATE c k e = fails_in (λ (m : Mark). sequence_fault m u.start_mark)
-  at_a_state st.YAML_PARSE_FLOW_SEQUENCE_ENTRY_MAPPING_KEY_STATE c k e = slotted (is_nothing_before slot.PairKey k) _ Flow u.start_mark c 3 k from_key (omega arith) (omega arith)
+  at_a_state st.YAML_PARSE_FLOW_SEQUENCE_ENTRY_MAPPING_KEY_STATE c k e =
+      slotted (is_nothing_before slot.PairKey k) _ Flow u.start_mark c 3 k from_key (omega arith) (omega arith)
   at_a_state st.YAML_PARSE_FLOW_SEQUENCE_ENTRY_MAPPING_VALUE_STATE c Value e = wants _ refl (omega arith)
   at_a_state st.YAML_PARSE_FLOW_SEQUENCE_ENTRY_MAPPING_VALUE_STATE c k e = empty _ in_pair (omega arith)
   at_a_state st.YAML_PARSE_FLOW_SEQUENCE_ENTRY_MAPPING_END_STATE c k e = ends_pair (omega arith)
@@ -335,16 +338,26 @@ module _ (ss : List yaml_parser_state_t) (ms : List Mark) (u : Token) where
   step_kind AtState c k = at_a_state c.state c k refl
   step_kind (BehindDirective d) c k = explicit d c _ k (omega arith)
   step_kind (BehindProperties p r) c k = node (properties p r c _ k (omega arith))
-  step_kind (BehindBlockEntry m) c k = slotted (is_nothing_before slot.BlockEntry k) _ Block m c 5 k in_inner (rank_small st.YAML_PARSE_BLOCK_SEQUENCE_ENTRY_STATE k) (omega arith)
-  step_kind (BehindIndentlessEntry m) c k = slotted (is_nothing_before slot.IndentlessEntry k) _ Block m c 5 k in_indentless (rank_small st.YAML_PARSE_INDENTLESS_SEQUENCE_ENTRY_STATE k) (omega arith)
-  step_kind (BehindKey m) c k = slotted (is_nothing_before slot.BlockKey k) _ BlockOrIndentlessSequence m c 5 k in_inner (rank_small st.YAML_PARSE_BLOCK_MAPPING_VALUE_STATE k) (omega arith)
-  step_kind (BehindValue m) c k = slotted (is_nothing_before slot.BlockValue k) _ BlockOrIndentlessSequence m c 5 k in_inner (rank_small st.YAML_PARSE_BLOCK_MAPPING_KEY_STATE k) (omega arith)
+  step_kind (BehindBlockEntry m) c k =
+      slotted (is_nothing_before slot.BlockEntry k) _ Block m c 5 k in_inner (rank_small st.YAML_PARSE_BLOCK_SEQUENCE_ENTRY_STATE k) (omega arith)
+  step_kind (BehindIndentlessEntry m) c k =
+      slotted (is_nothing_before slot.IndentlessEntry k) _ Block m c 5 k in_indentless
+      (rank_small st.YAML_PARSE_INDENTLESS_SEQUENCE_ENTRY_STATE k) (omega arith)
+  step_kind (BehindKey m) c k = slotted (is_nothing_before slot.BlockKey k) _ BlockOrIndentlessSequence m c 5 k
+      in_inner (rank_small st.YAML_PARSE_BLOCK_MAPPING_VALUE_STATE k) (omega arith)
+  step_kind (BehindValue m) c k =
+      slotted (is_nothing_before slot.BlockValue k) _ BlockOrIndentlessSequence m c 5 k in_inner
+      (rank_small st.YAML_PARSE_BLOCK_MAPPING_KEY_STATE k) (omega arith)
   step_kind BehindFlowSequenceEntry c FlowSequenceEnd = closes sequence_end (omega arith)
   step_kind BehindFlowSequenceEntry c Key = begins_pair _ (omega arith)
   step_kind BehindFlowSequenceEntry c k = entry st.YAML_PARSE_FLOW_SEQUENCE_ENTRY_STATE 5 refl in_inner (parsed Flow _ 5 k (omega arith))
-  step_kind BehindFlowSequenceValue c k = slotted (is_nothing_before slot.PairValue k) _ Flow u.start_mark c 5 k in_pair (rank_small st.YAML_PARSE_FLOW_SEQUENCE_ENTRY_MAPPING_END_STATE k) (omega arith)
+  step_kind BehindFlowSequenceValue c k =
+      slotted (is_nothing_before slot.PairValue k) _ Flow u.start_mark c 5 k in_pair
+      (rank_small st.YAML_PARSE_FLOW_SEQUENCE_ENTRY_MAPPING_END_STATE k) (omega arith)
   step_kind BehindFlowMappingEntry c FlowMappingEnd = closes mapping_end (omega arith)
   step_kind BehindFlowMappingEntry c Key = wants _ refl (omega arith)
   step_kind BehindFlowMappingEntry c k = entry st.YAML_PARSE_FLOW_MAPPING_EMPTY_VALUE_STATE 5 refl in_inner (parsed Flow _ 5 k (omega arith))
-  step_kind BehindFlowMappingKey c k = slotted (is_nothing_before slot.FlowKey k) _ Flow u.start_mark c 5 k in_inner (rank_small st.YAML_PARSE_FLOW_MAPPING_VALUE_STATE k) (omega arith)
-  step_kind BehindFlowMappingValue c k = slotted (is_nothing_before slot.FlowValue k) _ Flow u.start_mark c 5 k in_inner (rank_small st.YAML_PARSE_FLOW_MAPPING_KEY_STATE k) (omega arith)
+  step_kind BehindFlowMappingKey c k =
+      slotted (is_nothing_before slot.FlowKey k) _ Flow u.start_mark c 5 k in_inner (rank_small st.YAML_PARSE_FLOW_MAPPING_VALUE_STATE k) (omega arith)
+  step_kind BehindFlowMappingValue c k =
+      slotted (is_nothing_before slot.FlowValue k) _ Flow u.start_mark c 5 k in_inner (rank_small st.YAML_PARSE_FLOW_MAPPING_KEY_STATE k) (omega arith)

@@ -97,7 +97,8 @@ module _ (l : List Token) (g : List Event) (e : Event) (d : Config) (links : Lin
               (record { good = good_taken; alive = not_ended d h; leads = s })
 
 -- a further token is wanted
-module _ (w : Want) (c : Config) (t : Token) (l : List Token) (g : List Event) (v : Want) (d : Config) (b : InHand w c t l g) (i : step w c t ≡ Ok (Wants v, d)) where
+module _ (w : Want) (c : Config) (t : Token) (l : List Token) (g : List Event) (v : Want) (d : Config)
+    (b : InHand w c t l g) (i : step w c t ≡ Ok (Wants v, d)) where
   wanted_good : GoodBefore no_fault (stage_of g) v d
   wanted_good = subst (λ (o : Progressed). GoodOn o no_fault (stage_of g)) i (good_step no_fault (stage_of g) t w c b.good)
 
@@ -111,7 +112,11 @@ module _ (w : Want) (c : Config) (t : Token) (l : List Token) (g : List Event) (
   wanted_to = record { good = wanted_good; running = runs wanted_runs wanted_stands }
 
 pub fed_to : {w : Want} {c : Config} {o : Option Token} {l : List Token} {g : List Event} → Fed w c o l g → FedTo w c o l g
-fed_to begins = record { good = ((refl, refl), refl, refl); running = runs refl (record { stood = at_place unopened refl tt refl refl refl; goes_on = λ e. cc }) }
+fed_to begins = record {
+  good = ((refl, refl), refl, refl);
+  running =
+      runs refl (record { stood = at_place unopened refl tt refl refl refl; goes_on = λ e. cc });
+}
 fed_to (takes w c l g t {l'} f h i) = subst (λ (x : List Token). InHand w c t x g) (sym i) (from (fed_to f))
   where
     from : Between w c l g → InHand w c t (l ++ t ∷ []) g

@@ -153,7 +153,8 @@ no_failure l g k x (to_end r) s = never ((one_run_proof (l ++ []) no_fault g k E
 no_failure l g k x (so_far r) s = apart (each no_fault) (each memory_fault)
   where
     each : (f : Fault) → f ≡ x
-    each f = fault_same f x (one_run_proof (l ++ []) f g k (Fails f) (Fails x) (subst (λ (y : List Token). IsRun y f g (Fails f)) (sym (nil_right l)) (r f)) (s f)).1
+    each f = fault_same f x (one_run_proof (l ++ []) f g k (Fails f) (Fails x)
+        (subst (λ (y : List Token). IsRun y f g (Fails f)) (sym (nil_right l)) (r f)) (s f)).1
 
     apart : no_fault ≡ x → memory_fault ≡ x → ⊥
     apart e f = let i = ap (λ (y : Fault). y.error) (e ∙ sym f) in cc

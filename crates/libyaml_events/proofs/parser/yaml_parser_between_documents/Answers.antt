@@ -9,4 +9,5 @@ returns-clause-failed g c h = c.stands_between_documents.ensures ∙ ap (λ p. b
     ∙ ap (λ (b : Bool). b || is_between c.args.parser.now.config.state) h
 
 pub returns-clause-by_events : goal.returns-clause-by_events
-returns-clause-by_events g c asked given h = c.stands_between_documents.ensures ∙ ap (λ p. between_documents p) c.parser.view_is ∙ staged_between _ given (ran_staged h)
+returns-clause-by_events g c asked given h =
+    c.stands_between_documents.ensures ∙ ap (λ p. between_documents p) c.parser.view_is ∙ staged_between _ given (ran_staged h)

@@ -52,5 +52,8 @@ pub loop-error-preserved : goal.loop-error-preserved
 loop-error-preserved g c =
     let s = rw c.in-Ok-Given.field-0-is at c.in-Ok-Given.ensures.steps in
     let room : vec_capacity c.args.events.now ≤ vec_capacity c.step_onto.new.events = search rules in
-    rw c.take_held.ensures.taken
-    (room, goes_on (Unit {0}) _ _ _ _ _ _ _ _ c.loop-error.invariant.1 _ c.step_onto.new.self s.1 _ s.2 _ c.if-not-take_held.ensures.token (rw c.take_held.ensures.taken at (sym c.if-is_over.ensures)))
+    rw c.take_held.ensures.taken (
+      room,
+      goes_on (Unit {0}) _ _ _ _ _ _ _ _ c.loop-error.invariant.1 _ c.step_onto.new.self s.1 _ s.2 _
+          c.if-not-take_held.ensures.token (rw c.take_held.ensures.taken at (sym c.if-is_over.ensures)),
+    )

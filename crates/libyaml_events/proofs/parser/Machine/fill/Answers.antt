@@ -26,7 +26,9 @@ returns-in_err-next_token-clause-left g c =
 pub returns-in-Err-step-clause-call : goal.returns-in-Err-step-clause-call
 returns-in-Err-step-clause-call g c =
     let hand = fetched g.S.yaml_token_source_t.gives _ _ _ c.loop-self.invariant _ _ c.in_ok-next_token.ensures.fetches in
-    rw c.let_go-in-Err-step.ensures (gave_fault g.S.yaml_token_source_t.gives _ _ _ _ hand _ _ (steps_empty _ c.next_token.new.self c.step.new.self c.in-Err-step.error c.in-Err-step.ensures.steps)
+    rw c.let_go-in-Err-step.ensures
+    (gave_fault g.S.yaml_token_source_t.gives _ _ _ _ hand _ _
+    (steps_empty _ c.next_token.new.self c.step.new.self c.in-Err-step.error c.in-Err-step.ensures.steps)
     (λ m. c.in-Err-step.ensures.grows (ap Err m)))
 
 pub returns-in-Given-clause-call : goal.returns-in-Given-clause-call

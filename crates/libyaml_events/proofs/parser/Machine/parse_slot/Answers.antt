@@ -26,7 +26,8 @@ reads_node : {S : Type 0} (s : Slot) (mark : yaml_mark_t) (t : yaml_token_t) (ol
 reads_node s mark t old mid p r new n ep em h = go (is_nothing_before s t.content) n
   where
     go : (b : Bool) → false ≡ b
-        → Steps (if b then process_empty_scalar mark t (left_out (state_behind s) old.config) else parse_node (place s) (entered (state_behind s) old.config) t t.content) old r new
+        → Steps (if b then process_empty_scalar mark t (left_out (state_behind s) old.config) else parse_node
+        (place s) (entered (state_behind s) old.config) t t.content) old r new
     go false i = entered_steps _ old (state_behind s) r new (rw em at (rw ep at h))
     go true i = absurd cc
 
