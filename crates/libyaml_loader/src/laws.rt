@@ -1,7 +1,7 @@
 //! The laws of a loop over documents, and of pushes to a loader. Each function does nothing when it runs: its
 //! contract is the law.
 
-ghost use Rattle.std.specs.Prelude.{◌≡◌, ◌≤◌, ◌*◌, ◌++◌, List, [], Err, Some, length, false, true};
+ghost use Rattle.std.specs.Prelude.{◌≡◌, ◌≤◌, ◌*◌, ◌++◌, ℕ, List, [], Err, Some, length, false, true};
 ghost use Rattle.libyaml_sources.specs.Fault.{Fault};
 ghost use Rattle.libyaml_sources.specs.Source.{coming};
 ghost use Rattle.libyaml_grammar.specs.runs.Runs.{Ending, Ends};
@@ -13,11 +13,13 @@ ghost use Rattle.libyaml_documents.specs.Documents.{Document};
 ghost use Rattle.libyaml_events.specs.machine.Config.{Parser};
 ghost use Rattle.libyaml_events.specs.sources.History.{History};
 ghost use Rattle.libyaml_events.specs.sources.RunToCome.{RunToCome};
-ghost use Rattle.libyaml_graphs.specs.loads.Bounds.{IsBoundedLoads, bounded_loads};
+ghost use Rattle.libyaml_graphs.specs.loads.Bounds.{IsBoundedLoads, bounded_loads, next_bounded};
 ghost use Rattle.libyaml_graphs.specs.loads.Linear.{documents_size};
-ghost use Rattle.libyaml_graphs.specs.loads.Loads.{Load, last_load};
+ghost use Rattle.libyaml_graphs.specs.loads.Loads.{Load, last_load, left_over};
 ghost use Rattle.libyaml_loader.specs.document.Ids.{magnitude};
+ghost use Rattle.libyaml_loader.specs.loads.Loading.{DocumentOrError, LoadsFrom};
 ghost use Rattle.libyaml_loader.specs.loads.LoadsInTurn.{AreLoadsOf, LoopYields};
+ghost use Rattle.libyaml_loader.specs.loads.NextLoad.{LoadOfRun};
 ghost use Rattle.libyaml_loader.specs.pushes.Loaded.{ForLoaded, PushLoader, has_stopped, keeps_fault};
 ghost use Rattle.libyaml_loader.specs.pushes.PushesLoads.{AreThen, BeginsEachLoads};
 
@@ -45,6 +47,15 @@ pub fn loop_yields_loads<S: yaml_token_source_t>()
     run_nests();
     whole_documents_have_roots();
 }
+
+/// What a load says of each run that its parser had to come: a document is the run's first load, and the events
+/// that it leaves are to come; a fault is the run's first load, or an allocation failed, or the source broke off.
+pub fn load_of_run<S: yaml_token_source_t>()
+    ensures { (n : ℕ) (old new : Parser S) (r : DocumentOrError) (events : List Event) (ending : Ending)
+        → RunToCome S.known old events ending
+        → LoadsFrom S.gives S.known S.may_break (next_bounded n) left_over old r new
+        → LoadOfRun S.known S.may_break (next_bounded n) left_over r new events ending }
+{}
 
 /// What a loader was handed and gave says, whichever push led there.
 pub fn of_loaded()

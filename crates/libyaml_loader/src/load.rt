@@ -26,7 +26,7 @@ use crate::context::loader_ctx;
 use crate::refusal::{has_failed, keep_refusal};
 use libyaml_documents::building::begin_document;
 use libyaml_documents::yaml_document_t;
-use libyaml_events::laws::calls::of_history;
+use libyaml_events::laws::calls::{of_history, rest_of_run};
 use libyaml_events::{
     is_event, no_event, yaml_parser_parse_into, yaml_parser_t, yaml_token_source_t,
 };
@@ -135,6 +135,7 @@ fn next_document<S: yaml_token_source_t>(
         left_over parser.old result parser.new }
 {
     of_history::<S>();
+    rest_of_run::<S>();
     let mut event = no_event();
     loop {
         yaml_parser_parse_into(parser, &mut event)?;
@@ -240,6 +241,7 @@ fn compose_next<S: yaml_token_source_t>(
     ensures steps { ComposesBy S.gives S.known S.may_break result parser.old parser.new ctx.old ctx.new }
 {
     of_history::<S>();
+    rest_of_run::<S>();
     yaml_parser_parse_into(parser, event)?;
     if !is_event(event) {
         return Ok(ComposeStep::Ended);

@@ -32,8 +32,9 @@ abbrev pub ComposerError : List Event → yaml_documents_t → Type 0
 ComposerError taken all = (rest : List Event) (x : Ending) → loads (taken ++ rest) x ≡ as_loads all.documents.items (ending_of all.fault)
 
 -- The loads over any source, which took these events of the parser: the documents and the fault are the loads of these
--- events. The events begin those of each sentence that begins with the tokens, and nest; without a fault they are a whole
--- tree's, and so are the tokens; and a fault is the parser's, or a composer error of these events.
+-- events, and the documents are the first loads of them, whatever comes after. The events begin those of each sentence that
+-- begins with the tokens, and nest; without a fault they are a whole tree's, and so are the tokens; and a fault is the
+-- parser's, or a composer error of these events.
 pub record GathersLoads {S : Type 0} (gives : S → Answer → S → Type 0) (source : S) (all : yaml_documents_t) : Type 0 where
   pub asked : List Token
   pub last : List Answer
@@ -43,5 +44,6 @@ pub record GathersLoads {S : Type 0} (gives : S → Answer → S → Type 0) (so
   pub begins_run : BeginsEachRun asked taken
   pub nests : NestsSoFar taken
   pub are_loads : as_loads all.documents.items (ending_of all.fault) ≡ loads taken (ending_of all.fault)
+  pub are_first : (rest : List Event) (x : Ending) → (later : List Load) × (loads (taken ++ rest) x ≡ map (λ (d : Document). Ok d) all.documents.items ++ later)
   pub whole : all.fault ≡ None → IsWhole asked taken
   pub stopped : (f : yaml_parser_t_prefix) → all.fault ≡ Some f → StoppedBy asked last taken (fault_of f) ⊎ ComposerError taken all

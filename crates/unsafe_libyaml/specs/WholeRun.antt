@@ -8,6 +8,7 @@ use Rattle.libyaml_grammar.specs.cuts.Settled.{Begins, BeginsEach}
 use Rattle.libyaml_grammar.specs.sentences.Nesting.{NestsSoFar}
 use Rattle.libyaml_grammar.specs.sentences.Tokens.{Token}
 use Rattle.libyaml_events.specs.sources.Calls.{Gave}
+use Rattle.libyaml_events.specs.sources.Determined.{BeginsEachRun}
 use Rattle.libyaml_events.specs.sources.History.{answers}
 use Rattle.libyaml_events.specs.sources.Needs.{EachNeeded, EachWasNeeded}
 use Rattle.libyaml_events.specs.sources.Parsing.{HasFailed, IsWhole, StopsShort}
@@ -41,13 +42,14 @@ pub data StoppedBy (asked : List Token) (last : List Answer) (given : List Event
   of_grammar : (l : List Token) → last ≡ answers l [] → HasFailed (asked ++ l) given f → StoppedBy asked last given f
   of_source : (l : List Token) → last ≡ answers l (Err f ∷ []) → IsSourceError f.error → StopsShort (asked ++ l) given → StoppedBy asked last given f
 
--- A run over any source: the events begin those of each sentence that begins with the tokens, and nest; without a fault they
--- are a whole tree's, and so are the tokens; and a fault came of these tokens.
+-- A run over any source: the events begin those of each sentence that begins with the tokens, and of each run that does, and
+-- nest; without a fault they are a whole tree's, and so are the tokens; and a fault came of these tokens.
 pub record Gathers {S : Type 0} (gives : S → Answer → S → Type 0) (source : S) (run : yaml_run_t) : Type 0 where
   pub asked : List Token
   pub last : List Answer
   pub tokens : Asked gives source asked last run.events.items
   pub begins : BeginsEach asked run.events.items
+  pub begins_run : BeginsEachRun asked run.events.items
   pub nests : NestsSoFar run.events.items
   pub whole : run.fault ≡ None → IsWhole asked run.events.items
   pub stopped : (f : yaml_parser_t_prefix) → run.fault ≡ Some f → StoppedBy asked last run.events.items (fault_of f)

@@ -20,8 +20,8 @@ ghost use Rattle.unsafe_libyaml.specs.WholeLoads.{GathersLoads, LoadsTo};
 
 use crate::parse_all::unless_memory;
 use libyaml_documents::yaml_document_t;
-use libyaml_events::laws::calls::{four_events, of_history};
-use libyaml_events::laws::{one_run, run_nests};
+use libyaml_events::laws::calls::{four_events, of_history, run_of_asked};
+use libyaml_events::laws::one_run;
 use libyaml_events::{yaml_parser_initialize, yaml_parser_t_prefix, yaml_token_source_t};
 use libyaml_graphs::laws::{enough_room, linear_size, loads_of_tree, whole_documents_have_roots};
 use libyaml_loader::yaml_parser_load;
@@ -76,8 +76,8 @@ pub fn yaml_parser_load_all<S: yaml_token_source_t + Drop>(
         × (documents_size all.documents.items ≤ 8 * length g.asked)) }
     ensures roots { IfOk result (λ all. All (λ d. d.nodes ≢ []) all.documents.items) }
 {
-    run_nests();
     of_history::<S>();
+    run_of_asked::<S>();
     whole_documents_have_roots();
     enough_room();
     loads_of_tree();

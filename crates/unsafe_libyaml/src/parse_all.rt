@@ -13,7 +13,7 @@ ghost use Rattle.libyaml_grammar.specs.sentences.Tokens.{Token};
 ghost use Rattle.libyaml_grammar.specs.sentences.Trees.{Stream, tokens};
 ghost use Rattle.unsafe_libyaml.specs.WholeRun.{Gathers, RunsTo};
 
-use libyaml_events::laws::calls::of_history;
+use libyaml_events::laws::calls::{of_history, run_of_asked};
 use libyaml_events::laws::run_of_tree;
 use libyaml_events::{
     is_stream_end, yaml_parser_initialize, yaml_parser_parse, yaml_parser_t_prefix,
@@ -62,6 +62,7 @@ pub fn yaml_parser_parse_all<S: yaml_token_source_t + Drop>(
 {
     run_of_tree();
     of_history::<S>();
+    run_of_asked::<S>();
     let mut parser = yaml_parser_initialize(alloc, source);
     let mut events = Vec::new(alloc);
     loop {

@@ -5,15 +5,15 @@ use Rattle.libyaml_types.specs.declared.enums.yaml_error_type_t.{yaml_error_type
 use Rattle.libyaml_documents.specs.Documents.{Document}
 use Rattle.libyaml_events.specs.machine.Config.{Parser}
 use Rattle.libyaml_grammar.specs.sentences.Events.{Event}
-use Rattle.libyaml_sources.specs.Fault.{Answer, Fault, memory_fault}
+use Rattle.libyaml_sources.specs.Fault.{Answer, Fault}
 use Rattle.libyaml_events.specs.sources.History.{ForHistory, is_over, has_failed, kept_fault}
 use Rattle.libyaml_grammar.specs.sentences.Tokens.{Token}
 use Rattle.libyaml_grammar.specs.runs.Runs.{Ending}
-use Rattle.libyaml_events.specs.sources.RunToCome.{FailsHere, RunToCome, UnlessBroken, breaks, does, no_memory}
+use Rattle.libyaml_events.specs.sources.RunToCome.{FailsHere, RestOfRun, RunToCome, UnlessBroken, breaks, does, no_memory}
 use Rattle.libyaml_sources.specs.Source.{Coming}
 use Rattle.libyaml_graphs.specs.loads.Loads.{Load, last_load}
-use Rattle.libyaml_loader.specs.loads.Loading.{DocumentOrError, LeftOf, LoadsFrom, at_end, by_loader, by_memory, by_parser, whole}
-use Rattle.libyaml_loader.specs.loads.NextLoad.{Answers}
+use Rattle.libyaml_loader.specs.loads.Loading.{DocumentOrError, LoadsFrom, at_end, by_loader, by_memory, by_parser, whole}
+use Rattle.libyaml_loader.specs.loads.NextLoad.{Answers, LoadOfRun}
 
 nothing_more : (a b : List Event) → a ++ b ≡ a → b ≡ []
 nothing_more a [] e = refl
@@ -21,47 +21,53 @@ nothing_more a (x ∷ b) e = absurd (omega (arith, ap length e, length-append a 
 
 module _ {S : Type 0} (gives : S → Answer → S → Type 0) (known : S → Option Coming) (MayBreak : S → Fault → Type 0) (load : List Event → Ending
     → Load) (left : List Event → List Event) where
+  pub load_of_run : (old new : Parser S) (r : DocumentOrError) (events : List Event) (ending : Ending) → RunToCome known old events ending
+      → LoadsFrom gives known MayBreak load left old r new → LoadOfRun known MayBreak load left r new events ending
+  load_of_run old new (Ok d) events ending run (whole taken took gives_it leaves stands) =
+      let l = took.runs events ending run in (
+        ap (λ (e : List Event). load e ending) l.all ∙ gives_it l.later ending,
+        subst (λ (e : List Event). RunToCome known new e ending) (sym (ap left l.all ∙ leaves l.later)) l.run,
+      )
+  load_of_run old new (Ok d) events ending run (at_end taken took gives_it leaves ends is stands) =
+      let l = took.runs events ending run in
+      let e = ends events ending run in
+      let none : l.later ≡ [] = nothing_more taken l.later (sym l.all ∙ e.0) in (
+        ap (λ (x : List Event). load x ending) e.0 ∙ gives_it ending ∙ ap last_load e.1 ∙ ap (λ (x : Document). Ok x) (sym is),
+        subst (λ (x : List Event). RunToCome known new x ending) (none ∙ sym leaves ∙ ap left (sym e.0)) l.run,
+      )
+  load_of_run old new (Err y) events ending run (by_parser taken parser took fails gives_it) = here (fails.runs l.later ending l.run)
+    where
+      l : RestOfRun known parser taken events ending
+      l = took.runs events ending run
+
+      here : FailsHere (MayBreak new.source) (kept_fault new) l.later ending → LoadOfRun known MayBreak load left (Err y) new events ending
+      here (inl h) = inl (ap (λ (x : List Event). load x ending) (l.all ∙ ap (λ (x : List Event). taken ++ x) h.0 ∙ append-nil taken) ∙ gives_it ending
+          ∙ ap last_load h.1)
+      here (inr h) = inr h
+  load_of_run old new (Err y) events ending run (by_loader before e parser took f keeps waits gives_it) =
+      let l = took.runs events ending run in
+      inl (ap (λ (x : List Event). load x ending) l.all ∙ gives_it l.later ending
+      ∙ ap (λ (p : Parser S). Err (kept_fault p)) (sym (keeps l.run.asked l.run.given l.run.history)))
+  load_of_run old new (Err y) events ending run (by_memory before e parser took keeps grows) =
+      let l = took.runs events ending run in
+      inr (inl (ap (λ (p : Parser S). kept_fault p) (keeps l.run.asked l.run.given l.run.history)))
+
   pub next_load : (old new : Parser S) (r : DocumentOrError) → IfErr r (λ (x : yaml_error_type_t). (x ≡ (kept_fault new).error) × (is_over new ≡ true))
       → ForHistory old (λ (asked : List Token) (given : List Event). has_failed old ≡ false)
       → (has_failed old ≡ false → LoadsFrom gives known MayBreak load left old r new)
       → (events : List Event) (ending : Ending) → RunToCome known old events ending
       → UnlessBroken MayBreak r new (Answers known (load events ending) r new (left events) ending)
-  next_load old new r kept no_fault loads events ending run = go r kept (loads (no_fault run.asked run.given run.history))
+  next_load old new r kept no_fault loads events ending run
+      = go r kept (load_of_run old new r events ending run (loads (no_fault run.asked run.given run.history)))
     where
       answered : (l : Load) (q : DocumentOrError) → load events ending ≡ l → Answers known l q new (left events) ending
           → UnlessBroken MayBreak q new (Answers known (load events ending) q new (left events) ending)
       answered l q e h = does (subst (λ (m : Load). Answers known m q new (left events) ending) (sym e) h)
 
       go : (q : DocumentOrError) → IfErr q (λ (x : yaml_error_type_t). (x ≡ (kept_fault new).error) × (is_over new ≡ true))
-          → LoadsFrom gives known MayBreak load left old q new → UnlessBroken MayBreak q new (Answers known (load events ending) q new (left events) ending)
-      go (Ok d) k (whole taken took gives_it leaves stands) =
-          let l = took.runs events ending run in
-          answered (Ok d) (Ok d) (ap (λ (e : List Event). load e ending) l.all ∙ gives_it l.later ending)
-          (refl, subst (λ (e : List Event). RunToCome known new e ending) (sym (ap left l.all ∙ leaves l.later)) l.run)
-      go (Ok d) k (at_end taken took gives_it leaves ends is stands) =
-          let l = took.runs events ending run in
-          let e = ends events ending run in
-          let none : l.later ≡ [] = nothing_more taken l.later (sym l.all ∙ e.0) in
-          answered (Ok d) (Ok d) (ap (λ (x : List Event). load x ending) e.0 ∙ gives_it ending ∙ ap last_load e.1 ∙ ap (λ (x : Document). Ok x) (sym is))
-          (refl, subst (λ (x : List Event). RunToCome known new x ending) (none ∙ sym leaves ∙ ap left (sym e.0)) l.run)
-      go (Err y) k (by_parser taken parser took fails gives_it) = here (fails.runs l.later ending l.run)
-        where
-          l : LeftOf known parser taken events ending
-          l = took.runs events ending run
-
-          here : FailsHere (MayBreak new.source) (kept_fault new) l.later ending
-              → UnlessBroken {A = Document} MayBreak (Err y) new (Answers known (load events ending) (Err y) new (left events) ending)
-          here (inl h) = answered (Err (kept_fault new)) (Err y)
-              (ap (λ (x : List Event). load x ending) (l.all ∙ ap (λ (x : List Event). taken ++ x) h.0 ∙ append-nil taken) ∙ gives_it ending
-              ∙ ap last_load h.1) (ap (λ (x : yaml_error_type_t). Err x) k.0, refl)
-          here (inr (inl m)) = no_memory (ap (λ (x : yaml_error_type_t). Err x) (k.0 ∙ ap (λ (f : Fault). f.error) m)) m
-          here (inr (inr b)) = breaks (kept_fault new) b (ap (λ (x : yaml_error_type_t). Err x) k.0) refl
-      go (Err y) k (by_loader before e parser took f keeps waits gives_it) =
-          let l = took.runs events ending run in
-          let m : kept_fault new ≡ f = ap (λ (p : Parser S). kept_fault p) (keeps l.run.asked l.run.given l.run.history) in
-          answered (Err f) (Err y) (ap (λ (x : List Event). load x ending) l.all ∙ gives_it l.later ending)
-          (ap (λ (x : yaml_error_type_t). Err x) (k.0 ∙ ap (λ (g : Fault). g.error) m), m)
-      go (Err y) k (by_memory before e parser took keeps grows) =
-          let l = took.runs events ending run in
-          let m : kept_fault new ≡ memory_fault = ap (λ (p : Parser S). kept_fault p) (keeps l.run.asked l.run.given l.run.history) in
-          no_memory (ap (λ (x : yaml_error_type_t). Err x) (k.0 ∙ ap (λ (g : Fault). g.error) m)) m
+          → LoadOfRun known MayBreak load left q new events ending
+          → UnlessBroken MayBreak q new (Answers known (load events ending) q new (left events) ending)
+      go (Ok d) k h = answered (Ok d) (Ok d) h.0 (refl, h.1)
+      go (Err y) k (inl h) = answered (Err (kept_fault new)) (Err y) h (ap (λ (x : yaml_error_type_t). Err x) k.0, refl)
+      go (Err y) k (inr (inl m)) = no_memory (ap (λ (x : yaml_error_type_t). Err x) (k.0 ∙ ap (λ (f : Fault). f.error) m)) m
+      go (Err y) k (inr (inr b)) = breaks (kept_fault new) b (ap (λ (x : yaml_error_type_t). Err x) k.0) refl

@@ -7,21 +7,20 @@ use Rattle.libyaml_types.specs.declared.event.unnamed_yaml_event_t_data.{unnamed
 use Rattle.libyaml_types.specs.declared.event.unnamed_yaml_event_t_data.TheVariants as ev
 use Rattle.libyaml_types.specs.declared.mark.yaml_mark_t.{yaml_mark_t}
 use Rattle.libyaml_types.specs.Events.{empty_event}
-use Rattle.libyaml_events.specs.sources.Calls.{EventOrError}
+use Rattle.libyaml_events.specs.sources.Calls.{EventOrError, Gave}
 use Rattle.libyaml_events.specs.sources.CallsInTurn.{CarriedOn}
 use Rattle.libyaml_events.specs.machine.Config.{Parser, is_between, is_end_state, is_fault}
 use Rattle.libyaml_grammar.specs.sentences.Events.{Event}
 use Rattle.libyaml_sources.specs.Fault.{Answer, Fault}
-use Rattle.libyaml_events.specs.sources.History.{ForHistory, History, between_documents, has_failed, is_over, kept_fault}
+use Rattle.libyaml_events.specs.sources.History.{ForHistory, History, answers, between_documents, has_failed, is_over, kept_fault}
 use Rattle.libyaml_events.specs.sources.ParsesNext.{ParsesNext}
-use Rattle.libyaml_events.specs.sources.Parsing.{CarriesOn, IsWhole}
-use Rattle.libyaml_events.specs.sources.RunToCome.{RunToCome}
+use Rattle.libyaml_events.specs.sources.Parsing.{CarriesOn, FailsBy, IsWhole}
+use Rattle.libyaml_events.specs.sources.RunToCome.{FailsHere, RestOfRun, RunToCome}
 use Rattle.libyaml_grammar.specs.runs.Runs.{Ending}
 use Rattle.libyaml_sources.specs.Source.{Coming}
 use Rattle.libyaml_events.specs.parsers.Stages.{Stage, after, at_start, is_event, is_outside, stage_of}
 use Rattle.libyaml_grammar.specs.sentences.Tokens.{Token}
 use Rattle.libyaml_events.proofs.lent.CallsInTurn.{both_calls, no_call, one_call, stage_more}
-use Rattle.libyaml_events.proofs.lent.NextEvents.{Says, fails_here, first_event}
 use Rattle.libyaml_graphs.specs.graphs.GraphParts.{Closing, closing_in, closing_of}
 use Rattle.libyaml_loader.specs.loads.Loading.{ParserFails, Took}
 use Rattle.libyaml_loader.specs.loads.ComposeSteps.{FindsEnd}
@@ -60,15 +59,16 @@ module _ {S : Type 0} (gives : S → Answer → S → Type 0) (known : S → Opt
   }
 
   module _ (old new : Parser S) (r : EventOrError) where
-    -- the clauses of a call, and the laws of histories
+    -- the clauses of a call, and the laws of histories and of the run to come
     pub record Called : Type 0 where
       pub token_bound : S → ℕ
       pub parses : ParsesNext gives token_bound known MayBreak old r new
       pub no_fault : (p : Parser S) → ForHistory p (λ (asked : List Token) (given : List Event). has_failed p ≡ false)
       pub whole : (p : Parser S) → is_over p ≡ true → ForHistory p IsWhole
-
-    says : Called → Says known MayBreak old new r
-    says c = record { next = c.parses.next_of_run; end = c.parses.end_of_run; fault = c.parses.fault_of_run }
+      pub further : (p q : Parser S) (more : List Token) (events to_come : List Event) (ending : Ending) (run : RunToCome known p to_come ending)
+          → Gave gives p.source (answers more []) q.source → History q (run.asked ++ more) (run.given ++ events) → RestOfRun known q events to_come ending
+      pub fails : (p q : Parser S) (to_come : List Event) (ending : Ending) (run : RunToCome known p to_come ending) → FailsBy gives p q run.asked run.given
+          → FailsHere (MayBreak q.source) (kept_fault q) to_come ending
 
     module _ (c : Called) (e : Event) (is : r ≡ Ok e) where
       same : r ≡ Ok empty_event → e ≡ empty_event
@@ -89,11 +89,10 @@ module _ {S : Type 0} (gives : S → Answer → S → Type 0) (known : S → Opt
 
       pub took_event : is_event e.content ≡ true → Took gives known old new (e ∷ [])
       took_event an_event = record {
-        history = λ (asked : List Token) (given : List Event) (h : History old asked given). one_call gives old old new asked given e
-            (carried an_event asked given h);
-        runs = λ (events : List Event) (ending : Ending) (run : RunToCome known old events ending).
-            let f = first_event known MayBreak old new r e is an_event (says c) events ending run in
-            record { later = f.later; all = f.first; run = f.run };
+        history = λ asked given h. one_call gives old old new asked given e (carried an_event asked given h);
+        runs = λ events ending run.
+            let k = carried an_event run.asked run.given run.history in
+            c.further old new k.more (e ∷ []) events ending run k.gave k.history;
       }
 
       -- after a document's end the parser stands between documents
@@ -138,6 +137,5 @@ module _ {S : Type 0} (gives : S → Answer → S → Type 0) (known : S → Opt
       history = rw is at c.parses.fails;
       none_held = rw is at c.parses.none_held;
       depth_left = rw is at c.parses.depth_left;
-      runs = λ (events : List Event) (ending : Ending) (run : RunToCome known old events ending). fails_here known MayBreak old new r x is (says c) events
-          ending run;
+      runs = λ events ending run. c.fails old new events ending run ((rw is at c.parses.fails) run.asked run.given run.history);
     }

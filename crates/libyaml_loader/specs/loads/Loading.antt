@@ -11,7 +11,7 @@ use Rattle.libyaml_events.specs.parsers.Lookahead.{tokens_held}
 use Rattle.libyaml_events.specs.parsers.Stages.{open_collections, stage_of}
 use Rattle.libyaml_events.specs.sources.Parsing.{FailsBy, IsWhole}
 use Rattle.libyaml_grammar.specs.runs.Runs.{Ending, Ends}
-use Rattle.libyaml_events.specs.sources.RunToCome.{FailsHere, RunToCome}
+use Rattle.libyaml_events.specs.sources.RunToCome.{FailsHere, RestOfRun, RunToCome}
 use Rattle.libyaml_sources.specs.Source.{Coming}
 use Rattle.libyaml_grammar.specs.sentences.Tokens.{Token}
 use Rattle.libyaml_graphs.specs.loads.Loads.{Load, last_load}
@@ -21,17 +21,11 @@ use Rattle.libyaml_loader.specs.loads.LoadGrowth.{GrowsAt}
 abbrev pub DocumentOrError : Type 0
 DocumentOrError = Result Document yaml_error_type_t
 
--- these events were taken off a run, and the others are to come
-pub record LeftOf {S : Type 0} (known : S → Option Coming) (new : Parser S) (taken events : List Event) (ending : Ending) : Type 0 where
-  pub later : List Event
-  pub all : events ≡ taken ++ later
-  pub run : RunToCome known new later ending
-
 -- From the one parser to the other these events were taken: each history of the first goes on by them, and they are the
 -- first of each run that it has to come.
 pub record Took {S : Type 0} (gives : S → Answer → S → Type 0) (known : S → Option Coming) (old new : Parser S) (taken : List Event) : Type 0 where
   pub history : (asked : List Token) (given : List Event) → History old asked given → CarriedOn gives old new asked given taken
-  pub runs : (events : List Event) (ending : Ending) → RunToCome known old events ending → LeftOf known new taken events ending
+  pub runs : (events : List Event) (ending : Ending) → RunToCome known old events ending → RestOfRun known new taken events ending
 
 -- a call of the parser failed, and left no token held and the stack within its depth
 pub record ParserFails {S : Type 0} (gives : S → Answer → S → Type 0) (known : S → Option Coming) (MayBreak : S → Fault

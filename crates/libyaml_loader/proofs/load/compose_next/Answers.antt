@@ -18,6 +18,8 @@ called_by g c =
       parses = c.yaml_parser_parse_into.ensures;
       no_fault = c.of_history.ensures.no_fault;
       whole = c.of_history.ensures.whole;
+      further = c.rest_of_run.ensures.further;
+      fails = c.rest_of_run.ensures.fails;
     }
 
 pub returns-in_err-yaml_parser_parse_into-clause-steps : goal.returns-in_err-yaml_parser_parse_into-clause-steps
