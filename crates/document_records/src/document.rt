@@ -13,8 +13,8 @@ use std::alloc::AllocError;
 use token_records::putting::{flag, mark_record, put, put_directives};
 use token_records::{directive_record_t, range_record_t};
 
-/// Puts the records of a document, of its nodes and of its tag directives, and the texts that these name, into
-/// the buffers, as far as there is room, and counts them.
+/// Puts the records of a document, of its nodes and of its tag directives, and the texts that these name,
+/// into the buffers, as far as there is room, and counts them.
 ///
 /// # Errors
 ///

@@ -19,8 +19,8 @@ use token_records::putting::{
 };
 use token_records::range_record_t;
 
-/// Puts the records of these nodes, their texts, items and pairs into the buffers, as far as there is room, and
-/// counts them.
+/// Puts the records of these nodes, their texts, items and pairs into the buffers, as far as there is room,
+/// and counts them.
 ///
 /// # Errors
 ///

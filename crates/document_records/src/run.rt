@@ -22,8 +22,8 @@ use token_records::{directive_record_t, token_record_t, yaml_record_source_t};
 
 /// Runs over the tokens of these records, whose texts are ranges of `texts`, and puts the records of their
 /// documents into `documents`, those of the documents' nodes into `nodes`, the items and pairs of these into
-/// `items` and `pairs`, the records of tag directives into `directives`, and all texts into `out`, followed by
-/// the words of a fault: as many as each has room for. What follows them stays as it is.
+/// `items` and `pairs`, the records of tag directives into `directives`, and all texts into `out`, followed
+/// by the words of a fault: as many as each has room for. What follows them stays as it is.
 ///
 /// Where an allocation fails, that is the fault, and the records are those of the first documents.
 pub fn documents_of_records(

@@ -136,7 +136,8 @@ impl loader_ctx {
     ) -> Result<(), Refusal>
         requires { IdsAreIn (loader_of self.old) }
         ensures ok { OnOk result (Composed self.old self.new (Some (alias_part anchor.now start_mark.now))) }
-        ensures err { IfErr result (λ r. Refuses self.old self.new (Some (alias_part anchor.now start_mark.now))
+        ensures err { IfErr result (λ r. Refuses self.old self.new (Some (alias_part anchor.now
+            start_mark.now))
             start_mark.now r) }
     {
         match self.anchors.find(anchor) {

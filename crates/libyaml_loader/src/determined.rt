@@ -45,8 +45,8 @@ pub fn one_load<S: yaml_token_source_t>()
     one_source::<S>();
 }
 
-/// Loaders with one bound that were handed the same tokens, without a fault, gave the same documents and stand
-/// the same.
+/// Loaders with one bound that were handed the same tokens, without a fault, gave the same documents and
+/// stand the same.
 pub fn one_loaded()
     ensures { (p q : PushLoader) (tokens : List Token) (documents given : List Document)
         → p.max_entries ≡ q.max_entries → Loaded p tokens documents → Loaded q tokens given
@@ -56,8 +56,8 @@ pub fn one_loaded()
 }
 
 /// Two outcomes of one push to a loader, both of which the contract of `push` allows, of a list of documents
-/// with this room: they are one, unless memory ran out in one of them, where memory may be taken or the list of
-/// documents has no room. A loader that has stopped has one outcome.
+/// with this room: they are one, unless memory ran out in one of them, where memory may be taken or the list
+/// of documents has no room. A loader that has stopped has one outcome.
 pub fn one_push()
     ensures running { (room m n : ℕ) (old p q : PushLoader) (t : Token) (before after later : List Document)
         (r s : Done) (tokens : List Token) (documents : List Document) → Loaded old tokens documents

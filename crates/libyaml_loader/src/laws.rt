@@ -48,8 +48,9 @@ pub fn loop_yields_loads<S: yaml_token_source_t>()
     whole_documents_have_roots();
 }
 
-/// What a load says of each run that its parser had to come: a document is the run's first load, and the events
-/// that it leaves are to come; a fault is the run's first load, or an allocation failed, or the source broke off.
+/// What a load says of each run that its parser had to come: a document is the run's first load, and the
+/// events that it leaves are to come; a fault is the run's first load, or an allocation failed, or the source
+/// broke off.
 pub fn load_of_run<S: yaml_token_source_t>()
     ensures { (n : ℕ) (old new : Parser S) (r : DocumentOrError) (events : List Event) (ending : Ending)
         → RunToCome S.known old events ending

@@ -203,7 +203,8 @@ fn directive_record(
     wanted: &mut usize,
 ) -> Result<directive_record_t, AllocError>
     ensures made { IfOk result (λ made. made ≡ spec.directive_record wanted.old directive.now) }
-    ensures texts { OnOk result (Puts texts.old wanted.old (spec.directive_bytes directive.now) texts.new wanted.new) }
+    ensures texts { OnOk result (Puts texts.old wanted.old (spec.directive_bytes directive.now) texts.new
+        wanted.new) }
 {
     let handle = put_text(texts, wanted, directive.handle.as_str())?;
     let prefix = put_text(texts, wanted, directive.prefix.as_str())?;

@@ -1,7 +1,8 @@
 //! A source of tokens over records.
 ghost use Rattle.std.specs.Prelude.{◌≡◌, length, Some};
 ghost use Rattle.token_records.specs.RecordSource.{Gives, read_records};
-ghost use Rattle.token_records.specs.RecordSourceLaws.{BreaksOff, records_fall, records_follow, records_repeat};
+ghost use Rattle.token_records.specs.RecordSourceLaws.{BreaksOff, records_fall, records_follow};
+ghost use Rattle.token_records.specs.RecordSourceLaws.{records_repeat};
 
 use crate::reading::read_token_record;
 use crate::record_problem::RecordProblem;

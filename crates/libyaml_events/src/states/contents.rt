@@ -1,7 +1,7 @@
 //! The content of an event, put where another event's content stands.
 //!
-//! Where that is of the same kind, it is written over field by field. Else it is dropped, which functions of their own
-//! do: to drop a content takes six registers, which the function then needn't save.
+//! Where that is of the same kind, it is written over field by field. Else it is dropped, which functions of
+//! their own do: to drop a content takes six registers, which the function then needn't save.
 ghost use Rattle.std.specs.Prelude.{◌≡◌, None, false, true};
 ghost use Rattle.libyaml_types.specs.declared.event.unnamed_yaml_event_t_data.TheVariants.{Alias, MappingEnd};
 ghost use Rattle.libyaml_types.specs.declared.event.unnamed_yaml_event_t_data.TheVariants.{SequenceEnd};
