@@ -441,6 +441,10 @@ impl<S> Machine<S> {
             None => None,
             Some(tag) => Some(self.resolve_tag(tag, &start_mark)?),
         };
+        // Its handle and suffix are let go here, so that they lie between no list of nodes and its growth.
+        if tag.is_some() {
+            pending.properties.tag = None;
+        }
         match &mut token.content {
             unnamed_yaml_token_t_data::Scalar(scalar) => {
                 self.scalar_behind(tag, scalar, &token.end_mark, &mut pending.properties, out);
