@@ -441,7 +441,7 @@ impl<S> Machine<S> {
             None => None,
             Some(tag) => Some(self.resolve_tag(tag, &start_mark)?),
         };
-        // Its handle and suffix are let go here, so that they lie between no list of nodes and its growth.
+        // Its handle and suffix are dropped here: where they stay, a list of nodes may not grow where it lies.
         if tag.is_some() {
             pending.properties.tag = None;
         }
