@@ -36,7 +36,7 @@ module _ {S : Type 0} (text : yaml_event_t → List ℕ) (gives : S → Answer �
   }
 
   -- one text more
-  texts_more : (done : List yaml_event_t) (e : yaml_event_t) → concat (map text done) ++ text e ≡ concat (map text (done ++ e ∷ []))
+  pub texts_more : (done : List yaml_event_t) (e : yaml_event_t) → concat (map text done) ++ text e ≡ concat (map text (done ++ e ∷ []))
   texts_more done e =
       ap (λ l. concat (map text done) ++ l) (sym (append-nil (text e))) ∙ sym (concat-append (map text done) (text e ∷ []))
       ∙ ap concat (sym (map-append text done (e ∷ [])))

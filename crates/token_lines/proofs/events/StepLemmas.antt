@@ -1,27 +1,32 @@
--- What a call of the parser says of one step of a run.
-use Rattle.std.proofs.Common.{◌≡◌, ◌⊎◌, ℕ, List, [], ◌∷◌, Option, Bool, Ok, IfOk, true, false, refl, sym, ap, ◌∙◌, subst, ⊎_elim}
-use Rattle.std.proofs.KnownBytes.{Appends-nil}
-use Rattle.std.proofs.lemmas.List.{append-nil}
+-- What the steps of a run write of a run of events that was to come.
+use Rattle.std.proofs.Common.{◌≡◌, ◌⊎◌, ◌++◌, ℕ, List, [], ◌∷◌, Option, Bool, Ok, true, false, sym, ap, ◌∙◌, subst, inl, inr}
+use Rattle.std.proofs.KnownBytes.{Appends-kept, Appends-trans}
+use Rattle.std.proofs.lemmas.List.{append-nil, map-append}
 use Rattle.std.specs.List.{concat}
-use Rattle.std.specs.Io.KnownBytes.{Appends}
+use Rattle.std.specs.Io.KnownBytes.{Appends, Keeps}
 use Rattle.libyaml_types.specs.declared.event.yaml_event_t.{yaml_event_t}
 use Rattle.libyaml_types.specs.declared.token.yaml_token_t.{yaml_token_t}
 use Rattle.libyaml_types.specs.Events.{empty_event}
-use Rattle.libyaml_events.specs.sources.Calls.{EventOrError}
 use Rattle.libyaml_events.specs.machine.Config.{Parser}
-use Rattle.libyaml_sources.specs.Fault.{Fault, Answer, memory_fault}
-use Rattle.libyaml_events.specs.sources.History.{History, is_over}
-use Rattle.libyaml_events.specs.sources.Parsing.{CarriesOn}
-use Rattle.libyaml_events.specs.sources.RunToCome.{FailsHere, RunToCome}
-use Rattle.libyaml_grammar.specs.runs.Runs.{Ending, Ends, Fails}
-use Rattle.libyaml_sources.specs.Source.{Coming}
 use Rattle.libyaml_events.specs.parsers.Stages.{is_event}
-use Rattle.libyaml_events.proofs.lent.NextEvents.{First}
-use Rattle.token_lines.specs.events.EventRun.{event_lines}
+use Rattle.libyaml_events.specs.sources.Calls.{EventOrError, Gave}
+use Rattle.libyaml_events.specs.sources.History.{History, answers, is_over, kept_fault}
+use Rattle.libyaml_events.specs.sources.Parsing.{FailsBy}
+use Rattle.libyaml_events.specs.sources.RunToCome.{FailsHere, ForRun, RestOfRun, RunToCome}
+use Rattle.libyaml_events.proofs.lent.CallsInTurn.{gave_both}
+use Rattle.libyaml_grammar.specs.runs.Runs.{Ending, Ends}
+use Rattle.libyaml_sources.specs.declared.fault.yaml_parser_t_prefix.{yaml_parser_t_prefix}
+use Rattle.libyaml_sources.specs.Fault.{Answer, Fault, fault_of}
+use Rattle.libyaml_sources.specs.Source.{Coming}
 use Rattle.line_writing.specs.EventText.{event_line}
-use Rattle.token_lines.specs.events.EventStep.{run_ending, run_lines}
-use Rattle.token_lines.specs.lines.RunSteps.{TakesLines, WritesPrefix}
-use Rattle.token_lines.proofs.lines.RunLemmas.{breaks_before, fails_first}
+use Rattle.line_writing.specs.FaultText.{fault_text}
+use Rattle.token_lines.specs.declared.run.RunStep.TheVariants as step
+use Rattle.token_lines.specs.events.EventRun.{event_lines}
+use Rattle.token_lines.specs.events.EventStep.{Turn}
+use Rattle.token_lines.specs.events.InTurn.{AllWritten, gave_event, failed}
+use Rattle.token_lines.specs.lines.LineRun.{WritesFault, whole, broken_off}
+use Rattle.token_lines.proofs.events.InTurnLemmas.{history_more, texts_more}
+use Rattle.token_lines.proofs.lines.RunLemmas.{keeps_then}
 
 -- Whether a parser had ended, by the event that it returned.
 module _ {S : Type 0} (old new : Parser S) (r : EventOrError) (e : yaml_event_t) where
@@ -39,47 +44,58 @@ module _ {S : Type 0} (old new : Parser S) (r : EventOrError) (e : yaml_event_t)
   running_by true h is an_event ended = absurd (gives_empty is (ended h) an_event)
   running_by false h is an_event ended = h
 
-  pub ended_by : (gives : S → Answer → S → Type 0) (b : Bool) → is_over old ≡ b → r ≡ Ok e → is_event e.content ≡ false
-      → (is_over old ≡ false → IfOk r (λ x. (asked : List yaml_token_t) (given : List yaml_event_t) → History old asked given
-      → CarriesOn gives old x new asked given)) → (asked : List yaml_token_t) (given : List yaml_event_t) → History old asked given → is_over old ≡ true
-  ended_by gives true h is empty carries asked given history = h
-  ended_by gives false h is empty carries asked given history = absurd (no (sym (((rw is at (carries h)) asked given history).an_event) ∙ empty))
-    where
-      no : true ≡ false → ⊥
-      no k = cc
+module _ {S : Type 0} (gives : S → Answer → S → Type 0) (known : S → Option Coming) (MayBreak : S → Fault → Type 0) where
+  -- what `rest_of_run` and `items_in_turn` say
+  abbrev pub Further : Type 0
+  Further = (p q : Parser S) (more : List yaml_token_t) (events to_come : List yaml_event_t) (ending : Ending) (r : RunToCome known p to_come ending)
+      → Gave gives p.source (answers more []) q.source → History q (r.asked ++ more) (r.given ++ events) → RestOfRun known q events to_come ending
 
-module _ {S : Type 0} (known : S → Option Coming) (MayBreak : S → Fault → Type 0) (old new : Parser S) where
-  pub takes_first : (a b : Option (List ℕ)) (e : yaml_event_t) (events : List yaml_event_t) (ending : Ending) → First known MayBreak old new e events ending
-      → Appends a b (event_line e) → TakesLines known run_lines run_ending new a b events ending
-  takes_first a b e events ending f wrote = record {
-    first = event_line e ∷ [];
-    later = f.later;
-    all = ap event_lines f.first;
-    same_end = refl;
-    run = f.run;
-    wrote = subst (Appends a b) (sym (append-nil (event_line e))) wrote;
-  }
+  abbrev pub FailsBehind : Type 0
+  FailsBehind = (p q new : Parser S) (more : List yaml_token_t) (events to_come : List yaml_event_t) (ending : Ending) (r : RunToCome known p to_come ending)
+      → Gave gives p.source (answers more []) q.source → History q (r.asked ++ more) (r.given ++ events)
+      → FailsBy gives q new (r.asked ++ more) (r.given ++ events)
+      → (later : List yaml_event_t) × (to_come ≡ events ++ later) × FailsHere (MayBreak new.source) (kept_fault new) later ending
 
-  pub takes_last : (a b : Option (List ℕ)) (e : yaml_event_t) (events : List yaml_event_t) (ending : Ending) → First known MayBreak old new e events ending
-      → ((later : List yaml_event_t) (x : Ending) → RunToCome known new later x → (later ≡ []) × (x ≡ Ends)) → Appends a b (event_line e) → (ending ≡ Ends)
-      × Appends a b (concat (event_lines events))
-  takes_last a b e events ending f nothing wrote =
-      let last = nothing f.later ending f.run in
-      let all : event_line e ≡ concat (event_lines events) = sym (append-nil (event_line e))
-      ∙ ap (λ l. concat (event_lines l)) (sym (f.first ∙ ap (λ l. e ∷ l) last.0)) in
-      (last.1, subst (Appends a b) all wrote)
+  abbrev pub NothingBehind : Type 0
+  NothingBehind = (p : Parser S) → is_over p ≡ true → ForRun known p (λ later ending. (later ≡ []) × (ending ≡ Ends))
 
-  -- a call that gave the empty event
-  pub nothing_left : (a : Option (List ℕ)) (events : List yaml_event_t) (ending : Ending) → RunToCome known old events ending → new ≡ old
-      → ((later : List yaml_event_t) (x : Ending) → RunToCome known new later x → (later ≡ []) × (x ≡ Ends)) → (ending ≡ Ends)
-      × Appends a a (concat (event_lines events))
-  nothing_left a events ending run same nothing =
-      let last = nothing events ending (subst (λ p. RunToCome known p events ending) (sym same) run) in
-      (last.1, subst (λ l. Appends a a (concat (event_lines l))) (sym last.0) (Appends-nil a))
+  -- a run that was to come, of which the lines of some events were written, and then a last step was made
+  module _ (first p q : Parser S) (a b c d : Option (List ℕ)) (all : List yaml_event_t) (ending : Ending) (r : RunToCome known first all ending)
+      (w : AllWritten event_line gives first p a b r.asked r.given) where
+    pub all_lines : Further → NothingBehind → Turn gives step.Ended p q b c (r.asked ++ w.more) (r.given ++ w.events) → Keeps c d → (ending ≡ Ends)
+        × Appends a d (concat (event_lines all))
+    all_lines further nothing (gave_event e on wrote) kept =
+        let done = w.events ++ e ∷ [] in
+        let rest = further first q (w.more ++ on.more) done all ending r
+        (gave_both gives w.more on.more first.source p.source q.source w.gave on.gave)
+        (history_more q r.asked w.more on.more r.given w.events (e ∷ []) on.history) in
+        let none = nothing q (on.ends ∙ wrote.0) rest.later ending rest.run in
+        let same : w.events ++ e ∷ [] ≡ all = sym (rest.all ∙ ap (λ (l : List yaml_event_t). done ++ l) none.0 ∙ append-nil done) in
+        let lines : Appends a c (concat (event_lines (w.events ++ e ∷ []))) = subst (Appends a c) (texts_more event_line gives w.events e)
+        (Appends-trans a b c (concat (event_lines w.events)) (event_line e) w.wrote wrote.1) in
+        (none.1, Appends-kept a c d (concat (event_lines all)) (subst (λ (l : List yaml_event_t). Appends a c (concat (event_lines l))) same lines) kept)
+    all_lines further nothing (failed by wrote) kept = absurd wrote
 
--- a call that failed here
-pub nothing_written : (MayBreak : Fault → Type 0) (f : Fault) (a : Option (List ℕ)) (events : List yaml_event_t) (ending : Ending)
-    → FailsHere MayBreak f events ending → WritesPrefix MayBreak f a a (event_lines events) ending
-nothing_written MayBreak f a events ending fails =
-    ⊎_elim (λ (e : (events ≡ []) × (ending ≡ Fails f)). fails_first MayBreak f a (event_lines events) ending (ap event_lines e.0) e.1)
-    (λ (e : (f ≡ memory_fault) ⊎ MayBreak f). breaks_before MayBreak f a (event_lines events) ending e) fails
+    fails_there : (f : Fault) (later : List yaml_event_t) → all ≡ w.events ++ later → FailsHere (MayBreak q.source) f later ending
+        → Appends a d (concat (event_lines w.events) ++ fault_text f) → WritesFault (MayBreak q.source) f a d (event_lines all) ending
+    fails_there f later split (inl e) wrote =
+        let same : w.events ≡ all = sym (split ∙ ap (λ (l : List yaml_event_t). w.events ++ l) e.0 ∙ append-nil w.events) in
+        whole e.1 (subst (λ (l : List yaml_event_t). Appends a d (concat (event_lines l) ++ fault_text f)) same wrote)
+    fails_there f later split (inr why) wrote
+        = broken_off (event_lines w.events) (event_lines later) (ap event_lines split ∙ map-append event_line w.events later) why wrote
+
+    pub lines_and_fault : Further → FailsBehind → (f : yaml_parser_t_prefix) → Turn gives (step.Failed f) p q b c (r.asked ++ w.more) (r.given ++ w.events)
+        → Appends c d (fault_text (fault_of f)) → WritesFault (MayBreak q.source) (fault_of f) a d (event_lines all) ending
+    lines_and_fault further behind f turn told = go turn
+      where
+        then_fault : Keeps b c → Appends a d (concat (event_lines w.events) ++ fault_text (fault_of f))
+        then_fault kept = Appends-trans a b d (concat (event_lines w.events)) (fault_text (fault_of f)) w.wrote (keeps_then b c d (fault_text (fault_of f)) kept told)
+
+        go : Turn gives (step.Failed f) p q b c (r.asked ++ w.more) (r.given ++ w.events)
+            → WritesFault (MayBreak q.source) (fault_of f) a d (event_lines all) ending
+        go (gave_event e on wrote) =
+            let rest = further first p w.more w.events all ending r w.gave w.history in
+            fails_there (fault_of f) rest.later rest.all (inr (inl wrote.0)) (then_fault wrote.1)
+        go (failed by wrote) =
+            let rest = behind first p q w.more w.events all ending r w.gave w.history by in
+            fails_there (fault_of f) rest.0 rest.1 (subst (λ (g : Fault). FailsHere (MayBreak q.source) g rest.0 ending) (sym wrote.0) rest.2) (then_fault wrote.1)

@@ -5,27 +5,11 @@ use Rattle.libyaml_types.specs.declared.event.yaml_event_t.{yaml_event_t}
 use Rattle.libyaml_types.specs.declared.token.yaml_token_t.{yaml_token_t}
 use Rattle.libyaml_events.specs.machine.Config.{Parser}
 use Rattle.libyaml_events.specs.sources.History.{is_stream_end}
-use Rattle.libyaml_grammar.specs.runs.Runs.{Ending}
 use Rattle.libyaml_sources.specs.Fault.{Fault, Answer, fault_of, memory_fault}
-use Rattle.libyaml_sources.specs.Source.{Coming}
 use Rattle.line_writing.specs.EventText.{event_line}
 use Rattle.token_lines.specs.declared.run.RunStep.{RunStep}
 use Rattle.token_lines.specs.declared.run.RunStep.TheVariants.{Written, Ended, Failed, OutputFailed}
-use Rattle.token_lines.specs.events.EventRun.{event_lines}
 use Rattle.token_lines.specs.events.InTurn.{Call}
-use Rattle.token_lines.specs.lines.RunSteps.{RunSteps}
-
--- the lines and the ending of a run over events
-abbrev pub run_lines : List yaml_event_t → Ending → List (List ℕ)
-run_lines events ending = event_lines events
-
-abbrev pub run_ending : List yaml_event_t → Ending → Ending
-run_ending events ending = ending
-
--- what a step did where this run was to come
-abbrev pub EventSteps : {S : Type 0} → (known : S → Option Coming) → (MayBreak : S → Fault → Type 0) → RunStep → Parser S → (before after : Option (List ℕ))
-    → List yaml_event_t → Ending → Type 0
-EventSteps known MayBreak step new before after events ending = RunSteps known MayBreak run_lines run_ending step new before after events ending
 
 -- what a step wrote after a call that returned this event
 abbrev pub StepForEvent : RunStep → yaml_event_t → (before after : Option (List ℕ)) → Type 0

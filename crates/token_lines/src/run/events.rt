@@ -7,12 +7,14 @@ ghost use Rattle.libyaml_events.specs.sources.History.{History, is_over};
 ghost use Rattle.libyaml_events.specs.sources.RunToCome.{RunToCome};
 ghost use Rattle.libyaml_grammar.specs.runs.Runs.{Ending};
 ghost use Rattle.token_lines.specs.events.EventRun.{event_lines};
-ghost use Rattle.token_lines.specs.events.EventStep.{EventSteps, Turn};
+ghost use Rattle.token_lines.specs.events.EventStep.{Turn};
 ghost use Rattle.token_lines.specs.events.LastCall.{LastCall, NothingLeft, RunsOver};
 ghost use Rattle.token_lines.specs.lines.LineRun.{Writes};
 
 use super::{Outcome, RunStep, faulted, flushed, run_end_t, show};
 use crate::MAX_TOKENS;
+use libyaml_events::laws::calls::rest_of_run;
+use libyaml_events::laws::items::items_in_turn;
 use libyaml_events::{
     MEMORY_FAULT, is_event, is_stream_end, no_event, yaml_parser_initialize,
     yaml_parser_parse_into, yaml_parser_t, yaml_token_source_t,
@@ -61,6 +63,8 @@ pub fn write_events<S: yaml_token_source_t, W: Write>(
         → LastCall S.gives W.contents result parser.old parser.new (W.contents writer.old)
         (W.contents writer.new) asked given }
 {
+    rest_of_run::<S>();
+    items_in_turn::<S>();
     let mut line = String::new(parser.allocator());
     let mut event = no_event();
     loop {
@@ -88,9 +92,6 @@ fn write_next<S: yaml_token_source_t, W: Write>(
         → History parser.old asked given
         → Turn S.gives result parser.old parser.new (W.contents writer.old) (W.contents writer.new) asked
         given }
-    ensures step { (events : List yaml_event_t) (ending : Ending) → RunToCome S.known parser.old events ending
-        → EventSteps S.known S.may_break result parser.new (W.contents writer.old) (W.contents writer.new)
-        events ending }
 {
     let parsed = yaml_parser_parse_into(parser, event);
     let Ok(()) = parsed else {

@@ -1,39 +1,71 @@
-use Rattle.std.proofs.Common.{refl, ap, ◌∙◌, subst}
-use Rattle.std.specs.Io.KnownBytes.{Keeps}
+use Rattle.std.proofs.Common.{◌≡◌, ◌++◌, Bool, List, [], true, false, refl, sym, ap, ◌∙◌, subst}
+use Rattle.std.proofs.KnownBytes.{Appends-kept, Appends-nil}
+use Rattle.std.specs.List.{concat}
+use Rattle.std.specs.Io.KnownBytes.{Appends, Keeps}
+use Rattle.libyaml_types.specs.declared.event.yaml_event_t.{yaml_event_t}
 use Rattle.libyaml_sources.specs.Fault.{fault_of}
 use Rattle.libyaml_events.specs.sources.History.{is_over}
 use Rattle.token_lines.specs.declared.run.run_end_t.TheVariants.{OutputFailed}
 use Rattle.line_writing.specs.EventText.{event_line}
 use Rattle.token_lines.specs.events.EventRun.{event_lines}
-use Rattle.token_lines.specs.events.EventStep.{run_ending, run_lines}
 use Rattle.token_lines.specs.events.LastCall.{WroteForEvent}
 use Rattle.token_lines.specs.lines.LineRun.{WroteFault}
 use Rattle.token_lines.proofs.events.LastCallLemmas.{ends_by, fails_by, output_fails, written_no_end, failed_no_end, output_no_end}
 use Rattle.token_lines.proofs.events.InTurnLemmas.{last_call, none_yet, one_more}
-use Rattle.token_lines.proofs.lines.RunLemmas.{takes_none, takes_more, takes_last, takes_failed, writes_ended, writes_faulted}
+use Rattle.token_lines.proofs.events.StepLemmas.{all_lines, lines_and_fault}
+use Rattle.token_lines.proofs.lines.RunLemmas.{writes_ended, writes_faulted}
 use Rattle.token_lines.proofs.run.events.write_events.Goals as goal
+
+either_way : {P : Type 0} (b : Bool) → (b ≡ true → P) → (b ≡ false → P) → P
+either_way true over running = over refl
+either_way false over running = running refl
 
 pub returns-in-Ended-clause-writes : goal.returns-in-Ended-clause-writes
 returns-in-Ended-clause-writes g c events ending run =
-    let known = g.S.yaml_token_source_t.known in
-    let written = takes_last known run_lines run_ending _ _ _ _ c.loop-writer.parser events ending (c.loop-writer.invariant.came events ending run) c.in-Ended.ensures.step
-    c.flushed.ensures.keeps in
-    writes_ended (g.S.yaml_token_source_t.may_break c.write_next.new.parser.source) c.flushed.result _ _ (event_lines events) ending c.flushed.ensures.end
-    written
+    let t = g.S.yaml_token_source_t in
+    let contents = g.W.Write.contents in
+    let first = c.args.parser.now in
+    let at = c.loop-writer in
+    let before = contents c.args.writer.now in
+    let after = contents c.flushed.new.writer in
+    let nothing = c.items_in_turn.ensures.end in
+    writes_ended (t.may_break c.write_next.new.parser.source) c.flushed.result before after (event_lines events) ending c.flushed.ensures.end
+    (either_way (is_over first)
+    (λ (over : is_over first ≡ true).
+    let still = at.invariant.ended over in
+    let last = c.in-Ended.ensures.ended (ap is_over still.0 ∙ over) in
+    let none = nothing first over events ending run in
+    let kept = subst (λ w. Keeps (contents w) after) (last.2 ∙ still.1) c.flushed.ensures.keeps in
+    (none.1, subst (λ (l : List yaml_event_t). Appends before after (concat (event_lines l))) (sym none.0) (Appends-kept before before after [] (Appends-nil before) kept)))
+    (λ (running : is_over first ≡ false).
+    let w = at.invariant.in_turn running run.asked run.given run.history in
+    all_lines t.gives t.known t.may_break first at.parser c.write_next.new.parser before (contents at.writer) (contents c.write_next.new.writer) after events
+    ending run w c.rest_of_run.ensures.further nothing
+    (c.in-Ended.ensures.turn w.running (run.asked ++ w.more) (run.given ++ w.events) w.history) c.flushed.ensures.keeps))
 
 pub returns-in-Failed-clause-writes : goal.returns-in-Failed-clause-writes
 returns-in-Failed-clause-writes g c events ending run =
-    let known = g.S.yaml_token_source_t.known in
-    let may_break = g.S.yaml_token_source_t.may_break c.write_next.new.parser.source in
-    writes_faulted may_break c.faulted.result (fault_of c.in-Failed.fault) _ _ _ (event_lines events) ending c.faulted.ensures
-    (takes_failed known run_lines run_ending may_break _ _ _ _ c.loop-writer.parser (fault_of c.in-Failed.fault) events ending
-    (c.loop-writer.invariant.came events ending run) c.in-Failed.ensures.step)
+    let t = g.S.yaml_token_source_t in
+    let contents = g.W.Write.contents in
+    let first = c.args.parser.now in
+    let at = c.loop-writer in
+    let fault = c.in-Failed.fault in
+    let may_break = t.may_break c.write_next.new.parser.source in
+    let before = contents c.args.writer.now in
+    let after = contents c.faulted.new.writer in
+    writes_faulted may_break c.faulted.result (fault_of fault) before (contents c.write_next.new.writer) after (event_lines events) ending c.faulted.ensures
+    (λ told. either_way (is_over first)
+    (λ (over : is_over first ≡ true). failed_no_end fault (c.in-Failed.ensures.ended (ap is_over (at.invariant.ended over).0 ∙ over)).0)
+    (λ (running : is_over first ≡ false).
+    let w = at.invariant.in_turn running run.asked run.given run.history in
+    lines_and_fault t.gives t.known t.may_break first at.parser c.write_next.new.parser before (contents at.writer) (contents c.write_next.new.writer) after events
+    ending run w c.rest_of_run.ensures.further c.rest_of_run.ensures.fails_behind fault
+    (c.in-Failed.ensures.turn w.running (run.asked ++ w.more) (run.given ++ w.events) w.history) told))
 
 pub loop-writer-init : goal.loop-writer-init
 loop-writer-init g c = record {
   ended = λ ended. (refl, refl);
   in_turn = λ running asked given history. none_yet event_line g.S.yaml_token_source_t.gives _ _ asked given history running;
-  came = λ events ending run. takes_none g.S.yaml_token_source_t.known run_lines run_ending _ _ events ending run;
 }
 
 pub loop-writer-preserved : goal.loop-writer-preserved
@@ -42,8 +74,6 @@ loop-writer-preserved g c = record {
       (c.in-Written.ensures.ended (ap is_over (c.loop-writer.invariant.ended ended).0 ∙ ended)).0;
   in_turn = λ not_ended asked given history. one_more event_line g.S.yaml_token_source_t.gives _ c.loop-writer.parser c.write_next.new.parser _ _ _ asked given
       (c.loop-writer.invariant.in_turn not_ended asked given history) c.in-Written.ensures.turn;
-  came = λ events ending run. takes_more g.S.yaml_token_source_t.known run_lines run_ending _ _ _ c.loop-writer.parser c.write_next.new.parser events ending
-      (c.loop-writer.invariant.came events ending run) c.in-Written.ensures.step;
 }
 
 pub loop-writer-smaller : goal.loop-writer-smaller

@@ -2,13 +2,9 @@ use Rattle.std.proofs.Common.{◌≡◌, List, true, false}
 use Rattle.libyaml_types.specs.declared.event.yaml_event_t.{yaml_event_t}
 use Rattle.libyaml_types.specs.declared.token.yaml_token_t.{yaml_token_t}
 use Rattle.line_writing.specs.EventText.{event_line}
-use Rattle.token_lines.specs.events.EventStep.{run_ending, run_lines}
 use Rattle.token_lines.specs.events.InTurn.{AllWritten}
-use Rattle.token_lines.specs.lines.RunSteps.{TakesLines}
 use Rattle.libyaml_events.specs.sources.History.{History, is_over}
 use Rattle.libyaml_events.specs.parsers.EventsLeft.{events_left}
-use Rattle.libyaml_events.specs.sources.RunToCome.{RunToCome}
-use Rattle.libyaml_grammar.specs.runs.Runs.{Ending}
 use Rattle.token_lines.proofs.run.events.write_events.Given as goal
 
 abbrev pub invariant-loop-writer : goal.invariant-loop-writer
@@ -16,9 +12,6 @@ invariant-loop-writer g l = record {
   ended : is_over l.initial.parser ≡ true → (l.parser ≡ l.initial.parser) × (l.writer ≡ l.initial.writer);
   in_turn : is_over l.initial.parser ≡ false → (asked : List yaml_token_t) (given : List yaml_event_t) → History l.initial.parser asked given
       → AllWritten event_line g.S.yaml_token_source_t.gives l.initial.parser l.parser (g.W.Write.contents l.initial.writer) (g.W.Write.contents l.writer) asked given;
-  came : (events : List yaml_event_t) (ending : Ending) → RunToCome g.S.yaml_token_source_t.known l.initial.parser events ending
-      → TakesLines g.S.yaml_token_source_t.known run_lines run_ending l.parser (g.W.Write.contents l.initial.writer) (g.W.Write.contents l.writer) events
-      ending;
 }
 
 abbrev pub decreases-loop-writer : goal.decreases-loop-writer
