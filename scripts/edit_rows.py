@@ -6,7 +6,8 @@
 Each edit is made in a copy, and the programs of its crate's line in PROGRAMS are run over it in turn, without proof
 (`rt try`), until one ends otherwise than it should: `yamltokens` over the lists of `yaml_rows` and `line_rows`, the
 programs of rows table by table, other programs over what is stored beside them. Of the Rust crate's definitions the
-worked rows are proved. The program that WRONG_BODIES names goes first. With --write the place goes into WRONG_BODIES; where there is none, what the page says after
+worked rows are proved. The program that WRONG_BODIES names goes first, `yaml_rows` where it names none. With --write the
+place goes into WRONG_BODIES, without the name of that program's table "rows"; where there is none, what the page says after
 "Seen in no row" stays. Two edits at a time (JOBS), half a minute to three minutes a program; needs `rt`.
 """
 import os
@@ -46,6 +47,8 @@ SLOW = {
     "deep documents, by calls",
     "drawn lists",
 }
+# The table that the page leaves unnamed.
+ROWS = '`yaml_rows`, "rows": '
 SECONDS = "240"
 
 
@@ -162,7 +165,8 @@ def place(crate, edit):
         for path, text in edited(Path(room) / "crates" / crate, edit).items():
             path.write_text(text)
         named = line_of(crate, edit.stem)[2] or ""
-        for program in sorted(PROGRAMS[crate], key=lambda name: f"`{name}" not in named):
+        first = next((name for name in PROGRAMS[crate] if f"`{name}" in named), "yaml_rows")
+        for program in sorted(PROGRAMS[crate], key=lambda name: name != first):
             seen = run_laws(Path(room), program) if program == "rows" else run_cases(Path(room), program, cases_of(program, named))
             if seen:
                 return seen
@@ -179,7 +183,7 @@ def line_of(crate, edit):
 def write(crate, edit, seen):
     """Puts into its line where an edit is seen."""
     line, page = line_of(crate, edit), PAGE.read_text()
-    now = f"{line[1]} Seen in {seen or 'no row'}.{line[3] or ''}"
+    now = f"{line[1]} Seen in {(seen or 'no row').removeprefix(ROWS)}.{line[3] or ''}"
     PAGE.write_text(page[: line.start()] + now + page[line.end() :])
 
 
