@@ -1,7 +1,8 @@
 #!/usr/bin/env python3
 """Lists every public item of the libraries in docs/SURFACE.md: first those that a program uses first, then the others that a
-user can name, by their crates, each with its signature, its fields or its variants; with the first sentence of its doc, but of
-the others only where it says what a function does; then, by their names, those that only crates above use, and the laws.
+user can name, by their crates, each with its signature, its fields or its variants; with the first sentence of its doc where
+that has more than ten words and no public field or variant shows it, but of the others only where it says what a function
+does; then, by their names, those that only crates above use, and the laws.
 
     python3 scripts/surface.py           fails where the page is stale, an item has no doc, or one is `pub` for its crate alone
     python3 scripts/surface.py --write   writes the page
@@ -26,7 +27,7 @@ WIDTH = 110
 
 HEAD = """# Every public item
 
-Made from the sources by `python3 scripts/surface.py --write`. You name `unsafe_libyaml`, which re-exports the crates of events, documents and loads, and `token_lines`, which re-exports the crates of lines. Here `fn T::f` is a method or a function of the type `T`, and `..` stands for private fields. [CALLING.md](CALLING.md) shows their use; what a type is, and what a call returns, its errors and its conditions, are in the comment and the contract beside it.
+Made from the sources by `python3 scripts/surface.py --write`. You name `unsafe_libyaml`, which re-exports the crates of events, documents and loads, and `token_lines`, which re-exports those of lines. `fn T::f` is a method or a function of the type `T`, `..` stands for private fields. [CALLING.md](CALLING.md) shows their use; what each is, returns and asks for is in the comment and the contract beside it.
 """
 
 FIRST = [
@@ -103,9 +104,10 @@ class Item:
         self.kind, self.name, self.says, self.code = kind, name, sentence(docs), code
 
     def says_itself(self):
-        """Whether the code says enough: the parts of a content, a short reader of a value, and the names of types."""
-        reads = re.search(r"::\w+\(&?self\) -> ", self.code) and len(self.says.split()) <= 10
-        return self.name.startswith("unnamed_") or reads or self.name.endswith("::display") and "`name`" in self.says
+        """Whether the code says enough: the parts of a content, public fields and variants, what ten words say, and the names of types."""
+        is_open = self.kind in ("struct", "enum") and "{" in self.code and ".." not in self.code
+        is_name = self.name.endswith("::display") and "`name`" in self.says
+        return self.name.startswith("unnamed_") or is_open or len(self.says.split()) <= 10 or is_name
 
     def lines(self, is_brief):
         """The code after what the doc says first; a brief one without what a type is and what a function returns."""
@@ -276,6 +278,21 @@ def in_order(rows):
     return [row for _, row in sorted(enumerate(rows), key=place)]
 
 
+def families(names):
+    """The names in a text; those of laws that several enums have alike stand once, with the enums after them."""
+    laws = {}
+    for name in names:
+        law, _, of = name.partition("_of_")
+        laws.setdefault(of, []).append(law)
+    most = max(laws.values(), key=len)
+    alike = [of for of in laws if of and laws[of] == most and len(most) > 2]
+    if not alike:
+        return ", ".join(names)
+    others = [name for name in names if name.partition("_of_")[2] not in alike]
+    heads = ", ".join(f"{law}_of_E" for law in most)
+    return f"{heads} for E each of {', '.join(alike)}; {', '.join(others)}"
+
+
 def block(items, is_brief=False):
     yield "```rs"
     for item in items:
@@ -322,7 +339,7 @@ def page():
         modules = {}
         for name in names:
             modules.setdefault("::".join(name.split("::")[:-1]), []).append(name.split("::")[-1])
-        lines.append(f"| `{crate}` | " + "; ".join(f"`{module}`: {', '.join(its)}" for module, its in modules.items()) + " |")
+        lines.append(f"| `{crate}` | " + "; ".join(f"`{module}`: {families(its)}" for module, its in modules.items()) + " |")
     return "\n".join(lines) + "\n", without
 
 
