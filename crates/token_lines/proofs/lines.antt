@@ -3,3 +3,5 @@ pub mod KnownLines
 pub mod ReadsBackLemmas
 pub mod OneOutputs
 pub mod WholeRuns
+pub mod OneWritings
+pub mod OneInMemories

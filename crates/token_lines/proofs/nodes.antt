@@ -2,3 +2,4 @@ pub mod NodeStepLemmas
 pub mod NodeTurnLemmas
 pub mod LargeRuns
 pub mod NoBound
+pub mod NodeWritings

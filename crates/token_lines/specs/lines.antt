@@ -3,3 +3,5 @@ pub mod RunSteps
 pub mod ReadsBack
 pub mod OneOutput
 pub mod InMemory
+pub mod OneWriting
+pub mod OneInMemory

@@ -1,13 +1,25 @@
 //! That the contracts of runs over lines leave no byte open: two outcomes that they allow wrote the same.
 
 ghost use Rattle.std.specs.Prelude.{◌≡◌, ℕ, List, Option, Some};
+ghost use Rattle.libyaml_types.specs.declared.event.yaml_event_t.{yaml_event_t};
+ghost use Rattle.libyaml_types.specs.declared.token.yaml_token_t.{yaml_token_t};
+ghost use Rattle.libyaml_events.specs.machine.Config.{Parser};
+ghost use Rattle.libyaml_events.specs.sources.Determined.{OneBegins};
 ghost use Rattle.line_reading.specs.sources.LineSource.{BreaksOff};
 ghost use Rattle.token_lines.specs.declared.run.Outcome.{Outcome};
-ghost use Rattle.token_lines.specs.events.LastCall.{RunsOver};
+ghost use Rattle.token_lines.specs.declared.run.run_end_t.{run_end_t};
+ghost use Rattle.token_lines.specs.events.LastCall.{LastCall, NothingLeft, RunsOver};
+ghost use Rattle.token_lines.specs.declared.memory.memory_run_t.{memory_run_t};
+ghost use Rattle.token_lines.specs.lines.InMemory.{InMemory, has_events, has_nodes};
+ghost use Rattle.token_lines.specs.lines.LineRun.{outcome_of};
+ghost use Rattle.token_lines.specs.lines.OneInMemory.{OneInMemory};
 ghost use Rattle.token_lines.specs.lines.OneOutput.{OneOutput};
-ghost use Rattle.token_lines.specs.nodes.LastLoad.{NodesOver};
+ghost use Rattle.token_lines.specs.lines.OneWriting.{BreaksOffByNone, results_of, results_of_nodes};
+ghost use Rattle.token_lines.specs.nodes.LastLoad.{LastLoad, NodesOver};
 
+use libyaml_events::laws::calls::of_history;
 use libyaml_events::laws::one_run;
+use libyaml_events::yaml_token_source_t;
 use libyaml_graphs::laws::one_loads;
 use std::io::{BufRead, Write};
 
@@ -28,6 +40,53 @@ pub fn one_output<R: BufRead, W: Write>()
         → (b : NodesOver R.remaining W.contents other second (Some written) later)
         → OneOutput (BreaksOff a.last.source) (BreaksOff b.last.source) first second (Some written)
         after later }
+{
+    one_run();
+    one_loads();
+}
+
+/// Two outcomes of one `write_events`, both of which its contract allows, with a writer that has written the
+/// same: where the source gave the same results as far as both asked, both end alike and have written the same
+/// bytes, unless memory ran out in one of them, or its output failed.
+pub fn one_writing_of_events<S: yaml_token_source_t, W: Write>()
+    ensures running { (old p q : Parser S) (first second : run_end_t) (written : List ℕ)
+        (after later : Option (List ℕ)) (asked : List yaml_token_t) (given : List yaml_event_t)
+        → (a : LastCall S.gives W.contents first old p (Some written) after asked given)
+        → (b : LastCall S.gives W.contents second old q (Some written) later asked given)
+        → OneBegins (results_of first a) (results_of second b)
+        → OneOutput BreaksOffByNone BreaksOffByNone (outcome_of first) (outcome_of second)
+        (Some written) after later }
+    ensures nothing_left { (old p q : Parser S) (first second : run_end_t) (written : List ℕ)
+        (after later : Option (List ℕ)) → NothingLeft first old p (Some written) after
+        → NothingLeft second old q (Some written) later
+        → OneOutput BreaksOffByNone BreaksOffByNone (outcome_of first) (outcome_of second)
+        (Some written) after later }
+{
+    of_history::<S>();
+}
+
+/// Likewise two outcomes of one `write_nodes`. n is the parser's bound.
+pub fn one_writing_of_nodes<S: yaml_token_source_t, W: Write>()
+    ensures { (old p q : Parser S) (first second : run_end_t) (n : ℕ) (written : List ℕ)
+        (after later : Option (List ℕ)) (asked : List yaml_token_t) (given : List yaml_event_t)
+        → (a : LastLoad S.gives S.known S.may_break W.contents n first old p (Some written) after asked given)
+        → (b : LastLoad S.gives S.known S.may_break W.contents n second old q (Some written) later asked given)
+        → OneBegins (results_of_nodes a) (results_of_nodes b)
+        → OneOutput BreaksOffByNone BreaksOffByNone (outcome_of first) (outcome_of second)
+        (Some written) after later }
+{
+    of_history::<S>();
+}
+
+/// Two runs in memory over the same token lines, of which at most so many are read, into the same buffer: what
+/// is told and the buffer are the same, unless memory ran out in one of them.
+pub fn one_run_in_memory()
+    ensures events { (tokens old after later : List ℕ) (max : ℕ) (first second : memory_run_t)
+        → InMemory (has_events tokens max) old after first → InMemory (has_events tokens max) old later second
+        → OneInMemory first second after later }
+    ensures nodes { (tokens old after later : List ℕ) (max : ℕ) (first second : memory_run_t)
+        → InMemory (has_nodes tokens max) old after first → InMemory (has_nodes tokens max) old later second
+        → OneInMemory first second after later }
 {
     one_run();
     one_loads();

@@ -11,19 +11,19 @@ use Rattle.token_lines.specs.declared.run.run_end_t.TheVariants.{Ended, Faulted,
 use Rattle.token_lines.specs.lines.LineRun.{Writes, outcome_of, whole, broken_off}
 use Rattle.token_lines.specs.lines.OneOutput.{OneOutput, alike, first_breaks, second_breaks, output_failed}
 
-same_bytes : (written : List ℕ) (after later : Option (List ℕ)) (a b : List ℕ) → a ≡ b → Appends (Some written) after a → Appends (Some written) later b
+pub same_bytes : (written : List ℕ) (after later : Option (List ℕ)) (a b : List ℕ) → a ≡ b → Appends (Some written) after a → Appends (Some written) later b
     → after ≡ later
 same_bytes written None later a b e g h = absurd g
 same_bytes written (Some x) None a b e g h = absurd h
 same_bytes written (Some x) (Some y) a b e g h = ap Some (g ∙ (ap (λ (z : List ℕ). written ++ z) e ∙ sym h))
 
-not_fails : (x : Ending) (f : Fault) → x ≡ Ends → x ≡ Fails f → ⊥
+pub not_fails : (x : Ending) (f : Fault) → x ≡ Ends → x ≡ Fails f → ⊥
 not_fails x f e g = go (sym e ∙ g)
   where
     go : Ends ≡ Fails f → ⊥
     go h = cc
 
-same_fault : (f g : Fault) → Fails f ≡ Fails g → f ≡ g
+pub same_fault : (f g : Fault) → Fails f ≡ Fails g → f ≡ g
 same_fault f g e = cc
 
 one_ends : (P Q : Fault → Type 0) (o u : run_end_t) (written : List ℕ) (after later : Option (List ℕ)) (lines : List (List ℕ)) (ending : Ending)

@@ -27,7 +27,7 @@ use Rattle.token_lines.specs.nodes.NodeStep.{run_ending, run_lines}
 use Rattle.token_lines.specs.lines.RunSteps.{TakesLines, WritesPrefix}
 use Rattle.token_lines.proofs.lines.RunLemmas.{breaks_before, fails_first}
 
-roots_behind : (l r : List yaml_event_t) → RootsFollow (l ++ r) → RootsFollow r
+pub roots_behind : (l r : List yaml_event_t) → RootsFollow (l ++ r) → RootsFollow r
 roots_behind [] r h = h
 roots_behind (e ∷ l) r h = roots_behind l r h.1
 

@@ -1,4 +1,4 @@
-use Rattle.std.proofs.Common.{ℕ, List, sym, ◌∙◌, subst}
+use Rattle.std.proofs.Common.{sym, ◌∙◌, subst}
 use Rattle.token_lines.specs.lines.InMemory.{HandsOut, bytes_of}
 use Rattle.token_lines.specs.declared.memory.memory_outcome_t.{memory_outcome_t}
 use Rattle.token_lines.proofs.memory.hand_out.Goals as goal

@@ -1,4 +1,4 @@
-use Rattle.std.proofs.Common.{ap, ◌∙◌, Some}
+use Rattle.std.proofs.Common.{Some}
 use Rattle.line_reading.specs.sources.LineSource.{known_of}
 use Rattle.token_lines.specs.lines.InMemory.{bytes_of}
 use Rattle.token_lines.proofs.lines.WholeRuns.{has_bytes}

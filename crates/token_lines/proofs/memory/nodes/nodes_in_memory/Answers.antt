@@ -1,4 +1,4 @@
-use Rattle.std.proofs.Common.{ℤ, List, [], ap, sym, ◌∙◌, Some, subst}
+use Rattle.std.proofs.Common.{ℤ, List, sym, Some, subst}
 use Rattle.libyaml_graphs.proofs.lent.BoundedFronts.{front_of_loads}
 use Rattle.libyaml_graphs.specs.loads.Bounds.{bounded_loads}
 use Rattle.libyaml_graphs.specs.loads.Loads.{Load}
