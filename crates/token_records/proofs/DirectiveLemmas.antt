@@ -1,6 +1,6 @@
 -- One directive more.
-use Rattle.std.proofs.Common.{arith, ◌≡◌, ◌++◌, ◌+◌, ◌<◌, ℕ, List, [], ◌∷◌, length, get_or, take, refl, ap, ◌∙◌, sym, subst, append_assoc}
-use Rattle.std.proofs.lemmas.List.{append-nil, length-append, take_more}
+use Rattle.std.proofs.Common.{arith, ◌≡◌, ◌++◌, ◌+◌, ◌<◌, ◌≤◌, ℕ, suc, List, [], ◌∷◌, length, get_or, drop, take, refl, ap, ◌∙◌, sym, subst, append_assoc}
+use Rattle.std.proofs.lemmas.List.{append-nil, length-append, length-take, take-append-drop, take_more}
 use Rattle.libyaml_types.specs.declared.directive.yaml_tag_directive_t.{yaml_tag_directive_t}
 use Rattle.token_records.specs.declared.records.directive_record_t.{directive_record_t}
 use Rattle.token_records.specs.Puts.{Puts}
@@ -48,3 +48,28 @@ put_more ds i d within item d0 d1 d2 n0 n1 n2 D0 D1 D2 T0 T1 T2 made ds_put ts_p
           (puts_then D0 D1 D2 d0 d1 d2 (directive_records n0 (take i ds)) (made ∷ []) ds_put d_put),
       subst (λ (l : List ℕ). Puts T0 n0 l T2 n2) (sym bytes) (puts_then T0 T1 T2 n0 n1 n2 (directives_bytes (take i ds)) (directive_bytes d) ts_put t_put),
     )
+
+-- the texts of the first directives and of the next are among those of all
+pub bytes_within : (ds : List yaml_tag_directive_t) (i : ℕ) (d : yaml_tag_directive_t) → i < length ds
+    → length (directives_bytes (take i ds)) + length (directive_bytes (get_or ds i d)) ≤ length (directives_bytes ds)
+bytes_within ds i d h =
+    let parts : directives_bytes ds ≡ directives_bytes (take (i + 1) ds) ++ directives_bytes (drop (i + 1) ds) =
+    ap directives_bytes (sym (take-append-drop (i + 1) ds)) ∙ bytes_append (take (i + 1) ds) (drop (i + 1) ds)
+    in
+    let a = ap (λ (l : List ℕ). length l) parts in
+    let b = length-append (directives_bytes (take (i + 1) ds)) (directives_bytes (drop (i + 1) ds)) in
+    let c = ap (λ (l : List ℕ). length l) (bytes_more ds i d h) in
+    let e = length-append (directives_bytes (take i ds)) (directive_bytes (get_or ds i d)) in
+    omega (arith, a, b, c, e)
+
+-- and so are their records
+records_count : (n : ℕ) (ds : List yaml_tag_directive_t) → length (directive_records n ds) ≡ length ds
+records_count n [] = refl
+records_count n (d ∷ ds) = ap suc (records_count (n + length (directive_bytes d)) ds)
+
+pub records_within : (n : ℕ) (ds : List yaml_tag_directive_t) (i : ℕ) → i < length ds → length (directive_records n (take i ds)) + 1 ≤ length (directive_records n ds)
+records_within n ds i h =
+    let a = records_count n (take i ds) in
+    let b = records_count n ds in
+    let c = length-take i ds in
+    omega (arith, a, b, c)

@@ -3,3 +3,4 @@ mod Running
 mod WholeRuns
 pub mod lent
 mod DirectiveLemmas
+mod OneRecords

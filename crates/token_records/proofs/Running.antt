@@ -16,7 +16,7 @@ use Rattle.libyaml_sources.specs.Fault.{Fault, Answer, no_fault}
 use Rattle.libyaml_sources.specs.Source.{Coming}
 use Rattle.token_records.specs.EventRecords.{Recorded, event_bytes, event_directives, event_record, record_event, record_events}
 use Rattle.token_records.specs.Puts.{Puts}
-use Rattle.token_records.specs.RecordRun.{Buffers, Holds, PutsRun, Records, Stops, TakesSome}
+use Rattle.token_records.specs.RecordRun.{Buffers, CountsNoMore, Holds, PutsRun, PutsUncounted, Records, Stops, TakesSome}
 
 -- Whether a parser had ended, by the event that it returned.
 module _ {S : Type 0} (old new : Parser S) (r : EventOrError) (e : yaml_event_t) where
@@ -44,7 +44,7 @@ module _ {S : Type 0} (old new : Parser S) (r : EventOrError) (e : yaml_event_t)
       no k = cc
 
 -- events that are recorded one after the other
-recorded_append : (r : Recorded) (xs ys : List yaml_event_t) → record_events r (xs ++ ys) ≡ record_events (record_events r xs) ys
+pub recorded_append : (r : Recorded) (xs ys : List yaml_event_t) → record_events r (xs ++ ys) ≡ record_events (record_events r xs) ys
 recorded_append r [] ys = refl
 recorded_append r (x ∷ xs) ys = recorded_append (record_event r x) xs ys
 
@@ -108,6 +108,17 @@ module _ {S : Type 0} (known : S → Option Coming) where
         stops = t.stops;
         recorded = records_then a b c done.first t.first done.recorded t.recorded;
       }
+
+  pub takes_uncounted : (p : Parser S) (a b : Buffers) (events : List yaml_event_t) (ending : Ending) → TakesSome known p a b events ending
+      → ((later : List yaml_event_t) (x : Ending) → RunToCome known p later x → CountsNoMore b.counts later) → PutsUncounted a events
+  takes_uncounted p a b events ending done last = record {
+    middle = b;
+    first = done.first;
+    next = done.later;
+    all = done.all;
+    recorded = done.recorded;
+    over = last done.later ending done.run;
+  }
 
 module _ {S : Type 0} (known : S → Option Coming) (MayBreak : S → Fault → Type 0) (old new : Parser S) where
   pub takes_first : (a b : Buffers) (e : yaml_event_t) (events : List yaml_event_t) (ending : Ending) → First known MayBreak old new e events ending

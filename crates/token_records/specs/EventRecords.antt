@@ -1,5 +1,5 @@
 -- The records of events, and what stands in their buffers.
-use Rattle.std.specs.Prelude.{◌++◌, ◌+◌, ℕ, pos, List, [], ◌∷◌, Bool, true, false, length, Option, Some, None}
+use Rattle.std.specs.Prelude.{◌++◌, ◌+◌, ◌^◌, ◌≤◌, ◌⊎◌, ℕ, pos, List, [], ◌∷◌, Bool, true, false, length, Option, Some, None}
 use Rattle.libyaml_types.specs.declared.mark.yaml_mark_t.{yaml_mark_t}
 use Rattle.libyaml_types.specs.declared.directive.yaml_tag_directive_t.{yaml_tag_directive_t}
 use Rattle.libyaml_types.specs.declared.directive.yaml_version_directive_t.{yaml_version_directive_t}
@@ -13,6 +13,7 @@ use Rattle.token_records.specs.declared.records.mark_record_t.{mark_record_t}
 use Rattle.token_records.specs.declared.records.range_record_t.{range_record_t}
 use Rattle.token_records.specs.declared.records.directive_record_t.{directive_record_t}
 use Rattle.token_records.specs.declared.records.event_record_t.{event_record_t}
+use Rattle.token_records.specs.declared.records.record_counts_t.{record_counts_t}
 
 -- a text at a place, and a text that isn't there
 abbrev pub range_of : ℕ → List ℕ → range_record_t
@@ -155,3 +156,11 @@ record_event r e = record {
 abbrev pub record_events : Recorded → List yaml_event_t → Recorded
 record_events r [] = r
 record_events r (e ∷ es) = record_events (record_event r e) es
+
+-- after so many, there are more directives or bytes of texts than can be counted
+abbrev pub MoreThanCounted : (directives_before texts_before : ℕ) → List directive_record_t → List ℕ → Type 0
+MoreThanCounted d n directives texts = (2 ^ 64 ≤ d + length directives) ⊎ (2 ^ 64 ≤ n + length texts)
+
+-- or one event more is more than can be counted
+abbrev pub OverCounts : record_counts_t → yaml_event_t → Type 0
+OverCounts n e = (2 ^ 64 ≤ n.events + 1) ⊎ MoreThanCounted n.directives n.texts (event_directives n.texts e.content) (event_bytes e.content)

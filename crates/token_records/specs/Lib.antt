@@ -6,3 +6,4 @@ pub mod Puts
 pub mod EventRecords
 pub mod RecordRun
 pub mod ReadsBack
+pub mod OneRecords

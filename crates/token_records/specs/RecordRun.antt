@@ -1,5 +1,5 @@
 -- A run over token records: what is put into the buffers, and what is returned.
-use Rattle.std.specs.Prelude.{◌≡◌, ◌++◌, ◌+◌, ◌⊎◌, ℕ, List, [], length, min, Option}
+use Rattle.std.specs.Prelude.{◌≡◌, ◌≤◌, ◌++◌, ◌+◌, ◌^◌, ◌⊎◌, ◌∷◌, ℕ, List, [], length, min, Option}
 use Rattle.libyaml_types.specs.declared.event.yaml_event_t.{yaml_event_t}
 use Rattle.libyaml_types.specs.Numbers.{error_type_number}
 use Rattle.libyaml_sources.specs.Fault.{Fault, fault_of, no_fault, memory_fault}
@@ -7,7 +7,7 @@ use Rattle.libyaml_sources.specs.Source.{Coming}
 use Rattle.libyaml_grammar.specs.runs.Runs.{Ending, Ends, Fails, IsRun}
 use Rattle.libyaml_events.specs.machine.Config.{Parser}
 use Rattle.libyaml_events.specs.sources.RunToCome.{RunToCome}
-use Rattle.token_records.specs.EventRecords.{Recorded, bytes_of, mark_record, nothing, range_of_option, record_events}
+use Rattle.token_records.specs.EventRecords.{OverCounts, Recorded, bytes_of, mark_record, nothing, range_of_option, record_events}
 use Rattle.token_records.specs.Puts.{filled}
 use Rattle.token_records.specs.RecordSource.{read_records}
 use Rattle.token_records.specs.declared.records.directive_record_t.{directive_record_t}
@@ -89,13 +89,29 @@ pub record PutsRun (MayBreak : Fault → Type 0) (f : Fault) (before after : Buf
   pub stops : Stops MayBreak f later ending
   pub recorded : Records before after first
 
+-- the first of these events is more than can be counted
+pub record CountsNoMore (n : record_counts_t) (events : List yaml_event_t) : Type 0 where
+  pub event : yaml_event_t
+  pub later : List yaml_event_t
+  pub all : events ≡ event ∷ later
+  pub over : OverCounts n event
+
+-- some of the first of these events were put, and the next is more than can be counted
+pub record PutsUncounted (before : Buffers) (events : List yaml_event_t) : Type 0 where
+  pub middle : Buffers
+  pub first : List yaml_event_t
+  pub next : List yaml_event_t
+  pub all : events ≡ first ++ next
+  pub recorded : Records before middle first
+  pub over : CountsNoMore middle.counts next
+
 -- what one step did where this run was to come
 abbrev pub PutsNext : {S : Type 0} → (known : S → Option Coming) → (MayBreak : S → Fault → Type 0) → PutStep → Parser S → (before after : Buffers)
     → List yaml_event_t → Ending → Type 0
 PutsNext known MayBreak Put new before after events ending = TakesSome known new before after events ending
 PutsNext known MayBreak Ended new before after events ending = PutsRun (MayBreak new.source) no_fault before after events ending
 PutsNext known MayBreak (Failed f) new before after events ending = PutsRun (MayBreak new.source) (fault_of f) before after events ending
-PutsNext known MayBreak Uncounted new before after events ending = Unit {0}
+PutsNext known MayBreak Uncounted new before after events ending = CountsNoMore before.counts events
 
 -- All of this was handed out, as far as there is room: `wanted` is how many they are, and `written` how many had room.
 pub record HandsOut {A : Type 0} (all old new : List A) (wanted written : ℕ) : Type 0 where
@@ -120,11 +136,22 @@ pub record HandsOutRun (old new : Buffers) (run : records_run_t) (events : List 
 abbrev pub uncounted : records_run_t
 uncounted = record { wanted = no_counts; written = no_counts; fault = memory_record }
 
+-- More of something than can be counted: of a run's first events and of the words of a fault, all of them, with the run's own
+-- ending, or those before an allocation failed, whose fault has no words.
+pub record Uncountable (events : List yaml_event_t) (ending : Ending) : Type 0 where
+  pub first : List yaml_event_t
+  pub later : List yaml_event_t
+  pub all : events ≡ first ++ later
+  pub fault : Fault
+  pub ends : ((later ≡ []) × EndsBy fault ending) ⊎ (fault ≡ memory_fault)
+  pub too_many : (2 ^ 64 ≤ length (record_events nothing first).events) ⊎ ((2 ^ 64 ≤ length (record_events nothing first).directives)
+      ⊎ (2 ^ 64 ≤ length ((record_events nothing first).texts ++ fault_bytes fault)))
+
 -- The run over the tokens of these records was handed out, or had more than can be counted.
 abbrev pub RunsOver : List token_record_t → List ℕ → (old new : Buffers) → records_run_t → Type 0
 RunsOver tokens texts old new run = (events : List yaml_event_t) (ending : Ending)
     → IsRun (read_records tokens texts).tokens (read_records tokens texts).fault events ending
-    → HandsOutRun old new run events ending ⊎ (run ≡ uncounted)
+    → HandsOutRun old new run events ending ⊎ ((run ≡ uncounted) × Uncountable events ending)
 
 -- so many were put as are there, or have room
 pub record WithinRoom (old : Buffers) (run : records_run_t) : Type 0 where

@@ -1,5 +1,6 @@
 //! Events as records.
-ghost use Rattle.std.specs.Prelude.{◌≡◌, ◌++◌, ◌∷◌, [], IfOk, OnOk, option_map, string_bytes};
+ghost use Rattle.std.specs.Prelude.{◌≡◌, ◌≤◌, ◌+◌, ◌^◌, ◌++◌, ◌∷◌, [], IfOk, OnOk, OnErr};
+ghost use Rattle.std.specs.Prelude.{length, option_map, string_bytes};
 ghost use Rattle.libyaml_types.specs.Numbers as numbers;
 ghost use Rattle.token_records.specs.Puts.{Puts};
 ghost use Rattle.token_records.specs.EventRecords as spec;
@@ -37,6 +38,7 @@ pub(crate) fn put_event(
         (spec.event_directives wanted.old.texts event.now.content) directives.new wanted.new.directives) }
     ensures texts { OnOk result (Puts texts.old wanted.old.texts (spec.event_bytes event.now.content)
         texts.new wanted.new.texts) }
+    ensures too_many { OnErr result (spec.OverCounts wanted.old event.now) }
 {
     let of_event = event_record(event, directives, texts, wanted)?;
     put(events, &mut wanted.events, &[of_event])
@@ -55,6 +57,8 @@ fn event_record(
         (spec.event_directives wanted.old.texts event.now.content) directives.new wanted.new.directives) }
     ensures texts { OnOk result (Puts texts.old wanted.old.texts (spec.event_bytes event.now.content)
         texts.new wanted.new.texts) }
+    ensures too_many { OnErr result (spec.MoreThanCounted wanted.old.directives wanted.old.texts
+        (spec.event_directives wanted.old.texts event.now.content) (spec.event_bytes event.now.content)) }
 {
     let bare = bare_record(event);
     match &event.content {
@@ -134,6 +138,9 @@ fn document_start_record(
         wanted.new.directives) }
     ensures texts { OnOk result (Puts texts.old wanted.old.texts
         (spec.directives_bytes start.now.tag_directives) texts.new wanted.new.texts) }
+    ensures too_many { OnErr result (spec.MoreThanCounted wanted.old.directives wanted.old.texts
+        (spec.directive_records wanted.old.texts start.now.tag_directives)
+        (spec.directives_bytes start.now.tag_directives)) }
 {
     let place = wanted.directives;
     let members = start.tag_directives.as_slice();
@@ -189,6 +196,8 @@ pub fn put_directives(
         (spec.directive_records texts_wanted.old members.now) directives.new directives_wanted.new) }
     ensures texts { OnOk result (Puts texts.old texts_wanted.old (spec.directives_bytes members.now)
         texts.new texts_wanted.new) }
+    ensures too_many { OnErr result (spec.MoreThanCounted directives_wanted.old texts_wanted.old
+        (spec.directive_records texts_wanted.old members.now) (spec.directives_bytes members.now)) }
 {
     for directive in members {
         let of_directive = directive_record(directive, texts, texts_wanted)?;
@@ -205,6 +214,7 @@ fn directive_record(
     ensures made { IfOk result (λ made. made ≡ spec.directive_record wanted.old directive.now) }
     ensures texts { OnOk result (Puts texts.old wanted.old (spec.directive_bytes directive.now) texts.new
         wanted.new) }
+    ensures too_many { OnErr result (2 ^ 64 ≤ wanted.old + length (spec.directive_bytes directive.now)) }
 {
     let handle = put_text(texts, wanted, directive.handle.as_str())?;
     let prefix = put_text(texts, wanted, directive.prefix.as_str())?;
@@ -220,6 +230,8 @@ fn scalar_record(
     ensures made { IfOk result (λ made. made ≡ spec.scalar_record wanted.old scalar.now bare) }
     ensures texts { OnOk result (Puts texts.old wanted.old
         (spec.properties_bytes scalar.now.anchor scalar.now.tag ++ scalar.now.value) texts.new wanted.new) }
+    ensures too_many { OnErr result (2 ^ 64 ≤ wanted.old
+        + length (spec.properties_bytes scalar.now.anchor scalar.now.tag ++ scalar.now.value)) }
 {
     let anchor = put_option(texts, wanted, &scalar.anchor)?;
     let tag = put_option(texts, wanted, &scalar.tag)?;
@@ -244,6 +256,8 @@ fn sequence_start_record(
     ensures made { IfOk result (λ made. made ≡ spec.sequence_start_record wanted.old start.now bare) }
     ensures texts { OnOk result (Puts texts.old wanted.old
         (spec.properties_bytes start.now.anchor start.now.tag) texts.new wanted.new) }
+    ensures too_many { OnErr result
+        (2 ^ 64 ≤ wanted.old + length (spec.properties_bytes start.now.anchor start.now.tag)) }
 {
     let anchor = put_option(texts, wanted, &start.anchor)?;
     let tag = put_option(texts, wanted, &start.tag)?;
@@ -265,6 +279,8 @@ fn mapping_start_record(
     ensures made { IfOk result (λ made. made ≡ spec.mapping_start_record wanted.old start.now bare) }
     ensures texts { OnOk result (Puts texts.old wanted.old
         (spec.properties_bytes start.now.anchor start.now.tag) texts.new wanted.new) }
+    ensures too_many { OnErr result
+        (2 ^ 64 ≤ wanted.old + length (spec.properties_bytes start.now.anchor start.now.tag)) }
 {
     let anchor = put_option(texts, wanted, &start.anchor)?;
     let tag = put_option(texts, wanted, &start.tag)?;
@@ -289,6 +305,7 @@ pub fn put_text(
 ) -> Result<range_record_t, AllocError>
     ensures range { IfOk result (λ range. range ≡ spec.range_of wanted.old text.now) }
     ensures texts { OnOk result (Puts texts.old wanted.old text.now texts.new wanted.new) }
+    ensures too_many { OnErr result (2 ^ 64 ≤ wanted.old + length text.now) }
 {
     let place = *wanted;
     put(texts, wanted, text.as_bytes())?;
@@ -308,6 +325,8 @@ fn put_option(
         spec.range_of_option wanted.old (option_map string_bytes text.now)) }
     ensures texts { OnOk result (Puts texts.old wanted.old
         (spec.bytes_of (option_map string_bytes text.now)) texts.new wanted.new) }
+    ensures too_many { OnErr result
+        (2 ^ 64 ≤ wanted.old + length (spec.bytes_of (option_map string_bytes text.now))) }
 {
     match text {
         Some(text) => put_text(texts, wanted, text.as_str()),

@@ -1,5 +1,5 @@
 //! Faults as records.
-ghost use Rattle.std.specs.Prelude.{◌≡◌, IfOk, OnOk};
+ghost use Rattle.std.specs.Prelude.{◌≡◌, ◌≤◌, ◌+◌, ◌^◌, IfOk, OnOk, OnErr, length};
 ghost use Rattle.std.specs.Option.{option_copied};
 ghost use Rattle.libyaml_sources.specs.Fault.{fault_of};
 ghost use Rattle.token_records.specs.EventRecords.{bytes_of, no_range, range_of_option};
@@ -24,6 +24,7 @@ pub fn fault_record(
     ensures made { IfOk result (λ made. made ≡ spec.fault_record wanted.old (fault_of fault.now)) }
     ensures texts { OnOk result (Puts texts.old wanted.old (spec.fault_bytes (fault_of fault.now))
         texts.new wanted.new) }
+    ensures too_many { OnErr result (2 ^ 64 ≤ wanted.old + length (spec.fault_bytes (fault_of fault.now))) }
 {
     let problem = put_words(texts, wanted, fault.problem)?;
     let context = put_words(texts, wanted, fault.context)?;
@@ -68,6 +69,7 @@ fn put_words(
         range_of_option wanted.old (option_copied words.entry)) }
     ensures texts { OnOk result (Puts texts.old wanted.old (bytes_of (option_copied words.entry))
         texts.new wanted.new) }
+    ensures too_many { OnErr result (2 ^ 64 ≤ wanted.old + length (bytes_of (option_copied words.entry))) }
 {
     match words {
         Some(words) => put_text(texts, wanted, words),

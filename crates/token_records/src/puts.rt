@@ -1,5 +1,5 @@
 //! Buffers that take as much as they have room for.
-ghost use Rattle.std.specs.Prelude.{OnOk};
+ghost use Rattle.std.specs.Prelude.{◌≤◌, ◌+◌, ◌^◌, OnOk, OnErr, length};
 ghost use Rattle.token_records.specs.Puts.{Puts};
 
 use std::alloc::AllocError;
@@ -10,7 +10,8 @@ use std::alloc::AllocError;
 ///
 /// Where they are more than can be counted.
 pub fn put<T: Copy>(out: &mut [T], wanted: &mut usize, items: &[T]) -> Result<(), AllocError>
-    ensures { OnOk result (Puts out.old wanted.old items.now out.new wanted.new) }
+    ensures puts { OnOk result (Puts out.old wanted.old items.now out.new wanted.new) }
+    ensures too_many { OnErr result (2 ^ 64 ≤ wanted.old + length items.now) }
 {
     let place = *wanted;
     let Some(end) = place.checked_add(items.len()) else {

@@ -1,12 +1,12 @@
 //! Runs over records.
-ghost use Rattle.std.specs.Prelude.{◌≡◌, ◌<◌, IfOk, List};
+ghost use Rattle.std.specs.Prelude.{◌≡◌, ◌<◌, IfOk, List, OnErr};
 ghost use Rattle.libyaml_types.specs.declared.event.yaml_event_t.{yaml_event_t};
 ghost use Rattle.libyaml_events.specs.parsers.EventsLeft.{events_left};
 ghost use Rattle.libyaml_events.specs.sources.RunToCome.{RunToCome};
 ghost use Rattle.libyaml_grammar.specs.runs.Runs.{Ending, IsRun};
 ghost use Rattle.libyaml_sources.specs.Fault.{fault_of};
-ghost use Rattle.token_records.specs.RecordRun.{HandsOutRun, PutsNext, PutsRun, RunsOver, WithinRoom};
-ghost use Rattle.token_records.specs.RecordRun.{buffers, no_counts, uncounted};
+ghost use Rattle.token_records.specs.RecordRun.{HandsOutRun, PutsNext, PutsRun, PutsUncounted, RunsOver};
+ghost use Rattle.token_records.specs.RecordRun.{Uncountable, WithinRoom, buffers, no_counts, uncounted};
 ghost use Rattle.token_records.specs.RecordSource.{read_records};
 
 use crate::event_records::put_event;
@@ -84,6 +84,9 @@ fn hand_out(
         → HandsOutRun (buffers events.old directives.old out.old no_counts)
         (buffers events.new directives.new out.new run.wanted) run es ending) }
     ensures room { IfOk result (WithinRoom (buffers events.old directives.old out.old no_counts)) }
+    ensures uncountable { OnErr result ((es : List yaml_event_t) (ending : Ending)
+        → IsRun (read_records tokens.now texts.now).tokens (read_records tokens.now texts.now).fault es ending
+        → Uncountable es ending) }
 {
     let source = yaml_record_source_t::new(alloc, tokens, texts);
     let mut parser = yaml_parser_initialize(alloc, source);
@@ -126,10 +129,13 @@ fn put_events<S: yaml_token_source_t>(
     texts: &mut [u8],
     wanted: &mut record_counts_t,
 ) -> Result<yaml_parser_t_prefix, AllocError>
-    ensures { IfOk result (λ fault. (es : List yaml_event_t) (ending : Ending)
+    ensures run { IfOk result (λ fault. (es : List yaml_event_t) (ending : Ending)
         → RunToCome S.known parser.old es ending → PutsRun (S.may_break parser.new.source) (fault_of fault)
         (buffers events.old directives.old texts.old wanted.old)
         (buffers events.new directives.new texts.new wanted.new) es ending) }
+    ensures uncounted { OnErr result ((es : List yaml_event_t) (ending : Ending)
+        → RunToCome S.known parser.old es ending
+        → PutsUncounted (buffers events.old directives.old texts.old wanted.old) es) }
 {
     let mut event = no_event();
     loop {

@@ -1,5 +1,5 @@
 -- How a buffer takes what it has room for.
-use Rattle.std.proofs.Common.{arith, ◌≡◌, ◌≤◌, ◌<◌, ◌+◌, ◌-◌, ◌++◌, ℕ, zero, suc, List, [], ◌∷◌, ◌⊎◌, inl, inr, length, take, drop, sym, ap, ◌∙◌, append_assoc}
+use Rattle.std.proofs.Common.{arith, ◌≡◌, ◌≤◌, ◌<◌, ◌+◌, ◌-◌, ◌++◌, ℕ, zero, suc, List, [], ◌∷◌, ◌⊎◌, inl, inr, length, take, drop, sym, ap, ◌∙◌, append_assoc, OnErr, Result, Ok, Err}
 use Rattle.std.proofs.lemmas.List.{append-nil, length-append, length-drop, length-take-le, take_all, take_at, drop_all, drop-drop}
 use Rattle.std.proofs.lemmas.Bool.{cases_lt}
 use borrow.Rule.Slice.PartMut.{put_mid}
@@ -66,3 +66,8 @@ module _ {A : Type 0} (out items ys : List A) (n m : ℕ) where
   pub puts_part : m ≡ n + length items → n < length out → length out < m → ys ≡ take (length out - n) items
       → Puts out n items (put_mid n (length out - n) out ys) m
   puts_part counts below above is = record { counts = counts; fills = part_fills below (omega (arith, counts, above)) is }
+
+-- what holds where a call failed
+pub on_err : {A E : Type 0} (P : Type 0) (r : Result A E) → P → OnErr r P
+on_err P (Ok a) p = tt
+on_err P (Err e) p = p

@@ -12,4 +12,4 @@ returns c =
     (λ puts documents directives. node_added documents c.args.nodes.now c.put.new.out c.args.items.now made.items c.args.pairs.now made.pairs directives
     c.args.texts.now made.texts c.args.wanted.now counts c.args.node.now c.in_ok-of_node.of_node made.wanted.nodes is.made is.others.1 puts is.items is.pairs
     is.texts is.others.0 is.others.2)
-    c.put.ensures
+    c.put.ensures.puts

@@ -59,3 +59,14 @@ returns-else-is_stream_end-clause-step g c es ending run =
     (buffers c.args.events.now c.args.directives.now c.args.texts.now c.args.wanted.now)
     (buffers c.put_event.new.events c.put_event.new.directives c.put_event.new.texts c.put_event.new.wanted) call.new.event es ending first
     (records_one _ _ call.new.event put.events put.directives put.texts)
+
+pub returns-in_default-put_event-clause-step : goal.returns-in_default-put_event-clause-step
+returns-in_default-put_event-clause-step g c es ending run =
+    let t = g.S.yaml_token_source_t in
+    let call = c.yaml_parser_parse_into-parsed in
+    let says : Says t.known t.may_break c.args.parser.now call.new.parser (answered call.result call.new.event)
+    = record { next = call.ensures.next_of_run; end = call.ensures.end_of_run; fault = call.ensures.fault_of_run } in
+    let an_event = sym c.is_event.ensures ∙ c.if-not-is_event.false in
+    let is = ap (λ r. answered r c.yaml_parser_parse_into-parsed.new.event) c.in-Ok.is in
+    let first = first_event t.known t.may_break c.args.parser.now call.new.parser (answered call.result call.new.event) call.new.event is an_event says es ending run in
+    record { event = call.new.event; later = first.later; all = first.first; over = c.in_default-put_event.ensures.too_many }
