@@ -1,7 +1,7 @@
 #!/usr/bin/env python3
 """Lists every public item of the libraries in docs/SURFACE.md: first those that a program uses first, then the others that a
 user can name, by their crates, each with its signature, its fields or its variants; with the first sentence of its doc where
-that has more than ten words and no public field or variant shows it, but of the others only where it says what a function
+that has more than a few words and no public field or variant shows it, but of the others only where it says what a function
 does; then, by their names, those that only crates above use, and the laws.
 
     python3 scripts/surface.py           fails where the page is stale, an item has no doc, or one is `pub` for its crate alone
@@ -104,10 +104,11 @@ class Item:
         self.kind, self.name, self.says, self.code = kind, name, sentence(docs), code
 
     def says_itself(self):
-        """Whether the code says enough: the parts of a content, public fields and variants, what ten words say, and the names of types."""
+        """Whether the code says enough: parts of a content, public fields and variants, names of types, and what a few words say."""
+        words = len(self.says.split())
         is_open = self.kind in ("struct", "enum") and "{" in self.code and ".." not in self.code
         is_name = self.name.endswith("::display") and "`name`" in self.says
-        return self.name.startswith("unnamed_") or is_open or len(self.says.split()) <= 10 or is_name
+        return self.name.startswith("unnamed_") or is_open or is_name or words <= (13 if self.says.startswith("Returns ") else 10)
 
     def lines(self, is_brief):
         """The code after what the doc says first; a brief one without what a type is and what a function returns."""
