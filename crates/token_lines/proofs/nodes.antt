@@ -1,4 +1,4 @@
-pub mod NodeStepLemmas
+pub mod NodeWritesLemmas
 pub mod NodeTurnLemmas
 pub mod LargeRuns
 pub mod NoBound

@@ -1,5 +1,4 @@
 pub mod LineRun
-pub mod RunSteps
 pub mod ReadsBack
 pub mod OneOutput
 pub mod InMemory

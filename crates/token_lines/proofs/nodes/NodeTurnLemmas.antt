@@ -1,9 +1,10 @@
 -- How a run's steps write each document in its turn.
-use Rattle.std.proofs.Common.{◌≡◌, ◌≢◌, ◌⊎◌, ◌++◌, ◌∷◌, ◌==◌, ℕ, ℤ, List, [], length, map, Option, Some, None, Bool, true, false, Ok, Err, refl, sym, ap, ◌∙◌}
+use Rattle.std.proofs.Common.{◌≡◌, ◌≢◌, ◌⊎◌, ◌++◌, ◌∷◌, ◌==◌, ℕ, ℤ, List, [], All, length, map, Option, Some, None, Bool, true, false, Ok, Err, refl, sym, ap, ◌∙◌}
 use Rattle.std.proofs.Common.{subst, inl, inr, append_assoc}
 use Rattle.std.proofs.KnownBytes.{Appends-nil, Appends-trans}
 use Rattle.std.proofs.lemmas.Bool.{eqb-true}
 use Rattle.std.proofs.lemmas.List.{append-nil, nil_from_length}
+use Rattle.std.proofs.lemmas.List.Elements.{All-cons, All-head, All-nil, All-tail}
 use Rattle.std.proofs.lemmas.List.Folds.{concat-append}
 use Rattle.std.specs.List.{concat, flat_map}
 use Rattle.std.specs.Io.KnownBytes.{Appends, Keeps}
@@ -15,7 +16,6 @@ use Rattle.libyaml_events.specs.machine.Config.{Parser}
 use Rattle.libyaml_sources.specs.declared.fault.yaml_parser_t_prefix.{yaml_parser_t_prefix}
 use Rattle.libyaml_sources.specs.Fault.{Answer, Fault, fault_of}
 use Rattle.libyaml_events.specs.sources.History.{ForHistory, History, has_failed, kept_fault}
-use Rattle.libyaml_events.specs.sources.RunToCome.{RunToCome}
 use Rattle.libyaml_grammar.specs.runs.Runs.{Ending}
 use Rattle.libyaml_sources.specs.Source.{Coming}
 use Rattle.libyaml_events.proofs.lent.CallsInTurn.{gave_both}
@@ -31,7 +31,7 @@ use Rattle.token_lines.specs.declared.run.run_end_t.TheVariants.{Ended, Faulted,
 use Rattle.token_lines.specs.declared.run.RunStep.{RunStep}
 use Rattle.token_lines.specs.declared.run.RunStep.TheVariants as step
 use Rattle.token_lines.specs.nodes.LastLoad.{AllLoaded, LastLoad, WroteForLoad}
-use Rattle.token_lines.specs.nodes.NodeStep.{LoadTurn, NodeSteps, StepForLoad}
+use Rattle.token_lines.specs.nodes.NodeStep.{LoadTurn, StepForLoad}
 use Rattle.token_lines.specs.lines.LineRun.{WroteFault}
 use Rattle.token_lines.proofs.events.InTurnLemmas.{history_more, history_none}
 use Rattle.token_lines.proofs.events.LastCallLemmas.{fault_after}
@@ -56,6 +56,13 @@ keeps_both (Some x) (Some y) (Some z) h k = k ∙ h
 abbrev pub NoFault : Type 0 → Type 0
 NoFault S = (p : Parser S) → ForHistory p (λ _ _. has_failed p ≡ false)
 
+abbrev HasRoot : Document → Type 0
+HasRoot d = d.nodes ≢ []
+
+roots_last : (ds : List Document) (d : Document) → All HasRoot ds → d.nodes ≢ [] → All HasRoot (ds ++ d ∷ [])
+roots_last [] d h k = All-cons HasRoot d [] k (All-nil HasRoot)
+roots_last (c ∷ ds) d h k = All-cons HasRoot c (ds ++ d ∷ []) (All-head HasRoot c ds h) (roots_last ds d (All-tail HasRoot c ds h) k)
+
 module _ {S : Type 0} (gives : S → Answer → S → Type 0) (known : S → Option Coming) (MayBreak : S → Fault → Type 0) (n : ℕ) where
   pub turn_of : (s : RunStep) (p q : Parser S) (b c : Option (List ℕ)) (r a : DocumentOrError) → r ≡ a
       → LoadsFrom gives known MayBreak (next_bounded n) left_over p r q → StepForLoad s a (kept_fault q) b c
@@ -72,6 +79,7 @@ module _ {S : Type 0} (gives : S → Answer → S → Type 0) (known : S → Opt
     gave = refl;
     history = history_none p asked given h;
     loads = λ (rest : List yaml_event_t) (x : Ending). refl;
+    roots = All-nil HasRoot;
     wrote = Appends-nil x;
   }
 
@@ -120,6 +128,7 @@ module _ {S : Type 0} (gives : S → Answer → S → Type 0) (known : S → Opt
             history = history_more q asked w.more on.more given w.events taken on.history;
             loads = λ (rest : List yaml_event_t) (x : Ending). loads_more w.events taken rest x w.documents d some (λ (r : List yaml_event_t). w.loads r x)
                 (load rest x) (left rest);
+            roots = roots_last w.documents d w.roots some;
             wrote = subst (Appends a c) (texts_more w.documents d)
                 (Appends-trans a b c (concat (flat_map document_lines w.documents)) (concat (document_lines d)) w.wrote wrote);
           }
@@ -140,8 +149,9 @@ pub loads_failed : (end : run_end_t) (f : yaml_parser_t_prefix) (kept : Fault) (
     → (r : DocumentOrError) → StepForLoad (step.Failed f) r kept b c → WroteForLoad end r kept b d
 loads_failed Ended f kept b c d wrote r w = absurd wrote
 loads_failed (Faulted told) f kept b c d wrote (Ok x) w =
-    let cut = w.1 in (
+    let cut = w.2 in (
       wrote.0 ∙ w.0,
+      w.1,
       record {
         written = cut.written;
         line = cut.line;
@@ -168,11 +178,6 @@ module _ {S : Type 0} (gives : S → Answer → S → Type 0) (known : S → Opt
   pub turn_at : (has_failed p ≡ false → LoadTurn gives known MayBreak (magnitude z) s p q b c) → has_failed p ≡ false
       → LoadTurn gives known MayBreak (magnitude w) s p q b c
   turn_at turns running = subst (λ (y : ℤ). LoadTurn gives known MayBreak (magnitude y) s p q b c) same (turns running)
-
-  pub steps_at : ((events : List yaml_event_t) (ending : Ending) → RunToCome known p events ending
-      → NodeSteps known MayBreak (magnitude z) s q b c events ending)
-      → (events : List yaml_event_t) (ending : Ending) → RunToCome known p events ending → NodeSteps known MayBreak (magnitude w) s q b c events ending
-  steps_at steps events ending run = subst (λ (y : ℤ). NodeSteps known MayBreak (magnitude y) s q b c events ending) same (steps events ending run)
 
 pub last_load_at : {S W : Type 0} → NoFault S → (gives : S → Answer → S → Type 0) (known : S → Option Coming) (MayBreak : S → Fault → Type 0) (contents : W
     → Option (List ℕ)) (end : run_end_t) (s : RunStep) (first p q : Parser S) (writer : W) (a c d : Option (List ℕ)) (asked : List yaml_token_t)

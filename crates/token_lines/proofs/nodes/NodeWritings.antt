@@ -39,7 +39,7 @@ use Rattle.token_lines.specs.lines.OneWriting.{BreaksOffByNone, results_of_nodes
 use Rattle.token_lines.specs.nodes.LastLoad.{CutText, LastLoad, WroteForLoad}
 use Rattle.token_lines.proofs.lines.OneOutputs.{same_bytes, same_fault}
 use Rattle.token_lines.proofs.lines.OneWritings.{after_asked, nothing_needed}
-use Rattle.token_lines.proofs.nodes.NodeStepLemmas.{roots_behind}
+use Rattle.token_lines.proofs.nodes.NodeWritesLemmas.{roots_behind}
 
 -- documents, and then one load
 first_same : (x y : Load) (l m : List Load) → x ∷ l ≡ y ∷ m → x ≡ y
@@ -229,7 +229,7 @@ module _ {S W : Type 0} (gives : S → Answer → S → Type 0) (known : S → O
 
     failed : (told : yaml_parser_t_prefix) (o : Of (Faulted told)) (r : DocumentOrError) (l : FromHere (Faulted told) o r) → WroteForLoad (Faulted told) r (kept_fault last) (contents o.writer) after
         → Came outcome.Faulted after (results (Faulted told) o r l)
-    failed told o (Ok d) l w = broke (cut told o d w.1)
+    failed told o (Ok d) l w = broke (cut told o d w.2)
     failed told o (Err x) (by_parser taken parser took fails load) w =
         let c = took.history (asked_there (Faulted told) o) (given_there (Faulted told) o) o.earlier.history in
         let h = fails.history (asked_there (Faulted told) o ++ c.more) (given_there (Faulted told) o ++ taken) c.history in

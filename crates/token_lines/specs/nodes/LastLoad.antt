@@ -1,6 +1,6 @@
 -- That no document is held back: the text of each is written before anything of the next is asked for
 -- (docs/DEFINITIONS.md, "Runs over lines").
-use Rattle.std.specs.Prelude.{◌≡◌, ◌≤◌, ◌*◌, ◌++◌, ◌∷◌, ℕ, List, [], length, map, Option, Ok, Err}
+use Rattle.std.specs.Prelude.{◌≡◌, ◌≤◌, ◌*◌, ◌++◌, ◌∷◌, ℕ, List, [], length, map, Option, Ok, Err, ◌≢◌, All}
 use Rattle.std.specs.List.{concat, flat_map}
 use Rattle.std.specs.Io.KnownBytes.{Appends, Keeps}
 use Rattle.libyaml_types.specs.declared.event.yaml_event_t.{yaml_event_t}
@@ -38,12 +38,12 @@ pub record CutText (before after : Option (List ℕ)) (lines : List (List ℕ)) 
 -- fault that is kept; or a document's text that was cut. Where the output failed, nothing is said.
 abbrev pub WroteForLoad : run_end_t → DocumentOrError → (kept : Fault) → (before after : Option (List ℕ)) → Type 0
 WroteForLoad Ended (Ok d) kept before after = (d.nodes ≡ []) × Keeps before after
-WroteForLoad (Faulted f) (Ok d) kept before after = (fault_of f ≡ memory_fault) × CutText before after (document_lines d)
+WroteForLoad (Faulted f) (Ok d) kept before after = (fault_of f ≡ memory_fault) × (d.nodes ≢ []) × CutText before after (document_lines d)
 WroteForLoad OutputFailed (Ok d) kept before after = Unit {0}
 WroteForLoad end (Err x) kept before after = WroteFault end kept before after
 
 -- From the first parser to this one the source gave these tokens more and the parser these events, whose loads are these
--- documents, whatever follows them; and the text of each document was written.
+-- documents, whatever follows them; each has a root, and its text was written.
 pub record AllLoaded {S : Type 0} (gives : S → Answer → S
     → Type 0) (n : ℕ) (first parser : Parser S) (before after : Option (List ℕ)) (asked : List yaml_token_t) (given : List yaml_event_t) : Type 0 where
   pub more : List yaml_token_t
@@ -52,6 +52,7 @@ pub record AllLoaded {S : Type 0} (gives : S → Answer → S
   pub gave : Gave gives first.source (answers more []) parser.source
   pub history : History parser (asked ++ more) (given ++ events)
   pub loads : (rest : List yaml_event_t) (x : Ending) → ◌≡◌ {A = List Load} (bounded_loads n (events ++ rest) x) (map Ok documents ++ bounded_loads n rest x)
+  pub roots : All (λ (d : Document). d.nodes ≢ []) documents
   pub wrote : Appends before after (concat (flat_map document_lines documents))
 
 -- The last load: the writer held the text of each document that was loaded before, and what was written since is of this

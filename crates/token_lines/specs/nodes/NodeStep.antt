@@ -2,38 +2,22 @@
 use Rattle.std.specs.Prelude.{◌≡◌, ◌≢◌, ℕ, List, [], Option, Ok, Err}
 use Rattle.std.specs.List.{concat}
 use Rattle.std.specs.Io.KnownBytes.{Appends, Keeps}
-use Rattle.libyaml_types.specs.declared.event.yaml_event_t.{yaml_event_t}
 use Rattle.libyaml_events.specs.machine.Config.{Parser}
 use Rattle.libyaml_sources.specs.Fault.{Answer, Fault, fault_of, memory_fault}
 use Rattle.libyaml_events.specs.sources.History.{ForHistory, kept_fault}
-use Rattle.libyaml_grammar.specs.runs.Runs.{Ending}
 use Rattle.libyaml_sources.specs.Source.{Coming}
-use Rattle.libyaml_graphs.specs.loads.Bounds.{bounded_loads, next_bounded}
+use Rattle.libyaml_graphs.specs.loads.Bounds.{next_bounded}
 use Rattle.libyaml_graphs.specs.loads.Loads.{left_over}
 use Rattle.libyaml_loader.specs.loads.Loading.{DocumentOrError, HasEnded, LoadsFrom}
 use Rattle.line_writing.specs.DocumentText.{WroteBefore, document_lines}
 use Rattle.token_lines.specs.declared.run.RunStep.{RunStep}
 use Rattle.token_lines.specs.declared.run.RunStep.TheVariants.{Written, Ended, Failed, OutputFailed}
-use Rattle.token_lines.specs.nodes.NodeRun.{loads_ending, loads_lines}
-use Rattle.token_lines.specs.lines.RunSteps.{RunSteps}
-
--- the lines and the ending of a run over documents, whose lists have n entries at most
-abbrev pub run_lines : ℕ → List yaml_event_t → Ending → List (List ℕ)
-run_lines n events ending = loads_lines (bounded_loads n events ending)
-
-abbrev pub run_ending : ℕ → List yaml_event_t → Ending → Ending
-run_ending n events ending = loads_ending (bounded_loads n events ending)
-
--- what a step did where this run was to come
-abbrev pub NodeSteps : {S : Type 0} → (known : S → Option Coming) → (MayBreak : S → Fault → Type 0) → (n : ℕ) → RunStep → Parser S
-    → (before after : Option (List ℕ)) → List yaml_event_t → Ending → Type 0
-NodeSteps known MayBreak n step new before after events ending = RunSteps known MayBreak (run_lines n) (run_ending n) step new before after events ending
 
 -- what a step wrote after a load that returned this
 abbrev pub StepForLoad : RunStep → DocumentOrError → (kept : Fault) → (before after : Option (List ℕ)) → Type 0
 StepForLoad Written (Ok d) kept before after = (d.nodes ≢ []) × Appends before after (concat (document_lines d))
 StepForLoad Ended (Ok d) kept before after = (d.nodes ≡ []) × Keeps before after
-StepForLoad (Failed f) (Ok d) kept before after = (fault_of f ≡ memory_fault) × WroteBefore before after (document_lines d)
+StepForLoad (Failed f) (Ok d) kept before after = (fault_of f ≡ memory_fault) × (d.nodes ≢ []) × WroteBefore before after (document_lines d)
 StepForLoad OutputFailed (Ok d) kept before after = Unit {0}
 StepForLoad (Failed f) (Err x) kept before after = (fault_of f ≡ kept) × Keeps before after
 StepForLoad _ (Err x) kept before after = ⊥

@@ -10,13 +10,14 @@ ghost use Rattle.libyaml_graphs.specs.loads.Bounds.{bounded_loads};
 ghost use Rattle.libyaml_loader.specs.document.Ids.{magnitude};
 ghost use Rattle.token_lines.specs.nodes.LastLoad.{LastLoad, NodesOver, WritesKept};
 ghost use Rattle.token_lines.specs.nodes.NodeRun.{WritesLoads};
-ghost use Rattle.token_lines.specs.nodes.NodeStep.{IsKept, LoadTurn, NodeSteps};
+ghost use Rattle.token_lines.specs.nodes.NodeStep.{IsKept, LoadTurn};
 
 use super::{Outcome, RunStep, faulted, flushed, run_end_t, show};
 use crate::MAX_TOKENS;
-use libyaml_events::laws::calls::of_history;
+use libyaml_events::laws::calls::{of_history, rest_of_run};
 use libyaml_events::{MEMORY_FAULT, yaml_parser_initialize, yaml_parser_t, yaml_token_source_t};
 use libyaml_graphs::laws::linear_size;
+use libyaml_loader::laws::load_of_run;
 use libyaml_loader::yaml_parser_load;
 use line_reading::yaml_line_source_t;
 use line_writing::{line_refusal_t, write_document};
@@ -67,6 +68,8 @@ pub fn write_nodes<S: yaml_token_source_t, W: Write>(
     ensures bound { parser.new.max_entries ≡ parser.old.max_entries }
 {
     of_history::<S>();
+    rest_of_run::<S>();
+    load_of_run::<S>();
     loop {
         match write_next(parser, writer) {
             RunStep::Written => {}
@@ -92,9 +95,6 @@ fn write_next<S: yaml_token_source_t, W: Write>(
     ensures turn { has_failed parser.old ≡ false
         → LoadTurn S.gives S.known S.may_break (magnitude parser.old.max_entries) result parser.old parser.new
         (W.contents writer.old) (W.contents writer.new) }
-    ensures step { (events : List yaml_event_t) (ending : Ending) → RunToCome S.known parser.old events ending
-        → NodeSteps S.known S.may_break (magnitude parser.old.max_entries) result parser.new
-        (W.contents writer.old) (W.contents writer.new) events ending }
 {
     let loaded = yaml_parser_load(parser);
     let Ok(document) = &loaded else {

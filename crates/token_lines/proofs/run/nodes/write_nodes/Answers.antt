@@ -5,9 +5,8 @@ use Rattle.libyaml_loader.specs.document.Ids.{magnitude}
 use Rattle.token_lines.specs.declared.run.run_end_t.TheVariants.{Ended, OutputFailed}
 use Rattle.token_lines.specs.declared.run.RunStep.TheVariants as step
 use Rattle.token_lines.specs.lines.LineRun.{WroteFault}
-use Rattle.token_lines.specs.nodes.NodeStep.{run_ending, run_lines}
-use Rattle.token_lines.proofs.nodes.NodeTurnLemmas.{last_load_at, loads_end, loads_failed, loads_output, none_loaded, one_loaded, steps_at, turn_at}
-use Rattle.token_lines.proofs.lines.RunLemmas.{takes_failed, takes_last, takes_more, takes_none, writes_ended, writes_faulted}
+use Rattle.token_lines.proofs.nodes.NodeTurnLemmas.{last_load_at, loads_end, loads_failed, loads_output, none_loaded, one_loaded, turn_at}
+use Rattle.token_lines.proofs.nodes.NodeWritesLemmas.{writes_loads_so}
 use Rattle.token_lines.proofs.run.nodes.write_nodes.Goals as goal
 
 output_is_no_end : OutputFailed ≡ Ended → step.OutputFailed ≡ step.Ended
@@ -21,8 +20,6 @@ loop-writer-init g c =
       bound = refl;
       kept = λ failed. (refl, refl);
       in_turn = λ asked given history. none_loaded t.gives t.known t.may_break (magnitude c.args.parser.now.max_entries) _ _ asked given history;
-      came = λ events ending run. takes_none t.known (run_lines (magnitude c.args.parser.now.max_entries))
-          (run_ending (magnitude c.args.parser.now.max_entries)) _ _ events ending run;
     }
 
 pub loop-writer-preserved : goal.loop-writer-preserved
@@ -41,39 +38,10 @@ loop-writer-preserved g c =
           (contents c.loop-writer.writer) (contents c.write_next.new.writer) asked given (c.loop-writer.invariant.in_turn asked given history)
           (turn_at t.gives t.known t.may_break step.Written p q (contents c.loop-writer.writer) (contents c.write_next.new.writer) _ _ bound
           c.in-Written.ensures.turn);
-      came = λ events ending run. takes_more t.known (run_lines n) (run_ending n) (contents c.args.writer.now) (contents c.loop-writer.writer) (contents c.write_next.new.writer) p q
-          events ending (c.loop-writer.invariant.came events ending run)
-          (steps_at t.gives t.known t.may_break step.Written p q (contents c.loop-writer.writer) (contents c.write_next.new.writer) _ _ bound
-          c.in-Written.ensures.step);
     }
 
 pub loop-writer-smaller : goal.loop-writer-smaller
 loop-writer-smaller g c = c.in-Written.ensures.falls refl
-
-pub returns-in-Ended-clause-writes : goal.returns-in-Ended-clause-writes
-returns-in-Ended-clause-writes g c events ending run =
-    let t = g.S.yaml_token_source_t in
-    let contents = g.W.Write.contents in
-    let at = c.loop-writer in
-    let n = magnitude c.args.parser.now.max_entries in
-    let steps = steps_at t.gives t.known t.may_break step.Ended at.parser c.write_next.new.parser (contents at.writer) (contents c.write_next.new.writer) _ _
-    at.invariant.bound c.in-Ended.ensures.step in
-    writes_ended (t.may_break c.write_next.new.parser.source) c.flushed.result _ _ (run_lines n events ending) (run_ending n events ending) c.flushed.ensures.end
-    (takes_last t.known (run_lines n) (run_ending n) (contents c.args.writer.now) (contents at.writer) (contents c.write_next.new.writer) (contents c.flushed.new.writer) at.parser
-    events ending (at.invariant.came events ending run) steps c.flushed.ensures.keeps)
-
-pub returns-in-Failed-clause-writes : goal.returns-in-Failed-clause-writes
-returns-in-Failed-clause-writes g c events ending run =
-    let t = g.S.yaml_token_source_t in
-    let contents = g.W.Write.contents in
-    let at = c.loop-writer in
-    let n = magnitude c.args.parser.now.max_entries in
-    let may_break = t.may_break c.write_next.new.parser.source in
-    let steps = steps_at t.gives t.known t.may_break (step.Failed c.in-Failed.fault) at.parser c.write_next.new.parser (contents at.writer)
-    (contents c.write_next.new.writer) _ _ at.invariant.bound c.in-Failed.ensures.step in
-    writes_faulted may_break c.faulted.result (fault_of c.in-Failed.fault) _ _ _ (run_lines n events ending) (run_ending n events ending) c.faulted.ensures
-    (takes_failed t.known (run_lines n) (run_ending n) may_break (contents c.args.writer.now) (contents at.writer) (contents c.write_next.new.writer)
-    (contents c.faulted.new.writer) at.parser (fault_of c.in-Failed.fault) events ending (at.invariant.came events ending run) steps)
 
 pub returns-in-Ended-clause-kept : goal.returns-in-Ended-clause-kept
 returns-in-Ended-clause-kept g c failed = absurd (c.in-Ended.ensures.kept (ap has_failed (c.loop-writer.invariant.kept failed).0 ∙ failed)).0
@@ -121,3 +89,17 @@ returns-in-OutputFailed-clause-in_turn g c asked given history =
     (contents c.write_next.new.writer) (contents c.write_next.new.writer) asked given at.invariant.bound (at.invariant.in_turn asked given history)
     c.in-OutputFailed.ensures.turn (loads_output (kept_fault q) (contents at.writer) (contents c.write_next.new.writer) (contents c.write_next.new.writer))
     output_is_no_end
+
+pub returns-in-Ended-clause-writes : goal.returns-in-Ended-clause-writes
+returns-in-Ended-clause-writes g c events ending run =
+    let t = g.S.yaml_token_source_t in
+    writes_loads_so t.gives t.known t.may_break c.rest_of_run.ensures.further c.load_of_run.ensures g.W.Write.contents
+    (magnitude c.args.parser.now.max_entries) c.args.parser.now c.write_next.new.parser _ _ events ending run c.flushed.result
+    (returns-in-Ended-clause-in_turn g c run.asked run.given run.history)
+
+pub returns-in-Failed-clause-writes : goal.returns-in-Failed-clause-writes
+returns-in-Failed-clause-writes g c events ending run =
+    let t = g.S.yaml_token_source_t in
+    writes_loads_so t.gives t.known t.may_break c.rest_of_run.ensures.further c.load_of_run.ensures g.W.Write.contents
+    (magnitude c.args.parser.now.max_entries) c.args.parser.now c.write_next.new.parser _ _ events ending run c.faulted.result
+    (returns-in-Failed-clause-in_turn g c run.asked run.given run.history)

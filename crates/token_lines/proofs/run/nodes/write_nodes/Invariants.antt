@@ -3,12 +3,8 @@ use Rattle.libyaml_types.specs.declared.event.yaml_event_t.{yaml_event_t}
 use Rattle.libyaml_types.specs.declared.token.yaml_token_t.{yaml_token_t}
 use Rattle.libyaml_events.specs.parsers.EventsLeft.{events_left}
 use Rattle.libyaml_events.specs.sources.History.{History, between_documents, has_failed}
-use Rattle.libyaml_events.specs.sources.RunToCome.{RunToCome}
-use Rattle.libyaml_grammar.specs.runs.Runs.{Ending}
 use Rattle.libyaml_loader.specs.document.Ids.{magnitude}
 use Rattle.token_lines.specs.nodes.LastLoad.{AllLoaded}
-use Rattle.token_lines.specs.lines.RunSteps.{TakesLines}
-use Rattle.token_lines.specs.nodes.NodeStep.{run_ending, run_lines}
 use Rattle.token_lines.proofs.run.nodes.write_nodes.Given as goal
 
 abbrev pub invariant-loop-writer : goal.invariant-loop-writer
@@ -19,9 +15,6 @@ invariant-loop-writer g l = record {
   in_turn : (asked : List yaml_token_t) (given : List yaml_event_t) → History l.initial.parser asked given
       → AllLoaded g.S.yaml_token_source_t.gives (magnitude l.initial.parser.max_entries) l.initial.parser l.parser (g.W.Write.contents l.initial.writer)
       (g.W.Write.contents l.writer) asked given;
-  came : (events : List yaml_event_t) (ending : Ending) → RunToCome g.S.yaml_token_source_t.known l.initial.parser events ending
-      → TakesLines g.S.yaml_token_source_t.known (run_lines (magnitude l.initial.parser.max_entries)) (run_ending (magnitude l.initial.parser.max_entries))
-      l.parser (g.W.Write.contents l.initial.writer) (g.W.Write.contents l.writer) events ending;
 }
 
 abbrev pub decreases-loop-writer : goal.decreases-loop-writer

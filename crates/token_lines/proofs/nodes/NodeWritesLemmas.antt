@@ -1,0 +1,144 @@
+-- What a run over documents wrote, by its loads in their turn.
+use Rattle.std.proofs.Common.{◌≡◌, ◌≢◌, ◌⊎◌, ◌++◌, ◌∷◌, ℕ, List, [], All, map, Option, Ok, Err, refl, sym, ap, ◌∙◌, subst, inl, inr, append_assoc}
+use Rattle.std.proofs.KnownBytes.{Appends-kept, Appends-trans}
+use Rattle.std.proofs.lemmas.List.{append-nil}
+use Rattle.std.proofs.lemmas.List.Elements.{All-head, All-tail}
+use Rattle.std.proofs.lemmas.List.Folds.{concat-append}
+use Rattle.std.specs.List.{concat, flat_map}
+use Rattle.std.specs.Io.KnownBytes.{Appends}
+use Rattle.libyaml_types.specs.declared.event.yaml_event_t.{yaml_event_t}
+use Rattle.libyaml_types.specs.declared.token.yaml_token_t.{yaml_token_t}
+use Rattle.libyaml_documents.specs.declared.node.yaml_node_t.{yaml_node_t}
+use Rattle.libyaml_documents.specs.Documents.{Document}
+use Rattle.libyaml_events.specs.machine.Config.{Parser}
+use Rattle.libyaml_events.specs.sources.Calls.{Gave}
+use Rattle.libyaml_events.specs.sources.History.{History, answers, kept_fault}
+use Rattle.libyaml_events.specs.sources.RunToCome.{RestOfRun, RunToCome}
+use Rattle.libyaml_grammar.proofs.lent.NestingSoFar.{run_nests_so_far}
+use Rattle.libyaml_grammar.specs.runs.Runs.{Ending}
+use Rattle.libyaml_sources.specs.Fault.{Answer, Fault, memory_fault}
+use Rattle.libyaml_sources.specs.Source.{Coming}
+use Rattle.libyaml_graphs.specs.loads.Bounds.{bounded_loads, next_bounded}
+use Rattle.libyaml_graphs.specs.loads.GraphLaws.{RootsFollow}
+use Rattle.libyaml_graphs.specs.loads.Loads.{Load, left_over}
+use Rattle.libyaml_graphs.proofs.lent.Roots as roots
+use Rattle.libyaml_graphs.proofs.lent.Roots.{earlier_of, last_of, roots_follow}
+use Rattle.libyaml_loader.specs.loads.Loading.{DocumentOrError, LoadsFrom}
+use Rattle.libyaml_loader.specs.loads.NextLoad.{LoadOfRun}
+use Rattle.line_writing.specs.DocumentText.{document_lines}
+use Rattle.line_writing.specs.FaultText.{fault_text}
+use Rattle.token_lines.specs.declared.run.run_end_t.{run_end_t}
+use Rattle.token_lines.specs.declared.run.run_end_t.TheVariants.{Ended, Faulted, OutputFailed}
+use Rattle.token_lines.specs.lines.LineRun.{WritesFault, broken_off, whole}
+use Rattle.token_lines.specs.nodes.LastLoad.{LastLoad, WroteForLoad}
+use Rattle.token_lines.specs.nodes.NodeRun.{WritesLoads, lines_with, loads_ending, loads_lines}
+
+pub roots_behind : (l r : List yaml_event_t) → RootsFollow (l ++ r) → RootsFollow r
+roots_behind [] r h = h
+roots_behind (e ∷ l) r h = roots_behind l r h.1
+
+lines_with_nodes : (ns : List yaml_node_t) (lines : List (List ℕ)) → ns ≢ [] → lines_with ns lines ≡ lines
+lines_with_nodes [] lines h = absurd (h refl)
+lines_with_nodes (n ∷ ns) lines h = refl
+
+lines_without_nodes : (ns : List yaml_node_t) (lines : List (List ℕ)) → ns ≡ [] → lines_with ns lines ≡ []
+lines_without_nodes [] lines h = refl
+lines_without_nodes (n ∷ ns) lines h = absurd cc
+
+-- the lines of loads whose first is this document
+first_lines : (loads later : List Load) (d : Document) → loads ≡ Ok d ∷ later → d.nodes ≢ [] → loads_lines loads ≡ document_lines d ++ loads_lines later
+first_lines loads later d is some = ap loads_lines is ∙ ap (λ (l : List (List ℕ)). l ++ loads_lines later) (lines_with_nodes d.nodes (document_lines d) some)
+
+no_lines : (loads : List Load) (d : Document) → loads ≡ Ok d ∷ [] → d.nodes ≡ [] → loads_lines loads ≡ []
+no_lines loads d is none = ap loads_lines is ∙ append-nil (lines_with d.nodes (document_lines d)) ∙ lines_without_nodes d.nodes (document_lines d) none
+
+abbrev HasRoot : Document → Type 0
+HasRoot d = d.nodes ≢ []
+
+-- the lines and the ending of loads whose first are these documents
+lines_of : (ds : List Document) → All (λ (d : Document). d.nodes ≢ []) ds → (l : List Load) → loads_lines (map Ok ds ++ l)
+    ≡ flat_map document_lines ds ++ loads_lines l
+lines_of [] h l = refl
+lines_of (d ∷ ds) h l =
+    first_lines (Ok d ∷ (map Ok ds ++ l)) (map Ok ds ++ l) d refl (All-head HasRoot d ds h)
+    ∙ ap (λ (x : List (List ℕ)). document_lines d ++ x) (lines_of ds (All-tail HasRoot d ds h) l)
+    ∙ sym (append_assoc (document_lines d) (flat_map document_lines ds) (loads_lines l))
+
+ending_of : (ds : List Document) (l : List Load) → loads_ending (map Ok ds ++ l) ≡ loads_ending l
+ending_of [] l = refl
+ending_of (d ∷ ds) l = ending_of ds l
+
+module _ {S W : Type 0} (gives : S → Answer → S → Type 0) (known : S → Option Coming) (MayBreak : S → Fault → Type 0)
+    (further : (p q : Parser S) (more : List yaml_token_t) (events to_come : List yaml_event_t) (ending : Ending) (r : RunToCome known p to_come ending)
+    → Gave gives p.source (answers more []) q.source → History q (r.asked ++ more) (r.given ++ events) → RestOfRun known q events to_come ending)
+    (load_of_run : (n : ℕ) (p q : Parser S) (r : DocumentOrError) (events : List yaml_event_t) (ending : Ending) → RunToCome known p events ending
+    → LoadsFrom gives known MayBreak (next_bounded n) left_over p r q → LoadOfRun known MayBreak (next_bounded n) left_over r q events ending)
+    (contents : W → Option (List ℕ)) (n : ℕ) (first last : Parser S) (before after : Option (List ℕ)) (events : List yaml_event_t) (ending : Ending)
+    (run : RunToCome known first events ending) (result : run_end_t)
+    (l : LastLoad gives known MayBreak contents n result first last before after run.asked run.given) where
+  rest : RestOfRun known l.parser l.earlier.events events ending
+  rest = further first l.parser l.earlier.more l.earlier.events events ending run l.earlier.gave l.earlier.history
+
+  abbrev later : List Load
+  later = bounded_loads n rest.later ending
+
+  abbrev loads : List Load
+  loads = bounded_loads n events ending
+
+  abbrev earlier : List (List ℕ)
+  earlier = flat_map document_lines l.earlier.documents
+
+  all : loads ≡ map Ok l.earlier.documents ++ later
+  all = ap (λ (e : List yaml_event_t). bounded_loads n e ending) rest.all ∙ l.earlier.loads rest.later ending
+
+  lines : loads_lines loads ≡ earlier ++ loads_lines later
+  lines = ap loads_lines all ∙ lines_of l.earlier.documents l.earlier.roots later
+
+  ends : loads_ending loads ≡ loads_ending later
+  ends = ap loads_ending all ∙ ending_of l.earlier.documents later
+
+  wrote_then : (ls : List (List ℕ)) (bs : List ℕ) → Appends (contents l.writer) after (concat ls ++ bs) → Appends before after (concat (earlier ++ ls) ++ bs)
+  wrote_then ls bs h = subst (Appends before after)
+      (sym (append_assoc (concat earlier) (concat ls) bs) ∙ ap (λ (x : List ℕ). x ++ bs) (sym (concat-append earlier ls)))
+      (Appends-trans before (contents l.writer) after (concat earlier) (concat ls ++ bs) l.earlier.wrote h)
+
+  abbrev Told : Fault → Type 0
+  Told f = WritesFault (MayBreak last.source) f before after (loads_lines loads) (loads_ending loads)
+
+  cut : (f : Fault) → (f ≡ memory_fault) ⊎ MayBreak last.source f → (ls more : List (List ℕ)) → loads_lines later ≡ ls ++ more
+      → Appends (contents l.writer) after (concat ls ++ fault_text f) → Told f
+  cut f why ls more is wrote = broken_off (earlier ++ ls) more
+      (lines ∙ ap (λ (x : List (List ℕ)). earlier ++ x) is ∙ sym (append_assoc earlier ls more)) why (wrote_then ls (fault_text f) wrote)
+
+  follow : RootsFollow rest.later
+  follow =
+      let r = rest.run in
+      roots_behind r.given rest.later (roots_follow (r.given ++ rest.later) (run_nests_so_far (r.asked ++ r.rest) r.fault (r.given ++ rest.later) ending r.run))
+
+  go : (end : run_end_t) (r : DocumentOrError) → LoadOfRun known MayBreak (next_bounded n) left_over r last rest.later ending
+      → WroteForLoad end r (kept_fault last) (contents l.writer) after → WritesLoads (MayBreak last.source) end before after loads
+  go Ended (Ok d) load wrote =
+      let only = last_of rest.later ending n d follow load.0 wrote.0 in
+      let none = lines ∙ ap (λ (x : List (List ℕ)). earlier ++ x) (no_lines later d only.0 wrote.0) ∙ append-nil earlier in (
+        ends ∙ ap loads_ending only.0,
+        subst (λ (x : List (List ℕ)). Appends before after (concat x)) (sym none)
+            (Appends-kept before (contents l.writer) after (concat earlier) l.earlier.wrote wrote.1),
+      )
+  go (Faulted f) (Ok d) load (memory, some, text) =
+      let more = loads_lines (bounded_loads n (left_over rest.later) ending) in
+      let is = first_lines later (bounded_loads n (left_over rest.later) ending) d (earlier_of rest.later ending n d load.0 some) some
+      ∙ ap (λ (x : List (List ℕ)). x ++ more) text.all ∙ append_assoc text.written (text.line ∷ text.rest) more in
+      subst Told (sym memory) (cut memory_fault (inl refl) text.written ((text.line ∷ text.rest) ++ more) is text.wrote)
+  go OutputFailed (Ok d) load wrote = tt
+  go Ended (Err x) load wrote = absurd wrote
+  go (Faulted f) (Err x) (inl is) wrote =
+      let only = roots.fault_of rest.later ending n (kept_fault last) is in
+      let none = lines ∙ ap (λ (x : List Load). earlier ++ loads_lines x) only in
+      subst Told (sym wrote.0) (whole (ends ∙ ap loads_ending only)
+      (subst (λ (x : List (List ℕ)). Appends before after (concat x ++ fault_text (kept_fault last))) (sym none)
+      (wrote_then [] (fault_text (kept_fault last)) wrote.1)))
+  go (Faulted f) (Err x) (inr why) wrote = subst Told (sym wrote.0) (cut (kept_fault last) why [] (loads_lines later) refl wrote.1)
+  go OutputFailed (Err x) load wrote = tt
+
+  pub writes_loads_so : WritesLoads (MayBreak last.source) result before after loads
+  writes_loads_so = go result l.loaded (load_of_run n l.parser last l.loaded rest.later ending rest.run l.load) l.wrote
