@@ -27,7 +27,7 @@ WIDTH = 110
 
 HEAD = """# Every public item
 
-Made from the sources by `python3 scripts/surface.py --write`. You name `unsafe_libyaml`, which re-exports the crates of events, documents and loads, and `token_lines`, which re-exports those of lines. `fn T::f` is a method or a function of the type `T`, `..` stands for private fields. [CALLING.md](CALLING.md) shows their use; what each is, returns and asks for is in the comment and the contract beside it.
+Made from the sources by `python3 scripts/surface.py --write`. You name `unsafe_libyaml`, which re-exports the crates of events, documents and loads, and `token_lines`, which re-exports those of lines. `fn T::f` is a method or a function of the type `T`, a struct without fields here has private ones. [CALLING.md](CALLING.md) shows their use; what each is, returns and asks for is in the comment and the contract beside it.
 """
 
 FIRST = [
@@ -82,7 +82,7 @@ def signature(text):
 
 def wrapped(code):
     """The lines of an item's code, which breaks between parameters, fields or variants, and before a result."""
-    for whole in (r"<[^<>]*>", r"<[^<>]*(?:<[^<>]*>[^<>]*)*>", r"-> .*", r"\w+: [^,)]*", r"\{ \.\. \}", r"^fn \S+"):
+    for whole in (r"<[^<>]*>", r"<[^<>]*(?:<[^<>]*>[^<>]*)*>", r"-> .*", r"\w+: [^,)]*", r"^fn \S+"):
         code = re.sub(whole, lambda part: part[0].replace(" ", "\0"), code)
     lines = textwrap.wrap(code, WIDTH, subsequent_indent="    ", break_long_words=False, break_on_hyphens=False)
     return [line.replace("\0", " ") for line in lines]
@@ -126,7 +126,7 @@ def code_of(kind, name, text, owner=None):
         return signature(text).replace(f"fn {name.split('::')[-1]}", f"fn {name}", 1)
     if kind in ("struct", "enum"):
         head = re.sub(r"\s*\{?$", "", text.split("\n")[0].replace("pub ", ""))
-        inner = ", ".join(members(text))
+        inner = ", ".join(members(text)).removeprefix("..")
         return f"{head} {{ {inner} }}" if inner else head
     if kind == "trait":
         return f"trait {name}"
