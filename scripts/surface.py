@@ -332,15 +332,14 @@ def page():
         if left:
             title = f"### `{crate}`" + (f", re-exported by `{'` and `'.join(users)}`" if users else "")
             lines += ["", title, "", *block(grouped(left), is_brief=True)]
-    lines += ["", "## For the crates above alone", "", "| crate | items |", "|---|---|"]
-    lines += [f"| `{crate}` | {', '.join(names)} |" for crate, names in inner]
+    lines += ["", "## For the crates above alone", ""]
+    lines += [f"- `{crate}`: {', '.join(names)}" for crate, names in inner]
     lines += ["", "## Laws", "", "[PROVED.md](PROVED.md) says what each says.", ""]
-    lines += ["| crate | module and laws |", "|---|---|"]
     for crate, names in laws:
         modules = {}
         for name in names:
             modules.setdefault("::".join(name.split("::")[:-1]), []).append(name.split("::")[-1])
-        lines.append(f"| `{crate}` | " + "; ".join(f"`{module}`: {families(its)}" for module, its in modules.items()) + " |")
+        lines.append(f"- `{crate}`, " + "; ".join(f"`{module}`: {families(its)}" for module, its in modules.items()))
     return "\n".join(lines) + "\n", without
 
 
