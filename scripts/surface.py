@@ -21,7 +21,8 @@ METHOD = re.compile(r"    (pub )?fn (\w+)")
 IMPL = re.compile(r"impl(<.*?>)? (?:(.+?) for )?(\w+)")
 USE = re.compile(r"pub use ([\w:]+?)(?:::\{([^}]*)\}| as (\w+))?;")
 LAWS = re.compile(r"(?:laws|rows|determined)::")
-NAMED = ("unsafe_libyaml", "token_lines", "token_lines_c", "yaml_path")
+NAMED = ("unsafe_libyaml", "token_lines", "token_lines_c", "yaml_path", "token_records", "document_records", "token_records_c")
+INNER = re.compile(r"putting::")  # a module for the crates above alone
 EXAMPLES = {"computed_tokens", "pushed_list", "cited_theorems", "row_checks"}
 WIDTH = 110
 
@@ -326,7 +327,7 @@ def page():
     inner = []
     for crate, rows in listed.items():
         users = [user for user, names in passing.items() if crate != user and any(name in names for name, _ in rows)]
-        can_name = [(n, i) for n, i in rows if crate in NAMED or any(n.split("::")[0] in passing[user] for user in users)]
+        can_name = [(n, i) for n, i in rows if crate in NAMED and not INNER.match(n) or any(n.split("::")[0] in passing[user] for user in users)]
         inner += [(crate, [row[0] for row in rows if row not in can_name])] if len(can_name) < len(rows) else []
         left = [(name, item) for name, item in in_order(can_name) if name not in first]
         if left:
