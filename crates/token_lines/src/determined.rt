@@ -46,8 +46,8 @@ pub fn one_output<R: BufRead, W: Write>()
 }
 
 /// Two outcomes of one `write_events`, both of which its contract allows, with a writer that has written the
-/// same: where the source gave the same results as far as both asked, both end alike and have written the same
-/// bytes, unless memory ran out in one of them, or its output failed.
+/// same: where the source gave the same results as far as both asked, both end alike and have written the
+/// same bytes, unless memory ran out in one of them, or its output failed.
 pub fn one_writing_of_events<S: yaml_token_source_t, W: Write>()
     ensures running { (old p q : Parser S) (first second : run_end_t) (written : List ℕ)
         (after later : Option (List ℕ)) (asked : List yaml_token_t) (given : List yaml_event_t)
@@ -70,7 +70,8 @@ pub fn one_writing_of_nodes<S: yaml_token_source_t, W: Write>()
     ensures { (old p q : Parser S) (first second : run_end_t) (n : ℕ) (written : List ℕ)
         (after later : Option (List ℕ)) (asked : List yaml_token_t) (given : List yaml_event_t)
         → (a : LastLoad S.gives S.known S.may_break W.contents n first old p (Some written) after asked given)
-        → (b : LastLoad S.gives S.known S.may_break W.contents n second old q (Some written) later asked given)
+        → (b : LastLoad S.gives S.known S.may_break W.contents n second old q (Some written) later asked
+        given)
         → OneBegins (results_of_nodes a) (results_of_nodes b)
         → OneOutput BreaksOffByNone BreaksOffByNone (outcome_of first) (outcome_of second)
         (Some written) after later }
@@ -78,8 +79,8 @@ pub fn one_writing_of_nodes<S: yaml_token_source_t, W: Write>()
     of_history::<S>();
 }
 
-/// Two runs in memory over the same token lines, of which at most so many are read, into the same buffer: what
-/// is told and the buffer are the same, unless memory ran out in one of them.
+/// Two runs in memory over the same token lines, of which at most so many are read, into the same buffer:
+/// what is told and the buffer are the same, unless memory ran out in one of them.
 pub fn one_run_in_memory()
     ensures events { (tokens old after later : List ℕ) (max : ℕ) (first second : memory_run_t)
         → InMemory (has_events tokens max) old after first → InMemory (has_events tokens max) old later second

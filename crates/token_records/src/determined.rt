@@ -8,9 +8,10 @@ ghost use Rattle.token_records.specs.RecordSource.{read_records};
 ghost use Rattle.token_records.specs.declared.records.records_run_t.{records_run_t};
 ghost use Rattle.token_records.specs.declared.records.token_record_t.{token_record_t};
 
-/// Two results of one run over records, both of which the contract of `events_of_records` allows, from the same
-/// buffers: what is returned and what the buffers hold is the same, unless memory ran out in one of them. Where
-/// the run has more of something than can be counted, both say so, and nothing is said of the buffers.
+/// Two results of one run over records, both of which the contract of `events_of_records` allows, from the
+/// same buffers: what is returned and what the buffers hold is the same, unless memory ran out in one of
+/// them. Where the run has more of something than can be counted, both say so, and nothing is said of the
+/// buffers.
 pub fn one_run_of_records()
     ensures { (tokens : List token_record_t) (texts : List ℕ) (old after later : Buffers)
         (first second : records_run_t) (events : List yaml_event_t) (ending : Ending)

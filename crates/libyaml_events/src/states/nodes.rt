@@ -441,7 +441,8 @@ impl<S> Machine<S> {
             None => None,
             Some(tag) => Some(self.resolve_tag(tag, &start_mark)?),
         };
-        // Its handle and suffix are dropped here: where they stay, a list of nodes may not grow where it lies.
+        // Its handle and suffix are dropped here: where they stay, a list of nodes may not grow where it
+        // lies.
         if tag.is_some() {
             pending.properties.tag = None;
         }
