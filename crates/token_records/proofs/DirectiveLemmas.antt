@@ -34,19 +34,19 @@ records_more n ds i d h = ap (directive_records n) (take_more ds i d h) ∙ reco
 
 -- one directive more was put
 pub put_more : (ds : List yaml_tag_directive_t) (i : ℕ) (d : yaml_tag_directive_t) (within : i < length ds) (item : d ≡ get_or ds i d)
-    (d0 d1 d2 n0 n1 n2 : ℕ) (D0 D1 D2 : List directive_record_t) (T0 T1 T2 : List ℕ) (made : directive_record_t)
-    → Puts D0 d0 (directive_records n0 (take i ds)) D1 d1 → Puts T0 n0 (directives_bytes (take i ds)) T1 n1
-    → made ≡ directive_record n1 d → Puts T1 n1 (directive_bytes d) T2 n2 → Puts D1 d1 (made ∷ []) D2 d2
-    → Puts D0 d0 (directive_records n0 (take (i + 1) ds)) D2 d2 × Puts T0 n0 (directives_bytes (take (i + 1) ds)) T2 n2
-put_more ds i d within item d0 d1 d2 n0 n1 n2 D0 D1 D2 T0 T1 T2 made ds_put ts_put is t_put d_put =
+    (d0 d1 d2 n0 n1 n2 : ℕ) (start_records mid_records end_records : List directive_record_t) (start_bytes mid_bytes end_bytes : List ℕ) (made : directive_record_t)
+    → Puts start_records d0 (directive_records n0 (take i ds)) mid_records d1 → Puts start_bytes n0 (directives_bytes (take i ds)) mid_bytes n1
+    → made ≡ directive_record n1 d → Puts mid_bytes n1 (directive_bytes d) end_bytes n2 → Puts mid_records d1 (made ∷ []) end_records d2
+    → Puts start_records d0 (directive_records n0 (take (i + 1) ds)) end_records d2 × Puts start_bytes n0 (directives_bytes (take (i + 1) ds)) end_bytes n2
+put_more ds i d within item d0 d1 d2 n0 n1 n2 start_records mid_records end_records start_bytes mid_bytes end_bytes made ds_put ts_put is t_put d_put =
     let which : made ≡ directive_record (n0 + length (directives_bytes (take i ds))) (get_or ds i d)
     = is ∙ (λ k. directive_record (ts_put.counts k) (item k)) in
     let records = records_more n0 ds i d within in
     let bytes = bytes_more ds i d within ∙ ap (λ x. directives_bytes (take i ds) ++ directive_bytes x) (sym item) in (
-      subst (λ (l : List directive_record_t). Puts D0 d0 l D2 d2)
+      subst (λ (l : List directive_record_t). Puts start_records d0 l end_records d2)
           (ap (λ x. directive_records n0 (take i ds) ++ x ∷ []) which ∙ sym records)
-          (puts_then D0 D1 D2 d0 d1 d2 (directive_records n0 (take i ds)) (made ∷ []) ds_put d_put),
-      subst (λ (l : List ℕ). Puts T0 n0 l T2 n2) (sym bytes) (puts_then T0 T1 T2 n0 n1 n2 (directives_bytes (take i ds)) (directive_bytes d) ts_put t_put),
+          (puts_then start_records mid_records end_records d0 d1 d2 (directive_records n0 (take i ds)) (made ∷ []) ds_put d_put),
+      subst (λ (l : List ℕ). Puts start_bytes n0 l end_bytes n2) (sym bytes) (puts_then start_bytes mid_bytes end_bytes n0 n1 n2 (directives_bytes (take i ds)) (directive_bytes d) ts_put t_put),
     )
 
 -- the texts of the first directives and of the next are among those of all
