@@ -18,12 +18,14 @@ follows_at [] f t (Err e) h = (inl (h.1 refl), ap Some h.0)
 follows_at (v ∷ ts) f t (Ok u) h = (cc (h.0), ap Some (rest_is ts f t (cc (h.0)) h.1))
 follows_at (v ∷ ts) f t (Err e) h = (h.2 (λ e. cc), ap Some h.0)
 
-pub letters_follow : (s t : Coming) (answer : Answer) → Gives s answer t → Follows (λ fault. fault ≡ memory_fault) (Some s) answer (Some t)
+pub letters_follow : (s t : Coming) (answer : Answer) → Gives s answer t
+    → Follows (λ fault. fault ≡ memory_fault) (Some s) answer (Some t)
 letters_follow s t answer h = follows_at s.tokens s.fault t answer h
 
 ended : (t u : Coming) (fault : Fault) (answer : Answer) → t ≡ coming [] fault → Gives t answer u → answer ≡ Err fault
 ended t u fault (Ok token) e k = cc (k.0, ap (λ (c : Coming). c.tokens) e)
 ended t u fault (Err f) e k = ap Err (k.1 (ap (λ (c : Coming). c.tokens) e) ∙ ap (λ (c : Coming). c.fault) e)
 
-pub letters_repeat : (s t u : Coming) (fault : Fault) (answer : Answer) → Gives s (Err fault) t → Gives t answer u → answer ≡ Err fault
+pub letters_repeat : (s t u : Coming) (fault : Fault) (answer : Answer) → Gives s (Err fault) t → Gives t answer u
+    → answer ≡ Err fault
 letters_repeat s t u fault answer h k = ended t u fault answer h.0 k

@@ -29,7 +29,8 @@ holds_nothing old = record {
   texts = untouched old.texts;
 }
 
-handed_out : {A : Type 0} (all old new : List A) (wanted written : ℕ) → Held old new all wanted → written ≡ min wanted (length old)
+handed_out : {A : Type 0} (all old new : List A) (wanted written : ℕ) → Held old new all wanted
+    → written ≡ min wanted (length old)
     → HandsOut all old new wanted written
 handed_out all old new wanted written h is
     = record { wanted_is = h.counted; written_is = is ∙ ap (λ k. min k (length old)) h.counted; filled_so = h.filled_so }
@@ -40,7 +41,8 @@ record LeftBy (f : Fault) (documents : List Document) (loads : List Load) : Type
   all : loads ≡ map (λ (d : Document). Ok d) documents ++ later
   ends : LoadsEndBy f later ⊎ (f ≡ memory_fault)
 
-module _ {S : Type 0} (MayBreak : S → Fault → Type 0) (only : (s : S) (f : Fault) → MayBreak s f → f ≡ memory_fault) (p : Parser S) (f : Fault)
+module _ {S : Type 0} (MayBreak : S → Fault → Type 0) (only : (s : S) (f : Fault) → MayBreak s f → f ≡ memory_fault)
+    (p : Parser S) (f : Fault)
     (documents : List Document) where
   same_fault : (g : Fault) → ◌≡◌ {A = Ending} (Fails g) (Fails f) → g ≡ f
   same_fault g h = cc
@@ -60,21 +62,27 @@ module _ {S : Type 0} (MayBreak : S → Fault → Type 0) (only : (s : S) (f : F
   cut_by g ending is memory (inl (none, ends)) = absurd (no_end g (sym ends ∙ is))
   cut_by g ending is memory (inr fails) = sym (same_fault g (sym is ∙ fails)) ∙ memory
 
-  left_by : (ending : Ending) (loads : List Load) → EndsBy f ending → AreLoadsOf MayBreak p documents ending loads → LeftBy f documents loads
+  left_by : (ending : Ending) (loads : List Load) → EndsBy f ending → AreLoadsOf MayBreak p documents ending loads
+      → LeftBy f documents loads
   left_by ending loads by (whole h) = record { later = last_load ending ∷ []; all = h; ends = inl (ends_of ending by) }
-  left_by ending loads by (cut_short g is why rest h) = record { later = rest; all = h; ends = inr (cut_by g ending is (memory_by g why) by) }
+  left_by ending loads by (cut_short g is why rest h) =
+      record { later = rest; all = h; ends = inr (cut_by g ending is (memory_by g why) by) }
 
   -- documents that were put, and then the words of a fault
-  pub hands_out : (old mid new : Lists) (n : document_counts_t) (run : documents_run_t) (ending : Ending) (loads : List Load)
-      → Adds (λ r. with_documents r documents) old (counts_of nothing) mid n → EndsBy f ending → AreLoadsOf MayBreak p documents ending loads
+  pub hands_out : (old mid new : Lists) (n : document_counts_t) (run : documents_run_t) (ending : Ending)
+      (loads : List Load)
+      → Adds (λ r. with_documents r documents) old (counts_of nothing) mid n → EndsBy f ending
+      → AreLoadsOf MayBreak p documents ending loads
       → new ≡ record mid { texts = new.texts } → run.wanted ≡ record n { texts = run.wanted.texts }
-      → Puts mid.texts n.texts (fault_bytes f) new.texts run.wanted.texts → run.fault ≡ fault_record n.texts f → WithinRoom old run
+      → Puts mid.texts n.texts (fault_bytes f) new.texts run.wanted.texts → run.fault ≡ fault_record n.texts f
+      → WithinRoom old run
       → HandsOutLoads old new run loads
   hands_out old mid new n run ending loads adds by are same_lists same_counts words fault_is room =
       let left = left_by ending loads by are in
       let holds = adds old nothing (holds_nothing old) in
       let all = recorded documents in
-      let texts = held_more old.texts mid.texts new.texts all.texts (fault_bytes f) n.texts run.wanted.texts holds.texts words in
+      let texts = held_more old.texts mid.texts new.texts all.texts (fault_bytes f) n.texts run.wanted.texts
+      holds.texts words in
       record {
         documents = documents;
         later = left.later;
@@ -83,24 +91,32 @@ module _ {S : Type 0} (MayBreak : S → Fault → Type 0) (only : (s : S) (f : F
         ends = left.ends;
         fault_is = fault_is ∙ ap (λ k. fault_record k f) holds.texts.counted;
         document_records = handed_out all.documents old.documents new.documents run.wanted.documents run.written.documents
-            (moved old.documents mid.documents new.documents all.documents n.documents run.wanted.documents (ap (λ (l : Lists). l.documents) same_lists)
-            (ap (λ (c : document_counts_t). c.documents) same_counts) holds.documents) (ap (λ (c : document_counts_t). c.documents) room);
+            (moved old.documents mid.documents new.documents all.documents n.documents run.wanted.documents
+            (ap (λ (l : Lists). l.documents) same_lists)
+            (ap (λ (c : document_counts_t). c.documents) same_counts) holds.documents)
+            (ap (λ (c : document_counts_t). c.documents) room);
         node_records = handed_out all.nodes old.nodes new.nodes run.wanted.nodes run.written.nodes
             (moved old.nodes mid.nodes new.nodes all.nodes n.nodes run.wanted.nodes (ap (λ (l : Lists). l.nodes) same_lists)
-            (ap (λ (c : document_counts_t). c.nodes) same_counts) holds.nodes) (ap (λ (c : document_counts_t). c.nodes) room);
+            (ap (λ (c : document_counts_t). c.nodes) same_counts) holds.nodes)
+            (ap (λ (c : document_counts_t). c.nodes) room);
         items = handed_out all.items old.items new.items run.wanted.items run.written.items
             (moved old.items mid.items new.items all.items n.items run.wanted.items (ap (λ (l : Lists). l.items) same_lists)
-            (ap (λ (c : document_counts_t). c.items) same_counts) holds.items) (ap (λ (c : document_counts_t). c.items) room);
+            (ap (λ (c : document_counts_t). c.items) same_counts) holds.items)
+            (ap (λ (c : document_counts_t). c.items) room);
         pair_records = handed_out all.pairs old.pairs new.pairs run.wanted.pairs run.written.pairs
             (moved old.pairs mid.pairs new.pairs all.pairs n.pairs run.wanted.pairs (ap (λ (l : Lists). l.pairs) same_lists)
-            (ap (λ (c : document_counts_t). c.pairs) same_counts) holds.pairs) (ap (λ (c : document_counts_t). c.pairs) room);
-        directive_records = handed_out all.directives old.directives new.directives run.wanted.directives run.written.directives
+            (ap (λ (c : document_counts_t). c.pairs) same_counts) holds.pairs)
+            (ap (λ (c : document_counts_t). c.pairs) room);
+        directive_records = handed_out all.directives old.directives new.directives run.wanted.directives
+            run.written.directives
             (moved old.directives mid.directives new.directives all.directives n.directives run.wanted.directives
-            (ap (λ (l : Lists). l.directives) same_lists) (ap (λ (c : document_counts_t). c.directives) same_counts) holds.directives)
+            (ap (λ (l : Lists). l.directives) same_lists) (ap (λ (c : document_counts_t). c.directives) same_counts)
+            holds.directives)
             (ap (λ (c : document_counts_t). c.directives) room);
         texts = handed_out (all.texts ++ fault_bytes f) old.texts new.texts run.wanted.texts run.written.texts texts
             (ap (λ (c : document_counts_t). c.texts) room);
       }
     where
-      moved : {A : Type 0} (old mid new all : List A) (n m : ℕ) → new ≡ mid → m ≡ n → Held old mid all n → Held old new all m
+      moved : {A : Type 0} (old mid new all : List A) (n m : ℕ) → new ≡ mid → m ≡ n → Held old mid all n
+          → Held old new all m
       moved old mid new all n m same count h = record { filled_so = same ∙ h.filled_so; counted = count ∙ h.counted }

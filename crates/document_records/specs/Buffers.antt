@@ -16,7 +16,8 @@ pub record Lists : Type 0 where
   pub directives : List directive_record_t
   pub texts : List ℕ
 
-abbrev pub lists : List document_record_t → List node_record_t → List ℤ → List pair_record_t → List directive_record_t → List ℕ → Lists
+abbrev pub lists : List document_record_t → List node_record_t → List ℤ → List pair_record_t
+    → List directive_record_t → List ℕ → Lists
 lists documents nodes items pairs directives texts
     = record { documents = documents; nodes = nodes; items = items; pairs = pairs; directives = directives; texts = texts }
 
@@ -59,5 +60,6 @@ pub record Holds (old now : Lists) (counts : document_counts_t) (all : Lists) : 
   pub texts : Held old.texts now.texts all.texts counts.texts
 
 -- what buffers held, and n counted, they hold with this more, and m counts it
-abbrev pub Adds : (more : Lists → Lists) → (before : Lists) → (n : document_counts_t) → (after : Lists) → (m : document_counts_t) → Type 0
+abbrev pub Adds : (more : Lists → Lists) → (before : Lists) → (n : document_counts_t) → (after : Lists)
+    → (m : document_counts_t) → Type 0
 Adds more before n after m = (old all : Lists) → Holds old before n all → Holds old after m (more all)

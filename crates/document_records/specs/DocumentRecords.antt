@@ -43,10 +43,18 @@ abbrev pub scalar_record : (n : ℕ) → ScalarNode → node_record_t → node_r
 scalar_record n s r = record r { style = scalar_style_number s.style; value = range_of n s.value }
 
 abbrev pub sequence_record : (i : ℕ) → SequenceNode → node_record_t → node_record_t
-sequence_record i s r = record r { style = sequence_style_number s.style; children = record { place = i; length = length s.items } }
+sequence_record i s r = record r {
+  style = sequence_style_number s.style;
+  children =
+      record { place = i; length = length s.items };
+}
 
 abbrev pub mapping_record : (p : ℕ) → MappingNode → node_record_t → node_record_t
-mapping_record p m r = record r { style = mapping_style_number m.style; children = record { place = p; length = length m.pairs } }
+mapping_record p m r = record r {
+  style = mapping_style_number m.style;
+  children =
+      record { place = p; length = length m.pairs };
+}
 
 -- what a node holds, in its record: its items stand from i on, its pairs from p on, and a scalar's value from n on
 abbrev pub content_record : (i p n : ℕ) → unnamed_yaml_node_t_data → node_record_t → node_record_t

@@ -18,11 +18,14 @@ use Rattle.document_records.specs.declared.records.documents_run_t.{documents_ru
 
 -- the loads over the tokens of these records
 abbrev pub AreLoadsOfRecords : List token_record_t → List ℕ → List Load → Type 0
-AreLoadsOfRecords tokens texts loads = IsBoundedLoads most_nodes (read_records tokens texts).tokens (read_records tokens texts).fault loads
+AreLoadsOfRecords tokens texts loads = IsBoundedLoads most_nodes (read_records tokens texts).tokens
+    (read_records tokens texts).fault loads
 
 -- a loop over a parser's documents was put, up to its ending, from this parser to a last one
-pub record PutsDocuments {S : Type 0} (gives : S → Answer → S → Type 0) (bound : S → ℕ) (known : S → Option Coming) (MayBreak : S → Fault → Type 0)
-    (parser : Parser S) (f : Fault) (before : Lists) (n : document_counts_t) (after : Lists) (m : document_counts_t) : Type 0 where
+pub record PutsDocuments {S : Type 0} (gives : S → Answer → S → Type 0) (bound : S → ℕ) (known : S → Option Coming)
+    (MayBreak : S → Fault → Type 0)
+    (parser : Parser S) (f : Fault) (before : Lists) (n : document_counts_t) (after : Lists)
+    (m : document_counts_t) : Type 0 where
   pub documents : List Document
   pub ending : Ending
   pub last : Parser S
@@ -43,12 +46,15 @@ pub record HandsOutLoads (old new : Lists) (run : documents_run_t) (loads : List
   pub fault : Fault
   pub ends : LoadsEndBy fault later ⊎ (fault ≡ memory_fault)
   pub fault_is : run.fault ≡ fault_record (length (recorded documents).texts) fault
-  pub document_records : HandsOut (recorded documents).documents old.documents new.documents run.wanted.documents run.written.documents
+  pub document_records : HandsOut (recorded documents).documents old.documents new.documents run.wanted.documents
+      run.written.documents
   pub node_records : HandsOut (recorded documents).nodes old.nodes new.nodes run.wanted.nodes run.written.nodes
   pub items : HandsOut (recorded documents).items old.items new.items run.wanted.items run.written.items
   pub pair_records : HandsOut (recorded documents).pairs old.pairs new.pairs run.wanted.pairs run.written.pairs
-  pub directive_records : HandsOut (recorded documents).directives old.directives new.directives run.wanted.directives run.written.directives
-  pub texts : HandsOut ((recorded documents).texts ++ fault_bytes fault) old.texts new.texts run.wanted.texts run.written.texts
+  pub directive_records : HandsOut (recorded documents).directives old.directives new.directives
+      run.wanted.directives run.written.directives
+  pub texts : HandsOut ((recorded documents).texts ++ fault_bytes fault) old.texts new.texts run.wanted.texts
+      run.written.texts
 
 -- what is returned of a run with more of something than can be counted
 abbrev pub uncounted : documents_run_t
@@ -56,7 +62,8 @@ uncounted = record { wanted = counts_of nothing; written = counts_of nothing; fa
 
 -- The loads over the tokens of these records were handed out, or had more than can be counted.
 abbrev pub DocumentsOver : List token_record_t → List ℕ → (old new : Lists) → documents_run_t → Type 0
-DocumentsOver tokens texts old new run = (loads : List Load) → AreLoadsOfRecords tokens texts loads → HandsOutLoads old new run loads ⊎ (run ≡ uncounted)
+DocumentsOver tokens texts old new run = (loads : List Load) → AreLoadsOfRecords tokens texts loads
+    → HandsOutLoads old new run loads ⊎ (run ≡ uncounted)
 
 -- so many were put as are there, or have room
 abbrev pub WithinRoom : (old : Lists) → documents_run_t → Type 0

@@ -25,7 +25,12 @@ content_by l r =
     Mapping (record { pairs = map pair_by (cut_by l.pairs r.children); style = mapping_style_by r.style }))
 
 abbrev pub node_by : Lists → node_record_t → yaml_node_t
-node_by l r = record { tag = cut_by l.texts r.tag; content = content_by l r; start_mark = mark_of r.start_mark; end_mark = mark_of r.end_mark }
+node_by l r = record {
+  tag = cut_by l.texts r.tag;
+  content = content_by l r;
+  start_mark = mark_of r.start_mark;
+  end_mark = mark_of r.end_mark;
+}
 
 abbrev pub version_by : document_record_t → Option yaml_version_directive_t
 version_by r = if r.has_version == 1 then Some (record { major = r.major; minor = r.minor }) else None
@@ -43,4 +48,5 @@ document_by l r = record {
 
 -- the records of documents are read back as these documents
 abbrev pub RecordsGiveDocuments : Type 0
-RecordsGiveDocuments = (documents : List Document) → map (document_by (recorded documents)) (recorded documents).documents ≡ documents
+RecordsGiveDocuments = (documents : List Document)
+    → map (document_by (recorded documents)) (recorded documents).documents ≡ documents

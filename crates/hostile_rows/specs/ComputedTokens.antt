@@ -2,7 +2,8 @@
 use Rattle.std.specs.Prelude.{◌≡◌, ℕ, ◌+◌, ◌-◌, ◌*◌, ◌<◌, Ok, Err}
 use Rattle.unsafe_libyaml.specs.Fault.{Fault, Answer, memory_fault}
 use Rattle.hostile_rows.specs.declared.growing.list.GrowingList.{GrowingList}
-use Rattle.hostile_rows.specs.declared.growing.list.GrowingList.TheVariants.{NestedSequences, NestedPairs, DocumentEnds, Documents, Aliases, TagDirectives}
+use Rattle.hostile_rows.specs.declared.growing.list.GrowingList.TheVariants.{NestedSequences, NestedPairs, DocumentEnds}
+use Rattle.hostile_rows.specs.declared.growing.list.GrowingList.TheVariants.{Documents, Aliases, TagDirectives}
 
 -- what is seen of it: how many tokens are left, and the fault after them
 pub record Computed : Type 0 where

@@ -1,5 +1,6 @@
 -- A child put into a node at its place, as a change of the document.
-use Rattle.std.proofs.Common.{◌≡◌, ℕ, zero, suc, ◌<◌, ℤ, pos, List, [], ◌∷◌, length, set, get_or, nat_lt, refl, ap, sym, subst, arith, ◌∙◌, Option, Some, None}
+use Rattle.std.proofs.Common.{◌≡◌, ℕ, zero, suc, ◌<◌, ℤ, pos, List, [], ◌∷◌, length, set, get_or, nat_lt, refl, ap, sym}
+use Rattle.std.proofs.Common.{subst, arith, ◌∙◌, Option, Some, None}
 use Rattle.std.proofs.Common.{inl, inr, Result, Ok, Err}
 use Rattle.std.proofs.lemmas.Int.{ints}
 use Rattle.std.specs.Prelude.{IfSome, OnErr, slice_get}
@@ -12,7 +13,8 @@ use Rattle.libyaml_documents.specs.LoadedNodes.{children_at, children_of, childr
 use Rattle.libyaml_documents.specs.Nodes.{IsIdUpTo, node_at, node_type, type_at, type_of, with_item, with_pair}
 use Rattle.libyaml_documents.proofs.Ids.{AreNodes-set, with_changed_node-set, with_item-keeps, with_pair-keeps}
 
-found : (nodes : List yaml_node_t) (n : ℕ) (old : yaml_node_t) → n < length nodes → old ≡ get_or nodes n old → slice_get nodes n ≡ Some old
+found : (nodes : List yaml_node_t) (n : ℕ) (old : yaml_node_t) → n < length nodes → old ≡ get_or nodes n old
+    → slice_get nodes n ≡ Some old
 found [] n old inside is = absurd (omega arith)
 found (x ∷ nodes) zero old inside is = ap (λ (y : yaml_node_t). Some y) (sym is)
 found (x ∷ nodes) (suc n) old inside is = found nodes n old (omega arith) is
@@ -22,17 +24,20 @@ set_same [] n old is = refl
 set_same (x ∷ nodes) zero old is = ap (λ (y : yaml_node_t). y ∷ nodes) is
 set_same (x ∷ nodes) (suc n) old is = ap (λ (ys : List yaml_node_t). x ∷ ys) (set_same nodes n old is)
 
-pub inside_of : (d now : Document) (id : ℤ) (n : ℕ) → d ≡ now → id ≡ pos (suc n) → IsIdUpTo (length now.nodes) id → n < length d.nodes
+pub inside_of : (d now : Document) (id : ℤ) (n : ℕ) → d ≡ now → id ≡ pos (suc n) → IsIdUpTo (length now.nodes) id
+    → n < length d.nodes
 inside_of d now id n now_is id_is h =
     let there : IsIdUpTo (length d.nodes) (pos (suc n)) = subst (λ (i : ℤ). IsIdUpTo (length d.nodes) i) id_is
     (subst (λ (e : Document). IsIdUpTo (length e.nodes) id) (sym now_is) h) in
     let below = there.1 in
     omega (arith, ints, below)
 
-module _ (most : ℕ) (d now : Document) (id : ℤ) (n : ℕ) (old new : yaml_node_t) (now_is : d ≡ now) (id_is : id ≡ pos (suc n)) (inside : n < length d.nodes)
+module _ (most : ℕ) (d now : Document) (id : ℤ) (n : ℕ) (old new : yaml_node_t) (now_is : d ≡ now)
+    (id_is : id ≡ pos (suc n)) (inside : n < length d.nodes)
     (old_is : old ≡ get_or d.nodes n old) where
   node_is : node_at now.nodes id ≡ Some old
-  node_is = ap (λ (e : Document). node_at e.nodes id) (sym now_is) ∙ (ap (node_at d.nodes) id_is ∙ found d.nodes n old inside old_is)
+  node_is = ap (λ (e : Document). node_at e.nodes id) (sym now_is)
+      ∙ (ap (node_at d.nodes) id_is ∙ found d.nodes n old inside old_is)
 
   type_is : type_at now.nodes id ≡ node_type old.content
   type_is = ap type_of node_is
@@ -66,16 +71,22 @@ module _ (most : ℕ) (d now : Document) (id : ℤ) (n : ℕ) (old new : yaml_no
   may_refuse None (inl h) = inl (type_is ∙ h)
   may_refuse None (inr h) = inr (type_is ∙ h.0, room_is ∙ h.1)
 
-  pub ids_kept : (r : ChildRole) (key : Option ℤ) (child : ℤ) → PushedAs r most key child old new → IfSome key (IsIdUpTo (length now.nodes))
+  pub ids_kept : (r : ChildRole) (key : Option ℤ) (child : ℤ) → PushedAs r most key child old new
+      → IfSome key (IsIdUpTo (length now.nodes))
       → IsIdUpTo (length now.nodes) child → AreNodes d.nodes → AreNodes (set d.nodes n new)
   ids_kept role.Item key child (sequence, made, room) waits is_id h =
-      let below : IsIdUpTo (length d.nodes) child = subst (λ (e : Document). IsIdUpTo (length e.nodes) child) (sym now_is) is_id in
-      AreNodes-set n (with_item child) d.nodes old new inside old_is made (λ node k. with_item-keeps _ child node.content below k) h
+      let below : IsIdUpTo (length d.nodes) child = subst (λ (e : Document). IsIdUpTo (length e.nodes) child)
+      (sym now_is) is_id in
+      AreNodes-set n (with_item child) d.nodes old new inside old_is made
+      (λ node k. with_item-keeps _ child node.content below k) h
   ids_kept role.Key key child (mapping, none, made, room) waits is_id h = subst AreNodes (sym (nodes_same made)) h
   ids_kept role.Value key child (mapping, (k, some, made)) waits is_id h =
-      let below : IsIdUpTo (length d.nodes) child = subst (λ (e : Document). IsIdUpTo (length e.nodes) child) (sym now_is) is_id in
-      let key_is_id : IsIdUpTo (length now.nodes) k = subst (λ (o : Option ℤ). IfSome o (IsIdUpTo (length now.nodes))) some waits in
-      let key_below : IsIdUpTo (length d.nodes) k = subst (λ (e : Document). IsIdUpTo (length e.nodes) k) (sym now_is) key_is_id in
+      let below : IsIdUpTo (length d.nodes) child = subst (λ (e : Document). IsIdUpTo (length e.nodes) child)
+      (sym now_is) is_id in
+      let key_is_id : IsIdUpTo (length now.nodes) k =
+      subst (λ (o : Option ℤ). IfSome o (IsIdUpTo (length now.nodes))) some waits in
+      let key_below : IsIdUpTo (length d.nodes) k = subst (λ (e : Document). IsIdUpTo (length e.nodes) k)
+      (sym now_is) key_is_id in
       AreNodes-set n (with_pair k child) d.nodes old new inside old_is made
       (λ node m. with_pair-keeps _ (record { key = k; value = child }) node.content key_below below m) h
   ids_kept role.Ignored key child (scalar, made) waits is_id h = subst AreNodes (sym (nodes_same made)) h

@@ -21,7 +21,8 @@ through a to from = (λ e. to (a.0 e), λ q. a.1 (from q))
 pub no_field : (x y : Unit {0}) → Decides true (x ≡ y)
 no_field x y = (λ e. refl, λ e. refl)
 
-pub one_field : {A : Type 0} (E : A → A → Bool) → ((x y : A) → Decides (E x y) (x ≡ y)) → (x y : A × Unit {0}) → Decides (E x.0 y.0) (x ≡ y)
+pub one_field : {A : Type 0} (E : A → A → Bool) → ((x y : A) → Decides (E x y) (x ≡ y)) → (x y : A × Unit {0})
+    → Decides (E x.0 y.0) (x ≡ y)
 one_field {A} E decides x y = through (decides x.0 y.0) (λ p i. (p i, tt)) (λ e. ap (λ (z : A × Unit {0}). z.0) e)
 
 -- what is said of a variant, and then of the variants after it
@@ -37,7 +38,8 @@ abbrev OnLeft : {A B : Type 0} → A ⊎ B → Type 0
 OnLeft (inl x) = Unit {0}
 OnLeft (inr y) = ⊥
 
-choices_decide : (Fss : List (List Field)) (es : Each Bool Fss) → AllDecide Fss es → (c d : Choice Fss) → Decides (by false false Fss es c d) (c ≡ d)
+choices_decide : (Fss : List (List Field)) (es : Each Bool Fss) → AllDecide Fss es → (c d : Choice Fss)
+    → Decides (by false false Fss es c d) (c ≡ d)
 choices_decide [] es all c d = absurd c
 choices_decide (Fs ∷ Fss) es all (inl x) (inl y) = (λ e. ap inl ((all.0 x y).0 e), λ e. (all.0 x y).1 (ap (left_or x) e))
 choices_decide (Fs ∷ Fss) es all (inl x) (inr y) = (λ e. absurd (true≢false (sym e)), λ e. absurd (subst OnLeft e tt))

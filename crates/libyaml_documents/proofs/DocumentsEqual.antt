@@ -15,7 +15,8 @@ document_decides a b =
     (both (versions_decide a.version_directive b.version_directive)
     (both (directives_decide a.tag_directives b.tag_directives)
     (both (booleans_Decides a.start_implicit b.start_implicit)
-    (both (booleans_Decides a.end_implicit b.end_implicit) (both (mark_decides a.start_mark b.start_mark) (mark_decides a.end_mark b.end_mark)))))))
+    (both (booleans_Decides a.end_implicit b.end_implicit)
+    (both (mark_decides a.start_mark b.start_mark) (mark_decides a.end_mark b.end_mark)))))))
     (λ p i. record {
       nodes = p.0 i;
       version_directive = p.1.0 i;

@@ -4,7 +4,8 @@ use Rattle.std.specs.Bool.{Decides}
 use Rattle.std.specs.Cmp.{booleans_Decides}
 use Rattle.std.specs.Cmp.Lexicographic.{bytes_decides}
 use Rattle.libyaml_documents.proofs.Choices.{both, through, no_field, one_field, enum_decides, ◌then◌}
-use Rattle.libyaml_documents.proofs.Fields.{mark_decides, text_decides, encoding_decides, scalar_style_decides, sequence_style_decides, mapping_style_decides}
+use Rattle.libyaml_documents.proofs.Fields.{mark_decides, text_decides, encoding_decides, scalar_style_decides}
+use Rattle.libyaml_documents.proofs.Fields.{sequence_style_decides, mapping_style_decides}
 use Rattle.libyaml_documents.proofs.Fields.{versions_decide, directives_decide}
 use Rattle.libyaml_types.specs.declared.event.unnamed_yaml_event_t_data_stream_start.{unnamed_yaml_event_t_data_stream_start}
 use Rattle.libyaml_types.specs.contracts.event.unnamed_yaml_event_t_data_stream_startPartialEq.TheImpl as stream_start_eq
@@ -30,7 +31,8 @@ stream_start_decides : (a b : unnamed_yaml_event_t_data_stream_start) → Decide
 stream_start_decides a b
     = through (encoding_decides a.encoding b.encoding) (λ p i. record { encoding = p i }) (λ e. search)
 
-document_start_decides : (a b : unnamed_yaml_event_t_data_document_start) → Decides ((document_start_eq.ghosts).eq a b) (a ≡ b)
+document_start_decides : (a b : unnamed_yaml_event_t_data_document_start)
+    → Decides ((document_start_eq.ghosts).eq a b) (a ≡ b)
 document_start_decides a b =
     through (both (versions_decide a.version_directive b.version_directive)
     (both (directives_decide a.tag_directives b.tag_directives) (booleans_Decides a.implicit b.implicit)))
@@ -51,20 +53,30 @@ scalar_decides a b =
     (both (bytes_decides a.value b.value)
     (both (booleans_Decides a.plain_implicit b.plain_implicit)
     (both (booleans_Decides a.quoted_implicit b.quoted_implicit) (scalar_style_decides a.style b.style))))))
-    (λ p i. record { anchor = p.0 i; tag = p.1.0 i; value = p.1.1.0 i; plain_implicit = p.1.1.1.0 i; quoted_implicit = p.1.1.1.1.0 i; style = p.1.1.1.1.1 i })
+    (λ p i. record {
+      anchor = p.0 i;
+      tag = p.1.0 i;
+      value = p.1.1.0 i;
+      plain_implicit = p.1.1.1.0 i;
+      quoted_implicit = p.1.1.1.1.0 i;
+      style = p.1.1.1.1.1 i;
+    })
     (λ e. search)
 
-sequence_start_decides : (a b : unnamed_yaml_event_t_data_sequence_start) → Decides ((sequence_start_eq.ghosts).eq a b) (a ≡ b)
+sequence_start_decides : (a b : unnamed_yaml_event_t_data_sequence_start)
+    → Decides ((sequence_start_eq.ghosts).eq a b) (a ≡ b)
 sequence_start_decides a b =
     through (both (text_decides a.anchor b.anchor)
-    (both (text_decides a.tag b.tag) (both (booleans_Decides a.implicit b.implicit) (sequence_style_decides a.style b.style))))
+    (both (text_decides a.tag b.tag)
+    (both (booleans_Decides a.implicit b.implicit) (sequence_style_decides a.style b.style))))
     (λ p i. record { anchor = p.0 i; tag = p.1.0 i; implicit = p.1.1.0 i; style = p.1.1.1 i })
     (λ e. search)
 
 mapping_start_decides : (a b : unnamed_yaml_event_t_data_mapping_start) → Decides ((mapping_start_eq.ghosts).eq a b) (a ≡ b)
 mapping_start_decides a b =
     through (both (text_decides a.anchor b.anchor)
-    (both (text_decides a.tag b.tag) (both (booleans_Decides a.implicit b.implicit) (mapping_style_decides a.style b.style))))
+    (both (text_decides a.tag b.tag)
+    (both (booleans_Decides a.implicit b.implicit) (mapping_style_decides a.style b.style))))
     (λ p i. record { anchor = p.0 i; tag = p.1.0 i; implicit = p.1.1.0 i; style = p.1.1.1 i })
     (λ e. search)
 
@@ -79,6 +91,7 @@ content_decides =
 
 pub event_decides : (a b : yaml_event_t) → Decides ((event_eq.ghosts).eq a b) (a ≡ b)
 event_decides a b =
-    through (both (content_decides a.content b.content) (both (mark_decides a.start_mark b.start_mark) (mark_decides a.end_mark b.end_mark)))
+    through (both (content_decides a.content b.content)
+    (both (mark_decides a.start_mark b.start_mark) (mark_decides a.end_mark b.end_mark)))
     (λ p i. record { content = p.0 i; start_mark = p.1.0 i; end_mark = p.1.1 i })
     (λ e. search)

@@ -25,7 +25,8 @@ use Rattle.libyaml_types.specs.contracts.directive.yaml_version_directive_tParti
 use Rattle.libyaml_types.specs.contracts.directive.Yaml_tag_directive_tPartialEq.TheImpl as directive_eq
 use Rattle.libyaml_types.specs.contracts.mark.yaml_mark_tPartialEq.TheImpl as mark_eq
 
-pub option_decides : {A : Type 0} (E : A → A → Bool) → ((x y : A) → Decides (E x y) (x ≡ y)) → (a b : Option A) → Decides (option_eq E a b) (a ≡ b)
+pub option_decides : {A : Type 0} (E : A → A → Bool) → ((x y : A) → Decides (E x y) (x ≡ y)) → (a b : Option A)
+    → Decides (option_eq E a b) (a ≡ b)
 option_decides E decides None None = (λ e. refl, λ e. refl)
 option_decides E decides None (Some y) = (λ e. absurd (true≢false (sym e)), λ e. cc)
 option_decides E decides (Some x) None = (λ e. absurd (true≢false (sym e)), λ e. cc)
@@ -48,7 +49,8 @@ mapping_style_decides a b = (same_true mapping_style.the_type tt a b, true_same 
 
 pub mark_decides : (a b : yaml_mark_t) → Decides ((mark_eq.ghosts).eq a b) (a ≡ b)
 mark_decides a b =
-    through (both (unsigned_Decides a.index b.index) (both (unsigned_Decides a.line b.line) (unsigned_Decides a.column b.column)))
+    through (both (unsigned_Decides a.index b.index)
+    (both (unsigned_Decides a.line b.line) (unsigned_Decides a.column b.column)))
     (λ p i. record { index = p.0 i; line = p.1.0 i; column = p.1.1 i })
     (λ e. search)
 

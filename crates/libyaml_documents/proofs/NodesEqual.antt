@@ -3,7 +3,8 @@ use Rattle.std.proofs.Common.{◌≡◌}
 use Rattle.std.specs.Bool.{Decides}
 use Rattle.std.specs.Cmp.Lexicographic.{bytes_decides}
 use Rattle.libyaml_documents.proofs.Choices.{both, through, one_field, enum_decides, ◌then◌}
-use Rattle.libyaml_documents.proofs.Fields.{mark_decides, scalar_style_decides, sequence_style_decides, mapping_style_decides, items_decide, pairs_decide}
+use Rattle.libyaml_documents.proofs.Fields.{mark_decides, scalar_style_decides, sequence_style_decides}
+use Rattle.libyaml_documents.proofs.Fields.{mapping_style_decides, items_decide, pairs_decide}
 use Rattle.libyaml_documents.specs.declared.node.unnamed_yaml_node_t_data_scalar.{unnamed_yaml_node_t_data_scalar}
 use Rattle.libyaml_documents.specs.contracts.node.Unnamed_yaml_node_t_data_scalarPartialEq.TheImpl as scalar_eq
 use Rattle.libyaml_documents.specs.declared.node.unnamed_yaml_node_t_data_sequence.{unnamed_yaml_node_t_data_sequence}
@@ -43,6 +44,7 @@ content_decides =
 pub node_decides : (a b : yaml_node_t) → Decides ((node_eq.ghosts).eq a b) (a ≡ b)
 node_decides a b =
     through (both (bytes_decides a.tag b.tag)
-    (both (content_decides a.content b.content) (both (mark_decides a.start_mark b.start_mark) (mark_decides a.end_mark b.end_mark))))
+    (both (content_decides a.content b.content)
+    (both (mark_decides a.start_mark b.start_mark) (mark_decides a.end_mark b.end_mark))))
     (λ p i. record { tag = p.0 i; content = p.1.0 i; start_mark = p.1.1.0 i; end_mark = p.1.1.1 i })
     (λ e. search)

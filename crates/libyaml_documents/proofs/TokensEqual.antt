@@ -29,7 +29,8 @@ stream_start_decides : (a b : unnamed_yaml_token_t_data_stream_start) → Decide
 stream_start_decides a b
     = through (encoding_decides a.encoding b.encoding) (λ p i. record { encoding = p i }) (λ e. search)
 
-version_directive_decides : (a b : unnamed_yaml_token_t_data_version_directive) → Decides ((version_directive_eq.ghosts).eq a b) (a ≡ b)
+version_directive_decides : (a b : unnamed_yaml_token_t_data_version_directive)
+    → Decides ((version_directive_eq.ghosts).eq a b) (a ≡ b)
 version_directive_decides a b =
     through (both (signed_Decides a.major b.major) (signed_Decides a.minor b.minor))
     (λ p i. record { major = p.0 i; minor = p.1 i })
@@ -71,6 +72,7 @@ content_decides =
 
 pub token_decides : (a b : yaml_token_t) → Decides ((token_eq.ghosts).eq a b) (a ≡ b)
 token_decides a b =
-    through (both (content_decides a.content b.content) (both (mark_decides a.start_mark b.start_mark) (mark_decides a.end_mark b.end_mark)))
+    through (both (content_decides a.content b.content)
+    (both (mark_decides a.start_mark b.start_mark) (mark_decides a.end_mark b.end_mark)))
     (λ p i. record { content = p.0 i; start_mark = p.1.0 i; end_mark = p.1.1 i })
     (λ e. search)

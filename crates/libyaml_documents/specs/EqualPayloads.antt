@@ -17,16 +17,19 @@ abbrev pub same_scalar_node : ScalarNode → ScalarNode → Bool
 same_scalar_node x y = pointwise nat_eq x.value y.value && (scalar_style_eq.ghosts).eq x.style y.style
 
 pub same_scalar_node_equiv : IsEquivalence same_scalar_node
-same_scalar_node_equiv = and_equiv (on_equiv (λ x. x.value) nat_list_eq_equiv) (on_equiv (λ x. x.style) scalar_style_laws.laws-law)
+same_scalar_node_equiv = and_equiv (on_equiv (λ x. x.value) nat_list_eq_equiv)
+    (on_equiv (λ x. x.style) scalar_style_laws.laws-law)
 
 abbrev pub same_sequence_node : SequenceNode → SequenceNode → Bool
 same_sequence_node x y = pointwise int_eq x.items y.items && (sequence_style_eq.ghosts).eq x.style y.style
 
 pub same_sequence_node_equiv : IsEquivalence same_sequence_node
-same_sequence_node_equiv = and_equiv (on_equiv (λ x. x.items) (lists_equiv int_eq_equiv)) (on_equiv (λ x. x.style) sequence_style_laws.laws-law)
+same_sequence_node_equiv = and_equiv (on_equiv (λ x. x.items) (lists_equiv int_eq_equiv))
+    (on_equiv (λ x. x.style) sequence_style_laws.laws-law)
 
 abbrev pub same_mapping_node : MappingNode → MappingNode → Bool
 same_mapping_node x y = pointwise (pair_eq.ghosts).eq x.pairs y.pairs && (mapping_style_eq.ghosts).eq x.style y.style
 
 pub same_mapping_node_equiv : IsEquivalence same_mapping_node
-same_mapping_node_equiv = and_equiv (on_equiv (λ x. x.pairs) (lists_equiv pair_laws.laws-law)) (on_equiv (λ x. x.style) mapping_style_laws.laws-law)
+same_mapping_node_equiv = and_equiv (on_equiv (λ x. x.pairs) (lists_equiv pair_laws.laws-law))
+    (on_equiv (λ x. x.style) mapping_style_laws.laws-law)

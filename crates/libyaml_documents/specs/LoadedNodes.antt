@@ -1,4 +1,5 @@
--- Nodes as a load makes them of events, and documents as it begins and ends them (docs/DEFINITIONS.md, "Documents from events").
+-- Nodes as a load makes them of events, and documents as it begins and ends them (docs/DEFINITIONS.md, "Documents
+-- from events").
 use Rattle.std.specs.Prelude.{ℕ, ℤ, nat_eq, List, [], Option, Some, None, Bool, true, false, length, codes}
 use Rattle.std.specs.Cmp.Lexicographic.{pointwise}
 use Rattle.libyaml_types.specs.declared.enums.yaml_mapping_style_t.{yaml_mapping_style_t}
@@ -33,7 +34,8 @@ scalar_loaded s start end = record {
   end_mark = end;
 }
 
-abbrev pub sequence_loaded : Option (List ℕ) → yaml_sequence_style_t → (items : List ℤ) → (start end : yaml_mark_t) → yaml_node_t
+abbrev pub sequence_loaded : Option (List ℕ) → yaml_sequence_style_t → (items : List ℤ) → (start end : yaml_mark_t)
+    → yaml_node_t
 sequence_loaded tag style items start end = record {
   tag = loaded_tag (codes "tag:yaml.org,2002:seq") tag;
   content = Sequence (record { items = items; style = style });
@@ -41,7 +43,8 @@ sequence_loaded tag style items start end = record {
   end_mark = end;
 }
 
-abbrev pub mapping_loaded : Option (List ℕ) → yaml_mapping_style_t → (pairs : List yaml_node_pair_t) → (start end : yaml_mark_t) → yaml_node_t
+abbrev pub mapping_loaded : Option (List ℕ) → yaml_mapping_style_t → (pairs : List yaml_node_pair_t)
+    → (start end : yaml_mark_t) → yaml_node_t
 mapping_loaded tag style pairs start end = record {
   tag = loaded_tag (codes "tag:yaml.org,2002:map") tag;
   content = Mapping (record { pairs = pairs; style = style });

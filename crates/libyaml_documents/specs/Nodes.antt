@@ -1,7 +1,9 @@
 -- Nodes, their ids, the nodes that ids name, and the nodes that the calls make (docs/DEFINITIONS.md, "Documents by calls").
-use Rattle.std.specs.Prelude.{◌≡◌, ℕ, suc, zero, ℤ, pos, negsuc, ◌≤ℤ◌, List, [], ◌∷◌, ◌++◌, Option, Some, None, length, map, slice_get, All, codes}
+use Rattle.std.specs.Prelude.{◌≡◌, ℕ, suc, zero, ℤ, pos, negsuc, ◌≤ℤ◌, List, [], ◌∷◌, ◌++◌, Option, Some, None, length}
+use Rattle.std.specs.Prelude.{map, slice_get, All, codes}
 use Rattle.libyaml_types.specs.declared.enums.yaml_node_type_t.{yaml_node_type_t}
-use Rattle.libyaml_types.specs.declared.enums.yaml_node_type_t.TheVariants.{YAML_NO_NODE, YAML_SCALAR_NODE, YAML_SEQUENCE_NODE, YAML_MAPPING_NODE}
+use Rattle.libyaml_types.specs.declared.enums.yaml_node_type_t.TheVariants.{YAML_NO_NODE, YAML_SCALAR_NODE}
+use Rattle.libyaml_types.specs.declared.enums.yaml_node_type_t.TheVariants.{YAML_SEQUENCE_NODE, YAML_MAPPING_NODE}
 use Rattle.libyaml_types.specs.declared.enums.yaml_scalar_style_t.{yaml_scalar_style_t}
 use Rattle.libyaml_types.specs.declared.enums.yaml_sequence_style_t.{yaml_sequence_style_t}
 use Rattle.libyaml_types.specs.declared.enums.yaml_mapping_style_t.{yaml_mapping_style_t}
@@ -86,13 +88,16 @@ node_of tag content = record { tag = tag; content = content; start_mark = zero_m
 
 -- the nodes that the adding calls make: zero marks, no children
 abbrev pub scalar_node : Option (List ℕ) → List ℕ → yaml_scalar_style_t → yaml_node_t
-scalar_node tag value style = node_of (tag_or (codes "tag:yaml.org,2002:str") tag) (Scalar (record { value = value; style = style }))
+scalar_node tag value style = node_of (tag_or (codes "tag:yaml.org,2002:str") tag)
+    (Scalar (record { value = value; style = style }))
 
 abbrev pub sequence_node : Option (List ℕ) → yaml_sequence_style_t → yaml_node_t
-sequence_node tag style = node_of (tag_or (codes "tag:yaml.org,2002:seq") tag) (Sequence (record { items = []; style = style }))
+sequence_node tag style = node_of (tag_or (codes "tag:yaml.org,2002:seq") tag)
+    (Sequence (record { items = []; style = style }))
 
 abbrev pub mapping_node : Option (List ℕ) → yaml_mapping_style_t → yaml_node_t
-mapping_node tag style = node_of (tag_or (codes "tag:yaml.org,2002:map") tag) (Mapping (record { pairs = []; style = style }))
+mapping_node tag style = node_of (tag_or (codes "tag:yaml.org,2002:map") tag)
+    (Mapping (record { pairs = []; style = style }))
 
 -- one more item after those of a sequence
 abbrev pub item_behind : ℤ → unnamed_yaml_node_t_data → unnamed_yaml_node_t_data

@@ -31,7 +31,11 @@ Follows MayBreak (Some c) answer after = FollowsList MayBreak c.tokens c.fault a
 
 -- the fault of a list that ends before its STREAM-END
 abbrev pub no_more_tokens : Fault
-no_more_tokens = record no_fault { error = YAML_READER_ERROR; problem = Some (codes "no more tokens"); problem_value = negsuc 0 }
+no_more_tokens = record no_fault {
+  error = YAML_READER_ERROR;
+  problem = Some (codes "no more tokens");
+  problem_value = negsuc 0;
+}
 
 -- the result of a list with no break
 abbrev pub list_answer : List yaml_token_t → Fault → Answer

@@ -5,7 +5,8 @@ use Rattle.std.specs.List.{AllWithin, HoldsAt}
 use Rattle.libyaml_types.specs.Texts.{HandleAndPrefix, PairIsUtf8, PairsAreUtf8}
 
 pub all_are_utf8 : (r : Bool) (pairs : List HandleAndPrefix)
-    → MatchBool r (AllWithin PairIsUtf8 pairs 0 (length pairs)) ((k : ℕ) × (k < length pairs) × HoldsAt (λ pair. ¬ PairIsUtf8 pair) pairs k)
+    → MatchBool r (AllWithin PairIsUtf8 pairs 0 (length pairs))
+    ((k : ℕ) × (k < length pairs) × HoldsAt (λ pair. ¬ PairIsUtf8 pair) pairs k)
     → (IsTrue r → PairsAreUtf8 pairs) × (PairsAreUtf8 pairs → IsTrue r)
 all_are_utf8 true pairs every = (λ _. record { each = λ k d below. every k d (omega arith) below }, λ _. refl)
 all_are_utf8 false [] some = absurd (omega (arith, some.1))

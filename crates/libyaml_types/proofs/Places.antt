@@ -21,18 +21,21 @@ use Rattle.libyaml_types.specs.Numbers.{token_type_number, parser_state_number}
 abbrev place : (Fss : List (List Field)) → Choice Fss → ℕ
 place Fss c = tag (rowss Fss) (intoss Fss c)
 
-one_up : (r : Ordering) (m n : ℕ) → MatchOrdering r (m < n) (m ≡ n) (n < m) → MatchOrdering r (suc m < suc n) (suc m ≡ suc n) (suc n < suc m)
+one_up : (r : Ordering) (m n : ℕ) → MatchOrdering r (m < n) (m ≡ n) (n < m)
+    → MatchOrdering r (suc m < suc n) (suc m ≡ suc n) (suc n < suc m)
 one_up Less m n h = omega (arith, h)
 one_up Equal m n h = ap suc h
 one_up Greater m n h = omega (arith, h)
 
 by_place : (Fss : List (List Field)) (c d : Choice Fss)
-    → MatchOrdering (by Less Greater Fss (points Equal Fss) c d) (place Fss c < place Fss d) (place Fss c ≡ place Fss d) (place Fss d < place Fss c)
+    → MatchOrdering (by Less Greater Fss (points Equal Fss) c d) (place Fss c < place Fss d)
+    (place Fss c ≡ place Fss d) (place Fss d < place Fss c)
 by_place [] c d = absurd c
 by_place (Fs ∷ Fss) (inl x) (inl y) = refl
 by_place (Fs ∷ Fss) (inl x) (inr y) = omega arith
 by_place (Fs ∷ Fss) (inr x) (inl y) = omega arith
-by_place (Fs ∷ Fss) (inr x) (inr y) = one_up (by Less Greater Fss (points Equal Fss) x y) (place Fss x) (place Fss y) (by_place Fss x y)
+by_place (Fs ∷ Fss) (inr x) (inr y) = one_up (by Less Greater Fss (points Equal Fss) x y) (place Fss x)
+    (place Fss y) (by_place Fss x y)
 
 -- an enum without payload whose numbers are its places is ordered by its numbers
 ordered : (N : Record) (number : N.D → ℕ) → ((x : N.D) → number x ≡ tag_of (declared N) x) → (a b : N.D)
@@ -92,9 +95,11 @@ parser_state_place states.YAML_PARSE_FLOW_MAPPING_EMPTY_VALUE_STATE = refl
 parser_state_place states.YAML_PARSE_END_STATE = refl
 
 pub ordered_token_types : (a b : yaml_token_type_t)
-    → of_values token_type.enum Less Greater (points Equal token_type.the_parts) a b ≡ nat_cmp (token_type_number a) (token_type_number b)
+    → of_values token_type.enum Less Greater (points Equal token_type.the_parts) a b ≡ nat_cmp (token_type_number a)
+    (token_type_number b)
 ordered_token_types = ordered token_type.enum token_type_number token_type_place
 
 pub ordered_parser_states : (a b : yaml_parser_state_t)
-    → of_values parser_state.enum Less Greater (points Equal parser_state.the_parts) a b ≡ nat_cmp (parser_state_number a) (parser_state_number b)
+    → of_values parser_state.enum Less Greater (points Equal parser_state.the_parts) a b ≡ nat_cmp
+    (parser_state_number a) (parser_state_number b)
 ordered_parser_states = ordered parser_state.enum parser_state_number parser_state_place

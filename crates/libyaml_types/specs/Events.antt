@@ -1,4 +1,5 @@
--- The events that calls make of their arguments, with zero marks, and the empty token and event (docs/DEFINITIONS.md, "Events made by calls").
+-- The events that calls make of their arguments, with zero marks, and the empty token and event
+-- (docs/DEFINITIONS.md, "Events made by calls").
 use Rattle.std.specs.Prelude.{ℕ, List, Bool, Option}
 use Rattle.libyaml_types.specs.declared.enums.yaml_encoding_t.{yaml_encoding_t}
 use Rattle.libyaml_types.specs.declared.enums.yaml_scalar_style_t.{yaml_scalar_style_t}
@@ -47,7 +48,14 @@ alias_event anchor = unmarked (ev.Alias (record { anchor = anchor }))
 
 abbrev pub scalar_event : Option (List ℕ) → Option (List ℕ) → List ℕ → Bool → Bool → yaml_scalar_style_t → yaml_event_t
 scalar_event anchor tag value plain quoted style =
-    unmarked (ev.Scalar (record { anchor = anchor; tag = tag; value = value; plain_implicit = plain; quoted_implicit = quoted; style = style }))
+    unmarked (ev.Scalar (record {
+      anchor = anchor;
+      tag = tag;
+      value = value;
+      plain_implicit = plain;
+      quoted_implicit = quoted;
+      style = style;
+    }))
 
 abbrev pub sequence_start_event : Option (List ℕ) → Option (List ℕ) → Bool → yaml_sequence_style_t → yaml_event_t
 sequence_start_event anchor tag implicit style =

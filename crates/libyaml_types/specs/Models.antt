@@ -1,4 +1,5 @@
--- What clauses see of tokens, events and directives: the same fields, a text as its bytes and a vector as its members (docs/DEFINITIONS.md, "Values").
+-- What clauses see of tokens, events and directives: the same fields, a text as its bytes and a vector as its
+-- members (docs/DEFINITIONS.md, "Values").
 use Rattle.std.specs.Prelude.{ℕ, List, Bool, Option}
 use Rattle.libyaml_types.specs.declared.enums.yaml_scalar_style_t.{yaml_scalar_style_t}
 use Rattle.libyaml_types.specs.declared.enums.yaml_sequence_style_t.{yaml_sequence_style_t}

@@ -1,11 +1,11 @@
 //! The words of a command line: what they ask for, and what is told where they ask for nothing. That a run by
 //! words writes what any run over the same lines does is proved.
 
+use command_line::{no_memory, refuse_words, run_words};
 use row_checks::{PieceWriter, Tables};
 use std::alloc::{AllocError, Global};
 use std::io;
 use std::io::Write;
-use token_words::{no_memory, refuse_words, run_words};
 
 /// A line that is read.
 const LINE: &[u8] = b"STREAM-START 0:0:0 0:0:0 utf8\n";

@@ -1,5 +1,6 @@
 -- How the fields and lines that are appended one by one make a document's text.
-use Rattle.std.proofs.Common.{◌≡◌, ◌++◌, ◌+◌, ◌<◌, ℕ, List, [], ◌∷◌, length, get_or, take, drop, map, refl, ap, ◌∙◌, sym, arith, Option}
+use Rattle.std.proofs.Common.{◌≡◌, ◌++◌, ◌+◌, ◌<◌, ℕ, List, [], ◌∷◌, length, get_or, take, drop, map, refl, ap, ◌∙◌}
+use Rattle.std.proofs.Common.{sym, arith, Option}
 use Rattle.std.specs.List.{concat}
 use Rattle.std.specs.Io.KnownBytes.{Appends}
 use Rattle.std.proofs.KnownBytes.{Appends-nil, Appends-trans}
@@ -19,7 +20,8 @@ fields_more f xs i d within =
     ∙ behind_spaces-append (map f (take i xs)) (f (get_or xs i d) ∷ [])
 
 -- the lines of some nodes, and then of others
-lines_then : (id : ℕ) (xs ys : List yaml_node_t) → node_lines id (xs ++ ys) ≡ node_lines id xs ++ node_lines (id + length xs) ys
+lines_then : (id : ℕ) (xs ys : List yaml_node_t) → node_lines id (xs ++ ys) ≡ node_lines id xs
+    ++ node_lines (id + length xs) ys
 lines_then id [] ys = let e : id ≡ id + 0 = omega arith in ap (λ n. node_lines n ys) e
 lines_then id (x ∷ xs) ys =
     let e : id + 1 + length xs ≡ id + length (x ∷ xs) = omega arith in
@@ -27,7 +29,8 @@ lines_then id (x ∷ xs) ys =
 
 -- the line of the node at this index, and those after it
 lines_at : (ns : List yaml_node_t) (i : ℕ) (d : yaml_node_t) → i < length ns
-    → node_lines 1 ns ≡ node_lines 1 (take i ns) ++ node_line (i + 1) (get_or ns i d) ∷ node_lines (i + 1 + 1) (drop (i + 1) ns)
+    → node_lines 1 ns ≡ node_lines 1 (take i ns) ++ node_line (i + 1) (get_or ns i d) ∷ node_lines (i + 1 + 1)
+    (drop (i + 1) ns)
 lines_at ns i d within =
     let count : 1 + length (take i ns) ≡ i + 1 = omega (arith, length-take-le i ns (omega (arith, within))) in
     ap (node_lines 1) (sym (take-append-drop i ns))
@@ -47,7 +50,8 @@ lines_more ns i d within =
     ∙ ap (λ l. concat (node_lines 1 (take i ns)) ++ l) (append-nil (node_line (i + 1) (get_or ns i d)))
 
 -- a line that found no memory
-pub wrote_before : (ns : List yaml_node_t) (i : ℕ) (d : yaml_node_t) (a b : Option (List ℕ)) → i < length ns → Appends a b (concat (node_lines 1 (take i ns)))
+pub wrote_before : (ns : List yaml_node_t) (i : ℕ) (d : yaml_node_t) (a b : Option (List ℕ)) → i < length ns
+    → Appends a b (concat (node_lines 1 (take i ns)))
     → WroteBefore a b (node_lines 1 ns)
 wrote_before ns i d a b within wrote = record {
   written = node_lines 1 (take i ns);
@@ -62,7 +66,8 @@ pub wrote_none : (line : List ℕ) (rest : List (List ℕ)) (a : Option (List �
 wrote_none line rest a = record { written = []; line = line; rest = rest; all = refl; wrote = Appends-nil a }
 
 -- the first line was written, and a later one found no memory
-pub wrote_behind : (line : List ℕ) (rest : List (List ℕ)) (a b c : Option (List ℕ)) → Appends a b line → WroteBefore b c rest → WroteBefore a c (line ∷ rest)
+pub wrote_behind : (line : List ℕ) (rest : List (List ℕ)) (a b c : Option (List ℕ)) → Appends a b line
+    → WroteBefore b c rest → WroteBefore a c (line ∷ rest)
 wrote_behind line rest a b c first h = record {
   written = line ∷ h.written;
   line = h.line;

@@ -1,5 +1,6 @@
 -- How fields that are appended one by one make a line.
-use Rattle.std.proofs.Common.{◌≡◌, ◌++◌, ◌+◌, ◌<◌, ℕ, List, [], ◌∷◌, length, get_or, take, codes, refl, ap, ◌∙◌, sym, append_assoc}
+use Rattle.std.proofs.Common.{◌≡◌, ◌++◌, ◌+◌, ◌<◌, ℕ, List, [], ◌∷◌, length, get_or, take, codes, refl, ap, ◌∙◌, sym}
+use Rattle.std.proofs.Common.{append_assoc}
 use Rattle.std.specs.List.{join_with_byte}
 use Rattle.std.proofs.lemmas.List.{append-nil, take_more}
 use Rattle.libyaml_types.specs.declared.directive.yaml_tag_directive_t.{yaml_tag_directive_t}
@@ -15,11 +16,14 @@ line_text-spaced x xs = ap (λ l. l ++ codes "\n") (join-spaced x xs) ∙ append
 pub behind_spaces-append : (xs ys : List (List ℕ)) → behind_spaces (xs ++ ys) ≡ behind_spaces xs ++ behind_spaces ys
 behind_spaces-append [] ys = refl
 behind_spaces-append (x ∷ xs) ys =
-    ap (λ l. 0x20 ∷ (x ++ l)) (behind_spaces-append xs ys) ∙ ap (λ l. 0x20 ∷ l) (sym (append_assoc x (behind_spaces xs) (behind_spaces ys)))
+    ap (λ l. 0x20 ∷ (x ++ l)) (behind_spaces-append xs ys)
+    ∙ ap (λ l. 0x20 ∷ l) (sym (append_assoc x (behind_spaces xs) (behind_spaces ys)))
 
-pub directive_texts-append : (xs ys : List yaml_tag_directive_t) → directive_texts (xs ++ ys) ≡ directive_texts xs ++ directive_texts ys
+pub directive_texts-append : (xs ys : List yaml_tag_directive_t) → directive_texts (xs ++ ys) ≡ directive_texts xs
+    ++ directive_texts ys
 directive_texts-append [] ys = refl
-directive_texts-append (x ∷ xs) ys = ap (λ l. string_text x.handle ∷ string_text x.prefix ∷ l) (directive_texts-append xs ys)
+directive_texts-append (x ∷ xs) ys = ap (λ l. string_text x.handle ∷ string_text x.prefix ∷ l)
+    (directive_texts-append xs ys)
 
 -- one more directive
 pub directive_texts-more : (ds : List yaml_tag_directive_t) (i : ℕ) (d : yaml_tag_directive_t) → i < length ds
@@ -28,14 +32,16 @@ pub directive_texts-more : (ds : List yaml_tag_directive_t) (i : ℕ) (d : yaml_
 directive_texts-more ds i d within =
     ap (λ l. behind_spaces (directive_texts l)) (take_more ds i d within)
     ∙ ap behind_spaces (directive_texts-append (take i ds) (get_or ds i d ∷ []))
-    ∙ behind_spaces-append (directive_texts (take i ds)) (string_text (get_or ds i d).handle ∷ string_text (get_or ds i d).prefix ∷ [])
+    ∙ behind_spaces-append (directive_texts (take i ds))
+    (string_text (get_or ds i d).handle ∷ string_text (get_or ds i d).prefix ∷ [])
 
 regroup : (old first start middle rest end : List ℕ)
     → ((old ++ (first ++ start)) ++ middle) ++ (rest ++ end) ≡ old ++ (first ++ ((start ++ (middle ++ rest)) ++ end))
 regroup old first start middle rest end = simp append_assoc
 
 -- the first fields of a line, some others, and the rest with the line feed, one after the other
-pub line_appended : (old l1 l2 l3 first : List ℕ) (start middle rest : List (List ℕ)) → l1 ≡ old ++ (first ++ behind_spaces start)
+pub line_appended : (old l1 l2 l3 first : List ℕ) (start middle rest : List (List ℕ))
+    → l1 ≡ old ++ (first ++ behind_spaces start)
     → l2 ≡ l1 ++ behind_spaces middle → l3 ≡ l2 ++ line_rest rest
     → l3 ≡ old ++ line_text (first ∷ (start ++ (middle ++ rest)))
 line_appended old l1 l2 l3 first start middle rest e1 e2 e3 =

@@ -8,13 +8,15 @@ use Rattle.libyaml_documents.specs.declared.node.unnamed_yaml_node_t_data.{unnam
 use Rattle.libyaml_documents.specs.declared.node.unnamed_yaml_node_t_data.TheVariants.{Scalar, Sequence, Mapping}
 use Rattle.libyaml_documents.specs.declared.pairs.yaml_node_pair_t.{yaml_node_pair_t}
 use Rattle.libyaml_documents.specs.Documents.{Document}
-use Rattle.line_writing.specs.FieldTexts.{line_text, mark_text, flag_text, optional_version_text, string_text, directive_texts, scalar_style_text}
+use Rattle.line_writing.specs.FieldTexts.{line_text, mark_text, flag_text, optional_version_text, string_text}
+use Rattle.line_writing.specs.FieldTexts.{directive_texts, scalar_style_text}
 use Rattle.line_writing.specs.FieldTexts.{sequence_style_text, mapping_style_text}
 
 -- the fields of a document that follow its marks
 abbrev pub document_fields : Document → List (List ℕ)
 document_fields d =
-    flag_text d.start_implicit ∷ flag_text d.end_implicit ∷ optional_version_text d.version_directive ∷ decimal (length d.tag_directives)
+    flag_text d.start_implicit ∷ flag_text d.end_implicit ∷ optional_version_text d.version_directive ∷ decimal
+    (length d.tag_directives)
     ∷ directive_texts d.tag_directives
 
 abbrev pub document_line : Document → List ℕ
@@ -37,7 +39,9 @@ node_fields (Mapping m) = mapping_style_text m.style ∷ decimal (length m.pairs
 
 -- the line of the node of this id
 abbrev pub node_line : ℕ → yaml_node_t → List ℕ
-node_line id n = line_text (decimal id ∷ node_name n.content ∷ mark_text n.start_mark ∷ mark_text n.end_mark ∷ string_text n.tag ∷ node_fields n.content)
+node_line id n = line_text
+    (decimal id ∷ node_name n.content ∷ mark_text n.start_mark ∷ mark_text n.end_mark ∷ string_text
+    n.tag ∷ node_fields n.content)
 
 -- the lines of nodes whose ids count from this one on
 abbrev pub node_lines : ℕ → List yaml_node_t → List (List ℕ)

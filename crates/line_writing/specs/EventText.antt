@@ -4,7 +4,8 @@ use Rattle.std.specs.Fmt.{decimal}
 use Rattle.libyaml_types.specs.declared.event.yaml_event_t.{yaml_event_t}
 use Rattle.libyaml_types.specs.declared.event.unnamed_yaml_event_t_data.{unnamed_yaml_event_t_data}
 use Rattle.libyaml_types.specs.declared.event.unnamed_yaml_event_t_data.TheVariants as ev
-use Rattle.line_writing.specs.FieldTexts.{line_text, mark_text, optional_version_text, flag_text, string_text, optional_string_text, directive_texts}
+use Rattle.line_writing.specs.FieldTexts.{line_text, mark_text, optional_version_text, flag_text, string_text}
+use Rattle.line_writing.specs.FieldTexts.{optional_string_text, directive_texts}
 use Rattle.line_writing.specs.FieldTexts.{encoding_text, scalar_style_text, sequence_style_text, mapping_style_text}
 
 abbrev pub event_name : unnamed_yaml_event_t_data → List ℕ
@@ -26,11 +27,13 @@ event_fields ev.NoEvent = []
 event_fields (ev.StreamStart e) = encoding_text e.encoding ∷ []
 event_fields ev.StreamEnd = []
 event_fields (ev.DocumentStart e) =
-    flag_text e.implicit ∷ optional_version_text e.version_directive ∷ decimal (length e.tag_directives) ∷ directive_texts e.tag_directives
+    flag_text e.implicit ∷ optional_version_text e.version_directive ∷ decimal
+    (length e.tag_directives) ∷ directive_texts e.tag_directives
 event_fields (ev.DocumentEnd e) = flag_text e.implicit ∷ []
 event_fields (ev.Alias e) = string_text e.anchor ∷ []
 event_fields (ev.Scalar e) =
-    optional_string_text e.anchor ∷ optional_string_text e.tag ∷ string_text e.value ∷ flag_text e.plain_implicit ∷ flag_text e.quoted_implicit
+    optional_string_text e.anchor ∷ optional_string_text e.tag ∷ string_text e.value ∷ flag_text
+    e.plain_implicit ∷ flag_text e.quoted_implicit
     ∷ scalar_style_text e.style ∷ []
 event_fields (ev.SequenceStart e) =
     optional_string_text e.anchor ∷ optional_string_text e.tag ∷ flag_text e.implicit ∷ sequence_style_text e.style ∷ []

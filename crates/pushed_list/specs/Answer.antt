@@ -18,8 +18,10 @@ FailsSo tokens source f = (f ≡ memory_fault) ⊎ ((events : List yaml_event_t)
 
 -- the documents of the loads over the tokens and a source's fault: to the stream's end, or to that fault
 abbrev pub GivesLoads : List yaml_token_t → Fault → List Document → Type 0
-GivesLoads tokens source documents = AreThen 2147483647 tokens source documents (last_load Ends) ⊎ AreThen 2147483647 tokens source documents (Err source)
+GivesLoads tokens source documents = AreThen 2147483647 tokens source documents (last_load Ends)
+    ⊎ AreThen 2147483647 tokens source documents (Err source)
 
 -- or the loads' fault, or out of memory
 abbrev pub LoadsFail : List yaml_token_t → Fault → Fault → Type 0
-LoadsFail tokens source f = (f ≡ memory_fault) ⊎ ((documents : List Document) × AreThen 2147483647 tokens source documents (Err f))
+LoadsFail tokens source f = (f ≡ memory_fault)
+    ⊎ ((documents : List Document) × AreThen 2147483647 tokens source documents (Err f))

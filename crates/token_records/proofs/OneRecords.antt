@@ -4,9 +4,11 @@ use Rattle.std.proofs.lemmas.List.{append-nil, length-append}
 use Rattle.libyaml_types.specs.declared.event.yaml_event_t.{yaml_event_t}
 use Rattle.libyaml_sources.specs.Fault.{Fault, memory_fault}
 use Rattle.libyaml_grammar.specs.runs.Runs.{Ending, Ends, Fails}
-use Rattle.token_records.specs.EventRecords.{Recorded, event_bytes, event_directives, event_record, nothing, record_event, record_events}
+use Rattle.token_records.specs.EventRecords.{Recorded, event_bytes, event_directives, event_record, nothing}
+use Rattle.token_records.specs.EventRecords.{record_event, record_events}
 use Rattle.token_records.specs.OneRecords.{IsCounted, OneRecords, alike, both_uncounted, first_runs_out, second_runs_out}
-use Rattle.token_records.specs.RecordRun.{Buffers, EndsBy, HandsOut, HandsOutRun, Uncountable, fault_bytes, fault_record, uncounted}
+use Rattle.token_records.specs.RecordRun.{Buffers, EndsBy, HandsOut, HandsOutRun, Uncountable, fault_bytes}
+use Rattle.token_records.specs.RecordRun.{fault_record, uncounted}
 use Rattle.token_records.specs.declared.records.record_counts_t.{record_counts_t}
 use Rattle.token_records.specs.declared.records.records_run_t.{records_run_t}
 use Rattle.token_records.proofs.Running.{recorded_append}
@@ -24,11 +26,18 @@ grows_then r (e ∷ es) =
     let a = length-append r.events (event_record (length r.directives) (length r.texts) e ∷ []) in
     let b = length-append r.directives (event_directives (length r.texts) e.content) in
     let c = length-append r.texts (event_bytes e.content) in
-    record { events = omega (arith, h.events, a); directives = omega (arith, h.directives, b); texts = omega (arith, h.texts, c) }
+    record {
+      events = omega (arith, h.events, a);
+      directives = omega (arith, h.directives, b);
+      texts =
+          omega (arith, h.texts, c);
+    }
 
-grows_to : (events first later : List yaml_event_t) → events ≡ first ++ later → Grows (record_events nothing first) (record_events nothing events)
+grows_to : (events first later : List yaml_event_t) → events ≡ first ++ later
+    → Grows (record_events nothing first) (record_events nothing events)
 grows_to events first later is = subst (λ r. Grows (record_events nothing first) r)
-    (sym (ap (record_events nothing) is ∙ recorded_append nothing first later)) (grows_then (record_events nothing first) later)
+    (sym (ap (record_events nothing) is ∙ recorded_append nothing first later))
+    (grows_then (record_events nothing first) later)
 
 all_first : (events first later : List yaml_event_t) → events ≡ first ++ later → later ≡ [] → first ≡ events
 all_first events first later is none = sym (is ∙ (ap (λ (l : List yaml_event_t). first ++ l) none ∙ append-nil first))
@@ -52,8 +61,10 @@ ends_by_one ending f g (inr h) (inr k) = same (sym h ∙ k)
 record HandsOutAll (old new : Buffers) (run : records_run_t) (events : List yaml_event_t) (fault : Fault) : Type 0 where
   fault_is : run.fault ≡ fault_record (length (record_events nothing events).texts) fault
   event_records : HandsOut (record_events nothing events).events old.events new.events run.wanted.events run.written.events
-  directive_records : HandsOut (record_events nothing events).directives old.directives new.directives run.wanted.directives run.written.directives
-  texts : HandsOut ((record_events nothing events).texts ++ fault_bytes fault) old.texts new.texts run.wanted.texts run.written.texts
+  directive_records : HandsOut (record_events nothing events).directives old.directives new.directives
+      run.wanted.directives run.written.directives
+  texts : HandsOut ((record_events nothing events).texts ++ fault_bytes fault) old.texts new.texts run.wanted.texts
+      run.written.texts
 
 module _ (old : Buffers) (events : List yaml_event_t) (ending : Ending) where
   -- what a result says
@@ -62,11 +73,19 @@ module _ (old : Buffers) (events : List yaml_event_t) (ending : Ending) where
     ran_out : (h : HandsOutRun old new run events ending) → h.fault ≡ memory_fault → Came run new
     over : run ≡ uncounted → Uncountable events ending → Came run new
 
-  all_handed : (run : records_run_t) (new : Buffers) (h : HandsOutRun old new run events ending) → h.later ≡ [] → HandsOutAll old new run events h.fault
-  all_handed run new h none = subst (λ (e : List yaml_event_t). HandsOutAll old new run e h.fault) (all_first events h.first h.later h.all none)
-      (record { fault_is = h.fault_is; event_records = h.event_records; directive_records = h.directive_records; texts = h.texts })
+  all_handed : (run : records_run_t) (new : Buffers) (h : HandsOutRun old new run events ending) → h.later ≡ []
+      → HandsOutAll old new run events h.fault
+  all_handed run new h none = subst (λ (e : List yaml_event_t). HandsOutAll old new run e h.fault)
+      (all_first events h.first h.later h.all none)
+      (record {
+        fault_is = h.fault_is;
+        event_records = h.event_records;
+        directive_records = h.directive_records;
+        texts = h.texts;
+      })
 
-  came : (run : records_run_t) (new : Buffers) → HandsOutRun old new run events ending ⊎ ((run ≡ uncounted) × Uncountable events ending) → Came run new
+  came : (run : records_run_t) (new : Buffers) → HandsOutRun old new run events ending
+      ⊎ ((run ≡ uncounted) × Uncountable events ending) → Came run new
   came run new (inr u) = over u.0 u.1
   came run new (inl h) = go h.ends
     where
@@ -79,7 +98,8 @@ module _ (old : Buffers) (events : List yaml_event_t) (ending : Ending) where
   no_words f e = ap (λ (g : Fault). length (fault_bytes g)) e
 
   texts_fit : (f : Fault) (u : Uncountable events ending) → EndsBy f ending
-      → length ((record_events nothing u.first).texts ++ fault_bytes u.fault) ≤ length ((record_events nothing events).texts ++ fault_bytes f)
+      → length ((record_events nothing u.first).texts ++ fault_bytes u.fault) ≤ length
+      ((record_events nothing events).texts ++ fault_bytes f)
   texts_fit f u e = go u.ends
     where
       first : List ℕ
@@ -88,10 +108,14 @@ module _ (old : Buffers) (events : List yaml_event_t) (ending : Ending) where
       every : List ℕ
       every = (record_events nothing events).texts
 
-      go : ((u.later ≡ []) × EndsBy u.fault ending) ⊎ (u.fault ≡ memory_fault) → length (first ++ fault_bytes u.fault) ≤ length (every ++ fault_bytes f)
+      go : ((u.later ≡ []) × EndsBy u.fault ending) ⊎ (u.fault ≡ memory_fault)
+          → length (first ++ fault_bytes u.fault) ≤ length (every ++ fault_bytes f)
       go (inl h) =
-          let a : length first ≡ length every = ap (λ (l : List yaml_event_t). length (record_events nothing l).texts) (all_first events u.first u.later u.all h.0) in
-          let b : length (fault_bytes u.fault) ≡ length (fault_bytes f) = ap (λ (g : Fault). length (fault_bytes g)) (ends_by_one ending u.fault f h.1 e) in
+          let a : length first ≡ length every =
+          ap (λ (l : List yaml_event_t). length (record_events nothing l).texts)
+          (all_first events u.first u.later u.all h.0) in
+          let b : length (fault_bytes u.fault) ≡ length (fault_bytes f) = ap (λ (g : Fault). length (fault_bytes g))
+          (ends_by_one ending u.fault f h.1 e) in
           let c = length-append first (fault_bytes u.fault) in
           let d = length-append every (fault_bytes f) in
           omega (arith, a, b, c, d)
@@ -102,31 +126,40 @@ module _ (old : Buffers) (events : List yaml_event_t) (ending : Ending) where
           let d = length-append every (fault_bytes f) in
           omega (arith, a, b, c, d)
 
-  countable : (run : records_run_t) (new : Buffers) (f : Fault) → EndsBy f ending → HandsOutAll old new run events f → IsCounted run
+  countable : (run : records_run_t) (new : Buffers) (f : Fault) → EndsBy f ending → HandsOutAll old new run events f
+      → IsCounted run
       → Uncountable events ending → ⊥
   countable run new f e h counted u = go u.too_many
     where
       grown : Grows (record_events nothing u.first) (record_events nothing events)
       grown = grows_to events u.first u.later u.all
 
-      go : (2 ^ 64 ≤ length (record_events nothing u.first).events) ⊎ ((2 ^ 64 ≤ length (record_events nothing u.first).directives)
+      go : (2 ^ 64 ≤ length (record_events nothing u.first).events)
+          ⊎ ((2 ^ 64 ≤ length (record_events nothing u.first).directives)
           ⊎ (2 ^ 64 ≤ length ((record_events nothing u.first).texts ++ fault_bytes u.fault))) → ⊥
-      go (inl x) = let a = grown.events in let b = h.event_records.wanted_is in let c = counted.events in omega (arith, x, a, b, c)
-      go (inr (inl x)) = let a = grown.directives in let b = h.directive_records.wanted_is in let c = counted.directives in omega (arith, x, a, b, c)
-      go (inr (inr x)) = let a = texts_fit f u e in let b = h.texts.wanted_is in let c = counted.texts in omega (arith, x, a, b, c)
+      go (inl x) = let a = grown.events in let b = h.event_records.wanted_is in let c = counted.events
+          in omega (arith, x, a, b, c)
+      go (inr (inl x)) = let a = grown.directives in let b = h.directive_records.wanted_is in let c =
+          counted.directives in omega (arith, x, a, b, c)
+      go (inr (inr x)) = let a = texts_fit f u e in let b = h.texts.wanted_is in let c = counted.texts
+          in omega (arith, x, a, b, c)
 
   -- two that were handed out whole
   counts : (a b c x y z : ℕ) → a ≡ x → b ≡ y → c ≡ z
-      → ◌≡◌ {A = record_counts_t} (record { events = a; directives = b; texts = c }) (record { events = x; directives = y; texts = z })
+      → ◌≡◌ {A = record_counts_t} (record { events = a; directives = b; texts = c })
+      (record { events = x; directives = y; texts = z })
   counts a b c x y z i j k = (λ l. record { events = i l; directives = j l; texts = k l })
 
-  one_number : {A : Type 0} (all before a b : List A) (m n k l : ℕ) → HandsOut all before a m n → HandsOut all before b k l → (m ≡ k) × (n ≡ l) × (a ≡ b)
-  one_number all before a b m n k l h i = (h.wanted_is ∙ sym i.wanted_is, h.written_is ∙ sym i.written_is, h.filled_so ∙ sym i.filled_so)
+  one_number : {A : Type 0} (all before a b : List A) (m n k l : ℕ) → HandsOut all before a m n
+      → HandsOut all before b k l → (m ≡ k) × (n ≡ l) × (a ≡ b)
+  one_number all before a b m n k l h i =
+      (h.wanted_is ∙ sym i.wanted_is, h.written_is ∙ sym i.written_is, h.filled_so ∙ sym i.filled_so)
 
   same_run : (a b : records_run_t) → a.wanted ≡ b.wanted → a.written ≡ b.written → a.fault ≡ b.fault → a ≡ b
   same_run a b i j k = (λ l. record { wanted = i l; written = j l; fault = k l })
 
-  both_whole : (a b : records_run_t) (p q : Buffers) (f g : Fault) → EndsBy f ending → EndsBy g ending → HandsOutAll old p a events f → HandsOutAll old q b events g
+  both_whole : (a b : records_run_t) (p q : Buffers) (f g : Fault) → EndsBy f ending → EndsBy g ending
+      → HandsOutAll old p a events f → HandsOutAll old q b events g
       → p.counts ≡ a.wanted → q.counts ≡ b.wanted → OneRecords old events ending a p b q
   both_whole a b p q f g e d h other is also =
       let k : HandsOutAll old q b events f = subst (HandsOutAll old q b events) (ends_by_one ending g f d e) other in
@@ -138,9 +171,11 @@ module _ (old : Buffers) (events : List yaml_event_t) (ending : Ending) where
       alike (same_run a b wanted written (h.fault_is ∙ sym k.fault_is))
       (λ l. record { events = evs.2 l; directives = dirs.2 l; texts = txts.2 l; counts = (is ∙ (wanted ∙ sym also)) l })
 
-  pub one_records_proof : (a b : records_run_t) (p q : Buffers) → p.counts ≡ a.wanted → q.counts ≡ b.wanted → IsCounted a → IsCounted b
+  pub one_records_proof : (a b : records_run_t) (p q : Buffers) → p.counts ≡ a.wanted → q.counts ≡ b.wanted
+      → IsCounted a → IsCounted b
       → HandsOutRun old p a events ending ⊎ ((a ≡ uncounted) × Uncountable events ending)
-      → HandsOutRun old q b events ending ⊎ ((b ≡ uncounted) × Uncountable events ending) → OneRecords old events ending a p b q
+      → HandsOutRun old q b events ending ⊎ ((b ≡ uncounted) × Uncountable events ending)
+      → OneRecords old events ending a p b q
   one_records_proof a b p q is also ca cb x y = go (came a p x) (came b q y)
     where
       go : Came a p → Came b q → OneRecords old events ending a p b q

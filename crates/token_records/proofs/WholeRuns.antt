@@ -1,12 +1,15 @@
 -- What a whole run hands out.
-use Rattle.std.proofs.Common.{arith, ◌≡◌, ◌≤◌, ◌+◌, ◌^◌, ◌++◌, ◌∷◌, ◌⊎◌, ℕ, List, [], append_assoc, length, min, refl, sym, ap, subst, ◌∙◌, inl, inr}
+use Rattle.std.proofs.Common.{arith, ◌≡◌, ◌≤◌, ◌+◌, ◌^◌, ◌++◌, ◌∷◌, ◌⊎◌, ℕ, List, [], append_assoc, length, min, refl}
+use Rattle.std.proofs.Common.{sym, ap, subst, ◌∙◌, inl, inr}
 use Rattle.std.proofs.lemmas.List.{take_all, length-append}
 use Rattle.libyaml_types.specs.declared.event.yaml_event_t.{yaml_event_t}
 use Rattle.libyaml_sources.specs.Fault.{Fault, memory_fault}
 use Rattle.libyaml_grammar.specs.runs.Runs.{Ending, IsRun}
-use Rattle.token_records.specs.EventRecords.{OverCounts, Recorded, event_bytes, event_directives, event_record, nothing, record_event, record_events}
+use Rattle.token_records.specs.EventRecords.{OverCounts, Recorded, event_bytes, event_directives, event_record, nothing}
+use Rattle.token_records.specs.EventRecords.{record_event, record_events}
 use Rattle.token_records.specs.Puts.{Puts, filled}
-use Rattle.token_records.specs.RecordRun.{Buffers, EndsBy, HandsOut, HandsOutRun, Holds, PutsRun, PutsUncounted, Stops, Uncountable, WithinRoom, fault_bytes}
+use Rattle.token_records.specs.RecordRun.{Buffers, EndsBy, HandsOut, HandsOutRun, Holds, PutsRun, PutsUncounted, Stops}
+use Rattle.token_records.specs.RecordRun.{Uncountable, WithinRoom, fault_bytes}
 use Rattle.token_records.specs.RecordRun.{fault_record, no_counts}
 use Rattle.token_records.specs.RecordSource.{read_records}
 use Rattle.token_records.specs.declared.records.fault_record_t.{fault_record_t}
@@ -28,18 +31,22 @@ begins old none = record {
   texts_counted = ap (λ (k : record_counts_t). k.texts) none;
 }
 
-handed_out : {A : Type 0} (all old new : List A) (wanted written : ℕ) → new ≡ filled old all → wanted ≡ length all → written ≡ min wanted (length old)
+handed_out : {A : Type 0} (all old new : List A) (wanted written : ℕ) → new ≡ filled old all → wanted ≡ length all
+    → written ≡ min wanted (length old)
     → HandsOut all old new wanted written
 handed_out all old new wanted written new_is wanted_is written_is
     = record { wanted_is = wanted_is; written_is = written_is ∙ ap (λ k. min k (length old)) wanted_is; filled_so = new_is }
 
 -- a run that was put up to where it stops, and then its fault
-pub hands_out : (MayBreak : Fault → Type 0) → ((f : Fault) → MayBreak f → f ≡ memory_fault) → (old mid new : Buffers) (f : Fault) (run : records_run_t) (r : fault_record_t)
+pub hands_out : (MayBreak : Fault → Type 0) → ((f : Fault) → MayBreak f → f ≡ memory_fault)
+    → (old mid new : Buffers) (f : Fault) (run : records_run_t) (r : fault_record_t)
     (events : List yaml_event_t) (ending : Ending) → old.counts ≡ no_counts → PutsRun MayBreak f old mid events ending
     → r ≡ fault_record mid.counts.texts f → Puts mid.texts mid.counts.texts (fault_bytes f) new.texts new.counts.texts
-    → new.events ≡ mid.events → new.directives ≡ mid.directives → new.counts.events ≡ mid.counts.events → new.counts.directives ≡ mid.counts.directives
+    → new.events ≡ mid.events → new.directives ≡ mid.directives → new.counts.events ≡ mid.counts.events
+    → new.counts.directives ≡ mid.counts.directives
     → run.wanted ≡ new.counts → run.fault ≡ r → WithinRoom old run → HandsOutRun old new run events ending
-hands_out MayBreak only old mid new f run r events ending none put made words same_events same_directives events_count directives_count wanted fault room =
+hands_out MayBreak only old mid new f run r events ending none put made words same_events same_directives
+    events_count directives_count wanted fault room =
     let holds = put.recorded old nothing (begins old none) in
     let all = record_events nothing put.first in
     let long = length-append all.texts (fault_bytes f) in
@@ -50,13 +57,16 @@ hands_out MayBreak only old mid new f run r events ending none put made words sa
       fault = f;
       ends = go put.stops;
       fault_is = fault ∙ made ∙ ap (λ n. fault_record n f) holds.texts_counted;
-      event_records = handed_out all.events old.events new.events run.wanted.events run.written.events (same_events ∙ holds.events)
+      event_records = handed_out all.events old.events new.events run.wanted.events run.written.events
+          (same_events ∙ holds.events)
           (ap (λ (k : record_counts_t). k.events) wanted ∙ events_count ∙ holds.events_counted) room.events;
-      directive_records = handed_out all.directives old.directives new.directives run.wanted.directives run.written.directives (same_directives ∙ holds.directives)
+      directive_records = handed_out all.directives old.directives new.directives run.wanted.directives
+          run.written.directives (same_directives ∙ holds.directives)
           (ap (λ (k : record_counts_t). k.directives) wanted ∙ directives_count ∙ holds.directives_counted) room.directives;
       texts = handed_out (all.texts ++ fault_bytes f) old.texts new.texts run.wanted.texts run.written.texts
           (words.fills old.texts all.texts holds.texts holds.texts_counted)
-          (ap (λ (k : record_counts_t). k.texts) wanted ∙ words.counts ∙ ap (λ k. k + length (fault_bytes f)) holds.texts_counted ∙ sym long) room.texts;
+          (ap (λ (k : record_counts_t). k.texts) wanted ∙ words.counts
+          ∙ ap (λ k. k + length (fault_bytes f)) holds.texts_counted ∙ sym long) room.texts;
     }
   where
     go : Stops MayBreak f put.later ending → ((put.later ≡ []) × EndsBy f ending) ⊎ (f ≡ memory_fault)
@@ -68,12 +78,14 @@ hands_out MayBreak only old mid new f run r events ending none put made words sa
 abbrev TooMany : Recorded → List ℕ → Type 0
 TooMany r words = (2 ^ 64 ≤ length r.events) ⊎ ((2 ^ 64 ≤ length r.directives) ⊎ (2 ^ 64 ≤ length (r.texts ++ words)))
 
-one_more : (old mid : Buffers) (r : Recorded) (e : yaml_event_t) → Holds old mid r → OverCounts mid.counts e → TooMany (record_event r e) (fault_bytes memory_fault)
+one_more : (old mid : Buffers) (r : Recorded) (e : yaml_event_t) → Holds old mid r → OverCounts mid.counts e
+    → TooMany (record_event r e) (fault_bytes memory_fault)
 one_more old mid r e h (inl x) =
     let a = length-append r.events (event_record (length r.directives) (length r.texts) e ∷ []) in
     inl (omega (arith, x, a, h.events_counted))
 one_more old mid r e h (inr (inl x)) =
-    let y : 2 ^ 64 ≤ mid.counts.directives + length (event_directives (length r.texts) e.content) = rw h.texts_counted at x in
+    let y : 2 ^ 64 ≤ mid.counts.directives + length (event_directives (length r.texts) e.content) =
+    rw h.texts_counted at x in
     let a = length-append r.directives (event_directives (length r.texts) e.content) in
     inr (inl (omega (arith, y, a, h.directives_counted)))
 one_more old mid r e h (inr (inr x)) =
@@ -82,14 +94,16 @@ one_more old mid r e h (inr (inr x)) =
     inr (inr (omega (arith, x, a, b, h.texts_counted)))
 
 -- a run that can't be counted, by an event
-pub uncountable : (old : Buffers) (events : List yaml_event_t) (ending : Ending) → old.counts ≡ no_counts → PutsUncounted old events → Uncountable events ending
+pub uncountable : (old : Buffers) (events : List yaml_event_t) (ending : Ending) → old.counts ≡ no_counts
+    → PutsUncounted old events → Uncountable events ending
 uncountable old events ending none u =
     let holds = u.recorded old nothing (begins old none) in
     let e = u.over.event in
     record {
       first = u.first ++ e ∷ [];
       later = u.over.later;
-      all = u.all ∙ (ap (λ (l : List yaml_event_t). u.first ++ l) u.over.all ∙ sym (append_assoc u.first (e ∷ []) u.over.later));
+      all = u.all ∙ (ap (λ (l : List yaml_event_t). u.first ++ l) u.over.all
+          ∙ sym (append_assoc u.first (e ∷ []) u.over.later));
       fault = memory_fault;
       ends = inr refl;
       too_many = subst (λ r. TooMany r (fault_bytes memory_fault)) (sym (recorded_append nothing u.first (e ∷ [])))
@@ -97,8 +111,10 @@ uncountable old events ending none u =
     }
 
 -- or by the words of its fault
-pub words_uncountable : (MayBreak : Fault → Type 0) → ((f : Fault) → MayBreak f → f ≡ memory_fault) → (old mid : Buffers) (f : Fault) (events : List yaml_event_t)
-    (ending : Ending) → old.counts ≡ no_counts → PutsRun MayBreak f old mid events ending → 2 ^ 64 ≤ mid.counts.texts + length (fault_bytes f)
+pub words_uncountable : (MayBreak : Fault → Type 0) → ((f : Fault) → MayBreak f → f ≡ memory_fault)
+    → (old mid : Buffers) (f : Fault) (events : List yaml_event_t)
+    (ending : Ending) → old.counts ≡ no_counts → PutsRun MayBreak f old mid events ending
+    → 2 ^ 64 ≤ mid.counts.texts + length (fault_bytes f)
     → Uncountable events ending
 words_uncountable MayBreak only old mid f events ending none put over =
     let holds = put.recorded old nothing (begins old none) in

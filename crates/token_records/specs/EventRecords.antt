@@ -1,5 +1,6 @@
 -- The records of events, and what stands in their buffers.
-use Rattle.std.specs.Prelude.{◌++◌, ◌+◌, ◌^◌, ◌≤◌, ◌⊎◌, ℕ, pos, List, [], ◌∷◌, Bool, true, false, length, Option, Some, None}
+use Rattle.std.specs.Prelude.{◌++◌, ◌+◌, ◌^◌, ◌≤◌, ◌⊎◌, ℕ, pos, List, [], ◌∷◌, Bool, true, false, length, Option, Some}
+use Rattle.std.specs.Prelude.{None}
 use Rattle.libyaml_types.specs.declared.mark.yaml_mark_t.{yaml_mark_t}
 use Rattle.libyaml_types.specs.declared.directive.yaml_tag_directive_t.{yaml_tag_directive_t}
 use Rattle.libyaml_types.specs.declared.directive.yaml_version_directive_t.{yaml_version_directive_t}
@@ -7,7 +8,8 @@ use Rattle.libyaml_types.specs.declared.event.yaml_event_t.{yaml_event_t}
 use Rattle.libyaml_types.specs.declared.event.unnamed_yaml_event_t_data.{unnamed_yaml_event_t_data}
 use Rattle.libyaml_types.specs.declared.event.unnamed_yaml_event_t_data.TheVariants as ev
 use Rattle.libyaml_types.specs.Models.{DocumentStart, Scalar, SequenceStart, MappingStart}
-use Rattle.libyaml_types.specs.Numbers.{encoding_number, event_type_number, scalar_style_number, sequence_style_number, mapping_style_number}
+use Rattle.libyaml_types.specs.Numbers.{encoding_number, event_type_number, scalar_style_number, sequence_style_number}
+use Rattle.libyaml_types.specs.Numbers.{mapping_style_number}
 use Rattle.libyaml_types.specs.Types.{event_type}
 use Rattle.token_records.specs.declared.records.mark_record_t.{mark_record_t}
 use Rattle.token_records.specs.declared.records.range_record_t.{range_record_t}
@@ -163,4 +165,5 @@ MoreThanCounted d n directives texts = (2 ^ 64 ≤ d + length directives) ⊎ (2
 
 -- or one event more is more than can be counted
 abbrev pub OverCounts : record_counts_t → yaml_event_t → Type 0
-OverCounts n e = (2 ^ 64 ≤ n.events + 1) ⊎ MoreThanCounted n.directives n.texts (event_directives n.texts e.content) (event_bytes e.content)
+OverCounts n e = (2 ^ 64 ≤ n.events + 1) ⊎ MoreThanCounted n.directives n.texts (event_directives n.texts e.content)
+    (event_bytes e.content)

@@ -4,7 +4,8 @@ use Rattle.libyaml_types.specs.declared.enums.yaml_error_type_t.{yaml_error_type
 use Rattle.libyaml_types.specs.declared.enums.yaml_error_type_t.TheVariants.{YAML_READER_ERROR, YAML_SCANNER_ERROR}
 use Rattle.libyaml_sources.specs.Fault.{Fault, no_fault, memory_fault}
 use Rattle.token_records.specs.declared.record_problem.RecordProblem.{RecordProblem}
-use Rattle.token_records.specs.declared.record_problem.RecordProblem.TheVariants.{Memory, BadTokenRecord, TextOutside, TextNotUtf8, NoMoreTokens}
+use Rattle.token_records.specs.declared.record_problem.RecordProblem.TheVariants.{Memory, BadTokenRecord, TextOutside}
+use Rattle.token_records.specs.declared.record_problem.RecordProblem.TheVariants.{TextNotUtf8, NoMoreTokens}
 
 abbrev pub problem_at : yaml_error_type_t → List ℕ → ℕ → Fault
 problem_at error words given = record no_fault {

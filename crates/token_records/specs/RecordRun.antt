@@ -7,7 +7,8 @@ use Rattle.libyaml_sources.specs.Source.{Coming}
 use Rattle.libyaml_grammar.specs.runs.Runs.{Ending, Ends, Fails, IsRun}
 use Rattle.libyaml_events.specs.machine.Config.{Parser}
 use Rattle.libyaml_events.specs.sources.RunToCome.{RunToCome}
-use Rattle.token_records.specs.EventRecords.{OverCounts, Recorded, bytes_of, mark_record, nothing, range_of_option, record_events}
+use Rattle.token_records.specs.EventRecords.{OverCounts, Recorded, bytes_of, mark_record, nothing, range_of_option}
+use Rattle.token_records.specs.EventRecords.{record_events}
 use Rattle.token_records.specs.Puts.{filled}
 use Rattle.token_records.specs.RecordSource.{read_records}
 use Rattle.token_records.specs.declared.records.directive_record_t.{directive_record_t}
@@ -63,10 +64,12 @@ pub record Holds (old now : Buffers) (all : Recorded) : Type 0 where
 
 -- the records of these events were put after what the buffers held
 abbrev pub Records : (before after : Buffers) → List yaml_event_t → Type 0
-Records before after events = (old : Buffers) (all : Recorded) → Holds old before all → Holds old after (record_events all events)
+Records before after events = (old : Buffers) (all : Recorded) → Holds old before all
+    → Holds old after (record_events all events)
 
 -- the first of a run's events were put, and the others are to come
-pub record TakesSome {S : Type 0} (known : S → Option Coming) (new : Parser S) (before after : Buffers) (events : List yaml_event_t) (ending : Ending) : Type 0 where
+pub record TakesSome {S : Type 0} (known : S → Option Coming) (new : Parser S) (before after : Buffers)
+    (events : List yaml_event_t) (ending : Ending) : Type 0 where
   pub first : List yaml_event_t
   pub later : List yaml_event_t
   pub all : events ≡ first ++ later
@@ -82,7 +85,8 @@ abbrev pub Stops : (MayBreak : Fault → Type 0) → Fault → (later : List yam
 Stops MayBreak f later ending = ((later ≡ []) × EndsBy f ending) ⊎ ((f ≡ memory_fault) ⊎ MayBreak f)
 
 -- the first of a run's events were put, up to where it stops
-pub record PutsRun (MayBreak : Fault → Type 0) (f : Fault) (before after : Buffers) (events : List yaml_event_t) (ending : Ending) : Type 0 where
+pub record PutsRun (MayBreak : Fault → Type 0) (f : Fault) (before after : Buffers) (events : List yaml_event_t)
+    (ending : Ending) : Type 0 where
   pub first : List yaml_event_t
   pub later : List yaml_event_t
   pub all : events ≡ first ++ later
@@ -106,11 +110,14 @@ pub record PutsUncounted (before : Buffers) (events : List yaml_event_t) : Type 
   pub over : CountsNoMore middle.counts next
 
 -- what one step did where this run was to come
-abbrev pub PutsNext : {S : Type 0} → (known : S → Option Coming) → (MayBreak : S → Fault → Type 0) → PutStep → Parser S → (before after : Buffers)
+abbrev pub PutsNext : {S : Type 0} → (known : S → Option Coming) → (MayBreak : S → Fault → Type 0) → PutStep
+    → Parser S → (before after : Buffers)
     → List yaml_event_t → Ending → Type 0
 PutsNext known MayBreak Put new before after events ending = TakesSome known new before after events ending
-PutsNext known MayBreak Ended new before after events ending = PutsRun (MayBreak new.source) no_fault before after events ending
-PutsNext known MayBreak (Failed f) new before after events ending = PutsRun (MayBreak new.source) (fault_of f) before after events ending
+PutsNext known MayBreak Ended new before after events ending = PutsRun (MayBreak new.source) no_fault before after
+    events ending
+PutsNext known MayBreak (Failed f) new before after events ending =
+    PutsRun (MayBreak new.source) (fault_of f) before after events ending
 PutsNext known MayBreak Uncounted new before after events ending = CountsNoMore before.counts events
 
 -- All of this was handed out, as far as there is room: `wanted` is how many they are, and `written` how many had room.
@@ -121,30 +128,35 @@ pub record HandsOut {A : Type 0} (all old new : List A) (wanted written : ℕ) :
 
 -- The first of a run's events were handed out, and then the words of a fault: all of them, with the run's own ending, or
 -- those before an allocation failed.
-pub record HandsOutRun (old new : Buffers) (run : records_run_t) (events : List yaml_event_t) (ending : Ending) : Type 0 where
+pub record HandsOutRun (old new : Buffers) (run : records_run_t) (events : List yaml_event_t) (ending : Ending) :
+    Type 0 where
   pub first : List yaml_event_t
   pub later : List yaml_event_t
   pub all : events ≡ first ++ later
   pub fault : Fault
   pub ends : ((later ≡ []) × EndsBy fault ending) ⊎ (fault ≡ memory_fault)
   pub fault_is : run.fault ≡ fault_record (length (record_events nothing first).texts) fault
-  pub event_records : HandsOut (record_events nothing first).events old.events new.events run.wanted.events run.written.events
-  pub directive_records : HandsOut (record_events nothing first).directives old.directives new.directives run.wanted.directives run.written.directives
-  pub texts : HandsOut ((record_events nothing first).texts ++ fault_bytes fault) old.texts new.texts run.wanted.texts run.written.texts
+  pub event_records : HandsOut (record_events nothing first).events old.events new.events run.wanted.events
+      run.written.events
+  pub directive_records : HandsOut (record_events nothing first).directives old.directives new.directives
+      run.wanted.directives run.written.directives
+  pub texts : HandsOut ((record_events nothing first).texts ++ fault_bytes fault) old.texts new.texts
+      run.wanted.texts run.written.texts
 
 -- what is returned of a run with more of something than can be counted
 abbrev pub uncounted : records_run_t
 uncounted = record { wanted = no_counts; written = no_counts; fault = memory_record }
 
--- More of something than can be counted: of a run's first events and of the words of a fault, all of them, with the run's own
--- ending, or those before an allocation failed, whose fault has no words.
+-- More of something than can be counted: of a run's first events and of the words of a fault, all of them, with the
+-- run's own ending, or those before an allocation failed, whose fault has no words.
 pub record Uncountable (events : List yaml_event_t) (ending : Ending) : Type 0 where
   pub first : List yaml_event_t
   pub later : List yaml_event_t
   pub all : events ≡ first ++ later
   pub fault : Fault
   pub ends : ((later ≡ []) × EndsBy fault ending) ⊎ (fault ≡ memory_fault)
-  pub too_many : (2 ^ 64 ≤ length (record_events nothing first).events) ⊎ ((2 ^ 64 ≤ length (record_events nothing first).directives)
+  pub too_many : (2 ^ 64 ≤ length (record_events nothing first).events)
+      ⊎ ((2 ^ 64 ≤ length (record_events nothing first).directives)
       ⊎ (2 ^ 64 ≤ length ((record_events nothing first).texts ++ fault_bytes fault)))
 
 -- The run over the tokens of these records was handed out, or had more than can be counted.

@@ -5,7 +5,8 @@ use Rattle.libyaml_sources.specs.Fault.{Fault, Answer, memory_fault}
 use Rattle.libyaml_sources.specs.Source.{Coming, coming, Follows, FollowsList}
 use Rattle.token_records.specs.RecordSource.{GivesOf, Gives}
 
-falls_at : (ts : List yaml_token_t) (f : Fault) (t : Coming) (token : yaml_token_t) → GivesOf ts f (Ok token) t → length ts ≡ length t.tokens + 1
+falls_at : (ts : List yaml_token_t) (f : Fault) (t : Coming) (token : yaml_token_t) → GivesOf ts f (Ok token) t
+    → length ts ≡ length t.tokens + 1
 falls_at [] f t token h = cc (h.0)
 falls_at (u ∷ ts) f t token h = sym (add-one _) ∙ ap (λ (c : Coming). length c.tokens + 1) (sym h.1)
 
@@ -16,10 +17,12 @@ records_fall s t token h = falls_at s.tokens s.fault t token h
 abbrev pub BreaksOff : Coming → Fault → Type 0
 BreaksOff s f = f ≡ memory_fault
 
-follows_at : (P : Fault → Type 0) (k : P memory_fault) (ts : List yaml_token_t) (f : Fault) (t : Coming) (answer : Answer) → GivesOf ts f answer t
+follows_at : (P : Fault → Type 0) (k : P memory_fault) (ts : List yaml_token_t) (f : Fault) (t : Coming)
+    (answer : Answer) → GivesOf ts f answer t
     → FollowsList P ts f answer (Some t)
 follows_at P k [] f t (Ok u) h = cc (h.0)
-follows_at P k [] f t (Err e) h = let same : e ≡ f = cc (h.0) in (inl same, ap Some h.1 ∙ ap (λ x. Some (coming [] x)) (sym same))
+follows_at P k [] f t (Err e) h = let same : e ≡ f = cc (h.0)
+    in (inl same, ap Some h.1 ∙ ap (λ x. Some (coming [] x)) (sym same))
 follows_at P k (u ∷ ts) f t (Ok v) h = (h.0, ap Some h.1)
 follows_at P k (u ∷ ts) f t (Err e) h = (subst P (sym h.0) k, ap Some h.1 ∙ ap (λ x. Some (coming [] x)) (sym h.0))
 
@@ -32,9 +35,11 @@ ended_at t u f answer e k = go (rw e at k)
     go : GivesOf [] f answer u → answer ≡ Err f
     go h = h.0
 
-repeats_at : (ts : List yaml_token_t) (f g : Fault) (t u : Coming) (answer : Answer) → GivesOf ts f (Err g) t → Gives t answer u → answer ≡ Err g
+repeats_at : (ts : List yaml_token_t) (f g : Fault) (t u : Coming) (answer : Answer) → GivesOf ts f (Err g) t
+    → Gives t answer u → answer ≡ Err g
 repeats_at [] f g t u answer h k = let same : g ≡ f = cc (h.0) in ended_at t u f answer h.1 k ∙ ap Err (sym same)
 repeats_at (v ∷ ts) f g t u answer h k = ended_at t u memory_fault answer h.1 k ∙ ap Err (sym h.0)
 
-pub records_repeat : (s t u : Coming) (fault : Fault) (answer : Answer) → Gives s (Err fault) t → Gives t answer u → answer ≡ Err fault
+pub records_repeat : (s t u : Coming) (fault : Fault) (answer : Answer) → Gives s (Err fault) t → Gives t answer u
+    → answer ≡ Err fault
 records_repeat s t u fault answer h k = repeats_at s.tokens s.fault fault t u answer h k

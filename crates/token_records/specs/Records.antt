@@ -2,27 +2,41 @@
 use Rattle.std.specs.Prelude.{ℕ, ◌+◌, ◌==◌, ◌≡◌, List, length, take, drop, Result, Ok, Err, nat_lt, if◌then◌else◌}
 use Rattle.std.specs.Str.{is_utf8}
 use Rattle.libyaml_types.specs.declared.enums.yaml_token_type_t.{yaml_token_type_t}
-use Rattle.libyaml_types.specs.declared.enums.yaml_token_type_t.TheVariants.{YAML_NO_TOKEN, YAML_STREAM_START_TOKEN, YAML_STREAM_END_TOKEN}
-use Rattle.libyaml_types.specs.declared.enums.yaml_token_type_t.TheVariants.{YAML_VERSION_DIRECTIVE_TOKEN, YAML_TAG_DIRECTIVE_TOKEN}
-use Rattle.libyaml_types.specs.declared.enums.yaml_token_type_t.TheVariants.{YAML_DOCUMENT_START_TOKEN, YAML_DOCUMENT_END_TOKEN}
-use Rattle.libyaml_types.specs.declared.enums.yaml_token_type_t.TheVariants.{YAML_BLOCK_SEQUENCE_START_TOKEN, YAML_BLOCK_MAPPING_START_TOKEN}
-use Rattle.libyaml_types.specs.declared.enums.yaml_token_type_t.TheVariants.{YAML_BLOCK_END_TOKEN, YAML_FLOW_SEQUENCE_START_TOKEN}
-use Rattle.libyaml_types.specs.declared.enums.yaml_token_type_t.TheVariants.{YAML_FLOW_SEQUENCE_END_TOKEN, YAML_FLOW_MAPPING_START_TOKEN}
-use Rattle.libyaml_types.specs.declared.enums.yaml_token_type_t.TheVariants.{YAML_FLOW_MAPPING_END_TOKEN, YAML_BLOCK_ENTRY_TOKEN, YAML_FLOW_ENTRY_TOKEN}
-use Rattle.libyaml_types.specs.declared.enums.yaml_token_type_t.TheVariants.{YAML_KEY_TOKEN, YAML_VALUE_TOKEN, YAML_ALIAS_TOKEN, YAML_ANCHOR_TOKEN}
+use Rattle.libyaml_types.specs.declared.enums.yaml_token_type_t.TheVariants.{YAML_NO_TOKEN, YAML_STREAM_START_TOKEN}
+use Rattle.libyaml_types.specs.declared.enums.yaml_token_type_t.TheVariants.{YAML_STREAM_END_TOKEN}
+use Rattle.libyaml_types.specs.declared.enums.yaml_token_type_t.TheVariants.{YAML_VERSION_DIRECTIVE_TOKEN}
+use Rattle.libyaml_types.specs.declared.enums.yaml_token_type_t.TheVariants.{YAML_TAG_DIRECTIVE_TOKEN}
+use Rattle.libyaml_types.specs.declared.enums.yaml_token_type_t.TheVariants.{YAML_DOCUMENT_START_TOKEN}
+use Rattle.libyaml_types.specs.declared.enums.yaml_token_type_t.TheVariants.{YAML_DOCUMENT_END_TOKEN}
+use Rattle.libyaml_types.specs.declared.enums.yaml_token_type_t.TheVariants.{YAML_BLOCK_SEQUENCE_START_TOKEN}
+use Rattle.libyaml_types.specs.declared.enums.yaml_token_type_t.TheVariants.{YAML_BLOCK_MAPPING_START_TOKEN}
+use Rattle.libyaml_types.specs.declared.enums.yaml_token_type_t.TheVariants.{YAML_BLOCK_END_TOKEN}
+use Rattle.libyaml_types.specs.declared.enums.yaml_token_type_t.TheVariants.{YAML_FLOW_SEQUENCE_START_TOKEN}
+use Rattle.libyaml_types.specs.declared.enums.yaml_token_type_t.TheVariants.{YAML_FLOW_SEQUENCE_END_TOKEN}
+use Rattle.libyaml_types.specs.declared.enums.yaml_token_type_t.TheVariants.{YAML_FLOW_MAPPING_START_TOKEN}
+use Rattle.libyaml_types.specs.declared.enums.yaml_token_type_t.TheVariants.{YAML_FLOW_MAPPING_END_TOKEN}
+use Rattle.libyaml_types.specs.declared.enums.yaml_token_type_t.TheVariants.{YAML_BLOCK_ENTRY_TOKEN}
+use Rattle.libyaml_types.specs.declared.enums.yaml_token_type_t.TheVariants.{YAML_FLOW_ENTRY_TOKEN}
+use Rattle.libyaml_types.specs.declared.enums.yaml_token_type_t.TheVariants.{YAML_KEY_TOKEN, YAML_VALUE_TOKEN}
+use Rattle.libyaml_types.specs.declared.enums.yaml_token_type_t.TheVariants.{YAML_ALIAS_TOKEN, YAML_ANCHOR_TOKEN}
 use Rattle.libyaml_types.specs.declared.enums.yaml_token_type_t.TheVariants.{YAML_TAG_TOKEN, YAML_SCALAR_TOKEN}
 use Rattle.libyaml_types.specs.declared.enums.yaml_encoding_t.{yaml_encoding_t}
-use Rattle.libyaml_types.specs.declared.enums.yaml_encoding_t.TheVariants.{YAML_ANY_ENCODING, YAML_UTF8_ENCODING, YAML_UTF16LE_ENCODING, YAML_UTF16BE_ENCODING}
+use Rattle.libyaml_types.specs.declared.enums.yaml_encoding_t.TheVariants.{YAML_ANY_ENCODING, YAML_UTF8_ENCODING}
+use Rattle.libyaml_types.specs.declared.enums.yaml_encoding_t.TheVariants.{YAML_UTF16LE_ENCODING, YAML_UTF16BE_ENCODING}
 use Rattle.libyaml_types.specs.declared.enums.yaml_scalar_style_t.{yaml_scalar_style_t}
-use Rattle.libyaml_types.specs.declared.enums.yaml_scalar_style_t.TheVariants.{YAML_ANY_SCALAR_STYLE, YAML_PLAIN_SCALAR_STYLE}
-use Rattle.libyaml_types.specs.declared.enums.yaml_scalar_style_t.TheVariants.{YAML_SINGLE_QUOTED_SCALAR_STYLE, YAML_DOUBLE_QUOTED_SCALAR_STYLE}
-use Rattle.libyaml_types.specs.declared.enums.yaml_scalar_style_t.TheVariants.{YAML_LITERAL_SCALAR_STYLE, YAML_FOLDED_SCALAR_STYLE}
+use Rattle.libyaml_types.specs.declared.enums.yaml_scalar_style_t.TheVariants.{YAML_ANY_SCALAR_STYLE}
+use Rattle.libyaml_types.specs.declared.enums.yaml_scalar_style_t.TheVariants.{YAML_PLAIN_SCALAR_STYLE}
+use Rattle.libyaml_types.specs.declared.enums.yaml_scalar_style_t.TheVariants.{YAML_SINGLE_QUOTED_SCALAR_STYLE}
+use Rattle.libyaml_types.specs.declared.enums.yaml_scalar_style_t.TheVariants.{YAML_DOUBLE_QUOTED_SCALAR_STYLE}
+use Rattle.libyaml_types.specs.declared.enums.yaml_scalar_style_t.TheVariants.{YAML_LITERAL_SCALAR_STYLE}
+use Rattle.libyaml_types.specs.declared.enums.yaml_scalar_style_t.TheVariants.{YAML_FOLDED_SCALAR_STYLE}
 use Rattle.libyaml_types.specs.declared.mark.yaml_mark_t.{yaml_mark_t}
 use Rattle.libyaml_types.specs.declared.token.unnamed_yaml_token_t_data.{unnamed_yaml_token_t_data}
 use Rattle.libyaml_types.specs.declared.token.unnamed_yaml_token_t_data.TheVariants as tok
 use Rattle.libyaml_types.specs.declared.token.yaml_token_t.{yaml_token_t}
 use Rattle.token_records.specs.declared.record_problem.RecordProblem.{RecordProblem}
-use Rattle.token_records.specs.declared.record_problem.RecordProblem.TheVariants.{Memory, BadTokenRecord, TextOutside, TextNotUtf8}
+use Rattle.token_records.specs.declared.record_problem.RecordProblem.TheVariants.{Memory, BadTokenRecord, TextOutside}
+use Rattle.token_records.specs.declared.record_problem.RecordProblem.TheVariants.{TextNotUtf8}
 use Rattle.token_records.specs.declared.records.mark_record_t.{mark_record_t}
 use Rattle.token_records.specs.declared.records.range_record_t.{range_record_t}
 use Rattle.token_records.specs.declared.records.token_record_t.{token_record_t}
@@ -86,7 +100,8 @@ utf8_text bytes = if is_utf8 bytes then Ok bytes else Err TextNotUtf8
 
 -- the text of a range
 abbrev pub text_of : List ℕ → range_record_t → Result (List ℕ) RecordProblem
-text_of texts r = if nat_lt (length texts) (r.place + r.length) then Err TextOutside else utf8_text (take r.length (drop r.place texts))
+text_of texts r = if nat_lt (length texts) (r.place + r.length) then Err TextOutside else utf8_text
+    (take r.length (drop r.place texts))
 
 abbrev pub mark_of : mark_record_t → yaml_mark_t
 mark_of m = record { index = m.index; line = m.line; column = m.column }

@@ -1,5 +1,6 @@
 -- All documents of a source are together at most twice as large as their events, and at most eight for each token.
-use Rattle.std.proofs.Common.{◌≡◌, ◌≤◌, ◌*◌, ◌++◌, arith, List, [], ◌∷◌, length, length-append, map, Ok, ap, sym, ◌∙◌, subst}
+use Rattle.std.proofs.Common.{◌≡◌, ◌≤◌, ◌*◌, ◌++◌, arith, List, [], ◌∷◌, length, length-append, map, Ok, ap, sym, ◌∙◌}
+use Rattle.std.proofs.Common.{subst}
 use Rattle.std.proofs.lemmas.List.{append-nil}
 use Rattle.libyaml_documents.specs.Documents.{Document}
 use Rattle.libyaml_sources.specs.Fault.{Answer, Fault, no_fault}
@@ -15,23 +16,28 @@ use Rattle.unsafe_libyaml.specs.declared.load_all.yaml_documents_t.{yaml_documen
 
 -- events that begin those of each run are at most four for each token
 few : ((l : List Token) (f : Fault) → (e : List Event) × (x : Ending) × IsRun l f e x)
-    → ((l : List Token) (f : Fault) (e : List Event) (x : Ending) → IsRun l f e x → length e ≤ 4 * length l) → (asked : List Token) (taken : List Event)
+    → ((l : List Token) (f : Fault) (e : List Event) (x : Ending) → IsRun l f e x → length e ≤ 4 * length l)
+    → (asked : List Token) (taken : List Event)
     → BeginsEachRun asked taken → length taken ≤ 4 * length asked
 few some four asked taken begins =
     let (e, x, run) = some asked no_fault in
-    let (rest, all) = begins [] no_fault e x (subst (λ (l : List Token). IsRun l no_fault e x) (sym (append-nil asked)) run) in
+    let (rest, all) = begins [] no_fault e x
+    (subst (λ (l : List Token). IsRun l no_fault e x) (sym (append-nil asked)) run) in
     let h = four asked no_fault e x run in
     let i = ap length all ∙ length-append taken rest in
     omega arith
 
 pub loads_linear : ((l : List Token) (f : Fault) → (e : List Event) × (x : Ending) × IsRun l f e x)
     → ((l : List Token) (f : Fault) (e : List Event) (x : Ending) → IsRun l f e x → length e ≤ 4 * length l)
-    → ((e : List Event) (x : Ending) (ds : List Document) (l : List Load) → loads e x ≡ map Ok ds ++ l → documents_size ds ≤ 2 * length e)
+    → ((e : List Event) (x : Ending) (ds : List Document) (l : List Load) → loads e x ≡ map Ok ds ++ l
+    → documents_size ds ≤ 2 * length e)
     → {S : Type 0} (gives : S → Answer → S → Type 0) (source : S) (all : yaml_documents_t) → GathersLoads gives source all
-    → (g : GathersLoads gives source all) × (documents_size all.documents.items ≤ 2 * length g.taken) × (documents_size all.documents.items ≤ 8 * length g.asked)
+    → (g : GathersLoads gives source all) × (documents_size all.documents.items ≤ 2 * length g.taken)
+    × (documents_size all.documents.items ≤ 8 * length g.asked)
 loads_linear some four law gives source all g =
     let ending = ending_of all.fault in
-    let h : documents_size all.documents.items ≤ 2 * length g.taken = law g.taken ending all.documents.items (last_load ending ∷ []) (sym g.are_loads) in
+    let h : documents_size all.documents.items ≤ 2 * length g.taken = law g.taken ending all.documents.items
+    (last_load ending ∷ []) (sym g.are_loads) in
     let i : length g.taken ≤ 4 * length g.asked = few some four g.asked g.taken g.begins_run in
     let j : documents_size all.documents.items ≤ 8 * length g.asked = omega arith in
     (g, h, j)

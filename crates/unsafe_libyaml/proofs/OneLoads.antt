@@ -1,5 +1,6 @@
 -- Two lists of documents that the contract of a whole load allows are one.
-use Rattle.std.proofs.Common.{◌≡◌, ◌⊎◌, inl, inr, List, [], ◌∷◌, map, Option, Some, None, Ok, Err, refl, sym, ap, ◌∙◌, subst}
+use Rattle.std.proofs.Common.{◌≡◌, ◌⊎◌, inl, inr, List, [], ◌∷◌, map, Option, Some, None, Ok, Err, refl, sym, ap, ◌∙◌}
+use Rattle.std.proofs.Common.{subst}
 use Rattle.libyaml_documents.specs.Documents.{Document}
 use Rattle.libyaml_sources.specs.Fault.{Answer, fault_of}
 use Rattle.libyaml_sources.specs.declared.fault.yaml_parser_t_prefix.{yaml_parser_t_prefix}
@@ -56,15 +57,18 @@ data LoadStop (a : List Answer) (taken : List Event) (all : yaml_documents_t) : 
   as_run : RunStop a taken (ending_of all.fault) → LoadStop a taken all
   composer : ComposerError taken all → LoadStop a taken all
 
-load_stop : {S : Type 0} (gives : S → Answer → S → Type 0) (source : S) (all : yaml_documents_t) (g : GathersLoads gives source all) (o : Option yaml_parser_t_prefix)
+load_stop : {S : Type 0} (gives : S → Answer → S → Type 0) (source : S) (all : yaml_documents_t)
+    (g : GathersLoads gives source all) (o : Option yaml_parser_t_prefix)
     → all.fault ≡ o → LoadStop (answers g.asked g.last) g.taken all
 load_stop gives source all g None e
     = as_run (subst (λ (z : Option yaml_parser_t_prefix). RunStop (answers g.asked g.last) g.taken (ending_of z)) (sym e)
     (ended_stop g.asked g.last g.taken g.tokens.needed_last (g.whole e)))
 load_stop gives source all g (Some f) e = go (g.stopped f e)
   where
-    go : StoppedBy g.asked g.last g.taken (fault_of f) ⊎ ComposerError g.taken all → LoadStop (answers g.asked g.last) g.taken all
-    go (inl h) = as_run (subst (λ (z : Option yaml_parser_t_prefix). RunStop (answers g.asked g.last) g.taken (ending_of z)) (sym e)
+    go : StoppedBy g.asked g.last g.taken (fault_of f) ⊎ ComposerError g.taken all
+        → LoadStop (answers g.asked g.last) g.taken all
+    go (inl h) = as_run (subst
+        (λ (z : Option yaml_parser_t_prefix). RunStop (answers g.asked g.last) g.taken (ending_of z)) (sym e)
         (failed_stop g.asked g.last g.taken (fault_of f) h))
     go (inr h) = composer h
 
@@ -77,7 +81,8 @@ module _ {S : Type 0} (gives : S → Answer → S → Type 0) (source : S) where
   AreOne a b = (a.documents.items ≡ b.documents.items) × (ending_of a.fault ≡ ending_of b.fault)
 
   -- a composer error is one of all longer lists of events
-  by_composer : (a b : yaml_documents_t) (g : GathersLoads gives source a) (h : GathersLoads gives source b) → ComposerError g.taken a
+  by_composer : (a b : yaml_documents_t) (g : GathersLoads gives source a) (h : GathersLoads gives source b)
+      → ComposerError g.taken a
       → Begins g.taken h.taken → AreOne a b
   by_composer a b g h e n
       = loads_same a.documents.items b.documents.items (ending_of a.fault) (ending_of b.fault)
@@ -86,7 +91,8 @@ module _ {S : Type 0} (gives : S → Answer → S → Type 0) (source : S) where
   turned_one : (a b : yaml_documents_t) → AreOne b a → AreOne a b
   turned_one a b o = (sym o.0, sym o.1)
 
-  pub one_documents_proof : (a b : yaml_documents_t) (g : GathersLoads gives source a) (h : GathersLoads gives source b) → OneDocuments gives source a b g h
+  pub one_documents_proof : (a b : yaml_documents_t) (g : GathersLoads gives source a)
+      (h : GathersLoads gives source b) → OneDocuments gives source a b g h
   one_documents_proof a b g h =
       λ o. go o (load_stop gives source a g a.fault refl) (load_stop gives source b h b.fault refl)
     where
@@ -94,16 +100,31 @@ module _ {S : Type 0} (gives : S → Answer → S → Type 0) (source : S) where
           → LoadStop (answers h.asked h.last) h.taken b → AreOne a b
       go o (as_run s) (as_run t) =
           let w = one_run_by_answers g.taken h.taken (ending_of a.fault) (ending_of b.fault)
-          (record { asked = g.asked; last = g.last; needed = g.tokens.needed; needed_last = g.tokens.needed_last; stop = s })
-          (record { asked = h.asked; last = h.last; needed = h.tokens.needed; needed_last = h.tokens.needed_last; stop = t }) o in
+          (record {
+            asked = g.asked;
+            last = g.last;
+            needed = g.tokens.needed;
+            needed_last = g.tokens.needed_last;
+            stop = s;
+          })
+          (record {
+            asked = h.asked;
+            last = h.last;
+            needed = h.tokens.needed;
+            needed_last = h.tokens.needed_last;
+            stop = t;
+          }) o in
           loads_same a.documents.items b.documents.items (ending_of a.fault) (ending_of b.fault)
-          (g.are_loads ∙ (ap (λ (z : List Event). loads z (ending_of a.fault)) w.1 ∙ (ap (loads h.taken) w.2 ∙ sym h.are_loads)))
+          (g.are_loads ∙ (ap (λ (z : List Event). loads z (ending_of a.fault)) w.1
+          ∙ (ap (loads h.taken) w.2 ∙ sym h.are_loads)))
       go o (composer e) (as_run t)
           = by_composer a b g h e
-          (begins_stopped g.asked g.last (answers h.asked h.last) g.taken h.taken (ending_of b.fault) g.tokens.needed g.begins_run t o)
+          (begins_stopped g.asked g.last (answers h.asked h.last) g.taken h.taken (ending_of b.fault)
+          g.tokens.needed g.begins_run t o)
       go o (as_run s) (composer e)
           = turned_one a b (by_composer b a h g e
-          (begins_stopped h.asked h.last (answers g.asked g.last) h.taken g.taken (ending_of a.fault) h.tokens.needed h.begins_run s
+          (begins_stopped h.asked h.last (answers g.asked g.last) h.taken g.taken (ending_of a.fault)
+          h.tokens.needed h.begins_run s
           (turned (answers g.asked g.last) (answers h.asked h.last) o)))
       go o (composer e) (composer f)
           = both (taken_comparable g.asked h.asked g.last h.last g.taken h.taken g.begins_run h.begins_run o)

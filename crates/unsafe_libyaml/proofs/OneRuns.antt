@@ -7,7 +7,8 @@ use Rattle.libyaml_grammar.specs.sentences.Events.{Event}
 use Rattle.libyaml_grammar.specs.runs.Runs.{Fails}
 use Rattle.libyaml_events.specs.sources.History.{answers}
 use Rattle.libyaml_events.specs.sources.Parsing.{IsWhole}
-use Rattle.libyaml_events.proofs.lent.RunStops.{AskedRun, RunStop, ended_stop, grammar_stop, one_run_by_answers, source_stop}
+use Rattle.libyaml_events.proofs.lent.RunStops.{AskedRun, RunStop, ended_stop, grammar_stop, one_run_by_answers}
+use Rattle.libyaml_events.proofs.lent.RunStops.{source_stop}
 use Rattle.unsafe_libyaml.specs.OneWhole.{OneRun}
 use Rattle.unsafe_libyaml.specs.WholeRun.{Asked, Gathers, StoppedBy, of_grammar, of_source, ending_of}
 use Rattle.unsafe_libyaml.specs.declared.parse_all.yaml_run_t.{yaml_run_t}
@@ -17,13 +18,16 @@ pub failed_stop : (asked : List Token) (last : List Answer) (given : List Event)
 failed_stop asked last given f (of_grammar l e h) = grammar_stop asked last given f l e h
 failed_stop asked last given f (of_source l e s h) = source_stop asked last given f l e h
 
-pub stop_of : {S : Type 0} (gives : S → Answer → S → Type 0) (source : S) (asked : List Token) (last : List Answer) (given : List Event)
+pub stop_of : {S : Type 0} (gives : S → Answer → S → Type 0) (source : S) (asked : List Token) (last : List Answer)
+    (given : List Event)
     (o : Option yaml_parser_t_prefix) → Asked gives source asked last given → (o ≡ None → IsWhole asked given)
-    → ((f : yaml_parser_t_prefix) → o ≡ Some f → StoppedBy asked last given (fault_of f)) → RunStop (answers asked last) given (ending_of o)
+    → ((f : yaml_parser_t_prefix) → o ≡ Some f → StoppedBy asked last given (fault_of f))
+    → RunStop (answers asked last) given (ending_of o)
 stop_of gives source asked last given None t w s = ended_stop asked last given t.needed_last (w refl)
 stop_of gives source asked last given (Some f) t w s = failed_stop asked last given (fault_of f) (s f refl)
 
-pub one_whole_run_proof : {S : Type 0} (gives : S → Answer → S → Type 0) (source : S) (a b : yaml_run_t) (g : Gathers gives source a)
+pub one_whole_run_proof : {S : Type 0} (gives : S → Answer → S → Type 0) (source : S) (a b : yaml_run_t)
+    (g : Gathers gives source a)
     (h : Gathers gives source b) → OneRun gives source a b g h
 one_whole_run_proof {S} gives source a b g h =
     one_run_by_answers a.events.items b.events.items (ending_of a.fault) (ending_of b.fault) (run_of a g) (run_of b h)

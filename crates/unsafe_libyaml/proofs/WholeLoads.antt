@@ -1,5 +1,6 @@
 -- How the documents of a whole run are gathered, load by load.
-use Rattle.std.proofs.Common.{◌≡◌, ◌≢◌, ◌<◌, ◌⊎◌, ◌++◌, ℕ, pos, nat_eq, List, [], ◌∷◌, length, map, arith, All, Option, Some, None, Ok, Err}
+use Rattle.std.proofs.Common.{◌≡◌, ◌≢◌, ◌<◌, ◌⊎◌, ◌++◌, ℕ, pos, nat_eq, List, [], ◌∷◌, length, map, arith, All, Option}
+use Rattle.std.proofs.Common.{Some, None, Ok, Err}
 use Rattle.std.proofs.Common.{true, false, append_assoc, refl, sym, ap, ap₂, ◌∙◌, subst, inl, inr, ⊎_elim}
 use Rattle.std.proofs.lemmas.Bool.{eqb-true}
 use Rattle.std.proofs.lemmas.List.{append-nil}
@@ -28,7 +29,8 @@ use Rattle.libyaml_graphs.specs.loads.GraphLaws.{RootsFollow}
 use Rattle.libyaml_graphs.specs.loads.Loads.{IsLoads, Load, last_load, left_over, loads, loads_of}
 use Rattle.libyaml_graphs.proofs.lent.BoundedFronts.{IsFront, front_of_loads, met, same}
 use Rattle.libyaml_loader.specs.document.Ids.{magnitude}
-use Rattle.libyaml_loader.specs.loads.Loading.{DocumentOrError, KeptBy, LoadFails, Loads, LoadsFrom, ParserFails, Took, at_end, by_loader}
+use Rattle.libyaml_loader.specs.loads.Loading.{DocumentOrError, KeptBy, LoadFails, Loads, LoadsFrom, ParserFails, Took}
+use Rattle.libyaml_loader.specs.loads.Loading.{at_end, by_loader}
 use Rattle.libyaml_loader.specs.loads.Loading.{by_memory, by_parser, whole}
 use Rattle.unsafe_libyaml.specs.WholeRun.{ending_of}
 use Rattle.unsafe_libyaml.specs.WholeLoads.{GathersLoads, LoadsTo, as_loads}
@@ -46,12 +48,14 @@ HasRoot d = d.nodes ≢ []
 abbrev oks : List Document → List Load
 oks ds = map (λ (d : Document). Ok d) ds
 
--- Within the loads over a source: the parser loaded these documents since it was made. They are the first loads of the events
--- that it gave, whatever follows these.
-pub record Loaded {S : Type 0} (gives : S → Answer → S → Type 0) (source : S) (p : Parser S) (loaded : List Document) : Type 0 where
+-- Within the loads over a source: the parser loaded these documents since it was made. They are the first loads of
+-- the events that it gave, whatever follows these.
+pub record Loaded {S : Type 0} (gives : S → Answer → S → Type 0) (source : S) (p : Parser S)
+    (loaded : List Document) : Type 0 where
   pub given : List Event
   pub so : GaveSoFar gives source p given
-  pub so_far : (rest : List Event) (x : Ending) → bounded_loads most (given ++ rest) x ≡ map (λ (d : Document). Ok d) loaded ++ bounded_loads most rest x
+  pub so_far : (rest : List Event) (x : Ending)
+      → bounded_loads most (given ++ rest) x ≡ map (λ (d : Document). Ok d) loaded ++ bounded_loads most rest x
   pub between : between_documents p ≡ true
   pub bound : p.max_entries ≡ pos 2147483647
   pub roots : All (λ (d : Document). d.nodes ≢ []) loaded
@@ -63,12 +67,15 @@ pub record LoadLaws {S : Type 0} (gives : S → Answer → S → Type 0) : Type 
   pub begins_run : (p : Parser S) → ForHistory p BeginsEachRun
   pub nests : (p : Parser S) → ForHistory p (λ (asked : List Token) (given : List Event). NestsSoFar given)
   pub follow : (l : List Event) → NestsSoFar l → RootsFollow l
-  pub without : (l : List Event) (x : Ending) (n : ℕ) (d : Document) → RootsFollow l → next_bounded n l x ≡ Ok d → d.nodes ≡ []
+  pub without : (l : List Event) (x : Ending) (n : ℕ) (d : Document) → RootsFollow l → next_bounded n l x ≡ Ok d
+      → d.nodes ≡ []
       → (bounded_loads n l x ≡ Ok d ∷ []) × (last_load x ≡ Ok d)
   pub with : (l : List Event) (x : Ending) (n : ℕ) (d : Document) → next_bounded n l x ≡ Ok d → d.nodes ≢ []
       → bounded_loads n l x ≡ Ok d ∷ bounded_loads n (left_over l) x
-  pub fault : (l : List Event) (x : Ending) (n : ℕ) (f : Fault) → next_bounded n l x ≡ Err f → bounded_loads n l x ≡ Err f ∷ []
-  pub unmet : (l : List Event) (x : Ending) (n : ℕ) → NoneLacksMemory (bounded_loads n l x) → bounded_loads n l x ≡ loads l x
+  pub fault : (l : List Event) (x : Ending) (n : ℕ) (f : Fault) → next_bounded n l x ≡ Err f
+      → bounded_loads n l x ≡ Err f ∷ []
+  pub unmet : (l : List Event) (x : Ending) (n : ℕ) → NoneLacksMemory (bounded_loads n l x)
+      → bounded_loads n l x ≡ loads l x
 
 -- lists of loads
 oks_last : (ds : List Document) (d : Document) (l : List Load) → oks ds ++ Ok d ∷ l ≡ oks (ds ++ d ∷ []) ++ l
@@ -77,7 +84,8 @@ oks_last (c ∷ ds) d l = ap (λ (k : List Load). Ok c ∷ k) (oks_last ds d l)
 
 roots_last : (ds : List Document) (d : Document) → All HasRoot ds → d.nodes ≢ [] → All HasRoot (ds ++ d ∷ [])
 roots_last [] d h k = All-cons HasRoot d [] k (All-nil HasRoot)
-roots_last (c ∷ ds) d h k = All-cons HasRoot c (ds ++ d ∷ []) (All-head HasRoot c ds h) (roots_last ds d (All-tail HasRoot c ds h) k)
+roots_last (c ∷ ds) d h k = All-cons HasRoot c (ds ++ d ∷ []) (All-head HasRoot c ds h)
+    (roots_last ds d (All-tail HasRoot c ds h) k)
 
 none_lacks : (ds : List Document) (l : List Load) → NoneLacksMemory l → NoneLacksMemory (oks ds ++ l)
 none_lacks [] l h = h
@@ -90,54 +98,68 @@ same_document c d a b h = cc
 same_behind : (c d : Document) (a b : List Load) → ◌≡◌ {A = List Load} (Ok c ∷ a) (Ok d ∷ b) → a ≡ b
 same_behind c d a b h = cc
 
-oks_first : (loaded ds : List Document) (behind rest : List Load) → ◌≡◌ {A = List Load} (oks ds ++ (Err memory_fault ∷ [])) (oks loaded ++ behind)
+oks_first : (loaded ds : List Document) (behind rest : List Load)
+    → ◌≡◌ {A = List Load} (oks ds ++ (Err memory_fault ∷ [])) (oks loaded ++ behind)
     → (t : List Load) × (oks ds ++ rest ≡ oks loaded ++ t)
 oks_first [] ds behind rest h = (oks ds ++ rest, refl)
 oks_first (d ∷ loaded) [] behind rest h = absurd cc
 oks_first (d ∷ loaded) (c ∷ ds) behind rest h =
-    let k = oks_first loaded ds behind rest (same_behind c d (oks ds ++ (Err memory_fault ∷ [])) (oks loaded ++ behind) h) in (
+    let k = oks_first loaded ds behind rest
+    (same_behind c d (oks ds ++ (Err memory_fault ∷ [])) (oks loaded ++ behind) h) in (
       k.0,
-      ap₂ (λ (x : Document) (l : List Load). Ok x ∷ l) (same_document c d (oks ds ++ (Err memory_fault ∷ [])) (oks loaded ++ behind) h) k.1,
+      ap₂ (λ (x : Document) (l : List Load). Ok x ∷ l)
+          (same_document c d (oks ds ++ (Err memory_fault ∷ [])) (oks loaded ++ behind) h) k.1,
     )
 
-loaded_first : (within all : List Load) → IsFront within all → (loaded : List Document) (behind : List Load) → within ≡ oks loaded ++ behind
+loaded_first : (within all : List Load) → IsFront within all → (loaded : List Document) (behind : List Load)
+    → within ≡ oks loaded ++ behind
     → (t : List Load) × (all ≡ oks loaded ++ t)
 loaded_first within all (same e) loaded behind h = (behind, sym e ∙ h)
-loaded_first within all (met ds rest i j) loaded behind h = let k = oks_first loaded ds behind rest (sym i ∙ h) in (k.0, j ∙ k.1)
+loaded_first within all (met ds rest i j) loaded behind h = let k = oks_first loaded ds behind rest (sym i ∙ h)
+    in (k.0, j ∙ k.1)
 
 roots_behind : (l r : List Event) → RootsFollow (l ++ r) → RootsFollow r
 roots_behind [] r h = h
 roots_behind (e ∷ l) r h = roots_behind l r h.1
 
-pub loaded_none : {S : Type 0} (gives : S → Answer → S → Type 0) (source : S) (p : Parser S) → GaveSoFar gives source p [] → between_documents p ≡ true
+pub loaded_none : {S : Type 0} (gives : S → Answer → S → Type 0) (source : S) (p : Parser S)
+    → GaveSoFar gives source p [] → between_documents p ≡ true
     → p.max_entries ≡ pos 2147483647 → Loaded gives source p []
 loaded_none gives source p so between bound
     = record { given = []; so = so; so_far = λ rest x. refl; between = between; bound = bound; roots = All-nil HasRoot }
 
-pub loaded_as : {S : Type 0} (gives : S → Answer → S → Type 0) (source : S) (p : Parser S) (a b : List Document) → b ≡ a → Loaded gives source p a
+pub loaded_as : {S : Type 0} (gives : S → Answer → S → Type 0) (source : S) (p : Parser S) (a b : List Document)
+    → b ≡ a → Loaded gives source p a
     → Loaded gives source p b
 loaded_as gives source p a b h l = subst (λ (k : List Document). Loaded gives source p k) (sym h) l
 
-module _ {S : Type 0} (gives : S → Answer → S → Type 0) (known : S → Option Coming) (MayBreak : S → Fault → Type 0) (source : S) (law : LoadLaws gives) (old new : Parser S)
-    (r : DocumentOrError) (call : has_failed old ≡ false → LoadsFrom gives known MayBreak (next_bounded (magnitude old.max_entries)) left_over old r new)
+module _ {S : Type 0} (gives : S → Answer → S → Type 0) (known : S → Option Coming) (MayBreak : S → Fault → Type 0)
+    (source : S) (law : LoadLaws gives) (old new : Parser S)
+    (r : DocumentOrError) (call : has_failed old ≡ false
+    → LoadsFrom gives known MayBreak (next_bounded (magnitude old.max_entries)) left_over old r new)
     (loaded : List Document) (was : Loaded gives source old loaded) where
   loads_of_call : (q : DocumentOrError) → r ≡ q → LoadsFrom gives known MayBreak (next_bounded most) left_over old q new
   loads_of_call q is =
       subst (λ (n : ℕ). LoadsFrom gives known MayBreak (next_bounded n) left_over old q new) (ap magnitude was.bound)
-      (subst (λ (q : DocumentOrError). LoadsFrom gives known MayBreak (next_bounded (magnitude old.max_entries)) left_over old q new) is
+      (subst (λ (q : DocumentOrError). LoadsFrom gives known MayBreak (next_bounded (magnitude old.max_entries))
+      left_over old q new) is
       (call (law.no_fault old was.so.more was.given was.so.history)))
 
   -- what was given goes on by the events that were taken
-  gave_on : (p : Parser S) (taken : List Event) → Took gives known old p taken → GaveSoFar gives source p (was.given ++ taken)
+  gave_on : (p : Parser S) (taken : List Event) → Took gives known old p taken
+      → GaveSoFar gives source p (was.given ++ taken)
   gave_on p taken took
-      = both_calls gives (new_parser source) old p [] [] was.given taken was.so (took.history was.so.more was.given was.so.history)
+      = both_calls gives (new_parser source) old p [] [] was.given taken was.so
+      (took.history was.so.more was.given was.so.history)
 
   so_far_behind : (taken rest : List Event) (x : Ending) → bounded_loads most ((was.given ++ taken) ++ rest) x
       ≡ oks loaded ++ bounded_loads most (taken ++ rest) x
-  so_far_behind taken rest x = ap (λ (l : List Event). bounded_loads most l x) (append_assoc was.given taken rest) ∙ was.so_far (taken ++ rest) x
+  so_far_behind taken rest x = ap (λ (l : List Event). bounded_loads most l x) (append_assoc was.given taken rest)
+      ∙ was.so_far (taken ++ rest) x
 
   -- after one document more
-  pub loaded_next : between_documents new ≡ true → new.max_entries ≡ old.max_entries → (d : Document) → r ≡ Ok d → d.nodes ≢ []
+  pub loaded_next : between_documents new ≡ true → new.max_entries ≡ old.max_entries → (d : Document) → r ≡ Ok d
+      → d.nodes ≢ []
       → Loaded gives source new (loaded ++ d ∷ [])
   loaded_next between bound d is has_root = go (loads_of_call (Ok d) is)
     where
@@ -145,8 +167,10 @@ module _ {S : Type 0} (gives : S → Answer → S → Type 0) (known : S → Opt
       go (whole taken took is_load left b) = record {
         given = was.given ++ taken;
         so = gave_on new taken took;
-        so_far = λ rest x. so_far_behind taken rest x ∙ (ap (λ (t : List Load). oks loaded ++ t) (law.with (taken ++ rest) x most d (is_load rest x) has_root
-            ∙ ap (λ (l : List Event). Ok d ∷ bounded_loads most l x) (left rest)) ∙ oks_last loaded d (bounded_loads most rest x));
+        so_far = λ rest x. so_far_behind taken rest x
+            ∙ (ap (λ (t : List Load). oks loaded ++ t) (law.with (taken ++ rest) x most d (is_load rest x) has_root
+            ∙ ap (λ (l : List Event). Ok d ∷ bounded_loads most l x) (left rest))
+            ∙ oks_last loaded d (bounded_loads most rest x));
         between = between;
         bound = bound ∙ was.bound;
         roots = roots_last loaded d was.roots has_root;
@@ -156,16 +180,19 @@ module _ {S : Type 0} (gives : S → Answer → S → Type 0) (known : S → Opt
   -- what all calls gathered
   module _ (all : yaml_documents_t) (items : all.documents.items ≡ loaded) where
     -- the loads within the bound are the loads, where none is out of memory
-    are_loads_so : (e : List Event) (x y : Ending) → bounded_loads most e x ≡ as_loads loaded y → NoneLacksMemory (last_load y ∷ []) → ending_of all.fault ≡ y
+    are_loads_so : (e : List Event) (x y : Ending) → bounded_loads most e x ≡ as_loads loaded y
+        → NoneLacksMemory (last_load y ∷ []) → ending_of all.fault ≡ y
         → as_loads all.documents.items (ending_of all.fault) ≡ loads e x
     are_loads_so e x y list memory fault_is =
         ap₂ as_loads items fault_is ∙ (sym list
         ∙ law.unmet e x most (subst NoneLacksMemory (sym list) (none_lacks loaded (last_load y ∷ []) memory)))
 
-    are_first : (taken rest : List Event) (x : Ending) → (later : List Load) × (loads ((was.given ++ taken) ++ rest) x ≡ oks all.documents.items ++ later)
+    are_first : (taken rest : List Event) (x : Ending)
+        → (later : List Load) × (loads ((was.given ++ taken) ++ rest) x ≡ oks all.documents.items ++ later)
     are_first taken rest x =
         let e = (was.given ++ taken) ++ rest in
-        let (later, h) = loaded_first (bounded_loads most e x) (loads e x) (front_of_loads e x most) loaded (bounded_loads most (taken ++ rest) x)
+        let (later, h) = loaded_first (bounded_loads most e x) (loads e x) (front_of_loads e x most) loaded
+        (bounded_loads most (taken ++ rest) x)
         (so_far_behind taken rest x) in
         (later, h ∙ ap (λ (ds : List Document). oks ds ++ later) (sym items))
 
@@ -179,7 +206,8 @@ module _ {S : Type 0} (gives : S → Answer → S → Type 0) (known : S → Opt
         no_end h = cc
 
         roots_of : (taken : List Event) → Took gives known old new taken → RootsFollow taken
-        roots_of taken took = roots_behind was.given taken (law.follow (was.given ++ taken) (law.nests new _ _ (gave_on new taken took).history))
+        roots_of taken took = roots_behind was.given taken
+            (law.follow (was.given ++ taken) (law.nests new _ _ (gave_on new taken took).history))
 
         go : Loads gives known (next_bounded most) left_over old new d → GathersLoads gives source all
         go (whole taken took is_load left b) =
@@ -188,7 +216,8 @@ module _ {S : Type 0} (gives : S → Answer → S → Type 0) (known : S → Opt
             absurd (no_end (law.without taken x most d (roots_of taken took) load no_root).1)
         go (at_end taken took last left run empty ended) =
             let k = gave_on new taken took in
-            let z = law.without taken Ends most (empty_document None [] false false) (roots_of taken took) (last Ends) refl in
+            let z = law.without taken Ends most (empty_document None [] false false) (roots_of taken took)
+            (last Ends) refl in
             let list = was.so_far taken Ends ∙ ap (λ (t : List Load). oks loaded ++ t) z.0 in
             record {
               asked = k.more;
@@ -207,7 +236,8 @@ module _ {S : Type 0} (gives : S → Answer → S → Type 0) (known : S → Opt
             }
 
     -- where the fault is not out of memory
-    module _ (y : yaml_error_type_t) (is : r ≡ Err y) (p : yaml_parser_t_prefix) (kept : faults.fault_of p ≡ kept_fault new) (fault_is : all.fault ≡ Some p)
+    module _ (y : yaml_error_type_t) (is : r ≡ Err y) (p : yaml_parser_t_prefix)
+        (kept : faults.fault_of p ≡ kept_fault new) (fault_is : all.fault ≡ Some p)
         (other : p.error ≢ YAML_MEMORY_ERROR) where
       ends_so : ending_of all.fault ≡ Fails (kept_fault new)
       ends_so = ap ending_of fault_is ∙ ap Fails kept
@@ -216,11 +246,14 @@ module _ {S : Type 0} (gives : S → Answer → S → Type 0) (known : S → Opt
       has_memory m = other (ap (λ (g : Fault). g.error) kept ∙ m)
 
       stands : (e : List Event) (x : Ending) → next_bounded most e x ≡ Err (kept_fault new) → (given : List Event)
-          → bounded_loads most given x ≡ oks loaded ++ bounded_loads most e x → as_loads all.documents.items (ending_of all.fault) ≡ loads given x
+          → bounded_loads most given x ≡ oks loaded ++ bounded_loads most e x
+          → as_loads all.documents.items (ending_of all.fault) ≡ loads given x
       stands e x last given so_far = are_loads_so given x (Fails (kept_fault new))
-          (so_far ∙ ap (λ (t : List Load). oks loaded ++ t) (law.fault e x most (kept_fault new) last)) (has_memory, tt) ends_so
+          (so_far ∙ ap (λ (t : List Load). oks loaded ++ t) (law.fault e x most (kept_fault new) last))
+          (has_memory, tt) ends_so
 
-      by_parser_call : (taken : List Event) (parser : Parser S) → Took gives known old parser taken → ParserFails gives known MayBreak parser new
+      by_parser_call : (taken : List Event) (parser : Parser S) → Took gives known old parser taken
+          → ParserFails gives known MayBreak parser new
           → ((x : Ending) → next_bounded most taken x ≡ last_load x) → GathersLoads gives source all
       by_parser_call taken parser took fails last =
           let k = gave_on parser taken took in
@@ -239,10 +272,12 @@ module _ {S : Type 0} (gives : S → Answer → S → Type 0) (known : S → Opt
                 ∙ ap (λ (e : Ending). loads (was.given ++ taken) e) (sym ends_so);
             are_first = are_first taken;
             whole = λ (h : all.fault ≡ None). absurd (none_is_some p (sym h ∙ fault_is));
-            stopped = λ (f : yaml_parser_t_prefix) (h : all.fault ≡ Some f). inl (stopped_so p f (sym fault_is ∙ h) kept other call);
+            stopped = λ (f : yaml_parser_t_prefix) (h : all.fault ≡ Some f). inl
+                (stopped_so p f (sym fault_is ∙ h) kept other call);
           }
 
-      by_loader_step : (taken : List Event) (parser : Parser S) → Took gives known old parser taken → (f : Fault) → KeptBy f parser new
+      by_loader_step : (taken : List Event) (parser : Parser S) → Took gives known old parser taken → (f : Fault)
+          → KeptBy f parser new
           → ((rest : List Event) (x : Ending) → next_bounded most (taken ++ rest) x ≡ Err f) → GathersLoads gives source all
       by_loader_step taken parser took f keeps fails =
           let k = gave_on parser taken took in
@@ -259,12 +294,14 @@ module _ {S : Type 0} (gives : S → Answer → S → Type 0) (known : S → Opt
                 ∙ ap (λ (l : List Event). loads l (ending_of all.fault)) (append-nil (was.given ++ taken));
             are_first = are_first taken;
             whole = λ (h : all.fault ≡ None). absurd (none_is_some p (sym h ∙ fault_is));
-            stopped = λ (g : yaml_parser_t_prefix) (h : all.fault ≡ Some g). inr (error (ap kept_fault (keeps _ _ k.history)));
+            stopped = λ (g : yaml_parser_t_prefix) (h : all.fault ≡ Some g). inr
+                (error (ap kept_fault (keeps _ _ k.history)));
           }
         where
           error : kept_fault new ≡ f → (rest : List Event) (x : Ending)
               → loads ((was.given ++ taken) ++ rest) x ≡ as_loads all.documents.items (ending_of all.fault)
-          error is_kept rest x = sym (stands (taken ++ rest) x (fails rest x ∙ ap (λ (g : Fault). Err g) (sym is_kept)) ((was.given ++ taken) ++ rest)
+          error is_kept rest x = sym (stands (taken ++ rest) x
+              (fails rest x ∙ ap (λ (g : Fault). Err g) (sym is_kept)) ((was.given ++ taken) ++ rest)
               (so_far_behind taken rest x))
 
       pub gathers_to_fault : GathersLoads gives source all
@@ -272,17 +309,21 @@ module _ {S : Type 0} (gives : S → Answer → S → Type 0) (known : S → Opt
         where
           go : LoadFails gives known MayBreak (next_bounded most) left_over old new → GathersLoads gives source all
           go (by_parser taken parser took fails last) = by_parser_call taken parser took fails last
-          go (by_loader before e parser took f keeps waits fails) = by_loader_step (before ++ e ∷ []) parser took f keeps fails
+          go (by_loader before e parser took f keeps waits fails) =
+              by_loader_step (before ++ e ∷ []) parser took f keeps fails
           go (by_memory before e parser took keeps grows) = absurd (has_memory (ap (λ (q : Parser S). (kept_fault q).error)
               (keeps _ _ (gave_on parser (before ++ e ∷ []) took).history)))
 
 -- over a source that knows its tokens, by the run of the tokens that it was asked for
-pub loads_to : {S : Type 0} (gives : S → Answer → S → Type 0) (MayBreak : S → Fault → Type 0) (source : S) (all : yaml_documents_t)
+pub loads_to : {S : Type 0} (gives : S → Answer → S → Type 0) (MayBreak : S → Fault → Type 0) (source : S)
+    (all : yaml_documents_t)
     (g : GathersLoads gives source all) (l : List Token) (f : Fault) (a : List Load) (h : IsLoads l f a)
     → Tells MayBreak g.tokens.stands g.asked g.last g.taken h.events h.ending → LoadsTo gives MayBreak source all a
-loads_to gives MayBreak source all g l f a h tells = subst (LoadsTo gives MayBreak source all) (sym h.all) (go all.fault refl)
+loads_to gives MayBreak source all g l f a h tells = subst (LoadsTo gives MayBreak source all) (sym h.all)
+    (go all.fault refl)
   where
-    told_so : (y : Ending) → ending_of all.fault ≡ y → (g.taken ≡ h.events) × (y ≡ h.ending) → LoadsTo gives MayBreak source all (loads h.events h.ending)
+    told_so : (y : Ending) → ending_of all.fault ≡ y → (g.taken ≡ h.events) × (y ≡ h.ending)
+        → LoadsTo gives MayBreak source all (loads h.events h.ending)
     told_so y i k = told.whole (g.are_loads ∙ ap₂ loads k.0 (i ∙ k.1))
 
     begins : Begins g.taken h.events
@@ -292,9 +333,11 @@ loads_to gives MayBreak source all g l f a h tells = subst (LoadsTo gives MayBre
     go None i = told_so Ends (ap ending_of i) (tells.whole (g.whole i))
     go (Some p) i = ⊎_elim (λ s. ⊎_elim (told_so (Fails (faults.fault_of p)) (ap ending_of i))
         (λ b. let (rest, k) = g.are_first begins.0 h.ending in
-        told.broken_off (answers g.asked g.last) g.tokens.stands (faults.fault_of p) g.tokens.gave b (ap ending_of i) rest (ap (λ (l : List Event). loads l h.ending) begins.1 ∙ k))
+        told.broken_off (answers g.asked g.last) g.tokens.stands (faults.fault_of p) g.tokens.gave b
+        (ap ending_of i) rest (ap (λ (l : List Event). loads l h.ending) begins.1 ∙ k))
         (tells.stopped (faults.fault_of p) s))
-        (λ c. told.whole (sym (c begins.0 h.ending) ∙ ap (λ (l : List Event). loads l h.ending) (sym begins.1))) (g.stopped p i)
+        (λ c. told.whole (sym (c begins.0 h.ending) ∙ ap (λ (l : List Event). loads l h.ending) (sym begins.1)))
+        (g.stopped p i)
 
 -- a document whose nodes are counted
 pub bare : (ns : List yaml_node_t) → nat_eq (length ns) 0 ≡ true → ns ≡ []
@@ -312,8 +355,10 @@ fewer d new old (inr k) h = k
 
 -- the loads over a tree's tokens, by the law of the loads over these and any others after them
 pub tree_loads : ((t : Stream) (r : List Token) (f : Fault) → in_order t ≡ true
-    → (n : IsNested (events t)) × IsLoads (tokens t ++ r) f (loads_of n.texts (last_load Ends ∷ []))) → (t : Stream) (f : Fault) → in_order t ≡ true
+    → (n : IsNested (events t)) × IsLoads (tokens t ++ r) f (loads_of n.texts (last_load Ends ∷ [])))
+    → (t : Stream) (f : Fault) → in_order t ≡ true
     → (n : IsNested (events t)) × IsLoads (tokens t) f (loads_of n.texts (last_load Ends ∷ []))
 tree_loads law t f o =
-    let h : (n : IsNested (events t)) × IsLoads (tokens t ++ []) f (loads_of n.texts (last_load Ends ∷ [])) = law t [] f o in
+    let h : (n : IsNested (events t)) × IsLoads (tokens t ++ []) f (loads_of n.texts (last_load Ends ∷ [])) =
+    law t [] f o in
     (h.0, subst (λ (l : List Token). IsLoads l f (loads_of h.0.texts (last_load Ends ∷ []))) (append-nil (tokens t)) h.1)

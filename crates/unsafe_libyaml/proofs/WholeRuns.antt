@@ -1,5 +1,6 @@
 -- How the events of a whole run are gathered, call by call.
-use Rattle.std.proofs.Common.{◌≡◌, ◌≢◌, ◌⊎◌, ◌++◌, List, [], ◌∷◌, Option, Some, None, Result, Ok, Err, IfOk, true, sym, ap, ◌∙◌, subst, inl, refl, ⊎_elim}
+use Rattle.std.proofs.Common.{◌≡◌, ◌≢◌, ◌⊎◌, ◌++◌, List, [], ◌∷◌, Option, Some, None, Result, Ok, Err, IfOk, true, sym}
+use Rattle.std.proofs.Common.{ap, ◌∙◌, subst, inl, refl, ⊎_elim}
 use Rattle.std.proofs.lemmas.List.{append-nil}
 use Rattle.std.specs.declared.alloc.AllocError.{AllocError}
 use Rattle.libyaml_types.specs.declared.enums.yaml_error_type_t.{yaml_error_type_t}
@@ -24,19 +25,24 @@ use Rattle.libyaml_grammar.specs.sentences.Tokens.{Token}
 use Rattle.libyaml_sources.specs.declared.fault.yaml_parser_t_prefix.{yaml_parser_t_prefix}
 use Rattle.libyaml_events.proofs.lent.CallsInTurn.{both_calls, gave_then, no_call, one_call}
 use Rattle.libyaml_events.proofs.lent.RunStops.{answers_both}
-use Rattle.unsafe_libyaml.specs.WholeRun.{Asked, Gathers, RunsTo, StoppedBy, whole, broken_off, ending_of, of_grammar, of_source}
+use Rattle.unsafe_libyaml.specs.WholeRun.{Asked, Gathers, RunsTo, StoppedBy, whole, broken_off, ending_of, of_grammar}
+use Rattle.unsafe_libyaml.specs.WholeRun.{of_source}
 use Rattle.unsafe_libyaml.specs.declared.parse_all.yaml_run_t.{yaml_run_t}
 
 -- what a parser over this source gave since it was made
-abbrev pub GaveSoFar : {S : Type 0} → (gives : S → Answer → S → Type 0) → (source : S) → (p : Parser S) → (given : List Event) → Type 0
+abbrev pub GaveSoFar : {S : Type 0} → (gives : S → Answer → S → Type 0) → (source : S) → (p : Parser S)
+    → (given : List Event) → Type 0
 GaveSoFar gives source p given = CarriedOn gives (new_parser source) p [] [] given
 
-pub gave_none : {S : Type 0} (gives : S → Answer → S → Type 0) (source : S) (p : Parser S) → p ≡ new_parser source → History p [] []
+pub gave_none : {S : Type 0} (gives : S → Answer → S → Type 0) (source : S) (p : Parser S) → p ≡ new_parser source
+    → History p [] []
     → GaveSoFar gives source p []
 gave_none gives source p is h = subst (λ q. CarriedOn gives q p [] [] []) is (no_call gives p p p [] [] h)
 
-pub gave_more : {S : Type 0} (gives : S → Answer → S → Type 0) (source : S) (old new : Parser S) (given : List Event) (e : Event)
-    → (k : GaveSoFar gives source old given) → CarriesOn gives old e new k.more given → GaveSoFar gives source new (given ++ e ∷ [])
+pub gave_more : {S : Type 0} (gives : S → Answer → S → Type 0) (source : S) (old new : Parser S)
+    (given : List Event) (e : Event)
+    → (k : GaveSoFar gives source old given) → CarriesOn gives old e new k.more given
+    → GaveSoFar gives source new (given ++ e ∷ [])
 gave_more gives source old new given e k on
     = both_calls gives (new_parser source) old new [] [] given (e ∷ []) k (one_call gives old old new k.more given e on)
 
@@ -47,25 +53,29 @@ the_same : (p q : yaml_parser_t_prefix) → ◌≡◌ {A = Option yaml_parser_t_
 the_same p q h = cc
 
 -- nothing that was asked for was not needed
-no_answer : (front : List Token) (x : Answer) (behind : List Answer) → ◌≡◌ {A = List Answer} [] (answers front (x ∷ behind)) → ⊥
+no_answer : (front : List Token) (x : Answer) (behind : List Answer)
+    → ◌≡◌ {A = List Answer} [] (answers front (x ∷ behind)) → ⊥
 no_answer [] x behind h = cc
 no_answer (t ∷ l) x behind h = cc
 
 pub none_needed : (asked : List Token) (given : List Event) → EachNeeded asked [] given
 none_needed asked given front x behind h = absurd (no_answer front x behind h)
 
-stopped_by : (c : Config) (asked : List Token) (given : List Event) (more : List Answer) (f : Fault) → Cause c asked given more f
+stopped_by : (c : Config) (asked : List Token) (given : List Event) (more : List Answer) (f : Fault)
+    → Cause c asked given more f
     → f.error ≢ YAML_MEMORY_ERROR → StoppedBy asked more given f
 stopped_by c asked given more f (cause.of_memory l a b d e) other = absurd (other (ap (λ (g : Fault). g.error) e))
 stopped_by c asked given more f (cause.of_grammar l a b) other = of_grammar l a b
 stopped_by c asked given more f (cause.of_source l a b d) other = of_source l a b d
 
 -- what a source was asked for, and until a call failed
-module _ {S : Type 0} {gives : S → Answer → S → Type 0} {source : S} {p : Parser S} {given : List Event} (k : GaveSoFar gives source p given) where
+module _ {S : Type 0} {gives : S → Answer → S → Type 0} {source : S} {p : Parser S} {given : List Event}
+    (k : GaveSoFar gives source p given) where
   abbrev pub asked_all : Asked gives source k.more [] given
   asked_all = record { stands = p.source; gave = k.gave; needed = k.needed; needed_last = none_needed k.more given }
 
-  abbrev pub asked_until : (new : Parser S) → (fails : FailsBy gives p new k.more given) → Asked gives source k.more fails.more given
+  abbrev pub asked_until : (new : Parser S) → (fails : FailsBy gives p new k.more given)
+      → Asked gives source k.more fails.more given
   asked_until new fails = record {
     stands = new.source;
     gave = gave_then gives k.more fails.more source p.source new.source k.gave fails.gave;
@@ -74,16 +84,20 @@ module _ {S : Type 0} {gives : S → Answer → S → Type 0} {source : S} {p : 
   }
 
 -- the fault of a call that failed, which is not out of memory
-pub stopped_so : {S : Type 0} {gives : S → Answer → S → Type 0} {old new : Parser S} {asked : List Token} {given : List Event} (p f : yaml_parser_t_prefix)
+pub stopped_so : {S : Type 0} {gives : S → Answer → S → Type 0} {old new : Parser S} {asked : List Token}
+    {given : List Event} (p f : yaml_parser_t_prefix)
     → ◌≡◌ {A = Option yaml_parser_t_prefix} (Some p) (Some f) → fault_of p ≡ kept_fault new → p.error ≢ YAML_MEMORY_ERROR
     → (fails : FailsBy gives old new asked given) → StoppedBy asked fails.more given (fault_of f)
 stopped_so {S} {gives} {old} {new} {asked} {given} p f is kept other fails =
     subst (λ (q : Fault). StoppedBy asked fails.more given q) (sym kept ∙ ap fault_of (the_same p f is))
-    (stopped_by old.config asked given fails.more (kept_fault new) fails.cause (λ m. other (ap (λ (q : Fault). q.error) kept ∙ m)))
+    (stopped_by old.config asked given fails.more (kept_fault new) fails.cause
+    (λ m. other (ap (λ (q : Fault). q.error) kept ∙ m)))
 
 -- over every source, by the laws of histories
-module _ {S : Type 0} (gives : S → Answer → S → Type 0) (source : S) (p : Parser S) (run : yaml_run_t) (k : GaveSoFar gives source p run.events.items)
-    (begins : ForHistory p BeginsEach) (begins_run : ForHistory p BeginsEachRun) (nests : ForHistory p (λ _ given. NestsSoFar given)) where
+module _ {S : Type 0} (gives : S → Answer → S → Type 0) (source : S) (p : Parser S) (run : yaml_run_t)
+    (k : GaveSoFar gives source p run.events.items)
+    (begins : ForHistory p BeginsEach) (begins_run : ForHistory p BeginsEachRun)
+    (nests : ForHistory p (λ _ given. NestsSoFar given)) where
   pub gathers_all : ForHistory p IsWhole → run.fault ≡ None → Gathers gives source run
   gathers_all is_whole no_fault = record {
     asked = k.more;
@@ -97,7 +111,8 @@ module _ {S : Type 0} (gives : S → Answer → S → Type 0) (source : S) (p : 
   }
 
   -- where the fault is not out of memory
-  pub gathers_some : (new : Parser S) → ForHistory p (FailsBy gives p new) → (f : yaml_parser_t_prefix) → fault_of f ≡ kept_fault new → run.fault ≡ Some f
+  pub gathers_some : (new : Parser S) → ForHistory p (FailsBy gives p new) → (f : yaml_parser_t_prefix)
+      → fault_of f ≡ kept_fault new → run.fault ≡ Some f
       → f.error ≢ YAML_MEMORY_ERROR → Gathers gives source run
   gathers_some new fails f kept fault other =
       let by = fails k.more run.events.items k.history in
@@ -113,7 +128,8 @@ module _ {S : Type 0} (gives : S → Answer → S → Type 0) (source : S) (p : 
       }
 
 -- what the tokens that were asked for tell of a run
-pub record Tells {S : Type 0} (MayBreak : S → Fault → Type 0) (stands : S) (asked : List Token) (last : List Answer) (given e : List Event) (x : Ending)
+pub record Tells {S : Type 0} (MayBreak : S → Fault → Type 0) (stands : S) (asked : List Token) (last : List Answer)
+    (given e : List Event) (x : Ending)
     : Type 0 where
   pub whole : IsWhole asked given → (given ≡ e) × (Ends ≡ x)
   pub stopped : (g : Fault) → StoppedBy asked last given g → ((given ≡ e) × (Fails g ≡ x)) ⊎ MayBreak stands g
@@ -121,21 +137,28 @@ pub record Tells {S : Type 0} (MayBreak : S → Fault → Type 0) (stands : S) (
 
 -- over a source that knows its tokens, by the law of the run of what it was asked for
 module _ {S : Type 0} (gives : S → Answer → S → Type 0) (known : S → Option Coming) (MayBreak : S → Fault → Type 0)
-    (front : (s t : S) (asked l : List Token) (more : List Answer) (f : Fault) → known s ≡ Some (coming l f) → Gave gives s (answers asked more) t
+    (front : (s t : S) (asked l : List Token) (more : List Answer) (f : Fault) → known s ≡ Some (coming l f)
+    → Gave gives s (answers asked more) t
     → (rest : List Token) × (l ≡ asked ++ rest))
-    (of_whole : (s t : S) (asked l : List Token) (more : List Answer) (f : Fault) (given e : List Event) (x : Ending) → known s ≡ Some (coming l f)
+    (of_whole : (s t : S) (asked l : List Token) (more : List Answer) (f : Fault) (given e : List Event)
+    (x : Ending) → known s ≡ Some (coming l f)
     → IsRun l f e x → Gave gives s (answers asked more) t → IsWhole asked given → (given ≡ e) × (Ends ≡ x))
-    (of_fault : (s t : S) (asked l : List Token) (f g : Fault) (given e : List Event) (x : Ending) → known s ≡ Some (coming l f) → IsRun l f e x
+    (of_fault : (s t : S) (asked l : List Token) (f g : Fault) (given e : List Event) (x : Ending)
+    → known s ≡ Some (coming l f) → IsRun l f e x
     → Gave gives s (answers asked []) t → HasFailed asked given g → (given ≡ e) × (Fails g ≡ x))
-    (of_short : (s t : S) (asked l : List Token) (f g : Fault) (given e : List Event) (x : Ending) → known s ≡ Some (coming l f) → IsRun l f e x
+    (of_short : (s t : S) (asked l : List Token) (f g : Fault) (given e : List Event) (x : Ending)
+    → known s ≡ Some (coming l f) → IsRun l f e x
     → Gave gives s (answers asked (Err g ∷ [])) t → StopsShort asked given → ((given ≡ e) × (Fails g ≡ x)) ⊎ MayBreak t g)
-    (source : S) (l : List Token) (f : Fault) (e : List Event) (x : Ending) (is_run : IsRun l f e x) (k : known source ≡ Some (coming l f))
+    (source : S) (l : List Token) (f : Fault) (e : List Event) (x : Ending) (is_run : IsRun l f e x)
+    (k : known source ≡ Some (coming l f))
     (asked : List Token) (last : List Answer) (given : List Event) (a : Asked gives source asked last given) where
   stopped_run : (g : Fault) → StoppedBy asked last given g → ((given ≡ e) × (Fails g ≡ x)) ⊎ MayBreak a.stands g
   stopped_run g by = go by
     where
-      gave_as : (b : List Token) (r : List Answer) → last ≡ answers b r → Gave gives source (answers (asked ++ b) r) a.stands
-      gave_as b r i = subst (λ (y : List Answer). Gave gives source y a.stands) (ap (answers asked) i ∙ answers_both asked b r) a.gave
+      gave_as : (b : List Token) (r : List Answer) → last ≡ answers b r
+          → Gave gives source (answers (asked ++ b) r) a.stands
+      gave_as b r i = subst (λ (y : List Answer). Gave gives source y a.stands)
+          (ap (answers asked) i ∙ answers_both asked b r) a.gave
 
       go : StoppedBy asked last given g → ((given ≡ e) × (Fails g ≡ x)) ⊎ MayBreak a.stands g
       go (of_grammar b i h) = inl (of_fault source a.stands (asked ++ b) l f g given e x k is_run (gave_as b [] i) h)
@@ -149,21 +172,26 @@ module _ {S : Type 0} (gives : S → Answer → S → Type 0) (known : S → Opt
         begins rest f e x (subst (λ (y : List Token). IsRun y f e x) all is_run);
   }
 
-pub runs_to : {S : Type 0} (gives : S → Answer → S → Type 0) (MayBreak : S → Fault → Type 0) (source : S) (run : yaml_run_t) (g : Gathers gives source run)
-    (e : List Event) (x : Ending) → Tells MayBreak g.tokens.stands g.asked g.last run.events.items e x → RunsTo gives MayBreak source run e x
+pub runs_to : {S : Type 0} (gives : S → Answer → S → Type 0) (MayBreak : S → Fault → Type 0) (source : S)
+    (run : yaml_run_t) (g : Gathers gives source run)
+    (e : List Event) (x : Ending) → Tells MayBreak g.tokens.stands g.asked g.last run.events.items e x
+    → RunsTo gives MayBreak source run e x
 runs_to gives MayBreak source run g e x tells = go run.fault refl
   where
-    whole_so : (y : Ending) → ending_of run.fault ≡ y → (run.events.items ≡ e) × (y ≡ x) → RunsTo gives MayBreak source run e x
+    whole_so : (y : Ending) → ending_of run.fault ≡ y → (run.events.items ≡ e) × (y ≡ x)
+        → RunsTo gives MayBreak source run e x
     whole_so y i h = whole h.0 (i ∙ h.1)
 
     go : (o : Option yaml_parser_t_prefix) → run.fault ≡ o → RunsTo gives MayBreak source run e x
     go None i = whole_so Ends (ap ending_of i) (tells.whole (g.whole i))
     go (Some p) i = ⊎_elim (whole_so (Fails (fault_of p)) (ap ending_of i))
-        (λ b. broken_off (answers g.asked g.last) g.tokens.stands (fault_of p) g.tokens.gave b (ap ending_of i) (tells.begins g.begins_run))
+        (λ b. broken_off (answers g.asked g.last) g.tokens.stands (fault_of p) g.tokens.gave b (ap ending_of i)
+        (tells.begins g.begins_run))
         (tells.stopped (fault_of p) (g.stopped p i))
 
 -- the run over a tree's tokens, by the law of the run over these and any others after them
-pub tree_runs : ((t : Stream) (r : List Token) (f : Fault) → in_order t ≡ true → IsRun (tokens t ++ r) f (events t) Ends) → (t : Stream) (f : Fault)
+pub tree_runs : ((t : Stream) (r : List Token) (f : Fault) → in_order t ≡ true
+    → IsRun (tokens t ++ r) f (events t) Ends) → (t : Stream) (f : Fault)
     → in_order t ≡ true → IsRun (tokens t) f (events t) Ends
 tree_runs law t f o = subst (λ (l : List Token). IsRun l f (events t) Ends) (append-nil (tokens t)) (law t [] f o)
 

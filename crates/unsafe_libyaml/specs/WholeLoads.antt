@@ -21,15 +21,19 @@ as_loads documents ending = map (λ (d : Document). Ok d) documents ++ last_load
 
 -- These loads; or the source broke off after the results that it gave, by a fault that it names as possible where it then
 -- stood, and the documents are a prefix. A list never does.
-pub data LoadsTo {S : Type 0} (gives : S → Answer → S → Type 0) (MayBreak : S → Fault → Type 0) (source : S) (all : yaml_documents_t) (loads : List Load)
+pub data LoadsTo {S : Type 0} (gives : S → Answer → S → Type 0) (MayBreak : S → Fault → Type 0) (source : S)
+    (all : yaml_documents_t) (loads : List Load)
     : Type 0 where
   whole : as_loads all.documents.items (ending_of all.fault) ≡ loads → LoadsTo gives MayBreak source all loads
-  broken_off : (given : List Answer) (s : S) (f : Fault) → Gave gives source given s → MayBreak s f → ending_of all.fault ≡ Fails f
-      → (rest : List Load) → loads ≡ map (λ (d : Document). Ok d) all.documents.items ++ rest → LoadsTo gives MayBreak source all loads
+  broken_off : (given : List Answer) (s : S) (f : Fault) → Gave gives source given s → MayBreak s f
+      → ending_of all.fault ≡ Fails f
+      → (rest : List Load) → loads ≡ map (λ (d : Document). Ok d) all.documents.items ++ rest
+      → LoadsTo gives MayBreak source all loads
 
 -- these events have a composer error, whatever follows them: their loads are these documents and the fault
 abbrev pub ComposerError : List Event → yaml_documents_t → Type 0
-ComposerError taken all = (rest : List Event) (x : Ending) → loads (taken ++ rest) x ≡ as_loads all.documents.items (ending_of all.fault)
+ComposerError taken all = (rest : List Event) (x : Ending)
+    → loads (taken ++ rest) x ≡ as_loads all.documents.items (ending_of all.fault)
 
 -- The loads over any source, which took these events of the parser: the documents and the fault are the loads of these
 -- events, and the documents are the first loads of them, whatever comes after. The events begin those of each sentence that
@@ -44,6 +48,8 @@ pub record GathersLoads {S : Type 0} (gives : S → Answer → S → Type 0) (so
   pub begins_run : BeginsEachRun asked taken
   pub nests : NestsSoFar taken
   pub are_loads : as_loads all.documents.items (ending_of all.fault) ≡ loads taken (ending_of all.fault)
-  pub are_first : (rest : List Event) (x : Ending) → (later : List Load) × (loads (taken ++ rest) x ≡ map (λ (d : Document). Ok d) all.documents.items ++ later)
+  pub are_first : (rest : List Event) (x : Ending)
+      → (later : List Load) × (loads (taken ++ rest) x ≡ map (λ (d : Document). Ok d) all.documents.items ++ later)
   pub whole : all.fault ≡ None → IsWhole asked taken
-  pub stopped : (f : yaml_parser_t_prefix) → all.fault ≡ Some f → StoppedBy asked last taken (fault_of f) ⊎ ComposerError taken all
+  pub stopped : (f : yaml_parser_t_prefix) → all.fault ≡ Some f → StoppedBy asked last taken (fault_of f)
+      ⊎ ComposerError taken all

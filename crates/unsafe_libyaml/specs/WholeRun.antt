@@ -20,17 +20,20 @@ abbrev pub ending_of : Option yaml_parser_t_prefix → Ending
 ending_of None = Ends
 ending_of (Some f) = Fails (fault_of f)
 
--- These events and this ending; or the source broke off after the results that it gave, by a fault that it names as possible
--- where it then stood, and the events are a prefix. A list never does.
-pub data RunsTo {S : Type 0} (gives : S → Answer → S → Type 0) (MayBreak : S → Fault → Type 0) (source : S) (run : yaml_run_t) (events : List Event)
+-- These events and this ending; or the source broke off after the results that it gave, by a fault that it names as
+-- possible where it then stood, and the events are a prefix. A list never does.
+pub data RunsTo {S : Type 0} (gives : S → Answer → S → Type 0) (MayBreak : S → Fault → Type 0) (source : S)
+    (run : yaml_run_t) (events : List Event)
     (ending : Ending) : Type 0 where
   whole : run.events.items ≡ events → ending_of run.fault ≡ ending → RunsTo gives MayBreak source run events ending
-  broken_off : (given : List Answer) (s : S) (f : Fault) → Gave gives source given s → MayBreak s f → ending_of run.fault ≡ Fails f
+  broken_off : (given : List Answer) (s : S) (f : Fault) → Gave gives source given s → MayBreak s f
+      → ending_of run.fault ≡ Fails f
       → Begins run.events.items events → RunsTo gives MayBreak source run events ending
 
 -- What a source was asked for until a run stopped: it gave these tokens and then, where a call failed, what that call asked
 -- for. Each was needed when it was asked for.
-pub record Asked {S : Type 0} (gives : S → Answer → S → Type 0) (source : S) (asked : List Token) (last : List Answer) (given : List Event) : Type 0 where
+pub record Asked {S : Type 0} (gives : S → Answer → S → Type 0) (source : S) (asked : List Token)
+    (last : List Answer) (given : List Event) : Type 0 where
   pub stands : S
   pub gave : Gave gives source (answers asked last) stands
   pub needed : EachWasNeeded [] asked [] given
@@ -40,10 +43,11 @@ pub record Asked {S : Type 0} (gives : S → Answer → S → Type 0) (source : 
 -- grammar, or by the source's own, which is kept with all its fields.
 pub data StoppedBy (asked : List Token) (last : List Answer) (given : List Event) (f : Fault) : Type 0 where
   of_grammar : (l : List Token) → last ≡ answers l [] → HasFailed (asked ++ l) given f → StoppedBy asked last given f
-  of_source : (l : List Token) → last ≡ answers l (Err f ∷ []) → IsSourceError f.error → StopsShort (asked ++ l) given → StoppedBy asked last given f
+  of_source : (l : List Token) → last ≡ answers l (Err f ∷ []) → IsSourceError f.error
+      → StopsShort (asked ++ l) given → StoppedBy asked last given f
 
--- A run over any source: the events begin those of each sentence that begins with the tokens, and of each run that does, and
--- nest; without a fault they are a whole tree's, and so are the tokens; and a fault came of these tokens.
+-- A run over any source: the events begin those of each sentence that begins with the tokens, and of each run that
+-- does, and nest; without a fault they are a whole tree's, and so are the tokens; and a fault came of these tokens.
 pub record Gathers {S : Type 0} (gives : S → Answer → S → Type 0) (source : S) (run : yaml_run_t) : Type 0 where
   pub asked : List Token
   pub last : List Answer

@@ -45,7 +45,8 @@ node_holds P nodes (negsuc n) h = tt
 node_holds P nodes (pos zero) h = tt
 node_holds P nodes (pos (suc n)) h = at_index P nodes n (recursion_from_All P nodes h)
 
-then_holds : {X : Type 0} (Q : X → Type 0) (P : ℤ → Type 0) (o : Option X) (f : X → Option ℤ) → ((x : X) → Q x → IfSome (f x) P) → IfSome o Q
+then_holds : {X : Type 0} (Q : X → Type 0) (P : ℤ → Type 0) (o : Option X) (f : X → Option ℤ)
+    → ((x : X) → Q x → IfSome (f x) P) → IfSome o Q
     → IfSome (option_and_then f o) P
 then_holds Q P None f each h = tt
 then_holds Q P (Some x) f each h = each x h
@@ -56,7 +57,8 @@ mapped_holds P None h = tt
 mapped_holds P (Some p) h = h
 
 -- the id of an item, and that of a value
-pub item_names : (nodes : List yaml_node_t) (id : ℤ) (index : ℕ) → EveryIdNamesANode nodes → IfSome (item_at nodes id index) (IsIdUpTo (length nodes))
+pub item_names : (nodes : List yaml_node_t) (id : ℤ) (index : ℕ) → EveryIdNamesANode nodes
+    → IfSome (item_at nodes id index) (IsIdUpTo (length nodes))
 item_names nodes id index h =
     let P = IsIdUpTo (length nodes) in
     let Q = λ (node : yaml_node_t). All P (ids_of node.content) in
@@ -64,17 +66,21 @@ item_names nodes id index h =
     (λ node k. at_index P (items_of node.content) index (items_hold P node.content k))
     (node_holds Q nodes id h)
 
-pub value_names : (nodes : List yaml_node_t) (id : ℤ) (key : List ℕ) → EveryIdNamesANode nodes → IfSome (value_at nodes id key) (IsIdUpTo (length nodes))
+pub value_names : (nodes : List yaml_node_t) (id : ℤ) (key : List ℕ) → EveryIdNamesANode nodes
+    → IfSome (value_at nodes id key) (IsIdUpTo (length nodes))
 value_names nodes id key h =
     let P = IsIdUpTo (length nodes) in
     let Q = λ (node : yaml_node_t). All P (ids_of node.content) in
     then_holds Q P (node_at nodes id)
-    (λ (node : yaml_node_t). option_map (λ (pair : yaml_node_pair_t). pair.value) (pair_of nodes key (pairs_of node.content)))
+    (λ (node : yaml_node_t). option_map (λ (pair : yaml_node_pair_t). pair.value)
+    (pair_of nodes key (pairs_of node.content)))
     (λ node k. mapped_holds P (pair_of nodes key (pairs_of node.content))
-    (first_of (λ (p : yaml_node_pair_t). P p.value) (λ (p : yaml_node_pair_t). is_scalar_at nodes key p.key) (pairs_of node.content)
+    (first_of (λ (p : yaml_node_pair_t). P p.value) (λ (p : yaml_node_pair_t). is_scalar_at nodes key p.key)
+    (pairs_of node.content)
     (values_hold P node.content k)))
     (node_holds Q nodes id h)
 
 -- the same of a result that is that item or value
-pub answer_names : (nodes : List yaml_node_t) (o r : Option ℤ) → r ≡ o → IfSome o (IsIdUpTo (length nodes)) → IfSome r (IsIdUpTo (length nodes))
+pub answer_names : (nodes : List yaml_node_t) (o r : Option ℤ) → r ≡ o → IfSome o (IsIdUpTo (length nodes))
+    → IfSome r (IsIdUpTo (length nodes))
 answer_names nodes o r e h = subst (λ x. IfSome x (IsIdUpTo (length nodes))) (sym e) h

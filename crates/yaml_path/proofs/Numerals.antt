@@ -32,10 +32,13 @@ number_read (d ∷ ds) (Err e) h =
     not_both (all_ascii_digits (d ∷ ds)) (nat_lt (digits_value 10 (d ∷ ds)) (2 ^ 64)) (digits_value 10 (d ∷ ds))
     (λ k. h (k.0, omega arith, ltb-true _ _ k.1))
 
-pub word_read : {E : Type 0} (bs : List ℕ) (r : Result ℕ E) → ParsesUnsigned 64 10 bs r → get_or bs 0 0 ≢ 43 → result_ok r ≡ index_of bs
+pub word_read : {E : Type 0} (bs : List ℕ) (r : Result ℕ E) → ParsesUnsigned 64 10 bs r → get_or bs 0 0 ≢ 43
+    → result_ok r ≡ index_of bs
 word_read bs r h unsigned = number_read bs r (parse_plain (numerals_by_value _ tells_all_ascii_digits) 64 bs r h unsigned)
 
 -- a word that does not begin with a plus sign
-pub without_plus : (bs : List ℕ) (r : Bool) → MatchBool r ((n : ℕ) × FindsCharPrefix 43 bs (Some n) × IsCharBoundary bs n) (FindsCharPrefix 43 bs None)
+pub without_plus : (bs : List ℕ) (r : Bool)
+    → MatchBool r ((n : ℕ) × FindsCharPrefix 43 bs (Some n) × IsCharBoundary bs n) (FindsCharPrefix 43 bs None)
     → r ≡ false → get_or bs 0 0 ≢ 43
-without_plus bs r h is_false = λ plus. let not : true ≡ false = sym ((starts_char 43 bs r h (omega arith) (omega arith)).1 plus) ∙ is_false in (cc)
+without_plus bs r h is_false = λ plus. let not : true ≡ false =
+    sym ((starts_char 43 bs r h (omega arith) (omega arith)).1 plus) ∙ is_false in (cc)

@@ -1,5 +1,6 @@
 -- Paths into a document (docs/DEFINITIONS.md, "Paths into a document").
-use Rattle.std.specs.Prelude.{ℕ, ◌^◌, ℤ, pos, List, [], ◌∷◌, Option, Some, None, Bool, false, ◌&&◌, nat_lt, bytes_eq, slice_get, find, option_and_then, if◌then◌else◌}
+use Rattle.std.specs.Prelude.{ℕ, ◌^◌, ℤ, pos, List, [], ◌∷◌, Option, Some, None, Bool, false, ◌&&◌, nat_lt, bytes_eq}
+use Rattle.std.specs.Prelude.{slice_get, find, option_and_then, if◌then◌else◌}
 use Rattle.std.specs.Option.{option_map, option_or}
 use Rattle.std.specs.Str.{all_ascii_digits}
 use Rattle.std.specs.Str.Parse.{digits_value}
@@ -38,16 +39,19 @@ pair_of nodes key pairs = find (λ pair. is_scalar_at nodes key pair.key) pairs
 
 -- the value of that pair of the node of this id
 abbrev pub value_at : List yaml_node_t → ℤ → List ℕ → Option ℤ
-value_at nodes id key = option_and_then (λ node. option_map (λ pair. pair.value) (pair_of nodes key (pairs_of node.content))) (node_at nodes id)
+value_at nodes id key = option_and_then
+    (λ node. option_map (λ pair. pair.value) (pair_of nodes key (pairs_of node.content))) (node_at nodes id)
 
 -- the number that a word of decimal digits alone writes, within 64 bits
 abbrev pub index_of : List ℕ → Option ℕ
 index_of [] = None
-index_of (d ∷ ds) = if all_ascii_digits (d ∷ ds) && nat_lt (digits_value 10 (d ∷ ds)) (2 ^ 64) then Some (digits_value 10 (d ∷ ds)) else None
+index_of (d ∷ ds) = if all_ascii_digits (d ∷ ds) && nat_lt (digits_value 10 (d ∷ ds)) (2 ^ 64) then Some
+    (digits_value 10 (d ∷ ds)) else None
 
 -- what a word of a path leads to: in a mapping the value of that key, in a sequence the item of that number
 abbrev pub child_at : List yaml_node_t → ℤ → List ℕ → Option ℤ
-child_at nodes id word = option_or (value_at nodes id word) (option_and_then (λ index. item_at nodes id index) (index_of word))
+child_at nodes id word = option_or (value_at nodes id word)
+    (option_and_then (λ index. item_at nodes id index) (index_of word))
 
 -- what the words of a path lead to, one by one, from the node of this id
 abbrev pub id_behind : List yaml_node_t → ℤ → List (List ℕ) → Option ℤ

@@ -12,7 +12,8 @@ not_failed : (a b : Bool) → a ≡ true → a || b ≡ false → ⊥
 not_failed true b h k = cc
 not_failed false b h k = cc
 
-pub remembers : {S A : Type 0} (gives : S → Answer → S → Type 0) (old new : Parser S) (r : Result A yaml_error_type_t) (e : Event) → Remembers old
+pub remembers : {S A : Type 0} (gives : S → Answer → S → Type 0) (old new : Parser S)
+    (r : Result A yaml_error_type_t) (e : Event) → Remembers old
     → ended_or_failed old.config ≡ false → MatchResult r (λ _. Call gives old (Ok e) new) (λ x. Call gives old (Err x) new)
     → IfErr r (λ _. has_failed new ≡ true) → Remembers new
 remembers gives old new (Err x) e h b call failed = inl failed

@@ -8,7 +8,8 @@ use Rattle.libyaml_events.specs.machine.Config.{kept_token, kept_start, opening_
 
 same_token : (a : unnamed_yaml_token_t_data) (h t : yaml_token_t) → Some a ≡ Some t.content
     → Some (record { content = a; start_mark = t.start_mark; end_mark = t.end_mark }) ≡ Some t
-same_token a h t e = let same : a ≡ t.content = cc in ap (λ (c : unnamed_yaml_token_t_data). let u : yaml_token_t = record t { content = c } in Some u) same
+same_token a h t e = let same : a ≡ t.content = cc
+    in ap (λ (c : unnamed_yaml_token_t_data). let u : yaml_token_t = record t { content = c } in Some u) same
 
 -- of a token that opens a collection the marks tell all
 pub kept_opening : (k : Kept) (h t : yaml_token_t) → opening_of k ≡ Some t.content
@@ -21,7 +22,8 @@ kept_opening kept.FlowSequence h t e = same_token _ h t e
 kept_opening kept.FlowMapping h t e = same_token _ h t e
 
 -- its start is kept
-pub kept_begins : (k : Kept) (h : yaml_token_t) → is_some (kept_token k h) ≡ true → kept_start (kept_token k h) ≡ h.start_mark
+pub kept_begins : (k : Kept) (h : yaml_token_t) → is_some (kept_token k h) ≡ true
+    → kept_start (kept_token k h) ≡ h.start_mark
 kept_begins kept.Nothing h e = cc
 kept_begins kept.Token h e = refl
 kept_begins kept.BlockSequence h e = refl

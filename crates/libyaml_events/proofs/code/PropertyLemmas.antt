@@ -23,16 +23,19 @@ module _ (p : NodePlace) (r : PropertiesRead) (c : Config) (t : yaml_token_t) wh
   second_tag None g e h = cc
   second_tag (Some x) g e h = rw e refl
 
-  pub behind_second_anchor : (k : unnamed_yaml_token_t_data) (a : unnamed_yaml_token_t_data_anchor) → k ≡ tok.Anchor a → is_some r.anchor ≡ true
+  pub behind_second_anchor : (k : unnamed_yaml_token_t_data) (a : unnamed_yaml_token_t_data_anchor)
+      → k ≡ tok.Anchor a → is_some r.anchor ≡ true
       → behind_properties p r c t k ≡ content_behind p r r.tag c t k
   behind_second_anchor k a e h = rw e (second_anchor r.anchor a h)
 
-  pub behind_second_tag : (k : unnamed_yaml_token_t_data) (g : unnamed_yaml_token_t_data_tag) → k ≡ tok.Tag g → is_some r.tag ≡ true
+  pub behind_second_tag : (k : unnamed_yaml_token_t_data) (g : unnamed_yaml_token_t_data_tag) → k ≡ tok.Tag g
+      → is_some r.tag ≡ true
       → behind_properties p r c t k ≡ content_behind p r r.tag c t k
   behind_second_tag k g e h = rw e (second_tag r.tag g refl h)
 
   pub behind_no_property : (k : unnamed_yaml_token_t_data) → ((a : unnamed_yaml_token_t_data_anchor) → k ≡ tok.Anchor a → ⊥)
-      → ((g : unnamed_yaml_token_t_data_tag) → k ≡ tok.Tag g → ⊥) → behind_properties p r c t k ≡ content_behind p r r.tag c t k
+      → ((g : unnamed_yaml_token_t_data_tag) → k ≡ tok.Tag g → ⊥)
+      → behind_properties p r c t k ≡ content_behind p r r.tag c t k
   behind_no_property (tok.Anchor a) no_anchor no_tag = absurd (no_anchor a refl)
   behind_no_property (tok.Tag g) no_anchor no_tag = absurd (no_tag g refl)
   behind_no_property _ no_anchor no_tag = refl

@@ -1,13 +1,16 @@
 -- What the machine makes of directives and handles is what the grammar says of them.
-use Rattle.std.proofs.Common.{◌≡◌, ℕ, ◌++◌, List, [], ◌∷◌, Option, Some, None, refl, sym, ap, ◌∙◌, Bool, true, false, cond, nat_cmp, codes}
+use Rattle.std.proofs.Common.{◌≡◌, ℕ, ◌++◌, List, [], ◌∷◌, Option, Some, None, refl, sym, ap, ◌∙◌, Bool, true, false}
+use Rattle.std.proofs.Common.{cond, nat_cmp, codes}
 use Rattle.std.specs.Ordering.{eq_by_cmp}
 use Rattle.std.specs.Cmp.Lexicographic.{slice_cmp, texts_ties, nat_list_eq_equiv, nat_list_cmp_total}
 use Rattle.std.specs.FinMap.{get, insert, get-insert, get-from_entries}
 use Rattle.libyaml_events.specs.machine.Machine as mach
 use Rattle.libyaml_grammar.specs.cuts.CutFaults.{directive_fault}
-use Rattle.libyaml_grammar.specs.sentences.Tokens.{HandleDeclared, Mark, Marks, TagDirective, TagName, Token, VersionAsked, VersionDirective, tok}
+use Rattle.libyaml_grammar.specs.sentences.Tokens.{HandleDeclared, Mark, Marks, TagDirective, TagName, Token}
+use Rattle.libyaml_grammar.specs.sentences.Tokens.{VersionAsked, VersionDirective, tok}
 use Rattle.libyaml_grammar.specs.sentences.Trees.{Directives, directive, no_directives, tag_directive, version}
-use Rattle.libyaml_grammar.specs.sentences.Events.{Event, declaration, either, prefix_of, resolved, same_text, tag_directives_of, tag_directives_then}
+use Rattle.libyaml_grammar.specs.sentences.Events.{Event, declaration, either, prefix_of, resolved, same_text}
+use Rattle.libyaml_grammar.specs.sentences.Events.{tag_directives_of, tag_directives_then}
 use Rattle.libyaml_grammar.specs.sentences.Events.{tag_from, version_of}
 use Rattle.libyaml_grammar.specs.sentences.Order.{declares, is_known, is_accepted, negated, no_version}
 use Rattle.libyaml_grammar.proofs.lent.Reading.{keeps_order}
@@ -32,9 +35,13 @@ abbrev text_or : Bool → List ℕ → List ℕ → List ℕ
 text_or u x y = elim u [ true ↦ x | false ↦ y ]
 
 default_same : (h : List ℕ) → mach.undeclared_prefix h
-    ≡ cond (same_text (codes "!") h) (Some (codes "!")) (cond (same_text (codes "!!") h) (Some (codes "tag:yaml.org,2002:")) None)
-default_same h = ap (λ (u : Bool). cond u (Some (codes "!")) (cond (same_text h (codes "!!")) (Some (codes "tag:yaml.org,2002:")) None))
-    (same_swapped h (codes "!")) ∙ ap (λ (u : Bool). cond (same_text (codes "!") h) (Some (codes "!")) (cond u (Some (codes "tag:yaml.org,2002:")) None))
+    ≡ cond (same_text (codes "!") h) (Some (codes "!"))
+    (cond (same_text (codes "!!") h) (Some (codes "tag:yaml.org,2002:")) None)
+default_same h = ap (λ (u : Bool). cond u (Some (codes "!"))
+    (cond (same_text h (codes "!!")) (Some (codes "tag:yaml.org,2002:")) None))
+    (same_swapped h (codes "!"))
+    ∙ ap (λ (u : Bool). cond (same_text (codes "!") h) (Some (codes "!"))
+    (cond u (Some (codes "tag:yaml.org,2002:")) None))
     (same_swapped h (codes "!!"))
 
 inserted : (hs : Handles) (g p h : List ℕ) → get (insert hs g p) h ≡ cond (same_text g h) (Some p) (get hs h)
@@ -46,21 +53,24 @@ none_declared h = get-from_entries nat_list_cmp_total [] h
 pub undeclared : (ds : Directives) (h : List ℕ) → declares ds h ≡ false → get (handles_of ds) h ≡ None
 undeclared no_directives h e = none_declared h
 undeclared (directive ds (version v m)) h e = undeclared ds h e
-undeclared (directive ds (tag_directive d m)) h e = inserted (handles_of ds) d.handle d.prefix h ∙ go (same_text d.handle h) (λ f. undeclared ds h f) e
+undeclared (directive ds (tag_directive d m)) h e = inserted (handles_of ds) d.handle d.prefix h
+    ∙ go (same_text d.handle h) (λ f. undeclared ds h f) e
   where
     go : (u : Bool) → (declares ds h ≡ false → get (handles_of ds) h ≡ None) → either u (declares ds h) ≡ false
         → cond u (Some d.prefix) (get (handles_of ds) h) ≡ None
     go true ih e = absurd cc
     go false ih e = ih e
 
-pub already_declared : (ds : Directives) (h : List ℕ) → declares ds h ≡ true → (p : List ℕ) × (get (handles_of ds) h ≡ Some p)
+pub already_declared : (ds : Directives) (h : List ℕ) → declares ds h ≡ true
+    → (p : List ℕ) × (get (handles_of ds) h ≡ Some p)
 already_declared no_directives h e = absurd cc
 already_declared (directive ds (version v m)) h e = already_declared ds h e
 already_declared (directive ds (tag_directive d m)) h e =
     let r = go (same_text d.handle h) (λ f. already_declared ds h f) e in
     (r.0, inserted (handles_of ds) d.handle d.prefix h ∙ r.1)
   where
-    go : (u : Bool) → (declares ds h ≡ true → (p : List ℕ) × (get (handles_of ds) h ≡ Some p)) → either u (declares ds h) ≡ true → (p : List ℕ)
+    go : (u : Bool) → (declares ds h ≡ true → (p : List ℕ) × (get (handles_of ds) h ≡ Some p))
+        → either u (declares ds h) ≡ true → (p : List ℕ)
         × (cond u (Some d.prefix) (get (handles_of ds) h) ≡ Some p)
     go true ih e = (d.prefix, refl)
     go false ih e = ih e
@@ -79,7 +89,8 @@ found no_directives h e = ap (λ (o : Option (List ℕ)). or_default o h) (none_
     go false true e = refl
     go false false e = absurd cc
 found (directive ds (version v m)) h e = found ds h e
-found (directive ds (tag_directive d m)) h e = ap (λ (o : Option (List ℕ)). or_default o h) (inserted (handles_of ds) d.handle d.prefix h)
+found (directive ds (tag_directive d m)) h e = ap (λ (o : Option (List ℕ)). or_default o h)
+    (inserted (handles_of ds) d.handle d.prefix h)
     ∙ go (same_text d.handle h) (λ f. found ds h f) e
   where
     go : (u : Bool) → (Known ds h ≡ true → or_default (get (handles_of ds) h) h ≡ Some (prefix_of ds h))
@@ -88,7 +99,8 @@ found (directive ds (tag_directive d m)) h e = ap (λ (o : Option (List ℕ)). o
     go true ih e = refl
     go false ih e = ih e
 
-pub resolve_is : (ds : Directives) (t : TagName) → is_known ds t.handle ≡ true → resolve (handles_of ds) t.handle t.suffix ≡ Some (resolved ds t)
+pub resolve_is : (ds : Directives) (t : TagName) → is_known ds t.handle ≡ true
+    → resolve (handles_of ds) t.handle t.suffix ≡ Some (resolved ds t)
 resolve_is ds t e = go t.handle e
   where
     go : (h : List ℕ) → is_known ds h ≡ true → resolve (handles_of ds) h t.suffix ≡ Some (tag_from ds h t.suffix)
@@ -98,7 +110,8 @@ resolve_is ds t e = go t.handle e
 not_found : (ds : Directives) (h : List ℕ) → Known ds h ≡ false → or_default (get (handles_of ds) h) h ≡ None
 not_found ds h e = go (declares ds h) refl e
   where
-    ends : (u v : Bool) → either u v ≡ false → cond u (Some (codes "!")) (cond v (Some (codes "tag:yaml.org,2002:")) None) ≡ None
+    ends : (u v : Bool) → either u v ≡ false
+        → cond u (Some (codes "!")) (cond v (Some (codes "tag:yaml.org,2002:")) None) ≡ None
     ends true v e = absurd cc
     ends false true e = absurd cc
     ends false false e = refl
@@ -109,7 +122,8 @@ not_found ds h e = go (declares ds h) refl e
     go false f e = ap (λ (o : Option (List ℕ)). or_default o h) (undeclared ds h f)
         ∙ (default_same h ∙ ends (same_text (codes "!") h) (same_text (codes "!!") h) e)
 
-pub resolve_not : (ds : Directives) (t : TagName) → is_known ds t.handle ≡ false → resolve (handles_of ds) t.handle t.suffix ≡ None
+pub resolve_not : (ds : Directives) (t : TagName) → is_known ds t.handle ≡ false
+    → resolve (handles_of ds) t.handle t.suffix ≡ None
 resolve_not ds t e = go t.handle e
   where
     go : (h : List ℕ) → is_known ds h ≡ false → resolve (handles_of ds) h t.suffix ≡ None
@@ -130,7 +144,8 @@ version_there no_directives e = absurd cc
 version_there (directive ds (version v m)) e = (record { major = v.major; minor = v.minor }, refl)
 version_there (directive ds (tag_directive d m)) e = version_there ds e
 
-pub version_after : (s : Mark) (ds : Directives) (c : Config) (v : VersionAsked) (m : Marks) (f : Config → Token → List Event × End) (r : List Event)
+pub version_after : (s : Mark) (ds : Directives) (c : Config) (v : VersionAsked) (m : Marks)
+    (f : Config → Token → List Event × End) (r : List Event)
     → after (explicit_document (read_so_far s ds) c (tok (VersionDirective v) m) (VersionDirective v)) f r
     ≡ (
       r,
@@ -150,19 +165,23 @@ version_after s ds c v m f r = go (no_version ds) refl (is_accepted v.major v.mi
     go true e false g = rw (version_found ds e, e, g) (rw (e, directive_fault) refl)
     go false e u g = rw ((version_there ds e).1, e) (rw (e, directive_fault) refl)
 
-directives_then : (ds : Directives) (r : List yaml_tag_directive_t) → tag_directives_then ds r ≡ tag_directives_then ds [] ++ r
+directives_then : (ds : Directives) (r : List yaml_tag_directive_t)
+    → tag_directives_then ds r ≡ tag_directives_then ds [] ++ r
 directives_then no_directives r = refl
 directives_then (directive ds (version v m)) r = directives_then ds r
 directives_then (directive ds (tag_directive d m)) r = directives_then ds (declaration d ∷ r)
     ∙ (sym (assoc (tag_directives_then ds []) (declaration d ∷ []) r)
     ∙ ap (λ (x : List yaml_tag_directive_t). x ++ r) (sym (directives_then ds (declaration d ∷ []))))
 
-pub tag_after : (s : Mark) (ds : Directives) (c : Config) (d : HandleDeclared) (m : Marks) (f : Config → Token → List Event × End) (r : List Event)
-    → c.handles ≡ handles_of ds → after (explicit_document (read_so_far s ds) c (tok (TagDirective d) m) (TagDirective d)) f r
+pub tag_after : (s : Mark) (ds : Directives) (c : Config) (d : HandleDeclared) (m : Marks)
+    (f : Config → Token → List Event × End) (r : List Event)
+    → c.handles ≡ handles_of ds
+    → after (explicit_document (read_so_far s ds) c (tok (TagDirective d) m) (TagDirective d)) f r
     ≡ (
       r,
       directive_ends (keeps_order ds no_directives (TagDirective d)) ds (TagDirective d) m
-          (waits (BehindDirective (read_so_far s (directive ds (tag_directive d m)))) (record c { handles = insert c.handles d.handle d.prefix })),
+          (waits (BehindDirective (read_so_far s (directive ds (tag_directive d m))))
+          (record c { handles = insert c.handles d.handle d.prefix })),
     )
 tag_after s ds c d m f r h = go (declares ds d.handle) refl
   where
@@ -170,14 +189,18 @@ tag_after s ds c d m f r h = go (declares ds d.handle) refl
     after_it o = after (mach.tag_directive o (read_so_far s ds) c m.start (declaration d)) f r
 
     goes_on : End
-    goes_on = waits (BehindDirective (read_so_far s (directive ds (tag_directive d m)))) (record c { handles = insert c.handles d.handle d.prefix })
+    goes_on = waits (BehindDirective (read_so_far s (directive ds (tag_directive d m))))
+        (record c { handles = insert c.handles d.handle d.prefix })
 
-    new : waits (BehindDirective (record (read_so_far s ds) { tag_directives = tag_directives_of ds ++ declaration d ∷ [] }))
+    new : waits (BehindDirective
+        (record (read_so_far s ds) { tag_directives = tag_directives_of ds ++ declaration d ∷ [] }))
         (record c { handles = insert c.handles d.handle d.prefix }) ≡ goes_on
-    new = ap (λ (x : List yaml_tag_directive_t). waits (BehindDirective (record { start_mark = s; version = version_of ds; tag_directives = x }))
+    new = ap (λ (x : List yaml_tag_directive_t). waits
+        (BehindDirective (record { start_mark = s; version = version_of ds; tag_directives = x }))
         (record c { handles = insert c.handles d.handle d.prefix })) (sym (directives_then ds (declaration d ∷ [])))
 
     go : (u : Bool) → declares ds d.handle ≡ u
-        → after_it (get c.handles d.handle) ≡ (r, directive_ends (negated (declares ds d.handle)) ds (TagDirective d) m goes_on)
+        → after_it (get c.handles d.handle)
+        ≡ (r, directive_ends (negated (declares ds d.handle)) ds (TagDirective d) m goes_on)
     go true e = rw (ap (λ (x : Handles). get x d.handle) h ∙ (already_declared ds d.handle e).1, e) refl
     go false e = rw (ap (λ (x : Handles). get x d.handle) h ∙ undeclared ds d.handle e, e) (ap (λ (x : End). (r, x)) new)

@@ -1,34 +1,52 @@
 -- The machine follows the grammar: all that one token makes it do at a position is what the grammar says of it.
 use Rattle.std.proofs.Common.{◌≡◌, ℕ, suc, List, [], ◌∷◌, Option, Some, None, refl, ap, ◌∙◌, Bool, true, false, Ok}
-use Rattle.libyaml_events.specs.machine.Machine.{Progressed, parse_node, node_content, no_content, content_behind, content_resolved, implicit_document}
+use Rattle.libyaml_events.specs.machine.Machine.{Progressed, parse_node, node_content, no_content, content_behind}
+use Rattle.libyaml_events.specs.machine.Machine.{content_resolved, implicit_document}
 use Rattle.libyaml_grammar.specs.cuts.CutTrees.{declared, open_collection}
-use Rattle.libyaml_grammar.specs.sentences.Tokens.{Alias, Anchor, BlockEnd, BlockEntry, BlockMappingStart, BlockSequenceStart, Content, DocumentEnd}
-use Rattle.libyaml_grammar.specs.sentences.Tokens.{DocumentStart, FlowMappingEnd, FlowMappingStart, FlowSequenceEnd, FlowSequenceStart, Key}
-use Rattle.libyaml_grammar.specs.sentences.Tokens.{Marks, Scalar, ScalarText, StreamEnd, StreamStart, Tag, TagDirective, Token, Value, VersionDirective}
+use Rattle.libyaml_grammar.specs.sentences.Tokens.{Alias, Anchor, BlockEnd, BlockEntry, BlockMappingStart}
+use Rattle.libyaml_grammar.specs.sentences.Tokens.{BlockSequenceStart, Content, DocumentEnd}
+use Rattle.libyaml_grammar.specs.sentences.Tokens.{DocumentStart, FlowMappingEnd, FlowMappingStart, FlowSequenceEnd}
+use Rattle.libyaml_grammar.specs.sentences.Tokens.{FlowSequenceStart, Key}
+use Rattle.libyaml_grammar.specs.sentences.Tokens.{Marks, Scalar, ScalarText, StreamEnd, StreamStart, Tag, TagDirective}
+use Rattle.libyaml_grammar.specs.sentences.Tokens.{Token, Value, VersionDirective}
 use Rattle.libyaml_grammar.specs.sentences.Tokens.{marks_of, tok}
-use Rattle.libyaml_grammar.specs.sentences.Trees.{Before, BlockItems, BlockNode, BlockSlot, Directive, Directives, Documents, FlowMember, FlowNode, FlowSlot}
-use Rattle.libyaml_grammar.specs.sentences.Trees.{Free, Parts, Properties, alone, anchor, anchor_tag, behind, block_mapping, block_sequence, collection}
-use Rattle.libyaml_grammar.specs.sentences.Trees.{directive, ended, explicit, flow, flow_node, flow_nothing, free, implicit, indentless, item, key, last}
-use Rattle.libyaml_grammar.specs.sentences.Trees.{mapping, no_directives, no_last, no_parts, no_value, node, nothing, opened, pair, part, scalar, sequence}
+use Rattle.libyaml_grammar.specs.sentences.Trees.{Before, BlockItems, BlockNode, BlockSlot, Directive, Directives}
+use Rattle.libyaml_grammar.specs.sentences.Trees.{Documents, FlowMember, FlowNode, FlowSlot}
+use Rattle.libyaml_grammar.specs.sentences.Trees.{Free, Parts, Properties, alone, anchor, anchor_tag, behind}
+use Rattle.libyaml_grammar.specs.sentences.Trees.{block_mapping, block_sequence, collection}
+use Rattle.libyaml_grammar.specs.sentences.Trees.{directive, ended, explicit, flow, flow_node, flow_nothing, free}
+use Rattle.libyaml_grammar.specs.sentences.Trees.{implicit, indentless, item, key, last}
+use Rattle.libyaml_grammar.specs.sentences.Trees.{mapping, no_directives, no_last, no_parts, no_value, node, nothing}
+use Rattle.libyaml_grammar.specs.sentences.Trees.{opened, pair, part, scalar, sequence}
 use Rattle.libyaml_grammar.specs.sentences.Trees.{single, slot_of, tag, tag_anchor, value, whole, with_value}
-use Rattle.libyaml_grammar.specs.sentences.Events.{Event, alone_of, anchor_of, directive_start, document_end_at, document_start_at, empty_at, end_at, end_of}
-use Rattle.libyaml_grammar.specs.sentences.Events.{first_directive, first_of_properties, last_of_properties, scalar_of, tag_of}
+use Rattle.libyaml_grammar.specs.sentences.Events.{Event, alone_of, anchor_of, directive_start, document_end_at}
+use Rattle.libyaml_grammar.specs.sentences.Events.{document_start_at, empty_at, end_at, end_of}
+use Rattle.libyaml_grammar.specs.sentences.Events.{first_directive, first_of_properties, last_of_properties, scalar_of}
+use Rattle.libyaml_grammar.specs.sentences.Events.{tag_of}
 use Rattle.libyaml_grammar.specs.sentences.Order.{both, is_known, properties_in_order}
-use Rattle.libyaml_grammar.specs.cuts.CutTrees.{BlockPlace, Open, PartPlace, Place, block, entry, explicit_root, flow_entry, flow_key}
+use Rattle.libyaml_grammar.specs.cuts.CutTrees.{BlockPlace, Open, PartPlace, Place, block, entry, explicit_root}
+use Rattle.libyaml_grammar.specs.cuts.CutTrees.{flow_entry, flow_key}
 use Rattle.libyaml_grammar.specs.cuts.CutTrees.{flow_value, implicit_root, indentless_entry, part_place, root, slot}
 use Rattle.libyaml_grammar.specs.cuts.Fits.{ends_empty}
-use Rattle.libyaml_grammar.proofs.lent.Positions.{Position, between, done, due, flow_behind, flow_due, flow_keyed, headed, in_indentless, in_mapping}
+use Rattle.libyaml_grammar.proofs.lent.Positions.{Position, between, done, due, flow_behind, flow_due, flow_keyed}
+use Rattle.libyaml_grammar.proofs.lent.Positions.{headed, in_indentless, in_mapping}
 use Rattle.libyaml_grammar.proofs.lent.Positions.{in_sequence, unopened}
-use Rattle.libyaml_grammar.proofs.lent.Reading.{Step, at_flow, at_free, at_headed, at_unopened, behind_documents, behind_indentless, behind_item}
-use Rattle.libyaml_grammar.proofs.lent.Reading.{behind_key, behind_member, behind_part, behind_whole, fill, fill_flow, on_block_entry, on_block_mapping}
+use Rattle.libyaml_grammar.proofs.lent.Reading.{Step, at_flow, at_free, at_headed, at_unopened, behind_documents}
+use Rattle.libyaml_grammar.proofs.lent.Reading.{behind_indentless, behind_item}
+use Rattle.libyaml_grammar.proofs.lent.Reading.{behind_key, behind_member, behind_part, behind_whole, fill, fill_flow}
+use Rattle.libyaml_grammar.proofs.lent.Reading.{on_block_entry, on_block_mapping}
 use Rattle.libyaml_grammar.proofs.lent.Reading.{on_block_sequence, on_due, without}
-use Rattle.libyaml_grammar.proofs.lent.Given.{given_at_flow, given_at_free, given_at_headed, given_at_unopened, given_behind_documents}
-use Rattle.libyaml_grammar.proofs.lent.Given.{given_behind_indentless, given_behind_item, given_behind_key, given_behind_member, given_behind_part}
-use Rattle.libyaml_grammar.proofs.lent.Given.{given_behind_whole, given_on_block_entry, given_on_block_mapping, given_on_block_sequence, given_on_due}
+use Rattle.libyaml_grammar.proofs.lent.Given.{given_at_flow, given_at_free, given_at_headed, given_at_unopened}
+use Rattle.libyaml_grammar.proofs.lent.Given.{given_behind_documents}
+use Rattle.libyaml_grammar.proofs.lent.Given.{given_behind_indentless, given_behind_item, given_behind_key}
+use Rattle.libyaml_grammar.proofs.lent.Given.{given_behind_member, given_behind_part}
+use Rattle.libyaml_grammar.proofs.lent.Given.{given_behind_whole, given_on_block_entry, given_on_block_mapping}
+use Rattle.libyaml_grammar.proofs.lent.Given.{given_on_block_sequence, given_on_due}
 use Rattle.libyaml_grammar.proofs.lent.Given.{given_without, gives}
 use Rattle.libyaml_events.specs.machine.Config.{Config, keep, no_handles, popped, taken}
 use Rattle.libyaml_events.proofs.machine.Declared.{resolve_is, tag_after, version_after}
-use Rattle.libyaml_events.proofs.machine.Link.{End, after, config, config_of, emit, ends, free_config, handles_of, headed_config, kind}
+use Rattle.libyaml_events.proofs.machine.Link.{End, after, config, config_of, emit, ends, free_config, handles_of}
+use Rattle.libyaml_events.proofs.machine.Link.{headed_config, kind}
 use Rattle.libyaml_events.proofs.machine.Link.{node_config, read_of, spends, step_ends, tag_read, waits, want_of}
 use Rattle.libyaml_grammar.proofs.lent.StepsMeet.{IsDue, IsEntry, IsMet}
 use Rattle.libyaml_events.specs.declared.node_head.NodeHead.{NodeHead}
@@ -76,17 +94,21 @@ flow_waits (flow_key (open_collection p o sequence m is) k) x = refl
 flow_waits (flow_value (open_collection p o sequence m is) k y v) x = refl
 flow_waits _ x = refl
 
-popped_flow : (p : Place) (x : FlowNode) (k : Content) (m : Marks) → taken (keep (tok k m) (popped (node_config p))) ≡ config_of (fill_flow p x)
+popped_flow : (p : Place) (x : FlowNode) (k : Content) (m : Marks)
+    → taken (keep (tok k m) (popped (node_config p))) ≡ config_of (fill_flow p x)
 popped_flow p x k m = let e = flow_waits p x in cc
 
-item_follows : (n : ℕ) (c : BlockPlace) (o : Option Properties) (s : Marks) (is : BlockItems) (k : Content) (m : Marks) (r : List Event)
-    → spends (suc n) AtState (config_of (in_sequence c o s is)) k m r ≡ (given_behind_item k m r, step_ends (behind_item c o s is k m) no_directives k m)
+item_follows : (n : ℕ) (c : BlockPlace) (o : Option Properties) (s : Marks) (is : BlockItems) (k : Content)
+    (m : Marks) (r : List Event)
+    → spends (suc n) AtState (config_of (in_sequence c o s is)) k m r
+    ≡ (given_behind_item k m r, step_ends (behind_item c o s is k m) no_directives k m)
 item_follows n c o s is BlockEntry m r = refl
 item_follows n c o s is BlockEnd m r
     = ap (λ (x : End). (end_of sequence m ∷ r, x)) (block_waits c (block_sequence o s is m))
 item_follows n c o s is _ m r = refl
 
-part_follows : (n : ℕ) (c : BlockPlace) (o : Option Properties) (s : Marks) (ps : Parts) (k : Content) (m : Marks) (r : List Event)
+part_follows : (n : ℕ) (c : BlockPlace) (o : Option Properties) (s : Marks) (ps : Parts) (k : Content) (m : Marks)
+    (r : List Event)
     → spends (suc (suc n)) AtState (config_of (in_mapping c o s ps)) k m r ≡ (
       given_behind_part ps k m r,
       step_ends (behind_part c o s ps k m) no_directives k m,
@@ -100,7 +122,8 @@ part_follows n c o s (part ps value v y) BlockEnd m r
     = ap (λ (x : End). (end_of mapping m ∷ r, x)) (block_waits c (block_mapping o s (part ps value v y) m))
 part_follows n c o s _ _ m r = refl
 
-indentless_follows : (n : ℕ) (c : PartPlace) (o : Option Properties) (is : BlockItems) (e : Marks) (x : BlockSlot) (k : Content) (m : Marks) (r : List Event)
+indentless_follows : (n : ℕ) (c : PartPlace) (o : Option Properties) (is : BlockItems) (e : Marks) (x : BlockSlot)
+    (k : Content) (m : Marks) (r : List Event)
     → spends (suc (suc (suc n))) AtState (config_of (in_indentless c o is e x)) k m r ≡ (
       given_behind_indentless c o is e x k m r,
       step_ends (behind_indentless c o is e x k m) no_directives k m,
@@ -110,7 +133,8 @@ indentless_follows n (part_place c o s ps t v) y is e x k m r
     = ap (emit (end_at sequence m.start m.start)) (part_follows n c o s (part ps t v (indentless y is e x)) k m r)
 
 member_follows : (n : ℕ) (c : Open) (e : FlowMember) (k : Content) (m : Marks) (r : List Event) → IsEntry e
-    → spends (suc (suc n)) AtState (config_of (flow_behind c e)) k m r ≡ (given_behind_member c e k m r, step_ends (behind_member c e k m) no_directives k m)
+    → spends (suc (suc n)) AtState (config_of (flow_behind c e)) k m r
+    ≡ (given_behind_member c e k m r, step_ends (behind_member c e k m) no_directives k m)
 member_follows n (open_collection p o sequence s is) (single y) FlowSequenceEnd m r w
     = ap (λ (x : End). (end_of sequence m ∷ r, x))
     (flow_waits p (collection o sequence s is (last (single y)) m))
@@ -146,9 +170,11 @@ whole_follows : (n : ℕ) (p : Place) (x : FlowNode) (k : Content) (m : Marks) (
       step_ends (behind_whole (fill_flow p x) k m) no_directives k m,
     )
 whole_follows n (block (root (implicit_root f))) x k m r = documents_follow (suc n) (implicit f (flow x)) k m r
-whole_follows n (block (root (explicit_root b ds s))) x k m r = documents_follow (suc n) (explicit b ds s (node (flow x))) k m r
+whole_follows n (block (root (explicit_root b ds s))) x k m r =
+    documents_follow (suc n) (explicit b ds s (node (flow x))) k m r
 whole_follows n (block (entry c o s is e)) x k m r = item_follows (suc (suc n)) c o s (item is e (node (flow x))) k m r
-whole_follows n (block (slot (part_place c o s ps t v))) x k m r = part_follows (suc n) c o s (part ps t v (slot_of (node (flow x)))) k m r
+whole_follows n (block (slot (part_place c o s ps t v))) x k m r =
+    part_follows (suc n) c o s (part ps t v (slot_of (node (flow x)))) k m r
 whole_follows n (block (indentless_entry c o is e)) x k m r = indentless_follows n c o is e (node (flow x)) k m r
 whole_follows n (flow_entry c) x k m r = member_follows (suc n) c (single x) k m r tt
 whole_follows n (flow_key c e) x k m r = key_follows n c e (flow_node x) k m r
@@ -250,7 +276,8 @@ abbrev alone_given : Place → Properties → Content → Marks → Progressed
 alone_given p ps k m = Ok (Given (alone_of (declared p) ps), keep (tok k m) (popped (node_config p)))
 
 only_is : (p : Place) (ps : Properties) (k : Content) (m : Marks)
-    → no_content (kind p) (anchor_of (Some ps)) (tag_of (declared p) (Some ps)) (head_of p ps) (node_config p) (tok k m) ≡ alone_given p ps k m
+    → no_content (kind p) (anchor_of (Some ps)) (tag_of (declared p) (Some ps)) (head_of p ps) (node_config p)
+    (tok k m) ≡ alone_given p ps k m
 only_is p (anchor a x) k m = refl
 only_is p (tag h x) k m = refl
 only_is p (anchor_tag a x h y) k m = refl
@@ -263,13 +290,17 @@ and_true false b e = absurd cc
 content_is : (p : Place) (ps : Properties) (k : Content) (m : Marks) → properties_in_order (declared p) ps true ≡ true
     → content_behind (kind p) (read_of ps) (read_of ps).tag (node_config p) (tok k m) k ≡ with_tag p ps k m
 content_is p (anchor a x) k m e = refl
-content_is p (tag h x) k m e = ap (λ (o : Option (List ℕ)). content_resolved (kind p) (read_of (tag h x)) (tag_read h x.start) o (node_config p) (tok k m) k)
+content_is p (tag h x) k m e =
+    ap (λ (o : Option (List ℕ)). content_resolved (kind p) (read_of (tag h x)) (tag_read h x.start) o
+    (node_config p) (tok k m) k)
     (resolve_is (declared p) h (and_true (is_known (declared p) h.handle) true e))
 content_is p (anchor_tag a x h y) k m e
-    = ap (λ (o : Option (List ℕ)). content_resolved (kind p) (read_of (anchor_tag a x h y)) (tag_read h y.start) o (node_config p) (tok k m) k)
+    = ap (λ (o : Option (List ℕ)). content_resolved (kind p) (read_of (anchor_tag a x h y)) (tag_read h y.start) o
+    (node_config p) (tok k m) k)
     (resolve_is (declared p) h (and_true (is_known (declared p) h.handle) true e))
 content_is p (tag_anchor h x a y) k m e
-    = ap (λ (o : Option (List ℕ)). content_resolved (kind p) (read_of (tag_anchor h x a y)) (tag_read h x.start) o (node_config p) (tok k m) k)
+    = ap (λ (o : Option (List ℕ)). content_resolved (kind p) (read_of (tag_anchor h x a y)) (tag_read h x.start) o
+    (node_config p) (tok k m) k)
     (resolve_is (declared p) h (and_true (is_known (declared p) h.handle) true e))
 
 abbrev Behind : ℕ → Place → Properties → Content → Marks → List Event → Progressed → Step → List Event → Type 0
@@ -278,28 +309,34 @@ Behind n p ps k m r o s g = after o (more (suc (suc (suc n))) r) r ≡ (g, step_
 -- properties with no content: the token goes on after them
 only_follow : (n : ℕ) (p : Place) (ps : Properties) (k : Content) (m : Marks) (r : List Event)
     → Behind n p ps k m r (alone_given p ps k m) (without p (Some ps) k m) (given_without p (Some ps) k m r)
-only_follow n p ps k m r = ap (emit (alone_of (declared p) ps)) (ap (λ (d : Config). spends (suc (suc (suc n))) AtState d k m r) (popped_flow p (alone ps) k m)
+only_follow n p ps k m r = ap (emit (alone_of (declared p) ps))
+    (ap (λ (d : Config). spends (suc (suc (suc n))) AtState d k m r) (popped_flow p (alone ps) k m)
     ∙ whole_follows n p (alone ps) k m r)
 
 none_follow : (n : ℕ) (p : Place) (ps : Properties) (k : Content) (m : Marks) (r : List Event)
-    → Behind n p ps k m r (no_content (kind p) (anchor_of (Some ps)) (tag_of (declared p) (Some ps)) (head_of p ps) (node_config p) (tok k m))
+    → Behind n p ps k m r (no_content (kind p) (anchor_of (Some ps)) (tag_of (declared p) (Some ps)) (head_of p ps)
+    (node_config p) (tok k m))
     (without p (Some ps) k m) (given_without p (Some ps) k m r)
-none_follow n p ps k m r = ap (λ (x : Progressed). after x (more (suc (suc (suc n))) r) r) (only_is p ps k m) ∙ only_follow n p ps k m r
+none_follow n p ps k m r = ap (λ (x : Progressed). after x (more (suc (suc (suc n))) r) r) (only_is p ps k m)
+    ∙ only_follow n p ps k m r
 
 sequence_follows : (n : ℕ) (p : Place) (ps : Properties) (m : Marks) (r : List Event)
-    → Behind n p ps BlockSequenceStart m r (with_tag p ps BlockSequenceStart m) (on_block_sequence p (Some ps) m) (given_on_block_sequence p (Some ps) m r)
+    → Behind n p ps BlockSequenceStart m r (with_tag p ps BlockSequenceStart m) (on_block_sequence p (Some ps) m)
+    (given_on_block_sequence p (Some ps) m r)
 sequence_follows n (block (root t)) ps m r = refl
 sequence_follows n (block _) ps m r = refl
 sequence_follows n p ps m r = none_follow n p ps BlockSequenceStart m r
 
 mapping_follows : (n : ℕ) (p : Place) (ps : Properties) (m : Marks) (r : List Event)
-    → Behind n p ps BlockMappingStart m r (with_tag p ps BlockMappingStart m) (on_block_mapping p (Some ps) m) (given_on_block_mapping p (Some ps) m r)
+    → Behind n p ps BlockMappingStart m r (with_tag p ps BlockMappingStart m) (on_block_mapping p (Some ps) m)
+    (given_on_block_mapping p (Some ps) m r)
 mapping_follows n (block (root t)) ps m r = refl
 mapping_follows n (block _) ps m r = refl
 mapping_follows n p ps m r = none_follow n p ps BlockMappingStart m r
 
 entry_follows : (n : ℕ) (p : Place) (ps : Properties) (m : Marks) (r : List Event)
-    → Behind n p ps BlockEntry m r (with_tag p ps BlockEntry m) (on_block_entry p (Some ps) m) (given_on_block_entry p (Some ps) m r)
+    → Behind n p ps BlockEntry m r (with_tag p ps BlockEntry m) (on_block_entry p (Some ps) m)
+    (given_on_block_entry p (Some ps) m r)
 entry_follows n (block (slot c)) ps m r = refl
 entry_follows n p ps m r = none_follow n p ps BlockEntry m r
 
@@ -321,12 +358,16 @@ Behaves n p ps k m r = spends (suc (suc (suc (suc n)))) (want_of (due p (Some ps
     ≡ (given_on_due p (Some ps) k m r, step_ends (on_due p (Some ps) k m) no_directives k m)
 
 again : (n : ℕ) (p : Place) (ps : Properties) (k : Content) (m : Marks) (r : List Event) (o : Progressed)
-    → o ≡ content_behind (kind p) (read_of ps) (read_of ps).tag (node_config p) (tok k m) k → properties_in_order (declared p) ps true ≡ true
+    → o ≡ content_behind (kind p) (read_of ps) (read_of ps).tag (node_config p) (tok k m) k
+    → properties_in_order (declared p) ps true ≡ true
     → with_tag p ps k m ≡ alone_given p ps k m
-    → after o (more (suc (suc (suc n))) r) r ≡ (given_without p (Some ps) k m r, step_ends (without p (Some ps) k m) no_directives k m)
-again n p ps k m r o e f g = ap (λ (x : Progressed). after x (more (suc (suc (suc n))) r) r) (e ∙ (content_is p ps k m f ∙ g)) ∙ only_follow n p ps k m r
+    → after o (more (suc (suc (suc n))) r) r
+    ≡ (given_without p (Some ps) k m r, step_ends (without p (Some ps) k m) no_directives k m)
+again n p ps k m r o e f g = ap (λ (x : Progressed). after x (more (suc (suc (suc n))) r) r)
+    (e ∙ (content_is p ps k m f ∙ g)) ∙ only_follow n p ps k m r
 
-properties_follow : (n : ℕ) (p : Place) (ps : Properties) (k : Content) (m : Marks) (r : List Event) → properties_in_order (declared p) ps true ≡ true
+properties_follow : (n : ℕ) (p : Place) (ps : Properties) (k : Content) (m : Marks) (r : List Event)
+    → properties_in_order (declared p) ps true ≡ true
     → Behaves n p ps k m r
 properties_follow n p (tag h x) (Anchor b) m r e = refl
 properties_follow n p ps (Anchor b) m r e = again n p ps (Anchor b) m r _ refl e (only_is p ps (Anchor b) m)
@@ -337,7 +378,8 @@ properties_follow n p ps k m r e = ap (λ (x : Progressed). after x (more (suc (
 
 -- where an entry of a flow collection is due
 flow_follows : (n : ℕ) (c : Open) (k : Content) (m : Marks) (r : List Event)
-    → spends (suc (suc (suc n))) (want_of (flow_due c)) (config_of (flow_due c)) k m r ≡ (given_at_flow c k m r, step_ends (at_flow c k m) no_directives k m)
+    → spends (suc (suc (suc n))) (want_of (flow_due c)) (config_of (flow_due c)) k m r
+    ≡ (given_at_flow c k m r, step_ends (at_flow c k m) no_directives k m)
 flow_follows n (open_collection p o sequence s is) Key m r = refl
 flow_follows n (open_collection p o sequence s is) FlowSequenceEnd m r
     = ap (λ (x : End). (end_of sequence m ∷ r, x)) (flow_waits p (collection o sequence s is no_last m))
@@ -363,9 +405,12 @@ begins_follow n f k m r
     (node_follows n (block (root (implicit_root f))) k m r)
 
 free_follows : (n : ℕ) (f : Free) (k : Content) (m : Marks) (r : List Event)
-    → spends (suc (suc (suc n))) AtState (free_config f no_handles) k m r ≡ (given_at_free f k m r, step_ends (at_free f k m) no_directives k m)
-free_follows n f (VersionDirective a) m r = version_after m.start no_directives (free_config f no_handles) a m (more (suc (suc n)) r) r
-free_follows n f (TagDirective h) m r = tag_after m.start no_directives (free_config f no_handles) h m (more (suc (suc n)) r) r refl
+    → spends (suc (suc (suc n))) AtState (free_config f no_handles) k m r
+    ≡ (given_at_free f k m r, step_ends (at_free f k m) no_directives k m)
+free_follows n f (VersionDirective a) m r = version_after m.start no_directives (free_config f no_handles) a m
+    (more (suc (suc n)) r) r
+free_follows n f (TagDirective h) m r = tag_after m.start no_directives (free_config f no_handles) h m
+    (more (suc (suc n)) r) r refl
 free_follows n f DocumentStart m r = refl
 free_follows n (opened e s) DocumentEnd m r = refl
 free_follows n (ended e) DocumentEnd m r = refl
@@ -378,18 +423,22 @@ headed_follows : (n : ℕ) (b : Before) (ds : Directives) (d : Directive) (k : C
       step_ends (at_headed b ds d k m) (directive ds d) k m,
     )
 headed_follows n b ds d (VersionDirective x) m r
-    = version_after (first_directive ds (directive_start d)) (directive ds d) (headed_config b (handles_of (directive ds d))) x m (more n r) r
+    = version_after (first_directive ds (directive_start d)) (directive ds d)
+    (headed_config b (handles_of (directive ds d))) x m (more n r) r
 headed_follows n (free f) ds d (TagDirective x) m r
-    = tag_after (first_directive ds (directive_start d)) (directive ds d) (free_config f (handles_of (directive ds d))) x m (more n r) r refl
+    = tag_after (first_directive ds (directive_start d)) (directive ds d)
+    (free_config f (handles_of (directive ds d))) x m (more n r) r refl
 headed_follows n (behind y) ds d (TagDirective x) m r
-    = tag_after (first_directive ds (directive_start d)) (directive ds d) (config st.YAML_PARSE_DOCUMENT_START_STATE [] [] (handles_of (directive ds d))) x m
+    = tag_after (first_directive ds (directive_start d)) (directive ds d)
+    (config st.YAML_PARSE_DOCUMENT_START_STATE [] [] (handles_of (directive ds d))) x m
     (more n r) r refl
 headed_follows n (free f) ds d DocumentStart m r = refl
 headed_follows n (behind x) ds d DocumentStart m r = refl
 headed_follows n b ds d _ m r = refl
 
 unopened_follows : (n : ℕ) (k : Content) (m : Marks) (r : List Event)
-    → spends (suc n) AtState (config_of unopened) k m r ≡ (given_at_unopened k m r, step_ends (at_unopened k m) no_directives k m)
+    → spends (suc n) AtState (config_of unopened) k m r
+    ≡ (given_at_unopened k m r, step_ends (at_unopened k m) no_directives k m)
 unopened_follows n (StreamStart e) m r = refl
 unopened_follows n _ m r = refl
 

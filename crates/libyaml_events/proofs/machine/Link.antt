@@ -4,22 +4,31 @@ use Rattle.std.specs.FinMap.{insert}
 use Rattle.libyaml_grammar.specs.cuts.CutTrees.{declared, open_collection}
 use Rattle.libyaml_sources.specs.Fault.{no_fault, Fault}
 use Rattle.libyaml_grammar.specs.cuts.FaultTexts.{document_start_fault}
-use Rattle.libyaml_grammar.specs.sentences.Tokens.{Content, Mark, Marks, TagDirective, TagName, Token, VersionDirective, marks_of, tok}
-use Rattle.libyaml_grammar.specs.sentences.Trees.{Before, Directive, Directives, Documents, FlowMember, Free, Parts, Properties, Role, Stream, anchor}
-use Rattle.libyaml_grammar.specs.sentences.Trees.{anchor_tag, behind, directive, ended, explicit, free, implicit, key, mapping, no_directives, no_parts}
-use Rattle.libyaml_grammar.specs.sentences.Trees.{no_value, opened, pair, part, sequence, single, tag, tag_anchor, tag_directive, value, version, whole}
+use Rattle.libyaml_grammar.specs.sentences.Tokens.{Content, Mark, Marks, TagDirective, TagName, Token, VersionDirective}
+use Rattle.libyaml_grammar.specs.sentences.Tokens.{marks_of, tok}
+use Rattle.libyaml_grammar.specs.sentences.Trees.{Before, Directive, Directives, Documents, FlowMember, Free, Parts}
+use Rattle.libyaml_grammar.specs.sentences.Trees.{Properties, Role, Stream, anchor}
+use Rattle.libyaml_grammar.specs.sentences.Trees.{anchor_tag, behind, directive, ended, explicit, free, implicit, key}
+use Rattle.libyaml_grammar.specs.sentences.Trees.{mapping, no_directives, no_parts}
+use Rattle.libyaml_grammar.specs.sentences.Trees.{no_value, opened, pair, part, sequence, single, tag, tag_anchor}
+use Rattle.libyaml_grammar.specs.sentences.Trees.{tag_directive, value, version, whole}
 use Rattle.libyaml_grammar.specs.sentences.Trees.{with_value}
 use Rattle.libyaml_grammar.specs.sentences.Events.{Event, directive_start, first_directive, tag_directives_of, version_of}
-use Rattle.libyaml_grammar.specs.cuts.CutTrees.{BlockPlace, Open, PartPlace, Place, Root, block, declared_block, declared_open, declared_part, entry}
-use Rattle.libyaml_grammar.specs.cuts.CutTrees.{explicit_root, flow_entry, flow_key, flow_value, implicit_root, indentless_entry, part_place, root, slot}
+use Rattle.libyaml_grammar.specs.cuts.CutTrees.{BlockPlace, Open, PartPlace, Place, Root, block, declared_block}
+use Rattle.libyaml_grammar.specs.cuts.CutTrees.{declared_open, declared_part, entry}
+use Rattle.libyaml_grammar.specs.cuts.CutTrees.{explicit_root, flow_entry, flow_key, flow_value, implicit_root}
+use Rattle.libyaml_grammar.specs.cuts.CutTrees.{indentless_entry, part_place, root, slot}
 use Rattle.libyaml_grammar.specs.cuts.CutFaults.{directive_fault, fault}
-use Rattle.libyaml_grammar.proofs.lent.Positions.{Position, between, done, due, flow_behind, flow_due, flow_keyed, headed, in_indentless, in_mapping}
+use Rattle.libyaml_grammar.proofs.lent.Positions.{Position, between, done, due, flow_behind, flow_due, flow_keyed}
+use Rattle.libyaml_grammar.proofs.lent.Positions.{headed, in_indentless, in_mapping}
 use Rattle.libyaml_grammar.proofs.lent.Positions.{in_sequence, unopened}
 use Rattle.libyaml_grammar.proofs.lent.Reading.{Step, bad, goes, keeps_order, over, pending, step}
 use Rattle.libyaml_events.specs.machine.Config.{Config, Handles, no_handles, taken}
 use Rattle.libyaml_events.specs.machine.Machine.{Progressed, machine}
-use Rattle.libyaml_events.specs.machine.Want.{Want, AtState, BehindDirective, BehindProperties, BehindBlockEntry, BehindIndentlessEntry, BehindKey}
-use Rattle.libyaml_events.specs.machine.Want.{BehindValue, BehindFlowSequenceEntry, BehindFlowSequenceValue, BehindFlowMappingEntry}
+use Rattle.libyaml_events.specs.machine.Want.{Want, AtState, BehindDirective, BehindProperties, BehindBlockEntry}
+use Rattle.libyaml_events.specs.machine.Want.{BehindIndentlessEntry, BehindKey}
+use Rattle.libyaml_events.specs.machine.Want.{BehindValue, BehindFlowSequenceEntry, BehindFlowSequenceValue}
+use Rattle.libyaml_events.specs.machine.Want.{BehindFlowMappingEntry}
 use Rattle.libyaml_events.specs.machine.Want.{BehindFlowMappingKey, BehindFlowMappingValue, Given, Wants}
 use Rattle.libyaml_events.specs.declared.node_place.NodePlace.{NodePlace}
 use Rattle.libyaml_events.specs.declared.node_head.PropertiesRead.{PropertiesRead}
@@ -60,10 +69,13 @@ abbrev mutual
   pub states_place : Place → List yaml_parser_state_t
   states_place (block c) = states_block c
   states_place (flow_entry (open_collection p o sequence s is)) = st.YAML_PARSE_FLOW_SEQUENCE_ENTRY_STATE ∷ states_place p
-  states_place (flow_entry (open_collection p o mapping s is)) = st.YAML_PARSE_FLOW_MAPPING_EMPTY_VALUE_STATE ∷ states_place p
-  states_place (flow_key (open_collection p o sequence s is) k) = st.YAML_PARSE_FLOW_SEQUENCE_ENTRY_MAPPING_VALUE_STATE ∷ states_place p
+  states_place (flow_entry (open_collection p o mapping s is)) =
+      st.YAML_PARSE_FLOW_MAPPING_EMPTY_VALUE_STATE ∷ states_place p
+  states_place (flow_key (open_collection p o sequence s is) k) =
+      st.YAML_PARSE_FLOW_SEQUENCE_ENTRY_MAPPING_VALUE_STATE ∷ states_place p
   states_place (flow_key (open_collection p o mapping s is) k) = st.YAML_PARSE_FLOW_MAPPING_VALUE_STATE ∷ states_place p
-  states_place (flow_value (open_collection p o sequence s is) k x v) = st.YAML_PARSE_FLOW_SEQUENCE_ENTRY_MAPPING_END_STATE ∷ states_place p
+  states_place (flow_value (open_collection p o sequence s is) k x v) =
+      st.YAML_PARSE_FLOW_SEQUENCE_ENTRY_MAPPING_END_STATE ∷ states_place p
   states_place (flow_value (open_collection p o mapping s is) k x v) = st.YAML_PARSE_FLOW_MAPPING_KEY_STATE ∷ states_place p
 
 -- the starts of the open collections
@@ -170,11 +182,21 @@ tag_read h m = record { handle = h.handle; suffix = h.suffix; mark = m }
 abbrev pub read_of : Properties → PropertiesRead
 read_of (anchor a m) = record { anchor = Some a.value; tag = None; start_mark = m.start; end_mark = m.end }
 read_of (tag h m) = record { anchor = None; tag = Some (tag_read h m.start); start_mark = m.start; end_mark = m.end }
-read_of (anchor_tag a m h n) = record { anchor = Some a.value; tag = Some (tag_read h n.start); start_mark = m.start; end_mark = n.end }
-read_of (tag_anchor h m a n) = record { anchor = Some a.value; tag = Some (tag_read h m.start); start_mark = m.start; end_mark = n.end }
+read_of (anchor_tag a m h n) =
+    record { anchor = Some a.value; tag = Some (tag_read h n.start); start_mark = m.start; end_mark = n.end }
+read_of (tag_anchor h m a n) =
+    record { anchor = Some a.value; tag = Some (tag_read h m.start); start_mark = m.start; end_mark = n.end }
 
 abbrev pub config : yaml_parser_state_t → List yaml_parser_state_t → List Mark → Handles → Config
-config s ss ms hs = record { lookahead = None; state = s; states = ss; marks = ms; handles = hs; behind_document_end = false; fault = no_fault }
+config s ss ms hs = record {
+  lookahead = None;
+  state = s;
+  states = ss;
+  marks = ms;
+  handles = hs;
+  behind_document_end = false;
+  fault = no_fault;
+}
 
 -- where a node is due, with its place pushed or not
 abbrev pub node_config : Place → Config
@@ -188,7 +210,8 @@ ended_free (opened e m) = false
 ended_free (ended e) = true
 
 abbrev pub free_config : Free → Handles → Config
-free_config f hs = record (config st.YAML_PARSE_IMPLICIT_DOCUMENT_START_STATE [] [] hs) { behind_document_end = ended_free f }
+free_config f hs = record (config st.YAML_PARSE_IMPLICIT_DOCUMENT_START_STATE [] [] hs)
+    { behind_document_end = ended_free f }
 
 -- where a document's start is due, after directives
 abbrev pub headed_config : Before → Handles → Config
@@ -213,7 +236,8 @@ member_state (open_collection p o sequence s is) (single n) = st.YAML_PARSE_FLOW
 member_state (open_collection p o mapping s is) (single n) = st.YAML_PARSE_FLOW_MAPPING_EMPTY_VALUE_STATE
 member_state (open_collection p o sequence s is) (pair k x no_value) = st.YAML_PARSE_FLOW_SEQUENCE_ENTRY_MAPPING_VALUE_STATE
 member_state (open_collection p o mapping s is) (pair k x no_value) = st.YAML_PARSE_FLOW_MAPPING_VALUE_STATE
-member_state (open_collection p o sequence s is) (pair k x (with_value v y)) = st.YAML_PARSE_FLOW_SEQUENCE_ENTRY_MAPPING_END_STATE
+member_state (open_collection p o sequence s is) (pair k x (with_value v y)) =
+    st.YAML_PARSE_FLOW_SEQUENCE_ENTRY_MAPPING_END_STATE
 member_state (open_collection p o mapping s is) (pair k x (with_value v y)) = st.YAML_PARSE_FLOW_MAPPING_KEY_STATE
 
 abbrev pub done_config : Stream → Config
@@ -240,11 +264,15 @@ config_of (between b) = between_config b
 config_of (headed b ds d) = headed_config b (handles_of (directive ds d))
 config_of (due p None) = place_config p
 config_of (due p (Some ps)) = node_config p
-config_of (in_sequence c o m is) = config st.YAML_PARSE_BLOCK_SEQUENCE_ENTRY_STATE (states_block c) (m.start ∷ marks_block c) (handles_of (declared_block c))
-config_of (in_mapping c o m ps) = config (parts_state ps) (states_block c) (m.start ∷ marks_block c) (handles_of (declared_block c))
-config_of (in_indentless c o is e n) = config st.YAML_PARSE_INDENTLESS_SEQUENCE_ENTRY_STATE (states_part c) (marks_part c) (handles_of (declared_part c))
+config_of (in_sequence c o m is) = config st.YAML_PARSE_BLOCK_SEQUENCE_ENTRY_STATE (states_block c)
+    (m.start ∷ marks_block c) (handles_of (declared_block c))
+config_of (in_mapping c o m ps) = config (parts_state ps) (states_block c) (m.start ∷ marks_block c)
+    (handles_of (declared_block c))
+config_of (in_indentless c o is e n) = config st.YAML_PARSE_INDENTLESS_SEQUENCE_ENTRY_STATE (states_part c)
+    (marks_part c) (handles_of (declared_part c))
 config_of (flow_due c) = place_config (flow_entry c)
-config_of (flow_keyed c k x) = config (member_state c (pair k x no_value)) (around c) (marks_open c) (handles_of (declared_open c))
+config_of (flow_keyed c k x) = config (member_state c (pair k x no_value)) (around c) (marks_open c)
+    (handles_of (declared_open c))
 config_of (flow_behind c e) = config (member_state c e) (around c) (marks_open c) (handles_of (declared_open c))
 config_of (done t) = done_config t
 
@@ -269,7 +297,8 @@ after (Ok (Given e, c)) f r = emit e (keeps_on c c.lookahead f r)
 
 abbrev pub spends : ℕ → Want → Config → Content → Marks → List Event → List Event × End
 spends zero w c k m r = (r, stuck)
-spends (suc n) w c k m r = after (machine w c (tok k m) k) (λ (d : Config) (t : Token). spends n AtState d t.content (marks_of t) r) r
+spends (suc n) w c k m r =
+    after (machine w c (tok k m) k) (λ (d : Config) (t : Token). spends n AtState d t.content (marks_of t) r) r
 
 -- what the grammar says of it
 abbrev pub directive_ends : Bool → Directives → Content → Marks → End → End
@@ -277,7 +306,8 @@ directive_ends true ds k m x = x
 directive_ends false ds k m x = fails (directive_fault ds k m.start)
 
 abbrev pub go_ends : Directives → Content → Marks → End → End
-go_ends ds (VersionDirective v) m x = directive_ends (keeps_order ds no_directives (VersionDirective v)) ds (VersionDirective v) m x
+go_ends ds (VersionDirective v) m x = directive_ends (keeps_order ds no_directives (VersionDirective v)) ds
+    (VersionDirective v) m x
 go_ends ds (TagDirective h) m x = directive_ends (keeps_order ds no_directives (TagDirective h)) ds (TagDirective h) m x
 go_ends ds k m x = x
 

@@ -1,5 +1,6 @@
 -- What a step of the machine does: its outcome, and beside it the outcome over further states and marks below the stacks.
-use Rattle.std.proofs.Common.{◌≡◌, ◌<◌, ◌≤◌, ◌⊎◌, if◌then◌else◌, ◌++◌, ℕ, suc, arith, inl, inr, List, Option, Some, None, Bool, true, false, Err, refl}
+use Rattle.std.proofs.Common.{◌≡◌, ◌<◌, ◌≤◌, ◌⊎◌, if◌then◌else◌, ◌++◌, ℕ, suc, arith, inl, inr, List, Option, Some}
+use Rattle.std.proofs.Common.{None, Bool, true, false, Err, refl}
 use Rattle.std.specs.FinMap.{get}
 use Rattle.libyaml_types.specs.declared.directive.yaml_tag_directive_t.{yaml_tag_directive_t}
 use Rattle.libyaml_types.specs.declared.directive.yaml_version_directive_t.{yaml_version_directive_t}
@@ -17,11 +18,16 @@ use Rattle.libyaml_types.specs.declared.event.unnamed_yaml_event_t_data_stream_s
 use Rattle.libyaml_grammar.specs.cuts.FaultTexts.{item_fault, mapping_fault, part_fault, sequence_fault}
 use Rattle.libyaml_sources.specs.Fault.{Fault}
 use Rattle.libyaml_grammar.specs.sentences.Order.{is_accepted}
-use Rattle.libyaml_grammar.specs.sentences.Tokens.{Alias, Anchor, AnchorName, BlockEnd, BlockEntry, BlockMappingStart, BlockSequenceStart, Content, DocumentEnd}
-use Rattle.libyaml_grammar.specs.sentences.Tokens.{DocumentStart, FlowEntry, FlowMappingEnd, FlowMappingStart, FlowSequenceEnd, FlowSequenceStart, Key, Mark}
-use Rattle.libyaml_grammar.specs.sentences.Tokens.{Scalar, StreamEnd, StreamStart, Tag, TagDirective, TagName, Token, Value, VersionDirective}
-use Rattle.libyaml_events.specs.machine.Want.{Want, AtState, BehindBlockEntry, BehindDirective, BehindFlowMappingEntry, BehindFlowMappingKey}
-use Rattle.libyaml_events.specs.machine.Want.{BehindFlowMappingValue, BehindFlowSequenceEntry, BehindFlowSequenceValue, BehindIndentlessEntry}
+use Rattle.libyaml_grammar.specs.sentences.Tokens.{Alias, Anchor, AnchorName, BlockEnd, BlockEntry, BlockMappingStart}
+use Rattle.libyaml_grammar.specs.sentences.Tokens.{BlockSequenceStart, Content, DocumentEnd}
+use Rattle.libyaml_grammar.specs.sentences.Tokens.{DocumentStart, FlowEntry, FlowMappingEnd, FlowMappingStart}
+use Rattle.libyaml_grammar.specs.sentences.Tokens.{FlowSequenceEnd, FlowSequenceStart, Key, Mark}
+use Rattle.libyaml_grammar.specs.sentences.Tokens.{Scalar, StreamEnd, StreamStart, Tag, TagDirective, TagName, Token}
+use Rattle.libyaml_grammar.specs.sentences.Tokens.{Value, VersionDirective}
+use Rattle.libyaml_events.specs.machine.Want.{Want, AtState, BehindBlockEntry, BehindDirective, BehindFlowMappingEntry}
+use Rattle.libyaml_events.specs.machine.Want.{BehindFlowMappingKey}
+use Rattle.libyaml_events.specs.machine.Want.{BehindFlowMappingValue, BehindFlowSequenceEntry, BehindFlowSequenceValue}
+use Rattle.libyaml_events.specs.machine.Want.{BehindIndentlessEntry}
 use Rattle.libyaml_events.specs.machine.Want.{BehindKey, BehindProperties, BehindValue}
 use Rattle.libyaml_events.specs.declared.node_head.NodeHead.{NodeHead}
 use Rattle.libyaml_events.specs.declared.node_head.PropertiesRead.{PropertiesRead}
@@ -31,19 +37,21 @@ use Rattle.libyaml_events.specs.declared.node_place.NodePlace.TheVariants.{Block
 use Rattle.libyaml_events.specs.declared.pending.DirectivesRead.{DirectivesRead}
 use Rattle.libyaml_events.specs.machine.Config.{Config, at, declared, keep, popped, pushed, pushed_mark, top_mark}
 use Rattle.libyaml_events.specs.machine.Machine as mach
-use Rattle.libyaml_events.specs.machine.Machine.{Progressed, anchor_behind, at_state, begin_document, behind_properties, close_collection, content_behind}
+use Rattle.libyaml_events.specs.machine.Machine.{Progressed, anchor_behind, at_state, begin_document, behind_properties}
+use Rattle.libyaml_events.specs.machine.Machine.{close_collection, content_behind}
 use Rattle.libyaml_events.specs.machine.Machine.{content_resolved, end_document, explicit_document, first_version}
 use Rattle.libyaml_events.specs.machine.Machine.{further_document_end, give, machine, may_open}
-use Rattle.libyaml_events.specs.machine.Machine.{no_content, node_content, parse_document_start, parse_implicit_document_start, parse_node}
+use Rattle.libyaml_events.specs.machine.Machine.{no_content, node_content, parse_document_start}
+use Rattle.libyaml_events.specs.machine.Machine.{parse_implicit_document_start, parse_node}
 use Rattle.libyaml_events.specs.machine.Machine.{process_empty_scalar, resolve, tag_behind, version_directive, want}
 use Rattle.libyaml_events.specs.machine.Slots.{is_nothing_before}
 use Rattle.libyaml_events.specs.declared.slot.Slot.TheVariants as slot
 use Rattle.libyaml_events.specs.parsers.EventsLeft.{rank}
 use Rattle.libyaml_events.specs.parsers.Pops.{raised}
 
--- The kinds of places that states stand for: before the stream, between documents, where a node is due that the stack goes on
--- after, after a document's root, at a collection's first entry, in an indentless sequence, in another collection, at the key
--- of a flow sequence's pair or further on in it, and after the stream.
+-- The kinds of places that states stand for: before the stream, between documents, where a node is due that the
+-- stack goes on after, after a document's root, at a collection's first entry, in an indentless sequence, in
+-- another collection, at the key of a flow sequence's pair or further on in it, and after the stream.
 pub data Kind : Type 0 where
   stream_start between node_due root_end first_entry indentless inner pair_key pair stream_end : Kind
 
@@ -139,7 +147,8 @@ module _ (ss : List yaml_parser_state_t) (ms : List Mark) (u : Token) where
         → NodeStep d n t (want (BehindProperties p r) d) (want (BehindProperties p r) (raised ss ms d))
     whole : {e : unnamed_yaml_event_t_data} {a b : Mark} (kept : Bool) → IsLeaf e → back_rank kept < n
         → NodeStep d n t (give e a b (hold kept u (popped d))) (give e a b (hold kept u (popped (raised ss ms d))))
-    opens : {e : unnamed_yaml_event_t_data} {a b : Mark} (s : yaml_parser_state_t) → IsStart e → Begins (kind s) → rank s t < n
+    opens : {e : unnamed_yaml_event_t_data} {a b : Mark} (s : yaml_parser_state_t) → IsStart e → Begins (kind s)
+        → rank s t < n
         → NodeStep d n t (give e a b (keep u (at s d))) (give e a b (keep u (at s (raised ss ms d))))
 
   pub data StepKind (c : Config) (n : ℕ) (t : Content) : Kind → Progressed → Progressed → Type 0 where
@@ -147,36 +156,45 @@ module _ (ss : List yaml_parser_state_t) (ms : List Mark) (u : Token) where
     fails_in : (f : Mark → Fault) → StepKind c n t inner (Err (f (top_mark c.marks))) (Err (f (top_mark (c.marks ++ ms))))
     wants : {k : Kind} (w : Want) → kind_of w c ≡ k → 0 < n → StepKind c n t k (want w c) (want w (raised ss ms c))
     declares : (d : DirectivesRead) (h p : List ℕ) → 0 < n
-        → StepKind c n t between (want (BehindDirective d) (declared h p c)) (want (BehindDirective d) (declared h p (raised ss ms c)))
-    enters : {m : Mark} (w : Want) (s : yaml_parser_state_t) → kind s ≡ inner → kind_of w (at s (pushed_mark m c)) ≡ inner → 0 < n
+        → StepKind c n t between (want (BehindDirective d) (declared h p c))
+        (want (BehindDirective d) (declared h p (raised ss ms c)))
+    enters : {m : Mark} (w : Want) (s : yaml_parser_state_t) → kind s ≡ inner
+        → kind_of w (at s (pushed_mark m c)) ≡ inner → 0 < n
         → StepKind c n t first_entry (want w (at s (pushed_mark m c))) (want w (at s (pushed_mark m (raised ss ms c))))
     begins_stream : {a b : Mark} (s : unnamed_yaml_event_t_data_stream_start) → 0 < n
         → StepKind c n t stream_start (give (ev.StreamStart s) a b (at st.YAML_PARSE_IMPLICIT_DOCUMENT_START_STATE c))
         (give (ev.StreamStart s) a b (at st.YAML_PARSE_IMPLICIT_DOCUMENT_START_STATE (raised ss ms c)))
     ends_stream : {a b : Mark} → 0 < n → StepKind c n t between (give ev.StreamEnd a b (at st.YAML_PARSE_END_STATE c))
         (give ev.StreamEnd a b (at st.YAML_PARSE_END_STATE (raised ss ms c)))
-    begins_document : {a b : Mark} (d : unnamed_yaml_event_t_data_document_start) (s : yaml_parser_state_t) (kept : Bool) → kind s ≡ node_due
-        → suc (kept_rank kept s t) < n → StepKind c n t between (give (ev.DocumentStart d) a b (hold kept u (begin_document s c)))
+    begins_document : {a b : Mark} (d : unnamed_yaml_event_t_data_document_start) (s : yaml_parser_state_t)
+        (kept : Bool) → kind s ≡ node_due
+        → suc (kept_rank kept s t) < n
+        → StepKind c n t between (give (ev.DocumentStart d) a b (hold kept u (begin_document s c)))
         (give (ev.DocumentStart d) a b (hold kept u (begin_document s (raised ss ms c))))
-    ends_document : {a b : Mark} (d : unnamed_yaml_event_t_data_document_end) (s : yaml_parser_state_t) (e kept : Bool) → kind s ≡ between
+    ends_document : {a b : Mark} (d : unnamed_yaml_event_t_data_document_end) (s : yaml_parser_state_t)
+        (e kept : Bool) → kind s ≡ between
         → kept_rank kept s t < n → StepKind c n t root_end (give (ev.DocumentEnd d) a b (hold kept u (end_document s e c)))
         (give (ev.DocumentEnd d) a b (hold kept u (end_document s e (raised ss ms c))))
     node : {o o' : Progressed} → NodeStep c n t o o' → StepKind c n t node_due o o'
-    entry : {k : Kind} {o o' : Progressed} (s : yaml_parser_state_t) (m : ℕ) → n ≡ suc m → Goes k (kind s) → NodeStep (pushed s c) m t o o'
+    entry : {k : Kind} {o o' : Progressed} (s : yaml_parser_state_t) (m : ℕ) → n ≡ suc m → Goes k (kind s)
+        → NodeStep (pushed s c) m t o o'
         → StepKind c n t k o o'
     empty : {k : Kind} {m : Mark} (s : yaml_parser_state_t) → Goes k (kind s) → rank s t < n
         → StepKind c n t k (process_empty_scalar m u (at s c)) (process_empty_scalar m u (at s (raised ss ms c)))
     begins_pair : {a b : Mark} (s : unnamed_yaml_event_t_data_mapping_start) → 0 < n
         → StepKind c n t inner (give (ev.MappingStart s) a b (at st.YAML_PARSE_FLOW_SEQUENCE_ENTRY_MAPPING_KEY_STATE c))
         (give (ev.MappingStart s) a b (at st.YAML_PARSE_FLOW_SEQUENCE_ENTRY_MAPPING_KEY_STATE (raised ss ms c)))
-    ends_pair : {a b : Mark} → 1 < n → StepKind c n t pair (give ev.MappingEnd a b (keep u (at st.YAML_PARSE_FLOW_SEQUENCE_ENTRY_STATE c)))
+    ends_pair : {a b : Mark} → 1 < n
+        → StepKind c n t pair (give ev.MappingEnd a b (keep u (at st.YAML_PARSE_FLOW_SEQUENCE_ENTRY_STATE c)))
         (give ev.MappingEnd a b (keep u (at st.YAML_PARSE_FLOW_SEQUENCE_ENTRY_STATE (raised ss ms c))))
-    closes : {e : unnamed_yaml_event_t_data} → IsEnd e → 0 < n → StepKind c n t inner (close_collection e u c) (close_collection e u (raised ss ms c))
+    closes : {e : unnamed_yaml_event_t_data} → IsEnd e → 0 < n
+        → StepKind c n t inner (close_collection e u c) (close_collection e u (raised ss ms c))
     ends_indentless : {a b : Mark} → 4 < n → StepKind c n t indentless (give ev.SequenceEnd a b (keep u (popped c)))
         (give ev.SequenceEnd a b (keep u (popped (raised ss ms c))))
 
   -- nodes
-  none : (p : NodePlace) (a t : Option (List ℕ)) (h : NodeHead) (d : Config) (n : ℕ) (k : Content) → ((a ≡ None) × (t ≡ None)) ⊎ (4 < n)
+  none : (p : NodePlace) (a t : Option (List ℕ)) (h : NodeHead) (d : Config) (n : ℕ) (k : Content)
+      → ((a ≡ None) × (t ≡ None)) ⊎ (4 < n)
       → NodeStep d n k (no_content p a t h d u) (no_content p a t h (raised ss ms d) u)
   none p None None h d n k b = no_node
   none p None (Some x) h d n k (inl b) = absurd cc
@@ -184,8 +202,10 @@ module _ (ss : List yaml_parser_state_t) (ms : List Mark) (u : Token) where
   none p (Some x) t h d n k (inl b) = absurd cc
   none p (Some x) t h d n k (inr b) = whole true (a_scalar _) b
 
-  opened : (b : Bool) (e : unnamed_yaml_event_t_data) (s : yaml_parser_state_t) (p : NodePlace) (h : NodeHead) (d : Config) (n : ℕ) (k : Content) → IsStart e
-      → Begins (kind s) → rank s k < n → Bare h ⊎ (4 < n) → NodeStep d n k (may_open b e s p h d u) (may_open b e s p h (raised ss ms d) u)
+  opened : (b : Bool) (e : unnamed_yaml_event_t_data) (s : yaml_parser_state_t) (p : NodePlace) (h : NodeHead)
+      (d : Config) (n : ℕ) (k : Content) → IsStart e
+      → Begins (kind s) → rank s k < n → Bare h ⊎ (4 < n)
+      → NodeStep d n k (may_open b e s p h d u) (may_open b e s p h (raised ss ms d) u)
   opened true e s p h d n k i b l m = opens s i b l
   opened false e s p h d n k i b l m = none p h.anchor h.tag h d n k m
 
@@ -199,13 +219,15 @@ module _ (ss : List yaml_parser_state_t) (ms : List Mark) (u : Token) where
   content p h d n BlockEntry l m = opened (mach.may_be_indentless p) _ _ p h d n _ (a_sequence _) at_indentless l m
   content p h d n k l m = none p h.anchor h.tag h d n k m
 
-  parsed : (p : NodePlace) (d : Config) (n : ℕ) (k : Content) → 1 < n → NodeStep d n k (parse_node p d u k) (parse_node p (raised ss ms d) u k)
+  parsed : (p : NodePlace) (d : Config) (n : ℕ) (k : Content) → 1 < n
+      → NodeStep d n k (parse_node p d u k) (parse_node p (raised ss ms d) u k)
   parsed p d n (Alias a) l = whole false (an_alias _) (omega arith)
   parsed p d n (Anchor a) l = property (omega arith)
   parsed p d n (Tag g) l = property (omega arith)
   parsed p d n k l = content p (mach.head (mach.no_properties u) None) d n k l (inl (refl, refl))
 
-  resolves : (p : NodePlace) (r : PropertiesRead) (g : TagRead) (o : Option (List ℕ)) (c : Config) (n : ℕ) (k : Content) → 4 < n
+  resolves : (p : NodePlace) (r : PropertiesRead) (g : TagRead) (o : Option (List ℕ)) (c : Config) (n : ℕ)
+      (k : Content) → 4 < n
       → NodeStep c n k (content_resolved p r g o c u k) (content_resolved p r g o (raised ss ms c) u k)
   resolves p r g None c n k l = no_node
   resolves p r g (Some x) c n k l = content p (mach.head r (Some x)) c n k (omega arith) (inr l)
@@ -221,7 +243,8 @@ module _ (ss : List yaml_parser_state_t) (ms : List Mark) (u : Token) where
   anchored p r (Some x) c n a l = behind p r r.tag c n (Anchor a) l
 
   with_tag : (p : NodePlace) (r : PropertiesRead) (o : Option TagRead) (c : Config) (n : ℕ) (g : TagName) → 4 < n
-      → NodeStep c n (Tag g) (tag_behind p r o c u g.handle g.suffix) (tag_behind p r o (raised ss ms c) u g.handle g.suffix)
+      → NodeStep c n (Tag g) (tag_behind p r o c u g.handle g.suffix)
+      (tag_behind p r o (raised ss ms c) u g.handle g.suffix)
   with_tag p r None c n g l = property (omega arith)
   with_tag p r (Some x) c n g l = behind p r (Some x) c n (Tag g) l
 
@@ -232,29 +255,35 @@ module _ (ss : List yaml_parser_state_t) (ms : List Mark) (u : Token) where
   properties p r c n k l = behind p r r.tag c n k l
 
   -- documents
-  versioned : (b : Bool) (d : DirectivesRead) (c : Config) (m : Mark) (v : yaml_version_directive_t) (n : ℕ) (k : Content) → 0 < n
+  versioned : (b : Bool) (d : DirectivesRead) (c : Config) (m : Mark) (v : yaml_version_directive_t) (n : ℕ)
+      (k : Content) → 0 < n
       → StepKind c n k between (first_version b d c m v) (first_version b d (raised ss ms c) m v)
   versioned true d c m v n k l = wants _ refl l
   versioned false d c m v n k l = fails
 
-  version_read : (o : Option yaml_version_directive_t) (d : DirectivesRead) (c : Config) (m : Mark) (v : yaml_version_directive_t) (n : ℕ) (k : Content) → 0 < n
+  version_read : (o : Option yaml_version_directive_t) (d : DirectivesRead) (c : Config) (m : Mark)
+      (v : yaml_version_directive_t) (n : ℕ) (k : Content) → 0 < n
       → StepKind c n k between (version_directive o d c m v) (version_directive o d (raised ss ms c) m v)
   version_read (Some x) d c m v n k l = fails
   version_read None d c m v n k l = versioned (is_accepted v.major v.minor) d c m v n k l
 
-  tag_read : (o : Option (List ℕ)) (d : DirectivesRead) (c : Config) (m : Mark) (g : yaml_tag_directive_t) (n : ℕ) (k : Content) → 0 < n
+  tag_read : (o : Option (List ℕ)) (d : DirectivesRead) (c : Config) (m : Mark) (g : yaml_tag_directive_t) (n : ℕ)
+      (k : Content) → 0 < n
       → StepKind c n k between (mach.tag_directive o d c m g) (mach.tag_directive o d (raised ss ms c) m g)
   tag_read (Some x) d c m g n k l = fails
   tag_read None d c m g n k l = declares _ g.handle g.prefix l
 
   explicit : (d : DirectivesRead) (c : Config) (n : ℕ) (k : Content) → 1 < n
       → StepKind c n k between (explicit_document d c u k) (explicit_document d (raised ss ms c) u k)
-  explicit d c n (VersionDirective v) l = version_read d.version d c u.start_mark (record { major = v.major; minor = v.minor }) n _ (omega arith)
-  explicit d c n (TagDirective g) l = tag_read (get c.handles g.handle) d c u.start_mark (record { handle = g.handle; prefix = g.prefix }) n _ (omega arith)
+  explicit d c n (VersionDirective v) l = version_read d.version d c u.start_mark
+      (record { major = v.major; minor = v.minor }) n _ (omega arith)
+  explicit d c n (TagDirective g) l = tag_read (get c.handles g.handle) d c u.start_mark
+      (record { handle = g.handle; prefix = g.prefix }) n _ (omega arith)
   explicit d c n DocumentStart l = begins_document _ st.YAML_PARSE_DOCUMENT_CONTENT_STATE false refl l
   explicit d c n k l = fails
 
-  implicit : (c : Config) (n : ℕ) (k : Content) → 3 < n → StepKind c n k between (mach.implicit_document c u) (mach.implicit_document (raised ss ms c) u)
+  implicit : (c : Config) (n : ℕ) (k : Content) → 3 < n
+      → StepKind c n k between (mach.implicit_document c u) (mach.implicit_document (raised ss ms c) u)
   implicit c n k l = begins_document _ st.YAML_PARSE_BLOCK_NODE_STATE true refl l
 
   further : (b : Bool) (c : Config) (n : ℕ) (k : Content) → kind c.state ≡ between → 3 < n
@@ -265,7 +294,8 @@ module _ (ss : List yaml_parser_state_t) (ms : List Mark) (u : Token) where
   implicit_start : (c : Config) (n : ℕ) (k : Content) → kind c.state ≡ between → 3 < n
       → StepKind c n k between (parse_implicit_document_start c u k) (parse_implicit_document_start (raised ss ms c) u k)
   implicit_start c n StreamEnd e l = ends_stream (omega arith)
-  implicit_start c n (VersionDirective v) e l = explicit (mach.no_directives u.start_mark) c n (VersionDirective v) (omega arith)
+  implicit_start c n (VersionDirective v) e l = explicit (mach.no_directives u.start_mark) c n (VersionDirective v)
+      (omega arith)
   implicit_start c n (TagDirective g) e l = explicit (mach.no_directives u.start_mark) c n (TagDirective g) (omega arith)
   implicit_start c n DocumentStart e l = explicit (mach.no_directives u.start_mark) c n DocumentStart (omega arith)
   implicit_start c n DocumentEnd e l = further c.behind_document_end c n _ e l
@@ -277,15 +307,18 @@ module _ (ss : List yaml_parser_state_t) (ms : List Mark) (u : Token) where
   explicit_start c n k l = explicit (mach.no_directives u.start_mark) c n k l
 
   -- where a node may be nothing: in a collection, and as a document's content
-  slotted : (nothing : Bool) (s : yaml_parser_state_t) (p : NodePlace) (m : Mark) (c : Config) (n : ℕ) (k : Content) {i : Kind} → Goes i (kind s) → rank s k ≤ n
-      → 1 < n → StepKind c (suc n) k i (if nothing then process_empty_scalar m u (at s c) else parse_node p (pushed s c) u k)
+  slotted : (nothing : Bool) (s : yaml_parser_state_t) (p : NodePlace) (m : Mark) (c : Config) (n : ℕ)
+      (k : Content) {i : Kind} → Goes i (kind s) → rank s k ≤ n
+      → 1 < n → StepKind c (suc n) k i
+      (if nothing then process_empty_scalar m u (at s c) else parse_node p (pushed s c) u k)
       (if nothing then process_empty_scalar m u (at s (raised ss ms c)) else parse_node p (pushed s (raised ss ms c)) u k)
   slotted true s p m c n k g l h = empty s g (omega arith)
   slotted false s p m c n k g l h = entry s n refl g (parsed p _ n k h)
 
   rooted : (nothing : Bool) (c : Config) (k : Content)
       → StepKind c 5 k node_due (if nothing then process_empty_scalar u.start_mark u (popped c) else parse_node Block c u k)
-      (if nothing then process_empty_scalar u.start_mark u (popped (raised ss ms c)) else parse_node Block (raised ss ms c) u k)
+      (if nothing then process_empty_scalar u.start_mark u (popped (raised ss ms c)) else parse_node Block
+      (raised ss ms c) u k)
   rooted true c k = node (whole true (a_scalar _) (omega arith))
   rooted false c k = node (parsed Block c _ k (omega arith))
 
@@ -300,7 +333,8 @@ module _ (ss : List yaml_parser_state_t) (ms : List Mark) (u : Token) where
   at_a_state st.YAML_PARSE_DOCUMENT_END_STATE c DocumentEnd e = ends_document _ _ _ false refl (omega arith)
   at_a_state st.YAML_PARSE_DOCUMENT_END_STATE c k e = ends_document _ _ _ true refl (omega arith)
   at_a_state st.YAML_PARSE_BLOCK_NODE_STATE c k e = node (parsed Block c _ k (omega arith))
-  at_a_state st.YAML_PARSE_BLOCK_NODE_OR_INDENTLESS_SEQUENCE_STATE c k e = node (parsed BlockOrIndentlessSequence c _ k (omega arith))
+  at_a_state st.YAML_PARSE_BLOCK_NODE_OR_INDENTLESS_SEQUENCE_STATE c k e =
+      node (parsed BlockOrIndentlessSequence c _ k (omega arith))
   at_a_state st.YAML_PARSE_FLOW_NODE_STATE c k e = node (parsed Flow c _ k (omega arith))
   at_a_state st.YAML_PARSE_BLOCK_SEQUENCE_FIRST_ENTRY_STATE c k e = enters AtState _ refl refl (omega arith)
   at_a_state st.YAML_PARSE_BLOCK_SEQUENCE_ENTRY_STATE c BlockEntry e = wants _ refl (omega arith)
@@ -334,12 +368,14 @@ module _ (ss : List yaml_parser_state_t) (ms : List Mark) (u : Token) where
   at_a_state st.YAML_PARSE_END_STATE c k e = fails
 
   -- a step of the machine
-  pub step_kind : (w : Want) (c : Config) (k : Content) → StepKind c (room w c k) k (kind_of w c) (machine w c u k) (machine w (raised ss ms c) u k)
+  pub step_kind : (w : Want) (c : Config) (k : Content) → StepKind c (room w c k) k (kind_of w c) (machine w c u k)
+      (machine w (raised ss ms c) u k)
   step_kind AtState c k = at_a_state c.state c k refl
   step_kind (BehindDirective d) c k = explicit d c _ k (omega arith)
   step_kind (BehindProperties p r) c k = node (properties p r c _ k (omega arith))
   step_kind (BehindBlockEntry m) c k =
-      slotted (is_nothing_before slot.BlockEntry k) _ Block m c 5 k in_inner (rank_small st.YAML_PARSE_BLOCK_SEQUENCE_ENTRY_STATE k) (omega arith)
+      slotted (is_nothing_before slot.BlockEntry k) _ Block m c 5 k in_inner
+      (rank_small st.YAML_PARSE_BLOCK_SEQUENCE_ENTRY_STATE k) (omega arith)
   step_kind (BehindIndentlessEntry m) c k =
       slotted (is_nothing_before slot.IndentlessEntry k) _ Block m c 5 k in_indentless
       (rank_small st.YAML_PARSE_INDENTLESS_SEQUENCE_ENTRY_STATE k) (omega arith)
@@ -350,14 +386,18 @@ module _ (ss : List yaml_parser_state_t) (ms : List Mark) (u : Token) where
       (rank_small st.YAML_PARSE_BLOCK_MAPPING_KEY_STATE k) (omega arith)
   step_kind BehindFlowSequenceEntry c FlowSequenceEnd = closes sequence_end (omega arith)
   step_kind BehindFlowSequenceEntry c Key = begins_pair _ (omega arith)
-  step_kind BehindFlowSequenceEntry c k = entry st.YAML_PARSE_FLOW_SEQUENCE_ENTRY_STATE 5 refl in_inner (parsed Flow _ 5 k (omega arith))
+  step_kind BehindFlowSequenceEntry c k = entry st.YAML_PARSE_FLOW_SEQUENCE_ENTRY_STATE 5 refl in_inner
+      (parsed Flow _ 5 k (omega arith))
   step_kind BehindFlowSequenceValue c k =
       slotted (is_nothing_before slot.PairValue k) _ Flow u.start_mark c 5 k in_pair
       (rank_small st.YAML_PARSE_FLOW_SEQUENCE_ENTRY_MAPPING_END_STATE k) (omega arith)
   step_kind BehindFlowMappingEntry c FlowMappingEnd = closes mapping_end (omega arith)
   step_kind BehindFlowMappingEntry c Key = wants _ refl (omega arith)
-  step_kind BehindFlowMappingEntry c k = entry st.YAML_PARSE_FLOW_MAPPING_EMPTY_VALUE_STATE 5 refl in_inner (parsed Flow _ 5 k (omega arith))
+  step_kind BehindFlowMappingEntry c k = entry st.YAML_PARSE_FLOW_MAPPING_EMPTY_VALUE_STATE 5 refl in_inner
+      (parsed Flow _ 5 k (omega arith))
   step_kind BehindFlowMappingKey c k =
-      slotted (is_nothing_before slot.FlowKey k) _ Flow u.start_mark c 5 k in_inner (rank_small st.YAML_PARSE_FLOW_MAPPING_VALUE_STATE k) (omega arith)
+      slotted (is_nothing_before slot.FlowKey k) _ Flow u.start_mark c 5 k in_inner
+      (rank_small st.YAML_PARSE_FLOW_MAPPING_VALUE_STATE k) (omega arith)
   step_kind BehindFlowMappingValue c k =
-      slotted (is_nothing_before slot.FlowValue k) _ Flow u.start_mark c 5 k in_inner (rank_small st.YAML_PARSE_FLOW_MAPPING_KEY_STATE k) (omega arith)
+      slotted (is_nothing_before slot.FlowValue k) _ Flow u.start_mark c 5 k in_inner
+      (rank_small st.YAML_PARSE_FLOW_MAPPING_KEY_STATE k) (omega arith)

@@ -1,5 +1,6 @@
 -- How the steps of a push take the token.
-use Rattle.std.proofs.Common.{◌≡◌, ◌≤◌, ◌<◌, ◌+◌, arith, ◌++◌, ◌∷◌, List, [], length, Option, Some, None, Ok, Err, Bool, true, false, refl, sym, ap, ◌∙◌, subst}
+use Rattle.std.proofs.Common.{◌≡◌, ◌≤◌, ◌<◌, ◌+◌, arith, ◌++◌, ◌∷◌, List, [], length, Option, Some, None, Ok, Err, Bool}
+use Rattle.std.proofs.Common.{true, false, refl, sym, ap, ◌∙◌, subst}
 use Rattle.libyaml_types.specs.declared.enums.yaml_error_type_t.{yaml_error_type_t}
 use Rattle.libyaml_types.specs.declared.enums.yaml_error_type_t.TheVariants.{YAML_MEMORY_ERROR, YAML_PARSER_ERROR}
 use Rattle.libyaml_types.specs.declared.enums.yaml_parser_state_t.TheVariants.{YAML_PARSE_END_STATE}
@@ -27,7 +28,8 @@ use Rattle.libyaml_events.proofs.pushes.Few.{few}
 use Rattle.libyaml_events.proofs.lent.OneOutcome.{failed_run}
 
 -- a step that gives an event after which the token stays leaves less
-pub step_falls : (w : Want) (c : Config) (u : Token) (e : Event) (d : Config) (v : Token) → c.lookahead ≡ None → step w c u ≡ Ok (Given e, d)
+pub step_falls : (w : Want) (c : Config) (u : Token) (e : Event) (d : Config) (v : Token) → c.lookahead ≡ None
+    → step w c u ≡ Ok (Given e, d)
     → d.lookahead ≡ Some v → length d.states + rank d.state v.content < length c.states + room w c u.content
 step_falls w c u e d v n h i = go d.lookahead i fell
   where
@@ -40,10 +42,12 @@ step_falls w c u e d v n h i = go d.lookahead i fell
 
     go : (o : Option Token) → o ≡ Some v → length d.states + held_rank d.state o < length c.states + room w c u.content
         → length d.states + rank d.state v.content < length c.states + room w c u.content
-    go o j k = subst (λ (x : Option Token). length d.states + held_rank d.state x < length c.states + room w c u.content) j k
+    go o j k = subst (λ (x : Option Token). length d.states + held_rank d.state x < length c.states + room w c
+        u.content) j k
 
 -- within a push, with the token u in hand: these events were added
-pub record Taking (w0 : Want) (c0 : Config) (t : Token) (before : List Event) (w : Want) (c : Config) (u : Token) (now : List Event) : Type 0 where
+pub record Taking (w0 : Want) (c0 : Config) (t : Token) (before : List Event) (w : Want) (c : Config) (u : Token)
+    (now : List Event) : Type 0 where
   pub begun : ended_or_failed c0 ≡ false
   pub alive : c.state ≡ YAML_PARSE_END_STATE → ⊥
   pub none : c.lookahead ≡ None
@@ -52,7 +56,8 @@ pub record Taking (w0 : Want) (c0 : Config) (t : Token) (before : List Event) (w
   pub fed : (l : List Token) (g : List Event) → Fed w0 c0 None l g → Fed w c (Some u) (l ++ t ∷ []) (g ++ added)
   pub few : (l : List Token) (g : List Event) → Fed w0 c0 None l g → length added ≤ 4
 
-pub taking_begins : (w : Want) (c : Config) (t : Token) (before : List Event) → ended_or_failed c ≡ false → c.lookahead ≡ None → Taking w c t before w c t before
+pub taking_begins : (w : Want) (c : Config) (t : Token) (before : List Event) → ended_or_failed c ≡ false
+    → c.lookahead ≡ None → Taking w c t before w c t before
 taking_begins w c t before h n = record {
   begun = h;
   alive = begun_alive c h;
@@ -63,19 +68,35 @@ taking_begins w c t before h n = record {
   fed = λ l g f. takes w c l (g ++ []) t (subst (λ (x : List Event). Fed w c None l x) (sym (nil_right g)) f) h refl;
 }
 
-module _ {S : Type 0} (Full : Type 0) (w0 : Want) (c0 : Config) (t : Token) (before : List Event) (w : Want) (old : Parser S) (u : Token) (now : List Event)
+module _ {S : Type 0} (Full : Type 0) (w0 : Want) (c0 : Config) (t : Token) (before : List Event) (w : Want)
+    (old : Parser S) (u : Token) (now : List Event)
     (k : Taking w0 c0 t before w old.config u now) where
   -- a further token is wanted
-  pub wants_next : (w' : Want) (new : Parser S) → Steps (step w old.config u) old (Ok (Wants w')) new → Takes Full (standing w0 c0) t before (Ok tt) (standing w' new.config) now
-  wants_next w' new h = record { added = k.added; appended = k.appended; at_most_four = k.few; ends_so = λ l g f. wants w old.config u (k.fed l g f) h.0 }
+  pub wants_next : (w' : Want) (new : Parser S) → Steps (step w old.config u) old (Ok (Wants w')) new
+      → Takes Full (standing w0 c0) t before (Ok tt) (standing w' new.config) now
+  wants_next w' new h = record {
+    added = k.added;
+    appended = k.appended;
+    at_most_four = k.few;
+    ends_so =
+        λ l g f. wants w old.config u (k.fed l g f) h.0;
+  }
 
-  pub none_held : (w' : Want) (new : Parser S) → Steps (step w old.config u) old (Ok (Wants w')) new → new.config.lookahead ≡ None
+  pub none_held : (w' : Want) (new : Parser S) → Steps (step w old.config u) old (Ok (Wants w')) new
+      → new.config.lookahead ≡ None
   none_held w' new h = h.3 ∙ k.none
 
   -- the step failed
   pub fails : (x : yaml_error_type_t) (w' : Want) (new : Parser S) → Steps (step w old.config u) old (Err x) new
-      → (x ≡ YAML_MEMORY_ERROR → may_grow w old.config u.content ≡ true) → Takes Full (standing w0 c0) t before (Err x) (standing w' (let_go new.config)) now
-  fails x w' new h grows = record { added = k.added; appended = k.appended; at_most_four = k.few; ends_so = λ l g f. by l g f x grows h.0 }
+      → (x ≡ YAML_MEMORY_ERROR → may_grow w old.config u.content ≡ true)
+      → Takes Full (standing w0 c0) t before (Err x) (standing w' (let_go new.config)) now
+  fails x w' new h grows = record {
+    added = k.added;
+    appended = k.appended;
+    at_most_four = k.few;
+    ends_so =
+        λ l g f. by l g f x grows h.0;
+  }
     where
       by : (l : List Token) (g : List Event) → Fed w0 c0 None l g → (x : yaml_error_type_t)
           → (x ≡ YAML_MEMORY_ERROR → may_grow w old.config u.content ≡ true) → FailsAs new.config (step w old.config u) x
@@ -91,13 +112,15 @@ module _ {S : Type 0} (Full : Type 0) (w0 : Want) (c0 : Config) (t : Token) (bef
       → (x ≡ new.config.fault.error) × (is_fault new.config.fault.error ≡ true)
   fault_kept x new h = by x h.0
     where
-      by : (x : yaml_error_type_t) → FailsAs new.config (step w old.config u) x → (x ≡ new.config.fault.error) × (is_fault new.config.fault.error ≡ true)
+      by : (x : yaml_error_type_t) → FailsAs new.config (step w old.config u) x → (x ≡ new.config.fault.error)
+          × (is_fault new.config.fault.error ≡ true)
       by YAML_MEMORY_ERROR i = (ap (λ (f : Fault). f.error) (sym i), ap (λ (f : Fault). is_fault f.error) i)
       by YAML_PARSER_ERROR i = (sym i.1, ap is_fault i.1)
       by _ i = absurd i
 
   -- an event is given that finds no room
-  pub no_room : (e : Event) (mid : Parser S) → Steps (step w old.config u) old (Ok (Given e)) mid → (w' : Want) (d : Config) → d.fault ≡ memory_fault
+  pub no_room : (e : Event) (mid : Parser S) → Steps (step w old.config u) old (Ok (Given e)) mid
+      → (w' : Want) (d : Config) → d.fault ≡ memory_fault
       → Full → Takes Full (standing w0 c0) t before (Err YAML_MEMORY_ERROR) (standing w' d) now
   no_room e mid h w' d i full = record {
     added = k.added;
@@ -107,28 +130,36 @@ module _ {S : Type 0} (Full : Type 0) (w0 : Want) (c0 : Config) (t : Token) (bef
   }
 
   -- a step failed that appends its event
-  pub fails_onto : (Room : Type 0) → (Room → Full) → (x : yaml_error_type_t) (w' : Want) (new : Parser S) (more : List Event) → FailsOnto Room w old u x new
+  pub fails_onto : (Room : Type 0) → (Room → Full)
+      → (x : yaml_error_type_t) (w' : Want) (new : Parser S) (more : List Event) → FailsOnto Room w old u x new
       → more ≡ now → Takes Full (standing w0 c0) t before (Err x) (standing w' (let_go new.config)) more
-  fails_onto Room full x w' new more f m = subst (λ (y : List Event). Takes Full (standing w0 c0) t before (Err x) (standing w' (let_go new.config)) y) (sym m) (by f)
+  fails_onto Room full x w' new more f m =
+      subst (λ (y : List Event). Takes Full (standing w0 c0) t before (Err x) (standing w' (let_go new.config)) y)
+      (sym m) (by f)
     where
       by : FailsOnto Room w old u x new → Takes Full (standing w0 c0) t before (Err x) (standing w' (let_go new.config)) now
       by (by_step h grows) = fails x w' new h grows
-      by (by_list e mid h i j room) = subst (λ (y : yaml_error_type_t). Takes Full (standing w0 c0) t before (Err y) (standing w' (let_go new.config)) now) (sym i)
+      by (by_list e mid h i j room) =
+          subst (λ (y : yaml_error_type_t). Takes Full (standing w0 c0) t before (Err y)
+          (standing w' (let_go new.config)) now) (sym i)
           (no_room e mid h w' (let_go new.config) j (full room))
 
   pub onto_kept : (Room : Type 0) (x : yaml_error_type_t) (new : Parser S) → FailsOnto Room w old u x new
       → (x ≡ new.config.fault.error) × (is_fault new.config.fault.error ≡ true)
   onto_kept Room x new (by_step h grows) = fault_kept x new h
-  onto_kept Room x new (by_list e mid h i j room) = (i ∙ ap (λ (f : Fault). f.error) (sym j), ap (λ (f : Fault). is_fault f.error) j)
+  onto_kept Room x new (by_list e mid h i j room) =
+      (i ∙ ap (λ (f : Fault). f.error) (sym j), ap (λ (f : Fault). is_fault f.error) j)
 
   -- an event is given
-  module _ (e : Event) (mid : Parser S) (h : Steps (step w old.config u) old (Ok (Given e)) mid) (more : List Event) (m : more ≡ now ++ e ∷ []) where
+  module _ (e : Event) (mid : Parser S) (h : Steps (step w old.config u) old (Ok (Given e)) mid) (more : List Event)
+      (m : more ≡ now ++ e ∷ []) where
     pub all_added : more ≡ before ++ (k.added ++ e ∷ [])
     all_added = m ∙ (ap (λ (x : List Event). x ++ e ∷ []) k.appended ∙ assoc before k.added (e ∷ []))
 
     pub given_fed : (o : Option Token) → mid.config.lookahead ≡ o → (l : List Token) (g : List Event) → Fed w0 c0 None l g
         → Fed AtState (taken mid.config) o (l ++ t ∷ []) (g ++ (k.added ++ e ∷ []))
-    given_fed o i l g f = gives w old.config u (g ++ k.added) e mid.config (k.fed l g f) h.0 refl (sym i) (sym (assoc g k.added (e ∷ [])))
+    given_fed o i l g f = gives w old.config u (g ++ k.added) e mid.config (k.fed l g f) h.0 refl (sym i)
+        (sym (assoc g k.added (e ∷ [])))
 
     given_few : (l : List Token) (g : List Event) → Fed w0 c0 None l g → length (k.added ++ e ∷ []) ≤ 4
     given_few l g f = by (fed_to f).running
@@ -155,14 +186,21 @@ module _ {S : Type 0} (Full : Type 0) (w0 : Want) (c0 : Config) (t : Token) (bef
     }
 
     -- or none is held, or the stream has ended
-    pub is_done : (held : Bool) (v : Token) → mid.config.lookahead ≡ token_if held v → (held ≡ true → ended_or_failed (taken mid.config) ≡ true)
+    pub is_done : (held : Bool) (v : Token) → mid.config.lookahead ≡ token_if held v
+        → (held ≡ true → ended_or_failed (taken mid.config) ≡ true)
         → Takes Full (standing w0 c0) t before (Ok tt) (standing AtState (taken mid.config)) more
-    is_done false v i r = record { added = k.added ++ e ∷ []; appended = all_added; at_most_four = given_few; ends_so = given_fed None i }
+    is_done false v i r = record {
+      added = k.added ++ e ∷ [];
+      appended = all_added;
+      at_most_four = given_few;
+      ends_so = given_fed None i;
+    }
     is_done true v i r = record {
       added = k.added ++ e ∷ [];
       appended = all_added;
       at_most_four = given_few;
       ends_so = λ l g f.
-          let b : InHand AtState (taken mid.config) v (l ++ t ∷ []) (g ++ (k.added ++ e ∷ [])) = fed_to (given_fed (Some v) i l g f) in
+          let b : InHand AtState (taken mid.config) v (l ++ t ∷ []) (g ++ (k.added ++ e ∷ [])) =
+          fed_to (given_fed (Some v) i l g f) in
           absurd (not_both (ended_or_failed (taken mid.config)) (running (taken mid.config) b.good.1 b.alive) (r refl));
     }

@@ -7,8 +7,10 @@ use Rattle.libyaml_events.specs.declared.next.Next.TheVariants as next
 use Rattle.libyaml_events.specs.declared.next.Step.{Step}
 use Rattle.libyaml_events.specs.declared.next.Step.TheVariants as led
 use Rattle.libyaml_events.specs.declared.pending.Pending.{Pending}
-use Rattle.libyaml_events.specs.machine.Want.{Want, AtState, BehindDirective, BehindProperties, BehindBlockEntry, BehindIndentlessEntry, BehindKey}
-use Rattle.libyaml_events.specs.machine.Want.{BehindValue, BehindFlowSequenceEntry, BehindFlowSequenceValue, BehindFlowMappingEntry}
+use Rattle.libyaml_events.specs.machine.Want.{Want, AtState, BehindDirective, BehindProperties, BehindBlockEntry}
+use Rattle.libyaml_events.specs.machine.Want.{BehindIndentlessEntry, BehindKey}
+use Rattle.libyaml_events.specs.machine.Want.{BehindValue, BehindFlowSequenceEntry, BehindFlowSequenceValue}
+use Rattle.libyaml_events.specs.machine.Want.{BehindFlowMappingEntry}
 use Rattle.libyaml_events.specs.machine.Want.{BehindFlowMappingKey, BehindFlowMappingValue, Progress, Given, Wants}
 
 -- what the next token is wanted for

@@ -13,11 +13,14 @@ use Rattle.libyaml_grammar.specs.sentences.Order.{negated}
 use Rattle.libyaml_events.specs.machine.Slots.{is_nothing_before}
 use Rattle.libyaml_events.specs.declared.node_head.PropertiesRead.{PropertiesRead}
 use Rattle.libyaml_events.specs.declared.node_head.TagRead.{TagRead}
-use Rattle.libyaml_events.specs.machine.Want.{Want, AtState, BehindDirective, BehindProperties, BehindBlockEntry, BehindIndentlessEntry, BehindKey}
-use Rattle.libyaml_events.specs.machine.Want.{BehindValue, BehindFlowSequenceEntry, BehindFlowSequenceValue, BehindFlowMappingEntry}
+use Rattle.libyaml_events.specs.machine.Want.{Want, AtState, BehindDirective, BehindProperties, BehindBlockEntry}
+use Rattle.libyaml_events.specs.machine.Want.{BehindIndentlessEntry, BehindKey}
+use Rattle.libyaml_events.specs.machine.Want.{BehindValue, BehindFlowSequenceEntry, BehindFlowSequenceValue}
+use Rattle.libyaml_events.specs.machine.Want.{BehindFlowMappingEntry}
 use Rattle.libyaml_events.specs.machine.Want.{BehindFlowMappingKey, BehindFlowMappingValue}
 use Rattle.libyaml_events.specs.declared.slot.Slot.{Slot}
-use Rattle.libyaml_events.specs.declared.slot.Slot.TheVariants.{BlockEntry, IndentlessEntry, BlockKey, BlockValue, Document, PairKey, PairValue, FlowKey}
+use Rattle.libyaml_events.specs.declared.slot.Slot.TheVariants.{BlockEntry, IndentlessEntry, BlockKey, BlockValue}
+use Rattle.libyaml_events.specs.declared.slot.Slot.TheVariants.{Document, PairKey, PairValue, FlowKey}
 use Rattle.libyaml_events.specs.declared.slot.Slot.TheVariants.{FlowValue}
 
 -- a document begins, or a tag directive is kept

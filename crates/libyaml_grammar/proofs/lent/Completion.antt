@@ -2,15 +2,22 @@
 -- stream tree.
 use Rattle.std.proofs.Common.{◌≡◌, List, [], ◌∷◌, ◌++◌, refl, sym, ap, ◌∙◌, subst, ◌⊎◌, inl, inr, Bool, true, append-nil}
 use Rattle.libyaml_grammar.specs.sentences.Tokens.{Marks, Token, empty_plain, zero_marks}
-use Rattle.libyaml_grammar.specs.sentences.Trees.{BlockNode, FlowNode, Stream, behind, block_mapping, block_sequence, collection, directive, explicit}
-use Rattle.libyaml_grammar.specs.sentences.Trees.{flow, flow_node, free, implicit, indentless, item, last, mapping, no_directives, no_last, no_value, node}
-use Rattle.libyaml_grammar.specs.sentences.Trees.{nothing, opened, pair, part, scalar, sequence, single, slot_of, tokens, whole, with_value}
+use Rattle.libyaml_grammar.specs.sentences.Trees.{BlockNode, FlowNode, Stream, behind, block_mapping, block_sequence}
+use Rattle.libyaml_grammar.specs.sentences.Trees.{collection, directive, explicit}
+use Rattle.libyaml_grammar.specs.sentences.Trees.{flow, flow_node, free, implicit, indentless, item, last, mapping}
+use Rattle.libyaml_grammar.specs.sentences.Trees.{no_directives, no_last, no_value, node}
+use Rattle.libyaml_grammar.specs.sentences.Trees.{nothing, opened, pair, part, scalar, sequence, single, slot_of}
+use Rattle.libyaml_grammar.specs.sentences.Trees.{tokens, whole, with_value}
 use Rattle.libyaml_grammar.specs.sentences.Sentences.{IsBeginning, IsSentence}
-use Rattle.libyaml_grammar.specs.cuts.CutTrees.{BlockPlace, Cut, Place, at_directive, block, cut_in_order, cut_tokens, entry, explicit_root, flow_entry}
-use Rattle.libyaml_grammar.specs.cuts.CutTrees.{flow_key, flow_value, implicit_root, indentless_entry, open_collection, part_place, root, slot}
+use Rattle.libyaml_grammar.specs.cuts.CutTrees.{BlockPlace, Cut, Place, at_directive, block, cut_in_order, cut_tokens}
+use Rattle.libyaml_grammar.specs.cuts.CutTrees.{entry, explicit_root, flow_entry}
+use Rattle.libyaml_grammar.specs.cuts.CutTrees.{flow_key, flow_value, implicit_root, indentless_entry, open_collection}
+use Rattle.libyaml_grammar.specs.cuts.CutTrees.{part_place, root, slot}
 use Rattle.libyaml_grammar.specs.cuts.Rest.{any_encoding, rest, rest_block_place, rest_place}
-use Rattle.libyaml_grammar.proofs.lent.Positions.{Position, between, done, due, flow_behind, flow_due, flow_keyed, headed, in_indentless, in_mapping}
-use Rattle.libyaml_grammar.proofs.lent.Positions.{in_sequence, position_in_order, position_rest, position_tokens, stand, unopened}
+use Rattle.libyaml_grammar.proofs.lent.Positions.{Position, between, done, due, flow_behind, flow_due, flow_keyed}
+use Rattle.libyaml_grammar.proofs.lent.Positions.{headed, in_indentless, in_mapping}
+use Rattle.libyaml_grammar.proofs.lent.Positions.{in_sequence, position_in_order, position_rest, position_tokens, stand}
+use Rattle.libyaml_grammar.proofs.lent.Positions.{unopened}
 use Rattle.libyaml_grammar.proofs.lent.Reading.{Step, bad, feeds, fill, fill_flow, goes, over, reads, reads_all, then_all}
 use Rattle.libyaml_grammar.proofs.lent.Keeps.{feeds_keep}
 use Rattle.libyaml_grammar.proofs.lent.Orders.{feeds_order, reads_from, reads_to, tests}
@@ -32,17 +39,23 @@ block_ends m (root (implicit_root f)) x = (whole (behind (implicit f x)) m, refl
 block_ends m (root (explicit_root b ds s)) x = (whole (behind (explicit b ds s (node x))) m, refl, refl)
 block_ends m (entry c o s is e) x = block_ends m c (block_sequence o s (item is e (node x)) m)
 block_ends m (slot (part_place c o s ps k v)) x = block_ends m c (block_mapping o s (part ps k v (slot_of (node x))) m)
-block_ends m (indentless_entry (part_place c o s ps k v) o' is e) x = block_ends m c (block_mapping o s (part ps k v (indentless o' is e (node x))) m)
+block_ends m (indentless_entry (part_place c o s ps k v) o' is e) x =
+    block_ends m c (block_mapping o s (part ps k v (indentless o' is e (node x))) m)
 
 flow_ends : (m : Marks) (p : Place) (x : FlowNode) → Ends (rest_place m p) (fill_flow p x)
 flow_ends m (block c) x = block_ends m c (flow x)
-flow_ends m (flow_entry (open_collection p o sequence s is)) x = flow_ends m p (collection o sequence s is (last (single x)) m)
-flow_ends m (flow_entry (open_collection p o mapping s is)) x = flow_ends m p (collection o mapping s is (last (single x)) m)
-flow_ends m (flow_key (open_collection p o sequence s is) k) x = flow_ends m p (collection o sequence s is (last (pair k (flow_node x) no_value)) m)
-flow_ends m (flow_key (open_collection p o mapping s is) k) x = flow_ends m p (collection o mapping s is (last (pair k (flow_node x) no_value)) m)
+flow_ends m (flow_entry (open_collection p o sequence s is)) x =
+    flow_ends m p (collection o sequence s is (last (single x)) m)
+flow_ends m (flow_entry (open_collection p o mapping s is)) x =
+    flow_ends m p (collection o mapping s is (last (single x)) m)
+flow_ends m (flow_key (open_collection p o sequence s is) k) x =
+    flow_ends m p (collection o sequence s is (last (pair k (flow_node x) no_value)) m)
+flow_ends m (flow_key (open_collection p o mapping s is) k) x =
+    flow_ends m p (collection o mapping s is (last (pair k (flow_node x) no_value)) m)
 flow_ends m (flow_value (open_collection p o sequence s is) k n v) x
     = flow_ends m p (collection o sequence s is (last (pair k n (with_value v (flow_node x)))) m)
-flow_ends m (flow_value (open_collection p o mapping s is) k n v) x = flow_ends m p (collection o mapping s is (last (pair k n (with_value v (flow_node x)))) m)
+flow_ends m (flow_value (open_collection p o mapping s is) k n v) x =
+    flow_ends m p (collection o mapping s is (last (pair k n (with_value v (flow_node x)))) m)
 
 pub position_ends : (m : Marks) (q : Position) → Ends (position_rest m q) q
 position_ends m unopened = (whole (free (opened any_encoding m)) m, refl, refl)
@@ -52,17 +65,21 @@ position_ends m (headed b ds d) = (whole (behind (explicit b (directive ds d) m 
 position_ends m (due p o) = flow_ends m p (scalar o empty_plain m)
 position_ends m (in_sequence c o s is) = block_ends m c (block_sequence o s is m)
 position_ends m (in_mapping c o s ps) = block_ends m c (block_mapping o s ps m)
-position_ends m (in_indentless (part_place c o s ps k v) o' is e n) = block_ends m c (block_mapping o s (part ps k v (indentless o' is e n)) m)
+position_ends m (in_indentless (part_place c o s ps k v) o' is e n) =
+    block_ends m c (block_mapping o s (part ps k v (indentless o' is e n)) m)
 position_ends m (flow_due (open_collection p o sequence s is)) = flow_ends m p (collection o sequence s is no_last m)
 position_ends m (flow_due (open_collection p o mapping s is)) = flow_ends m p (collection o mapping s is no_last m)
-position_ends m (flow_keyed (open_collection p o sequence s is) k n) = flow_ends m p (collection o sequence s is (last (pair k n no_value)) m)
-position_ends m (flow_keyed (open_collection p o mapping s is) k n) = flow_ends m p (collection o mapping s is (last (pair k n no_value)) m)
+position_ends m (flow_keyed (open_collection p o sequence s is) k n) =
+    flow_ends m p (collection o sequence s is (last (pair k n no_value)) m)
+position_ends m (flow_keyed (open_collection p o mapping s is) k n) =
+    flow_ends m p (collection o mapping s is (last (pair k n no_value)) m)
 position_ends m (flow_behind (open_collection p o sequence s is) e) = flow_ends m p (collection o sequence s is (last e) m)
 position_ends m (flow_behind (open_collection p o mapping s is) e) = flow_ends m p (collection o mapping s is (last e) m)
 position_ends m (done t) = (t, refl, refl)
 
 -- a position in order is completed to a sentence
-pub position_begins : (m : Marks) (q : Position) → position_in_order q true ≡ true → IsSentence (position_tokens q (position_rest m q))
+pub position_begins : (m : Marks) (q : Position) → position_in_order q true ≡ true
+    → IsSentence (position_tokens q (position_rest m q))
 position_begins m q h =
     let e = position_ends m q in
     record {
@@ -101,7 +118,8 @@ reached_begins l q e =
     record {
       rest = position_rest zero_marks q;
       sentence
-          = subst IsSentence (feeds_keep l unopened q f (position_rest zero_marks q)) (position_begins zero_marks q (read_order l q e));
+          = subst IsSentence (feeds_keep l unopened q f (position_rest zero_marks q))
+          (position_begins zero_marks q (read_order l q e));
     }
 
 -- what is read to the stream's end is a sentence, and a sentence is read to its end
@@ -142,7 +160,8 @@ begin_reads a h =
     (q, e)
 
 -- a list that stops begins no sentence
-pub not_done : (a : List Token) (s : Step) → ((q : Position) → s ≡ goes q → ⊥) → reads_all a unopened ≡ s → IsBeginning a → ⊥
+pub not_done : (a : List Token) (s : Step) → ((q : Position) → s ≡ goes q → ⊥) → reads_all a unopened ≡ s
+    → IsBeginning a → ⊥
 not_done a s n e h =
     let (q, f) = begin_reads a h in
     n q (sym e ∙ f)
@@ -164,7 +183,8 @@ goes_or_stops (t ∷ l) q = go (λ (x : Position). goes_or_stops l x) (reads q t
         → ((p : Position) × (then_all s (reads_all l) ≡ goes p)) ⊎ Stops (t ∷ l) q
     go ih (goes x) e = further (ih x)
       where
-        further : ((p : Position) × (reads_all l x ≡ goes p)) ⊎ Stops l x → ((p : Position) × (reads_all l x ≡ goes p)) ⊎ Stops (t ∷ l) q
+        further : ((p : Position) × (reads_all l x ≡ goes p)) ⊎ Stops l x
+            → ((p : Position) × (reads_all l x ≡ goes p)) ⊎ Stops (t ∷ l) q
         further (inl h) = inl h
         further (inr h) = inr (record {
           before = t ∷ h.before;
@@ -175,5 +195,14 @@ goes_or_stops (t ∷ l) q = go (λ (x : Position). goes_or_stops l x) (reads q t
           reached = ap (λ (s : Step). then_all s (reads_all h.before)) e ∙ h.reached;
           stop = h.stop;
         })
-    go ih (bad x) e = inr (record { before = []; token = t; after = l; at = q; all = refl; reached = refl; stop = λ p f. cc })
+    go ih (bad x) e = inr (record {
+      before = [];
+      token = t;
+      after = l;
+      at = q;
+      all = refl;
+      reached = refl;
+      stop =
+          λ p f. cc;
+    })
     go ih over e = inr (record { before = []; token = t; after = l; at = q; all = refl; reached = refl; stop = λ p f. cc })

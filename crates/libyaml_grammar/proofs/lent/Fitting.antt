@@ -1,20 +1,25 @@
 -- Where reading stops with a cut tree, it has the tokens read, and fits.
-use Rattle.std.proofs.Common.{◌≡◌, List, [], ◌∷◌, ◌++◌, refl, sym, ap, ◌∙◌, subst, ◌⊎◌, inl, inr, Bool, true, false, append-nil}
+use Rattle.std.proofs.Common.{◌≡◌, List, [], ◌∷◌, ◌++◌, refl, sym, ap, ◌∙◌, subst, ◌⊎◌, inl, inr, Bool, true, false}
+use Rattle.std.proofs.Common.{append-nil}
 use Rattle.libyaml_grammar.specs.sentences.Tokens.{Content, Marks, Token, marks_of, tok}
 use Rattle.libyaml_grammar.specs.sentences.Trees.{Stream}
 use Rattle.libyaml_grammar.specs.sentences.Events.{Event}
-use Rattle.libyaml_grammar.specs.cuts.CutTrees.{Cut, at_tag, at_tag_behind, before_stream, cut_in_order, cut_tokens, declared}
+use Rattle.libyaml_grammar.specs.cuts.CutTrees.{Cut, at_tag, at_tag_behind, before_stream, cut_in_order, cut_tokens}
+use Rattle.libyaml_grammar.specs.cuts.CutTrees.{declared}
 use Rattle.libyaml_grammar.specs.cuts.Fits.{Fits, FitsTag, IsUnknown, IsUnknownTag}
 use Rattle.libyaml_grammar.proofs.lent.Positions.{Position, done, position_in_order, position_tokens, unopened}
-use Rattle.libyaml_grammar.proofs.lent.Reading.{Step, bad, bad_same, broken, checked, feed, feeds, goes, goes_same, is_legal, over, reads, reads_all, step}
+use Rattle.libyaml_grammar.proofs.lent.Reading.{Step, bad, bad_same, broken, checked, feed, feeds, goes, goes_same}
+use Rattle.libyaml_grammar.proofs.lent.Reading.{is_legal, over, reads, reads_all, step}
 use Rattle.libyaml_grammar.proofs.lent.Reading.{then_all}
 use Rattle.libyaml_grammar.proofs.lent.Keeps.{ToldAlike, feeds_keep, leave_keeps, moved_keeps}
 use Rattle.libyaml_grammar.proofs.lent.Completion.{not_done, read_order, reads_append}
 use Rattle.libyaml_grammar.proofs.lent.Orders.{reads_to}
-use Rattle.libyaml_grammar.proofs.lent.ReadSteps.{IsNotDone, ReadStep, a_tag, fails, first_handle, first_version, is_past, leaves, moved_open, moves}
+use Rattle.libyaml_grammar.proofs.lent.ReadSteps.{IsNotDone, ReadStep, a_tag, fails, first_handle, first_version}
+use Rattle.libyaml_grammar.proofs.lent.ReadSteps.{is_past, leaves, moved_open, moves}
 use Rattle.libyaml_grammar.proofs.lent.ReadSteps.{next_handle, next_version, no_stream, read_step, tag_behind_anchor}
 use Rattle.libyaml_grammar.proofs.trees.Edge.{cut_reads, reached}
-use Rattle.libyaml_grammar.proofs.trees.Existence.{IsTagCut, StopsAt, gives_content, gives_directive, gives_empty_end, gives_tag}
+use Rattle.libyaml_grammar.proofs.trees.Existence.{IsTagCut, StopsAt, gives_content, gives_directive, gives_empty_end}
+use Rattle.libyaml_grammar.proofs.trees.Existence.{gives_tag}
 
 -- no token is bad at a tag for grammar alone
 abbrev pub NotTagCut : Cut → Type 0
@@ -27,7 +32,8 @@ NotTag (goes q) = Unit {0}
 NotTag (bad c) = NotTagCut c
 NotTag over = ⊥
 
-no_tag : {m : Marks} {q : Position} {k : Content} {s : Step} {g : List Event → List Event} {l : Bool} → ReadStep m q k s g l → IsNotDone q → NotTag s
+no_tag : {m : Marks} {q : Position} {k : Content} {s : Step} {g : List Event → List Event} {l : Bool}
+    → ReadStep m q k s g l → IsNotDone q → NotTag s
 no_tag is_past w = absurd w
 no_tag (moves x h) w = no_tag h (moved_open x)
 no_tag (fails no_stream) w = tt
@@ -84,7 +90,8 @@ placed_as (goes x) l p q k e h = λ g. place_as e (h g)
 placed_as (bad c) l p q k e h = place_as e h
 placed_as over l p q k e h = tt
 
-placed : {m : Marks} {q : Position} {k : Content} {s : Step} {g : List Event → List Event} {l : Bool} → ReadStep m q k s g l → Placed s l q k
+placed : {m : Marks} {q : Position} {k : Content} {s : Step} {g : List Event → List Event} {l : Bool}
+    → ReadStep m q k s g l → Placed s l q k
 placed is_past = tt
 placed (moves x h) = placed_as _ _ _ _ _ (moved_keeps x) (placed h)
 placed (leaves p e h) = λ g. place_as (leave_keeps p) (placed h g)
@@ -114,11 +121,13 @@ fits_tag l before_stream k h f = f
 fits_tag l _ k h f = f
 
 -- where reading stops with a cut, the cut fits
-pub stops_fits : (l : List Token) (b : Token) (q : Position) (c : Cut) → reads_all l unopened ≡ goes q → reads q b ≡ bad c → Fits l b c
+pub stops_fits : (l : List Token) (b : Token) (q : Position) (c : Cut) → reads_all l unopened ≡ goes q
+    → reads q b ≡ bad c → Fits l b c
 stops_fits l b q c e f =
     let h = place_of q b.content (marks_of b) c f in
     let u : cut_tokens c [] ≡ l = h.tokens [] ∙ (feeds_keep l unopened q (reads_to l unopened q e).0 [] ∙ append-nil l) in
-    let v : reached c ≡ q = goes_same (reached c) q (sym (cut_reads c []) ∙ (ap (λ (x : List Token). feeds x unopened) u ∙ (reads_to l unopened q e).0)) in
+    let v : reached c ≡ q = goes_same (reached c) q
+    (sym (cut_reads c []) ∙ (ap (λ (x : List Token). feeds x unopened) u ∙ (reads_to l unopened q e).0)) in
     let w : StopsAt c b.content (marks_of b) = subst (λ (x : Position). reads x b ≡ bad c) (sym v) f in
     let d = gives_directive c b.content (marks_of b) w in
     record {

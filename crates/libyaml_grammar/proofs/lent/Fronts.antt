@@ -2,7 +2,8 @@
 use Rattle.std.proofs.Common.{◌≡◌, List, [], ◌∷◌, ◌++◌, Option, Some, None, true, false, refl, sym, ap, ◌∙◌, subst}
 use Rattle.libyaml_grammar.specs.sentences.Tokens.{Marks, NoToken, Token, marks_of, tok}
 use Rattle.libyaml_grammar.specs.sentences.Trees.{Properties, Stream, alone, free}
-use Rattle.libyaml_grammar.specs.cuts.CutTrees.{Cut, Place, at_directive, at_tag, at_tag_behind, block, content_due, document_due, implicit_root}
+use Rattle.libyaml_grammar.specs.cuts.CutTrees.{Cut, Place, at_directive, at_tag, at_tag_behind, block, content_due}
+use Rattle.libyaml_grammar.specs.cuts.CutTrees.{document_due, implicit_root}
 use Rattle.libyaml_grammar.specs.cuts.CutTrees.{indentless_entry, part_place, root, slot, start_due}
 use Rattle.libyaml_grammar.specs.cuts.Fits.{EndsEmpty, Fits, FitsDirective, FitsTag, WantsContent, ends_empty, last_empty}
 use Rattle.libyaml_grammar.specs.cuts.Settled.{IsFront, IsFrontPlace}
@@ -22,7 +23,8 @@ nothing_stops (block (slot (part_place c o s ps k v))) m = refl
 nothing_stops (block (indentless_entry (part_place c o s ps k v) y is e)) m = refl
 nothing_stops _ m = refl
 
-alone_stops : (p : Place) (ps : Properties) (m : Marks) → reads (due p (Some ps)) (tok NoToken m) ≡ bad (filled p (alone ps))
+alone_stops : (p : Place) (ps : Properties) (m : Marks)
+    → reads (due p (Some ps)) (tok NoToken m) ≡ bad (filled p (alone ps))
 alone_stops (block (root (implicit_root f))) ps m = refl
 alone_stops (block (slot (part_place c o s qs k v))) ps m = refl
 alone_stops (block (indentless_entry (part_place c o s qs k v) y is e)) ps m = refl
@@ -76,19 +78,25 @@ in_no_row None e = tt
 in_no_row (Some p) e = cc
 
 abbrev nowhere : Token
-nowhere = tok NoToken (record { start = record { index = 0; line = 0; column = 0 }; end = record { index = 0; line = 0; column = 0 } })
+nowhere = tok NoToken (record {
+  start = record { index = 0; line = 0; column = 0 };
+  end =
+      record { index = 0; line = 0; column = 0 };
+})
 
 never_goes : (q p : Position) → reads q nowhere ≡ goes p → ⊥
 never_goes q p e = go q refl
   where
     go : (x : Position) → x ≡ q → ⊥
     go (done t) f = let g : over ≡ goes p = ap (λ (y : Position). reads y nowhere) f ∙ e in cc
-    go x f = let g : bad (front x) ≡ goes p = sym (none_stops x (marks_of nowhere) tt) ∙ (ap (λ (y : Position). reads y nowhere) f ∙ e) in cc
+    go x f = let g : bad (front x) ≡ goes p = sym (none_stops x (marks_of nowhere) tt)
+        ∙ (ap (λ (y : Position). reads y nowhere) f ∙ e) in cc
 
 -- the front tree's tokens lead to its right edge
 pub front_reads : (l : List Token) (c : Cut) → IsFront l c → reads_all l unopened ≡ goes (reached c)
 front_reads l c f =
-    let e : feeds l unopened ≡ goes (reached c) = subst (λ (x : List Token). feeds x unopened ≡ goes (reached c)) f.tokens (cut_reads c []) in
+    let e : feeds l unopened ≡ goes (reached c) = subst (λ (x : List Token). feeds x unopened ≡ goes (reached c))
+    f.tokens (cut_reads c []) in
     reads_from l unopened (reached c) e (sym (feeds_order l unopened (reached c) e true) ∙ ((edge_told c).1 true
     ∙ f.order))
 
@@ -97,8 +105,10 @@ front_fits l c f = record {
   tokens = f.tokens;
   order = f.order;
   bad_token = not_done (l ++ nowhere
-      ∷ []) (then_all (reads (reached c) nowhere) goes) (λ p e. not_then (reads (reached c) nowhere) (λ x. never_goes (reached c) x) p e)
-      (reads_append l (nowhere ∷ []) unopened ∙ ap (λ (s : Step). then_all s (reads_all (nowhere ∷ []))) (front_reads l c f));
+      ∷ []) (then_all (reads (reached c) nowhere) goes)
+      (λ p e. not_then (reads (reached c) nowhere) (λ x. never_goes (reached c) x) p e)
+      (reads_append l (nowhere ∷ []) unopened ∙ ap (λ (s : Step). then_all s (reads_all (nowhere ∷ [])))
+      (front_reads l c f));
   empty_end = in_no_row (last_empty c) f.full;
   wants_content = wants_none c;
   directive = no_directive c f.place;
@@ -116,11 +126,18 @@ one_front_proof l c d f g = one_cut_proof l nowhere c d (front_fits l c f) (fron
 pub front_of : (l : List Token) (q : Position) → reads_all l unopened ≡ goes q → IsNotDone q → IsFront l (front q)
 front_of l q e n =
     let f = stops_fits l nowhere q (front q) e (none_stops q (marks_of nowhere) n) in
-    record { tokens = f.tokens; order = f.order; place = front_place l (front q) f.directive f.tag; full = none_empty (last_empty (front q)) f.empty_end }
+    record {
+      tokens = f.tokens;
+      order = f.order;
+      place = front_place l (front q) f.directive f.tag;
+      full =
+          none_empty (last_empty (front q)) f.empty_end;
+    }
 
 -- a front tree is no whole stream
 pub front_not_done : (l : List Token) (c : Cut) → IsFront l c → (t : Stream) → reached c ≡ done t → ⊥
-front_not_done l c f t e = let g : bad c ≡ over = sym (fits_stop l nowhere c (front_fits l c f)) ∙ ap (λ (x : Position). reads x nowhere) e in cc
+front_not_done l c f t e = let g : bad c ≡ over = sym (fits_stop l nowhere c (front_fits l c f))
+    ∙ ap (λ (x : Position). reads x nowhere) e in cc
 
 pub not_done_front : (l : List Token) (c : Cut) → IsFront l c → IsNotDone (reached c)
 not_done_front l c f = go (reached c) refl

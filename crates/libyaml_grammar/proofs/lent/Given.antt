@@ -1,24 +1,34 @@
 -- The events that one token gives at a position, and those that a list gives up to its first bad token.
 use Rattle.std.specs.Prelude.{List, [], ◌∷◌, Option, Some, None, true, false}
-use Rattle.libyaml_grammar.specs.sentences.Tokens.{Alias, AliasName, Anchor, AnchorName, BlockEnd, BlockEntry, BlockMappingStart, BlockSequenceStart, Content}
-use Rattle.libyaml_grammar.specs.sentences.Tokens.{DocumentEnd, DocumentStart, FlowMappingEnd, FlowMappingStart, FlowSequenceEnd, FlowSequenceStart, Key, Mark}
-use Rattle.libyaml_grammar.specs.sentences.Tokens.{Marks, Scalar, StreamEnd, StreamStart, Tag, TagDirective, TagName, Token, Value, VersionDirective, marks_of}
-use Rattle.libyaml_grammar.specs.sentences.Trees.{BlockItems, BlockSlot, Directives, FlowMember, FlowSlot, Free, Parts, Properties, Slot, Sort, alone, anchor}
-use Rattle.libyaml_grammar.specs.sentences.Trees.{behind, directive, ended, free, indentless, mapping, no_directives, no_value, opened, pair, part, sequence}
+use Rattle.libyaml_grammar.specs.sentences.Tokens.{Alias, AliasName, Anchor, AnchorName, BlockEnd, BlockEntry}
+use Rattle.libyaml_grammar.specs.sentences.Tokens.{BlockMappingStart, BlockSequenceStart, Content}
+use Rattle.libyaml_grammar.specs.sentences.Tokens.{DocumentEnd, DocumentStart, FlowMappingEnd, FlowMappingStart}
+use Rattle.libyaml_grammar.specs.sentences.Tokens.{FlowSequenceEnd, FlowSequenceStart, Key, Mark}
+use Rattle.libyaml_grammar.specs.sentences.Tokens.{Marks, Scalar, StreamEnd, StreamStart, Tag, TagDirective, TagName}
+use Rattle.libyaml_grammar.specs.sentences.Tokens.{Token, Value, VersionDirective, marks_of}
+use Rattle.libyaml_grammar.specs.sentences.Trees.{BlockItems, BlockSlot, Directives, FlowMember, FlowSlot, Free, Parts}
+use Rattle.libyaml_grammar.specs.sentences.Trees.{Properties, Slot, Sort, alone, anchor}
+use Rattle.libyaml_grammar.specs.sentences.Trees.{behind, directive, ended, free, indentless, mapping, no_directives}
+use Rattle.libyaml_grammar.specs.sentences.Trees.{no_value, opened, pair, part, sequence}
 use Rattle.libyaml_grammar.specs.sentences.Trees.{tag}
-use Rattle.libyaml_grammar.specs.sentences.Events.{Event, alias_at, alone_of, block_layout, document_end_at, document_start_at, empty_at, end_at, end_of}
-use Rattle.libyaml_grammar.specs.sentences.Events.{first_directive, flow_layout, member_end, missing_key, missing_value, opens_pair, scalar_of, start_of}
+use Rattle.libyaml_grammar.specs.sentences.Events.{Event, alias_at, alone_of, block_layout, document_end_at}
+use Rattle.libyaml_grammar.specs.sentences.Events.{document_start_at, empty_at, end_at, end_of}
+use Rattle.libyaml_grammar.specs.sentences.Events.{first_directive, flow_layout, member_end, missing_key, missing_value}
+use Rattle.libyaml_grammar.specs.sentences.Events.{opens_pair, scalar_of, start_of}
 use Rattle.libyaml_grammar.specs.sentences.Events.{stream_end_at, stream_start_at}
-use Rattle.libyaml_grammar.specs.cuts.CutTrees.{BlockPlace, Open, PartPlace, Place, block, declared, declared_block, declared_part, entry, flow_entry}
+use Rattle.libyaml_grammar.specs.cuts.CutTrees.{BlockPlace, Open, PartPlace, Place, block, declared, declared_block}
+use Rattle.libyaml_grammar.specs.cuts.CutTrees.{declared_part, entry, flow_entry}
 use Rattle.libyaml_grammar.specs.cuts.CutTrees.{implicit_root, indentless_entry, part_place, root, slot}
 use Rattle.libyaml_grammar.specs.cuts.CutEvents.{sort_of}
-use Rattle.libyaml_grammar.proofs.lent.Positions.{Position, between, done, due, flow_behind, flow_due, flow_keyed, headed, in_indentless, in_mapping}
+use Rattle.libyaml_grammar.proofs.lent.Positions.{Position, between, done, due, flow_behind, flow_due, flow_keyed}
+use Rattle.libyaml_grammar.proofs.lent.Positions.{headed, in_indentless, in_mapping}
 use Rattle.libyaml_grammar.proofs.lent.Positions.{in_sequence, unopened}
 use Rattle.libyaml_grammar.proofs.lent.Reading.{Step, behind_whole, feed, fill_flow, goes, leave}
 
 -- after what is whole
 abbrev pub given_behind_documents : Content → Marks → List Event → List Event
-given_behind_documents DocumentStart m r = document_end_at true m.start m.start ∷ document_start_at no_directives false m.start m.end ∷ r
+given_behind_documents DocumentStart m r = document_end_at true m.start m.start ∷ document_start_at no_directives
+    false m.start m.end ∷ r
 given_behind_documents DocumentEnd m r = document_end_at false m.start m.end ∷ r
 given_behind_documents StreamEnd m r = document_end_at true m.start m.start ∷ stream_end_at m.start m.end ∷ r
 given_behind_documents _ m r = document_end_at true m.start m.start ∷ r
@@ -35,9 +45,11 @@ given_behind_part ps _ m r = missing_value ps m.start r
 abbrev pub parts_with : PartPlace → Slot → Parts
 parts_with (part_place c o s ps r v) x = part ps r v x
 
-abbrev pub given_behind_indentless : PartPlace → Option Properties → BlockItems → Marks → BlockSlot → Content → Marks → List Event → List Event
+abbrev pub given_behind_indentless : PartPlace → Option Properties → BlockItems → Marks → BlockSlot → Content
+    → Marks → List Event → List Event
 given_behind_indentless c o is e n BlockEntry m r = r
-given_behind_indentless c o is e n k m r = end_at sequence m.start m.start ∷ given_behind_part (parts_with c (indentless o is e n)) k m r
+given_behind_indentless c o is e n k m r = end_at sequence m.start m.start ∷ given_behind_part
+    (parts_with c (indentless o is e n)) k m r
 
 abbrev pub given_by_close : Sort → Sort → Marks → List Event → List Event
 given_by_close sequence sequence m r = end_of sequence m ∷ r
@@ -82,7 +94,8 @@ empty_mark (block c) m = empty_block c m
 empty_mark _ m = m
 
 abbrev pub given_without : Place → Option Properties → Content → Marks → List Event → List Event
-given_without p None k m r = if_goes (behind_whole (leave p) k m) (empty_at (empty_mark p m.start) ∷ given_behind_whole (leave p) k m r) r
+given_without p None k m r = if_goes (behind_whole (leave p) k m)
+    (empty_at (empty_mark p m.start) ∷ given_behind_whole (leave p) k m r) r
 given_without p (Some ps) k m r = alone_of (declared p) ps ∷ given_behind_whole (fill_flow p (alone ps)) k m r
 
 abbrev pub given_on_alias : Place → Option Properties → AliasName → Marks → List Event → List Event
@@ -133,7 +146,8 @@ given_at_free f (TagDirective h) m r = r
 given_at_free f DocumentStart m r = document_start_at no_directives false m.start m.end ∷ r
 given_at_free f DocumentEnd m r = given_again f m r
 given_at_free f StreamEnd m r = stream_end_at m.start m.end ∷ r
-given_at_free f k m r = document_start_at no_directives true m.start m.start ∷ given_on_due (block (root (implicit_root f))) None k m r
+given_at_free f k m r = document_start_at no_directives true m.start m.start ∷ given_on_due
+    (block (root (implicit_root f))) None k m r
 
 abbrev pub given_at_headed : Directives → Content → Marks → List Event → List Event
 given_at_headed ds DocumentStart m r = document_start_at ds false (first_directive ds m.start) m.end ∷ r

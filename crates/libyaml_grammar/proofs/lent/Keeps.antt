@@ -2,18 +2,25 @@
 -- what stands before is and the token is legal there; and a bad token's place has what stands before it.
 use Rattle.std.proofs.Common.{◌≡◌, List, ◌∷◌, ◌++◌, refl, ◌∙◌, Bool, None, subst}
 use Rattle.libyaml_grammar.specs.sentences.Tokens.{Content, Marks, Token, marks_of, tok}
-use Rattle.libyaml_grammar.specs.sentences.Trees.{BlockNode, BlockSlot, FlowNode, FlowSlot, alone, block_node_tokens, block_slot_tokens, flow, flow_node}
+use Rattle.libyaml_grammar.specs.sentences.Trees.{BlockNode, BlockSlot, FlowNode, FlowSlot, alone, block_node_tokens}
+use Rattle.libyaml_grammar.specs.sentences.Trees.{block_slot_tokens, flow, flow_node}
 use Rattle.libyaml_grammar.specs.sentences.Trees.{flow_node_tokens, flow_nothing, flow_slot_tokens, node, nothing}
 use Rattle.libyaml_grammar.specs.sentences.Events.{Event}
-use Rattle.libyaml_grammar.specs.cuts.CutTrees.{BlockPlace, Place, block, block_place_in_order, block_place_tokens, cut_in_order, cut_tokens, declared}
-use Rattle.libyaml_grammar.specs.cuts.CutTrees.{declared_block, flow_entry, implicit_root, part_place, place_in_order, place_tokens, root, slot}
+use Rattle.libyaml_grammar.specs.cuts.CutTrees.{BlockPlace, Place, block, block_place_in_order, block_place_tokens}
+use Rattle.libyaml_grammar.specs.cuts.CutTrees.{cut_in_order, cut_tokens, declared}
+use Rattle.libyaml_grammar.specs.cuts.CutTrees.{declared_block, flow_entry, implicit_root, part_place, place_in_order}
+use Rattle.libyaml_grammar.specs.cuts.CutTrees.{place_tokens, root, slot}
 use Rattle.libyaml_grammar.proofs.lent.Positions.{Position, due, position_in_order, position_tokens}
-use Rattle.libyaml_grammar.proofs.lent.Reading.{Step, along, bad, feed, feeds, fill, fill_block_slot, fill_flow, fill_flow_slot, goes, is_legal, leave}
+use Rattle.libyaml_grammar.proofs.lent.Reading.{Step, along, bad, feed, feeds, fill, fill_block_slot, fill_flow}
+use Rattle.libyaml_grammar.proofs.lent.Reading.{fill_flow_slot, goes, is_legal, leave}
 use Rattle.libyaml_grammar.proofs.lent.Reading.{over}
-use Rattle.libyaml_grammar.proofs.lent.ReadSteps.{Moves, ReadStep, a_scalar, an_alias, closes_at_mapping, closes_at_sequence, closes_mapping}
-use Rattle.libyaml_grammar.proofs.lent.ReadSteps.{closes_sequence, ends_mapping, ends_sequence, fails, is_alone, is_past, leaves, moves, no_stream}
+use Rattle.libyaml_grammar.proofs.lent.ReadSteps.{Moves, ReadStep, a_scalar, an_alias, closes_at_mapping}
+use Rattle.libyaml_grammar.proofs.lent.ReadSteps.{closes_at_sequence, closes_mapping}
+use Rattle.libyaml_grammar.proofs.lent.ReadSteps.{closes_sequence, ends_mapping, ends_sequence, fails, is_alone}
+use Rattle.libyaml_grammar.proofs.lent.ReadSteps.{is_past, leaves, moves, no_stream}
 use Rattle.libyaml_grammar.proofs.lent.ReadSteps.{read_step}
-use Rattle.libyaml_grammar.specs.sentences.Order.{block_node_in_order, block_slot_in_order, both, flow_node_in_order, flow_slot_in_order}
+use Rattle.libyaml_grammar.specs.sentences.Order.{block_node_in_order, block_slot_in_order, both, flow_node_in_order}
+use Rattle.libyaml_grammar.specs.sentences.Order.{flow_slot_in_order}
 
 -- what a step says of the tokens consumed, and of the order
 abbrev pub Keeps : Step → Position → Token → Bool → Type 0
@@ -90,6 +97,7 @@ step_keeps q p t e
     = subst (λ (s : Step). Keeps s q t (is_legal q t.content)) e (keeps (read_step (marks_of t) q t.content))
 
 -- the whole of a list
-pub feeds_keep : (l : List Token) (q p : Position) → feeds l q ≡ goes p → (r : List Token) → position_tokens p r ≡ position_tokens q (l ++ r)
+pub feeds_keep : (l : List Token) (q p : Position) → feeds l q ≡ goes p → (r : List Token)
+    → position_tokens p r ≡ position_tokens q (l ++ r)
 feeds_keep l q p e r = along (λ (a : List Token) (x : Position). position_tokens p r ≡ position_tokens x (a ++ r)) p refl
     (λ t a y x f h. h ∙ (step_keeps y x t f).0 (a ++ r)) l q e

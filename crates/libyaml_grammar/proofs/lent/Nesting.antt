@@ -2,21 +2,33 @@
 use Rattle.std.proofs.Common.{◌≡◌, ℕ, List, [], ◌∷◌, Option, Bool, true, false, refl, sym, ap, ◌∙◌}
 use Rattle.libyaml_types.specs.declared.event.unnamed_yaml_event_t_data.TheVariants as ev
 use Rattle.libyaml_types.specs.declared.event.unnamed_yaml_event_t_data_document_start.{unnamed_yaml_event_t_data_document_start}
-use Rattle.libyaml_grammar.specs.sentences.Events.{Event, Layout, before_events, block_layout, block_node_events, block_slot_events, document_end_at}
-use Rattle.libyaml_grammar.specs.sentences.Events.{documents_events, empty_at, end_at, ended_events, event, events, first_block, first_directive}
-use Rattle.libyaml_grammar.specs.sentences.Events.{flow_items_events, flow_last_events, flow_layout, flow_member_events, flow_node_events}
-use Rattle.libyaml_grammar.specs.sentences.Events.{flow_slot_events, free_events, items_events, member_end, missing_key, missing_value, parts_events}
-use Rattle.libyaml_grammar.specs.sentences.Events.{slot_events, start_at, stream_end_at, stream_start_at, tag_directives_of, version_of}
-use Rattle.libyaml_grammar.specs.sentences.Nesting.{AllHavePairs, HasPairs, IsEven, IsNested, Texts, TextsHavePairs, Value, Values, alias_value}
-use Rattle.libyaml_grammar.specs.sentences.Nesting.{collection_value, first_value, is_even, no_texts, no_values, scalar_value, text_behind, texts_events}
+use Rattle.libyaml_grammar.specs.sentences.Events.{Event, Layout, before_events, block_layout, block_node_events}
+use Rattle.libyaml_grammar.specs.sentences.Events.{block_slot_events, document_end_at}
+use Rattle.libyaml_grammar.specs.sentences.Events.{documents_events, empty_at, end_at, ended_events, event, events}
+use Rattle.libyaml_grammar.specs.sentences.Events.{first_block, first_directive}
+use Rattle.libyaml_grammar.specs.sentences.Events.{flow_items_events, flow_last_events, flow_layout, flow_member_events}
+use Rattle.libyaml_grammar.specs.sentences.Events.{flow_node_events}
+use Rattle.libyaml_grammar.specs.sentences.Events.{flow_slot_events, free_events, items_events, member_end, missing_key}
+use Rattle.libyaml_grammar.specs.sentences.Events.{missing_value, parts_events}
+use Rattle.libyaml_grammar.specs.sentences.Events.{slot_events, start_at, stream_end_at, stream_start_at}
+use Rattle.libyaml_grammar.specs.sentences.Events.{tag_directives_of, version_of}
+use Rattle.libyaml_grammar.specs.sentences.Nesting.{AllHavePairs, HasPairs, IsEven, IsNested, Texts, TextsHavePairs}
+use Rattle.libyaml_grammar.specs.sentences.Nesting.{Value, Values, alias_value}
+use Rattle.libyaml_grammar.specs.sentences.Nesting.{collection_value, first_value, is_even, no_texts, no_values}
+use Rattle.libyaml_grammar.specs.sentences.Nesting.{scalar_value, text_behind, texts_events}
 use Rattle.libyaml_grammar.specs.sentences.Nesting.{value_events, values_events}
 use Rattle.libyaml_grammar.specs.sentences.Order.{negated}
 use Rattle.libyaml_grammar.specs.sentences.Tokens.{Mark, StreamHead}
-use Rattle.libyaml_grammar.specs.sentences.Trees.{Before, BlockItems, BlockNode, BlockSlot, Directives, Documents, Ended, FlowItems, FlowLast, FlowMember}
-use Rattle.libyaml_grammar.specs.sentences.Trees.{FlowNode, FlowSlot, Free, Parts, Slot, Sort, Stream, again, alias, alone, behind, block_mapping}
-use Rattle.libyaml_grammar.specs.sentences.Trees.{block_sequence, collection, empty, ended, explicit, flow, flow_node, flow_nothing, free, implicit}
-use Rattle.libyaml_grammar.specs.sentences.Trees.{indentless, item, key, last, mapping, more_items, no_directives, no_items, no_last, no_parts, no_value}
-use Rattle.libyaml_grammar.specs.sentences.Trees.{node, nothing, once, opened, pair, part, scalar, sequence, single, slot_of, value, whole, with_value}
+use Rattle.libyaml_grammar.specs.sentences.Trees.{Before, BlockItems, BlockNode, BlockSlot, Directives, Documents}
+use Rattle.libyaml_grammar.specs.sentences.Trees.{Ended, FlowItems, FlowLast, FlowMember}
+use Rattle.libyaml_grammar.specs.sentences.Trees.{FlowNode, FlowSlot, Free, Parts, Slot, Sort, Stream, again, alias}
+use Rattle.libyaml_grammar.specs.sentences.Trees.{alone, behind, block_mapping}
+use Rattle.libyaml_grammar.specs.sentences.Trees.{block_sequence, collection, empty, ended, explicit, flow, flow_node}
+use Rattle.libyaml_grammar.specs.sentences.Trees.{flow_nothing, free, implicit}
+use Rattle.libyaml_grammar.specs.sentences.Trees.{indentless, item, key, last, mapping, more_items, no_directives}
+use Rattle.libyaml_grammar.specs.sentences.Trees.{no_items, no_last, no_parts, no_value}
+use Rattle.libyaml_grammar.specs.sentences.Trees.{node, nothing, once, opened, pair, part, scalar, sequence, single}
+use Rattle.libyaml_grammar.specs.sentences.Trees.{slot_of, value, whole, with_value}
 
 pub record Gives (g : List Event → List Event) : Type 0 where
   pub val : Value
@@ -56,7 +68,8 @@ join_turns (first_value v a) b c = ap negated (join_turns a b c)
 
 join_even : (k : Sort) (a b : Values) → IsEven k a → IsEven k b → IsEven k (join a b)
 join_even sequence a b h k = tt
-join_even mapping a b h k = even_turns (join a b) ∙ (join_turns a b true ∙ (ap (turns a) (sym (even_turns b) ∙ k) ∙ (sym (even_turns a) ∙ h)))
+join_even mapping a b h k = even_turns (join a b)
+    ∙ (join_turns a b true ∙ (ap (turns a) (sym (even_turns b) ∙ k) ∙ (sym (even_turns a) ∙ h)))
 
 none_all : (k : Sort) → GivesAll k (λ (r : List Event). r)
 none_all k = record { vals = no_values; same = λ r. refl; pairs = tt; even = go k }
@@ -232,14 +245,16 @@ pub record LastText (g : List Event → List Event) : Type 0 where
   pub same : (r : List Event) → g r ≡ before (event (ev.DocumentStart content) start start_end ∷ value_events val r)
   pub pairs : HasPairs val
 
-pub ended_text : (g : List Event → List Event) (i : Bool) (m n : Mark) → LastText g → AllTexts (λ (r : List Event). g (document_end_at i m n ∷ r))
+pub ended_text : (g : List Event → List Event) (i : Bool) (m n : Mark) → LastText g
+    → AllTexts (λ (r : List Event). g (document_end_at i m n ∷ r))
 ended_text g i m n x = record {
   head = x.all_before.head;
   start = x.all_before.start;
   start_end = x.all_before.start_end;
   texts = text_behind x.all_before.texts x.content x.start x.start_end x.val i m n;
   same = λ r. x.same (document_end_at i m n ∷ r)
-      ∙ x.all_before.same (event (ev.DocumentStart x.content) x.start x.start_end ∷ value_events x.val (document_end_at i m n ∷ r));
+      ∙ x.all_before.same (event (ev.DocumentStart x.content) x.start x.start_end ∷ value_events x.val
+      (document_end_at i m n ∷ r));
   pairs = (x.all_before.pairs, x.pairs);
 }
 
@@ -271,7 +286,8 @@ mutual
       (block_slot_gives ds n m)
 
   pub free_gives : (f : Free) → AllTexts (free_events f)
-  free_gives (opened e m) = record { head = e; start = m.start; start_end = m.start; texts = no_texts; same = λ r. refl; pairs = tt }
+  free_gives (opened e m) =
+      record { head = e; start = m.start; start_end = m.start; texts = no_texts; same = λ r. refl; pairs = tt }
   free_gives (ended e) = ended_gives e
 
   ended_gives : (e : Ended) → AllTexts (ended_events e)

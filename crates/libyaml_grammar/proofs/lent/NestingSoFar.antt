@@ -6,9 +6,12 @@ use Rattle.libyaml_grammar.specs.cuts.CutTrees.{Cut, at_directive, document_due,
 use Rattle.libyaml_grammar.specs.sentences.Events.{Event, document_end_at, event, events, stream_end_at, stream_start_at}
 use Rattle.libyaml_sources.specs.Fault.{Fault}
 use Rattle.libyaml_grammar.proofs.lent.Given.{gives_all}
-use Rattle.libyaml_grammar.specs.sentences.Nesting.{BeginsValue, IsNested, IsOpenDocument, NestsSoFar, Texts, TextsHavePairs, has_begun, no_texts}
-use Rattle.libyaml_grammar.specs.sentences.Nesting.{none_open, not_begun, one_open, text_behind, texts_events, value_events, whole}
-use Rattle.libyaml_grammar.proofs.lent.Positions.{Position, between, done, flow_behind, in_mapping, position_rest, shown, stand}
+use Rattle.libyaml_grammar.specs.sentences.Nesting.{BeginsValue, IsNested, IsOpenDocument, NestsSoFar, Texts}
+use Rattle.libyaml_grammar.specs.sentences.Nesting.{TextsHavePairs, has_begun, no_texts}
+use Rattle.libyaml_grammar.specs.sentences.Nesting.{none_open, not_begun, one_open, text_behind, texts_events}
+use Rattle.libyaml_grammar.specs.sentences.Nesting.{value_events, whole}
+use Rattle.libyaml_grammar.proofs.lent.Positions.{Position, between, done, flow_behind, in_mapping, position_rest}
+use Rattle.libyaml_grammar.proofs.lent.Positions.{shown, stand}
 use Rattle.libyaml_grammar.specs.runs.Runs.{Ending, Ends, IsRun, amid_properties, of_beginning, of_cut_tree, of_sentence}
 use Rattle.libyaml_grammar.specs.sentences.Tokens.{Mark, Marks, Token, marks_of}
 use Rattle.libyaml_grammar.specs.sentences.Trees.{Stream, behind, free, no_directives, sequence}
@@ -17,7 +20,8 @@ use Rattle.libyaml_grammar.proofs.lent.Lists.{nil_right}
 use Rattle.libyaml_grammar.proofs.lent.Nesting.{events_nest_proof}
 use Rattle.libyaml_grammar.proofs.lent.Run.{first_mark, given_shown}
 use Rattle.libyaml_grammar.proofs.lent.Running.{ended_run}
-use Rattle.libyaml_grammar.proofs.lent.Splits.{Splits, both_split, event_splits, member_end_splits, missing_value_splits, position_splits, value_splits}
+use Rattle.libyaml_grammar.proofs.lent.Splits.{Splits, both_split, event_splits, member_end_splits}
+use Rattle.libyaml_grammar.proofs.lent.Splits.{missing_value_splits, position_splits, value_splits}
 
 -- what a cut tree shows stands before the events after it
 cut_splits : (c : Cut) (m : Mark) → Splits (shown_cut c m)
@@ -34,13 +38,16 @@ abbrev GoesOn : Cut → Mark → Type 0
 GoesOn c m = (t : Stream) × (later : List Event) × (events t ≡ shown_cut c m later)
 
 -- the tree that completes a position, and the events of what completes it
-completed : (m : Marks) (q : Position) → (t : Stream) × (events t ≡ shown q (first_mark (position_rest m q) m.start) (gives_all (position_rest m q) q []))
+completed : (m : Marks) (q : Position)
+    → (t : Stream) × (events t ≡ shown q (first_mark (position_rest m q) m.start)
+    (gives_all (position_rest m q) q []))
 completed m q = let e = position_ends m q in (e.0, given_shown (position_rest m q) q (done e.0) e.1 m.start [])
 
 goes_on : (c : Cut) (m : Marks) → GoesOn c m.start
 goes_on (at_directive (free f) no_directives) m = let t = completed m (between (free f)) in (t.0, _, t.1)
 goes_on (at_directive (behind d) no_directives) m = let t = completed m (between (behind d)) in (t.0, _, t.1)
-goes_on (separator_due (open_collection p o sequence s is) e) m = let t = completed m (flow_behind (open_collection p o sequence s is) e) in (t.0, _, t.1)
+goes_on (separator_due (open_collection p o sequence s is) e) m = let t =
+    completed m (flow_behind (open_collection p o sequence s is) e) in (t.0, _, t.1)
 goes_on c m = let t = completed m (stand c) in (t.0, _, t.1)
 
 -- the events begin events that nest
@@ -64,7 +71,8 @@ run_begins l f e x (of_beginning b n s h) =
     tree_begins b.sentence.tree e r.0 r.1
 
 -- events that begin events that nest: whole documents, and at most one that is open
-two_lists : (a b c d : List Event) → a ++ b ≡ c ++ d → ((x : List Event) × (c ≡ a ++ x)) ⊎ ((x : List Event) × (a ≡ c ++ x) × (x ++ b ≡ d))
+two_lists : (a b c d : List Event) → a ++ b ≡ c ++ d → ((x : List Event) × (c ≡ a ++ x))
+    ⊎ ((x : List Event) × (a ≡ c ++ x) × (x ++ b ≡ d))
 two_lists [] b c d e = inl (c, refl)
 two_lists (t ∷ a) b [] d e = inr (t ∷ a, refl, e)
 two_lists (t ∷ a) b (u ∷ c) d e = go (two_lists a b c d (cc))
@@ -72,7 +80,8 @@ two_lists (t ∷ a) b (u ∷ c) d e = go (two_lists a b c d (cc))
     same : t ≡ u
     same = cc
 
-    go : ((x : List Event) × (c ≡ a ++ x)) ⊎ ((x : List Event) × (a ≡ c ++ x) × (x ++ b ≡ d)) → ((x : List Event) × (u ∷ c ≡ t ∷ (a ++ x)))
+    go : ((x : List Event) × (c ≡ a ++ x)) ⊎ ((x : List Event) × (a ≡ c ++ x) × (x ++ b ≡ d))
+        → ((x : List Event) × (u ∷ c ≡ t ∷ (a ++ x)))
         ⊎ ((x : List Event) × (t ∷ a ≡ u ∷ (c ++ x)) × (x ++ b ≡ d))
     go (inl (x, h)) = inl (x, ap (λ (l : List Event). u ∷ l) h ∙ ap (λ (y : Event). y ∷ (a ++ x)) (sym same))
     go (inr (x, h, i)) = inr (x, ap (λ (l : List Event). t ∷ l) h ∙ ap (λ (y : Event). y ∷ (c ++ x)) same, i)
@@ -84,12 +93,14 @@ data EndsIn (l rest : List Event) (ts : Texts) (r : List Event) : Type 0 where
 
 ends_in : (ts : Texts) (l rest r : List Event) → TextsHavePairs ts → l ++ rest ≡ texts_events ts r → EndsIn l rest ts r
 ends_in no_texts l rest r h e = past l refl e
-ends_in (text_behind ts d m n v i p q) l rest r h e = go (ends_in ts l rest (event (ev.DocumentStart d) m n ∷ value_events v (document_end_at i p q ∷ r)) h.0 e)
+ends_in (text_behind ts d m n v i p q) l rest r h e =
+    go (ends_in ts l rest (event (ev.DocumentStart d) m n ∷ value_events v (document_end_at i p q ∷ r)) h.0 e)
   where
     head : Event
     head = event (ev.DocumentStart d) m n
 
-    go : EndsIn l rest ts (event (ev.DocumentStart d) m n ∷ value_events v (document_end_at i p q ∷ r)) → EndsIn l rest (text_behind ts d m n v i p q) r
+    go : EndsIn l rest ts (event (ev.DocumentStart d) m n ∷ value_events v (document_end_at i p q ∷ r))
+        → EndsIn l rest (text_behind ts d m n v i p q) r
     go (among us o a b c) = among us o a b c
     go (past [] a b) = among ts [] a h.0 (none_open refl)
     go (past (x ∷ k) a b)
@@ -103,12 +114,21 @@ ends_in (text_behind ts d m n v i p q) l rest r h e = go (ends_in ts l rest (eve
         tails = cc
 
         opens : BeginsValue k → EndsIn l rest (text_behind ts d m n v i p q) r
-        opens w = among ts (event (ev.DocumentStart d) m n ∷ k) (a ∙ ap (λ (y : Event). texts_events ts (y ∷ k)) heads) h.0 (one_open d m n k refl w)
+        opens w = among ts (event (ev.DocumentStart d) m n ∷ k)
+            (a ∙ ap (λ (y : Event). texts_events ts (y ∷ k)) heads) h.0 (one_open d m n k refl w)
 
         further : ((y : List Event) × (value_events v [] ≡ k ++ y))
-            ⊎ ((y : List Event) × (k ≡ value_events v [] ++ y) × (y ++ rest ≡ document_end_at i p q ∷ r)) → EndsIn l rest (text_behind ts d m n v i p q) r
+            ⊎ ((y : List Event) × (k ≡ value_events v [] ++ y) × (y ++ rest ≡ document_end_at i p q ∷ r))
+            → EndsIn l rest (text_behind ts d m n v i p q) r
         further (inl (y, c)) = opens (record { val = v; rest = y; all = c; pairs = h.1 })
-        further (inr ([], c, f)) = opens (record { val = v; rest = []; all = sym (nil_right (value_events v [])) ∙ (sym c ∙ sym (nil_right k)); pairs = h.1 })
+        further (inr ([], c, f)) =
+            opens (record {
+              val = v;
+              rest = [];
+              all = sym (nil_right (value_events v []))
+                  ∙ (sym c ∙ sym (nil_right k));
+              pairs = h.1;
+            })
         further (inr (y ∷ ys, c, f)) = past ys (a
             ∙ ap (texts_events ts) (ap (λ (z : Event). z ∷ k) heads
             ∙ ap (λ (z : List Event). event (ev.DocumentStart d) m n ∷ z) (c
@@ -125,7 +145,8 @@ pub front_nests : (l rest : List Event) → IsNested (l ++ rest) → NestsSoFar 
 front_nests [] rest n = not_begun refl
 front_nests (x ∷ l) rest n = go (ends_in n.texts l rest (stream_end_at n.end n.end_end ∷ []) n.pairs tails)
   where
-    all : x ∷ (l ++ rest) ≡ stream_start_at n.head n.start n.start_end ∷ texts_events n.texts (stream_end_at n.end n.end_end ∷ [])
+    all : x ∷ (l ++ rest) ≡ stream_start_at n.head n.start n.start_end ∷ texts_events n.texts
+        (stream_end_at n.end n.end_end ∷ [])
     all = n.all
 
     heads : x ≡ stream_start_at n.head n.start n.start_end
@@ -137,7 +158,8 @@ front_nests (x ∷ l) rest n = go (ends_in n.texts l rest (stream_end_at n.end n
     behind_start : (k : List Event) → l ≡ k → x ∷ l ≡ stream_start_at n.head n.start n.start_end ∷ k
     behind_start k e = ap (λ (z : List Event). x ∷ z) e ∙ ap (λ (y : Event). y ∷ k) heads
 
-    begun : (us : Texts) (o : List Event) → l ≡ texts_events us o → TextsHavePairs us → IsOpenDocument o → NestsSoFar (x ∷ l)
+    begun : (us : Texts) (o : List Event) → l ≡ texts_events us o → TextsHavePairs us → IsOpenDocument o
+        → NestsSoFar (x ∷ l)
     begun us o a b c = has_begun (record {
       head = n.head;
       start = n.start;
@@ -162,7 +184,8 @@ front_nests (x ∷ l) rest n = go (ends_in n.texts l rest (stream_end_at n.end n
           end = n.end;
           end_end = n.end_end;
           all
-              = behind_start (texts_events n.texts (stream_end_at n.end n.end_end ∷ [])) (a ∙ ap (λ (z : Event). texts_events n.texts (z ∷ [])) last);
+              = behind_start (texts_events n.texts (stream_end_at n.end n.end_end ∷ []))
+              (a ∙ ap (λ (z : Event). texts_events n.texts (z ∷ [])) last);
           pairs
               = n.pairs;
         })
@@ -181,7 +204,8 @@ pub run_nests_so_far : (l : List Token) (f : Fault) (e : List Event) (x : Ending
 run_nests_so_far l f e x r = let b = run_begins l f e x r in front_nests e b.0 b.1
 
 -- and so does what begins the events of a run
-pub run_front_nests : (l : List Token) (f : Fault) (e : List Event) (x : Ending) → IsRun l f e x → (d later : List Event) → e ≡ d ++ later → NestsSoFar d
+pub run_front_nests : (l : List Token) (f : Fault) (e : List Event) (x : Ending) → IsRun l f e x
+    → (d later : List Event) → e ≡ d ++ later → NestsSoFar d
 run_front_nests l f e x r d later h =
     let b = run_begins l f e x r in
     front_nests d (later ++ b.0) (subst IsNested (ap (λ (y : List Event). y ++ b.0) h ∙ append_assoc d later b.0) b.1)

@@ -1,26 +1,38 @@
 -- Where a cut tree fits, reading stops at its bad token with that cut tree; so one cut tree fits.
 use Rattle.std.proofs.Common.{◌≡◌, List, [], ◌∷◌, ◌++◌, Some, None, refl, sym, ap, ◌∙◌, subst, inl, inr, Bool, true, false}
-use Rattle.libyaml_grammar.specs.sentences.Tokens.{AnchorName, Content, HandleDeclared, Marks, Tag, TagDirective, TagName, Token, VersionAsked}
+use Rattle.libyaml_grammar.specs.sentences.Tokens.{AnchorName, Content, HandleDeclared, Marks, Tag, TagDirective}
+use Rattle.libyaml_grammar.specs.sentences.Tokens.{TagName, Token, VersionAsked}
 use Rattle.libyaml_grammar.specs.sentences.Tokens.{VersionDirective, marks_of, tok}
-use Rattle.libyaml_grammar.specs.sentences.Trees.{Before, BlockNode, Directives, Documents, FlowNode, Properties, alone, anchor, anchor_tag, behind}
-use Rattle.libyaml_grammar.specs.sentences.Trees.{directive, empty, explicit, flow, flow_node, flow_node_tokens, flow_nothing, free, implicit, indentless}
-use Rattle.libyaml_grammar.specs.sentences.Trees.{item, no_directives, no_parts, no_value, node, nothing, pair, part, sequence, single, slot_of, tag}
+use Rattle.libyaml_grammar.specs.sentences.Trees.{Before, BlockNode, Directives, Documents, FlowNode, Properties, alone}
+use Rattle.libyaml_grammar.specs.sentences.Trees.{anchor, anchor_tag, behind}
+use Rattle.libyaml_grammar.specs.sentences.Trees.{directive, empty, explicit, flow, flow_node, flow_node_tokens}
+use Rattle.libyaml_grammar.specs.sentences.Trees.{flow_nothing, free, implicit, indentless}
+use Rattle.libyaml_grammar.specs.sentences.Trees.{item, no_directives, no_parts, no_value, node, nothing, pair, part}
+use Rattle.libyaml_grammar.specs.sentences.Trees.{sequence, single, slot_of, tag}
 use Rattle.libyaml_grammar.specs.sentences.Trees.{tag_directive, version, with_value}
 use Rattle.libyaml_grammar.specs.sentences.Order.{flow_node_in_order, is_known}
 use Rattle.libyaml_grammar.specs.sentences.Events.{Event}
-use Rattle.libyaml_grammar.specs.cuts.CutTrees.{BlockPlace, Cut, Place, at_directive, at_tag, at_tag_behind, before_stream, block, content_due}
-use Rattle.libyaml_grammar.specs.cuts.CutTrees.{cut_in_order, cut_tokens, declared, declared_open, document_due, entry, entry_due, explicit_root}
-use Rattle.libyaml_grammar.specs.cuts.CutTrees.{flow_entry, flow_key, flow_value, implicit_root, indentless_entry, open_collection, part_due, part_place}
+use Rattle.libyaml_grammar.specs.cuts.CutTrees.{BlockPlace, Cut, Place, at_directive, at_tag, at_tag_behind}
+use Rattle.libyaml_grammar.specs.cuts.CutTrees.{before_stream, block, content_due}
+use Rattle.libyaml_grammar.specs.cuts.CutTrees.{cut_in_order, cut_tokens, declared, declared_open, document_due, entry}
+use Rattle.libyaml_grammar.specs.cuts.CutTrees.{entry_due, explicit_root}
+use Rattle.libyaml_grammar.specs.cuts.CutTrees.{flow_entry, flow_key, flow_value, implicit_root, indentless_entry}
+use Rattle.libyaml_grammar.specs.cuts.CutTrees.{open_collection, part_due, part_place}
 use Rattle.libyaml_grammar.specs.cuts.CutTrees.{place_in_order, place_tokens, root, separator_due, slot, start_due}
-use Rattle.libyaml_grammar.specs.cuts.Fits.{EndsEmpty, Fits, FitsDirective, FitsTag, IsUnknown, IsUnknownTag, WantsContent, ends_empty, is_directive}
+use Rattle.libyaml_grammar.specs.cuts.Fits.{EndsEmpty, Fits, FitsDirective, FitsTag, IsUnknown, IsUnknownTag}
+use Rattle.libyaml_grammar.specs.cuts.Fits.{WantsContent, ends_empty, is_directive}
 use Rattle.libyaml_grammar.specs.cuts.Fits.{last_empty}
-use Rattle.libyaml_grammar.proofs.lent.Positions.{Position, between, due, flow_due, headed, in_mapping, in_sequence, unopened}
-use Rattle.libyaml_grammar.proofs.lent.Reading.{Step, bad, bad_same, broken, checked, feed, feeds, fill, fill_flow, goes, goes_same, is_legal, keeps_order}
+use Rattle.libyaml_grammar.proofs.lent.Positions.{Position, between, due, flow_due, headed, in_mapping, in_sequence}
+use Rattle.libyaml_grammar.proofs.lent.Positions.{unopened}
+use Rattle.libyaml_grammar.proofs.lent.Reading.{Step, bad, bad_same, broken, checked, feed, feeds, fill, fill_flow}
+use Rattle.libyaml_grammar.proofs.lent.Reading.{goes, goes_same, is_legal, keeps_order}
 use Rattle.libyaml_grammar.proofs.lent.Reading.{on_due, over, reads, reads_all, then_all}
 use Rattle.libyaml_grammar.proofs.lent.Completion.{reached_begins, reads_append}
 use Rattle.libyaml_grammar.proofs.lent.Orders.{feeds_order, reads_from}
-use Rattle.libyaml_grammar.proofs.lent.ReadSteps.{IsNotDone, Moves, ReadStep, a_tag, begins_entry, begins_root, fails, filled, filled_block, first_handle}
-use Rattle.libyaml_grammar.proofs.lent.ReadSteps.{first_version, front, is_alone, is_past, leaves, moved_open, moves, next_handle, next_version}
+use Rattle.libyaml_grammar.proofs.lent.ReadSteps.{IsNotDone, Moves, ReadStep, a_tag, begins_entry, begins_root, fails}
+use Rattle.libyaml_grammar.proofs.lent.ReadSteps.{filled, filled_block, first_handle}
+use Rattle.libyaml_grammar.proofs.lent.ReadSteps.{first_version, front, is_alone, is_past, leaves, moved_open, moves}
+use Rattle.libyaml_grammar.proofs.lent.ReadSteps.{next_handle, next_version}
 use Rattle.libyaml_grammar.proofs.lent.ReadSteps.{no_content, no_stream, not_past, read_step, tag_behind_anchor}
 use Rattle.libyaml_grammar.proofs.trees.Edge.{cut_reads, edge_documents, reached}
 use Rattle.libyaml_grammar.proofs.trees.Complete.{directive_feed, edge_block, edge_flow, heads, home}
@@ -77,7 +89,8 @@ node_no_tag (block (root (implicit_root f))) x k = tt
 node_no_tag (block (slot (part_place c o s ps t v))) x k = tt
 node_no_tag _ x k = tt
 
-moved_no_tag : {m : Marks} {q p : Position} {h : List Event → List Event} (k : Content) → Moves m q p h → NoTag q k → NoTag p k
+moved_no_tag : {m : Marks} {q p : Position} {h : List Event → List Event} (k : Content) → Moves m q p h → NoTag q k
+    → NoTag p k
 moved_no_tag k (is_alone p ps) u = node_no_tag p (alone ps) k
 moved_no_tag k begins_root u = u
 moved_no_tag k begins_entry u = u
@@ -88,8 +101,10 @@ step_stops : {m : Marks} {q : Position} {k : Content} {s : Step} {g : List Event
     → ReadStep m q k s g l → IsNotDone q → FitsDirective (front q) k → WantsContent (front q) k → NoTag q k
     → Stops (checked s l) (front q)
 step_stops is_past w d c u n = absurd w
-step_stops {k = k} {s = s} {l = l} (moves x h) w d c u n = subst (Stops (checked s l)) (moved_cut x) (step_stops h (moved_open x)
-    (subst (λ (y : Cut). FitsDirective y k) (sym (moved_cut x)) d) (subst (λ (y : Cut). WantsContent y k) (sym (moved_cut x)) c) (moved_no_tag k x u)) n
+step_stops {k = k} {s = s} {l = l} (moves x h) w d c u n = subst (Stops (checked s l)) (moved_cut x)
+    (step_stops h (moved_open x)
+    (subst (λ (y : Cut). FitsDirective y k) (sym (moved_cut x)) d)
+    (subst (λ (y : Cut). WantsContent y k) (sym (moved_cut x)) c) (moved_no_tag k x u)) n
 step_stops (leaves p e h) w d c u n = cc
 step_stops (fails no_stream) w d c u n = refl
 step_stops (fails _) w d c u n = refl
@@ -99,20 +114,24 @@ step_stops (first_handle (free f) h) w d c u n = cc
 step_stops (first_handle (behind x) h) w d c u n = cc
 step_stops (next_version b ds x a) w d c u n = cc
 step_stops (next_handle b ds x h) w d c u n = cc
-step_stops {m = m} (a_tag p h) w d c u n = stops_known (due p (Some (tag h m))) (content_due p) (is_known (declared p) h.handle) u n
+step_stops {m = m} (a_tag p h) w d c u n = stops_known (due p (Some (tag h m))) (content_due p)
+    (is_known (declared p) h.handle) u n
 step_stops {m = m} (tag_behind_anchor p a x h) w d c u n
     = stops_known (due p (Some (anchor_tag a x h m))) (filled p (alone (anchor a x))) (is_known (declared p) h.handle) u n
 step_stops _ w d c u n = absurd (n _ refl)
 
 stops_filled_block : (c : BlockPlace) (x : BlockNode) (k : Content) (m : Marks) → FitsDirective (filled_block c x) k
     → Stops (reads (fill c x) (tok k m)) (filled_block c x)
-stops_filled_block (root (implicit_root f)) x k m d = step_stops (read_step m (fill (root (implicit_root f)) x) k) tt d tt tt
-stops_filled_block (slot (part_place c o s ps t v)) x k m d = step_stops (read_step m (fill (slot (part_place c o s ps t v)) x) k) tt d tt tt
+stops_filled_block (root (implicit_root f)) x k m d = step_stops (read_step m (fill (root (implicit_root f)) x) k)
+    tt d tt tt
+stops_filled_block (slot (part_place c o s ps t v)) x k m d =
+    step_stops (read_step m (fill (slot (part_place c o s ps t v)) x) k) tt d tt tt
 stops_filled_block (indentless_entry (part_place c o s ps t v) y is e) x k m d
     = step_stops (read_step m (fill (indentless_entry (part_place c o s ps t v) y is e) x) k) tt d tt tt
 stops_filled_block c x k m d = step_stops (read_step m (fill c x) k) tt d tt tt
 
-stops_filled : (p : Place) (x : FlowNode) (k : Content) (m : Marks) → FitsDirective (filled p x) k → Stops (reads (fill_flow p x) (tok k m)) (filled p x)
+stops_filled : (p : Place) (x : FlowNode) (k : Content) (m : Marks) → FitsDirective (filled p x) k
+    → Stops (reads (fill_flow p x) (tok k m)) (filled p x)
 stops_filled (block c) x k m d = stops_filled_block c (flow x) k m d
 stops_filled p x k m d = step_stops (read_step m (fill_flow p x) k) tt d tt tt
 
@@ -144,18 +163,21 @@ not_end (flow_key (open_collection p o sequence s is) e) = (λ h. refl, λ a d. 
 not_end (flow_value (open_collection p o sequence s is) e x v) = (λ h. refl, λ a d. refl, λ h d. refl)
 not_end _ = (λ h. refl, λ a d. refl, λ h d. refl)
 
-end_legal : (p : Place) (k : Content) (es : Directives) → ends_empty p k ≡ true → EndsRoot p k → keeps_order no_directives es k ≡ true
+end_legal : (p : Place) (k : Content) (es : Directives) → ends_empty p k ≡ true → EndsRoot p k
+    → keeps_order no_directives es k ≡ true
 end_legal p (Tag h) es e d = let f = (not_end p).0 h in cc
 end_legal p (VersionDirective a) es e d = let f = (not_end p).1 a d in cc
 end_legal p (TagDirective h) es e d = let f = (not_end p).2 h d in cc
 end_legal p _ es e d = refl
 
-stops_nothing : (p : Place) (x : Cut) (k : Content) (m : Marks) → ends_empty p k ≡ true → EndsRoot p k → Stops (reads (due p None) (tok k m)) x
+stops_nothing : (p : Place) (x : Cut) (k : Content) (m : Marks) → ends_empty p k ≡ true → EndsRoot p k
+    → Stops (reads (due p None) (tok k m)) x
 stops_nothing p x k m e d = go (on_due p None k m) (keeps_order no_directives (declared p) k)
     (λ c f. content_fails (read_step m (due p None) k) p (f ∙ ap bad (step_cut (read_step m (due p None) k) c f)))
     (not_past (read_step m (due p None) k) tt) (end_legal p k (declared p) e d)
   where
-    go : (s : Step) (l : Bool) → ((c : Cut) → s ≡ bad c → ends_empty p k ≡ false) → (s ≡ over → ⊥) → l ≡ true → Stops (checked s l) x
+    go : (s : Step) (l : Bool) → ((c : Cut) → s ≡ bad c → ends_empty p k ≡ false) → (s ≡ over → ⊥) → l ≡ true
+        → Stops (checked s l) x
     go (goes q) true a b f n = absurd (n q refl)
     go (goes q) false a b f n = cc
     go (bad c) l a b f n = let g = a c refl in cc
@@ -176,7 +198,8 @@ record Given (l : List Token) (c : Cut) (k : Content) : Type 0 where
   way : FitsDirective c k
   none : IsUnknownTag l k → ⊥
 
-no_tag : (p : Place) (ps : Properties) (k : Content) (l : List Token) → Given l (filled p (alone ps)) k → NoTag (due p (Some ps)) k
+no_tag : (p : Place) (ps : Properties) (k : Content) (l : List Token) → Given l (filled p (alone ps)) k
+    → NoTag (due p (Some ps)) k
 no_tag p (anchor a m) k l g = λ e. g.none (record {
   place = p;
   begins
@@ -195,7 +218,8 @@ stops_edge_flow p (alone ps) k m l g
     = step_stops (read_step m (due p (Some ps)) k) tt g.way (filled_wants p (alone ps) k) (no_tag p ps k l g)
 stops_edge_flow p x k m l g = stops_filled p x k m g.way
 
-stops_edge_block : (c : BlockPlace) (x : BlockNode) (k : Content) (m : Marks) (l : List Token) → Given l (filled_block c x) k
+stops_edge_block : (c : BlockPlace) (x : BlockNode) (k : Content) (m : Marks) (l : List Token)
+    → Given l (filled_block c x) k
     → Stops (reads (edge_block c x) (tok k m)) (filled_block c x)
 stops_edge_block c (flow x) k m l g = stops_edge_flow (block c) x k m l g
 stops_edge_block c x k m l g = stops_filled_block c x k m g.way
@@ -228,12 +252,15 @@ pub broken_by : (q : Position) (b : Bool) → b ≡ false → checked (goes q) b
 broken_by q true e = cc
 broken_by q false e = refl
 
-stops_tag_home : (p : Place) (h : TagName) (m : Marks) → is_known (declared p) h.handle ≡ false → reads (home p) (tok (Tag h) m) ≡ bad (at_tag p)
+stops_tag_home : (p : Place) (h : TagName) (m : Marks) → is_known (declared p) h.handle ≡ false
+    → reads (home p) (tok (Tag h) m) ≡ bad (at_tag p)
 stops_tag_home (block (root (implicit_root f))) h m e
-    = broken_by (due (block (root (implicit_root f))) (Some (tag h m))) (is_known (declared (block (root (implicit_root f)))) h.handle) e
+    = broken_by (due (block (root (implicit_root f))) (Some (tag h m)))
+    (is_known (declared (block (root (implicit_root f)))) h.handle) e
 stops_tag_home p h m e = broken_by (due p (Some (tag h m))) (is_known (declared p) h.handle) e
 
-pub stops_at_tag : (p : Place) (k : Content) (m : Marks) → IsUnknown (declared p) k → reads (home p) (tok k m) ≡ bad (at_tag p)
+pub stops_at_tag : (p : Place) (k : Content) (m : Marks) → IsUnknown (declared p) k
+    → reads (home p) (tok k m) ≡ bad (at_tag p)
 stops_at_tag p (Tag h) m u = stops_tag_home p h m u
 stops_at_tag p _ m u = absurd u
 
@@ -243,14 +270,16 @@ stops_at_tag_behind p a x (Tag h) m u = broken_by (due p (Some (anchor_tag a x h
 stops_at_tag_behind p a x _ m u = absurd u
 
 abbrev Stopping : List Token → Cut → Content → Marks → Type 0
-Stopping l c k m = cut_tokens c [] ≡ l → cut_in_order c true ≡ true → EndsEmpty (last_empty c) k → WantsContent c k → FitsDirective c k → FitsTag l c k
+Stopping l c k m = cut_tokens c [] ≡ l → cut_in_order c true ≡ true → EndsEmpty (last_empty c) k → WantsContent c k
+    → FitsDirective c k → FitsTag l c k
     → Stops (reads (reached c) (tok k m)) c
 
 cut_stops : (l : List Token) (c : Cut) (k : Content) (m : Marks) → Stopping l c k m
 cut_stops l before_stream k m t o r w d u n = step_stops (read_step m unopened k) tt tt tt tt n
 cut_stops l (document_due (implicit f x)) k m t o r w d u n
     = stops_edge_block (root (implicit_root f)) x k m l (record { same = t; good = o; way = d; none = u }) n
-cut_stops l (document_due (explicit b ds s nothing)) k m t o r w d u n = stops_nothing (block (root (explicit_root b ds s))) _ k m r d n
+cut_stops l (document_due (explicit b ds s nothing)) k m t o r w d u n =
+    stops_nothing (block (root (explicit_root b ds s))) _ k m r d n
 cut_stops l (document_due (explicit b ds s (node x))) k m t o r w d u n
     = stops_edge_block (root (explicit_root b ds s)) x k m l (record { same = t; good = o; way = d; none = u }) n
 cut_stops l (start_due b ds x) k m t o r w d u n = step_stops (read_step m (headed b ds x) k) tt d tt tt n
@@ -259,33 +288,40 @@ cut_stops l (at_directive (behind x) no_directives) k m t o r w d u n
     = subst (λ (s : Step). Stops s (at_directive (behind x) no_directives)) (sym (directive_behind x k m d))
     (stops_heads (behind x) no_directives k m d) n
 cut_stops l (at_directive b (directive ds x)) k m t o r w d u n = stops_heads b (directive ds x) k m d n
-cut_stops l (content_due p) k m t o r w d u n = stops_content p k m (w, d, λ e. u (record { place = p; begins = (o, inl t); unknown = e })) n
+cut_stops l (content_due p) k m t o r w d u n =
+    stops_content p k m (w, d, λ e. u (record { place = p; begins = (o, inl t); unknown = e })) n
 cut_stops l (at_tag p) k m t o r w d u n = stops_at_tag p k m u
 cut_stops l (at_tag_behind p a x) k m t o r w d u n = stops_at_tag_behind p a x k m u
 cut_stops l (entry_due c y s empty) k m t o r w d u n = step_stops (read_step m (in_sequence c y s empty) k) tt tt tt tt n
 cut_stops l (entry_due c y s (item is e nothing)) k m t o r w d u n = stops_nothing (block (entry c y s is e)) _ k m r tt n
 cut_stops l (entry_due c y s (item is e (node x))) k m t o r w d u n
     = stops_edge_block (entry c y s is e) x k m l (record { same = t; good = o; way = d; none = u }) n
-cut_stops l (part_due c y s no_parts) k m t o r w d u n = step_stops (read_step m (in_mapping c y s no_parts) k) tt tt tt tt n
-cut_stops l (part_due c y s (part ps i v (slot_of nothing))) k m t o r w d u n = stops_nothing (block (slot (part_place c y s ps i v))) _ k m r tt n
+cut_stops l (part_due c y s no_parts) k m t o r w d u n = step_stops (read_step m (in_mapping c y s no_parts) k) tt
+    tt tt tt n
+cut_stops l (part_due c y s (part ps i v (slot_of nothing))) k m t o r w d u n =
+    stops_nothing (block (slot (part_place c y s ps i v))) _ k m r tt n
 cut_stops l (part_due c y s (part ps i v (slot_of (node x)))) k m t o r w d u n
     = stops_edge_block (slot (part_place c y s ps i v)) x k m l (record { same = t; good = o; way = d; none = u }) n
 cut_stops l (part_due c y s (part ps i v (indentless z is e nothing))) k m t o r w d u n
     = stops_nothing (block (indentless_entry (part_place c y s ps i v) z is e)) _ k m r tt n
 cut_stops l (part_due c y s (part ps i v (indentless z is e (node x)))) k m t o r w d u n
-    = stops_edge_block (indentless_entry (part_place c y s ps i v) z is e) x k m l (record { same = t; good = o; way = d; none = u }) n
-cut_stops l (separator_due c (single x)) k m t o r w d u n = stops_edge_flow (flow_entry c) x k m l (record { same = t; good = o; way = d; none = u }) n
+    = stops_edge_block (indentless_entry (part_place c y s ps i v) z is e) x k m l
+    (record { same = t; good = o; way = d; none = u }) n
+cut_stops l (separator_due c (single x)) k m t o r w d u n = stops_edge_flow (flow_entry c) x k m l
+    (record { same = t; good = o; way = d; none = u }) n
 cut_stops l (separator_due c (pair e flow_nothing no_value)) k m t o r w d u n = stops_nothing (flow_key c e) _ k m r tt n
 cut_stops l (separator_due c (pair e (flow_node x) no_value)) k m t o r w d u n
     = stops_edge_flow (flow_key c e) x k m l (record { same = t; good = o; way = d; none = u }) n
-cut_stops l (separator_due c (pair e y (with_value v flow_nothing))) k m t o r w d u n = stops_nothing (flow_value c e y v) _ k m r tt n
+cut_stops l (separator_due c (pair e y (with_value v flow_nothing))) k m t o r w d u n =
+    stops_nothing (flow_value c e y v) _ k m r tt n
 cut_stops l (separator_due c (pair e y (with_value v (flow_node x)))) k m t o r w d u n
     = stops_edge_flow (flow_value c e y v) x k m l (record { same = t; good = o; way = d; none = u }) n
 
 -- a cut tree that fits is where the reading stops
 pub fits_reach : (l : List Token) (b : Token) (c : Cut) → Fits l b c → reads_all l unopened ≡ goes (reached c)
 fits_reach l b c f =
-    let e : feeds l unopened ≡ goes (reached c) = subst (λ (x : List Token). feeds x unopened ≡ goes (reached c)) f.tokens (cut_reads c []) in
+    let e : feeds l unopened ≡ goes (reached c) = subst (λ (x : List Token). feeds x unopened ≡ goes (reached c))
+    f.tokens (cut_reads c []) in
     reads_from l unopened (reached c) e (sym (feeds_order l unopened (reached c) e true) ∙ ((edge_told c).1 true
     ∙ f.order))
 

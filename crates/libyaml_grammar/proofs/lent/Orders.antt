@@ -3,7 +3,8 @@ use Rattle.std.proofs.Common.{◌≡◌, List, [], ◌∷◌, refl, sym, ap, ◌
 use Rattle.libyaml_grammar.specs.sentences.Tokens.{Token}
 use Rattle.libyaml_grammar.specs.sentences.Order.{both}
 use Rattle.libyaml_grammar.proofs.lent.Positions.{Position, position_in_order}
-use Rattle.libyaml_grammar.proofs.lent.Reading.{Step, along, bad, checked, feed, feeds, goes, is_legal, over, reads_all, then_all}
+use Rattle.libyaml_grammar.proofs.lent.Reading.{Step, along, bad, checked, feed, feeds, goes, is_legal, over, reads_all}
+use Rattle.libyaml_grammar.proofs.lent.Reading.{then_all}
 use Rattle.libyaml_grammar.proofs.lent.Keeps.{step_keeps}
 
 -- the tests of a list
@@ -15,7 +16,8 @@ abbrev pub tests : List Token → Position → Bool → Bool
 tests [] q r = r
 tests (t ∷ l) q r = both (is_legal q t.content) (test_all (feed q t) (tests l) r)
 
-pub feeds_order : (l : List Token) (q p : Position) → feeds l q ≡ goes p → (r : Bool) → position_in_order p r ≡ position_in_order q (tests l q r)
+pub feeds_order : (l : List Token) (q p : Position) → feeds l q ≡ goes p → (r : Bool)
+    → position_in_order p r ≡ position_in_order q (tests l q r)
 feeds_order l q p e r
     = along (λ (a : List Token) (x : Position). position_in_order p r ≡ position_in_order x (tests a x r)) p refl
     (λ t a y x f h. h
@@ -25,10 +27,13 @@ feeds_order l q p e r
 -- in order the tests pass, and then the list is read
 pub reads_from : (l : List Token) (q p : Position) → feeds l q ≡ goes p → tests l q true ≡ true → reads_all l q ≡ goes p
 reads_from [] q p e h = e
-reads_from (t ∷ l) q p e h = go (λ (x : Position) (f : feeds l x ≡ goes p) (g : tests l x true ≡ true). reads_from l x p f g) (feed q t) (is_legal q t.content)
+reads_from (t ∷ l) q p e h =
+    go (λ (x : Position) (f : feeds l x ≡ goes p) (g : tests l x true ≡ true). reads_from l x p f g) (feed q t)
+    (is_legal q t.content)
     e h
   where
-    go : ((x : Position) → feeds l x ≡ goes p → tests l x true ≡ true → reads_all l x ≡ goes p) → (s : Step) (b : Bool) → then_all s (feeds l) ≡ goes p
+    go : ((x : Position) → feeds l x ≡ goes p → tests l x true ≡ true → reads_all l x ≡ goes p)
+        → (s : Step) (b : Bool) → then_all s (feeds l) ≡ goes p
         → both b (test_all s (tests l) true) ≡ true → then_all (checked s b) (reads_all l) ≡ goes p
     go ih (goes x) true f g = ih x f g
     go ih (goes x) false f g = cc
@@ -37,10 +42,12 @@ reads_from (t ∷ l) q p e h = go (λ (x : Position) (f : feeds l x ≡ goes p) 
 
 pub reads_to : (l : List Token) (q p : Position) → reads_all l q ≡ goes p → (feeds l q ≡ goes p) × (tests l q true ≡ true)
 reads_to [] q p e = (e, refl)
-reads_to (t ∷ l) q p e = go (λ (x : Position) (f : reads_all l x ≡ goes p). reads_to l x p f) (feed q t) (is_legal q t.content) e
+reads_to (t ∷ l) q p e = go (λ (x : Position) (f : reads_all l x ≡ goes p). reads_to l x p f) (feed q t)
+    (is_legal q t.content) e
   where
     go : ((x : Position) → reads_all l x ≡ goes p → (feeds l x ≡ goes p) × (tests l x true ≡ true)) → (s : Step) (b : Bool)
-        → then_all (checked s b) (reads_all l) ≡ goes p → (then_all s (feeds l) ≡ goes p) × (both b (test_all s (tests l) true) ≡ true)
+        → then_all (checked s b) (reads_all l) ≡ goes p → (then_all s (feeds l) ≡ goes p)
+        × (both b (test_all s (tests l) true) ≡ true)
     go ih (goes x) true f = ih x f
     go ih (goes x) false f = absurd cc
     go ih (bad x) b f = absurd cc

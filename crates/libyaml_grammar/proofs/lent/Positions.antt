@@ -1,28 +1,39 @@
 -- Positions: what is known after a list of tokens that begins a stream. It is the place on the right edge, with what is
 -- in hand there and the whole trees to the left of it. By positions the laws are proved, which speak of none.
 use Rattle.std.specs.Prelude.{List, [], ◌∷◌, Option, Some, None, Bool}
-use Rattle.libyaml_grammar.specs.sentences.Tokens.{BlockEnd, BlockEntry, BlockMappingStart, BlockSequenceStart, DocumentStart, Key, Mark, Marks, Scalar}
+use Rattle.libyaml_grammar.specs.sentences.Tokens.{BlockEnd, BlockEntry, BlockMappingStart, BlockSequenceStart}
+use Rattle.libyaml_grammar.specs.sentences.Tokens.{DocumentStart, Key, Mark, Marks, Scalar}
 use Rattle.libyaml_grammar.specs.sentences.Tokens.{StreamEnd, StreamStart, Token, empty_plain, tok}
-use Rattle.libyaml_grammar.specs.sentences.Trees.{Before, BlockItems, BlockSlot, Directive, Directives, FlowMember, FlowSlot, Parts, Properties, Stream}
-use Rattle.libyaml_grammar.specs.sentences.Trees.{anchor, before_tokens, behind, block_slot_tokens, directive, directive_token, directives_tokens}
-use Rattle.libyaml_grammar.specs.sentences.Trees.{flow_member_tokens, flow_slot_tokens, free, items_tokens, mapping, no_directives, option_tokens}
+use Rattle.libyaml_grammar.specs.sentences.Trees.{Before, BlockItems, BlockSlot, Directive, Directives, FlowMember}
+use Rattle.libyaml_grammar.specs.sentences.Trees.{FlowSlot, Parts, Properties, Stream}
+use Rattle.libyaml_grammar.specs.sentences.Trees.{anchor, before_tokens, behind, block_slot_tokens, directive}
+use Rattle.libyaml_grammar.specs.sentences.Trees.{directive_token, directives_tokens}
+use Rattle.libyaml_grammar.specs.sentences.Trees.{flow_member_tokens, flow_slot_tokens, free, items_tokens, mapping}
+use Rattle.libyaml_grammar.specs.sentences.Trees.{no_directives, option_tokens}
 use Rattle.libyaml_grammar.specs.sentences.Trees.{parts_tokens, sequence, stream_tokens}
-use Rattle.libyaml_grammar.specs.sentences.Events.{Event, before_events, block_layout, block_slot_events, documents_events, first_directive, first_entry}
-use Rattle.libyaml_grammar.specs.sentences.Events.{first_of, flow_member_events, flow_slot_events, free_events, items_events, opens_pair, parts_events}
+use Rattle.libyaml_grammar.specs.sentences.Events.{Event, before_events, block_layout, block_slot_events}
+use Rattle.libyaml_grammar.specs.sentences.Events.{documents_events, first_directive, first_entry}
+use Rattle.libyaml_grammar.specs.sentences.Events.{first_of, flow_member_events, flow_slot_events, free_events}
+use Rattle.libyaml_grammar.specs.sentences.Events.{items_events, opens_pair, parts_events}
 use Rattle.libyaml_grammar.specs.sentences.Events.{start_of, stream_events}
-use Rattle.libyaml_grammar.specs.sentences.Order.{admits, before_in_order, block_slot_in_order, both, directives_in_order, flow_member_in_order}
-use Rattle.libyaml_grammar.specs.sentences.Order.{flow_slot_in_order, items_in_order, option_in_order, parts_in_order, stream_in_order}
-use Rattle.libyaml_grammar.specs.cuts.CutTrees.{BlockPlace, Cut, Open, PartPlace, Place, at_directive, at_tag, at_tag_behind, before_stream}
-use Rattle.libyaml_grammar.specs.cuts.CutTrees.{block_place_in_order, block_place_tokens, content_due, declared, declared_block, declared_open, declared_part}
-use Rattle.libyaml_grammar.specs.cuts.CutTrees.{document_due, entry_due, open_in_order, open_tokens, part_due, part_place, part_place_in_order}
+use Rattle.libyaml_grammar.specs.sentences.Order.{admits, before_in_order, block_slot_in_order, both}
+use Rattle.libyaml_grammar.specs.sentences.Order.{directives_in_order, flow_member_in_order}
+use Rattle.libyaml_grammar.specs.sentences.Order.{flow_slot_in_order, items_in_order, option_in_order, parts_in_order}
+use Rattle.libyaml_grammar.specs.sentences.Order.{stream_in_order}
+use Rattle.libyaml_grammar.specs.cuts.CutTrees.{BlockPlace, Cut, Open, PartPlace, Place, at_directive, at_tag}
+use Rattle.libyaml_grammar.specs.cuts.CutTrees.{at_tag_behind, before_stream}
+use Rattle.libyaml_grammar.specs.cuts.CutTrees.{block_place_in_order, block_place_tokens, content_due, declared}
+use Rattle.libyaml_grammar.specs.cuts.CutTrees.{declared_block, declared_open, declared_part}
+use Rattle.libyaml_grammar.specs.cuts.CutTrees.{document_due, entry_due, open_in_order, open_tokens, part_due}
+use Rattle.libyaml_grammar.specs.cuts.CutTrees.{part_place, part_place_in_order}
 use Rattle.libyaml_grammar.specs.cuts.CutTrees.{part_place_tokens, place_in_order, place_tokens, separator_due, start_due}
 use Rattle.libyaml_grammar.specs.cuts.CutEvents.{shown_block, shown_open, shown_part, shown_place, sort_of}
 use Rattle.libyaml_grammar.specs.cuts.Rest.{any_encoding, rest_block_place, rest_open, rest_place}
 
--- Before the stream; where a document or the end is expected; after a directive; where a node or the rest of it is expected;
--- after the start or a whole entry of a block collection, or after a whole entry of a sequence without tokens of its
--- own; in a flow collection where an entry is expected, after a key with its KEY, or after a whole entry; and after the
--- stream's end.
+-- Before the stream; where a document or the end is expected; after a directive; where a node or the rest of it is
+-- expected; after the start or a whole entry of a block collection, or after a whole entry of a sequence without
+-- tokens of its own; in a flow collection where an entry is expected, after a key with its KEY, or after a whole
+-- entry; and after the stream's end.
 pub data Position : Type 0 where
   unopened : Position
   between : Before → Position
@@ -42,9 +53,12 @@ position_tokens unopened r = r
 position_tokens (between b) r = before_tokens b r
 position_tokens (headed b ds d) r = before_tokens b (directives_tokens ds (directive_token d ∷ r))
 position_tokens (due p o) r = place_tokens p (option_tokens o r)
-position_tokens (in_sequence c o m is) r = block_place_tokens c (option_tokens o (tok BlockSequenceStart m ∷ items_tokens is r))
-position_tokens (in_mapping c o m ps) r = block_place_tokens c (option_tokens o (tok BlockMappingStart m ∷ parts_tokens ps r))
-position_tokens (in_indentless c o is e n) r = part_place_tokens c (option_tokens o (items_tokens is (tok BlockEntry e ∷ block_slot_tokens n r)))
+position_tokens (in_sequence c o m is) r =
+    block_place_tokens c (option_tokens o (tok BlockSequenceStart m ∷ items_tokens is r))
+position_tokens (in_mapping c o m ps) r =
+    block_place_tokens c (option_tokens o (tok BlockMappingStart m ∷ parts_tokens ps r))
+position_tokens (in_indentless c o is e n) r =
+    part_place_tokens c (option_tokens o (items_tokens is (tok BlockEntry e ∷ block_slot_tokens n r)))
 position_tokens (flow_due c) r = open_tokens c r
 position_tokens (flow_keyed c k n) r = open_tokens c (tok Key k ∷ flow_slot_tokens n r)
 position_tokens (flow_behind c e) r = open_tokens c (flow_member_tokens e r)
@@ -56,10 +70,13 @@ position_in_order unopened b = b
 position_in_order (between c) b = before_in_order c b
 position_in_order (headed c ds d) b = before_in_order c (directives_in_order ds (both (admits ds d) b))
 position_in_order (due p o) b = place_in_order p (option_in_order (declared p) o b)
-position_in_order (in_sequence c o m is) b = block_place_in_order c (option_in_order (declared_block c) o (items_in_order (declared_block c) is b))
-position_in_order (in_mapping c o m ps) b = block_place_in_order c (option_in_order (declared_block c) o (parts_in_order (declared_block c) ps b))
+position_in_order (in_sequence c o m is) b =
+    block_place_in_order c (option_in_order (declared_block c) o (items_in_order (declared_block c) is b))
+position_in_order (in_mapping c o m ps) b =
+    block_place_in_order c (option_in_order (declared_block c) o (parts_in_order (declared_block c) ps b))
 position_in_order (in_indentless c o is e n) b
-    = part_place_in_order c (option_in_order (declared_part c) o (items_in_order (declared_part c) is (block_slot_in_order (declared_part c) n b)))
+    = part_place_in_order c (option_in_order (declared_part c) o
+    (items_in_order (declared_part c) is (block_slot_in_order (declared_part c) n b)))
 position_in_order (flow_due c) b = open_in_order c b
 position_in_order (flow_keyed c k n) b = open_in_order c (flow_slot_in_order (declared_open c) n b)
 position_in_order (flow_behind c e) b = open_in_order c (flow_member_in_order (declared_open c) e b)
@@ -73,9 +90,11 @@ shown (between (behind d)) m r = documents_events d m r
 shown (headed b ds d) m r = before_events b (first_directive (directive ds d) m) r
 shown (due p o) m r = shown_place p (first_of o m) r
 shown (in_sequence c o s is) m r
-    = shown_block c (first_of o s.start) (start_of (declared_block c) sequence block_layout o s ∷ items_events (declared_block c) is r)
+    = shown_block c (first_of o s.start)
+    (start_of (declared_block c) sequence block_layout o s ∷ items_events (declared_block c) is r)
 shown (in_mapping c o s ps) m r
-    = shown_block c (first_of o s.start) (start_of (declared_block c) mapping block_layout o s ∷ parts_events (declared_block c) ps m r)
+    = shown_block c (first_of o s.start)
+    (start_of (declared_block c) mapping block_layout o s ∷ parts_events (declared_block c) ps m r)
 shown (in_indentless c o is e n) m r
     = shown_part c (start_of (declared_part c) sequence block_layout o (first_entry is e)
     ∷ items_events (declared_part c) is (block_slot_events (declared_part c) n e.end r))

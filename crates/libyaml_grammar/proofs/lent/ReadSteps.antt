@@ -1,29 +1,45 @@
 -- What one token makes of a position: each kind of step of the reader, with the events that it gives and whether the token
 -- keeps the order. What holds of each step is proved by these kinds.
 use Rattle.std.proofs.Common.{Bool, List, None, Option, Some, false, refl, true, ◌∷◌, ◌≡◌}
-use Rattle.libyaml_grammar.specs.sentences.Tokens.{Alias, AliasName, Anchor, AnchorName, BlockEnd, BlockEntry, BlockMappingStart, BlockSequenceStart}
-use Rattle.libyaml_grammar.specs.sentences.Tokens.{Content, DocumentEnd, DocumentStart, FlowEntry, FlowMappingEnd, FlowMappingStart, FlowSequenceEnd}
-use Rattle.libyaml_grammar.specs.sentences.Tokens.{FlowSequenceStart, HandleDeclared, Key, Mark, Marks, Scalar, ScalarText, StreamEnd, StreamHead}
-use Rattle.libyaml_grammar.specs.sentences.Tokens.{StreamStart, Tag, TagDirective, TagName, Value, VersionAsked, VersionDirective}
-use Rattle.libyaml_grammar.specs.sentences.Trees.{Before, BlockItems, BlockNode, BlockSlot, Directive, Directives, Documents, Ended, FlowItems, FlowMember}
-use Rattle.libyaml_grammar.specs.sentences.Trees.{FlowNode, FlowSlot, Free, Parts, Properties, Role, Sort, Stream, again, alias, alone, anchor, anchor_tag}
-use Rattle.libyaml_grammar.specs.sentences.Trees.{behind, block_mapping, block_sequence, collection, directive, empty, ended, flow, flow_nothing, free}
-use Rattle.libyaml_grammar.specs.sentences.Trees.{indentless, item, key, last, mapping, more_items, no_directives, no_items, no_last, no_parts, no_value}
-use Rattle.libyaml_grammar.specs.sentences.Trees.{nothing, once, opened, pair, part, scalar, sequence, tag, tag_anchor, tag_directive, value, version}
+use Rattle.libyaml_grammar.specs.sentences.Tokens.{Alias, AliasName, Anchor, AnchorName, BlockEnd, BlockEntry}
+use Rattle.libyaml_grammar.specs.sentences.Tokens.{BlockMappingStart, BlockSequenceStart}
+use Rattle.libyaml_grammar.specs.sentences.Tokens.{Content, DocumentEnd, DocumentStart, FlowEntry, FlowMappingEnd}
+use Rattle.libyaml_grammar.specs.sentences.Tokens.{FlowMappingStart, FlowSequenceEnd}
+use Rattle.libyaml_grammar.specs.sentences.Tokens.{FlowSequenceStart, HandleDeclared, Key, Mark, Marks, Scalar}
+use Rattle.libyaml_grammar.specs.sentences.Tokens.{ScalarText, StreamEnd, StreamHead}
+use Rattle.libyaml_grammar.specs.sentences.Tokens.{StreamStart, Tag, TagDirective, TagName, Value, VersionAsked}
+use Rattle.libyaml_grammar.specs.sentences.Tokens.{VersionDirective}
+use Rattle.libyaml_grammar.specs.sentences.Trees.{Before, BlockItems, BlockNode, BlockSlot, Directive, Directives}
+use Rattle.libyaml_grammar.specs.sentences.Trees.{Documents, Ended, FlowItems, FlowMember}
+use Rattle.libyaml_grammar.specs.sentences.Trees.{FlowNode, FlowSlot, Free, Parts, Properties, Role, Sort, Stream}
+use Rattle.libyaml_grammar.specs.sentences.Trees.{again, alias, alone, anchor, anchor_tag}
+use Rattle.libyaml_grammar.specs.sentences.Trees.{behind, block_mapping, block_sequence, collection, directive, empty}
+use Rattle.libyaml_grammar.specs.sentences.Trees.{ended, flow, flow_nothing, free}
+use Rattle.libyaml_grammar.specs.sentences.Trees.{indentless, item, key, last, mapping, more_items, no_directives}
+use Rattle.libyaml_grammar.specs.sentences.Trees.{no_items, no_last, no_parts, no_value}
+use Rattle.libyaml_grammar.specs.sentences.Trees.{nothing, once, opened, pair, part, scalar, sequence, tag, tag_anchor}
+use Rattle.libyaml_grammar.specs.sentences.Trees.{tag_directive, value, version}
 use Rattle.libyaml_grammar.specs.sentences.Trees.{whole}
-use Rattle.libyaml_grammar.specs.sentences.Events.{Event, alias_at, alone_of, block_layout, document_end_at, document_start_at, empty_at, end_at, end_of}
-use Rattle.libyaml_grammar.specs.sentences.Events.{first_directive, flow_layout, member_end, missing_key, missing_value, opens_pair, scalar_of, start_of}
+use Rattle.libyaml_grammar.specs.sentences.Events.{Event, alias_at, alone_of, block_layout, document_end_at}
+use Rattle.libyaml_grammar.specs.sentences.Events.{document_start_at, empty_at, end_at, end_of}
+use Rattle.libyaml_grammar.specs.sentences.Events.{first_directive, flow_layout, member_end, missing_key, missing_value}
+use Rattle.libyaml_grammar.specs.sentences.Events.{opens_pair, scalar_of, start_of}
 use Rattle.libyaml_grammar.specs.sentences.Events.{stream_end_at, stream_start_at}
 use Rattle.libyaml_grammar.specs.sentences.Order.{is_known}
-use Rattle.libyaml_grammar.specs.cuts.CutTrees.{BlockPlace, Cut, Open, PartPlace, Place, before_stream, block, content_due, declared, declared_block}
-use Rattle.libyaml_grammar.specs.cuts.CutTrees.{declared_part, document_due, entry, entry_due, explicit_root, flow_entry, flow_key, flow_value}
-use Rattle.libyaml_grammar.specs.cuts.CutTrees.{implicit_root, indentless_entry, open_collection, part_due, part_place, root, separator_due, slot}
+use Rattle.libyaml_grammar.specs.cuts.CutTrees.{BlockPlace, Cut, Open, PartPlace, Place, before_stream, block}
+use Rattle.libyaml_grammar.specs.cuts.CutTrees.{content_due, declared, declared_block}
+use Rattle.libyaml_grammar.specs.cuts.CutTrees.{declared_part, document_due, entry, entry_due, explicit_root}
+use Rattle.libyaml_grammar.specs.cuts.CutTrees.{flow_entry, flow_key, flow_value}
+use Rattle.libyaml_grammar.specs.cuts.CutTrees.{implicit_root, indentless_entry, open_collection, part_due, part_place}
+use Rattle.libyaml_grammar.specs.cuts.CutTrees.{root, separator_due, slot}
 use Rattle.libyaml_grammar.specs.cuts.CutTrees.{start_due}
 use Rattle.libyaml_grammar.specs.cuts.Fits.{ends_empty, is_directive}
 use Rattle.libyaml_grammar.specs.cuts.CutEvents.{sort_of}
-use Rattle.libyaml_grammar.proofs.lent.Positions.{Position, between, done, due, flow_behind, flow_due, flow_keyed, headed, in_indentless, in_mapping}
+use Rattle.libyaml_grammar.proofs.lent.Positions.{Position, between, done, due, flow_behind, flow_due, flow_keyed}
+use Rattle.libyaml_grammar.proofs.lent.Positions.{headed, in_indentless, in_mapping}
 use Rattle.libyaml_grammar.proofs.lent.Positions.{in_sequence, unopened}
-use Rattle.libyaml_grammar.proofs.lent.Reading.{Step, bad, behind_whole, fill, fill_flow, goes, is_legal, keeps_order, leave, on_due, or_bad, over, step}
+use Rattle.libyaml_grammar.proofs.lent.Reading.{Step, bad, behind_whole, fill, fill_flow, goes, is_legal, keeps_order}
+use Rattle.libyaml_grammar.proofs.lent.Reading.{leave, on_due, or_bad, over, step}
 use Rattle.libyaml_grammar.proofs.lent.Reading.{without}
 use Rattle.libyaml_grammar.proofs.lent.Given.{empty_mark, given_behind_whole, given_on_due, given_without, gives, if_goes}
 
@@ -39,16 +55,20 @@ abbrev one : Event → List Event → List Event
 one e r = e ∷ r
 
 module _ (m : Marks) where
-  -- A position at which a token does what it does at another, after these events: a sequence without tokens of its own ends, a
-  -- key lacks its value, properties are a node alone, and a node begins a document or an entry of a flow collection.
+  -- A position at which a token does what it does at another, after these events: a sequence without tokens of its
+  -- own ends, a key lacks its value, properties are a node alone, and a node begins a document or an entry of a
+  -- flow collection.
   pub data Moves : Position → Position → (List Event → List Event) → Type 0 where
-    ends_indentless : {c : BlockPlace} {o y : Option Properties} {s v e : Marks} {ps : Parts} {t : Role} {is : BlockItems} {x : BlockSlot}
+    ends_indentless : {c : BlockPlace} {o y : Option Properties} {s v e : Marks} {ps : Parts} {t : Role}
+        {is : BlockItems} {x : BlockSlot}
         → Moves (in_indentless (part_place c o s ps t v) y is e x) (in_mapping c o s (part ps t v (indentless y is e x)))
         (one (end_at sequence m.start m.start))
     lacks_value : {c : Open} {e : Marks} {x : FlowSlot} → Moves (flow_keyed c e x) (flow_behind c (pair e x no_value)) none
-    is_alone : (p : Place) (ps : Properties) → Moves (due p (Some ps)) (fill_flow p (alone ps)) (one (alone_of (declared p) ps))
+    is_alone : (p : Place) (ps : Properties)
+        → Moves (due p (Some ps)) (fill_flow p (alone ps)) (one (alone_of (declared p) ps))
     begins_root : {f : Free}
-        → Moves (between (free f)) (due (block (root (implicit_root f))) None) (one (document_start_at no_directives true m.start m.start))
+        → Moves (between (free f)) (due (block (root (implicit_root f))) None)
+        (one (document_start_at no_directives true m.start m.start))
     begins_entry : {c : Open} → Moves (flow_due c) (due (flow_entry c) None) none
 
   -- what is expected at a position, where a token is bad
@@ -66,16 +86,20 @@ module _ (m : Marks) where
     no_separator : {c : Open} {e : FlowMember} {k : Content}
         → Fails (flow_behind c e) k (separator_due c e) (member_end (sort_of c) e m.start)
 
-  -- A token at a position, the step, the events that it gives, and whether the token keeps the order. The token does what it
-  -- does at another position; it goes on after a node that is nothing; it is bad; or it goes on.
+  -- A token at a position, the step, the events that it gives, and whether the token keeps the order. The token
+  -- does what it does at another position; it goes on after a node that is nothing; it is bad; or it goes on.
   pub data ReadStep : Position → Content → Step → (List Event → List Event) → Bool → Type 0 where
     is_past : {t : Stream} {k : Content} {l : Bool} → ReadStep (done t) k over none l
-    moves : {q p : Position} {k : Content} {s : Step} {g h : List Event → List Event} {l : Bool} → Moves q p h → ReadStep p k s g l
+    moves : {q p : Position} {k : Content} {s : Step} {g h : List Event → List Event} {l : Bool} → Moves q p h
+        → ReadStep p k s g l
         → ReadStep q k s (λ (r : List Event). h (g r)) l
-    leaves : (p : Place) {k : Content} {x : Position} {g : List Event → List Event} {l : Bool} → ends_empty p k ≡ true → ReadStep (leave p) k (goes x) g l
+    leaves : (p : Place) {k : Content} {x : Position} {g : List Event → List Event} {l : Bool}
+        → ends_empty p k ≡ true → ReadStep (leave p) k (goes x) g l
         → ReadStep (due p None) k (goes x) (λ (r : List Event). empty_at (empty_mark p m.start) ∷ g r) l
-    fails : {q : Position} {k : Content} {c : Cut} {g : List Event → List Event} {l : Bool} → Fails q k c g → ReadStep q k (bad c) g l
-    begins_stream : {e : StreamHead} → ReadStep unopened (StreamStart e) (goes (between (free (opened e m)))) (one (stream_start_at e m.start m.start)) true
+    fails : {q : Position} {k : Content} {c : Cut} {g : List Event → List Event} {l : Bool} → Fails q k c g
+        → ReadStep q k (bad c) g l
+    begins_stream : {e : StreamHead} → ReadStep unopened (StreamStart e) (goes (between (free (opened e m))))
+        (one (stream_start_at e m.start m.start)) true
     first_version : (b : Before) (a : VersionAsked)
         → ReadStep (between b) (VersionDirective a) (goes (headed b no_directives (version a m))) (closed b m.start)
         (keeps_order no_directives no_directives (VersionDirective a))
@@ -88,23 +112,30 @@ module _ (m : Marks) where
     next_handle : (b : Before) (ds : Directives) (d : Directive) (h : HandleDeclared)
         → ReadStep (headed b ds d) (TagDirective h) (goes (headed b (directive ds d) (tag_directive h m))) none
         (keeps_order (directive ds d) no_directives (TagDirective h))
-    begins_explicit : (b : Before) → ReadStep (between b) DocumentStart (goes (due (block (root (explicit_root b no_directives m))) None))
+    begins_explicit : (b : Before)
+        → ReadStep (between b) DocumentStart (goes (due (block (root (explicit_root b no_directives m))) None))
         (λ (r : List Event). closed b m.start (document_start_at no_directives false m.start m.end ∷ r)) true
     begins_declared : {b : Before} {ds : Directives} {d : Directive}
         → ReadStep (headed b ds d) DocumentStart (goes (due (block (root (explicit_root b (directive ds d) m))) None))
         (one (document_start_at (directive ds d) false (first_directive (directive ds d) m.start) m.end)) true
     ends_document : {d : Documents}
-        → ReadStep (between (behind d)) DocumentEnd (goes (between (free (ended (once d m))))) (one (document_end_at false m.start m.end)) true
-    ends_again : {e : Ended} → ReadStep (between (free (ended e))) DocumentEnd (goes (between (free (ended (again e m))))) none true
+        → ReadStep (between (behind d)) DocumentEnd (goes (between (free (ended (once d m)))))
+        (one (document_end_at false m.start m.end)) true
+    ends_again : {e : Ended} → ReadStep (between (free (ended e))) DocumentEnd
+        (goes (between (free (ended (again e m))))) none true
     ends_stream : (b : Before)
-        → ReadStep (between b) StreamEnd (goes (done (whole b m))) (λ (r : List Event). closed b m.start (stream_end_at m.start m.end ∷ r)) true
-    an_alias : (p : Place) (a : AliasName) → ReadStep (due p None) (Alias a) (goes (fill_flow p (alias a m))) (one (alias_at a m.start m.end)) true
+        → ReadStep (between b) StreamEnd (goes (done (whole b m)))
+        (λ (r : List Event). closed b m.start (stream_end_at m.start m.end ∷ r)) true
+    an_alias : (p : Place) (a : AliasName) → ReadStep (due p None) (Alias a) (goes (fill_flow p (alias a m)))
+        (one (alias_at a m.start m.end)) true
     an_anchor : {p : Place} {a : AnchorName} → ReadStep (due p None) (Anchor a) (goes (due p (Some (anchor a m)))) none true
     anchor_behind_tag : (p : Place) (h : TagName) (n : Marks) {a : AnchorName}
         → ReadStep (due p (Some (tag h n))) (Anchor a) (goes (due p (Some (tag_anchor h n a m)))) none true
-    a_tag : (p : Place) (h : TagName) → ReadStep (due p None) (Tag h) (goes (due p (Some (tag h m)))) none (is_known (declared p) h.handle)
+    a_tag : (p : Place) (h : TagName) → ReadStep (due p None) (Tag h) (goes (due p (Some (tag h m)))) none
+        (is_known (declared p) h.handle)
     tag_behind_anchor : (p : Place) (a : AnchorName) (n : Marks) (h : TagName)
-        → ReadStep (due p (Some (anchor a n))) (Tag h) (goes (due p (Some (anchor_tag a n h m)))) none (is_known (declared p) h.handle)
+        → ReadStep (due p (Some (anchor a n))) (Tag h) (goes (due p (Some (anchor_tag a n h m)))) none
+        (is_known (declared p) h.handle)
     a_scalar : (p : Place) (o : Option Properties) (v : ScalarText)
         → ReadStep (due p o) (Scalar v) (goes (fill_flow p (scalar o v m))) (one (scalar_of (declared p) o v m)) true
     opens_flow_sequence : {p : Place} {o : Option Properties}
@@ -114,9 +145,11 @@ module _ (m : Marks) where
         → ReadStep (due p o) FlowMappingStart (goes (flow_due (open_collection p o mapping m no_items)))
         (one (start_of (declared p) mapping flow_layout o m)) true
     opens_sequence : {c : BlockPlace} {o : Option Properties}
-        → ReadStep (due (block c) o) BlockSequenceStart (goes (in_sequence c o m empty)) (one (start_of (declared_block c) sequence block_layout o m)) true
+        → ReadStep (due (block c) o) BlockSequenceStart (goes (in_sequence c o m empty))
+        (one (start_of (declared_block c) sequence block_layout o m)) true
     opens_mapping : {c : BlockPlace} {o : Option Properties}
-        → ReadStep (due (block c) o) BlockMappingStart (goes (in_mapping c o m no_parts)) (one (start_of (declared_block c) mapping block_layout o m)) true
+        → ReadStep (due (block c) o) BlockMappingStart (goes (in_mapping c o m no_parts))
+        (one (start_of (declared_block c) mapping block_layout o m)) true
     opens_indentless : {c : PartPlace} {o : Option Properties}
         → ReadStep (due (block (slot c)) o) BlockEntry (goes (due (block (indentless_entry c o empty m)) None))
         (one (start_of (declared_part c) sequence block_layout o m)) true
@@ -125,30 +158,39 @@ module _ (m : Marks) where
     ends_sequence : (c : BlockPlace) {o : Option Properties} {s : Marks} {is : BlockItems}
         → ReadStep (in_sequence c o s is) BlockEnd (goes (fill c (block_sequence o s is m))) (one (end_of sequence m)) true
     next_key : {c : BlockPlace} {o : Option Properties} {s : Marks} {ps : Parts}
-        → ReadStep (in_mapping c o s ps) Key (goes (due (block (slot (part_place c o s ps key m))) None)) (missing_value ps m.start) true
+        → ReadStep (in_mapping c o s ps) Key (goes (due (block (slot (part_place c o s ps key m))) None))
+        (missing_value ps m.start) true
     next_value : {c : BlockPlace} {o : Option Properties} {s : Marks} {ps : Parts}
-        → ReadStep (in_mapping c o s ps) Value (goes (due (block (slot (part_place c o s ps value m))) None)) (missing_key ps m.start) true
+        → ReadStep (in_mapping c o s ps) Value (goes (due (block (slot (part_place c o s ps value m))) None))
+        (missing_key ps m.start) true
     ends_mapping : (c : BlockPlace) {o : Option Properties} {s : Marks} {ps : Parts}
         → ReadStep (in_mapping c o s ps) BlockEnd (goes (fill c (block_mapping o s ps m)))
         (λ (r : List Event). missing_value ps m.start (end_of mapping m ∷ r)) true
     next_indentless : {c : PartPlace} {o : Option Properties} {is : BlockItems} {e : Marks} {x : BlockSlot}
-        → ReadStep (in_indentless c o is e x) BlockEntry (goes (due (block (indentless_entry c o (item is e x) m)) None)) none true
+        → ReadStep (in_indentless c o is e x) BlockEntry
+        (goes (due (block (indentless_entry c o (item is e x) m)) None)) none true
     flow_pair : {c : Open} → ReadStep (flow_due c) Key (goes (due (flow_key c m) None)) (opens_pair (sort_of c) m) true
-    pair_value : {c : Open} {e : Marks} {x : FlowSlot} → ReadStep (flow_keyed c e x) Value (goes (due (flow_value c e x m) None)) none true
+    pair_value : {c : Open} {e : Marks} {x : FlowSlot}
+        → ReadStep (flow_keyed c e x) Value (goes (due (flow_value c e x m) None)) none true
     next_member : {p : Place} {o : Option Properties} {t : Sort} {s : Marks} {is : FlowItems} {e : FlowMember}
-        → ReadStep (flow_behind (open_collection p o t s is) e) FlowEntry (goes (flow_due (open_collection p o t s (more_items is e m))))
+        → ReadStep (flow_behind (open_collection p o t s is) e) FlowEntry
+        (goes (flow_due (open_collection p o t s (more_items is e m))))
         (member_end t e m.start) true
     closes_sequence : (p : Place) {o : Option Properties} {s : Marks} {is : FlowItems} {e : FlowMember}
-        → ReadStep (flow_behind (open_collection p o sequence s is) e) FlowSequenceEnd (goes (fill_flow p (collection o sequence s is (last e) m)))
+        → ReadStep (flow_behind (open_collection p o sequence s is) e) FlowSequenceEnd
+        (goes (fill_flow p (collection o sequence s is (last e) m)))
         (λ (r : List Event). member_end sequence e m.start (end_of sequence m ∷ r)) true
     closes_mapping : (p : Place) {o : Option Properties} {s : Marks} {is : FlowItems} {e : FlowMember}
-        → ReadStep (flow_behind (open_collection p o mapping s is) e) FlowMappingEnd (goes (fill_flow p (collection o mapping s is (last e) m)))
+        → ReadStep (flow_behind (open_collection p o mapping s is) e) FlowMappingEnd
+        (goes (fill_flow p (collection o mapping s is (last e) m)))
         (λ (r : List Event). member_end mapping e m.start (end_of mapping m ∷ r)) true
     closes_at_sequence : (p : Place) {o : Option Properties} {s : Marks} {is : FlowItems}
-        → ReadStep (flow_due (open_collection p o sequence s is)) FlowSequenceEnd (goes (fill_flow p (collection o sequence s is no_last m)))
+        → ReadStep (flow_due (open_collection p o sequence s is)) FlowSequenceEnd
+        (goes (fill_flow p (collection o sequence s is no_last m)))
         (one (end_of sequence m)) true
     closes_at_mapping : (p : Place) {o : Option Properties} {s : Marks} {is : FlowItems}
-        → ReadStep (flow_due (open_collection p o mapping s is)) FlowMappingEnd (goes (fill_flow p (collection o mapping s is no_last m)))
+        → ReadStep (flow_due (open_collection p o mapping s is)) FlowMappingEnd
+        (goes (fill_flow p (collection o mapping s is no_last m)))
         (one (end_of mapping m)) true
 
   -- after what is whole
@@ -163,21 +205,25 @@ module _ (m : Marks) where
   documents_step d StreamEnd es = ends_stream (behind d)
   documents_step d _ es = fails (no_document refl)
 
-  item_step : (c : BlockPlace) (o : Option Properties) (s : Marks) (is : BlockItems) (k : Content) (es : Directives) → Behind (in_sequence c o s is) k es
+  item_step : (c : BlockPlace) (o : Option Properties) (s : Marks) (is : BlockItems) (k : Content) (es : Directives)
+      → Behind (in_sequence c o s is) k es
   item_step c o s is BlockEntry es = next_item
   item_step c o s is BlockEnd es = ends_sequence c
   item_step c o s is _ es = fails no_item
 
-  part_step : (c : BlockPlace) (o : Option Properties) (s : Marks) (ps : Parts) (k : Content) (es : Directives) → Behind (in_mapping c o s ps) k es
+  part_step : (c : BlockPlace) (o : Option Properties) (s : Marks) (ps : Parts) (k : Content) (es : Directives)
+      → Behind (in_mapping c o s ps) k es
   part_step c o s ps Key es = next_key
   part_step c o s ps Value es = next_value
   part_step c o s ps BlockEnd es = ends_mapping c
   part_step c o s ps _ es = fails no_part
 
-  indentless_step : (c : PartPlace) (o : Option Properties) (is : BlockItems) (e : Marks) (x : BlockSlot) (k : Content) (es : Directives)
+  indentless_step : (c : PartPlace) (o : Option Properties) (is : BlockItems) (e : Marks) (x : BlockSlot)
+      (k : Content) (es : Directives)
       → Behind (in_indentless c o is e x) k es
   indentless_step (part_place c o s ps t v) y is e x BlockEntry es = next_indentless
-  indentless_step (part_place c o s ps t v) y is e x k es = moves ends_indentless (part_step c o s (part ps t v (indentless y is e x)) k es)
+  indentless_step (part_place c o s ps t v) y is e x k es =
+      moves ends_indentless (part_step c o s (part ps t v (indentless y is e x)) k es)
 
   member_step : (c : Open) (e : FlowMember) (k : Content) (es : Directives) → Behind (flow_behind c e) k es
   member_step (open_collection p o t s is) e FlowEntry es = next_member
@@ -221,8 +267,10 @@ module _ (m : Marks) where
   left_if (flow_value (open_collection p o mapping s is) e x v) (StreamStart y) = refl
   left_if _ _ = refl
 
-  or_left : (p : Place) (k : Content) (s : Step) (g : List Event → List Event) (l : Bool) → ReadStep (leave p) k s g l → LeftIf p k s
-      → ReadStep (due p None) k (or_bad s (content_due p)) (λ (r : List Event). if_goes s (empty_at (empty_mark p m.start) ∷ g r) r) l
+  or_left : (p : Place) (k : Content) (s : Step) (g : List Event → List Event) (l : Bool)
+      → ReadStep (leave p) k s g l → LeftIf p k s
+      → ReadStep (due p None) k (or_bad s (content_due p))
+      (λ (r : List Event). if_goes s (empty_at (empty_mark p m.start) ∷ g r) r) l
   or_left p k (goes x) g l h e = leaves p e h
   or_left p k (bad c) g l h e = fails (no_content e)
   or_left p k over g l h e = fails (no_content e)
@@ -354,7 +402,8 @@ pub moved_open : {m : Marks} {q p : Position} {h : List Event → List Event} �
 moved_open (is_alone p ps) = node_open p (alone ps)
 moved_open _ = tt
 
-pub not_past : {m : Marks} {q : Position} {k : Content} {s : Step} {g : List Event → List Event} {l : Bool} → ReadStep m q k s g l → IsNotDone q → s ≡ over → ⊥
+pub not_past : {m : Marks} {q : Position} {k : Content} {s : Step} {g : List Event → List Event} {l : Bool}
+    → ReadStep m q k s g l → IsNotDone q → s ≡ over → ⊥
 not_past is_past w e = w
 not_past (moves x h) w e = not_past h (moved_open x) e
 not_past _ w e = cc

@@ -24,7 +24,8 @@ use Rattle.libyaml_grammar.proofs.lent.Settling.{front_settles}
 use Rattle.libyaml_grammar.proofs.lent.StreamEnds.{not_end_not_done}
 
 -- the first n tokens are a sentence
-pub sentence_row : (n : ℕ) (l : List Token) (f : Fault) (e : List Event) (t : Stream) → reads_all (take n l) unopened ≡ goes (done t) → take n l ++ drop n l ≡ l
+pub sentence_row : (n : ℕ) (l : List Token) (f : Fault) (e : List Event) (t : Stream)
+    → reads_all (take n l) unopened ≡ goes (done t) → take n l ++ drop n l ≡ l
     → events t ≡ e → IsRun l f e Ends
 sentence_row n l f e t r s g =
     let x : tokens t ≡ take n l = feeds_keep (take n l) unopened (done t)
@@ -34,8 +35,10 @@ sentence_row n l f e t r s g =
     ∙ s) (sentence_run t (drop n l) f (read_order (take n l) (done t) r)))
 
 -- token n is bad
-pub cut_row : (n : ℕ) (l : List Token) (f : Fault) (e : List Event) (g : Fault) (b : Token) (q : Position) (c : Cut) → take n l ++ b ∷ drop (suc n) l ≡ l
-    → reads_all (take n l) unopened ≡ goes q → reads q b ≡ bad c → is_behind_properties c (drop (suc n) l) ≡ true → cut_events c b ≡ e
+pub cut_row : (n : ℕ) (l : List Token) (f : Fault) (e : List Event) (g : Fault) (b : Token) (q : Position) (c : Cut)
+    → take n l ++ b ∷ drop (suc n) l ≡ l
+    → reads_all (take n l) unopened ≡ goes q → reads q b ≡ bad c → is_behind_properties c (drop (suc n) l) ≡ true
+    → cut_events c b ≡ e
     → fault c b.content b.start_mark ≡ g → IsRun l f e (Fails g)
 cut_row n l f e g b q c s r h i j k
     = subst (λ (d : Fault). IsRun l f e (Fails d)) k
@@ -43,15 +46,19 @@ cut_row n l f e g b q c s r h i j k
     (subst (λ (x : List Token). IsRun x f (cut_events c b) (Fails (fault c b.content b.start_mark))) s
     (cut_run (take n l) b (drop (suc n) l) c f (stops_fits (take n l) b q c r h) i)))
 
-pub amid_row : (n : ℕ) (l : List Token) (f : Fault) (e : List Event) (b : Token) (q : Position) (c : Cut) → take n l ++ b ∷ drop (suc n) l ≡ l
-    → reads_all (take n l) unopened ≡ goes q → reads q b ≡ bad c → is_behind_properties c (drop (suc n) l) ≡ false → cut_events c b ≡ e
+pub amid_row : (n : ℕ) (l : List Token) (f : Fault) (e : List Event) (b : Token) (q : Position) (c : Cut)
+    → take n l ++ b ∷ drop (suc n) l ≡ l
+    → reads_all (take n l) unopened ≡ goes q → reads q b ≡ bad c → is_behind_properties c (drop (suc n) l) ≡ false
+    → cut_events c b ≡ e
     → IsRun l f e (Fails f)
 amid_row n l f e b q c s r h i j
     = subst (λ (d : List Event). IsRun l f d (Fails f)) j
-    (subst (λ (x : List Token). IsRun x f (cut_events c b) (Fails f)) s (amid_run (take n l) b (drop (suc n) l) c f (stops_fits (take n l) b q c r h) i))
+    (subst (λ (x : List Token). IsRun x f (cut_events c b) (Fails f)) s
+    (amid_run (take n l) b (drop (suc n) l) c f (stops_fits (take n l) b q c r h) i))
 
 -- no token is bad, and none ends the stream
-pub begin_row : (l : List Token) (f : Fault) (e : List Event) (q : Position) → reads_all l unopened ≡ goes q → has_end l ≡ false → sure (front q) ≡ e
+pub begin_row : (l : List Token) (f : Fault) (e : List Event) (q : Position) → reads_all l unopened ≡ goes q
+    → has_end l ≡ false → sure (front q) ≡ e
     → IsRun l f e (Fails f)
 begin_row l f e q r h g = begin_run l e f (reached_begins l q r) h
     (subst (λ (d : List Event). IsSettled l d) g (front_settles l (front q) (front_of l q r (not_end_not_done l q r h))))

@@ -35,10 +35,12 @@ pub cut_run : (l : List Token) (b : Token) (q : Position) (c : Cut) → feeds l 
     → shown_cut c b.start_mark [] ≡ gives_all l unopened (gives q b.content (marks_of b) [])
 cut_run l b q c e f =
     let s : Shows (bad c) q (marks_of b) (gives q b.content (marks_of b))
-    = subst (λ (x : Step). Shows x q (marks_of b) (gives q b.content (marks_of b))) f (step_shows q b.content (marks_of b)) in
+    = subst (λ (x : Step). Shows x q (marks_of b) (gives q b.content (marks_of b))) f
+    (step_shows q b.content (marks_of b)) in
     s [] ∙ given_shown l unopened q e b.start_mark (gives q b.content (marks_of b) [])
 
-pub given_append : (a b : List Token) (q p : Position) → feeds a q ≡ goes p → (r : List Event) → gives_all (a ++ b) q r ≡ gives_all a q (gives_all b p r)
+pub given_append : (a b : List Token) (q p : Position) → feeds a q ≡ goes p → (r : List Event)
+    → gives_all (a ++ b) q r ≡ gives_all a q (gives_all b p r)
 given_append a b q p e r
     = along (λ (l : List Token) (x : Position). gives_all (l ++ b) x r ≡ gives_all l x (gives_all b p r)) p refl
     (λ t l y x f h. ap (gives y t.content (marks_of t))
@@ -47,4 +49,5 @@ given_append a b q p e r
 -- what a beginning has given begins the events of each sentence that it begins
 pub begin_events : (a b : List Token) (q : Position) (t : Stream) → feeds a unopened ≡ goes q → a ++ b ≡ tokens t
     → events t ≡ gives_all a unopened (gives_all b q [])
-begin_events a b q t e f = sym (tree_run t) ∙ (ap (λ (l : List Token). gives_all l unopened []) (sym f) ∙ given_append a b unopened q e [])
+begin_events a b q t e f = sym (tree_run t)
+    ∙ (ap (λ (l : List Token). gives_all l unopened []) (sym f) ∙ given_append a b unopened q e [])

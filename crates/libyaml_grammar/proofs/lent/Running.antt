@@ -1,5 +1,6 @@
 -- Each list has one run for each fault of its source.
-use Rattle.std.proofs.Common.{◌≡◌, ◌⊎◌, inl, inr, List, [], ◌∷◌, ◌++◌, Bool, true, false, refl, sym, ap, ◌∙◌, subst, append-nil}
+use Rattle.std.proofs.Common.{◌≡◌, ◌⊎◌, inl, inr, List, [], ◌∷◌, ◌++◌, Bool, true, false, refl, sym, ap, ◌∙◌, subst}
+use Rattle.std.proofs.Common.{append-nil}
 use Rattle.std.proofs.lemmas.List.{append_cancel_left}
 use Rattle.libyaml_types.specs.declared.enums.yaml_error_type_t.TheVariants.{YAML_PARSER_ERROR}
 use Rattle.libyaml_sources.specs.Errors.{IsSourceError}
@@ -12,20 +13,23 @@ use Rattle.libyaml_grammar.specs.cuts.Fits.{Fits, FitsTag, IsUnknown}
 use Rattle.libyaml_grammar.specs.sentences.Order.{in_order}
 use Rattle.libyaml_grammar.proofs.lent.Positions.{Position, done, unopened}
 use Rattle.libyaml_grammar.proofs.lent.Reading.{Step, bad, bad_same, goes, goes_same, over, reads, reads_all, then_all}
-use Rattle.libyaml_grammar.specs.runs.Runs.{Ending, Ends, Fails, HasFault, IsRun, amid_properties, has_token, is_behind, is_behind_properties}
+use Rattle.libyaml_grammar.specs.runs.Runs.{Ending, Ends, Fails, HasFault, IsRun, amid_properties, has_token, is_behind}
+use Rattle.libyaml_grammar.specs.runs.Runs.{is_behind_properties}
 use Rattle.libyaml_grammar.specs.runs.Runs.{of_beginning, of_cut_tree, of_sentence}
 use Rattle.libyaml_grammar.specs.sentences.Sentences.{IsBeginning, IsSentence, has_end, is_end}
 use Rattle.libyaml_grammar.specs.cuts.Settled.{IsSettled, sure}
 use Rattle.libyaml_grammar.specs.runs.StreamEnds.{up_to_end}
 use Rattle.libyaml_grammar.specs.sentences.Tokens.{Anchor, Content, Tag, Token}
 use Rattle.libyaml_grammar.specs.sentences.Trees.{Directives, Stream, tokens}
-use Rattle.libyaml_grammar.proofs.lent.Completion.{Stops, begin_reads, goes_or_stops, reached_begins, read_sentence, reads_append, sentence_reads}
+use Rattle.libyaml_grammar.proofs.lent.Completion.{Stops, begin_reads, goes_or_stops, reached_begins, read_sentence}
+use Rattle.libyaml_grammar.proofs.lent.Completion.{reads_append, sentence_reads}
 use Rattle.libyaml_grammar.proofs.trees.Edge.{reached}
 use Rattle.libyaml_grammar.proofs.lent.Fitting.{read_over, stops_fits}
 use Rattle.libyaml_grammar.proofs.lent.ReadSteps.{IsNotDone}
 use Rattle.libyaml_grammar.proofs.lent.OneCut.{fits_reach, fits_stop}
 use Rattle.libyaml_grammar.proofs.lent.Settling.{begin_front, front_settles, one_settled_proof}
-use Rattle.libyaml_grammar.proofs.lent.StreamEnds.{IsDone, end_is_done, no_end_unless, not_end_not_done, read_done, sentence_has_end}
+use Rattle.libyaml_grammar.proofs.lent.StreamEnds.{IsDone, end_is_done, no_end_unless, not_end_not_done, read_done}
+use Rattle.libyaml_grammar.proofs.lent.StreamEnds.{sentence_has_end}
 
 -- lists of tokens
 first_same : (a b : Token) (l r : List Token) → a ∷ l ≡ b ∷ r → a ≡ b
@@ -39,14 +43,16 @@ end_last : (l a : List Token) (t : Token) (r : List Token) → up_to_end l ≡ a
 end_last l [] t r e = refl
 end_last [] (x ∷ a) t r e = absurd cc
 end_last (y ∷ l) (x ∷ a) t r e
-    = go (λ (g : up_to_end l ≡ a ++ t ∷ r). end_last l a t r g) (is_end y.content) (ap (λ (u : Token). is_end u.content) (first_same y x _ (a ++ t ∷ r) e))
+    = go (λ (g : up_to_end l ≡ a ++ t ∷ r). end_last l a t r g) (is_end y.content)
+    (ap (λ (u : Token). is_end u.content) (first_same y x _ (a ++ t ∷ r) e))
     (rest_same y x _ (a ++ t ∷ r) e)
   where
     none : (a : List Token) → [] ≡ a ++ t ∷ r → ⊥
     none [] f = cc
     none (z ∷ a) f = cc
 
-    go : (up_to_end l ≡ a ++ t ∷ r → has_end a ≡ false) → (b : Bool) → b ≡ is_end x.content → elim b [ true ↦ [] | false ↦ up_to_end l ] ≡ a ++ t ∷ r
+    go : (up_to_end l ≡ a ++ t ∷ r → has_end a ≡ false) → (b : Bool) → b ≡ is_end x.content
+        → elim b [ true ↦ [] | false ↦ up_to_end l ] ≡ a ++ t ∷ r
         → either (is_end x.content) (has_end a) ≡ false
     go ih true f g = absurd (none a g)
     go ih false f g = ap (λ (b : Bool). either b (has_end a)) (sym f) ∙ ih g
@@ -69,13 +75,18 @@ none_left (x ∷ l) (done t) p d e = absurd cc
 none_left (x ∷ l) _ p d e = absurd d
 
 -- a list that is read to its STREAM-END is its own prefix
-pub up_to_read : (l : List Token) (q p : Position) (r : List Token) → reads_all l q ≡ goes p → has_end l ≡ true → up_to_end (l ++ r) ≡ l
+pub up_to_read : (l : List Token) (q p : Position) (r : List Token) → reads_all l q ≡ goes p → has_end l ≡ true
+    → up_to_end (l ++ r) ≡ l
 up_to_read [] q p r e h = absurd cc
-up_to_read (x ∷ l) q p r e h = go (λ (y : Position) (f : reads_all l y ≡ goes p) (g : has_end l ≡ true). up_to_read l y p r f g) (is_end x.content) refl
+up_to_read (x ∷ l) q p r e h =
+    go (λ (y : Position) (f : reads_all l y ≡ goes p) (g : has_end l ≡ true). up_to_read l y p r f g)
+    (is_end x.content) refl
     (reads q x) refl e h
   where
-    go : ((y : Position) → reads_all l y ≡ goes p → has_end l ≡ true → up_to_end (l ++ r) ≡ l) → (b : Bool) → is_end x.content ≡ b → (s : Step) → reads q x ≡ s
-        → then_all s (reads_all l) ≡ goes p → either b (has_end l) ≡ true → x ∷ elim b [ true ↦ [] | false ↦ up_to_end (l ++ r) ] ≡ x ∷ l
+    go : ((y : Position) → reads_all l y ≡ goes p → has_end l ≡ true → up_to_end (l ++ r) ≡ l) → (b : Bool)
+        → is_end x.content ≡ b → (s : Step) → reads q x ≡ s
+        → then_all s (reads_all l) ≡ goes p → either b (has_end l) ≡ true
+        → x ∷ elim b [ true ↦ [] | false ↦ up_to_end (l ++ r) ] ≡ x ∷ l
     go ih true j (goes y) f g k = ap (λ (a : List Token). x ∷ a) (sym (none_left l y p (read_done q y x j f) g))
     go ih false j (goes y) f g k = ap (λ (a : List Token). x ∷ a) (ih y g k)
     go ih b j (bad c) f g k = absurd cc
@@ -84,12 +95,16 @@ up_to_read (x ∷ l) q p r e h = go (λ (y : Position) (f : reads_all l y ≡ go
 -- how the four kinds of runs are read
 data Shape (l : List Token) (f : Fault) (e : List Event) (x : Ending) : Type 0 where
   is_sentence : (t : Stream) → reads_all l unopened ≡ goes (done t) → e ≡ events t → x ≡ Ends → Shape l f e x
-  is_cut : (before : List Token) (token : Token) (behind : List Token) (c : Cut) → l ≡ before ++ token ∷ behind → cut_tokens c [] ≡ before
+  is_cut : (before : List Token) (token : Token) (behind : List Token) (c : Cut) → l ≡ before ++ token ∷ behind
+      → cut_tokens c [] ≡ before
       → reads_all l unopened ≡ bad c → e ≡ shown_cut c token.start_mark []
-      → x ≡ elim (is_behind_properties c behind) [ true ↦ Fails (fault c token.content token.start_mark) | false ↦ Fails f ] → Shape l f e x
-  is_beginning : (q : Position) → reads_all l unopened ≡ goes q → has_end l ≡ false → IsSettled l e → x ≡ Fails f → Shape l f e x
+      → x ≡ elim (is_behind_properties c behind)
+      [ true ↦ Fails (fault c token.content token.start_mark) | false ↦ Fails f ] → Shape l f e x
+  is_beginning : (q : Position) → reads_all l unopened ≡ goes q → has_end l ≡ false → IsSettled l e → x ≡ Fails f
+      → Shape l f e x
 
-cut_reading : (l before : List Token) (token : Token) (behind : List Token) (c : Cut) → l ≡ before ++ token ∷ behind → Fits before token c
+cut_reading : (l before : List Token) (token : Token) (behind : List Token) (c : Cut) → l ≡ before ++ token ∷ behind
+    → Fits before token c
     → reads_all l unopened ≡ bad c
 cut_reading l before token behind c e f = ap (λ (x : List Token). reads_all x unopened) e
     ∙ (reads_append before (token ∷ behind) unopened
@@ -97,7 +112,8 @@ cut_reading l before token behind c e f = ap (λ (x : List Token). reads_all x u
     ∙ ap (λ (s : Step). then_all s (reads_all behind)) (fits_stop before token c f)))
 
 shape_of : (l : List Token) (f : Fault) (e : List Event) (x : Ending) → IsRun l f e x → Shape (up_to_end l) f e x
-shape_of l f e x (of_sentence t a o g h) = is_sentence t (sentence_reads (up_to_end l) (record { tree = t; all = a; order = o })) g h
+shape_of l f e x (of_sentence t a o g h) =
+    is_sentence t (sentence_reads (up_to_end l) (record { tree = t; all = a; order = o })) g h
 shape_of l f e x (of_cut_tree before token behind c a i o g h)
     = is_cut before token behind c a i.tokens (cut_reading (up_to_end l) before token behind c a i) g (h
     ∙ ap (λ (b : Bool). elim b [ true ↦ Fails (fault c token.content token.start_mark) | false ↦ Fails f ]) (sym o))
@@ -111,17 +127,24 @@ shape_of l f e x (of_beginning b n s h) =
 abbrev Same : List Event → List Event → Ending → Ending → Type 0
 Same d e x y = (d ≡ e) × (x ≡ y)
 
-cut_same : (l : List Token) (f : Fault) (d e : List Event) (x y : Ending) (a b : List Token) (t u : Token) (r s : List Token) (c : Cut) → l ≡ a ++ t ∷ r
+cut_same : (l : List Token) (f : Fault) (d e : List Event) (x y : Ending) (a b : List Token) (t u : Token)
+    (r s : List Token) (c : Cut) → l ≡ a ++ t ∷ r
     → l ≡ b ++ u ∷ s → a ≡ b → d ≡ shown_cut c t.start_mark []
-    → x ≡ elim (is_behind_properties c r) [ true ↦ Fails (fault c t.content t.start_mark) | false ↦ Fails f ] → e ≡ shown_cut c u.start_mark []
+    → x ≡ elim (is_behind_properties c r) [ true ↦ Fails (fault c t.content t.start_mark) | false ↦ Fails f ]
+    → e ≡ shown_cut c u.start_mark []
     → y ≡ elim (is_behind_properties c s) [ true ↦ Fails (fault c u.content u.start_mark) | false ↦ Fails f ] → Same d e x y
 cut_same l f d e x y a b t u r s c g h i j k m n =
     let o : t ∷ r ≡ u ∷ s = append_cancel_left a (t ∷ r) (u ∷ s) (sym g ∙ (h
     ∙ ap (λ (z : List Token). z ++ u ∷ s) (sym i))) in
     let p : t ≡ u = first_same t u r s o in
     let q : r ≡ s = rest_same t u r s o in
-    let ending : Token → List Token → Ending = λ z w. elim (is_behind_properties c w) [ true ↦ Fails (fault c z.content z.start_mark) | false ↦ Fails f ] in
-    (j ∙ (ap (λ (z : Token). shown_cut c z.start_mark []) p ∙ sym m), k ∙ (ap (λ (z : Token). ending z r) p ∙ (ap (ending u) q ∙ sym n)))
+    let ending : Token → List Token
+    → Ending = λ z w. elim (is_behind_properties c w)
+    [ true ↦ Fails (fault c z.content z.start_mark) | false ↦ Fails f ] in (
+      j ∙ (ap (λ (z : Token). shown_cut c z.start_mark []) p ∙ sym m),
+      k
+          ∙ (ap (λ (z : Token). ending z r) p ∙ (ap (ending u) q ∙ sym n)),
+    )
 
 not_both : (l : List Token) (q : Position) (c : Cut) → reads_all l unopened ≡ goes q → reads_all l unopened ≡ bad c → ⊥
 not_both l q c e f = no (sym e ∙ f)
@@ -129,7 +152,8 @@ not_both l q c e f = no (sym e ∙ f)
     no : goes q ≡ bad c → ⊥
     no g = cc
 
-not_ended : (l : List Token) (q : Position) (t : Stream) → reads_all l unopened ≡ goes q → has_end l ≡ false → reads_all l unopened ≡ goes (done t) → ⊥
+not_ended : (l : List Token) (q : Position) (t : Stream) → reads_all l unopened ≡ goes q → has_end l ≡ false
+    → reads_all l unopened ≡ goes (done t) → ⊥
 not_ended l q t e h f = subst IsNotDone (goes_same q (done t) (sym e ∙ f)) (not_end_not_done l q e h)
 
 cut_of_same : (l : List Token) (c d : Cut) → reads_all l unopened ≡ bad c → reads_all l unopened ≡ bad d → c ≡ d
@@ -148,29 +172,34 @@ same_shapes l f d e x y (is_cut a t r c g h i j k) (is_cut b u s c' m n o p q) =
     let z : c' ≡ c = cut_of_same l c' c o i in
     cut_same l f d e x y a b t u r s c g m (sym h ∙ (ap (λ (w : Cut). cut_tokens w []) (sym z) ∙ n)) j k (p
     ∙ ap (λ (w : Cut). shown_cut w u.start_mark []) z) (q
-    ∙ ap (λ (w : Cut). elim (is_behind_properties w s) [ true ↦ Fails (fault w u.content u.start_mark) | false ↦ Fails f ]) z)
+    ∙ ap (λ (w : Cut). elim (is_behind_properties w s)
+    [ true ↦ Fails (fault w u.content u.start_mark) | false ↦ Fails f ]) z)
 same_shapes l f d e x y (is_cut a t r c g h i j k) (is_beginning q m n o p) = absurd (not_both l q c m i)
 same_shapes l f d e x y (is_beginning q j k m n) (is_sentence t g h i) = absurd (not_ended l q t j k g)
 same_shapes l f d e x y (is_beginning q m n o p) (is_cut a t r c g h i j k) = absurd (not_both l q c m i)
 same_shapes l f d e x y (is_beginning q g h i j) (is_beginning p k m n o) = (one_settled_proof l d e i n, j ∙ sym o)
 
-pub one_run_proof : (l : List Token) (f : Fault) (d e : List Event) (x y : Ending) → IsRun l f d x → IsRun l f e y → (d ≡ e) × (x ≡ y)
+pub one_run_proof : (l : List Token) (f : Fault) (d e : List Event) (x y : Ending) → IsRun l f d x → IsRun l f e y
+    → (d ≡ e) × (x ≡ y)
 one_run_proof l f d e x y r s = same_shapes (up_to_end l) f d e x y (shape_of l f d x r) (shape_of l f e y s)
 
 -- every list has a run
 abbrev HasRun : List Token → Fault → Type 0
 HasRun l f = (e : List Event) × (x : Ending) × IsRun l f e x
 
-cut_has_run : (l : List Token) (f : Fault) (before : List Token) (token : Token) (behind : List Token) (c : Cut) → up_to_end l ≡ before ++ token ∷ behind
+cut_has_run : (l : List Token) (f : Fault) (before : List Token) (token : Token) (behind : List Token) (c : Cut)
+    → up_to_end l ≡ before ++ token ∷ behind
     → Fits before token c → (b : Bool) → is_behind_properties c behind ≡ b → HasRun l f
 cut_has_run l f before token behind c e i true h = (
   shown_cut c token.start_mark [],
   Fails (fault c token.content token.start_mark),
   of_cut_tree before token behind c e i h refl refl,
 )
-cut_has_run l f before token behind c e i false h = (shown_cut c token.start_mark [], Fails f, amid_properties before token behind c e i h refl refl)
+cut_has_run l f before token behind c e i false h =
+    (shown_cut c token.start_mark [], Fails f, amid_properties before token behind c e i h refl refl)
 
-begin_has_run : (l : List Token) (f : Fault) (q : Position) → reads_all (up_to_end l) unopened ≡ goes q → (b : Bool) → has_end (up_to_end l) ≡ b → HasRun l f
+begin_has_run : (l : List Token) (f : Fault) (q : Position) → reads_all (up_to_end l) unopened ≡ goes q → (b : Bool)
+    → has_end (up_to_end l) ≡ b → HasRun l f
 begin_has_run l f q e true h = go q (end_is_done (up_to_end l) unopened q e h) e
   where
     go : (q : Position) → IsDone q → reads_all (up_to_end l) unopened ≡ goes q → HasRun l f
@@ -184,7 +213,8 @@ begin_has_run l f q e false h =
     (sure c, Fails f, of_beginning b h (front_settles (up_to_end l) c i) refl)
 
 -- a token after a sentence is none of the prefix's
-not_past : (l before : List Token) (token : Token) (behind : List Token) (q : Position) → up_to_end l ≡ before ++ token ∷ behind
+not_past : (l before : List Token) (token : Token) (behind : List Token) (q : Position)
+    → up_to_end l ≡ before ++ token ∷ behind
     → reads_all before unopened ≡ goes q → reads q token ≡ over → ⊥
 not_past l before token behind q e g h =
     let (t, f) = read_over q token h in
@@ -196,7 +226,8 @@ some_run_proof l f = go (goes_or_stops (up_to_end l) unopened)
   where
     stopped : (h : Stops (up_to_end l) unopened) → (s : Step) → reads h.at h.token ≡ s → HasRun l f
     stopped h (goes q) e = absurd (h.stop q e)
-    stopped h (bad c) e = cut_has_run l f h.before h.token h.after c h.all (stops_fits h.before h.token h.at c h.reached e) (is_behind_properties c h.after)
+    stopped h (bad c) e = cut_has_run l f h.before h.token h.after c h.all
+        (stops_fits h.before h.token h.at c h.reached e) (is_behind_properties c h.after)
         refl
     stopped h over e = absurd (not_past l h.before h.token h.after h.at h.all h.reached e)
 
@@ -208,7 +239,8 @@ some_run_proof l f = go (goes_or_stops (up_to_end l) unopened)
 pub sentence_run : (t : Stream) (r : List Token) (f : Fault) → in_order t ≡ true → IsRun (tokens t ++ r) f (events t) Ends
 sentence_run t r f o =
     let s : IsSentence (tokens t) = record { tree = t; all = refl; order = o } in
-    of_sentence t (up_to_read (tokens t) unopened (done t) r (sentence_reads (tokens t) s) (sentence_has_end (tokens t) s)) o refl refl
+    of_sentence t (up_to_read (tokens t) unopened (done t) r (sentence_reads (tokens t) s)
+    (sentence_has_end (tokens t) s)) o refl refl
 
 -- no cut tree has a STREAM-END
 cut_not_ended : (l : List Token) (b : Token) (c : Cut) → Fits l b c → has_end l ≡ false
@@ -223,7 +255,8 @@ cut_not_ended l b c f
 behind_token : Token → List Token → List Token
 behind_token b r = elim (is_end b.content) [ true ↦ [] | false ↦ up_to_end r ]
 
-cut_front : (l : List Token) (b : Token) (r : List Token) (c : Cut) → Fits l b c → up_to_end (l ++ b ∷ r) ≡ l ++ b ∷ behind_token b r
+cut_front : (l : List Token) (b : Token) (r : List Token) (c : Cut) → Fits l b c → up_to_end (l ++ b ∷ r) ≡ l
+    ++ b ∷ behind_token b r
 unfolding behind_token
 cut_front l b r c f = up_to_later l (b ∷ r) (cut_not_ended l b c f)
 
@@ -247,29 +280,39 @@ is_no_tag _ ds u = absurd u
 same_behind : (l : List Token) (b : Token) (r : List Token) (c : Cut) → FitsTag l c b.content
     → is_behind_properties c (behind_token b r) ≡ is_behind_properties c r
 unfolding behind_token
-same_behind l b [] (at_tag p) u = ap (λ (x : Bool). is_behind_properties (at_tag p) (elim x [ true ↦ [] | false ↦ [] ])) (is_no_tag b.content (declared p) u)
+same_behind l b [] (at_tag p) u =
+    ap (λ (x : Bool). is_behind_properties (at_tag p) (elim x [ true ↦ [] | false ↦ [] ]))
+    (is_no_tag b.content (declared p) u)
 same_behind l b (t ∷ r) (at_tag p) u
-    = ap (λ (x : Bool). is_behind_properties (at_tag p) (elim x [ true ↦ [] | false ↦ up_to_end (t ∷ r) ])) (is_no_tag b.content (declared p) u)
+    = ap (λ (x : Bool). is_behind_properties (at_tag p) (elim x [ true ↦ [] | false ↦ up_to_end (t ∷ r) ]))
+    (is_no_tag b.content (declared p) u)
     ∙ tag_behind t r (is_end t.content) refl
-same_behind l b r (at_tag_behind p a m) u = ap (λ (x : Bool). has_token (elim x [ true ↦ [] | false ↦ up_to_end r ])) (is_no_tag b.content (declared p) u)
+same_behind l b r (at_tag_behind p a m) u =
+    ap (λ (x : Bool). has_token (elim x [ true ↦ [] | false ↦ up_to_end r ])) (is_no_tag b.content (declared p) u)
     ∙ has_front r
 same_behind l b r _ u = refl
 
-pub cut_run : (l : List Token) (b : Token) (r : List Token) (c : Cut) (f : Fault) → Fits l b c → is_behind_properties c r ≡ true
+pub cut_run : (l : List Token) (b : Token) (r : List Token) (c : Cut) (f : Fault) → Fits l b c
+    → is_behind_properties c r ≡ true
     → IsRun (l ++ b ∷ r) f (shown_cut c b.start_mark []) (Fails (fault c b.content b.start_mark))
-cut_run l b r c f i h = of_cut_tree l b (behind_token b r) c (cut_front l b r c i) i (same_behind l b r c i.tag ∙ h) refl refl
+cut_run l b r c f i h = of_cut_tree l b (behind_token b r) c (cut_front l b r c i) i (same_behind l b r c i.tag ∙ h)
+    refl refl
 
-pub amid_run : (l : List Token) (b : Token) (r : List Token) (c : Cut) (f : Fault) → Fits l b c → is_behind_properties c r ≡ false
+pub amid_run : (l : List Token) (b : Token) (r : List Token) (c : Cut) (f : Fault) → Fits l b c
+    → is_behind_properties c r ≡ false
     → IsRun (l ++ b ∷ r) f (shown_cut c b.start_mark []) (Fails f)
-amid_run l b r c f i h = amid_properties l b (behind_token b r) c (cut_front l b r c i) i (same_behind l b r c i.tag ∙ h) refl refl
+amid_run l b r c f i h = amid_properties l b (behind_token b r) c (cut_front l b r c i) i
+    (same_behind l b r c i.tag ∙ h) refl refl
 
-pub begin_run : (l : List Token) (e : List Event) (f : Fault) → IsBeginning l → has_end l ≡ false → IsSettled l e → IsRun l f e (Fails f)
+pub begin_run : (l : List Token) (e : List Event) (f : Fault) → IsBeginning l → has_end l ≡ false → IsSettled l e
+    → IsRun l f e (Fails f)
 begin_run l e f b h s =
     let g : up_to_end l ≡ l = all_of_it l h in
     of_beginning (subst IsBeginning (sym g) b) (ap has_end g ∙ h) (subst (λ (x : List Token). IsSettled x e) (sym g) s) refl
 
 -- what an ending says
-pub ended_run : (l : List Token) (f : Fault) (e : List Event) → IsRun l f e Ends → (t : Stream) × (in_order t ≡ true) × (up_to_end l ≡ tokens t)
+pub ended_run : (l : List Token) (f : Fault) (e : List Event) → IsRun l f e Ends
+    → (t : Stream) × (in_order t ≡ true) × (up_to_end l ≡ tokens t)
     × (e ≡ events t)
 ended_run l f e (of_sentence t a o g h) = (t, o, a, g)
 ended_run l f e (of_cut_tree before token behind c a i o g h) = absurd cc
@@ -280,9 +323,11 @@ same_fault : (f g : Fault) → Fails f ≡ Fails g → f ≡ g
 same_fault f g e = cc
 
 no_source : (f g : Fault) → IsSourceError f.error → g.error ≡ YAML_PARSER_ERROR → g ≡ f → ⊥
-no_source f g s e h = let x : IsSourceError YAML_PARSER_ERROR = subst IsSourceError (sym (ap (λ (x : Fault). x.error) h) ∙ e) s in cc
+no_source f g s e h = let x : IsSourceError YAML_PARSER_ERROR =
+    subst IsSourceError (sym (ap (λ (x : Fault). x.error) h) ∙ e) s in cc
 
-pub parser_fault_run : (l : List Token) (f : Fault) (e : List Event) (g : Fault) → IsSourceError f.error → g.error ≡ YAML_PARSER_ERROR → IsRun l f e (Fails g)
+pub parser_fault_run : (l : List Token) (f : Fault) (e : List Event) (g : Fault) → IsSourceError f.error
+    → g.error ≡ YAML_PARSER_ERROR → IsRun l f e (Fails g)
     → HasFault (up_to_end l) e g
 parser_fault_run l f e g s p (of_sentence t a o d h) = absurd cc
 parser_fault_run l f e g s p (of_cut_tree before token behind c a i o d h)
@@ -297,5 +342,6 @@ parser_fault_run l f e g s p (of_cut_tree before token behind c a i o d h)
       fails
           = same_fault g (fault c token.content token.start_mark) h;
     }
-parser_fault_run l f e g s p (amid_properties before token behind c a i o d h) = absurd (no_source f g s p (same_fault g f h))
+parser_fault_run l f e g s p (amid_properties before token behind c a i o d h) =
+    absurd (no_source f g s p (same_fault g f h))
 parser_fault_run l f e g s p (of_beginning b n d h) = absurd (no_source f g s p (same_fault g f h))

@@ -1,18 +1,24 @@
 -- What a front tree settles is what its sentences' events have in common.
-use Rattle.std.proofs.Common.{◌≡◌, ◌↔◌, ℕ, List, [], ◌∷◌, ◌++◌, None, true, false, refl, sym, ap, ◌∙◌, subst, append_assoc, arith, append-nil}
+use Rattle.std.proofs.Common.{◌≡◌, ◌↔◌, ℕ, List, [], ◌∷◌, ◌++◌, None, true, false, refl, sym, ap, ◌∙◌, subst}
+use Rattle.std.proofs.Common.{append_assoc, arith, append-nil}
 use Rattle.libyaml_types.specs.Events.{zero_mark}
 use Rattle.libyaml_grammar.specs.sentences.Events.{Event, events, first_block, first_flow}
 use Rattle.libyaml_grammar.specs.sentences.Order.{in_order}
 use Rattle.libyaml_grammar.specs.sentences.Sentences.{IsBeginning, has_end}
 use Rattle.libyaml_grammar.specs.sentences.Tokens.{Mark, Marks, Token}
-use Rattle.libyaml_grammar.specs.sentences.Trees.{BlockNode, FlowNode, Stream, alone, explicit, flow, flow_node, flow_nothing, implicit, indentless, item}
+use Rattle.libyaml_grammar.specs.sentences.Trees.{BlockNode, FlowNode, Stream, alone, explicit, flow, flow_node}
+use Rattle.libyaml_grammar.specs.sentences.Trees.{flow_nothing, implicit, indentless, item}
 use Rattle.libyaml_grammar.specs.sentences.Trees.{no_value, node, nothing, pair, part, single, slot_of, tokens, with_value}
 use Rattle.libyaml_grammar.specs.cuts.CutEvents.{shown_block, shown_place}
-use Rattle.libyaml_grammar.specs.cuts.CutTrees.{BlockPlace, Cut, Place, at_directive, at_tag, at_tag_behind, before_stream, block, content_due, declared}
-use Rattle.libyaml_grammar.specs.cuts.CutTrees.{declared_block, document_due, entry, entry_due, explicit_root, flow_entry, flow_key, flow_value}
-use Rattle.libyaml_grammar.specs.cuts.CutTrees.{implicit_root, indentless_entry, part_due, part_place, root, separator_due, slot}
+use Rattle.libyaml_grammar.specs.cuts.CutTrees.{BlockPlace, Cut, Place, at_directive, at_tag, at_tag_behind}
+use Rattle.libyaml_grammar.specs.cuts.CutTrees.{before_stream, block, content_due, declared}
+use Rattle.libyaml_grammar.specs.cuts.CutTrees.{declared_block, document_due, entry, entry_due, explicit_root}
+use Rattle.libyaml_grammar.specs.cuts.CutTrees.{flow_entry, flow_key, flow_value}
+use Rattle.libyaml_grammar.specs.cuts.CutTrees.{implicit_root, indentless_entry, part_due, part_place, root}
+use Rattle.libyaml_grammar.specs.cuts.CutTrees.{separator_due, slot}
 use Rattle.libyaml_grammar.specs.cuts.Fits.{last_empty}
-use Rattle.libyaml_grammar.specs.cuts.Settled.{Begins, BeginsEach, IsFront, IsFrontPlace, IsOpen, IsSettled, next_event, sure, sure_block_node}
+use Rattle.libyaml_grammar.specs.cuts.Settled.{Begins, BeginsEach, IsFront, IsFrontPlace, IsOpen, IsSettled, next_event}
+use Rattle.libyaml_grammar.specs.cuts.Settled.{sure, sure_block_node}
 use Rattle.libyaml_grammar.specs.cuts.Settled.{sure_flow_node}
 use Rattle.libyaml_grammar.specs.cuts.Rest.{rest}
 use Rattle.libyaml_grammar.proofs.lent.Given.{gives_all}
@@ -32,7 +38,8 @@ use Rattle.libyaml_grammar.proofs.trees.Edge.{reached}
 use Rattle.libyaml_grammar.proofs.runs.Prompt.{differ}
 
 -- what is sure is what is shown at the right edge
-flow_edge_shows : (p : Place) (n : FlowNode) (m : Mark) → shown (edge_flow p n) m [] ≡ shown_place p (first_flow n) (sure_flow_node (declared p) n)
+flow_edge_shows : (p : Place) (n : FlowNode) (m : Mark) → shown (edge_flow p n) m [] ≡ shown_place p (first_flow n)
+    (sure_flow_node (declared p) n)
 flow_edge_shows p (alone ps) m = refl
 flow_edge_shows p n m = node_shows p n m []
 
@@ -61,7 +68,8 @@ sure_shows (entry_due c o s (item is x (node n))) m p e = block_edge_shows (entr
 sure_shows (part_due c o s (part ps k v (slot_of nothing))) m p e = absurd cc
 sure_shows (part_due c o s (part ps k v (slot_of (node n)))) m p e = block_edge_shows (slot (part_place c o s ps k v)) n m
 sure_shows (part_due c o s (part ps k v (indentless y is x nothing))) m p e = absurd cc
-sure_shows (part_due c o s (part ps k v (indentless y is x (node n)))) m p e = block_edge_shows (indentless_entry (part_place c o s ps k v) y is x) n m
+sure_shows (part_due c o s (part ps k v (indentless y is x (node n)))) m p e =
+    block_edge_shows (indentless_entry (part_place c o s ps k v) y is x) n m
 sure_shows (separator_due c (single n)) m p e = flow_edge_shows (flow_entry c) n m
 sure_shows (separator_due c (pair x flow_nothing no_value)) m p e = absurd cc
 sure_shows (separator_due c (pair x (flow_node n) no_value)) m p e = flow_edge_shows (flow_key c x) n m
@@ -80,7 +88,8 @@ gives_sure l c f r =
 begins_each : (l : List Token) (c : Cut) → IsFront l c → BeginsEach l (sure c)
 begins_each l c f = λ t rest o e. (
   gives_all rest (reached c) [],
-  begin_events l rest (reached c) t (reads_to l unopened (reached c) (front_reads l c f)).0 (sym e) ∙ gives_sure l c f (gives_all rest (reached c) []),
+  begin_events l rest (reached c) t (reads_to l unopened (reached c) (front_reads l c f)).0 (sym e)
+      ∙ gives_sure l c f (gives_all rest (reached c) []),
 )
 
 -- lists of events
@@ -163,7 +172,8 @@ front_settles l c f = record { begins_each = begins_each l c f; longest = λ d b
         let o = front_open l c f in
         let (r, g) = b o.first o.first_rest o.first_order o.first_tokens in
         let (s, h) = b o.second o.second_rest o.second_order o.second_tokens in
-        in_common d r s (sure c) o.first_events o.second_events (sym o.first_goes_on ∙ g) (sym o.second_goes_on ∙ h) o.differ
+        in_common d r s (sure c) o.first_events o.second_events (sym o.first_goes_on ∙ g) (sym o.second_goes_on ∙ h)
+        o.differ
 
 feeds_append : (a b : List Token) (q p : Position) → feeds a q ≡ goes p → feeds (a ++ b) q ≡ feeds b p
 feeds_append a b q p e = along (λ (l : List Token) (x : Position). feeds (l ++ b) x ≡ feeds b p) p refl
@@ -217,4 +227,5 @@ pub settled_sentence : (t : Stream) (e : List Event) → in_order t ≡ true →
 settled_sentence t e o = settled_is (tokens t) (events t) e (sentence_settles t o)
 
 pub settled_nothing : (e : List Event) → IsSettled [] e ↔ (e ≡ [])
-settled_nothing e = settled_is [] [] e (front_settles [] before_stream (record { tokens = refl; order = refl; place = tt; full = refl }))
+settled_nothing e = settled_is [] [] e
+    (front_settles [] before_stream (record { tokens = refl; order = refl; place = tt; full = refl }))

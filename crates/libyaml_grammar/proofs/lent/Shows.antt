@@ -3,15 +3,19 @@
 use Rattle.std.proofs.Common.{◌≡◌, List, ◌∷◌, refl, ◌∙◌, Bool, true}
 use Rattle.libyaml_grammar.specs.sentences.Tokens.{Content, Mark, Marks}
 use Rattle.libyaml_grammar.specs.sentences.Trees.{BlockNode, FlowNode, alone, flow, free}
-use Rattle.libyaml_grammar.specs.sentences.Events.{Event, block_node_events, empty_at, first_block, first_flow, flow_node_events}
-use Rattle.libyaml_grammar.specs.cuts.CutTrees.{BlockPlace, Place, block, declared, declared_block, flow_entry, implicit_root, part_place, root, slot}
+use Rattle.libyaml_grammar.specs.sentences.Events.{Event, block_node_events, empty_at, first_block, first_flow}
+use Rattle.libyaml_grammar.specs.sentences.Events.{flow_node_events}
+use Rattle.libyaml_grammar.specs.cuts.CutTrees.{BlockPlace, Place, block, declared, declared_block, flow_entry}
+use Rattle.libyaml_grammar.specs.cuts.CutTrees.{implicit_root, part_place, root, slot}
 use Rattle.libyaml_grammar.specs.cuts.CutEvents.{shown_block, shown_cut, shown_place}
 use Rattle.libyaml_grammar.specs.cuts.Fits.{ends_empty}
 use Rattle.libyaml_grammar.proofs.lent.Positions.{Position, shown}
 use Rattle.libyaml_grammar.proofs.lent.Reading.{Step, bad, fill, fill_flow, goes, leave, over, step}
 use Rattle.libyaml_grammar.proofs.lent.Given.{empty_mark, gives}
-use Rattle.libyaml_grammar.proofs.lent.ReadSteps.{Moves, ReadStep, a_scalar, an_alias, begins_explicit, closes_at_mapping, closes_at_sequence, closes_mapping}
-use Rattle.libyaml_grammar.proofs.lent.ReadSteps.{closes_sequence, ends_mapping, ends_sequence, ends_stream, fails, first_handle, first_version, is_alone}
+use Rattle.libyaml_grammar.proofs.lent.ReadSteps.{Moves, ReadStep, a_scalar, an_alias, begins_explicit}
+use Rattle.libyaml_grammar.proofs.lent.ReadSteps.{closes_at_mapping, closes_at_sequence, closes_mapping}
+use Rattle.libyaml_grammar.proofs.lent.ReadSteps.{closes_sequence, ends_mapping, ends_sequence, ends_stream, fails}
+use Rattle.libyaml_grammar.proofs.lent.ReadSteps.{first_handle, first_version, is_alone}
 use Rattle.libyaml_grammar.proofs.lent.ReadSteps.{is_past, leaves, moves, no_stream, read_step}
 
 -- what a step says of the events
@@ -31,13 +35,15 @@ pub node_shows : (p : Place) (x : FlowNode) (m : Mark) (r : List Event)
 node_shows (block c) x m r = block_shows c (flow x) m r
 node_shows _ x m r = refl
 
-reshown : (s : Step) (p q : Position) (m : Marks) (g h : List Event → List Event) → ((r : List Event) → shown p m.start (g r) ≡ shown q m.start (h r))
+reshown : (s : Step) (p q : Position) (m : Marks) (g h : List Event → List Event)
+    → ((r : List Event) → shown p m.start (g r) ≡ shown q m.start (h r))
     → Shows s p m g → Shows s q m h
 reshown (goes x) p q m g h e f = λ n r. f n r ∙ e r
 reshown (bad x) p q m g h e f = λ r. f r ∙ e r
 reshown over p q m g h e f = tt
 
-moved_shows : {m : Marks} {q p : Position} {h : List Event → List Event} → Moves m q p h → (r : List Event) → shown p m.start r ≡ shown q m.start (h r)
+moved_shows : {m : Marks} {q p : Position} {h : List Event → List Event} → Moves m q p h → (r : List Event)
+    → shown p m.start r ≡ shown q m.start (h r)
 moved_shows (is_alone p ps) r = node_shows p (alone ps) _ r
 moved_shows _ r = refl
 
@@ -49,7 +55,8 @@ left_shows (block (slot (part_place c o s ps t v))) k m e r = refl
 left_shows (flow_entry c) k m e r = cc
 left_shows _ k m e r = refl
 
-shows : {m : Marks} {q : Position} {k : Content} {s : Step} {g : List Event → List Event} {l : Bool} → ReadStep m q k s g l → Shows s q m g
+shows : {m : Marks} {q : Position} {k : Content} {s : Step} {g : List Event → List Event} {l : Bool}
+    → ReadStep m q k s g l → Shows s q m g
 shows is_past = tt
 shows (moves x h) = reshown _ _ _ _ _ _ (λ r. moved_shows x _) (shows h)
 shows (leaves p e h) = λ n r. shows h n r ∙ left_shows p _ _ e _

@@ -29,10 +29,13 @@ read_done q p t e f = go p (subst (λ (s : Step). Done s true) f (subst (Done (r
 -- a list that is read and has a STREAM-END leads to the end
 pub end_is_done : (l : List Token) (q p : Position) → reads_all l q ≡ goes p → has_end l ≡ true → IsDone p
 end_is_done [] q p e h = absurd cc
-end_is_done (t ∷ l) q p e h = go (λ (x : Position) (f : reads_all l x ≡ goes p) (g : has_end l ≡ true). end_is_done l x p f g) (is_end t.content) refl
+end_is_done (t ∷ l) q p e h =
+    go (λ (x : Position) (f : reads_all l x ≡ goes p) (g : has_end l ≡ true). end_is_done l x p f g)
+    (is_end t.content) refl
     (reads q t) refl e h
   where
-    go : ((x : Position) → reads_all l x ≡ goes p → has_end l ≡ true → IsDone p) → (b : Bool) → is_end t.content ≡ b → (s : Step) → reads q t ≡ s
+    go : ((x : Position) → reads_all l x ≡ goes p → has_end l ≡ true → IsDone p) → (b : Bool) → is_end t.content ≡ b
+        → (s : Step) → reads q t ≡ s
         → then_all s (reads_all l) ≡ goes p → either b (has_end l) ≡ true → IsDone p
     go ih true j (goes x) f g i = done_stays l x p (read_done q x t j f) g
     go ih false j (goes x) f g i = ih x g i

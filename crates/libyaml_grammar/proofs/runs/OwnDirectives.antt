@@ -1,16 +1,25 @@
 -- The events of a document depend on its own directives alone, and but for its start on the prefixes that these give.
 use Rattle.std.proofs.Common.{◌≡◌, ℕ, List, [], ◌∷◌, ◌++◌, Option, Some, None, true, false, refl, ap, ◌∙◌}
-use Rattle.libyaml_grammar.specs.sentences.Events.{Event, Layout, alone_of, anchor_of, before_events, before_part, block_layout, block_node_events}
-use Rattle.libyaml_grammar.specs.sentences.Events.{block_slot_events, document_start_at, documents_events, end_at, end_of, first_block, first_directive}
-use Rattle.libyaml_grammar.specs.sentences.Events.{first_entry, first_of, first_of_properties, flow_items_events, flow_last_events, flow_layout}
-use Rattle.libyaml_grammar.specs.sentences.Events.{flow_member_events, flow_node_events, flow_slot_events, free_events, is_missing, items_events}
-use Rattle.libyaml_grammar.specs.sentences.Events.{last_of_properties, member_end, opens_pair, parts_events, plain_flag, prefix_of, quoted_flag, resolved}
+use Rattle.libyaml_grammar.specs.sentences.Events.{Event, Layout, alone_of, anchor_of, before_events, before_part}
+use Rattle.libyaml_grammar.specs.sentences.Events.{block_layout, block_node_events}
+use Rattle.libyaml_grammar.specs.sentences.Events.{block_slot_events, document_start_at, documents_events, end_at}
+use Rattle.libyaml_grammar.specs.sentences.Events.{end_of, first_block, first_directive}
+use Rattle.libyaml_grammar.specs.sentences.Events.{first_entry, first_of, first_of_properties, flow_items_events}
+use Rattle.libyaml_grammar.specs.sentences.Events.{flow_last_events, flow_layout}
+use Rattle.libyaml_grammar.specs.sentences.Events.{flow_member_events, flow_node_events, flow_slot_events, free_events}
+use Rattle.libyaml_grammar.specs.sentences.Events.{is_missing, items_events}
+use Rattle.libyaml_grammar.specs.sentences.Events.{last_of_properties, member_end, opens_pair, parts_events, plain_flag}
+use Rattle.libyaml_grammar.specs.sentences.Events.{prefix_of, quoted_flag, resolved}
 use Rattle.libyaml_grammar.specs.sentences.Events.{scalar_at, scalar_of, slot_events, start_at, start_of, tag_from, tag_of}
 use Rattle.libyaml_grammar.specs.sentences.Tokens.{Mark, Marks, ScalarText, TagName}
-use Rattle.libyaml_grammar.specs.sentences.Trees.{Before, BlockItems, BlockNode, BlockSlot, Directives, FlowItems, FlowLast, FlowMember, FlowNode}
-use Rattle.libyaml_grammar.specs.sentences.Trees.{FlowSlot, Free, Parts, Properties, Slot, Sort, alias, alone, anchor, anchor_tag, block_mapping}
-use Rattle.libyaml_grammar.specs.sentences.Trees.{block_sequence, collection, empty, explicit, flow, flow_node, flow_nothing, implicit, indentless, item}
-use Rattle.libyaml_grammar.specs.sentences.Trees.{last, mapping, more_items, no_directives, no_items, no_last, no_parts, no_value, node, nothing, pair}
+use Rattle.libyaml_grammar.specs.sentences.Trees.{Before, BlockItems, BlockNode, BlockSlot, Directives, FlowItems}
+use Rattle.libyaml_grammar.specs.sentences.Trees.{FlowLast, FlowMember, FlowNode}
+use Rattle.libyaml_grammar.specs.sentences.Trees.{FlowSlot, Free, Parts, Properties, Slot, Sort, alias, alone, anchor}
+use Rattle.libyaml_grammar.specs.sentences.Trees.{anchor_tag, block_mapping}
+use Rattle.libyaml_grammar.specs.sentences.Trees.{block_sequence, collection, empty, explicit, flow, flow_node}
+use Rattle.libyaml_grammar.specs.sentences.Trees.{flow_nothing, implicit, indentless, item}
+use Rattle.libyaml_grammar.specs.sentences.Trees.{last, mapping, more_items, no_directives, no_items, no_last, no_parts}
+use Rattle.libyaml_grammar.specs.sentences.Trees.{no_value, node, nothing, pair}
 use Rattle.libyaml_grammar.specs.sentences.Trees.{part, scalar, sequence, single, slot_of, tag, tag_anchor, with_value}
 use Rattle.libyaml_types.specs.declared.enums.yaml_scalar_style_t.TheVariants.{YAML_PLAIN_SCALAR_STYLE}
 use Rattle.libyaml_grammar.proofs.lent.Splits.{block_slot_splits}
@@ -18,16 +27,19 @@ use Rattle.libyaml_grammar.proofs.lent.Splits.{block_slot_splits}
 pub explicit_own : (ds : Directives) (s : Marks) (x : BlockSlot) (m : Mark) → (e : List Event)
     × ((b : Before) (r : List Event)
     → documents_events (explicit b ds s x) m r
-    ≡ before_events b (first_directive ds s.start) (document_start_at ds false (first_directive ds s.start) s.end ∷ (e ++ r)))
+    ≡ before_events b (first_directive ds s.start)
+    (document_start_at ds false (first_directive ds s.start) s.end ∷ (e ++ r)))
 explicit_own ds s x m = (
   block_slot_events ds x m [],
-  λ b r. ap (λ (l : List Event). before_events b (first_directive ds s.start) (document_start_at ds false (first_directive ds s.start) s.end ∷ l))
+  λ b r. ap (λ (l : List Event). before_events b (first_directive ds s.start)
+      (document_start_at ds false (first_directive ds s.start) s.end ∷ l))
       ((block_slot_splits ds x m).splits r),
 )
 
 pub implicit_own : (n : BlockNode) → (e : List Event)
     × ((f : Free) (m : Mark) (r : List Event)
-    → documents_events (implicit f n) m r ≡ free_events f (document_start_at no_directives true (first_block n) (first_block n) ∷ (e ++ r)))
+    → documents_events (implicit f n) m r ≡ free_events f
+    (document_start_at no_directives true (first_block n) (first_block n) ∷ (e ++ r)))
 implicit_own n = (
   block_node_events no_directives n [],
   λ f m r. ap (λ (l : List Event). free_events f (document_start_at no_directives true (first_block n) (first_block n) ∷ l))
@@ -50,14 +62,17 @@ module _ (ds es : Directives) (same : (h : List ℕ) → prefix_of ds h ≡ pref
   tags_alike (Some (tag_anchor t m a n)) = ap (λ (x : List ℕ). Some x) (resolved_alike t)
 
   starts_alike : (k : Sort) (s : Layout) (o : Option Properties) (m : Marks) → start_of ds k s o m ≡ start_of es k s o m
-  starts_alike k s o m = ap (λ (t : Option (List ℕ)). start_at k (anchor_of o) t (is_missing t) s (first_of o m.start) m.end) (tags_alike o)
+  starts_alike k s o m = ap (λ (t : Option (List ℕ)). start_at k (anchor_of o) t (is_missing t) s
+      (first_of o m.start) m.end) (tags_alike o)
 
   scalars_alike : (o : Option Properties) (v : ScalarText) (m : Marks) → scalar_of ds o v m ≡ scalar_of es o v m
-  scalars_alike o v m = ap (λ (t : Option (List ℕ)). scalar_at (anchor_of o) t v.value (plain_flag t v.style) (quoted_flag t v.style) v.style
+  scalars_alike o v m = ap (λ (t : Option (List ℕ)). scalar_at (anchor_of o) t v.value (plain_flag t v.style)
+      (quoted_flag t v.style) v.style
       (first_of o m.start) m.end) (tags_alike o)
 
   alone_alike : (p : Properties) → alone_of ds p ≡ alone_of es p
-  alone_alike p = ap (λ (t : Option (List ℕ)). scalar_at (anchor_of (Some p)) t [] (is_missing t) false YAML_PLAIN_SCALAR_STYLE (first_of_properties p)
+  alone_alike p = ap (λ (t : Option (List ℕ)). scalar_at (anchor_of (Some p)) t [] (is_missing t) false
+      YAML_PLAIN_SCALAR_STYLE (first_of_properties p)
       (last_of_properties p)) (tags_alike (Some p))
 
   -- an event and what follows it
@@ -73,16 +88,19 @@ module _ (ds es : Directives) (same : (h : List ℕ) → prefix_of ds h ≡ pref
         = behind_alike _ _ _ _ (starts_alike k flow_layout o m) (flow_items_alike k is _
         ∙ ap (flow_items_events es k is) (flow_last_alike k l n.start (end_of k n ∷ r)))
 
-    flow_items_alike : (k : Sort) (is : FlowItems) (r : List Event) → flow_items_events ds k is r ≡ flow_items_events es k is r
+    flow_items_alike : (k : Sort) (is : FlowItems) (r : List Event)
+        → flow_items_events ds k is r ≡ flow_items_events es k is r
     flow_items_alike k no_items r = refl
     flow_items_alike k (more_items is e m) r = flow_items_alike k is _
         ∙ ap (flow_items_events es k is) (flow_member_alike k e m.start (member_end k e m.start r))
 
-    flow_last_alike : (k : Sort) (l : FlowLast) (m : Mark) (r : List Event) → flow_last_events ds k l m r ≡ flow_last_events es k l m r
+    flow_last_alike : (k : Sort) (l : FlowLast) (m : Mark) (r : List Event)
+        → flow_last_events ds k l m r ≡ flow_last_events es k l m r
     flow_last_alike k no_last m r = refl
     flow_last_alike k (last e) m r = flow_member_alike k e m (member_end k e m r)
 
-    flow_member_alike : (k : Sort) (e : FlowMember) (m : Mark) (r : List Event) → flow_member_events ds k e m r ≡ flow_member_events es k e m r
+    flow_member_alike : (k : Sort) (e : FlowMember) (m : Mark) (r : List Event)
+        → flow_member_events ds k e m r ≡ flow_member_events es k e m r
     flow_member_alike k (single n) m r = flow_node_alike n r
     flow_member_alike k (pair s x no_value) m r = ap (opens_pair k s) (flow_slot_alike x m r)
     flow_member_alike k (pair s x (with_value v y)) m r
@@ -95,10 +113,13 @@ module _ (ds es : Directives) (same : (h : List ℕ) → prefix_of ds h ≡ pref
   mutual
     block_node_alike : (n : BlockNode) (r : List Event) → block_node_events ds n r ≡ block_node_events es n r
     block_node_alike (flow n) r = flow_node_alike n r
-    block_node_alike (block_sequence o m is n) r = behind_alike _ _ _ _ (starts_alike sequence block_layout o m) (items_alike is _)
-    block_node_alike (block_mapping o m ps n) r = behind_alike _ _ _ _ (starts_alike mapping block_layout o m) (parts_alike ps n.start _)
+    block_node_alike (block_sequence o m is n) r = behind_alike _ _ _ _ (starts_alike sequence block_layout o m)
+        (items_alike is _)
+    block_node_alike (block_mapping o m ps n) r = behind_alike _ _ _ _ (starts_alike mapping block_layout o m)
+        (parts_alike ps n.start _)
 
-    pub block_slot_alike : (x : BlockSlot) (m : Mark) (r : List Event) → block_slot_events ds x m r ≡ block_slot_events es x m r
+    pub block_slot_alike : (x : BlockSlot) (m : Mark) (r : List Event)
+        → block_slot_events ds x m r ≡ block_slot_events es x m r
     block_slot_alike nothing m r = refl
     block_slot_alike (node n) m r = block_node_alike n r
 

@@ -1,12 +1,14 @@
 -- A TAG goes on exactly where a node may begin, or after an ANCHOR that begins one.
-use Rattle.std.proofs.Common.{◌≡◌, ℕ, List, [], ◌∷◌, ◌++◌, Some, refl, sym, ap, ◌∙◌, subst, Bool, true, false, inl, inr, ◌↔◌, append-nil}
+use Rattle.std.proofs.Common.{◌≡◌, ℕ, List, [], ◌∷◌, ◌++◌, Some, refl, sym, ap, ◌∙◌, subst, Bool, true, false, inl, inr}
+use Rattle.std.proofs.Common.{◌↔◌, append-nil}
 use Rattle.libyaml_grammar.specs.sentences.Tokens.{Anchor, Marks, Tag, TagName, Token, tok, zero_marks}
 use Rattle.libyaml_grammar.specs.sentences.Trees.{anchor_tag, tag}
 use Rattle.libyaml_grammar.specs.sentences.Order.{both, is_known}
 use Rattle.libyaml_grammar.specs.cuts.CutTrees.{Place, at_tag_behind, content_due, declared, place_in_order, place_tokens}
 use Rattle.libyaml_grammar.specs.sentences.Sentences.{IsBeginning, IsSentence}
 use Rattle.libyaml_grammar.specs.cuts.Fits.{NodeBegins}
-use Rattle.libyaml_grammar.proofs.lent.Positions.{Position, due, position_in_order, position_rest, position_tokens, unopened}
+use Rattle.libyaml_grammar.proofs.lent.Positions.{Position, due, position_in_order, position_rest, position_tokens}
+use Rattle.libyaml_grammar.proofs.lent.Positions.{unopened}
 use Rattle.libyaml_grammar.proofs.lent.Reading.{Step, bad, checked, goes, is_legal, over, reads, reads_all, step}
 use Rattle.libyaml_grammar.proofs.trees.Append.{cut_append}
 use Rattle.libyaml_grammar.proofs.lent.Cases.{IsTagHeld, TagGoes, step_tag}
@@ -47,27 +49,43 @@ module _ (l : List Token) (m : Marks) (s : List ℕ) where
       inside h k e = cc
 
   -- the position after the TAG holds it
-  held : (x : Position) (b : Bool) → IsTagHeld x b m → position_tokens x [] ≡ l ++ tok (Tag whole_tag) m ∷ [] → position_in_order x true ≡ true → (p : Place)
+  held : (x : Position) (b : Bool) → IsTagHeld x b m → position_tokens x [] ≡ l ++ tok (Tag whole_tag) m ∷ []
+      → position_in_order x true ≡ true → (p : Place)
       × NodeBegins l p
   held (due p (Some (tag h n))) b w e o =
       let f = same_front (place_tokens p []) l (tok (Tag h) n) (tok (Tag whole_tag) m)
-      (sym (cut_append (content_due p) (tok (Tag h) n ∷ [])) ∙ e) in
-      (p, (subst (λ (t : TagName). place_in_order p (both (is_known (declared p) t.handle) true) ≡ true) (same_tag h n f.1) o, inl f.0))
+      (sym (cut_append (content_due p) (tok (Tag h) n ∷ [])) ∙ e) in (
+        p,
+        (
+          subst (λ (t : TagName). place_in_order p (both (is_known (declared p) t.handle) true) ≡ true)
+              (same_tag h n f.1) o,
+          inl f.0,
+        ),
+      )
   held (due p (Some (anchor_tag a k h n))) b w e o =
       let f = same_front (place_tokens p (tok (Anchor a) k ∷ [])) l (tok (Tag h) n) (tok (Tag whole_tag) m)
-      (sym (cut_append (at_tag_behind p a k) (tok (Tag h) n ∷ [])) ∙ e) in
-      (p, (subst (λ (t : TagName). place_in_order p (both (is_known (declared p) t.handle) true) ≡ true) (same_tag h n f.1) o, inr (a, k, f.0)))
+      (sym (cut_append (at_tag_behind p a k) (tok (Tag h) n ∷ [])) ∙ e) in (
+        p,
+        (
+          subst (λ (t : TagName). place_in_order p (both (is_known (declared p) t.handle) true) ≡ true)
+              (same_tag h n f.1) o,
+          inr (a, k, f.0),
+        ),
+      )
   held _ b w e o = absurd w
 
   node_begins : IsBeginning (l ++ tok (Tag whole_tag) m ∷ []) → (p : Place) × NodeBegins l p
   node_begins h =
       let (x, e) = begin_reads (l ++ tok (Tag whole_tag) m ∷ []) h in
-      let (q, f, g) = goes_before (reads_all l unopened) (reads_all (tok (Tag whole_tag) m ∷ [])) x (sym (reads_append l (tok (Tag whole_tag) m ∷ []) unopened)
+      let (q, f, g) = goes_before (reads_all l unopened) (reads_all (tok (Tag whole_tag) m ∷ [])) x
+      (sym (reads_append l (tok (Tag whole_tag) m ∷ []) unopened)
       ∙ e) in
       let (y, u, v) = goes_before (reads q (tok (Tag whole_tag) m)) (reads_all []) x g in
       let w = legal_step (step q (Tag whole_tag) m) (is_legal q (Tag whole_tag)) x (u ∙ v) in
-      held x (is_legal q (Tag whole_tag)) (subst (λ (z : Step). TagGoes z (is_legal q (Tag whole_tag)) m) w (step_tag q whole_tag m))
-      (feeds_keep (l ++ tok (Tag whole_tag) m ∷ []) unopened x (reads_to (l ++ tok (Tag whole_tag) m ∷ []) unopened x e).0 []
+      held x (is_legal q (Tag whole_tag))
+      (subst (λ (z : Step). TagGoes z (is_legal q (Tag whole_tag)) m) w (step_tag q whole_tag m))
+      (feeds_keep (l ++ tok (Tag whole_tag) m ∷ []) unopened x
+      (reads_to (l ++ tok (Tag whole_tag) m ∷ []) unopened x e).0 []
       ∙ append-nil (l ++ tok (Tag whole_tag) m ∷ [])) (read_order (l ++ tok (Tag whole_tag) m ∷ []) x e)
 
   behind_front : (a r : List Token) (t : Token) → a ++ t ∷ r ≡ (a ++ t ∷ []) ++ r
@@ -92,5 +110,6 @@ module _ (l : List Token) (m : Marks) (s : List ℕ) where
             (position_begins zero_marks (due p (Some (anchor_tag a n whole_tag m))) o);
       }
 
-  pub tag_places_proof : IsBeginning (l ++ tok (Tag (record { handle = []; suffix = s })) m ∷ []) ↔ ((p : Place) × NodeBegins l p)
+  pub tag_places_proof : IsBeginning (l ++ tok (Tag (record { handle = []; suffix = s })) m ∷ [])
+      ↔ ((p : Place) × NodeBegins l p)
   tag_places_proof = (node_begins, λ h. tag_goes_on h.0 h.1)

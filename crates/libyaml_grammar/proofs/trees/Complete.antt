@@ -1,26 +1,42 @@
 -- Reading is complete: fed with the tokens of a tree, a position leads to its place filled with that tree, wherever the
 -- next token is taken there. So a stream's tokens lead to the stream.
 use Rattle.std.proofs.Common.{◌≡◌, List, [], ◌∷◌, Option, Some, None, refl, sym, ap, ◌∙◌, subst, Bool}
-use Rattle.libyaml_grammar.specs.sentences.Tokens.{Alias, Anchor, BlockEnd, BlockEntry, BlockMappingStart, BlockSequenceStart, Content, DocumentEnd}
-use Rattle.libyaml_grammar.specs.sentences.Tokens.{DocumentStart, FlowEntry, FlowMappingEnd, FlowMappingStart, FlowSequenceEnd, FlowSequenceStart, Key}
-use Rattle.libyaml_grammar.specs.sentences.Tokens.{Marks, Scalar, StreamEnd, Tag, TagDirective, Token, Value, VersionDirective, marks_of, tok}
-use Rattle.libyaml_grammar.specs.sentences.Trees.{Before, BlockItems, BlockNode, BlockSlot, Directive, Directives, Documents, Ended, FlowItems, FlowLast}
-use Rattle.libyaml_grammar.specs.sentences.Trees.{FlowMember, FlowNode, FlowSlot, Free, Parts, Properties, Slot, Sort, Stream, again, alias, alone, anchor}
-use Rattle.libyaml_grammar.specs.sentences.Trees.{before_tokens, behind, block_mapping, block_node_tokens, block_sequence, block_slot_tokens, closing}
-use Rattle.libyaml_grammar.specs.sentences.Trees.{collection, directive, directive_token, directives_tokens, documents_tokens, empty, ended, ended_tokens}
-use Rattle.libyaml_grammar.specs.sentences.Trees.{explicit, flow, flow_items_tokens, flow_last_tokens, flow_member_tokens, flow_node, flow_node_tokens}
-use Rattle.libyaml_grammar.specs.sentences.Trees.{flow_nothing, flow_slot_tokens, free, free_tokens, implicit, indentless, item, items_tokens, key, last}
-use Rattle.libyaml_grammar.specs.sentences.Trees.{mapping, more_items, no_directives, no_items, no_last, no_parts, no_value, node, nothing, once, opened}
-use Rattle.libyaml_grammar.specs.sentences.Trees.{opening, option_tokens, pair, part, parts_tokens, properties_tokens, scalar, sequence, single, slot_of}
+use Rattle.libyaml_grammar.specs.sentences.Tokens.{Alias, Anchor, BlockEnd, BlockEntry, BlockMappingStart}
+use Rattle.libyaml_grammar.specs.sentences.Tokens.{BlockSequenceStart, Content, DocumentEnd}
+use Rattle.libyaml_grammar.specs.sentences.Tokens.{DocumentStart, FlowEntry, FlowMappingEnd, FlowMappingStart}
+use Rattle.libyaml_grammar.specs.sentences.Tokens.{FlowSequenceEnd, FlowSequenceStart, Key}
+use Rattle.libyaml_grammar.specs.sentences.Tokens.{Marks, Scalar, StreamEnd, Tag, TagDirective, Token, Value}
+use Rattle.libyaml_grammar.specs.sentences.Tokens.{VersionDirective, marks_of, tok}
+use Rattle.libyaml_grammar.specs.sentences.Trees.{Before, BlockItems, BlockNode, BlockSlot, Directive, Directives}
+use Rattle.libyaml_grammar.specs.sentences.Trees.{Documents, Ended, FlowItems, FlowLast}
+use Rattle.libyaml_grammar.specs.sentences.Trees.{FlowMember, FlowNode, FlowSlot, Free, Parts, Properties, Slot, Sort}
+use Rattle.libyaml_grammar.specs.sentences.Trees.{Stream, again, alias, alone, anchor}
+use Rattle.libyaml_grammar.specs.sentences.Trees.{before_tokens, behind, block_mapping, block_node_tokens}
+use Rattle.libyaml_grammar.specs.sentences.Trees.{block_sequence, block_slot_tokens, closing}
+use Rattle.libyaml_grammar.specs.sentences.Trees.{collection, directive, directive_token, directives_tokens}
+use Rattle.libyaml_grammar.specs.sentences.Trees.{documents_tokens, empty, ended, ended_tokens}
+use Rattle.libyaml_grammar.specs.sentences.Trees.{explicit, flow, flow_items_tokens, flow_last_tokens}
+use Rattle.libyaml_grammar.specs.sentences.Trees.{flow_member_tokens, flow_node, flow_node_tokens}
+use Rattle.libyaml_grammar.specs.sentences.Trees.{flow_nothing, flow_slot_tokens, free, free_tokens, implicit}
+use Rattle.libyaml_grammar.specs.sentences.Trees.{indentless, item, items_tokens, key, last}
+use Rattle.libyaml_grammar.specs.sentences.Trees.{mapping, more_items, no_directives, no_items, no_last, no_parts}
+use Rattle.libyaml_grammar.specs.sentences.Trees.{no_value, node, nothing, once, opened}
+use Rattle.libyaml_grammar.specs.sentences.Trees.{opening, option_tokens, pair, part, parts_tokens, properties_tokens}
+use Rattle.libyaml_grammar.specs.sentences.Trees.{scalar, sequence, single, slot_of}
 use Rattle.libyaml_grammar.specs.sentences.Trees.{slot_tokens, tokens, value, version, whole, with_value}
 use Rattle.libyaml_grammar.specs.sentences.Events.{Event}
-use Rattle.libyaml_grammar.specs.cuts.CutTrees.{BlockPlace, Cut, Open, PartPlace, Place, block, content_due, entry, explicit_root, flow_entry, flow_key}
-use Rattle.libyaml_grammar.specs.cuts.CutTrees.{flow_value, implicit_root, indentless_entry, open_collection, part_place, root, slot}
-use Rattle.libyaml_grammar.proofs.lent.Positions.{Position, between, done, due, flow_behind, flow_due, flow_keyed, headed, in_indentless, in_mapping}
+use Rattle.libyaml_grammar.specs.cuts.CutTrees.{BlockPlace, Cut, Open, PartPlace, Place, block, content_due, entry}
+use Rattle.libyaml_grammar.specs.cuts.CutTrees.{explicit_root, flow_entry, flow_key}
+use Rattle.libyaml_grammar.specs.cuts.CutTrees.{flow_value, implicit_root, indentless_entry, open_collection}
+use Rattle.libyaml_grammar.specs.cuts.CutTrees.{part_place, root, slot}
+use Rattle.libyaml_grammar.proofs.lent.Positions.{Position, between, done, due, flow_behind, flow_due, flow_keyed}
+use Rattle.libyaml_grammar.proofs.lent.Positions.{headed, in_indentless, in_mapping}
 use Rattle.libyaml_grammar.proofs.lent.Positions.{in_sequence, unopened}
-use Rattle.libyaml_grammar.proofs.lent.Reading.{Step, bad, behind_whole, feed, feeds, fill, fill_block_slot, fill_flow, fill_flow_slot, fill_part, goes}
+use Rattle.libyaml_grammar.proofs.lent.Reading.{Step, bad, behind_whole, feed, feeds, fill, fill_block_slot, fill_flow}
+use Rattle.libyaml_grammar.proofs.lent.Reading.{fill_flow_slot, fill_part, goes}
 use Rattle.libyaml_grammar.proofs.lent.Reading.{leave, on_due, or_bad, over, step, then_all}
-use Rattle.libyaml_grammar.proofs.lent.ReadSteps.{ReadStep, begins_explicit, ends_indentless, ends_stream, fails, first_handle, first_version, is_past}
+use Rattle.libyaml_grammar.proofs.lent.ReadSteps.{ReadStep, begins_explicit, ends_indentless, ends_stream, fails}
+use Rattle.libyaml_grammar.proofs.lent.ReadSteps.{first_handle, first_version, is_past}
 use Rattle.libyaml_grammar.proofs.lent.ReadSteps.{lacks_value, moves, no_stream, read_step}
 
 -- the token is taken
@@ -59,7 +75,8 @@ Begins BlockMappingStart = Unit {0}
 Begins _ = ⊥
 
 -- after a whole node the step is that of what is after it
-pub whole_step : (p : Place) (n : FlowNode) (k : Content) (m : Marks) → step (fill_flow p n) k m ≡ behind_whole (fill_flow p n) k m
+pub whole_step : (p : Place) (n : FlowNode) (k : Content) (m : Marks)
+    → step (fill_flow p n) k m ≡ behind_whole (fill_flow p n) k m
 whole_step (block (root (implicit_root f))) n k m = refl
 whole_step (block (slot (part_place c o s ps r v))) n k m = refl
 whole_step _ n k m = refl
@@ -72,7 +89,8 @@ BeginsBehind (flow_due c) k = ⊥
 BeginsBehind q k = Begins k
 
 -- it is never taken there
-never : {m : Marks} {q : Position} {k : Content} {s : Step} {g : List Event → List Event} {l : Bool} → ReadStep m q k s g l → BeginsBehind q k → Takes s → ⊥
+never : {m : Marks} {q : Position} {k : Content} {s : Step} {g : List Event → List Event} {l : Bool}
+    → ReadStep m q k s g l → BeginsBehind q k → Takes s → ⊥
 never is_past b h = h
 never (moves ends_indentless v) b h = never v b h
 never (moves lacks_value v) b h = never v b h
@@ -142,7 +160,8 @@ properties_feed : (ps : Properties) (p : Place) (r : List Token)
 properties_feed (anchor a m) p r = refl
 properties_feed _ p r = refl
 
-pub option_feeds : (o : Option Properties) (p : Place) (r : List Token) → feeds (option_tokens o r) (due p None) ≡ feeds r (due p o)
+pub option_feeds : (o : Option Properties) (p : Place) (r : List Token)
+    → feeds (option_tokens o r) (due p None) ≡ feeds r (due p o)
 option_feeds None p r = refl
 option_feeds (Some ps) p r = properties_feed ps p r
 
@@ -236,17 +255,22 @@ mutual
       = option_feeds o p _ ∙ (opening_feeds k m p o _ ∙ (flow_items_read is p o k m _ ∙ flow_last_reads l p o k m is n r))
 
   pub flow_items_read : (is : FlowItems) (p : Place) (o : Option Properties) (k : Sort) (m : Marks) (r : List Token)
-      → feeds (flow_items_tokens is r) (flow_due (open_collection p o k m no_items)) ≡ feeds r (flow_due (open_collection p o k m is))
+      → feeds (flow_items_tokens is r) (flow_due (open_collection p o k m no_items)) ≡ feeds r
+      (flow_due (open_collection p o k m is))
   flow_items_read no_items p o k m r = refl
-  flow_items_read (more_items is e n) p o k m r = flow_items_read is p o k m _ ∙ flow_member_reads e (open_collection p o k m is) (tok FlowEntry n ∷ r) tt
+  flow_items_read (more_items is e n) p o k m r = flow_items_read is p o k m _
+      ∙ flow_member_reads e (open_collection p o k m is) (tok FlowEntry n ∷ r) tt
 
   flow_last_reads : (l : FlowLast) (p : Place) (o : Option Properties) (k : Sort) (m : Marks) (is : FlowItems)
       (n : Marks) (r : List Token)
-      → feeds (flow_last_tokens l (tok (closing k) n ∷ r)) (flow_due (open_collection p o k m is)) ≡ feeds r (fill_flow p (collection o k m is l n))
+      → feeds (flow_last_tokens l (tok (closing k) n ∷ r)) (flow_due (open_collection p o k m is)) ≡ feeds r
+      (fill_flow p (collection o k m is l n))
   flow_last_reads no_last p o sequence m is n r = refl
   flow_last_reads no_last p o mapping m is n r = refl
-  flow_last_reads (last e) p o sequence m is n r = flow_member_reads e (open_collection p o sequence m is) (tok FlowSequenceEnd n ∷ r) tt
-  flow_last_reads (last e) p o mapping m is n r = flow_member_reads e (open_collection p o mapping m is) (tok FlowMappingEnd n ∷ r) tt
+  flow_last_reads (last e) p o sequence m is n r = flow_member_reads e (open_collection p o sequence m is)
+      (tok FlowSequenceEnd n ∷ r) tt
+  flow_last_reads (last e) p o mapping m is n r = flow_member_reads e (open_collection p o mapping m is)
+      (tok FlowMappingEnd n ∷ r) tt
 
   flow_member_reads : (e : FlowMember) (c : Open) (r : List Token) → Ready (flow_behind c e) r
       → feeds (flow_member_tokens e r) (flow_due c) ≡ feeds r (flow_behind c e)
@@ -283,10 +307,12 @@ mutual
   block_slot_reads nothing c r h = follows_feeds (due (block c) None) (leave (block c)) (leave_follows (block c)) r h
   block_slot_reads (node n) c r h = block_node_edge n c r ∙ block_edge_whole n c r h
 
-  pub items_read : (is : BlockItems) (c : BlockPlace) (o : Option Properties) (m : Marks) (r : List Token) → Ready (in_sequence c o m is) r
+  pub items_read : (is : BlockItems) (c : BlockPlace) (o : Option Properties) (m : Marks) (r : List Token)
+      → Ready (in_sequence c o m is) r
       → feeds (items_tokens is r) (in_sequence c o m empty) ≡ feeds r (in_sequence c o m is)
   items_read empty c o m r h = refl
-  items_read (item is e n) c o m r h = items_read is c o m (tok BlockEntry e ∷ block_slot_tokens n r) tt ∙ block_slot_reads n (entry c o m is e) r h
+  items_read (item is e n) c o m r h = items_read is c o m (tok BlockEntry e ∷ block_slot_tokens n r) tt
+      ∙ block_slot_reads n (entry c o m is e) r h
 
   slot_reads : (x : Slot) (c : PartPlace) (r : List Token) → Ready (fill_part c x) r
       → feeds (slot_tokens x r) (due (block (slot c)) None) ≡ feeds r (fill_part c x)
@@ -298,15 +324,20 @@ mutual
       ∙ follows_feeds (in_indentless c o is e n) (fill_part c (indentless o is e n)) (indentless_follows c o is e n) r h))
 
   pub entries_read : (is : BlockItems) (c : PartPlace) (o : Option Properties) (e : Marks) (r : List Token)
-      → feeds (items_tokens is (tok BlockEntry e ∷ r)) (due (block (slot c)) o) ≡ feeds r (due (block (indentless_entry c o is e)) None)
+      → feeds (items_tokens is (tok BlockEntry e ∷ r)) (due (block (slot c)) o) ≡ feeds r
+      (due (block (indentless_entry c o is e)) None)
   entries_read empty c o e r = refl
-  entries_read (item is f n) c o e r = entries_read is c o f _ ∙ block_slot_reads n (indentless_entry c o is f) (tok BlockEntry e ∷ r) tt
+  entries_read (item is f n) c o e r = entries_read is c o f _ ∙ block_slot_reads n (indentless_entry c o is f)
+      (tok BlockEntry e ∷ r) tt
 
-  pub parts_read : (ps : Parts) (c : BlockPlace) (o : Option Properties) (m : Marks) (r : List Token) → Ready (in_mapping c o m ps) r
+  pub parts_read : (ps : Parts) (c : BlockPlace) (o : Option Properties) (m : Marks) (r : List Token)
+      → Ready (in_mapping c o m ps) r
       → feeds (parts_tokens ps r) (in_mapping c o m no_parts) ≡ feeds r (in_mapping c o m ps)
   parts_read no_parts c o m r h = refl
-  parts_read (part ps key v x) c o m r h = parts_read ps c o m (tok Key v ∷ slot_tokens x r) tt ∙ slot_reads x (part_place c o m ps key v) r h
-  parts_read (part ps value v x) c o m r h = parts_read ps c o m (tok Value v ∷ slot_tokens x r) tt ∙ slot_reads x (part_place c o m ps value v) r h
+  parts_read (part ps key v x) c o m r h = parts_read ps c o m (tok Key v ∷ slot_tokens x r) tt
+      ∙ slot_reads x (part_place c o m ps key v) r h
+  parts_read (part ps value v x) c o m r h = parts_read ps c o m (tok Value v ∷ slot_tokens x r) tt
+      ∙ slot_reads x (part_place c o m ps value v) r h
 
 -- documents
 abbrev pub heads : Before → Directives → Position
@@ -320,10 +351,12 @@ directive_feed (behind f) no_directives (version x m) = refl
 directive_feed b (directive ds d) (version x m) = refl
 directive_feed _ _ _ = refl
 
-pub directive_feeds : (b : Before) (ds : Directives) (d : Directive) (r : List Token) → feeds (directive_token d ∷ r) (heads b ds) ≡ feeds r (headed b ds d)
+pub directive_feeds : (b : Before) (ds : Directives) (d : Directive) (r : List Token)
+    → feeds (directive_token d ∷ r) (heads b ds) ≡ feeds r (headed b ds d)
 directive_feeds b ds d r = ap (λ (s : Step). then_all s (feeds r)) (directive_feed b ds d)
 
-pub directives_read : (ds : Directives) (b : Before) (r : List Token) → feeds (directives_tokens ds r) (between b) ≡ feeds r (heads b ds)
+pub directives_read : (ds : Directives) (b : Before) (r : List Token)
+    → feeds (directives_tokens ds r) (between b) ≡ feeds r (heads b ds)
 directives_read no_directives b r = refl
 directives_read (directive ds d) b r = directives_read ds b (directive_token d ∷ r) ∙ directive_feeds b ds d r
 
@@ -338,7 +371,8 @@ directive_ready (free f) (version x m) = tt
 directive_ready (behind f) (version x m) = tt
 directive_ready _ _ = tt
 
-pub directives_ready : (ds : Directives) (b : Before) (r : List Token) → Ready (between b) r → Ready (between b) (directives_tokens ds r)
+pub directives_ready : (ds : Directives) (b : Before) (r : List Token) → Ready (between b) r
+    → Ready (between b) (directives_tokens ds r)
 directives_ready no_directives b r h = h
 directives_ready (directive ds d) b r h = directives_ready ds b (directive_token d ∷ r) (directive_ready b d)
 
@@ -363,7 +397,8 @@ mutual
   ended_reads (once d m) r = documents_read d (tok DocumentEnd m ∷ r) tt
   ended_reads (again e m) r = ended_reads e (tok DocumentEnd m ∷ r)
 
-  pub before_reads : (b : Before) (r : List Token) → Ready (between b) r → feeds (before_tokens b r) unopened ≡ feeds r (between b)
+  pub before_reads : (b : Before) (r : List Token) → Ready (between b) r
+      → feeds (before_tokens b r) unopened ≡ feeds r (between b)
   before_reads (free f) r h = free_reads f r
   before_reads (behind d) r h = documents_read d r h
 

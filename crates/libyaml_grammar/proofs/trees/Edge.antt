@@ -1,20 +1,33 @@
 -- The position that a cut tree's tokens lead to: its right edge, with all that is open around it.
 use Rattle.std.proofs.Common.{◌≡◌, List, ◌∷◌, Option, Some, None, refl, ◌∙◌}
-use Rattle.libyaml_grammar.specs.sentences.Tokens.{Anchor, BlockEntry, BlockMappingStart, BlockSequenceStart, Key, Marks, Token, Value, tok}
-use Rattle.libyaml_grammar.specs.sentences.Trees.{Before, BlockItems, BlockSlot, Directive, Directives, Documents, FlowMember, FlowSlot, Parts, Properties}
-use Rattle.libyaml_grammar.specs.sentences.Trees.{Sort, anchor, before_tokens, behind, block_node_tokens, block_slot_tokens, directive, directive_token}
-use Rattle.libyaml_grammar.specs.sentences.Trees.{directives_tokens, documents_tokens, empty, explicit, flow_node, flow_node_tokens, flow_nothing}
-use Rattle.libyaml_grammar.specs.sentences.Trees.{flow_slot_tokens, free, implicit, indentless, item, key, no_directives, no_items, no_parts, no_value}
-use Rattle.libyaml_grammar.specs.sentences.Trees.{node, nothing, opening, option_tokens, pair, part, single, slot_of, value, with_value}
-use Rattle.libyaml_grammar.specs.cuts.CutTrees.{BlockPlace, Cut, Open, PartPlace, Place, at_directive, at_tag, at_tag_behind, before_stream, block}
-use Rattle.libyaml_grammar.specs.cuts.CutTrees.{block_place_tokens, content_due, cut_tokens, document_due, entry, entry_due, explicit_root, flow_entry}
-use Rattle.libyaml_grammar.specs.cuts.CutTrees.{flow_key, flow_value, implicit_root, indentless_entry, open_collection, open_tokens, part_due, part_place}
+use Rattle.libyaml_grammar.specs.sentences.Tokens.{Anchor, BlockEntry, BlockMappingStart, BlockSequenceStart, Key}
+use Rattle.libyaml_grammar.specs.sentences.Tokens.{Marks, Token, Value, tok}
+use Rattle.libyaml_grammar.specs.sentences.Trees.{Before, BlockItems, BlockSlot, Directive, Directives, Documents}
+use Rattle.libyaml_grammar.specs.sentences.Trees.{FlowMember, FlowSlot, Parts, Properties}
+use Rattle.libyaml_grammar.specs.sentences.Trees.{Sort, anchor, before_tokens, behind, block_node_tokens}
+use Rattle.libyaml_grammar.specs.sentences.Trees.{block_slot_tokens, directive, directive_token}
+use Rattle.libyaml_grammar.specs.sentences.Trees.{directives_tokens, documents_tokens, empty, explicit, flow_node}
+use Rattle.libyaml_grammar.specs.sentences.Trees.{flow_node_tokens, flow_nothing}
+use Rattle.libyaml_grammar.specs.sentences.Trees.{flow_slot_tokens, free, implicit, indentless, item, key}
+use Rattle.libyaml_grammar.specs.sentences.Trees.{no_directives, no_items, no_parts, no_value}
+use Rattle.libyaml_grammar.specs.sentences.Trees.{node, nothing, opening, option_tokens, pair, part, single, slot_of}
+use Rattle.libyaml_grammar.specs.sentences.Trees.{value, with_value}
+use Rattle.libyaml_grammar.specs.cuts.CutTrees.{BlockPlace, Cut, Open, PartPlace, Place, at_directive, at_tag}
+use Rattle.libyaml_grammar.specs.cuts.CutTrees.{at_tag_behind, before_stream, block}
+use Rattle.libyaml_grammar.specs.cuts.CutTrees.{block_place_tokens, content_due, cut_tokens, document_due, entry}
+use Rattle.libyaml_grammar.specs.cuts.CutTrees.{entry_due, explicit_root, flow_entry}
+use Rattle.libyaml_grammar.specs.cuts.CutTrees.{flow_key, flow_value, implicit_root, indentless_entry, open_collection}
+use Rattle.libyaml_grammar.specs.cuts.CutTrees.{open_tokens, part_due, part_place}
 use Rattle.libyaml_grammar.specs.cuts.CutTrees.{part_place_tokens, place_tokens, root, separator_due, slot, start_due}
-use Rattle.libyaml_grammar.proofs.lent.Positions.{Position, between, due, flow_due, headed, in_mapping, in_sequence, unopened}
+use Rattle.libyaml_grammar.proofs.lent.Positions.{Position, between, due, flow_due, headed, in_mapping, in_sequence}
+use Rattle.libyaml_grammar.proofs.lent.Positions.{unopened}
 use Rattle.libyaml_grammar.proofs.lent.Reading.{feeds}
-use Rattle.libyaml_grammar.proofs.trees.Complete.{before_reads, block_node_begins, block_node_edge, directive_feeds, directive_ready, directives_read}
-use Rattle.libyaml_grammar.proofs.trees.Complete.{directives_ready, edge_block, edge_flow, entries_read, flow_items_read, flow_node_begins, flow_node_edge}
-use Rattle.libyaml_grammar.proofs.trees.Complete.{flow_slot_reads, free_reads, home, home_feeds, items_read, opening_begins, opening_feeds, option_begins}
+use Rattle.libyaml_grammar.proofs.trees.Complete.{before_reads, block_node_begins, block_node_edge, directive_feeds}
+use Rattle.libyaml_grammar.proofs.trees.Complete.{directive_ready, directives_read}
+use Rattle.libyaml_grammar.proofs.trees.Complete.{directives_ready, edge_block, edge_flow, entries_read}
+use Rattle.libyaml_grammar.proofs.trees.Complete.{flow_items_read, flow_node_begins, flow_node_edge}
+use Rattle.libyaml_grammar.proofs.trees.Complete.{flow_slot_reads, free_reads, home, home_feeds, items_read}
+use Rattle.libyaml_grammar.proofs.trees.Complete.{opening_begins, opening_feeds, option_begins}
 use Rattle.libyaml_grammar.proofs.trees.Complete.{option_feeds, parts_read, start_feeds, start_ready}
 
 -- the position after the last token of a place that is filled
@@ -26,11 +39,13 @@ abbrev pub edge_flow_slot : Place → FlowSlot → Position
 edge_flow_slot p flow_nothing = due p None
 edge_flow_slot p (flow_node n) = edge_flow p n
 
-slot_edge : (x : BlockSlot) (c : BlockPlace) (r : List Token) → feeds (block_slot_tokens x r) (due (block c) None) ≡ feeds r (edge_slot c x)
+slot_edge : (x : BlockSlot) (c : BlockPlace) (r : List Token)
+    → feeds (block_slot_tokens x r) (due (block c) None) ≡ feeds r (edge_slot c x)
 slot_edge nothing c r = refl
 slot_edge (node n) c r = block_node_edge n c r
 
-flow_slot_edge : (x : FlowSlot) (p : Place) (r : List Token) → feeds (flow_slot_tokens x r) (due p None) ≡ feeds r (edge_flow_slot p x)
+flow_slot_edge : (x : FlowSlot) (p : Place) (r : List Token)
+    → feeds (flow_slot_tokens x r) (due p None) ≡ feeds r (edge_flow_slot p x)
 flow_slot_edge flow_nothing p r = refl
 flow_slot_edge (flow_node n) p r = flow_node_edge n p r
 
@@ -59,13 +74,18 @@ mutual
   block_place_reads (root (implicit_root f)) r = free_reads f r
   block_place_reads (root (explicit_root b ds m)) r = before_reads b _ (directives_ready ds b _ (start_ready b m))
       ∙ (directives_read ds b _ ∙ start_feeds b ds m r)
-  block_place_reads (entry c o m is e) r = block_place_reads c _ ∙ (home_sequence o c m _ ∙ items_read is c o m (tok BlockEntry e ∷ r) tt)
+  block_place_reads (entry c o m is e) r = block_place_reads c _
+      ∙ (home_sequence o c m _ ∙ items_read is c o m (tok BlockEntry e ∷ r) tt)
   block_place_reads (slot c) r = part_place_reads c r
-  block_place_reads (indentless_entry c o is e) r = part_place_reads c _ ∙ (option_feeds o (block (slot c)) _ ∙ entries_read is c o e r)
+  block_place_reads (indentless_entry c o is e) r = part_place_reads c _
+      ∙ (option_feeds o (block (slot c)) _ ∙ entries_read is c o e r)
 
-  part_place_reads : (c : PartPlace) (r : List Token) → feeds (part_place_tokens c r) unopened ≡ feeds r (due (block (slot c)) None)
-  part_place_reads (part_place c o m ps key v) r = block_place_reads c _ ∙ (home_mapping o c m _ ∙ parts_read ps c o m (tok Key v ∷ r) tt)
-  part_place_reads (part_place c o m ps value v) r = block_place_reads c _ ∙ (home_mapping o c m _ ∙ parts_read ps c o m (tok Value v ∷ r) tt)
+  part_place_reads : (c : PartPlace) (r : List Token)
+      → feeds (part_place_tokens c r) unopened ≡ feeds r (due (block (slot c)) None)
+  part_place_reads (part_place c o m ps key v) r = block_place_reads c _
+      ∙ (home_mapping o c m _ ∙ parts_read ps c o m (tok Key v ∷ r) tt)
+  part_place_reads (part_place c o m ps value v) r = block_place_reads c _
+      ∙ (home_mapping o c m _ ∙ parts_read ps c o m (tok Value v ∷ r) tt)
 
 mutual
   pub place_reads : (p : Place) (r : List Token) → feeds (place_tokens p r) unopened ≡ feeds r (home p)
@@ -117,11 +137,13 @@ documents_edge : (d : Documents) (r : List Token) → feeds (documents_tokens d 
 documents_edge (implicit f n) r = free_reads f _
     ∙ (home_feeds (block (root (implicit_root f))) (block_node_tokens n r) (block_node_begins n r)
     ∙ block_node_edge n (root (implicit_root f)) r)
-documents_edge (explicit b ds m x) r = block_place_reads (root (explicit_root b ds m)) _ ∙ slot_edge x (root (explicit_root b ds m)) r
+documents_edge (explicit b ds m x) r = block_place_reads (root (explicit_root b ds m)) _
+    ∙ slot_edge x (root (explicit_root b ds m)) r
 
 headed_reads : (b : Before) (ds : Directives) (d : Directive) (r : List Token)
     → feeds (before_tokens b (directives_tokens ds (directive_token d ∷ r))) unopened ≡ feeds r (headed b ds d)
-headed_reads b ds d r = before_reads b _ (directives_ready ds b _ (directive_ready b d)) ∙ (directives_read ds b _ ∙ directive_feeds b ds d r)
+headed_reads b ds d r = before_reads b _ (directives_ready ds b _ (directive_ready b d))
+    ∙ (directives_read ds b _ ∙ directive_feeds b ds d r)
 
 pub cut_reads : (c : Cut) (r : List Token) → feeds (cut_tokens c r) unopened ≡ feeds r (reached c)
 cut_reads before_stream r = refl
@@ -136,11 +158,14 @@ cut_reads (at_tag_behind p a m) r = place_reads p _ ∙ home_feeds p (tok (Ancho
 cut_reads (entry_due c o m empty) r = block_place_reads c _ ∙ home_sequence o c m r
 cut_reads (entry_due c o m (item is e x)) r = block_place_reads (entry c o m is e) _ ∙ slot_edge x (entry c o m is e) r
 cut_reads (part_due c o m no_parts) r = block_place_reads c _ ∙ home_mapping o c m r
-cut_reads (part_due c o m (part ps k v (slot_of x))) r = part_place_reads (part_place c o m ps k v) _ ∙ slot_edge x (slot (part_place c o m ps k v)) r
-cut_reads (part_due c o m (part ps k v (indentless y is e x))) r = block_place_reads (indentless_entry (part_place c o m ps k v) y is e) _
+cut_reads (part_due c o m (part ps k v (slot_of x))) r = part_place_reads (part_place c o m ps k v) _
+    ∙ slot_edge x (slot (part_place c o m ps k v)) r
+cut_reads (part_due c o m (part ps k v (indentless y is e x))) r =
+    block_place_reads (indentless_entry (part_place c o m ps k v) y is e) _
     ∙ slot_edge x (indentless_entry (part_place c o m ps k v) y is e) r
 cut_reads (separator_due c (single n)) r
     = open_reads c _ ∙ (home_feeds (flow_entry c) (flow_node_tokens n r) (flow_node_begins n r)
     ∙ flow_node_edge n (flow_entry c) r)
 cut_reads (separator_due c (pair k x no_value)) r = open_reads c _ ∙ flow_slot_edge x (flow_key c k) r
-cut_reads (separator_due c (pair k x (with_value v y))) r = place_reads (flow_value c k x v) _ ∙ flow_slot_edge y (flow_value c k x v) r
+cut_reads (separator_due c (pair k x (with_value v y))) r = place_reads (flow_value c k x v) _
+    ∙ flow_slot_edge y (flow_value c k x v) r

@@ -6,8 +6,10 @@ use Rattle.libyaml_grammar.specs.sentences.Events.{Event, either}
 use Rattle.libyaml_grammar.specs.sentences.Sentences.{has_end, is_end}
 use Rattle.libyaml_grammar.specs.cuts.CutTrees.{BlockPlace, Place, block, implicit_root, part_place, root, slot}
 use Rattle.libyaml_grammar.proofs.lent.Positions.{Position, done}
-use Rattle.libyaml_grammar.proofs.lent.Reading.{Step, bad, checked, feed, fill, fill_flow, goes, is_legal, over, reads, reads_all, then_all}
-use Rattle.libyaml_grammar.proofs.lent.ReadSteps.{ReadStep, a_scalar, an_alias, closes_at_mapping, closes_at_sequence, closes_mapping, closes_sequence}
+use Rattle.libyaml_grammar.proofs.lent.Reading.{Step, bad, checked, feed, fill, fill_flow, goes, is_legal, over, reads}
+use Rattle.libyaml_grammar.proofs.lent.Reading.{reads_all, then_all}
+use Rattle.libyaml_grammar.proofs.lent.ReadSteps.{ReadStep, a_scalar, an_alias, closes_at_mapping, closes_at_sequence}
+use Rattle.libyaml_grammar.proofs.lent.ReadSteps.{closes_mapping, closes_sequence}
 use Rattle.libyaml_grammar.proofs.lent.ReadSteps.{ends_mapping, ends_sequence, fails, is_past, leaves, moves, read_step}
 
 abbrev pub DoneAt : Position → Bool → Type 0
@@ -28,7 +30,8 @@ fill_flow_open : (p : Place) (x : FlowNode) → DoneAt (fill_flow p x) false
 fill_flow_open (block c) x = fill_open c (flow x)
 fill_flow_open _ x = refl
 
-ends : {m : Marks} {q : Position} {k : Content} {s : Step} {g : List Event → List Event} {l : Bool} → ReadStep m q k s g l → Done s (is_end k)
+ends : {m : Marks} {q : Position} {k : Content} {s : Step} {g : List Event → List Event} {l : Bool}
+    → ReadStep m q k s g l → Done s (is_end k)
 ends is_past = tt
 ends (moves x h) = ends h
 ends (leaves p e h) = ends h
@@ -50,15 +53,20 @@ checked_done (bad c) b x h = tt
 checked_done over b x h = tt
 
 pub reads_done : (q : Position) (t : Token) → Done (reads q t) (is_end t.content)
-reads_done q t = checked_done (feed q t) (is_legal q t.content) (is_end t.content) (ends (read_step (marks_of t) q t.content))
+reads_done q t = checked_done (feed q t) (is_legal q t.content) (is_end t.content)
+    (ends (read_step (marks_of t) q t.content))
 
 -- a list without STREAM-END that is read from before the stream's end does not lead past it
-pub stays_open : (l : List Token) (q p : Position) → DoneAt q false → has_end l ≡ false → reads_all l q ≡ goes p → DoneAt p false
+pub stays_open : (l : List Token) (q p : Position) → DoneAt q false → has_end l ≡ false → reads_all l q ≡ goes p
+    → DoneAt p false
 stays_open [] q p d n e = subst (λ (s : Step). Done s false) e d
-stays_open (t ∷ l) q p d n e = go (λ (x : Position) (h : DoneAt x false) (m : has_end l ≡ false) (g : reads_all l x ≡ goes p). stays_open l x p h m g)
+stays_open (t ∷ l) q p d n e =
+    go (λ (x : Position) (h : DoneAt x false) (m : has_end l ≡ false) (g : reads_all l x ≡ goes p). stays_open l x p
+    h m g)
     (is_end t.content) refl (reads q t) (reads_done q t) e
   where
-    go : ((x : Position) → DoneAt x false → has_end l ≡ false → reads_all l x ≡ goes p → DoneAt p false) → (b : Bool) → is_end t.content ≡ b → (s : Step)
+    go : ((x : Position) → DoneAt x false → has_end l ≡ false → reads_all l x ≡ goes p → DoneAt p false)
+        → (b : Bool) → is_end t.content ≡ b → (s : Step)
         → Done s (is_end t.content) → then_all s (reads_all l) ≡ goes p → DoneAt p false
     go ih true f s h g = absurd (no (sym (ap (λ (x : Bool). either x (has_end l)) f) ∙ n))
       where

@@ -1,23 +1,32 @@
--- Where reading stops with a cut tree, the rules name that one: what ends it, what its place wants, and whether its token is
--- a directive or a TAG.
-use Rattle.std.proofs.Common.{◌≡◌, List, [], ◌∷◌, Option, Some, None, refl, sym, ap, ◌∙◌, subst, ◌⊎◌, inl, inr, ⊎_elim, Bool, true, false}
-use Rattle.libyaml_grammar.specs.sentences.Tokens.{Anchor, AnchorName, Content, DocumentEnd, DocumentStart, Marks, StreamEnd, TagDirective, Token}
+-- Where reading stops with a cut tree, the rules name that one: what ends it, what its place wants, and whether its
+-- token is a directive or a TAG.
+use Rattle.std.proofs.Common.{◌≡◌, List, [], ◌∷◌, Option, Some, None, refl, sym, ap, ◌∙◌, subst, ◌⊎◌, inl, inr, ⊎_elim}
+use Rattle.std.proofs.Common.{Bool, true, false}
+use Rattle.libyaml_grammar.specs.sentences.Tokens.{Anchor, AnchorName, Content, DocumentEnd, DocumentStart, Marks}
+use Rattle.libyaml_grammar.specs.sentences.Tokens.{StreamEnd, TagDirective, Token}
 use Rattle.libyaml_grammar.specs.sentences.Tokens.{VersionDirective, tok}
-use Rattle.libyaml_grammar.specs.sentences.Trees.{Before, Directive, Directives, Documents, Free, Properties, anchor, anchor_tag, behind, directive}
-use Rattle.libyaml_grammar.specs.sentences.Trees.{explicit, flow_nothing, free, implicit, indentless, item, no_directives, no_value, node, nothing, pair}
+use Rattle.libyaml_grammar.specs.sentences.Trees.{Before, Directive, Directives, Documents, Free, Properties, anchor}
+use Rattle.libyaml_grammar.specs.sentences.Trees.{anchor_tag, behind, directive}
+use Rattle.libyaml_grammar.specs.sentences.Trees.{explicit, flow_nothing, free, implicit, indentless, item}
+use Rattle.libyaml_grammar.specs.sentences.Trees.{no_directives, no_value, node, nothing, pair}
 use Rattle.libyaml_grammar.specs.sentences.Trees.{part, slot_of, tag, tag_directive, version, with_value}
 use Rattle.libyaml_grammar.specs.sentences.Order.{both, declares, is_accepted, is_known, negated, no_version}
 use Rattle.libyaml_grammar.specs.sentences.Events.{Event}
-use Rattle.libyaml_grammar.specs.cuts.CutTrees.{Cut, Place, at_directive, at_tag, at_tag_behind, before_stream, block, content_due, declared, document_due}
-use Rattle.libyaml_grammar.specs.cuts.CutTrees.{entry, entry_due, explicit_root, flow_key, flow_value, implicit_root, indentless_entry, part_due}
+use Rattle.libyaml_grammar.specs.cuts.CutTrees.{Cut, Place, at_directive, at_tag, at_tag_behind, before_stream, block}
+use Rattle.libyaml_grammar.specs.cuts.CutTrees.{content_due, declared, document_due}
+use Rattle.libyaml_grammar.specs.cuts.CutTrees.{entry, entry_due, explicit_root, flow_key, flow_value, implicit_root}
+use Rattle.libyaml_grammar.specs.cuts.CutTrees.{indentless_entry, part_due}
 use Rattle.libyaml_grammar.specs.cuts.CutTrees.{part_place, place_tokens, root, separator_due, slot, start_due}
-use Rattle.libyaml_grammar.specs.cuts.Fits.{EndsEmpty, FitsDirective, IsUnknownTag, WantsContent, empty_root, ends_empty, ends_empty_document}
+use Rattle.libyaml_grammar.specs.cuts.Fits.{EndsEmpty, FitsDirective, IsUnknownTag, WantsContent, empty_root}
+use Rattle.libyaml_grammar.specs.cuts.Fits.{ends_empty, ends_empty_document}
 use Rattle.libyaml_grammar.specs.cuts.Fits.{is_directive, last_empty}
 use Rattle.libyaml_grammar.proofs.lent.Positions.{Position, between, due, headed, unopened}
-use Rattle.libyaml_grammar.proofs.lent.Reading.{Step, bad, bad_same, broken, checked, feeds, goes, goes_same, is_legal, over, reads, reads_all, step}
+use Rattle.libyaml_grammar.proofs.lent.Reading.{Step, bad, bad_same, broken, checked, feeds, goes, goes_same, is_legal}
+use Rattle.libyaml_grammar.proofs.lent.Reading.{over, reads, reads_all, step}
 use Rattle.libyaml_grammar.proofs.lent.OneCut.{content_fails, step_cut, stops_at_tag, stops_at_tag_behind}
 use Rattle.libyaml_grammar.proofs.lent.Orders.{reads_to}
-use Rattle.libyaml_grammar.proofs.lent.ReadSteps.{ReadStep, a_tag, fails, leaves, moves, no_document, no_document_start, no_stream, read_step}
+use Rattle.libyaml_grammar.proofs.lent.ReadSteps.{ReadStep, a_tag, fails, leaves, moves, no_document, no_document_start}
+use Rattle.libyaml_grammar.proofs.lent.ReadSteps.{no_stream, read_step}
 use Rattle.libyaml_grammar.proofs.lent.ReadSteps.{tag_behind_anchor}
 use Rattle.libyaml_grammar.proofs.trees.Edge.{cut_reads, edge_documents, place_reads, reached}
 use Rattle.libyaml_grammar.proofs.trees.Complete.{home}
@@ -53,10 +62,12 @@ step_or_order (goes x) l c e = inr (subst IsOrderCut (order_or_goes x l c e) (br
 step_or_order (bad d) l c e = inl e
 step_or_order over l c e = absurd cc
 
-step_fails : (q : Position) (k : Content) (m : Marks) (c : Cut) → (IsOrderCut c → ⊥) → reads q (tok k m) ≡ bad c → step q k m ≡ bad c
+step_fails : (q : Position) (k : Content) (m : Marks) (c : Cut) → (IsOrderCut c → ⊥) → reads q (tok k m) ≡ bad c
+    → step q k m ≡ bad c
 step_fails q k m c n e = ⊎_elim (λ f. f) (λ f. absurd (n f)) (step_or_order (step q k m) (is_legal q k) c e)
 
-ends_nothing : (p : Place) (k : Content) (m : Marks) → reads (home p) (tok k m) ≡ bad (content_due p) → ends_empty p k ≡ false
+ends_nothing : (p : Place) (k : Content) (m : Marks) → reads (home p) (tok k m) ≡ bad (content_due p)
+    → ends_empty p k ≡ false
 ends_nothing p k m e = content_fails (read_step m (home p) k) p (step_fails (home p) k m (content_due p) (λ f. f) e)
 
 directive_ends_empty : (k : Content) → is_directive k ≡ true → ends_empty_document k ≡ true
@@ -66,12 +77,15 @@ directive_ends_empty StreamEnd e = refl
 directive_ends_empty k e = e
 
 -- a cut that is neither of its place nor of the order does not come there
-not_left : (p : Place) (k : Content) (m : Marks) (c : Cut) → (c ≡ content_due p → ⊥) → (IsOrderCut c → ⊥) → reads (due p None) (tok k m) ≡ bad c → ⊥
+not_left : (p : Place) (k : Content) (m : Marks) (c : Cut) → (c ≡ content_due p → ⊥) → (IsOrderCut c → ⊥)
+    → reads (due p None) (tok k m) ≡ bad c → ⊥
 not_left p k m c a b e = a (step_cut (read_step m (due p None) k) c (step_fails (due p None) k m c b e))
 
-bad_ends_root : (d : Documents) (k : Content) (m : Marks) → reads (edge_documents d) (tok k m) ≡ bad (document_due d) → EndsEmpty (empty_root d) k
+bad_ends_root : (d : Documents) (k : Content) (m : Marks)
+    → reads (edge_documents d) (tok k m) ≡ bad (document_due d) → EndsEmpty (empty_root d) k
 bad_ends_root (explicit b ds s nothing) k m e
-    = absurd (not_left (block (root (explicit_root b ds s))) k m (document_due (explicit b ds s nothing)) (λ f. cc) (λ f. f) e)
+    = absurd (not_left (block (root (explicit_root b ds s))) k m (document_due (explicit b ds s nothing)) (λ f. cc)
+    (λ f. f) e)
 bad_ends_root (explicit b ds s (node x)) k m e = tt
 bad_ends_root (implicit f x) k m e = tt
 
@@ -89,14 +103,17 @@ gives_empty_end (at_directive (behind x) no_directives) k m d e = directive_ends
 gives_empty_end (entry_due c o s (item is y nothing)) k m d e
     = absurd (not_left (block (entry c o s is y)) k m (entry_due c o s (item is y nothing)) (λ f. cc) (λ f. f) e)
 gives_empty_end (part_due c o s (part ps r v (slot_of nothing))) k m d e
-    = absurd (not_left (block (slot (part_place c o s ps r v))) k m (part_due c o s (part ps r v (slot_of nothing))) (λ f. cc) (λ f. f) e)
+    = absurd (not_left (block (slot (part_place c o s ps r v))) k m (part_due c o s (part ps r v (slot_of nothing)))
+    (λ f. cc) (λ f. f) e)
 gives_empty_end (part_due c o s (part ps r v (indentless z is y nothing))) k m d e
-    = absurd (not_left (block (indentless_entry (part_place c o s ps r v) z is y)) k m (part_due c o s (part ps r v (indentless z is y nothing))) (λ f. cc)
+    = absurd (not_left (block (indentless_entry (part_place c o s ps r v) z is y)) k m
+    (part_due c o s (part ps r v (indentless z is y nothing))) (λ f. cc)
     (λ f. f) e)
 gives_empty_end (separator_due c (pair y flow_nothing no_value)) k m d e
     = absurd (not_left (flow_key c y) k m (separator_due c (pair y flow_nothing no_value)) (λ f. cc) (λ f. f) e)
 gives_empty_end (separator_due c (pair y x (with_value v flow_nothing))) k m d e
-    = absurd (not_left (flow_value c y x v) k m (separator_due c (pair y x (with_value v flow_nothing))) (λ f. cc) (λ f. f) e)
+    = absurd (not_left (flow_value c y x v) k m (separator_due c (pair y x (with_value v flow_nothing))) (λ f. cc)
+    (λ f. f) e)
 gives_empty_end _ k m d e = tt
 
 pub gives_content : (c : Cut) (k : Content) (m : Marks) → StopsAt c k m → WantsContent c k
@@ -109,19 +126,24 @@ IsTagCut (at_tag_behind p a m) = Unit {0}
 IsTagCut _ = ⊥
 
 -- which places a bad tag has: where a node is front, an unknown tag is at the tag
-pub gives_tag : (l : List Token) (c : Cut) (k : Content) (m : Marks) → reads_all l unopened ≡ goes (reached c) → StopsAt c k m → IsUnknownTag l k → IsTagCut c
+pub gives_tag : (l : List Token) (c : Cut) (k : Content) (m : Marks) → reads_all l unopened ≡ goes (reached c)
+    → StopsAt c k m → IsUnknownTag l k → IsTagCut c
 gives_tag l c k m r e u = at (u.begins.1)
   where
     home_is : (p : Place) → place_tokens p [] ≡ l → home p ≡ reached c
-    home_is p f = goes_same (home p) (reached c) (sym (subst (λ (x : List Token). feeds x unopened ≡ goes (home p)) f (place_reads p []))
+    home_is p f = goes_same (home p) (reached c)
+        (sym (subst (λ (x : List Token). feeds x unopened ≡ goes (home p)) f (place_reads p []))
         ∙ (reads_to l unopened (reached c) r).0)
 
-    behind_is : (p : Place) (a : AnchorName) (x : Marks) → place_tokens p (tok (Anchor a) x ∷ []) ≡ l → due p (Some (anchor a x)) ≡ reached c
+    behind_is : (p : Place) (a : AnchorName) (x : Marks) → place_tokens p (tok (Anchor a) x ∷ []) ≡ l
+        → due p (Some (anchor a x)) ≡ reached c
     behind_is p a x f = goes_same (due p (Some (anchor a x))) (reached c)
-        (sym (subst (λ (y : List Token). feeds y unopened ≡ goes (due p (Some (anchor a x)))) f (cut_reads (at_tag_behind p a x) []))
+        (sym (subst (λ (y : List Token). feeds y unopened ≡ goes (due p (Some (anchor a x)))) f
+        (cut_reads (at_tag_behind p a x) []))
         ∙ (reads_to l unopened (reached c) r).0)
 
-    at : (place_tokens u.place [] ≡ l) ⊎ ((a : AnchorName) × (x : Marks) × (place_tokens u.place (tok (Anchor a) x ∷ []) ≡ l)) → IsTagCut c
+    at : (place_tokens u.place [] ≡ l)
+        ⊎ ((a : AnchorName) × (x : Marks) × (place_tokens u.place (tok (Anchor a) x ∷ []) ≡ l)) → IsTagCut c
     at (inl f) =
         let g = ap (λ (q : Position). reads q (tok k m)) (home_is u.place f) in
         let h = stops_at_tag u.place k m u.unknown in
@@ -135,11 +157,13 @@ gives_tag l c k m r e u = at (u.begins.1)
 
 -- no cut at a directive without a directive
 no_directive : {m : Marks} {q : Position} {k : Content} {s : Step} {g : List Event → List Event} {l : Bool}
-    → ReadStep m q k s g l → (b : Before) (ds : Directives) → is_directive k ≡ false → checked s l ≡ bad (at_directive b ds) → ⊥
+    → ReadStep m q k s g l → (b : Before) (ds : Directives) → is_directive k ≡ false
+    → checked s l ≡ bad (at_directive b ds) → ⊥
 no_directive (moves x h) b ds f e = no_directive h b ds f e
 no_directive (leaves p a h) b ds f e = no_directive h b ds f e
 no_directive (fails no_stream) b ds f e = cc
-no_directive (a_tag p h) b ds f e = let z = order_or_goes (due p (Some (tag h _))) (is_known (declared p) h.handle) (at_directive b ds) e in cc
+no_directive (a_tag p h) b ds f e = let z = order_or_goes (due p (Some (tag h _))) (is_known (declared p) h.handle)
+    (at_directive b ds) e in cc
 no_directive (tag_behind_anchor p a n h) b ds f e =
     let z = order_or_goes (due p (Some (anchor_tag a n h _))) (is_known (declared p) h.handle) (at_directive b ds) e in cc
 no_directive _ b ds f e = cc
@@ -155,15 +179,18 @@ document_fails (fails (no_document f)) d e = f
 document_fails _ d e = cc
 
 start_fails : {m : Marks} {q : Position} {k : Content} {s : Step} {g : List Event → List Event} {l : Bool}
-    → ReadStep m q k s g l → (b : Before) (ds : Directives) (d : Directive) → s ≡ bad (start_due b ds d) → is_directive k ≡ false
+    → ReadStep m q k s g l → (b : Before) (ds : Directives) (d : Directive) → s ≡ bad (start_due b ds d)
+    → is_directive k ≡ false
 start_fails (moves x h) b ds d e = start_fails h b ds d e
 start_fails (fails (no_document_start f)) b ds d e = f
 start_fails _ b ds d e = cc
 
-no_root : (f : Free) (k : Content) (m : Marks) → reads (between (free f)) (tok k m) ≡ bad (content_due (block (root (implicit_root f))))
+no_root : (f : Free) (k : Content) (m : Marks)
+    → reads (between (free f)) (tok k m) ≡ bad (content_due (block (root (implicit_root f))))
     → is_directive k ≡ false
 no_root f (VersionDirective x) m e = let h
-    = order_or_goes (headed (free f) no_directives (version x m)) (both (no_version no_directives) (is_accepted x.major x.minor))
+    = order_or_goes (headed (free f) no_directives (version x m))
+    (both (no_version no_directives) (is_accepted x.major x.minor))
     (content_due (block (root (implicit_root f)))) e in cc
 no_root f (TagDirective x) m e = let h
     = order_or_goes (headed (free f) no_directives (tag_directive x m)) (negated (declares no_directives x.handle))

@@ -1,16 +1,25 @@
 -- The tokens of each production determine it, with the same tokens after it: it is put into a stream.
 use Rattle.std.proofs.Common.{◌≡◌, List, [], ◌∷◌, None, refl, sym, ap, ◌∙◌}
-use Rattle.libyaml_grammar.specs.sentences.Tokens.{BlockEnd, BlockMappingStart, BlockSequenceStart, DocumentStart, FlowSequenceEnd, FlowSequenceStart, Key}
+use Rattle.libyaml_grammar.specs.sentences.Tokens.{BlockEnd, BlockMappingStart, BlockSequenceStart, DocumentStart}
+use Rattle.libyaml_grammar.specs.sentences.Tokens.{FlowSequenceEnd, FlowSequenceStart, Key}
 use Rattle.libyaml_grammar.specs.sentences.Tokens.{StreamEnd, StreamStart, Token, Value, tok, zero_marks}
-use Rattle.libyaml_grammar.specs.sentences.Trees.{Before, BlockItems, BlockNode, BlockSlot, Directives, Documents, FlowItems, FlowLast, FlowMember}
-use Rattle.libyaml_grammar.specs.sentences.Trees.{FlowNode, FlowSlot, Parts, Properties, Slot, Stream, alone, before_tokens, behind, block_mapping}
-use Rattle.libyaml_grammar.specs.sentences.Trees.{block_node_tokens, block_sequence, block_slot_tokens, collection, directives_tokens, documents_tokens}
-use Rattle.libyaml_grammar.specs.sentences.Trees.{explicit, flow, flow_items_tokens, flow_last_tokens, flow_member_tokens, flow_node_tokens}
-use Rattle.libyaml_grammar.specs.sentences.Trees.{flow_slot_tokens, free, items_tokens, last, no_directives, no_items, no_last, no_parts, no_value, node}
-use Rattle.libyaml_grammar.specs.sentences.Trees.{nothing, opened, pair, part, parts_tokens, properties_tokens, sequence, slot_tokens, tokens, value}
+use Rattle.libyaml_grammar.specs.sentences.Trees.{Before, BlockItems, BlockNode, BlockSlot, Directives, Documents}
+use Rattle.libyaml_grammar.specs.sentences.Trees.{FlowItems, FlowLast, FlowMember}
+use Rattle.libyaml_grammar.specs.sentences.Trees.{FlowNode, FlowSlot, Parts, Properties, Slot, Stream, alone}
+use Rattle.libyaml_grammar.specs.sentences.Trees.{before_tokens, behind, block_mapping}
+use Rattle.libyaml_grammar.specs.sentences.Trees.{block_node_tokens, block_sequence, block_slot_tokens, collection}
+use Rattle.libyaml_grammar.specs.sentences.Trees.{directives_tokens, documents_tokens}
+use Rattle.libyaml_grammar.specs.sentences.Trees.{explicit, flow, flow_items_tokens, flow_last_tokens}
+use Rattle.libyaml_grammar.specs.sentences.Trees.{flow_member_tokens, flow_node_tokens}
+use Rattle.libyaml_grammar.specs.sentences.Trees.{flow_slot_tokens, free, items_tokens, last, no_directives, no_items}
+use Rattle.libyaml_grammar.specs.sentences.Trees.{no_last, no_parts, no_value, node}
+use Rattle.libyaml_grammar.specs.sentences.Trees.{nothing, opened, pair, part, parts_tokens, properties_tokens}
+use Rattle.libyaml_grammar.specs.sentences.Trees.{sequence, slot_tokens, tokens, value}
 use Rattle.libyaml_grammar.specs.sentences.Trees.{whole}
-use Rattle.libyaml_grammar.specs.cuts.CutTrees.{BlockPlace, Cut, Place, at_directive, block, content_due, cut_tokens, document_due, entry_due}
-use Rattle.libyaml_grammar.specs.cuts.CutTrees.{explicit_root, flow_entry, implicit_root, open_collection, part_due, place_tokens, root, separator_due}
+use Rattle.libyaml_grammar.specs.cuts.CutTrees.{BlockPlace, Cut, Place, at_directive, block, content_due, cut_tokens}
+use Rattle.libyaml_grammar.specs.cuts.CutTrees.{document_due, entry_due}
+use Rattle.libyaml_grammar.specs.cuts.CutTrees.{explicit_root, flow_entry, implicit_root, open_collection, part_due}
+use Rattle.libyaml_grammar.specs.cuts.CutTrees.{place_tokens, root, separator_due}
 use Rattle.libyaml_grammar.specs.cuts.Rest.{any_encoding}
 use Rattle.libyaml_grammar.proofs.lent.Positions.{Position, between, due, flow_due, unopened}
 use Rattle.libyaml_grammar.proofs.lent.Reading.{feeds, goes_same}
@@ -90,7 +99,8 @@ cut_entries : (s : FlowItems) (u : FlowLast) (r : List Token)
 cut_entries s no_last r = refl
 cut_entries s (last e) r = refl
 
-pub entries_law : (s t : FlowItems) (u v : FlowLast) (r : List Token) → flow_items_tokens s (flow_last_tokens u r) ≡ flow_items_tokens t (flow_last_tokens v r)
+pub entries_law : (s t : FlowItems) (u v : FlowLast) (r : List Token)
+    → flow_items_tokens s (flow_last_tokens u r) ≡ flow_items_tokens t (flow_last_tokens v r)
     → (s ≡ t) × (u ≡ v)
 unfolding stream_of
 entries_law s t u v r e =
@@ -141,5 +151,7 @@ home_place d _ = refl
 pub place_law : (p q : Place) (r : List Token) → place_tokens p r ≡ place_tokens q r → p ≡ q
 place_law p q r e =
     let f = cut_swap (content_due p) (content_due q) r [] e in
-    let g : home p ≡ home q = goes_same (home p) (home q) (sym (place_reads p []) ∙ (ap (λ (l : List Token). feeds l unopened) f ∙ place_reads q [])) in
+    let g : home p ≡ home q =
+    goes_same (home p) (home q)
+    (sym (place_reads p []) ∙ (ap (λ (l : List Token). feeds l unopened) f ∙ place_reads q [])) in
     sym (home_place p p) ∙ (ap (place_at p) g ∙ home_place p q)

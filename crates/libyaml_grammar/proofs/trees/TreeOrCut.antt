@@ -1,5 +1,6 @@
 -- Each list is a sentence or a beginning, or a cut tree fits it, and not both.
-use Rattle.std.proofs.Common.{◌≡◌, List, [], ◌∷◌, ◌++◌, refl, sym, ap, ◌∙◌, subst, Bool, true, false, ◌⊎◌, inl, inr, append-nil}
+use Rattle.std.proofs.Common.{◌≡◌, List, [], ◌∷◌, ◌++◌, refl, sym, ap, ◌∙◌, subst, Bool, true, false, ◌⊎◌, inl, inr}
+use Rattle.std.proofs.Common.{append-nil}
 use Rattle.libyaml_grammar.specs.sentences.Tokens.{Marks, StreamEnd, Token, tok, zero_marks}
 use Rattle.libyaml_grammar.specs.sentences.Trees.{Stream}
 use Rattle.libyaml_grammar.specs.sentences.Events.{either}
@@ -10,7 +11,8 @@ use Rattle.libyaml_grammar.specs.cuts.Fits.{Fits, HasCut}
 use Rattle.libyaml_grammar.proofs.lent.Positions.{Position, done, unopened}
 use Rattle.libyaml_grammar.proofs.lent.Reading.{Step, bad, goes, over, reads, reads_all, then_all}
 use Rattle.libyaml_grammar.proofs.trees.Append.{cut_append}
-use Rattle.libyaml_grammar.proofs.lent.Completion.{Stops, cut_begins_proof, goes_or_stops, reached_begins, read_sentence, reads_append}
+use Rattle.libyaml_grammar.proofs.lent.Completion.{Stops, cut_begins_proof, goes_or_stops, reached_begins}
+use Rattle.libyaml_grammar.proofs.lent.Completion.{read_sentence, reads_append}
 use Rattle.libyaml_grammar.proofs.trees.Ending.{ends_done, stays_open}
 use Rattle.libyaml_grammar.proofs.lent.Fitting.{read_over, stops_fits}
 
@@ -29,7 +31,8 @@ sentence_begins : (l : List Token) → IsSentence l → IsBeginning l
 sentence_begins l h = record { rest = []; sentence = subst IsSentence (sym (append-nil l)) h }
 
 -- where reading stops there is a cut tree, or the stream had ended
-stopped : (l : List Token) (h : Stops l unopened) → HasCut l ⊎ ((t : Stream) × (reads_all h.before unopened ≡ goes (done t)))
+stopped : (l : List Token) (h : Stops l unopened)
+    → HasCut l ⊎ ((t : Stream) × (reads_all h.before unopened ≡ goes (done t)))
 stopped l h = go (reads h.at h.token) refl
   where
     go : (s : Step) → reads h.at h.token ≡ s → HasCut l ⊎ ((t : Stream) × (reads_all h.before unopened ≡ goes (done t)))
@@ -72,7 +75,8 @@ before_open [] (x ∷ []) b e t f h = cc
 before_open [] (x ∷ y ∷ a) b e t f h = cc
 before_open (y ∷ l) (x ∷ a) b e t f h =
     let (g, r) = parts y x (l ++ e ∷ []) (a ++ t ∷ b) f in
-    false_either (is_end x.content) (has_end a) (ap (λ (z : Token). is_end z.content) (sym g) ∙ either_left (is_end y.content) (has_end l) h)
+    false_either (is_end x.content) (has_end a)
+    (ap (λ (z : Token). is_end z.content) (sym g) ∙ either_left (is_end y.content) (has_end l) h)
     (before_open l a b e t r (either_right (is_end y.content) (has_end l) h))
   where
     parts : (y x : Token) (l a : List Token) → y ∷ l ≡ x ∷ a → (y ≡ x) × (l ≡ a)
@@ -84,9 +88,12 @@ no e = cc
 pub beginning_or_cut : (l : List Token) → has_end l ≡ false → EitherNotBoth (IsBeginning l) (HasCut l)
 beginning_or_cut l n = (go (goes_or_stops l unopened), not_both l)
   where
-    late : (h : Stops l unopened) → HasCut l ⊎ ((t : Stream) × (reads_all h.before unopened ≡ goes (done t))) → IsBeginning l ⊎ HasCut l
+    late : (h : Stops l unopened) → HasCut l ⊎ ((t : Stream) × (reads_all h.before unopened ≡ goes (done t)))
+        → IsBeginning l ⊎ HasCut l
     late h (inl c) = inr c
-    late h (inr (t, e)) = absurd (no (stays_open h.before unopened (done t) refl (front_open h.before (h.token ∷ h.after) (sym (ap has_end h.all) ∙ n)) e))
+    late h (inr (t, e)) = absurd (no
+        (stays_open h.before unopened (done t) refl
+        (front_open h.before (h.token ∷ h.after) (sym (ap has_end h.all) ∙ n)) e))
 
     go : ((p : Position) × (reads_all l unopened ≡ goes p)) ⊎ Stops l unopened → IsBeginning l ⊎ HasCut l
     go (inl (p, e)) = inl (reached_begins l p e)
@@ -102,11 +109,15 @@ sentence_or_cut l m n = (
     all : List Token
     all = l ++ tok StreamEnd m ∷ []
 
-    late : (h : Stops all unopened) → HasCut all ⊎ ((t : Stream) × (reads_all h.before unopened ≡ goes (done t))) → IsSentence all ⊎ HasCut all
+    late : (h : Stops all unopened) → HasCut all ⊎ ((t : Stream) × (reads_all h.before unopened ≡ goes (done t)))
+        → IsSentence all ⊎ HasCut all
     late h (inl c) = inr c
-    late h (inr (t, e)) = absurd (no (stays_open h.before unopened (done t) refl (before_open l h.before h.after (tok StreamEnd m) h.token h.all n) e))
+    late h (inr (t, e)) = absurd (no
+        (stays_open h.before unopened (done t) refl
+        (before_open l h.before h.after (tok StreamEnd m) h.token h.all n) e))
 
-    ended : (p : Position) → reads_all all unopened ≡ goes p → (s : Step) → reads_all l unopened ≡ s → then_all s (reads_all (tok StreamEnd m ∷ [])) ≡ goes p
+    ended : (p : Position) → reads_all all unopened ≡ goes p → (s : Step) → reads_all l unopened ≡ s
+        → then_all s (reads_all (tok StreamEnd m ∷ [])) ≡ goes p
         → IsSentence all ⊎ HasCut all
     ended p e (goes q) f g = inl (whole (ends_done q p m (last (reads q (tok StreamEnd m)) g)))
       where
@@ -130,6 +141,10 @@ cut_completes c h = subst IsSentence (cut_append c (rest zero_marks c)) (cut_beg
 
 pub cut_is_bad : (l : List Token) (b : Token) (c : Cut) → Fits l b c → IsBadToken l b
 cut_is_bad l b c f = (
-  record { rest = rest zero_marks c; sentence = subst (λ (x : List Token). IsSentence (x ++ rest zero_marks c)) f.tokens (cut_completes c f.order) },
+  record {
+    rest = rest zero_marks c;
+    sentence = subst (λ (x : List Token). IsSentence (x ++ rest zero_marks c))
+        f.tokens (cut_completes c f.order);
+  },
   f.bad_token,
 )

@@ -1,15 +1,24 @@
 -- No collection's tokens begin those of another, and no sentence another.
 use Rattle.std.proofs.Common.{◌≡◌, ℕ, zero, suc, List, [], ◌∷◌, ◌++◌, Option, Some, None, refl, sym, ap, ◌∙◌, subst}
 use Rattle.std.proofs.lemmas.List.{append_cancel_left}
-use Rattle.libyaml_grammar.specs.sentences.Tokens.{BlockEnd, BlockEntry, BlockMappingStart, BlockSequenceStart, Content, FlowEntry, FlowMappingEnd}
-use Rattle.libyaml_grammar.specs.sentences.Tokens.{FlowMappingStart, FlowSequenceEnd, FlowSequenceStart, Marks, Scalar, Token, tok}
-use Rattle.libyaml_grammar.specs.sentences.Trees.{BlockItems, BlockNode, BlockSlot, FlowItems, FlowLast, FlowMember, FlowNode, FlowSlot, FlowValue}
-use Rattle.libyaml_grammar.specs.sentences.Trees.{IsCollection, Parts, Properties, Role, Slot, Sort, alias, alone, anchor, block_mapping}
-use Rattle.libyaml_grammar.specs.sentences.Trees.{block_node_tokens, block_sequence, block_slot_tokens, closing, collection, empty, flow, flow_items_tokens}
-use Rattle.libyaml_grammar.specs.sentences.Trees.{flow_last_tokens, flow_member_tokens, flow_node, flow_node_tokens, flow_nothing, flow_slot_tokens}
-use Rattle.libyaml_grammar.specs.sentences.Trees.{flow_value_tokens, indentless, item, items_tokens, key, last, mapping, more_items, no_items, no_last}
-use Rattle.libyaml_grammar.specs.sentences.Trees.{no_parts, no_value, node, nothing, opening, option_tokens, pair, part, parts_tokens, properties_tokens}
-use Rattle.libyaml_grammar.specs.sentences.Trees.{role_token, scalar, sequence, single, slot_of, slot_tokens, value, with_value}
+use Rattle.libyaml_grammar.specs.sentences.Tokens.{BlockEnd, BlockEntry, BlockMappingStart, BlockSequenceStart, Content}
+use Rattle.libyaml_grammar.specs.sentences.Tokens.{FlowEntry, FlowMappingEnd}
+use Rattle.libyaml_grammar.specs.sentences.Tokens.{FlowMappingStart, FlowSequenceEnd, FlowSequenceStart, Marks, Scalar}
+use Rattle.libyaml_grammar.specs.sentences.Tokens.{Token, tok}
+use Rattle.libyaml_grammar.specs.sentences.Trees.{BlockItems, BlockNode, BlockSlot, FlowItems, FlowLast, FlowMember}
+use Rattle.libyaml_grammar.specs.sentences.Trees.{FlowNode, FlowSlot, FlowValue}
+use Rattle.libyaml_grammar.specs.sentences.Trees.{IsCollection, Parts, Properties, Role, Slot, Sort, alias, alone}
+use Rattle.libyaml_grammar.specs.sentences.Trees.{anchor, block_mapping}
+use Rattle.libyaml_grammar.specs.sentences.Trees.{block_node_tokens, block_sequence, block_slot_tokens, closing}
+use Rattle.libyaml_grammar.specs.sentences.Trees.{collection, empty, flow, flow_items_tokens}
+use Rattle.libyaml_grammar.specs.sentences.Trees.{flow_last_tokens, flow_member_tokens, flow_node, flow_node_tokens}
+use Rattle.libyaml_grammar.specs.sentences.Trees.{flow_nothing, flow_slot_tokens}
+use Rattle.libyaml_grammar.specs.sentences.Trees.{flow_value_tokens, indentless, item, items_tokens, key, last, mapping}
+use Rattle.libyaml_grammar.specs.sentences.Trees.{more_items, no_items, no_last}
+use Rattle.libyaml_grammar.specs.sentences.Trees.{no_parts, no_value, node, nothing, opening, option_tokens, pair, part}
+use Rattle.libyaml_grammar.specs.sentences.Trees.{parts_tokens, properties_tokens}
+use Rattle.libyaml_grammar.specs.sentences.Trees.{role_token, scalar, sequence, single, slot_of, slot_tokens, value}
+use Rattle.libyaml_grammar.specs.sentences.Trees.{with_value}
 use Rattle.libyaml_grammar.specs.sentences.Sentences.{IsSentence}
 use Rattle.libyaml_grammar.specs.runs.StreamEnds.{up_to_end}
 use Rattle.libyaml_grammar.proofs.lent.Positions.{done, unopened}
@@ -46,11 +55,13 @@ option_inner : (o : Option Properties) (r : List Token) (n : ℕ) → behind_inn
 option_inner None r n = refl
 option_inner (Some p) r n = properties_inner p r n
 
-opening_inner : (k : Sort) (m : Marks) (r : List Token) (n : ℕ) → behind_inner (tok (opening k) m ∷ r) n ≡ behind_inner r (suc n)
+opening_inner : (k : Sort) (m : Marks) (r : List Token) (n : ℕ)
+    → behind_inner (tok (opening k) m ∷ r) n ≡ behind_inner r (suc n)
 opening_inner sequence m r n = refl
 opening_inner mapping m r n = refl
 
-closing_inner : (k : Sort) (m : Marks) (r : List Token) (n : ℕ) → behind_inner (tok (closing k) m ∷ r) n ≡ closed n r (behind_inner r)
+closing_inner : (k : Sort) (m : Marks) (r : List Token) (n : ℕ)
+    → behind_inner (tok (closing k) m ∷ r) n ≡ closed n r (behind_inner r)
 closing_inner sequence m r n = refl
 closing_inner mapping m r n = refl
 
@@ -63,14 +74,16 @@ mutual
   flow_node_inner (alias a m) r n = refl
   flow_node_inner (alone p) r n = properties_inner p r n
   flow_node_inner (scalar o v m) r n = option_inner o (tok (Scalar v) m ∷ r) n
-  flow_node_inner (collection o k m is l e) r n = option_inner o (tok (opening k) m ∷ flow_items_tokens is (flow_last_tokens l (tok (closing k) e ∷ r))) n
+  flow_node_inner (collection o k m is l e) r n =
+      option_inner o (tok (opening k) m ∷ flow_items_tokens is (flow_last_tokens l (tok (closing k) e ∷ r))) n
       ∙ (opening_inner k m (flow_items_tokens is (flow_last_tokens l (tok (closing k) e ∷ r))) n
       ∙ (flow_items_inner is (flow_last_tokens l (tok (closing k) e ∷ r)) (suc n)
       ∙ (flow_last_inner l (tok (closing k) e ∷ r) (suc n) ∙ closing_inner k e r (suc n))))
 
   flow_items_inner : (is : FlowItems) (r : List Token) (n : ℕ) → behind_inner (flow_items_tokens is r) n ≡ behind_inner r n
   flow_items_inner no_items r n = refl
-  flow_items_inner (more_items is e m) r n = flow_items_inner is (flow_member_tokens e (tok FlowEntry m ∷ r)) n ∙ flow_member_inner e (tok FlowEntry m ∷ r) n
+  flow_items_inner (more_items is e m) r n = flow_items_inner is (flow_member_tokens e (tok FlowEntry m ∷ r)) n
+      ∙ flow_member_inner e (tok FlowEntry m ∷ r) n
 
   flow_last_inner : (l : FlowLast) (r : List Token) (n : ℕ) → behind_inner (flow_last_tokens l r) n ≡ behind_inner r n
   flow_last_inner no_last r n = refl
@@ -91,9 +104,11 @@ mutual
 mutual
   block_node_inner : (x : BlockNode) (r : List Token) (n : ℕ) → behind_inner (block_node_tokens x r) n ≡ behind_inner r n
   block_node_inner (flow x) r n = flow_node_inner x r n
-  block_node_inner (block_sequence o m is e) r n = option_inner o (tok BlockSequenceStart m ∷ items_tokens is (tok BlockEnd e ∷ r)) n
+  block_node_inner (block_sequence o m is e) r n =
+      option_inner o (tok BlockSequenceStart m ∷ items_tokens is (tok BlockEnd e ∷ r)) n
       ∙ items_inner is (tok BlockEnd e ∷ r) (suc n)
-  block_node_inner (block_mapping o m ps e) r n = option_inner o (tok BlockMappingStart m ∷ parts_tokens ps (tok BlockEnd e ∷ r)) n
+  block_node_inner (block_mapping o m ps e) r n =
+      option_inner o (tok BlockMappingStart m ∷ parts_tokens ps (tok BlockEnd e ∷ r)) n
       ∙ parts_inner ps (tok BlockEnd e ∷ r) (suc n)
 
   block_slot_inner : (x : BlockSlot) (r : List Token) (n : ℕ) → behind_inner (block_slot_tokens x r) n ≡ behind_inner r n
@@ -111,7 +126,8 @@ mutual
 
   parts_inner : (ps : Parts) (r : List Token) (n : ℕ) → behind_inner (parts_tokens ps r) n ≡ behind_inner r n
   parts_inner no_parts r n = refl
-  parts_inner (part ps k m x) r n = parts_inner ps (tok (role_token k) m ∷ slot_tokens x r) n ∙ (role_inner k m (slot_tokens x r) n ∙ slot_inner x r n)
+  parts_inner (part ps k m x) r n = parts_inner ps (tok (role_token k) m ∷ slot_tokens x r) n
+      ∙ (role_inner k m (slot_tokens x r) n ∙ slot_inner x r n)
 
 -- what follows the first collection of a list
 abbrev opened_by : Content → List Token → List Token → List Token
@@ -134,18 +150,23 @@ opening_first sequence m r = refl
 opening_first mapping m r = refl
 
 collection_first : (x : BlockNode) (r : List Token) → IsCollection x → behind_first (block_node_tokens x r) ≡ r
-collection_first (flow (collection o k m is l e)) r h = option_first o (tok (opening k) m ∷ flow_items_tokens is (flow_last_tokens l (tok (closing k) e ∷ r)))
+collection_first (flow (collection o k m is l e)) r h =
+    option_first o (tok (opening k) m ∷ flow_items_tokens is (flow_last_tokens l (tok (closing k) e ∷ r)))
     ∙ (opening_first k m (flow_items_tokens is (flow_last_tokens l (tok (closing k) e ∷ r)))
-    ∙ (flow_items_inner is (flow_last_tokens l (tok (closing k) e ∷ r)) 0 ∙ (flow_last_inner l (tok (closing k) e ∷ r) 0 ∙ closing_inner k e r 0)))
+    ∙ (flow_items_inner is (flow_last_tokens l (tok (closing k) e ∷ r)) 0
+    ∙ (flow_last_inner l (tok (closing k) e ∷ r) 0 ∙ closing_inner k e r 0)))
 collection_first (flow (alias a m)) r h = absurd h
 collection_first (flow (alone p)) r h = absurd h
 collection_first (flow (scalar o v m)) r h = absurd h
-collection_first (block_sequence o m is e) r h = option_first o (tok BlockSequenceStart m ∷ items_tokens is (tok BlockEnd e ∷ r))
+collection_first (block_sequence o m is e) r h =
+    option_first o (tok BlockSequenceStart m ∷ items_tokens is (tok BlockEnd e ∷ r))
     ∙ items_inner is (tok BlockEnd e ∷ r) 0
-collection_first (block_mapping o m ps e) r h = option_first o (tok BlockMappingStart m ∷ parts_tokens ps (tok BlockEnd e ∷ r))
+collection_first (block_mapping o m ps e) r h =
+    option_first o (tok BlockMappingStart m ∷ parts_tokens ps (tok BlockEnd e ∷ r))
     ∙ parts_inner ps (tok BlockEnd e ∷ r) 0
 
-pub collection_law : (s t : BlockNode) (a b : List Token) → IsCollection s → IsCollection t → block_node_tokens s a ≡ block_node_tokens t b → (s ≡ t) × (a ≡ b)
+pub collection_law : (s t : BlockNode) (a b : List Token) → IsCollection s → IsCollection t
+    → block_node_tokens s a ≡ block_node_tokens t b → (s ≡ t) × (a ≡ b)
 collection_law s t a b g h e =
     let f : a ≡ b = sym (collection_first s a g) ∙ (ap behind_first e ∙ collection_first t b h) in
     (block_node_law s t b (subst (λ (x : List Token). block_node_tokens s x ≡ block_node_tokens t b) f e), f)

@@ -3,12 +3,18 @@
 use Rattle.std.specs.Prelude.{List, [], ◌∷◌, true, false}
 use Rattle.libyaml_grammar.specs.sentences.Tokens.{Mark, Token}
 use Rattle.libyaml_grammar.specs.sentences.Trees.{Sort, directive, mapping, no_directives, sequence}
-use Rattle.libyaml_grammar.specs.sentences.Events.{Event, before_events, before_part, block_layout, document_end_at, document_start_at, documents_events}
-use Rattle.libyaml_grammar.specs.sentences.Events.{first_directive, first_entry, first_of, flow_items_events, flow_layout, flow_member_events}
-use Rattle.libyaml_grammar.specs.sentences.Events.{flow_slot_events, free_events, items_events, member_end, missing_value, opens_pair, parts_events, start_of}
-use Rattle.libyaml_grammar.specs.cuts.CutTrees.{BlockPlace, Cut, Open, PartPlace, Place, Root, at_directive, at_tag, at_tag_behind, before_stream, block}
-use Rattle.libyaml_grammar.specs.cuts.CutTrees.{content_due, declared, declared_block, declared_open, declared_part, document_due, entry, entry_due}
-use Rattle.libyaml_grammar.specs.cuts.CutTrees.{explicit_root, flow_entry, flow_key, flow_value, implicit_root, indentless_entry, open_collection, part_due}
+use Rattle.libyaml_grammar.specs.sentences.Events.{Event, before_events, before_part, block_layout, document_end_at}
+use Rattle.libyaml_grammar.specs.sentences.Events.{document_start_at, documents_events}
+use Rattle.libyaml_grammar.specs.sentences.Events.{first_directive, first_entry, first_of, flow_items_events}
+use Rattle.libyaml_grammar.specs.sentences.Events.{flow_layout, flow_member_events}
+use Rattle.libyaml_grammar.specs.sentences.Events.{flow_slot_events, free_events, items_events, member_end}
+use Rattle.libyaml_grammar.specs.sentences.Events.{missing_value, opens_pair, parts_events, start_of}
+use Rattle.libyaml_grammar.specs.cuts.CutTrees.{BlockPlace, Cut, Open, PartPlace, Place, Root, at_directive, at_tag}
+use Rattle.libyaml_grammar.specs.cuts.CutTrees.{at_tag_behind, before_stream, block}
+use Rattle.libyaml_grammar.specs.cuts.CutTrees.{content_due, declared, declared_block, declared_open, declared_part}
+use Rattle.libyaml_grammar.specs.cuts.CutTrees.{document_due, entry, entry_due}
+use Rattle.libyaml_grammar.specs.cuts.CutTrees.{explicit_root, flow_entry, flow_key, flow_value, implicit_root}
+use Rattle.libyaml_grammar.specs.cuts.CutTrees.{indentless_entry, open_collection, part_due}
 use Rattle.libyaml_grammar.specs.cuts.CutTrees.{part_place, root, separator_due, slot, start_due}
 
 abbrev pub sort_of : Open → Sort
@@ -17,16 +23,19 @@ sort_of (open_collection p o k m is) = k
 -- the events up to a place
 abbrev pub shown_root : Root → Mark → List Event → List Event
 shown_root (implicit_root f) m r = free_events f (document_start_at no_directives true m m ∷ r)
-shown_root (explicit_root b ds s) m r = before_events b (first_directive ds s.start) (document_start_at ds false (first_directive ds s.start) s.end ∷ r)
+shown_root (explicit_root b ds s) m r = before_events b (first_directive ds s.start)
+    (document_start_at ds false (first_directive ds s.start) s.end ∷ r)
 
 abbrev mutual
   pub shown_block : BlockPlace → Mark → List Event → List Event
   shown_block (root t) m r = shown_root t m r
   shown_block (entry c o s is e) m r
-      = shown_block c (first_of o s.start) (start_of (declared_block c) sequence block_layout o s ∷ items_events (declared_block c) is r)
+      = shown_block c (first_of o s.start)
+      (start_of (declared_block c) sequence block_layout o s ∷ items_events (declared_block c) is r)
   shown_block (slot c) m r = shown_part c r
   shown_block (indentless_entry c o is e) m r
-      = shown_part c (start_of (declared_part c) sequence block_layout o (first_entry is e) ∷ items_events (declared_part c) is r)
+      = shown_part c (start_of (declared_part c) sequence block_layout o (first_entry is e) ∷ items_events
+      (declared_part c) is r)
 
   pub shown_part : PartPlace → List Event → List Event
   shown_part (part_place c o s ps k v) r
@@ -38,7 +47,8 @@ abbrev mutual
   shown_place (block c) m r = shown_block c m r
   shown_place (flow_entry c) m r = shown_open c r
   shown_place (flow_key c k) m r = shown_open c (opens_pair (sort_of c) k r)
-  shown_place (flow_value c k x v) m r = shown_open c (opens_pair (sort_of c) k (flow_slot_events (declared_open c) x v.start r))
+  shown_place (flow_value c k x v) m r =
+      shown_open c (opens_pair (sort_of c) k (flow_slot_events (declared_open c) x v.start r))
 
   pub shown_open : Open → List Event → List Event
   shown_open (open_collection p o k s is) r
@@ -54,10 +64,14 @@ shown_cut (content_due p) m r = shown_place p m r
 shown_cut (at_tag p) m r = shown_place p m r
 shown_cut (at_tag_behind p a x) m r = shown_place p x.start r
 shown_cut (entry_due c o s is) m r
-    = shown_block c (first_of o s.start) (start_of (declared_block c) sequence block_layout o s ∷ items_events (declared_block c) is r)
+    = shown_block c (first_of o s.start)
+    (start_of (declared_block c) sequence block_layout o s ∷ items_events (declared_block c) is r)
 shown_cut (part_due c o s ps) m r
-    = shown_block c (first_of o s.start) (start_of (declared_block c) mapping block_layout o s ∷ parts_events (declared_block c) ps m (missing_value ps m r))
-shown_cut (separator_due c e) m r = shown_open c (flow_member_events (declared_open c) (sort_of c) e m (member_end (sort_of c) e m r))
+    = shown_block c (first_of o s.start)
+    (start_of (declared_block c) mapping block_layout o s ∷ parts_events (declared_block c) ps m
+    (missing_value ps m r))
+shown_cut (separator_due c e) m r =
+    shown_open c (flow_member_events (declared_open c) (sort_of c) e m (member_end (sort_of c) e m r))
 
 -- the events of a cut tree with its bad token after it
 abbrev pub cut_events : Cut → Token → List Event

@@ -1,17 +1,22 @@
--- The fault of a cut tree (docs/DEFINITIONS.md, "Cut trees"): which problem its place names, at the start m of the bad token.
+-- The fault of a cut tree (docs/DEFINITIONS.md, "Cut trees"): which problem its place names, at the start m of the
+-- bad token.
 use Rattle.std.specs.Prelude.{Bool, true, false}
 use Rattle.libyaml_sources.specs.Fault.{Fault}
-use Rattle.libyaml_grammar.specs.cuts.FaultTexts.{stream_start_fault, document_start_fault, duplicate_version_fault, version_fault, duplicate_tag_fault}
-use Rattle.libyaml_grammar.specs.cuts.FaultTexts.{content_fault, tag_fault, item_fault, part_fault, sequence_fault, mapping_fault}
+use Rattle.libyaml_grammar.specs.cuts.FaultTexts.{stream_start_fault, document_start_fault, duplicate_version_fault}
+use Rattle.libyaml_grammar.specs.cuts.FaultTexts.{version_fault, duplicate_tag_fault}
+use Rattle.libyaml_grammar.specs.cuts.FaultTexts.{content_fault, tag_fault, item_fault, part_fault, sequence_fault}
+use Rattle.libyaml_grammar.specs.cuts.FaultTexts.{mapping_fault}
 use Rattle.libyaml_grammar.specs.sentences.Tokens.{Content, Mark, VersionDirective}
 use Rattle.libyaml_grammar.specs.sentences.Trees.{Directives, mapping, sequence}
 use Rattle.libyaml_grammar.specs.sentences.Order.{no_version}
-use Rattle.libyaml_grammar.specs.cuts.CutTrees.{Cut, Open, Place, at_directive, at_tag, at_tag_behind, before_stream, block, content_due, document_due}
+use Rattle.libyaml_grammar.specs.cuts.CutTrees.{Cut, Open, Place, at_directive, at_tag, at_tag_behind, before_stream}
+use Rattle.libyaml_grammar.specs.cuts.CutTrees.{block, content_due, document_due}
 use Rattle.libyaml_grammar.specs.cuts.CutTrees.{entry_due, open_collection, part_due, separator_due, start_due}
 
 -- of a directive after others: a second version is a duplicate before its number is looked at
 abbrev pub directive_fault : Directives → Content → Mark → Fault
-directive_fault ds (VersionDirective a) m = elim (no_version ds) [ true ↦ version_fault m | false ↦ duplicate_version_fault m ]
+directive_fault ds (VersionDirective a) m =
+    elim (no_version ds) [ true ↦ version_fault m | false ↦ duplicate_version_fault m ]
 directive_fault ds _ m = duplicate_tag_fault m
 
 abbrev pub is_block : Place → Bool

@@ -1,14 +1,20 @@
 -- Cut trees (docs/DEFINITIONS.md, "Cut trees"): a stream tree broken off at one place of its right edge. All to the
 -- left of the place is whole, and the collections and the document around it are open.
 use Rattle.std.specs.Prelude.{List, ◌∷◌, Option, Bool}
-use Rattle.libyaml_grammar.specs.sentences.Tokens.{Anchor, AnchorName, BlockEntry, BlockMappingStart, BlockSequenceStart, DocumentStart, Key, Marks, Token}
+use Rattle.libyaml_grammar.specs.sentences.Tokens.{Anchor, AnchorName, BlockEntry, BlockMappingStart}
+use Rattle.libyaml_grammar.specs.sentences.Tokens.{BlockSequenceStart, DocumentStart, Key, Marks, Token}
 use Rattle.libyaml_grammar.specs.sentences.Tokens.{Value, tok}
-use Rattle.libyaml_grammar.specs.sentences.Trees.{Before, BlockItems, Directive, Directives, Documents, FlowItems, FlowMember, FlowSlot, Free, Parts}
-use Rattle.libyaml_grammar.specs.sentences.Trees.{Properties, Role, Sort, before_tokens, directive_token, directives_tokens, documents_tokens}
-use Rattle.libyaml_grammar.specs.sentences.Trees.{flow_items_tokens, flow_member_tokens, flow_slot_tokens, free_tokens, items_tokens, no_directives, opening}
+use Rattle.libyaml_grammar.specs.sentences.Trees.{Before, BlockItems, Directive, Directives, Documents, FlowItems}
+use Rattle.libyaml_grammar.specs.sentences.Trees.{FlowMember, FlowSlot, Free, Parts}
+use Rattle.libyaml_grammar.specs.sentences.Trees.{Properties, Role, Sort, before_tokens, directive_token}
+use Rattle.libyaml_grammar.specs.sentences.Trees.{directives_tokens, documents_tokens}
+use Rattle.libyaml_grammar.specs.sentences.Trees.{flow_items_tokens, flow_member_tokens, flow_slot_tokens, free_tokens}
+use Rattle.libyaml_grammar.specs.sentences.Trees.{items_tokens, no_directives, opening}
 use Rattle.libyaml_grammar.specs.sentences.Trees.{option_tokens, parts_tokens, role_token}
-use Rattle.libyaml_grammar.specs.sentences.Order.{admits, before_in_order, both, directives_in_order, documents_in_order, flow_items_in_order}
-use Rattle.libyaml_grammar.specs.sentences.Order.{flow_member_in_order, flow_slot_in_order, free_in_order, items_in_order, option_in_order, parts_in_order}
+use Rattle.libyaml_grammar.specs.sentences.Order.{admits, before_in_order, both, directives_in_order}
+use Rattle.libyaml_grammar.specs.sentences.Order.{documents_in_order, flow_items_in_order}
+use Rattle.libyaml_grammar.specs.sentences.Order.{flow_member_in_order, flow_slot_in_order, free_in_order}
+use Rattle.libyaml_grammar.specs.sentences.Order.{items_in_order, option_in_order, parts_in_order}
 
 -- where a document's root is expected: after what stands before it, with its head if it has one
 pub data Root : Type 0 where
@@ -65,12 +71,15 @@ root_tokens (explicit_root b ds m) r = before_tokens b (directives_tokens ds (to
 abbrev mutual
   pub block_place_tokens : BlockPlace → List Token → List Token
   block_place_tokens (root t) r = root_tokens t r
-  block_place_tokens (entry c o m is e) r = block_place_tokens c (option_tokens o (tok BlockSequenceStart m ∷ items_tokens is (tok BlockEntry e ∷ r)))
+  block_place_tokens (entry c o m is e) r =
+      block_place_tokens c (option_tokens o (tok BlockSequenceStart m ∷ items_tokens is (tok BlockEntry e ∷ r)))
   block_place_tokens (slot c) r = part_place_tokens c r
-  block_place_tokens (indentless_entry c o is e) r = part_place_tokens c (option_tokens o (items_tokens is (tok BlockEntry e ∷ r)))
+  block_place_tokens (indentless_entry c o is e) r =
+      part_place_tokens c (option_tokens o (items_tokens is (tok BlockEntry e ∷ r)))
 
   pub part_place_tokens : PartPlace → List Token → List Token
-  part_place_tokens (part_place c o m ps k v) r = block_place_tokens c (option_tokens o (tok BlockMappingStart m ∷ parts_tokens ps (tok (role_token k) v ∷ r)))
+  part_place_tokens (part_place c o m ps k v) r =
+      block_place_tokens c (option_tokens o (tok BlockMappingStart m ∷ parts_tokens ps (tok (role_token k) v ∷ r)))
 
 abbrev mutual
   pub place_tokens : Place → List Token → List Token
@@ -128,12 +137,15 @@ root_in_order (explicit_root c ds m) b = before_in_order c (directives_in_order 
 abbrev mutual
   pub block_place_in_order : BlockPlace → Bool → Bool
   block_place_in_order (root t) b = root_in_order t b
-  block_place_in_order (entry c o m is e) b = block_place_in_order c (option_in_order (declared_block c) o (items_in_order (declared_block c) is b))
+  block_place_in_order (entry c o m is e) b =
+      block_place_in_order c (option_in_order (declared_block c) o (items_in_order (declared_block c) is b))
   block_place_in_order (slot c) b = part_place_in_order c b
-  block_place_in_order (indentless_entry c o is e) b = part_place_in_order c (option_in_order (declared_part c) o (items_in_order (declared_part c) is b))
+  block_place_in_order (indentless_entry c o is e) b =
+      part_place_in_order c (option_in_order (declared_part c) o (items_in_order (declared_part c) is b))
 
   pub part_place_in_order : PartPlace → Bool → Bool
-  part_place_in_order (part_place c o m ps k v) b = block_place_in_order c (option_in_order (declared_block c) o (parts_in_order (declared_block c) ps b))
+  part_place_in_order (part_place c o m ps k v) b =
+      block_place_in_order c (option_in_order (declared_block c) o (parts_in_order (declared_block c) ps b))
 
 abbrev mutual
   pub place_in_order : Place → Bool → Bool
@@ -143,7 +155,8 @@ abbrev mutual
   place_in_order (flow_value c k n v) b = open_in_order c (flow_slot_in_order (declared_open c) n b)
 
   pub open_in_order : Open → Bool → Bool
-  open_in_order (open_collection p o k m is) b = place_in_order p (option_in_order (declared p) o (flow_items_in_order (declared p) is b))
+  open_in_order (open_collection p o k m is) b =
+      place_in_order p (option_in_order (declared p) o (flow_items_in_order (declared p) is b))
 
 -- whether the documents of a cut tree are in order as far as they go, and b
 abbrev pub cut_in_order : Cut → Bool → Bool
@@ -154,6 +167,8 @@ cut_in_order (at_directive c ds) b = before_in_order c (directives_in_order ds b
 cut_in_order (content_due p) b = place_in_order p b
 cut_in_order (at_tag p) b = place_in_order p b
 cut_in_order (at_tag_behind p a m) b = place_in_order p b
-cut_in_order (entry_due c o m is) b = block_place_in_order c (option_in_order (declared_block c) o (items_in_order (declared_block c) is b))
-cut_in_order (part_due c o m ps) b = block_place_in_order c (option_in_order (declared_block c) o (parts_in_order (declared_block c) ps b))
+cut_in_order (entry_due c o m is) b =
+    block_place_in_order c (option_in_order (declared_block c) o (items_in_order (declared_block c) is b))
+cut_in_order (part_due c o m ps) b =
+    block_place_in_order c (option_in_order (declared_block c) o (parts_in_order (declared_block c) ps b))
 cut_in_order (separator_due c e) b = open_in_order c (flow_member_in_order (declared_open c) e b)

@@ -8,7 +8,8 @@ abbrev pub parser_fault : List ℕ → yaml_mark_t → Fault
 parser_fault problem mark = record no_fault { error = YAML_PARSER_ERROR; problem = Some problem; problem_mark = mark }
 
 abbrev pub parser_fault_in : List ℕ → yaml_mark_t → List ℕ → yaml_mark_t → Fault
-parser_fault_in context context_mark problem mark = record (parser_fault problem mark) { context = Some context; context_mark = context_mark }
+parser_fault_in context context_mark problem mark =
+    record (parser_fault problem mark) { context = Some context; context_mark = context_mark }
 
 -- The mark m is the start of the bad token; `opened` is the start of the collection that it stands in.
 
@@ -40,13 +41,16 @@ abbrev pub tag_fault : (first m : yaml_mark_t) → Fault
 tag_fault first m = parser_fault_in (codes "while parsing a node") first (codes "found undefined tag handle") m
 
 abbrev pub item_fault : (opened m : yaml_mark_t) → Fault
-item_fault opened m = parser_fault_in (codes "while parsing a block collection") opened (codes "did not find expected '-' indicator") m
+item_fault opened m = parser_fault_in (codes "while parsing a block collection") opened
+    (codes "did not find expected '-' indicator") m
 
 abbrev pub part_fault : (opened m : yaml_mark_t) → Fault
 part_fault opened m = parser_fault_in (codes "while parsing a block mapping") opened (codes "did not find expected key") m
 
 abbrev pub sequence_fault : (opened m : yaml_mark_t) → Fault
-sequence_fault opened m = parser_fault_in (codes "while parsing a flow sequence") opened (codes "did not find expected ',' or ']'") m
+sequence_fault opened m = parser_fault_in (codes "while parsing a flow sequence") opened
+    (codes "did not find expected ',' or ']'") m
 
 abbrev pub mapping_fault : (opened m : yaml_mark_t) → Fault
-mapping_fault opened m = parser_fault_in (codes "while parsing a flow mapping") opened (codes "did not find expected ',' or '}'") m
+mapping_fault opened m = parser_fault_in (codes "while parsing a flow mapping") opened
+    (codes "did not find expected ',' or '}'") m

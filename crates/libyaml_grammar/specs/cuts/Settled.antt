@@ -2,18 +2,25 @@
 -- every sentence that begins so, as a relation, and as a function of the beginning's front tree.
 use Rattle.std.specs.Prelude.{◌≡◌, List, [], ◌∷◌, ◌++◌, Option, Some, None, true, false}
 use Rattle.libyaml_grammar.specs.cuts.CutEvents.{shown_block, shown_open, shown_place, sort_of}
-use Rattle.libyaml_grammar.specs.cuts.CutTrees.{Cut, Place, at_directive, at_tag, at_tag_behind, block, content_due, cut_in_order, cut_tokens, declared_block}
-use Rattle.libyaml_grammar.specs.cuts.CutTrees.{declared_open, document_due, entry_due, implicit_root, part_due, root, separator_due, start_due}
-use Rattle.libyaml_grammar.specs.sentences.Events.{Event, before_events, before_part, block_layout, block_node_events, directive_start, document_start_at}
-use Rattle.libyaml_grammar.specs.sentences.Events.{events, first_block, first_directive, first_entry, first_of, flow_node_events, flow_slot_events}
+use Rattle.libyaml_grammar.specs.cuts.CutTrees.{Cut, Place, at_directive, at_tag, at_tag_behind, block, content_due}
+use Rattle.libyaml_grammar.specs.cuts.CutTrees.{cut_in_order, cut_tokens, declared_block}
+use Rattle.libyaml_grammar.specs.cuts.CutTrees.{declared_open, document_due, entry_due, implicit_root, part_due, root}
+use Rattle.libyaml_grammar.specs.cuts.CutTrees.{separator_due, start_due}
+use Rattle.libyaml_grammar.specs.sentences.Events.{Event, before_events, before_part, block_layout, block_node_events}
+use Rattle.libyaml_grammar.specs.sentences.Events.{directive_start, document_start_at}
+use Rattle.libyaml_grammar.specs.sentences.Events.{events, first_block, first_directive, first_entry, first_of}
+use Rattle.libyaml_grammar.specs.sentences.Events.{flow_node_events, flow_slot_events}
 use Rattle.libyaml_grammar.specs.sentences.Events.{free_events, items_events, opens_pair, parts_events, start_of}
 use Rattle.libyaml_types.specs.Events.{zero_mark}
 use Rattle.libyaml_grammar.specs.cuts.Fits.{last_empty}
 use Rattle.libyaml_grammar.specs.sentences.Order.{in_order}
 use Rattle.libyaml_grammar.specs.sentences.Tokens.{Token}
-use Rattle.libyaml_grammar.specs.sentences.Trees.{BlockItems, BlockNode, BlockSlot, Directives, Documents, FlowMember, FlowNode, FlowSlot, Parts, Slot, Sort}
-use Rattle.libyaml_grammar.specs.sentences.Trees.{Stream, alone, empty, explicit, flow, flow_node, flow_nothing, implicit, indentless, item, mapping}
-use Rattle.libyaml_grammar.specs.sentences.Trees.{no_directives, no_parts, no_value, node, nothing, pair, part, sequence, single, slot_of, tokens, with_value}
+use Rattle.libyaml_grammar.specs.sentences.Trees.{BlockItems, BlockNode, BlockSlot, Directives, Documents, FlowMember}
+use Rattle.libyaml_grammar.specs.sentences.Trees.{FlowNode, FlowSlot, Parts, Slot, Sort}
+use Rattle.libyaml_grammar.specs.sentences.Trees.{Stream, alone, empty, explicit, flow, flow_node, flow_nothing}
+use Rattle.libyaml_grammar.specs.sentences.Trees.{implicit, indentless, item, mapping}
+use Rattle.libyaml_grammar.specs.sentences.Trees.{no_directives, no_parts, no_value, node, nothing, pair, part}
+use Rattle.libyaml_grammar.specs.sentences.Trees.{sequence, single, slot_of, tokens, with_value}
 
 -- the first list of events begins the second
 abbrev pub Begins : List Event → List Event → Type 0
@@ -62,8 +69,8 @@ pub record IsFront (l : List Token) (c : Cut) : Type 0 where
   pub place : IsFrontPlace c
   pub full : last_empty c ≡ None
 
--- What the front tree settles is all that it shows, except what depends on the tokens after it: its mark, and properties alone
--- at its end, which may be those of a content after them.
+-- What the front tree settles is all that it shows, except what depends on the tokens after it: its mark, and
+-- properties alone at its end, which may be those of a content after them.
 abbrev pub sure_flow_node : Directives → FlowNode → List Event
 sure_flow_node ds (alone p) = []
 sure_flow_node ds n = flow_node_events ds n []
@@ -91,16 +98,20 @@ sure_items ds (item is e x) = items_events ds is (sure_block_slot ds x)
 
 abbrev pub sure_slot : Directives → Slot → List Event
 sure_slot ds (slot_of x) = sure_block_slot ds x
-sure_slot ds (indentless o is s x) = start_of ds sequence block_layout o (first_entry is s) ∷ items_events ds is (sure_block_slot ds x)
+sure_slot ds (indentless o is s x) = start_of ds sequence block_layout o (first_entry is s) ∷ items_events ds is
+    (sure_block_slot ds x)
 
 abbrev pub sure_parts : Directives → Parts → List Event
 sure_parts ds no_parts = []
 sure_parts ds (part ps k v x) = parts_events ds ps v.start (before_part ps k v.start (sure_slot ds x))
 
 abbrev pub sure_documents : Documents → List Event
-sure_documents (implicit f n) = free_events f (document_start_at no_directives true (first_block n) (first_block n) ∷ sure_block_node no_directives n)
+sure_documents (implicit f n) =
+    free_events f (document_start_at no_directives true (first_block n) (first_block n) ∷ sure_block_node
+    no_directives n)
 sure_documents (explicit b ds s x)
-    = before_events b (first_directive ds s.start) (document_start_at ds false (first_directive ds s.start) s.end ∷ sure_block_slot ds x)
+    = before_events b (first_directive ds s.start)
+    (document_start_at ds false (first_directive ds s.start) s.end ∷ sure_block_slot ds x)
 
 -- an implicit document has not begun where its root is expected
 abbrev pub sure_place : Place → List Event
@@ -112,7 +123,9 @@ abbrev pub sure : Cut → List Event
 sure (document_due d) = sure_documents d
 sure (start_due b ds d) = before_events b (first_directive ds (directive_start d)) []
 sure (content_due p) = sure_place p
-sure (entry_due c o s is) = shown_block c (first_of o s.start) (start_of (declared_block c) sequence block_layout o s ∷ sure_items (declared_block c) is)
-sure (part_due c o s ps) = shown_block c (first_of o s.start) (start_of (declared_block c) mapping block_layout o s ∷ sure_parts (declared_block c) ps)
+sure (entry_due c o s is) = shown_block c (first_of o s.start)
+    (start_of (declared_block c) sequence block_layout o s ∷ sure_items (declared_block c) is)
+sure (part_due c o s ps) = shown_block c (first_of o s.start)
+    (start_of (declared_block c) mapping block_layout o s ∷ sure_parts (declared_block c) ps)
 sure (separator_due c e) = shown_open c (sure_flow_member (declared_open c) (sort_of c) e)
 sure _ = []

@@ -3,12 +3,18 @@
 use Rattle.std.specs.Prelude.{◌∷◌, [], None, Some, true, false, codes}
 use Rattle.libyaml_types.specs.declared.enums.yaml_scalar_style_t.TheVariants.{YAML_PLAIN_SCALAR_STYLE}
 use Rattle.libyaml_types.specs.declared.event.unnamed_yaml_event_t_data.TheVariants as ev
-use Rattle.libyaml_types.specs.declared.token.unnamed_yaml_token_t_data.TheVariants.{NoToken, StreamEnd, DocumentStart, DocumentEnd, BlockSequenceStart}
-use Rattle.libyaml_types.specs.declared.token.unnamed_yaml_token_t_data.TheVariants.{BlockMappingStart, BlockEnd, FlowSequenceStart, FlowSequenceEnd}
-use Rattle.libyaml_types.specs.declared.token.unnamed_yaml_token_t_data.TheVariants.{FlowMappingStart, FlowMappingEnd, BlockEntry, FlowEntry, Key, Value}
-use Rattle.libyaml_grammar.specs.rows.RowNotation.{ALIAS, ANCHOR, HANDLE, SCALAR, STREAM, TAG, VERSION, alias, asks_version, at, declares, document}
-use Rattle.libyaml_grammar.specs.rows.RowNotation.{document_end, flow_mapping, flow_sequence, flow_sequence_of, headed_document, list, mapping, mapping_of}
-use Rattle.libyaml_grammar.specs.rows.RowNotation.{no_document_end, no_more, nothing, says, says_while, scalar, sequence, sequence_of, stream, text}
+use Rattle.libyaml_types.specs.declared.token.unnamed_yaml_token_t_data.TheVariants.{NoToken, StreamEnd, DocumentStart}
+use Rattle.libyaml_types.specs.declared.token.unnamed_yaml_token_t_data.TheVariants.{DocumentEnd, BlockSequenceStart}
+use Rattle.libyaml_types.specs.declared.token.unnamed_yaml_token_t_data.TheVariants.{BlockMappingStart, BlockEnd}
+use Rattle.libyaml_types.specs.declared.token.unnamed_yaml_token_t_data.TheVariants.{FlowSequenceStart, FlowSequenceEnd}
+use Rattle.libyaml_types.specs.declared.token.unnamed_yaml_token_t_data.TheVariants.{FlowMappingStart, FlowMappingEnd}
+use Rattle.libyaml_types.specs.declared.token.unnamed_yaml_token_t_data.TheVariants.{BlockEntry, FlowEntry, Key, Value}
+use Rattle.libyaml_grammar.specs.rows.RowNotation.{ALIAS, ANCHOR, HANDLE, SCALAR, STREAM, TAG, VERSION, alias}
+use Rattle.libyaml_grammar.specs.rows.RowNotation.{asks_version, at, declares, document}
+use Rattle.libyaml_grammar.specs.rows.RowNotation.{document_end, flow_mapping, flow_sequence, flow_sequence_of}
+use Rattle.libyaml_grammar.specs.rows.RowNotation.{headed_document, list, mapping, mapping_of}
+use Rattle.libyaml_grammar.specs.rows.RowNotation.{no_document_end, no_more, nothing, says, says_while, scalar}
+use Rattle.libyaml_grammar.specs.rows.RowNotation.{sequence, sequence_of, stream, text}
 use Rattle.libyaml_grammar.specs.runs.Runs.{Fails, IsRun}
 
 -- Each fault, and the events before it.
@@ -25,12 +31,14 @@ RowNoToken = IsRun (list (
 abbrev pub RowSecondStreamStart : Type 0
 RowSecondStreamStart = IsRun (list (
     STREAM ∷ STREAM ∷ StreamEnd ∷ [])) no_more (
-    at 0 0 stream ∷ at 2 2 document ∷ []) (Fails (says_while (codes "while parsing a block node") 2 (codes "did not find expected node content") 2))
+    at 0 0 stream ∷ at 2 2 document ∷ [])
+    (Fails (says_while (codes "while parsing a block node") 2 (codes "did not find expected node content") 2))
 
 abbrev pub RowTwoRoots : Type 0
 RowTwoRoots = IsRun (list (
     STREAM ∷ SCALAR (codes "a") ∷ SCALAR (codes "b") ∷ [])) no_more (
-    at 0 0 stream ∷ at 2 2 document ∷ at 2 3 (text (codes "a")) ∷ at 4 4 no_document_end ∷ []) (Fails (says (codes "did not find expected <document start>") 4))
+    at 0 0 stream ∷ at 2 2 document ∷ at 2 3 (text (codes "a")) ∷ at 4 4 no_document_end ∷ [])
+    (Fails (says (codes "did not find expected <document start>") 4))
 
 abbrev pub RowAliasBehindAnchor : Type 0
 RowAliasBehindAnchor = IsRun (list (
@@ -58,7 +66,8 @@ RowSecondVersion = IsRun (list (
 abbrev pub RowVersionOfLaterMinor : Type 0
 RowVersionOfLaterMinor = IsRun (list (
     STREAM ∷ DocumentStart ∷ VERSION 1 3 ∷ DocumentStart ∷ StreamEnd ∷ [])) no_more (
-    at 0 0 stream ∷ at 2 3 (headed_document None []) ∷ at 4 4 nothing ∷ at 4 4 no_document_end ∷ []) (Fails (says (codes "found incompatible YAML document") 4))
+    at 0 0 stream ∷ at 2 3 (headed_document None []) ∷ at 4 4 nothing ∷ at 4 4 no_document_end ∷ [])
+    (Fails (says (codes "found incompatible YAML document") 4))
 
 abbrev pub RowVersionOfEarlierMinor : Type 0
 RowVersionOfEarlierMinor = IsRun (list (
@@ -68,22 +77,26 @@ RowVersionOfEarlierMinor = IsRun (list (
 abbrev pub RowVersionOfLaterMajor : Type 0
 RowVersionOfLaterMajor = IsRun (list (
     STREAM ∷ SCALAR (codes "a") ∷ DocumentEnd ∷ VERSION 2 1 ∷ DocumentStart ∷ StreamEnd ∷ [])) no_more (
-    at 0 0 stream ∷ at 2 2 document ∷ at 2 3 (text (codes "a")) ∷ at 4 5 document_end ∷ []) (Fails (says (codes "found incompatible YAML document") 6))
+    at 0 0 stream ∷ at 2 2 document ∷ at 2 3 (text (codes "a")) ∷ at 4 5 document_end ∷ [])
+    (Fails (says (codes "found incompatible YAML document") 6))
 
 abbrev pub RowHandleDeclaredTwice : Type 0
 RowHandleDeclaredTwice = IsRun (list (
-    STREAM ∷ HANDLE (codes "!a!") (codes "p:") ∷ HANDLE (codes "!a!") (codes "q:") ∷ DocumentStart ∷ StreamEnd ∷ [])) no_more (
+    STREAM ∷ HANDLE (codes "!a!") (codes "p:") ∷ HANDLE (codes "!a!")
+    (codes "q:") ∷ DocumentStart ∷ StreamEnd ∷ [])) no_more (
     at 0 0 stream ∷ []) (Fails (says (codes "found duplicate %TAG directive") 4))
 
 abbrev pub RowDefaultDeclaredTwice : Type 0
 RowDefaultDeclaredTwice = IsRun (list (
-    STREAM ∷ HANDLE (codes "!!") (codes "p:") ∷ HANDLE (codes "!!") (codes "p:") ∷ DocumentStart ∷ StreamEnd ∷ [])) no_more (
+    STREAM ∷ HANDLE (codes "!!") (codes "p:") ∷ HANDLE (codes "!!") (codes "p:") ∷ DocumentStart ∷ StreamEnd ∷ []))
+    no_more (
     at 0 0 stream ∷ []) (Fails (says (codes "found duplicate %TAG directive") 4))
 
 abbrev pub RowDocumentEndFirst : Type 0
 RowDocumentEndFirst = IsRun (list (
     STREAM ∷ DocumentEnd ∷ StreamEnd ∷ [])) no_more (
-    at 0 0 stream ∷ at 2 2 document ∷ []) (Fails (says_while (codes "while parsing a block node") 2 (codes "did not find expected node content") 2))
+    at 0 0 stream ∷ at 2 2 document ∷ [])
+    (Fails (says_while (codes "while parsing a block node") 2 (codes "did not find expected node content") 2))
 
 abbrev pub RowNoContentBehindDocumentEnd : Type 0
 RowNoContentBehindDocumentEnd = IsRun (list (
@@ -160,17 +173,20 @@ RowBlockContentInFlow = IsRun (list (
 abbrev pub RowUnknownHandle : Type 0
 RowUnknownHandle = IsRun (list (
     STREAM ∷ ANCHOR (codes "a") ∷ TAG (codes "!e!") (codes "x") ∷ SCALAR (codes "b") ∷ StreamEnd ∷ [])) no_more (
-    at 0 0 stream ∷ at 2 2 document ∷ []) (Fails (says_while (codes "while parsing a node") 2 (codes "found undefined tag handle") 4))
+    at 0 0 stream ∷ at 2 2 document ∷ [])
+    (Fails (says_while (codes "while parsing a node") 2 (codes "found undefined tag handle") 4))
 
 abbrev pub RowUnknownHandleFirst : Type 0
 RowUnknownHandleFirst = IsRun (list (
     STREAM ∷ TAG (codes "!e!") (codes "x") ∷ SCALAR (codes "b") ∷ StreamEnd ∷ [])) no_more (
-    at 0 0 stream ∷ at 2 2 document ∷ []) (Fails (says_while (codes "while parsing a node") 2 (codes "found undefined tag handle") 2))
+    at 0 0 stream ∷ at 2 2 document ∷ [])
+    (Fails (says_while (codes "while parsing a node") 2 (codes "found undefined tag handle") 2))
 
 abbrev pub RowUnknownHandleBeforeAnchor : Type 0
 RowUnknownHandleBeforeAnchor = IsRun (list (
     STREAM ∷ FlowSequenceStart ∷ TAG (codes "!e!") (codes "x") ∷ ANCHOR (codes "a") ∷ FlowSequenceEnd ∷ [])) no_more (
-    at 0 0 stream ∷ at 2 2 document ∷ at 2 3 flow_sequence ∷ []) (Fails (says_while (codes "while parsing a node") 4 (codes "found undefined tag handle") 4))
+    at 0 0 stream ∷ at 2 2 document ∷ at 2 3 flow_sequence ∷ [])
+    (Fails (says_while (codes "while parsing a node") 4 (codes "found undefined tag handle") 4))
 
 abbrev pub RowUnknownHandleAtStreamEnd : Type 0
 RowUnknownHandleAtStreamEnd = IsRun (list (
@@ -208,13 +224,15 @@ RowNoBlockEntryBehindEntry = IsRun (list (
 abbrev pub RowNoKey : Type 0
 RowNoKey = IsRun (list (
     STREAM ∷ BlockMappingStart ∷ SCALAR (codes "x") ∷ [])) no_more (
-    at 0 0 stream ∷ at 2 2 document ∷ at 2 3 mapping ∷ []) (Fails (says_while (codes "while parsing a block mapping") 2 (codes "did not find expected key") 4))
+    at 0 0 stream ∷ at 2 2 document ∷ at 2 3 mapping ∷ [])
+    (Fails (says_while (codes "while parsing a block mapping") 2 (codes "did not find expected key") 4))
 
 abbrev pub RowNoKeyBehindIndentless : Type 0
 RowNoKeyBehindIndentless = IsRun (list (
     STREAM ∷ BlockMappingStart ∷ Key ∷ BlockEntry ∷ SCALAR (codes "a") ∷ SCALAR (codes "b") ∷ [])) no_more (
     at 0 0 stream ∷ at 2 2 document ∷ at 2 3 mapping ∷ at 6 7 sequence ∷ at 8 9 (text (codes "a")) ∷
-    at 10 10 ev.SequenceEnd ∷ at 10 10 nothing ∷ []) (Fails (says_while (codes "while parsing a block mapping") 2 (codes "did not find expected key") 10))
+    at 10 10 ev.SequenceEnd ∷ at 10 10 nothing ∷ [])
+    (Fails (says_while (codes "while parsing a block mapping") 2 (codes "did not find expected key") 10))
 
 abbrev pub RowNoKeyBehindKey : Type 0
 RowNoKeyBehindKey = IsRun (list (
@@ -241,7 +259,8 @@ abbrev pub RowNoSeparatorInAnchoredSequence : Type 0
 RowNoSeparatorInAnchoredSequence = IsRun (list (
     STREAM ∷ ANCHOR (codes "a") ∷ FlowSequenceStart ∷ SCALAR (codes "x") ∷ SCALAR (codes "y") ∷ [])) no_more (
     at 0 0 stream ∷ at 2 2 document ∷ at 2 5 (flow_sequence_of (Some (codes "a")) None true) ∷
-    at 6 7 (text (codes "x")) ∷ []) (Fails (says_while (codes "while parsing a flow sequence") 4 (codes "did not find expected ',' or ']'") 8))
+    at 6 7 (text (codes "x")) ∷ [])
+    (Fails (says_while (codes "while parsing a flow sequence") 4 (codes "did not find expected ',' or ']'") 8))
 
 abbrev pub RowNoContentInTaggedMapping : Type 0
 RowNoContentInTaggedMapping = IsRun (list (
@@ -271,7 +290,8 @@ abbrev pub RowWrongEndOfFlowSequence : Type 0
 RowWrongEndOfFlowSequence = IsRun (list (
     STREAM ∷ FlowSequenceStart ∷ Key ∷ SCALAR (codes "a") ∷ FlowMappingEnd ∷ [])) no_more (
     at 0 0 stream ∷ at 2 2 document ∷ at 2 3 flow_sequence ∷ at 4 5 flow_mapping ∷ at 6 7 (text (codes "a")) ∷
-    at 8 8 nothing ∷ at 8 8 ev.MappingEnd ∷ []) (Fails (says_while (codes "while parsing a flow sequence") 2 (codes "did not find expected ',' or ']'") 8))
+    at 8 8 nothing ∷ at 8 8 ev.MappingEnd ∷ [])
+    (Fails (says_while (codes "while parsing a flow sequence") 2 (codes "did not find expected ',' or ']'") 8))
 
 abbrev pub RowWrongEndOfFlowMapping : Type 0
 RowWrongEndOfFlowMapping = IsRun (list (
@@ -325,7 +345,8 @@ RowValueBehindIndentlessCome = IsRun (list (
 abbrev pub RowEntryCome : Type 0
 RowEntryCome = IsRun (list (
     STREAM ∷ ANCHOR (codes "a") ∷ BlockSequenceStart ∷ BlockEntry ∷ SCALAR (codes "b") ∷ [])) no_more (
-    at 0 0 stream ∷ at 2 2 document ∷ at 2 5 (sequence_of (Some (codes "a")) None true) ∷ at 8 9 (text (codes "b")) ∷ []) (Fails no_more)
+    at 0 0 stream ∷ at 2 2 document ∷ at 2 5 (sequence_of (Some (codes "a")) None true) ∷ at 8 9
+    (text (codes "b")) ∷ []) (Fails no_more)
 
 abbrev pub RowPairValueScalarCome : Type 0
 RowPairValueScalarCome = IsRun (list (
@@ -359,7 +380,8 @@ RowAnchoredIndentlessBegun = IsRun (list (
 abbrev pub RowAnchoredPairBegun : Type 0
 RowAnchoredPairBegun = IsRun (list (
     STREAM ∷ FlowSequenceStart ∷ Key ∷ SCALAR (codes "a") ∷ Value ∷ TAG [] (codes "t") ∷ [])) no_more (
-    at 0 0 stream ∷ at 2 2 document ∷ at 2 3 flow_sequence ∷ at 4 5 flow_mapping ∷ at 6 7 (text (codes "a")) ∷ []) (Fails no_more)
+    at 0 0 stream ∷ at 2 2 document ∷ at 2 3 flow_sequence ∷ at 4 5 flow_mapping ∷ at 6 7 (text (codes "a")) ∷ [])
+    (Fails no_more)
 
 abbrev pub RowScalarCome : Type 0
 RowScalarCome = IsRun (list (
@@ -368,9 +390,11 @@ RowScalarCome = IsRun (list (
 
 abbrev pub RowCollectionBegun : Type 0
 RowCollectionBegun = IsRun (list (
-    STREAM ∷ DocumentStart ∷ SCALAR (codes "a") ∷ DocumentStart ∷ FlowSequenceStart ∷ Key ∷ FlowMappingStart ∷ [])) no_more (
+    STREAM ∷ DocumentStart ∷ SCALAR (codes "a") ∷ DocumentStart ∷ FlowSequenceStart ∷ Key ∷ FlowMappingStart ∷ []))
+    no_more (
     at 0 0 stream ∷ at 2 3 (headed_document None []) ∷ at 4 5 (text (codes "a")) ∷ at 6 6 no_document_end ∷
-    at 6 7 (headed_document None []) ∷ at 8 9 flow_sequence ∷ at 10 11 flow_mapping ∷ at 12 13 flow_mapping ∷ []) (Fails no_more)
+    at 6 7 (headed_document None []) ∷ at 8 9 flow_sequence ∷ at 10 11 flow_mapping ∷ at 12 13 flow_mapping ∷ [])
+    (Fails no_more)
 
 abbrev pub RowAliasCome : Type 0
 RowAliasCome = IsRun (list (
@@ -385,7 +409,8 @@ RowBlockEntryCome = IsRun (list (
 abbrev pub RowIndentlessBegun : Type 0
 RowIndentlessBegun = IsRun (list (
     STREAM ∷ BlockMappingStart ∷ Key ∷ ANCHOR (codes "a") ∷ BlockEntry ∷ [])) no_more (
-    at 0 0 stream ∷ at 2 2 document ∷ at 2 3 mapping ∷ at 6 9 (sequence_of (Some (codes "a")) None true) ∷ []) (Fails no_more)
+    at 0 0 stream ∷ at 2 2 document ∷ at 2 3 mapping ∷ at 6 9 (sequence_of (Some (codes "a")) None true) ∷ [])
+    (Fails no_more)
 
 abbrev pub RowKeyCome : Type 0
 RowKeyCome = IsRun (list (
@@ -395,7 +420,8 @@ RowKeyCome = IsRun (list (
 abbrev pub RowValueBehindIndentless : Type 0
 RowValueBehindIndentless = IsRun (list (
     STREAM ∷ BlockMappingStart ∷ Key ∷ BlockEntry ∷ Value ∷ [])) no_more (
-    at 0 0 stream ∷ at 2 2 document ∷ at 2 3 mapping ∷ at 6 7 sequence ∷ at 7 7 nothing ∷ at 8 8 ev.SequenceEnd ∷ []) (Fails no_more)
+    at 0 0 stream ∷ at 2 2 document ∷ at 2 3 mapping ∷ at 6 7 sequence ∷ at 7 7 nothing ∷ at 8 8
+    ev.SequenceEnd ∷ []) (Fails no_more)
 
 abbrev pub RowValueComeFirst : Type 0
 RowValueComeFirst = IsRun (list (

@@ -1,14 +1,18 @@
 -- The table of the places where a node may be nothing (docs/DEFINITIONS.md, "Where a node may be nothing"): of a list with
 -- one token of each kind, those that may follow it.
 use Rattle.std.specs.Prelude.{◌≡◌, ◌∷◌, [], Option}
-use Rattle.libyaml_types.specs.declared.token.unnamed_yaml_token_t_data.TheVariants.{BlockEnd, BlockEntry, DocumentEnd, DocumentStart, FlowEntry}
-use Rattle.libyaml_types.specs.declared.token.unnamed_yaml_token_t_data.TheVariants.{FlowMappingEnd, FlowSequenceEnd, Key, StreamEnd, Value}
-use Rattle.libyaml_grammar.specs.cuts.CutTrees.{BlockPlace, Open, PartPlace, Place, block, entry, explicit_root, flow_entry, flow_key, flow_value}
+use Rattle.libyaml_types.specs.declared.token.unnamed_yaml_token_t_data.TheVariants.{BlockEnd, BlockEntry, DocumentEnd}
+use Rattle.libyaml_types.specs.declared.token.unnamed_yaml_token_t_data.TheVariants.{DocumentStart, FlowEntry}
+use Rattle.libyaml_types.specs.declared.token.unnamed_yaml_token_t_data.TheVariants.{FlowMappingEnd, FlowSequenceEnd}
+use Rattle.libyaml_types.specs.declared.token.unnamed_yaml_token_t_data.TheVariants.{Key, StreamEnd, Value}
+use Rattle.libyaml_grammar.specs.cuts.CutTrees.{BlockPlace, Open, PartPlace, Place, block, entry, explicit_root}
+use Rattle.libyaml_grammar.specs.cuts.CutTrees.{flow_entry, flow_key, flow_value}
 use Rattle.libyaml_grammar.specs.cuts.CutTrees.{implicit_root, indentless_entry, open_collection, root, slot}
 use Rattle.libyaml_grammar.specs.cuts.Fits.{ends_empty}
 use Rattle.libyaml_grammar.specs.rows.RowNotation.{HANDLE, VERSION, kinds, passing}
 use Rattle.libyaml_grammar.specs.sentences.Tokens.{Marks}
-use Rattle.libyaml_grammar.specs.sentences.Trees.{Before, BlockItems, Directives, FlowItems, FlowSlot, Free, Properties, mapping, sequence}
+use Rattle.libyaml_grammar.specs.sentences.Trees.{Before, BlockItems, Directives, FlowItems, FlowSlot, Free, Properties}
+use Rattle.libyaml_grammar.specs.sentences.Trees.{mapping, sequence}
 
 abbrev pub RowEmptyEntry : Type 0
 RowEmptyEntry = (c : BlockPlace) (o : Option Properties) (m : Marks) (is : BlockItems) (e : Marks)
@@ -23,11 +27,13 @@ RowEmptyPart = (c : PartPlace) → passing (ends_empty (block (slot c))) kinds �
 
 abbrev pub RowEmptyDocument : Type 0
 RowEmptyDocument = (b : Before) (ds : Directives) (m : Marks)
-    → passing (ends_empty (block (root (explicit_root b ds m)))) kinds ≡ (StreamEnd ∷ VERSION 1 1 ∷ HANDLE [] [] ∷ DocumentStart ∷ DocumentEnd ∷ [])
+    → passing (ends_empty (block (root (explicit_root b ds m)))) kinds
+    ≡ (StreamEnd ∷ VERSION 1 1 ∷ HANDLE [] [] ∷ DocumentStart ∷ DocumentEnd ∷ [])
 
 abbrev pub RowEmptyPairKey : Type 0
 RowEmptyPairKey = (p : Place) (o : Option Properties) (m : Marks) (is : FlowItems) (e : Marks)
-    → passing (ends_empty (flow_key (open_collection p o sequence m is) e)) kinds ≡ (FlowSequenceEnd ∷ FlowEntry ∷ Value ∷ [])
+    → passing (ends_empty (flow_key (open_collection p o sequence m is) e)) kinds
+    ≡ (FlowSequenceEnd ∷ FlowEntry ∷ Value ∷ [])
 
 abbrev pub RowEmptyPairValue : Type 0
 RowEmptyPairValue = (p : Place) (o : Option Properties) (m : Marks) (is : FlowItems) (e : Marks) (x : FlowSlot) (v : Marks)

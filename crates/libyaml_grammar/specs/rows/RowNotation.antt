@@ -5,10 +5,12 @@ use Rattle.libyaml_types.specs.declared.directive.yaml_tag_directive_t.{yaml_tag
 use Rattle.libyaml_types.specs.declared.directive.yaml_version_directive_t.{yaml_version_directive_t}
 use Rattle.libyaml_types.specs.declared.enums.yaml_encoding_t.TheVariants.{YAML_UTF16LE_ENCODING, YAML_UTF8_ENCODING}
 use Rattle.libyaml_types.specs.declared.enums.yaml_error_type_t.TheVariants.{YAML_PARSER_ERROR, YAML_READER_ERROR}
-use Rattle.libyaml_types.specs.declared.enums.yaml_mapping_style_t.TheVariants.{YAML_BLOCK_MAPPING_STYLE, YAML_FLOW_MAPPING_STYLE}
+use Rattle.libyaml_types.specs.declared.enums.yaml_mapping_style_t.TheVariants.{YAML_BLOCK_MAPPING_STYLE}
+use Rattle.libyaml_types.specs.declared.enums.yaml_mapping_style_t.TheVariants.{YAML_FLOW_MAPPING_STYLE}
 use Rattle.libyaml_types.specs.declared.enums.yaml_scalar_style_t.{yaml_scalar_style_t}
 use Rattle.libyaml_types.specs.declared.enums.yaml_scalar_style_t.TheVariants.{YAML_PLAIN_SCALAR_STYLE}
-use Rattle.libyaml_types.specs.declared.enums.yaml_sequence_style_t.TheVariants.{YAML_BLOCK_SEQUENCE_STYLE, YAML_FLOW_SEQUENCE_STYLE}
+use Rattle.libyaml_types.specs.declared.enums.yaml_sequence_style_t.TheVariants.{YAML_BLOCK_SEQUENCE_STYLE}
+use Rattle.libyaml_types.specs.declared.enums.yaml_sequence_style_t.TheVariants.{YAML_FLOW_SEQUENCE_STYLE}
 use Rattle.libyaml_types.specs.declared.event.unnamed_yaml_event_t_data.TheVariants as ev
 use Rattle.libyaml_types.specs.declared.event.unnamed_yaml_event_t_data.{unnamed_yaml_event_t_data}
 use Rattle.libyaml_types.specs.declared.event.yaml_event_t.{yaml_event_t}
@@ -94,7 +96,14 @@ abbrev pub alias : List ℕ → unnamed_yaml_event_t_data
 alias a = ev.Alias (record { anchor = a })
 
 abbrev pub text : List ℕ → unnamed_yaml_event_t_data
-text v = ev.Scalar (record { anchor = None; tag = None; value = v; plain_implicit = true; quoted_implicit = false; style = YAML_PLAIN_SCALAR_STYLE })
+text v = ev.Scalar (record {
+  anchor = None;
+  tag = None;
+  value = v;
+  plain_implicit = true;
+  quoted_implicit = false;
+  style = YAML_PLAIN_SCALAR_STYLE;
+})
 
 abbrev pub nothing : unnamed_yaml_event_t_data
 nothing = text []
@@ -112,8 +121,10 @@ abbrev pub flow_mapping : unnamed_yaml_event_t_data
 flow_mapping = ev.MappingStart (record { anchor = None; tag = None; implicit = true; style = YAML_FLOW_MAPPING_STYLE })
 
 -- nodes with properties: a scalar with its flags and style, and collections with their flag
-abbrev pub scalar : (anchor tag : Option (List ℕ)) → List ℕ → (plain_implicit quoted_implicit : Bool) → yaml_scalar_style_t → unnamed_yaml_event_t_data
-scalar a t v p q s = ev.Scalar (record { anchor = a; tag = t; value = v; plain_implicit = p; quoted_implicit = q; style = s })
+abbrev pub scalar : (anchor tag : Option (List ℕ)) → List ℕ → (plain_implicit quoted_implicit : Bool)
+    → yaml_scalar_style_t → unnamed_yaml_event_t_data
+scalar a t v p q s = ev.Scalar
+    (record { anchor = a; tag = t; value = v; plain_implicit = p; quoted_implicit = q; style = s })
 
 abbrev pub sequence_of : (anchor tag : Option (List ℕ)) → (implicit : Bool) → unnamed_yaml_event_t_data
 sequence_of a t i = ev.SequenceStart (record { anchor = a; tag = t; implicit = i; style = YAML_BLOCK_SEQUENCE_STYLE })
@@ -167,8 +178,10 @@ says_while c j p i = record {
 
 -- one content of each kind, and those of a list that pass a test
 abbrev pub kinds : List unnamed_yaml_token_t_data
-kinds = tok.NoToken ∷ STREAM ∷ tok.StreamEnd ∷ VERSION 1 1 ∷ HANDLE [] [] ∷ tok.DocumentStart ∷ tok.DocumentEnd ∷ tok.BlockSequenceStart ∷ tok.BlockMappingStart
-    ∷ tok.BlockEnd ∷ tok.FlowSequenceStart ∷ tok.FlowSequenceEnd ∷ tok.FlowMappingStart ∷ tok.FlowMappingEnd ∷ tok.BlockEntry ∷ tok.FlowEntry ∷ tok.Key
+kinds = tok.NoToken ∷ STREAM ∷ tok.StreamEnd ∷ VERSION 1 1 ∷ HANDLE []
+    [] ∷ tok.DocumentStart ∷ tok.DocumentEnd ∷ tok.BlockSequenceStart ∷ tok.BlockMappingStart
+    ∷ tok.BlockEnd ∷ tok.FlowSequenceStart ∷ tok.FlowSequenceEnd ∷ tok.FlowMappingStart ∷ tok.FlowMappingEnd ∷
+    tok.BlockEntry ∷ tok.FlowEntry ∷ tok.Key
     ∷ tok.Value ∷ ALIAS [] ∷ ANCHOR [] ∷ TAG [] [] ∷ SCALAR [] ∷ []
 
 abbrev pub passing : (unnamed_yaml_token_t_data → Bool) → List unnamed_yaml_token_t_data → List unnamed_yaml_token_t_data

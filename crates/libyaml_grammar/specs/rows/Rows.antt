@@ -1,16 +1,24 @@
 -- Worked rows of sentences: lists of tokens with their runs, in the notation of RowNotation (docs/DEFINITIONS.md,
 -- "Worked rows").
 use Rattle.std.specs.Prelude.{◌∷◌, [], None, Some, true, false, codes}
-use Rattle.libyaml_types.specs.declared.enums.yaml_scalar_style_t.TheVariants.{YAML_PLAIN_SCALAR_STYLE, YAML_SINGLE_QUOTED_SCALAR_STYLE}
-use Rattle.libyaml_types.specs.declared.enums.yaml_scalar_style_t.TheVariants.{YAML_DOUBLE_QUOTED_SCALAR_STYLE, YAML_LITERAL_SCALAR_STYLE}
+use Rattle.libyaml_types.specs.declared.enums.yaml_scalar_style_t.TheVariants.{YAML_PLAIN_SCALAR_STYLE}
+use Rattle.libyaml_types.specs.declared.enums.yaml_scalar_style_t.TheVariants.{YAML_SINGLE_QUOTED_SCALAR_STYLE}
+use Rattle.libyaml_types.specs.declared.enums.yaml_scalar_style_t.TheVariants.{YAML_DOUBLE_QUOTED_SCALAR_STYLE}
+use Rattle.libyaml_types.specs.declared.enums.yaml_scalar_style_t.TheVariants.{YAML_LITERAL_SCALAR_STYLE}
 use Rattle.libyaml_types.specs.declared.enums.yaml_scalar_style_t.TheVariants.{YAML_FOLDED_SCALAR_STYLE}
 use Rattle.libyaml_types.specs.declared.event.unnamed_yaml_event_t_data.TheVariants as ev
-use Rattle.libyaml_types.specs.declared.token.unnamed_yaml_token_t_data.TheVariants.{StreamEnd, DocumentStart, DocumentEnd, BlockSequenceStart}
-use Rattle.libyaml_types.specs.declared.token.unnamed_yaml_token_t_data.TheVariants.{BlockMappingStart, BlockEnd, FlowSequenceStart, FlowSequenceEnd}
-use Rattle.libyaml_types.specs.declared.token.unnamed_yaml_token_t_data.TheVariants.{FlowMappingStart, FlowMappingEnd, BlockEntry, FlowEntry, Key, Value}
-use Rattle.libyaml_grammar.specs.rows.RowNotation.{ALIAS, ANCHOR, HANDLE, SCALAR, STREAM, STREAM_LE, STYLED, TAG, VERSION, alias, asks_version, at, declares}
-use Rattle.libyaml_grammar.specs.rows.RowNotation.{document, document_end, flow_mapping, flow_mapping_of, flow_sequence, flow_sequence_of, headed_document}
-use Rattle.libyaml_grammar.specs.rows.RowNotation.{list, mapping, mapping_of, no_document_end, no_more, nothing, scalar, sequence, sequence_of, stream}
+use Rattle.libyaml_types.specs.declared.token.unnamed_yaml_token_t_data.TheVariants.{StreamEnd, DocumentStart}
+use Rattle.libyaml_types.specs.declared.token.unnamed_yaml_token_t_data.TheVariants.{DocumentEnd, BlockSequenceStart}
+use Rattle.libyaml_types.specs.declared.token.unnamed_yaml_token_t_data.TheVariants.{BlockMappingStart, BlockEnd}
+use Rattle.libyaml_types.specs.declared.token.unnamed_yaml_token_t_data.TheVariants.{FlowSequenceStart, FlowSequenceEnd}
+use Rattle.libyaml_types.specs.declared.token.unnamed_yaml_token_t_data.TheVariants.{FlowMappingStart, FlowMappingEnd}
+use Rattle.libyaml_types.specs.declared.token.unnamed_yaml_token_t_data.TheVariants.{BlockEntry, FlowEntry, Key, Value}
+use Rattle.libyaml_grammar.specs.rows.RowNotation.{ALIAS, ANCHOR, HANDLE, SCALAR, STREAM, STREAM_LE, STYLED, TAG}
+use Rattle.libyaml_grammar.specs.rows.RowNotation.{VERSION, alias, asks_version, at, declares}
+use Rattle.libyaml_grammar.specs.rows.RowNotation.{document, document_end, flow_mapping, flow_mapping_of, flow_sequence}
+use Rattle.libyaml_grammar.specs.rows.RowNotation.{flow_sequence_of, headed_document}
+use Rattle.libyaml_grammar.specs.rows.RowNotation.{list, mapping, mapping_of, no_document_end, no_more, nothing, scalar}
+use Rattle.libyaml_grammar.specs.rows.RowNotation.{sequence, sequence_of, stream}
 use Rattle.libyaml_grammar.specs.rows.RowNotation.{stream_le, text}
 use Rattle.libyaml_grammar.specs.runs.Runs.{Ends, IsRun}
 
@@ -29,7 +37,8 @@ abbrev pub RowExplicitDocuments : Type 0
 RowExplicitDocuments = IsRun (list (
     STREAM ∷ DocumentStart ∷ SCALAR (codes "a") ∷ DocumentStart ∷ SCALAR (codes "b") ∷ StreamEnd ∷ [])) no_more (
     at 0 0 stream ∷ at 2 3 (headed_document None []) ∷ at 4 5 (text (codes "a")) ∷ at 6 6 no_document_end ∷
-    at 6 7 (headed_document None []) ∷ at 8 9 (text (codes "b")) ∷ at 10 10 no_document_end ∷ at 10 11 ev.StreamEnd ∷ []) Ends
+    at 6 7 (headed_document None []) ∷ at 8 9 (text (codes "b")) ∷ at 10 10 no_document_end ∷ at 10 11
+    ev.StreamEnd ∷ []) Ends
 
 abbrev pub RowEmptyDocuments : Type 0
 RowEmptyDocuments = IsRun (list (
@@ -141,7 +150,8 @@ RowEmptyValues = IsRun (list (
     SCALAR (codes "c") ∷ Value ∷ BlockEnd ∷ StreamEnd ∷ [])) no_more (
     at 0 0 stream ∷ at 2 2 document ∷ at 2 3 mapping ∷ at 6 7 (text (codes "a")) ∷ at 9 9 nothing ∷
     at 12 13 (text (codes "b")) ∷ at 15 15 nothing ∷ at 16 16 nothing ∷ at 18 19 (text (codes "c")) ∷
-    at 20 20 nothing ∷ at 21 21 nothing ∷ at 22 23 ev.MappingEnd ∷ at 24 24 no_document_end ∷ at 24 25 ev.StreamEnd ∷ []) Ends
+    at 20 20 nothing ∷ at 21 21 nothing ∷ at 22 23 ev.MappingEnd ∷ at 24 24 no_document_end ∷ at 24 25
+    ev.StreamEnd ∷ []) Ends
 
 abbrev pub RowKeysWithoutValues : Type 0
 RowKeysWithoutValues = IsRun (list (
@@ -178,7 +188,8 @@ RowCollectionsInMapping = IsRun (list (
 abbrev pub RowFlowSequence : Type 0
 RowFlowSequence = IsRun (list (
     STREAM ∷ FlowSequenceStart ∷ SCALAR (codes "a") ∷ FlowEntry ∷ ALIAS (codes "b") ∷ FlowEntry ∷ FlowSequenceStart ∷
-    FlowSequenceEnd ∷ FlowEntry ∷ FlowMappingStart ∷ FlowMappingEnd ∷ FlowEntry ∷ FlowSequenceEnd ∷ StreamEnd ∷ [])) no_more (
+    FlowSequenceEnd ∷ FlowEntry ∷ FlowMappingStart ∷ FlowMappingEnd ∷ FlowEntry ∷ FlowSequenceEnd ∷ StreamEnd ∷ []))
+    no_more (
     at 0 0 stream ∷ at 2 2 document ∷ at 2 3 flow_sequence ∷ at 4 5 (text (codes "a")) ∷ at 8 9 (alias (codes "b")) ∷
     at 12 13 flow_sequence ∷ at 14 15 ev.SequenceEnd ∷ at 18 19 flow_mapping ∷ at 20 21 ev.MappingEnd ∷
     at 24 25 ev.SequenceEnd ∷ at 26 26 no_document_end ∷ at 26 27 ev.StreamEnd ∷ []) Ends
@@ -202,7 +213,8 @@ RowNodesAloneInMapping = IsRun (list (
 abbrev pub RowPair : Type 0
 RowPair = IsRun (list (
     STREAM ∷ FlowSequenceStart ∷ Key ∷ SCALAR (codes "a") ∷ Value ∷ SCALAR (codes "b") ∷ FlowEntry ∷ Key ∷
-    FlowSequenceStart ∷ FlowSequenceEnd ∷ Value ∷ FlowMappingStart ∷ FlowMappingEnd ∷ FlowSequenceEnd ∷ StreamEnd ∷ [])) no_more (
+    FlowSequenceStart ∷ FlowSequenceEnd ∷ Value ∷ FlowMappingStart ∷ FlowMappingEnd ∷ FlowSequenceEnd ∷ StreamEnd ∷
+    [])) no_more (
     at 0 0 stream ∷ at 2 2 document ∷ at 2 3 flow_sequence ∷ at 4 5 flow_mapping ∷ at 6 7 (text (codes "a")) ∷
     at 10 11 (text (codes "b")) ∷ at 12 12 ev.MappingEnd ∷ at 14 15 flow_mapping ∷ at 16 17 flow_sequence ∷
     at 18 19 ev.SequenceEnd ∷ at 22 23 flow_mapping ∷ at 24 25 ev.MappingEnd ∷ at 26 26 ev.MappingEnd ∷
@@ -217,7 +229,8 @@ RowPairWithEmptyKey = IsRun (list (
 
 abbrev pub RowEmptyPairKeys : Type 0
 RowEmptyPairKeys = IsRun (list (
-    STREAM ∷ FlowSequenceStart ∷ Key ∷ Value ∷ FlowEntry ∷ Key ∷ FlowEntry ∷ Key ∷ FlowSequenceEnd ∷ StreamEnd ∷ [])) no_more (
+    STREAM ∷ FlowSequenceStart ∷ Key ∷ Value ∷ FlowEntry ∷ Key ∷ FlowEntry ∷ Key ∷ FlowSequenceEnd ∷ StreamEnd ∷
+    [])) no_more (
     at 0 0 stream ∷ at 2 2 document ∷ at 2 3 flow_sequence ∷ at 4 5 flow_mapping ∷ at 6 6 nothing ∷ at 8 8 nothing ∷
     at 8 8 ev.MappingEnd ∷ at 10 11 flow_mapping ∷ at 12 12 nothing ∷ at 12 12 nothing ∷ at 12 12 ev.MappingEnd ∷
     at 14 15 flow_mapping ∷ at 16 16 nothing ∷ at 16 16 nothing ∷ at 16 16 ev.MappingEnd ∷ at 16 17 ev.SequenceEnd ∷
@@ -251,7 +264,8 @@ RowNestedPairs = IsRun (list (
 
 abbrev pub RowEmptyFlowKeys : Type 0
 RowEmptyFlowKeys = IsRun (list (
-    STREAM ∷ FlowMappingStart ∷ Key ∷ Value ∷ FlowEntry ∷ Key ∷ FlowEntry ∷ Key ∷ FlowMappingEnd ∷ StreamEnd ∷ [])) no_more (
+    STREAM ∷ FlowMappingStart ∷ Key ∷ Value ∷ FlowEntry ∷ Key ∷ FlowEntry ∷ Key ∷ FlowMappingEnd ∷ StreamEnd ∷ []))
+    no_more (
     at 0 0 stream ∷ at 2 2 document ∷ at 2 3 flow_mapping ∷ at 6 6 nothing ∷ at 8 8 nothing ∷ at 12 12 nothing ∷
     at 12 12 nothing ∷ at 16 16 nothing ∷ at 16 16 nothing ∷ at 16 17 ev.MappingEnd ∷ at 18 18 no_document_end ∷
     at 18 19 ev.StreamEnd ∷ []) Ends
@@ -333,7 +347,8 @@ RowPropertiesBeforeContent = IsRun (list (
     BlockEntry ∷ TAG [] (codes "t") ∷ ANCHOR (codes "b") ∷ STYLED YAML_LITERAL_SCALAR_STYLE (codes "b") ∷
     BlockEntry ∷ ANCHOR (codes "c") ∷ BlockSequenceStart ∷ BlockEnd ∷ BlockEntry ∷ TAG [] (codes "t") ∷
     BlockMappingStart ∷ BlockEnd ∷ BlockEntry ∷ ANCHOR (codes "d") ∷ TAG [] (codes "u") ∷ FlowSequenceStart ∷
-    FlowSequenceEnd ∷ BlockEntry ∷ TAG [] (codes "v") ∷ FlowMappingStart ∷ FlowMappingEnd ∷ BlockEnd ∷ StreamEnd ∷ [])) no_more (
+    FlowSequenceEnd ∷ BlockEntry ∷ TAG []
+    (codes "v") ∷ FlowMappingStart ∷ FlowMappingEnd ∷ BlockEnd ∷ StreamEnd ∷ [])) no_more (
     at 0 0 stream ∷ at 2 2 document ∷ at 2 3 sequence ∷
     at 6 11 (scalar (Some (codes "a")) (Some (codes "t")) (codes "a") false false YAML_PLAIN_SCALAR_STYLE) ∷
     at 14 19 (scalar (Some (codes "b")) (Some (codes "t")) (codes "b") false false YAML_LITERAL_SCALAR_STYLE) ∷
@@ -404,7 +419,8 @@ RowHandlesWithZeroBytes = IsRun (list (
     DocumentStart ∷ BlockSequenceStart ∷ BlockEntry ∷ TAG (33 ∷ 0 ∷ 98 ∷ 33 ∷ []) (codes "x") ∷ BlockEntry ∷
     TAG (33 ∷ 0 ∷ 97 ∷ 33 ∷ []) (codes "y") ∷ BlockEnd ∷ StreamEnd ∷ [])) no_more (
     at 0 0 stream ∷
-    at 2 7 (headed_document None (declares (33 ∷ 0 ∷ 97 ∷ 33 ∷ []) (codes "p:") ∷ declares (33 ∷ 0 ∷ 98 ∷ 33 ∷ []) (codes "q:") ∷ [])) ∷
+    at 2 7 (headed_document None
+    (declares (33 ∷ 0 ∷ 97 ∷ 33 ∷ []) (codes "p:") ∷ declares (33 ∷ 0 ∷ 98 ∷ 33 ∷ []) (codes "q:") ∷ [])) ∷
     at 8 9 sequence ∷ at 12 13 (scalar None (Some (codes "q:x")) [] false false YAML_PLAIN_SCALAR_STYLE) ∷
     at 16 17 (scalar None (Some (codes "p:y")) [] false false YAML_PLAIN_SCALAR_STYLE) ∷ at 18 19 ev.SequenceEnd ∷
     at 20 20 no_document_end ∷ at 20 21 ev.StreamEnd ∷ []) Ends

@@ -38,11 +38,15 @@ is_behind_properties c l = true
 -- properties no token stands, with the source's fault f; a beginning without STREAM-END, with f.
 pub data IsRun (l : List Token) (f : Fault) (e : List Event) (x : Ending) : Type 0 where
   of_sentence : (t : Stream) → up_to_end l ≡ tokens t → in_order t ≡ true → e ≡ events t → x ≡ Ends → IsRun l f e x
-  of_cut_tree : (before : List Token) (token : Token) (behind : List Token) (c : Cut) → up_to_end l ≡ before ++ token ∷ behind → Fits before token c
-      → is_behind_properties c behind ≡ true → e ≡ cut_events c token → x ≡ Fails (fault c token.content token.start_mark) → IsRun l f e x
-  amid_properties : (before : List Token) (token : Token) (behind : List Token) (c : Cut) → up_to_end l ≡ before ++ token ∷ behind → Fits before token c
+  of_cut_tree : (before : List Token) (token : Token) (behind : List Token) (c : Cut)
+      → up_to_end l ≡ before ++ token ∷ behind → Fits before token c
+      → is_behind_properties c behind ≡ true → e ≡ cut_events c token
+      → x ≡ Fails (fault c token.content token.start_mark) → IsRun l f e x
+  amid_properties : (before : List Token) (token : Token) (behind : List Token) (c : Cut)
+      → up_to_end l ≡ before ++ token ∷ behind → Fits before token c
       → is_behind_properties c behind ≡ false → e ≡ cut_events c token → x ≡ Fails f → IsRun l f e x
-  of_beginning : IsBeginning (up_to_end l) → has_end (up_to_end l) ≡ false → IsSettled (up_to_end l) e → x ≡ Fails f → IsRun l f e x
+  of_beginning : IsBeginning (up_to_end l) → has_end (up_to_end l) ≡ false → IsSettled (up_to_end l) e → x ≡ Fails f
+      → IsRun l f e x
 
 -- a cut tree fits, with these events and this fault
 pub record HasFault (l : List Token) (e : List Event) (g : Fault) : Type 0 where
@@ -59,5 +63,6 @@ pub record HasFault (l : List Token) (e : List Event) (g : Fault) : Type 0 where
 -- one cut tree that fits, and its fault. The fault after the list never shows.
 pub data RunsWhole (l : List Token) (f : Fault) : Type 0 where
   to_its_end : (t : Stream) → in_order t ≡ true → l ≡ tokens t → IsRun l f (events t) Ends → RunsWhole l f
-  to_its_fault : (before : List Token) (token : Token) (behind : List Token) (c : Cut) → l ≡ before ++ token ∷ behind → Fits before token c
+  to_its_fault : (before : List Token) (token : Token) (behind : List Token) (c : Cut)
+      → l ≡ before ++ token ∷ behind → Fits before token c
       → IsRun l f (cut_events c token) (Fails (fault c token.content token.start_mark)) → RunsWhole l f

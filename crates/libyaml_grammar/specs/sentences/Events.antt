@@ -10,16 +10,24 @@ use Rattle.libyaml_types.specs.declared.directive.yaml_tag_directive_t.{yaml_tag
 use Rattle.libyaml_types.specs.declared.enums.yaml_scalar_style_t.{yaml_scalar_style_t}
 use Rattle.libyaml_types.specs.declared.enums.yaml_scalar_style_t.TheVariants.{YAML_PLAIN_SCALAR_STYLE}
 use Rattle.libyaml_types.specs.declared.enums.yaml_sequence_style_t.{yaml_sequence_style_t}
-use Rattle.libyaml_types.specs.declared.enums.yaml_sequence_style_t.TheVariants.{YAML_BLOCK_SEQUENCE_STYLE, YAML_FLOW_SEQUENCE_STYLE}
+use Rattle.libyaml_types.specs.declared.enums.yaml_sequence_style_t.TheVariants.{YAML_BLOCK_SEQUENCE_STYLE}
+use Rattle.libyaml_types.specs.declared.enums.yaml_sequence_style_t.TheVariants.{YAML_FLOW_SEQUENCE_STYLE}
 use Rattle.libyaml_types.specs.declared.enums.yaml_mapping_style_t.{yaml_mapping_style_t}
-use Rattle.libyaml_types.specs.declared.enums.yaml_mapping_style_t.TheVariants.{YAML_BLOCK_MAPPING_STYLE, YAML_FLOW_MAPPING_STYLE}
+use Rattle.libyaml_types.specs.declared.enums.yaml_mapping_style_t.TheVariants.{YAML_BLOCK_MAPPING_STYLE}
+use Rattle.libyaml_types.specs.declared.enums.yaml_mapping_style_t.TheVariants.{YAML_FLOW_MAPPING_STYLE}
 use Rattle.libyaml_grammar.specs.sentences.Tokens.{Mark, Marks, StreamHead, HandleDeclared, AliasName, TagName, ScalarText}
-use Rattle.libyaml_grammar.specs.sentences.Trees.{Properties, Sort, Role, FlowNode, FlowItems, FlowLast, FlowMember, FlowSlot, BlockNode, BlockSlot}
-use Rattle.libyaml_grammar.specs.sentences.Trees.{BlockItems, Slot, Parts, Directive, Directives, Documents, Free, Ended, Before, Stream, anchor, tag}
-use Rattle.libyaml_grammar.specs.sentences.Trees.{anchor_tag, tag_anchor, sequence, mapping, key, value, alias, alone, scalar, collection, no_items}
-use Rattle.libyaml_grammar.specs.sentences.Trees.{more_items, no_last, last, single, pair, flow_nothing, flow_node, no_value, with_value, flow}
-use Rattle.libyaml_grammar.specs.sentences.Trees.{block_sequence, block_mapping, nothing, node, empty, item, slot_of, indentless, no_parts, part, version}
-use Rattle.libyaml_grammar.specs.sentences.Trees.{tag_directive, no_directives, directive, implicit, explicit, opened, ended, once, again, free, behind}
+use Rattle.libyaml_grammar.specs.sentences.Trees.{Properties, Sort, Role, FlowNode, FlowItems, FlowLast, FlowMember}
+use Rattle.libyaml_grammar.specs.sentences.Trees.{FlowSlot, BlockNode, BlockSlot}
+use Rattle.libyaml_grammar.specs.sentences.Trees.{BlockItems, Slot, Parts, Directive, Directives, Documents, Free}
+use Rattle.libyaml_grammar.specs.sentences.Trees.{Ended, Before, Stream, anchor, tag}
+use Rattle.libyaml_grammar.specs.sentences.Trees.{anchor_tag, tag_anchor, sequence, mapping, key, value, alias, alone}
+use Rattle.libyaml_grammar.specs.sentences.Trees.{scalar, collection, no_items}
+use Rattle.libyaml_grammar.specs.sentences.Trees.{more_items, no_last, last, single, pair, flow_nothing, flow_node}
+use Rattle.libyaml_grammar.specs.sentences.Trees.{no_value, with_value, flow}
+use Rattle.libyaml_grammar.specs.sentences.Trees.{block_sequence, block_mapping, nothing, node, empty, item, slot_of}
+use Rattle.libyaml_grammar.specs.sentences.Trees.{indentless, no_parts, part, version}
+use Rattle.libyaml_grammar.specs.sentences.Trees.{tag_directive, no_directives, directive, implicit, explicit, opened}
+use Rattle.libyaml_grammar.specs.sentences.Trees.{ended, once, again, free, behind}
 use Rattle.libyaml_grammar.specs.sentences.Trees.{whole}
 
 abbrev pub Event : Type 0
@@ -67,7 +75,12 @@ tag_directives_of ds = tag_directives_then ds []
 
 -- the events of a document: its start carries its directives, and is implicit without a DOCUMENT-START
 abbrev pub document_start_at : Directives → (is_implicit : Bool) → Mark → Mark → Event
-document_start_at ds i m n = event (ev.DocumentStart (record { version_directive = version_of ds; tag_directives = tag_directives_of ds; implicit = i })) m n
+document_start_at ds i m n =
+    event (ev.DocumentStart (record {
+      version_directive = version_of ds;
+      tag_directives = tag_directives_of ds;
+      implicit = i;
+    })) m n
 
 abbrev pub document_end_at : (is_implicit : Bool) → Mark → Mark → Event
 document_end_at i m n = event (ev.DocumentEnd (record { implicit = i })) m n
@@ -75,8 +88,18 @@ document_end_at i m n = event (ev.DocumentEnd (record { implicit = i })) m n
 abbrev pub alias_at : AliasName → Mark → Mark → Event
 alias_at a m n = event (ev.Alias (record { anchor = a.value })) m n
 
-abbrev pub scalar_at : (anchor tag : Option (List ℕ)) → (value : List ℕ) → (plain_implicit quoted_implicit : Bool) → yaml_scalar_style_t → Mark → Mark → Event
-scalar_at a t v p q s m n = event (ev.Scalar (record { anchor = a; tag = t; value = v; plain_implicit = p; quoted_implicit = q; style = s })) m n
+abbrev pub scalar_at : (anchor tag : Option (List ℕ)) → (value : List ℕ) → (plain_implicit quoted_implicit : Bool)
+    → yaml_scalar_style_t → Mark → Mark → Event
+scalar_at a t v p q s m n =
+    event (ev.Scalar (record {
+      anchor = a;
+      tag = t;
+      value = v;
+      plain_implicit = p;
+      quoted_implicit = q;
+      style =
+          s;
+    })) m n
 
 -- the start and the end of a collection
 abbrev pub start_content : Sort → (anchor tag : Option (List ℕ)) → (implicit : Bool) → Layout → unnamed_yaml_event_t_data
@@ -175,12 +198,14 @@ quoted_flag (Some t) s = false
 
 -- The event of a scalar, from its first property or its own start to its end.
 abbrev pub scalar_of : Directives → Option Properties → ScalarText → Marks → Event
-scalar_of ds o v m = scalar_at (anchor_of o) (tag_of ds o) v.value (plain_flag (tag_of ds o) v.style) (quoted_flag (tag_of ds o) v.style) v.style
+scalar_of ds o v m = scalar_at (anchor_of o) (tag_of ds o) v.value (plain_flag (tag_of ds o) v.style)
+    (quoted_flag (tag_of ds o) v.style) v.style
     (first_of o m.start) m.end
 
 -- properties alone are an empty plain scalar
 abbrev pub alone_of : Directives → Properties → Event
-alone_of ds p = scalar_at (anchor_of (Some p)) (tag_of ds (Some p)) [] (is_missing (tag_of ds (Some p))) false YAML_PLAIN_SCALAR_STYLE (first_of_properties p)
+alone_of ds p = scalar_at (anchor_of (Some p)) (tag_of ds (Some p)) [] (is_missing (tag_of ds (Some p))) false
+    YAML_PLAIN_SCALAR_STYLE (first_of_properties p)
     (last_of_properties p)
 
 -- nothing is an empty plain scalar with two equal marks
@@ -193,7 +218,8 @@ start_of ds k s o m = start_at k (anchor_of o) (tag_of ds o) (is_missing (tag_of
 abbrev pub end_of : Sort → Marks → Event
 end_of k m = end_at k m.start m.end
 
--- In a flow sequence a pair is a mapping of its own; in a flow mapping an entry is a pair, and a node alone lacks its value.
+-- In a flow sequence a pair is a mapping of its own; in a flow mapping an entry is a pair, and a node alone lacks
+-- its value.
 abbrev pub opens_pair : Sort → Marks → List Event → List Event
 opens_pair sequence m r = start_at mapping None None true flow_layout m.start m.end ∷ r
 opens_pair mapping m r = r
@@ -219,11 +245,13 @@ abbrev mutual
   flow_node_events ds (alias a m) r = alias_at a m.start m.end ∷ r
   flow_node_events ds (alone p) r = alone_of ds p ∷ r
   flow_node_events ds (scalar o v m) r = scalar_of ds o v m ∷ r
-  flow_node_events ds (collection o k m is l n) r = start_of ds k flow_layout o m ∷ flow_items_events ds k is (flow_last_events ds k l n.start (end_of k n ∷ r))
+  flow_node_events ds (collection o k m is l n) r = start_of ds k flow_layout o m ∷ flow_items_events ds k is
+      (flow_last_events ds k l n.start (end_of k n ∷ r))
 
   pub flow_items_events : Directives → Sort → FlowItems → List Event → List Event
   flow_items_events ds k no_items r = r
-  flow_items_events ds k (more_items is e m) r = flow_items_events ds k is (flow_member_events ds k e m.start (member_end k e m.start r))
+  flow_items_events ds k (more_items is e m) r =
+      flow_items_events ds k is (flow_member_events ds k e m.start (member_end k e m.start r))
 
   pub flow_last_events : Directives → Sort → FlowLast → Mark → List Event → List Event
   flow_last_events ds k no_last m r = r
@@ -232,7 +260,8 @@ abbrev mutual
   pub flow_member_events : Directives → Sort → FlowMember → Mark → List Event → List Event
   flow_member_events ds k (single n) m r = flow_node_events ds n r
   flow_member_events ds k (pair s x no_value) m r = opens_pair k s (flow_slot_events ds x m r)
-  flow_member_events ds k (pair s x (with_value v y)) m r = opens_pair k s (flow_slot_events ds x v.start (flow_slot_events ds y m r))
+  flow_member_events ds k (pair s x (with_value v y)) m r =
+      opens_pair k s (flow_slot_events ds x v.start (flow_slot_events ds y m r))
 
   pub flow_slot_events : Directives → FlowSlot → Mark → List Event → List Event
   flow_slot_events ds flow_nothing m r = empty_at m ∷ r
@@ -262,7 +291,8 @@ first_entry (item is e n) m = first_entry is e
 abbrev mutual
   pub block_node_events : Directives → BlockNode → List Event → List Event
   block_node_events ds (flow n) r = flow_node_events ds n r
-  block_node_events ds (block_sequence o m is n) r = start_of ds sequence block_layout o m ∷ items_events ds is (end_of sequence n ∷ r)
+  block_node_events ds (block_sequence o m is n) r = start_of ds sequence block_layout o m ∷ items_events ds is
+      (end_of sequence n ∷ r)
   block_node_events ds (block_mapping o m ps n) r = start_of ds mapping block_layout o m
       ∷ parts_events ds ps n.start (missing_value ps n.start (end_of mapping n ∷ r))
 
@@ -307,9 +337,11 @@ first_directive (directive ds d) m = first_directive ds (directive_start d)
 abbrev mutual
   pub documents_events : Documents → Mark → List Event → List Event
   documents_events (implicit f n) m r
-      = free_events f (document_start_at no_directives true (first_block n) (first_block n) ∷ block_node_events no_directives n r)
+      = free_events f (document_start_at no_directives true (first_block n) (first_block n) ∷ block_node_events
+      no_directives n r)
   documents_events (explicit b ds s n) m r
-      = before_events b (first_directive ds s.start) (document_start_at ds false (first_directive ds s.start) s.end ∷ block_slot_events ds n m r)
+      = before_events b (first_directive ds s.start)
+      (document_start_at ds false (first_directive ds s.start) s.end ∷ block_slot_events ds n m r)
 
   pub free_events : Free → List Event → List Event
   free_events (opened e m) r = stream_start_at e m.start m.start ∷ r

@@ -6,7 +6,8 @@ use Rattle.libyaml_types.specs.declared.event.unnamed_yaml_event_t_data_alias.{u
 use Rattle.libyaml_types.specs.declared.event.unnamed_yaml_event_t_data_document_start.{unnamed_yaml_event_t_data_document_start}
 use Rattle.libyaml_types.specs.declared.event.unnamed_yaml_event_t_data_scalar.{unnamed_yaml_event_t_data_scalar}
 use Rattle.libyaml_types.specs.declared.event.unnamed_yaml_event_t_data.TheVariants as ev
-use Rattle.libyaml_grammar.specs.sentences.Events.{Event, Layout, document_end_at, end_at, event, start_at, stream_end_at, stream_start_at}
+use Rattle.libyaml_grammar.specs.sentences.Events.{Event, Layout, document_end_at, end_at, event, start_at}
+use Rattle.libyaml_grammar.specs.sentences.Events.{stream_end_at, stream_start_at}
 use Rattle.libyaml_grammar.specs.sentences.Order.{negated}
 use Rattle.libyaml_grammar.specs.sentences.Tokens.{Mark, StreamHead}
 use Rattle.libyaml_grammar.specs.sentences.Trees.{Sort, mapping, sequence}
@@ -15,7 +16,8 @@ mutual
   pub data Value : Type 0 where
     alias_value : unnamed_yaml_event_t_data_alias → Mark → Mark → Value
     scalar_value : unnamed_yaml_event_t_data_scalar → Mark → Mark → Value
-    collection_value : Sort → (anchor tag : Option (List ℕ)) → (implicit : Bool) → Layout → Mark → Mark → Values → Mark → Mark → Value
+    collection_value : Sort → (anchor tag : Option (List ℕ)) → (implicit : Bool) → Layout → Mark → Mark → Values
+        → Mark → Mark → Value
 
   pub data Values : Type 0 where
     no_values : Values
@@ -55,11 +57,13 @@ abbrev mutual
 -- whole documents: start, value and end
 pub data Texts : Type 0 where
   no_texts : Texts
-  text_behind : Texts → unnamed_yaml_event_t_data_document_start → Mark → Mark → Value → (is_implicit : Bool) → Mark → Mark → Texts
+  text_behind : Texts → unnamed_yaml_event_t_data_document_start → Mark → Mark → Value → (is_implicit : Bool) → Mark
+      → Mark → Texts
 
 abbrev pub texts_events : Texts → List Event → List Event
 texts_events no_texts r = r
-texts_events (text_behind ts d m n v i p q) r = texts_events ts (event (ev.DocumentStart d) m n ∷ value_events v (document_end_at i p q ∷ r))
+texts_events (text_behind ts d m n v i p q) r =
+    texts_events ts (event (ev.DocumentStart d) m n ∷ value_events v (document_end_at i p q ∷ r))
 
 abbrev pub TextsHavePairs : Texts → Type 0
 TextsHavePairs no_texts = Unit {0}
@@ -86,7 +90,8 @@ pub record BeginsValue (front : List Event) : Type 0 where
 -- no document is open; or one is: its start, and events that begin those of its value
 pub data IsOpenDocument (l : List Event) : Type 0 where
   none_open : l ≡ [] → IsOpenDocument l
-  one_open : (d : unnamed_yaml_event_t_data_document_start) (m n : Mark) (front : List Event) → l ≡ event (ev.DocumentStart d) m n ∷ front → BeginsValue front
+  one_open : (d : unnamed_yaml_event_t_data_document_start) (m n : Mark) (front : List Event)
+      → l ≡ event (ev.DocumentStart d) m n ∷ front → BeginsValue front
       → IsOpenDocument l
 
 -- the stream's start, whole documents, and at most one that is open

@@ -1,12 +1,18 @@
--- Documents in order (YAML 1.1, 7.1 and 8.2; docs/DEFINITIONS.md, "Documents in order"): directives that agree with one another, and
--- tags whose handles are known. Each test returns what holds of its part and, as b, of what follows it.
+-- Documents in order (YAML 1.1, 7.1 and 8.2; docs/DEFINITIONS.md, "Documents in order"): directives that agree with
+-- one another, and tags whose handles are known. Each test returns what holds of its part and, as b, of what
+-- follows it.
 use Rattle.std.specs.Prelude.{ℕ, ℤ, pos, List, [], ◌∷◌, Option, Some, None, Bool, true, false, codes}
 use Rattle.std.specs.Ordering.{int_eq}
-use Rattle.libyaml_grammar.specs.sentences.Trees.{Before, BlockItems, BlockNode, BlockSlot, Directive, Directives, Documents, Ended, FlowItems, FlowLast}
-use Rattle.libyaml_grammar.specs.sentences.Trees.{FlowMember, FlowNode, FlowSlot, FlowValue, Free, Parts, Properties, Slot, Stream, again, alias, alone}
-use Rattle.libyaml_grammar.specs.sentences.Trees.{anchor, anchor_tag, behind, block_mapping, block_sequence, collection, directive, empty, ended, explicit}
-use Rattle.libyaml_grammar.specs.sentences.Trees.{flow, flow_node, flow_nothing, free, implicit, indentless, item, last, more_items, no_directives, no_items}
-use Rattle.libyaml_grammar.specs.sentences.Trees.{no_last, no_parts, no_value, node, nothing, once, opened, pair, part, scalar, single, slot_of, tag}
+use Rattle.libyaml_grammar.specs.sentences.Trees.{Before, BlockItems, BlockNode, BlockSlot, Directive, Directives}
+use Rattle.libyaml_grammar.specs.sentences.Trees.{Documents, Ended, FlowItems, FlowLast}
+use Rattle.libyaml_grammar.specs.sentences.Trees.{FlowMember, FlowNode, FlowSlot, FlowValue, Free, Parts, Properties}
+use Rattle.libyaml_grammar.specs.sentences.Trees.{Slot, Stream, again, alias, alone}
+use Rattle.libyaml_grammar.specs.sentences.Trees.{anchor, anchor_tag, behind, block_mapping, block_sequence, collection}
+use Rattle.libyaml_grammar.specs.sentences.Trees.{directive, empty, ended, explicit}
+use Rattle.libyaml_grammar.specs.sentences.Trees.{flow, flow_node, flow_nothing, free, implicit, indentless, item, last}
+use Rattle.libyaml_grammar.specs.sentences.Trees.{more_items, no_directives, no_items}
+use Rattle.libyaml_grammar.specs.sentences.Trees.{no_last, no_parts, no_value, node, nothing, once, opened, pair, part}
+use Rattle.libyaml_grammar.specs.sentences.Trees.{scalar, single, slot_of, tag}
 use Rattle.libyaml_grammar.specs.sentences.Trees.{tag_anchor, tag_directive, version, whole, with_value}
 use Rattle.libyaml_grammar.specs.sentences.Events.{either, same_text}
 
@@ -60,7 +66,8 @@ abbrev mutual
   flow_node_in_order ds (alias a m) b = b
   flow_node_in_order ds (alone p) b = properties_in_order ds p b
   flow_node_in_order ds (scalar o v m) b = option_in_order ds o b
-  flow_node_in_order ds (collection o k m is l n) b = option_in_order ds o (flow_items_in_order ds is (flow_last_in_order ds l b))
+  flow_node_in_order ds (collection o k m is l n) b =
+      option_in_order ds o (flow_items_in_order ds is (flow_last_in_order ds l b))
 
   pub flow_items_in_order : Directives → FlowItems → Bool → Bool
   flow_items_in_order ds no_items b = b

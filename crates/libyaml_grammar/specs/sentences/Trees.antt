@@ -2,10 +2,14 @@
 -- Trees are typed by what may stand where, so each value of these types is a tree of the grammar.
 -- Lists grow to the right, as "the items so far, and one more".
 use Rattle.std.specs.Prelude.{List, [], ◌∷◌, Option, Some, None}
-use Rattle.libyaml_grammar.specs.sentences.Tokens.{Marks, Content, Token, tok, StreamHead, VersionAsked, HandleDeclared, AliasName, AnchorName, TagName}
-use Rattle.libyaml_grammar.specs.sentences.Tokens.{ScalarText, StreamStart, StreamEnd, VersionDirective, TagDirective, DocumentStart, DocumentEnd}
-use Rattle.libyaml_grammar.specs.sentences.Tokens.{BlockSequenceStart, BlockMappingStart, BlockEnd, FlowSequenceStart, FlowSequenceEnd, FlowMappingStart}
-use Rattle.libyaml_grammar.specs.sentences.Tokens.{FlowMappingEnd, BlockEntry, FlowEntry, Key, Value, Alias, Anchor, Tag, Scalar}
+use Rattle.libyaml_grammar.specs.sentences.Tokens.{Marks, Content, Token, tok, StreamHead, VersionAsked, HandleDeclared}
+use Rattle.libyaml_grammar.specs.sentences.Tokens.{AliasName, AnchorName, TagName}
+use Rattle.libyaml_grammar.specs.sentences.Tokens.{ScalarText, StreamStart, StreamEnd, VersionDirective, TagDirective}
+use Rattle.libyaml_grammar.specs.sentences.Tokens.{DocumentStart, DocumentEnd}
+use Rattle.libyaml_grammar.specs.sentences.Tokens.{BlockSequenceStart, BlockMappingStart, BlockEnd, FlowSequenceStart}
+use Rattle.libyaml_grammar.specs.sentences.Tokens.{FlowSequenceEnd, FlowMappingStart}
+use Rattle.libyaml_grammar.specs.sentences.Tokens.{FlowMappingEnd, BlockEntry, FlowEntry, Key, Value, Alias, Anchor}
+use Rattle.libyaml_grammar.specs.sentences.Tokens.{Tag, Scalar}
 
 -- A node's properties (YAML 1.1, 8.1 and 8.2): an anchor, a tag, or both in either order.
 pub data Properties : Type 0 where
@@ -153,7 +157,8 @@ abbrev mutual
   flow_node_tokens (alias a m) r = tok (Alias a) m ∷ r
   flow_node_tokens (alone p) r = properties_tokens p r
   flow_node_tokens (scalar o v m) r = option_tokens o (tok (Scalar v) m ∷ r)
-  flow_node_tokens (collection o k m is l n) r = option_tokens o (tok (opening k) m ∷ flow_items_tokens is (flow_last_tokens l (tok (closing k) n ∷ r)))
+  flow_node_tokens (collection o k m is l n) r =
+      option_tokens o (tok (opening k) m ∷ flow_items_tokens is (flow_last_tokens l (tok (closing k) n ∷ r)))
 
   pub flow_items_tokens : FlowItems → List Token → List Token
   flow_items_tokens no_items r = r
@@ -178,8 +183,10 @@ abbrev mutual
 abbrev mutual
   pub block_node_tokens : BlockNode → List Token → List Token
   block_node_tokens (flow n) r = flow_node_tokens n r
-  block_node_tokens (block_sequence o m is n) r = option_tokens o (tok BlockSequenceStart m ∷ items_tokens is (tok BlockEnd n ∷ r))
-  block_node_tokens (block_mapping o m ps n) r = option_tokens o (tok BlockMappingStart m ∷ parts_tokens ps (tok BlockEnd n ∷ r))
+  block_node_tokens (block_sequence o m is n) r =
+      option_tokens o (tok BlockSequenceStart m ∷ items_tokens is (tok BlockEnd n ∷ r))
+  block_node_tokens (block_mapping o m ps n) r =
+      option_tokens o (tok BlockMappingStart m ∷ parts_tokens ps (tok BlockEnd n ∷ r))
 
   pub block_slot_tokens : BlockSlot → List Token → List Token
   block_slot_tokens nothing r = r
@@ -208,7 +215,8 @@ directives_tokens (directive ds d) r = directives_tokens ds (directive_token d �
 abbrev mutual
   pub documents_tokens : Documents → List Token → List Token
   documents_tokens (implicit f n) r = free_tokens f (block_node_tokens n r)
-  documents_tokens (explicit b ds m n) r = before_tokens b (directives_tokens ds (tok DocumentStart m ∷ block_slot_tokens n r))
+  documents_tokens (explicit b ds m n) r =
+      before_tokens b (directives_tokens ds (tok DocumentStart m ∷ block_slot_tokens n r))
 
   pub free_tokens : Free → List Token → List Token
   free_tokens (opened e m) r = tok (StreamStart e) m ∷ r

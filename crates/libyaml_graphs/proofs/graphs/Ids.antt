@@ -1,19 +1,25 @@
--- The ids of a graph: each names a node, a node holds those of all its children, and children come later than their parents.
-use Rattle.std.proofs.Common.{◌≡◌, ◌≤◌, ℕ, suc, ℤ, pos, List, [], ◌∷◌, ◌+◌, length, All, arith, add-zero, zero-add, Option, Some, None, Bool, true, false}
+-- The ids of a graph: each names a node, a node holds those of all its children, and children come later than their
+-- parents.
+use Rattle.std.proofs.Common.{◌≡◌, ◌≤◌, ℕ, suc, ℤ, pos, List, [], ◌∷◌, ◌+◌, length, All, arith, add-zero, zero-add}
+use Rattle.std.proofs.Common.{Option, Some, None, Bool, true, false}
 use Rattle.std.proofs.Common.{refl, sym, ap, ◌∙◌, subst, le_refl, le_trans, le_of_lt, lt-suc_self, suc-le-suc, zero-le}
 use Rattle.std.proofs.lemmas.Int.{ints}
 use Rattle.std.proofs.lemmas.List.Elements.{All-nil, All-cons}
 use Rattle.libyaml_grammar.specs.sentences.Events.{Event, Layout, end_at}
 use Rattle.libyaml_sources.specs.Fault.{Fault}
-use Rattle.libyaml_grammar.specs.sentences.Nesting.{AllHavePairs, HasPairs, Texts, TextsHavePairs, Value, Values, alias_value, collection_value, first_value}
-use Rattle.libyaml_grammar.specs.sentences.Nesting.{is_even, no_texts, no_values, scalar_value, text_behind, value_events, values_events}
+use Rattle.libyaml_grammar.specs.sentences.Nesting.{AllHavePairs, HasPairs, Texts, TextsHavePairs, Value, Values}
+use Rattle.libyaml_grammar.specs.sentences.Nesting.{alias_value, collection_value, first_value}
+use Rattle.libyaml_grammar.specs.sentences.Nesting.{is_even, no_texts, no_values, scalar_value, text_behind}
+use Rattle.libyaml_grammar.specs.sentences.Nesting.{value_events, values_events}
 use Rattle.libyaml_grammar.specs.sentences.Order.{negated}
 use Rattle.libyaml_grammar.specs.sentences.Tokens.{Mark}
 use Rattle.libyaml_grammar.specs.sentences.Trees.{Sort, mapping, sequence}
 use Rattle.libyaml_documents.specs.Nodes.{EveryIdNamesANode, IsIdUpTo, ids_of, ids_of_pairs}
 use Rattle.libyaml_documents.specs.declared.node.yaml_node_t.{yaml_node_t}
-use Rattle.libyaml_graphs.specs.graphs.ComposerFaults.{alias_fault, anchor_fault, composer_fault, heads, or_else, part_fault}
-use Rattle.libyaml_graphs.specs.loads.GraphLaws.{AllHoldTheirChildren, AllLater, ChildrenAreLater, EachHoldsItsChildren, EachIsLater, HoldsItsChildren, IsLater}
+use Rattle.libyaml_graphs.specs.graphs.ComposerFaults.{alias_fault, anchor_fault, composer_fault, heads, or_else}
+use Rattle.libyaml_graphs.specs.graphs.ComposerFaults.{part_fault}
+use Rattle.libyaml_graphs.specs.loads.GraphLaws.{AllHoldTheirChildren, AllLater, ChildrenAreLater, EachHoldsItsChildren}
+use Rattle.libyaml_graphs.specs.loads.GraphLaws.{EachIsLater, HoldsItsChildren, IsLater}
 use Rattle.libyaml_graphs.specs.graphs.Graphs.{Carrier, Start, carrier, carries, collection_loaded, id_of, id_or}
 use Rattle.libyaml_graphs.specs.graphs.Graphs.{ids_of_all, items, nodes_of, nodes_of_all, pairs}
 use Rattle.libyaml_graphs.specs.graphs.Graphs.{starts_behind, starts_behind_all}
@@ -51,7 +57,8 @@ mutual
   starts_grow : (v : Value) (es : List Start) → length es ≤ length (starts_behind v es)
   starts_grow (alias_value a m n) es = le_refl _
   starts_grow (scalar_value s m n) es = one_more (length es)
-  starts_grow (collection_value k a t i s m n vs p q) es = le_trans (one_more (length es)) (all_starts_grow vs (record { anchor = a; mark = m } ∷ es))
+  starts_grow (collection_value k a t i s m n vs p q) es =
+      le_trans (one_more (length es)) (all_starts_grow vs (record { anchor = a; mark = m } ∷ es))
 
   all_starts_grow : (vs : Values) (es : List Start) → length es ≤ length (starts_behind_all vs es)
   all_starts_grow no_values es = le_refl _
@@ -73,25 +80,47 @@ AllUpTo n (i ∷ is) = IsUpTo n i × AllUpTo n is
 
 -- where the composer finds no fault in values they have ids, and there is none in what follows them
 mutual
-  value_sound : (v : Value) (es : List Start) (r : List Event) → composer_fault es (parts (value_events v r)) ≡ None → (1 ≤ id_of v es)
+  value_sound : (v : Value) (es : List Start) (r : List Event) → composer_fault es (parts (value_events v r)) ≡ None
+      → (1 ≤ id_of v es)
       × (composer_fault (starts_behind v es) (parts r) ≡ None)
   value_sound (alias_value a m n) es r e =
       let h : (alias_fault (carrier a.anchor es) m ≡ None) × (composer_fault es (parts r) ≡ None) = or_none _ _ e in
       (carrier_id a.anchor es m h.0, h.1)
   value_sound (scalar_value s m n) es r e = (suc-le-suc zero-le, (or_none (anchor_fault es s.anchor m) _ e).1)
   value_sound (collection_value sequence a t i s m n vs p q) es r e
-      = (suc-le-suc zero-le, (values_sound vs (record { anchor = a; mark = m } ∷ es) (end_at sequence p q ∷ r) (or_none (anchor_fault es a m) _ e).1).1)
+      = (
+        suc-le-suc zero-le,
+        (values_sound vs (record { anchor = a; mark = m } ∷ es) (end_at sequence p q ∷ r)
+            (or_none (anchor_fault es a m) _ e).1).1,
+      )
   value_sound (collection_value mapping a t i s m n vs p q) es r e
-      = (suc-le-suc zero-le, (values_sound vs (record { anchor = a; mark = m } ∷ es) (end_at mapping p q ∷ r) (or_none (anchor_fault es a m) _ e).1).1)
+      = (
+        suc-le-suc zero-le,
+        (values_sound vs (record { anchor = a; mark = m } ∷ es) (end_at mapping p q ∷ r)
+            (or_none (anchor_fault es a m) _ e).1).1,
+      )
 
   values_sound : (vs : Values) (es : List Start) (r : List Event) → composer_fault es (parts (values_events vs r)) ≡ None
-      → ((n : ℕ) → length (starts_behind_all vs es) ≤ n → AllUpTo n (ids_of_all vs es)) × (composer_fault (starts_behind_all vs es) (parts r) ≡ None)
+      → ((n : ℕ) → length (starts_behind_all vs es) ≤ n → AllUpTo n (ids_of_all vs es))
+      × (composer_fault (starts_behind_all vs es) (parts r) ≡ None)
   values_sound no_values es r e = (λ n h. tt, e)
   values_sound (first_value v vs) es r e =
-      let a : (1 ≤ id_of v es) × (composer_fault (starts_behind v es) (parts (values_events vs r)) ≡ None) = value_sound v es (values_events vs r) e in
-      let b : ((n : ℕ) → length (starts_behind_all vs (starts_behind v es)) ≤ n → AllUpTo n (ids_of_all vs (starts_behind v es)))
-      × (composer_fault (starts_behind_all vs (starts_behind v es)) (parts r) ≡ None) = values_sound vs (starts_behind v es) r a.1 in
-      (λ n h. (record { first = a.0; last = le_trans (id_up_to v es) (le_trans (all_starts_grow vs (starts_behind v es)) h) }, b.0 n h), b.1)
+      let a : (1 ≤ id_of v es) × (composer_fault (starts_behind v es) (parts (values_events vs r)) ≡ None) =
+      value_sound v es (values_events vs r) e in
+      let b : ((n : ℕ) → length (starts_behind_all vs (starts_behind v es)) ≤ n
+      → AllUpTo n (ids_of_all vs (starts_behind v es)))
+      × (composer_fault (starts_behind_all vs (starts_behind v es)) (parts r) ≡ None) =
+      values_sound vs (starts_behind v es) r a.1 in (
+        λ n h. (
+          record {
+            first = a.0;
+            last =
+                le_trans (id_up_to v es) (le_trans (all_starts_grow vs (starts_behind v es)) h);
+          },
+          b.0 n h,
+        ),
+        b.1,
+      )
 
 is_id : (n i : ℕ) → IsUpTo n i → IsIdUpTo n (pos i)
 is_id n i h = let a : 1 ≤ i = h.first in let b : i ≤ n = h.last in (omega (arith, ints), omega (arith, ints))
@@ -109,56 +138,66 @@ pairs_are n (k ∷ v ∷ is) h = All-cons (IsIdUpTo n) (pos k) (pos v ∷ ids_of
 abbrev Ids : ℕ → yaml_node_t → Type 0
 Ids n x = All (IsIdUpTo n) (ids_of x.content)
 
-collection_ids : (k : Sort) (n : ℕ) (t : Option (List ℕ)) (s : Layout) (is : List ℕ) (m q : Mark) → AllUpTo n is → Ids n (collection_loaded k t s is m q)
+collection_ids : (k : Sort) (n : ℕ) (t : Option (List ℕ)) (s : Layout) (is : List ℕ) (m q : Mark) → AllUpTo n is
+    → Ids n (collection_loaded k t s is m q)
 collection_ids sequence n t s is m q h = items_are n is h
 collection_ids mapping n t s is m q h = pairs_are n is h
 
-opened_sound : (k : Sort) (a t : Option (List ℕ)) (i : Bool) (s : Layout) (m n : Mark) (vs : Values) (p q : Mark) (es : List Start) (r : List Event)
+opened_sound : (k : Sort) (a t : Option (List ℕ)) (i : Bool) (s : Layout) (m n : Mark) (vs : Values) (p q : Mark)
+    (es : List Start) (r : List Event)
     → composer_fault es (parts (value_events (collection_value k a t i s m n vs p q) r)) ≡ None
     → composer_fault (record { anchor = a; mark = m } ∷ es) (parts (values_events vs (end_at k p q ∷ r))) ≡ None
 opened_sound sequence a t i s m n vs p q es r e = (or_none (anchor_fault es a m) _ e).1
 opened_sound mapping a t i s m n vs p q es r e = (or_none (anchor_fault es a m) _ e).1
 
 mutual
-  value_ids : (v : Value) (n : ℕ) (es : List Start) (r : List Event) (l : List yaml_node_t) → composer_fault es (parts (value_events v r)) ≡ None
+  value_ids : (v : Value) (n : ℕ) (es : List Start) (r : List Event) (l : List yaml_node_t)
+      → composer_fault es (parts (value_events v r)) ≡ None
       → length (starts_behind v es) ≤ n → All (Ids n) l → All (Ids n) (nodes_of v es l)
   value_ids (alias_value a m j) n es r l e h k = k
   value_ids (scalar_value s m j) n es r l e h k = All-cons (Ids n) _ l (All-nil (IsIdUpTo n)) k
   value_ids (collection_value c a t i s m j vs x q) n es r l e h k =
       let fs : List Start = record { anchor = a; mark = m } ∷ es in
-      let f : composer_fault fs (parts (values_events vs (end_at c x q ∷ r))) ≡ None = opened_sound c a t i s m j vs x q es r e in
+      let f : composer_fault fs (parts (values_events vs (end_at c x q ∷ r))) ≡ None =
+      opened_sound c a t i s m j vs x q es r e in
       All-cons (Ids n) (collection_loaded c t s (ids_of_all vs fs) m q) (nodes_of_all vs fs l)
       (collection_ids c n t s (ids_of_all vs fs) m q ((values_sound vs fs (end_at c x q ∷ r) f).0 n h))
       (values_ids vs n fs (end_at c x q ∷ r) l f h k)
 
-  values_ids : (vs : Values) (n : ℕ) (es : List Start) (r : List Event) (l : List yaml_node_t) → composer_fault es (parts (values_events vs r)) ≡ None
+  values_ids : (vs : Values) (n : ℕ) (es : List Start) (r : List Event) (l : List yaml_node_t)
+      → composer_fault es (parts (values_events vs r)) ≡ None
       → length (starts_behind_all vs es) ≤ n → All (Ids n) l → All (Ids n) (nodes_of_all vs es l)
   values_ids no_values n es r l e h k = k
   values_ids (first_value v vs) n es r l e h k
-      = value_ids v n es (values_events vs r) (nodes_of_all vs (starts_behind v es) l) e (le_trans (all_starts_grow vs (starts_behind v es)) h)
+      = value_ids v n es (values_events vs r) (nodes_of_all vs (starts_behind v es) l) e
+      (le_trans (all_starts_grow vs (starts_behind v es)) h)
       (values_ids vs n (starts_behind v es) r l (value_sound v es (values_events vs r) e).1 h k)
 
 moved : (a b : ℕ) → suc a + b ≡ a + suc b
 moved a b = omega arith
 
 mutual
-  nodes_count : (v : Value) (es : List Start) (l : List yaml_node_t) → length (starts_behind v es) + length l ≡ length es + length (nodes_of v es l)
+  nodes_count : (v : Value) (es : List Start) (l : List yaml_node_t)
+      → length (starts_behind v es) + length l ≡ length es + length (nodes_of v es l)
   nodes_count (alias_value a m j) es l = refl
   nodes_count (scalar_value s m j) es l = moved (length es) (length l)
   nodes_count (collection_value c a t i s m j vs p q) es l =
-      all_nodes_count vs (record { anchor = a; mark = m } ∷ es) l ∙ moved (length es) (length (nodes_of_all vs (record { anchor = a; mark = m } ∷ es) l))
+      all_nodes_count vs (record { anchor = a; mark = m } ∷ es) l
+      ∙ moved (length es) (length (nodes_of_all vs (record { anchor = a; mark = m } ∷ es) l))
 
   all_nodes_count : (vs : Values) (es : List Start) (l : List yaml_node_t)
       → length (starts_behind_all vs es) + length l ≡ length es + length (nodes_of_all vs es l)
   all_nodes_count no_values es l = refl
-  all_nodes_count (first_value v vs) es l = all_nodes_count vs (starts_behind v es) l ∙ nodes_count v es (nodes_of_all vs (starts_behind v es) l)
+  all_nodes_count (first_value v vs) es l = all_nodes_count vs (starts_behind v es) l
+      ∙ nodes_count v es (nodes_of_all vs (starts_behind v es) l)
 
 node_count : (v : Value) → length (starts_behind v []) ≡ length (nodes_of v [] [])
 node_count v = sym (add-zero _) ∙ (nodes_count v [] [] ∙ zero-add _)
 
 -- in a document without composer error every id names a node
 pub every_id : (v : Value) → composer_fault [] (parts (value_events v [])) ≡ None → EveryIdNamesANode (nodes_of v [] [])
-every_id v e = value_ids v (length (nodes_of v [] [])) [] [] [] e (subst (λ (n : ℕ). length (starts_behind v []) ≤ n) (node_count v) (le_refl _))
+every_id v e = value_ids v (length (nodes_of v [] [])) [] [] [] e
+    (subst (λ (n : ℕ). length (starts_behind v []) ≤ n) (node_count v) (le_refl _))
     (All-nil (Ids (length (nodes_of v [] []))))
 
 -- each node holds the ids of all its children
@@ -183,10 +222,12 @@ mutual
   pub holds_children : (v : Value) (es : List Start) → HasPairs v → HoldsItsChildren v es
   holds_children (alias_value a m n) es h = tt
   holds_children (scalar_value s m n) es h = tt
-  holds_children (collection_value sequence a t i s m n vs p q) es h = (refl, all_hold_children vs (record { anchor = a; mark = m } ∷ es) h.1)
+  holds_children (collection_value sequence a t i s m n vs p q) es h =
+      (refl, all_hold_children vs (record { anchor = a; mark = m } ∷ es) h.1)
   holds_children (collection_value mapping a t i s m n vs p q) es h
       = (
-        pairs_hold (ids_of_all vs (record { anchor = a; mark = m } ∷ es)) (ids_even vs (record { anchor = a; mark = m } ∷ es) ∙ h.0),
+        pairs_hold (ids_of_all vs (record { anchor = a; mark = m } ∷ es))
+            (ids_even vs (record { anchor = a; mark = m } ∷ es) ∙ h.0),
         all_hold_children vs (record { anchor = a; mark = m } ∷ es) h.1,
       )
 
@@ -208,11 +249,13 @@ mutual
   pub children_later : (v : Value) (es : List Start) → ChildrenAreLater v es
   children_later (alias_value a m k) es = tt
   children_later (scalar_value s m k) es = tt
-  children_later (collection_value c a t i s m k vs p q) es = all_later vs (suc (length es)) (record { anchor = a; mark = m } ∷ es) (le_refl _)
+  children_later (collection_value c a t i s m k vs p q) es =
+      all_later vs (suc (length es)) (record { anchor = a; mark = m } ∷ es) (le_refl _)
 
   all_later : (vs : Values) (n : ℕ) (es : List Start) → n ≤ length es → AllLater n vs es
   all_later no_values n es h = tt
-  all_later (first_value v vs) n es h = (is_later n v es h, children_later v es, all_later vs n (starts_behind v es) (le_trans h (starts_grow v es)))
+  all_later (first_value v vs) n es h =
+      (is_later n v es h, children_later v es, all_later vs n (starts_behind v es) (le_trans h (starts_grow v es)))
 
 pub texts_later : (ts : Texts) → EachIsLater ts
 texts_later no_texts = tt
@@ -223,5 +266,6 @@ pub fault_of_heads : (P : List Part) (es : List Start) → composer_fault es P �
 fault_of_heads [] es = refl
 fault_of_heads (alias_part a m ∷ P) es = ap (or_else (part_fault es (alias_part a m))) (fault_of_heads P es)
 fault_of_heads (leaf_part a x ∷ P) es = ap (or_else (part_fault es (leaf_part a x))) (fault_of_heads P (start_of a x ∷ es))
-fault_of_heads (start_part a x ∷ P) es = ap (or_else (part_fault es (start_part a x))) (fault_of_heads P (start_of a x ∷ es))
+fault_of_heads (start_part a x ∷ P) es = ap (or_else (part_fault es (start_part a x)))
+    (fault_of_heads P (start_of a x ∷ es))
 fault_of_heads (end_part n ∷ P) es = fault_of_heads P es

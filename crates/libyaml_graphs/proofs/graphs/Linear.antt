@@ -1,5 +1,6 @@
 -- Each part of a document gives at most one node and one entry of one list.
-use Rattle.std.proofs.Common.{◌≡◌, ◌≤◌, ◌+◌, ◌*◌, ◌++◌, arith, ℕ, zero, suc, List, [], ◌∷◌, length, map, Option, Some, None, Ok, false, refl, sym, ap}
+use Rattle.std.proofs.Common.{◌≡◌, ◌≤◌, ◌+◌, ◌*◌, ◌++◌, arith, ℕ, zero, suc, List, [], ◌∷◌, length, map, Option, Some}
+use Rattle.std.proofs.Common.{None, Ok, false, refl, sym, ap}
 use Rattle.libyaml_types.specs.declared.event.unnamed_yaml_event_t_data.TheVariants as ev
 use Rattle.libyaml_types.specs.declared.event.unnamed_yaml_event_t_data.{unnamed_yaml_event_t_data}
 use Rattle.libyaml_grammar.specs.sentences.Events.{Event}
@@ -11,8 +12,10 @@ use Rattle.libyaml_documents.specs.LoadedNodes.{children_of}
 use Rattle.libyaml_documents.specs.declared.node.unnamed_yaml_node_t_data.{unnamed_yaml_node_t_data}
 use Rattle.libyaml_documents.specs.declared.node.unnamed_yaml_node_t_data.TheVariants.{Scalar, Sequence, Mapping}
 use Rattle.libyaml_graphs.specs.graphs.Graphs.{Start, carrier, id_or, items, pairs}
-use Rattle.libyaml_graphs.specs.graphs.GraphParts.{Closing, Opening, Part, alias_part, children, closing_of, end_part, graph, if_outer, leaf_part}
-use Rattle.libyaml_graphs.specs.graphs.GraphParts.{opening_of, part_in, part_of, parts, start_of, start_part, with_children, with_part}
+use Rattle.libyaml_graphs.specs.graphs.GraphParts.{Closing, Opening, Part, alias_part, children, closing_of, end_part}
+use Rattle.libyaml_graphs.specs.graphs.GraphParts.{graph, if_outer, leaf_part}
+use Rattle.libyaml_graphs.specs.graphs.GraphParts.{opening_of, part_in, part_of, parts, start_of, start_part}
+use Rattle.libyaml_graphs.specs.graphs.GraphParts.{with_children, with_part}
 use Rattle.libyaml_graphs.specs.loads.Linear.{documents_size, size, total_size}
 use Rattle.libyaml_graphs.specs.loads.Loads.{Begun, Load, Stop, answer, behind_document, document, next_by, begun}
 use Rattle.libyaml_graphs.specs.loads.Loads.{begun_behind, document_end, last_load, load_then, loads_by}
@@ -106,7 +109,8 @@ bare : (e : List Event) → Bare (parts e)
 bare [] = tt
 bare (e ∷ r) = go (closing_of e) (bare_in e.content e.start_mark e.end_mark (parts r) (bare r))
   where
-    go : (o : Option Closing) → Bare (with_part (part_of e) (parts r)) → Bare (elim o [ Some c ↦ [] | None ↦ with_part (part_of e) (parts r) ])
+    go : (o : Option Closing) → Bare (with_part (part_of e) (parts r))
+        → Bare (elim o [ Some c ↦ [] | None ↦ with_part (part_of e) (parts r) ])
     go None b = b
     go (Some c) b = tt
 
@@ -134,13 +138,16 @@ abbrev extent : List Begun → ℕ
 extent [] = 0
 extent (b ∷ bs) = size (graph [] (parts b.rest)) + extent bs
 
-go_begun : (r : List Event) (o : Option Opening) → extent (begun r) ≤ 2 * length r → extent (begun_behind r) ≤ 2 * length (behind_document r)
+go_begun : (r : List Event) (o : Option Opening) → extent (begun r) ≤ 2 * length r
+    → extent (begun_behind r) ≤ 2 * length (behind_document r)
     → extent (elim o [ None ↦ begun r | Some p ↦ record { opening = p; rest = r } ∷ begun_behind r ]) ≤ 2 * suc (length r)
 go_begun r None h i = omega arith
 go_begun r (Some p) h i = let j = linear 0 [] (parts r) (bare r) in let k = in_document r in omega arith
 
-go_behind : (r : List Event) (o : Option Closing) → extent (begun r) ≤ 2 * length r → extent (begun_behind r) ≤ 2 * length (behind_document r)
-    → extent (elim o [ Some c ↦ begun r | None ↦ begun_behind r ]) ≤ 2 * length {A = Event} (elim o [ Some c ↦ r | None ↦ behind_document r ])
+go_behind : (r : List Event) (o : Option Closing) → extent (begun r) ≤ 2 * length r
+    → extent (begun_behind r) ≤ 2 * length (behind_document r)
+    → extent (elim o [ Some c ↦ begun r | None ↦ begun_behind r ]) ≤ 2 * length {A = Event}
+    (elim o [ Some c ↦ r | None ↦ behind_document r ])
 go_behind r None h i = i
 go_behind r (Some c) h i = h
 
@@ -160,7 +167,8 @@ loads_extent stop (Fails f) [] = omega arith
 loads_extent stop x (b ∷ bs) = go x (stop (parts b.rest)) (document_end b.rest) (loads_extent stop x bs)
   where
     go : (y : Ending) (o : Option Fault) (c : Option Closing) → total_size (loads_by stop x bs) ≤ extent bs
-        → total_size (load_then o c b.opening (graph [] (parts b.rest)) (last_load y) (loads_by stop x bs)) ≤ size (graph [] (parts b.rest)) + extent bs
+        → total_size (load_then o c b.opening (graph [] (parts b.rest)) (last_load y) (loads_by stop x bs)) ≤ size
+        (graph [] (parts b.rest)) + extent bs
     go y (Some f) c h = omega arith
     go y None (Some c) h = omega arith
     go Ends None None h = omega arith
@@ -174,7 +182,8 @@ sizes_first : (ds : List Document) (l : List Load) → documents_size ds ≤ tot
 sizes_first [] l = omega arith
 sizes_first (d ∷ ds) l = let i = sizes_first ds l in omega arith
 
-pub first_linear : (stop : Stop) (e : List Event) (x : Ending) (ds : List Document) (l : List Load) → loads_by stop x (begun e) ≡ map Ok ds ++ l
+pub first_linear : (stop : Stop) (e : List Event) (x : Ending) (ds : List Document) (l : List Load)
+    → loads_by stop x (begun e) ≡ map Ok ds ++ l
     → documents_size ds ≤ 2 * length e
 first_linear stop e x ds l is =
     let h = loads_linear stop e x in
@@ -183,7 +192,8 @@ first_linear stop e x ds l is =
     omega arith
 
 -- one load
-pub next_linear : (stop : Stop) (e : List Event) (x : Ending) (d : Document) → next_by stop x (begun e) ≡ Ok d → size d.nodes ≤ 2 * length e
+pub next_linear : (stop : Stop) (e : List Event) (x : Ending) (d : Document) → next_by stop x (begun e) ≡ Ok d
+    → size d.nodes ≤ 2 * length e
 next_linear stop e x d h = let i = begun_extent e in let j = one (begun e) h in omega arith
   where
     same : (c : Document) → ◌≡◌ {A = Load} (Ok c) (Ok d) → size d.nodes ≡ size c.nodes

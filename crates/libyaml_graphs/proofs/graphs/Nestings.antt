@@ -8,9 +8,11 @@ use Rattle.libyaml_types.specs.declared.event.unnamed_yaml_event_t_data_document
 use Rattle.libyaml_types.specs.declared.event.unnamed_yaml_event_t_data_mapping_start.{unnamed_yaml_event_t_data_mapping_start}
 use Rattle.libyaml_types.specs.declared.event.unnamed_yaml_event_t_data_scalar.{unnamed_yaml_event_t_data_scalar}
 use Rattle.libyaml_types.specs.declared.event.unnamed_yaml_event_t_data_sequence_start.{unnamed_yaml_event_t_data_sequence_start}
-use Rattle.libyaml_grammar.specs.sentences.Events.{Event, Layout, block_layout, document_end_at, end_at, event, flow_layout, mapping_style, sequence_style}
+use Rattle.libyaml_grammar.specs.sentences.Events.{Event, Layout, block_layout, document_end_at, end_at, event}
+use Rattle.libyaml_grammar.specs.sentences.Events.{flow_layout, mapping_style, sequence_style}
 use Rattle.libyaml_grammar.specs.sentences.Events.{stream_end_at}
-use Rattle.libyaml_grammar.specs.sentences.Nesting.{IsNested, Texts, Value, Values, alias_value, collection_value, first_value, no_texts, no_values}
+use Rattle.libyaml_grammar.specs.sentences.Nesting.{IsNested, Texts, Value, Values, alias_value, collection_value}
+use Rattle.libyaml_grammar.specs.sentences.Nesting.{first_value, no_texts, no_values}
 use Rattle.libyaml_grammar.specs.sentences.Nesting.{scalar_value, text_behind, texts_events, value_events, values_events}
 use Rattle.libyaml_grammar.specs.sentences.Tokens.{Mark}
 use Rattle.libyaml_grammar.specs.sentences.Trees.{Sort, mapping, sequence}
@@ -22,13 +24,15 @@ tail_same : (a b : Event) (l m : List Event) → a ∷ l ≡ b ∷ m → l ≡ m
 tail_same a b l m e = cc
 
 -- two events that are one
-record OneEvent (k : unnamed_yaml_event_t_data) (m n : Mark) (l : List Event) (j : unnamed_yaml_event_t_data) (p q : Mark) (r : List Event) : Type 0 where
+record OneEvent (k : unnamed_yaml_event_t_data) (m n : Mark) (l : List Event) (j : unnamed_yaml_event_t_data)
+    (p q : Mark) (r : List Event) : Type 0 where
   content : k ≡ j
   start : m ≡ p
   end : n ≡ q
   left : l ≡ r
 
-one_event : (k j : unnamed_yaml_event_t_data) (m n p q : Mark) (l r : List Event) → event k m n ∷ l ≡ event j p q ∷ r → OneEvent k m n l j p q r
+one_event : (k j : unnamed_yaml_event_t_data) (m n p q : Mark) (l r : List Event)
+    → event k m n ∷ l ≡ event j p q ∷ r → OneEvent k m n l j p q r
 one_event k j m n p q l r e =
     let h = head_same (event k m n) (event j p q) l r e in
     record {
@@ -109,14 +113,18 @@ record All (vs : Values) (r : List Event) (ws : Values) (s : List Event) : Type 
   values_are : vs ≡ ws
   rest_is : r ≡ s
 
-alias_same : {a b : unnamed_yaml_event_t_data_alias} {m n p q : Mark} → a ≡ b → m ≡ p → n ≡ q → alias_value a m n ≡ alias_value b p q
+alias_same : {a b : unnamed_yaml_event_t_data_alias} {m n p q : Mark} → a ≡ b → m ≡ p → n ≡ q
+    → alias_value a m n ≡ alias_value b p q
 alias_same i j k = cc
 
-scalar_same : {a b : unnamed_yaml_event_t_data_scalar} {m n p q : Mark} → a ≡ b → m ≡ p → n ≡ q → scalar_value a m n ≡ scalar_value b p q
+scalar_same : {a b : unnamed_yaml_event_t_data_scalar} {m n p q : Mark} → a ≡ b → m ≡ p → n ≡ q
+    → scalar_value a m n ≡ scalar_value b p q
 scalar_same i j k = cc
 
-collection_same : (k : Sort) {a b t u : Option (List ℕ)} {i j : Bool} {s w : Layout} {m n m' n' : Mark} {vs ws : Values} {p q p' q' : Mark} → a ≡ b
-    → t ≡ u → i ≡ j → s ≡ w → m ≡ m' → n ≡ n' → vs ≡ ws → p ≡ p' → q ≡ q' → collection_value k a t i s m n vs p q ≡ collection_value k b u j w m' n' ws p' q'
+collection_same : (k : Sort) {a b t u : Option (List ℕ)} {i j : Bool} {s w : Layout} {m n m' n' : Mark}
+    {vs ws : Values} {p q p' q' : Mark} → a ≡ b
+    → t ≡ u → i ≡ j → s ≡ w → m ≡ m' → n ≡ n' → vs ≡ ws → p ≡ p' → q ≡ q'
+    → collection_value k a t i s m n vs p q ≡ collection_value k b u j w m' n' ws p' q'
 collection_same k e1 e2 e3 e4 e5 e6 e7 e8 e9 = cc
 
 mutual
@@ -128,8 +136,10 @@ mutual
       let h = one_event (ev.Scalar a) (ev.Scalar b) m n p q r s e in
       record { value_is = scalar_same (scalar_in a b h.content) h.start h.end; rest_is = h.left }
   value_at (collection_value sequence a t x y m n vs p q) (collection_value sequence b u z w m' n' ws p' q') r s i e =
-      let c : unnamed_yaml_event_t_data_sequence_start = record { anchor = a; tag = t; implicit = x; style = sequence_style y } in
-      let d : unnamed_yaml_event_t_data_sequence_start = record { anchor = b; tag = u; implicit = z; style = sequence_style w } in
+      let c : unnamed_yaml_event_t_data_sequence_start =
+      record { anchor = a; tag = t; implicit = x; style = sequence_style y } in
+      let d : unnamed_yaml_event_t_data_sequence_start =
+      record { anchor = b; tag = u; implicit = z; style = sequence_style w } in
       let h = one_event (ev.SequenceStart c) (ev.SequenceStart d) m n m' n' (values_events vs (end_at sequence p q ∷ r))
       (values_events ws (end_at sequence p' q' ∷ s)) e in
       let k = sequence_in c d h.content in
@@ -137,13 +147,17 @@ mutual
       let o = one_event ev.SequenceEnd ev.SequenceEnd p q p' q' r s l.rest_is in
       record {
         value_is = collection_same sequence (ap (λ (f : unnamed_yaml_event_t_data_sequence_start). f.anchor) k)
-            (ap (λ (f : unnamed_yaml_event_t_data_sequence_start). f.tag) k) (ap (λ (f : unnamed_yaml_event_t_data_sequence_start). f.implicit) k)
-            (sequence_layout y w (ap (λ (f : unnamed_yaml_event_t_data_sequence_start). f.style) k)) h.start h.end l.values_are o.start o.end;
+            (ap (λ (f : unnamed_yaml_event_t_data_sequence_start). f.tag) k)
+            (ap (λ (f : unnamed_yaml_event_t_data_sequence_start). f.implicit) k)
+            (sequence_layout y w (ap (λ (f : unnamed_yaml_event_t_data_sequence_start). f.style) k)) h.start h.end
+            l.values_are o.start o.end;
         rest_is = o.left;
       }
   value_at (collection_value mapping a t x y m n vs p q) (collection_value mapping b u z w m' n' ws p' q') r s i e =
-      let c : unnamed_yaml_event_t_data_mapping_start = record { anchor = a; tag = t; implicit = x; style = mapping_style y } in
-      let d : unnamed_yaml_event_t_data_mapping_start = record { anchor = b; tag = u; implicit = z; style = mapping_style w } in
+      let c : unnamed_yaml_event_t_data_mapping_start =
+      record { anchor = a; tag = t; implicit = x; style = mapping_style y } in
+      let d : unnamed_yaml_event_t_data_mapping_start =
+      record { anchor = b; tag = u; implicit = z; style = mapping_style w } in
       let h = one_event (ev.MappingStart c) (ev.MappingStart d) m n m' n' (values_events vs (end_at mapping p q ∷ r))
       (values_events ws (end_at mapping p' q' ∷ s)) e in
       let k = mapping_in c d h.content in
@@ -151,8 +165,10 @@ mutual
       let o = one_event ev.MappingEnd ev.MappingEnd p q p' q' r s l.rest_is in
       record {
         value_is = collection_same mapping (ap (λ (f : unnamed_yaml_event_t_data_mapping_start). f.anchor) k)
-            (ap (λ (f : unnamed_yaml_event_t_data_mapping_start). f.tag) k) (ap (λ (f : unnamed_yaml_event_t_data_mapping_start). f.implicit) k)
-            (mapping_layout y w (ap (λ (f : unnamed_yaml_event_t_data_mapping_start). f.style) k)) h.start h.end l.values_are o.start o.end;
+            (ap (λ (f : unnamed_yaml_event_t_data_mapping_start). f.tag) k)
+            (ap (λ (f : unnamed_yaml_event_t_data_mapping_start). f.implicit) k)
+            (mapping_layout y w (ap (λ (f : unnamed_yaml_event_t_data_mapping_start). f.style) k)) h.start h.end
+            l.values_are o.start o.end;
         rest_is = o.left;
       }
   value_at (alias_value a m n) (scalar_value b m' n') r s i e = absurd cc
@@ -163,10 +179,12 @@ mutual
   value_at (scalar_value a m n) (collection_value mapping b u z w m' n' ws p' q') r s i e = absurd cc
   value_at (collection_value sequence a t x y m n vs p q) (alias_value b m' n') r s i e = absurd cc
   value_at (collection_value sequence a t x y m n vs p q) (scalar_value b m' n') r s i e = absurd cc
-  value_at (collection_value sequence a t x y m n vs p q) (collection_value mapping b u z w m' n' ws p' q') r s i e = absurd cc
+  value_at (collection_value sequence a t x y m n vs p q) (collection_value mapping b u z w m' n' ws p' q') r s i
+      e = absurd cc
   value_at (collection_value mapping a t x y m n vs p q) (alias_value b m' n') r s i e = absurd cc
   value_at (collection_value mapping a t x y m n vs p q) (scalar_value b m' n') r s i e = absurd cc
-  value_at (collection_value mapping a t x y m n vs p q) (collection_value sequence b u z w m' n' ws p' q') r s i e = absurd cc
+  value_at (collection_value mapping a t x y m n vs p q) (collection_value sequence b u z w m' n' ws p' q') r s i
+      e = absurd cc
 
   values_at : (vs ws : Values) (a b : Event) (r s : List Event) → kind a.content ≡ 5 → kind b.content ≡ 5
       → values_events vs (a ∷ r) ≡ values_events ws (b ∷ s) → All vs (a ∷ r) ws (b ∷ s)
@@ -176,9 +194,14 @@ mutual
   values_at (first_value v vs) no_values a b r s i j e
       = absurd (no_value v (sym (begins_so v (values_events vs (a ∷ r))) ∙ (ap first_kind e ∙ j)))
   values_at (first_value v vs) (first_value w ws) a b r s i j e =
-      let h = value_at v w (values_events vs (a ∷ r)) (values_events ws (b ∷ s)) (same_shape v w (values_events vs (a ∷ r)) (values_events ws (b ∷ s)) e) e in
+      let h = value_at v w (values_events vs (a ∷ r)) (values_events ws (b ∷ s))
+      (same_shape v w (values_events vs (a ∷ r)) (values_events ws (b ∷ s)) e) e in
       let l = values_at vs ws a b r s i j h.rest_is in
-      record { values_are = ap (λ (x : Value). first_value x vs) h.value_is ∙ ap (λ (x : Values). first_value w x) l.values_are; rest_is = l.rest_is }
+      record {
+        values_are = ap (λ (x : Value). first_value x vs) h.value_is
+            ∙ ap (λ (x : Values). first_value w x) l.values_are;
+        rest_is = l.rest_is;
+      }
 
 pub one_value : (v w : Value) (r s : List Event) → value_events v r ≡ value_events w s → (v ≡ w) × (r ≡ s)
 one_value v w r s e = let h = value_at v w r s (same_shape v w r s e) e in (h.value_is, h.rest_is)
@@ -190,7 +213,8 @@ data Docs : Type 0 where
 
 abbrev docs_events : Docs → List Event → List Event
 docs_events none r = r
-docs_events (one d m n v i p q ds) r = event (ev.DocumentStart d) m n ∷ value_events v (document_end_at i p q ∷ docs_events ds r)
+docs_events (one d m n v i p q ds) r = event (ev.DocumentStart d) m n ∷ value_events v
+    (document_end_at i p q ∷ docs_events ds r)
 
 abbrev before : Texts → Docs → Docs
 before no_texts ds = ds
@@ -200,7 +224,8 @@ abbrev behind : Texts → Docs → Texts
 behind ts none = ts
 behind ts (one d m n v i p q ds) = behind (text_behind ts d m n v i p q) ds
 
-before_events : (ts : Texts) (ds : Docs) (r : List Event) → texts_events ts (docs_events ds r) ≡ docs_events (before ts ds) r
+before_events : (ts : Texts) (ds : Docs) (r : List Event)
+    → texts_events ts (docs_events ds r) ≡ docs_events (before ts ds) r
 before_events no_texts ds r = refl
 before_events (text_behind ts d m n v i p q) ds r = before_events ts (one d m n v i p q ds) r
 
@@ -208,7 +233,8 @@ both_ways : (ts : Texts) (ds : Docs) → behind no_texts (before ts ds) ≡ behi
 both_ways no_texts ds = refl
 both_ways (text_behind ts d m n v i p q) ds = both_ways ts (one d m n v i p q ds)
 
-one_same : {d c : unnamed_yaml_event_t_data_document_start} {m n p q m' n' p' q' : Mark} {v w : Value} {i j : Bool} {ds es : Docs} → d ≡ c → m ≡ m' → n ≡ n'
+one_same : {d c : unnamed_yaml_event_t_data_document_start} {m n p q m' n' p' q' : Mark} {v w : Value} {i j : Bool}
+    {ds es : Docs} → d ≡ c → m ≡ m' → n ≡ n'
     → v ≡ w → i ≡ j → p ≡ p' → q ≡ q' → ds ≡ es → one d m n v i p q ds ≡ one c m' n' w j p' q' es
 one_same e1 e2 e3 e4 e5 e6 e7 e8 = cc
 
@@ -225,16 +251,21 @@ one_docs none none a b r s x y e = refl
 one_docs none (one d m n v i p q es) a b r s x y e = absurd (start_end a d m n r _ x e)
 one_docs (one d m n v i p q ds) none a b r s x y e = absurd (start_end b d m n s _ y (sym e))
 one_docs (one d m n v i p q ds) (one c m' n' w j p' q' es) a b r s x y e =
-    let h = one_event (ev.DocumentStart d) (ev.DocumentStart c) m n m' n' (value_events v (document_end_at i p q ∷ docs_events ds (a ∷ r)))
+    let h = one_event (ev.DocumentStart d) (ev.DocumentStart c) m n m' n'
+    (value_events v (document_end_at i p q ∷ docs_events ds (a ∷ r)))
     (value_events w (document_end_at j p' q' ∷ docs_events es (b ∷ s))) e in
-    let l = one_value v w (document_end_at i p q ∷ docs_events ds (a ∷ r)) (document_end_at j p' q' ∷ docs_events es (b ∷ s)) h.left in
-    let o = one_event (ev.DocumentEnd (record { implicit = i })) (ev.DocumentEnd (record { implicit = j })) p q p' q' (docs_events ds (a ∷ r))
+    let l = one_value v w (document_end_at i p q ∷ docs_events ds (a ∷ r))
+    (document_end_at j p' q' ∷ docs_events es (b ∷ s)) h.left in
+    let o = one_event (ev.DocumentEnd (record { implicit = i })) (ev.DocumentEnd (record { implicit = j })) p q p'
+    q' (docs_events ds (a ∷ r))
     (docs_events es (b ∷ s)) l.1 in
     one_same (start_in d c h.content) h.start h.end l.0
-    (ap (λ (z : unnamed_yaml_event_t_data_document_end). z.implicit) (end_in (record { implicit = i }) (record { implicit = j }) o.content))
+    (ap (λ (z : unnamed_yaml_event_t_data_document_end). z.implicit)
+    (end_in (record { implicit = i }) (record { implicit = j }) o.content))
     o.start o.end (one_docs ds es a b r s x y o.left)
 
-one_texts : (ts us : Texts) (m n p q : Mark) → texts_events ts (stream_end_at m n ∷ []) ≡ texts_events us (stream_end_at p q ∷ []) → ts ≡ us
+one_texts : (ts us : Texts) (m n p q : Mark) → texts_events ts (stream_end_at m n ∷ []) ≡ texts_events us
+    (stream_end_at p q ∷ []) → ts ≡ us
 one_texts ts us m n p q e = sym (both_ways ts none) ∙ (ap (λ (x : Docs). behind no_texts x) same ∙ both_ways us none)
   where
     same : before ts none ≡ before us none
@@ -243,4 +274,5 @@ one_texts ts us m n p q e = sym (both_ways ts none) ∙ (ap (λ (x : Docs). behi
 
 pub one_nesting : (l : List Event) (a b : IsNested l) → a.texts ≡ b.texts
 one_nesting l a b = one_texts a.texts b.texts a.end a.end_end b.end b.end_end
-    (tail_same _ _ (texts_events a.texts (stream_end_at a.end a.end_end ∷ [])) (texts_events b.texts (stream_end_at b.end b.end_end ∷ [])) (sym a.all ∙ b.all))
+    (tail_same _ _ (texts_events a.texts (stream_end_at a.end a.end_end ∷ []))
+    (texts_events b.texts (stream_end_at b.end b.end_end ∷ [])) (sym a.all ∙ b.all))

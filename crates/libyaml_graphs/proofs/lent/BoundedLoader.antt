@@ -1,5 +1,6 @@
 -- The loader with its bound gives the next load within that bound.
-use Rattle.std.proofs.Common.{◌≡◌, ℕ, suc, List, [], ◌∷◌, ◌++◌, length, nat_lt, refl, sym, ap, ◌∙◌, append_assoc, append-nil, Option, Some, None, Bool, true}
+use Rattle.std.proofs.Common.{◌≡◌, ℕ, suc, List, [], ◌∷◌, ◌++◌, length, nat_lt, refl, sym, ap, ◌∙◌, append_assoc}
+use Rattle.std.proofs.Common.{append-nil, Option, Some, None, Bool, true}
 use Rattle.std.proofs.Common.{false, Ok, Err}
 use Rattle.libyaml_grammar.specs.sentences.Events.{Event}
 use Rattle.libyaml_sources.specs.Fault.{Fault}
@@ -8,15 +9,18 @@ use Rattle.libyaml_documents.specs.declared.node.yaml_node_t.{yaml_node_t}
 use Rattle.libyaml_graphs.specs.loads.Bounds.{first_stop, if_above, if_wrong, list_sizes, next_bounded, one_above, stop_at}
 use Rattle.libyaml_graphs.specs.graphs.ComposerFaults.{part_fault}
 use Rattle.libyaml_graphs.specs.graphs.Graphs.{Start}
-use Rattle.libyaml_graphs.specs.machine.Loader.{Anchors, Loader, Loading, between, bounded_option, bounded_part, failed, fresh, going, if_child_fits}
-use Rattle.libyaml_graphs.specs.machine.Loader.{if_going, list_full, load_from, load_part, no_anchors, nodes_full, unless_full, within}
+use Rattle.libyaml_graphs.specs.machine.Loader.{Anchors, Loader, Loading, between, bounded_option, bounded_part, failed}
+use Rattle.libyaml_graphs.specs.machine.Loader.{fresh, going, if_child_fits}
+use Rattle.libyaml_graphs.specs.machine.Loader.{if_going, list_full, load_from, load_part, no_anchors, nodes_full}
+use Rattle.libyaml_graphs.specs.machine.Loader.{unless_full, within}
 use Rattle.libyaml_graphs.specs.loads.Loads.{Load, answer, begun, begun_behind, document, document_end, last_load, next_by}
 use Rattle.libyaml_graphs.specs.graphs.GraphParts.{Closing, Opening, Part, alias_part, behind, closing_of, end_part}
 use Rattle.libyaml_graphs.specs.graphs.GraphParts.{graph, leaf_part, opening_of, part_of, parts}
 use Rattle.libyaml_graphs.specs.graphs.GraphParts.{start_part, with_part}
 use Rattle.libyaml_graphs.proofs.machine.Built.{BeginsEmpty, Built, Held, build, build_finished, finished}
 use Rattle.libyaml_graphs.proofs.machine.Built.{finished_none, graph_nodes, held_graph, nodes_in, unbuilt}
-use Rattle.libyaml_graphs.proofs.machine.Following.{Agrees, Follows, Stands, build_stands, loader_of, nodes_length, none_known, part_follows, stands_unbuilt}
+use Rattle.libyaml_graphs.proofs.machine.Following.{Agrees, Follows, Stands, build_stands, loader_of, nodes_length}
+use Rattle.libyaml_graphs.proofs.machine.Following.{none_known, part_follows, stands_unbuilt}
 use Rattle.libyaml_graphs.proofs.machine.LoaderLoads.{Answering, IfBeginsEmpty, begins_empty, settled}
 use Rattle.libyaml_graphs.proofs.machine.Sizes.{AllBegin, graph_sizes, list_grows, none_below, sizes}
 
@@ -38,16 +42,19 @@ all_begin_more (q ∷ F) p h e = (h.0, all_begin_more F p h.1 e)
 pub reaches : (p : Part) (es : List Start) (F : List Part) (b : Built) → BeginsEmpty p → Stands es b
     → ((P : List Part) → finished [] (F ++ P) unbuilt ≡ finished es P b) → (P : List Part)
     → finished [] ((F ++ p ∷ []) ++ P) unbuilt ≡ finished (behind p es) P (build es p b)
-reaches p es F b e s r P = ap (λ (Q : List Part). finished [] Q unbuilt) (append_assoc F (p ∷ []) P) ∙ (r (p ∷ P) ∙ sym (build_finished p es P b e s.there))
+reaches p es F b e s r P = ap (λ (Q : List Part). finished [] Q unbuilt) (append_assoc F (p ∷ []) P)
+    ∙ (r (p ∷ P) ∙ sym (build_finished p es P b e s.there))
 
 -- what is built is the graph of the parts so far
-pub held_so_far : (es : List Start) (F : List Part) (b : Built) → ((P : List Part) → finished [] (F ++ P) unbuilt ≡ finished es P b) → b.held ≡ held_graph [] F
+pub held_so_far : (es : List Start) (F : List Part) (b : Built)
+    → ((P : List Part) → finished [] (F ++ P) unbuilt ≡ finished es P b) → b.held ≡ held_graph [] F
 held_so_far es F b r = sym (finished_none es b) ∙ (sym (r []) ∙ ap (held_graph []) (append-nil F))
 
 nodes_so_far : (n : ℕ) (es : List Start) (F : List Part) (b : Built) → Within n es F b → nodes_in b.held ≡ graph [] F
 nodes_so_far n es F b s = ap nodes_in (held_so_far es F b s.reached) ∙ graph_nodes F []
 
-nodes_grow : (p : Part) (n : ℕ) (es : List Start) (b : Built) (xs : Anchors) → length b.held ≡ length es → nat_lt n (length es) ≡ false
+nodes_grow : (p : Part) (n : ℕ) (es : List Start) (b : Built) (xs : Anchors) → length b.held ≡ length es
+    → nat_lt n (length es) ≡ false
     → nodes_full n (loader_of b xs) p ≡ nat_lt n (length (behind p es))
 nodes_grow (alias_part a m) n es b xs s h = sym h
 nodes_grow (leaf_part a x) n es b xs s h = ap (λ (i : ℕ). nat_lt n (suc i)) (nodes_length b.held ∙ s)
@@ -55,9 +62,11 @@ nodes_grow (start_part a x) n es b xs s h = ap (λ (i : ℕ). nat_lt n (suc i)) 
 nodes_grow (end_part m) n es b xs s h = sym h
 
 -- one part within the bound, where K is what the loader does after it
-step : {A : Type 0} (n : ℕ) (p : Part) (es : List Start) (F : List Part) (b : Built) (xs : Anchors) (w : Answering A) (N : List yaml_node_t) (K : Loader
+step : {A : Type 0} (n : ℕ) (p : Part) (es : List Start) (F : List Part) (b : Built) (xs : Anchors)
+    (w : Answering A) (N : List yaml_node_t) (K : Loader
     → A) (X : Option Fault) → BeginsEmpty p → Within n es F b → Agrees es xs
-    → ((ys : Anchors) → Within n (behind p es) (F ++ p ∷ []) (build es p b) → Agrees (behind p es) ys → K (loader_of (build es p b) ys) ≡ settled w X N)
+    → ((ys : Anchors) → Within n (behind p es) (F ++ p ∷ []) (build es p b) → Agrees (behind p es) ys
+    → K (loader_of (build es p b) ys) ≡ settled w X N)
     → if_going w.of_fault (bounded_part n (loader_of b xs) p) K ≡ settled w (stop_at n es F p X) N
 step n p es F b xs w N K X e s h ih =
     ap (λ (c : Bool). if_going w.of_fault
@@ -65,7 +74,8 @@ step n p es F b xs w N K X e s h ih =
     (nodes_grow p n es b xs s.stands.size s.few)
     ∙ if_room (nat_lt n (length (behind p es))) refl
   where
-    third : (ys : Anchors) → Agrees (behind p es) ys → nat_lt n (length (behind p es)) ≡ false → (c : Bool) → one_above n (sizes (build es p b).held) ≡ c
+    third : (ys : Anchors) → Agrees (behind p es) ys → nat_lt n (length (behind p es)) ≡ false → (c : Bool)
+        → one_above n (sizes (build es p b).held) ≡ c
         → if_going w.of_fault (unless_full c (going (loader_of (build es p b) ys))) K ≡ settled w (if_above c X) N
     third ys a m true q = refl
     third ys a m false q = ih ys (record {
@@ -78,20 +88,24 @@ step n p es F b xs w N K X e s h ih =
     }) a
 
     sized : one_above n (sizes (build es p b).held) ≡ one_above n (list_sizes [] (F ++ p ∷ []))
-    sized = ap (λ (hs : List Held). one_above n (sizes hs)) (held_so_far (behind p es) (F ++ p ∷ []) (build es p b) (reaches p es F b e s.stands s.reached))
+    sized = ap (λ (hs : List Held). one_above n (sizes hs))
+        (held_so_far (behind p es) (F ++ p ∷ []) (build es p b) (reaches p es F b e s.stands s.reached))
         ∙ graph_sizes (F ++ p ∷ []) [] n (all_begin_more F p s.all_begin e)
 
-    second : (u : Loading) → nat_lt n (length (behind p es)) ≡ false → Follows u (part_fault es p) (behind p es) (build es p b)
+    second : (u : Loading) → nat_lt n (length (behind p es)) ≡ false
+        → Follows u (part_fault es p) (behind p es) (build es p b)
         → if_going w.of_fault (if_child_fits (list_full n (loader_of b xs) p) u) K
         ≡ settled w (if_wrong (part_fault es p) (if_above (one_above n (list_sizes [] (F ++ p ∷ []))) X)) N
-    second (failed f) m y = ap (λ (x : Option Fault). settled w (if_wrong x (if_above (one_above n (list_sizes [] (F ++ p ∷ []))) X)) N) (sym y)
+    second (failed f) m y = ap (λ (x : Option Fault). settled w
+        (if_wrong x (if_above (one_above n (list_sizes [] (F ++ p ∷ []))) X)) N) (sym y)
     second (going k) m y =
         ap (λ (j : Loader). if_going w.of_fault (unless_full (list_full n (loader_of b xs) p) (going j)) K) y.1.1
         ∙ (ap (λ (c : Bool). if_going w.of_fault (unless_full c (going (loader_of (build es p b) y.1.0))) K)
         (sym (list_grows p n es b xs e s.stands.there s.short))
         ∙ (third y.1.0 y.1.2 m (one_above n (sizes (build es p b).held)) refl
         ∙ (ap (λ (c : Bool). settled w (if_above c X) N) sized
-        ∙ ap (λ (x : Option Fault). settled w (if_wrong x (if_above (one_above n (list_sizes [] (F ++ p ∷ []))) X)) N) (sym y.0))))
+        ∙ ap (λ (x : Option Fault). settled w (if_wrong x (if_above (one_above n (list_sizes [] (F ++ p ∷ []))) X))
+        N) (sym y.0))))
 
     if_room : (c : Bool) → nat_lt n (length (behind p es)) ≡ c
         → if_going w.of_fault (unless_full c
@@ -102,12 +116,17 @@ step n p es F b xs w N K X e s h ih =
 
 -- One load.
 abbrev one_answer : Option Closing → Opening → Ending → Answering Load
-one_answer c o x = record { of_fault = λ (f : Fault). Err f; of_nodes = λ (nodes : List yaml_node_t). answer None c o nodes (last_load x) }
+one_answer c o x = record {
+  of_fault = λ (f : Fault). Err f;
+  of_nodes =
+      λ (nodes : List yaml_node_t). answer None c o nodes (last_load x);
+}
 
 abbrev one_bounded : ℕ → Option Closing → Opening → Ending → List Start → List Part → List Part → Load
 one_bounded n c o x es F P = settled (one_answer c o x) (first_stop n es F P) (graph [] (F ++ P))
 
-one_event : (n : ℕ) (e : Event) (r : List Event) (es : List Start) (F : List Part) (o : Opening) (b : Built) (xs : Anchors) (x : Ending) → Within n es F b
+one_event : (n : ℕ) (e : Event) (r : List Event) (es : List Start) (F : List Part) (o : Opening) (b : Built)
+    (xs : Anchors) (x : Ending) → Within n es F b
     → Agrees es xs
     → ((fs : List Start) (G : List Part) (c : Built) (ys : Anchors) → Within n fs G c → Agrees fs ys
     → load_from n (within o (loader_of c ys)) r x ≡ one_bounded n (document_end r) o x fs G (parts r))
@@ -115,30 +134,38 @@ one_event : (n : ℕ) (e : Event) (r : List Event) (es : List Start) (F : List P
 one_event n e r es F o b xs x s h ih = go (closing_of e) (part_of e) (begins_empty e.content e.start_mark e.end_mark)
   where
     part_or : (q : Option Part) → IfBeginsEmpty q
-        → if_going (λ (f : Fault). Err f) (bounded_option n (loader_of b xs) q) (λ (k : Loader). load_from n (within o k) r x)
+        → if_going (λ (f : Fault). Err f) (bounded_option n (loader_of b xs) q)
+        (λ (k : Loader). load_from n (within o k) r x)
         ≡ one_bounded n (document_end r) o x es F (with_part q (parts r))
     part_or None u = ih es F b xs s h
-    part_or (Some p) u = step n p es F b xs (one_answer (document_end r) o x) (graph [] (F ++ p ∷ parts r)) (λ (k : Loader). load_from n (within o k) r x)
+    part_or (Some p) u = step n p es F b xs (one_answer (document_end r) o x) (graph [] (F ++ p ∷ parts r))
+        (λ (k : Loader). load_from n (within o k) r x)
         (first_stop n (behind p es) (F ++ p ∷ []) (parts r)) u s h
         (λ ys t a. ih (behind p es) (F ++ p ∷ []) (build es p b) ys t a
-        ∙ ap (λ (Q : List Part). settled (one_answer (document_end r) o x) (first_stop n (behind p es) (F ++ p ∷ []) (parts r)) (graph [] Q))
+        ∙ ap (λ (Q : List Part). settled (one_answer (document_end r) o x)
+        (first_stop n (behind p es) (F ++ p ∷ []) (parts r)) (graph [] Q))
         (append_assoc F (p ∷ []) (parts r)))
 
     go : (c : Option Closing) (q : Option Part) → IfBeginsEmpty q
         → elim c [
           | Some d ↦ Ok (document o (nodes_in b.held) d)
-          | None ↦ if_going (λ (f : Fault). Err f) (bounded_option n (loader_of b xs) q) (λ (k : Loader). load_from n (within o k) r x)
+          | None ↦ if_going (λ (f : Fault). Err f) (bounded_option n (loader_of b xs) q)
+              (λ (k : Loader). load_from n (within o k) r x)
         ]
-        ≡ one_bounded n (elim c [ Some d ↦ Some d | None ↦ document_end r ]) o x es F (elim c [ Some d ↦ [] | None ↦ with_part q (parts r) ])
-    go (Some d) q u = ap (λ (nodes : List yaml_node_t). Ok (document o nodes d)) (nodes_so_far n es F b s ∙ ap (graph []) (sym (append-nil F)))
+        ≡ one_bounded n (elim c [ Some d ↦ Some d | None ↦ document_end r ]) o x es F
+        (elim c [ Some d ↦ [] | None ↦ with_part q (parts r) ])
+    go (Some d) q u = ap (λ (nodes : List yaml_node_t). Ok (document o nodes d))
+        (nodes_so_far n es F b s ∙ ap (graph []) (sym (append-nil F)))
     go None q u = part_or q u
 
-one_within : (r : List Event) (n : ℕ) (es : List Start) (F : List Part) (o : Opening) (b : Built) (xs : Anchors) (x : Ending) → Within n es F b → Agrees es xs
+one_within : (r : List Event) (n : ℕ) (es : List Start) (F : List Part) (o : Opening) (b : Built) (xs : Anchors)
+    (x : Ending) → Within n es F b → Agrees es xs
     → load_from n (within o (loader_of b xs)) r x ≡ one_bounded n (document_end r) o x es F (parts r)
 one_within [] n es F o b xs x s h = refl
 one_within (e ∷ r) n es F o b xs x s h
     = one_event n e r es F o b xs x s h
-    (λ (fs : List Start) (G : List Part) (c : Built) (ys : Anchors) (t : Within n fs G c) (a : Agrees fs ys). one_within r n fs G o c ys x t a)
+    (λ (fs : List Start) (G : List Part) (c : Built) (ys : Anchors) (t : Within n fs G c) (a : Agrees fs ys).
+    one_within r n fs G o c ys x t a)
 
 then_one : (f : Option Fault) (c : Option Closing) (o : Opening) (nodes : List yaml_node_t) (x : Ending)
     → settled (one_answer c o x) f nodes ≡ answer f c o nodes (last_load x)
@@ -151,7 +178,8 @@ one_load (e ∷ r) x n = go (opening_of e) (one_load r x n)
   where
     go : (c : Option Opening) → load_from n between r x ≡ next_bounded n r x
         → ◌≡◌ {A = Load} (elim c [ None ↦ load_from n between r x | Some o ↦ load_from n (within o fresh) r x ])
-        (next_by (first_stop n [] []) x (elim c [ None ↦ begun r | Some o ↦ record { opening = o; rest = r } ∷ begun_behind r ]))
+        (next_by (first_stop n [] []) x
+        (elim c [ None ↦ begun r | Some o ↦ record { opening = o; rest = r } ∷ begun_behind r ]))
     go None h = h
     go (Some o) h = one_within r n [] [] o unbuilt no_anchors x (within_unbuilt n) none_known
         ∙ then_one (first_stop n [] [] (parts r)) (document_end r) o (graph [] (parts r)) x

@@ -1,11 +1,14 @@
 -- A whole document has a root, so that a document without nodes is the one at the stream's end.
-use Rattle.std.proofs.Common.{◌≡◌, ◌≢◌, ◌++◌, ℕ, List, [], ◌∷◌, Option, Some, None, Bool, true, false, Ok, Err, nat_lt, refl, sym, ap, ◌∙◌, subst}
+use Rattle.std.proofs.Common.{◌≡◌, ◌≢◌, ◌++◌, ℕ, List, [], ◌∷◌, Option, Some, None, Bool, true, false, Ok, Err, nat_lt}
+use Rattle.std.proofs.Common.{refl, sym, ap, ◌∙◌, subst}
 use Rattle.libyaml_types.specs.declared.event.unnamed_yaml_event_t_data.{unnamed_yaml_event_t_data}
 use Rattle.libyaml_types.specs.declared.event.unnamed_yaml_event_t_data.TheVariants as ev
 use Rattle.libyaml_grammar.specs.sentences.Events.{Event, document_end_at, end_at, event, stream_end_at}
 use Rattle.libyaml_sources.specs.Fault.{Fault}
-use Rattle.libyaml_grammar.specs.sentences.Nesting.{IsOpenDocument, NestsSoFar, Texts, Value, Values, alias_value, collection_value, first_value, has_begun}
-use Rattle.libyaml_grammar.specs.sentences.Nesting.{no_texts, no_values, none_open, not_begun, one_open, scalar_value, text_behind, texts_events}
+use Rattle.libyaml_grammar.specs.sentences.Nesting.{IsOpenDocument, NestsSoFar, Texts, Value, Values, alias_value}
+use Rattle.libyaml_grammar.specs.sentences.Nesting.{collection_value, first_value, has_begun}
+use Rattle.libyaml_grammar.specs.sentences.Nesting.{no_texts, no_values, none_open, not_begun, one_open, scalar_value}
+use Rattle.libyaml_grammar.specs.sentences.Nesting.{text_behind, texts_events}
 use Rattle.libyaml_grammar.specs.sentences.Nesting.{value_events, values_events, whole}
 use Rattle.libyaml_grammar.specs.runs.Runs.{Ending, Ends, Fails}
 use Rattle.libyaml_grammar.specs.sentences.Tokens.{Mark}
@@ -13,7 +16,8 @@ use Rattle.libyaml_grammar.specs.sentences.Trees.{mapping, sequence}
 use Rattle.libyaml_documents.specs.Documents.{Document}
 use Rattle.libyaml_graphs.specs.loads.Bounds.{bounded_loads, first_stop, if_above, next_bounded}
 use Rattle.libyaml_graphs.specs.loads.GraphLaws.{BeginsNode, RootFollows, RootsFollow}
-use Rattle.libyaml_graphs.specs.loads.Loads.{Begun, Load, answer, begun, begun_behind, behind_document, document, document_end, last_load, left_by, left_over}
+use Rattle.libyaml_graphs.specs.loads.Loads.{Begun, Load, answer, begun, begun_behind, behind_document, document}
+use Rattle.libyaml_graphs.specs.loads.Loads.{document_end, last_load, left_by, left_over}
 use Rattle.libyaml_graphs.specs.loads.Loads.{load_then, loads_by, next_by}
 use Rattle.libyaml_graphs.specs.graphs.GraphParts.{Closing, Opening, Part, alias_part, closing_in, closing_of}
 use Rattle.libyaml_graphs.specs.graphs.GraphParts.{end_part, graph, leaf_part, opening_of, part_in, part_of}
@@ -55,8 +59,10 @@ root_first (collection_value mapping a t i s m n vs p q) r o = tt
 texts_roots : (ts : Texts) (r : List Event) → RootsFollow r → RootsFollow (texts_events ts r)
 texts_roots no_texts r h = h
 texts_roots (text_behind ts d m n v i p q) r h
-    = texts_roots ts (event (ev.DocumentStart d) m n ∷ value_events v (document_end_at i p q ∷ r))
-    (root_first v (document_end_at i p q ∷ r) (record { start = d; mark = m }), value_roots v (document_end_at i p q ∷ r) (tt, h))
+    = texts_roots ts (event (ev.DocumentStart d) m n ∷ value_events v (document_end_at i p q ∷ r)) (
+      root_first v (document_end_at i p q ∷ r) (record { start = d; mark = m }),
+      value_roots v (document_end_at i p q ∷ r) (tt, h),
+    )
 
 front_first : (o : Option Opening) (f r : List Event) → RootFollows o (f ++ r) → RootFollows o f
 front_first None f r h = tt
@@ -70,22 +76,29 @@ front_roots (e ∷ f) r h = (front_first (opening_of e) f r h.0, front_roots f r
 open_roots : (l : List Event) → IsOpenDocument l → RootsFollow l
 open_roots l (none_open e) = subst RootsFollow (sym e) tt
 open_roots l (one_open d m n front e b) =
-    let first = subst (λ (k : List Event). RootFollows (Some (record { start = d; mark = m })) k) b.all (root_first b.val [] (record { start = d; mark = m }))
+    let first = subst (λ (k : List Event). RootFollows (Some (record { start = d; mark = m })) k) b.all
+    (root_first b.val [] (record { start = d; mark = m }))
     in
     let rest = subst RootsFollow b.all (value_roots b.val [] tt) in
-    subst RootsFollow (sym e) (front_first (Some (record { start = d; mark = m })) front b.rest first, front_roots front b.rest rest)
+    subst RootsFollow (sym e) (
+      front_first (Some (record { start = d; mark = m })) front b.rest first,
+      front_roots front b.rest rest,
+    )
 
 pub roots_follow : (l : List Event) → NestsSoFar l → RootsFollow l
 roots_follow l (not_begun e) = subst RootsFollow (sym e) tt
-roots_follow l (has_begun n) = subst RootsFollow (sym n.all) (tt, texts_roots n.texts n.open_document (open_roots n.open_document n.is_open))
-roots_follow l (whole n) = subst RootsFollow (sym n.all) (tt, texts_roots n.texts (stream_end_at n.end n.end_end ∷ []) (tt, tt))
+roots_follow l (has_begun n) =
+    subst RootsFollow (sym n.all) (tt, texts_roots n.texts n.open_document (open_roots n.open_document n.is_open))
+roots_follow l (whole n) =
+    subst RootsFollow (sym n.all) (tt, texts_roots n.texts (stream_end_at n.end n.end_end ∷ []) (tt, tt))
 
 -- and so it is in those that a load leaves
 behind_roots : (r : List Event) → RootsFollow r → RootsFollow (behind_document r)
 behind_roots [] h = tt
 behind_roots (e ∷ r) h = go (closing_of e) (behind_roots r h.1)
   where
-    go : (c : Option Closing) → RootsFollow (behind_document r) → RootsFollow (elim c [ Some y ↦ r | None ↦ behind_document r ])
+    go : (c : Option Closing) → RootsFollow (behind_document r)
+        → RootsFollow (elim c [ Some y ↦ r | None ↦ behind_document r ])
     go (Some y) k = h.1
     go None k = k
 
@@ -110,19 +123,23 @@ stops : (b : Bool) (f : Fault) → if_above b (Some f) ≡ None → ⊥
 stops true f h = cc
 stops false f h = cc
 
-first_node : (p : Option Part) (l : List Part) (n : ℕ) → BeginsNode p → first_stop n [] [] (with_part p l) ≡ None → graph [] (with_part p l) ≢ []
+first_node : (p : Option Part) (l : List Part) (n : ℕ) → BeginsNode p → first_stop n [] [] (with_part p l) ≡ None
+    → graph [] (with_part p l) ≢ []
 first_node None l n h s e = h
 first_node (Some (alias_part a m)) l n h s e = stops (nat_lt n 0) _ s
 first_node (Some (leaf_part a x)) l n h s e = cc
 first_node (Some (start_part a x)) l n h s e = cc
 first_node (Some (end_part m)) l n h s e = h
 
-has_nodes : (r : List Event) (o : Opening) (c : Closing) (n : ℕ) → RootFollows (Some o) r → first_stop n [] [] (parts r) ≡ None → document_end r ≡ Some c
+has_nodes : (r : List Event) (o : Opening) (c : Closing) (n : ℕ) → RootFollows (Some o) r
+    → first_stop n [] [] (parts r) ≡ None → document_end r ≡ Some c
     → graph [] (parts r) ≢ []
 has_nodes [] o c n h s d e = cc
 has_nodes (f ∷ r) o c n h s d e =
-    let p : parts (f ∷ r) ≡ with_part (part_of f) (parts r) = part_first f r (node_first f.content f.start_mark f.end_mark h) in
-    first_node (part_of f) (parts r) n h (ap (λ (l : List Part). first_stop n [] [] l) (sym p) ∙ s) (ap (λ (l : List Part). graph [] l) (sym p) ∙ e)
+    let p : parts (f ∷ r) ≡ with_part (part_of f) (parts r) =
+    part_first f r (node_first f.content f.start_mark f.end_mark h) in
+    first_node (part_of f) (parts r) n h (ap (λ (l : List Part). first_stop n [] [] l) (sym p) ∙ s)
+    (ap (λ (l : List Part). graph [] l) (sym p) ∙ e)
 
 ok : (a b : Document) → ◌≡◌ {A = Load} (Ok a) (Ok b) → a ≡ b
 ok a b h = cc
@@ -146,7 +163,8 @@ first_root (e ∷ r) h = go (opening_of e) h.0 (first_root r h.1)
     go (Some y) k f = k
 
 -- The load without nodes is the last, and the run's end.
-pub last_of : (r : List Event) (x : Ending) (n : ℕ) (d : Document) → RootsFollow r → next_bounded n r x ≡ Ok d → d.nodes ≡ []
+pub last_of : (r : List Event) (x : Ending) (n : ℕ) (d : Document) → RootsFollow r → next_bounded n r x ≡ Ok d
+    → d.nodes ≡ []
     → (bounded_loads n r x ≡ Ok d ∷ []) × (last_load x ≡ Ok d)
 last_of r x n d h a e = go (begun r) (first_root r h) a
   where
@@ -157,10 +175,12 @@ last_of r x n d h a e = go (begun r) (first_root r h) a
       where
         at : (f : Option Fault) (c : Option Closing) → first_stop n [] [] (parts t.rest) ≡ f → document_end t.rest ≡ c
             → answer f c t.opening (graph [] (parts t.rest)) (last_load x) ≡ Ok d
-            → (load_then f c t.opening (graph [] (parts t.rest)) (last_load x) (loads_by (first_stop n [] []) x ts) ≡ Ok d ∷ []) × (last_load x ≡ Ok d)
+            → (load_then f c t.opening (graph [] (parts t.rest)) (last_load x) (loads_by (first_stop n [] []) x ts)
+            ≡ Ok d ∷ []) × (last_load x ≡ Ok d)
         at (Some f) c s u b = absurd cc
         at None (Some c) s u b
-            = absurd (has_nodes t.rest t.opening c n root s u (ap (λ (k : Document). k.nodes) (ok (document t.opening (graph [] (parts t.rest)) c) d b) ∙ e))
+            = absurd (has_nodes t.rest t.opening c n root s u
+            (ap (λ (k : Document). k.nodes) (ok (document t.opening (graph [] (parts t.rest)) c) d b) ∙ e))
         at None None s u b = (ap (λ (l : Load). l ∷ []) b, b)
 
 -- After a load with nodes come the loads of the events that it leaves.
@@ -177,13 +197,15 @@ earlier_of r x n d a e = go (begun r) (follow r) a
         later l = loads_by (first_stop n [] []) x l
 
         at : (f : Option Fault) (c : Option Closing) → answer f c t.opening (graph [] (parts t.rest)) (last_load x) ≡ Ok d
-            → load_then f c t.opening (graph [] (parts t.rest)) (last_load x) (later ts) ≡ Ok d ∷ later (begun (behind_document t.rest))
+            → load_then f c t.opening (graph [] (parts t.rest)) (last_load x) (later ts) ≡ Ok d ∷ later
+            (begun (behind_document t.rest))
         at (Some f) c b = absurd cc
         at None (Some c) b = ap (λ (l : Load). l ∷ later ts) b ∙ ap (λ (l : List Begun). Ok d ∷ later l) f
         at None None b = absurd (e (last_bare x d b))
 
 -- An error is the last load.
-pub fault_of : (r : List Event) (x : Ending) (n : ℕ) (f : Fault) → next_bounded n r x ≡ Err f → bounded_loads n r x ≡ Err f ∷ []
+pub fault_of : (r : List Event) (x : Ending) (n : ℕ) (f : Fault) → next_bounded n r x ≡ Err f
+    → bounded_loads n r x ≡ Err f ∷ []
 fault_of r x n f a = go (begun r) a
   where
     go : (bs : List Begun) → next_by (first_stop n [] []) x bs ≡ Err f → loads_by (first_stop n [] []) x bs ≡ Err f ∷ []
@@ -191,7 +213,8 @@ fault_of r x n f a = go (begun r) a
     go (t ∷ ts) b = at (first_stop n [] [] (parts t.rest)) (document_end t.rest) b
       where
         at : (g : Option Fault) (c : Option Closing) → answer g c t.opening (graph [] (parts t.rest)) (last_load x) ≡ Err f
-            → load_then g c t.opening (graph [] (parts t.rest)) (last_load x) (loads_by (first_stop n [] []) x ts) ≡ Err f ∷ []
+            → load_then g c t.opening (graph [] (parts t.rest)) (last_load x) (loads_by (first_stop n [] []) x ts)
+            ≡ Err f ∷ []
         at (Some g) c b = ap (λ (l : Load). l ∷ []) b
         at None (Some c) b = absurd cc
         at None None b = ap (λ (l : Load). l ∷ []) b

@@ -19,7 +19,8 @@ left_behind [] = refl
 left_behind (e ∷ r) = go (closing_of e) (left_behind r)
   where
     go : (c : Option Closing) → begun_behind r ≡ begun (behind_document r)
-        → ◌≡◌ {A = List Begun} (elim c [ Some y ↦ begun r | None ↦ begun_behind r ]) (begun (elim c [ Some y ↦ r | None ↦ behind_document r ]))
+        → ◌≡◌ {A = List Begun} (elim c [ Some y ↦ begun r | None ↦ begun_behind r ])
+        (begun (elim c [ Some y ↦ r | None ↦ behind_document r ]))
     go (Some y) h = refl
     go None h = h
 
@@ -27,7 +28,8 @@ pub follow : (r : List Event) → Follow (begun r)
 follow [] = tt
 follow (e ∷ r) = go (opening_of e) (follow r)
   where
-    go : (c : Option Opening) → Follow (begun r) → Follow (elim c [ None ↦ begun r | Some o ↦ record { opening = o; rest = r } ∷ begun_behind r ])
+    go : (c : Option Opening) → Follow (begun r)
+        → Follow (elim c [ None ↦ begun r | Some o ↦ record { opening = o; rest = r } ∷ begun_behind r ])
     go None h = h
     go (Some o) h = left_behind r
 
@@ -37,16 +39,19 @@ none_behind [] h = refl
 none_behind (e ∷ r) h = go (closing_of e) h (none_behind r)
   where
     go : (c : Option Closing) → ◌≡◌ {A = Option Closing} (elim c [ Some y ↦ Some y | None ↦ document_end r ]) None
-        → (document_end r ≡ None → behind_document r ≡ []) → ◌≡◌ {A = List Event} (elim c [ Some y ↦ r | None ↦ behind_document r ]) []
+        → (document_end r ≡ None → behind_document r ≡ [])
+        → ◌≡◌ {A = List Event} (elim c [ Some y ↦ r | None ↦ behind_document r ]) []
     go (Some y) h k = cc
     go None h k = k h
 
 -- the first of the loads
-pub first_load : (stop : Stop) (bs : List Begun) (x : Ending) (z : Load) → load_at z 0 (loads_by stop x bs) ≡ next_by stop x bs
+pub first_load : (stop : Stop) (bs : List Begun) (x : Ending) (z : Load)
+    → load_at z 0 (loads_by stop x bs) ≡ next_by stop x bs
 first_load stop [] x z = refl
 first_load stop (b ∷ bs) x z = go (stop (parts b.rest)) (document_end b.rest)
   where
-    go : (f : Option Fault) (c : Option Closing) → load_at z 0 (load_then f c b.opening (graph [] (parts b.rest)) (last_load x) (loads_by stop x bs))
+    go : (f : Option Fault) (c : Option Closing)
+        → load_at z 0 (load_then f c b.opening (graph [] (parts b.rest)) (last_load x) (loads_by stop x bs))
         ≡ answer f c b.opening (graph [] (parts b.rest)) (last_load x)
     go (Some f) c = refl
     go None (Some c) = refl
@@ -61,7 +66,8 @@ at_last (suc n) (Fails f) = refl
 
 -- the loads after the first are those of what it leaves, or its error again
 pub later_load : (stop : Stop) (bs : List Begun) (x : Ending) (z : Load) (n : ℕ) → Follow bs
-    → load_at z (suc n) (loads_by stop x bs) ≡ unless_fault (next_by stop x bs) (load_at (next_by stop x bs) n (loads_by stop x (begun (left_by bs))))
+    → load_at z (suc n) (loads_by stop x bs) ≡ unless_fault (next_by stop x bs)
+    (load_at (next_by stop x bs) n (loads_by stop x (begun (left_by bs))))
 later_load stop [] x z n h = at_last n x
 later_load stop (b ∷ bs) x z n h = go (stop (parts b.rest)) (document_end b.rest) refl
   where
@@ -74,4 +80,5 @@ later_load stop (b ∷ bs) x z n h = go (stop (parts b.rest)) (document_end b.re
     go (Some f) c e = refl
     go None (Some c) e = ap (λ (l : List Begun). load_at (answered None (Some c)) n (loads_by stop x l)) h
     go None None e = at_last n x
-        ∙ ap (λ (l : List Event). unless_fault (last_load x) (load_at (last_load x) n (loads_by stop x (begun l)))) (sym (none_behind b.rest e))
+        ∙ ap (λ (l : List Event). unless_fault (last_load x) (load_at (last_load x) n (loads_by stop x (begun l))))
+        (sym (none_behind b.rest e))

@@ -1,6 +1,8 @@
 -- Where the lists of each document that a load begins have room, the bound changes nothing.
-use Rattle.std.proofs.Common.{◌≡◌, ◌≤◌, ◌+◌, ◌↔◌, ℕ, zero, suc, List, [], ◌∷◌, ◌++◌, length, nat_lt, All, Option, Some, None, Bool, true, false, refl, sym}
-use Rattle.std.proofs.Common.{ap, ◌∙◌, subst, append_assoc, append-nil, arith, zero-add, le_refl, le_trans, le_of_lt, lt-suc_self, suc-le-suc, zero-le}
+use Rattle.std.proofs.Common.{◌≡◌, ◌≤◌, ◌+◌, ◌↔◌, ℕ, zero, suc, List, [], ◌∷◌, ◌++◌, length, nat_lt, All, Option, Some}
+use Rattle.std.proofs.Common.{None, Bool, true, false, refl, sym}
+use Rattle.std.proofs.Common.{ap, ◌∙◌, subst, append_assoc, append-nil, arith, zero-add, le_refl, le_trans, le_of_lt}
+use Rattle.std.proofs.Common.{lt-suc_self, suc-le-suc, zero-le}
 use Rattle.std.proofs.Common.{le-ltb, ltb-false}
 use Rattle.std.proofs.lemmas.List.Elements.{All-cons, All-head, All-nil, All-tail}
 use Rattle.libyaml_grammar.specs.sentences.Events.{Event}
@@ -8,11 +10,13 @@ use Rattle.libyaml_sources.specs.Fault.{Fault}
 use Rattle.libyaml_grammar.specs.runs.Runs.{Ending}
 use Rattle.libyaml_documents.specs.declared.node.unnamed_yaml_node_t_data.{unnamed_yaml_node_t_data}
 use Rattle.libyaml_documents.specs.declared.node.unnamed_yaml_node_t_data.TheVariants.{Scalar, Sequence, Mapping}
-use Rattle.libyaml_graphs.specs.loads.Bounds.{HasRoom, HaveRoom, StaysWithin, bounded_loads, entries, first_stop, if_above, if_wrong}
+use Rattle.libyaml_graphs.specs.loads.Bounds.{HasRoom, HaveRoom, StaysWithin, bounded_loads, entries, first_stop}
+use Rattle.libyaml_graphs.specs.loads.Bounds.{if_above, if_wrong}
 use Rattle.libyaml_graphs.specs.loads.Bounds.{list_sizes, next_bounded, one_above, pairs_begun}
 use Rattle.libyaml_graphs.specs.graphs.ComposerFaults.{composer_fault, or_else, part_fault}
 use Rattle.libyaml_graphs.specs.graphs.Graphs.{Start, carrier, id_or}
-use Rattle.libyaml_graphs.specs.loads.Loads.{Begun, Load, answer, begun, document_end, last_load, load_then, loads, loads_by, next_by, next_load}
+use Rattle.libyaml_graphs.specs.loads.Loads.{Begun, Load, answer, begun, document_end, last_load, load_then, loads}
+use Rattle.libyaml_graphs.specs.loads.Loads.{loads_by, next_by, next_load}
 use Rattle.libyaml_graphs.specs.graphs.GraphParts.{Closing, Part, alias_part, behind, children, end_part, graph}
 use Rattle.libyaml_graphs.specs.graphs.GraphParts.{if_outer, leaf_part, parts, start_of, start_part}
 use Rattle.libyaml_graphs.proofs.machine.Sizes.{either_false, either_none}
@@ -29,12 +33,14 @@ outer_begin d is a b h = (h.0, ap (if_outer d is) h.1 ∙ outer_append d is a h.
 
 children_begin : (f g : List Part) (d : ℕ) (es : List Start) → Begins (children d es f) (children d es (f ++ g))
 children_begin [] g d es = (children d es g, refl)
-children_begin (alias_part a m ∷ f) g d es = outer_begin d (id_or (carrier a es) ∷ []) (children d es f) (children d es (f ++ g)) (children_begin f g d es)
+children_begin (alias_part a m ∷ f) g d es = outer_begin d (id_or (carrier a es) ∷ []) (children d es f)
+    (children d es (f ++ g)) (children_begin f g d es)
 children_begin (leaf_part a x ∷ f) g d es
     = outer_begin d (suc (length es) ∷ []) (children d (start_of a x ∷ es) f) (children d (start_of a x ∷ es) (f ++ g))
     (children_begin f g d (start_of a x ∷ es))
 children_begin (start_part a x ∷ f) g d es
-    = outer_begin d (suc (length es) ∷ []) (children (suc d) (start_of a x ∷ es) f) (children (suc d) (start_of a x ∷ es) (f ++ g))
+    = outer_begin d (suc (length es) ∷ []) (children (suc d) (start_of a x ∷ es) f)
+    (children (suc d) (start_of a x ∷ es) (f ++ g))
     (children_begin f g (suc d) (start_of a x ∷ es))
 children_begin (end_part n ∷ f) g zero es = ([], refl)
 children_begin (end_part n ∷ f) g (suc d) es = children_begin f g d es
@@ -58,14 +64,17 @@ lt_down : (n a b : ℕ) → a ≤ b → nat_lt n b ≡ false → nat_lt n a ≡ 
 lt_down n a b h e = le-ltb n a (le_trans h (ltb-false n b e))
 
 -- the lists of a document so far are no longer than those of more of it
-front_shorter : (f g : List Part) (es : List Start) (n : ℕ) → one_above n (list_sizes es (f ++ g)) ≡ false → one_above n (list_sizes es f) ≡ false
+front_shorter : (f g : List Part) (es : List Start) (n : ℕ) → one_above n (list_sizes es (f ++ g)) ≡ false
+    → one_above n (list_sizes es f) ≡ false
 front_shorter [] g es n h = refl
 front_shorter (alias_part a m ∷ f) g es n h = front_shorter f g es n h
 front_shorter (leaf_part a x ∷ f) g es n h = front_shorter f g (start_of a x ∷ es) n h
 front_shorter (start_part a x ∷ f) g es n h =
     let fs : List Start = start_of a x ∷ es in
-    let k : (nat_lt n (entries x.content (children 0 fs (f ++ g))) ≡ false) × (one_above n (list_sizes fs (f ++ g)) ≡ false) = either_false _ _ h in
-    either_none _ _ (lt_down n _ _ (more_entries x.content (children 0 fs f) (children 0 fs (f ++ g)) (children_begin f g 0 fs)) k.0)
+    let k : (nat_lt n (entries x.content (children 0 fs (f ++ g))) ≡ false)
+    × (one_above n (list_sizes fs (f ++ g)) ≡ false) = either_false _ _ h in
+    either_none _ _ (lt_down n _ _
+    (more_entries x.content (children 0 fs f) (children 0 fs (f ++ g)) (children_begin f g 0 fs)) k.0)
     ∙ front_shorter f g fs n k.1
 front_shorter (end_part m ∷ f) g es n h = front_shorter f g es n h
 
@@ -83,14 +92,17 @@ starts_grow : (r : List Part) (es : List Start) → length es ≤ length (all_be
 starts_grow [] es = le_refl _
 starts_grow (p ∷ r) es = le_trans (one_more p es) (starts_grow r (behind p es))
 
-room : (r : List Part) (es : List Start) (F : List Part) (n : ℕ) → nat_lt n (length (all_behind es r)) ≡ false → one_above n (list_sizes [] (F ++ r)) ≡ false
+room : (r : List Part) (es : List Start) (F : List Part) (n : ℕ) → nat_lt n (length (all_behind es r)) ≡ false
+    → one_above n (list_sizes [] (F ++ r)) ≡ false
     → first_stop n es F r ≡ composer_fault es r
 room [] es F n a b = refl
 room (p ∷ r) es F n a b =
-    let c : one_above n (list_sizes [] ((F ++ p ∷ []) ++ r)) ≡ false = ap (λ (l : List Part). one_above n (list_sizes [] l)) (append_assoc F (p ∷ []) r) ∙ b in
+    let c : one_above n (list_sizes [] ((F ++ p ∷ []) ++ r)) ≡ false =
+    ap (λ (l : List Part). one_above n (list_sizes [] l)) (append_assoc F (p ∷ []) r) ∙ b in
     let d : one_above n (list_sizes [] (F ++ p ∷ [])) ≡ false = front_shorter (F ++ p ∷ []) r [] n c in
     ap (λ (x : Bool). if_above x (if_wrong (part_fault es p)
-    (if_above (one_above n (list_sizes [] (F ++ p ∷ []))) (first_stop n (behind p es) (F ++ p ∷ []) r)))) (lt_down n _ _ (starts_grow r (behind p es)) a)
+    (if_above (one_above n (list_sizes [] (F ++ p ∷ []))) (first_stop n (behind p es) (F ++ p ∷ []) r))))
+    (lt_down n _ _ (starts_grow r (behind p es)) a)
     ∙ (ap (λ (x : Bool). if_wrong (part_fault es p) (if_above x (first_stop n (behind p es) (F ++ p ∷ []) r))) d
     ∙ (ap (if_wrong (part_fault es p)) (room r (behind p es) (F ++ p ∷ []) n a c) ∙ go (part_fault es p)))
   where
@@ -110,21 +122,27 @@ graph_count (end_part n ∷ r) es = graph_count r es
 
 none_above : (n : ℕ) (ks : List ℕ) → All (λ k. k ≤ n) ks → one_above n ks ≡ false
 none_above n [] h = refl
-none_above n (k ∷ ks) h = either_none _ _ (le-ltb n k (All-head (λ i. i ≤ n) k ks h)) ∙ none_above n ks (All-tail (λ i. i ≤ n) k ks h)
+none_above n (k ∷ ks) h = either_none _ _ (le-ltb n k (All-head (λ i. i ≤ n) k ks h))
+    ∙ none_above n ks (All-tail (λ i. i ≤ n) k ks h)
 
 fits_stop : (r : List Part) (n : ℕ) → StaysWithin n r → first_stop n [] [] r ≡ composer_fault [] r
-fits_stop r n h = room r [] [] n (ap (nat_lt n) (graph_count r [] ∙ zero-add _) ∙ le-ltb n (length (graph [] r)) h.0) (none_above n (list_sizes [] r) h.1)
+fits_stop r n h = room r [] [] n
+    (ap (nat_lt n) (graph_count r [] ∙ zero-add _) ∙ le-ltb n (length (graph [] r)) h.0)
+    (none_above n (list_sizes [] r) h.1)
 
 -- so it is with the loads, up to the first composer error
-have_room : (bs : List Begun) (x : Ending) (n : ℕ) → HaveRoom n bs → loads_by (first_stop n [] []) x bs ≡ loads_by (composer_fault []) x bs
+have_room : (bs : List Begun) (x : Ending) (n : ℕ) → HaveRoom n bs
+    → loads_by (first_stop n [] []) x bs ≡ loads_by (composer_fault []) x bs
 have_room [] x n h = refl
 have_room (b ∷ bs) x n h =
     let as_is : Option Fault → List Load → List Load
-    = λ (g : Option Fault) (l : List Load). load_then g (document_end b.rest) b.opening (graph [] (parts b.rest)) (last_load x) l in
+    = λ (g : Option Fault) (l : List Load). load_then g (document_end b.rest) b.opening (graph [] (parts b.rest))
+    (last_load x) l in
     ap (λ (g : Option Fault). as_is g (loads_by (first_stop n [] []) x bs)) (fits_stop (parts b.rest) n h.0)
     ∙ go (composer_fault [] (parts b.rest)) (document_end b.rest) (λ e. have_room bs x n (h.1 e))
   where
-    go : (g : Option Fault) (c : Option Closing) → (g ≡ None → loads_by (first_stop n [] []) x bs ≡ loads_by (composer_fault []) x bs)
+    go : (g : Option Fault) (c : Option Closing)
+        → (g ≡ None → loads_by (first_stop n [] []) x bs ≡ loads_by (composer_fault []) x bs)
         → load_then g c b.opening (graph [] (parts b.rest)) (last_load x) (loads_by (first_stop n [] []) x bs)
         ≡ load_then g c b.opening (graph [] (parts b.rest)) (last_load x) (loads_by (composer_fault []) x bs)
     go (Some g) c k = refl
@@ -140,19 +158,23 @@ room_next r x n h = go (begun r) h
   where
     go : (bs : List Begun) → HaveRoom n bs → next_by (first_stop n [] []) x bs ≡ next_by (composer_fault []) x bs
     go [] k = refl
-    go (b ∷ bs) k = ap (λ (g : Option Fault). answer g (document_end b.rest) b.opening (graph [] (parts b.rest)) (last_load x)) (fits_stop (parts b.rest) n k.0)
+    go (b ∷ bs) k = ap (λ (g : Option Fault). answer g (document_end b.rest) b.opening (graph [] (parts b.rest))
+        (last_load x)) (fits_stop (parts b.rest) n k.0)
 
 -- a document that nothing stops has no composer error, and its lists have room
 abbrev Unstopped : ℕ → List Start → List Part → List Part → Type 0
-Unstopped n es F P = (composer_fault es P ≡ None) × (nat_lt n (length (all_behind es P)) ≡ false) × (one_above n (list_sizes [] (F ++ P)) ≡ false)
+Unstopped n es F P = (composer_fault es P ≡ None) × (nat_lt n (length (all_behind es P)) ≡ false)
+    × (one_above n (list_sizes [] (F ++ P)) ≡ false)
 
-passed : (n : ℕ) (a b : Bool) (w o : Option Fault) → if_above a (if_wrong w (if_above b o)) ≡ None → (a ≡ false) × (w ≡ None) × (b ≡ false) × (o ≡ None)
+passed : (n : ℕ) (a b : Bool) (w o : Option Fault) → if_above a (if_wrong w (if_above b o)) ≡ None
+    → (a ≡ false) × (w ≡ None) × (b ≡ false) × (o ≡ None)
 passed n true b w o e = cc
 passed n false b (Some f) o e = cc
 passed n false true None o e = cc
 passed n false false None o e = (refl, refl, refl, e)
 
-unstopped : (P : List Part) (es : List Start) (F : List Part) (n : ℕ) → nat_lt n (length es) ≡ false → one_above n (list_sizes [] F) ≡ false
+unstopped : (P : List Part) (es : List Start) (F : List Part) (n : ℕ) → nat_lt n (length es) ≡ false
+    → one_above n (list_sizes [] F) ≡ false
     → first_stop n es F P ≡ None → Unstopped n es F P
 unstopped [] es F n a b e = (refl, a, ap (λ (l : List Part). one_above n (list_sizes [] l)) (append-nil F) ∙ b)
 unstopped (p ∷ P) es F n a b e =
@@ -175,8 +197,13 @@ bound_exact P n = (to, from)
   where
     to : first_stop n [] [] P ≡ None → (composer_fault [] P ≡ None) × StaysWithin n P
     to e =
-        let h : Unstopped n [] [] P = unstopped P [] [] n (le-ltb n 0 zero-le) refl e in
-        (h.0, (ltb-false n (length (graph [] P)) (ap (nat_lt n) (sym (graph_count P [] ∙ zero-add _)) ∙ h.1), all_within n (list_sizes [] P) h.2))
+        let h : Unstopped n [] [] P = unstopped P [] [] n (le-ltb n 0 zero-le) refl e in (
+          h.0,
+          (
+            ltb-false n (length (graph [] P)) (ap (nat_lt n) (sym (graph_count P [] ∙ zero-add _)) ∙ h.1),
+            all_within n (list_sizes [] P) h.2,
+          ),
+        )
 
     from : (composer_fault [] P ≡ None) × StaysWithin n P → first_stop n [] [] P ≡ None
     from h = fits_stop P n h.1 ∙ h.0

@@ -9,7 +9,8 @@ use Rattle.libyaml_sources.specs.Fault.{Fault}
 use Rattle.libyaml_grammar.specs.cuts.Fits.{Fits}
 use Rattle.libyaml_grammar.specs.sentences.Nesting.{IsNested, Texts, Value, no_texts, text_behind, value_events}
 use Rattle.libyaml_grammar.specs.sentences.Order.{in_order}
-use Rattle.libyaml_grammar.specs.runs.Runs.{Ending, Ends, Fails, IsRun, RunsWhole, is_behind_properties, to_its_end, to_its_fault}
+use Rattle.libyaml_grammar.specs.runs.Runs.{Ending, Ends, Fails, IsRun, RunsWhole, is_behind_properties, to_its_end}
+use Rattle.libyaml_grammar.specs.runs.Runs.{to_its_fault}
 use Rattle.libyaml_grammar.specs.sentences.Sentences.{IsBeginning, has_end}
 use Rattle.libyaml_grammar.specs.cuts.Settled.{IsSettled}
 use Rattle.libyaml_grammar.specs.sentences.Tokens.{Marks, StreamEnd, Token, tok}
@@ -20,7 +21,8 @@ use Rattle.libyaml_grammar.proofs.lent.NestingSoFar.{run_nests_so_far}
 use Rattle.libyaml_grammar.proofs.lent.Running.{amid_run, begin_run, cut_run, one_run_proof, sentence_run, some_run_proof}
 use Rattle.libyaml_documents.specs.Nodes.{EveryIdNamesANode}
 use Rattle.libyaml_graphs.specs.graphs.ComposerFaults.{composer_fault}
-use Rattle.libyaml_graphs.specs.loads.GraphLaws.{EachIdNames, LoadsWhole, NestedLoads, fault_or, has_begun, not_begun, open_load, whole}
+use Rattle.libyaml_graphs.specs.loads.GraphLaws.{EachIdNames, LoadsWhole, NestedLoads, fault_or, has_begun, not_begun}
+use Rattle.libyaml_graphs.specs.loads.GraphLaws.{open_load, whole}
 use Rattle.libyaml_graphs.specs.loads.GraphLaws as law
 use Rattle.libyaml_graphs.specs.graphs.Graphs.{nodes_of}
 use Rattle.libyaml_graphs.specs.loads.Loads.{IsLoads, Load, last_load, load_then, loads, loads_of}
@@ -35,15 +37,22 @@ some_loads l f =
 
 pub one_loads : (l : List Token) (f : Fault) (a b : List Load) → IsLoads l f a → IsLoads l f b → a ≡ b
 one_loads l f a b h k =
-    let e : (h.events ≡ k.events) × (h.ending ≡ k.ending) = one_run_proof l f h.events k.events h.ending k.ending h.run k.run in
+    let e : (h.events ≡ k.events) × (h.ending ≡ k.ending) = one_run_proof l f h.events k.events h.ending k.ending
+    h.run k.run in
     h.all ∙ (ap₂ loads e.0 e.1 ∙ sym k.all)
 
 -- the loads of every run, whatever cuts it off
 pub run_loads : (l : List Token) (f : Fault) (a : List Load) (h : IsLoads l f a) → NestedLoads h.events h.ending a
-run_loads l f a h = subst (NestedLoads h.events h.ending) (sym h.all) (nested_loads h.events h.ending (run_nests_so_far l f h.events h.ending h.run))
+run_loads l f a h = subst (NestedLoads h.events h.ending) (sym h.all)
+    (nested_loads h.events h.ending (run_nests_so_far l f h.events h.ending h.run))
 
-of_run : (l : List Token) (f : Fault) (e : List Event) (x : Ending) → IsRun l f e x → (a : List Load) × IsLoads l f a × NestedLoads e x a
-of_run l f e x r = (loads e x, record { events = e; ending = x; run = r; all = refl }, nested_loads e x (run_nests_so_far l f e x r))
+of_run : (l : List Token) (f : Fault) (e : List Event) (x : Ending) → IsRun l f e x
+    → (a : List Load) × IsLoads l f a × NestedLoads e x a
+of_run l f e x r = (
+  loads e x,
+  record { events = e; ending = x; run = r; all = refl },
+  nested_loads e x (run_nests_so_far l f e x r),
+)
 
 pub sentence_loads : (t : Stream) (r : List Token) (f : Fault) → in_order t ≡ true → (n : IsNested (events t))
     × IsLoads (tokens t ++ r) f (loads_of n.texts (last_load Ends ∷ []))
@@ -51,15 +60,19 @@ sentence_loads t r f o =
     let n : IsNested (events t) = events_nest_proof t in
     (n, record { events = events t; ending = Ends; run = sentence_run t r f o; all = sym (whole_loads (events t) n Ends) })
 
-pub cut_tree_loads : (l : List Token) (b : Token) (r : List Token) (c : Cut) (f : Fault) → Fits l b c → is_behind_properties c r ≡ true → (a : List Load)
+pub cut_tree_loads : (l : List Token) (b : Token) (r : List Token) (c : Cut) (f : Fault) → Fits l b c
+    → is_behind_properties c r ≡ true → (a : List Load)
     × IsLoads (l ++ b ∷ r) f a × NestedLoads (cut_events c b) (Fails (fault c b.content b.start_mark)) a
-cut_tree_loads l b r c f i h = of_run (l ++ b ∷ r) f (cut_events c b) (Fails (fault c b.content b.start_mark)) (cut_run l b r c f i h)
+cut_tree_loads l b r c f i h = of_run (l ++ b ∷ r) f (cut_events c b) (Fails (fault c b.content b.start_mark))
+    (cut_run l b r c f i h)
 
-pub amid_loads : (l : List Token) (b : Token) (r : List Token) (c : Cut) (f : Fault) → Fits l b c → is_behind_properties c r ≡ false → (a : List Load)
+pub amid_loads : (l : List Token) (b : Token) (r : List Token) (c : Cut) (f : Fault) → Fits l b c
+    → is_behind_properties c r ≡ false → (a : List Load)
     × IsLoads (l ++ b ∷ r) f a × NestedLoads (cut_events c b) (Fails f) a
 amid_loads l b r c f i h = of_run (l ++ b ∷ r) f (cut_events c b) (Fails f) (amid_run l b r c f i h)
 
-pub beginning_loads : (l : List Token) (e : List Event) (f : Fault) → IsBeginning l → has_end l ≡ false → IsSettled l e → (a : List Load) × IsLoads l f a
+pub beginning_loads : (l : List Token) (e : List Event) (f : Fault) → IsBeginning l → has_end l ≡ false
+    → IsSettled l e → (a : List Load) × IsLoads l f a
     × NestedLoads e (Fails f) a
 beginning_loads l e f b h s = of_run l f e (Fails f) (begin_run l e f b h s)
 
@@ -67,7 +80,8 @@ beginning_loads l e f b h s = of_run l f e (Fails f) (begin_run l e f b h s)
 loads_whole : (l : List Token) (f : Fault) → RunsWhole l f → LoadsWhole l f
 loads_whole l f (to_its_end t o e r) =
     let n : IsNested (events t) = events_nest_proof t in
-    law.to_its_end t o e (loads (events t) Ends) (record { events = events t; ending = Ends; run = r; all = refl }) n (whole_loads (events t) n Ends)
+    law.to_its_end t o e (loads (events t) Ends) (record { events = events t; ending = Ends; run = r; all = refl })
+    n (whole_loads (events t) n Ends)
 loads_whole l f (to_its_fault before token behind c e i r) =
     let x : Ending = Fails (fault c token.content token.start_mark) in
     let y = of_run l f (cut_events c token) x r in
@@ -77,7 +91,8 @@ pub headline : (l : List Token) (m : Marks) (f : Fault) → has_end l ≡ false 
 headline l m f h = loads_whole (l ++ tok StreamEnd m ∷ []) f (runs_whole l m f h)
 
 -- every id in each loaded document names one of its nodes
-text_ids : (v : Value) (f : Option Fault) (c : Closing) (o : Opening) (z : Load) (l : List Load) → (f ≡ None → EveryIdNamesANode (nodes_of v [] []))
+text_ids : (v : Value) (f : Option Fault) (c : Closing) (o : Opening) (z : Load) (l : List Load)
+    → (f ≡ None → EveryIdNamesANode (nodes_of v [] []))
     → EachIdNames l → EachIdNames (load_then f (Some c) o (nodes_of v [] []) z l)
 text_ids v (Some f) c o z l h k = tt
 text_ids v None c o z l h k = (h refl, k)
@@ -85,7 +100,8 @@ text_ids v None c o z l h k = (h refl, k)
 texts_ids : (ts : Texts) (l : List Load) → EachIdNames l → EachIdNames (loads_of ts l)
 texts_ids no_texts l k = k
 texts_ids (text_behind ts d m n v i p q) l k
-    = texts_ids ts _ (text_ids v (composer_fault [] (parts (value_events v []))) (record { is_implicit = i; mark = q }) (record { start = d; mark = m })
+    = texts_ids ts _ (text_ids v (composer_fault [] (parts (value_events v [])))
+    (record { is_implicit = i; mark = q }) (record { start = d; mark = m })
     (last_load Ends) l (λ e. every_id v e) k)
 
 last_ids : (x : Ending) → EachIdNames (last_load x ∷ [])
@@ -102,7 +118,8 @@ open_ids (e ∷ r) x = go (composer_fault [] (parts r))
 
 nested_ids : (e : List Event) (x : Ending) (a : List Load) → NestedLoads e x a → EachIdNames a
 nested_ids e x a (not_begun n h) = subst EachIdNames (sym h) (last_ids x)
-nested_ids e x a (has_begun n h) = subst EachIdNames (sym h) (texts_ids n.texts (open_load n.open_document x ∷ []) (open_ids n.open_document x))
+nested_ids e x a (has_begun n h) =
+    subst EachIdNames (sym h) (texts_ids n.texts (open_load n.open_document x ∷ []) (open_ids n.open_document x))
 nested_ids e x a (whole n h) = subst EachIdNames (sym h) (texts_ids n.texts (last_load x ∷ []) (last_ids x))
 
 pub loaded_ids : (l : List Token) (f : Fault) (a : List Load) → IsLoads l f a → EachIdNames a

@@ -1,5 +1,6 @@
 -- What stops a load is out of memory or a composer error.
-use Rattle.std.proofs.Common.{◌≡◌, ◌⊎◌, ◌++◌, ◌∷◌, ℕ, List, [], Option, Some, None, Bool, true, false, Err, inl, inr, refl, subst}
+use Rattle.std.proofs.Common.{◌≡◌, ◌⊎◌, ◌++◌, ◌∷◌, ℕ, List, [], Option, Some, None, Bool, true, false, Err, inl, inr}
+use Rattle.std.proofs.Common.{refl, subst}
 use Rattle.libyaml_types.specs.declared.enums.yaml_error_type_t.TheVariants.{YAML_COMPOSER_ERROR}
 use Rattle.libyaml_documents.specs.declared.node.yaml_node_t.{yaml_node_t}
 use Rattle.libyaml_sources.specs.Fault.{Fault, memory_fault}
@@ -7,7 +8,8 @@ use Rattle.libyaml_grammar.specs.runs.Runs.{Ending, Ends}
 use Rattle.libyaml_grammar.specs.sentences.Events.{Event}
 use Rattle.libyaml_grammar.specs.sentences.Tokens.{Mark}
 use Rattle.libyaml_graphs.specs.graphs.ComposerFaults.{alias_fault, anchor_fault, known_fault, part_fault}
-use Rattle.libyaml_graphs.specs.graphs.GraphParts.{Closing, Opening, Part, alias_part, behind, end_part, graph, leaf_part, parts, start_part}
+use Rattle.libyaml_graphs.specs.graphs.GraphParts.{Closing, Opening, Part, alias_part, behind, end_part, graph}
+use Rattle.libyaml_graphs.specs.graphs.GraphParts.{leaf_part, parts, start_part}
 use Rattle.libyaml_graphs.specs.graphs.Graphs.{Carrier, Start, carrier}
 use Rattle.libyaml_graphs.specs.loads.Bounds.{first_stop, if_above, if_wrong, next_bounded}
 use Rattle.libyaml_graphs.specs.loads.Loads.{Begun, Load, answer, begun, last_load, next_by}
@@ -47,13 +49,15 @@ wrong None o h k = k
 
 of_stop : (n : ℕ) (es : List Start) (before l : List Part) → IfStops (first_stop n es before l)
 of_stop n es before [] = tt
-of_stop n es before (p ∷ r) = above _ _ (wrong _ _ (of_part es p) (above _ _ (of_stop n (behind p es) (before ++ p ∷ []) r)))
+of_stop n es before (p ∷ r) =
+    above _ _ (wrong _ _ (of_part es p) (above _ _ (of_stop n (behind p es) (before ++ p ∷ []) r)))
 
 module _ (f : Fault) where
   same : (g : Fault) → ◌≡◌ {A = Load} (Err g) (Err f) → g ≡ f
   same g h = cc
 
-  of_answer : (o : Option Fault) (c : Option Closing) (b : Opening) (nodes : List yaml_node_t) → IfStops o → answer o c b nodes (last_load Ends) ≡ Err f
+  of_answer : (o : Option Fault) (c : Option Closing) (b : Opening) (nodes : List yaml_node_t) → IfStops o
+      → answer o c b nodes (last_load Ends) ≡ Err f
       → OfLoader f
   of_answer (Some g) c b nodes h is = subst OfLoader (same g is) h
   of_answer None (Some c) b nodes h is = absurd cc
@@ -61,10 +65,12 @@ module _ (f : Fault) where
 
   of_next : (n : ℕ) (bs : List Begun) → next_by (first_stop n [] []) Ends bs ≡ Err f → OfLoader f
   of_next n [] is = absurd cc
-  of_next n (b ∷ bs) is = of_answer (first_stop n [] [] (parts b.rest)) _ b.opening (graph [] (parts b.rest)) (of_stop n [] [] (parts b.rest)) is
+  of_next n (b ∷ bs) is = of_answer (first_stop n [] [] (parts b.rest)) _ b.opening (graph [] (parts b.rest))
+      (of_stop n [] [] (parts b.rest)) is
 
   pub in_stream : (n : ℕ) (e : List Event) → next_bounded n e Ends ≡ Err f → OfLoader f
   in_stream n e is = of_next n (begun e) is
 
-  pub whatever_follows : (n : ℕ) (e : List Event) → ((rest : List Event) (x : Ending) → next_bounded n (e ++ rest) x ≡ Err f) → OfLoader f
+  pub whatever_follows : (n : ℕ) (e : List Event)
+      → ((rest : List Event) (x : Ending) → next_bounded n (e ++ rest) x ≡ Err f) → OfLoader f
   whatever_follows n e is = in_stream n (e ++ []) (is [] Ends)

@@ -5,8 +5,10 @@ use Rattle.libyaml_graphs.specs.loads.GraphLaws as law
 use Rattle.libyaml_types.specs.declared.event.unnamed_yaml_event_t_data_document_start.{unnamed_yaml_event_t_data_document_start}
 use Rattle.libyaml_grammar.specs.sentences.Events.{Event, document_end_at, event, stream_end_at}
 use Rattle.libyaml_sources.specs.Fault.{Fault}
-use Rattle.libyaml_grammar.specs.sentences.Nesting.{BeginsValue, HasBegun, IsNested, IsOpenDocument, NestsSoFar, Texts, Value, has_begun, no_texts}
-use Rattle.libyaml_grammar.specs.sentences.Nesting.{none_open, not_begun, one_open, text_behind, texts_events, value_events, whole}
+use Rattle.libyaml_grammar.specs.sentences.Nesting.{BeginsValue, HasBegun, IsNested, IsOpenDocument, NestsSoFar, Texts}
+use Rattle.libyaml_grammar.specs.sentences.Nesting.{Value, has_begun, no_texts}
+use Rattle.libyaml_grammar.specs.sentences.Nesting.{none_open, not_begun, one_open, text_behind, texts_events}
+use Rattle.libyaml_grammar.specs.sentences.Nesting.{value_events, whole}
 use Rattle.libyaml_grammar.specs.runs.Runs.{Ending, Ends}
 use Rattle.libyaml_grammar.specs.sentences.Tokens.{Mark}
 use Rattle.libyaml_documents.specs.declared.node.yaml_node_t.{yaml_node_t}
@@ -14,7 +16,8 @@ use Rattle.libyaml_graphs.specs.graphs.ComposerFaults.{composer_fault}
 use Rattle.libyaml_graphs.specs.graphs.Graphs.{nodes_of}
 use Rattle.libyaml_graphs.specs.loads.GraphLaws.{NestedLoads, fault_or, open_load}
 use Rattle.libyaml_graphs.specs.graphs.GraphParts.{Closing, Opening, Part, closing_of, graph, part_of, parts, with_part}
-use Rattle.libyaml_graphs.specs.loads.Loads.{Begun, Load, begun, begun_behind, document_end, last_load, load_then, loads, loads_by, loads_of}
+use Rattle.libyaml_graphs.specs.loads.Loads.{Begun, Load, begun, begun_behind, document_end, last_load, load_then}
+use Rattle.libyaml_graphs.specs.loads.Loads.{loads, loads_by, loads_of}
 use Rattle.libyaml_grammar.proofs.lent.Splits.{value_splits}
 use Rattle.libyaml_graphs.proofs.graphs.TreeGraphs.{value_graph}
 use Rattle.libyaml_graphs.proofs.lent.Roots.{value_keeps}
@@ -44,9 +47,11 @@ ends_itself : (f : Option Fault) (c : Closing) (o : Opening) (ns : List yaml_nod
 ends_itself (Some f) c o ns y z l = refl
 ends_itself None c o ns y z l = refl
 
-text_loads : (d : unnamed_yaml_event_t_data_document_start) (m n : Mark) (v : Value) (i : Bool) (p q : Mark) (r : List Event) (x : Ending)
+text_loads : (d : unnamed_yaml_event_t_data_document_start) (m n : Mark) (v : Value) (i : Bool) (p q : Mark)
+    (r : List Event) (x : Ending)
     → loads (event (ev.DocumentStart d) m n ∷ value_events v (document_end_at i p q ∷ r)) x
-    ≡ load_then (composer_fault [] (parts (value_events v []))) (Some (record { is_implicit = i; mark = q })) (record { start = d; mark = m })
+    ≡ load_then (composer_fault [] (parts (value_events v []))) (Some (record { is_implicit = i; mark = q }))
+    (record { start = d; mark = m })
     (nodes_of v [] []) (last_load Ends) (loads r x)
 text_loads d m n v i p q r x =
     let o : Opening = record { start = d; mark = m } in
@@ -55,17 +60,22 @@ text_loads d m n v i p q r x =
     ap (λ (l : List Part). load_then (composer_fault [] l) (document_end (value_events v w)) o (graph [] l)
     (last_load x) (loads_by (composer_fault []) x (begun_behind (value_events v w))))
     (value_parts v w [] refl)
-    ∙ (ap (λ (y : Option Closing). load_then (composer_fault [] (parts (value_events v []))) y o (graph [] (parts (value_events v []))) (last_load x)
+    ∙ (ap (λ (y : Option Closing). load_then (composer_fault [] (parts (value_events v []))) y o
+    (graph [] (parts (value_events v []))) (last_load x)
     (loads_by (composer_fault []) x (begun_behind (value_events v w)))) (value_closing v w)
-    ∙ (ap (λ (l : List Begun). load_then (composer_fault [] (parts (value_events v []))) (Some c) o (graph [] (parts (value_events v []))) (last_load x)
+    ∙ (ap (λ (l : List Begun). load_then (composer_fault [] (parts (value_events v []))) (Some c) o
+    (graph [] (parts (value_events v []))) (last_load x)
     (loads_by (composer_fault []) x l)) (value_behind v w)
-    ∙ (ap (λ (ns : List yaml_node_t). load_then (composer_fault [] (parts (value_events v []))) (Some c) o ns (last_load x) (loads r x)) (value_graph v [] [])
-    ∙ ends_itself (composer_fault [] (parts (value_events v []))) c o (nodes_of v [] []) (last_load x) (last_load Ends) (loads r x))))
+    ∙ (ap (λ (ns : List yaml_node_t). load_then (composer_fault [] (parts (value_events v []))) (Some c) o ns
+    (last_load x) (loads r x)) (value_graph v [] [])
+    ∙ ends_itself (composer_fault [] (parts (value_events v []))) c o (nodes_of v [] []) (last_load x)
+    (last_load Ends) (loads r x))))
 
 -- the loads of whole documents are their graphs by their values, up to the first composer error
 texts_load : (ts : Texts) (r : List Event) (x : Ending) → loads (texts_events ts r) x ≡ loads_of ts (loads r x)
 texts_load no_texts r x = refl
-texts_load (text_behind ts d m n v i p q) r x = texts_load ts (event (ev.DocumentStart d) m n ∷ value_events v (document_end_at i p q ∷ r)) x
+texts_load (text_behind ts d m n v i p q) r x =
+    texts_load ts (event (ev.DocumentStart d) m n ∷ value_events v (document_end_at i p q ∷ r)) x
     ∙ ap (loads_of ts) (text_loads d m n v i p q r x)
 
 pub whole_loads : (l : List Event) (n : IsNested l) (x : Ending) → loads l x ≡ loads_of n.texts (last_load x ∷ [])
@@ -77,7 +87,8 @@ none_closes [] r h = refl
 none_closes (e ∷ f) r h = go (closing_of e) h (none_closes f r)
   where
     go : (c : Option Closing) → ◌≡◌ {A = Option Closing} (elim c [ Some y ↦ Some y | None ↦ document_end (f ++ r) ]) None
-        → (document_end (f ++ r) ≡ None → document_end f ≡ None) → ◌≡◌ {A = Option Closing} (elim c [ Some y ↦ Some y | None ↦ document_end f ]) None
+        → (document_end (f ++ r) ≡ None → document_end f ≡ None)
+        → ◌≡◌ {A = Option Closing} (elim c [ Some y ↦ Some y | None ↦ document_end f ]) None
     go (Some y) h k = cc
     go None h k = k h
 
@@ -85,10 +96,12 @@ pub front_closes : (f : List Event) → BeginsValue f → document_end f ≡ Non
 front_closes f b = none_closes f b.rest (ap document_end (sym b.all) ∙ value_closing b.val [])
 
 -- a document whose end is missing gives its composer error, if it has one, and else the run's ending
-open_loads : (d : unnamed_yaml_event_t_data_document_start) (m n : Mark) (f : List Event) (x : Ending) → document_end f ≡ None
+open_loads : (d : unnamed_yaml_event_t_data_document_start) (m n : Mark) (f : List Event) (x : Ending)
+    → document_end f ≡ None
     → loads (event (ev.DocumentStart d) m n ∷ f) x ≡ open_load (event (ev.DocumentStart d) m n ∷ f) x ∷ []
 open_loads d m n f x e =
-    ap (λ (c : Option Closing). load_then (composer_fault [] (parts f)) c (record { start = d; mark = m }) (graph [] (parts f)) (last_load x)
+    ap (λ (c : Option Closing). load_then (composer_fault [] (parts f)) c (record { start = d; mark = m })
+    (graph [] (parts f)) (last_load x)
     (loads_by (composer_fault []) x (begun_behind f))) e
     ∙ go (composer_fault [] (parts f))
   where
@@ -98,8 +111,10 @@ open_loads d m n f x e =
     go (Some g) = refl
     go None = refl
 
-pub begun_loads : (l : List Event) (n : HasBegun l) (x : Ending) → loads l x ≡ loads_of n.texts (open_load n.open_document x ∷ [])
-begun_loads l n x = ap (λ (k : List Event). loads k x) n.all ∙ (texts_load n.texts n.open_document x ∙ ap (loads_of n.texts) (go n.open_document n.is_open))
+pub begun_loads : (l : List Event) (n : HasBegun l) (x : Ending)
+    → loads l x ≡ loads_of n.texts (open_load n.open_document x ∷ [])
+begun_loads l n x = ap (λ (k : List Event). loads k x) n.all
+    ∙ (texts_load n.texts n.open_document x ∙ ap (loads_of n.texts) (go n.open_document n.is_open))
   where
     go : (k : List Event) → IsOpenDocument k → loads k x ≡ open_load k x ∷ []
     go k (none_open e) = ap (λ (j : List Event). loads j x) e ∙ ap (λ (j : List Event). open_load j x ∷ []) (sym e)

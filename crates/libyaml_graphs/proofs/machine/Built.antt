@@ -1,6 +1,7 @@
 -- A graph as it is built, part by part: the nodes so far, each with the key that waits in it, and the places of those that
 -- are open, the innermost first.
-use Rattle.std.proofs.Common.{◌≡◌, ℕ, zero, suc, ℤ, pos, List, [], ◌∷◌, ◌++◌, length, refl, sym, ap, ◌∙◌, append_assoc, append-nil, Option, None}
+use Rattle.std.proofs.Common.{◌≡◌, ℕ, zero, suc, ℤ, pos, List, [], ◌∷◌, ◌++◌, length, refl, sym, ap, ◌∙◌, append_assoc}
+use Rattle.std.proofs.Common.{append-nil, Option, None}
 use Rattle.libyaml_types.specs.declared.enums.yaml_mapping_style_t.{yaml_mapping_style_t}
 use Rattle.libyaml_types.specs.declared.enums.yaml_sequence_style_t.{yaml_sequence_style_t}
 use Rattle.libyaml_grammar.specs.sentences.Tokens.{Mark}
@@ -60,8 +61,10 @@ unbuilt = record { places = []; held = [] }
 -- one part more, where es are the starts before it
 abbrev pub build : List Start → Part → Built → Built
 build es (alias_part a m) b = record { places = b.places; held = hold_top (id_or (carrier a es)) b.places b.held }
-build es (leaf_part a x) b = record { places = b.places; held = hold_top (suc (length es)) b.places (b.held ++ bare x ∷ []) }
-build es (start_part a x) b = record { places = length b.held ∷ b.places; held = hold_top (suc (length es)) b.places (b.held ++ bare x ∷ []) }
+build es (leaf_part a x) b =
+    record { places = b.places; held = hold_top (suc (length es)) b.places (b.held ++ bare x ∷ []) }
+build es (start_part a x) b =
+    record { places = length b.held ∷ b.places; held = hold_top (suc (length es)) b.places (b.held ++ bare x ∷ []) }
 build es (end_part n) b = record { places = below b.places; held = end_top n b.places b.held }
 
 -- each place is one of the list
@@ -120,7 +123,8 @@ change_last : (f : Held → Held) (hs : List Held) (x : Held) → change (length
 change_last f [] x = refl
 change_last f (y ∷ hs) x = ap (λ (l : List Held). y ∷ l) (change_last f hs x)
 
-change_change : (p : ℕ) (f g : Held → Held) (hs : List Held) → change p f (change p g hs) ≡ change p (λ (x : Held). f (g x)) hs
+change_change : (p : ℕ) (f g : Held → Held) (hs : List Held)
+    → change p f (change p g hs) ≡ change p (λ (x : Held). f (g x)) hs
 change_change p f g [] = refl
 change_change zero f g (x ∷ hs) = refl
 change_change (suc p) f g (x ∷ hs) = ap (λ (l : List Held). x ∷ l) (change_change p f g hs)
@@ -161,19 +165,24 @@ abbrev pub applied : List ℕ → (ℕ → Held → Held) → List Held → List
 applied [] f hs = hs
 applied (p ∷ s) f hs = applied s (λ (d : ℕ). f (suc d)) (change p (f 0) hs)
 
-applied_same : (s : List ℕ) (f g : ℕ → Held → Held) (hs : List Held) → ((d : ℕ) (x : Held) → f d x ≡ g d x) → applied s f hs ≡ applied s g hs
+applied_same : (s : List ℕ) (f g : ℕ → Held → Held) (hs : List Held) → ((d : ℕ) (x : Held) → f d x ≡ g d x)
+    → applied s f hs ≡ applied s g hs
 applied_same [] f g hs e = refl
-applied_same (p ∷ s) f g hs e = ap (λ (l : List Held). applied s (λ (d : ℕ). f (suc d)) l) (change_same p (f 0) (g 0) hs (e 0))
+applied_same (p ∷ s) f g hs e = ap (λ (l : List Held). applied s (λ (d : ℕ). f (suc d)) l)
+    (change_same p (f 0) (g 0) hs (e 0))
     ∙ applied_same s (λ (d : ℕ). f (suc d)) (λ (d : ℕ). g (suc d)) (change p (g 0) hs) (λ d x. e (suc d) x)
 
-pub applied_not : (s : List ℕ) (f : ℕ → Held → Held) (hs : List Held) → ((d : ℕ) (x : Held) → f d x ≡ x) → applied s f hs ≡ hs
+pub applied_not : (s : List ℕ) (f : ℕ → Held → Held) (hs : List Held) → ((d : ℕ) (x : Held) → f d x ≡ x)
+    → applied s f hs ≡ hs
 applied_not [] f hs e = refl
 applied_not (p ∷ s) f hs e = ap (λ (l : List Held). applied s (λ (d : ℕ). f (suc d)) l) (change_not p (f 0) hs (e 0))
     ∙ applied_not s (λ (d : ℕ). f (suc d)) hs (λ d x. e (suc d) x)
 
-applied_append : (s : List ℕ) (f : ℕ → Held → Held) (hs r : List Held) → AllHas s hs → applied s f (hs ++ r) ≡ applied s f hs ++ r
+applied_append : (s : List ℕ) (f : ℕ → Held → Held) (hs r : List Held) → AllHas s hs
+    → applied s f (hs ++ r) ≡ applied s f hs ++ r
 applied_append [] f hs r h = refl
-applied_append (p ∷ s) f hs r h = ap (λ (l : List Held). applied s (λ (d : ℕ). f (suc d)) l) (change_append p (f 0) hs r h.0)
+applied_append (p ∷ s) f hs r h = ap (λ (l : List Held). applied s (λ (d : ℕ). f (suc d)) l)
+    (change_append p (f 0) hs r h.0)
     ∙ applied_append s (λ (d : ℕ). f (suc d)) (change p (f 0) hs) r (all_change s p (f 0) hs h.1)
 
 -- a child handed over now, or with the rest
@@ -181,7 +190,8 @@ applied_hold : (i : ℕ) (s : List ℕ) (f g : ℕ → Held → Held) (hs : List
     → ((d : ℕ) (x : Held) → f (suc d) x ≡ g (suc d) x) → applied s f (hold_top i s hs) ≡ applied s g hs
 applied_hold i [] f g hs e h = refl
 applied_hold i (p ∷ s) f g hs e h =
-    ap (λ (l : List Held). applied s (λ (d : ℕ). f (suc d)) l) (change_change p (f 0) (hold i) hs ∙ change_same p (λ (x : Held). f 0 (hold i x)) (g 0) hs e)
+    ap (λ (l : List Held). applied s (λ (d : ℕ). f (suc d)) l)
+    (change_change p (f 0) (hold i) hs ∙ change_same p (λ (x : Held). f 0 (hold i x)) (g 0) hs e)
     ∙ applied_same s (λ (d : ℕ). f (suc d)) (λ (d : ℕ). g (suc d)) (change p (g 0) hs) h
 
 -- children, one after the other: what a node holds after them, and the key that waits then
@@ -203,7 +213,8 @@ add_items : (l : List ℤ) (js : List ℕ) (s : yaml_sequence_style_t) → grown
 add_items l [] s = ap (listed s) (sym (append-nil l))
 add_items l (j ∷ js) s = add_items (l ++ pos j ∷ []) js s ∙ ap (listed s) (append_assoc l (pos j ∷ []) (items js))
 
-add_pairs : (l : List yaml_node_pair_t) (js : List ℕ) (s : yaml_mapping_style_t) → grown None (paired s l) js ≡ paired s (l ++ pairs js)
+add_pairs : (l : List yaml_node_pair_t) (js : List ℕ) (s : yaml_mapping_style_t)
+    → grown None (paired s l) js ≡ paired s (l ++ pairs js)
 add_pairs l [] s = ap (paired s) (sym (append-nil l))
 add_pairs l (k ∷ []) s = ap (paired s) (sym (append-nil l))
 add_pairs l (k ∷ v ∷ js) s =
@@ -220,7 +231,8 @@ grown_empty (Sequence b) is = add_items [] is b.style
 grown_empty (Mapping b) is = add_pairs [] is b.style
 
 -- of a node that begins without children
-pub grown_from : (c : unnamed_yaml_node_t_data) (is : List ℕ) → with_children [] c ≡ c → grown None c is ≡ with_children is c
+pub grown_from : (c : unnamed_yaml_node_t_data) (is : List ℕ) → with_children [] c ≡ c
+    → grown None c is ≡ with_children is c
 grown_from c is e = ap (λ (d : unnamed_yaml_node_t_data). grown None d is) (sym e) ∙ grown_empty c is
 
 -- what the rest P of a document makes of an open node
@@ -242,7 +254,11 @@ held_graph es [] = []
 held_graph es (alias_part a m ∷ r) = held_graph es r
 held_graph es (leaf_part a x ∷ r) = bare x ∷ held_graph (start_of a x ∷ es) r
 held_graph es (start_part a x ∷ r)
-    = record { node = ended (children 0 (start_of a x ∷ es) r) (end_in 0 x.end_mark r) x; key = grown_key None x.content (children 0 (start_of a x ∷ es) r) }
+    = record {
+      node = ended (children 0 (start_of a x ∷ es) r) (end_in 0 x.end_mark r) x;
+      key =
+          grown_key None x.content (children 0 (start_of a x ∷ es) r);
+    }
     ∷ held_graph (start_of a x ∷ es) r
 held_graph es (end_part n ∷ r) = held_graph es r
 
@@ -251,7 +267,8 @@ graph_nodes [] es = refl
 graph_nodes (alias_part a m ∷ P) es = graph_nodes P es
 graph_nodes (leaf_part a x ∷ P) es = ap (λ (l : List yaml_node_t). x ∷ l) (graph_nodes P (start_of a x ∷ es))
 graph_nodes (start_part a x ∷ P) es
-    = ap (λ (l : List yaml_node_t). ended (children 0 (start_of a x ∷ es) P) (end_in 0 x.end_mark P) x ∷ l) (graph_nodes P (start_of a x ∷ es))
+    = ap (λ (l : List yaml_node_t). ended (children 0 (start_of a x ∷ es) P) (end_in 0 x.end_mark P) x ∷ l)
+    (graph_nodes P (start_of a x ∷ es))
 graph_nodes (end_part n ∷ P) es = graph_nodes P es
 
 -- the whole graph, from what is built so far and the rest
@@ -265,21 +282,28 @@ BeginsEmpty (leaf_part a x) = with_children [] x.content ≡ x.content
 BeginsEmpty (start_part a x) = with_children [] x.content ≡ x.content
 BeginsEmpty (end_part n) = Unit {0}
 
-leaf_finished : (a : Option (List ℕ)) (x : yaml_node_t) (es : List Start) (P : List Part) (b : Built) → AllHas b.places b.held
+leaf_finished : (a : Option (List ℕ)) (x : yaml_node_t) (es : List Start) (P : List Part) (b : Built)
+    → AllHas b.places b.held
     → finished (start_of a x ∷ es) P (build es (leaf_part a x) b) ≡ finished es (leaf_part a x ∷ P) b
 leaf_finished a x es P b h =
     let F : ℕ → Held → Held = rested (start_of a x ∷ es) P in
     let G : ℕ → Held → Held = rested es (leaf_part a x ∷ P) in
     let R : List Held = held_graph (start_of a x ∷ es) P in
-    ap (λ (l : List Held). l ++ R) (applied_hold (suc (length es)) b.places F G (b.held ++ bare x ∷ []) (λ y. refl) (λ d y. refl)
+    ap (λ (l : List Held). l ++ R)
+    (applied_hold (suc (length es)) b.places F G (b.held ++ bare x ∷ []) (λ y. refl) (λ d y. refl)
     ∙ applied_append b.places G b.held (bare x ∷ []) h)
     ∙ append_assoc (applied b.places G b.held) (bare x ∷ []) R
 
 abbrev with_content : yaml_node_t → Mark → Option ℤ → unnamed_yaml_node_t_data → Held
-with_content x n k c = record { node = record { tag = x.tag; content = c; start_mark = x.start_mark; end_mark = n }; key = k }
+with_content x n k c = record {
+  node = record { tag = x.tag; content = c; start_mark = x.start_mark; end_mark = n };
+  key = k;
+}
 
-start_finished : (a : Option (List ℕ)) (x : yaml_node_t) (es : List Start) (P : List Part) (b : Built) → with_children [] x.content ≡ x.content
-    → AllHas b.places b.held → finished (start_of a x ∷ es) P (build es (start_part a x) b) ≡ finished es (start_part a x ∷ P) b
+start_finished : (a : Option (List ℕ)) (x : yaml_node_t) (es : List Start) (P : List Part) (b : Built)
+    → with_children [] x.content ≡ x.content
+    → AllHas b.places b.held → finished (start_of a x ∷ es) P (build es (start_part a x) b) ≡ finished es
+    (start_part a x ∷ P) b
 start_finished a x es P b e h =
     let fs : List Start = start_of a x ∷ es in
     let F : ℕ → Held → Held = rested fs P in
@@ -291,13 +315,17 @@ start_finished a x es P b e h =
     ap (λ (l : List Held). applied (length b.held ∷ b.places) F l ++ R) (hold_append i b.places b.held (bare x ∷ []) h)
     ∙ (ap (λ (j : ℕ). applied (j ∷ b.places) F (M ++ bare x ∷ []) ++ R) (sym (length_hold i b.places b.held))
     ∙ (ap (λ (l : List Held). applied b.places (λ (d : ℕ). F (suc d)) l ++ R) (change_last (F 0) M (bare x))
-    ∙ (ap (λ (l : List Held). l ++ R) (applied_append b.places (λ (d : ℕ). F (suc d)) M (F 0 (bare x) ∷ []) (all_hold b.places b.places i b.held h))
-    ∙ (ap (λ (l : List Held). (l ++ F 0 (bare x) ∷ []) ++ R) (applied_hold i b.places (λ (d : ℕ). F (suc d)) G b.held (λ y. refl) (λ d y. refl))
+    ∙ (ap (λ (l : List Held). l ++ R)
+    (applied_append b.places (λ (d : ℕ). F (suc d)) M (F 0 (bare x) ∷ []) (all_hold b.places b.places i b.held h))
+    ∙ (ap (λ (l : List Held). (l ++ F 0 (bare x) ∷ []) ++ R)
+    (applied_hold i b.places (λ (d : ℕ). F (suc d)) G b.held (λ y. refl) (λ d y. refl))
     ∙ (ap (λ (c : unnamed_yaml_node_t_data). (applied b.places G b.held ++ with_content x (end_in 0 x.end_mark P) k c ∷ [])
     ++ R) (grown_from x.content (children 0 fs P) e)
-    ∙ append_assoc (applied b.places G b.held) (with_content x (end_in 0 x.end_mark P) k (with_children (children 0 fs P) x.content) ∷ []) R)))))
+    ∙ append_assoc (applied b.places G b.held)
+    (with_content x (end_in 0 x.end_mark P) k (with_children (children 0 fs P) x.content) ∷ []) R)))))
 
-end_finished : (n : Mark) (es : List Start) (P : List Part) (b : Built) → finished es P (build es (end_part n) b) ≡ finished es (end_part n ∷ P) b
+end_finished : (n : Mark) (es : List Start) (P : List Part) (b : Built)
+    → finished es P (build es (end_part n) b) ≡ finished es (end_part n ∷ P) b
 end_finished n es P b = ap (λ (l : List Held). l ++ held_graph es P) (go b.places)
   where
     go : (s : List ℕ) → applied (below s) (rested es P) (end_top n s b.held) ≡ applied s (rested es (end_part n ∷ P)) b.held
@@ -309,10 +337,12 @@ pub build_finished : (p : Part) (es : List Start) (P : List Part) (b : Built) �
     → finished (behind p es) P (build es p b) ≡ finished es (p ∷ P) b
 build_finished (alias_part a m) es P b e h
     = ap (λ (l : List Held). l ++ held_graph es P)
-    (applied_hold (id_or (carrier a es)) b.places (rested es P) (rested es (alias_part a m ∷ P)) b.held (λ x. refl) (λ d x. refl))
+    (applied_hold (id_or (carrier a es)) b.places (rested es P) (rested es (alias_part a m ∷ P)) b.held (λ x. refl)
+    (λ d x. refl))
 build_finished (leaf_part a x) es P b e h = leaf_finished a x es P b h
 build_finished (start_part a x) es P b e h = start_finished a x es P b e h
 build_finished (end_part n) es P b e h = end_finished n es P b
 
 pub finished_none : (es : List Start) (b : Built) → finished es [] b ≡ b.held
-finished_none es b = append-nil (applied b.places (rested es []) b.held) ∙ applied_not b.places (rested es []) b.held (λ d x. refl)
+finished_none es b = append-nil (applied b.places (rested es []) b.held)
+    ∙ applied_not b.places (rested es []) b.held (λ d x. refl)

@@ -1,6 +1,7 @@
--- The loader follows the graph as it is built: its nodes are those built, and its stack is the open places with the keys that
--- wait there.
-use Rattle.std.proofs.Common.{◌≡◌, ℕ, zero, suc, ℤ, pos, List, [], ◌∷◌, ◌++◌, length, refl, sym, ap, ◌∙◌, cond, Option, Some, None, Bool, true, false}
+-- The loader follows the graph as it is built: its nodes are those built, and its stack is the open places with the
+-- keys that wait there.
+use Rattle.std.proofs.Common.{◌≡◌, ℕ, zero, suc, ℤ, pos, List, [], ◌∷◌, ◌++◌, length, refl, sym, ap, ◌∙◌, cond, Option}
+use Rattle.std.proofs.Common.{Some, None, Bool, true, false}
 use Rattle.std.proofs.Common.{nat_cmp}
 use Rattle.std.specs.Prelude.{slice_get}
 use Rattle.std.specs.Ordering.{eq_by_cmp}
@@ -14,11 +15,15 @@ use Rattle.libyaml_documents.specs.Nodes.{changed_at}
 use Rattle.libyaml_documents.specs.declared.node.yaml_node_t.{yaml_node_t}
 use Rattle.libyaml_graphs.specs.graphs.ComposerFaults.{alias_fault, anchor_fault, known_fault, part_fault, repeated_anchor}
 use Rattle.libyaml_graphs.specs.graphs.Graphs.{Carrier, Start, carrier, carries, id_or}
-use Rattle.libyaml_graphs.specs.machine.Loader.{Anchors, Loader, Loading, Open, Registered, closed_by, failed, going, hand, handed, key_after, known}
-use Rattle.libyaml_graphs.specs.machine.Loader.{load_part, no_anchors, on_alias, on_node, outer, register, registered, with_child}
+use Rattle.libyaml_graphs.specs.machine.Loader.{Anchors, Loader, Loading, Open, Registered, closed_by, failed, going}
+use Rattle.libyaml_graphs.specs.machine.Loader.{hand, handed, key_after, known}
+use Rattle.libyaml_graphs.specs.machine.Loader.{load_part, no_anchors, on_alias, on_node, outer, register, registered}
+use Rattle.libyaml_graphs.specs.machine.Loader.{with_child}
 use Rattle.libyaml_graphs.specs.graphs.GraphParts.{Part, alias_part, behind, end_part, leaf_part, start_of, start_part}
-use Rattle.libyaml_graphs.proofs.machine.Built.{AllHas, AllOf, Built, Has, Held, all_append, all_end, all_hold, all_of, bare, below, build, change, end_at}
-use Rattle.libyaml_graphs.proofs.machine.Built.{end_top, has_last, hold, hold_top, length_end, length_hold, length_more, nodes_in, unbuilt}
+use Rattle.libyaml_graphs.proofs.machine.Built.{AllHas, AllOf, Built, Has, Held, all_append, all_end, all_hold, all_of}
+use Rattle.libyaml_graphs.proofs.machine.Built.{bare, below, build, change, end_at}
+use Rattle.libyaml_graphs.proofs.machine.Built.{end_top, has_last, hold, hold_top, length_end, length_hold, length_more}
+use Rattle.libyaml_graphs.proofs.machine.Built.{nodes_in, unbuilt}
 
 -- the key that waits at a place, and a stack of places with their keys
 abbrev pub key_in : ℕ → List Held → Option ℤ
@@ -90,7 +95,8 @@ stack_alike (q ∷ s) hs ks h =
     ap (λ (k : Option ℤ). record { node = pos (suc q); key = k } ∷ stack_of s hs) h.0
     ∙ ap (λ (t : List Open). record { node = pos (suc q); key = key_in q ks } ∷ t) (stack_alike s hs ks h.1)
 
-stack_below : (s : List ℕ) (p : ℕ) (f : Held → Held) (hs : List Held) → AllLess s p → stack_of s (change p f hs) ≡ stack_of s hs
+stack_below : (s : List ℕ) (p : ℕ) (f : Held → Held) (hs : List Held) → AllLess s p
+    → stack_of s (change p f hs) ≡ stack_of s hs
 stack_below s p f hs h = stack_alike s (change p f hs) hs (all_of (λ q. Less q p) _ s (λ q l. key_below q p f hs l) h)
 
 stack_ended : (s : List ℕ) (p : ℕ) (m : Mark) (hs : List Held) → stack_of s (change p (end_at m) hs) ≡ stack_of s hs
@@ -112,12 +118,14 @@ nodes_length [] = refl
 nodes_length (h ∷ hs) = ap (λ (n : ℕ). suc n) (nodes_length hs)
 
 -- a child handed over: the nodes and the stack are those of what is built
-hold_nodes : (p i : ℕ) (hs : List Held) → changed_at p (with_child (key_in p hs) (pos i)) (nodes_in hs) ≡ nodes_in (change p (hold i) hs)
+hold_nodes : (p i : ℕ) (hs : List Held) → changed_at p (with_child (key_in p hs) (pos i)) (nodes_in hs) ≡ nodes_in
+    (change p (hold i) hs)
 hold_nodes p i [] = refl
 hold_nodes zero i (h ∷ hs) = refl
 hold_nodes (suc p) i (h ∷ hs) = ap (λ (l : List yaml_node_t). h.node ∷ l) (hold_nodes p i hs)
 
-hold_key : (p i : ℕ) (hs : List Held) → key_after (key_in p hs) (pos i) (slice_get (nodes_in hs) p) ≡ key_in p (change p (hold i) hs)
+hold_key : (p i : ℕ) (hs : List Held) → key_after (key_in p hs) (pos i) (slice_get (nodes_in hs) p) ≡ key_in p
+    (change p (hold i) hs)
 hold_key p i [] = refl
 hold_key zero i (h ∷ hs) = refl
 hold_key (suc p) i (h ∷ hs) = hold_key p i hs
@@ -126,18 +134,22 @@ hand_built : (i : ℕ) (s : List ℕ) (hs : List Held) → hand (pos i) (stack_o
 hand_built i [] hs = refl
 hand_built i (p ∷ s) hs = hold_nodes p i hs
 
-handed_built : (i : ℕ) (s : List ℕ) (hs : List Held) → Falls s → handed (pos i) (stack_of s hs) (nodes_in hs) ≡ stack_of s (hold_top i s hs)
+handed_built : (i : ℕ) (s : List ℕ) (hs : List Held) → Falls s
+    → handed (pos i) (stack_of s hs) (nodes_in hs) ≡ stack_of s (hold_top i s hs)
 handed_built i [] hs h = refl
 handed_built i (p ∷ s) hs h =
     ap (λ (k : Option ℤ). record { node = pos (suc p); key = k } ∷ stack_of s hs) (hold_key p i hs)
-    ∙ ap (λ (t : List Open). record { node = pos (suc p); key = key_in p (change p (hold i) hs) } ∷ t) (sym (stack_below s p (hold i) hs h.0))
+    ∙ ap (λ (t : List Open). record { node = pos (suc p); key = key_in p (change p (hold i) hs) } ∷ t)
+    (sym (stack_below s p (hold i) hs h.0))
 
-end_nodes : (p : ℕ) (m : Mark) (hs : List Held) → changed_at p (with_end m) (nodes_in hs) ≡ nodes_in (change p (end_at m) hs)
+end_nodes : (p : ℕ) (m : Mark) (hs : List Held)
+    → changed_at p (with_end m) (nodes_in hs) ≡ nodes_in (change p (end_at m) hs)
 end_nodes p m [] = refl
 end_nodes zero m (h ∷ hs) = refl
 end_nodes (suc p) m (h ∷ hs) = ap (λ (l : List yaml_node_t). h.node ∷ l) (end_nodes p m hs)
 
-close_built : (m : Mark) (s : List ℕ) (hs : List Held) → closed_by m (stack_of s hs) (nodes_in hs) ≡ nodes_in (end_top m s hs)
+close_built : (m : Mark) (s : List ℕ) (hs : List Held)
+    → closed_by m (stack_of s hs) (nodes_in hs) ≡ nodes_in (end_top m s hs)
 close_built m [] hs = refl
 close_built m (p ∷ s) hs = end_nodes p m hs
 
@@ -167,12 +179,15 @@ build_stands (alias_part a m) es b s
       falls = s.falls;
     }
 build_stands (leaf_part a x) es b s = record {
-  size = length_hold (suc (length es)) b.places (b.held ++ bare x ∷ []) ∙ (length_more b.held (bare x) ∙ ap (λ (n : ℕ). suc n) s.size);
-  there = all_hold b.places b.places (suc (length es)) (b.held ++ bare x ∷ []) (all_append b.places b.held (bare x ∷ []) s.there);
+  size = length_hold (suc (length es)) b.places (b.held ++ bare x ∷ [])
+      ∙ (length_more b.held (bare x) ∙ ap (λ (n : ℕ). suc n) s.size);
+  there = all_hold b.places b.places (suc (length es)) (b.held ++ bare x ∷ [])
+      (all_append b.places b.held (bare x ∷ []) s.there);
   falls = s.falls;
 }
 build_stands (start_part a x) es b s = record {
-  size = length_hold (suc (length es)) b.places (b.held ++ bare x ∷ []) ∙ (length_more b.held (bare x) ∙ ap (λ (n : ℕ). suc n) s.size);
+  size = length_hold (suc (length es)) b.places (b.held ++ bare x ∷ [])
+      ∙ (length_more b.held (bare x) ∙ ap (λ (n : ℕ). suc n) s.size);
   there = all_hold (length b.held ∷ b.places) b.places (suc (length es)) (b.held ++ bare x ∷ []) (
     has_last b.held (bare x),
     all_append b.places b.held (bare x ∷ []) s.there,
@@ -180,7 +195,12 @@ build_stands (start_part a x) es b s = record {
   falls = (all_less b.places b.held s.there, s.falls);
 }
 build_stands (end_part n) es b s
-    = record { size = length_end n b.places b.held ∙ s.size; there = all_end n b.places b.held s.there; falls = below_falls b.places s.falls }
+    = record {
+      size = length_end n b.places b.held ∙ s.size;
+      there = all_end n b.places b.held s.there;
+      falls =
+          below_falls b.places s.falls;
+    }
 
 -- the loader after each part
 loader_same : (nodes ms : List yaml_node_t) (s t : List Open) (xs : Anchors) → nodes ≡ ms → s ≡ t
@@ -210,7 +230,8 @@ put_stack : (x : yaml_node_t) (es : List Start) (b : Built) → Stands es b
     ≡ stack_of b.places (hold_top (suc (length es)) b.places (b.held ++ bare x ∷ []))
 put_stack x es b s = put_with handed x es b s ∙ handed_built (suc (length es)) b.places (b.held ++ bare x ∷ []) s.falls
 
-new_key : (i : ℕ) (s : List ℕ) (hs : List Held) (x : yaml_node_t) → AllHas s hs → key_in (length hs) (hold_top i s (hs ++ bare x ∷ [])) ≡ None
+new_key : (i : ℕ) (s : List ℕ) (hs : List Held) (x : yaml_node_t) → AllHas s hs
+    → key_in (length hs) (hold_top i s (hs ++ bare x ∷ [])) ≡ None
 new_key i [] hs x h = key_last hs (bare x)
 new_key i (p ∷ s) hs x h = key_above (length hs) p (hold i) (hs ++ bare x ∷ []) (has_less p hs h.0) ∙ key_last hs (bare x)
 
@@ -235,7 +256,8 @@ none_known a = get-from_entries nat_list_cmp_total [] a
 same_keys : (q g : List ℕ) → eq_by_cmp (slice_cmp nat_cmp) q g ≡ same_text g q
 same_keys q g = sym (texts_ties q g) ∙ nat_list_eq_equiv.symm q g
 
-inserted : (xs : Anchors) (b : List ℕ) (c : Carrier) (a : List ℕ) → get (insert xs b c) a ≡ cond (same_text b a) (Some c) (get xs a)
+inserted : (xs : Anchors) (b : List ℕ) (c : Carrier) (a : List ℕ)
+    → get (insert xs b c) a ≡ cond (same_text b a) (Some c) (get xs a)
 inserted xs b c a = get-insert nat_list_cmp_total xs b c a ∙ ap (λ (u : Bool). cond u (Some c) (get xs a)) (same_keys a b)
 
 -- with the anchor of a node of this id
@@ -251,17 +273,20 @@ registers : (b : Option (List ℕ)) (i : ℕ) (m : Mark) (es : List Start) (xs :
 registers None i m es xs h = (refl, h)
 registers (Some b) i m es xs h = go (get xs b) (h b)
   where
-    ends : (u : Bool) (c : Carrier) (o r : Option Carrier) → o ≡ r → cond u (Some c) o ≡ elim u [ true ↦ Some c | false ↦ r ]
+    ends : (u : Bool) (c : Carrier) (o r : Option Carrier) → o ≡ r
+        → cond u (Some c) o ≡ elim u [ true ↦ Some c | false ↦ r ]
     ends true c o r e = refl
     ends false c o r e = e
 
     go : (c : Option Carrier) → c ≡ carrier b es
-        → Meets (elim c [ Some x ↦ known x.mark | None ↦ registered (insert xs b (record { id = i; mark = m })) ]) (λ (ys : Anchors). (a : List ℕ)
+        → Meets (elim c [ Some x ↦ known x.mark | None ↦ registered (insert xs b (record { id = i; mark = m })) ])
+        (λ (ys : Anchors). (a : List ℕ)
         → get ys a ≡ with_anchor (Some b) i m es a) m (known_fault (carrier b es) m)
     go (Some x) e = ap (λ (c : Option Carrier). known_fault c m) (sym e)
     go None e = (
       ap (λ (c : Option Carrier). known_fault c m) (sym e),
-      λ (a : List ℕ). inserted xs b (record { id = i; mark = m }) a ∙ ends (same_text b a) (record { id = i; mark = m }) (get xs a) (carrier a es) (h a),
+      λ (a : List ℕ). inserted xs b (record { id = i; mark = m }) a
+          ∙ ends (same_text b a) (record { id = i; mark = m }) (get xs a) (carrier a es) (h a),
     )
 
 -- What a part does: it fails as the composer does, or the loader goes on with what is built.
@@ -273,7 +298,8 @@ alias_follows : (a : List ℕ) (m : Mark) (es : List Start) (b : Built) (xs : An
     → Follows (load_part (loader_of b xs) (alias_part a m)) (alias_fault (carrier a es) m) es (build es (alias_part a m) b)
 alias_follows a m es b xs s h = go (get xs a) (h a)
   where
-    go : (c : Option Carrier) → c ≡ carrier a es → Follows (on_alias c m (loader_of b xs)) (alias_fault (carrier a es) m) es (build es (alias_part a m) b)
+    go : (c : Option Carrier) → c ≡ carrier a es
+        → Follows (on_alias c m (loader_of b xs)) (alias_fault (carrier a es) m) es (build es (alias_part a m) b)
     go None e = ap (λ (c : Option Carrier). alias_fault c m) (sym e)
     go (Some c) e = (
       ap (λ (d : Option Carrier). alias_fault d m) (sym e),
@@ -281,21 +307,26 @@ alias_follows a m es b xs s h = go (get xs a) (h a)
         xs,
         loader_same _ _ _ _ xs
             (hand_built c.id b.places b.held ∙ ap (λ (d : Option Carrier). nodes_in (hold_top (id_or d) b.places b.held)) e)
-            (handed_built c.id b.places b.held s.falls ∙ ap (λ (d : Option Carrier). stack_of b.places (hold_top (id_or d) b.places b.held)) e),
+            (handed_built c.id b.places b.held s.falls
+            ∙ ap (λ (d : Option Carrier). stack_of b.places (hold_top (id_or d) b.places b.held)) e),
         h,
       ),
     )
 
-node_follows : (b : Option (List ℕ)) (x : yaml_node_t) (opens : List Open) (es : List Start) (c d : Built) (xs : Anchors) → Stands es c → Agrees es xs
+node_follows : (b : Option (List ℕ)) (x : yaml_node_t) (opens : List Open) (es : List Start) (c d : Built)
+    (xs : Anchors) → Stands es c → Agrees es xs
     → hand (pos (suc (length (nodes_in c.held)))) (stack_of c.places c.held) (nodes_in c.held ++ x ∷ []) ≡ nodes_in d.held
-    → opens ++ handed (pos (suc (length (nodes_in c.held)))) (stack_of c.places c.held) (nodes_in c.held ++ x ∷ []) ≡ stack_of d.places d.held
-    → Follows (on_node (register b (suc (length (nodes_in c.held))) x.start_mark xs) x opens (loader_of c xs)) (anchor_fault es b x.start_mark)
+    → opens ++ handed (pos (suc (length (nodes_in c.held)))) (stack_of c.places c.held) (nodes_in c.held ++ x ∷ [])
+    ≡ stack_of d.places d.held
+    → Follows (on_node (register b (suc (length (nodes_in c.held))) x.start_mark xs) x opens (loader_of c xs))
+    (anchor_fault es b x.start_mark)
     (start_of b x ∷ es) d
 node_follows b x opens es c d xs s h nodes stack = go (register b (suc (length (nodes_in c.held))) x.start_mark xs)
     (registers b (suc (length (nodes_in c.held))) x.start_mark es xs h)
   where
     go : (g : Registered) → Meets g (λ (ys : Anchors). (a : List ℕ)
-        → get ys a ≡ with_anchor b (suc (length (nodes_in c.held))) x.start_mark es a) x.start_mark (anchor_fault es b x.start_mark)
+        → get ys a ≡ with_anchor b (suc (length (nodes_in c.held))) x.start_mark es a) x.start_mark
+        (anchor_fault es b x.start_mark)
         → Follows (on_node g x opens (loader_of c xs)) (anchor_fault es b x.start_mark) (start_of b x ∷ es) d
     go (known k) q = q
     go (registered ys) q = (
@@ -310,8 +341,11 @@ node_follows b x opens es c d xs s h nodes stack = go (register b (suc (length (
 pub part_follows : (p : Part) (es : List Start) (b : Built) (xs : Anchors) → Stands es b → Agrees es xs
     → Follows (load_part (loader_of b xs) p) (part_fault es p) (behind p es) (build es p b)
 part_follows (alias_part a m) es b xs s h = alias_follows a m es b xs s h
-part_follows (leaf_part a x) es b xs s h = node_follows a x [] es b (build es (leaf_part a x) b) xs s h (put_nodes x es b s) (put_stack x es b s)
+part_follows (leaf_part a x) es b xs s h = node_follows a x [] es b (build es (leaf_part a x) b) xs s h
+    (put_nodes x es b s) (put_stack x es b s)
 part_follows (start_part a x) es b xs s h =
-    node_follows a x (record { node = pos (suc (length (nodes_in b.held))); key = None } ∷ []) es b (build es (start_part a x) b) xs s h (put_nodes x es b s)
+    node_follows a x (record { node = pos (suc (length (nodes_in b.held))); key = None } ∷ []) es b
+    (build es (start_part a x) b) xs s h (put_nodes x es b s)
     (opened_stack x es b s)
-part_follows (end_part n) es b xs s h = (refl, (xs, loader_same _ _ _ _ xs (close_built n b.places b.held) (outer_built n b.places b.held), h))
+part_follows (end_part n) es b xs s h =
+    (refl, (xs, loader_same _ _ _ _ xs (close_built n b.places b.held) (outer_built n b.places b.held), h))

@@ -1,5 +1,6 @@
 -- How long the lists of what is built are: a pair counts from its key on.
-use Rattle.std.proofs.Common.{◌≡◌, ℕ, zero, suc, ℤ, pos, List, [], ◌∷◌, ◌++◌, length, nat_lt, le-ltb, zero-le, refl, sym, ap, ◌∙◌, Option, Some, None, Bool}
+use Rattle.std.proofs.Common.{◌≡◌, ℕ, zero, suc, ℤ, pos, List, [], ◌∷◌, ◌++◌, length, nat_lt, le-ltb, zero-le, refl}
+use Rattle.std.proofs.Common.{sym, ap, ◌∙◌, Option, Some, None, Bool}
 use Rattle.std.proofs.Common.{true, false}
 use Rattle.std.specs.Prelude.{slice_get}
 use Rattle.libyaml_types.specs.declared.enums.yaml_mapping_style_t.{yaml_mapping_style_t}
@@ -11,8 +12,10 @@ use Rattle.libyaml_documents.specs.declared.node.yaml_node_t.{yaml_node_t}
 use Rattle.libyaml_documents.specs.declared.pairs.yaml_node_pair_t.{yaml_node_pair_t}
 use Rattle.libyaml_graphs.specs.loads.Bounds.{entries, list_sizes, one_above, pairs_begun}
 use Rattle.libyaml_graphs.specs.graphs.Graphs.{Start, carrier, id_or, items, pairs}
-use Rattle.libyaml_graphs.specs.machine.Loader.{Anchors, content_full, content_with, key_behind, list_full, node_full, parent_full}
-use Rattle.libyaml_graphs.specs.graphs.GraphParts.{Part, alias_part, children, end_part, leaf_part, start_of, start_part, with_children}
+use Rattle.libyaml_graphs.specs.machine.Loader.{Anchors, content_full, content_with, key_behind, list_full, node_full}
+use Rattle.libyaml_graphs.specs.machine.Loader.{parent_full}
+use Rattle.libyaml_graphs.specs.graphs.GraphParts.{Part, alias_part, children, end_part, leaf_part, start_of}
+use Rattle.libyaml_graphs.specs.graphs.GraphParts.{start_part, with_children}
 use Rattle.libyaml_graphs.proofs.machine.Built.{AllHas, BeginsEmpty, Built, Has, Held, bare, build, change, end_at}
 use Rattle.libyaml_graphs.proofs.machine.Built.{end_top, grown_key, held_graph, hold, hold_top}
 use Rattle.libyaml_graphs.proofs.machine.Built.{nodes_in, paired}
@@ -81,7 +84,8 @@ end_sizes p m [] = refl
 end_sizes zero m (h ∷ hs) = refl
 end_sizes (suc p) m (h ∷ hs) = ap (λ (l : List ℕ). begun h.key h.node.content ∷ l) (end_sizes p m hs)
 
-ended_grows : (s : List ℕ) (m : Mark) (n : ℕ) (hs : List Held) → one_above n (sizes hs) ≡ false → one_above n (sizes (end_top m s hs)) ≡ false
+ended_grows : (s : List ℕ) (m : Mark) (n : ℕ) (hs : List Held) → one_above n (sizes hs) ≡ false
+    → one_above n (sizes (end_top m s hs)) ≡ false
 ended_grows [] m n hs e = e
 ended_grows (p ∷ s) m n hs e = ap (one_above n) (end_sizes p m hs) ∙ e
 
@@ -108,18 +112,24 @@ full_append zero n k (y ∷ hs) x h = refl
 full_append (suc p) n k (y ∷ hs) x h = full_append p n k hs x h
 
 parent_append : (s : List ℕ) (n : ℕ) (hs : List Held) (x : yaml_node_t) → AllHas s hs
-    → parent_full n (stack_of s (hs ++ bare x ∷ [])) (nodes_in (hs ++ bare x ∷ [])) ≡ parent_full n (stack_of s hs) (nodes_in hs)
+    → parent_full n (stack_of s (hs ++ bare x ∷ [])) (nodes_in (hs ++ bare x ∷ [])) ≡ parent_full n (stack_of s hs)
+    (nodes_in hs)
 parent_append [] n hs x h = refl
-parent_append (p ∷ s) n hs x h = ap (λ (k : Option ℤ). node_full n k (slice_get (nodes_in (hs ++ bare x ∷ [])) p)) (key_append p hs (bare x ∷ []) h.0)
+parent_append (p ∷ s) n hs x h = ap (λ (k : Option ℤ). node_full n k (slice_get (nodes_in (hs ++ bare x ∷ [])) p))
+    (key_append p hs (bare x ∷ []) h.0)
     ∙ full_append p n (key_in p hs) hs x h.0
 
-node_grows : (n i : ℕ) (x : yaml_node_t) (b : Built) → with_children [] x.content ≡ x.content → AllHas b.places b.held → one_above n (sizes b.held) ≡ false
-    → one_above n (sizes (hold_top i b.places (b.held ++ bare x ∷ []))) ≡ parent_full n (stack_of b.places b.held) (nodes_in b.held)
-node_grows n i x b e h s = hold_grows b.places n i (b.held ++ bare x ∷ []) (more_grows n b.held x (no_entries x.content e) s)
+node_grows : (n i : ℕ) (x : yaml_node_t) (b : Built) → with_children [] x.content ≡ x.content
+    → AllHas b.places b.held → one_above n (sizes b.held) ≡ false
+    → one_above n (sizes (hold_top i b.places (b.held ++ bare x ∷ []))) ≡ parent_full n (stack_of b.places b.held)
+    (nodes_in b.held)
+node_grows n i x b e h s = hold_grows b.places n i (b.held ++ bare x ∷ [])
+    (more_grows n b.held x (no_entries x.content e) s)
     ∙ parent_append b.places n b.held x h
 
 -- with a part a list is too long exactly where the parent's was full
-pub list_grows : (p : Part) (n : ℕ) (es : List Start) (b : Built) (xs : Anchors) → BeginsEmpty p → AllHas b.places b.held → one_above n (sizes b.held) ≡ false
+pub list_grows : (p : Part) (n : ℕ) (es : List Start) (b : Built) (xs : Anchors) → BeginsEmpty p
+    → AllHas b.places b.held → one_above n (sizes b.held) ≡ false
     → one_above n (sizes (build es p b).held) ≡ list_full n (loader_of b xs) p
 list_grows (alias_part a m) n es b xs e h s = hold_grows b.places n (id_or (carrier a es)) b.held s
 list_grows (leaf_part a x) n es b xs e h s = node_grows n (suc (length es)) x b e h s
@@ -138,13 +148,15 @@ pairs_left l [] s = refl
 pairs_left l (k ∷ []) s = refl
 pairs_left l (k ∷ v ∷ js) s =
     let p : yaml_node_pair_t = record { key = pos k; value = pos v } in
-    suc_begun (grown_key None (paired s (l ++ p ∷ [])) js) p (pairs js) s ∙ ap (λ (n : ℕ). suc n) (pairs_left (l ++ p ∷ []) js s)
+    suc_begun (grown_key None (paired s (l ++ p ∷ [])) js) p (pairs js) s
+    ∙ ap (λ (n : ℕ). suc n) (pairs_left (l ++ p ∷ []) js s)
 
 length_items : (is : List ℕ) → length (items is) ≡ length is
 length_items [] = refl
 length_items (i ∷ is) = ap (λ (n : ℕ). suc n) (length_items is)
 
-key_left : (is : List ℕ) (c : unnamed_yaml_node_t_data) → with_children [] c ≡ c → begun (grown_key None c is) (with_children is c) ≡ entries c is
+key_left : (is : List ℕ) (c : unnamed_yaml_node_t_data) → with_children [] c ≡ c
+    → begun (grown_key None c is) (with_children is c) ≡ entries c is
 key_left is c e = ap (λ (d : unnamed_yaml_node_t_data). begun (grown_key None d is) (with_children is c)) (sym e) ∙ go c
   where
     go : (c : unnamed_yaml_node_t_data) → begun (grown_key None (with_children [] c) is) (with_children is c) ≡ entries c is
@@ -156,12 +168,17 @@ abbrev pub AllBegin : List Part → Type 0
 AllBegin [] = Unit {0}
 AllBegin (p ∷ P) = BeginsEmpty p × AllBegin P
 
-pub graph_sizes : (P : List Part) (es : List Start) (n : ℕ) → AllBegin P → one_above n (sizes (held_graph es P)) ≡ one_above n (list_sizes es P)
+pub graph_sizes : (P : List Part) (es : List Start) (n : ℕ) → AllBegin P
+    → one_above n (sizes (held_graph es P)) ≡ one_above n (list_sizes es P)
 graph_sizes [] es n e = refl
 graph_sizes (alias_part a m ∷ P) es n e = graph_sizes P es n e.1
-graph_sizes (leaf_part a x ∷ P) es n e = ap (λ (i : ℕ). either (nat_lt n i) (one_above n (sizes (held_graph (start_of a x ∷ es) P)))) (no_entries x.content e.0)
+graph_sizes (leaf_part a x ∷ P) es n e =
+    ap (λ (i : ℕ). either (nat_lt n i) (one_above n (sizes (held_graph (start_of a x ∷ es) P))))
+    (no_entries x.content e.0)
     ∙ (either_none _ _ (none_below n) ∙ graph_sizes P (start_of a x ∷ es) n e.1)
 graph_sizes (start_part a x ∷ P) es n e =
-    ap (λ (i : ℕ). either (nat_lt n i) (one_above n (sizes (held_graph (start_of a x ∷ es) P)))) (key_left (children 0 (start_of a x ∷ es) P) x.content e.0)
-    ∙ ap (either (nat_lt n (entries x.content (children 0 (start_of a x ∷ es) P)))) (graph_sizes P (start_of a x ∷ es) n e.1)
+    ap (λ (i : ℕ). either (nat_lt n i) (one_above n (sizes (held_graph (start_of a x ∷ es) P))))
+    (key_left (children 0 (start_of a x ∷ es) P) x.content e.0)
+    ∙ ap (either (nat_lt n (entries x.content (children 0 (start_of a x ∷ es) P))))
+    (graph_sizes P (start_of a x ∷ es) n e.1)
 graph_sizes (end_part m ∷ P) es n e = graph_sizes P es n e.1

@@ -21,7 +21,8 @@ use Rattle.libyaml_graphs.specs.loads.Loads.{IsLoads, Load, loads}
 pub sentence_loads : (n : ℕ) (l : List Token) (f : Fault) (a : List Load) (t : Stream)
     → reads_all (take n l) unopened ≡ goes (done t) → take n l ++ drop n l ≡ l
     → a ≡ loads (events t) Ends → IsLoads l f a
-sentence_loads n l f a t r s h = record { events = events t; ending = Ends; run = sentence_row n l f (events t) t r s refl; all = h }
+sentence_loads n l f a t r s h =
+    record { events = events t; ending = Ends; run = sentence_row n l f (events t) t r s refl; all = h }
 
 pub cut_loads : (n : ℕ) (l : List Token) (f : Fault) (a : List Load) (b : Token) (q : Position) (c : Cut)
     → take n l ++ b ∷ drop (suc n) l ≡ l
@@ -39,9 +40,11 @@ cut_loads n l f a b q c s r h i k
 pub begin_loads : (l : List Token) (f : Fault) (a : List Load) (q : Position) → reads_all l unopened ≡ goes q
     → has_end l ≡ false
     → a ≡ loads (sure (front q)) (Fails f) → IsLoads l f a
-begin_loads l f a q r h k = record { events = sure (front q); ending = Fails f; run = begin_row l f (sure (front q)) q r h refl; all = k }
+begin_loads l f a q r h k =
+    record { events = sure (front q); ending = Fails f; run = begin_row l f (sure (front q)) q r h refl; all = k }
 
 pub bounded_rows : (m n : ℕ) (l : List Token) (f : Fault) (a : List Load) (t : Stream)
     → reads_all (take n l) unopened ≡ goes (done t) → take n l ++ drop n l ≡ l
     → a ≡ bounded_loads m (events t) Ends → IsBoundedLoads m l f a
-bounded_rows m n l f a t r s h = record { events = events t; ending = Ends; run = sentence_row n l f (events t) t r s refl; all = h }
+bounded_rows m n l f a t r s h =
+    record { events = events t; ending = Ends; run = sentence_row n l f (events t) t r s refl; all = h }

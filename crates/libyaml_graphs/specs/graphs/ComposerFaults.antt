@@ -8,7 +8,11 @@ use Rattle.libyaml_graphs.specs.graphs.Graphs.{Carrier, Start, carrier}
 use Rattle.libyaml_graphs.specs.graphs.GraphParts.{Part, alias_part, behind, end_part, leaf_part, start_part}
 
 abbrev pub undefined_alias : Mark → Fault
-undefined_alias m = record no_fault { error = YAML_COMPOSER_ERROR; problem = Some (codes "found undefined alias"); problem_mark = m }
+undefined_alias m = record no_fault {
+  error = YAML_COMPOSER_ERROR;
+  problem = Some (codes "found undefined alias");
+  problem_mark = m;
+}
 
 abbrev pub repeated_anchor : (first second : Mark) → Fault
 repeated_anchor m n = record no_fault {

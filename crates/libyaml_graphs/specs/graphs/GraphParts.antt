@@ -12,8 +12,8 @@ use Rattle.libyaml_documents.specs.declared.node.unnamed_yaml_node_t_data.TheVar
 use Rattle.libyaml_documents.specs.declared.node.yaml_node_t.{yaml_node_t}
 use Rattle.libyaml_graphs.specs.graphs.Graphs.{Start, carrier, id_or, items, pairs}
 
--- An alias and its start; a scalar; the start of a collection, whose node has no children yet and ends where its start event
--- does; the end of one.
+-- An alias and its start; a scalar; the start of a collection, whose node has no children yet and ends where its
+-- start event does; the end of one.
 pub data Part : Type 0 where
   alias_part : (anchor : List ℕ) → Mark → Part
   leaf_part : (anchor : Option (List ℕ)) → yaml_node_t → Part
@@ -110,5 +110,6 @@ abbrev pub graph : List Start → List Part → List yaml_node_t
 graph es [] = []
 graph es (alias_part a m ∷ r) = graph es r
 graph es (leaf_part a x ∷ r) = x ∷ graph (start_of a x ∷ es) r
-graph es (start_part a x ∷ r) = ended (children 0 (start_of a x ∷ es) r) (end_in 0 x.end_mark r) x ∷ graph (start_of a x ∷ es) r
+graph es (start_part a x ∷ r) = ended (children 0 (start_of a x ∷ es) r) (end_in 0 x.end_mark r) x ∷ graph
+    (start_of a x ∷ es) r
 graph es (end_part n ∷ r) = graph es r

@@ -2,7 +2,8 @@
 -- than the nodes that start before it; es are the starts of those nodes, the newest first.
 use Rattle.std.specs.Prelude.{ℕ, suc, ℤ, pos, List, [], ◌∷◌, length, Option, Some, None, Bool, true, false}
 use Rattle.libyaml_grammar.specs.sentences.Events.{Layout, mapping_style, same_text, sequence_style}
-use Rattle.libyaml_grammar.specs.sentences.Nesting.{Value, Values, alias_value, collection_value, first_value, no_values, scalar_value}
+use Rattle.libyaml_grammar.specs.sentences.Nesting.{Value, Values, alias_value, collection_value, first_value}
+use Rattle.libyaml_grammar.specs.sentences.Nesting.{no_values, scalar_value}
 use Rattle.libyaml_grammar.specs.sentences.Tokens.{Mark}
 use Rattle.libyaml_grammar.specs.sentences.Trees.{Sort, mapping, sequence}
 use Rattle.libyaml_documents.specs.LoadedNodes.{mapping_loaded, scalar_loaded, sequence_loaded}
@@ -25,7 +26,8 @@ carries (Some b) a = same_text b a
 
 abbrev pub carrier : List ℕ → List Start → Option Carrier
 carrier a [] = None
-carrier a (s ∷ es) = elim (carries s.anchor a) [ true ↦ Some (record { id = suc (length es); mark = s.mark }) | false ↦ carrier a es ]
+carrier a (s ∷ es) = elim (carries s.anchor a)
+    [ true ↦ Some (record { id = suc (length es); mark = s.mark }) | false ↦ carrier a es ]
 
 -- an alias that nothing carries has no id, and 0 stands for it
 abbrev pub id_or : Option Carrier → ℕ
@@ -43,7 +45,8 @@ pairs (k ∷ []) = []
 pairs (k ∷ v ∷ is) = record { key = pos k; value = pos v } ∷ pairs is
 
 -- a collection's node with the ids of its children, from the start event's start to the end event's end
-abbrev pub collection_loaded : Sort → (tag : Option (List ℕ)) → Layout → (children : List ℕ) → (start end : Mark) → yaml_node_t
+abbrev pub collection_loaded : Sort → (tag : Option (List ℕ)) → Layout → (children : List ℕ) → (start end : Mark)
+    → yaml_node_t
 collection_loaded sequence t s is m n = sequence_loaded t (sequence_style s) (items is) m n
 collection_loaded mapping t s is m n = mapping_loaded t (mapping_style s) (pairs is) m n
 
@@ -74,7 +77,8 @@ abbrev mutual
   pub nodes_of : Value → List Start → List yaml_node_t → List yaml_node_t
   nodes_of (alias_value a m n) es l = l
   nodes_of (scalar_value s m n) es l = scalar_loaded s m n ∷ l
-  nodes_of (collection_value k a t i s m n vs p q) es l = collection_loaded k t s (ids_of_all vs (record { anchor = a; mark = m } ∷ es)) m q
+  nodes_of (collection_value k a t i s m n vs p q) es l =
+      collection_loaded k t s (ids_of_all vs (record { anchor = a; mark = m } ∷ es)) m q
       ∷ nodes_of_all vs (record { anchor = a; mark = m } ∷ es) l
 
   pub nodes_of_all : Values → List Start → List yaml_node_t → List yaml_node_t

@@ -1,6 +1,7 @@
 -- Loads in which each list of a document has at most n entries: the list of its nodes, and the items or pairs of each node
 -- (docs/DEFINITIONS.md, "Loads within a bound").
-use Rattle.std.specs.Prelude.{◌≡◌, ◌≢◌, ◌≤◌, ℕ, suc, List, [], ◌∷◌, ◌++◌, length, nat_lt, Option, Some, None, All, Bool, true, false, Ok, Err}
+use Rattle.std.specs.Prelude.{◌≡◌, ◌≢◌, ◌≤◌, ℕ, suc, List, [], ◌∷◌, ◌++◌, length, nat_lt, Option, Some, None, All, Bool}
+use Rattle.std.specs.Prelude.{true, false, Ok, Err}
 use Rattle.libyaml_types.specs.declared.enums.yaml_error_type_t.TheVariants.{YAML_MEMORY_ERROR}
 use Rattle.libyaml_grammar.specs.sentences.Events.{Event, either}
 use Rattle.libyaml_sources.specs.Fault.{Fault, memory_fault}
@@ -11,7 +12,8 @@ use Rattle.libyaml_documents.specs.declared.node.unnamed_yaml_node_t_data.TheVar
 use Rattle.libyaml_graphs.specs.graphs.ComposerFaults.{composer_fault, part_fault}
 use Rattle.libyaml_graphs.specs.graphs.Graphs.{Start}
 use Rattle.libyaml_graphs.specs.loads.Loads.{AreLoads, Begun, Load, begun, loads_by, next_by}
-use Rattle.libyaml_graphs.specs.graphs.GraphParts.{Part, alias_part, behind, children, end_part, graph, leaf_part, parts, start_of, start_part}
+use Rattle.libyaml_graphs.specs.graphs.GraphParts.{Part, alias_part, behind, children, end_part, graph, leaf_part}
+use Rattle.libyaml_graphs.specs.graphs.GraphParts.{parts, start_of, start_part}
 
 -- the pairs that children begin: one at each key, also where its value is still to come
 abbrev pub pairs_begun : List ℕ → ℕ
@@ -38,9 +40,9 @@ abbrev pub one_above : ℕ → List ℕ → Bool
 one_above n [] = false
 one_above n (k ∷ ks) = either (nat_lt n k) (one_above n ks)
 
--- What stops a load: the first part with which there are more than n nodes, else which has a composer error, else with which
--- a node's list has more than n entries. The first and the last are reported as out of memory. `before` are the parts before, and es
--- their starts.
+-- What stops a load: the first part with which there are more than n nodes, else which has a composer error, else
+-- with which a node's list has more than n entries. The first and the last are reported as out of memory. `before`
+-- are the parts before, and es their starts.
 abbrev pub if_above : Bool → Option Fault → Option Fault
 if_above true o = Some memory_fault
 if_above false o = o
@@ -50,13 +52,15 @@ if_wrong (Some f) o = Some f
 if_wrong None o = o
 
 abbrev pub stop_at : ℕ → List Start → (before : List Part) → Part → Option Fault → Option Fault
-stop_at n es before p o = if_above (nat_lt n (length (behind p es))) (if_wrong (part_fault es p) (if_above (one_above n (list_sizes [] (before ++ p ∷ []))) o))
+stop_at n es before p o = if_above (nat_lt n (length (behind p es)))
+    (if_wrong (part_fault es p) (if_above (one_above n (list_sizes [] (before ++ p ∷ []))) o))
 
 abbrev pub first_stop : ℕ → List Start → (before : List Part) → List Part → Option Fault
 first_stop n es before [] = None
 first_stop n es before (p ∷ r) = stop_at n es before p (first_stop n (behind p es) (before ++ p ∷ []) r)
 
--- The loads of a run within the bound n, and one of them. The events that it leaves are those that it leaves without a bound.
+-- The loads of a run within the bound n, and one of them. The events that it leaves are those that it leaves
+-- without a bound.
 abbrev pub bounded_loads : ℕ → List Event → Ending → List Load
 bounded_loads n e x = loads_by (first_stop n [] []) x (begun e)
 

@@ -6,7 +6,8 @@ use Rattle.libyaml_grammar.specs.cuts.CutTrees.{Cut}
 use Rattle.libyaml_grammar.specs.sentences.Events.{Event, events}
 use Rattle.libyaml_sources.specs.Fault.{Fault}
 use Rattle.libyaml_grammar.specs.cuts.Fits.{Fits}
-use Rattle.libyaml_grammar.specs.sentences.Nesting.{HasBegun, IsNested, Texts, Value, Values, alias_value, collection_value, first_value, no_texts, no_values}
+use Rattle.libyaml_grammar.specs.sentences.Nesting.{HasBegun, IsNested, Texts, Value, Values, alias_value}
+use Rattle.libyaml_grammar.specs.sentences.Nesting.{collection_value, first_value, no_texts, no_values}
 use Rattle.libyaml_grammar.specs.sentences.Nesting.{scalar_value, text_behind}
 use Rattle.libyaml_grammar.specs.sentences.Order.{in_order}
 use Rattle.libyaml_grammar.specs.runs.Runs.{Ending, Ends, Fails}
@@ -16,10 +17,11 @@ use Rattle.libyaml_documents.specs.Nodes.{EveryIdNamesANode, ids_of}
 use Rattle.libyaml_graphs.specs.graphs.ComposerFaults.{composer_fault}
 use Rattle.libyaml_graphs.specs.graphs.Graphs.{Start, collection_loaded, id_of, ids_of_all, items, starts_behind}
 use Rattle.libyaml_graphs.specs.loads.Loads.{IsLoads, Load, last_load, loads_of}
-use Rattle.libyaml_graphs.specs.graphs.GraphParts.{Opening, Part, alias_part, end_part, leaf_part, opening_of, part_of, parts, start_part}
+use Rattle.libyaml_graphs.specs.graphs.GraphParts.{Opening, Part, alias_part, end_part, leaf_part, opening_of, part_of}
+use Rattle.libyaml_graphs.specs.graphs.GraphParts.{parts, start_part}
 
--- A child that is no alias has a greater id than n. An alias's id is that of a node which starts before the alias: an earlier
--- one, or one that the alias stands in.
+-- A child that is no alias has a greater id than n. An alias's id is that of a node which starts before the alias:
+-- an earlier one, or one that the alias stands in.
 abbrev pub IsLater : ℕ → Value → List Start → Type 0
 IsLater n (alias_value a m k) es = id_of (alias_value a m k) es ≤ length es
 IsLater n v es = n < id_of v es
@@ -29,7 +31,8 @@ abbrev mutual
   pub ChildrenAreLater : Value → List Start → Type 0
   ChildrenAreLater (alias_value a m n) es = Unit {0}
   ChildrenAreLater (scalar_value s m n) es = Unit {0}
-  ChildrenAreLater (collection_value k a t i s m n vs p q) es = AllLater (suc (length es)) vs (record { anchor = a; mark = m } ∷ es)
+  ChildrenAreLater (collection_value k a t i s m n vs p q) es =
+      AllLater (suc (length es)) vs (record { anchor = a; mark = m } ∷ es)
 
   pub AllLater : ℕ → Values → List Start → Type 0
   AllLater n no_values es = Unit {0}
@@ -112,10 +115,11 @@ pub data NestedLoads (e : List Event) (x : Ending) (a : List Load) : Type 0 wher
   whole : (n : IsNested e) → a ≡ loads_of n.texts (last_load x ∷ []) → NestedLoads e x a
 
 -- The loads over a list whose only STREAM-END is its last token: the graphs of its one tree's documents, up to the first
--- composer error, and then the document without root; or those of the one cut tree that fits, and then the composer error of
--- the document that is open in it, or the cut tree's own. The fault after the list never shows.
+-- composer error, and then the document without root; or those of the one cut tree that fits, and then the composer
+-- error of the document that is open in it, or the cut tree's own. The fault after the list never shows.
 pub data LoadsWhole (l : List Token) (f : Fault) : Type 0 where
   to_its_end : (t : Stream) → in_order t ≡ true → l ≡ tokens t → (a : List Load) → IsLoads l f a → (n : IsNested (events t))
       → a ≡ loads_of n.texts (last_load Ends ∷ []) → LoadsWhole l f
-  to_its_fault : (before : List Token) (token : Token) (behind : List Token) (c : Cut) → l ≡ before ++ token ∷ behind → Fits before token c → (a : List Load)
+  to_its_fault : (before : List Token) (token : Token) (behind : List Token) (c : Cut)
+      → l ≡ before ++ token ∷ behind → Fits before token c → (a : List Load)
       → IsLoads l f a → NestedLoads (cut_events c token) (Fails (fault c token.content token.start_mark)) a → LoadsWhole l f

@@ -75,12 +75,14 @@ Stop = List Part → Option Fault
 -- The loads of documents, up to the first error or the document without root.
 abbrev pub loads_by : Stop → Ending → List Begun → List Load
 loads_by stop x [] = last_load x ∷ []
-loads_by stop x (b ∷ bs) = load_then (stop (parts b.rest)) (document_end b.rest) b.opening (graph [] (parts b.rest)) (last_load x) (loads_by stop x bs)
+loads_by stop x (b ∷ bs) = load_then (stop (parts b.rest)) (document_end b.rest) b.opening (graph [] (parts b.rest))
+    (last_load x) (loads_by stop x bs)
 
 -- One load: what it returns, and the events that it leaves to the next.
 abbrev pub next_by : Stop → Ending → List Begun → Load
 next_by stop x [] = last_load x
-next_by stop x (b ∷ bs) = answer (stop (parts b.rest)) (document_end b.rest) b.opening (graph [] (parts b.rest)) (last_load x)
+next_by stop x (b ∷ bs) = answer (stop (parts b.rest)) (document_end b.rest) b.opening (graph [] (parts b.rest))
+    (last_load x)
 
 abbrev pub left_by : List Begun → List Event
 left_by [] = []
@@ -100,7 +102,8 @@ next_load e x = next_by (composer_fault []) x (begun e)
 abbrev pub loads_of : Texts → List Load → List Load
 loads_of no_texts l = l
 loads_of (text_behind ts d m n v i p q) l
-    = loads_of ts (load_then (composer_fault [] (parts (value_events v []))) (Some (record { is_implicit = i; mark = q })) (record { start = d; mark = m })
+    = loads_of ts (load_then (composer_fault [] (parts (value_events v [])))
+    (Some (record { is_implicit = i; mark = q })) (record { start = d; mark = m })
     (nodes_of v [] []) (last_load Ends) l)
 
 -- the loads over a list of tokens, after which the source fails with f

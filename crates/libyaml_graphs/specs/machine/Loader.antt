@@ -1,7 +1,8 @@
 -- The loader as a machine over events (docs/DEFINITIONS.md, "The loader as a machine"): the nodes so far, a stack of the
 -- collections that are open, and the anchors. By this the loader's contracts are proved. Of the
 -- public clauses two speak of it: the law `machine::one_load`, and where a load may take memory (`GrowsAt`).
-use Rattle.std.specs.Prelude.{ℕ, suc, ℤ, pos, List, [], ◌∷◌, ◌++◌, length, nat_lt, Option, Some, None, Bool, true, false, Ok, Err}
+use Rattle.std.specs.Prelude.{ℕ, suc, ℤ, pos, List, [], ◌∷◌, ◌++◌, length, nat_lt, Option, Some, None, Bool, true}
+use Rattle.std.specs.Prelude.{false, Ok, Err}
 use Rattle.std.specs.FinMap.{FinMap, from_entries, get, insert}
 use Rattle.std.specs.Cmp.Lexicographic.{slice_cmp}
 use Rattle.std.specs.Ordering.{nat_cmp}
@@ -17,7 +18,8 @@ use Rattle.libyaml_documents.specs.declared.node.yaml_node_t.{yaml_node_t}
 use Rattle.libyaml_graphs.specs.graphs.ComposerFaults.{repeated_anchor, undefined_alias}
 use Rattle.libyaml_graphs.specs.graphs.Graphs.{Carrier}
 use Rattle.libyaml_graphs.specs.loads.Loads.{Load, behind_document, document, last_load, left_over}
-use Rattle.libyaml_graphs.specs.graphs.GraphParts.{Opening, Part, alias_part, closing_of, end_part, leaf_part, opening_of, part_of, start_part}
+use Rattle.libyaml_graphs.specs.graphs.GraphParts.{Opening, Part, alias_part, closing_of, end_part, leaf_part}
+use Rattle.libyaml_graphs.specs.graphs.GraphParts.{opening_of, part_of, start_part}
 
 -- the carrier of each anchor
 abbrev pub Anchors : Type 0
@@ -44,8 +46,8 @@ pub data Loading : Type 0 where
   going : Loader → Loading
   failed : Fault → Loading
 
--- A child after those of a node, where k is the key that waits: a sequence has one item more, a mapping a pair more or a key
--- that waits.
+-- A child after those of a node, where k is the key that waits: a sequence has one item more, a mapping a pair more
+-- or a key that waits.
 abbrev pub content_with : Option ℤ → ℤ → unnamed_yaml_node_t_data → unnamed_yaml_node_t_data
 content_with k i (Scalar s) = Scalar s
 content_with k i (Sequence s) = item_behind i (Sequence s)
@@ -90,11 +92,18 @@ pub data Registered : Type 0 where
 
 abbrev pub register : Option (List ℕ) → ℕ → Mark → Anchors → Registered
 register None i m xs = registered xs
-register (Some a) i m xs = elim (get xs a) [ Some c ↦ known c.mark | None ↦ registered (insert xs a (record { id = i; mark = m })) ]
+register (Some a) i m xs =
+    elim (get xs a) [ Some c ↦ known c.mark | None ↦ registered (insert xs a (record { id = i; mark = m })) ]
 
 abbrev pub on_alias : Option Carrier → Mark → Loader → Loading
 on_alias None m l = failed (undefined_alias m)
-on_alias (Some c) m l = going (record { nodes = hand (pos c.id) l.stack l.nodes; stack = handed (pos c.id) l.stack l.nodes; anchors = l.anchors })
+on_alias (Some c) m l = going
+    (record {
+      nodes = hand (pos c.id) l.stack l.nodes;
+      stack = handed (pos c.id) l.stack l.nodes;
+      anchors =
+          l.anchors;
+    })
 
 -- a node is put after the others and then handed to its parent; `opens` are the collections that it opens
 abbrev pub on_node : Registered → yaml_node_t → (opens : List Open) → Loader → Loading
@@ -112,8 +121,10 @@ abbrev pub load_part : Loader → Part → Loading
 load_part l (alias_part a m) = on_alias (get l.anchors a) m l
 load_part l (leaf_part a x) = on_node (register a (suc (length l.nodes)) x.start_mark l.anchors) x [] l
 load_part l (start_part a x)
-    = on_node (register a (suc (length l.nodes)) x.start_mark l.anchors) x (record { node = pos (suc (length l.nodes)); key = None } ∷ []) l
-load_part l (end_part n) = going (record { nodes = closed_by n l.stack l.nodes; stack = outer l.stack; anchors = l.anchors })
+    = on_node (register a (suc (length l.nodes)) x.start_mark l.anchors) x
+    (record { node = pos (suc (length l.nodes)); key = None } ∷ []) l
+load_part l (end_part n) =
+    going (record { nodes = closed_by n l.stack l.nodes; stack = outer l.stack; anchors = l.anchors })
 
 -- One part, with the bound n: the list of nodes first, then the anchor or alias, then the parent's list. A mapping's list
 -- has room for a value where it had room for the key.
@@ -172,11 +183,13 @@ if_going fault (failed x) f = fault x
 -- One load, over the events to come: its result, and the events that it leaves.
 abbrev pub load_from : ℕ → State → List Event → Ending → Load
 load_from n s [] x = last_load x
-load_from n between (e ∷ r) x = elim (opening_of e) [ None ↦ load_from n between r x | Some o ↦ load_from n (within o fresh) r x ]
+load_from n between (e ∷ r) x =
+    elim (opening_of e) [ None ↦ load_from n between r x | Some o ↦ load_from n (within o fresh) r x ]
 load_from n (within o l) (e ∷ r) x
     = elim (closing_of e) [
       | Some c ↦ Ok (document o l.nodes c)
-      | None ↦ if_going (λ (f : Fault). Err f) (bounded_option n l (part_of e)) (λ (k : Loader). load_from n (within o k) r x)
+      | None ↦ if_going (λ (f : Fault). Err f) (bounded_option n l (part_of e))
+          (λ (k : Loader). load_from n (within o k) r x)
     ]
 
 abbrev pub left_from : State → List Event → List Event

@@ -4,14 +4,21 @@ use Rattle.std.specs.Prelude.{◌∷◌, ℕ, pos, ℤ, List, [], None, Some, Op
 use Rattle.libyaml_types.specs.declared.directive.yaml_tag_directive_t.{yaml_tag_directive_t}
 use Rattle.libyaml_types.specs.declared.directive.yaml_version_directive_t.{yaml_version_directive_t}
 use Rattle.libyaml_types.specs.declared.enums.yaml_error_type_t.TheVariants.{YAML_COMPOSER_ERROR, YAML_MEMORY_ERROR}
-use Rattle.libyaml_types.specs.declared.enums.yaml_mapping_style_t.TheVariants.{YAML_BLOCK_MAPPING_STYLE, YAML_FLOW_MAPPING_STYLE}
+use Rattle.libyaml_types.specs.declared.enums.yaml_mapping_style_t.TheVariants.{YAML_BLOCK_MAPPING_STYLE}
+use Rattle.libyaml_types.specs.declared.enums.yaml_mapping_style_t.TheVariants.{YAML_FLOW_MAPPING_STYLE}
 use Rattle.libyaml_types.specs.declared.enums.yaml_scalar_style_t.TheVariants.{YAML_PLAIN_SCALAR_STYLE}
-use Rattle.libyaml_types.specs.declared.enums.yaml_sequence_style_t.TheVariants.{YAML_BLOCK_SEQUENCE_STYLE, YAML_FLOW_SEQUENCE_STYLE}
-use Rattle.libyaml_types.specs.declared.token.unnamed_yaml_token_t_data.TheVariants.{StreamEnd, DocumentStart, DocumentEnd, BlockSequenceStart}
-use Rattle.libyaml_types.specs.declared.token.unnamed_yaml_token_t_data.TheVariants.{BlockMappingStart, BlockEnd, BlockEntry, FlowSequenceStart}
-use Rattle.libyaml_types.specs.declared.token.unnamed_yaml_token_t_data.TheVariants.{FlowSequenceEnd, FlowMappingStart, FlowMappingEnd, FlowEntry, Key, Value}
+use Rattle.libyaml_types.specs.declared.enums.yaml_sequence_style_t.TheVariants.{YAML_BLOCK_SEQUENCE_STYLE}
+use Rattle.libyaml_types.specs.declared.enums.yaml_sequence_style_t.TheVariants.{YAML_FLOW_SEQUENCE_STYLE}
+use Rattle.libyaml_types.specs.declared.token.unnamed_yaml_token_t_data.TheVariants.{StreamEnd, DocumentStart}
+use Rattle.libyaml_types.specs.declared.token.unnamed_yaml_token_t_data.TheVariants.{DocumentEnd, BlockSequenceStart}
+use Rattle.libyaml_types.specs.declared.token.unnamed_yaml_token_t_data.TheVariants.{BlockMappingStart, BlockEnd}
+use Rattle.libyaml_types.specs.declared.token.unnamed_yaml_token_t_data.TheVariants.{BlockEntry, FlowSequenceStart}
+use Rattle.libyaml_types.specs.declared.token.unnamed_yaml_token_t_data.TheVariants.{FlowSequenceEnd, FlowMappingStart}
+use Rattle.libyaml_types.specs.declared.token.unnamed_yaml_token_t_data.TheVariants.{FlowMappingEnd, FlowEntry, Key}
+use Rattle.libyaml_types.specs.declared.token.unnamed_yaml_token_t_data.TheVariants.{Value}
 use Rattle.libyaml_grammar.specs.sentences.Events.{document_end_at, document_start_at}
-use Rattle.libyaml_grammar.specs.rows.RowNotation.{ALIAS, ANCHOR, HANDLE, SCALAR, STREAM, TAG, VERSION, asks_version, declares, list, no_more, place}
+use Rattle.libyaml_grammar.specs.rows.RowNotation.{ALIAS, ANCHOR, HANDLE, SCALAR, STREAM, TAG, VERSION, asks_version}
+use Rattle.libyaml_grammar.specs.rows.RowNotation.{declares, list, no_more, place}
 use Rattle.libyaml_grammar.specs.rows.RowNotation.{says_while}
 use Rattle.libyaml_grammar.specs.sentences.Trees.{no_directives}
 use Rattle.libyaml_documents.specs.declared.node.unnamed_yaml_node_t_data.TheVariants.{Scalar, Sequence, Mapping}
@@ -23,9 +30,18 @@ use Rattle.libyaml_graphs.specs.loads.Loads.{IsLoads, Load}
 
 -- a document from an index to another, with its version, directives, flags and nodes; one whose start and end are implicit;
 -- the one without root
-abbrev pub versioned : Option yaml_version_directive_t → List yaml_tag_directive_t → (start_implicit end_implicit : Bool) → ℕ → ℕ → List yaml_node_t → Load
+abbrev pub versioned : Option yaml_version_directive_t → List yaml_tag_directive_t
+    → (start_implicit end_implicit : Bool) → ℕ → ℕ → List yaml_node_t → Load
 versioned v ds i j m n nodes = Ok
-    (record { nodes = nodes; version_directive = v; tag_directives = ds; start_implicit = i; end_implicit = j; start_mark = place m; end_mark = place n })
+    (record {
+      nodes = nodes;
+      version_directive = v;
+      tag_directives = ds;
+      start_implicit = i;
+      end_implicit = j;
+      start_mark = place m;
+      end_mark = place n;
+    })
 
 abbrev pub loaded : List yaml_tag_directive_t → (start_implicit end_implicit : Bool) → ℕ → ℕ → List yaml_node_t → Load
 loaded ds i j m n nodes = versioned None ds i j m n nodes
@@ -38,7 +54,12 @@ no_root = loaded [] false false 0 0 []
 
 -- nodes from an index to another: plain scalars, and collections with their kind's tag
 abbrev pub tagged : (tag value : List ℕ) → ℕ → ℕ → yaml_node_t
-tagged t v m n = record { tag = t; content = Scalar (record { value = v; style = YAML_PLAIN_SCALAR_STYLE }); start_mark = place m; end_mark = place n }
+tagged t v m n = record {
+  tag = t;
+  content = Scalar (record { value = v; style = YAML_PLAIN_SCALAR_STYLE });
+  start_mark = place m;
+  end_mark = place n;
+}
 
 abbrev pub text : (value : List ℕ) → ℕ → ℕ → yaml_node_t
 text v m n = tagged (codes "tag:yaml.org,2002:str") v m n
@@ -127,7 +148,8 @@ RowEmptyStream = IsLoads (list (
 
 -- no run has a document's end directly after its start: there its root would lack
 abbrev pub RowStartWithoutRoot : Type 0
-RowStartWithoutRoot = RootsFollow (document_start_at no_directives true (place 2) (place 2) ∷ document_end_at true (place 2) (place 2) ∷ []) → ⊥
+RowStartWithoutRoot = RootsFollow
+    (document_start_at no_directives true (place 2) (place 2) ∷ document_end_at true (place 2) (place 2) ∷ []) → ⊥
 
 abbrev pub RowDirectives : Type 0
 RowDirectives = IsLoads (list (
@@ -138,7 +160,8 @@ RowDirectives = IsLoads (list (
 
 abbrev pub RowExplicitEnd : Type 0
 RowExplicitEnd = IsLoads (list (
-    STREAM ∷ VERSION 1 1 ∷ DocumentStart ∷ SCALAR (codes "a") ∷ DocumentEnd ∷ SCALAR (codes "b") ∷ StreamEnd ∷ [])) no_more (
+    STREAM ∷ VERSION 1 1 ∷ DocumentStart ∷ SCALAR (codes "a") ∷ DocumentEnd ∷ SCALAR (codes "b") ∷ StreamEnd ∷ []))
+    no_more (
     versioned (asks_version 1 1) [] false false 2 9 (text (codes "a") 6 7 ∷ []) ∷
     loaded [] true true 10 12 (text (codes "b") 10 11 ∷ []) ∷ no_root ∷ [])
 
@@ -261,7 +284,8 @@ RowItemsBeyondBound = IsBoundedLoads 1 (list (
 abbrev pub RowBoundOfEachDocument : Type 0
 RowBoundOfEachDocument = IsBoundedLoads 1 (list (
     STREAM ∷ DocumentStart ∷ SCALAR (codes "a") ∷ DocumentStart ∷ SCALAR (codes "b") ∷ StreamEnd ∷ [])) no_more (
-    loaded [] false true 2 6 (text (codes "a") 4 5 ∷ []) ∷ loaded [] false true 6 10 (text (codes "b") 8 9 ∷ []) ∷ no_root ∷ [])
+    loaded [] false true 2 6 (text (codes "a") 4 5 ∷ []) ∷ loaded [] false true 6 10
+    (text (codes "b") 8 9 ∷ []) ∷ no_root ∷ [])
 
 -- the third node is beyond the bound, and its anchor is one that the second carries
 abbrev pub RowBoundBeforeAnchor : Type 0

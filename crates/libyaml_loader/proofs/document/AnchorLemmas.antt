@@ -1,5 +1,6 @@
 -- The map of anchors, by its entries.
-use Rattle.std.proofs.Common.{◌≡◌, ℕ, List, [], ◌∷◌, Option, Some, Bool, true, false, cond, nat_cmp, String, string_bytes, refl, ap, sym, ◌∙◌}
+use Rattle.std.proofs.Common.{◌≡◌, ℕ, List, [], ◌∷◌, Option, Some, Bool, true, false, cond, nat_cmp, String}
+use Rattle.std.proofs.Common.{string_bytes, refl, ap, sym, ◌∙◌}
 use Rattle.std.specs.Cmp.{eq_by_cmp_equiv}
 use Rattle.std.specs.Cmp.Lexicographic.{slice_cmp, nat_list_cmp_total}
 use Rattle.std.specs.BTreeMap.{BTreeMap, is_at, get_by_text, UpdatesBy}
@@ -14,25 +15,31 @@ use Rattle.libyaml_loader.specs.declared.ids.Carrier.{Carrier}
 use Rattle.libyaml_loader.specs.document.Anchors.{anchors_of, carriers_of}
 use Rattle.libyaml_loader.specs.document.Ids.{carrier_of}
 
-choose : (b : Bool) (c : Carrier) (o : Option Carrier) → cond b (Some (carrier_of c)) (option_map carrier_of o) ≡ option_map carrier_of (cond b (Some c) o)
+choose : (b : Bool) (c : Carrier) (o : Option Carrier)
+    → cond b (Some (carrier_of c)) (option_map carrier_of o) ≡ option_map carrier_of (cond b (Some c) o)
 choose true c o = refl
 choose false c o = refl
 
 module _ {Y : Type 0} where
   find_carrier : (es : List (String Y × Carrier)) (q : List ℕ)
-      → find (slice_cmp nat_cmp) q (carriers_of es) ≡ option_map carrier_of (lookup (is_at (λ k. slice_cmp nat_cmp q (string_bytes k))) es)
+      → find (slice_cmp nat_cmp) q (carriers_of es) ≡ option_map carrier_of
+      (lookup (is_at (λ k. slice_cmp nat_cmp q (string_bytes k))) es)
   find_carrier [] q = refl
-  find_carrier (e ∷ es) q = ap (cond (is_at (slice_cmp nat_cmp q) (string_bytes e.0)) (Some (carrier_of e.1))) (find_carrier es q) ∙ choose _ e.1 _
+  find_carrier (e ∷ es) q = ap (cond (is_at (slice_cmp nat_cmp q) (string_bytes e.0)) (Some (carrier_of e.1)))
+      (find_carrier es q) ∙ choose _ e.1 _
 
-  pub get_anchor : (m : BTreeMap (String Y) Carrier) (q : List ℕ) → get (anchors_of m.entries) q ≡ option_map carrier_of (get_by_text m q)
+  pub get_anchor : (m : BTreeMap (String Y) Carrier) (q : List ℕ)
+      → get (anchors_of m.entries) q ≡ option_map carrier_of (get_by_text m q)
   get_anchor m q = get-from_entries nat_list_cmp_total (carriers_of m.entries) q ∙ find_carrier m.entries q
 
   -- maps that differ at one anchor are seen so
-  pub one_registered : (m n : BTreeMap (String Y) Carrier) (a : String Y) (c : Carrier) → UpdatesBy string_cmp (string_cmp a) m n (Some c)
+  pub one_registered : (m n : BTreeMap (String Y) Carrier) (a : String Y) (c : Carrier)
+      → UpdatesBy string_cmp (string_cmp a) m n (Some c)
       → anchors_of n.entries ≡ insert (anchors_of m.entries) (string_bytes a) (carrier_of c)
   one_registered m n a c updates = same_map nat_list_cmp_total exact_bytes _ _ (λ q.
       get_anchor n q ∙ ap (option_map carrier_of) (btree_map_updates_text (string_bytes a) m n (Some c) updates q)
       ∙ sym (choose (bytes_eq (string_bytes a) q) c (get_by_text m q))
       ∙ sym (get-insert nat_list_cmp_total (anchors_of m.entries) (string_bytes a) (carrier_of c) q
-      ∙ ap (λ b. cond b (Some (carrier_of c)) (get (anchors_of m.entries) q)) ((eq_by_cmp_equiv nat_list_cmp_total).symm q (string_bytes a) ∙ is_eq-slice_cmp (string_bytes a) q)
+      ∙ ap (λ b. cond b (Some (carrier_of c)) (get (anchors_of m.entries) q))
+      ((eq_by_cmp_equiv nat_list_cmp_total).symm q (string_bytes a) ∙ is_eq-slice_cmp (string_bytes a) q)
       ∙ ap (cond (bytes_eq (string_bytes a) q) (Some (carrier_of c))) (get_anchor m q)))

@@ -1,5 +1,6 @@
 -- A child put into the innermost open collection, by what it is to that node.
-use Rattle.std.proofs.Common.{◌≡◌, ◌≤ℤ◌, ◌⊎◌, ◌∷◌, List, [], ℕ, ℤ, pos, negsuc, arith, ap, refl, sym, subst, ◌∙◌, Option, Some, None, Bool, false, true}
+use Rattle.std.proofs.Common.{◌≡◌, ◌≤ℤ◌, ◌⊎◌, ◌∷◌, List, [], ℕ, ℤ, pos, negsuc, arith, ap, refl, sym, subst, ◌∙◌}
+use Rattle.std.proofs.Common.{Option, Some, None, Bool, false, true}
 use Rattle.std.proofs.Common.{inl, inr, Result, Ok, Err, IfErr}
 use Rattle.std.proofs.lemmas.Int.{ints}
 use Rattle.std.specs.Prelude.{IfSome}
@@ -48,7 +49,8 @@ open_ids n p s top h =
     let there : AllOpenIn n (open_of p ∷ outer s) = subst (AllOpenIn n) (sym (top_first s (open_of p) top)) h in
     (there.0, there.1)
 
-pub waiting_is_id : (n : ℕ) (p : Open) (s : List machine.Open) → Some (open_of p) ≡ innermost s → AllOpenIn n s → (k : Option ℤ) → k ≡ number_of p.key
+pub waiting_is_id : (n : ℕ) (p : Open) (s : List machine.Open) → Some (open_of p) ≡ innermost s → AllOpenIn n s
+    → (k : Option ℤ) → k ≡ number_of p.key
     → IfSome k (IsIdUpTo n)
 waiting_is_id n p s top h k is = subst (λ (o : Option ℤ). IfSome o (IsIdUpTo n)) (sym is) (open_ids n p s top h).1
 
@@ -92,7 +94,8 @@ module _ (c : loader_ctx) (p : Open) (child : NodeId) (top : Some (open_of p) �
   abbrev HandsAs : ChildRole → List machine.Open → List yaml_node_t → Bool → Type 0
   HandsAs r s nodes full = Hands c.max_entries child.number s c.document.nodes nodes (stack_behind r child.number s) full
 
-  at_top : (r : ChildRole) (nodes : List yaml_node_t) (full : Bool) → HandsAs r (open_of p ∷ outer c.stack) nodes full → HandsAs r c.stack nodes full
+  at_top : (r : ChildRole) (nodes : List yaml_node_t) (full : Bool)
+      → HandsAs r (open_of p ∷ outer c.stack) nodes full → HandsAs r c.stack nodes full
   at_top r nodes full h = subst (λ (s : List machine.Open). HandsAs r s nodes full) (top_first c.stack (open_of p) top) h
 
   handed_as : (r : ChildRole) (new : Document) (nodes : List yaml_node_t) (full : Bool) → new ≡ with_nodes nodes c.document
@@ -102,26 +105,37 @@ module _ (c : loader_ctx) (p : Open) (child : NodeId) (top : Some (open_of p) �
       let z = child.number in
       record {
         context = ap (λ (d : Document). record c { document = d; stack = stack_behind r z c.stack }) made
-            ∙ ap (λ (l : List yaml_node_t). record c { document = with_nodes l c.document; stack = stack_behind r z c.stack }) h.nodes_are
-            ∙ ap (λ (s : List machine.Open). record c { document = with_nodes (hand z c.stack c.document.nodes) c.document; stack = s }) h.stack_is
+            ∙ ap (λ (l : List yaml_node_t). record c {
+              document = with_nodes l c.document;
+              stack =
+                  stack_behind r z c.stack;
+            }) h.nodes_are
+            ∙ ap (λ (s : List machine.Open). record c
+            { document = with_nodes (hand z c.stack c.document.nodes) c.document; stack = s }) h.stack_is
             ∙ ap (λ (i : ℤ). handed_to i c) (id_number child);
         room = h.full_is ∙ room;
       }
 
-  pub hands : (r : ChildRole) (new : Document) → AppendedAs r c.max_entries p.node.number (number_of p.key) child.number c.document new → Handed r new
+  pub hands : (r : ChildRole) (new : Document)
+      → AppendedAs r c.max_entries p.node.number (number_of p.key) child.number c.document new → Handed r new
   hands role.Item new (sequence, made, room)
-      = handed_as role.Item new _ _ made (hands_item c.max_entries child.number (open_of p) (outer c.stack) c.document.nodes sequence) room
+      = handed_as role.Item new _ _ made
+      (hands_item c.max_entries child.number (open_of p) (outer c.stack) c.document.nodes sequence) room
   hands role.Key new (mapping, none, made, room)
-      = handed_as role.Key new _ _ made (hands_key c.max_entries child.number (open_of p) (outer c.stack) c.document.nodes none mapping) room
+      = handed_as role.Key new _ _ made
+      (hands_key c.max_entries child.number (open_of p) (outer c.stack) c.document.nodes none mapping) room
   hands role.Value new (mapping, (k, waits, made))
-      = handed_as role.Value new _ _ made (hands_value c.max_entries child.number (open_of p) k (outer c.stack) c.document.nodes waits mapping) refl
+      = handed_as role.Value new _ _ made
+      (hands_value c.max_entries child.number (open_of p) k (outer c.stack) c.document.nodes waits mapping) refl
   hands role.Ignored new (scalar, made)
-      = handed_as role.Ignored new _ _ made (hands_nothing c.max_entries child.number (open_of p) (outer c.stack) c.document.nodes scalar) refl
+      = handed_as role.Ignored new _ _ made
+      (hands_nothing c.max_entries child.number (open_of p) (outer c.stack) c.document.nodes scalar) refl
 
   pub hands_at : (r s : ChildRole) (k : Option ℤ) (new : Document) → r ≡ s → k ≡ number_of p.key
       → AppendedAs r c.max_entries p.node.number k child.number c.document new → Handed s new
   hands_at r s k new is waits h =
-      hands s new (subst (λ (q : ChildRole). AppendedAs q c.max_entries p.node.number (number_of p.key) child.number c.document new) is
+      hands s new (subst (λ (q : ChildRole). AppendedAs q c.max_entries p.node.number (number_of p.key) child.number
+      c.document new) is
       (subst (λ (y : Option ℤ). AppendedAs r c.max_entries p.node.number y child.number c.document new) waits h))
 
   -- why it may be refused
@@ -132,8 +146,10 @@ module _ (c : loader_ctx) (p : Open) (child : NodeId) (top : Some (open_of p) �
       parent : Option yaml_node_t
       parent = node_at c.document.nodes p.node.number
 
-      grows : (q : Option ℤ) → number_of p.key ≡ q → node_grows q parent ≡ true → parent_grows c.stack c.document.nodes ≡ true
-      grows q e h = ap (λ (s : List machine.Open). parent_grows s c.document.nodes) (sym (top_first c.stack (open_of p) top))
+      grows : (q : Option ℤ) → number_of p.key ≡ q → node_grows q parent ≡ true
+          → parent_grows c.stack c.document.nodes ≡ true
+      grows q e h = ap (λ (s : List machine.Open). parent_grows s c.document.nodes)
+          (sym (top_first c.stack (open_of p) top))
           ∙ ap (λ (y : Option ℤ). node_grows y parent) e ∙ h
 
       go : (q : Option ℤ) → q ≡ number_of p.key → MayRefuseAt c.max_entries p.node.number q c.document.nodes

@@ -1,5 +1,6 @@
 -- The loader's steps keep ids in range.
-use Rattle.std.proofs.Common.{◌≡◌, ◌≤◌, ◌++◌, ◌∷◌, List, [], ℕ, zero, suc, ℤ, pos, negsuc, length, arith, ap, refl, sym, subst, ◌∙◌, Option, Some, None, Bool, true, false}
+use Rattle.std.proofs.Common.{◌≡◌, ◌≤◌, ◌++◌, ◌∷◌, List, [], ℕ, zero, suc, ℤ, pos, negsuc, length, arith, ap, refl, sym}
+use Rattle.std.proofs.Common.{subst, ◌∙◌, Option, Some, None, Bool, true, false}
 use Rattle.std.proofs.Common.{cond, nat_cmp, length-append}
 use Rattle.std.proofs.lemmas.Int.{ints}
 use Rattle.std.specs.Prelude.{IfSome}
@@ -13,14 +14,17 @@ use Rattle.libyaml_documents.specs.declared.node.unnamed_yaml_node_t_data.{unnam
 use Rattle.libyaml_documents.specs.declared.node.unnamed_yaml_node_t_data.TheVariants.{Scalar, Sequence, Mapping}
 use Rattle.libyaml_documents.specs.declared.node.yaml_node_t.{yaml_node_t}
 use Rattle.libyaml_graphs.specs.graphs.Graphs as graphs
-use Rattle.libyaml_graphs.specs.machine.Loader.{Anchors, Loader, Open, Loading, Registered, bounded_option, closed_by, failed, fresh, going, hand, handed}
-use Rattle.libyaml_graphs.specs.machine.Loader.{if_child_fits, key_after, key_behind, known, list_full, load_part, nodes_full, on_alias, on_node, outer, register}
+use Rattle.libyaml_graphs.specs.machine.Loader.{Anchors, Loader, Open, Loading, Registered, bounded_option, closed_by}
+use Rattle.libyaml_graphs.specs.machine.Loader.{failed, fresh, going, hand, handed}
+use Rattle.libyaml_graphs.specs.machine.Loader.{if_child_fits, key_after, key_behind, known, list_full, load_part}
+use Rattle.libyaml_graphs.specs.machine.Loader.{nodes_full, on_alias, on_node, outer, register}
 use Rattle.libyaml_graphs.specs.machine.Loader.{registered, unless_full, with_child}
 use Rattle.libyaml_graphs.specs.graphs.GraphParts.{Part, alias_part, end_part, leaf_part, start_part}
 use Rattle.libyaml_loader.specs.document.Context.{AllOpenIn, CarrierIn, IdsAreIn}
 use Rattle.libyaml_loader.proofs.document.Loading.{id_more, open_more}
 
-length_changed : (z : ℤ) (f : yaml_node_t → yaml_node_t) (nodes : List yaml_node_t) → length (with_changed z f nodes) ≡ length nodes
+length_changed : (z : ℤ) (f : yaml_node_t → yaml_node_t) (nodes : List yaml_node_t)
+    → length (with_changed z f nodes) ≡ length nodes
 length_changed (negsuc n) f nodes = refl
 length_changed (pos zero) f nodes = refl
 length_changed (pos (suc p)) f nodes = go p nodes
@@ -38,7 +42,8 @@ length_close : (m : yaml_mark_t) (s : List Open) (nodes : List yaml_node_t) → 
 length_close m [] nodes = refl
 length_close m (o ∷ s) nodes = length_changed o.node (with_end m) nodes
 
-key_in : (n : ℕ) (k : Option ℤ) (i : ℤ) (x : Option yaml_node_t) → IsIdUpTo n i → IfSome k (IsIdUpTo n) → IfSome (key_after k i x) (IsIdUpTo n)
+key_in : (n : ℕ) (k : Option ℤ) (i : ℤ) (x : Option yaml_node_t) → IsIdUpTo n i → IfSome k (IsIdUpTo n)
+    → IfSome (key_after k i x) (IsIdUpTo n)
 key_in n k i None is h = h
 key_in n k i (Some x) is h = go k x.content h
   where
@@ -48,7 +53,8 @@ key_in n k i (Some x) is h = go k x.content h
     go None (Mapping s) h = is
     go (Some k) (Mapping s) h = tt
 
-handed_in : (n : ℕ) (i : ℤ) (s : List Open) (nodes : List yaml_node_t) → IsIdUpTo n i → AllOpenIn n s → AllOpenIn n (handed i s nodes)
+handed_in : (n : ℕ) (i : ℤ) (s : List Open) (nodes : List yaml_node_t) → IsIdUpTo n i → AllOpenIn n s
+    → AllOpenIn n (handed i s nodes)
 handed_in n i [] nodes is h = tt
 handed_in n i (o ∷ s) nodes is h = (h.0, key_in n o.key i (node_at nodes o.node) is h.1, h.2)
 
@@ -60,12 +66,14 @@ carrier_more : (n m : ℕ) (c : Option graphs.Carrier) → n ≤ m → CarrierIn
 carrier_more n m None le h = tt
 carrier_more n m (Some c) le h = id_more n m (pos c.id) le h
 
-choose_in : (n : ℕ) (b : Bool) (c : graphs.Carrier) (o : Option graphs.Carrier) → IsIdUpTo n (pos c.id) → CarrierIn n o → CarrierIn n (cond b (Some c) o)
+choose_in : (n : ℕ) (b : Bool) (c : graphs.Carrier) (o : Option graphs.Carrier) → IsIdUpTo n (pos c.id)
+    → CarrierIn n o → CarrierIn n (cond b (Some c) o)
 choose_in n true c o le h = le
 choose_in n false c o le h = h
 
 -- an anchor more
-register_in : (n : ℕ) (a : Option (List ℕ)) (i : ℕ) (m : yaml_mark_t) (xs ys : Anchors) → IsIdUpTo n (pos i) → ((q : List ℕ) → CarrierIn n (get xs q))
+register_in : (n : ℕ) (a : Option (List ℕ)) (i : ℕ) (m : yaml_mark_t) (xs ys : Anchors) → IsIdUpTo n (pos i)
+    → ((q : List ℕ) → CarrierIn n (get xs q))
     → register a i m xs ≡ registered ys → (q : List ℕ) → CarrierIn n (get ys q)
 register_in n None i m xs ys le h e q = subst (λ (z : Anchors). CarrierIn n (get z q)) (same e) (h q)
   where
@@ -76,7 +84,9 @@ register_in n (Some a) i m xs ys le h e q = go (get xs a) e
     new : Anchors
     new = insert xs a (record { id = i; mark = m })
 
-    go : (o : Option graphs.Carrier) → ◌≡◌ {A = Registered} (elim o [ Some c ↦ known c.mark | None ↦ registered new ]) (registered ys) → CarrierIn n (get ys q)
+    go : (o : Option graphs.Carrier)
+        → ◌≡◌ {A = Registered} (elim o [ Some c ↦ known c.mark | None ↦ registered new ]) (registered ys)
+        → CarrierIn n (get ys q)
     go (Some c) e = absurd cc
     go None e = subst (λ (z : Anchors). CarrierIn n (get z q)) (same e)
         (subst (CarrierIn n) (sym (get-insert nat_list_cmp_total xs a (record { id = i; mark = m }) q))
@@ -88,7 +98,8 @@ register_in n (Some a) i m xs ys le h e q = go (get xs a) e
 same_loader : (k l : Loader) → going l ≡ going k → l ≡ k
 same_loader k l e = cc
 
-node_in : (l k : Loader) (a : Option (List ℕ)) (x : yaml_node_t) (opens : List Open) → AllOpenIn (suc (length l.nodes)) opens → IdsAreIn l
+node_in : (l k : Loader) (a : Option (List ℕ)) (x : yaml_node_t) (opens : List Open)
+    → AllOpenIn (suc (length l.nodes)) opens → IdsAreIn l
     → on_node (register a (suc (length l.nodes)) x.start_mark l.anchors) x opens l ≡ going k → IdsAreIn k
 node_in l k a x opens new h e = go (register a (suc (length l.nodes)) x.start_mark l.anchors) refl e
   where
@@ -109,7 +120,8 @@ node_in l k a x opens new h e = go (register a (suc (length l.nodes)) x.start_ma
     go (known m) p e = absurd cc
     go (registered xs) p e = subst IdsAreIn (same_loader k _ e) (record {
       stack = subst (λ (m : ℕ). AllOpenIn m (opens ++ handed (pos n) l.stack (l.nodes ++ x ∷ []))) (sym grown)
-          (both opens _ new (handed_in n (pos n) l.stack (l.nodes ++ x ∷ []) last (open_more (length l.nodes) n l.stack (omega arith) h.stack)));
+          (both opens _ new (handed_in n (pos n) l.stack (l.nodes ++ x ∷ []) last
+          (open_more (length l.nodes) n l.stack (omega arith) h.stack)));
       carriers = λ (q : List ℕ). subst (λ (m : ℕ). CarrierIn m (get xs q)) (sym grown)
           (register_in n a n x.start_mark l.anchors xs last
           (λ (b : List ℕ). carrier_more (length l.nodes) n (get l.anchors b) (omega arith) (h.carriers b)) p q);
@@ -121,15 +133,20 @@ part_in l k (alias_part a m) h e = go (get l.anchors a) (h.carriers a) e
     go : (c : Option graphs.Carrier) → CarrierIn (length l.nodes) c → on_alias c m l ≡ going k → IdsAreIn k
     go None g e = absurd cc
     go (Some c) g e = subst IdsAreIn (same_loader k _ e) (record {
-      stack = subst (λ (n : ℕ). AllOpenIn n (handed (pos c.id) l.stack l.nodes)) (sym (length_hand (pos c.id) l.stack l.nodes))
+      stack = subst (λ (n : ℕ). AllOpenIn n (handed (pos c.id) l.stack l.nodes))
+          (sym (length_hand (pos c.id) l.stack l.nodes))
           (handed_in (length l.nodes) (pos c.id) l.stack l.nodes g h.stack);
-      carriers = λ (q : List ℕ). subst (λ (n : ℕ). CarrierIn n (get l.anchors q)) (sym (length_hand (pos c.id) l.stack l.nodes)) (h.carriers q);
+      carriers = λ (q : List ℕ). subst (λ (n : ℕ). CarrierIn n (get l.anchors q))
+          (sym (length_hand (pos c.id) l.stack l.nodes)) (h.carriers q);
     })
 part_in l k (leaf_part a x) h e = node_in l k a x [] tt h e
-part_in l k (start_part a x) h e = node_in l k a x (record { node = pos (suc (length l.nodes)); key = None } ∷ []) ((omega (arith, ints), omega (arith, ints)), tt, tt) h e
+part_in l k (start_part a x) h e = node_in l k a x (record { node = pos (suc (length l.nodes)); key = None } ∷ [])
+    ((omega (arith, ints), omega (arith, ints)), tt, tt) h e
 part_in l k (end_part m) h e = subst IdsAreIn (same_loader k _ e) (record {
-  stack = subst (λ (n : ℕ). AllOpenIn n (outer l.stack)) (sym (length_close m l.stack l.nodes)) (outer_in (length l.nodes) l.stack h.stack);
-  carriers = λ (q : List ℕ). subst (λ (n : ℕ). CarrierIn n (get l.anchors q)) (sym (length_close m l.stack l.nodes)) (h.carriers q);
+  stack = subst (λ (n : ℕ). AllOpenIn n (outer l.stack)) (sym (length_close m l.stack l.nodes))
+      (outer_in (length l.nodes) l.stack h.stack);
+  carriers = λ (q : List ℕ). subst (λ (n : ℕ). CarrierIn n (get l.anchors q)) (sym (length_close m l.stack l.nodes))
+      (h.carriers q);
 })
 
 inner : (a b : Bool) (o : Loading) (k : Loader) → unless_full a (if_child_fits b o) ≡ going k → o ≡ going k

@@ -1,5 +1,6 @@
 -- The stack of open collections, by the list of its `Vec`.
-use Rattle.std.proofs.Common.{◌≡◌, ◌++◌, ◌∷◌, List, [], ℕ, zero, suc, ℤ, arith, map, reverse, get_or, set, length, ap, refl, sym, ◌∙◌, Option}
+use Rattle.std.proofs.Common.{◌≡◌, ◌++◌, ◌∷◌, List, [], ℕ, zero, suc, ℤ, arith, map, reverse, get_or, set, length, ap}
+use Rattle.std.proofs.Common.{refl, sym, ◌∙◌, Option}
 use Rattle.std.proofs.lemmas.List.{reverse-append}
 use Rattle.libyaml_graphs.specs.machine.Loader as machine
 use Rattle.libyaml_loader.specs.declared.ids.NodeId.{NodeId}
@@ -10,7 +11,8 @@ use Rattle.libyaml_loader.specs.document.Stack.{stack_of, with_key}
 back : {A : Type 0} (x : A) (xs : List A) → reverse (x ∷ xs) ≡ reverse xs ++ x ∷ []
 back x xs = reverse-append (x ∷ []) xs
 
-under : (k : Option ℤ) (s : List machine.Open) (z : machine.Open) → (s ≡ [] → ⊥) → with_key k (s ++ z ∷ []) ≡ with_key k s ++ z ∷ []
+under : (k : Option ℤ) (s : List machine.Open) (z : machine.Open) → (s ≡ [] → ⊥)
+    → with_key k (s ++ z ∷ []) ≡ with_key k s ++ z ∷ []
 under k [] z h = absurd (h refl)
 under k (o ∷ s) z h = refl
 

@@ -12,8 +12,10 @@ no h = cc
 pub no_error : {x : yaml_error_type_t} → ◌≡◌ {A = EventOrError} (Ok empty_event) (Err x) → ⊥
 no_error h = cc
 
-pub still_ended : {S : Type 0} (first now : Parser S) → (is_over first ≡ true → now ≡ first) → is_over first ≡ true → is_over now ≡ true
+pub still_ended : {S : Type 0} (first now : Parser S) → (is_over first ≡ true → now ≡ first) → is_over first ≡ true
+    → is_over now ≡ true
 still_ended first now same ended = ap is_over (same ended) ∙ ended
 
-pub has_not_ended : {S : Type 0} (first now : Parser S) → (is_over first ≡ true → now ≡ first) → is_over now ≡ false → is_over first ≡ true → ⊥
+pub has_not_ended : {S : Type 0} (first now : Parser S) → (is_over first ≡ true → now ≡ first) → is_over now ≡ false
+    → is_over first ≡ true → ⊥
 has_not_ended first now same runs ended = no (sym (still_ended first now same ended) ∙ runs)

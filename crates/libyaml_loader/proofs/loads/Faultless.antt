@@ -12,10 +12,15 @@ use Rattle.libyaml_sources.specs.Source.{Coming}
 no : true ≡ false → ⊥
 no h = cc
 
-module _ {S : Type 0} (gives : S → Answer → S → Type 0) (known : S → Option Coming) (MayBreak : S → Fault → Type 0) (load : List Event → Ending → Load)
-    (left : List Event → List Event) (law : (p : Parser S) → ForHistory p (λ _ _. has_failed p ≡ false)) (old new : Parser S) (none : has_failed old ≡ false) where
-  pub faultless : Remembers old → (r : DocumentOrError) → LoadsFrom gives known MayBreak load left old r new → IfOk r (λ _. has_failed new ≡ false)
+module _ {S : Type 0} (gives : S → Answer → S → Type 0) (known : S → Option Coming) (MayBreak : S → Fault → Type 0)
+    (load : List Event → Ending → Load)
+    (left : List Event → List Event) (law : (p : Parser S) → ForHistory p (λ _ _. has_failed p ≡ false))
+    (old new : Parser S) (none : has_failed old ≡ false) where
+  pub faultless : Remembers old → (r : DocumentOrError) → LoadsFrom gives known MayBreak load left old r new
+      → IfOk r (λ _. has_failed new ≡ false)
   faultless h (Err x) l = tt
   faultless (inl fault) (Ok d) l = absurd (no (sym fault ∙ none))
-  faultless (inr (asked, given, history)) (Ok d) (whole taken took loads leaves stands) = law new _ _ (took.history asked given history).history
-  faultless (inr (asked, given, history)) (Ok d) (at_end taken took loads leaves runs is ended) = law new _ _ (took.history asked given history).history
+  faultless (inr (asked, given, history)) (Ok d) (whole taken took loads leaves stands) =
+      law new _ _ (took.history asked given history).history
+  faultless (inr (asked, given, history)) (Ok d) (at_end taken took loads leaves runs is ended) =
+      law new _ _ (took.history asked given history).history

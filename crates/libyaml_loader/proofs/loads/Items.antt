@@ -1,5 +1,6 @@
 -- What an iterator over the documents of a parser yields, by the clauses of a load.
-use Rattle.std.proofs.Common.{◌≡◌, ◌≢◌, ℕ, List, [], ◌∷◌, length, nat_eq, Option, inl, inr, true, false, arith, refl, sym, subst, ◌∙◌}
+use Rattle.std.proofs.Common.{◌≡◌, ◌≢◌, ℕ, List, [], ◌∷◌, length, nat_eq, Option, inl, inr, true, false, arith, refl}
+use Rattle.std.proofs.Common.{sym, subst, ◌∙◌}
 use Rattle.std.proofs.lemmas.Bool.{eqb-true}
 use Rattle.libyaml_documents.specs.declared.node.yaml_node_t.{yaml_node_t}
 use Rattle.libyaml_events.specs.machine.Config.{Parser}
@@ -21,8 +22,10 @@ pub rooted : (ns : List yaml_node_t) → nat_eq (length ns) 0 ≡ false → ns �
 rooted [] h e = absurd cc
 rooted (n ∷ ns) h e = cc
 
-module _ {S : Type 0} (gives : S → Answer → S → Type 0) (bound : S → ℕ) (known : S → Option Coming) (MayBreak : S → Fault → Type 0) (old new : Parser S) where
-  pub loads_as : (q r : DocumentOrError) → q ≡ r → LoadsNext gives bound known MayBreak old q new → LoadsNext gives bound known MayBreak old r new
+module _ {S : Type 0} (gives : S → Answer → S → Type 0) (bound : S → ℕ) (known : S → Option Coming)
+    (MayBreak : S → Fault → Type 0) (old new : Parser S) where
+  pub loads_as : (q r : DocumentOrError) → q ≡ r → LoadsNext gives bound known MayBreak old q new
+      → LoadsNext gives bound known MayBreak old r new
   loads_as q r e l = subst (λ (s : DocumentOrError). LoadsNext gives bound known MayBreak old s new) e l
 
   -- a parser that ends by its history ends

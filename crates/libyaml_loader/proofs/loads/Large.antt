@@ -11,8 +11,10 @@ use Rattle.libyaml_graphs.specs.loads.Linear.{size}
 use Rattle.libyaml_graphs.specs.loads.Loads.{left_over}
 use Rattle.libyaml_loader.specs.loads.Loading.{DocumentOrError, LoadsFrom, Took, at_end, whole}
 
-pub linear : (n : ℕ) → ((e : List Event) (x : Ending) (d : Document) → next_bounded n e x ≡ Ok d → size d.nodes ≤ 2 * length e) → {S : Type 0}
-    (gives : S → Answer → S → Type 0) (known : S → Option Coming) (MayBreak : S → Fault → Type 0) (old new : Parser S) (r : DocumentOrError)
+pub linear : (n : ℕ) → ((e : List Event) (x : Ending) (d : Document) → next_bounded n e x ≡ Ok d
+    → size d.nodes ≤ 2 * length e) → {S : Type 0}
+    (gives : S → Answer → S → Type 0) (known : S → Option Coming) (MayBreak : S → Fault → Type 0)
+    (old new : Parser S) (r : DocumentOrError)
     → LoadsFrom gives known MayBreak (next_bounded n) left_over old r new
     → IfOk r (λ d. (taken : List Event) × Took gives known old new taken × (size d.nodes ≤ 2 * length taken))
 linear n law gives known MayBreak old new (Err x) h = tt

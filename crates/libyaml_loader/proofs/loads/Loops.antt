@@ -1,5 +1,6 @@
 -- What a whole loop over documents yielded, by the run that was to come.
-use Rattle.std.proofs.Common.{◌≡◌, ◌≢◌, ◌∷◌, ℕ, List, [], Option, None, Some, Ok, Err, true, false, inl, inr, refl, sym, ap, subst, ◌∙◌}
+use Rattle.std.proofs.Common.{◌≡◌, ◌≢◌, ◌∷◌, ℕ, List, [], Option, None, Some, Ok, Err, true, false, inl, inr, refl, sym}
+use Rattle.std.proofs.Common.{ap, subst, ◌∙◌}
 use Rattle.libyaml_documents.specs.Documents.{Document}
 use Rattle.libyaml_events.specs.machine.Config.{Parser}
 use Rattle.libyaml_events.specs.sources.History.{ForHistory, History, has_failed, kept_fault}
@@ -12,7 +13,8 @@ use Rattle.libyaml_graphs.specs.loads.GraphLaws.{RootsFollow}
 use Rattle.libyaml_graphs.specs.loads.Loads.{Load, last_load, left_over}
 use Rattle.libyaml_loader.specs.document.Ids.{magnitude}
 use Rattle.libyaml_loader.specs.loads.Loading.{DocumentOrError}
-use Rattle.libyaml_loader.specs.loads.LoadsInTurn.{AreLoadsOf, LoopYields, YieldsDocument, cut_short, document, fault, no_item, whole}
+use Rattle.libyaml_loader.specs.loads.LoadsInTurn.{AreLoadsOf, LoopYields, YieldsDocument, cut_short, document, fault}
+use Rattle.libyaml_loader.specs.loads.LoadsInTurn.{no_item, whole}
 use Rattle.libyaml_loader.specs.loads.NextLoad.{Answers}
 use Rattle.libyaml_sources.specs.Fault.{Answer, Fault, fault_of}
 use Rattle.libyaml_sources.specs.Source.{Coming, coming}
@@ -35,36 +37,46 @@ ends_here (Fails f) d h = absurd cc
 -- the laws of loads
 pub record LoopLaws : Type 0 where
   pub left : (l : List Event) → RootsFollow l → RootsFollow (left_over l)
-  pub without : (l : List Event) (x : Ending) (n : ℕ) (d : Document) → RootsFollow l → next_bounded n l x ≡ Ok d → d.nodes ≡ []
+  pub without : (l : List Event) (x : Ending) (n : ℕ) (d : Document) → RootsFollow l → next_bounded n l x ≡ Ok d
+      → d.nodes ≡ []
       → (bounded_loads n l x ≡ Ok d ∷ []) × (last_load x ≡ Ok d)
   pub with : (l : List Event) (x : Ending) (n : ℕ) (d : Document) → next_bounded n l x ≡ Ok d → d.nodes ≢ []
       → bounded_loads n l x ≡ Ok d ∷ bounded_loads n (left_over l) x
-  pub fault : (l : List Event) (x : Ending) (n : ℕ) (f : Fault) → next_bounded n l x ≡ Err f → bounded_loads n l x ≡ Err f ∷ []
+  pub fault : (l : List Event) (x : Ending) (n : ℕ) (f : Fault) → next_bounded n l x ≡ Err f
+      → bounded_loads n l x ≡ Err f ∷ []
 
-module _ (law : LoopLaws) {S : Type 0} (gives : S → Answer → S → Type 0) (bound : S → ℕ) (known : S → Option Coming) (MayBreak : S → Fault → Type 0)
+module _ (law : LoopLaws) {S : Type 0} (gives : S → Answer → S → Type 0) (bound : S → ℕ) (known : S → Option Coming)
+    (MayBreak : S → Fault → Type 0)
     (no_fault : (p : Parser S) → ForHistory p (λ _ _. has_failed p ≡ false)) where
   -- a load that returned this document, or failed
-  answered : (new : Parser S) (d : Document) (a : Load) (e : List Event) (x : Ending) → UnlessBroken {A = Document} MayBreak (Ok d) new (Answers known a (Ok d) new e x)
+  answered : (new : Parser S) (d : Document) (a : Load) (e : List Event) (x : Ending)
+      → UnlessBroken {A = Document} MayBreak (Ok d) new (Answers known a (Ok d) new e x)
       → (a ≡ Ok d) × RunToCome known new e x
   answered new d a e x (no_memory h k) = absurd (no_error h)
   answered new d a e x (breaks f b h k) = absurd (no_error h)
   answered new d (Ok c) e x (does h) = (ap (λ (z : Document). Ok z) (ok c d (sym h.0)), h.1)
   answered new d (Err f) e x (does h) = absurd (no_error h.0)
 
-  failed : (new : Parser S) (f : yaml_parser_t_prefix) → fault_of f ≡ kept_fault new → (l : List Load) (a : Load) (e : List Event) (x : Ending)
-      → ((g : Fault) → a ≡ Err g → l ≡ Err g ∷ []) → UnlessBroken {A = Document} MayBreak (Err f.error) new (Answers known a (Err f.error) new e x)
+  failed : (new : Parser S) (f : yaml_parser_t_prefix) → fault_of f ≡ kept_fault new
+      → (l : List Load) (a : Load) (e : List Event) (x : Ending)
+      → ((g : Fault) → a ≡ Err g → l ≡ Err g ∷ [])
+      → UnlessBroken {A = Document} MayBreak (Err f.error) new (Answers known a (Err f.error) new e x)
       → AreLoadsOf MayBreak new [] (Fails (fault_of f)) l
   failed new f kept l a e x last (no_memory h k) = cut_short (fault_of f) refl (inl (kept ∙ k)) l refl
-  failed new f kept l a e x last (breaks g b h k) = cut_short (fault_of f) refl (inr (subst (λ (y : Fault). MayBreak new.source y) (sym (kept ∙ k)) b)) l refl
+  failed new f kept l a e x last (breaks g b h k) =
+      cut_short (fault_of f) refl (inr (subst (λ (y : Fault). MayBreak new.source y) (sym (kept ∙ k)) b)) l refl
   failed new f kept l (Ok d) e x last (does h) = absurd (no_error (sym h.0))
   failed new f kept l (Err g) e x last (does h) = whole (last g refl ∙ ap (λ (y : Fault). Err y ∷ []) (sym (kept ∙ h.1)))
 
-  one_more : (new : Parser S) (d : Document) (documents : List Document) (ending : Ending) (loads all : List Load) → all ≡ Ok d ∷ loads
+  one_more : (new : Parser S) (d : Document) (documents : List Document) (ending : Ending) (loads all : List Load)
+      → all ≡ Ok d ∷ loads
       → AreLoadsOf MayBreak new documents ending loads → AreLoadsOf MayBreak new (d ∷ documents) ending all
   one_more new d documents ending loads all is (whole h) = whole (is ∙ ap (λ (l : List Load). Ok d ∷ l) h)
-  one_more new d documents ending loads all is (cut_short f e why rest h) = cut_short f e why rest (is ∙ ap (λ (l : List Load). Ok d ∷ l) h)
+  one_more new d documents ending loads all is (cut_short f e why rest h) =
+      cut_short f e why rest (is ∙ ap (λ (l : List Load). Ok d ∷ l) h)
 
-  pub of_run : (n : ℕ) (old new : Parser S) (documents : List Document) (ending : Ending) (e : List Event) (x : Ending) → magnitude old.max_entries ≡ n
+  pub of_run : (n : ℕ) (old new : Parser S) (documents : List Document) (ending : Ending) (e : List Event)
+      (x : Ending) → magnitude old.max_entries ≡ n
       → RunToCome known old e x → RootsFollow e → LoopYields gives bound known MayBreak old documents ending new
       → AreLoadsOf MayBreak new documents ending (bounded_loads n e x)
   of_run n old new documents ending e x within run roots (no_item y) = go y
@@ -73,21 +85,25 @@ module _ (law : LoopLaws) {S : Type 0} (gives : S → Answer → S → Type 0) (
       go (inl (failed_before, same)) = absurd (no (sym failed_before ∙ no_fault old run.asked run.given run.history))
       go (inr (none, over, (d, no_root, next))) =
           let b = answered new d (next_bounded n e x) (left_over e) x
-          (subst (λ (m : ℕ). UnlessBroken {A = Document} MayBreak (Ok d) new (Answers known (next_bounded m e x) (Ok d) new (left_over e) x)) within (next.next_load e x run)) in
+          (subst (λ (m : ℕ). UnlessBroken {A = Document} MayBreak (Ok d) new
+          (Answers known (next_bounded m e x) (Ok d) new (left_over e) x)) within (next.next_load e x run)) in
           let z = law.without e x n d roots b.0 no_root in
           whole (z.0 ∙ ap (λ (t : Load). t ∷ []) (sym z.1 ∙ ap last_load (sym (ends_here x d z.1))))
   of_run n old new documents ending e x within run roots (fault f (none, next, kept)) =
       failed new f kept (bounded_loads n e x) (next_bounded n e x) (left_over e) x (λ (g : Fault). law.fault e x n g)
-      (subst (λ (m : ℕ). UnlessBroken {A = Document} MayBreak (Err f.error) new (Answers known (next_bounded m e x) (Err f.error) new (left_over e) x)) within
+      (subst (λ (m : ℕ). UnlessBroken {A = Document} MayBreak (Err f.error) new
+      (Answers known (next_bounded m e x) (Err f.error) new (left_over e) x)) within
       (next.next_load e x run))
   of_run n old new documents ending e x within run roots (document d later end mid (none, root, next) more) =
       let b = answered mid d (next_bounded n e x) (left_over e) x
-      (subst (λ (m : ℕ). UnlessBroken {A = Document} MayBreak (Ok d) mid (Answers known (next_bounded m e x) (Ok d) mid (left_over e) x)) within (next.next_load e x run)) in
+      (subst (λ (m : ℕ). UnlessBroken {A = Document} MayBreak (Ok d) mid
+      (Answers known (next_bounded m e x) (Ok d) mid (left_over e) x)) within (next.next_load e x run)) in
       one_more new d later end (bounded_loads n (left_over e) x) (bounded_loads n e x) (law.with e x n d b.0 root)
       (of_run n mid new later end (left_over e) x (ap magnitude next.bound ∙ within) b.1 (law.left e roots) more)
 
   -- from the start
-  pub of_list : ((l : List Token) (f : Fault) (e : List Event) (x : Ending) → IsRun l f e x → RootsFollow e) → (old new : Parser S)
+  pub of_list : ((l : List Token) (f : Fault) (e : List Event) (x : Ending) → IsRun l f e x → RootsFollow e)
+      → (old new : Parser S)
       (documents : List Document) (ending : Ending) (l : List Token) (f : Fault) (loads : List Load) → History old [] []
       → known old.source ≡ Some (coming l f) → IsBoundedLoads (magnitude old.max_entries) l f loads
       → LoopYields gives bound known MayBreak old documents ending new → AreLoadsOf MayBreak new documents ending loads
@@ -95,4 +111,5 @@ module _ (law : LoopLaws) {S : Type 0} (gives : S → Answer → S → Type 0) (
       let run : RunToCome known old are.events are.ending
       = record { asked = []; given = []; rest = l; fault = f; history = history; knows = knows; run = are.run } in
       subst (λ (k : List Load). AreLoadsOf MayBreak new documents ending k) (sym are.all)
-      (of_run (magnitude old.max_entries) old new documents ending are.events are.ending refl run (roots l f are.events are.ending are.run) y)
+      (of_run (magnitude old.max_entries) old new documents ending are.events are.ending refl run
+      (roots l f are.events are.ending are.run) y)

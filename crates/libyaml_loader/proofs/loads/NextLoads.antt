@@ -1,5 +1,6 @@
 -- What a load says of the run that is to come.
-use Rattle.std.proofs.Common.{◌≡◌, ◌++◌, ◌∷◌, List, [], Option, Ok, Err, IfErr, false, true, refl, sym, ap, ◌∙◌, subst, inl, inr, length, arith}
+use Rattle.std.proofs.Common.{◌≡◌, ◌++◌, ◌∷◌, List, [], Option, Ok, Err, IfErr, false, true, refl, sym, ap, ◌∙◌, subst}
+use Rattle.std.proofs.Common.{inl, inr, length, arith}
 use Rattle.std.proofs.Common.{length-append, append-nil}
 use Rattle.libyaml_types.specs.declared.enums.yaml_error_type_t.{yaml_error_type_t}
 use Rattle.libyaml_documents.specs.Documents.{Document}
@@ -19,9 +20,11 @@ nothing_more : (a b : List Event) → a ++ b ≡ a → b ≡ []
 nothing_more a [] e = refl
 nothing_more a (x ∷ b) e = absurd (omega (arith, ap length e, length-append a (x ∷ b)))
 
-module _ {S : Type 0} (gives : S → Answer → S → Type 0) (known : S → Option Coming) (MayBreak : S → Fault → Type 0) (load : List Event → Ending
+module _ {S : Type 0} (gives : S → Answer → S → Type 0) (known : S → Option Coming) (MayBreak : S → Fault → Type 0)
+    (load : List Event → Ending
     → Load) (left : List Event → List Event) where
-  pub load_of_run : (old new : Parser S) (r : DocumentOrError) (events : List Event) (ending : Ending) → RunToCome known old events ending
+  pub load_of_run : (old new : Parser S) (r : DocumentOrError) (events : List Event) (ending : Ending)
+      → RunToCome known old events ending
       → LoadsFrom gives known MayBreak load left old r new → LoadOfRun known MayBreak load left r new events ending
   load_of_run old new (Ok d) events ending run (whole taken took gives_it leaves stands) =
       let l = took.runs events ending run in (
@@ -32,16 +35,20 @@ module _ {S : Type 0} (gives : S → Answer → S → Type 0) (known : S → Opt
       let l = took.runs events ending run in
       let e = ends events ending run in
       let none : l.later ≡ [] = nothing_more taken l.later (sym l.all ∙ e.0) in (
-        ap (λ (x : List Event). load x ending) e.0 ∙ gives_it ending ∙ ap last_load e.1 ∙ ap (λ (x : Document). Ok x) (sym is),
+        ap (λ (x : List Event). load x ending) e.0 ∙ gives_it ending ∙ ap last_load e.1
+            ∙ ap (λ (x : Document). Ok x) (sym is),
         subst (λ (x : List Event). RunToCome known new x ending) (none ∙ sym leaves ∙ ap left (sym e.0)) l.run,
       )
-  load_of_run old new (Err y) events ending run (by_parser taken parser took fails gives_it) = here (fails.runs l.later ending l.run)
+  load_of_run old new (Err y) events ending run (by_parser taken parser took fails gives_it) =
+      here (fails.runs l.later ending l.run)
     where
       l : RestOfRun known parser taken events ending
       l = took.runs events ending run
 
-      here : FailsHere (MayBreak new.source) (kept_fault new) l.later ending → LoadOfRun known MayBreak load left (Err y) new events ending
-      here (inl h) = inl (ap (λ (x : List Event). load x ending) (l.all ∙ ap (λ (x : List Event). taken ++ x) h.0 ∙ append-nil taken) ∙ gives_it ending
+      here : FailsHere (MayBreak new.source) (kept_fault new) l.later ending
+          → LoadOfRun known MayBreak load left (Err y) new events ending
+      here (inl h) = inl (ap (λ (x : List Event). load x ending)
+          (l.all ∙ ap (λ (x : List Event). taken ++ x) h.0 ∙ append-nil taken) ∙ gives_it ending
           ∙ ap last_load h.1)
       here (inr h) = inr h
   load_of_run old new (Err y) events ending run (by_loader before e parser took f keeps waits gives_it) =
@@ -52,7 +59,8 @@ module _ {S : Type 0} (gives : S → Answer → S → Type 0) (known : S → Opt
       let l = took.runs events ending run in
       inr (inl (ap (λ (p : Parser S). kept_fault p) (keeps l.run.asked l.run.given l.run.history)))
 
-  pub next_load : (old new : Parser S) (r : DocumentOrError) → IfErr r (λ (x : yaml_error_type_t). (x ≡ (kept_fault new).error) × (is_over new ≡ true))
+  pub next_load : (old new : Parser S) (r : DocumentOrError)
+      → IfErr r (λ (x : yaml_error_type_t). (x ≡ (kept_fault new).error) × (is_over new ≡ true))
       → ForHistory old (λ (asked : List Token) (given : List Event). has_failed old ≡ false)
       → (has_failed old ≡ false → LoadsFrom gives known MayBreak load left old r new)
       → (events : List Event) (ending : Ending) → RunToCome known old events ending

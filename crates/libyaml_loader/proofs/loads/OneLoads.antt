@@ -1,5 +1,6 @@
 -- Two outcomes that the contract of a load allows are one.
-use Rattle.std.proofs.Common.{◌≡◌, ◌⊎◌, inl, inr, List, [], ◌∷◌, ◌++◌, Option, None, Ok, Err, IfOk, IfErr, false, refl, sym, ap, ◌∙◌, subst}
+use Rattle.std.proofs.Common.{◌≡◌, ◌⊎◌, inl, inr, List, [], ◌∷◌, ◌++◌, Option, None, Ok, Err, IfOk, IfErr, false, refl}
+use Rattle.std.proofs.Common.{sym, ap, ◌∙◌, subst}
 use Rattle.libyaml_documents.specs.Documents.{Document, empty_document}
 use Rattle.libyaml_sources.specs.Fault.{Answer, Fault, no_fault}
 use Rattle.libyaml_sources.specs.Source.{Coming}
@@ -17,12 +18,14 @@ use Rattle.libyaml_events.specs.sources.Needs.{EachNeeded, EachWasNeeded}
 use Rattle.libyaml_events.specs.sources.Parsing.{Cause, FailsBy, of_memory, of_grammar, of_source}
 use Rattle.libyaml_events.proofs.lent.CallsInTurn.{gave_then}
 use Rattle.libyaml_events.proofs.lent.OneOutcome.{before_last, front_same, ran_once, tail_same}
-use Rattle.libyaml_events.proofs.lent.RunStops.{RunStop, answers_both, begins_stopped, ended_stop, grammar_stop, one_run_by_answers, source_stop}
+use Rattle.libyaml_events.proofs.lent.RunStops.{RunStop, answers_both, begins_stopped, ended_stop, grammar_stop}
+use Rattle.libyaml_events.proofs.lent.RunStops.{one_run_by_answers, source_stop}
 use Rattle.libyaml_events.proofs.lent.RunStops.{taken_comparable, token_front}
 use Rattle.libyaml_graphs.specs.loads.Loads.{Load, last_load}
 use Rattle.libyaml_loader.specs.loads.Loading.{DocumentOrError, LoadsFrom}
 use Rattle.libyaml_loader.specs.loads.Loading.{at_end, by_loader, by_memory, by_parser, whole}
-use Rattle.libyaml_loader.specs.loads.OneLoad.{LoadRunsOut, in_parser, in_loader, LoadsAlike, OneLoad, alike, first_runs_out, second_runs_out, OneLoadByAnswers}
+use Rattle.libyaml_loader.specs.loads.OneLoad.{LoadRunsOut, in_parser, in_loader, LoadsAlike, OneLoad, alike}
+use Rattle.libyaml_loader.specs.loads.OneLoad.{first_runs_out, second_runs_out, OneLoadByAnswers}
 use Rattle.libyaml_loader.specs.loads.OneLoad.{LoadOutcome, results_in, results_of}
 
 -- both after the same tokens
@@ -43,14 +46,17 @@ last_of : (t : List Event) → (t ≡ []) ⊎ ((u : List Event) × (e : Event) �
 last_of [] = inl refl
 last_of (x ∷ t) = go (last_of t)
   where
-    go : (t ≡ []) ⊎ ((u : List Event) × (e : Event) × (t ≡ u ++ e ∷ [])) → (x ∷ t ≡ []) ⊎ ((u : List Event) × (e : Event) × (x ∷ t ≡ u ++ e ∷ []))
+    go : (t ≡ []) ⊎ ((u : List Event) × (e : Event) × (t ≡ u ++ e ∷ []))
+        → (x ∷ t ≡ []) ⊎ ((u : List Event) × (e : Event) × (x ∷ t ≡ u ++ e ∷ []))
     go (inl e) = inr ([], x, ap (λ (v : List Event). x ∷ v) e)
     go (inr (u, y, e)) = inr (x ∷ u, y, ap (λ (v : List Event). x ∷ v) e)
 
-absolute : (asked m n : List Token) (x y : List Answer) → OneBegins (answers m x) (answers n y) → OneBegins (answers (asked ++ m) x) (answers (asked ++ n) y)
+absolute : (asked m n : List Token) (x y : List Answer) → OneBegins (answers m x) (answers n y)
+    → OneBegins (answers (asked ++ m) x) (answers (asked ++ n) y)
 absolute asked m n x y o
     = subst (λ (z : List Answer). OneBegins z (answers (asked ++ n) y)) (answers_both asked m x)
-    (subst (OneBegins (answers asked (answers m x))) (answers_both asked n y) (both_behind asked (answers m x) (answers n y) o))
+    (subst (OneBegins (answers asked (answers m x))) (answers_both asked n y)
+    (both_behind asked (answers m x) (answers n y) o))
 
 behind_given : (given a b : List Event) → Begins (given ++ a) (given ++ b) → Begins a b
 behind_given given a b h = (h.0, front_same given b (a ++ h.0) (h.1 ∙ assoc given a h.0))
@@ -74,9 +80,12 @@ ending_fault f g e = cc
 empty_front : (t : List Event) → t ++ [] ≡ [] → t ≡ []
 empty_front t e = sym (nil_right t) ∙ e
 
-module _ {S : Type 0} (gives : S → Answer → S → Type 0) (known : S → Option Coming) (may_break : S → Fault → Type 0) (load : List Event → Ending → Load)
-    (left : List Event → List Event) (law_needed : (p : Parser S) → ForHistory p (λ (a : List Token) (g : List Event). EachWasNeeded [] a [] g))
-    (law_begins : (p : Parser S) → ForHistory p BeginsEachRun) (old : Parser S) (asked : List Token) (given : List Event) (history : History old asked given) where
+module _ {S : Type 0} (gives : S → Answer → S → Type 0) (known : S → Option Coming) (may_break : S → Fault → Type 0)
+    (load : List Event → Ending → Load)
+    (left : List Event → List Event) (law_needed : (p : Parser S)
+    → ForHistory p (λ (a : List Token) (g : List Event). EachWasNeeded [] a [] g))
+    (law_begins : (p : Parser S) → ForHistory p BeginsEachRun) (old : Parser S) (asked : List Token)
+    (given : List Event) (history : History old asked given) where
   -- before the last of these events no load was decided
   record IsLastOf (taken : List Event) : Type 0 where
     before : List Event
@@ -85,7 +94,8 @@ module _ {S : Type 0} (gives : S → Answer → S → Type 0) (known : S → Opt
     waits : (x : Ending) → load before x ≡ last_load x
 
   abbrev Decided : Load → Parser S → List Event → DocumentOrError → Parser S → Type 0
-  Decided (Ok d) mid taken r new = (r ≡ Ok d) × (mid.config ≡ new.config) × ((rest : List Event) → left (taken ++ rest) ≡ rest)
+  Decided (Ok d) mid taken r new = (r ≡ Ok d) × (mid.config ≡ new.config)
+      × ((rest : List Event) → left (taken ++ rest) ≡ rest)
   Decided (Err f) mid taken r new = (r ≡ Err f.error) × (kept_fault new ≡ f) × IsLastOf taken
 
   abbrev StoppedSo : Ending → Parser S → DocumentOrError → Parser S → Type 0
@@ -94,11 +104,14 @@ module _ {S : Type 0} (gives : S → Answer → S → Type 0) (known : S → Opt
 
   -- how an outcome came: the events that were taken decide it, or the parser stopped, or memory ran out
   data Came (a : List Answer) (r : DocumentOrError) (new : Parser S) : Type 0 where
-    decided : (more : List Token) (taken : List Event) (mid : Parser S) (z : Load) → a ≡ answers more [] → History mid (asked ++ more) (given ++ taken)
+    decided : (more : List Token) (taken : List Event) (mid : Parser S) (z : Load) → a ≡ answers more []
+        → History mid (asked ++ more) (given ++ taken)
         → ((rest : List Event) (x : Ending) → load (taken ++ rest) x ≡ z) → Decided z mid taken r new → Came a r new
-    stopped : (more : List Token) (last : List Answer) (taken : List Event) (mid : Parser S) (x : Ending) → a ≡ answers more last
+    stopped : (more : List Token) (last : List Answer) (taken : List Event) (mid : Parser S) (x : Ending)
+        → a ≡ answers more last
         → History mid (asked ++ more) (given ++ taken) → EachNeeded (asked ++ more) last (given ++ taken)
-        → RunStop (answers (asked ++ more) last) (given ++ taken) x → ((y : Ending) → load taken y ≡ last_load y) → StoppedSo x mid r new → Came a r new
+        → RunStop (answers (asked ++ more) last) (given ++ taken) x → ((y : Ending) → load taken y ≡ last_load y)
+        → StoppedSo x mid r new → Came a r new
     out : LoadRunsOut gives load old r new asked given → Came a r new
 
   record CameBy (a : List Answer) (r : DocumentOrError) (new : Parser S) : Type 0 where
@@ -109,7 +122,8 @@ module _ {S : Type 0} (gives : S → Answer → S → Type 0) (known : S → Opt
   nothing_needed l g [] x behind e = absurd cc
   nothing_needed l g (t ∷ front) x behind e = absurd cc
 
-  outcome : (r : DocumentOrError) (new : Parser S) → IfErr r (λ x. x ≡ (kept_fault new).error) → (l : LoadsFrom gives known may_break load left old r new)
+  outcome : (r : DocumentOrError) (new : Parser S) → IfErr r (λ x. x ≡ (kept_fault new).error)
+      → (l : LoadsFrom gives known may_break load left old r new)
       → CameBy (results_in gives known may_break load left old new asked given history r l) r new
   outcome (Ok d) new k (whole taken took l f b) =
       let c = took.history asked given history in
@@ -120,15 +134,22 @@ module _ {S : Type 0} (gives : S → Answer → S → Type 0) (known : S → Opt
       record {
         gave = c.gave;
         came = stopped c.more [] taken new Ends refl c.history (nothing_needed (asked ++ c.more) (given ++ taken))
-            (ended_stop (asked ++ c.more) [] (given ++ taken) (nothing_needed (asked ++ c.more) (given ++ taken)) w) l (ap Ok e, refl);
+            (ended_stop (asked ++ c.more) [] (given ++ taken) (nothing_needed (asked ++ c.more) (given ++ taken)) w)
+            l (ap Ok e, refl);
       }
   outcome (Err x) new k (by_parser taken parser took fails l) =
       let c = took.history asked given history in
       let h = fails.history (asked ++ c.more) (given ++ taken) c.history in
-      record { gave = gave_then gives c.more h.more old.source parser.source new.source c.gave h.gave; came = go c h h.cause }
+      record {
+        gave = gave_then gives c.more h.more old.source parser.source new.source c.gave h.gave;
+        came =
+            go c h h.cause;
+      }
     where
-      go : (c : CarriedOn gives old parser asked given taken) (h : FailsBy gives parser new (asked ++ c.more) (given ++ taken))
-          → Cause parser.config (asked ++ c.more) (given ++ taken) h.more (kept_fault new) → Came (answers c.more h.more) (Err x) new
+      go : (c : CarriedOn gives old parser asked given taken)
+          (h : FailsBy gives parser new (asked ++ c.more) (given ++ taken))
+          → Cause parser.config (asked ++ c.more) (given ++ taken) h.more (kept_fault new)
+          → Came (answers c.more h.more) (Err x) new
       go c h (of_memory m e take meets f)
           = out (in_parser (ap Err (k ∙ ap (λ (z : Fault). z.error) f)) taken parser c (record {
             more = m;
@@ -166,22 +187,29 @@ module _ {S : Type 0} (gives : S → Answer → S → Type 0) (known : S → Opt
       }
 
   -- two parsers that gave the same events, over tokens of one list
-  same_kept : (p q : Parser S) (m n : List Token) (g h : List Event) → History p (asked ++ m) g → History q (asked ++ n) h → g ≡ h
-      → (r s : List Answer) → OneBegins (answers (asked ++ m) r) (answers (asked ++ n) s) → (p.config ≡ q.config) × (asked ++ m ≡ asked ++ n)
+  same_kept : (p q : Parser S) (m n : List Token) (g h : List Event) → History p (asked ++ m) g
+      → History q (asked ++ n) h → g ≡ h
+      → (r s : List Answer) → OneBegins (answers (asked ++ m) r) (answers (asked ++ n) s)
+      → (p.config ≡ q.config) × (asked ++ m ≡ asked ++ n)
   same_kept p q m n g h i j e r s o = go (token_front (asked ++ m) (asked ++ n) r s o)
     where
-      go : ((rest : List Token) × (asked ++ n ≡ (asked ++ m) ++ rest)) ⊎ ((rest : List Token) × (asked ++ m ≡ (asked ++ n) ++ rest)) → (p.config ≡ q.config) × (asked ++ m ≡ asked ++ n)
+      go : ((rest : List Token) × (asked ++ n ≡ (asked ++ m) ++ rest))
+          ⊎ ((rest : List Token) × (asked ++ m ≡ (asked ++ n) ++ rest))
+          → (p.config ≡ q.config) × (asked ++ m ≡ asked ++ n)
       go (inl k) = ran_once i j k.0 [] (sym k.1 ∙ sym (nil_right (asked ++ n))) e
       go (inr k) = ran_once i j [] k.0 (nil_right (asked ++ m) ∙ k.1) e
 
   -- where one of two lists begins the other, and both leave what follows them, they are one
-  both_leave : (a b : List Event) → ((rest : List Event) → left (a ++ rest) ≡ rest) → ((rest : List Event) → left (b ++ rest) ≡ rest) → Begins a b → a ≡ b
+  both_leave : (a b : List Event) → ((rest : List Event) → left (a ++ rest) ≡ rest)
+      → ((rest : List Event) → left (b ++ rest) ≡ rest) → Begins a b → a ≡ b
   both_leave a b g h (t, i) =
-      let j : t ++ [] ≡ [] = sym (g (t ++ [])) ∙ (ap left (sym (assoc a t []) ∙ ap (λ (v : List Event). v ++ []) (sym i)) ∙ h []) in
+      let j : t ++ [] ≡ [] = sym (g (t ++ []))
+      ∙ (ap left (sym (assoc a t []) ∙ ap (λ (v : List Event). v ++ []) (sym i)) ∙ h []) in
       sym (nil_right a) ∙ (ap (λ (v : List Event). a ++ v) (sym (empty_front t j)) ∙ sym i)
 
   -- and where the one decides the load and the other does so by its last event alone
-  both_last : (a b : List Event) (z : Load) → ((rest : List Event) (x : Ending) → load (a ++ rest) x ≡ z) → IsLastOf b → Begins a b → a ≡ b
+  both_last : (a b : List Event) (z : Load) → ((rest : List Event) (x : Ending) → load (a ++ rest) x ≡ z)
+      → IsLastOf b → Begins a b → a ≡ b
   both_last a b z l h (t, i) = go (last_of t)
     where
       go : (t ≡ []) ⊎ ((u : List Event) × (e : Event) × (t ≡ u ++ e ∷ [])) → a ≡ b
@@ -191,8 +219,10 @@ module _ {S : Type 0} (gives : S → Answer → S → Type 0) (known : S → Opt
           (sym h.all ∙ (i ∙ (ap (λ (v : List Event). a ++ v) e ∙ sym (assoc a u (x ∷ []))))) in
           absurd (not_last z (λ y. sym (l u y) ∙ (ap (λ (v : List Event). load v y) (sym n) ∙ h.waits y)))
 
-  same_taken : (r s : DocumentOrError) (p q mid other : Parser S) (a b : List Event) (z y : Load) → z ≡ y → Begins a b ⊎ Begins b a
-      → ((rest : List Event) (x : Ending) → load (a ++ rest) x ≡ z) → ((rest : List Event) (x : Ending) → load (b ++ rest) x ≡ y)
+  same_taken : (r s : DocumentOrError) (p q mid other : Parser S) (a b : List Event) (z y : Load) → z ≡ y
+      → Begins a b ⊎ Begins b a
+      → ((rest : List Event) (x : Ending) → load (a ++ rest) x ≡ z)
+      → ((rest : List Event) (x : Ending) → load (b ++ rest) x ≡ y)
       → Decided z mid a r p → Decided y other b s q → a ≡ b
   same_taken r s p q mid other a b (Ok c) (Ok d) e (inl o) l k g h = both_leave a b g.2 h.2 o
   same_taken r s p q mid other a b (Ok c) (Ok d) e (inr o) l k g h = sym (both_leave b a h.2 g.2 o)
@@ -201,13 +231,15 @@ module _ {S : Type 0} (gives : S → Answer → S → Type 0) (known : S → Opt
   same_taken r s p q mid other a b (Err f) (Err x) e (inl o) l k g h = both_last a b (Err f) l h.2 o
   same_taken r s p q mid other a b (Err f) (Err x) e (inr o) l k g h = sym (both_last b a (Err x) k g.2 o)
 
-  both_decided : (r s : DocumentOrError) (p q mid other : Parser S) (a b : List Event) (z y : Load) → z ≡ y → mid.config ≡ other.config
+  both_decided : (r s : DocumentOrError) (p q mid other : Parser S) (a b : List Event) (z y : Load) → z ≡ y
+      → mid.config ≡ other.config
       → p.max_entries ≡ q.max_entries → Decided z mid a r p → Decided y other b s q → LoadsAlike r p s q
   both_decided r s p q mid other a b (Ok c) (Ok d) e k m g h =
       record {
         result = g.0 ∙ (ap Ok (same_document c d e) ∙ sym h.0);
         bound = m;
-        behind_document = subst (λ (v : DocumentOrError). IfOk v (λ _. p.config ≡ q.config)) (sym g.0) (sym g.1 ∙ (k ∙ h.1));
+        behind_document = subst (λ (v : DocumentOrError). IfOk v (λ _. p.config ≡ q.config)) (sym g.0)
+            (sym g.1 ∙ (k ∙ h.1));
         behind_error = subst (λ (v : DocumentOrError). IfErr v (λ _. kept_fault p ≡ kept_fault q)) (sym g.0) tt;
       }
   both_decided r s p q mid other a b (Ok c) (Err f) e k m g h = absurd (ok_no_err c f e)
@@ -218,16 +250,19 @@ module _ {S : Type 0} (gives : S → Answer → S → Type 0) (known : S → Opt
         result = g.0 ∙ (ap (λ (v : Fault). Err v.error) n ∙ sym h.0);
         bound = m;
         behind_document = subst (λ (v : DocumentOrError). IfOk v (λ _. p.config ≡ q.config)) (sym g.0) tt;
-        behind_error = subst (λ (v : DocumentOrError). IfErr v (λ _. kept_fault p ≡ kept_fault q)) (sym g.0) (g.1 ∙ (n ∙ sym h.1));
+        behind_error = subst (λ (v : DocumentOrError). IfErr v (λ _. kept_fault p ≡ kept_fault q)) (sym g.0)
+            (g.1 ∙ (n ∙ sym h.1));
       }
 
-  both_stopped : (r s : DocumentOrError) (p q mid other : Parser S) (x y : Ending) → x ≡ y → mid.config ≡ other.config → StoppedSo x mid r p → StoppedSo y other s q
+  both_stopped : (r s : DocumentOrError) (p q mid other : Parser S) (x y : Ending) → x ≡ y
+      → mid.config ≡ other.config → StoppedSo x mid r p → StoppedSo y other s q
       → p.max_entries ≡ q.max_entries → LoadsAlike r p s q
   both_stopped r s p q mid other Ends Ends e k g h m =
       record {
         result = g.0 ∙ sym h.0;
         bound = m;
-        behind_document = subst (λ (v : DocumentOrError). IfOk v (λ _. p.config ≡ q.config)) (sym g.0) (sym g.1 ∙ (k ∙ h.1));
+        behind_document = subst (λ (v : DocumentOrError). IfOk v (λ _. p.config ≡ q.config)) (sym g.0)
+            (sym g.1 ∙ (k ∙ h.1));
         behind_error = subst (λ (v : DocumentOrError). IfErr v (λ _. kept_fault p ≡ kept_fault q)) (sym g.0) tt;
       }
   both_stopped r s p q mid other Ends (Fails f) e k g h m = absurd cc
@@ -238,12 +273,15 @@ module _ {S : Type 0} (gives : S → Answer → S → Type 0) (known : S → Opt
         result = g.0 ∙ (ap (λ (v : Fault). Err v.error) n ∙ sym h.0);
         bound = m;
         behind_document = subst (λ (v : DocumentOrError). IfOk v (λ _. p.config ≡ q.config)) (sym g.0) tt;
-        behind_error = subst (λ (v : DocumentOrError). IfErr v (λ _. kept_fault p ≡ kept_fault q)) (sym g.0) (g.1 ∙ (n ∙ sym h.1));
+        behind_error = subst (λ (v : DocumentOrError). IfErr v (λ _. kept_fault p ≡ kept_fault q)) (sym g.0)
+            (g.1 ∙ (n ∙ sym h.1));
       }
 
   -- what is decided by its events is no run that stopped
-  not_both : (m n : List Token) (a b : List Event) (mid : Parser S) (r s : List Answer) (z : Load) (x : Ending) → History mid (asked ++ m) (given ++ a)
-      → ((rest : List Event) (y : Ending) → load (a ++ rest) y ≡ z) → RunStop (answers (asked ++ n) s) (given ++ b) x → ((y : Ending) → load b y ≡ last_load y)
+  not_both : (m n : List Token) (a b : List Event) (mid : Parser S) (r s : List Answer) (z : Load) (x : Ending)
+      → History mid (asked ++ m) (given ++ a)
+      → ((rest : List Event) (y : Ending) → load (a ++ rest) y ≡ z)
+      → RunStop (answers (asked ++ n) s) (given ++ b) x → ((y : Ending) → load b y ≡ last_load y)
       → OneBegins (answers (asked ++ m) r) (answers (asked ++ n) s) → ⊥
   not_both m n a b mid r s z x i l stop last o =
       let w = behind_given given a b (begins_stopped (asked ++ m) r (answers (asked ++ n) s) (given ++ a) (given ++ b) x
@@ -254,22 +292,26 @@ module _ {S : Type 0} (gives : S → Answer → S → Type 0) (known : S → Opt
   turned a b (inl h) = inr h
   turned a b (inr h) = inl h
 
-  behind_asked : (a b : List Answer) (m n : List Token) (u v : List Answer) → a ≡ answers m u → b ≡ answers n v → OneBegins a b
+  behind_asked : (a b : List Answer) (m n : List Token) (u v : List Answer) → a ≡ answers m u → b ≡ answers n v
+      → OneBegins a b
       → OneBegins (answers (asked ++ m) u) (answers (asked ++ n) v)
   behind_asked a b m n u v e f o
       = absolute asked m n u v (subst (λ (z : List Answer). OneBegins z (answers n v)) e (subst (OneBegins a) f o))
 
-  one_of : (a b : List Answer) (r s : DocumentOrError) (p q : Parser S) → p.max_entries ≡ q.max_entries → OneBegins a b → Came a r p → Came b s q → OneLoad gives load old asked given a b r p s q
+  one_of : (a b : List Answer) (r s : DocumentOrError) (p q : Parser S) → p.max_entries ≡ q.max_entries
+      → OneBegins a b → Came a r p → Came b s q → OneLoad gives load old asked given a b r p s q
   one_of a b r s p q same o (out h) k = first_runs_out h
   one_of a b r s p q same o h (out k) = second_runs_out k
   one_of a b r s p q same o (decided m t mid z e i l g) (decided n u other y f j k h) =
       let w = behind_asked a b m n [] [] e f o in
-      let c = taken_comparable (asked ++ m) (asked ++ n) [] [] (given ++ t) (given ++ u) (law_begins mid (asked ++ m) (given ++ t) i)
+      let c = taken_comparable (asked ++ m) (asked ++ n) [] [] (given ++ t) (given ++ u)
+      (law_begins mid (asked ++ m) (given ++ t) i)
       (law_begins other (asked ++ n) (given ++ u) j) w in
       let d = within c in
       let v = same_taken r s p q mid other t u z y (same_load d) d l k g h in
       let kept = same_kept mid other m n (given ++ t) (given ++ u) i j (ap (λ (x : List Event). given ++ x) v) [] [] w in
-      alike (e ∙ (ap (λ (x : List Token). answers x []) (front_same asked m n kept.1) ∙ sym f)) (both_decided r s p q mid other t u z y (same_load d) kept.0 same g h)
+      alike (e ∙ (ap (λ (x : List Token). answers x []) (front_same asked m n kept.1) ∙ sym f))
+      (both_decided r s p q mid other t u z y (same_load d) kept.0 same g h)
     where
       within : Begins (given ++ t) (given ++ u) ⊎ Begins (given ++ u) (given ++ t) → Begins t u ⊎ Begins u t
       within (inl x) = inl (behind_given given t u x)
@@ -277,9 +319,11 @@ module _ {S : Type 0} (gives : S → Answer → S → Type 0) (known : S → Opt
 
       same_load : Begins t u ⊎ Begins u t → z ≡ y
       same_load (inl (x, v))
-          = sym (l (x ++ []) Ends) ∙ (ap (λ (w : List Event). load w Ends) (sym (assoc t x []) ∙ ap (λ (w : List Event). w ++ []) (sym v)) ∙ k [] Ends)
+          = sym (l (x ++ []) Ends) ∙ (ap (λ (w : List Event). load w Ends)
+          (sym (assoc t x []) ∙ ap (λ (w : List Event). w ++ []) (sym v)) ∙ k [] Ends)
       same_load (inr (x, v))
-          = sym (l [] Ends) ∙ (ap (λ (w : List Event). load w Ends) (ap (λ (w : List Event). w ++ []) v ∙ assoc u x []) ∙ k (x ++ []) Ends)
+          = sym (l [] Ends) ∙ (ap (λ (w : List Event). load w Ends)
+          (ap (λ (w : List Event). w ++ []) v ∙ assoc u x []) ∙ k (x ++ []) Ends)
   one_of a b r s p q same o (decided m t mid z e i l g) (stopped n v u other y f j needed stop last h)
       = absurd (not_both m n t u mid [] v z y i l stop last (behind_asked a b m n [] v e f o))
   one_of a b r s p q same o (stopped n v u other y f j needed stop last h) (decided m t mid z e i l g)
@@ -288,11 +332,26 @@ module _ {S : Type 0} (gives : S → Answer → S → Type 0) (known : S → Opt
   one_of a b r s p q same o (stopped m u t mid x e i needed stop last g) (stopped n v w other y f j wanted halt end h) =
       let c = behind_asked a b m n u v e f o in
       let d = one_run_by_answers (given ++ t) (given ++ w) x y
-      (record { asked = asked ++ m; last = u; needed = law_needed mid (asked ++ m) (given ++ t) i; needed_last = needed; stop = stop })
-      (record { asked = asked ++ n; last = v; needed = law_needed other (asked ++ n) (given ++ w) j; needed_last = wanted; stop = halt }) c in
+      (record {
+        asked = asked ++ m;
+        last = u;
+        needed = law_needed mid (asked ++ m) (given ++ t) i;
+        needed_last =
+            needed;
+        stop = stop;
+      })
+      (record {
+        asked = asked ++ n;
+        last = v;
+        needed = law_needed other (asked ++ n) (given ++ w) j;
+        needed_last =
+            wanted;
+        stop = halt;
+      }) c in
       let k = same_kept mid other m n (given ++ t) (given ++ w) i j d.1 u v c in
       let l : answers (asked ++ m) u ≡ answers (asked ++ m) v = d.0 ∙ ap (λ (z : List Token). answers z v) (sym k.1) in
-      alike (e ∙ (ap (answers m) (same_behind (asked ++ m) u v l) ∙ (ap (λ (z : List Token). answers z v) (front_same asked m n k.1) ∙ sym f)))
+      alike (e ∙ (ap (answers m) (same_behind (asked ++ m) u v l)
+      ∙ (ap (λ (z : List Token). answers z v) (front_same asked m n k.1) ∙ sym f)))
       (both_stopped r s p q mid other x y d.2 k.0 g h same)
 
   abbrev Of : DocumentOrError → Parser S → Type 0
@@ -310,16 +369,19 @@ module _ {S : Type 0} (gives : S → Answer → S → Type 0) (known : S → Opt
       }
 
   -- over a source of which two lists of results begin one another
-  module _ (one_source : (t u : S) (k l : List Answer) → Gave gives old.source k t → Gave gives old.source l u → OneBegins k l × (k ≡ l → t ≡ u)) where
+  module _ (one_source : (t u : S) (k l : List Answer) → Gave gives old.source k t → Gave gives old.source l u
+      → OneBegins k l × (k ≡ l → t ≡ u)) where
     pub one_way_load : (r s : DocumentOrError) (p q : Parser S) → Of r p → Of s q
-        → (LoadRunsOut gives load old r p asked given ⊎ LoadRunsOut gives load old s q asked given) ⊎ (LoadsAlike r p s q × (p.source ≡ q.source))
+        → (LoadRunsOut gives load old r p asked given ⊎ LoadRunsOut gives load old s q asked given)
+        ⊎ (LoadsAlike r p s q × (p.source ≡ q.source))
     one_way_load r s p q a b =
         let x = one_load_proof r s p q a b in
         let w = one_source p.source q.source (results_of history a) (results_of history b) x.first_gave x.second_gave in
         go (results_of history a) (results_of history b) w.1 (x.one w.0)
       where
         go : (k l : List Answer) → (k ≡ l → p.source ≡ q.source) → OneLoad gives load old asked given k l r p s q
-            → (LoadRunsOut gives load old r p asked given ⊎ LoadRunsOut gives load old s q asked given) ⊎ (LoadsAlike r p s q × (p.source ≡ q.source))
+            → (LoadRunsOut gives load old r p asked given ⊎ LoadRunsOut gives load old s q asked given)
+            ⊎ (LoadsAlike r p s q × (p.source ≡ q.source))
         go k l same (alike e h) = inr (h, same e)
         go k l same (first_runs_out h) = inl (inl h)
         go k l same (second_runs_out h) = inl (inr h)

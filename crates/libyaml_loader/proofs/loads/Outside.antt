@@ -18,11 +18,13 @@ empty_outside : (k : unnamed_yaml_event_t_data) → is_event k ≡ false → is_
 empty_outside ev.NoEvent h = refl
 empty_outside _ h = absurd cc
 
-end_outside : (k : unnamed_yaml_event_t_data) (m : yaml_mark_t) (c : Closing) → closing_in k m ≡ Some c → is_outside_event k ≡ true
+end_outside : (k : unnamed_yaml_event_t_data) (m : yaml_mark_t) (c : Closing) → closing_in k m ≡ Some c
+    → is_outside_event k ≡ true
 end_outside (ev.DocumentEnd d) m c h = refl
 end_outside _ m c h = absurd cc
 
-module _ {S : Type 0} (new : Parser S) (r : EventOrError) (e : Event) (is : r ≡ Ok e) (stands : IfOk r (λ (x : Event). is_outside_event x.content ≡ true
+module _ {S : Type 0} (new : Parser S) (r : EventOrError) (e : Event) (is : r ≡ Ok e)
+    (stands : IfOk r (λ (x : Event). is_outside_event x.content ≡ true
     → between_documents new ≡ true)) where
   pub behind_all : is_event e.content ≡ false → between_documents new ≡ true
   behind_all empty = (rw is at stands) (empty_outside e.content empty)
@@ -31,7 +33,8 @@ module _ {S : Type 0} (new : Parser S) (r : EventOrError) (e : Event) (is : r �
   behind_close m c closes = (rw is at stands) (end_outside e.content m c closes)
 
 -- after a step that does not go on
-pub behind_step : {S : Type 0} (new : Parser S) (r : Result ComposeStep yaml_error_type_t) (s : ComposeStep) → r ≡ Ok s → (s ≡ step.Composed → ⊥)
+pub behind_step : {S : Type 0} (new : Parser S) (r : Result ComposeStep yaml_error_type_t) (s : ComposeStep)
+    → r ≡ Ok s → (s ≡ step.Composed → ⊥)
     → IfOk r (λ (x : ComposeStep). (x ≡ step.Composed) ⊎ (between_documents new ≡ true)) → between_documents new ≡ true
 behind_step new r s is more stands = go (rw is at stands)
   where

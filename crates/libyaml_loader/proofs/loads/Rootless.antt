@@ -23,16 +23,21 @@ no_fault : {f : Fault} {d : Document} → ◌≡◌ {A = Load} (Err f) (Ok d) �
 no_fault h = cc
 
 module _ (roots_follow : (l : List Event) → NestsSoFar l → RootsFollow l)
-    (without_nodes : (l : List Event) (x : Ending) (n : ℕ) (d : Document) → RootsFollow l → next_bounded n l x ≡ Ok d → d.nodes ≡ []
-    → (bounded_loads n l x ≡ Ok d ∷ []) × (last_load x ≡ Ok d)) {S : Type 0} (gives : S → Answer → S → Type 0) (known : S → Option Coming)
+    (without_nodes : (l : List Event) (x : Ending) (n : ℕ) (d : Document) → RootsFollow l
+    → next_bounded n l x ≡ Ok d → d.nodes ≡ []
+    → (bounded_loads n l x ≡ Ok d ∷ []) × (last_load x ≡ Ok d)) {S : Type 0} (gives : S → Answer → S → Type 0)
+    (known : S → Option Coming)
     (MayBreak : S → Fault → Type 0) (n : ℕ) (old new : Parser S)
     (nests : ForHistory new (λ (asked : List Token) (given : List Event). NestsSoFar given)) where
-  ended_of : (d : Document) → Loads gives known (next_bounded n) left_over old new d → d.nodes ≡ [] → ForHistory old (λ _ _. HasEnded new)
+  ended_of : (d : Document) → Loads gives known (next_bounded n) left_over old new d → d.nodes ≡ []
+      → ForHistory old (λ _ _. HasEnded new)
   ended_of d (whole taken took loads left between) none asked given history =
       let on = took.history asked given history in
-      let roots = roots_behind given taken (roots_follow (given ++ taken) (nests (asked ++ on.more) (given ++ taken) on.history)) in
+      let roots = roots_behind given taken
+      (roots_follow (given ++ taken) (nests (asked ++ on.more) (given ++ taken) on.history)) in
       let x = Fails memory_fault in
-      absurd (no_fault (without_nodes taken x n d roots (ap (λ (l : List Event). next_bounded n l x) (sym (append-nil taken)) ∙ loads [] x) none).1)
+      absurd (no_fault (without_nodes taken x n d roots
+      (ap (λ (l : List Event). next_bounded n l x) (sym (append-nil taken)) ∙ loads [] x) none).1)
   ended_of d (at_end taken took loads left ends is has_ended) none asked given history = has_ended asked given history
 
   pub rootless : (r : DocumentOrError) → LoadsFrom gives known MayBreak (next_bounded n) left_over old r new

@@ -1,5 +1,6 @@
 -- What one call of the parser says of the events that a load takes.
-use Rattle.std.proofs.Common.{◌≡◌, ◌||◌, ℕ, ◌++◌, ◌∷◌, List, [], Option, Some, Bool, Ok, Err, true, false, refl, sym, ap, ◌∙◌, subst, append_assoc}
+use Rattle.std.proofs.Common.{◌≡◌, ◌||◌, ℕ, ◌++◌, ◌∷◌, List, [], Option, Some, Bool, Ok, Err, true, false, refl, sym}
+use Rattle.std.proofs.Common.{ap, ◌∙◌, subst, append_assoc}
 use Rattle.libyaml_types.specs.declared.enums.yaml_error_type_t.{yaml_error_type_t}
 use Rattle.libyaml_types.specs.declared.enums.yaml_parser_state_t.{yaml_parser_state_t}
 use Rattle.libyaml_types.specs.declared.enums.yaml_parser_state_t.TheVariants.{YAML_PARSE_END_STATE}
@@ -12,7 +13,8 @@ use Rattle.libyaml_events.specs.sources.CallsInTurn.{CarriedOn}
 use Rattle.libyaml_events.specs.machine.Config.{Parser, is_between, is_end_state, is_fault}
 use Rattle.libyaml_grammar.specs.sentences.Events.{Event}
 use Rattle.libyaml_sources.specs.Fault.{Answer, Fault}
-use Rattle.libyaml_events.specs.sources.History.{ForHistory, History, answers, between_documents, has_failed, is_over, kept_fault}
+use Rattle.libyaml_events.specs.sources.History.{ForHistory, History, answers, between_documents, has_failed, is_over}
+use Rattle.libyaml_events.specs.sources.History.{kept_fault}
 use Rattle.libyaml_events.specs.sources.ParsesNext.{ParsesNext}
 use Rattle.libyaml_events.specs.sources.Parsing.{CarriesOn, FailsBy, IsWhole}
 use Rattle.libyaml_events.specs.sources.RunToCome.{FailsHere, RestOfRun, RunToCome}
@@ -36,7 +38,8 @@ over_between false _ h = absurd cc
 pub ended_between : {S : Type 0} (p : Parser S) → is_over p ≡ true → between_documents p ≡ true
 ended_between p h = over_between (is_fault (kept_fault p).error) p.config.state h
 
-outside_end : (st : Stage) (content : unnamed_yaml_event_t_data) (m : yaml_mark_t) (c : Closing) → closing_in content m ≡ Some c
+outside_end : (st : Stage) (content : unnamed_yaml_event_t_data) (m : yaml_mark_t) (c : Closing)
+    → closing_in content m ≡ Some c
     → is_outside (after st content) ≡ true
 outside_end st (ev.DocumentEnd d) m c h = refl
 outside_end st _ m c h = absurd cc
@@ -45,17 +48,24 @@ module _ {S : Type 0} (gives : S → Answer → S → Type 0) (known : S → Opt
   pub took_none : (p : Parser S) → Took gives known p p []
   took_none p = record {
     history = λ (asked : List Token) (given : List Event) (h : History p asked given). no_call gives p p p asked given h;
-    runs = λ (events : List Event) (ending : Ending) (run : RunToCome known p events ending). record { later = events; all = refl; run = run };
+    runs = λ (events : List Event) (ending : Ending) (run : RunToCome known p events ending). record
+        { later = events; all = refl; run = run };
   }
 
-  pub took_both : (old mid new : Parser S) (a b : List Event) → Took gives known old mid a → Took gives known mid new b → Took gives known old new (a ++ b)
+  pub took_both : (old mid new : Parser S) (a b : List Event) → Took gives known old mid a
+      → Took gives known mid new b → Took gives known old new (a ++ b)
   took_both old mid new a b x y = record {
     history = λ (asked : List Token) (given : List Event) (h : History old asked given). let c
         = x.history asked given h in both_calls gives old mid new asked given a b c (y.history _ _ c.history);
     runs = λ (events : List Event) (ending : Ending) (run : RunToCome known old events ending).
         let l = x.runs events ending run in
         let m = y.runs l.later ending l.run in
-        record { later = m.later; all = l.all ∙ ap (λ (r : List Event). a ++ r) m.all ∙ sym (append_assoc a b m.later); run = m.run };
+        record {
+          later = m.later;
+          all = l.all ∙ ap (λ (r : List Event). a ++ r) m.all
+              ∙ sym (append_assoc a b m.later);
+          run = m.run;
+        };
   }
 
   module _ (old new : Parser S) (r : EventOrError) where
@@ -65,9 +75,12 @@ module _ {S : Type 0} (gives : S → Answer → S → Type 0) (known : S → Opt
       pub parses : ParsesNext gives token_bound known MayBreak old r new
       pub no_fault : (p : Parser S) → ForHistory p (λ (asked : List Token) (given : List Event). has_failed p ≡ false)
       pub whole : (p : Parser S) → is_over p ≡ true → ForHistory p IsWhole
-      pub further : (p q : Parser S) (more : List Token) (events to_come : List Event) (ending : Ending) (run : RunToCome known p to_come ending)
-          → Gave gives p.source (answers more []) q.source → History q (run.asked ++ more) (run.given ++ events) → RestOfRun known q events to_come ending
-      pub fails : (p q : Parser S) (to_come : List Event) (ending : Ending) (run : RunToCome known p to_come ending) → FailsBy gives p q run.asked run.given
+      pub further : (p q : Parser S) (more : List Token) (events to_come : List Event) (ending : Ending)
+          (run : RunToCome known p to_come ending)
+          → Gave gives p.source (answers more []) q.source → History q (run.asked ++ more) (run.given ++ events)
+          → RestOfRun known q events to_come ending
+      pub fails : (p q : Parser S) (to_come : List Event) (ending : Ending) (run : RunToCome known p to_come ending)
+          → FailsBy gives p q run.asked run.given
           → FailsHere (MayBreak q.source) (kept_fault q) to_come ending
 
     module _ (c : Called) (e : Event) (is : r ≡ Ok e) where
@@ -84,7 +97,8 @@ module _ {S : Type 0} (gives : S → Answer → S → Type 0) (known : S → Opt
           go false h = h
           go true h = absurd (no (sym an_event ∙ ap (λ (x : Event). is_event x.content) (same (c.parses.ended h).0)))
 
-      carried : is_event e.content ≡ true → (asked : List Token) (given : List Event) → History old asked given → CarriesOn gives old e new asked given
+      carried : is_event e.content ≡ true → (asked : List Token) (given : List Event) → History old asked given
+          → CarriesOn gives old e new asked given
       carried an_event = rw is at (c.parses.carries_on (running an_event))
 
       pub took_event : is_event e.content ≡ true → Took gives known old new (e ∷ [])
@@ -96,13 +110,16 @@ module _ {S : Type 0} (gives : S → Answer → S → Type 0) (known : S → Opt
       }
 
       -- after a document's end the parser stands between documents
-      pub behind_end : is_event e.content ≡ true → (asked : List Token) (given : List Event) → History old asked given → (d : Closing) → closing_of e ≡ Some d
+      pub behind_end : is_event e.content ≡ true → (asked : List Token) (given : List Event)
+          → History old asked given → (d : Closing) → closing_of e ≡ Some d
           → between_documents new ≡ true
       behind_end an_event asked given h d closes =
           let on = carried an_event asked given h in
-          c.parses.between _ _ on.history ∙ ap is_outside (stage_more at_start given (e ∷ [])) ∙ outside_end (stage_of given) e.content e.end_mark d closes
+          c.parses.between _ _ on.history ∙ ap is_outside (stage_more at_start given (e ∷ []))
+          ∙ outside_end (stage_of given) e.content e.end_mark d closes
 
-      over : is_event e.content ≡ false → (asked : List Token) (given : List Event) → History old asked given → is_over old ≡ true
+      over : is_event e.content ≡ false → (asked : List Token) (given : List Event) → History old asked given
+          → is_over old ≡ true
       over empty asked given history = go (is_over old) refl
         where
           go : (b : Bool) → is_over old ≡ b → is_over old ≡ true
@@ -112,24 +129,32 @@ module _ {S : Type 0} (gives : S → Answer → S → Type 0) (known : S → Opt
       pub finds_end : is_event e.content ≡ false → FindsEnd gives known old new
       finds_end empty = record {
         took = record {
-          history = λ (asked : List Token) (given : List Event) (h : History old asked given). subst (λ (p : Parser S). CarriedOn gives old p asked given [])
+          history = λ (asked : List Token) (given : List Event) (h : History old asked given).
+              subst (λ (p : Parser S). CarriedOn gives old p asked given [])
               (sym (c.parses.ended (over empty asked given h)).1) (no_call gives old old old asked given h);
           runs = λ (events : List Event) (ending : Ending) (run : RunToCome known old events ending). record {
             later = events;
             all = refl;
             run
-                = subst (λ (p : Parser S). RunToCome known p events ending) (sym (c.parses.ended (over empty run.asked run.given run.history)).1) run;
+                = subst (λ (p : Parser S). RunToCome known p events ending)
+                (sym (c.parses.ended (over empty run.asked run.given run.history)).1) run;
           };
         };
         ends = λ (events : List Event) (ending : Ending) (run : RunToCome known old events ending).
             let h = over empty run.asked run.given run.history in
             let s = (c.parses.ended h).1 in
-            c.parses.nothing_behind_end (ap is_over s ∙ h) events ending (subst (λ (p : Parser S). RunToCome known p events ending) (sym s) run);
+            c.parses.nothing_behind_end (ap is_over s ∙ h) events ending
+            (subst (λ (p : Parser S). RunToCome known p events ending) (sym s) run);
         stands = λ (asked : List Token) (given : List Event) (history : History old asked given).
             let h = over empty asked given history in
             let s = (c.parses.ended h).1 in
             let over : is_over new ≡ true = ap is_over s ∙ h in
-            record { over = over; no_fault = ap has_failed s ∙ c.no_fault old asked given history; whole = c.whole new over };
+            record {
+              over = over;
+              no_fault = ap has_failed s ∙ c.no_fault old asked given history;
+              whole =
+                  c.whole new over;
+            };
       }
 
     pub parser_fails : Called → (x : yaml_error_type_t) → r ≡ Err x → ParserFails gives known MayBreak old new
@@ -137,5 +162,6 @@ module _ {S : Type 0} (gives : S → Answer → S → Type 0) (known : S → Opt
       history = rw is at c.parses.fails;
       none_held = rw is at c.parses.none_held;
       depth_left = rw is at c.parses.depth_left;
-      runs = λ events ending run. c.fails old new events ending run ((rw is at c.parses.fails) run.asked run.given run.history);
+      runs = λ events ending run. c.fails old new events ending run
+          ((rw is at c.parses.fails) run.asked run.given run.history);
     }

@@ -6,12 +6,14 @@ use Rattle.libyaml_grammar.specs.sentences.Events.{Event}
 use Rattle.libyaml_graphs.specs.machine.Loader.{State}
 use Rattle.libyaml_sources.specs.Fault.{Fault, fault_of}
 use Rattle.libyaml_loader.specs.declared.composer.Composer.{Composer}
-use Rattle.libyaml_loader.specs.pushes.Composing.{Composes, IsSound, RefusesEvent, RefusesOneOf, by_loads, by_memory, state_of}
+use Rattle.libyaml_loader.specs.pushes.Composing.{Composes, IsSound, RefusesEvent, RefusesOneOf, by_loads, by_memory}
+use Rattle.libyaml_loader.specs.pushes.Composing.{state_of}
 use Rattle.libyaml_loader.specs.pushes.Leads.{Leads, NeedsMemoryAt, for_document, for_node}
 use Rattle.libyaml_loader.proofs.pushes.Leading.{leads_both}
 
 -- of some events the first were composed, and these are left
-pub record InTurn (old : Composer) (events : List Event) (before : List Document) (now : Composer) (left : List Event) (after : List Document) : Type 0 where
+pub record InTurn (old : Composer) (events : List Event) (before : List Document) (now : Composer)
+    (left : List Event) (after : List Document) : Type 0 where
   pub composed : List Event
   pub all : events ≡ composed ++ left
   pub added : List Document
@@ -31,7 +33,8 @@ front_none [] b h = refl
 front_none (x ∷ a) b h = absurd cc
 
 -- no event changes nothing
-pub none_turn : (old now : Composer) (events : List Event) (before after : List Document) (left : List Event) → InTurn old events before now left after → events ≡ []
+pub none_turn : (old now : Composer) (events : List Event) (before after : List Document) (left : List Event)
+    → InTurn old events before now left after → events ≡ []
     → (now ≡ old) × (after ≡ before)
 none_turn old now events before after left turn h = turn.unchanged (front_none turn.composed left (sym turn.all ∙ h))
 
@@ -40,11 +43,13 @@ pub some_turn : (old now : Composer) (events : List Event) (before after : List 
 some_turn old now events before after e left turn h = not_none turn.composed e left (sym turn.all ∙ h)
 
 -- a list that has more room
-needs_more : (Full More : Type 0) (here : State) (e : Event) → (Full → More) → NeedsMemoryAt Full here e → NeedsMemoryAt More here e
+needs_more : (Full More : Type 0) (here : State) (e : Event) → (Full → More) → NeedsMemoryAt Full here e
+    → NeedsMemoryAt More here e
 needs_more Full More here e f (for_node o l is grows) = for_node o l is grows
 needs_more Full More here e f (for_document c is full) = for_document c is (f full)
 
-refuses_more : (Full More : Type 0) (n : ℕ) (here : State) (e : Event) (g : Fault) → (Full → More) → RefusesEvent Full n here e g → RefusesEvent More n here e g
+refuses_more : (Full More : Type 0) (n : ℕ) (here : State) (e : Event) (g : Fault) → (Full → More)
+    → RefusesEvent Full n here e g → RefusesEvent More n here e g
 refuses_more Full More n here e g f (by_loads h) = by_loads h
 refuses_more Full More n here e g f (by_memory is h) = by_memory is (needs_more Full More here e f h)
 
@@ -53,9 +58,11 @@ module _ (old now new : Composer) (events : List Event) (before docs after : Lis
   all_added : (more : List Document) → after ≡ docs ++ more → after ≡ before ++ (turn.added ++ more)
   all_added more h = h ∙ (ap (λ (l : List Document). l ++ more) turn.appended ∙ append_assoc before turn.added more)
 
-  pub next_turn : (r : Result (Unit {0}) yaml_error_type_t) (u : Unit {0}) → r ≡ Ok u → Composes Full now (e ∷ []) docs r new after → IsSound new → new.max_entries ≡ now.max_entries
+  pub next_turn : (r : Result (Unit {0}) yaml_error_type_t) (u : Unit {0}) → r ≡ Ok u
+      → Composes Full now (e ∷ []) docs r new after → IsSound new → new.max_entries ≡ now.max_entries
       → new.fault ≡ now.fault → InTurn old events before new left after
-  next_turn r u is h sound bound fault = by (subst (λ (q : Result (Unit {0}) yaml_error_type_t). Composes Full now (e ∷ []) docs q new after) is h)
+  next_turn r u is h sound bound fault =
+      by (subst (λ (q : Result (Unit {0}) yaml_error_type_t). Composes Full now (e ∷ []) docs q new after) is h)
     where
       by : Composes Full now (e ∷ []) docs (Ok u) new after → InTurn old events before new left after
       by k = record {
@@ -63,7 +70,8 @@ module _ (old now new : Composer) (events : List Event) (before docs after : Lis
         all = turn.all ∙ sym (append_assoc turn.composed (e ∷ []) left);
         added = turn.added ++ k.added;
         appended = all_added k.added k.appended;
-        leads = leads_both old.max_entries (state_of old.open) (state_of now.open) (state_of new.open) turn.composed (e ∷ []) turn.added k.added turn.leads
+        leads = leads_both old.max_entries (state_of old.open) (state_of now.open) (state_of new.open) turn.composed
+            (e ∷ []) turn.added k.added turn.leads
             (subst (λ (n : ℕ). Leads n (state_of now.open) (e ∷ []) k.added (state_of new.open)) turn.bound k.ends_so);
         sound = sound;
         bound = bound ∙ turn.bound;
@@ -71,7 +79,8 @@ module _ (old now new : Composer) (events : List Event) (before docs after : Lis
         unchanged = λ h. absurd (not_none turn.composed e [] h);
       }
 
-  pub refused_turn : (More : Type 0) → (Full → More) → (r q : Result (Unit {0}) yaml_error_type_t) (x y : yaml_error_type_t) → r ≡ Err x → q ≡ Err y
+  pub refused_turn : (More : Type 0) → (Full → More)
+      → (r q : Result (Unit {0}) yaml_error_type_t) (x y : yaml_error_type_t) → r ≡ Err x → q ≡ Err y
       → Composes Full now (e ∷ []) docs r new after → Composes More old events before q new after
   refused_turn More f r q x y is so h
       = subst (λ (p : Result (Unit {0}) yaml_error_type_t). Composes More old events before p new after) (sym so)
@@ -80,7 +89,8 @@ module _ (old now new : Composer) (events : List Event) (before docs after : Lis
       by : Composes Full now (e ∷ []) docs (Err x) new after → Composes More old events before (Err y) new after
       by k =
           let i : RefusesOneOf Full old.max_entries (state_of now.open) (e ∷ []) k.added (fault_of new.fault)
-          = subst (λ (n : ℕ). RefusesOneOf Full n (state_of now.open) (e ∷ []) k.added (fault_of new.fault)) turn.bound k.ends_so in
+          = subst (λ (n : ℕ). RefusesOneOf Full n (state_of now.open) (e ∷ []) k.added (fault_of new.fault))
+          turn.bound k.ends_so in
           record {
             added = turn.added ++ k.added;
             appended = all_added k.added k.appended;
@@ -92,7 +102,8 @@ module _ (old now new : Composer) (events : List Event) (before docs after : Lis
                   ∙ (ap (λ (l : List Event). turn.composed ++ l) (append_assoc i.composed (i.event ∷ i.later) left)
                   ∙ sym (append_assoc turn.composed i.composed (i.event ∷ (i.later ++ left)))));
               here = i.here;
-              leads = leads_both old.max_entries (state_of old.open) (state_of now.open) i.here turn.composed i.composed turn.added k.added turn.leads i.leads;
+              leads = leads_both old.max_entries (state_of old.open) (state_of now.open) i.here turn.composed
+                  i.composed turn.added k.added turn.leads i.leads;
               refuses = refuses_more Full More old.max_entries i.here i.event (fault_of new.fault) f i.refuses;
             };
           }

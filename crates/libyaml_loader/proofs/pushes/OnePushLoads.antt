@@ -17,7 +17,8 @@ use Rattle.libyaml_graphs.specs.loads.Loads.{Load, last_load}
 use Rattle.libyaml_graphs.specs.machine.Loader.{State, between}
 use Rattle.libyaml_loader.specs.pushes.Leads.{Leads, as_loads, loads_from}
 use Rattle.libyaml_loader.specs.pushes.Loaded.{Loaded, PushLoader, fault_in, has_stopped, standing}
-use Rattle.libyaml_loader.specs.pushes.OnePushLoads.{OnePushLoads, PushLoadsAlike, PushLoadsRunOut, alike, first_runs_out, second_runs_out}
+use Rattle.libyaml_loader.specs.pushes.OnePushLoads.{OnePushLoads, PushLoadsAlike, PushLoadsRunOut, alike}
+use Rattle.libyaml_loader.specs.pushes.OnePushLoads.{first_runs_out, second_runs_out}
 use Rattle.libyaml_loader.specs.pushes.PushesLoads.{AreThen, PushesLoads, StopsLoading, TakesLoads, by_memory, by_tokens}
 use Rattle.libyaml_loader.proofs.pushes.Leading.{from_none}
 
@@ -50,12 +51,14 @@ same_then (c ∷ a) (d ∷ b) x y e =
     let h = document_same c d (first_same (Ok c) (Ok d) (as_loads a ++ x ∷ []) (as_loads b ++ y ∷ []) e) in
     (ap (λ (l : List Document). c ∷ l) r.0 ∙ ap (λ (f : Document). f ∷ b) h, r.1)
 
-same_loads : (n : ℕ) (l : List Token) (f : Fault) (a b : List Load) → IsBoundedLoads n l f a → IsBoundedLoads n l f b → a ≡ b
+same_loads : (n : ℕ) (l : List Token) (f : Fault) (a b : List Load) → IsBoundedLoads n l f a
+    → IsBoundedLoads n l f b → a ≡ b
 same_loads n l f a b h k =
     let o = one_run_proof l f h.events k.events h.ending k.ending h.run k.run in
     h.all ∙ (ap (λ (e : List Event). bounded_loads n e h.ending) o.0 ∙ (ap (bounded_loads n k.events) o.1 ∙ sym k.all))
 
-same_are : (n : ℕ) (l : List Token) (f : Fault) (a b : List Document) (x y : Load) → AreThen n l f a x → AreThen n l f b y → (a ≡ b) × (x ≡ y)
+same_are : (n : ℕ) (l : List Token) (f : Fault) (a b : List Document) (x y : Load) → AreThen n l f a x
+    → AreThen n l f b y → (a ≡ b) × (x ≡ y)
 same_are n l f a b x y h k = same_then a b x y (same_loads n l f (as_loads a ++ x ∷ []) (as_loads b ++ y ∷ []) h k)
 
 -- the documents that events lead to
@@ -63,8 +66,10 @@ ends_there : (n : ℕ) (events : List Event) (a : List Document) (s : State) →
     → loads_from n between (events ++ []) Ends ≡ as_loads a ++ last_load Ends ∷ []
 ends_there n events a s h = h.loads [] Ends ∙ ap (λ (l : List Load). as_loads a ++ l) (from_none n s Ends)
 
-pub one_loaded_proof : ((p q : PushParser) (l : List Token) (g h : List Event) → Pushed p l g → Pushed q l h → (p ≡ q) × (g ≡ h)) → (p q : PushLoader)
-    (tokens : List Token) (a b : List Document) → p.max_entries ≡ q.max_entries → Loaded p tokens a → Loaded q tokens b → (p ≡ q) × (a ≡ b)
+pub one_loaded_proof : ((p q : PushParser) (l : List Token) (g h : List Event) → Pushed p l g → Pushed q l h
+    → (p ≡ q) × (g ≡ h)) → (p q : PushLoader)
+    (tokens : List Token) (a b : List Document) → p.max_entries ≡ q.max_entries → Loaded p tokens a
+    → Loaded q tokens b → (p ≡ q) × (a ≡ b)
 one_loaded_proof one p q tokens a b bound h k =
     let s = one p.parser q.parser tokens h.events k.events h.pushed k.pushed in
     let led : Leads p.max_entries between h.events b q.state =
@@ -75,7 +80,8 @@ one_loaded_proof one p q tokens a b bound h k =
     let f : p.fault ≡ q.fault = h.none_kept ∙ sym k.none_kept in (
       ap (λ (x : PushParser). standing x p.state p.fault p.max_entries) s.0
           ∙ (ap (λ (x : State). standing q.parser x p.fault p.max_entries) here
-          ∙ (ap (λ (x : Fault). standing q.parser q.state x p.max_entries) f ∙ ap (standing q.parser q.state q.fault) bound)),
+          ∙ (ap (λ (x : Fault). standing q.parser q.state x p.max_entries) f
+          ∙ ap (standing q.parser q.state q.fault) bound)),
       (same_then a b (last_load Ends) (last_load Ends)
           (sym (ends_there p.max_entries h.events a p.state h.leads) ∙ ends_there p.max_entries h.events b q.state led)).0,
     )
@@ -86,11 +92,13 @@ data LoadsSo (n : ℕ) (l : List Token) (g : List Document) : Type 0 where
   to_end : ((f : Fault) → AreThen n (l ++ []) f g (last_load Ends)) → LoadsSo n l g
 
 -- so its loads have no fault of their own
-no_failure : (n : ℕ) (l : List Token) (g k : List Document) (x : Fault) → LoadsSo n l g → ((f : Fault) → AreThen n (l ++ []) f k (Err x)) → ⊥
+no_failure : (n : ℕ) (l : List Token) (g k : List Document) (x : Fault) → LoadsSo n l g
+    → ((f : Fault) → AreThen n (l ++ []) f k (Err x)) → ⊥
 no_failure n l g k x (to_end r) s = never (last_load Ends) refl
   where
     never : (y : Load) → last_load Ends ≡ y → ⊥
-    never (Ok d) i = ok_no_err d x (sym i ∙ (same_are n (l ++ []) no_fault g k (last_load Ends) (Err x) (r no_fault) (s no_fault)).1)
+    never (Ok d) i = ok_no_err d x
+        (sym i ∙ (same_are n (l ++ []) no_fault g k (last_load Ends) (Err x) (r no_fault) (s no_fault)).1)
     never (Err f) i = absurd (by i)
       where
         by : last_load Ends ≡ Err f → ⊥
@@ -99,13 +107,16 @@ no_failure n l g k x (so_far r) s = apart (each no_fault) (each memory_fault)
   where
     each : (f : Fault) → f ≡ x
     each f = fault_same f x
-        (same_are n (l ++ []) f g k (Err f) (Err x) (subst (λ (y : List Token). AreThen n y f g (Err f)) (sym (nil_right l)) (r f)) (s f)).1
+        (same_are n (l ++ []) f g k (Err f) (Err x)
+        (subst (λ (y : List Token). AreThen n y f g (Err f)) (sym (nil_right l)) (r f)) (s f)).1
 
     apart : no_fault ≡ x → memory_fault ≡ x → ⊥
     apart e f = let i = ap (λ (y : Fault). y.error) (e ∙ sym f) in cc
 
-module _ (one : (p q : PushParser) (l : List Token) (g h : List Event) → Pushed p l g → Pushed q l h → (p ≡ q) × (g ≡ h)) (old : PushLoader) (t : Token)
-    (before : List Document) (tokens : List Token) (documents : List Document) (h : Loaded old tokens documents) (running : has_stopped old ≡ false) where
+module _ (one : (p q : PushParser) (l : List Token) (g h : List Event) → Pushed p l g → Pushed q l h
+    → (p ≡ q) × (g ≡ h)) (old : PushLoader) (t : Token)
+    (before : List Document) (tokens : List Token) (documents : List Document) (h : Loaded old tokens documents)
+    (running : has_stopped old ≡ false) where
   abbrev now : List Token
   now = tokens ++ t ∷ []
 
@@ -114,10 +125,12 @@ module _ (one : (p q : PushParser) (l : List Token) (g h : List Event) → Pushe
     went : (added : List Document) → r ≡ Ok tt → after ≡ before ++ added → Loaded new now (documents ++ added)
         → LoadsSo old.max_entries now (documents ++ added) → Ended Full r new after
     failed : (added : List Document) → r ≡ Err (fault_in new).error → after ≡ before ++ added
-        → ((f : Fault) → AreThen old.max_entries (now ++ []) f (documents ++ added) (Err (fault_in new))) → Ended Full r new after
+        → ((f : Fault) → AreThen old.max_entries (now ++ []) f (documents ++ added) (Err (fault_in new)))
+        → Ended Full r new after
     ran_out : PushLoadsRunOut Full now documents before r new after → Ended Full r new after
 
-  ended : (Full : Type 0) (r : Done) (new : PushLoader) (after : List Document) → PushesLoads Full old t before r new after → Ended Full r new after
+  ended : (Full : Type 0) (r : Done) (new : PushLoader) (after : List Document)
+      → PushesLoads Full old t before r new after → Ended Full r new after
   ended Full (Ok u) new after p = went k.added refl k.appended (k.ends_so tokens documents h)
       (subst (λ (n : ℕ). LoadsSo n now (documents ++ k.added)) p.bound (by (has_end now) refl))
     where
@@ -147,28 +160,41 @@ module _ (one : (p q : PushParser) (l : List Token) (g h : List Event) → Pushe
         needs = needs;
       })
 
-  alike_ok : (r s : Done) (p q : PushLoader) (after later : List Document) → r ≡ Ok tt → s ≡ Ok tt → after ≡ later → p.max_entries ≡ q.max_entries
+  alike_ok : (r s : Done) (p q : PushLoader) (after later : List Document) → r ≡ Ok tt → s ≡ Ok tt → after ≡ later
+      → p.max_entries ≡ q.max_entries
       → p ≡ q → PushLoadsAlike r p after s q later
-  alike_ok (Ok u) s p q after later i j e b f = record { result = i ∙ sym j; appended = e; bound = b; behind_push = f; behind_error = tt }
+  alike_ok (Ok u) s p q after later i j e b f =
+      record { result = i ∙ sym j; appended = e; bound = b; behind_push = f; behind_error = tt }
   alike_ok (Err x) s p q after later i j e b f = absurd (no x i)
     where
       no : (x : yaml_error_type_t) → ◌≡◌ {A = Done} (Err x) (Ok tt) → ⊥
       no x k = cc
 
-  alike_err : (r s : Done) (p q : PushLoader) (after later : List Document) → r ≡ Err (fault_in p).error → s ≡ Err (fault_in q).error → after ≡ later
+  alike_err : (r s : Done) (p q : PushLoader) (after later : List Document) → r ≡ Err (fault_in p).error
+      → s ≡ Err (fault_in q).error → after ≡ later
       → p.max_entries ≡ q.max_entries → fault_in p ≡ fault_in q → PushLoadsAlike r p after s q later
   alike_err (Err x) s p q after later i j e b f
-      = record { result = i ∙ (ap (λ (y : Fault). Err y.error) f ∙ sym j); appended = e; bound = b; behind_push = tt; behind_error = f }
+      = record {
+        result = i ∙ (ap (λ (y : Fault). Err y.error) f ∙ sym j);
+        appended = e;
+        bound = b;
+        behind_push =
+            tt;
+        behind_error = f;
+      }
   alike_err (Ok u) s p q after later i j e b f = absurd (no u (fault_in p).error i)
     where
       no : (u : Unit {0}) (x : yaml_error_type_t) → ◌≡◌ {A = Done} (Ok u) (Err x) → ⊥
       no u x k = cc
 
-  both_added : (a b : List Document) (after later : List Document) → after ≡ before ++ a → later ≡ before ++ b → documents ++ a ≡ documents ++ b
+  both_added : (a b : List Document) (after later : List Document) → after ≡ before ++ a → later ≡ before ++ b
+      → documents ++ a ≡ documents ++ b
       → after ≡ later
-  both_added a b after later i j e = i ∙ (ap (λ (y : List Document). before ++ y) (append_cancel_left documents a b e) ∙ sym j)
+  both_added a b after later i j e = i
+      ∙ (ap (λ (y : List Document). before ++ y) (append_cancel_left documents a b e) ∙ sym j)
 
-  pub one_push_loads : (Full More : Type 0) (p q : PushLoader) (after later : List Document) (r s : Done) → PushesLoads Full old t before r p after
+  pub one_push_loads : (Full More : Type 0) (p q : PushLoader) (after later : List Document) (r s : Done)
+      → PushesLoads Full old t before r p after
       → PushesLoads More old t before s q later → OnePushLoads Full More now documents before r p after s q later
   one_push_loads Full More p q after later r s x y = go (ended Full r p after x) (ended More s q later y)
     where
@@ -184,14 +210,20 @@ module _ (one : (p q : PushParser) (l : List Token) (g h : List Event) → Pushe
       go (went a i j k l) (went b i' j' k' l') =
           let o = one_loaded_proof one p q now (documents ++ a) (documents ++ b) bound k k' in
           alike (alike_ok r s p q after later i i' (both_added a b after later j j' o.1) bound o.0)
-      go (went a i j k l) (failed b i' j' loads) = absurd (no_failure n now (documents ++ a) (documents ++ b) (fault_in q) l loads)
-      go (failed a i j loads) (went b i' j' k l) = absurd (no_failure n now (documents ++ b) (documents ++ a) (fault_in p) l loads)
+      go (went a i j k l) (failed b i' j' loads) =
+          absurd (no_failure n now (documents ++ a) (documents ++ b) (fault_in q) l loads)
+      go (failed a i j loads) (went b i' j' k l) =
+          absurd (no_failure n now (documents ++ b) (documents ++ a) (fault_in p) l loads)
       go (failed a i j loads) (failed b i' j' more) =
-          let o = same_are n (now ++ []) no_fault (documents ++ a) (documents ++ b) (Err (fault_in p)) (Err (fault_in q)) (loads no_fault) (more no_fault) in
-          alike (alike_err r s p q after later i i' (both_added a b after later j j' o.0) bound (fault_same (fault_in p) (fault_in q) o.1))
+          let o = same_are n (now ++ []) no_fault (documents ++ a) (documents ++ b) (Err (fault_in p))
+          (Err (fault_in q)) (loads no_fault) (more no_fault) in
+          alike (alike_err r s p q after later i i' (both_added a b after later j j' o.0) bound
+          (fault_same (fault_in p) (fault_in q) o.1))
 
-pub stopped_push_loads : (Full More : Type 0) (old p q : PushLoader) (t : Token) (before after later : List Document) (r s : Done) → has_stopped old ≡ true
-    → PushesLoads Full old t before r p after → PushesLoads More old t before s q later → (r ≡ s) × (p ≡ q) × (after ≡ later)
+pub stopped_push_loads : (Full More : Type 0) (old p q : PushLoader) (t : Token)
+    (before after later : List Document) (r s : Done) → has_stopped old ≡ true
+    → PushesLoads Full old t before r p after → PushesLoads More old t before s q later
+    → (r ≡ s) × (p ≡ q) × (after ≡ later)
 stopped_push_loads Full More old p q t before after later r s h x y =
     let a = x.stopped h in
     let b = y.stopped h in

@@ -1,5 +1,6 @@
 -- What a push of a token to a loader did, by the push to its parser and by the events that were composed.
-use Rattle.std.proofs.Common.{◌≡◌, ◌≤◌, ◌*◌, arith, length, inl, inr, ◌||◌, ℕ, List, [], ◌∷◌, ◌++◌, Option, Some, None, Ok, Err, IfErr, OnOk, Bool, true, false, refl, sym, ap, subst, ◌∙◌}
+use Rattle.std.proofs.Common.{◌≡◌, ◌≤◌, ◌*◌, arith, length, inl, inr, ◌||◌, ℕ, List, [], ◌∷◌, ◌++◌, Option, Some, None}
+use Rattle.std.proofs.Common.{Ok, Err, IfErr, OnOk, Bool, true, false, refl, sym, ap, subst, ◌∙◌}
 use Rattle.std.proofs.Common.{append_assoc}
 use Rattle.std.proofs.lemmas.List.{append-nil}
 use Rattle.libyaml_types.specs.declared.enums.yaml_error_type_t.{yaml_error_type_t}
@@ -22,10 +23,13 @@ use Rattle.libyaml_events.specs.sources.Pushed.{Fed, ForPushed, PushParser, Push
 use Rattle.libyaml_events.specs.sources.Pushes as pushes
 use Rattle.libyaml_events.specs.sources.Pushes.{Done, NeedsMemory, Pushes, Stops, Takes, done_by, for_event, for_step}
 use Rattle.libyaml_loader.specs.pushes.Composing as comp
-use Rattle.libyaml_loader.specs.pushes.Composing.{Composes, RefusesEvent, RefusesOneOf, by_loads, by_memory as no_memory, state_of}
+use Rattle.libyaml_loader.specs.pushes.Composing.{Composes, RefusesEvent, RefusesOneOf, by_loads}
+use Rattle.libyaml_loader.specs.pushes.Composing.{by_memory as no_memory, state_of}
 use Rattle.libyaml_loader.specs.pushes.Leads.{Leads, as_loads, loads_from}
-use Rattle.libyaml_loader.specs.pushes.Loaded.{ForLoaded, Loaded, PushLoader, RemembersLoads, fault_in, has_stopped, keeps_fault, standing}
-use Rattle.libyaml_loader.specs.pushes.PushesLoads.{AreThen, BeginsEachLoads, PushesLoads, StopsLoading, by_memory, by_tokens}
+use Rattle.libyaml_loader.specs.pushes.Loaded.{ForLoaded, Loaded, PushLoader, RemembersLoads, fault_in, has_stopped}
+use Rattle.libyaml_loader.specs.pushes.Loaded.{keeps_fault, standing}
+use Rattle.libyaml_loader.specs.pushes.PushesLoads.{AreThen, BeginsEachLoads, PushesLoads, StopsLoading, by_memory}
+use Rattle.libyaml_loader.specs.pushes.PushesLoads.{by_tokens}
 use Rattle.libyaml_loader.specs.pushes.PushesLoads.{in_loader, in_parser}
 use Rattle.libyaml_loader.specs.declared.composer.Composer.{Composer}
 use Rattle.libyaml_loader.specs.declared.context.loader_ctx.{loader_ctx}
@@ -33,16 +37,20 @@ use Rattle.libyaml_loader.proofs.pushes.Leading.{from_none, leads_both}
 
 -- the laws of pushes to a parser, and of the size of documents
 pub record PushLaws : Type 0 where
-  pub run_so_far : (p : PushParser) → ForPushed p (λ tokens events. has_end tokens ≡ false → (source : Fault) → IsRun tokens source events (Fails source))
+  pub run_so_far : (p : PushParser)
+      → ForPushed p (λ tokens events. has_end tokens ≡ false → (source : Fault)
+      → IsRun tokens source events (Fails source))
   pub run : (p : PushParser) → ForPushed p (λ tokens events. has_end tokens ≡ true → (more : List Token) (source : Fault)
       → IsRun (tokens ++ more) source events Ends)
   pub ended : (p : PushParser) → ForPushed p (λ tokens _. pushed.has_stopped p ≡ has_end tokens)
   pub faultless : (p : PushParser) → ForPushed p (λ _ _. pushed.keeps_fault p ≡ false)
   pub begins_run : (p : PushParser) → ForPushed p BeginsEachRun
   pub at_most_four : (p : PushParser) → ForPushed p (λ tokens events. length events ≤ 4 * length tokens)
-  pub size : (n : ℕ) (e : List Event) (x : Ending) (ds : List Document) (l : List Load) → bounded_loads n e x ≡ as_loads ds ++ l
+  pub size : (n : ℕ) (e : List Event) (x : Ending) (ds : List Document) (l : List Load)
+      → bounded_loads n e x ≡ as_loads ds ++ l
       → documents_size ds ≤ 2 * length e
-  pub in_hand : (w : Want) (c : Config) (u : Token) (tokens : List Token) (events : List Event) → Fed w c (Some u) tokens events → BeginsEachRun tokens events
+  pub in_hand : (w : Want) (c : Config) (u : Token) (tokens : List Token) (events : List Event)
+      → Fed w c (Some u) tokens events → BeginsEachRun tokens events
 
 no : true ≡ false → ⊥
 no h = cc
@@ -52,21 +60,27 @@ either_false true b h = absurd (no h)
 either_false false b h = (refl, h)
 
 -- the loads of a run whose events are these
-pub are_then : (n : ℕ) (tokens : List Token) (source : Fault) (events : List Event) (x : Ending) (documents : List Document) (here : State)
-    → IsRun tokens source events x → Leads n between events documents here → IsBoundedLoads n tokens source (as_loads documents ++ last_load x ∷ [])
+pub are_then : (n : ℕ) (tokens : List Token) (source : Fault) (events : List Event) (x : Ending)
+    (documents : List Document) (here : State)
+    → IsRun tokens source events x → Leads n between events documents here
+    → IsBoundedLoads n tokens source (as_loads documents ++ last_load x ∷ [])
 are_then n tokens source events x documents here run leads = record {
   events = events;
   ending = x;
   run = run;
-  all = sym (ap (λ (l : List Event). bounded_loads n l x) (sym (append-nil events)) ∙ (leads.loads [] x ∙ ap (λ (l : List Load). as_loads documents ++ l) (from_none n here x)));
+  all = sym (ap (λ (l : List Event). bounded_loads n l x) (sym (append-nil events))
+      ∙ (leads.loads [] x ∙ ap (λ (l : List Load). as_loads documents ++ l) (from_none n here x)));
 }
 
 -- or begin those of a run
-front_loads : (n : ℕ) (events : List Event) (documents : List Document) (here : State) (all rest : List Event) (x : Ending) → all ≡ events ++ rest
+front_loads : (n : ℕ) (events : List Event) (documents : List Document) (here : State) (all rest : List Event)
+    (x : Ending) → all ≡ events ++ rest
     → Leads n between events documents here → bounded_loads n all x ≡ as_loads documents ++ loads_from n here rest x
-front_loads n events documents here all rest x is leads = ap (λ (l : List Event). bounded_loads n l x) is ∙ leads.loads rest x
+front_loads n events documents here all rest x is leads = ap (λ (l : List Event). bounded_loads n l x) is
+    ∙ leads.loads rest x
 
-pub begin_loads : (n : ℕ) (tokens : List Token) (events : List Event) (documents : List Document) (here : State) → BeginsEachRun tokens events
+pub begin_loads : (n : ℕ) (tokens : List Token) (events : List Event) (documents : List Document) (here : State)
+    → BeginsEachRun tokens events
     → Leads n between events documents here → BeginsEachLoads n tokens documents
 begin_loads n tokens events documents here begins leads rest source loads are =
     let b = begins rest source are.events are.ending are.run in
@@ -78,38 +92,50 @@ begins_front tokens a b h rest f e x run = let i = h rest f e x run in (b ++ i.0
 module _ (law : PushLaws) where
   -- what holds of all that a loader was handed and gave
   module _ (l : PushLoader) where
-    pub loads_so_far : ForLoaded l (λ tokens documents. has_end tokens ≡ false → (source : Fault) → AreThen l.max_entries tokens source documents (Err source))
-    loads_so_far tokens documents h none source = are_then l.max_entries tokens source h.events (Fails source) documents l.state (law.run_so_far l.parser tokens h.events h.pushed none source) h.leads
+    pub loads_so_far : ForLoaded l (λ tokens documents. has_end tokens ≡ false → (source : Fault)
+        → AreThen l.max_entries tokens source documents (Err source))
+    loads_so_far tokens documents h none source = are_then l.max_entries tokens source h.events
+        (Fails source) documents l.state (law.run_so_far l.parser tokens h.events h.pushed none source) h.leads
 
     pub whole_loads : ForLoaded l (λ tokens documents. has_end tokens ≡ true → (more : List Token) (source : Fault)
         → AreThen l.max_entries (tokens ++ more) source documents (last_load Ends))
-    whole_loads tokens documents h is more source = are_then l.max_entries (tokens ++ more) source h.events Ends documents l.state (law.run l.parser tokens h.events h.pushed is more source) h.leads
+    whole_loads tokens documents h is more source = are_then l.max_entries (tokens ++ more) source h.events Ends
+        documents l.state (law.run l.parser tokens h.events h.pushed is more source) h.leads
 
     pub none_kept : ForLoaded l (λ _ _. keeps_fault l ≡ false)
     none_kept tokens documents h = ap (λ (f : Fault). is_fault f.error) h.none_kept
 
     pub stopped_at : ForLoaded l (λ tokens _. has_stopped l ≡ has_end tokens)
-    stopped_at tokens documents h = ap (λ (b : Bool). b || pushed.has_stopped l.parser) (none_kept tokens documents h) ∙ law.ended l.parser tokens h.events h.pushed
+    stopped_at tokens documents h = ap (λ (b : Bool). b || pushed.has_stopped l.parser)
+        (none_kept tokens documents h) ∙ law.ended l.parser tokens h.events h.pushed
 
     pub begins_loads : ForLoaded l (BeginsEachLoads l.max_entries)
-    begins_loads tokens documents h = begin_loads l.max_entries tokens h.events documents l.state (law.begins_run l.parser tokens h.events h.pushed) h.leads
+    begins_loads tokens documents h = begin_loads l.max_entries tokens h.events documents l.state
+        (law.begins_run l.parser tokens h.events h.pushed) h.leads
 
     pub linear_loads : ForLoaded l (λ tokens documents. documents_size documents ≤ 8 * length tokens)
     linear_loads tokens documents h =
-        let a : documents_size documents ≤ 2 * length h.events = law.size l.max_entries h.events Ends documents (loads_from l.max_entries l.state [] Ends)
+        let a : documents_size documents ≤ 2 * length h.events = law.size l.max_entries h.events Ends documents
+        (loads_from l.max_entries l.state [] Ends)
         (front_loads l.max_entries h.events documents l.state h.events [] Ends (sym (append-nil h.events)) h.leads) in
         let b : length h.events ≤ 4 * length tokens = law.at_most_four l.parser tokens h.events h.pushed in
         omega arith
 
   -- the events of a push begin those of every run
-  begins_so : (Room : Type 0) (tokens : List Token) (events : List Event) (r : Done) (new : PushParser) → pushes.EndsSo Room tokens events r new → BeginsEachRun tokens events
+  begins_so : (Room : Type 0) (tokens : List Token) (events : List Event) (r : Done) (new : PushParser)
+      → pushes.EndsSo Room tokens events r new → BeginsEachRun tokens events
   begins_so Room tokens events (Ok u) new h = law.begins_run new tokens events h
   begins_so Room tokens events (Err x) new (pushes.by_memory is w c u fed needs) = law.in_hand w c u tokens events fed
   begins_so Room tokens events (Err x) new (pushes.by_grammar failed runs)
-      = λ rest f e y run. ([], (one_run_proof (tokens ++ rest) f e events y (Fails (pushed.fault_in new)) run (runs rest f)).0 ∙ sym (append-nil events))
+      = λ rest f e y run. (
+        [],
+        (one_run_proof (tokens ++ rest) f e events y (Fails (pushed.fault_in new)) run
+            (runs rest f)).0 ∙ sym (append-nil events),
+      )
 
   -- an event is refused
-  refused_so : (Full : Type 0) (n : ℕ) (tokens : List Token) (events later : List Event) (documents : List Document) (here : State) (e : Event) (f : Fault)
+  refused_so : (Full : Type 0) (n : ℕ) (tokens : List Token) (events later : List Event) (documents : List Document)
+      (here : State) (e : Event) (f : Fault)
       → BeginsEachRun tokens (events ++ e ∷ later) → Leads n between events documents here → RefusesEvent Full n here e f
       → StopsLoading Full n tokens documents f
   refused_so Full n tokens events later documents here e f begins leads (by_loads h) = by_tokens so
@@ -122,7 +148,8 @@ module _ (law : PushLaws) where
             events = all;
             ending = x;
             run = run;
-            all = sym (front_loads n events documents here all (e ∷ (later ++ b.0)) x (b.1 ∙ append_assoc events (e ∷ later) b.0) leads
+            all = sym (front_loads n events documents here all (e ∷ (later ++ b.0)) x
+                (b.1 ∙ append_assoc events (e ∷ later) b.0) leads
                 ∙ ap (λ (l : List Load). as_loads documents ++ l) (h (later ++ b.0) x));
           }
   refused_so Full n tokens events later documents here e f begins leads (no_memory is needs) =
@@ -135,18 +162,23 @@ module _ (law : PushLaws) where
   any_room Room w c u (for_step grows) = for_step grows
   any_room Room w c u (for_event e d is full) = for_event e d is tt
 
-  parser_stops : (Full Room : Type 0) (n : ℕ) (tokens : List Token) (events : List Event) (documents : List Document) (here : State) (f : Fault)
+  parser_stops : (Full Room : Type 0) (n : ℕ) (tokens : List Token) (events : List Event)
+      (documents : List Document) (here : State) (f : Fault)
       → Leads n between events documents here → Stops Room tokens events f → StopsLoading Full n tokens documents f
   parser_stops Full Room n tokens events documents here f leads (pushes.by_grammar failed runs)
-      = by_tokens (λ more source. are_then n (tokens ++ more) source events (Fails f) documents here (runs more source) leads)
+      = by_tokens (λ more source. are_then n (tokens ++ more) source events (Fails f) documents here
+      (runs more source) leads)
   parser_stops Full Room n tokens events documents here f leads (pushes.by_memory is w c u fed needs)
-      = by_memory is events here (law.in_hand w c u tokens events fed) leads (in_parser w c u fed (any_room Room w c u needs))
+      = by_memory is events here (law.in_hand w c u tokens events fed) leads
+      (in_parser w c u fed (any_room Room w c u needs))
 
   -- the loader keeps no fault, and its parser was handed a token; the events that came were composed
-  module _ (Full Room : Type 0) (p q : PushParser) (t : Token) (given : List Event) (r : Done) (pushes_so : Pushes Room p t [] r q given) (old new : Composer)
+  module _ (Full Room : Type 0) (p q : PushParser) (t : Token) (given : List Event) (r : Done)
+      (pushes_so : Pushes Room p t [] r q given) (old new : Composer)
       (before after : List Document) (s : Done) (composes : Composes Full old given before s new after)
       (none_given : given ≡ [] → (new ≡ old) × (after ≡ before) × (s ≡ Ok tt)) (bound : new.max_entries ≡ old.max_entries)
-      (kept_so : IfErr s (λ x. (x ≡ new.fault.error) × (is_fault new.fault.error ≡ true))) (same : s ≡ Ok tt → new.fault ≡ old.fault)
+      (kept_so : IfErr s (λ x. (x ≡ new.fault.error) × (is_fault new.fault.error ≡ true)))
+      (same : s ≡ Ok tt → new.fault ≡ old.fault)
       (faultless : done_by (fault_of old.fault) ≡ Ok tt) where
     abbrev pub first : PushLoader
     first = standing p (state_of old.open) (fault_of old.fault) old.max_entries
@@ -172,20 +204,26 @@ module _ (law : PushLaws) where
     taken h = pushes_so.takes (running h)
 
     -- all events of the tokens
-    all_begin : (h : has_stopped first ≡ false) (tokens : List Token) (l : List Document) (k : Loaded first tokens l) → pushes.EndsSo Room (tokens ++ t ∷ []) (k.events ++ given) r q
-    all_begin h tokens l k = subst (λ (e : List Event). pushes.EndsSo Room (tokens ++ t ∷ []) (k.events ++ e) r q) (sym (taken h).appended)
+    all_begin : (h : has_stopped first ≡ false) (tokens : List Token) (l : List Document)
+        (k : Loaded first tokens l) → pushes.EndsSo Room (tokens ++ t ∷ []) (k.events ++ given) r q
+    all_begin h tokens l k = subst (λ (e : List Event). pushes.EndsSo Room (tokens ++ t ∷ []) (k.events ++ e) r q)
+        (sym (taken h).appended)
         ((taken h).ends_so tokens k.events k.pushed)
 
-    from_start : (tokens : List Token) (l : List Document) (k : Loaded first tokens l) (composed : List Event) (here : State)
-        → Leads old.max_entries (state_of old.open) composed composes.added here → Leads old.max_entries between (k.events ++ composed) (l ++ composes.added) here
-    from_start tokens l k composed here leads = leads_both old.max_entries between (state_of old.open) here k.events composed l composes.added k.leads leads
+    from_start : (tokens : List Token) (l : List Document) (k : Loaded first tokens l) (composed : List Event)
+        (here : State)
+        → Leads old.max_entries (state_of old.open) composed composes.added here
+        → Leads old.max_entries between (k.events ++ composed) (l ++ composes.added) here
+    from_start tokens l k composed here leads = leads_both old.max_entries between (state_of old.open) here k.events
+        composed l composes.added k.leads leads
 
     -- and the push goes on
     abbrev pub second : PushLoader
     second = standing q (state_of new.open) (fault_of new.fault) new.max_entries
 
     all_led : (u : Unit {0}) → s ≡ Ok u → Leads old.max_entries (state_of old.open) given composes.added (state_of new.open)
-    all_led u is = subst (λ (z : Done). comp.EndsSo Full old.max_entries (state_of old.open) given composes.added z new) is composes.ends_so
+    all_led u is = subst (λ (z : Done). comp.EndsSo Full old.max_entries (state_of old.open) given composes.added z
+        new) is composes.ends_so
 
     pub pushes_ok : (u v : Unit {0}) → s ≡ Ok u → r ≡ Ok v → PushesLoads Full first t before (Ok tt) second after
     pushes_ok u v is so = record {
@@ -202,8 +240,10 @@ module _ (law : PushLaws) where
         appended = composes.appended;
         ends_so = λ tokens l k. record {
           events = k.events ++ given;
-          pushed = subst (λ (z : Done). pushes.EndsSo Room (tokens ++ t ∷ []) (k.events ++ given) z q) so (all_begin h tokens l k);
-          leads = subst (λ (n : ℕ). Leads n between (k.events ++ given) (l ++ composes.added) (state_of new.open)) (sym bound)
+          pushed = subst (λ (z : Done). pushes.EndsSo Room (tokens ++ t ∷ []) (k.events ++ given) z q) so
+              (all_begin h tokens l k);
+          leads = subst (λ (n : ℕ). Leads n between (k.events ++ given) (l ++ composes.added) (state_of new.open))
+              (sym bound)
               (from_start tokens l k given (state_of new.open) (all_led u is));
           none_kept = ap fault_of (same is) ∙ k.none_kept;
         };
@@ -228,7 +268,12 @@ module _ (law : PushLaws) where
     pub pushes_refused : (x : yaml_error_type_t) → s ≡ Err x → PushesLoads Full first t before (Err x) second after
     pushes_refused x is = record {
       stopped = λ h. absurd (not_ok x is (none_given (pushes_so.stopped (ended h)).1).2);
-      takes = λ h. record { added = composes.added; appended = composes.appended; ends_so = λ tokens l k. stops h tokens l k };
+      takes = λ h. record {
+        added = composes.added;
+        appended = composes.appended;
+        ends_so =
+            λ tokens l k. stops h tokens l k;
+      };
       kept = subst (λ (z : Done). IfErr z (λ y. (y ≡ new.fault.error) × (is_fault new.fault.error ≡ true))) is kept_so;
       bound = bound;
       so_far = loads_so_far second;
@@ -240,13 +285,18 @@ module _ (law : PushLaws) where
     }
       where
         one : RefusesOneOf Full old.max_entries (state_of old.open) given composes.added (fault_of new.fault)
-        one = subst (λ (z : Done). comp.EndsSo Full old.max_entries (state_of old.open) given composes.added z new) is composes.ends_so
+        one = subst (λ (z : Done). comp.EndsSo Full old.max_entries (state_of old.open) given composes.added z new)
+            is composes.ends_so
 
         stops : has_stopped first ≡ false → (tokens : List Token) (l : List Document) → Loaded first tokens l
             → StopsLoading Full new.max_entries (tokens ++ t ∷ []) (l ++ composes.added) (fault_of new.fault)
-        stops h tokens l k = subst (λ (n : ℕ). StopsLoading Full n (tokens ++ t ∷ []) (l ++ composes.added) (fault_of new.fault)) (sym bound)
-            (refused_so Full old.max_entries (tokens ++ t ∷ []) (k.events ++ one.composed) one.later (l ++ composes.added) one.here one.event (fault_of new.fault)
-            (subst (BeginsEachRun (tokens ++ t ∷ [])) (ap (λ (e : List Event). k.events ++ e) one.all ∙ sym (append_assoc k.events one.composed (one.event ∷ one.later)))
+        stops h tokens l k = subst (λ (n : ℕ). StopsLoading Full n (tokens ++ t ∷ []) (l ++ composes.added)
+            (fault_of new.fault)) (sym bound)
+            (refused_so Full old.max_entries (tokens ++ t ∷ []) (k.events ++ one.composed) one.later
+            (l ++ composes.added) one.here one.event (fault_of new.fault)
+            (subst (BeginsEachRun (tokens ++ t ∷ []))
+            (ap (λ (e : List Event). k.events ++ e) one.all
+            ∙ sym (append_assoc k.events one.composed (one.event ∷ one.later)))
             (begins_so Room (tokens ++ t ∷ []) (k.events ++ given) r q (all_begin h tokens l k)))
             (from_start tokens l k one.composed one.here one.leads) one.refuses)
 
@@ -254,11 +304,18 @@ module _ (law : PushLaws) where
     abbrev pub third : PushLoader
     third = standing q between (pushed.fault_in q) new.max_entries
 
-    pub pushes_failed : RemembersLoads first → (u : Unit {0}) (y : yaml_error_type_t) → s ≡ Ok u → r ≡ Err y → PushesLoads Full first t before (Err y) third after
+    pub pushes_failed : RemembersLoads first → (u : Unit {0}) (y : yaml_error_type_t) → s ≡ Ok u → r ≡ Err y
+        → PushesLoads Full first t before (Err y) third after
     pushes_failed remembers u y is so = record {
       stopped = λ h. absurd (never remembers (sym so ∙ (pushes_so.stopped (ended h)).2));
-      takes = λ h. record { added = composes.added; appended = composes.appended; ends_so = λ tokens l k. stops h tokens l k };
-      kept = subst (λ (z : Done). IfErr z (λ x. (x ≡ (pushed.fault_in q).error) × (pushed.keeps_fault q ≡ true))) so pushes_so.kept;
+      takes = λ h. record {
+        added = composes.added;
+        appended = composes.appended;
+        ends_so =
+            λ tokens l k. stops h tokens l k;
+      };
+      kept = subst (λ (z : Done). IfErr z (λ x. (x ≡ (pushed.fault_in q).error) × (pushed.keeps_fault q ≡ true))) so
+          pushes_so.kept;
       bound = bound;
       so_far = loads_so_far third;
       whole = whole_loads third;
@@ -274,17 +331,22 @@ module _ (law : PushLaws) where
 
         never : RemembersLoads first → ◌≡◌ {A = Done} (Err y) (done_by (pushed.fault_in p)) → ⊥
         never (inl kept) h = no (sym kept ∙ not_kept)
-        never (inr (tokens, l, k)) h = differ (pushed.fault_in p) (pushed.keeps_fault p) (law.faultless p tokens k.events k.pushed) h
+        never (inr (tokens, l, k)) h = differ (pushed.fault_in p) (pushed.keeps_fault p)
+            (law.faultless p tokens k.events k.pushed) h
 
         stops : has_stopped first ≡ false → (tokens : List Token) (l : List Document) → Loaded first tokens l
             → StopsLoading Full new.max_entries (tokens ++ t ∷ []) (l ++ composes.added) (pushed.fault_in q)
-        stops h tokens l k = subst (λ (n : ℕ). StopsLoading Full n (tokens ++ t ∷ []) (l ++ composes.added) (pushed.fault_in q)) (sym bound)
-            (parser_stops Full Room old.max_entries (tokens ++ t ∷ []) (k.events ++ given) (l ++ composes.added) (state_of new.open) (pushed.fault_in q)
+        stops h tokens l k = subst (λ (n : ℕ). StopsLoading Full n (tokens ++ t ∷ []) (l ++ composes.added)
+            (pushed.fault_in q)) (sym bound)
+            (parser_stops Full Room old.max_entries (tokens ++ t ∷ []) (k.events ++ given) (l ++ composes.added)
+            (state_of new.open) (pushed.fault_in q)
             (from_start tokens l k given (state_of new.open) (all_led u is))
-            (subst (λ (z : Done). pushes.EndsSo Room (tokens ++ t ∷ []) (k.events ++ given) z q) so (all_begin h tokens l k)))
+            (subst (λ (z : Done). pushes.EndsSo Room (tokens ++ t ∷ []) (k.events ++ given) z q) so
+            (all_begin h tokens l k)))
 
   -- a loader that keeps a fault takes nothing
-  pub pushes_none : (Full : Type 0) (old : PushLoader) (t : Token) (before : List Document) (x : yaml_error_type_t) → Err x ≡ done_by (fault_in old)
+  pub pushes_none : (Full : Type 0) (old : PushLoader) (t : Token) (before : List Document) (x : yaml_error_type_t)
+      → Err x ≡ done_by (fault_in old)
       → PushesLoads Full old t before (Err x) old before
   pushes_none Full old t before x is = record {
     stopped = λ h. (refl, refl, is);
@@ -307,7 +369,8 @@ module _ (law : PushLaws) where
       kept = by (keeps_fault old) (fault_in old) is
 
   -- after a push a fault is kept, or there is a history
-  pub push_remembers : (Full : Type 0) (old new : PushLoader) (t : Token) (before after : List Document) (r : Done) → PushesLoads Full old t before r new after
+  pub push_remembers : (Full : Type 0) (old new : PushLoader) (t : Token) (before after : List Document) (r : Done)
+      → PushesLoads Full old t before r new after
       → RemembersLoads old → RemembersLoads new
   push_remembers Full old new t before after (Err x) h k = inl h.kept.1
   push_remembers Full old new t before after (Ok u) h k = go (has_stopped old) refl
@@ -326,7 +389,8 @@ on_ok P (Ok u) h is = h
 on_ok P (Err x) h is = absurd cc
 
 -- the parser's fault is kept
-pub kept_fault : (q : PushParser) (k : Composer) (n : ℕ) (f : Fault) → k.open ≡ None → fault_of k.fault ≡ f → k.max_entries ≡ n
+pub kept_fault : (q : PushParser) (k : Composer) (n : ℕ) (f : Fault) → k.open ≡ None → fault_of k.fault ≡ f
+    → k.max_entries ≡ n
     → standing q between f n ≡ standing q (state_of k.open) (fault_of k.fault) k.max_entries
 kept_fault q k n f none fault bound = sym
     (ap (λ (o : Option loader_ctx). standing q (state_of o) (fault_of k.fault) k.max_entries) none

@@ -11,7 +11,8 @@ use Rattle.libyaml_loader.specs.document.Ids.{carrier_of}
 abbrev pub carrier_code : Coded graphs.Carrier
 carrier_code =
     code_by (ℕ × (ℕ × (ℕ × ℕ))) (coded× coded_ℕ (coded× coded_ℕ (coded× coded_ℕ coded_ℕ)))
-    (λ c. (c.id, (c.mark.index, (c.mark.line, c.mark.column)))) (λ p. record { id = p.0; mark = record { index = p.1.0; line = p.1.1.0; column = p.1.1.1 } })
+    (λ c. (c.id, (c.mark.index, (c.mark.line, c.mark.column))))
+    (λ p. record { id = p.0; mark = record { index = p.1.0; line = p.1.1.0; column = p.1.1.1 } })
     (λ _. refl)
 
 abbrev pub anchors_code : Coded machine.Anchors

@@ -1,5 +1,6 @@
 -- The document on the way, and what the loader's steps make of it.
-use Rattle.std.specs.Prelude.{◌≡◌, ◌++◌, ◌∷◌, ◌⊎◌, ℕ, suc, ℤ, pos, IfSome, List, [], length, Bool, true, false, Option, Some, None}
+use Rattle.std.specs.Prelude.{◌≡◌, ◌++◌, ◌∷◌, ◌⊎◌, ℕ, suc, ℤ, pos, IfSome, List, [], length, Bool, true, false, Option}
+use Rattle.std.specs.Prelude.{Some, None}
 use Rattle.std.specs.FinMap.{get}
 use Rattle.libyaml_types.specs.declared.mark.yaml_mark_t.{yaml_mark_t}
 use Rattle.libyaml_sources.specs.Fault.{Fault}
@@ -7,7 +8,8 @@ use Rattle.libyaml_documents.specs.declared.node.yaml_node_t.{yaml_node_t}
 use Rattle.libyaml_documents.specs.Documents.{Document}
 use Rattle.libyaml_documents.specs.Nodes.{IsIdUpTo}
 use Rattle.libyaml_graphs.specs.graphs.Graphs as graphs
-use Rattle.libyaml_graphs.specs.machine.Loader.{Loader, Open, Loading, Registered, bounded_option, closed_by, failed, going, hand, handed, known, outer, parent_full}
+use Rattle.libyaml_graphs.specs.machine.Loader.{Loader, Open, Loading, Registered, bounded_option, closed_by, failed}
+use Rattle.libyaml_graphs.specs.machine.Loader.{going, hand, handed, known, outer, parent_full}
 use Rattle.libyaml_graphs.specs.machine.Loader.{register, registered}
 use Rattle.libyaml_graphs.specs.graphs.GraphParts.{Part}
 use Rattle.libyaml_loader.specs.declared.context.loader_ctx.{loader_ctx}
@@ -39,7 +41,11 @@ pub record IdsAreIn (l : Loader) : Type 0 where
 
 -- a child handed to the innermost open collection
 abbrev pub handed_to : ℤ → loader_ctx → loader_ctx
-handed_to i c = record c { document = with_nodes (hand i c.stack c.document.nodes) c.document; stack = handed i c.stack c.document.nodes }
+handed_to i c = record c {
+  document = with_nodes (hand i c.stack c.document.nodes) c.document;
+  stack =
+      handed i c.stack c.document.nodes;
+}
 
 -- the innermost open collection ended
 abbrev pub closed : yaml_mark_t → loader_ctx → loader_ctx
@@ -75,4 +81,5 @@ RefusedBy grows o r f = ((r ≡ Memory) × (grows ≡ true)) ⊎ (o ≡ failed f
 
 -- of an event that starts at this mark
 abbrev pub Refuses : (old new : loader_ctx) → Option Part → yaml_mark_t → Refusal → Type 0
-Refuses old new p mark r = RefusedBy (may_grow (loader_of old) p) (bounded_option old.max_entries (loader_of old) p) r (fault_by r new.first_mark mark)
+Refuses old new p mark r = RefusedBy (may_grow (loader_of old) p) (bounded_option old.max_entries (loader_of old) p)
+    r (fault_by r new.first_mark mark)

@@ -39,17 +39,20 @@ pub record TakesEvent {S : Type 0} (gives : S → Answer → S → Type 0) (know
   pub event : Event
   pub took : Took gives known old new (event ∷ [])
   pub by : StepBy step before after event
-  pub ended : (asked : List Token) (given : List Event) → History old asked given → (c : parts.Closing) → closing_of event ≡ Some c
+  pub ended : (asked : List Token) (given : List Event) → History old asked given → (c : parts.Closing)
+      → closing_of event ≡ Some c
       → between_documents new ≡ true
 
 -- no event was left
-pub record FindsEnd {S : Type 0} (gives : S → Answer → S → Type 0) (known : S → Option Coming) (old new : Parser S) : Type 0 where
+pub record FindsEnd {S : Type 0} (gives : S → Answer → S → Type 0) (known : S → Option Coming)
+    (old new : Parser S) : Type 0 where
   pub took : Took gives known old new []
   pub ends : (events : List Event) (ending : Ending) → RunToCome known old events ending → (events ≡ []) × (ending ≡ Ends)
   pub stands : (asked : List Token) (given : List Event) → History old asked given → HasEnded new
 
 -- the next event was taken and refused
-pub record LoaderFails {S : Type 0} (gives : S → Answer → S → Type 0) (known : S → Option Coming) (old new : Parser S) (before : loader_ctx) : Type 0 where
+pub record LoaderFails {S : Type 0} (gives : S → Answer → S → Type 0) (known : S → Option Coming)
+    (old new : Parser S) (before : loader_ctx) : Type 0 where
   pub event : Event
   pub parser : Parser S
   pub took : Took gives known old parser (event ∷ [])
@@ -59,9 +62,13 @@ pub record LoaderFails {S : Type 0} (gives : S → Answer → S → Type 0) (kno
   pub why : ((fault ≡ memory_fault) × (may_grow (loader_of before) (part_of event) ≡ true))
       ⊎ (bounded_option before.max_entries (loader_of before) (part_of event) ≡ failed fault)
 
-abbrev pub ComposesBy : {S : Type 0} → (S → Answer → S → Type 0) → (S → Option Coming) → (S → Fault → Type 0) → Result ComposeStep yaml_error_type_t
+abbrev pub ComposesBy : {S : Type 0} → (S → Answer → S → Type 0) → (S → Option Coming) → (S → Fault → Type 0)
+    → Result ComposeStep yaml_error_type_t
     → (old new : Parser S) → (before after : loader_ctx) → Type 0
 ComposesBy gives known MayBreak (Ok step.Ended) old new before after = FindsEnd gives known old new
-ComposesBy gives known MayBreak (Ok step.Composed) old new before after = TakesEvent gives known step.Composed old new before after
-ComposesBy gives known MayBreak (Ok (step.Closed c)) old new before after = TakesEvent gives known (step.Closed c) old new before after
-ComposesBy gives known MayBreak (Err x) old new before after = ParserFails gives known MayBreak old new ⊎ LoaderFails gives known old new before
+ComposesBy gives known MayBreak (Ok step.Composed) old new before after =
+    TakesEvent gives known step.Composed old new before after
+ComposesBy gives known MayBreak (Ok (step.Closed c)) old new before after =
+    TakesEvent gives known (step.Closed c) old new before after
+ComposesBy gives known MayBreak (Err x) old new before after = ParserFails gives known MayBreak old new
+    ⊎ LoaderFails gives known old new before

@@ -1,6 +1,6 @@
--- Where a load may take memory of its own (docs/DEFINITIONS.md, "Loads of a parser"): a node is put into the list of nodes, an
--- item into its sequence's, or a pair, whose value comes, into its mapping's. An undefined alias, a key that waits for its value
--- and a collection's end take none.
+-- Where a load may take memory of its own (docs/DEFINITIONS.md, "Loads of a parser"): a node is put into the list
+-- of nodes, an item into its sequence's, or a pair, whose value comes, into its mapping's. An undefined alias, a
+-- key that waits for its value and a collection's end take none.
 use Rattle.std.specs.Prelude.{◌≡◌, ◌++◌, ℕ, ℤ, List, [], ◌∷◌, Option, None, Some, Bool, true, false}
 use Rattle.std.specs.FinMap.{get}
 use Rattle.libyaml_documents.specs.declared.node.unnamed_yaml_node_t_data.{unnamed_yaml_node_t_data}

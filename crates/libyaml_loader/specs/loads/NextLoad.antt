@@ -11,14 +11,17 @@ use Rattle.libyaml_graphs.specs.loads.Loads.{Load}
 use Rattle.libyaml_loader.specs.loads.Loading.{DocumentOrError}
 
 -- A load returns this document, and these events are to come; or it returns this fault's error, and the fault is kept.
-abbrev pub Answers : {S : Type 0} → (known : S → Option Coming) → Load → DocumentOrError → (new : Parser S) → (to_come : List Event) → Ending → Type 0
+abbrev pub Answers : {S : Type 0} → (known : S → Option Coming) → Load → DocumentOrError → (new : Parser S)
+    → (to_come : List Event) → Ending → Type 0
 Answers known (Ok d) r new to_come ending = (r ≡ Ok d) × RunToCome known new to_come ending
 Answers known (Err f) r new to_come ending = (r ≡ Err f.error) × (kept_fault new ≡ f)
 
 -- What a load that returned this says of a run that was to come: its first load is this document, and the events that it
 -- leaves are to come; or its first load is the fault that is kept, or an allocation failed, or the source broke off.
-abbrev pub LoadOfRun : {S : Type 0} → (known : S → Option Coming) → (MayBreak : S → Fault → Type 0) → (load : List Event → Ending → Load)
+abbrev pub LoadOfRun : {S : Type 0} → (known : S → Option Coming) → (MayBreak : S → Fault → Type 0)
+    → (load : List Event → Ending → Load)
     → (left : List Event → List Event) → DocumentOrError → (new : Parser S) → List Event → Ending → Type 0
-LoadOfRun known MayBreak load left (Ok d) new events ending = (load events ending ≡ Ok d) × RunToCome known new (left events) ending
+LoadOfRun known MayBreak load left (Ok d) new events ending = (load events ending ≡ Ok d)
+    × RunToCome known new (left events) ending
 LoadOfRun known MayBreak load left (Err x) new events ending
     = (load events ending ≡ Err (kept_fault new)) ⊎ ((kept_fault new ≡ memory_fault) ⊎ MayBreak new.source (kept_fault new))

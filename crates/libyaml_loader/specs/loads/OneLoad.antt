@@ -17,7 +17,8 @@ use Rattle.libyaml_loader.specs.loads.LoadGrowth.{GrowsAt}
 use Rattle.libyaml_loader.specs.loads.Loading.{DocumentOrError, LoadsFrom, at_end, by_loader, by_memory, by_parser, whole}
 
 -- what the clauses `fails`, `bound` and `loads` of a load say of an outcome
-pub record LoadOutcome {S : Type 0} (gives : S → Answer → S → Type 0) (known : S → Option Coming) (MayBreak : S → Fault → Type 0) (load : List Event
+pub record LoadOutcome {S : Type 0} (gives : S → Answer → S → Type 0) (known : S → Option Coming)
+    (MayBreak : S → Fault → Type 0) (load : List Event
     → Ending → Load) (left : List Event → List Event) (old : Parser S) (r : DocumentOrError) (new : Parser S) : Type 0 where
   pub error : IfErr r (λ x. x ≡ (kept_fault new).error)
   pub bound : new.max_entries ≡ old.max_entries
@@ -25,10 +26,13 @@ pub record LoadOutcome {S : Type 0} (gives : S → Answer → S → Type 0) (kno
 
 -- The results of the source that an outcome names: the tokens by which its events came, and then what the parser's failed
 -- call asked for.
-abbrev pub results_in : {S : Type 0} → (gives : S → Answer → S → Type 0) → (known : S → Option Coming) → (MayBreak : S → Fault → Type 0) → (load : List Event
-    → Ending → Load) → (left : List Event → List Event) → (old new : Parser S) → (asked : List Token) → (given : List Event) → History old asked given
+abbrev pub results_in : {S : Type 0} → (gives : S → Answer → S → Type 0) → (known : S → Option Coming)
+    → (MayBreak : S → Fault → Type 0) → (load : List Event
+    → Ending → Load) → (left : List Event → List Event) → (old new : Parser S) → (asked : List Token)
+    → (given : List Event) → History old asked given
     → (r : DocumentOrError) → LoadsFrom gives known MayBreak load left old r new → List Answer
-results_in gives known MayBreak load left old new asked given h (Ok d) (whole taken took loads leaves stands) = answers (took.history asked given h).more []
+results_in gives known MayBreak load left old new asked given h (Ok d) (whole taken took loads leaves stands) =
+    answers (took.history asked given h).more []
 results_in gives known MayBreak load left old new asked given h (Ok d) (at_end taken took loads leaves runs is ended)
     = answers (took.history asked given h).more []
 results_in gives known MayBreak load left old new asked given h (Err x) (by_parser taken parser took fails loads) =
@@ -39,18 +43,24 @@ results_in gives known MayBreak load left old new asked given h (Err x) (by_load
 results_in gives known MayBreak load left old new asked given h (Err x) (by_memory before e parser took kept grows)
     = answers (took.history asked given h).more []
 
-abbrev pub results_of : {S : Type 0} {gives : S → Answer → S → Type 0} {known : S → Option Coming} {MayBreak : S → Fault → Type 0} {load : List Event
-    → Ending → Load} {left : List Event → List Event} {old new : Parser S} {asked : List Token} {given : List Event} {r : DocumentOrError}
+abbrev pub results_of : {S : Type 0} {gives : S → Answer → S → Type 0} {known : S → Option Coming} {MayBreak : S
+    → Fault → Type 0} {load : List Event
+    → Ending → Load} {left : List Event → List Event} {old new : Parser S} {asked : List Token} {given : List Event}
+    {r : DocumentOrError}
     → History old asked given → LoadOutcome gives known MayBreak load left old r new → List Answer
 results_of {S} {gives} {known} {MayBreak} {load} {left} {old} {new} {asked} {given} {r} h o
     = results_in gives known MayBreak load left old new asked given h r o.loads
 
 -- Memory ran out: in the parser, after the events that were taken; or in the loader, at an event where a load may take it.
-pub data LoadRunsOut {S : Type 0} (gives : S → Answer → S → Type 0) (load : List Event → Ending → Load) (old : Parser S) (r : DocumentOrError) (new : Parser S)
+pub data LoadRunsOut {S : Type 0} (gives : S → Answer → S → Type 0) (load : List Event → Ending → Load)
+    (old : Parser S) (r : DocumentOrError) (new : Parser S)
     (asked : List Token) (given : List Event) : Type 0 where
-  in_parser : r ≡ Err YAML_MEMORY_ERROR → (taken : List Event) (parser : Parser S) → (c : CarriedOn gives old parser asked given taken)
-      → RunsOut gives parser (Err YAML_MEMORY_ERROR) new (asked ++ c.more) (given ++ taken) → LoadRunsOut gives load old r new asked given
-  in_loader : r ≡ Err YAML_MEMORY_ERROR → (before : List Event) (e : Event) (parser : Parser S) → CarriedOn gives old parser asked given (before ++ e ∷ [])
+  in_parser : r ≡ Err YAML_MEMORY_ERROR → (taken : List Event) (parser : Parser S)
+      → (c : CarriedOn gives old parser asked given taken)
+      → RunsOut gives parser (Err YAML_MEMORY_ERROR) new (asked ++ c.more) (given ++ taken)
+      → LoadRunsOut gives load old r new asked given
+  in_loader : r ≡ Err YAML_MEMORY_ERROR → (before : List Event) (e : Event) (parser : Parser S)
+      → CarriedOn gives old parser asked given (before ++ e ∷ [])
       → GrowsAt load before e → new ≡ keeping memory_fault parser → LoadRunsOut gives load old r new asked given
 
 -- One result, and what is kept: the bound; after a document all, after an error the fault.
@@ -61,16 +71,20 @@ pub record LoadsAlike {S : Type 0} (r : DocumentOrError) (p : Parser S) (s : Doc
   pub behind_error : IfErr r (λ _. kept_fault p ≡ kept_fault q)
 
 -- after the same results; or memory ran out in one of them
-pub data OneLoad {S : Type 0} (gives : S → Answer → S → Type 0) (load : List Event → Ending → Load) (old : Parser S) (asked : List Token) (given
-    : List Event) (a b : List Answer) (r : DocumentOrError) (p : Parser S) (s : DocumentOrError) (q : Parser S) : Type 0 where
+pub data OneLoad {S : Type 0} (gives : S → Answer → S → Type 0) (load : List Event → Ending → Load) (old : Parser S)
+    (asked : List Token) (given
+    : List Event) (a b : List Answer) (r : DocumentOrError) (p : Parser S) (s : DocumentOrError) (q : Parser S) :
+    Type 0 where
   alike : a ≡ b → LoadsAlike r p s q → OneLoad gives load old asked given a b r p s q
   first_runs_out : LoadRunsOut gives load old r p asked given → OneLoad gives load old asked given a b r p s q
   second_runs_out : LoadRunsOut gives load old s q asked given → OneLoad gives load old asked given a b r p s q
 
 -- The source gave in each the results that the outcome names. Where it gave the same as far as both asked, the outcomes are
 -- one.
-pub record OneLoadByAnswers {S : Type 0} (gives : S → Answer → S → Type 0) (load : List Event → Ending → Load) (old : Parser S) (asked : List Token) (given
-    : List Event) (a b : List Answer) (r : DocumentOrError) (p : Parser S) (s : DocumentOrError) (q : Parser S) : Type 0 where
+pub record OneLoadByAnswers {S : Type 0} (gives : S → Answer → S → Type 0) (load : List Event → Ending → Load)
+    (old : Parser S) (asked : List Token) (given
+    : List Event) (a b : List Answer) (r : DocumentOrError) (p : Parser S) (s : DocumentOrError) (q : Parser S) :
+    Type 0 where
   pub first_gave : Gave gives old.source a p.source
   pub second_gave : Gave gives old.source b q.source
   pub one : OneBegins a b → OneLoad gives load old asked given a b r p s q

@@ -16,7 +16,12 @@ use Rattle.libyaml_loader.specs.pushes.Leads.{Leads, NeedsMemoryAt, loads_from}
 -- how a document on the way began
 abbrev pub opening_in : Document → parts.Opening
 opening_in d = record {
-  start = record { version_directive = d.version_directive; tag_directives = d.tag_directives; implicit = d.start_implicit };
+  start = record {
+    version_directive = d.version_directive;
+    tag_directives = d.tag_directives;
+    implicit =
+        d.start_implicit;
+  };
   mark = d.start_mark;
 }
 
@@ -38,7 +43,8 @@ pub data RefusesEvent (Full : Type 0) (n : ℕ) (here : State) (e : Event) (f : 
   by_memory : f ≡ memory_fault → NeedsMemoryAt Full here e → RefusesEvent Full n here e f
 
 -- Some of these events were composed, and the next was refused.
-pub record RefusesOneOf (Full : Type 0) (n : ℕ) (old : State) (events : List Event) (added : List Document) (f : Fault) : Type 0 where
+pub record RefusesOneOf (Full : Type 0) (n : ℕ) (old : State) (events : List Event) (added : List Document)
+    (f : Fault) : Type 0 where
   pub composed : List Event
   pub event : Event
   pub later : List Event
@@ -48,20 +54,24 @@ pub record RefusesOneOf (Full : Type 0) (n : ℕ) (old : State) (events : List E
   pub refuses : RefusesEvent Full n here event f
 
 -- what became of events, where these documents were added
-abbrev pub EndsSo : (Full : Type 0) → ℕ → State → List Event → List Document → Result (Unit {0}) yaml_error_type_t → Composer → Type 0
+abbrev pub EndsSo : (Full : Type 0) → ℕ → State → List Event → List Document → Result (Unit {0}) yaml_error_type_t
+    → Composer → Type 0
 EndsSo Full n old events added (Ok u) new = Leads n old events added (state_of new.open)
 EndsSo Full n old events added (Err x) new = RefusesOneOf Full n old events added (fault_of new.fault)
 
 -- Events were composed, and the documents that ended were appended.
-pub record Composes (Full : Type 0) (old : Composer) (events : List Event) (before : List Document) (r : Result (Unit {0}) yaml_error_type_t) (new : Composer)
+pub record Composes (Full : Type 0) (old : Composer) (events : List Event) (before : List Document)
+    (r : Result (Unit {0}) yaml_error_type_t) (new : Composer)
     (after : List Document) : Type 0 where
   pub added : List Document
   pub appended : after ≡ before ++ added
   pub ends_so : EndsSo Full old.max_entries (state_of old.open) events added r new
 
 -- The document that is open, if one is, was ended and appended; or the list had no room for it.
-abbrev pub EndsDocument : (Full : Type 0) → Option loader_ctx → parts.Closing → (before : List Document) → Result (Unit {0}) yaml_error_type_t
+abbrev pub EndsDocument : (Full : Type 0) → Option loader_ctx → parts.Closing → (before : List Document)
+    → Result (Unit {0}) yaml_error_type_t
     → (after : List Document) → Type 0
 EndsDocument Full None c before r after = (r ≡ Ok tt) × (after ≡ before)
-EndsDocument Full (Some x) c before (Ok u) after = after ≡ before ++ document (opening_in x.document) x.document.nodes c ∷ []
+EndsDocument Full (Some x) c before (Ok u) after = after ≡ before
+    ++ document (opening_in x.document) x.document.nodes c ∷ []
 EndsDocument Full (Some x) c before (Err e) after = (after ≡ before) × Full

@@ -19,7 +19,8 @@ whole_then (Some c) (Ok d) l = Ok d ∷ l
 -- The loads of the events to come, where no document is open, or one is: within the bound n.
 abbrev pub loads_from : ℕ → State → List Event → Ending → List Load
 loads_from n between e x = bounded_loads n e x
-loads_from n (within o l) e x = whole_then (document_end e) (load_from n (within o l) e x) (bounded_loads n (behind_document e) x)
+loads_from n (within o l) e x = whole_then (document_end e) (load_from n (within o l) e x)
+    (bounded_loads n (behind_document e) x)
 
 -- documents as loads
 abbrev pub as_loads : List Document → List Load
@@ -29,7 +30,11 @@ as_loads documents = map (λ (d : Document). Ok d) documents
 abbrev pub behind_event : ℕ → State → Event → State
 behind_event n between e = elim (opening_of e) [ None ↦ between | Some o ↦ within o fresh ]
 behind_event n (within o l) e
-    = elim (closing_of e) [ Some c ↦ between | None ↦ if_going (λ (f : Fault). between) (bounded_option n l (part_of e)) (λ (k : Loader). within o k) ]
+    = elim (closing_of e) [
+      | Some c ↦ between
+      | None ↦ if_going (λ (f : Fault). between)
+          (bounded_option n l (part_of e)) (λ (k : Loader). within o k)
+    ]
 
 abbrev pub behind_events : ℕ → State → List Event → State
 behind_events n s [] = s
@@ -37,11 +42,12 @@ behind_events n s (e ∷ r) = behind_events n (behind_event n s e) r
 
 -- From the one state these events lead to the other, and give these documents: whatever events come after them.
 pub record Leads (n : ℕ) (old : State) (events : List Event) (documents : List Document) (new : State) : Type 0 where
-  pub loads : (rest : List Event) (x : Ending) → loads_from n old (events ++ rest) x ≡ as_loads documents ++ loads_from n new rest x
+  pub loads : (rest : List Event) (x : Ending) → loads_from n old (events ++ rest) x ≡ as_loads documents
+      ++ loads_from n new rest x
   pub state : new ≡ behind_events n old events
 
--- At this event memory is needed: for a node, an item or a pair of the document that is open; or it ends a document, for which the
--- list of documents has no room.
+-- At this event memory is needed: for a node, an item or a pair of the document that is open; or it ends a
+-- document, for which the list of documents has no room.
 pub data NeedsMemoryAt (Full : Type 0) (here : State) (e : Event) : Type 0 where
   for_node : (o : Opening) (l : Loader) → here ≡ within o l → may_grow l (part_of e) ≡ true → NeedsMemoryAt Full here e
   for_document : (c : Closing) → closing_of e ≡ Some c → Full → NeedsMemoryAt Full here e

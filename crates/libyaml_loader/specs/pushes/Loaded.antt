@@ -10,8 +10,8 @@ use Rattle.libyaml_events.specs.sources.Pushed.{PushParser, Pushed}
 use Rattle.libyaml_graphs.specs.machine.Loader.{State, between}
 use Rattle.libyaml_loader.specs.pushes.Leads.{Leads}
 
--- What is kept between two tokens: the parser; whether a document is open, and its nodes so far; the fault; and how many entries
--- each list of a document may have.
+-- What is kept between two tokens: the parser; whether a document is open, and its nodes so far; the fault; and how
+-- many entries each list of a document may have.
 pub record PushLoader : Type 0 where
   pub parser : PushParser
   pub state : State
@@ -25,8 +25,8 @@ standing p s f n = record { parser = p; state = s; fault = f; max_entries = n }
 abbrev pub made : ℕ → PushLoader
 made n = standing pushed.made between no_fault n
 
--- Since the loader was made it was handed these tokens and gave these documents, without a fault: its parser gave some events,
--- and the loads of all that begin so are these documents and then those from where it stands.
+-- Since the loader was made it was handed these tokens and gave these documents, without a fault: its parser gave
+-- some events, and the loads of all that begin so are these documents and then those from where it stands.
 pub record Loaded (l : PushLoader) (tokens : List Token) (documents : List Document) : Type 0 where
   pub events : List Event
   pub pushed : Pushed l.parser tokens events
@@ -49,4 +49,5 @@ has_stopped l = keeps_fault l || pushed.has_stopped l.parser
 
 -- a fault is kept, or some pushes lead to a loader that stands so
 abbrev pub RemembersLoads : PushLoader → Type 0
-RemembersLoads l = (keeps_fault l ≡ true) ⊎ ((tokens : List Token) × (documents : List Document) × Loaded l tokens documents)
+RemembersLoads l = (keeps_fault l ≡ true)
+    ⊎ ((tokens : List Token) × (documents : List Document) × Loaded l tokens documents)

@@ -24,20 +24,26 @@ AreThen n tokens source documents last = IsBoundedLoads n tokens source (as_load
 
 -- the documents are the first of the loads of all tokens that begin so, also of tokens with a fault
 abbrev pub BeginsEachLoads : ℕ → List Token → List Document → Type 0
-BeginsEachLoads n tokens documents = (rest : List Token) (source : Fault) (loads : List Load) → IsBoundedLoads n (tokens ++ rest) source loads
+BeginsEachLoads n tokens documents = (rest : List Token) (source : Fault) (loads : List Load)
+    → IsBoundedLoads n (tokens ++ rest) source loads
     → (later : List Load) × (loads ≡ as_loads documents ++ later)
 
--- Where memory is needed, after these tokens, these events and where they led: for the next step of the parser, or for the event
--- that it gives, for which the loader's own list may have no room; or at an event that the tokens settle.
+-- Where memory is needed, after these tokens, these events and where they led: for the next step of the parser, or
+-- for the event that it gives, for which the loader's own list may have no room; or at an event that the tokens
+-- settle.
 pub data LoadNeedsMemory (Full : Type 0) (tokens : List Token) (events : List Event) (here : State) : Type 0 where
-  in_parser : (w : Want) (c : Config) (u : Token) → Fed w c (Some u) tokens events → NeedsMemory (Unit {0}) w c u → LoadNeedsMemory Full tokens events here
-  in_loader : (e : Event) → BeginsEachRun tokens (events ++ e ∷ []) → NeedsMemoryAt Full here e → LoadNeedsMemory Full tokens events here
+  in_parser : (w : Want) (c : Config) (u : Token) → Fed w c (Some u) tokens events → NeedsMemory (Unit {0}) w c u
+      → LoadNeedsMemory Full tokens events here
+  in_loader : (e : Event) → BeginsEachRun tokens (events ++ e ∷ []) → NeedsMemoryAt Full here e
+      → LoadNeedsMemory Full tokens events here
 
--- The loads of the tokens are these documents and then this fault, whatever comes after them. Or an allocation failed: some events
--- that the tokens settle have these documents, and then memory is needed.
+-- The loads of the tokens are these documents and then this fault, whatever comes after them. Or an allocation
+-- failed: some events that the tokens settle have these documents, and then memory is needed.
 pub data StopsLoading (Full : Type 0) (n : ℕ) (tokens : List Token) (documents : List Document) (f : Fault) : Type 0 where
-  by_tokens : ((more : List Token) (source : Fault) → AreThen n (tokens ++ more) source documents (Err f)) → StopsLoading Full n tokens documents f
-  by_memory : f ≡ memory_fault → (events : List Event) (here : State) → BeginsEachRun tokens events → Leads n between events documents here
+  by_tokens : ((more : List Token) (source : Fault) → AreThen n (tokens ++ more) source documents (Err f))
+      → StopsLoading Full n tokens documents f
+  by_memory : f ≡ memory_fault → (events : List Event) (here : State) → BeginsEachRun tokens events
+      → Leads n between events documents here
       → LoadNeedsMemory Full tokens events here → StopsLoading Full n tokens documents f
 
 -- after these tokens and documents a push ended so, and left this
@@ -45,16 +51,18 @@ abbrev pub LoadEndsSo : (Full : Type 0) → List Token → List Document → Don
 LoadEndsSo Full tokens documents (Ok u) new = Loaded new tokens documents
 LoadEndsSo Full tokens documents (Err x) new = StopsLoading Full new.max_entries tokens documents (fault_in new)
 
--- The token was taken: the documents that ended with it were added to those before, and the push ended so. Full says that the list
--- of documents had no room for one.
-pub record TakesLoads (Full : Type 0) (old : PushLoader) (t : Token) (before : List Document) (r : Done) (new : PushLoader) (after : List Document)
+-- The token was taken: the documents that ended with it were added to those before, and the push ended so. Full
+-- says that the list of documents had no room for one.
+pub record TakesLoads (Full : Type 0) (old : PushLoader) (t : Token) (before : List Document) (r : Done)
+    (new : PushLoader) (after : List Document)
     : Type 0 where
   pub added : List Document
   pub appended : after ≡ before ++ added
   pub ends_so : ForLoaded old (λ tokens documents. LoadEndsSo Full (tokens ++ t ∷ []) (documents ++ added) r new)
 
 -- A push of the token t, with these documents in the list before and after it.
-pub record PushesLoads (Full : Type 0) (old : PushLoader) (t : Token) (before : List Document) (r : Done) (new : PushLoader) (after : List Document)
+pub record PushesLoads (Full : Type 0) (old : PushLoader) (t : Token) (before : List Document) (r : Done)
+    (new : PushLoader) (after : List Document)
     : Type 0 where
   -- after the stream's end or a fault nothing is taken
   pub stopped : has_stopped old ≡ true → (new ≡ old) × (after ≡ before) × (r ≡ done_by (fault_in old))
@@ -63,9 +71,10 @@ pub record PushesLoads (Full : Type 0) (old : PushLoader) (t : Token) (before : 
   -- a fault is kept for good
   pub kept : IfErr r (λ x. (x ≡ (fault_in new).error) × (keeps_fault new ≡ true))
   pub bound : new.max_entries ≡ old.max_entries
-  -- what was handed and given since the loader was made: before STREAM-END the documents are all that the tokens have, whatever the
-  -- source's fault; and with it those of the whole stream
-  pub so_far : ForLoaded new (λ tokens documents. has_end tokens ≡ false → (source : Fault) → AreThen new.max_entries tokens source documents (Err source))
+  -- what was handed and given since the loader was made: before STREAM-END the documents are all that the tokens
+  -- have, whatever the source's fault; and with it those of the whole stream
+  pub so_far : ForLoaded new (λ tokens documents. has_end tokens ≡ false → (source : Fault)
+      → AreThen new.max_entries tokens source documents (Err source))
   pub whole : ForLoaded new (λ tokens documents. has_end tokens ≡ true → (more : List Token) (source : Fault)
       → AreThen new.max_entries (tokens ++ more) source documents (last_load Ends))
   pub ended : ForLoaded new (λ tokens _. has_stopped new ≡ has_end tokens)

@@ -43,7 +43,8 @@ module _ (law : Laws) (f : Fault) where
       go (Err x) i = fails (law.fails w c u l g x h i rest f)
       go (Ok (Wants v, d)) i = next v d l g (pushed.wants w c u h i) (law.wants w v c d u l g h i)
       go (Ok (Given e, d)) i
-          = gives [] refl (pushed.gives w c u g e d (subst (λ (y : List Token). Fed w c (Some u) y g) (sym (append-nil l)) h)
+          = gives [] refl (pushed.gives w c u g e d
+          (subst (λ (y : List Token). Fed w c (Some u) y g) (sym (append-nil l)) h)
           i refl refl refl) (law.gives w c d u l g e h i)
 
   by_tokens : (rest : List Token) → DoesFrom rest

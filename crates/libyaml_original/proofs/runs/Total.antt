@@ -194,7 +194,8 @@ module _ (law : Laws) (f : Fault) (m : Mends) (b : Bool)
       go (OK e p) i (does.fails run) w = absurd w
       go (FAIL x) i (does.gives more j fed ends_so) w = absurd w
       go (FAIL x) i (does.fails {x = y} run) w
-          = failed_here q d rest l g a x (same ∙ i) (λ k. subst (λ (z : Fault). IsRun (l ++ rest) f g (Fails z)) (sym w) run)
+          = failed_here q d rest l g a x (same ∙ i)
+          (λ k. subst (λ (z : Fault). IsRun (l ++ rest) f g (Fails z)) (sym w) run)
 
   -- where they part
   parted : (n : ℕ) (q : Parser) (d : Config) (rest l : List Token) (g : List Event) → Along q d rest l g

@@ -7,13 +7,17 @@ use Rattle.std.specs.Io.KnownBytes.{Consumes}
 use Rattle.std.specs.List.{onto_first, slice_split}
 use Rattle.libyaml_types.specs.declared.token.yaml_token_t.{yaml_token_t}
 use Rattle.libyaml_sources.specs.Fault.{Answer, Fault}
-use Rattle.line_reading.specs.declared.line_problem.LineProblem.TheVariants.{BadTokenLine, LineTooLong, NoMoreTokens, TooManyTokens}
+use Rattle.line_reading.specs.declared.line_problem.LineProblem.TheVariants.{BadTokenLine, LineTooLong, NoMoreTokens}
+use Rattle.line_reading.specs.declared.line_problem.LineProblem.TheVariants.{TooManyTokens}
 use Rattle.line_reading.specs.sources.LineFault.{line_fault}
 use Rattle.line_reading.specs.sources.LineLaws.{HasPieces, has_pieces, lines_of_more}
 use Rattle.line_reading.specs.sources.LineSource.{Gives, GivesBy, GivesNext, LineSource, fault_in, tokens_in}
-use Rattle.line_reading.specs.sources.NextLine.{BreaksOffAt, IsBehindLine, IsWithinLine, KnownAnswer, LineAnswer, TakesAtMost, first_answer}
-use Rattle.line_reading.specs.sources.OneLine.{LineBreaksOff, LineOutcome, OneLine, SourcesAlike, alike, first_breaks, second_breaks}
-use Rattle.line_reading.specs.sources.ReadLines.{behind_line, last_line, line_answer, lines, lines_of_pieces, longest_line, token_or_fault}
+use Rattle.line_reading.specs.sources.NextLine.{BreaksOffAt, IsBehindLine, IsWithinLine, KnownAnswer, LineAnswer}
+use Rattle.line_reading.specs.sources.NextLine.{TakesAtMost, first_answer}
+use Rattle.line_reading.specs.sources.OneLine.{LineBreaksOff, LineOutcome, OneLine, SourcesAlike, alike, first_breaks}
+use Rattle.line_reading.specs.sources.OneLine.{second_breaks}
+use Rattle.line_reading.specs.sources.ReadLines.{behind_line, last_line, line_answer, lines, lines_of_pieces}
+use Rattle.line_reading.specs.sources.ReadLines.{longest_line, token_or_fault}
 use Rattle.line_reading.specs.tokens.TokenLine.{token_of_line}
 
 -- an input without a line has no byte
@@ -52,12 +56,14 @@ module _ {R : Type 0} (remaining : R → Option (List ℕ)) where
     none : bytes ≡ [] → after ≡ Some []
 
   -- a result of the first line leaves one thing
-  left_by_token : (bytes : List ℕ) (n : ℕ) (o : Option yaml_token_t) (a b : Answer) (x y : Option (List ℕ)) → token_or_fault o n ≡ a → a ≡ b
+  left_by_token : (bytes : List ℕ) (n : ℕ) (o : Option yaml_token_t) (a b : Answer) (x y : Option (List ℕ))
+      → token_or_fault o n ≡ a → a ≡ b
       → Leaves bytes n a x → Leaves bytes n b y → x ≡ y
   left_by_token bytes n (Some t) a b x y e i h k = h.token t (sym e) ∙ sym (k.token t (sym (e ∙ i)))
   left_by_token bytes n None a b x y e i h k = h.bad_line (sym e) ∙ sym (k.bad_line (sym (e ∙ i)))
 
-  left_by_line : (bytes line : List ℕ) (n : ℕ) (a b : Answer) (x y : Option (List ℕ)) (is_long : Bool) → nat_lt longest_line (length line) ≡ is_long
+  left_by_line : (bytes line : List ℕ) (n : ℕ) (a b : Answer) (x y : Option (List ℕ)) (is_long : Bool)
+      → nat_lt longest_line (length line) ≡ is_long
       → line_answer n line ≡ a → a ≡ b → Leaves bytes n a x → Leaves bytes n b y → x ≡ y
   left_by_line bytes line n a b x y true l e i h k =
       let long : Err (line_fault LineTooLong n) ≡ a =
@@ -68,56 +74,70 @@ module _ {R : Type 0} (remaining : R → Option (List ℕ)) where
       sym (ap (λ (c : Bool). cond c (Err (line_fault LineTooLong n)) (token_or_fault (token_of_line line) n)) l) ∙ e in
       left_by_token bytes n (token_of_line line) a b x y short i h k
 
-  left_by : (bytes : List ℕ) (n : ℕ) (ls : List (List ℕ)) (a b : Answer) (x y : Option (List ℕ)) → lines bytes ≡ ls → first_answer n ls ≡ a → a ≡ b
+  left_by : (bytes : List ℕ) (n : ℕ) (ls : List (List ℕ)) (a b : Answer) (x y : Option (List ℕ)) → lines bytes ≡ ls
+      → first_answer n ls ≡ a → a ≡ b
       → Leaves bytes n a x → Leaves bytes n b y → x ≡ y
   left_by bytes n [] a b x y l e i h k = h.none (no_byte bytes l) ∙ sym (k.none (no_byte bytes l))
-  left_by bytes n (line ∷ more) a b x y l e i h k = left_by_line bytes line n a b x y (nat_lt longest_line (length line)) refl e i h k
+  left_by bytes n (line ∷ more) a b x y l e i h k = left_by_line bytes line n a b x y
+      (nat_lt longest_line (length line)) refl e i h k
 
   -- what was said of a result
   data Came (s : LineSource R) (bytes : List ℕ) (answer : Answer) : Type 0 where
     of_line : first_answer s.given (lines bytes) ≡ answer → Came s bytes answer
     broke : LineBreaksOff s answer → Came s bytes answer
 
-  came : (s : LineSource R) (bytes : List ℕ) (answer : Answer) (after : Option (List ℕ)) → KnownAnswer bytes s.given answer after → Came s bytes answer
+  came : (s : LineSource R) (bytes : List ℕ) (answer : Answer) (after : Option (List ℕ))
+      → KnownAnswer bytes s.given answer after → Came s bytes answer
   came s bytes (Ok t) after h = of_line h.0
   came s bytes (Err f) after (inl h) = of_line h
   came s bytes (Err f) after (inr h) = broke (record { fault = f; result = refl; breaks_off = h })
 
-  behind_token : (s : LineSource R) (bytes : List ℕ) (answer : Answer) (after : Option (List ℕ)) → KnownAnswer bytes s.given answer after
+  behind_token : (s : LineSource R) (bytes : List ℕ) (answer : Answer) (after : Option (List ℕ))
+      → KnownAnswer bytes s.given answer after
       → (t : yaml_token_t) → answer ≡ Ok t → after ≡ Some (behind_line bytes)
   behind_token s bytes (Ok u) after h t e = h.1
   behind_token s bytes (Err f) after h t e = absurd (ok_no_err t f (sym e))
 
-  known_behind : (before after : Option (List ℕ)) (bytes : List ℕ) → before ≡ Some bytes → IsBehindLine before after → after ≡ Some (behind_line bytes)
+  known_behind : (before after : Option (List ℕ)) (bytes : List ℕ) → before ≡ Some bytes → IsBehindLine before after
+      → after ≡ Some (behind_line bytes)
   known_behind None after bytes e h = cc
   known_behind (Some x) after bytes e h = let same : x ≡ bytes = cc in h ∙ ap (λ (y : List ℕ). Some (behind_line y)) same
 
-  known_within : (n : ℕ) (before after : Option (List ℕ)) (bytes : List ℕ) → before ≡ Some bytes → IsWithinLine n before after → after ≡ Some (drop n bytes)
+  known_within : (n : ℕ) (before after : Option (List ℕ)) (bytes : List ℕ) → before ≡ Some bytes
+      → IsWithinLine n before after → after ≡ Some (drop n bytes)
   known_within n None after bytes e h = cc
   known_within n (Some x) after bytes e h = let same : x ≡ bytes = cc in h.1 ∙ ap (λ (y : List ℕ). Some (drop n y)) same
 
-  leaves : (s t : LineSource R) (bytes : List ℕ) (answer : Answer) → remaining s.reader ≡ Some bytes → s.fault ≡ None → LineOutcome remaining s answer t
+  leaves : (s t : LineSource R) (bytes : List ℕ) (answer : Answer) → remaining s.reader ≡ Some bytes
+      → s.fault ≡ None → LineOutcome remaining s answer t
       → KnownAnswer bytes s.given answer (remaining t.reader) → Leaves bytes s.given answer (remaining t.reader)
   leaves s t bytes answer known running o k = record {
     token = behind_token s bytes answer (remaining t.reader) k;
     bad_line = λ e. known_behind (remaining s.reader) (remaining t.reader) bytes known (o.bad_line running e);
-    too_long = λ e. known_within (longest_line + 1) (remaining s.reader) (remaining t.reader) bytes known (o.too_long running e);
+    too_long = λ e. known_within (longest_line + 1) (remaining s.reader) (remaining t.reader) bytes known
+        (o.too_long running e);
     none = λ e. consumed_none (remaining t.reader) o.takes.0
         (subst (λ (b : Option (List ℕ)). Consumes b (remaining t.reader) o.takes.0) (known ∙ ap Some e) o.takes.2);
   }
 
-  gives_next : (s : LineSource R) (answer : Answer) (t : LineSource R) → s.fault ≡ None → Gives remaining s answer t → GivesNext remaining s answer t
+  gives_next : (s : LineSource R) (answer : Answer) (t : LineSource R) → s.fault ≡ None → Gives remaining s answer t
+      → GivesNext remaining s answer t
   gives_next s answer t running h = subst (λ (f : Option Fault). GivesBy f remaining s answer t) running h
 
   known_answer : (s : LineSource R) (answer : Answer) (t : LineSource R) (bytes : List ℕ) → remaining s.reader ≡ Some bytes
-      → LineAnswer (remaining s.reader) s.given answer (remaining t.reader) → KnownAnswer bytes s.given answer (remaining t.reader)
-  known_answer s answer t bytes known h = subst (λ (b : Option (List ℕ)). LineAnswer b s.given answer (remaining t.reader)) known h
+      → LineAnswer (remaining s.reader) s.given answer (remaining t.reader)
+      → KnownAnswer bytes s.given answer (remaining t.reader)
+  known_answer s answer t bytes known h =
+      subst (λ (b : Option (List ℕ)). LineAnswer b s.given answer (remaining t.reader)) known h
 
-  module _ (s u : LineSource R) (a b : Answer) (t v : LineSource R) (bytes : List ℕ) (known : remaining s.reader ≡ Some bytes)
+  module _ (s u : LineSource R) (a b : Answer) (t v : LineSource R) (bytes : List ℕ)
+      (known : remaining s.reader ≡ Some bytes)
       (same : SourcesAlike remaining s u) (first : LineOutcome remaining s a t) (second : LineOutcome remaining u b v) where
-    left_alike : a ≡ b → remaining t.reader ≡ remaining v.reader → GivesNext remaining s a t → GivesNext remaining u b v → SourcesAlike remaining t v
+    left_alike : a ≡ b → remaining t.reader ≡ remaining v.reader → GivesNext remaining s a t
+        → GivesNext remaining u b v → SourcesAlike remaining t v
     left_alike e r h k = record {
-      given = h.given ∙ (ap (λ (n : ℕ). n + tokens_in a) same.given ∙ (ap (λ (x : Answer). u.given + tokens_in x) e ∙ sym k.given));
+      given = h.given ∙ (ap (λ (n : ℕ). n + tokens_in a) same.given
+          ∙ (ap (λ (x : Answer). u.given + tokens_in x) e ∙ sym k.given));
       max_tokens = h.max_tokens ∙ (same.max_tokens ∙ sym k.max_tokens);
       fault = h.fault ∙ (ap fault_in e ∙ sym k.fault);
       bytes = r;
@@ -127,7 +147,8 @@ module _ {R : Type 0} (remaining : R → Option (List ℕ)) where
     also_known = sym same.bytes ∙ known
 
     -- a token may be given
-    next_line : s.given < s.max_tokens → u.given < u.max_tokens → s.fault ≡ None → u.fault ≡ None → OneLine remaining s u a t b v
+    next_line : s.given < s.max_tokens → u.given < u.max_tokens → s.fault ≡ None → u.fault ≡ None
+        → OneLine remaining s u a t b v
     next_line l m f g = go (came s bytes a (remaining t.reader) ka) (came u bytes b (remaining v.reader) kb)
       where
         h : GivesNext remaining s a t
@@ -147,12 +168,15 @@ module _ {R : Type 0} (remaining : R → Option (List ℕ)) where
         go x (broke y) = second_breaks y
         go (of_line x) (of_line y) =
             let e : a ≡ b = sym x ∙ (ap (λ (n : ℕ). first_answer n (lines bytes)) same.given ∙ y) in
-            let of_u = subst (λ (n : ℕ). Leaves bytes n b (remaining v.reader)) (sym same.given) (leaves u v bytes b also_known g second kb) in
-            alike e (left_alike e (left_by bytes s.given (lines bytes) a b (remaining t.reader) (remaining v.reader) refl x e
+            let of_u = subst (λ (n : ℕ). Leaves bytes n b (remaining v.reader)) (sym same.given)
+            (leaves u v bytes b also_known g second kb) in
+            alike e (left_alike e (left_by bytes s.given (lines bytes) a b (remaining t.reader) (remaining v.reader)
+            refl x e
             (leaves s t bytes a known f first ka) of_u) h k)
 
     -- no token may be given
-    at_bound : s.max_tokens ≤ s.given → u.max_tokens ≤ u.given → s.fault ≡ None → u.fault ≡ None → OneLine remaining s u a t b v
+    at_bound : s.max_tokens ≤ s.given → u.max_tokens ≤ u.given → s.fault ≡ None → u.fault ≡ None
+        → OneLine remaining s u a t b v
     at_bound l m f g =
         let h = gives_next s a t f first.gives in
         let k = gives_next u b v g second.gives in
@@ -162,7 +186,8 @@ module _ {R : Type 0} (remaining : R → Option (List ℕ)) where
     by_fault : (f : Option Fault) → s.fault ≡ f → OneLine remaining s u a t b v
     by_fault (Some f) e =
         let h : (a ≡ Err f) × (t ≡ s) = subst (λ (x : Option Fault). GivesBy x remaining s a t) e first.gives in
-        let k : (b ≡ Err f) × (v ≡ u) = subst (λ (x : Option Fault). GivesBy x remaining u b v) (sym same.fault ∙ e) second.gives in
+        let k : (b ≡ Err f) × (v ≡ u) = subst (λ (x : Option Fault). GivesBy x remaining u b v) (sym same.fault ∙ e)
+        second.gives in
         alike (h.0 ∙ sym k.0) (subst (λ (x : LineSource R). SourcesAlike remaining x v) (sym h.1)
         (subst (λ (x : LineSource R). SourcesAlike remaining s x) (sym k.1) same))
     by_fault None e = elim (cases_lt s.given s.max_tokens) [

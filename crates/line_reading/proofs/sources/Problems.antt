@@ -1,19 +1,23 @@
 -- What a source that got no line returns.
-use Rattle.std.proofs.Common.{◌≡◌, ◌<◌, ℕ, List, [], ◌∷◌, length, Option, Some, None, Err, refl, ap, sym, ◌∙◌, inl, inr, arith}
+use Rattle.std.proofs.Common.{◌≡◌, ◌<◌, ℕ, List, [], ◌∷◌, length, Option, Some, None, Err, refl, ap, sym, ◌∙◌, inl, inr}
+use Rattle.std.proofs.Common.{arith}
 use Rattle.std.proofs.lemmas.Bool.{lt-ltb}
 use Rattle.libyaml_sources.specs.Fault.{Fault}
 use Rattle.line_reading.specs.declared.line_problem.LineProblem.{LineProblem}
-use Rattle.line_reading.specs.declared.line_problem.LineProblem.TheVariants.{Memory, ReadFailed, LineTooLong, BadTokenLine, TooManyTokens, NoMoreTokens}
+use Rattle.line_reading.specs.declared.line_problem.LineProblem.TheVariants.{Memory, ReadFailed, LineTooLong}
+use Rattle.line_reading.specs.declared.line_problem.LineProblem.TheVariants.{BadTokenLine, TooManyTokens, NoMoreTokens}
 use Rattle.line_reading.specs.sources.LineFault.{line_fault}
 use Rattle.line_reading.specs.sources.LineSource.{Gives, LineSource}
-use Rattle.line_reading.specs.sources.NextLine.{BeginsTooLong, HasNoLine, TakesNoLine, KnownAnswer, LineAnswer, first_answer}
+use Rattle.line_reading.specs.sources.NextLine.{BeginsTooLong, HasNoLine, TakesNoLine, KnownAnswer, LineAnswer}
+use Rattle.line_reading.specs.sources.NextLine.{first_answer}
 use Rattle.line_reading.specs.sources.ReadLines.{lines, longest_line}
 
 first_too_long : (n : ℕ) (ls : List (List ℕ)) → BeginsTooLong ls → first_answer n ls ≡ Err (line_fault LineTooLong n)
 first_too_long n [] h = absurd h
 first_too_long n (l ∷ ls) h = rw (lt-ltb longest_line (length l) h) refl
 
-known_answer : (bytes : List ℕ) (n : ℕ) (problem : LineProblem) (f : Fault) (after : Option (List ℕ)) → f ≡ line_fault problem n
+known_answer : (bytes : List ℕ) (n : ℕ) (problem : LineProblem) (f : Fault) (after : Option (List ℕ))
+    → f ≡ line_fault problem n
     → HasNoLine bytes problem → KnownAnswer bytes n (Err f) after
 known_answer bytes n Memory f after e h = inr (inl e)
 known_answer bytes n ReadFailed f after e h = inr (inr e)
@@ -22,14 +26,23 @@ known_answer bytes n BadTokenLine f after e h = absurd h
 known_answer bytes n TooManyTokens f after e h = absurd h
 known_answer bytes n NoMoreTokens f after e h = inl (ap (first_answer n) h ∙ ap Err (sym e))
 
-line_answer_of : (before : Option (List ℕ)) (n : ℕ) (problem : LineProblem) (f : Fault) (after : Option (List ℕ)) → f ≡ line_fault problem n
+line_answer_of : (before : Option (List ℕ)) (n : ℕ) (problem : LineProblem) (f : Fault) (after : Option (List ℕ))
+    → f ≡ line_fault problem n
     → TakesNoLine before problem → LineAnswer before n (Err f) after
 line_answer_of None n problem f after e h = (problem, e)
 line_answer_of (Some bytes) n problem f after e h = known_answer bytes n problem f after e h
 
-pub gives_no_line : {R : Type 0} (remaining : R → Option (List ℕ)) (s : LineSource R) (r : R) (problem : LineProblem) (f : Fault) → s.fault ≡ None
+pub gives_no_line : {R : Type 0} (remaining : R → Option (List ℕ)) (s : LineSource R) (r : R)
+    (problem : LineProblem) (f : Fault) → s.fault ≡ None
     → s.given < s.max_tokens → f ≡ line_fault problem s.given → TakesNoLine (remaining s.reader) problem
-    → Gives remaining s (Err f) (record { reader = r; given = s.given; max_tokens = s.max_tokens; fault = Some (line_fault problem s.given) })
+    → Gives remaining s (Err f)
+    (record {
+      reader = r;
+      given = s.given;
+      max_tokens = s.max_tokens;
+      fault =
+          Some (line_fault problem s.given);
+    })
 gives_no_line remaining s r problem f none below e h =
     rw none (record {
       below = λ _. line_answer_of (remaining s.reader) s.given problem f (remaining r) e h;

@@ -1,5 +1,6 @@
 -- a number that begins some bytes
-use Rattle.std.proofs.Common.{◌≡◌, leb, ◌==◌, ℕ, ◌+◌, ◌-◌, ◌*◌, ◌%◌, ◌<◌, ◌≤◌, ◌^◌, true, false, List, [], ◌∷◌, ◌++◌, length, take, drop, get_or, None, refl}
+use Rattle.std.proofs.Common.{◌≡◌, leb, ◌==◌, ℕ, ◌+◌, ◌-◌, ◌*◌, ◌%◌, ◌<◌, ◌≤◌, ◌^◌, true, false, List, [], ◌∷◌, ◌++◌}
+use Rattle.std.proofs.Common.{length, take, drop, get_or, None, refl}
 use Rattle.std.proofs.Common.{ap, sym, ◌∙◌, arith}
 use Rattle.std.proofs.lemmas.Bool.{cond_both}
 use Rattle.std.proofs.lemmas.List.{at_drop_more, at_drop_all, take_more, append-nil}
@@ -42,7 +43,8 @@ no_value (d ∷ []) h = h
 no_value (d ∷ e ∷ ds) h = cond_both (d == 48) None (value_of (d ∷ e ∷ ds)) (λ o. o ≡ None) (λ _. refl) (λ _. h)
 
 -- the digits end at i
-ends : (bytes : List ℕ) (i n : ℕ) → HasRead bytes i n → digits_of (drop i bytes) ≡ [] → behind_digits (drop i bytes) ≡ drop i bytes → HasDigits bytes i n
+ends : (bytes : List ℕ) (i n : ℕ) → HasRead bytes i n → digits_of (drop i bytes) ≡ []
+    → behind_digits (drop i bytes) ≡ drop i bytes → HasDigits bytes i n
 ends bytes i n h none rest =
     let all : digits_of bytes ≡ take i bytes = h.digits ∙ ap (λ x. take i bytes ++ x) none ∙ append-nil (take i bytes) in
     record {
@@ -99,17 +101,21 @@ module _ (bytes : List ℕ) (k i n : ℕ) (h : HasRead bytes i n) (small : i < l
       = ends bytes i n h (ap digits_of whole ∙ digits-no byte rest d)
       (ap behind_digits whole ∙ behind-no byte rest d ∙ sym whole)
 
-pub ends_with_line : (line : List ℕ) (at end i n : ℕ) → end ≡ length line → HasRead (drop at line) i n → i ≤ length (take (end - at) (drop at line))
+pub ends_with_line : (line : List ℕ) (at end i n : ℕ) → end ≡ length line → HasRead (drop at line) i n
+    → i ≤ length (take (end - at) (drop at line))
     → length (take (end - at) (drop at line)) ≤ i → HasDigits (drop at line) (end - at) n
 ends_with_line line at end i n e h most least =
-    let size : length (take (end - at) (drop at line)) ≡ end - at = length-take (end - at) (drop at line) ∙ omega (arith, e, length-drop at line) in
+    let size : length (take (end - at) (drop at line)) ≡ end - at = length-take (end - at) (drop at line)
+    ∙ omega (arith, e, length-drop at line) in
     let all : i ≡ end - at = omega (arith, most, least, size) in
     rw (← all) (ends_at_end (drop at line) i n h (omega (arith, all, e, length-drop at line)))
 
 -- the number that is there, or that there is none
 
-pub no_number_read : (line : List ℕ) (at : ℕ) (read : NumberRead) → read.end ≡ 0 → number_at (drop at line) ≡ None → IsNumberRead line at read
-no_number_read line at read e none = record { within = omega (arith, e); none = λ _. none; some = λ some. absurd (omega (arith, e, some)) }
+pub no_number_read : (line : List ℕ) (at : ℕ) (read : NumberRead) → read.end ≡ 0 → number_at (drop at line) ≡ None
+    → IsNumberRead line at read
+no_number_read line at read e none =
+    record { within = omega (arith, e); none = λ _. none; some = λ some. absurd (omega (arith, e, some)) }
 
 -- the same, with a value that i digits can have
 pub record HasReadFew (bytes : List ℕ) (i n : ℕ) : Type 0 where
@@ -135,15 +141,18 @@ few_below i n b h high low =
     let more : 10 ^ (i + 1) ≡ 10 ^ i * 10 = ap (λ x. 10 ^ x) (add-one i) ∙ pow-suc 10 i in
     rw more (omega (arith, h, high, low))
 
-pub few_room : (bytes : List ℕ) (k i n : ℕ) → k ≤ 19 → HasReadFew bytes i n → i < length (take k bytes) → is_ascii_digit (get_or (take k bytes) i 0) ≡ true
+pub few_room : (bytes : List ℕ) (k i n : ℕ) → k ≤ 19 → HasReadFew bytes i n → i < length (take k bytes)
+    → is_ascii_digit (get_or (take k bytes) i 0) ≡ true
     → n * 10 + (get_or (take k bytes) i 0 - 48) < 2 ^ 64
 few_room bytes k i n short few small d =
     let within : i < min k (length bytes) = rw (sym (length-take k bytes)) small in
-    let bounds : (48 ≤ get_or (take k bytes) i 0) × (get_or (take k bytes) i 0 ≤ 57) = digit_within (get_or (take k bytes) i 0) d in
+    let bounds : (48 ≤ get_or (take k bytes) i 0) × (get_or (take k bytes) i 0 ≤ 57) =
+    digit_within (get_or (take k bytes) i 0) d in
     omega (arith, few_fit i n few.below (omega (arith, within, short)), bounds.1)
 
 pub few_more_within : (bytes : List ℕ) (k i n : ℕ) → k ≤ 19 → HasReadFew bytes i n → i < length (take k bytes)
-    → is_ascii_digit (get_or (take k bytes) i 0) ≡ true → HasReadFew bytes (i + 1) (n * 10 + (get_or (take k bytes) i 0 - 48))
+    → is_ascii_digit (get_or (take k bytes) i 0) ≡ true
+    → HasReadFew bytes (i + 1) (n * 10 + (get_or (take k bytes) i 0 - 48))
 few_more_within bytes k i n short few small d =
     let bounds = digit_within (get_or (take k bytes) i 0) d in
     record {

@@ -1,5 +1,6 @@
 -- a line's token from its name and from the marks at their indices
-use Rattle.std.proofs.Common.{◌≡◌, ◌≢◌, ◌+◌, ◌<◌, ◌≤◌, ℕ, All, List, length, take, drop, get_or, Option, Some, None, Result, Ok, Err, refl, ap, sym}
+use Rattle.std.proofs.Common.{◌≡◌, ◌≢◌, ◌+◌, ◌<◌, ◌≤◌, ℕ, All, List, length, take, drop, get_or, Option, Some, None}
+use Rattle.std.proofs.Common.{Result, Ok, Err, refl, ap, sym}
 use Rattle.std.proofs.lemmas.List.{at_drop_more, at_drop_all}
 use Rattle.libyaml_types.specs.declared.mark.yaml_mark_t.{yaml_mark_t}
 use Rattle.libyaml_types.specs.declared.enums.yaml_token_type_t.{yaml_token_type_t}
@@ -27,7 +28,8 @@ pub record IsNamed (line : List ℕ) (n : ℕ) : Type 0 where
   pub name : before_byte 32 line ≡ take n line
   pub marks : behind_byte 32 line ≡ Some (drop (n + 1) line)
 
-pub named : (line : List ℕ) (n : ℕ) → n < length line → All (λ x. x ≢ 32) (take n line) → (n < length line → get_or line n 0 ≡ 32) → IsNamed line n
+pub named : (line : List ℕ) (n : ℕ) → n < length line → All (λ x. x ≢ 32) (take n line)
+    → (n < length line → get_or line n 0 ≡ 32) → IsNamed line n
 named line n small clean found =
     let both = cut_here 32 line n small clean (found small) in
     record { name = sym both.0; marks = sym both.1 }
@@ -42,16 +44,19 @@ pub no_start : (line : List ℕ) (n : ℕ) (type : yaml_token_type_t) → IsName
     → mark_at (drop (n + 1) line) ≡ None → token_at line ≡ None
 no_start line n type h t s = rw (h.marks, h.name, t, s) refl
 
-pub no_end : (line : List ℕ) (n a : ℕ) (type : yaml_token_type_t) (start : yaml_mark_t) → IsNamed line n → token_type_of (take n line) ≡ Some type
+pub no_end : (line : List ℕ) (n a : ℕ) (type : yaml_token_type_t) (start : yaml_mark_t) → IsNamed line n
+    → token_type_of (take n line) ≡ Some type
     → mark_at (drop (n + 1) line) ≡ Some (start, further (drop a line)) → length line ≤ a → token_at line ≡ None
 no_end line n a type start h t s e = rw (h.marks, h.name, t, s, none_further line a e) refl
 
-pub bad_end : (line : List ℕ) (n a : ℕ) (type : yaml_token_type_t) (start : yaml_mark_t) → IsNamed line n → token_type_of (take n line) ≡ Some type
+pub bad_end : (line : List ℕ) (n a : ℕ) (type : yaml_token_type_t) (start : yaml_mark_t) → IsNamed line n
+    → token_type_of (take n line) ≡ Some type
     → mark_at (drop (n + 1) line) ≡ Some (start, further (drop a line)) → a < length line
     → mark_at (drop (a + 1) line) ≡ None → token_at line ≡ None
 bad_end line n a type start h t s more e = rw (h.marks, h.name, t, s, some_further line a more, e) refl
 
-pub with_content : (line : List ℕ) (n a z : ℕ) (type : yaml_token_type_t) (start end : yaml_mark_t) → IsNamed line n → token_type_of (take n line) ≡ Some type
+pub with_content : (line : List ℕ) (n a z : ℕ) (type : yaml_token_type_t) (start end : yaml_mark_t) → IsNamed line n
+    → token_type_of (take n line) ≡ Some type
     → mark_at (drop (n + 1) line) ≡ Some (start, further (drop a line)) → a < length line
     → mark_at (drop (a + 1) line) ≡ Some (end, further (drop z line))
     → token_at line ≡ (content_of type (pieces_of 32 (further (drop z line)))
@@ -59,7 +64,8 @@ pub with_content : (line : List ℕ) (n a z : ℕ) (type : yaml_token_type_t) (s
 with_content line n a z type start end h t s more e = rw (h.marks, h.name, t, s, some_further line a more, e) refl
 
 -- what is read of the content is read of the token
-pub with_marks : (result : Result (Unit {0}) LineProblem) (content : unnamed_yaml_token_t_data) (there : Option unnamed_yaml_token_t_data)
+pub with_marks : (result : Result (Unit {0}) LineProblem) (content : unnamed_yaml_token_t_data)
+    (there : Option unnamed_yaml_token_t_data)
     (start end : yaml_mark_t) → IsReadInto result content there
     → IsReadInto {A = yaml_token_t} result (record { content = content; start_mark = start; end_mark = end })
     (there >>= (λ content. Some (record { content = content; start_mark = start; end_mark = end })))

@@ -1,5 +1,6 @@
 -- what one more digit does to a value
-use Rattle.std.proofs.Common.{◌≡◌, ℕ, ◌+◌, ◌-◌, ◌*◌, ◌<◌, ◌≤◌, ◌^◌, ◌&&◌, true, false, ltb, leb, List, [], ◌∷◌, Some, None, refl, arith}
+use Rattle.std.proofs.Common.{◌≡◌, ℕ, ◌+◌, ◌-◌, ◌*◌, ◌<◌, ◌≤◌, ◌^◌, ◌&&◌, true, false, ltb, leb, List, [], ◌∷◌, Some}
+use Rattle.std.proofs.Common.{None, refl, arith}
 use Rattle.std.proofs.lemmas.Bool.{le-ltb, lt-ltb, leb-true, and_parts, and_right}
 use Rattle.std.specs.Char.{is_ascii_digit, digit_value}
 use Rattle.std.specs.Str.{all_ascii_digits}
@@ -20,7 +21,8 @@ le_value_after n (c ∷ cs) = omega (arith, le_value_after (n * 10 + digit_value
 pub value_after-end : (n : ℕ) → n < 2 ^ 64 → value_after n [] ≡ Some n
 value_after-end n h = rw (lt-ltb n (2 ^ 64) h) refl
 
-pub value_after-digit : (n d : ℕ) (ds : List ℕ) → is_ascii_digit d ≡ true → value_after n (d ∷ ds) ≡ value_after (n * 10 + (d - 48)) ds
+pub value_after-digit : (n d : ℕ) (ds : List ℕ) → is_ascii_digit d ≡ true
+    → value_after n (d ∷ ds) ≡ value_after (n * 10 + (d - 48)) ds
 value_after-digit n d ds e = rw (e, digit_value_is d e) refl
 
 pub value_after-large : (n : ℕ) (ds : List ℕ) → 2 ^ 64 ≤ n → value_after n ds ≡ None

@@ -1,5 +1,6 @@
 -- a line read by its prefixes is read by its description
-use Rattle.std.proofs.Common.{◌≡◌, ◌≢◌, ℕ, ◌==◌, All, Bool, true, false, cond, List, [], ◌∷◌, ◌++◌, Option, Some, None, option_map, refl, ap, sym, ◌∙◌, subst}
+use Rattle.std.proofs.Common.{◌≡◌, ◌≢◌, ℕ, ◌==◌, All, Bool, true, false, cond, List, [], ◌∷◌, ◌++◌, Option, Some, None}
+use Rattle.std.proofs.Common.{option_map, refl, ap, sym, ◌∙◌, subst}
 use Rattle.std.proofs.Common.{arith, inl, inr}
 use Rattle.std.proofs.lemmas.Bool.{cases_Bool, and_left, and_right, eqb-true}
 use Rattle.std.proofs.lemmas.List.{append-nil}
@@ -16,7 +17,8 @@ use Rattle.line_reading.specs.tokens.Field.{◌>>=◌, mark_of, mark_of_numbers}
 use Rattle.line_reading.specs.tokens.Pieces.{pieces_of}
 use Rattle.line_reading.specs.tokens.TokenName.{token_type_of}
 use Rattle.line_reading.specs.tokens.TokenLine.{content_of, token_of_fields, token_of_line}
-use Rattle.line_reading.specs.tokens.Prefixes.{digits_of, behind_digits, before_byte, behind_byte, behind_first, behind_field, number_at, mark_at, token_at}
+use Rattle.line_reading.specs.tokens.Prefixes.{digits_of, behind_digits, before_byte, behind_byte, behind_first}
+use Rattle.line_reading.specs.tokens.Prefixes.{behind_field, number_at, mark_at, token_at}
 use Rattle.line_reading.proofs.tokens.Digits.{no_value}
 use Rattle.line_reading.proofs.tokens.Split.{no_separator, split_first, before-append, behind-append}
 
@@ -34,7 +36,8 @@ digits_behind (b ∷ bs) = digits_cond (is_ascii_digit b) b bs (digits_behind bs
 ne_digit : (c b : ℕ) → is_ascii_digit c ≡ false → is_ascii_digit b ≡ true → b ≢ c
 ne_digit c b other digit e = cc
 
-clean_cond : (c : ℕ) (t : Bool) (b : ℕ) (bs : List ℕ) → (t ≡ true → b ≢ c) → All (λ x. x ≢ c) (digits_of bs) → All (λ x. x ≢ c) (cond t (b ∷ digits_of bs) [])
+clean_cond : (c : ℕ) (t : Bool) (b : ℕ) (bs : List ℕ) → (t ≡ true → b ≢ c) → All (λ x. x ≢ c) (digits_of bs)
+    → All (λ x. x ≢ c) (cond t (b ∷ digits_of bs) [])
 clean_cond c true b bs ne h = All-cons (λ x. x ≢ c) b (digits_of bs) (ne refl) h
 clean_cond c false b bs ne h = All-nil (λ x. x ≢ c)
 
@@ -47,7 +50,8 @@ abbrev pub BeginsOther : List ℕ → Type 0
 BeginsOther [] = Unit {0}
 BeginsOther (b ∷ bs) = is_ascii_digit b ≡ false
 
-other_cond : (t : Bool) (b : ℕ) (bs : List ℕ) → is_ascii_digit b ≡ t → BeginsOther (behind_digits bs) → BeginsOther (cond t (behind_digits bs) (b ∷ bs))
+other_cond : (t : Bool) (b : ℕ) (bs : List ℕ) → is_ascii_digit b ≡ t → BeginsOther (behind_digits bs)
+    → BeginsOther (cond t (behind_digits bs) (b ∷ bs))
 other_cond true b bs e h = h
 other_cond false b bs e h = e
 
@@ -92,7 +96,8 @@ PastDigits d x pieces = (g : List ℕ) × ((more : List (List ℕ)) × (pieces �
 past_here : (x : ℕ) (y : List ℕ) → (x == 58) ≡ false → PastDigits [] x (S (x ∷ y))
 past_here x y e = rw (e, split_first 58 y) (before_byte 58 y, (pieces_of 58 (behind_byte 58 y), refl))
 
-past_digits : (d : List ℕ) (x : ℕ) (y : List ℕ) → All (λ b. (b == 58) ≡ false) d → (x == 58) ≡ false → PastDigits d x (S (d ++ x ∷ y))
+past_digits : (d : List ℕ) (x : ℕ) (y : List ℕ) → All (λ b. (b == 58) ≡ false) d → (x == 58) ≡ false
+    → PastDigits d x (S (d ++ x ∷ y))
 past_digits [] x y clean e = past_here x y e
 past_digits (b ∷ d) x y clean e =
     let h = past_digits d x y (All-tail (λ b. (b == 58) ≡ false) b d clean) e in
@@ -119,7 +124,8 @@ shape_last d t none colon field c32 c58 = last (record {
 
 shape_colon : (d r : List ℕ) → All (λ x. x ≢ 32) d → All (λ x. x ≢ 58) d → Shape (d ++ 58 ∷ r) d (58 ∷ r)
 shape_colon d r c32 c58 = goes_on r (record {
-  pieces = ap S (before-append 32 d (58 ∷ r) c32) ∙ slice_split_at (λ b. b == 58) d 58 (before_byte 32 r) (no_separator 58 d c58) refl;
+  pieces = ap S (before-append 32 d (58 ∷ r) c32) ∙ slice_split_at (λ b. b == 58) d 58 (before_byte 32 r)
+      (no_separator 58 d c58) refl;
   colon = refl;
   field = refl;
   further = behind-append 32 d (58 ∷ r) c32;
@@ -128,7 +134,8 @@ shape_colon d r c32 c58 = goes_on r (record {
 before_other : (x : ℕ) (r : List ℕ) → (x == 32) ≡ false → before_byte 32 (x ∷ r) ≡ x ∷ before_byte 32 r
 before_other x r e = rw e refl
 
-shape_other : (d : List ℕ) (x : ℕ) (r : List ℕ) → All (λ x. x ≢ 32) d → All (λ x. x ≢ 58) d → is_ascii_digit x ≡ false → (x == 32) ≡ false → (x == 58) ≡ false
+shape_other : (d : List ℕ) (x : ℕ) (r : List ℕ) → All (λ x. x ≢ 32) d → All (λ x. x ≢ 58) d
+    → is_ascii_digit x ≡ false → (x == 32) ≡ false → (x == 58) ≡ false
     → Shape (d ++ x ∷ r) d (x ∷ r)
 shape_other d x r c32 c58 digit e32 e58 =
     let past = past_digits d x (before_byte 32 r) (no_separator 58 d c58) e58 in
@@ -155,7 +162,8 @@ shape : (bytes : List ℕ) → Shape bytes (digits_of bytes) (behind_digits byte
 shape bytes =
     let d = digits_of bytes in
     let t = behind_digits bytes in
-    subst (λ w. Shape w d t) (sym (digits_behind bytes)) (shape_at d t (digits_clean 32 refl bytes) (digits_clean 58 refl bytes) (begins_other bytes))
+    subst (λ w. Shape w d t) (sym (digits_behind bytes))
+    (shape_at d t (digits_clean 32 refl bytes) (digits_clean 58 refl bytes) (begins_other bytes))
 
 -- a list of numbers, one by one
 
@@ -183,24 +191,30 @@ nothing_last : {A : Type 0} (o : Option ℕ) (t : List ℕ) (k : ℕ → Option 
     → (with_rest o t >>= (λ r. behind_field r.1 >>= (λ f. k r.0 f))) ≡ None
 nothing_last o t k e = grind arith
 
-the_last : {A : Type 0} (o : Option ℕ) (t : List ℕ) (f : Option (List ℕ)) (k : ℕ → Option (List ℕ) → Option A) → behind_field t ≡ Some f
+the_last : {A : Type 0} (o : Option ℕ) (t : List ℕ) (f : Option (List ℕ)) (k : ℕ → Option (List ℕ) → Option A)
+    → behind_field t ≡ Some f
     → (with_rest o t >>= (λ r. behind_field r.1 >>= (λ f. k r.0 f))) ≡ (o >>= (λ n. k n f))
 the_last o t f k e = grind arith
 
 not_last : {A : Type 0} (K : ℕ → Option A) (p q : List ℕ) → None ≡ with_last K (p ∷ S q)
 not_last K p q = rw (split_first 58 q) refl
 
-no_last : {A : Type 0} (K : ℕ → Option A) (p : List ℕ) (more : List (List ℕ)) → number_of p ≡ None → None ≡ with_last K (p ∷ more)
+no_last : {A : Type 0} (K : ℕ → Option A) (p : List ℕ) (more : List (List ℕ)) → number_of p ≡ None
+    → None ≡ with_last K (p ∷ more)
 no_last K p more e = grind arith
 
-last_step : {A : Type 0} (k : ℕ → Option (List ℕ) → Option A) (bytes : List ℕ) → Shape bytes (digits_of bytes) (behind_digits bytes)
-    → (number_at bytes >>= (λ r. behind_field r.1 >>= (λ f. k r.0 f))) ≡ with_last (λ n. k n (behind_byte 32 bytes)) (S (before_byte 32 bytes))
-last_step k bytes (last h) = rw (h.pieces) (the_last (number_of (digits_of bytes)) (behind_digits bytes) (behind_byte 32 bytes) k h.field)
+last_step : {A : Type 0} (k : ℕ → Option (List ℕ) → Option A) (bytes : List ℕ)
+    → Shape bytes (digits_of bytes) (behind_digits bytes)
+    → (number_at bytes >>= (λ r. behind_field r.1 >>= (λ f. k r.0 f))) ≡ with_last (λ n. k n (behind_byte 32 bytes))
+    (S (before_byte 32 bytes))
+last_step k bytes (last h) =
+    rw (h.pieces) (the_last (number_of (digits_of bytes)) (behind_digits bytes) (behind_byte 32 bytes) k h.field)
 last_step k bytes (goes_on r h)
     = rw (h.pieces) (nothing_last (number_of (digits_of bytes)) (behind_digits bytes) k h.field
     ∙ not_last (λ n. k n (behind_byte 32 bytes)) (digits_of bytes) (before_byte 32 r))
 last_step k bytes (other p more h)
-    = rw (h.pieces) (nothing_last (number_of (digits_of bytes)) (behind_digits bytes) k h.field ∙ no_last (λ n. k n (behind_byte 32 bytes)) p more h.number)
+    = rw (h.pieces) (nothing_last (number_of (digits_of bytes)) (behind_digits bytes) k h.field
+    ∙ no_last (λ n. k n (behind_byte 32 bytes)) p more h.number)
 
 nothing_next : {A : Type 0} (o : Option ℕ) (t : List ℕ) (k : ℕ → List ℕ → Option A) → behind_first 58 t ≡ None
     → (with_rest o t >>= (λ x. behind_first 58 x.1 >>= (λ r. k x.0 r))) ≡ None
@@ -213,12 +227,16 @@ the_next o t r k e = grind arith
 same_behind : {A B : Type 0} (o : Option A) (f g : A → Option B) → ((x : A) → f x ≡ g x) → (o >>= f) ≡ (o >>= g)
 same_behind o f g h = grind arith
 
-no_next : {A : Type 0} (K : ℕ → List (List ℕ) → Option A) (p : List ℕ) (more : List (List ℕ)) → number_of p ≡ None → None ≡ with_number K (p ∷ more)
+no_next : {A : Type 0} (K : ℕ → List (List ℕ) → Option A) (p : List ℕ) (more : List (List ℕ)) → number_of p ≡ None
+    → None ≡ with_number K (p ∷ more)
 no_next K p more e = rw e refl
 
-number_step : {A : Type 0} (k : ℕ → List ℕ → Option A) (K : Option (List ℕ) → ℕ → List (List ℕ) → Option A) → ((f : Option (List ℕ)) (n : ℕ) → K f n [] ≡ None)
-    → ((n : ℕ) (r : List ℕ) → k n r ≡ K (behind_byte 32 r) n (S (before_byte 32 r))) → (bytes : List ℕ) → Shape bytes (digits_of bytes) (behind_digits bytes)
-    → (number_at bytes >>= (λ x. behind_first 58 x.1 >>= (λ r. k x.0 r))) ≡ with_number (K (behind_byte 32 bytes)) (S (before_byte 32 bytes))
+number_step : {A : Type 0} (k : ℕ → List ℕ → Option A) (K : Option (List ℕ) → ℕ → List (List ℕ) → Option A)
+    → ((f : Option (List ℕ)) (n : ℕ) → K f n [] ≡ None)
+    → ((n : ℕ) (r : List ℕ) → k n r ≡ K (behind_byte 32 r) n (S (before_byte 32 r))) → (bytes : List ℕ)
+    → Shape bytes (digits_of bytes) (behind_digits bytes)
+    → (number_at bytes >>= (λ x. behind_first 58 x.1 >>= (λ r. k x.0 r))) ≡ with_number (K (behind_byte 32 bytes))
+    (S (before_byte 32 bytes))
 number_step k K none same bytes (last h) =
     let o = number_of (digits_of bytes) in
     rw (h.pieces) (nothing_next o (behind_digits bytes) k h.colon ∙ sym (none_behind o)
@@ -258,14 +276,18 @@ column_at : (i l : ℕ) (bytes : List ℕ)
 column_at i l bytes = last_step (λ c f. Some (taken (mark i l c) f)) bytes (shape bytes)
 
 line_at : (i : ℕ) (bytes : List ℕ)
-    → (number_at bytes >>= (λ l. behind_first 58 l.1 >>= (λ r. number_at r >>= (λ c. behind_field c.1 >>= (λ f. Some (mark i l.0 c.0, f))))))
+    → (number_at bytes >>= (λ l. behind_first 58 l.1 >>=
+    (λ r. number_at r >>= (λ c. behind_field c.1 >>= (λ f. Some (mark i l.0 c.0, f))))))
     ≡ line_with (behind_byte 32 bytes) i (S (before_byte 32 bytes))
-line_at i bytes = number_step (λ l r. number_at r >>= (λ c. behind_field c.1 >>= (λ f. Some (taken (mark i l c.0) f)))) (λ f l. column_with f i l) (λ f l. refl)
+line_at i bytes = number_step
+    (λ l r. number_at r >>= (λ c. behind_field c.1 >>= (λ f. Some (taken (mark i l c.0) f))))
+    (λ f l. column_with f i l) (λ f l. refl)
     (column_at i) bytes (shape bytes)
 
 index_at : (bytes : List ℕ) → mark_at bytes ≡ with_number (line_with (behind_byte 32 bytes)) (S (before_byte 32 bytes))
 index_at bytes = number_step (λ i r. number_at r
-    >>= (λ l. behind_first 58 l.1 >>= (λ r. number_at r >>= (λ c. behind_field c.1 >>= (λ f. Some (mark i l.0 c.0, f)))))) (λ f i. line_with f i)
+    >>= (λ l. behind_first 58 l.1 >>=
+    (λ r. number_at r >>= (λ c. behind_field c.1 >>= (λ f. Some (mark i l.0 c.0, f)))))) (λ f i. line_with f i)
     (λ f i. refl) line_at bytes (shape bytes)
 
 one_too_few : (f : Option (List ℕ)) (o : Option ℕ) → (o >>= (λ i. line_with f i [])) ≡ None
@@ -275,10 +297,12 @@ two_too_few : (f : Option (List ℕ)) (o p : Option ℕ) → (o >>= (λ i. p >>=
 two_too_few f o p = grind arith
 
 three : (f : Option (List ℕ)) (o p q : Option ℕ)
-    → (o >>= (λ i. p >>= (λ l. q >>= (λ c. Some (taken (mark i l c) f))))) ≡ with_further (o >>= (λ i. p >>= (λ l. q >>= (λ c. Some (mark i l c))))) f
+    → (o >>= (λ i. p >>= (λ l. q >>= (λ c. Some (taken (mark i l c) f))))) ≡ with_further
+    (o >>= (λ i. p >>= (λ l. q >>= (λ c. Some (mark i l c))))) f
 three f o p q = grind arith
 
-numbers_with : (f : Option (List ℕ)) (ps : List (List ℕ)) → with_number (line_with f) ps ≡ with_further (mark_of_numbers ps) f
+numbers_with : (f : Option (List ℕ)) (ps : List (List ℕ))
+    → with_number (line_with f) ps ≡ with_further (mark_of_numbers ps) f
 numbers_with f [] = refl
 numbers_with f (i ∷ []) = one_too_few f (number_of i)
 numbers_with f (i ∷ l ∷ []) = two_too_few f (number_of i) (number_of l)
@@ -292,15 +316,19 @@ mark_at-is bytes = index_at bytes ∙ numbers_with (behind_byte 32 bytes) (S (be
 -- a line
 
 abbrev token_with : yaml_token_type_t → yaml_mark_t → Taken → Option yaml_token_t
-token_with type start end = content_of type (pieces_of 32 end.1) >>= (λ content. Some (record { content = content; start_mark = start; end_mark = end.0 }))
+token_with type start end = content_of type (pieces_of 32 end.1) >>=
+    (λ content. Some (record { content = content; start_mark = start; end_mark = end.0 }))
 
 no_end : (o : Option yaml_token_type_t) (m : Option yaml_mark_t)
-    → None ≡ (o >>= (λ type. with_further m None >>= (λ start. start.1 >>= (λ rest. mark_at rest >>= (token_with type start.0)))))
+    → None ≡ (o >>= (λ type. with_further m None >>=
+    (λ start. start.1 >>= (λ rest. mark_at rest >>= (token_with type start.0)))))
 no_end o m = grind arith
 
-both_ends : (o : Option yaml_token_type_t) (m n : Option yaml_mark_t) (rest : List ℕ) (f : Option (List ℕ)) → mark_at rest ≡ with_further n f
+both_ends : (o : Option yaml_token_type_t) (m n : Option yaml_mark_t) (rest : List ℕ) (f : Option (List ℕ))
+    → mark_at rest ≡ with_further n f
     → (o >>= (λ type. m >>= (λ start. n >>= (λ end. token_with type start (taken end f)))))
-    ≡ (o >>= (λ type. with_further m (Some rest) >>= (λ start. start.1 >>= (λ rest. mark_at rest >>= (token_with type start.0)))))
+    ≡ (o >>= (λ type. with_further m (Some rest) >>=
+    (λ start. start.1 >>= (λ rest. mark_at rest >>= (token_with type start.0)))))
 both_ends o m n rest f e = grind arith
 
 marks_is : (name marks : List ℕ) (f : Option (List ℕ)) → behind_byte 32 marks ≡ f
@@ -309,12 +337,14 @@ marks_is : (name marks : List ℕ) (f : Option (List ℕ)) → behind_byte 32 ma
     >>= (λ start. start.1 >>= (λ rest. mark_at rest >>= (token_with type start.0)))))
 marks_is name marks None e = no_end (token_type_of name) (mark_of (before_byte 32 marks))
 marks_is name marks (Some rest) e =
-    rw (split_first 32 rest) (both_ends (token_type_of name) (mark_of (before_byte 32 marks)) (mark_of (before_byte 32 rest)) rest (behind_byte 32 rest)
+    rw (split_first 32 rest) (both_ends (token_type_of name) (mark_of (before_byte 32 marks))
+    (mark_of (before_byte 32 rest)) rest (behind_byte 32 rest)
     (mark_at-is rest))
 
 fields_is : (name : List ℕ) (f : Option (List ℕ))
     → token_of_fields (name ∷ pieces_of 32 f)
-    ≡ (f >>= (λ marks. token_type_of name >>= (λ type. mark_at marks >>= (λ start. start.1 >>= (λ rest. mark_at rest >>= (token_with type start.0))))))
+    ≡ (f >>= (λ marks. token_type_of name >>=
+    (λ type. mark_at marks >>= (λ start. start.1 >>= (λ rest. mark_at rest >>= (token_with type start.0))))))
 fields_is name None = refl
 fields_is name (Some marks) = rw (split_first 32 marks, mark_at-is marks) (marks_is name marks (behind_byte 32 marks) refl)
 

@@ -10,7 +10,8 @@ use Rattle.line_reading.specs.declared.marks.RowRead.{RowRead}
 
 -- a number that was read
 
-pub number_read : (line : List ℕ) (at : ℕ) (read : NumberRead) (value : ℕ) → read.value ≡ value → 0 < read.end → read.end ≤ length line
+pub number_read : (line : List ℕ) (at : ℕ) (read : NumberRead) (value : ℕ) → read.value ≡ value → 0 < read.end
+    → read.end ≤ length line
     → number_at (drop at line) ≡ Some (value, drop read.end line) → IsNumberRead line at read
 number_read line at read value same some within is = record {
   within = within;
@@ -32,13 +33,16 @@ lengths (b ∷ bs) = go (is_ascii_digit b) refl (lengths bs)
 abbrev Again : ℕ → List ℕ → List ℕ → Type 0
 Again n xs ys = (digits_of ys ≡ digits_of xs) × (behind_digits ys ≡ drop n ys)
 
-again : (n : ℕ) (xs ys : List ℕ) → length (digits_of xs) ≡ n → n < length xs → take (suc n) xs ≡ take (suc n) ys → Again n xs ys
+again : (n : ℕ) (xs ys : List ℕ) → length (digits_of xs) ≡ n → n < length xs → take (suc n) xs ≡ take (suc n) ys
+    → Again n xs ys
 again n [] ys l h e = absurd (omega (arith, h))
 again n (x ∷ xs) [] l h e = cc
 again n (x ∷ xs) (y ∷ ys) l h e = go (is_ascii_digit x) refl n l h (cc) (cc) (λ m. again m xs ys)
   where
-    go : (t : Bool) → is_ascii_digit x ≡ t → (n : ℕ) → length (digits_of (x ∷ xs)) ≡ n → n < length (x ∷ xs) → x ≡ y → take n xs ≡ take n ys
-        → ((m : ℕ) → length (digits_of xs) ≡ m → m < length xs → take (suc m) xs ≡ take (suc m) ys → Again m xs ys) → Again n (x ∷ xs) (y ∷ ys)
+    go : (t : Bool) → is_ascii_digit x ≡ t → (n : ℕ) → length (digits_of (x ∷ xs)) ≡ n → n < length (x ∷ xs) → x ≡ y
+        → take n xs ≡ take n ys
+        → ((m : ℕ) → length (digits_of xs) ≡ m → m < length xs → take (suc m) xs ≡ take (suc m) ys → Again m xs ys)
+        → Again n (x ∷ xs) (y ∷ ys)
     go true d zero l h e f more = absurd (omega (arith, rw d at l))
     go true d (suc n) l h e f more =
         let rest = more n (omega (arith, rw d at l)) (omega (arith, h)) f in
@@ -54,7 +58,8 @@ digits_there : (bytes rest : List ℕ) (value : ℕ) → number_at bytes ≡ Som
     → (number_of (digits_of bytes) ≡ Some value) × (behind_digits bytes ≡ rest)
 digits_there bytes rest value h = go (number_of (digits_of bytes)) refl h
   where
-    go : (o : Option ℕ) → number_of (digits_of bytes) ≡ o → option_map {U = ℕ × List ℕ} (λ n. (n, behind_digits bytes)) o ≡ Some (value, rest)
+    go : (o : Option ℕ) → number_of (digits_of bytes) ≡ o
+        → option_map {U = ℕ × List ℕ} (λ n. (n, behind_digits bytes)) o ≡ Some (value, rest)
         → (number_of (digits_of bytes) ≡ Some value) × (behind_digits bytes ≡ rest)
     go None is h = cc
     go (Some n) is h =
@@ -65,7 +70,8 @@ some_digit : (ds : List ℕ) (value : ℕ) → number_of ds ≡ Some value → 0
 some_digit [] value h = cc
 some_digit (d ∷ ds) value h = omega arith
 
-pub digits_before : (line : List ℕ) (at end value : ℕ) → at ≤ length line → end ≤ length line → number_at (drop at line) ≡ Some (value, drop end line)
+pub digits_before : (line : List ℕ) (at end value : ℕ) → at ≤ length line → end ≤ length line
+    → number_at (drop at line) ≡ Some (value, drop end line)
     → (at < end) × (length (digits_of (drop at line)) ≡ end - at)
 digits_before line at end value h k is =
     let there = digits_there (drop at line) (drop end line) value is in
@@ -74,7 +80,8 @@ digits_before line at end value h k is =
     let rest : length (behind_digits (drop at line)) ≡ length line - end = ap length there.1 ∙ length-drop end line in
     (omega (arith, some, sum, rest, length-drop at line, h, k), omega (arith, some, sum, rest, length-drop at line, h, k))
 
-pub number_again : (line : List ℕ) (row : RowRead) (at : ℕ) → IsRowRead line row → 0 < row.end → at + (row.end - row.at) < length line
+pub number_again : (line : List ℕ) (row : RowRead) (at : ℕ) → IsRowRead line row → 0 < row.end
+    → at + (row.end - row.at) < length line
     → take (row.end - row.at + 1) (drop row.at line) ≡ take (row.end - row.at + 1) (drop at line)
     → number_at (drop at line) ≡ Some (row.value, drop (at + (row.end - row.at)) line)
 number_again line row at h some within same =
@@ -82,7 +89,8 @@ number_again line row at h some within same =
     let xs = drop row.at line in
     let ys = drop at line in
     let there = digits_there xs (drop row.end line) row.value (h.some some) in
-    let order = digits_before line row.at row.end row.value (omega (arith, h.order, h.within some)) (omega (arith, h.within some)) (h.some some) in
+    let order = digits_before line row.at row.end row.value (omega (arith, h.order, h.within some))
+    (omega (arith, h.within some)) (h.some some) in
     let next : n + 1 ≡ suc n = omega arith in
     let both = again n xs ys order.1 (omega (arith, length-drop row.at line, h.within some, order.0))
     (ap (λ k. take k xs) (sym next) ∙ same ∙ ap (λ k. take k ys) next) in

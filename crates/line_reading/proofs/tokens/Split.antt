@@ -1,5 +1,6 @@
 -- a text cut at its first separator
-use Rattle.std.proofs.Common.{◌≡◌, ◌≢◌, ℕ, ◌==◌, ◌+◌, ◌<◌, ◌≤◌, All, Bool, true, false, cond, List, [], ◌∷◌, ◌++◌, length, take, drop, get_or, Some, None}
+use Rattle.std.proofs.Common.{◌≡◌, ◌≢◌, ℕ, ◌==◌, ◌+◌, ◌<◌, ◌≤◌, All, Bool, true, false, cond, List, [], ◌∷◌, ◌++◌}
+use Rattle.std.proofs.Common.{length, take, drop, get_or, Some, None}
 use Rattle.std.proofs.Common.{refl, ap, sym, ◌∙◌, subst, ne_eqb, eq-eqb}
 use Rattle.std.proofs.lemmas.List.{take-append-drop, take_all, at_drop_more, append-nil}
 use Rattle.std.proofs.lemmas.List.Elements.{All-weaker, All-head, All-tail}
@@ -11,8 +12,10 @@ pub no_separator : (c : ℕ) (bs : List ℕ) → All (λ x. x ≢ c) bs → All 
 no_separator c bs h = All-weaker (λ x. x ≢ c) (λ x. (x == c) ≡ false) (λ x ne. ne_eqb x c ne) bs h
 
 -- the pieces are the first, and those after it
-split_cond : (t : Bool) (c b : ℕ) (bs : List ℕ) → slice_split (λ b. b == c) bs ≡ before_byte c bs ∷ pieces_of c (behind_byte c bs)
-    → cond t ([] ∷ slice_split (λ b. b == c) bs) (onto_first b (slice_split (λ b. b == c) bs)) ≡ cond t [] (b ∷ before_byte c bs)
+split_cond : (t : Bool) (c b : ℕ) (bs : List ℕ) → slice_split (λ b. b == c) bs ≡ before_byte c bs ∷ pieces_of c
+    (behind_byte c bs)
+    → cond t ([] ∷ slice_split (λ b. b == c) bs) (onto_first b (slice_split (λ b. b == c) bs)) ≡ cond t []
+    (b ∷ before_byte c bs)
     ∷ pieces_of c (cond t (Some bs) (behind_byte c bs))
 split_cond true c b bs h = refl
 split_cond false c b bs h = ap (onto_first b) h
@@ -24,16 +27,19 @@ split_first c (b ∷ bs) = split_cond (b == c) c b bs (split_first c bs)
 -- a prefix without the separator
 pub before-append : (c : ℕ) (l r : List ℕ) → All (λ x. x ≢ c) l → before_byte c (l ++ r) ≡ l ++ before_byte c r
 before-append c [] r clean = refl
-before-append c (b ∷ l) r clean = rw (ne_eqb b c (All-head (λ x. x ≢ c) b l clean)) (ap (λ x. b ∷ x) (before-append c l r (All-tail (λ x. x ≢ c) b l clean)))
+before-append c (b ∷ l) r clean = rw (ne_eqb b c (All-head (λ x. x ≢ c) b l clean))
+    (ap (λ x. b ∷ x) (before-append c l r (All-tail (λ x. x ≢ c) b l clean)))
 
 pub behind-append : (c : ℕ) (l r : List ℕ) → All (λ x. x ≢ c) l → behind_byte c (l ++ r) ≡ behind_byte c r
 behind-append c [] r clean = refl
-behind-append c (b ∷ l) r clean = rw (ne_eqb b c (All-head (λ x. x ≢ c) b l clean)) (behind-append c l r (All-tail (λ x. x ≢ c) b l clean))
+behind-append c (b ∷ l) r clean = rw (ne_eqb b c (All-head (λ x. x ≢ c) b l clean))
+    (behind-append c l r (All-tail (λ x. x ≢ c) b l clean))
 
 at_separator : (c x : ℕ) (r : List ℕ) → x ≡ c → (before_byte c (x ∷ r) ≡ []) × (behind_byte c (x ∷ r) ≡ Some r)
 at_separator c x r e = rw (eq-eqb x c e) (refl, refl)
 
-pub cut_here : (c : ℕ) (bs : List ℕ) (n : ℕ) → n < length bs → All (λ x. x ≢ c) (take n bs) → get_or bs n 0 ≡ c → (take n bs ≡ before_byte c bs)
+pub cut_here : (c : ℕ) (bs : List ℕ) (n : ℕ) → n < length bs → All (λ x. x ≢ c) (take n bs) → get_or bs n 0 ≡ c
+    → (take n bs ≡ before_byte c bs)
     × (Some (drop (n + 1) bs) ≡ behind_byte c bs)
 cut_here c bs n h clean at =
     let l = take n bs in
@@ -44,7 +50,8 @@ cut_here c bs n h clean at =
       sym (ap (behind_byte c) pieces ∙ behind-append c l r clean ∙ here.1),
     )
 
-pub cut_nowhere : (c : ℕ) (bs : List ℕ) (n : ℕ) → length bs ≤ n → All (λ x. x ≢ c) (take n bs) → (bs ≡ before_byte c bs) × (None ≡ behind_byte c bs)
+pub cut_nowhere : (c : ℕ) (bs : List ℕ) (n : ℕ) → length bs ≤ n → All (λ x. x ≢ c) (take n bs)
+    → (bs ≡ before_byte c bs) × (None ≡ behind_byte c bs)
 cut_nowhere c bs n h clean =
     let all : All (λ x. x ≢ c) bs = subst (All (λ x. x ≢ c)) (take_all n bs h) clean in (
       sym (ap (before_byte c) (sym (append-nil bs)) ∙ before-append c bs [] all ∙ append-nil bs),

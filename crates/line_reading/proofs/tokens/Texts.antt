@@ -4,7 +4,7 @@ use Rattle.std.proofs.lemmas.Bool.{false_from_ne_true}
 use Rattle.std.proofs.lemmas.List.Elements.{All-head, All-tail, All-weaker}
 use Rattle.std.proofs.lemmas.Str.{IsUtf8-from_ascii, IsUtf8-from_is_utf8, is_utf8-from_IsUtf8}
 use Rattle.std.specs.Str.{IsAscii, is_utf8}
-use Rattle.byte_words.specs.Clean.{IsClean}
+use Rattle.clean_texts.specs.Clean.{IsClean}
 use Rattle.percent_encoding.specs.Percent.{percent_decode}
 use Rattle.percent_encoding.proofs.PercentLemmas.{percent_decode-nil, percent_decode_not_percent}
 use Rattle.line_reading.specs.tokens.Field.{utf8_text}
@@ -17,7 +17,8 @@ utf8_text-no bs h = rw (false_from_ne_true (is_utf8 bs) (λ e. h (IsUtf8-from_is
 
 no_escape : (bs : List ℕ) → All (λ x. x ≢ 37) bs → percent_decode bs ≡ bs
 no_escape [] h = percent_decode-nil
-no_escape (b ∷ bs) h = percent_decode_not_percent b bs (All-head (λ x. x ≢ 37) b bs h) ∙ ap (λ r. b ∷ r) (no_escape bs (All-tail (λ x. x ≢ 37) b bs h))
+no_escape (b ∷ bs) h = percent_decode_not_percent b bs (All-head (λ x. x ≢ 37) b bs h)
+    ∙ ap (λ r. b ∷ r) (no_escape bs (All-tail (λ x. x ≢ 37) b bs h))
 
 -- clean bytes stand for themselves, and are a text
 pub clean_ascii : (bs : List ℕ) → All IsClean bs → IsAscii bs

@@ -19,7 +19,8 @@ pub has_pieces : (bs : List ℕ) → HasPieces (slice_split (λ b. b == 10) bs)
 has_pieces [] = ([], ([], refl))
 has_pieces (b ∷ bs) = pieces_cond (b == 10) b (slice_split (λ b. b == 10) bs)
 
-pub lines_of_more : (l : List ℕ) (pieces : List (List ℕ)) → HasPieces pieces → lines_of_pieces (l ∷ pieces) ≡ l ∷ lines_of_pieces pieces
+pub lines_of_more : (l : List ℕ) (pieces : List (List ℕ)) → HasPieces pieces
+    → lines_of_pieces (l ∷ pieces) ≡ l ∷ lines_of_pieces pieces
 lines_of_more l pieces h = rw h.1.1 refl
 
 abbrev Ends : List (List ℕ) → List ℕ → Type 0
@@ -36,7 +37,8 @@ shape_onto b pieces behind (inl h) = inl (b ∷ h.0, (ap (onto_first b) h.1.0, h
 shape_onto b pieces behind (inr h) = inr (b ∷ h.0, ap (onto_first b) h.1)
 
 shape_cond : (t : Bool) (b : ℕ) (bs : List ℕ) → Shape (slice_split (λ b. b == 10) bs) (behind_line bs)
-    → Shape (cond t ([] ∷ slice_split (λ b. b == 10) bs) (onto_first b (slice_split (λ b. b == 10) bs))) (cond t bs (behind_line bs))
+    → Shape (cond t ([] ∷ slice_split (λ b. b == 10) bs) (onto_first b (slice_split (λ b. b == 10) bs)))
+    (cond t bs (behind_line bs))
 shape_cond true b bs h = inr ([], refl)
 shape_cond false b bs h = shape_onto b _ _ h
 
@@ -55,7 +57,8 @@ begins : (pieces : List (List ℕ)) (behind : List ℕ) → Shape pieces behind 
 begins pieces behind (inl h) = rw h.1.0 (begins_last h.0 behind h.1.1)
 begins pieces behind (inr h) = rw h.1 (inr (h.0, lines_of_more h.0 _ (has_pieces behind)))
 
-rest_is : (ls : List (List ℕ)) (behind l : List ℕ) (more : List (List ℕ)) → BeginsWithLine ls behind → ls ≡ l ∷ more → more ≡ lines behind
+rest_is : (ls : List (List ℕ)) (behind l : List ℕ) (more : List (List ℕ)) → BeginsWithLine ls behind → ls ≡ l ∷ more
+    → more ≡ lines behind
 rest_is ls behind l more (inl h) e = cc
 rest_is ls behind l more (inr h) e = cc (h.1)
 

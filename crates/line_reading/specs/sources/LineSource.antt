@@ -34,7 +34,8 @@ fault_in (Ok token) = None
 fault_in (Err fault) = Some fault
 
 -- what a source that keeps no fault returns, and where that leaves it
-pub record GivesNext {R : Type 0} (remaining : R → Option (List ℕ)) (s : LineSource R) (answer : Answer) (t : LineSource R) : Type 0 where
+pub record GivesNext {R : Type 0} (remaining : R → Option (List ℕ)) (s : LineSource R) (answer : Answer)
+    (t : LineSource R) : Type 0 where
   pub below : s.given < s.max_tokens → LineAnswer (remaining s.reader) s.given answer (remaining t.reader)
   pub at_bound : s.max_tokens ≤ s.given → answer ≡ Err (line_fault TooManyTokens s.given)
   pub unread : s.max_tokens ≤ s.given → t.reader ≡ s.reader

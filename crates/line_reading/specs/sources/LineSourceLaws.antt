@@ -1,5 +1,6 @@
 -- a line source keeps the laws of a source
-use Rattle.std.proofs.Common.{◌≡◌, ◌<◌, ◌≤◌, ℕ, ◌+◌, ◌-◌, List, [], ◌∷◌, Option, Some, None, Ok, Err, refl, ap, sym, ◌∙◌, subst, arith, inl, inr}
+use Rattle.std.proofs.Common.{◌≡◌, ◌<◌, ◌≤◌, ℕ, ◌+◌, ◌-◌, List, [], ◌∷◌, Option, Some, None, Ok, Err, refl, ap, sym}
+use Rattle.std.proofs.Common.{◌∙◌, subst, arith, inl, inr}
 use Rattle.std.proofs.lemmas.Bool.{lt-ltb, le-ltb, cases_lt}
 use Rattle.libyaml_types.specs.declared.token.yaml_token_t.{yaml_token_t}
 use Rattle.libyaml_sources.specs.Fault.{Fault, Answer}
@@ -9,7 +10,8 @@ use Rattle.line_reading.specs.sources.LineFault.{line_fault}
 use Rattle.line_reading.specs.sources.LineLaws.{lines_behind}
 use Rattle.line_reading.specs.sources.ReadLines.{lines, behind_line, line_answer, coming_behind, coming_from}
 use Rattle.line_reading.specs.sources.NextLine.{first_answer, LineAnswer, BreaksOffAt}
-use Rattle.line_reading.specs.sources.LineSource.{LineSource, GivesBy, Gives, coming_of, known_by, known_of, BreaksOff, tokens_in, fault_in}
+use Rattle.line_reading.specs.sources.LineSource.{LineSource, GivesBy, Gives, coming_of, known_by, known_of, BreaksOff}
+use Rattle.line_reading.specs.sources.LineSource.{tokens_in, fault_in}
 
 no_token : (token : yaml_token_t) (fault : Fault) → Ok token ≡ Err fault → ⊥
 no_token token fault e = cc
@@ -18,34 +20,42 @@ falls_by : {R : Type 0} (remaining : R → Option (List ℕ)) (s t : LineSource 
     → GivesBy kept remaining s (Ok token) t → s.max_tokens - s.given ≡ t.max_tokens - t.given + 1
 falls_by remaining s t token (Some fault) h = cc (h.0)
 falls_by remaining s t token None h
-    = elim (cases_lt s.given s.max_tokens) [ inl below ↦ omega (arith, h.given, h.max_tokens) | inr bound ↦ absurd (no_token _ _ (h.at_bound bound)) ]
+    = elim (cases_lt s.given s.max_tokens)
+    [ inl below ↦ omega (arith, h.given, h.max_tokens) | inr bound ↦ absurd (no_token _ _ (h.at_bound bound)) ]
 
-pub source_falls : {R : Type 0} (remaining : R → Option (List ℕ)) (s t : LineSource R) (token : yaml_token_t) → Gives remaining s (Ok token) t
+pub source_falls : {R : Type 0} (remaining : R → Option (List ℕ)) (s t : LineSource R) (token : yaml_token_t)
+    → Gives remaining s (Ok token) t
     → s.max_tokens - s.given ≡ t.max_tokens - t.given + 1
 source_falls remaining s t token h = falls_by remaining s t token s.fault h
 
-repeats_by : {R : Type 0} (remaining : R → Option (List ℕ)) (t u : LineSource R) (fault : Fault) (answer : Answer) (kept : Option Fault) → kept ≡ Some fault
+repeats_by : {R : Type 0} (remaining : R → Option (List ℕ)) (t u : LineSource R) (fault : Fault) (answer : Answer)
+    (kept : Option Fault) → kept ≡ Some fault
     → GivesBy kept remaining t answer u → answer ≡ Err fault
 repeats_by remaining t u fault answer None e k = cc
 repeats_by remaining t u fault answer (Some f) e k = cc (e, k.0)
 
-kept_by : {R : Type 0} (remaining : R → Option (List ℕ)) (s t : LineSource R) (fault : Fault) (kept : Option Fault) → kept ≡ s.fault
+kept_by : {R : Type 0} (remaining : R → Option (List ℕ)) (s t : LineSource R) (fault : Fault) (kept : Option Fault)
+    → kept ≡ s.fault
     → GivesBy kept remaining s (Err fault) t → t.fault ≡ Some fault
 kept_by remaining s t fault None e h = h.fault
 kept_by remaining s t fault (Some f) e h = ap (λ x. x.fault) h.1 ∙ sym e ∙ (cc (h.0))
 
-pub source_repeats : {R : Type 0} (remaining : R → Option (List ℕ)) (s t u : LineSource R) (fault : Fault) (answer : Answer) → Gives remaining s (Err fault) t
+pub source_repeats : {R : Type 0} (remaining : R → Option (List ℕ)) (s t u : LineSource R) (fault : Fault)
+    (answer : Answer) → Gives remaining s (Err fault) t
     → Gives remaining t answer u → answer ≡ Err fault
-source_repeats remaining s t u fault answer h k = repeats_by remaining t u fault answer t.fault (kept_by remaining s t fault s.fault refl h) k
+source_repeats remaining s t u fault answer h k = repeats_by remaining t u fault answer t.fault
+    (kept_by remaining s t fault s.fault refl h) k
 
 -- a fault that breaks off
-break_off : (MayBreak : Fault → Type 0) (tokens : List yaml_token_t) (end fault : Fault) (after : Option Coming) → MayBreak fault
+break_off : (MayBreak : Fault → Type 0) (tokens : List yaml_token_t) (end fault : Fault) (after : Option Coming)
+    → MayBreak fault
     → after ≡ Some (coming [] fault) → FollowsList MayBreak tokens end (Err fault) after
 break_off MayBreak [] end fault after h e = (inr h, e)
 break_off MayBreak (t ∷ ts) end fault after h e = (h, e)
 
 -- the fault of a list that has no token
-end_fault : (MayBreak : Fault → Type 0) (c : Coming) (fault : Fault) (after : Option Coming) → c ≡ coming [] fault → after ≡ Some (coming [] fault)
+end_fault : (MayBreak : Fault → Type 0) (c : Coming) (fault : Fault) (after : Option Coming) → c ≡ coming [] fault
+    → after ≡ Some (coming [] fault)
     → Follows MayBreak (Some c) (Err fault) after
 end_fault MayBreak c fault after h e = rw h (inl refl, e)
 
@@ -53,10 +63,12 @@ at_bound : (n max : ℕ) (ls : List (List ℕ)) → max ≤ n → coming_from n 
 at_bound n max [] h = rw (le-ltb n max h) refl
 at_bound n max (l ∷ ls) h = rw (le-ltb n max h) refl
 
-below : (n max : ℕ) (l : List ℕ) (ls : List (List ℕ)) → n < max → coming_from n max (l ∷ ls) ≡ coming_behind (line_answer n l) (coming_from (n + 1) max ls)
+below : (n max : ℕ) (l : List ℕ) (ls : List (List ℕ)) → n < max
+    → coming_from n max (l ∷ ls) ≡ coming_behind (line_answer n l) (coming_from (n + 1) max ls)
 below n max l ls h = rw (lt-ltb n max h) refl
 
-follows_fault : (MayBreak : Fault → Type 0) (n max : ℕ) (ls : List (List ℕ)) (fault : Fault) (after : Option Coming) → n < max → first_answer n ls ≡ Err fault
+follows_fault : (MayBreak : Fault → Type 0) (n max : ℕ) (ls : List (List ℕ)) (fault : Fault) (after : Option Coming)
+    → n < max → first_answer n ls ≡ Err fault
     → after ≡ Some (coming [] fault) → Follows MayBreak (Some (coming_from n max ls)) (Err fault) after
 follows_fault MayBreak n max [] fault after h a e =
     let same : line_fault NoMoreTokens n ≡ fault = cc in
@@ -64,7 +76,8 @@ follows_fault MayBreak n max [] fault after h a e =
 follows_fault MayBreak n max (l ∷ ls) fault after h a e
     = end_fault MayBreak _ fault after (below n max l ls h ∙ ap (λ x. coming_behind x (coming_from (n + 1) max ls)) a) e
 
-follows_token : (MayBreak : Fault → Type 0) (n max : ℕ) (ls : List (List ℕ)) (token : yaml_token_t) (bytes : List ℕ) (after : Option Coming) → n < max
+follows_token : (MayBreak : Fault → Type 0) (n max : ℕ) (ls : List (List ℕ)) (token : yaml_token_t) (bytes : List ℕ)
+    (after : Option Coming) → n < max
     → lines bytes ≡ ls → first_answer n ls ≡ Ok token → after ≡ Some (coming_from (n + 1) max (lines (behind_line bytes)))
     → Follows MayBreak (Some (coming_from n max ls)) (Ok token) after
 follows_token MayBreak n max [] token bytes after h is a e = cc
@@ -75,42 +88,55 @@ known_kept : {R : Type 0} (remaining : R → Option (List ℕ)) (t : LineSource 
     → known_of remaining t ≡ Some (coming [] fault)
 known_kept remaining t fault e = ap (λ k. known_by k (remaining t.reader) t.given t.max_tokens) e
 
-known_read : {R : Type 0} (remaining : R → Option (List ℕ)) (t : LineSource R) (n max : ℕ) (bytes : List ℕ) → t.fault ≡ None → remaining t.reader ≡ Some bytes
+known_read : {R : Type 0} (remaining : R → Option (List ℕ)) (t : LineSource R) (n max : ℕ) (bytes : List ℕ)
+    → t.fault ≡ None → remaining t.reader ≡ Some bytes
     → t.given ≡ n → t.max_tokens ≡ max → known_of remaining t ≡ Some (coming_from n max (lines bytes))
 known_read remaining t n max bytes f r g m = (λ i. known_by (f i) (r i) (g i) (m i))
 
-follows_kept : {R : Type 0} (MayBreak : Fault → Type 0) (remaining : R → Option (List ℕ)) (t : LineSource R) (fault : Fault) (answer : Answer)
+follows_kept : {R : Type 0} (MayBreak : Fault → Type 0) (remaining : R → Option (List ℕ)) (t : LineSource R)
+    (fault : Fault) (answer : Answer)
     → answer ≡ Err fault → t.fault ≡ Some fault → Follows MayBreak (Some (coming [] fault)) answer (known_of remaining t)
 follows_kept MayBreak remaining t fault answer a e = rw a (inl refl, known_kept remaining t fault e)
 
 follows_bound : {R : Type 0} (MayBreak : Fault → Type 0) (remaining : R
-    → Option (List ℕ)) (t : LineSource R) (n max : ℕ) (before : Option (List ℕ)) (answer : Answer) → max ≤ n → answer ≡ Err (line_fault TooManyTokens n)
+    → Option (List ℕ)) (t : LineSource R) (n max : ℕ) (before : Option (List ℕ)) (answer : Answer) → max ≤ n
+    → answer ≡ Err (line_fault TooManyTokens n)
     → t.fault ≡ fault_in answer → Follows MayBreak (coming_of before n max) answer (known_of remaining t)
 follows_bound MayBreak remaining t n max None answer h a f = tt
 follows_bound MayBreak remaining t n max (Some bytes) answer h a f =
-    rw (at_bound n max (lines bytes) h) (follows_kept MayBreak remaining t (line_fault TooManyTokens n) answer a (f ∙ ap fault_in a))
+    rw (at_bound n max (lines bytes) h)
+    (follows_kept MayBreak remaining t (line_fault TooManyTokens n) answer a (f ∙ ap fault_in a))
 
-follows_below : {R : Type 0} (remaining : R → Option (List ℕ)) (t : LineSource R) (n max : ℕ) (before : Option (List ℕ)) (answer : Answer) → n < max
-    → LineAnswer before n answer (remaining t.reader) → t.given ≡ n + tokens_in answer → t.max_tokens ≡ max → t.fault ≡ fault_in answer
+follows_below : {R : Type 0} (remaining : R → Option (List ℕ)) (t : LineSource R) (n max : ℕ)
+    (before : Option (List ℕ)) (answer : Answer) → n < max
+    → LineAnswer before n answer (remaining t.reader) → t.given ≡ n + tokens_in answer → t.max_tokens ≡ max
+    → t.fault ≡ fault_in answer
     → Follows (BreaksOff t) (coming_of before n max) answer (known_of remaining t)
 follows_below remaining t n max None answer h a g m f = tt
 follows_below remaining t n max (Some bytes) (Ok token) h a g m f =
-    follows_token (BreaksOff t) n max (lines bytes) token bytes _ h refl a.0 (known_read remaining t (n + 1) max (behind_line bytes) f a.1 g m)
+    follows_token (BreaksOff t) n max (lines bytes) token bytes _ h refl a.0
+    (known_read remaining t (n + 1) max (behind_line bytes) f a.1 g m)
 follows_below remaining t n max (Some bytes) (Err fault) h (inl a) g m f =
     follows_fault (BreaksOff t) n max (lines bytes) fault _ h a (known_kept remaining t fault f)
 follows_below remaining t n max (Some bytes) (Err fault) h (inr a) g m f =
     let same : n ≡ t.given = omega (arith, g) in
     break_off (BreaksOff t) _ _ fault _ (subst (λ k. BreaksOffAt k fault) same a) (known_kept remaining t fault f)
 
-follows_by : {R : Type 0} (remaining : R → Option (List ℕ)) (s t : LineSource R) (answer : Answer) (kept : Option Fault) → kept ≡ s.fault
-    → GivesBy kept remaining s answer t → Follows (BreaksOff t) (known_by kept (remaining s.reader) s.given s.max_tokens) answer (known_of remaining t)
-follows_by remaining s t answer (Some fault) e h = follows_kept (BreaksOff t) remaining t fault answer h.0 (ap (λ x. x.fault) h.1 ∙ sym e)
+follows_by : {R : Type 0} (remaining : R → Option (List ℕ)) (s t : LineSource R) (answer : Answer)
+    (kept : Option Fault) → kept ≡ s.fault
+    → GivesBy kept remaining s answer t
+    → Follows (BreaksOff t) (known_by kept (remaining s.reader) s.given s.max_tokens) answer (known_of remaining t)
+follows_by remaining s t answer (Some fault) e h = follows_kept (BreaksOff t) remaining t fault answer h.0
+    (ap (λ x. x.fault) h.1 ∙ sym e)
 follows_by remaining s t answer None e h =
     elim (cases_lt s.given s.max_tokens) [
-      | inl below ↦ follows_below remaining t s.given s.max_tokens (remaining s.reader) answer below (h.below below) h.given h.max_tokens h.fault
-      | inr bound ↦ follows_bound (BreaksOff t) remaining t s.given s.max_tokens (remaining s.reader) answer bound (h.at_bound bound) h.fault
+      | inl below ↦ follows_below remaining t s.given s.max_tokens (remaining s.reader) answer below
+          (h.below below) h.given h.max_tokens h.fault
+      | inr bound ↦ follows_bound (BreaksOff t) remaining t s.given s.max_tokens (remaining s.reader) answer bound
+          (h.at_bound bound) h.fault
     ]
 
-pub source_follows : {R : Type 0} (remaining : R → Option (List ℕ)) (s t : LineSource R) (answer : Answer) → Gives remaining s answer t
+pub source_follows : {R : Type 0} (remaining : R → Option (List ℕ)) (s t : LineSource R) (answer : Answer)
+    → Gives remaining s answer t
     → Follows (BreaksOff t) (known_of remaining s) answer (known_of remaining t)
 source_follows remaining s t answer h = follows_by remaining s t answer s.fault refl h

@@ -8,9 +8,11 @@ use Rattle.line_reading.specs.sources.NextLine.{BreaksOffAt, IsBehindLine, IsWit
 use Rattle.line_reading.specs.sources.ReadLines.{longest_line}
 
 -- what the contract of `next_token` says of a result, and of the source after it
-pub record LineOutcome {R : Type 0} (remaining : R → Option (List ℕ)) (s : LineSource R) (answer : Answer) (t : LineSource R) : Type 0 where
+pub record LineOutcome {R : Type 0} (remaining : R → Option (List ℕ)) (s : LineSource R) (answer : Answer)
+    (t : LineSource R) : Type 0 where
   pub gives : Gives remaining s answer t
-  pub bad_line : s.fault ≡ None → answer ≡ Err (line_fault BadTokenLine s.given) → IsBehindLine (remaining s.reader) (remaining t.reader)
+  pub bad_line : s.fault ≡ None → answer ≡ Err (line_fault BadTokenLine s.given)
+      → IsBehindLine (remaining s.reader) (remaining t.reader)
   pub too_long : s.fault ≡ None → answer ≡ Err (line_fault LineTooLong s.given)
       → IsWithinLine (longest_line + 1) (remaining s.reader) (remaining t.reader)
   pub takes : TakesAtMost (longest_line + 1) (remaining s.reader) (remaining t.reader)
@@ -29,7 +31,8 @@ pub record LineBreaksOff {R : Type 0} (s : LineSource R) (answer : Answer) : Typ
   pub breaks_off : BreaksOffAt s.given fault
 
 -- one result, which leaves the same; or an allocation or a read failed in one of the two
-pub data OneLine {R : Type 0} (remaining : R → Option (List ℕ)) (s u : LineSource R) (a : Answer) (t : LineSource R) (b : Answer) (v : LineSource R)
+pub data OneLine {R : Type 0} (remaining : R → Option (List ℕ)) (s u : LineSource R) (a : Answer) (t : LineSource R)
+    (b : Answer) (v : LineSource R)
     : Type 0 where
   alike : a ≡ b → SourcesAlike remaining t v → OneLine remaining s u a t b v
   first_breaks : LineBreaksOff s a → OneLine remaining s u a t b v

@@ -4,7 +4,8 @@ use Rattle.std.specs.List.{slice_split}
 use Rattle.libyaml_types.specs.declared.token.yaml_token_t.{yaml_token_t}
 use Rattle.libyaml_sources.specs.Fault.{Answer}
 use Rattle.libyaml_sources.specs.Source.{Coming, coming}
-use Rattle.line_reading.specs.declared.line_problem.LineProblem.TheVariants.{LineTooLong, BadTokenLine, TooManyTokens, NoMoreTokens}
+use Rattle.line_reading.specs.declared.line_problem.LineProblem.TheVariants.{LineTooLong, BadTokenLine, TooManyTokens}
+use Rattle.line_reading.specs.declared.line_problem.LineProblem.TheVariants.{NoMoreTokens}
 use Rattle.line_reading.specs.sources.LineFault.{line_fault}
 use Rattle.line_reading.specs.tokens.TokenLine.{token_of_line}
 
@@ -37,7 +38,8 @@ token_or_fault (Some token) n = Ok token
 token_or_fault None n = Err (line_fault BadTokenLine n)
 
 abbrev pub line_answer : ℕ → List ℕ → Answer
-line_answer n line = if nat_lt longest_line (length line) then Err (line_fault LineTooLong n) else token_or_fault (token_of_line line) n
+line_answer n line = if nat_lt longest_line (length line) then Err (line_fault LineTooLong n) else token_or_fault
+    (token_of_line line) n
 
 -- a result, and what comes after it: nothing after a fault
 abbrev pub coming_behind : Answer → Coming → Coming

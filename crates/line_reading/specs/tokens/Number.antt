@@ -1,11 +1,13 @@
 -- Numbers in the fields of a line (docs/DEFINITIONS.md, "Lines").
-use Rattle.std.specs.Prelude.{ℕ, ℤ, pos, negsuc, List, [], ◌∷◌, not, ◌&&◌, ◌==◌, ◌+◌, ◌-◌, ◌^◌, Option, Some, None, option_and_then, nat_lt, if◌then◌else◌}
+use Rattle.std.specs.Prelude.{ℕ, ℤ, pos, negsuc, List, [], ◌∷◌, not, ◌&&◌, ◌==◌, ◌+◌, ◌-◌, ◌^◌, Option, Some, None}
+use Rattle.std.specs.Prelude.{option_and_then, nat_lt, if◌then◌else◌}
 use Rattle.std.specs.Str.{all_ascii_digits}
 use Rattle.std.specs.Str.Parse.{digits_value_after}
 
 -- the value of digits that follow digits of value n, within 64 bits
 abbrev pub value_after : ℕ → List ℕ → Option ℕ
-value_after n ds = if all_ascii_digits ds && nat_lt (digits_value_after 10 n ds) (2 ^ 64) then Some (digits_value_after 10 n ds) else None
+value_after n ds = if all_ascii_digits ds && nat_lt (digits_value_after 10 n ds) (2 ^ 64) then Some
+    (digits_value_after 10 n ds) else None
 
 -- the value of digits, within 64 bits
 abbrev pub value_of : List ℕ → Option ℕ
@@ -28,4 +30,5 @@ negative_of n = if not (n == 0) && nat_lt n (2 ^ 31 + 1) then Some (negsuc (n - 
 -- a number, or `-` and a number other than 0, within 32 bits
 abbrev pub signed_of : List ℕ → Option ℤ
 signed_of [] = None
-signed_of (b ∷ bs) = if b == 45 then option_and_then negative_of (number_of bs) else option_and_then positive_of (number_of (b ∷ bs))
+signed_of (b ∷ bs) = if b == 45 then option_and_then negative_of (number_of bs) else option_and_then positive_of
+    (number_of (b ∷ bs))

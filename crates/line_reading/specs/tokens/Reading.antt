@@ -3,7 +3,8 @@ use Rattle.std.specs.Prelude.{◌≡◌, Option, Some, None, Result, Ok, Err, �
 use Rattle.line_reading.specs.declared.line_problem.LineProblem.{LineProblem}
 use Rattle.line_reading.specs.declared.line_problem.LineProblem.TheVariants.{Memory, BadTokenLine}
 
--- The variable holds the value that is read, or there is none exactly where `BadTokenLine` is returned. A failed allocation says nothing, and no other problem comes.
+-- The variable holds the value that is read, or there is none exactly where `BadTokenLine` is returned. A failed
+-- allocation says nothing, and no other problem comes.
 abbrev pub IsReadInto : {A : Type 0} → Result (Unit {0}) LineProblem → A → Option A → Type 0
 IsReadInto (Ok u) value there = there ≡ Some value
 IsReadInto (Err BadTokenLine) value there = there ≡ None

@@ -1,5 +1,6 @@
 -- That percent-encoding with our set writes the escapes, and that percent-decoding reads them.
-use Rattle.std.proofs.Common.{◌≡◌, ◌++◌, ◌/◌, ◌%◌, ◌<◌, ℕ, List, [], ◌∷◌, All, true, false, refl, ne_eqb, ap, ◌∙◌, arith, sym, if◌then◌else◌}
+use Rattle.std.proofs.Common.{◌≡◌, ◌++◌, ◌/◌, ◌%◌, ◌<◌, ℕ, List, [], ◌∷◌, All, true, false, refl, ne_eqb, ap, ◌∙◌}
+use Rattle.std.proofs.Common.{arith, sym, if◌then◌else◌}
 use Rattle.std.specs.Fmt.{digit_glyph}
 use Rattle.std.specs.List.{flat_map}
 use Rattle.std.proofs.lemmas.Bool.{agree_below, agree_below_at, lt-leb, le-ltb}
@@ -8,7 +9,7 @@ use Rattle.percent_encoding.specs.AsciiSet.{should_percent_encode}
 use Rattle.percent_encoding.specs.Percent.{percent_encode, percent_encode_byte, encode_byte, percent_decode}
 use Rattle.percent_encoding.proofs.PercentLemmas.{round_trip, IsByte}
 use Rattle.line_writing.specs.declared.escape.TheConstants.{ESCAPED}
-use Rattle.byte_words.specs.Clean.{IsClean}
+use Rattle.clean_texts.specs.Clean.{IsClean}
 use Rattle.line_writing.specs.Escape.{needs_escape, escape, escaped, written_byte}
 
 -- the set has exactly the bytes that need an escape
@@ -44,4 +45,5 @@ escaped-clean (b ∷ bs) h =
 
 -- and percent-decoding reads them
 pub percent_decode-escaped : (bs : List ℕ) → All IsByte bs → percent_decode (escaped bs) ≡ bs
-percent_decode-escaped bs small = ap percent_decode (sym (percent_encode-escaped bs small)) ∙ round_trip ESCAPED bs refl small
+percent_decode-escaped bs small = ap percent_decode (sym (percent_encode-escaped bs small))
+    ∙ round_trip ESCAPED bs refl small

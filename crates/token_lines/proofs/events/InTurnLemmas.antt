@@ -14,17 +14,21 @@ use Rattle.libyaml_events.proofs.lent.CallsInTurn.{gave_both}
 use Rattle.token_lines.specs.events.InTurn.{AllWritten, Call, WrittenInTurn, gave_event, failed}
 
 module _ {S : Type 0} (p : Parser S) where
-  pub history_none : (asked : List yaml_token_t) (given : List yaml_event_t) → History p asked given → History p (asked ++ []) (given ++ [])
-  history_none asked given h = subst (λ l. History p l (given ++ [])) (sym (append-nil asked)) (subst (λ l. History p asked l) (sym (append-nil given)) h)
+  pub history_none : (asked : List yaml_token_t) (given : List yaml_event_t) → History p asked given
+      → History p (asked ++ []) (given ++ [])
+  history_none asked given h = subst (λ l. History p l (given ++ [])) (sym (append-nil asked))
+      (subst (λ l. History p asked l) (sym (append-nil given)) h)
 
   pub history_more : (asked more last : List yaml_token_t) (given events taken : List yaml_event_t)
-      → History p ((asked ++ more) ++ last) ((given ++ events) ++ taken) → History p (asked ++ (more ++ last)) (given ++ (events ++ taken))
+      → History p ((asked ++ more) ++ last) ((given ++ events) ++ taken)
+      → History p (asked ++ (more ++ last)) (given ++ (events ++ taken))
   history_more asked more last given events taken h =
       subst (λ l. History p l (given ++ (events ++ taken))) (append_assoc asked more last)
       (subst (λ l. History p ((asked ++ more) ++ last) l) (append_assoc given events taken) h)
 
 module _ {S : Type 0} (text : yaml_event_t → List ℕ) (gives : S → Answer → S → Type 0) where
-  pub none_yet : (p : Parser S) (x : Option (List ℕ)) (asked : List yaml_token_t) (given : List yaml_event_t) → History p asked given → is_over p ≡ false
+  pub none_yet : (p : Parser S) (x : Option (List ℕ)) (asked : List yaml_token_t) (given : List yaml_event_t)
+      → History p asked given → is_over p ≡ false
       → AllWritten text gives p p x x asked given
   none_yet p x asked given h running = record {
     more = [];
@@ -36,7 +40,8 @@ module _ {S : Type 0} (text : yaml_event_t → List ℕ) (gives : S → Answer �
   }
 
   -- one text more
-  pub texts_more : (done : List yaml_event_t) (e : yaml_event_t) → concat (map text done) ++ text e ≡ concat (map text (done ++ e ∷ []))
+  pub texts_more : (done : List yaml_event_t) (e : yaml_event_t) → concat (map text done)
+      ++ text e ≡ concat (map text (done ++ e ∷ []))
   texts_more done e =
       ap (λ l. concat (map text done) ++ l) (sym (append-nil (text e))) ∙ sym (concat-append (map text done) (text e ∷ []))
       ∙ ap concat (sym (map-append text done (e ∷ [])))
@@ -44,10 +49,12 @@ module _ {S : Type 0} (text : yaml_event_t → List ℕ) (gives : S → Answer �
   pub one_more : (first p q : Parser S) (a b c : Option (List ℕ)) (asked : List yaml_token_t) (given : List yaml_event_t)
       → AllWritten text gives first p a b asked given
       → (is_over p ≡ false → (asked' : List yaml_token_t) (given' : List yaml_event_t) → History p asked' given'
-      → Call gives (λ e. (is_stream_end e ≡ false) × Appends b c (text e)) (λ f. ⊥) p q asked' given') → AllWritten text gives first q a c asked given
+      → Call gives (λ e. (is_stream_end e ≡ false) × Appends b c (text e)) (λ f. ⊥) p q asked' given')
+      → AllWritten text gives first q a c asked given
   one_more first p q a b c asked given w calls = go (calls w.running (asked ++ w.more) (given ++ w.events) w.history)
     where
-      go : Call gives (λ e. (is_stream_end e ≡ false) × Appends b c (text e)) (λ f. ⊥) p q (asked ++ w.more) (given ++ w.events)
+      go : Call gives (λ e. (is_stream_end e ≡ false) × Appends b c (text e)) (λ f. ⊥) p q (asked ++ w.more)
+          (given ++ w.events)
           → AllWritten text gives first q a c asked given
       go (gave_event e on wrote) = record {
         more = w.more ++ on.more;
@@ -55,15 +62,24 @@ module _ {S : Type 0} (text : yaml_event_t → List ℕ) (gives : S → Answer �
         gave = gave_both gives w.more on.more first.source p.source q.source w.gave on.gave;
         history = history_more q asked w.more on.more given w.events (e ∷ []) on.history;
         running = on.ends ∙ wrote.0;
-        wrote = subst (Appends a c) (texts_more w.events e) (Appends-trans a b c (concat (map text w.events)) (text e) w.wrote wrote.1);
+        wrote = subst (Appends a c) (texts_more w.events e)
+            (Appends-trans a b c (concat (map text w.events)) (text e) w.wrote wrote.1);
       }
       go (failed by wrote) = absurd wrote
 
-  pub last_call : {W : Type 0} (ForEvent : yaml_event_t → (before after : Option (List ℕ)) → Type 0) (ForFault : Fault → (before after : Option (List ℕ))
-      → Type 0) (contents : W → Option (List ℕ)) (first p q : Parser S) (writer : W) (a d : Option (List ℕ)) (asked : List yaml_token_t)
+  pub last_call : {W : Type 0} (ForEvent : yaml_event_t → (before after : Option (List ℕ)) → Type 0)
+      (ForFault : Fault → (before after : Option (List ℕ))
+      → Type 0) (contents : W → Option (List ℕ)) (first p q : Parser S) (writer : W) (a d : Option (List ℕ))
+      (asked : List yaml_token_t)
       (given : List yaml_event_t) → AllWritten text gives first p a (contents writer) asked given
       → (is_over p ≡ false → (asked' : List yaml_token_t) (given' : List yaml_event_t) → History p asked' given'
       → Call gives (λ e. ForEvent e (contents writer) d) (λ f. ForFault f (contents writer) d) p q asked' given')
       → WrittenInTurn text ForEvent ForFault gives contents first q a d asked given
   last_call ForEvent ForFault contents first p q writer a d asked given w closes
-      = record { parser = p; writer = writer; earlier = w; call = closes w.running (asked ++ w.more) (given ++ w.events) w.history }
+      = record {
+        parser = p;
+        writer = writer;
+        earlier = w;
+        call = closes w.running (asked ++ w.more)
+            (given ++ w.events) w.history;
+      }

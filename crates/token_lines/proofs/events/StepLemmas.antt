@@ -1,5 +1,6 @@
 -- What the steps of a run write of a run of events that was to come.
-use Rattle.std.proofs.Common.{◌≡◌, ◌⊎◌, ◌++◌, ℕ, List, [], ◌∷◌, Option, Bool, Ok, true, false, sym, ap, ◌∙◌, subst, inl, inr}
+use Rattle.std.proofs.Common.{◌≡◌, ◌⊎◌, ◌++◌, ℕ, List, [], ◌∷◌, Option, Bool, Ok, true, false, sym, ap, ◌∙◌, subst, inl}
+use Rattle.std.proofs.Common.{inr}
 use Rattle.std.proofs.KnownBytes.{Appends-kept, Appends-trans}
 use Rattle.std.proofs.lemmas.List.{append-nil, map-append}
 use Rattle.std.specs.List.{concat}
@@ -39,7 +40,8 @@ module _ {S : Type 0} (old new : Parser S) (r : EventOrError) (e : yaml_event_t)
       no : true ≡ false → ⊥
       no h = cc
 
-  pub running_by : (b : Bool) → is_over old ≡ b → r ≡ Ok e → is_event e.content ≡ true → (is_over old ≡ true → (r ≡ Ok empty_event) × (new ≡ old))
+  pub running_by : (b : Bool) → is_over old ≡ b → r ≡ Ok e → is_event e.content ≡ true
+      → (is_over old ≡ true → (r ≡ Ok empty_event) × (new ≡ old))
       → is_over old ≡ false
   running_by true h is an_event ended = absurd (gives_empty is (ended h) an_event)
   running_by false h is an_event ended = h
@@ -47,22 +49,28 @@ module _ {S : Type 0} (old new : Parser S) (r : EventOrError) (e : yaml_event_t)
 module _ {S : Type 0} (gives : S → Answer → S → Type 0) (known : S → Option Coming) (MayBreak : S → Fault → Type 0) where
   -- what `rest_of_run` and `items_in_turn` say
   abbrev pub Further : Type 0
-  Further = (p q : Parser S) (more : List yaml_token_t) (events to_come : List yaml_event_t) (ending : Ending) (r : RunToCome known p to_come ending)
-      → Gave gives p.source (answers more []) q.source → History q (r.asked ++ more) (r.given ++ events) → RestOfRun known q events to_come ending
+  Further = (p q : Parser S) (more : List yaml_token_t) (events to_come : List yaml_event_t) (ending : Ending)
+      (r : RunToCome known p to_come ending)
+      → Gave gives p.source (answers more []) q.source → History q (r.asked ++ more) (r.given ++ events)
+      → RestOfRun known q events to_come ending
 
   abbrev pub FailsBehind : Type 0
-  FailsBehind = (p q new : Parser S) (more : List yaml_token_t) (events to_come : List yaml_event_t) (ending : Ending) (r : RunToCome known p to_come ending)
+  FailsBehind = (p q new : Parser S) (more : List yaml_token_t) (events to_come : List yaml_event_t)
+      (ending : Ending) (r : RunToCome known p to_come ending)
       → Gave gives p.source (answers more []) q.source → History q (r.asked ++ more) (r.given ++ events)
       → FailsBy gives q new (r.asked ++ more) (r.given ++ events)
-      → (later : List yaml_event_t) × (to_come ≡ events ++ later) × FailsHere (MayBreak new.source) (kept_fault new) later ending
+      → (later : List yaml_event_t) × (to_come ≡ events ++ later) × FailsHere (MayBreak new.source) (kept_fault new)
+      later ending
 
   abbrev pub NothingBehind : Type 0
   NothingBehind = (p : Parser S) → is_over p ≡ true → ForRun known p (λ later ending. (later ≡ []) × (ending ≡ Ends))
 
   -- a run that was to come, of which the lines of some events were written, and then a last step was made
-  module _ (first p q : Parser S) (a b c d : Option (List ℕ)) (all : List yaml_event_t) (ending : Ending) (r : RunToCome known first all ending)
+  module _ (first p q : Parser S) (a b c d : Option (List ℕ)) (all : List yaml_event_t) (ending : Ending)
+      (r : RunToCome known first all ending)
       (w : AllWritten event_line gives first p a b r.asked r.given) where
-    pub all_lines : Further → NothingBehind → Turn gives step.Ended p q b c (r.asked ++ w.more) (r.given ++ w.events) → Keeps c d → (ending ≡ Ends)
+    pub all_lines : Further → NothingBehind
+        → Turn gives step.Ended p q b c (r.asked ++ w.more) (r.given ++ w.events) → Keeps c d → (ending ≡ Ends)
         × Appends a d (concat (event_lines all))
     all_lines further nothing (gave_event e on wrote) kept =
         let done = w.events ++ e ∷ [] in
@@ -70,26 +78,36 @@ module _ {S : Type 0} (gives : S → Answer → S → Type 0) (known : S → Opt
         (gave_both gives w.more on.more first.source p.source q.source w.gave on.gave)
         (history_more q r.asked w.more on.more r.given w.events (e ∷ []) on.history) in
         let none = nothing q (on.ends ∙ wrote.0) rest.later ending rest.run in
-        let same : w.events ++ e ∷ [] ≡ all = sym (rest.all ∙ ap (λ (l : List yaml_event_t). done ++ l) none.0 ∙ append-nil done) in
-        let lines : Appends a c (concat (event_lines (w.events ++ e ∷ []))) = subst (Appends a c) (texts_more event_line gives w.events e)
-        (Appends-trans a b c (concat (event_lines w.events)) (event_line e) w.wrote wrote.1) in
-        (none.1, Appends-kept a c d (concat (event_lines all)) (subst (λ (l : List yaml_event_t). Appends a c (concat (event_lines l))) same lines) kept)
+        let same : w.events ++ e ∷ [] ≡ all =
+        sym (rest.all ∙ ap (λ (l : List yaml_event_t). done ++ l) none.0 ∙ append-nil done) in
+        let lines : Appends a c (concat (event_lines (w.events ++ e ∷ []))) =
+        subst (Appends a c) (texts_more event_line gives w.events e)
+        (Appends-trans a b c (concat (event_lines w.events)) (event_line e) w.wrote wrote.1) in (
+          none.1,
+          Appends-kept a c d (concat (event_lines all))
+              (subst (λ (l : List yaml_event_t). Appends a c (concat (event_lines l))) same lines) kept,
+        )
     all_lines further nothing (failed by wrote) kept = absurd wrote
 
-    fails_there : (f : Fault) (later : List yaml_event_t) → all ≡ w.events ++ later → FailsHere (MayBreak q.source) f later ending
-        → Appends a d (concat (event_lines w.events) ++ fault_text f) → WritesFault (MayBreak q.source) f a d (event_lines all) ending
+    fails_there : (f : Fault) (later : List yaml_event_t) → all ≡ w.events ++ later
+        → FailsHere (MayBreak q.source) f later ending
+        → Appends a d (concat (event_lines w.events) ++ fault_text f)
+        → WritesFault (MayBreak q.source) f a d (event_lines all) ending
     fails_there f later split (inl e) wrote =
         let same : w.events ≡ all = sym (split ∙ ap (λ (l : List yaml_event_t). w.events ++ l) e.0 ∙ append-nil w.events) in
         whole e.1 (subst (λ (l : List yaml_event_t). Appends a d (concat (event_lines l) ++ fault_text f)) same wrote)
     fails_there f later split (inr why) wrote
-        = broken_off (event_lines w.events) (event_lines later) (ap event_lines split ∙ map-append event_line w.events later) why wrote
+        = broken_off (event_lines w.events) (event_lines later)
+        (ap event_lines split ∙ map-append event_line w.events later) why wrote
 
-    pub lines_and_fault : Further → FailsBehind → (f : yaml_parser_t_prefix) → Turn gives (step.Failed f) p q b c (r.asked ++ w.more) (r.given ++ w.events)
+    pub lines_and_fault : Further → FailsBehind → (f : yaml_parser_t_prefix)
+        → Turn gives (step.Failed f) p q b c (r.asked ++ w.more) (r.given ++ w.events)
         → Appends c d (fault_text (fault_of f)) → WritesFault (MayBreak q.source) (fault_of f) a d (event_lines all) ending
     lines_and_fault further behind f turn told = go turn
       where
         then_fault : Keeps b c → Appends a d (concat (event_lines w.events) ++ fault_text (fault_of f))
-        then_fault kept = Appends-trans a b d (concat (event_lines w.events)) (fault_text (fault_of f)) w.wrote (keeps_then b c d (fault_text (fault_of f)) kept told)
+        then_fault kept = Appends-trans a b d (concat (event_lines w.events)) (fault_text (fault_of f)) w.wrote
+            (keeps_then b c d (fault_text (fault_of f)) kept told)
 
         go : Turn gives (step.Failed f) p q b c (r.asked ++ w.more) (r.given ++ w.events)
             → WritesFault (MayBreak q.source) (fault_of f) a d (event_lines all) ending
@@ -98,4 +116,6 @@ module _ {S : Type 0} (gives : S → Answer → S → Type 0) (known : S → Opt
             fails_there (fault_of f) rest.later rest.all (inr (inl wrote.0)) (then_fault wrote.1)
         go (failed by wrote) =
             let rest = behind first p q w.more w.events all ending r w.gave w.history by in
-            fails_there (fault_of f) rest.0 rest.1 (subst (λ (g : Fault). FailsHere (MayBreak q.source) g rest.0 ending) (sym wrote.0) rest.2) (then_fault wrote.1)
+            fails_there (fault_of f) rest.0 rest.1
+            (subst (λ (g : Fault). FailsHere (MayBreak q.source) g rest.0 ending) (sym wrote.0) rest.2)
+            (then_fault wrote.1)

@@ -11,7 +11,8 @@ use Rattle.token_lines.specs.lines.InMemory.{HandsOut, Has}
 use Rattle.token_lines.specs.lines.OneInMemory.{OneInMemory, alike, first_runs_out, second_runs_out}
 use Rattle.token_lines.proofs.lines.OneOutputs.{not_fails, same_fault}
 
-handed_same : (bytes old new later : List ℕ) (a b : memory_run_t) → a.outcome ≡ b.outcome → HandsOut bytes old new a → HandsOut bytes old later b
+handed_same : (bytes old new later : List ℕ) (a b : memory_run_t) → a.outcome ≡ b.outcome → HandsOut bytes old new a
+    → HandsOut bytes old later b
     → OneInMemory a b new later
 handed_same bytes old new later a b o h k =
     let w : a.wanted ≡ b.wanted = h.wanted ∙ sym k.wanted in
@@ -19,8 +20,10 @@ handed_same bytes old new later a b o h k =
     alike (λ i. record { outcome = o i; wanted = w i; written = v i })
     (h.filled ∙ (ap (λ (n : ℕ). take n bytes ++ drop n old) v ∙ sym k.filled))
 
-pub one_in_memory : (lines : List (List ℕ)) (ending : Ending) (old new later : List ℕ) (a b : memory_run_t) (x y : List ℕ) (o u : memory_outcome_t)
-    → a.outcome ≡ o → b.outcome ≡ u → Has o lines ending x → Has u lines ending y → HandsOut x old new a → HandsOut y old later b → OneInMemory a b new later
+pub one_in_memory : (lines : List (List ℕ)) (ending : Ending) (old new later : List ℕ) (a b : memory_run_t)
+    (x y : List ℕ) (o u : memory_outcome_t)
+    → a.outcome ≡ o → b.outcome ≡ u → Has o lines ending x → Has u lines ending y → HandsOut x old new a
+    → HandsOut y old later b → OneInMemory a b new later
 one_in_memory lines ending old new later a b x y OutOfMemory u e f g h i j = first_runs_out e
 one_in_memory lines ending old new later a b x y Ended OutOfMemory e f g h i j = second_runs_out f
 one_in_memory lines ending old new later a b x y Faulted OutOfMemory e f g h i j = second_runs_out f
@@ -31,4 +34,5 @@ one_in_memory lines ending old new later a b x y Faulted Ended e f g h i j = abs
 one_in_memory lines ending old new later a b x y Faulted Faulted e f g h i j =
     let s = same_fault h.0 g.0 (sym h.1 ∙ g.1) in
     handed_same x old new later a b (e ∙ sym f) i
-    (subst (λ (z : List ℕ). HandsOut z old later b) (h.2 ∙ (ap (λ (k : Fault). concat lines ++ fault_text k) s ∙ sym g.2)) j)
+    (subst (λ (z : List ℕ). HandsOut z old later b)
+    (h.2 ∙ (ap (λ (k : Fault). concat lines ++ fault_text k) s ∙ sym g.2)) j)

@@ -1,5 +1,6 @@
 -- Two outcomes of one `write_events` over any source wrote the same.
-use Rattle.std.proofs.Common.{◌≡◌, ◌⊎◌, inl, inr, ℕ, List, [], ◌∷◌, ◌++◌, Option, None, Some, Ok, refl, sym, ap, ◌∙◌, subst, append_assoc}
+use Rattle.std.proofs.Common.{◌≡◌, ◌⊎◌, inl, inr, ℕ, List, [], ◌∷◌, ◌++◌, Option, None, Some, Ok, refl, sym, ap, ◌∙◌}
+use Rattle.std.proofs.Common.{subst, append_assoc}
 use Rattle.std.proofs.KnownBytes.{Appends-trans}
 use Rattle.std.proofs.lemmas.List.{append-nil}
 use Rattle.std.specs.List.{concat}
@@ -12,7 +13,8 @@ use Rattle.libyaml_events.specs.sources.History.{ForHistory, History, answers, k
 use Rattle.libyaml_events.specs.sources.Needs.{EachNeeded, EachWasNeeded}
 use Rattle.libyaml_events.specs.sources.Parsing.{CarriesOn, Cause, FailsBy, IsWhole, of_grammar, of_memory, of_source}
 use Rattle.libyaml_events.proofs.lent.OneOutcome.{front_same}
-use Rattle.libyaml_events.proofs.lent.RunStops.{RunStop, answers_both, ended_stop, grammar_stop, one_run_by_answers, source_stop}
+use Rattle.libyaml_events.proofs.lent.RunStops.{RunStop, answers_both, ended_stop, grammar_stop, one_run_by_answers}
+use Rattle.libyaml_events.proofs.lent.RunStops.{source_stop}
 use Rattle.libyaml_grammar.specs.runs.Runs.{Ending, Ends, Fails}
 use Rattle.libyaml_sources.specs.Fault.{Answer, Fault, memory_fault}
 use Rattle.libyaml_sources.specs.declared.fault.yaml_parser_t_prefix.{yaml_parser_t_prefix}
@@ -43,11 +45,14 @@ pub after_asked : (asked m n : List yaml_token_t) (x y : List Answer) → OneBeg
     → OneBegins (answers (asked ++ m) x) (answers (asked ++ n) y)
 after_asked asked m n x y o
     = subst (λ (z : List Answer). OneBegins z (answers (asked ++ n) y)) (answers_both asked m x)
-    (subst (OneBegins (answers asked (answers m x))) (answers_both asked n y) (both_after asked (answers m x) (answers n y) o))
+    (subst (OneBegins (answers asked (answers m x))) (answers_both asked n y)
+    (both_after asked (answers m x) (answers n y) o))
 
-line_after : (events : List yaml_event_t) (e : yaml_event_t) → concat (event_lines (events ++ e ∷ [])) ≡ concat (event_lines events) ++ event_line e
+line_after : (events : List yaml_event_t) (e : yaml_event_t)
+    → concat (event_lines (events ++ e ∷ [])) ≡ concat (event_lines events) ++ event_line e
 line_after [] e = append-nil (event_line e)
-line_after (d ∷ events) e = ap (λ (l : List ℕ). event_line d ++ l) (line_after events e) ∙ sym (append_assoc (event_line d) (concat (event_lines events)) (event_line e))
+line_after (d ∷ events) e = ap (λ (l : List ℕ). event_line d ++ l) (line_after events e)
+    ∙ sym (append_assoc (event_line d) (concat (event_lines events)) (event_line e))
 
 pub nothing_needed : (l : List yaml_token_t) (g : List yaml_event_t) → EachNeeded l [] g
 nothing_needed l g [] x later e = absurd cc
@@ -56,26 +61,34 @@ nothing_needed l g (t ∷ front) x later e = absurd cc
 -- what was written of a run that stopped so
 abbrev Wrote : Ending → Outcome → List yaml_event_t → (before after : Option (List ℕ)) → Type 0
 Wrote Ends o events before after = (o ≡ outcome.Ended) × Appends before after (concat (event_lines events))
-Wrote (Fails f) o events before after = (o ≡ outcome.Faulted) × Appends before after (concat (event_lines events) ++ fault_text f)
+Wrote (Fails f) o events before after = (o ≡ outcome.Faulted)
+    × Appends before after (concat (event_lines events) ++ fault_text f)
 
 module _ {S W : Type 0} (gives : S → Answer → S → Type 0) (contents : W → Option (List ℕ))
-    (needed : (p : Parser S) → ForHistory p (λ (a : List yaml_token_t) (g : List yaml_event_t). EachWasNeeded [] a [] g)) (old : Parser S) (before : Option (List ℕ))
+    (needed : (p : Parser S) → ForHistory p
+    (λ (a : List yaml_token_t) (g : List yaml_event_t). EachWasNeeded [] a [] g)) (old : Parser S)
+    (before : Option (List ℕ))
     (asked : List yaml_token_t) (given : List yaml_event_t) where
   -- how an outcome came: the parser stopped; or memory ran out, or the output failed
   data Came (o : Outcome) (after : Option (List ℕ)) (a : List Answer) : Type 0 where
-    stopped : (m : List yaml_token_t) (u : List Answer) (e : List yaml_event_t) (x : Ending) → a ≡ answers m u → EachWasNeeded [] (asked ++ m) [] (given ++ e)
-        → EachNeeded (asked ++ m) u (given ++ e) → RunStop (answers (asked ++ m) u) (given ++ e) x → Wrote x o e before after → Came o after a
+    stopped : (m : List yaml_token_t) (u : List Answer) (e : List yaml_event_t) (x : Ending) → a ≡ answers m u
+        → EachWasNeeded [] (asked ++ m) [] (given ++ e)
+        → EachNeeded (asked ++ m) u (given ++ e) → RunStop (answers (asked ++ m) u) (given ++ e) x
+        → Wrote x o e before after → Came o after a
     broke : BrokeOff BreaksOffByNone o before after → Came o after a
     unknown : o ≡ outcome.OutputFailed → Came o after a
 
   module _ (last : Parser S) (after : Option (List ℕ)) where
     -- the last call gave the stream end event
     ended : (o : LastCall gives contents Ended old last before after asked given) (e : yaml_event_t)
-        → (c : CarriesOn gives o.parser e last (asked ++ o.earlier.more) (given ++ o.earlier.events)) → WroteForEvent Ended e (contents o.writer) after
+        → (c : CarriesOn gives o.parser e last (asked ++ o.earlier.more) (given ++ o.earlier.events))
+        → WroteForEvent Ended e (contents o.writer) after
         → Came outcome.Ended after (answers o.earlier.more (answers c.more []))
     ended o e c w =
-        let tokens : (asked ++ o.earlier.more) ++ c.more ≡ asked ++ (o.earlier.more ++ c.more) = append_assoc asked o.earlier.more c.more in
-        let events : (given ++ o.earlier.events) ++ e ∷ [] ≡ given ++ (o.earlier.events ++ e ∷ []) = append_assoc given o.earlier.events (e ∷ []) in
+        let tokens : (asked ++ o.earlier.more) ++ c.more ≡ asked ++ (o.earlier.more ++ c.more) =
+        append_assoc asked o.earlier.more c.more in
+        let events : (given ++ o.earlier.events) ++ e ∷ [] ≡ given ++ (o.earlier.events ++ e ∷ []) =
+        append_assoc given o.earlier.events (e ∷ []) in
         let history : History last (asked ++ (o.earlier.more ++ c.more)) (given ++ (o.earlier.events ++ e ∷ [])) =
         subst (λ (l : List yaml_token_t). History last l (given ++ (o.earlier.events ++ e ∷ []))) tokens
         (subst (History last ((asked ++ o.earlier.more) ++ c.more)) events c.history) in
@@ -89,7 +102,8 @@ module _ {S W : Type 0} (gives : S → Answer → S → Type 0) (contents : W �
         (nothing_needed (asked ++ (o.earlier.more ++ c.more)) (given ++ (o.earlier.events ++ e ∷ []))) is_whole) (
           refl,
           subst (Appends before after) (sym (line_after o.earlier.events e))
-              (Appends-trans before (contents o.writer) after (concat (event_lines o.earlier.events)) (event_line e) o.earlier.wrote w.1),
+              (Appends-trans before (contents o.writer) after (concat (event_lines o.earlier.events))
+              (event_line e) o.earlier.wrote w.1),
         )
 
     -- it failed
@@ -103,75 +117,103 @@ module _ {S W : Type 0} (gives : S → Answer → S → Type 0) (contents : W �
       fault = kept_fault last;
       cause = inl f;
       written = concat (event_lines o.earlier.events);
-      wrote = Appends-trans before (contents o.writer) after (concat (event_lines o.earlier.events)) (fault_text (kept_fault last)) o.earlier.wrote w;
+      wrote = Appends-trans before (contents o.writer) after (concat (event_lines o.earlier.events))
+          (fault_text (kept_fault last)) o.earlier.wrote w;
     })
     by_fault told o h w (of_grammar l e f)
         = stopped o.earlier.more h.more o.earlier.events (Fails (kept_fault last)) refl
         (needed o.parser (asked ++ o.earlier.more) (given ++ o.earlier.events) o.earlier.history) h.needed
-        (grammar_stop (asked ++ o.earlier.more) h.more (given ++ o.earlier.events) (kept_fault last) l e f)
-        (refl, Appends-trans before (contents o.writer) after (concat (event_lines o.earlier.events)) (fault_text (kept_fault last)) o.earlier.wrote w)
+        (grammar_stop (asked ++ o.earlier.more) h.more (given ++ o.earlier.events) (kept_fault last) l e f) (
+          refl,
+          Appends-trans before (contents o.writer) after (concat (event_lines o.earlier.events))
+              (fault_text (kept_fault last)) o.earlier.wrote w,
+        )
     by_fault told o h w (of_source l e s f)
         = stopped o.earlier.more h.more o.earlier.events (Fails (kept_fault last)) refl
         (needed o.parser (asked ++ o.earlier.more) (given ++ o.earlier.events) o.earlier.history) h.needed
-        (source_stop (asked ++ o.earlier.more) h.more (given ++ o.earlier.events) (kept_fault last) l e f)
-        (refl, Appends-trans before (contents o.writer) after (concat (event_lines o.earlier.events)) (fault_text (kept_fault last)) o.earlier.wrote w)
+        (source_stop (asked ++ o.earlier.more) h.more (given ++ o.earlier.events) (kept_fault last) l e f) (
+          refl,
+          Appends-trans before (contents o.writer) after (concat (event_lines o.earlier.events))
+              (fault_text (kept_fault last)) o.earlier.wrote w,
+        )
 
-    came : (end : run_end_t) (o : LastCall gives contents end old last before after asked given) → Came (outcome_of end) after (results_of end o)
+    came : (end : run_end_t) (o : LastCall gives contents end old last before after asked given)
+        → Came (outcome_of end) after (results_of end o)
     came Ended o = go o.call
       where
-        go : (k : Call gives (λ e. WroteForEvent Ended e (contents o.writer) after) (λ f. WroteFault Ended f (contents o.writer) after) o.parser last
-            (asked ++ o.earlier.more) (given ++ o.earlier.events)) → Came outcome.Ended after (answers o.earlier.more (results_in_call k))
+        go : (k : Call gives (λ e. WroteForEvent Ended e (contents o.writer) after)
+            (λ f. WroteFault Ended f (contents o.writer) after) o.parser last
+            (asked ++ o.earlier.more) (given ++ o.earlier.events))
+            → Came outcome.Ended after (answers o.earlier.more (results_in_call k))
         go (gave_event e c w) = ended o e c w
         go (failed h w) = absurd w
     came (Faulted told) o = go o.call
       where
-        go : (k : Call gives (λ e. WroteForEvent (Faulted told) e (contents o.writer) after) (λ f. WroteFault (Faulted told) f (contents o.writer) after) o.parser last
-            (asked ++ o.earlier.more) (given ++ o.earlier.events)) → Came outcome.Faulted after (answers o.earlier.more (results_in_call k))
+        go : (k : Call gives (λ e. WroteForEvent (Faulted told) e (contents o.writer) after)
+            (λ f. WroteFault (Faulted told) f (contents o.writer) after) o.parser last
+            (asked ++ o.earlier.more) (given ++ o.earlier.events))
+            → Came outcome.Faulted after (answers o.earlier.more (results_in_call k))
         go (gave_event e c w) = broke (record {
           faulted = refl;
           fault = memory_fault;
           cause = inl refl;
           written = concat (event_lines o.earlier.events);
-          wrote = Appends-trans before (contents o.writer) after (concat (event_lines o.earlier.events)) (fault_text memory_fault) o.earlier.wrote w.1;
+          wrote = Appends-trans before (contents o.writer) after (concat (event_lines o.earlier.events))
+              (fault_text memory_fault) o.earlier.wrote w.1;
         })
         go (failed h w) = by_fault told o h w.1 h.cause
     came OutputFailed o = unknown refl
 
 -- two that stopped wrote the same
-both_wrote : (x y : Ending) (o u : Outcome) (d e : List yaml_event_t) (written : List ℕ) (after later : Option (List ℕ)) → x ≡ y → d ≡ e
+both_wrote : (x y : Ending) (o u : Outcome) (d e : List yaml_event_t) (written : List ℕ)
+    (after later : Option (List ℕ)) → x ≡ y → d ≡ e
     → Wrote x o d (Some written) after → Wrote y u e (Some written) later → (o ≡ u) × (after ≡ later)
 both_wrote Ends Ends o u d e written after later i j g h
-    = (g.0 ∙ sym h.0, same_bytes written after later (concat (event_lines d)) (concat (event_lines e)) (ap (λ (l : List yaml_event_t). concat (event_lines l)) j) g.1 h.1)
+    = (
+      g.0 ∙ sym h.0,
+      same_bytes written after later (concat (event_lines d)) (concat (event_lines e))
+          (ap (λ (l : List yaml_event_t). concat (event_lines l)) j) g.1 h.1,
+    )
 both_wrote Ends (Fails f) o u d e written after later i j g h = absurd cc
 both_wrote (Fails f) Ends o u d e written after later i j g h = absurd cc
 both_wrote (Fails f) (Fails k) o u d e written after later i j g h = (
   g.0 ∙ sym h.0,
   same_bytes written after later (concat (event_lines d) ++ fault_text f) (concat (event_lines e) ++ fault_text k)
-      (ap (λ (l : List yaml_event_t). concat (event_lines l) ++ fault_text f) j ∙ ap (λ (z : Fault). concat (event_lines e) ++ fault_text z) (same_fault f k i))
+      (ap (λ (l : List yaml_event_t). concat (event_lines l) ++ fault_text f) j
+      ∙ ap (λ (z : Fault). concat (event_lines e) ++ fault_text z) (same_fault f k i))
       g.1 h.1,
 )
 
 pub one_writing_proof : {S W : Type 0} (gives : S → Answer → S → Type 0) (contents : W → Option (List ℕ))
-    → ((p : Parser S) → ForHistory p (λ (a : List yaml_token_t) (g : List yaml_event_t). EachWasNeeded [] a [] g)) → (old p q : Parser S) (first second : run_end_t)
+    → ((p : Parser S) → ForHistory p (λ (a : List yaml_token_t) (g : List yaml_event_t). EachWasNeeded [] a [] g))
+    → (old p q : Parser S) (first second : run_end_t)
     (written : List ℕ) (after later : Option (List ℕ)) (asked : List yaml_token_t) (given : List yaml_event_t)
-    → (a : LastCall gives contents first old p (Some written) after asked given) → (b : LastCall gives contents second old q (Some written) later asked given)
-    → OneBegins (results_of first a) (results_of second b) → OneOutput BreaksOffByNone BreaksOffByNone (outcome_of first) (outcome_of second) (Some written) after later
+    → (a : LastCall gives contents first old p (Some written) after asked given)
+    → (b : LastCall gives contents second old q (Some written) later asked given)
+    → OneBegins (results_of first a) (results_of second b)
+    → OneOutput BreaksOffByNone BreaksOffByNone (outcome_of first) (outcome_of second) (Some written) after later
 one_writing_proof {S} gives contents needed old p q first second written after later asked given a b one
-    = go (results_of first a) (results_of second b) one (came gives contents needed old (Some written) asked given p after first a)
+    = go (results_of first a) (results_of second b) one
+    (came gives contents needed old (Some written) asked given p after first a)
     (came gives contents needed old (Some written) asked given q later second b)
   where
-    go : (k l : List Answer) → OneBegins k l → Came gives contents needed old (Some written) asked given (outcome_of first) after k
-        → Came gives contents needed old (Some written) asked given (outcome_of second) later l → OneOutput BreaksOffByNone BreaksOffByNone (outcome_of first) (outcome_of second) (Some written) after later
+    go : (k l : List Answer) → OneBegins k l → Came gives contents needed old (Some written) asked given
+        (outcome_of first) after k
+        → Came gives contents needed old (Some written) asked given (outcome_of second) later l
+        → OneOutput BreaksOffByNone BreaksOffByNone (outcome_of first) (outcome_of second) (Some written) after
+        later
     go k l o (broke x) y = first_breaks x
     go k l o x (broke y) = second_breaks y
     go k l o (unknown e) y = output_failed (inl e)
     go k l o x (unknown e) = output_failed (inr e)
     go k l o (stopped m u d x e each then stop w) (stopped n v c y f other also halt z) =
-        let both = after_asked asked m n u v (subst (λ (i : List Answer). OneBegins i (answers n v)) e (subst (OneBegins k) f o)) in
+        let both = after_asked asked m n u v
+        (subst (λ (i : List Answer). OneBegins i (answers n v)) e (subst (OneBegins k) f o)) in
         let r = one_run_by_answers (given ++ d) (given ++ c) x y
         (record { asked = asked ++ m; last = u; needed = each; needed_last = then; stop = stop })
         (record { asked = asked ++ n; last = v; needed = other; needed_last = also; stop = halt }) both in
-        let s = both_wrote x y (outcome_of first) (outcome_of second) d c written after later r.2 (front_same given d c r.1) w z in
+        let s = both_wrote x y (outcome_of first) (outcome_of second) d c written after later r.2
+        (front_same given d c r.1) w z in
         alike s.0 s.1
 
 -- nothing was left to write
@@ -179,7 +221,8 @@ keeps_same : (written : List ℕ) (after : Option (List ℕ)) → Keeps (Some wr
 keeps_same written None h = absurd h
 keeps_same written (Some x) h = ap Some h
 
-pub nothing_left_proof : {S : Type 0} (old p q : Parser S) (first second : run_end_t) (written : List ℕ) (after later : Option (List ℕ))
+pub nothing_left_proof : {S : Type 0} (old p q : Parser S) (first second : run_end_t) (written : List ℕ)
+    (after later : Option (List ℕ))
     → NothingLeft first old p (Some written) after → NothingLeft second old q (Some written) later
     → OneOutput BreaksOffByNone BreaksOffByNone (outcome_of first) (outcome_of second) (Some written) after later
 nothing_left_proof old p q first second written after later a b = go a.ended b.ended
@@ -188,4 +231,5 @@ nothing_left_proof old p q first second written after later a b = go a.ended b.e
         → OneOutput BreaksOffByNone BreaksOffByNone (outcome_of first) (outcome_of second) (Some written) after later
     go (inr e) k = output_failed (inl (ap outcome_of e))
     go k (inr e) = output_failed (inr (ap outcome_of e))
-    go (inl e) (inl f) = alike (ap outcome_of (e ∙ sym f)) (keeps_same written after a.keeps ∙ sym (keeps_same written later b.keeps))
+    go (inl e) (inl f) = alike (ap outcome_of (e ∙ sym f))
+        (keeps_same written after a.keeps ∙ sym (keeps_same written later b.keeps))

@@ -1,5 +1,6 @@
 -- That reading a field of a line undoes writing it.
-use Rattle.std.proofs.Common.{◌≡◌, ◌<◌, ◌&&◌, ℕ, List, [], ◌∷◌, All, get_or, Bool, true, Some, None, ltb, refl, ap, ◌∙◌, if◌then◌else◌}
+use Rattle.std.proofs.Common.{◌≡◌, ◌<◌, ◌&&◌, ℕ, List, [], ◌∷◌, All, get_or, Bool, true, Some, None, ltb, refl, ap, ◌∙◌}
+use Rattle.std.proofs.Common.{if◌then◌else◌}
 use Rattle.std.specs.List.{flat_map, list_all}
 use Rattle.std.specs.Str.{is_utf8}
 use Rattle.std.proofs.lemmas.Bool.{agree_below, agree_below_at, ltb-true}
@@ -16,7 +17,8 @@ use Rattle.line_writing.specs.Escape.{escaped, written_byte}
 use Rattle.line_writing.specs.FieldTexts.{encoding_text, scalar_style_text, string_text}
 use Rattle.line_writing.proofs.lent.EscapeLemmas.{percent_decode-escaped}
 
-pub string_reads_back : (string : List ℕ) → All IsByte string → is_utf8 string ≡ true → text_of (string_text string) ≡ Some string
+pub string_reads_back : (string : List ℕ) → All IsByte string → is_utf8 string ≡ true
+    → text_of (string_text string) ≡ Some string
 string_reads_back string small utf8 =
     ap utf8_text (percent_decode-escaped string small) ∙ ap (λ b. if b then Some string else None) utf8
 
@@ -33,12 +35,14 @@ escaped_above [] small = refl
 escaped_above (b ∷ bs) small =
     list_all-append above_space (written_byte b) (flat_map written_byte bs)
     ∙ ap (λ t. t && list_all above_space (flat_map written_byte bs))
-    (agree_below_at (λ x. list_all above_space (written_byte x)) (λ x. true) 256 b written_above (All-head IsByte b bs small))
+    (agree_below_at (λ x. list_all above_space (written_byte x)) (λ x. true) 256 b written_above
+    (All-head IsByte b bs small))
     ∙ escaped_above bs (All-tail IsByte b bs small)
 
 pub string_is_field : (string : List ℕ) → All IsByte string → All (λ b. 0x20 < b) (string_text string)
 string_is_field string small k d within
-    = ltb-true 0x20 (get_or (string_text string) k d) (AllPass-from_list_all above_space (string_text string) (escaped_above string small) k d within)
+    = ltb-true 0x20 (get_or (string_text string) k d)
+    (AllPass-from_list_all above_space (string_text string) (escaped_above string small) k d within)
 
 pub encoding_reads_back : (encoding : yaml_encoding_t) → encoding_of (encoding_text encoding) ≡ Some encoding
 encoding_reads_back enc.YAML_ANY_ENCODING = refl

@@ -14,19 +14,22 @@ breaks_off : (n : ℕ) (f : Fault) → (f ≡ memory_fault) ⊎ BreaksOffAt n f 
 breaks_off n f (inl is) = inl is
 breaks_off n f (inr breaks) = breaks
 
-has : (n : ℕ) (end : run_end_t) (outcome : memory_outcome_t) (bytes : List ℕ) (lines : List (List ℕ)) (ending : Ending) → EndsAs end outcome
+has : (n : ℕ) (end : run_end_t) (outcome : memory_outcome_t) (bytes : List ℕ) (lines : List (List ℕ))
+    (ending : Ending) → EndsAs end outcome
     → Writes (BreaksOffAt n) end (Some []) (Some bytes) lines ending → Has outcome lines ending (bytes_of outcome bytes)
 has n end memory.OutOfMemory bytes lines ending e w = refl
 has n Ended memory.Ended bytes lines ending e w = w
 has n (Faulted f) memory.Faulted bytes lines ending e (whole is wrote) = (fault_of f, is, wrote)
-has n (Faulted f) memory.Faulted bytes lines ending e (broken_off start rest all why wrote) = absurd (e n (breaks_off n (fault_of f) why))
+has n (Faulted f) memory.Faulted bytes lines ending e (broken_off start rest all why wrote) =
+    absurd (e n (breaks_off n (fault_of f) why))
 has n Ended memory.Faulted bytes lines ending e w = absurd e
 has n (Faulted f) memory.Ended bytes lines ending e w = absurd e
 has n OutputFailed memory.Ended bytes lines ending e w = absurd e
 has n OutputFailed memory.Faulted bytes lines ending e w = absurd e
 
 -- the bytes of a run that began with nothing written, of which a slice has those that were written
-pub has_bytes : (n : ℕ) (end : run_end_t) (outcome : memory_outcome_t) (old written bytes : List ℕ) (lines : List (List ℕ)) (ending : Ending) → old ≡ []
+pub has_bytes : (n : ℕ) (end : run_end_t) (outcome : memory_outcome_t) (old written bytes : List ℕ)
+    (lines : List (List ℕ)) (ending : Ending) → old ≡ []
     → bytes ≡ written → EndsAs end outcome → Writes (BreaksOffAt n) end (Some old) (Some written) lines ending
     → Has outcome lines ending (bytes_of outcome bytes)
 has_bytes n end outcome old written bytes lines ending none same e w = has n end outcome bytes lines ending e

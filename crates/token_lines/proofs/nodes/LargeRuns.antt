@@ -14,9 +14,12 @@ use Rattle.libyaml_graphs.specs.loads.Loads.{Load}
 use Rattle.token_lines.specs.nodes.LastLoad.{AllLoaded}
 
 pub loaded_linear : {S : Type 0} (gives : S → Answer → S → Type 0) (n : ℕ)
-    → ((p : Parser S) → ForHistory p (λ (asked : List yaml_token_t) (given : List yaml_event_t). length given ≤ 4 * length asked))
-    → ((m : ℕ) (e : List yaml_event_t) (x : Ending) (ds : List Document) (l : List Load) → bounded_loads m e x ≡ map Ok ds ++ l → documents_size ds ≤ 2 * length e)
-    → (first p : Parser S) (before after : Option (List ℕ)) → (a : AllLoaded gives n first p before after [] []) → documents_size a.documents ≤ 8 * length a.more
+    → ((p : Parser S) → ForHistory p
+    (λ (asked : List yaml_token_t) (given : List yaml_event_t). length given ≤ 4 * length asked))
+    → ((m : ℕ) (e : List yaml_event_t) (x : Ending) (ds : List Document) (l : List Load)
+    → bounded_loads m e x ≡ map Ok ds ++ l → documents_size ds ≤ 2 * length e)
+    → (first p : Parser S) (before after : Option (List ℕ)) → (a : AllLoaded gives n first p before after [] [])
+    → documents_size a.documents ≤ 8 * length a.more
 loaded_linear gives n four law first p before after a =
     let h = law n a.events Ends a.documents (bounded_loads n [] Ends)
     (ap (λ (e : List yaml_event_t). bounded_loads n e Ends) (sym (append-nil a.events)) ∙ a.loads [] Ends) in

@@ -1,5 +1,6 @@
 -- What was written of the loads within a bound was written of the loads.
-use Rattle.std.proofs.Common.{◌≡◌, ◌++◌, ◌∷◌, ℕ, List, [], map, Option, Ok, Err, refl, sym, ap, ◌∙◌, subst, inl, append_assoc}
+use Rattle.std.proofs.Common.{◌≡◌, ◌++◌, ◌∷◌, ℕ, List, [], map, Option, Ok, Err, refl, sym, ap, ◌∙◌, subst, inl}
+use Rattle.std.proofs.Common.{append_assoc}
 use Rattle.std.proofs.lemmas.List.{append-nil}
 use Rattle.libyaml_documents.specs.Documents.{Document}
 use Rattle.libyaml_sources.specs.Fault.{Fault, fault_of, memory_fault}
@@ -13,7 +14,8 @@ use Rattle.token_lines.specs.nodes.NodeRun.{WritesLoads, load_lines, loads_endin
 
 lines_append : (a b : List Load) → loads_lines (a ++ b) ≡ loads_lines a ++ loads_lines b
 lines_append [] b = refl
-lines_append (z ∷ a) b = ap (λ (l : List (List ℕ)). load_lines z ++ l) (lines_append a b) ∙ sym (append_assoc (load_lines z) (loads_lines a) (loads_lines b))
+lines_append (z ∷ a) b = ap (λ (l : List (List ℕ)). load_lines z ++ l) (lines_append a b)
+    ∙ sym (append_assoc (load_lines z) (loads_lines a) (loads_lines b))
 
 ends_so : (ds : List Document) (f : Fault) → loads_ending (map Ok ds ++ Err f ∷ []) ≡ Fails f
 ends_so [] f = refl
@@ -36,13 +38,16 @@ writes_all MayBreak end old new b l (met ds rest i j) w = go end w
         let oks : List Load = map Ok ds in
         ap loads_lines j ∙ lines_append oks rest
         ∙ ap (λ (m : List (List ℕ)). m
-        ++ loads_lines rest) (sym (ap loads_lines i ∙ lines_append oks (Err memory_fault ∷ []) ∙ append-nil (loads_lines oks)))
+        ++ loads_lines rest) (sym (ap loads_lines i ∙ lines_append oks (Err memory_fault ∷ [])
+        ∙ append-nil (loads_lines oks)))
 
     fails : loads_ending b ≡ Fails memory_fault
     fails = ap loads_ending i ∙ ends_so ds memory_fault
 
-    fault : (f : Fault) → WritesFault MayBreak f old new (loads_lines b) (loads_ending b) → WritesFault MayBreak f old new (loads_lines l) (loads_ending l)
-    fault f (whole e wrote) = broken_off (loads_lines b) (loads_lines rest) lines (inl (fails_is f memory_fault (sym fails ∙ e))) wrote
+    fault : (f : Fault) → WritesFault MayBreak f old new (loads_lines b) (loads_ending b)
+        → WritesFault MayBreak f old new (loads_lines l) (loads_ending l)
+    fault f (whole e wrote) = broken_off (loads_lines b) (loads_lines rest) lines
+        (inl (fails_is f memory_fault (sym fails ∙ e))) wrote
     fault f (broken_off written later e why wrote)
         = broken_off written (later ++ loads_lines rest) (lines ∙ ap (λ (m : List (List ℕ)). m ++ loads_lines rest) e
         ∙ append_assoc written later (loads_lines rest)) why wrote

@@ -1,5 +1,6 @@
 -- How a run's steps write each document in its turn.
-use Rattle.std.proofs.Common.{◌≡◌, ◌≢◌, ◌⊎◌, ◌++◌, ◌∷◌, ◌==◌, ℕ, ℤ, List, [], All, length, map, Option, Some, None, Bool, true, false, Ok, Err, refl, sym, ap, ◌∙◌}
+use Rattle.std.proofs.Common.{◌≡◌, ◌≢◌, ◌⊎◌, ◌++◌, ◌∷◌, ◌==◌, ℕ, ℤ, List, [], All, length, map, Option, Some, None}
+use Rattle.std.proofs.Common.{Bool, true, false, Ok, Err, refl, sym, ap, ◌∙◌}
 use Rattle.std.proofs.Common.{subst, inl, inr, append_assoc}
 use Rattle.std.proofs.KnownBytes.{Appends-nil, Appends-trans}
 use Rattle.std.proofs.lemmas.Bool.{eqb-true}
@@ -44,7 +45,9 @@ has_some ns ms b is not same none = no (sym not ∙ is ∙ ap (λ (l : List yaml
     no h = cc
 
 pub has_none : (ns ms : List yaml_node_t) (b : Bool) → b ≡ (length ns == 0) → b ≡ true → ns ≡ ms → ms ≡ []
-has_none ns ms b is empty same = nil_from_length ms (eqb-true (length ms) 0 (sym (sym empty ∙ is ∙ ap (λ (l : List yaml_node_t). length l == 0) same)))
+has_none ns ms b is empty same =
+    nil_from_length ms (eqb-true (length ms) 0
+    (sym (sym empty ∙ is ∙ ap (λ (l : List yaml_node_t). length l == 0) same)))
 
 keeps_both : (a b c : Option (List ℕ)) → Keeps a b → Keeps b c → Keeps a c
 keeps_both None b c h k = tt
@@ -61,16 +64,25 @@ HasRoot d = d.nodes ≢ []
 
 roots_last : (ds : List Document) (d : Document) → All HasRoot ds → d.nodes ≢ [] → All HasRoot (ds ++ d ∷ [])
 roots_last [] d h k = All-cons HasRoot d [] k (All-nil HasRoot)
-roots_last (c ∷ ds) d h k = All-cons HasRoot c (ds ++ d ∷ []) (All-head HasRoot c ds h) (roots_last ds d (All-tail HasRoot c ds h) k)
+roots_last (c ∷ ds) d h k = All-cons HasRoot c (ds ++ d ∷ []) (All-head HasRoot c ds h)
+    (roots_last ds d (All-tail HasRoot c ds h) k)
 
-module _ {S : Type 0} (gives : S → Answer → S → Type 0) (known : S → Option Coming) (MayBreak : S → Fault → Type 0) (n : ℕ) where
+module _ {S : Type 0} (gives : S → Answer → S → Type 0) (known : S → Option Coming) (MayBreak : S → Fault → Type 0)
+    (n : ℕ) where
   pub turn_of : (s : RunStep) (p q : Parser S) (b c : Option (List ℕ)) (r a : DocumentOrError) → r ≡ a
       → LoadsFrom gives known MayBreak (next_bounded n) left_over p r q → StepForLoad s a (kept_fault q) b c
       → (s ≡ step.Ended → ForHistory p (λ _ _. HasEnded q)) → LoadTurn gives known MayBreak n s p q b c
   turn_of s p q b c r a is load wrote ends
-      = record { loaded = r; load = load; wrote = subst (λ (x : DocumentOrError). StepForLoad s x (kept_fault q) b c) (sym is) wrote; ends = ends }
+      = record {
+        loaded = r;
+        load = load;
+        wrote =
+            subst (λ (x : DocumentOrError). StepForLoad s x (kept_fault q) b c) (sym is) wrote;
+        ends = ends;
+      }
 
-  pub none_loaded : (p : Parser S) (x : Option (List ℕ)) (asked : List yaml_token_t) (given : List yaml_event_t) → History p asked given
+  pub none_loaded : (p : Parser S) (x : Option (List ℕ)) (asked : List yaml_token_t) (given : List yaml_event_t)
+      → History p asked given
       → AllLoaded gives n p p x x asked given
   none_loaded p x asked given h = record {
     more = [];
@@ -89,18 +101,22 @@ module _ {S : Type 0} (gives : S → Answer → S → Type 0) (known : S → Opt
   texts_more (e ∷ ds) d =
       ap (λ (l : List ℕ). l ++ concat (document_lines d)) (concat-append (document_lines e) (flat_map document_lines ds))
       ∙ append_assoc (concat (document_lines e)) (concat (flat_map document_lines ds)) (concat (document_lines d))
-      ∙ ap (λ (l : List ℕ). concat (document_lines e) ++ l) (texts_more ds d) ∙ sym (concat-append (document_lines e) (flat_map document_lines (ds ++ d ∷ [])))
+      ∙ ap (λ (l : List ℕ). concat (document_lines e) ++ l) (texts_more ds d)
+      ∙ sym (concat-append (document_lines e) (flat_map document_lines (ds ++ d ∷ [])))
 
   loads_more : (events taken rest : List yaml_event_t) (x : Ending) (ds : List Document) (d : Document) → d.nodes ≢ []
       → ((r : List yaml_event_t) → ◌≡◌ {A = List Load} (bounded_loads n (events ++ r) x) (map Ok ds ++ bounded_loads n r x))
       → next_bounded n (taken ++ rest) x ≡ Ok d → left_over (taken ++ rest) ≡ rest
-      → ◌≡◌ {A = List Load} (bounded_loads n ((events ++ taken) ++ rest) x) (map Ok (ds ++ d ∷ []) ++ bounded_loads n rest x)
+      → ◌≡◌ {A = List Load} (bounded_loads n ((events ++ taken) ++ rest) x)
+      (map Ok (ds ++ d ∷ []) ++ bounded_loads n rest x)
   loads_more events taken rest x ds d some before load left =
       let oks : List Load = map Ok ds in
       let one : List Load = Ok d ∷ [] in
       let all : List Load = bounded_loads n rest x in
       ap (λ (l : List yaml_event_t). bounded_loads n l x) (append_assoc events taken rest) ∙ before (taken ++ rest)
-      ∙ ap (λ (l : List Load). oks ++ l) (earlier_of (taken ++ rest) x n d load some ∙ ap (λ (l : List yaml_event_t). one ++ bounded_loads n l x) left)
+      ∙ ap (λ (l : List Load). oks ++ l)
+      (earlier_of (taken ++ rest) x n d load some ∙ ap (λ (l : List yaml_event_t). one ++ bounded_loads n l x)
+      left)
       ∙ sym (append_assoc oks one all)
       ∙ ap (λ (l : List Load). l ++ all) (sym (oks_more ds))
     where
@@ -108,15 +124,18 @@ module _ {S : Type 0} (gives : S → Answer → S → Type 0) (known : S → Opt
       oks_more [] = refl
       oks_more (e ∷ l) = ap (λ (m : List Load). Ok e ∷ m) (oks_more l)
 
-  pub one_loaded : NoFault S → (first p q : Parser S) (a b c : Option (List ℕ)) (asked : List yaml_token_t) (given : List yaml_event_t)
+  pub one_loaded : NoFault S → (first p q : Parser S) (a b c : Option (List ℕ)) (asked : List yaml_token_t)
+      (given : List yaml_event_t)
       → AllLoaded gives n first p a b asked given
-      → (has_failed p ≡ false → LoadTurn gives known MayBreak n step.Written p q b c) → AllLoaded gives n first q a c asked given
+      → (has_failed p ≡ false → LoadTurn gives known MayBreak n step.Written p q b c)
+      → AllLoaded gives n first q a c asked given
   one_loaded running first p q a b c asked given w turns = go turn.loaded turn.load turn.wrote
     where
       turn : LoadTurn gives known MayBreak n step.Written p q b c
       turn = turns (running p (asked ++ w.more) (given ++ w.events) w.history)
 
-      go : (r : DocumentOrError) → LoadsFrom gives known MayBreak (next_bounded n) left_over p r q → StepForLoad step.Written r (kept_fault q) b c
+      go : (r : DocumentOrError) → LoadsFrom gives known MayBreak (next_bounded n) left_over p r q
+          → StepForLoad step.Written r (kept_fault q) b c
           → AllLoaded gives n first q a c asked given
       go (Ok d) (whole taken took load left stands) (some, wrote) =
           let on = took.history (asked ++ w.more) (given ++ w.events) w.history in
@@ -126,17 +145,21 @@ module _ {S : Type 0} (gives : S → Answer → S → Type 0) (known : S → Opt
             documents = w.documents ++ d ∷ [];
             gave = gave_both gives w.more on.more first.source p.source q.source w.gave on.gave;
             history = history_more q asked w.more on.more given w.events taken on.history;
-            loads = λ (rest : List yaml_event_t) (x : Ending). loads_more w.events taken rest x w.documents d some (λ (r : List yaml_event_t). w.loads r x)
+            loads = λ (rest : List yaml_event_t) (x : Ending). loads_more w.events taken rest x w.documents d some
+                (λ (r : List yaml_event_t). w.loads r x)
                 (load rest x) (left rest);
             roots = roots_last w.documents d w.roots some;
             wrote = subst (Appends a c) (texts_more w.documents d)
-                (Appends-trans a b c (concat (flat_map document_lines w.documents)) (concat (document_lines d)) w.wrote wrote);
+                (Appends-trans a b c (concat (flat_map document_lines w.documents)) (concat (document_lines d))
+                w.wrote wrote);
           }
-      go (Ok d) (at_end taken took load left ends is stands) (some, wrote) = absurd (some (ap (λ (x : Document). x.nodes) is))
+      go (Ok d) (at_end taken took load left ends is stands) (some, wrote) =
+          absurd (some (ap (λ (x : Document). x.nodes) is))
       go (Err x) load wrote = absurd wrote
 
 -- nothing more was written
-pub loads_end : (end : run_end_t) (kept : Fault) (b c d : Option (List ℕ)) → (end ≡ Ended) ⊎ (end ≡ OutputFailed) → Keeps c d → (r : DocumentOrError)
+pub loads_end : (end : run_end_t) (kept : Fault) (b c d : Option (List ℕ)) → (end ≡ Ended) ⊎ (end ≡ OutputFailed)
+    → Keeps c d → (r : DocumentOrError)
     → StepForLoad step.Ended r kept b c → WroteForLoad end r kept b d
 loads_end Ended kept b c d is keeps (Ok x) w = (w.0, keeps_both b c d w.1 keeps)
 loads_end (Faulted f) kept b c d (inl is) keeps (Ok x) w = cc
@@ -145,7 +168,8 @@ loads_end OutputFailed kept b c d is keeps (Ok x) w = tt
 loads_end end kept b c d is keeps (Err x) w = absurd w
 
 -- the text of a fault was written
-pub loads_failed : (end : run_end_t) (f : yaml_parser_t_prefix) (kept : Fault) (b c d : Option (List ℕ)) → WroteFault end (fault_of f) c d
+pub loads_failed : (end : run_end_t) (f : yaml_parser_t_prefix) (kept : Fault) (b c d : Option (List ℕ))
+    → WroteFault end (fault_of f) c d
     → (r : DocumentOrError) → StepForLoad (step.Failed f) r kept b c → WroteForLoad end r kept b d
 loads_failed Ended f kept b c d wrote r w = absurd wrote
 loads_failed (Faulted told) f kept b c d wrote (Ok x) w =
@@ -179,14 +203,19 @@ module _ {S : Type 0} (gives : S → Answer → S → Type 0) (known : S → Opt
       → LoadTurn gives known MayBreak (magnitude w) s p q b c
   turn_at turns running = subst (λ (y : ℤ). LoadTurn gives known MayBreak (magnitude y) s p q b c) same (turns running)
 
-pub last_load_at : {S W : Type 0} → NoFault S → (gives : S → Answer → S → Type 0) (known : S → Option Coming) (MayBreak : S → Fault → Type 0) (contents : W
-    → Option (List ℕ)) (end : run_end_t) (s : RunStep) (first p q : Parser S) (writer : W) (a c d : Option (List ℕ)) (asked : List yaml_token_t)
+pub last_load_at : {S W : Type 0} → NoFault S → (gives : S → Answer → S → Type 0) (known : S → Option Coming)
+    (MayBreak : S → Fault → Type 0) (contents : W
+    → Option (List ℕ)) (end : run_end_t) (s : RunStep) (first p q : Parser S) (writer : W) (a c d : Option (List ℕ))
+    (asked : List yaml_token_t)
     (given : List yaml_event_t) → p.max_entries ≡ first.max_entries
     → AllLoaded gives (magnitude first.max_entries) first p a (contents writer) asked given
     → (has_failed p ≡ false → LoadTurn gives known MayBreak (magnitude p.max_entries) s p q (contents writer) c)
-    → ((r : DocumentOrError) → StepForLoad s r (kept_fault q) (contents writer) c → WroteForLoad end r (kept_fault q) (contents writer) d)
-    → (end ≡ Ended → s ≡ step.Ended) → LastLoad gives known MayBreak contents (magnitude first.max_entries) end first q a d asked given
-last_load_at running gives known MayBreak contents end s first p q writer a c d asked given bound earlier turns wrote ended =
+    → ((r : DocumentOrError) → StepForLoad s r (kept_fault q) (contents writer) c
+    → WroteForLoad end r (kept_fault q) (contents writer) d)
+    → (end ≡ Ended → s ≡ step.Ended)
+    → LastLoad gives known MayBreak contents (magnitude first.max_entries) end first q a d asked given
+last_load_at running gives known MayBreak contents end s first p q writer a c d asked given bound earlier turns
+    wrote ended =
     let failed = running p (asked ++ earlier.more) (given ++ earlier.events) earlier.history in
     let turn = turn_at gives known MayBreak s p q
     (contents writer) c p.max_entries first.max_entries bound turns failed in

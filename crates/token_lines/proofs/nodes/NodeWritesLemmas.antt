@@ -1,5 +1,6 @@
 -- What a run over documents wrote, by its loads in their turn.
-use Rattle.std.proofs.Common.{◌≡◌, ◌≢◌, ◌⊎◌, ◌++◌, ◌∷◌, ℕ, List, [], All, map, Option, Ok, Err, refl, sym, ap, ◌∙◌, subst, inl, inr, append_assoc}
+use Rattle.std.proofs.Common.{◌≡◌, ◌≢◌, ◌⊎◌, ◌++◌, ◌∷◌, ℕ, List, [], All, map, Option, Ok, Err, refl, sym, ap, ◌∙◌}
+use Rattle.std.proofs.Common.{subst, inl, inr, append_assoc}
 use Rattle.std.proofs.KnownBytes.{Appends-kept, Appends-trans}
 use Rattle.std.proofs.lemmas.List.{append-nil}
 use Rattle.std.proofs.lemmas.List.Elements.{All-head, All-tail}
@@ -46,11 +47,14 @@ lines_without_nodes [] lines h = refl
 lines_without_nodes (n ∷ ns) lines h = absurd cc
 
 -- the lines of loads whose first is this document
-first_lines : (loads later : List Load) (d : Document) → loads ≡ Ok d ∷ later → d.nodes ≢ [] → loads_lines loads ≡ document_lines d ++ loads_lines later
-first_lines loads later d is some = ap loads_lines is ∙ ap (λ (l : List (List ℕ)). l ++ loads_lines later) (lines_with_nodes d.nodes (document_lines d) some)
+first_lines : (loads later : List Load) (d : Document) → loads ≡ Ok d ∷ later → d.nodes ≢ []
+    → loads_lines loads ≡ document_lines d ++ loads_lines later
+first_lines loads later d is some = ap loads_lines is ∙ ap (λ (l : List (List ℕ)). l ++ loads_lines later)
+    (lines_with_nodes d.nodes (document_lines d) some)
 
 no_lines : (loads : List Load) (d : Document) → loads ≡ Ok d ∷ [] → d.nodes ≡ [] → loads_lines loads ≡ []
-no_lines loads d is none = ap loads_lines is ∙ append-nil (lines_with d.nodes (document_lines d)) ∙ lines_without_nodes d.nodes (document_lines d) none
+no_lines loads d is none = ap loads_lines is ∙ append-nil (lines_with d.nodes (document_lines d))
+    ∙ lines_without_nodes d.nodes (document_lines d) none
 
 abbrev HasRoot : Document → Type 0
 HasRoot d = d.nodes ≢ []
@@ -69,11 +73,16 @@ ending_of [] l = refl
 ending_of (d ∷ ds) l = ending_of ds l
 
 module _ {S W : Type 0} (gives : S → Answer → S → Type 0) (known : S → Option Coming) (MayBreak : S → Fault → Type 0)
-    (further : (p q : Parser S) (more : List yaml_token_t) (events to_come : List yaml_event_t) (ending : Ending) (r : RunToCome known p to_come ending)
-    → Gave gives p.source (answers more []) q.source → History q (r.asked ++ more) (r.given ++ events) → RestOfRun known q events to_come ending)
-    (load_of_run : (n : ℕ) (p q : Parser S) (r : DocumentOrError) (events : List yaml_event_t) (ending : Ending) → RunToCome known p events ending
-    → LoadsFrom gives known MayBreak (next_bounded n) left_over p r q → LoadOfRun known MayBreak (next_bounded n) left_over r q events ending)
-    (contents : W → Option (List ℕ)) (n : ℕ) (first last : Parser S) (before after : Option (List ℕ)) (events : List yaml_event_t) (ending : Ending)
+    (further : (p q : Parser S) (more : List yaml_token_t) (events to_come : List yaml_event_t) (ending : Ending)
+    (r : RunToCome known p to_come ending)
+    → Gave gives p.source (answers more []) q.source → History q (r.asked ++ more) (r.given ++ events)
+    → RestOfRun known q events to_come ending)
+    (load_of_run : (n : ℕ) (p q : Parser S) (r : DocumentOrError) (events : List yaml_event_t) (ending : Ending)
+    → RunToCome known p events ending
+    → LoadsFrom gives known MayBreak (next_bounded n) left_over p r q
+    → LoadOfRun known MayBreak (next_bounded n) left_over r q events ending)
+    (contents : W → Option (List ℕ)) (n : ℕ) (first last : Parser S) (before after : Option (List ℕ))
+    (events : List yaml_event_t) (ending : Ending)
     (run : RunToCome known first events ending) (result : run_end_t)
     (l : LastLoad gives known MayBreak contents n result first last before after run.asked run.given) where
   rest : RestOfRun known l.parser l.earlier.events events ending
@@ -97,7 +106,8 @@ module _ {S W : Type 0} (gives : S → Answer → S → Type 0) (known : S → O
   ends : loads_ending loads ≡ loads_ending later
   ends = ap loads_ending all ∙ ending_of l.earlier.documents later
 
-  wrote_then : (ls : List (List ℕ)) (bs : List ℕ) → Appends (contents l.writer) after (concat ls ++ bs) → Appends before after (concat (earlier ++ ls) ++ bs)
+  wrote_then : (ls : List (List ℕ)) (bs : List ℕ) → Appends (contents l.writer) after (concat ls ++ bs)
+      → Appends before after (concat (earlier ++ ls) ++ bs)
   wrote_then ls bs h = subst (Appends before after)
       (sym (append_assoc (concat earlier) (concat ls) bs) ∙ ap (λ (x : List ℕ). x ++ bs) (sym (concat-append earlier ls)))
       (Appends-trans before (contents l.writer) after (concat earlier) (concat ls ++ bs) l.earlier.wrote h)
@@ -105,28 +115,36 @@ module _ {S W : Type 0} (gives : S → Answer → S → Type 0) (known : S → O
   abbrev Told : Fault → Type 0
   Told f = WritesFault (MayBreak last.source) f before after (loads_lines loads) (loads_ending loads)
 
-  cut : (f : Fault) → (f ≡ memory_fault) ⊎ MayBreak last.source f → (ls more : List (List ℕ)) → loads_lines later ≡ ls ++ more
+  cut : (f : Fault) → (f ≡ memory_fault) ⊎ MayBreak last.source f → (ls more : List (List ℕ))
+      → loads_lines later ≡ ls ++ more
       → Appends (contents l.writer) after (concat ls ++ fault_text f) → Told f
   cut f why ls more is wrote = broken_off (earlier ++ ls) more
-      (lines ∙ ap (λ (x : List (List ℕ)). earlier ++ x) is ∙ sym (append_assoc earlier ls more)) why (wrote_then ls (fault_text f) wrote)
+      (lines ∙ ap (λ (x : List (List ℕ)). earlier ++ x) is ∙ sym (append_assoc earlier ls more)) why
+      (wrote_then ls (fault_text f) wrote)
 
   follow : RootsFollow rest.later
   follow =
       let r = rest.run in
-      roots_behind r.given rest.later (roots_follow (r.given ++ rest.later) (run_nests_so_far (r.asked ++ r.rest) r.fault (r.given ++ rest.later) ending r.run))
+      roots_behind r.given rest.later
+      (roots_follow (r.given ++ rest.later)
+      (run_nests_so_far (r.asked ++ r.rest) r.fault (r.given ++ rest.later) ending r.run))
 
-  go : (end : run_end_t) (r : DocumentOrError) → LoadOfRun known MayBreak (next_bounded n) left_over r last rest.later ending
-      → WroteForLoad end r (kept_fault last) (contents l.writer) after → WritesLoads (MayBreak last.source) end before after loads
+  go : (end : run_end_t) (r : DocumentOrError)
+      → LoadOfRun known MayBreak (next_bounded n) left_over r last rest.later ending
+      → WroteForLoad end r (kept_fault last) (contents l.writer) after
+      → WritesLoads (MayBreak last.source) end before after loads
   go Ended (Ok d) load wrote =
       let only = last_of rest.later ending n d follow load.0 wrote.0 in
-      let none = lines ∙ ap (λ (x : List (List ℕ)). earlier ++ x) (no_lines later d only.0 wrote.0) ∙ append-nil earlier in (
+      let none = lines ∙ ap (λ (x : List (List ℕ)). earlier ++ x) (no_lines later d only.0 wrote.0)
+      ∙ append-nil earlier in (
         ends ∙ ap loads_ending only.0,
         subst (λ (x : List (List ℕ)). Appends before after (concat x)) (sym none)
             (Appends-kept before (contents l.writer) after (concat earlier) l.earlier.wrote wrote.1),
       )
   go (Faulted f) (Ok d) load (memory, some, text) =
       let more = loads_lines (bounded_loads n (left_over rest.later) ending) in
-      let is = first_lines later (bounded_loads n (left_over rest.later) ending) d (earlier_of rest.later ending n d load.0 some) some
+      let is = first_lines later (bounded_loads n (left_over rest.later) ending) d
+      (earlier_of rest.later ending n d load.0 some) some
       ∙ ap (λ (x : List (List ℕ)). x ++ more) text.all ∙ append_assoc text.written (text.line ∷ text.rest) more in
       subst Told (sym memory) (cut memory_fault (inl refl) text.written ((text.line ∷ text.rest) ++ more) is text.wrote)
   go OutputFailed (Ok d) load wrote = tt
@@ -137,7 +155,8 @@ module _ {S W : Type 0} (gives : S → Answer → S → Type 0) (known : S → O
       subst Told (sym wrote.0) (whole (ends ∙ ap loads_ending only)
       (subst (λ (x : List (List ℕ)). Appends before after (concat x ++ fault_text (kept_fault last))) (sym none)
       (wrote_then [] (fault_text (kept_fault last)) wrote.1)))
-  go (Faulted f) (Err x) (inr why) wrote = subst Told (sym wrote.0) (cut (kept_fault last) why [] (loads_lines later) refl wrote.1)
+  go (Faulted f) (Err x) (inr why) wrote =
+      subst Told (sym wrote.0) (cut (kept_fault last) why [] (loads_lines later) refl wrote.1)
   go OutputFailed (Err x) load wrote = tt
 
   pub writes_loads_so : WritesLoads (MayBreak last.source) result before after loads

@@ -1,5 +1,6 @@
 -- Two outcomes of one `write_nodes` over any source wrote the same.
-use Rattle.std.proofs.Common.{◌≡◌, ◌⊎◌, inl, inr, ℕ, List, [], ◌∷◌, ◌++◌, map, Option, None, Some, Ok, Err, false, refl, sym, ap, ◌∙◌, subst, append_assoc}
+use Rattle.std.proofs.Common.{◌≡◌, ◌⊎◌, inl, inr, ℕ, List, [], ◌∷◌, ◌++◌, map, Option, None, Some, Ok, Err, false, refl}
+use Rattle.std.proofs.Common.{sym, ap, ◌∙◌, subst, append_assoc}
 use Rattle.std.proofs.KnownBytes.{Appends-kept, Appends-trans}
 use Rattle.std.proofs.lemmas.List.{append-nil}
 use Rattle.std.specs.List.{concat, flat_map}
@@ -14,7 +15,8 @@ use Rattle.libyaml_events.specs.sources.History.{ForHistory, History, answers, k
 use Rattle.libyaml_events.specs.sources.Needs.{EachNeeded, EachWasNeeded}
 use Rattle.libyaml_events.specs.sources.Parsing.{Cause, FailsBy, IsWhole, of_grammar, of_memory, of_source}
 use Rattle.libyaml_events.proofs.lent.OneOutcome.{front_same}
-use Rattle.libyaml_events.proofs.lent.RunStops.{RunStop, answers_both, begins_stopped, ended_stop, grammar_stop, one_run_by_answers, source_stop, taken_comparable}
+use Rattle.libyaml_events.proofs.lent.RunStops.{RunStop, answers_both, begins_stopped, ended_stop, grammar_stop}
+use Rattle.libyaml_events.proofs.lent.RunStops.{one_run_by_answers, source_stop, taken_comparable}
 use Rattle.libyaml_grammar.specs.cuts.Settled.{Begins}
 use Rattle.libyaml_grammar.specs.runs.Runs.{Ending, Ends, Fails}
 use Rattle.libyaml_grammar.specs.sentences.Nesting.{NestsSoFar}
@@ -76,9 +78,11 @@ last_same (Fails f) (Fails g) e = ap Fails (go e)
 -- what was written of documents and an ending
 abbrev Wrote : Ending → Outcome → List Document → (before after : Option (List ℕ)) → Type 0
 Wrote Ends o docs before after = (o ≡ outcome.Ended) × Appends before after (concat (flat_map document_lines docs))
-Wrote (Fails f) o docs before after = (o ≡ outcome.Faulted) × Appends before after (concat (flat_map document_lines docs) ++ fault_text f)
+Wrote (Fails f) o docs before after = (o ≡ outcome.Faulted)
+    × Appends before after (concat (flat_map document_lines docs) ++ fault_text f)
 
-both_wrote : (x y : Ending) (o u : Outcome) (d e : List Document) (written : List ℕ) (after later : Option (List ℕ)) → x ≡ y → d ≡ e
+both_wrote : (x y : Ending) (o u : Outcome) (d e : List Document) (written : List ℕ) (after later : Option (List ℕ))
+    → x ≡ y → d ≡ e
     → Wrote x o d (Some written) after → Wrote y u e (Some written) later → (o ≡ u) × (after ≡ later)
 both_wrote Ends Ends o u d e written after later i j g h = (
   g.0 ∙ sym h.0,
@@ -89,7 +93,8 @@ both_wrote Ends (Fails f) o u d e written after later i j g h = absurd cc
 both_wrote (Fails f) Ends o u d e written after later i j g h = absurd cc
 both_wrote (Fails f) (Fails k) o u d e written after later i j g h = (
   g.0 ∙ sym h.0,
-  same_bytes written after later (concat (flat_map document_lines d) ++ fault_text f) (concat (flat_map document_lines e) ++ fault_text k)
+  same_bytes written after later (concat (flat_map document_lines d) ++ fault_text f)
+      (concat (flat_map document_lines e) ++ fault_text k)
       (ap (λ (l : List Document). concat (flat_map document_lines l) ++ fault_text f) j
       ∙ ap (λ (z : Fault). concat (flat_map document_lines e) ++ fault_text z) (same_fault f k i)) g.1 h.1,
 )
@@ -105,17 +110,25 @@ turned : (a b : List Answer) → OneBegins a b → OneBegins b a
 turned a b (inl h) = inr h
 turned a b (inr h) = inl h
 
-module _ {S W : Type 0} (gives : S → Answer → S → Type 0) (known : S → Option Coming) (may_break : S → Fault → Type 0) (contents : W → Option (List ℕ)) (n : ℕ)
+module _ {S W : Type 0} (gives : S → Answer → S → Type 0) (known : S → Option Coming)
+    (may_break : S → Fault → Type 0) (contents : W → Option (List ℕ)) (n : ℕ)
     (needed : (p : Parser S) → ForHistory p (λ (a : List yaml_token_t) (g : List yaml_event_t). EachWasNeeded [] a [] g))
-    (begins : (p : Parser S) → ForHistory p BeginsEachRun) (nests : (p : Parser S) → ForHistory p (λ (_ : List yaml_token_t) (g : List yaml_event_t). NestsSoFar g))
+    (begins : (p : Parser S) → ForHistory p BeginsEachRun)
+    (nests : (p : Parser S) → ForHistory p (λ (_ : List yaml_token_t) (g : List yaml_event_t). NestsSoFar g))
     (old : Parser S) (before : Option (List ℕ)) (asked : List yaml_token_t) (given : List yaml_event_t) where
-  -- how an outcome came: the parser stopped, or the last event has a composer error; or memory ran out, or the output failed
+  -- how an outcome came: the parser stopped, or the last event has a composer error; or memory ran out, or the
+  -- output failed
   data Came (o : Outcome) (after : Option (List ℕ)) (a : List Answer) : Type 0 where
-    stopped : (m : List yaml_token_t) (u : List Answer) (e : List yaml_event_t) (d : List Document) (x : Ending) → a ≡ answers m u
-        → EachWasNeeded [] (asked ++ m) [] (given ++ e) → EachNeeded (asked ++ m) u (given ++ e) → RunStop (answers (asked ++ m) u) (given ++ e) x
+    stopped : (m : List yaml_token_t) (u : List Answer) (e : List yaml_event_t) (d : List Document) (x : Ending)
+        → a ≡ answers m u
+        → EachWasNeeded [] (asked ++ m) [] (given ++ e) → EachNeeded (asked ++ m) u (given ++ e)
+        → RunStop (answers (asked ++ m) u) (given ++ e) x
         → bounded_loads n e x ≡ map Ok d ++ last_load x ∷ [] → Wrote x o d before after → Came o after a
-    composer : (m : List yaml_token_t) (e : List yaml_event_t) (d : List Document) (f : Fault) → a ≡ answers m [] → EachWasNeeded [] (asked ++ m) [] (given ++ e)
-        → BeginsEachRun (asked ++ m) (given ++ e) → ((rest : List yaml_event_t) (x : Ending) → bounded_loads n (e ++ rest) x ≡ map Ok d ++ last_load (Fails f) ∷ [])
+    composer : (m : List yaml_token_t) (e : List yaml_event_t) (d : List Document) (f : Fault) → a ≡ answers m []
+        → EachWasNeeded [] (asked ++ m) [] (given ++ e)
+        → BeginsEachRun (asked ++ m) (given ++ e)
+        → ((rest : List yaml_event_t) (x : Ending) → bounded_loads n (e ++ rest) x ≡ map Ok d
+        ++ last_load (Fails f) ∷ [])
         → Wrote (Fails f) o d before after → Came o after a
     broke : BrokeOff BreaksOffByNone o before after → Came o after a
     unknown : o ≡ outcome.OutputFailed → Came o after a
@@ -129,32 +142,41 @@ module _ {S W : Type 0} (gives : S → Answer → S → Type 0) (known : S → O
         → (c : CarriedOn gives o.parser p (asked ++ o.earlier.more) (given ++ o.earlier.events) taken)
         → History p (asked ++ (o.earlier.more ++ c.more)) (given ++ (o.earlier.events ++ taken))
     further end o p taken c =
-        subst (λ (l : List yaml_token_t). History p l (given ++ (o.earlier.events ++ taken))) (append_assoc asked o.earlier.more c.more)
+        subst (λ (l : List yaml_token_t). History p l (given ++ (o.earlier.events ++ taken)))
+        (append_assoc asked o.earlier.more c.more)
         (subst (History p ((asked ++ o.earlier.more) ++ c.more)) (append_assoc given o.earlier.events taken) c.history)
 
-    all_loads : (end : run_end_t) (o : Of end) (taken : List yaml_event_t) (x : Ending) (z : Load) → bounded_loads n taken x ≡ z ∷ []
+    all_loads : (end : run_end_t) (o : Of end) (taken : List yaml_event_t) (x : Ending) (z : Load)
+        → bounded_loads n taken x ≡ z ∷ []
         → bounded_loads n (o.earlier.events ++ taken) x ≡ map Ok o.earlier.documents ++ z ∷ []
     all_loads end o taken x z e = o.earlier.loads taken x ∙ ap (λ (l : List Load). map Ok o.earlier.documents ++ l) e
 
     roots : (end : run_end_t) (o : Of end) (p : Parser S) (taken : List yaml_event_t)
         → (c : CarriedOn gives o.parser p (asked ++ o.earlier.more) (given ++ o.earlier.events) taken) → RootsFollow taken
     roots end o p taken c = roots_behind (given ++ o.earlier.events) taken
-        (roots_follow ((given ++ o.earlier.events) ++ taken) (nests p ((asked ++ o.earlier.more) ++ c.more) ((given ++ o.earlier.events) ++ taken) c.history))
+        (roots_follow ((given ++ o.earlier.events) ++ taken)
+        (nests p ((asked ++ o.earlier.more) ++ c.more) ((given ++ o.earlier.events) ++ taken) c.history))
 
     abbrev text : (end : run_end_t) → Of end → List ℕ
     text end o = concat (flat_map document_lines o.earlier.documents)
 
-    faulted : (told : yaml_parser_t_prefix) (o : Of (Faulted told)) (f : Fault) → Appends (contents o.writer) after (fault_text f) → Appends before after (text (Faulted told) o ++ fault_text f)
-    faulted told o f w = Appends-trans before (contents o.writer) after (text (Faulted told) o) (fault_text f) o.earlier.wrote w
+    faulted : (told : yaml_parser_t_prefix) (o : Of (Faulted told)) (f : Fault)
+        → Appends (contents o.writer) after (fault_text f)
+        → Appends before after (text (Faulted told) o ++ fault_text f)
+    faulted told o f w = Appends-trans before (contents o.writer) after (text (Faulted told) o)
+        (fault_text f) o.earlier.wrote w
 
-    cut : (told : yaml_parser_t_prefix) (o : Of (Faulted told)) (d : Document) → CutText (contents o.writer) after (document_lines d) → BrokeOff BreaksOffByNone outcome.Faulted before after
+    cut : (told : yaml_parser_t_prefix) (o : Of (Faulted told)) (d : Document)
+        → CutText (contents o.writer) after (document_lines d) → BrokeOff BreaksOffByNone outcome.Faulted before after
     cut told o d c = record {
       faulted = refl;
       fault = memory_fault;
       cause = inl refl;
       written = text (Faulted told) o ++ concat c.written;
-      wrote = subst (Appends before after) (sym (append_assoc (text (Faulted told) o) (concat c.written) (fault_text memory_fault)))
-          (Appends-trans before (contents o.writer) after (text (Faulted told) o) (concat c.written ++ fault_text memory_fault) o.earlier.wrote c.wrote);
+      wrote = subst (Appends before after)
+          (sym (append_assoc (text (Faulted told) o) (concat c.written) (fault_text memory_fault)))
+          (Appends-trans before (contents o.writer) after (text (Faulted told) o)
+          (concat c.written ++ fault_text memory_fault) o.earlier.wrote c.wrote);
     }
 
     abbrev asked_there : (end : run_end_t) → Of end → List yaml_token_t
@@ -168,40 +190,52 @@ module _ {S W : Type 0} (gives : S → Answer → S → Type 0) (known : S → O
 
     abbrev results : (end : run_end_t) (o : Of end) (r : DocumentOrError) → FromHere end o r → List Answer
     results end o r l = answers o.earlier.more
-        (results_in gives known may_break (next_bounded n) left_over o.parser last (asked_there end o) (given_there end o) o.earlier.history r l)
+        (results_in gives known may_break (next_bounded n) left_over o.parser last (asked_there end o)
+        (given_there end o) o.earlier.history r l)
 
     -- the same of lists that were put together the other way round
-    moved : (P : List yaml_token_t → List yaml_event_t → Type 0) (a b : List yaml_token_t) (d e : List yaml_event_t) → P ((asked ++ a) ++ b) ((given ++ d) ++ e)
+    moved : (P : List yaml_token_t → List yaml_event_t → Type 0) (a b : List yaml_token_t) (d e : List yaml_event_t)
+        → P ((asked ++ a) ++ b) ((given ++ d) ++ e)
         → P (asked ++ (a ++ b)) (given ++ (d ++ e))
     moved P a b d e h = subst (λ (l : List yaml_token_t). P l (given ++ (d ++ e))) (append_assoc asked a b)
         (subst (P ((asked ++ a) ++ b)) (append_assoc given d e) h)
 
     -- the parser has ended
-    ended : (o : Of Ended) (r : DocumentOrError) (l : FromHere Ended o r) → WroteForLoad Ended r (kept_fault last) (contents o.writer) after
+    ended : (o : Of Ended) (r : DocumentOrError) (l : FromHere Ended o r)
+        → WroteForLoad Ended r (kept_fault last) (contents o.writer) after
         → Came outcome.Ended after (results Ended o r l)
     ended o (Err x) l w = absurd w
     ended o (Ok d) (whole taken took load leaves stands) w =
         let c = took.history (asked_there Ended o) (given_there Ended o) o.earlier.history in
         let here : next_bounded n taken (Fails no_fault) ≡ Ok d =
-        ap (λ (l : List yaml_event_t). next_bounded n l (Fails no_fault)) (sym (append-nil taken)) ∙ load [] (Fails no_fault) in
+        ap (λ (l : List yaml_event_t). next_bounded n l (Fails no_fault)) (sym (append-nil taken))
+        ∙ load [] (Fails no_fault) in
         absurd (ok_no_err d no_fault (last_of taken (Fails no_fault) n d (roots Ended o last taken c) here w.0).1)
     ended o (Ok d) (at_end taken took load leaves runs is over) w =
         let c = took.history (asked_there Ended o) (given_there Ended o) o.earlier.history in
         let history = further Ended o last taken c in
         let asked_all = asked ++ (o.earlier.more ++ c.more) in
         let given_all = given ++ (o.earlier.events ++ taken) in
-        let is_whole : IsWhole asked_all given_all = (over (asked_there Ended o) (given_there Ended o) o.earlier.history).whole asked_all given_all history in
-        stopped (o.earlier.more ++ c.more) [] (o.earlier.events ++ taken) o.earlier.documents Ends (answers_both o.earlier.more c.more [])
-        (needed last asked_all given_all history) (nothing_needed asked_all given_all) (ended_stop asked_all [] given_all (nothing_needed asked_all given_all) is_whole)
-        (all_loads Ended o taken Ends (last_load Ends) (last_of taken Ends n (empty_document None [] false false) (roots Ended o last taken c) (load Ends) refl).0)
+        let is_whole : IsWhole asked_all given_all =
+        (over (asked_there Ended o) (given_there Ended o) o.earlier.history).whole asked_all given_all history
+        in
+        stopped (o.earlier.more ++ c.more) [] (o.earlier.events ++ taken) o.earlier.documents Ends
+        (answers_both o.earlier.more c.more [])
+        (needed last asked_all given_all history) (nothing_needed asked_all given_all)
+        (ended_stop asked_all [] given_all (nothing_needed asked_all given_all) is_whole)
+        (all_loads Ended o taken Ends (last_load Ends)
+        (last_of taken Ends n (empty_document None [] false false) (roots Ended o last taken c)
+        (load Ends) refl).0)
         (refl, Appends-kept before (contents o.writer) after (text Ended o) o.earlier.wrote w.1)
 
     -- it failed
     by_cause : (told : yaml_parser_t_prefix) (o : Of (Faulted told)) (parser : Parser S) (taken : List yaml_event_t)
-        → (c : CarriedOn gives o.parser parser (asked_there (Faulted told) o) (given_there (Faulted told) o) taken) → (load : (x : Ending) → next_bounded n taken x ≡ last_load x)
+        → (c : CarriedOn gives o.parser parser (asked_there (Faulted told) o) (given_there (Faulted told) o) taken)
+        → (load : (x : Ending) → next_bounded n taken x ≡ last_load x)
         → Appends (contents o.writer) after (fault_text (kept_fault last))
         → (h : FailsBy gives parser last (asked_there (Faulted told) o ++ c.more) (given_there (Faulted told) o ++ taken))
-        → Cause parser.config (asked_there (Faulted told) o ++ c.more) (given_there (Faulted told) o ++ taken) h.more (kept_fault last)
+        → Cause parser.config (asked_there (Faulted told) o ++ c.more) (given_there (Faulted told) o ++ taken)
+        h.more (kept_fault last)
         → Came outcome.Faulted after (answers o.earlier.more (answers c.more h.more))
     by_cause told o parser taken c load w h (of_memory l e take meets f) = broke (record {
       faulted = refl;
@@ -211,23 +245,38 @@ module _ {S W : Type 0} (gives : S → Answer → S → Type 0) (known : S → O
       wrote = faulted told o (kept_fault last) w;
     })
     by_cause told o parser taken c load w h (of_grammar l e f)
-        = stopped (o.earlier.more ++ c.more) h.more (o.earlier.events ++ taken) o.earlier.documents (Fails (kept_fault last))
-        (answers_both o.earlier.more c.more h.more) (needed parser (asked ++ (o.earlier.more ++ c.more)) (given ++ (o.earlier.events ++ taken)) (further (Faulted told) o parser taken c))
-        (moved (λ (l : List yaml_token_t) (g : List yaml_event_t). EachNeeded l h.more g) o.earlier.more c.more o.earlier.events taken h.needed)
-        (moved (λ (l : List yaml_token_t) (g : List yaml_event_t). RunStop (answers l h.more) g (Fails (kept_fault last))) o.earlier.more c.more o.earlier.events taken
-        (grammar_stop (asked_there (Faulted told) o ++ c.more) h.more (given_there (Faulted told) o ++ taken) (kept_fault last) l e f))
-        (all_loads (Faulted told) o taken (Fails (kept_fault last)) (Err (kept_fault last)) (fault_of taken (Fails (kept_fault last)) n (kept_fault last) (load (Fails (kept_fault last)))))
+        = stopped (o.earlier.more ++ c.more) h.more (o.earlier.events ++ taken) o.earlier.documents
+        (Fails (kept_fault last))
+        (answers_both o.earlier.more c.more h.more)
+        (needed parser (asked ++ (o.earlier.more ++ c.more)) (given ++ (o.earlier.events ++ taken))
+        (further (Faulted told) o parser taken c))
+        (moved (λ (l : List yaml_token_t) (g : List yaml_event_t). EachNeeded l h.more g) o.earlier.more c.more
+        o.earlier.events taken h.needed)
+        (moved (λ (l : List yaml_token_t) (g : List yaml_event_t). RunStop (answers l h.more) g
+        (Fails (kept_fault last))) o.earlier.more c.more o.earlier.events taken
+        (grammar_stop (asked_there (Faulted told) o ++ c.more) h.more (given_there (Faulted told) o ++ taken)
+        (kept_fault last) l e f))
+        (all_loads (Faulted told) o taken (Fails (kept_fault last)) (Err (kept_fault last))
+        (fault_of taken (Fails (kept_fault last)) n (kept_fault last) (load (Fails (kept_fault last)))))
         (refl, faulted told o (kept_fault last) w)
     by_cause told o parser taken c load w h (of_source l e s f)
-        = stopped (o.earlier.more ++ c.more) h.more (o.earlier.events ++ taken) o.earlier.documents (Fails (kept_fault last))
-        (answers_both o.earlier.more c.more h.more) (needed parser (asked ++ (o.earlier.more ++ c.more)) (given ++ (o.earlier.events ++ taken)) (further (Faulted told) o parser taken c))
-        (moved (λ (l : List yaml_token_t) (g : List yaml_event_t). EachNeeded l h.more g) o.earlier.more c.more o.earlier.events taken h.needed)
-        (moved (λ (l : List yaml_token_t) (g : List yaml_event_t). RunStop (answers l h.more) g (Fails (kept_fault last))) o.earlier.more c.more o.earlier.events taken
-        (source_stop (asked_there (Faulted told) o ++ c.more) h.more (given_there (Faulted told) o ++ taken) (kept_fault last) l e f))
-        (all_loads (Faulted told) o taken (Fails (kept_fault last)) (Err (kept_fault last)) (fault_of taken (Fails (kept_fault last)) n (kept_fault last) (load (Fails (kept_fault last)))))
+        = stopped (o.earlier.more ++ c.more) h.more (o.earlier.events ++ taken) o.earlier.documents
+        (Fails (kept_fault last))
+        (answers_both o.earlier.more c.more h.more)
+        (needed parser (asked ++ (o.earlier.more ++ c.more)) (given ++ (o.earlier.events ++ taken))
+        (further (Faulted told) o parser taken c))
+        (moved (λ (l : List yaml_token_t) (g : List yaml_event_t). EachNeeded l h.more g) o.earlier.more c.more
+        o.earlier.events taken h.needed)
+        (moved (λ (l : List yaml_token_t) (g : List yaml_event_t). RunStop (answers l h.more) g
+        (Fails (kept_fault last))) o.earlier.more c.more o.earlier.events taken
+        (source_stop (asked_there (Faulted told) o ++ c.more) h.more (given_there (Faulted told) o ++ taken)
+        (kept_fault last) l e f))
+        (all_loads (Faulted told) o taken (Fails (kept_fault last)) (Err (kept_fault last))
+        (fault_of taken (Fails (kept_fault last)) n (kept_fault last) (load (Fails (kept_fault last)))))
         (refl, faulted told o (kept_fault last) w)
 
-    failed : (told : yaml_parser_t_prefix) (o : Of (Faulted told)) (r : DocumentOrError) (l : FromHere (Faulted told) o r) → WroteForLoad (Faulted told) r (kept_fault last) (contents o.writer) after
+    failed : (told : yaml_parser_t_prefix) (o : Of (Faulted told)) (r : DocumentOrError)
+        (l : FromHere (Faulted told) o r) → WroteForLoad (Faulted told) r (kept_fault last) (contents o.writer) after
         → Came outcome.Faulted after (results (Faulted told) o r l)
     failed told o (Ok d) l w = broke (cut told o d w.2)
     failed told o (Err x) (by_parser taken parser took fails load) w =
@@ -238,12 +287,15 @@ module _ {S W : Type 0} (gives : S → Answer → S → Type 0) (known : S → O
         let c = took.history (asked_there (Faulted told) o) (given_there (Faulted told) o) o.earlier.history in
         let taken = prior ++ e ∷ [] in
         let history = further (Faulted told) o parser taken c in
-        let is : kept_fault last ≡ f = ap (λ (p : Parser S). p.config.fault) (kept (asked_there (Faulted told) o ++ c.more) (given_there (Faulted told) o ++ taken) c.history) in
-        composer (o.earlier.more ++ c.more) (o.earlier.events ++ taken) o.earlier.documents f (answers_both o.earlier.more c.more [])
+        let is : kept_fault last ≡ f = ap (λ (p : Parser S). p.config.fault)
+        (kept (asked_there (Faulted told) o ++ c.more) (given_there (Faulted told) o ++ taken) c.history) in
+        composer (o.earlier.more ++ c.more) (o.earlier.events ++ taken) o.earlier.documents f
+        (answers_both o.earlier.more c.more [])
         (needed parser (asked ++ (o.earlier.more ++ c.more)) (given ++ (o.earlier.events ++ taken)) history)
         (begins parser (asked ++ (o.earlier.more ++ c.more)) (given ++ (o.earlier.events ++ taken)) history)
         (λ rest y. ap (λ (l : List yaml_event_t). bounded_loads n l y) (append_assoc o.earlier.events taken rest)
-        ∙ (o.earlier.loads (taken ++ rest) y ∙ ap (λ (l : List Load). map Ok o.earlier.documents ++ l) (fault_of (taken ++ rest) y n f (load rest y))))
+        ∙ (o.earlier.loads (taken ++ rest) y ∙ ap (λ (l : List Load). map Ok o.earlier.documents ++ l)
+        (fault_of (taken ++ rest) y n f (load rest y))))
         (refl, faulted told o f (subst (λ (g : Fault). Appends (contents o.writer) after (fault_text g)) is w.1))
     failed told o (Err x) (by_memory prior e parser took kept grows) w =
         let c = took.history (asked_there (Faulted told) o) (given_there (Faulted told) o) o.earlier.history in
@@ -251,7 +303,8 @@ module _ {S W : Type 0} (gives : S → Answer → S → Type 0) (known : S → O
           faulted = refl;
           fault = kept_fault last;
           cause = inl (ap (λ (p : Parser S). p.config.fault)
-              (kept (asked_there (Faulted told) o ++ c.more) (given_there (Faulted told) o ++ (prior ++ e ∷ [])) c.history));
+              (kept (asked_there (Faulted told) o ++ c.more) (given_there (Faulted told) o ++ (prior ++ e ∷ []))
+              c.history));
           written = text (Faulted told) o;
           wrote = faulted told o (kept_fault last) w.1;
         })
@@ -261,41 +314,60 @@ module _ {S W : Type 0} (gives : S → Answer → S → Type 0) (known : S → O
     came (Faulted told) o = failed told o o.loaded o.load o.wrote
     came OutputFailed o = unknown refl
 
-pub one_writing_of_nodes_proof : {S W : Type 0} (gives : S → Answer → S → Type 0) (known : S → Option Coming) (may_break : S → Fault → Type 0) (contents : W
-    → Option (List ℕ)) (n : ℕ) → ((p : Parser S) → ForHistory p (λ (a : List yaml_token_t) (g : List yaml_event_t). EachWasNeeded [] a [] g))
-    → ((p : Parser S) → ForHistory p BeginsEachRun) → ((p : Parser S) → ForHistory p (λ (_ : List yaml_token_t) (g : List yaml_event_t). NestsSoFar g))
-    → (old p q : Parser S) (first second : run_end_t) (written : List ℕ) (after later : Option (List ℕ)) (asked : List yaml_token_t) (given : List yaml_event_t)
+pub one_writing_of_nodes_proof : {S W : Type 0} (gives : S → Answer → S → Type 0) (known : S → Option Coming)
+    (may_break : S → Fault → Type 0) (contents : W
+    → Option (List ℕ)) (n : ℕ)
+    → ((p : Parser S) → ForHistory p (λ (a : List yaml_token_t) (g : List yaml_event_t). EachWasNeeded [] a [] g))
+    → ((p : Parser S) → ForHistory p BeginsEachRun)
+    → ((p : Parser S) → ForHistory p (λ (_ : List yaml_token_t) (g : List yaml_event_t). NestsSoFar g))
+    → (old p q : Parser S) (first second : run_end_t) (written : List ℕ) (after later : Option (List ℕ))
+    (asked : List yaml_token_t) (given : List yaml_event_t)
     → (a : LastLoad gives known may_break contents n first old p (Some written) after asked given)
     → (b : LastLoad gives known may_break contents n second old q (Some written) later asked given)
-    → OneBegins (results_of_nodes a) (results_of_nodes b) → OneOutput BreaksOffByNone BreaksOffByNone (outcome_of first) (outcome_of second) (Some written) after later
-one_writing_of_nodes_proof {S} gives known may_break contents n needed begins nests old p q first second written after later asked given a b one
-    = go (results_of_nodes a) (results_of_nodes b) one (came gives known may_break contents n needed begins nests old (Some written) asked given p after first a)
+    → OneBegins (results_of_nodes a) (results_of_nodes b)
+    → OneOutput BreaksOffByNone BreaksOffByNone (outcome_of first) (outcome_of second) (Some written) after later
+one_writing_of_nodes_proof {S} gives known may_break contents n needed begins nests old p q first second written
+    after later asked given a b one
+    = go (results_of_nodes a) (results_of_nodes b) one
+    (came gives known may_break contents n needed begins nests old (Some written) asked given p after first a)
     (came gives known may_break contents n needed begins nests old (Some written) asked given q later second b)
   where
-    after_both : (k l : List Answer) (m i : List yaml_token_t) (u v : List Answer) → k ≡ answers m u → l ≡ answers i v → OneBegins k l
+    after_both : (k l : List Answer) (m i : List yaml_token_t) (u v : List Answer) → k ≡ answers m u
+        → l ≡ answers i v → OneBegins k l
         → OneBegins (answers (asked ++ m) u) (answers (asked ++ i) v)
-    after_both k l m i u v e f o = after_asked asked m i u v (subst (λ (j : List Answer). OneBegins j (answers i v)) e (subst (OneBegins k) f o))
+    after_both k l m i u v e f o =
+        after_asked asked m i u v
+        (subst (λ (j : List Answer). OneBegins j (answers i v)) e (subst (OneBegins k) f o))
 
     -- a composer error is one of all longer lists of events
     by_composer : (d c : List Document) (f : Fault) (y : Ending) (e g : List yaml_event_t)
-        → ((rest : List yaml_event_t) (x : Ending) → bounded_loads n (e ++ rest) x ≡ map Ok d ++ last_load (Fails f) ∷ []) → bounded_loads n g y ≡ map Ok c ++ last_load y ∷ []
+        → ((rest : List yaml_event_t) (x : Ending) → bounded_loads n (e ++ rest) x ≡ map Ok d
+        ++ last_load (Fails f) ∷ []) → bounded_loads n g y ≡ map Ok c ++ last_load y ∷ []
         → Begins e g → (d ≡ c) × (Fails f ≡ y)
     by_composer d c f y e g l k h =
-        let s = same_loads d c (last_load (Fails f)) (last_load y) (sym (l h.0 y) ∙ (ap (λ (z : List yaml_event_t). bounded_loads n z y) (sym h.1) ∙ k)) in
+        let s = same_loads d c (last_load (Fails f)) (last_load y)
+        (sym (l h.0 y) ∙ (ap (λ (z : List yaml_event_t). bounded_loads n z y) (sym h.1) ∙ k)) in
         (s.0, last_same (Fails f) y s.1)
 
     both_composer : (d c : List Document) (f x : Fault) (e g : List yaml_event_t)
         → ((rest : List yaml_event_t) (y : Ending) → bounded_loads n (e ++ rest) y ≡ map Ok d ++ last_load (Fails f) ∷ [])
-        → ((rest : List yaml_event_t) (y : Ending) → bounded_loads n (g ++ rest) y ≡ map Ok c ++ last_load (Fails x) ∷ []) → Begins e g → (d ≡ c) × (Fails f ≡ Fails x)
+        → ((rest : List yaml_event_t) (y : Ending) → bounded_loads n (g ++ rest) y ≡ map Ok c
+        ++ last_load (Fails x) ∷ []) → Begins e g → (d ≡ c) × (Fails f ≡ Fails x)
     both_composer d c f x e g l k h =
-        by_composer d c f (Fails x) e g l (ap (λ (z : List yaml_event_t). bounded_loads n z (Fails x)) (sym (append-nil g)) ∙ k [] (Fails x)) h
+        by_composer d c f (Fails x) e g l
+        (ap (λ (z : List yaml_event_t). bounded_loads n z (Fails x)) (sym (append-nil g)) ∙ k [] (Fails x)) h
 
-    alike_by : (x y : Ending) (d c : List Document) → (d ≡ c) × (x ≡ y) → Wrote x (outcome_of first) d (Some written) after → Wrote y (outcome_of second) c (Some written) later
+    alike_by : (x y : Ending) (d c : List Document) → (d ≡ c) × (x ≡ y)
+        → Wrote x (outcome_of first) d (Some written) after → Wrote y (outcome_of second) c (Some written) later
         → OneOutput BreaksOffByNone BreaksOffByNone (outcome_of first) (outcome_of second) (Some written) after later
-    alike_by x y d c s w z = let r = both_wrote x y (outcome_of first) (outcome_of second) d c written after later s.1 s.0 w z in alike r.0 r.1
+    alike_by x y d c s w z = let r = both_wrote x y (outcome_of first) (outcome_of second) d c written after later
+        s.1 s.0 w z in alike r.0 r.1
 
-    go : (k l : List Answer) → OneBegins k l → Came gives known may_break contents n needed begins nests old (Some written) asked given (outcome_of first) after k
-        → Came gives known may_break contents n needed begins nests old (Some written) asked given (outcome_of second) later l → OneOutput BreaksOffByNone BreaksOffByNone (outcome_of first) (outcome_of second) (Some written) after later
+    go : (k l : List Answer) → OneBegins k l → Came gives known may_break contents n needed begins nests old
+        (Some written) asked given (outcome_of first) after k
+        → Came gives known may_break contents n needed begins nests old (Some written) asked given
+        (outcome_of second) later l → OneOutput BreaksOffByNone BreaksOffByNone (outcome_of first)
+        (outcome_of second) (Some written) after later
     go k l o (broke x) y = first_breaks x
     go k l o x (broke y) = second_breaks y
     go k l o (unknown e) y = output_failed (inl e)
@@ -303,12 +375,15 @@ one_writing_of_nodes_proof {S} gives known may_break contents n needed begins ne
     go k l o (stopped m u e d x i each then stop loads w) (stopped j v g c y f other also halt more z) =
         let r = one_run_by_answers (given ++ e) (given ++ g) x y
         (record { asked = asked ++ m; last = u; needed = each; needed_last = then; stop = stop })
-        (record { asked = asked ++ j; last = v; needed = other; needed_last = also; stop = halt }) (after_both k l m j u v i f o) in
+        (record { asked = asked ++ j; last = v; needed = other; needed_last = also; stop = halt })
+        (after_both k l m j u v i f o) in
         let s = same_loads d c (last_load x) (last_load y)
-        (sym loads ∙ (ap (λ (b : List yaml_event_t). bounded_loads n b x) (front_same given e g r.1) ∙ (ap (bounded_loads n g) r.2 ∙ more))) in
+        (sym loads ∙ (ap (λ (b : List yaml_event_t). bounded_loads n b x) (front_same given e g r.1)
+        ∙ (ap (bounded_loads n g) r.2 ∙ more))) in
         alike_by x y d c (s.0, r.2) w z
     go k l o (composer m e d f i each runs loads w) (stopped j v g c y h other also halt more z) =
-        let b = begins_stopped (asked ++ m) [] (answers (asked ++ j) v) (given ++ e) (given ++ g) y each runs halt (after_both k l m j [] v i h o) in
+        let b = begins_stopped (asked ++ m) [] (answers (asked ++ j) v) (given ++ e) (given ++ g) y each runs halt
+        (after_both k l m j [] v i h o) in
         alike_by (Fails f) y d c (by_composer d c f y e g loads more (after_given given e g b)) w z
     go k l o (stopped m u e d x i each then stop loads w) (composer j g c f h other runs more z) =
         let b = begins_stopped (asked ++ j) [] (answers (asked ++ m) u) (given ++ g) (given ++ e) x other runs stop
@@ -316,9 +391,11 @@ one_writing_of_nodes_proof {S} gives known may_break contents n needed begins ne
         let s = by_composer c d f x g e more loads (after_given given g e b) in
         alike_by x (Fails f) d c (sym s.0, sym s.1) w z
     go k l o (composer m e d f i each runs loads w) (composer j g c x h other begins more z) =
-        both (taken_comparable (asked ++ m) (asked ++ j) [] [] (given ++ e) (given ++ g) runs begins (after_both k l m j [] [] i h o))
+        both (taken_comparable (asked ++ m) (asked ++ j) [] [] (given ++ e) (given ++ g) runs begins
+        (after_both k l m j [] [] i h o))
       where
         both : Begins (given ++ e) (given ++ g) ⊎ Begins (given ++ g) (given ++ e)
             → OneOutput BreaksOffByNone BreaksOffByNone (outcome_of first) (outcome_of second) (Some written) after later
         both (inl b) = alike_by (Fails f) (Fails x) d c (both_composer d c f x e g loads more (after_given given e g b)) w z
-        both (inr b) = let s = both_composer c d x f g e more loads (after_given given g e b) in alike_by (Fails f) (Fails x) d c (sym s.0, sym s.1) w z
+        both (inr b) = let s = both_composer c d x f g e more loads (after_given given g e b)
+            in alike_by (Fails f) (Fails x) d c (sym s.0, sym s.1) w z

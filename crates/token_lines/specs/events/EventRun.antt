@@ -21,7 +21,8 @@ abbrev pub IsRunOf : List ℕ → List yaml_event_t → Ending → Type 0
 IsRunOf bytes events ending = IsRun (read_lines bytes most_tokens).tokens (read_lines bytes most_tokens).fault events ending
 
 -- what a run writes of an input, where its bytes are known
-abbrev pub WritesRunOf : (bytes : Option (List ℕ)) → (MayBreak : Fault → Type 0) → run_end_t → (old new : Option (List ℕ)) → Type 0
+abbrev pub WritesRunOf : (bytes : Option (List ℕ)) → (MayBreak : Fault → Type 0) → run_end_t
+    → (old new : Option (List ℕ)) → Type 0
 WritesRunOf bytes MayBreak end old new =
     IfSome bytes (λ known. (events : List yaml_event_t) (ending : Ending) → IsRunOf known events ending
     → Writes MayBreak end old new (event_lines events) ending)

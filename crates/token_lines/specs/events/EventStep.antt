@@ -24,7 +24,8 @@ StepForFault (Failed f) kept before after = (fault_of f ≡ kept) × Keeps befor
 StepForFault _ kept before after = ⊥
 
 -- one step: its call of the parser, and what was written after it
-abbrev pub Turn : {S : Type 0} → (gives : S → Answer → S → Type 0) → RunStep → (old new : Parser S) → (before after : Option (List ℕ)) → List yaml_token_t
+abbrev pub Turn : {S : Type 0} → (gives : S → Answer → S → Type 0) → RunStep → (old new : Parser S)
+    → (before after : Option (List ℕ)) → List yaml_token_t
     → List yaml_event_t → Type 0
 Turn gives step old new before after asked given
     = Call gives (λ e. StepForEvent step e before after) (λ f. StepForFault step f before after) old new asked given

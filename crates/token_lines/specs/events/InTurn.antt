@@ -14,13 +14,15 @@ use Rattle.libyaml_sources.specs.Fault.{Answer, Fault}
 -- a call of the parser, which returned an event or failed, and what is said of that event or fault
 pub data Call {S : Type 0} (gives : S → Answer → S → Type 0) (ForEvent : yaml_event_t → Type 0) (ForFault : Fault
     → Type 0) (old new : Parser S) (asked : List yaml_token_t) (given : List yaml_event_t) : Type 0 where
-  gave_event : (e : yaml_event_t) → CarriesOn gives old e new asked given → ForEvent e → Call gives ForEvent ForFault old new asked given
+  gave_event : (e : yaml_event_t) → CarriesOn gives old e new asked given → ForEvent e
+      → Call gives ForEvent ForFault old new asked given
   failed : FailsBy gives old new asked given → ForFault (kept_fault new) → Call gives ForEvent ForFault old new asked given
 
 -- From the first parser to this one, which has not ended, the source gave these tokens more and the parser these events,
 -- and the text of each event was written.
 pub record AllWritten {S : Type 0} (text : yaml_event_t → List ℕ) (gives : S → Answer → S
-    → Type 0) (first parser : Parser S) (before after : Option (List ℕ)) (asked : List yaml_token_t) (given : List yaml_event_t) : Type 0 where
+    → Type 0) (first parser : Parser S) (before after : Option (List ℕ)) (asked : List yaml_token_t)
+    (given : List yaml_event_t) : Type 0 where
   pub more : List yaml_token_t
   pub events : List yaml_event_t
   pub gave : Gave gives first.source (answers more []) parser.source
@@ -30,11 +32,14 @@ pub record AllWritten {S : Type 0} (text : yaml_event_t → List ℕ) (gives : S
 
 -- The last call of the parser: the writer held the text of each event that was given before, and what was written since
 -- is of this call.
-pub record WrittenInTurn {S W : Type 0} (text : yaml_event_t → List ℕ) (ForEvent : yaml_event_t → (before after : Option (List ℕ))
+pub record WrittenInTurn {S W : Type 0} (text : yaml_event_t → List ℕ)
+    (ForEvent : yaml_event_t → (before after : Option (List ℕ))
     → Type 0) (ForFault : Fault → (before after : Option (List ℕ)) → Type 0) (gives : S → Answer → S → Type 0) (contents : W
-    → Option (List ℕ)) (first last : Parser S) (before after : Option (List ℕ)) (asked : List yaml_token_t) (given : List yaml_event_t) : Type 0 where
+    → Option (List ℕ)) (first last : Parser S) (before after : Option (List ℕ)) (asked : List yaml_token_t)
+    (given : List yaml_event_t) : Type 0 where
   pub parser : Parser S
   pub writer : W
   pub earlier : AllWritten text gives first parser before (contents writer) asked given
-  pub call : Call gives (λ e. ForEvent e (contents writer) after) (λ f. ForFault f (contents writer) after) parser last (asked ++ earlier.more)
+  pub call : Call gives (λ e. ForEvent e (contents writer) after) (λ f. ForFault f (contents writer) after) parser
+      last (asked ++ earlier.more)
       (given ++ earlier.events)

@@ -24,14 +24,16 @@ WroteForEvent (Faulted f) e before after = (fault_of f ≡ memory_fault) × Appe
 WroteForEvent OutputFailed e before after = Unit {0}
 
 -- the last call of a run, and what was written after it: the text of the fault, where the call failed
-abbrev pub Closes : {S : Type 0} → (gives : S → Answer → S → Type 0) → run_end_t → (old new : Parser S) → (before after : Option (List ℕ)) → List yaml_token_t
+abbrev pub Closes : {S : Type 0} → (gives : S → Answer → S → Type 0) → run_end_t → (old new : Parser S)
+    → (before after : Option (List ℕ)) → List yaml_token_t
     → List yaml_event_t → Type 0
 Closes gives end old new before after asked given
     = Call gives (λ e. WroteForEvent end e before after) (λ f. WroteFault end f before after) old new asked given
 
 -- At the last call of the parser the writer held the line of each event that was given before, and what was written since
 -- is of this call.
-abbrev pub LastCall : {S W : Type 0} → (gives : S → Answer → S → Type 0) → (contents : W → Option (List ℕ)) → run_end_t → (first last : Parser S)
+abbrev pub LastCall : {S W : Type 0} → (gives : S → Answer → S → Type 0) → (contents : W → Option (List ℕ))
+    → run_end_t → (first last : Parser S)
     → (before after : Option (List ℕ)) → List yaml_token_t → List yaml_event_t → Type 0
 LastCall gives contents end first last before after asked given
     = WrittenInTurn event_line (WroteForEvent end) (WroteFault end) gives contents first last before after asked given

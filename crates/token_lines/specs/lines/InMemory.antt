@@ -20,8 +20,8 @@ use Rattle.token_lines.specs.declared.run.run_end_t.TheVariants as end
 abbrev pub memory_text : List ℕ
 memory_text = codes "FAULT memory 0:0:0 -\n"
 
--- The bytes of a run that has these lines and this ending: all lines, where it ended; all lines and then the text of the run's
--- own fault, where it failed; and where an allocation failed, the text of that fault alone.
+-- The bytes of a run that has these lines and this ending: all lines, where it ended; all lines and then the text
+-- of the run's own fault, where it failed; and where an allocation failed, the text of that fault alone.
 abbrev pub Has : memory_outcome_t → (lines : List (List ℕ)) → Ending → (bytes : List ℕ) → Type 0
 Has Ended lines ending bytes = (ending ≡ Ends) × (bytes ≡ concat lines)
 Has Faulted lines ending bytes = (f : Fault) × (ending ≡ Fails f) × (bytes ≡ concat lines ++ fault_text f)
@@ -38,11 +38,13 @@ EndsAs _ _ = ⊥
 -- the bytes of the lines of the events of these token lines, of which at most so many are read
 abbrev pub has_events : (tokens : List ℕ) (max : ℕ) → memory_outcome_t → (bytes : List ℕ) → Type 0
 has_events tokens max outcome bytes = (events : List yaml_event_t) (ending : Ending)
-    → IsRun (read_lines tokens max).tokens (read_lines tokens max).fault events ending → Has outcome (event_lines events) ending bytes
+    → IsRun (read_lines tokens max).tokens (read_lines tokens max).fault events ending
+    → Has outcome (event_lines events) ending bytes
 
 -- the bytes of the lines of their documents and nodes
 abbrev pub has_nodes : (tokens : List ℕ) (max : ℕ) → memory_outcome_t → (bytes : List ℕ) → Type 0
-has_nodes tokens max outcome bytes = (loads : List Load) → IsLoads (read_lines tokens max).tokens (read_lines tokens max).fault loads
+has_nodes tokens max outcome bytes = (loads : List Load)
+    → IsLoads (read_lines tokens max).tokens (read_lines tokens max).fault loads
     → Has outcome (loads_lines loads) (loads_ending loads) bytes
 
 -- These bytes were put into a buffer: `wanted` is how many they are, and `written` how many of them had room. These are the

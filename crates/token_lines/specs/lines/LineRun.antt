@@ -24,14 +24,16 @@ WroteFault OutputFailed f before after = Unit {0}
 
 -- The text of this fault was written: after all lines, where the run fails by it; or after a prefix of them, where an
 -- allocation failed or the source broke off.
-pub data WritesFault (MayBreak : Fault → Type 0) (f : Fault) (old new : Option (List ℕ)) (lines : List (List ℕ)) (ending : Ending) : Type 0 where
+pub data WritesFault (MayBreak : Fault → Type 0) (f : Fault) (old new : Option (List ℕ)) (lines : List (List ℕ))
+    (ending : Ending) : Type 0 where
   whole : ending ≡ Fails f → Appends old new (concat lines ++ fault_text f) → WritesFault MayBreak f old new lines ending
   broken_off : (written rest : List (List ℕ)) → lines ≡ written ++ rest → (f ≡ memory_fault) ⊎ MayBreak f
       → Appends old new (concat written ++ fault_text f) → WritesFault MayBreak f old new lines ending
 
 -- What was written of a run that has these lines and this ending: all lines and nothing else where it ended; nothing is
 -- said where the output failed.
-abbrev pub Writes : (MayBreak : Fault → Type 0) → run_end_t → (old new : Option (List ℕ)) → (lines : List (List ℕ)) → Ending → Type 0
+abbrev pub Writes : (MayBreak : Fault → Type 0) → run_end_t → (old new : Option (List ℕ)) → (lines : List (List ℕ))
+    → Ending → Type 0
 Writes MayBreak Ended old new lines ending = (ending ≡ Ends) × Appends old new (concat lines)
 Writes MayBreak (Faulted f) old new lines ending = WritesFault MayBreak (fault_of f) old new lines ending
 Writes MayBreak OutputFailed old new lines ending = Unit {0}

@@ -1,4 +1,5 @@
--- Two runs in memory over the same token lines and into the same buffer that a contract allows (docs/DEFINITIONS.md, "One outcome").
+-- Two runs in memory over the same token lines and into the same buffer that a contract allows
+-- (docs/DEFINITIONS.md, "One outcome").
 use Rattle.std.specs.Prelude.{◌≡◌, ℕ, List}
 use Rattle.token_lines.specs.declared.memory.memory_outcome_t.TheVariants.{OutOfMemory}
 use Rattle.token_lines.specs.declared.memory.memory_run_t.{memory_run_t}

@@ -16,8 +16,12 @@ pub record BrokeOff (MayBreak : Fault → Type 0) (outcome : Outcome) (before af
   pub wrote : Appends before after (written ++ fault_text fault)
 
 -- where an allocation or a read failed in either, or the output did, nothing more is said
-pub data OneOutput (FirstBreaks SecondBreaks : Fault → Type 0) (first second : Outcome) (before after later : Option (List ℕ)) : Type 0 where
+pub data OneOutput (FirstBreaks SecondBreaks : Fault → Type 0) (first second : Outcome)
+    (before after later : Option (List ℕ)) : Type 0 where
   alike : first ≡ second → after ≡ later → OneOutput FirstBreaks SecondBreaks first second before after later
-  first_breaks : BrokeOff FirstBreaks first before after → OneOutput FirstBreaks SecondBreaks first second before after later
-  second_breaks : BrokeOff SecondBreaks second before later → OneOutput FirstBreaks SecondBreaks first second before after later
-  output_failed : (first ≡ OutputFailed) ⊎ (second ≡ OutputFailed) → OneOutput FirstBreaks SecondBreaks first second before after later
+  first_breaks : BrokeOff FirstBreaks first before after
+      → OneOutput FirstBreaks SecondBreaks first second before after later
+  second_breaks : BrokeOff SecondBreaks second before later
+      → OneOutput FirstBreaks SecondBreaks first second before after later
+  output_failed : (first ≡ OutputFailed) ⊎ (second ≡ OutputFailed)
+      → OneOutput FirstBreaks SecondBreaks first second before after later

@@ -15,23 +15,29 @@ use Rattle.token_lines.specs.events.LastCall.{LastCall}
 use Rattle.token_lines.specs.nodes.LastLoad.{LastLoad}
 
 -- those that a call asked for
-abbrev pub results_in_call : {S : Type 0} {gives : S → Answer → S → Type 0} {ForEvent : yaml_event_t → Type 0} {ForFault : Fault → Type 0} {old new
-    : Parser S} {asked : List yaml_token_t} {given : List yaml_event_t} → Call gives ForEvent ForFault old new asked given → List Answer
+abbrev pub results_in_call : {S : Type 0} {gives : S → Answer → S → Type 0} {ForEvent : yaml_event_t → Type 0}
+    {ForFault : Fault → Type 0} {old new
+    : Parser S} {asked : List yaml_token_t} {given : List yaml_event_t}
+    → Call gives ForEvent ForFault old new asked given → List Answer
 results_in_call (gave_event e c w) = answers c.more []
 results_in_call (failed f w) = f.more
 
 -- and all: the tokens by which the events before the last call came, and then what that call asked for
-abbrev pub results_of : {S W : Type 0} {gives : S → Answer → S → Type 0} {contents : W → Option (List ℕ)} {first last : Parser S}
+abbrev pub results_of : {S W : Type 0} {gives : S → Answer → S → Type 0} {contents : W → Option (List ℕ)}
+    {first last : Parser S}
     {before after : Option (List ℕ)} {asked : List yaml_token_t} {given : List yaml_event_t}
     → (end : run_end_t) → LastCall gives contents end first last before after asked given → List Answer
 results_of end o = answers o.earlier.more (results_in_call o.call)
 
 -- likewise of documents, whose last load names what it asked for
-abbrev pub results_of_nodes : {S W : Type 0} {gives : S → Answer → S → Type 0} {known : S → Option Coming} {MayBreak : S → Fault → Type 0} {contents : W
-    → Option (List ℕ)} {n : ℕ} {end : run_end_t} {first last : Parser S} {before after : Option (List ℕ)} {asked : List yaml_token_t} {given
+abbrev pub results_of_nodes : {S W : Type 0} {gives : S → Answer → S → Type 0} {known : S → Option Coming}
+    {MayBreak : S → Fault → Type 0} {contents : W
+    → Option (List ℕ)} {n : ℕ} {end : run_end_t} {first last : Parser S} {before after : Option (List ℕ)}
+    {asked : List yaml_token_t} {given
     : List yaml_event_t} → LastLoad gives known MayBreak contents n end first last before after asked given → List Answer
 results_of_nodes {gives} {known} {MayBreak} {n} {last} {asked} {given} o
-    = answers o.earlier.more (results_in gives known MayBreak (next_bounded n) left_over o.parser last (asked ++ o.earlier.more) (given ++ o.earlier.events)
+    = answers o.earlier.more (results_in gives known MayBreak (next_bounded n) left_over o.parser last
+    (asked ++ o.earlier.more) (given ++ o.earlier.events)
     o.earlier.history o.loaded o.load)
 
 -- such a source breaks off by no fault

@@ -14,7 +14,8 @@ BytesReadBack = (bytes : List ℕ) → All (λ b. b < 2 ^ 8) bytes → percent_d
 
 -- the field of any string is read as that string
 abbrev pub StringsReadBack : Type 0
-StringsReadBack = (string : List ℕ) → All (λ b. b < 2 ^ 8) string → is_utf8 string ≡ true → text_of (string_text string) ≡ Some string
+StringsReadBack = (string : List ℕ) → All (λ b. b < 2 ^ 8) string → is_utf8 string ≡ true
+    → text_of (string_text string) ≡ Some string
 
 -- and it is one field of one line: each of its bytes is above the space
 abbrev pub StringsAreFields : Type 0

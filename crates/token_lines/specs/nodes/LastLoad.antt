@@ -38,27 +38,32 @@ pub record CutText (before after : Option (List ℕ)) (lines : List (List ℕ)) 
 -- fault that is kept; or a document's text that was cut. Where the output failed, nothing is said.
 abbrev pub WroteForLoad : run_end_t → DocumentOrError → (kept : Fault) → (before after : Option (List ℕ)) → Type 0
 WroteForLoad Ended (Ok d) kept before after = (d.nodes ≡ []) × Keeps before after
-WroteForLoad (Faulted f) (Ok d) kept before after = (fault_of f ≡ memory_fault) × (d.nodes ≢ []) × CutText before after (document_lines d)
+WroteForLoad (Faulted f) (Ok d) kept before after = (fault_of f ≡ memory_fault) × (d.nodes ≢ [])
+    × CutText before after (document_lines d)
 WroteForLoad OutputFailed (Ok d) kept before after = Unit {0}
 WroteForLoad end (Err x) kept before after = WroteFault end kept before after
 
 -- From the first parser to this one the source gave these tokens more and the parser these events, whose loads are these
 -- documents, whatever follows them; each has a root, and its text was written.
 pub record AllLoaded {S : Type 0} (gives : S → Answer → S
-    → Type 0) (n : ℕ) (first parser : Parser S) (before after : Option (List ℕ)) (asked : List yaml_token_t) (given : List yaml_event_t) : Type 0 where
+    → Type 0) (n : ℕ) (first parser : Parser S) (before after : Option (List ℕ)) (asked : List yaml_token_t)
+    (given : List yaml_event_t) : Type 0 where
   pub more : List yaml_token_t
   pub events : List yaml_event_t
   pub documents : List Document
   pub gave : Gave gives first.source (answers more []) parser.source
   pub history : History parser (asked ++ more) (given ++ events)
-  pub loads : (rest : List yaml_event_t) (x : Ending) → ◌≡◌ {A = List Load} (bounded_loads n (events ++ rest) x) (map Ok documents ++ bounded_loads n rest x)
+  pub loads : (rest : List yaml_event_t) (x : Ending) → ◌≡◌ {A = List Load} (bounded_loads n (events ++ rest) x)
+      (map Ok documents ++ bounded_loads n rest x)
   pub roots : All (λ (d : Document). d.nodes ≢ []) documents
   pub wrote : Appends before after (concat (flat_map document_lines documents))
 
 -- The last load: the writer held the text of each document that was loaded before, and what was written since is of this
 -- load.
-pub record LastLoad {S W : Type 0} (gives : S → Answer → S → Type 0) (known : S → Option Coming) (MayBreak : S → Fault → Type 0) (contents : W
-    → Option (List ℕ)) (n : ℕ) (end : run_end_t) (first last : Parser S) (before after : Option (List ℕ)) (asked : List yaml_token_t)
+pub record LastLoad {S W : Type 0} (gives : S → Answer → S → Type 0) (known : S → Option Coming)
+    (MayBreak : S → Fault → Type 0) (contents : W
+    → Option (List ℕ)) (n : ℕ) (end : run_end_t) (first last : Parser S) (before after : Option (List ℕ))
+    (asked : List yaml_token_t)
     (given : List yaml_event_t) : Type 0 where
   pub parser : Parser S
   pub writer : W
@@ -89,5 +94,6 @@ pub record NodesOver {R W : Type 0} (remaining : R → Option (List ℕ)) (conte
   pub last : Parser (LineSource R)
   pub starts : StartsAt reader first
   pub writes : WritesNodesOf (remaining reader) (BreaksOff last.source) end before after
-  pub in_turn : LastLoad (Gives remaining) (known_of remaining) BreaksOff contents most_entries end first last before after [] []
+  pub in_turn : LastLoad (Gives remaining) (known_of remaining) BreaksOff contents most_entries end first last
+      before after [] []
   pub linear : documents_size in_turn.earlier.documents ≤ 8 * length in_turn.earlier.more

@@ -38,5 +38,7 @@ abbrev pub AreLoadsOf : List ℕ → List Load → Type 0
 AreLoadsOf bytes loads = IsLoads (read_lines bytes most_tokens).tokens (read_lines bytes most_tokens).fault loads
 
 -- what a run writes of an input, where its bytes are known
-abbrev pub WritesNodesOf : (bytes : Option (List ℕ)) → (MayBreak : Fault → Type 0) → run_end_t → (old new : Option (List ℕ)) → Type 0
-WritesNodesOf bytes MayBreak end old new = IfSome bytes (λ known. (loads : List Load) → AreLoadsOf known loads → WritesLoads MayBreak end old new loads)
+abbrev pub WritesNodesOf : (bytes : Option (List ℕ)) → (MayBreak : Fault → Type 0) → run_end_t
+    → (old new : Option (List ℕ)) → Type 0
+WritesNodesOf bytes MayBreak end old new = IfSome bytes (λ known. (loads : List Load) → AreLoadsOf known loads
+    → WritesLoads MayBreak end old new loads)

@@ -17,7 +17,8 @@ use Rattle.token_lines.specs.declared.run.RunStep.TheVariants.{Written, Ended, F
 abbrev pub StepForLoad : RunStep → DocumentOrError → (kept : Fault) → (before after : Option (List ℕ)) → Type 0
 StepForLoad Written (Ok d) kept before after = (d.nodes ≢ []) × Appends before after (concat (document_lines d))
 StepForLoad Ended (Ok d) kept before after = (d.nodes ≡ []) × Keeps before after
-StepForLoad (Failed f) (Ok d) kept before after = (fault_of f ≡ memory_fault) × (d.nodes ≢ []) × WroteBefore before after (document_lines d)
+StepForLoad (Failed f) (Ok d) kept before after = (fault_of f ≡ memory_fault) × (d.nodes ≢ [])
+    × WroteBefore before after (document_lines d)
 StepForLoad OutputFailed (Ok d) kept before after = Unit {0}
 StepForLoad (Failed f) (Err x) kept before after = (fault_of f ≡ kept) × Keeps before after
 StepForLoad _ (Err x) kept before after = ⊥

@@ -11,8 +11,10 @@ loop-node-preserved c documents directives =
     let l = c.loop-node in
     let one = c.put_node.new in
     nodes_more (lists documents c.args.nodes.now c.args.items.now c.args.pairs.now directives c.args.texts.now)
-    (lists documents l.nodes l.items l.pairs directives l.texts) (lists documents one.nodes one.items one.pairs directives one.texts)
-    c.args.wanted.now l.wanted one.wanted c.args.members.now l.node-index c.node-item.result c.loop-node-test.true c.node-item.is
+    (lists documents l.nodes l.items l.pairs directives l.texts)
+    (lists documents one.nodes one.items one.pairs directives one.texts)
+    c.args.wanted.now l.wanted one.wanted c.args.members.now l.node-index c.node-item.result c.loop-node-test.true
+    c.node-item.is
     (l.invariant documents directives) (c.in_ok-put_node.ensures documents directives)
 
 pub returns : goal.returns

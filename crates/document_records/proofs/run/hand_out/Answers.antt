@@ -16,8 +16,10 @@ returns-clause-run c loads are =
     let put = c.in_ok-ending.ensures in
     let parser = c.yaml_parser_initialize-parser in
     let coming = read_records tokens a.texts.now in
-    let within = subst (λ n. IsBoundedLoads n coming.tokens coming.fault loads) (sym (ap magnitude parser.ensures.bound)) are in
-    let loads_are = c.loop_yields_loads.ensures.of_list parser.result put.last put.documents put.ending coming.tokens coming.fault loads
+    let within = subst (λ n. IsBoundedLoads n coming.tokens coming.fault loads)
+    (sym (ap magnitude parser.ensures.bound)) are in
+    let loads_are = c.loop_yields_loads.ensures.of_list parser.result put.last put.documents put.ending
+    coming.tokens coming.fault loads
     parser.ensures.begins (ap Some (parser.ensures.source ∙ c.new-source.ensures)) within put.yields in
     let counts : document_counts_t = record made.wanted { texts = c.fault_record.new.wanted } in
     hands_out (λ s (f : Fault). f ≡ memory_fault) (λ s f h. h) put.last (fault_of c.in_ok-ending.ending) put.documents
@@ -25,4 +27,5 @@ returns-clause-run c loads are =
     (lists made.documents made.nodes made.items made.pairs made.directives made.texts)
     (lists made.documents made.nodes made.items made.pairs made.directives c.fault_record.new.texts) made.wanted
     (record { wanted = counts; written = c.within.result; fault = c.in_ok-fault.fault })
-    put.ending loads put.adds put.ends loads_are refl refl c.in_ok-fault.ensures.texts c.in_ok-fault.ensures.made c.within.ensures
+    put.ending loads put.adds put.ends loads_are refl refl c.in_ok-fault.ensures.texts c.in_ok-fault.ensures.made
+    c.within.ensures

@@ -7,7 +7,8 @@ pub loop-loaded-init : goal.loop-loaded-init
 loop-loaded-init g c =
     let t = g.S.yaml_token_source_t in
     let a = c.args in
-    let same = ap (λ i. i.parser.now) c.into_iter-loaded-iterator.ensures.into_iter_gives ∙ c.yaml_parser_documents-loaded-items.ensures.parser in
+    let same = ap (λ i. i.parser.now) c.into_iter-loaded-iterator.ensures.into_iter_gives
+    ∙ c.yaml_parser_documents-loaded-items.ensures.parser in
     rw same (put_none t.gives t.bound t.known t.may_break a.parser.now
     (lists a.documents.now a.nodes.now a.items.now a.pairs.now a.directives.now a.texts.now) a.wanted.now)
 
@@ -19,8 +20,10 @@ loop-loaded-preserved g c =
     let p = l.loaded-iterator.parser.now in
     let q = c.next.new.self.parser.now in
     let new = c.put_document.new in
-    put_one t.gives t.bound t.known t.may_break a.parser.now p q (lists a.documents.now a.nodes.now a.items.now a.pairs.now a.directives.now a.texts.now)
-    (lists l.documents l.nodes l.items l.pairs l.directives l.texts) (lists new.documents new.nodes new.items new.pairs new.directives new.texts)
+    put_one t.gives t.bound t.known t.may_break a.parser.now p q
+    (lists a.documents.now a.nodes.now a.items.now a.pairs.now a.directives.now a.texts.now)
+    (lists l.documents l.nodes l.items l.pairs l.directives l.texts)
+    (lists new.documents new.nodes new.items new.pairs new.directives new.texts)
     a.wanted.now l.wanted new.wanted c.in-Ok.document l.invariant
     (rw c.in-Ok.is at c.in-Some.ensures.steps.0) c.in_ok-put_document.ensures
 
@@ -30,7 +33,8 @@ returns-in-Err g c =
     let a = c.args in
     let l = c.loop-loaded in
     put_up_to t.gives t.bound t.known t.may_break a.parser.now l.loaded-iterator.parser.now c.next.new.self.parser.now
-    (lists a.documents.now a.nodes.now a.items.now a.pairs.now a.directives.now a.texts.now) (lists l.documents l.nodes l.items l.pairs l.directives l.texts)
+    (lists a.documents.now a.nodes.now a.items.now a.pairs.now a.directives.now a.texts.now)
+    (lists l.documents l.nodes l.items l.pairs l.directives l.texts)
     a.wanted.now l.wanted c.in-Err.fault l.invariant (rw c.in-Err.is at c.in-Some.ensures.steps.0)
 
 pub returns : goal.returns
@@ -39,5 +43,6 @@ returns g c =
     let a = c.args in
     let l = c.loop-loaded in
     put_all t.gives t.bound t.known t.may_break a.parser.now l.loaded-iterator.parser.now c.next.new.self.parser.now
-    (lists a.documents.now a.nodes.now a.items.now a.pairs.now a.directives.now a.texts.now) (lists l.documents l.nodes l.items l.pairs l.directives l.texts)
+    (lists a.documents.now a.nodes.now a.items.now a.pairs.now a.directives.now a.texts.now)
+    (lists l.documents l.nodes l.items l.pairs l.directives l.texts)
     a.wanted.now l.wanted l.invariant c.in-None.ensures.steps.0

@@ -19,7 +19,8 @@ returns-clause-no_fault g c = c.of_history.ensures.no_fault c.args.parser.now
 
 pub returns-then-has_failed-clause-next_load : goal.returns-then-has_failed-clause-next_load
 returns-then-has_failed-clause-next_load g c events ending run =
-    absurd (no (sym c.if-has_failed.true ∙ c.has_failed.ensures ∙ c.of_history.ensures.no_fault c.args.parser.now run.asked run.given run.history))
+    absurd (no (sym c.if-has_failed.true ∙ c.has_failed.ensures ∙ c.of_history.ensures.no_fault c.args.parser.now
+    run.asked run.given run.history))
 
 pub returns-then-has_failed-clause-between : goal.returns-then-has_failed-clause-between
 returns-then-has_failed-clause-between g c = c.requires.between
@@ -28,7 +29,8 @@ pub returns-clause-next_load : goal.returns-clause-next_load
 returns-clause-next_load g c =
     let t = g.S.yaml_token_source_t in
     let call = c.next_document in
-    next_load t.gives t.known t.may_break (next_bounded (magnitude c.args.parser.now.max_entries)) left_over c.args.parser.now call.new.parser call.result
+    next_load t.gives t.known t.may_break (next_bounded (magnitude c.args.parser.now.max_entries)) left_over
+    c.args.parser.now call.new.parser call.result
     call.ensures.fails (c.of_history.ensures.no_fault c.args.parser.now) (λ first. call.ensures.loads)
 
 pub returns-then-has_failed-clause-ended : goal.returns-then-has_failed-clause-ended
@@ -42,7 +44,8 @@ returns-clause-without_root g c =
     let t = g.S.yaml_token_source_t in
     let call = c.next_document in
     let roots = c.whole_documents_have_roots.ensures in
-    rootless roots.roots_follow roots.without_nodes t.gives t.known t.may_break (magnitude c.args.parser.now.max_entries) c.args.parser.now call.new.parser
+    rootless roots.roots_follow roots.without_nodes t.gives t.known t.may_break
+    (magnitude c.args.parser.now.max_entries) c.args.parser.now call.new.parser
     (c.of_history.ensures.nests call.new.parser) call.result call.ensures.loads
 
 pub returns-then-has_failed-clause-linear : goal.returns-then-has_failed-clause-linear
@@ -52,7 +55,8 @@ pub returns-clause-linear : goal.returns-clause-linear
 returns-clause-linear g c none =
     let t = g.S.yaml_token_source_t in
     let call = c.next_document in
-    linear (magnitude c.args.parser.now.max_entries) (c.linear_size.ensures.of_one (magnitude c.args.parser.now.max_entries)) t.gives t.known t.may_break
+    linear (magnitude c.args.parser.now.max_entries)
+    (c.linear_size.ensures.of_one (magnitude c.args.parser.now.max_entries)) t.gives t.known t.may_break
     c.args.parser.now call.new.parser call.result call.ensures.loads
 
 pub returns-then-has_failed-clause-faultless : goal.returns-then-has_failed-clause-faultless
@@ -62,5 +66,6 @@ pub returns-clause-faultless : goal.returns-clause-faultless
 returns-clause-faultless g c none =
     let t = g.S.yaml_token_source_t in
     let call = c.next_document in
-    faultless t.gives t.known t.may_break (next_bounded (magnitude c.args.parser.now.max_entries)) left_over c.of_history.ensures.no_fault
+    faultless t.gives t.known t.may_break (next_bounded (magnitude c.args.parser.now.max_entries)) left_over
+    c.of_history.ensures.no_fault
     c.args.parser.now call.new.parser none c.remembered.ensures call.result call.ensures.loads

@@ -7,5 +7,6 @@ use borrow.Author.Tests.{tests}
 
 pub returns : goal.returns
 returns c =
-    all_are_utf8 _ _ (cases_from_all _ _ _ PairIsUtf8 (λ pair. ¬ PairIsUtf8 pair) c.all.ensures.ran (YieldsList-from_slice c.args.pairs.now cc)
+    all_are_utf8 _ _ (cases_from_all _ _ _ PairIsUtf8 (λ pair. ¬ PairIsUtf8 pair) c.all.ensures.ran
+    (YieldsList-from_slice c.args.pairs.now cc)
     (λ x q k. search (rules, tests)) (λ x q k. search (rules, tests)))

@@ -5,7 +5,8 @@ use Rattle.line_reading.proofs.line.take_line.Goals as goal
 
 pub loop-line-preserved : goal.loop-line-preserved
 loop-line-preserved g c = record {
-  taken = moved _ _ _ c.loop-line.line.items c.take_buffered.new.line.items c.take_buffered.ensures.appends c.loop-line.invariant.taken
+  taken = moved _ _ _ c.loop-line.line.items c.take_buffered.new.line.items c.take_buffered.ensures.appends
+      c.loop-line.invariant.taken
       (rw c.in-None.is at c.in_ok-take_buffered.ensures.consumes);
   clean = kept_clean c.loop-line.line.items c.take_buffered.new.line.items c.take_buffered.ensures.appends
       c.loop-line.invariant.clean c.take_buffered.ensures.clean;

@@ -9,5 +9,6 @@ returns-clause-row c some =
     let within : number.end < length line = (c.is_byte_at-2.ensures.yes c.if-not-is_byte_at-2.false).0 in
     let index = (c.is_byte_at.ensures.yes c.if-not-is_byte_at.false).0 in
     let there = c.read_row-number.ensures.some (omega (arith, c.if-number-eq0.false)) in
-    let order = digits_before line (c.read_number-index.result.end + 1) number.end number.value (omega (arith, index)) (omega (arith, within)) there in
+    let order = digits_before line (c.read_number-index.result.end + 1) number.end number.value
+    (omega (arith, index)) (omega (arith, within)) there in
     record { order = omega (arith, order.0); within = λ _. within; some = λ _. there }

@@ -7,8 +7,10 @@ returns-then-number-eq0 c = whole_none c.args.digits.now (c.read_number-number.e
 
 pub returns-then-number-digits : goal.returns-then-number-digits
 returns-then-number-digits c =
-    whole_more c.args.digits.now _ _ (c.read_number-number.ensures.some (omega (arith, c.if-number-eq0.false))) (omega (arith, c.if-number-digits.true))
+    whole_more c.args.digits.now _ _ (c.read_number-number.ensures.some (omega (arith, c.if-number-eq0.false)))
+    (omega (arith, c.if-number-digits.true))
 
 pub returns : goal.returns
 returns c =
-    whole_some c.args.digits.now _ _ (c.read_number-number.ensures.some (omega (arith, c.if-number-eq0.false))) (omega (arith, c.if-number-digits.false))
+    whole_some c.args.digits.now _ _ (c.read_number-number.ensures.some (omega (arith, c.if-number-eq0.false)))
+    (omega (arith, c.if-number-digits.false))

@@ -9,7 +9,8 @@ returns-then-len-text c =
     let n = c.len_before-len.result in
     let whole : take (length text - (n + 1)) (drop (n + 1) text) ≡ drop (n + 1) text
     = take_all _ (drop (n + 1) text) (omega (arith, length-drop (n + 1) text)) in
-    let both = cut_here _ text n c.if-len-text.true c.len_before-len.ensures.before (c.len_before-len.ensures.found c.if-len-text.true) in
+    let both = cut_here _ text n c.if-len-text.true c.len_before-len.ensures.before
+    (c.len_before-len.ensures.found c.if-len-text.true) in
     rw whole (record { before = both.0; behind = both.1 })
 
 pub returns-else-len-text : goal.returns-else-len-text

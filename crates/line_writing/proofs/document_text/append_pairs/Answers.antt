@@ -7,5 +7,6 @@ use Rattle.line_writing.proofs.document_text.append_pairs.Goals as goal
 
 pub loop-pair-preserved : goal.loop-pair-preserved
 loop-pair-preserved c =
-    let more = fields_more pair_text c.args.pairs.now c.loop-pair.pair-index (record { key = pos 0; value = pos 0 }) c.loop-pair-test.true in
+    let more = fields_more pair_text c.args.pairs.now c.loop-pair.pair-index (record { key = pos 0; value = pos 0 })
+    c.loop-pair-test.true in
     grind (arith, common_steps, append_assoc, append-nil, more)

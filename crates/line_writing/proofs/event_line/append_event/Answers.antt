@@ -9,4 +9,5 @@ pub returns : goal.returns
 returns c =
     let name = c.in_ok-append_name.ensures ∙ ap (λ l. string_bytes c.args.line.now ++ l) (sym (append-nil _)) in
     on_ok_weaker c.append_rest.result
-    (λ rest. line_appended _ _ _ _ _ [] (_ ∷ _ ∷ []) (event_fields c.args.event.now.content) name c.in_ok-append_marks.ensures rest) c.append_rest.ensures
+    (λ rest. line_appended _ _ _ _ _ [] (_ ∷ _ ∷ []) (event_fields c.args.event.now.content) name
+    c.in_ok-append_marks.ensures rest) c.append_rest.ensures

@@ -6,5 +6,6 @@ use Rattle.line_writing.proofs.field_text.append_directives.Goals as goal
 
 pub loop-directive-preserved : goal.loop-directive-preserved
 loop-directive-preserved c =
-    let more = directive_texts-more c.args.directives.now c.loop-directive.directive-index c.directive-item.result c.loop-directive-test.true in
+    let more = directive_texts-more c.args.directives.now c.loop-directive.directive-index c.directive-item.result
+    c.loop-directive-test.true in
     grind (arith, common_steps, append_assoc, append-nil, more)

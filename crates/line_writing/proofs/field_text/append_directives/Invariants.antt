@@ -4,4 +4,5 @@ use Rattle.line_writing.proofs.field_text.append_directives.Given as goal
 
 abbrev pub invariant-loop-directive : goal.invariant-loop-directive
 invariant-loop-directive l =
-    string_bytes l.line ≡ string_bytes l.initial.line ++ behind_spaces (directive_texts (take l.directive-index l.directives))
+    string_bytes l.line ≡ string_bytes l.initial.line
+    ++ behind_spaces (directive_texts (take l.directive-index l.directives))

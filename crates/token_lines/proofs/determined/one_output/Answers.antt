@@ -12,7 +12,8 @@ returns-clause-events g c one other first second bytes written after later known
     let (e, x, run) = c.one_run.ensures.some lines.tokens lines.fault in
     let of_a = subst (λ o. WritesRunOf o (BreaksOff a.last.source) a.end (Some written) after) known a.writes in
     let of_b = subst (λ o. WritesRunOf o (BreaksOff b.last.source) b.end (Some written) later) same b.writes in
-    one_writes (BreaksOff a.last.source) (BreaksOff b.last.source) a.end b.end first second a.outcome_is b.outcome_is written after later (event_lines e) x (of_a e x run) (of_b e x run)
+    one_writes (BreaksOff a.last.source) (BreaksOff b.last.source) a.end b.end first second a.outcome_is
+    b.outcome_is written after later (event_lines e) x (of_a e x run) (of_b e x run)
 
 pub returns-clause-nodes : goal.returns-clause-nodes
 returns-clause-nodes g c one other first second bytes written after later known same a b =
@@ -20,5 +21,6 @@ returns-clause-nodes g c one other first second bytes written after later known 
     let (loads, are) = c.one_loads.ensures.some lines.tokens lines.fault in
     let of_a = subst (λ o. WritesNodesOf o (BreaksOff a.last.source) a.end (Some written) after) known a.writes in
     let of_b = subst (λ o. WritesNodesOf o (BreaksOff b.last.source) b.end (Some written) later) same b.writes in
-    one_writes (BreaksOff a.last.source) (BreaksOff b.last.source) a.end b.end first second a.outcome_is b.outcome_is written after later (loads_lines loads) (loads_ending loads)
+    one_writes (BreaksOff a.last.source) (BreaksOff b.last.source) a.end b.end first second a.outcome_is
+    b.outcome_is written after later (loads_lines loads) (loads_ending loads)
     (of_a loads are) (of_b loads are)

@@ -9,12 +9,14 @@ pub returns-clause-events : goal.returns-clause-events
 returns-clause-events c tokens old after later max first second a b =
     let lines = read_lines tokens max in
     let (e, x, run) = c.one_run.ensures.some lines.tokens lines.fault in
-    one_in_memory (event_lines e) x old after later first second a.bytes b.bytes first.outcome second.outcome refl refl (a.has e x run) (b.has e x run)
+    one_in_memory (event_lines e) x old after later first second a.bytes b.bytes first.outcome second.outcome refl
+    refl (a.has e x run) (b.has e x run)
     a.handed_out b.handed_out
 
 pub returns-clause-nodes : goal.returns-clause-nodes
 returns-clause-nodes c tokens old after later max first second a b =
     let lines = read_lines tokens max in
     let (loads, are) = c.one_loads.ensures.some lines.tokens lines.fault in
-    one_in_memory (loads_lines loads) (loads_ending loads) old after later first second a.bytes b.bytes first.outcome second.outcome refl refl (a.has loads are)
+    one_in_memory (loads_lines loads) (loads_ending loads) old after later first second a.bytes b.bytes
+    first.outcome second.outcome refl refl (a.has loads are)
     (b.has loads are) a.handed_out b.handed_out

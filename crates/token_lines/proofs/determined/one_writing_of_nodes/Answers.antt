@@ -5,5 +5,6 @@ pub returns : goal.returns
 returns g c old p q first second n written after later asked given a b one =
     let x = g.S.yaml_token_source_t in
     let say = c.of_history.ensures in
-    one_writing_of_nodes_proof x.gives x.known x.may_break g.W.Write.contents n say.needed say.begins_run say.nests old p q first second written after later asked given
+    one_writing_of_nodes_proof x.gives x.known x.may_break g.W.Write.contents n say.needed say.begins_run say.nests
+    old p q first second written after later asked given
     a b one

@@ -7,5 +7,6 @@ abbrev pub invariant-loop-directive : goal.invariant-loop-directive
 invariant-loop-directive l = record {
   directives : Puts l.initial.directives l.initial.directives_wanted
       (directive_records l.initial.texts_wanted (take l.directive-index l.members)) l.directives l.directives_wanted;
-  texts : Puts l.initial.texts l.initial.texts_wanted (directives_bytes (take l.directive-index l.members)) l.texts l.texts_wanted;
+  texts : Puts l.initial.texts l.initial.texts_wanted (directives_bytes (take l.directive-index l.members)) l.texts
+      l.texts_wanted;
 }

@@ -1,5 +1,6 @@
 use Rattle.std.proofs.Common.{◌≡◌, ◌≢◌, ◌++◌, ◌∷◌, [], All, ap, refl, sym, ◌∙◌, subst}
-use Rattle.unsafe_libyaml.proofs.WholeLoads.{LoadLaws, bare, fewer, gathers_loads, gathers_to_fault, loaded_as, loaded_next, loaded_none, loads_to, rooted}
+use Rattle.unsafe_libyaml.proofs.WholeLoads.{LoadLaws, bare, fewer, gathers_loads, gathers_to_fault, loaded_as}
+use Rattle.unsafe_libyaml.proofs.WholeLoads.{loaded_next, loaded_none, loads_to, rooted}
 use Rattle.unsafe_libyaml.proofs.WholeLoads.{tree_loads}
 use Rattle.unsafe_libyaml.proofs.WholeRuns.{gave_none, if_ok, tells}
 use Rattle.unsafe_libyaml.proofs.LargeLoads.{loads_linear}
@@ -38,8 +39,10 @@ returns-then-is_empty-clause-gathers g c =
     let t = g.S.yaml_token_source_t in
     let law = laws_of g (goal.at.returns-then-is_empty-clause-gathers g c).After-yaml_parser_load in
     let call = c.yaml_parser_load in
-    let no_root : c.in-Ok.document.nodes ≡ [] = sym c.nodes.ensures.all ∙ bare c.nodes.result.now (sym c.if-is_empty.ensures) in
-    gathers_loads t.gives t.known t.may_break c.args.source law c.loop-document.parser call.new.parser call.result call.ensures.loads
+    let no_root : c.in-Ok.document.nodes ≡ [] = sym c.nodes.ensures.all
+    ∙ bare c.nodes.result.now (sym c.if-is_empty.ensures) in
+    gathers_loads t.gives t.known t.may_break c.args.source law c.loop-document.parser call.new.parser call.result
+    call.ensures.loads
     c.loop-document.documents.items c.loop-document.invariant _ refl c.in-Ok.document c.in-Ok.is no_root refl
 
 pub returns-then-is_empty-clause-of_list : goal.returns-then-is_empty-clause-of_list
@@ -65,7 +68,8 @@ returns-then-is_empty-clause-roots g c = c.loop-document.invariant.roots
 
 pub loop-document-smaller : goal.loop-document-smaller
 loop-document-smaller g c =
-    let has_root : c.in-Ok.document.nodes ≢ [] = λ e. rooted c.nodes.result.now (sym c.if-is_empty.ensures) (c.nodes.ensures.all ∙ e) in
+    let has_root : c.in-Ok.document.nodes ≢ [] = λ e. rooted c.nodes.result.now (sym c.if-is_empty.ensures)
+    (c.nodes.ensures.all ∙ e) in
     fewer c.in-Ok.document _ _ c.in-Ok.ensures.falls has_root
 
 pub loop-document-preserved : goal.loop-document-preserved
@@ -73,10 +77,13 @@ loop-document-preserved g c =
     let t = g.S.yaml_token_source_t in
     let law = laws_of g (goal.at.loop-document-preserved g c).After-yaml_parser_load in
     let call = c.yaml_parser_load in
-    let has_root : c.in-Ok.document.nodes ≢ [] = λ e. rooted c.nodes.result.now (sym c.if-is_empty.ensures) (c.nodes.ensures.all ∙ e) in
+    let has_root : c.in-Ok.document.nodes ≢ [] = λ e. rooted c.nodes.result.now (sym c.if-is_empty.ensures)
+    (c.nodes.ensures.all ∙ e) in
     loaded_as t.gives c.args.source call.new.parser _ _ c.in_ok-push-in-Ok.ensures.items
-    (loaded_next t.gives t.known t.may_break c.args.source law c.loop-document.parser call.new.parser call.result call.ensures.loads
-    c.loop-document.documents.items c.loop-document.invariant call.ensures.between call.ensures.bound c.in-Ok.document c.in-Ok.is has_root)
+    (loaded_next t.gives t.known t.may_break c.args.source law c.loop-document.parser call.new.parser call.result
+    call.ensures.loads
+    c.loop-document.documents.items c.loop-document.invariant call.ensures.between call.ensures.bound
+    c.in-Ok.document c.in-Ok.is has_root)
 
 pub returns-in-Err-clause-gathers : goal.returns-in-Err-clause-gathers
 returns-in-Err-clause-gathers g c =
@@ -84,8 +91,10 @@ returns-in-Err-clause-gathers g c =
     let law = laws_of g (goal.at.returns-in-Err-clause-gathers g c).After-yaml_parser_load in
     let call = c.yaml_parser_load in
     if_ok c.failed_load.result _ _ c.failed_load.ensures.ok
-    (λ all r. gathers_to_fault t.gives t.known t.may_break c.args.source law c.loop-document.parser call.new.parser call.result call.ensures.loads
-    c.loop-document.documents.items c.loop-document.invariant all (ap (λ v. v.items) r.0) c.in-Err.field-0 c.in-Err.is _ c.prefix.ensures.kept r.1 r.2)
+    (λ all r. gathers_to_fault t.gives t.known t.may_break c.args.source law c.loop-document.parser call.new.parser
+    call.result call.ensures.loads
+    c.loop-document.documents.items c.loop-document.invariant all (ap (λ v. v.items) r.0) c.in-Err.field-0
+    c.in-Err.is _ c.prefix.ensures.kept r.1 r.2)
 
 pub returns-in-Err-clause-of_list : goal.returns-in-Err-clause-of_list
 returns-in-Err-clause-of_list g c l f a h k =
@@ -112,10 +121,12 @@ returns-in-Err-clause-of_cut_tree g c before token behind cut f fits waited k =
 
 pub returns-then-is_empty-clause-linear : goal.returns-then-is_empty-clause-linear
 returns-then-is_empty-clause-linear g c
-    = loads_linear c.one_run.ensures.some c.four_events.ensures.events c.linear_size.ensures.first_of_loads g.S.yaml_token_source_t.gives c.args.source _
+    = loads_linear c.one_run.ensures.some c.four_events.ensures.events c.linear_size.ensures.first_of_loads
+    g.S.yaml_token_source_t.gives c.args.source _
     (returns-then-is_empty-clause-gathers g c)
 
 pub returns-in-Err-clause-linear : goal.returns-in-Err-clause-linear
 returns-in-Err-clause-linear g c
     = if_ok c.failed_load.result _ _ (returns-in-Err-clause-gathers g c)
-    (loads_linear c.one_run.ensures.some c.four_events.ensures.events c.linear_size.ensures.first_of_loads g.S.yaml_token_source_t.gives c.args.source)
+    (loads_linear c.one_run.ensures.some c.four_events.ensures.events c.linear_size.ensures.first_of_loads
+    g.S.yaml_token_source_t.gives c.args.source)

@@ -7,4 +7,5 @@ use Rattle.yaml_path.proofs.step.found_value.Given as goal
 -- the first pair of the key is among those to come
 abbrev pub invariant-loop-pair : goal.invariant-loop-pair
 invariant-loop-pair l =
-    option_map (λ (pair : yaml_node_pair_t). pair.value) (pair_of l.document.nodes l.key (drop l.pair-index l.pairs)) ≡ value_at l.document.nodes l.id l.key
+    option_map (λ (pair : yaml_node_pair_t). pair.value)
+    (pair_of l.document.nodes l.key (drop l.pair-index l.pairs)) ≡ value_at l.document.nodes l.id l.key

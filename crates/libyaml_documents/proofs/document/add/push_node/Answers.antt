@@ -14,4 +14,5 @@ invariant_of-document c =
 pub returns-clause-types_kept : goal.returns-clause-types_kept
 returns-clause-types_kept c =
     subst (λ (d : Document). KeepsTypes d.nodes c.push.new.self.items) c.document.view_is
-    (KeepsTypes-pushed (is_ok c.push.result) c.document.inside.nodes.items c.push.new.self.items c.args.node c.push.ensures.items)
+    (KeepsTypes-pushed (is_ok c.push.result) c.document.inside.nodes.items c.push.new.self.items c.args.node
+    c.push.ensures.items)

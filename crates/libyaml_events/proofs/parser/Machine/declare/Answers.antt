@@ -9,5 +9,6 @@ returns-in-Ok-insert-clause-before g c =
 
 pub returns-in-Ok-insert-clause-ok : goal.returns-in-Ok-insert-clause-ok
 returns-in-Ok-insert-clause-ok g c =
-    let made = one_declared c.self.inside.handles c.insert.new.self c.in-Ok.handle c.in-Ok-from_str.prefix c.in-Ok-insert.ensures.updates in
+    let made = one_declared c.self.inside.handles c.insert.new.self c.in-Ok.handle c.in-Ok-from_str.prefix
+    c.in-Ok-insert.ensures.updates in
     rw (← c.self.view_is, made, c.in-Ok.ensures.ok, c.in-Ok-from_str.ensures.ok)

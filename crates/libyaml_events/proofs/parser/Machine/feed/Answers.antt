@@ -1,9 +1,11 @@
 use Rattle.std.proofs.Common.{◌≤◌, arith, rules, sym}
 use Rattle.std.specs.Vec.{vec_capacity}
 use Rattle.libyaml_events.proofs.pushes.Feeding.{not_both}
-use Rattle.libyaml_events.proofs.pushes.Taking.{taking_begins, wants_next, none_held, fails_onto, onto_kept, goes_on, is_done, step_falls}
+use Rattle.libyaml_events.proofs.pushes.Taking.{taking_begins, wants_next, none_held, fails_onto, onto_kept, goes_on}
+use Rattle.libyaml_events.proofs.pushes.Taking.{is_done, step_falls}
 use Rattle.libyaml_events.specs.machine.Answers.{wanted}
-use Rattle.libyaml_events.proofs.parser.Machine.feed.Goals.{then-not-take_held-via-then-not-take_held, then-not-take_held-via-else-not-take_held+then-is_over}
+use Rattle.libyaml_events.proofs.parser.Machine.feed.Goals.{then-not-take_held-via-then-not-take_held}
+use Rattle.libyaml_events.proofs.parser.Machine.feed.Goals.{then-not-take_held-via-else-not-take_held+then-is_over}
 use Rattle.libyaml_events.proofs.parser.Machine.feed.Goals as goal
 
 pub loop-error-init : goal.loop-error-init
@@ -23,13 +25,16 @@ returns-in-Ok-Wants-clause-takes g c =
     rw s.1 (wants_next _ _ _ _ _ _ _ _ _ c.loop-error.invariant.1 _ _ s.0)
 
 pub returns-in-Err-clause-kept : goal.returns-in-Err-clause-kept
-returns-in-Err-clause-kept g c = rw c.let_go.ensures (onto_kept (Unit {0}) _ _ _ _ _ _ _ _ c.loop-error.invariant.1 _ _ _ c.in-Err.ensures.steps.0)
+returns-in-Err-clause-kept g c =
+    rw c.let_go.ensures (onto_kept (Unit {0}) _ _ _ _ _ _ _ _ c.loop-error.invariant.1 _ _ _
+    c.in-Err.ensures.steps.0)
 
 pub returns-in-Err-clause-takes : goal.returns-in-Err-clause-takes
 returns-in-Err-clause-takes g c =
     let room : vec_capacity c.args.events.now ≤ vec_capacity c.loop-error.events = c.loop-error.invariant.0 in
     rw c.let_go.ensures
-    (fails_onto _ _ _ _ _ _ _ _ _ c.loop-error.invariant.1 _ (λ full. omega (arith, room, full)) _ _ _ _ c.in-Err.ensures.steps.0 c.in-Err.ensures.steps.1)
+    (fails_onto _ _ _ _ _ _ _ _ _ c.loop-error.invariant.1 _ (λ full. omega (arith, room, full)) _ _ _ _
+    c.in-Err.ensures.steps.0 c.in-Err.ensures.steps.1)
 
 pub returns-then-not-take_held-clause-takes : goal.returns-then-not-take_held-clause-takes
 returns-then-not-take_held-clause-takes g c =
@@ -38,14 +43,16 @@ returns-then-not-take_held-clause-takes g c =
     (is_done _ _ _ _ _ _ _ _ _ c.loop-error.invariant.1 _ c.step_onto.new.self s.1 _ s.2 _ _ c.take_held.ensures.token
     (λ h. elim c.then-not-take_held.branch [
       | then-not-take_held-via-then-not-take_held w ↦ absurd (not_both _ w.if-not-take_held.true h)
-      | then-not-take_held-via-else-not-take_held+then-is_over w ↦ rw c.take_held.ensures.taken at (sym w.if-is_over.ensures)
+      | then-not-take_held-via-else-not-take_held+then-is_over w ↦
+          rw c.take_held.ensures.taken at (sym w.if-is_over.ensures)
     ]))
 
 pub loop-error-smaller : goal.loop-error-smaller
 loop-error-smaller g c =
     let s = rw c.in-Ok-Given.field-0-is at c.in-Ok-Given.ensures.steps in
     rw c.take_held.ensures.taken
-    (step_falls (wanted c.loop-error.pending) c.loop-error.self.config c.loop-error.token s.0 c.step_onto.new.self.config c.take_held.new.token
+    (step_falls (wanted c.loop-error.pending) c.loop-error.self.config c.loop-error.token s.0
+    c.step_onto.new.self.config c.take_held.new.token
     c.loop-error.invariant.1.none s.1.0 c.if-not-take_held.ensures.token)
 
 pub loop-error-preserved : goal.loop-error-preserved

@@ -1,6 +1,7 @@
 use Rattle.std.proofs.Common.{◌≡◌, Err, ap, rules}
 use Rattle.libyaml_events.specs.machine.Config.{taken, with_config}
-use Rattle.libyaml_events.proofs.calls.CallLemmas.{fetched, faulted, gave_event, gave_fault, may_enter, not_entered, takes_one, wants_more}
+use Rattle.libyaml_events.proofs.calls.CallLemmas.{fetched, faulted, gave_event, gave_fault, may_enter, not_entered}
+use Rattle.libyaml_events.proofs.calls.CallLemmas.{takes_one, wants_more}
 use Rattle.libyaml_events.proofs.calls.LetGo.{fault_left, steps_empty}
 use Rattle.libyaml_events.proofs.parser.Machine.fill.Goals as goal
 
@@ -8,7 +9,8 @@ pub returns-in-Err-clause-call : goal.returns-in-Err-clause-call
 returns-in-Err-clause-call g c =
     let h = c.in-Err.ensures.err.1 in
     rw c.let_go.ensures (not_entered g.S.yaml_token_source_t.gives _ c.requires c.in-Err.error _ h.token h.stayed
-    (steps_empty _ (with_config c.args.self.now (taken c.args.self.now.config)) c.enter.new.self c.in-Err.error h.steps) h.grows)
+    (steps_empty _ (with_config c.args.self.now (taken c.args.self.now.config)) c.enter.new.self c.in-Err.error
+    h.steps) h.grows)
 
 pub loop-self-init : goal.loop-self-init
 loop-self-init g c = may_enter g.S.yaml_token_source_t.gives _ c.requires _ _ _ c.in-Ok.ensures.ok
@@ -42,6 +44,7 @@ loop-self-preserved g c =
     wants_more g.S.yaml_token_source_t.gives _ _ _ _ hand _ _ (rw c.in-Wants.is at c.in-Ok-step.ensures.steps)
 
 pub loop-self-smaller : goal.loop-self-smaller
-loop-self-smaller g c = takes_one g.S.yaml_token_source_t.gives g.S.yaml_token_source_t.bound g.met.S.yaml_token_source_t.falls c.loop-self.self
+loop-self-smaller g c = takes_one g.S.yaml_token_source_t.gives g.S.yaml_token_source_t.bound
+    g.met.S.yaml_token_source_t.falls c.loop-self.self
     c.next_token.new.self c.step.new.self _ c.in_ok-next_token.ensures.fetches
     (let h = rw c.in-Wants.is at c.in-Ok-step.ensures.steps in (h.1, h.3))

@@ -11,5 +11,6 @@ returns-clause-earlier c =
 
 pub returns-clause-registered : goal.returns-clause-registered
 returns-clause-registered c =
-    let made = one_registered c.self.inside.inner c.insert.new.self c.args.anchor c.args.carrier c.in_ok-insert.ensures.updates in
+    let made = one_registered c.self.inside.inner c.insert.new.self c.args.anchor c.args.carrier
+    c.in_ok-insert.ensures.updates in
     rw (← c.self.view_is) made

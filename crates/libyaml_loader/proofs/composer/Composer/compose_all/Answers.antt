@@ -13,10 +13,13 @@ returns-in_err-compose-clause-composes c =
     = drop_more l.event-items l.event-index c.event-item.result lt in
     let room : vec_capacity c.args.documents.now ≤ vec_capacity l.documents = l.invariant.0 in
     let err : c.from_residual.result ≡ Err c.in_err-compose.field-0.0 = search rules in
-    refused_turn c.args.self.now l.self c.compose.new.self c.args.events.now.items c.args.documents.now.items l.documents.items c.compose.new.documents.items e
+    refused_turn c.args.self.now l.self c.compose.new.self c.args.events.now.items c.args.documents.now.items
+    l.documents.items c.compose.new.documents.items e
     (drop (l.event-index + 1) l.event-items)
-    (subst (λ y. InTurn c.args.self.now c.args.events.now.items c.args.documents.now.items l.self y l.documents.items) here (rw c.deref_mut-event-items.ensures.value at l.invariant.1))
-    _ _ (λ full. omega (arith, room, full)) c.compose.result c.from_residual.result c.in_err-compose.field-0.0 c.in_err-compose.field-0.0 c.in_err-compose.was err c.compose.ensures.composes
+    (subst (λ y. InTurn c.args.self.now c.args.events.now.items c.args.documents.now.items l.self y
+    l.documents.items) here (rw c.deref_mut-event-items.ensures.value at l.invariant.1))
+    _ _ (λ full. omega (arith, room, full)) c.compose.result c.from_residual.result c.in_err-compose.field-0.0
+    c.in_err-compose.field-0.0 c.in_err-compose.was err c.compose.ensures.composes
 
 pub loop-event-preserved : goal.loop-event-preserved
 loop-event-preserved c =
@@ -30,9 +33,13 @@ loop-event-preserved c =
     in
     let left = drop-set-lt (l.event-index + 1) l.event-items l.event-index c.compose.new.event (omega arith) in (
       room,
-      subst (λ y. InTurn c.args.self.now c.deref_mut-event-items.result.now c.args.documents.now.items c.compose.new.self y c.compose.new.documents.items) (sym left)
-          (next_turn c.args.self.now l.self c.compose.new.self _ _ _ c.compose.new.documents.items e (drop (l.event-index + 1) l.event-items)
-          (subst (λ y. InTurn c.args.self.now c.deref_mut-event-items.result.now c.args.documents.now.items l.self y l.documents.items) here l.invariant.1)
-          _ c.compose.result c.in_ok-compose.field-0 c.in_ok-compose.was c.compose.ensures.composes c.compose.ensures.sound c.compose.ensures.bound
+      subst (λ y. InTurn c.args.self.now c.deref_mut-event-items.result.now c.args.documents.now.items
+          c.compose.new.self y c.compose.new.documents.items) (sym left)
+          (next_turn c.args.self.now l.self c.compose.new.self _ _ _ c.compose.new.documents.items e
+          (drop (l.event-index + 1) l.event-items)
+          (subst (λ y. InTurn c.args.self.now c.deref_mut-event-items.result.now c.args.documents.now.items l.self y
+          l.documents.items) here l.invariant.1)
+          _ c.compose.result c.in_ok-compose.field-0 c.in_ok-compose.was c.compose.ensures.composes
+          c.compose.ensures.sound c.compose.ensures.bound
           (rw c.in_ok-compose.was at c.compose.ensures.fault)),
     )

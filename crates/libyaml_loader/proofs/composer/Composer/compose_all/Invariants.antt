@@ -5,4 +5,5 @@ use Rattle.libyaml_loader.proofs.composer.Composer.compose_all.Given as goal
 
 abbrev pub invariant-loop-event : goal.invariant-loop-event
 invariant-loop-event l = (vec_capacity l.fn.documents ≤ vec_capacity l.documents)
-    × InTurn l.initial.self l.initial.event-items l.initial.documents.items l.self (drop l.event-index l.event-items) l.documents.items
+    × InTurn l.initial.self l.initial.event-items l.initial.documents.items l.self
+    (drop l.event-index l.event-items) l.documents.items

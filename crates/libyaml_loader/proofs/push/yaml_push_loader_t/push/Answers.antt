@@ -5,7 +5,8 @@ use Rattle.libyaml_sources.specs.Fault.{fault_of}
 use Rattle.libyaml_loader.specs.pushes.Composing.{state_of}
 use Rattle.libyaml_loader.specs.pushes.Loaded.{standing}
 use Rattle.libyaml_loader.specs.pushes.PushesLoads.{PushesLoads}
-use Rattle.libyaml_loader.proofs.pushes.Pushing.{PushLaws, kept_fault, on_ok, push_remembers, pushes_failed, pushes_ok, pushes_refused}
+use Rattle.libyaml_loader.proofs.pushes.Pushing.{PushLaws, kept_fault, on_ok, push_remembers, pushes_failed, pushes_ok}
+use Rattle.libyaml_loader.proofs.pushes.Pushing.{pushes_refused}
 use Rattle.libyaml_loader.proofs.push.yaml_push_loader_t.push.Goals as goal
 
 pub returns-in_err-composed : goal.returns-in_err-composed
@@ -23,18 +24,25 @@ returns-in_err-composed c =
     let pushed = c.push_from-pushed in
     let composed = c.compose_all-composed in
     let first = c.self.inside.composer in
-    let so = subst (λ y. Pushes (vec_capacity c.self.inside.events ≤ vec_len pushed.new.events) c.self.inside.parser c.args.token y pushed.result pushed.new.self pushed.new.events.items)
+    let so = subst (λ y. Pushes (vec_capacity c.self.inside.events ≤ vec_len pushed.new.events) c.self.inside.parser
+    c.args.token y pushed.result pushed.new.self pushed.new.events.items)
     c.self.invariant.0 pushed.ensures in
     let none : done_by (fault_of first.fault) ≡ Ok tt = sym c.kept.ensures ∙ c.in_ok-kept.was in
     let same = on_ok (composed.new.self.fault ≡ first.fault) composed.result composed.ensures.fault in
     let err : c.from_residual-in_err-composed.result ≡ Err c.in_err-composed.field-0.0 = search rules in
-    subst (λ y. PushesLoads (vec_capacity c.args.documents.now ≤ vec_len composed.new.documents) y c.args.token c.args.documents.now.items c.from_residual-in_err-composed.result
-    (standing pushed.new.self (state_of composed.new.self.open) (fault_of composed.new.self.fault) composed.new.self.max_entries) composed.new.documents.items) c.self.view_is
+    subst (λ y. PushesLoads (vec_capacity c.args.documents.now ≤ vec_len composed.new.documents) y c.args.token
+    c.args.documents.now.items c.from_residual-in_err-composed.result
+    (standing pushed.new.self (state_of composed.new.self.open) (fault_of composed.new.self.fault)
+    composed.new.self.max_entries) composed.new.documents.items) c.self.view_is
     (subst (λ z. PushesLoads (vec_capacity c.args.documents.now ≤ vec_len composed.new.documents)
-    (standing c.self.inside.parser (state_of first.open) (fault_of first.fault) first.max_entries) c.args.token c.args.documents.now.items z
-    (standing pushed.new.self (state_of composed.new.self.open) (fault_of composed.new.self.fault) composed.new.self.max_entries) composed.new.documents.items) (sym err)
-    (pushes_refused law _ _ c.self.inside.parser pushed.new.self c.args.token pushed.new.events.items pushed.result so first composed.new.self c.args.documents.now.items composed.new.documents.items
-    composed.result composed.ensures.composes composed.ensures.none composed.ensures.bound composed.ensures.kept same none c.in_err-composed.field-0.0 c.in_err-composed.was))
+    (standing c.self.inside.parser (state_of first.open) (fault_of first.fault) first.max_entries) c.args.token
+    c.args.documents.now.items z
+    (standing pushed.new.self (state_of composed.new.self.open) (fault_of composed.new.self.fault)
+    composed.new.self.max_entries) composed.new.documents.items) (sym err)
+    (pushes_refused law _ _ c.self.inside.parser pushed.new.self c.args.token pushed.new.events.items pushed.result
+    so first composed.new.self c.args.documents.now.items composed.new.documents.items
+    composed.result composed.ensures.composes composed.ensures.none composed.ensures.bound composed.ensures.kept
+    same none c.in_err-composed.field-0.0 c.in_err-composed.was))
 
 pub returns-in-Err : goal.returns-in-Err
 returns-in-Err c =
@@ -51,18 +59,25 @@ returns-in-Err c =
     let pushed = c.push_from-pushed in
     let composed = c.compose_all-composed in
     let first = c.self.inside.composer in
-    let so = subst (λ y. Pushes (vec_capacity c.self.inside.events ≤ vec_len pushed.new.events) c.self.inside.parser c.args.token y pushed.result pushed.new.self pushed.new.events.items)
+    let so = subst (λ y. Pushes (vec_capacity c.self.inside.events ≤ vec_len pushed.new.events) c.self.inside.parser
+    c.args.token y pushed.result pushed.new.self pushed.new.events.items)
     c.self.invariant.0 pushed.ensures in
     let none : done_by (fault_of first.fault) ≡ Ok tt = sym c.kept.ensures ∙ c.in_ok-kept.was in
     let same = on_ok (composed.new.self.fault ≡ first.fault) composed.result composed.ensures.fault in
     let now = c.keep.new.self in
-    let is = kept_fault pushed.new.self now composed.new.self.max_entries _ c.keep.ensures.open (ap fault_of c.keep.ensures.fault ∙ c.prefix.ensures.kept) c.keep.ensures.bound in
-    subst (λ y. PushesLoads (vec_capacity c.args.documents.now ≤ vec_len composed.new.documents) y c.args.token c.args.documents.now.items (Err c.in-Err.error)
-    (standing pushed.new.self (state_of now.open) (fault_of now.fault) now.max_entries) composed.new.documents.items) c.self.view_is
+    let is = kept_fault pushed.new.self now composed.new.self.max_entries _ c.keep.ensures.open
+    (ap fault_of c.keep.ensures.fault ∙ c.prefix.ensures.kept) c.keep.ensures.bound in
+    subst (λ y. PushesLoads (vec_capacity c.args.documents.now ≤ vec_len composed.new.documents) y c.args.token
+    c.args.documents.now.items (Err c.in-Err.error)
+    (standing pushed.new.self (state_of now.open) (fault_of now.fault) now.max_entries)
+    composed.new.documents.items) c.self.view_is
     (subst (λ z. PushesLoads (vec_capacity c.args.documents.now ≤ vec_len composed.new.documents)
-    (standing c.self.inside.parser (state_of first.open) (fault_of first.fault) first.max_entries) c.args.token c.args.documents.now.items (Err c.in-Err.error) z composed.new.documents.items) is
-    (pushes_failed law _ _ c.self.inside.parser pushed.new.self c.args.token pushed.new.events.items pushed.result so first composed.new.self c.args.documents.now.items composed.new.documents.items
-    composed.result composed.ensures.composes composed.ensures.none composed.ensures.bound composed.ensures.kept same none c.self.invariant.2 c.in_ok-composed.field-0 c.in-Err.error
+    (standing c.self.inside.parser (state_of first.open) (fault_of first.fault) first.max_entries) c.args.token
+    c.args.documents.now.items (Err c.in-Err.error) z composed.new.documents.items) is
+    (pushes_failed law _ _ c.self.inside.parser pushed.new.self c.args.token pushed.new.events.items pushed.result
+    so first composed.new.self c.args.documents.now.items composed.new.documents.items
+    composed.result composed.ensures.composes composed.ensures.none composed.ensures.bound composed.ensures.kept
+    same none c.self.invariant.2 c.in_ok-composed.field-0 c.in-Err.error
     c.in_ok-composed.was c.in-Err.is))
 
 pub returns : goal.returns
@@ -80,14 +95,19 @@ returns c =
     let pushed = c.push_from-pushed in
     let composed = c.compose_all-composed in
     let first = c.self.inside.composer in
-    let so = subst (λ y. Pushes (vec_capacity c.self.inside.events ≤ vec_len pushed.new.events) c.self.inside.parser c.args.token y pushed.result pushed.new.self pushed.new.events.items)
+    let so = subst (λ y. Pushes (vec_capacity c.self.inside.events ≤ vec_len pushed.new.events) c.self.inside.parser
+    c.args.token y pushed.result pushed.new.self pushed.new.events.items)
     c.self.invariant.0 pushed.ensures in
     let none : done_by (fault_of first.fault) ≡ Ok tt = sym c.kept.ensures ∙ c.in_ok-kept.was in
     let same = on_ok (composed.new.self.fault ≡ first.fault) composed.result composed.ensures.fault in
-    subst (λ y. PushesLoads (vec_capacity c.args.documents.now ≤ vec_len composed.new.documents) y c.args.token c.args.documents.now.items (Ok tt)
-    (standing pushed.new.self (state_of composed.new.self.open) (fault_of composed.new.self.fault) composed.new.self.max_entries) composed.new.documents.items) c.self.view_is
-    (pushes_ok law _ _ c.self.inside.parser pushed.new.self c.args.token pushed.new.events.items pushed.result so first composed.new.self c.args.documents.now.items composed.new.documents.items
-    composed.result composed.ensures.composes composed.ensures.none composed.ensures.bound composed.ensures.kept same none c.in_ok-composed.field-0 c.in_default.field-0 c.in_ok-composed.was c.in_default.is)
+    subst (λ y. PushesLoads (vec_capacity c.args.documents.now ≤ vec_len composed.new.documents) y c.args.token
+    c.args.documents.now.items (Ok tt)
+    (standing pushed.new.self (state_of composed.new.self.open) (fault_of composed.new.self.fault)
+    composed.new.self.max_entries) composed.new.documents.items) c.self.view_is
+    (pushes_ok law _ _ c.self.inside.parser pushed.new.self c.args.token pushed.new.events.items pushed.result so
+    first composed.new.self c.args.documents.now.items composed.new.documents.items
+    composed.result composed.ensures.composes composed.ensures.none composed.ensures.bound composed.ensures.kept
+    same none c.in_ok-composed.field-0 c.in_default.field-0 c.in_ok-composed.was c.in_default.is)
 
 pub invariant_of-self-in_default : goal.invariant_of-self-in_default
 invariant_of-self-in_default c =
@@ -104,11 +124,18 @@ invariant_of-self-in_default c =
     let pushed = c.push_from-pushed in
     let composed = c.compose_all-composed in
     let first = c.self.inside.composer in
-    let so = subst (λ y. Pushes (vec_capacity c.self.inside.events ≤ vec_len pushed.new.events) c.self.inside.parser c.args.token y pushed.result pushed.new.self pushed.new.events.items)
+    let so = subst (λ y. Pushes (vec_capacity c.self.inside.events ≤ vec_len pushed.new.events) c.self.inside.parser
+    c.args.token y pushed.result pushed.new.self pushed.new.events.items)
     c.self.invariant.0 pushed.ensures in
     let none : done_by (fault_of first.fault) ≡ Ok tt = sym c.kept.ensures ∙ c.in_ok-kept.was in
     let same = on_ok (composed.new.self.fault ≡ first.fault) composed.result composed.ensures.fault in
-    let p = pushes_ok law _ _ c.self.inside.parser pushed.new.self c.args.token pushed.new.events.items pushed.result so first composed.new.self c.args.documents.now.items composed.new.documents.items
-    composed.result composed.ensures.composes composed.ensures.none composed.ensures.bound composed.ensures.kept same none c.in_ok-composed.field-0 c.in_default.field-0
-    c.in_ok-composed.was c.in_default.is in
-    (c.clear.ensures.items, composed.ensures.sound, push_remembers law (vec_capacity c.args.documents.now ≤ vec_len composed.new.documents) _ _ c.args.token _ _ _ p c.self.invariant.2)
+    let p = pushes_ok law _ _ c.self.inside.parser pushed.new.self c.args.token pushed.new.events.items
+    pushed.result so first composed.new.self c.args.documents.now.items composed.new.documents.items
+    composed.result composed.ensures.composes composed.ensures.none composed.ensures.bound composed.ensures.kept
+    same none c.in_ok-composed.field-0 c.in_default.field-0
+    c.in_ok-composed.was c.in_default.is in (
+      c.clear.ensures.items,
+      composed.ensures.sound,
+      push_remembers law (vec_capacity c.args.documents.now ≤ vec_len composed.new.documents) _ _ c.args.token _ _ _
+          p c.self.invariant.2,
+    )

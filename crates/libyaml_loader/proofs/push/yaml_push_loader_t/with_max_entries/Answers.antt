@@ -18,7 +18,8 @@ invariant_of-result c =
         record {
           events = [];
           pushed = c.new.ensures.begins;
-          leads = subst (λ (o : Option loader_ctx). Leads composer.max_entries between [] [] (state_of o)) (sym none) (leads_none composer.max_entries between);
+          leads = subst (λ (o : Option loader_ctx). Leads composer.max_entries between [] [] (state_of o))
+              (sym none) (leads_none composer.max_entries between);
           none_kept = c.new-2.ensures.fault;
         },
       ),

@@ -9,6 +9,7 @@ returns-in-Err-clause-gives g c =
     let source = source_at from.reader from.given from.max_tokens from.problem in
     let none : source.fault ≡ None = search rules in
     rw (← c.self.view_is, c.keep-in-Err.ensures.kept) (
-    gives_no_line g.R.Read.remaining source c.read_line.new.reader c.in-Err.problem _ none c.if-self.false c.keep-in-Err.ensures.fault
+    gives_no_line g.R.Read.remaining source c.read_line.new.reader c.in-Err.problem _ none c.if-self.false
+    c.keep-in-Err.ensures.fault
     c.in-Err.ensures.none
     )

@@ -11,8 +11,10 @@ returns c =
     let known = known_of (λ s. Some s.now) in
     record {
       bytes = bytes_of c.hand_out.result.outcome c.as_slice.result.now;
-      has = λ events ending is. has_bytes run.new.parser.source.given run.result c.hand_out.result.outcome c.new-bytes.result.items run.new.writer.items
+      has = λ events ending is. has_bytes run.new.parser.source.given run.result c.hand_out.result.outcome
+          c.new-bytes.result.items run.new.writer.items
           c.as_slice.result.now _ _ c.new-bytes.ensures.items c.as_slice.ensures.value c.hand_out.ensures.outcome
-          (run.ensures.writes events ending (parser.ensures.run_to_come known _ _ c.new-source.ensures.reads events ending is));
+          (run.ensures.writes events ending
+          (parser.ensures.run_to_come known _ _ c.new-source.ensures.reads events ending is));
       handed_out = c.hand_out.ensures.bytes;
     }

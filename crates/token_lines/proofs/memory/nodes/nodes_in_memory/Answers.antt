@@ -21,7 +21,8 @@ returns c =
     let Wrote = WritesLoads (BreaksOff run.new.parser.source) run.result old new in
     record {
       bytes = bytes_of c.hand_out.result.outcome c.as_slice.result.now;
-      has = λ loads is. has_bytes run.new.parser.source.given run.result c.hand_out.result.outcome c.new-bytes.result.items run.new.writer.items
+      has = λ loads is. has_bytes run.new.parser.source.given run.result c.hand_out.result.outcome
+          c.new-bytes.result.items run.new.writer.items
           c.as_slice.result.now _ _ c.new-bytes.ensures.items c.as_slice.ensures.value c.hand_out.ensures.outcome
           (subst (λ (l : List Load). Wrote l) (sym is.all)
           (writes_all _ _ _ _ _ _ (front_of_loads is.events is.ending most_entries)

@@ -13,7 +13,11 @@ returns g c =
       outcome_is = c.outcome.ensures;
       first = parser.result;
       last = run.new.parser;
-      starts = record { source = ap (λ p. p.source) parser.ensures.value ∙ c.new-source.ensures.value; begins = parser.ensures.begins };
+      starts = record {
+        source = ap (λ p. p.source) parser.ensures.value ∙ c.new-source.ensures.value;
+        begins =
+            parser.ensures.begins;
+      };
       writes = writes_of_lines _ _ (λ tokens f e events ending is.
           run.ensures.writes events ending
           (parser.ensures.run_to_come known tokens f (ap known c.new-source.ensures.value ∙ e) events ending is));

@@ -10,7 +10,8 @@ use Rattle.line_writing.specs.EventText.{event_line}
 use Rattle.token_lines.specs.events.EventRun.{event_lines}
 use Rattle.token_lines.specs.events.LastCall.{WroteForEvent}
 use Rattle.token_lines.specs.lines.LineRun.{WroteFault}
-use Rattle.token_lines.proofs.events.LastCallLemmas.{ends_by, fails_by, output_fails, written_no_end, failed_no_end, output_no_end}
+use Rattle.token_lines.proofs.events.LastCallLemmas.{ends_by, fails_by, output_fails, written_no_end, failed_no_end}
+use Rattle.token_lines.proofs.events.LastCallLemmas.{output_no_end}
 use Rattle.token_lines.proofs.events.InTurnLemmas.{last_call, none_yet, one_more}
 use Rattle.token_lines.proofs.events.StepLemmas.{all_lines, lines_and_fault}
 use Rattle.token_lines.proofs.lines.RunLemmas.{writes_ended, writes_faulted}
@@ -29,17 +30,22 @@ returns-in-Ended-clause-writes g c events ending run =
     let before = contents c.args.writer.now in
     let after = contents c.flushed.new.writer in
     let nothing = c.items_in_turn.ensures.end in
-    writes_ended (t.may_break c.write_next.new.parser.source) c.flushed.result before after (event_lines events) ending c.flushed.ensures.end
+    writes_ended (t.may_break c.write_next.new.parser.source) c.flushed.result before after (event_lines events)
+    ending c.flushed.ensures.end
     (either_way (is_over first)
     (λ (over : is_over first ≡ true).
     let still = at.invariant.ended over in
     let last = c.in-Ended.ensures.ended (ap is_over still.0 ∙ over) in
     let none = nothing first over events ending run in
-    let kept = subst (λ w. Keeps (contents w) after) (last.2 ∙ still.1) c.flushed.ensures.keeps in
-    (none.1, subst (λ (l : List yaml_event_t). Appends before after (concat (event_lines l))) (sym none.0) (Appends-kept before before after [] (Appends-nil before) kept)))
+    let kept = subst (λ w. Keeps (contents w) after) (last.2 ∙ still.1) c.flushed.ensures.keeps in (
+      none.1,
+      subst (λ (l : List yaml_event_t). Appends before after (concat (event_lines l))) (sym none.0)
+          (Appends-kept before before after [] (Appends-nil before) kept),
+    ))
     (λ (running : is_over first ≡ false).
     let w = at.invariant.in_turn running run.asked run.given run.history in
-    all_lines t.gives t.known t.may_break first at.parser c.write_next.new.parser before (contents at.writer) (contents c.write_next.new.writer) after events
+    all_lines t.gives t.known t.may_break first at.parser c.write_next.new.parser before (contents at.writer)
+    (contents c.write_next.new.writer) after events
     ending run w c.rest_of_run.ensures.further nothing
     (c.in-Ended.ensures.turn w.running (run.asked ++ w.more) (run.given ++ w.events) w.history) c.flushed.ensures.keeps))
 
@@ -53,26 +59,31 @@ returns-in-Failed-clause-writes g c events ending run =
     let may_break = t.may_break c.write_next.new.parser.source in
     let before = contents c.args.writer.now in
     let after = contents c.faulted.new.writer in
-    writes_faulted may_break c.faulted.result (fault_of fault) before (contents c.write_next.new.writer) after (event_lines events) ending c.faulted.ensures
+    writes_faulted may_break c.faulted.result (fault_of fault) before (contents c.write_next.new.writer) after
+    (event_lines events) ending c.faulted.ensures
     (λ told. either_way (is_over first)
-    (λ (over : is_over first ≡ true). failed_no_end fault (c.in-Failed.ensures.ended (ap is_over (at.invariant.ended over).0 ∙ over)).0)
+    (λ (over : is_over first ≡ true). failed_no_end fault
+    (c.in-Failed.ensures.ended (ap is_over (at.invariant.ended over).0 ∙ over)).0)
     (λ (running : is_over first ≡ false).
     let w = at.invariant.in_turn running run.asked run.given run.history in
-    lines_and_fault t.gives t.known t.may_break first at.parser c.write_next.new.parser before (contents at.writer) (contents c.write_next.new.writer) after events
+    lines_and_fault t.gives t.known t.may_break first at.parser c.write_next.new.parser before (contents at.writer)
+    (contents c.write_next.new.writer) after events
     ending run w c.rest_of_run.ensures.further c.rest_of_run.ensures.fails_behind fault
     (c.in-Failed.ensures.turn w.running (run.asked ++ w.more) (run.given ++ w.events) w.history) told))
 
 pub loop-writer-init : goal.loop-writer-init
 loop-writer-init g c = record {
   ended = λ ended. (refl, refl);
-  in_turn = λ running asked given history. none_yet event_line g.S.yaml_token_source_t.gives _ _ asked given history running;
+  in_turn = λ running asked given history. none_yet event_line g.S.yaml_token_source_t.gives _ _ asked given history
+      running;
 }
 
 pub loop-writer-preserved : goal.loop-writer-preserved
 loop-writer-preserved g c = record {
   ended = λ ended. written_no_end
       (c.in-Written.ensures.ended (ap is_over (c.loop-writer.invariant.ended ended).0 ∙ ended)).0;
-  in_turn = λ not_ended asked given history. one_more event_line g.S.yaml_token_source_t.gives _ c.loop-writer.parser c.write_next.new.parser _ _ _ asked given
+  in_turn = λ not_ended asked given history. one_more event_line g.S.yaml_token_source_t.gives _
+      c.loop-writer.parser c.write_next.new.parser _ _ _ asked given
       (c.loop-writer.invariant.in_turn not_ended asked given history) c.in-Written.ensures.turn;
 }
 
@@ -102,7 +113,9 @@ returns-in-OutputFailed-clause-ended g c ended
 pub returns-in-Ended-clause-in_turn : goal.returns-in-Ended-clause-in_turn
 returns-in-Ended-clause-in_turn g c not_ended asked given history =
     let gives = g.S.yaml_token_source_t.gives in
-    last_call event_line gives (WroteForEvent c.flushed.result) (WroteFault c.flushed.result) g.W.Write.contents _ c.loop-writer.parser c.write_next.new.parser c.loop-writer.writer (g.W.Write.contents c.args.writer.now) _ asked
+    last_call event_line gives (WroteForEvent c.flushed.result) (WroteFault c.flushed.result) g.W.Write.contents _
+    c.loop-writer.parser c.write_next.new.parser c.loop-writer.writer (g.W.Write.contents c.args.writer.now) _
+    asked
     given (c.loop-writer.invariant.in_turn not_ended asked given history)
     (λ running asked' given' h. ends_by gives c.flushed.result _ _ _ _ _ asked' given' c.flushed.ensures.end
     (c.in-Ended.ensures.turn running asked' given' h) c.flushed.ensures.keeps)
@@ -110,7 +123,9 @@ returns-in-Ended-clause-in_turn g c not_ended asked given history =
 pub returns-in-Failed-clause-in_turn : goal.returns-in-Failed-clause-in_turn
 returns-in-Failed-clause-in_turn g c not_ended asked given history =
     let gives = g.S.yaml_token_source_t.gives in
-    last_call event_line gives (WroteForEvent c.faulted.result) (WroteFault c.faulted.result) g.W.Write.contents _ c.loop-writer.parser c.write_next.new.parser c.loop-writer.writer (g.W.Write.contents c.args.writer.now) _ asked
+    last_call event_line gives (WroteForEvent c.faulted.result) (WroteFault c.faulted.result) g.W.Write.contents _
+    c.loop-writer.parser c.write_next.new.parser c.loop-writer.writer (g.W.Write.contents c.args.writer.now) _
+    asked
     given (c.loop-writer.invariant.in_turn not_ended asked given history)
     (λ running asked' given' h. fails_by gives c.faulted.result c.in-Failed.fault _ _ _ _ _ asked' given'
     (c.in-Failed.ensures.turn running asked' given' h) c.faulted.ensures)
@@ -118,7 +133,10 @@ returns-in-Failed-clause-in_turn g c not_ended asked given history =
 pub returns-in-OutputFailed-clause-in_turn : goal.returns-in-OutputFailed-clause-in_turn
 returns-in-OutputFailed-clause-in_turn g c not_ended asked given history =
     let gives = g.S.yaml_token_source_t.gives in
-    last_call event_line gives (WroteForEvent OutputFailed) (WroteFault OutputFailed) g.W.Write.contents _ c.loop-writer.parser c.write_next.new.parser c.loop-writer.writer (g.W.Write.contents c.args.writer.now)
+    last_call event_line gives (WroteForEvent OutputFailed) (WroteFault OutputFailed) g.W.Write.contents _
+    c.loop-writer.parser c.write_next.new.parser c.loop-writer.writer (g.W.Write.contents c.args.writer.now)
     (g.W.Write.contents c.write_next.new.writer) asked given (c.loop-writer.invariant.in_turn not_ended asked given history)
-    (λ running asked' given' h. output_fails gives c.loop-writer.parser c.write_next.new.parser (g.W.Write.contents c.loop-writer.writer)
-    (g.W.Write.contents c.write_next.new.writer) (g.W.Write.contents c.write_next.new.writer) asked' given' (c.in-OutputFailed.ensures.turn running asked' given' h))
+    (λ running asked' given' h. output_fails gives c.loop-writer.parser c.write_next.new.parser
+    (g.W.Write.contents c.loop-writer.writer)
+    (g.W.Write.contents c.write_next.new.writer) (g.W.Write.contents c.write_next.new.writer) asked' given'
+    (c.in-OutputFailed.ensures.turn running asked' given' h))

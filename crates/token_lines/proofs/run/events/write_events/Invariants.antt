@@ -10,8 +10,10 @@ use Rattle.token_lines.proofs.run.events.write_events.Given as goal
 abbrev pub invariant-loop-writer : goal.invariant-loop-writer
 invariant-loop-writer g l = record {
   ended : is_over l.initial.parser ≡ true → (l.parser ≡ l.initial.parser) × (l.writer ≡ l.initial.writer);
-  in_turn : is_over l.initial.parser ≡ false → (asked : List yaml_token_t) (given : List yaml_event_t) → History l.initial.parser asked given
-      → AllWritten event_line g.S.yaml_token_source_t.gives l.initial.parser l.parser (g.W.Write.contents l.initial.writer) (g.W.Write.contents l.writer) asked given;
+  in_turn : is_over l.initial.parser ≡ false → (asked : List yaml_token_t) (given : List yaml_event_t)
+      → History l.initial.parser asked given
+      → AllWritten event_line g.S.yaml_token_source_t.gives l.initial.parser l.parser
+      (g.W.Write.contents l.initial.writer) (g.W.Write.contents l.writer) asked given;
 }
 
 abbrev pub decreases-loop-writer : goal.decreases-loop-writer

@@ -15,20 +15,28 @@ returns g c =
     let remaining = g.R.Read.remaining in
     let known = known_of remaining in
     let contents = g.W.Write.contents in
-    let in_turn = subst (λ (z : ℤ). LastLoad (Gives remaining) known BreaksOff contents (magnitude z) run.result parser.result run.new.parser
-    (contents c.args.writer.now) (contents run.new.writer) [] []) parser.ensures.bound (run.ensures.in_turn [] [] parser.ensures.begins) in
+    let in_turn = subst (λ (z : ℤ). LastLoad (Gives remaining) known BreaksOff contents (magnitude z) run.result
+    parser.result run.new.parser
+    (contents c.args.writer.now) (contents run.new.writer) [] []) parser.ensures.bound
+    (run.ensures.in_turn [] [] parser.ensures.begins) in
     record {
       end = run.result;
       outcome_is = c.outcome.ensures;
       first = parser.result;
       last = run.new.parser;
-      starts = record { source = ap (λ p. p.source) parser.ensures.value ∙ c.new-source.ensures.value; begins = parser.ensures.begins };
+      starts = record {
+        source = ap (λ p. p.source) parser.ensures.value ∙ c.new-source.ensures.value;
+        begins =
+            parser.ensures.begins;
+      };
       writes = writes_of_runs _ _ _ _ _ (writes_of_lines _ _ (λ tokens f e events ending is.
-          subst (λ (z : ℤ). WritesLoads (BreaksOff run.new.parser.source) run.result (contents c.args.writer.now) (contents run.new.writer)
+          subst (λ (z : ℤ). WritesLoads (BreaksOff run.new.parser.source) run.result (contents c.args.writer.now)
+          (contents run.new.writer)
           (bounded_loads (magnitude z) events ending)) parser.ensures.bound
           (run.ensures.writes events ending
           (parser.ensures.run_to_come known tokens f (ap known c.new-source.ensures.value ∙ e) events ending is))));
       in_turn = in_turn;
-      linear = loaded_linear (Gives remaining) most_entries c.of_history.ensures.at_most_four c.linear_size.ensures.first_within_bound parser.result
+      linear = loaded_linear (Gives remaining) most_entries c.of_history.ensures.at_most_four
+          c.linear_size.ensures.first_within_bound parser.result
           in_turn.parser _ _ in_turn.earlier;
     }

@@ -5,7 +5,8 @@ use Rattle.libyaml_loader.specs.document.Ids.{magnitude}
 use Rattle.token_lines.specs.declared.run.run_end_t.TheVariants.{Ended, OutputFailed}
 use Rattle.token_lines.specs.declared.run.RunStep.TheVariants as step
 use Rattle.token_lines.specs.lines.LineRun.{WroteFault}
-use Rattle.token_lines.proofs.nodes.NodeTurnLemmas.{last_load_at, loads_end, loads_failed, loads_output, none_loaded, one_loaded, turn_at}
+use Rattle.token_lines.proofs.nodes.NodeTurnLemmas.{last_load_at, loads_end, loads_failed, loads_output, none_loaded}
+use Rattle.token_lines.proofs.nodes.NodeTurnLemmas.{one_loaded, turn_at}
 use Rattle.token_lines.proofs.nodes.NodeWritesLemmas.{writes_loads_so}
 use Rattle.token_lines.proofs.run.nodes.write_nodes.Goals as goal
 
@@ -19,7 +20,8 @@ loop-writer-init g c =
       between = c.requires.between;
       bound = refl;
       kept = λ failed. (refl, refl);
-      in_turn = λ asked given history. none_loaded t.gives t.known t.may_break (magnitude c.args.parser.now.max_entries) _ _ asked given history;
+      in_turn = λ asked given history. none_loaded t.gives t.known t.may_break
+          (magnitude c.args.parser.now.max_entries) _ _ asked given history;
     }
 
 pub loop-writer-preserved : goal.loop-writer-preserved
@@ -33,10 +35,14 @@ loop-writer-preserved g c =
     record {
       between = c.write_next.ensures.between;
       bound = c.write_next.ensures.bound ∙ bound;
-      kept = λ failed. absurd (c.in-Written.ensures.kept (ap has_failed (c.loop-writer.invariant.kept failed).0 ∙ failed)).0;
-      in_turn = λ asked given history. one_loaded t.gives t.known t.may_break n c.of_history.ensures.no_fault c.args.parser.now p q (contents c.args.writer.now)
-          (contents c.loop-writer.writer) (contents c.write_next.new.writer) asked given (c.loop-writer.invariant.in_turn asked given history)
-          (turn_at t.gives t.known t.may_break step.Written p q (contents c.loop-writer.writer) (contents c.write_next.new.writer) _ _ bound
+      kept = λ failed. absurd (c.in-Written.ensures.kept (ap has_failed (c.loop-writer.invariant.kept failed).0
+          ∙ failed)).0;
+      in_turn = λ asked given history. one_loaded t.gives t.known t.may_break n c.of_history.ensures.no_fault
+          c.args.parser.now p q (contents c.args.writer.now)
+          (contents c.loop-writer.writer) (contents c.write_next.new.writer) asked given
+          (c.loop-writer.invariant.in_turn asked given history)
+          (turn_at t.gives t.known t.may_break step.Written p q (contents c.loop-writer.writer)
+          (contents c.write_next.new.writer) _ _ bound
           c.in-Written.ensures.turn);
     }
 
@@ -44,10 +50,12 @@ pub loop-writer-smaller : goal.loop-writer-smaller
 loop-writer-smaller g c = c.in-Written.ensures.falls refl
 
 pub returns-in-Ended-clause-kept : goal.returns-in-Ended-clause-kept
-returns-in-Ended-clause-kept g c failed = absurd (c.in-Ended.ensures.kept (ap has_failed (c.loop-writer.invariant.kept failed).0 ∙ failed)).0
+returns-in-Ended-clause-kept g c failed =
+    absurd (c.in-Ended.ensures.kept (ap has_failed (c.loop-writer.invariant.kept failed).0 ∙ failed)).0
 
 pub returns-in-OutputFailed-clause-kept : goal.returns-in-OutputFailed-clause-kept
-returns-in-OutputFailed-clause-kept g c failed = absurd (c.in-OutputFailed.ensures.kept (ap has_failed (c.loop-writer.invariant.kept failed).0 ∙ failed)).0
+returns-in-OutputFailed-clause-kept g c failed =
+    absurd (c.in-OutputFailed.ensures.kept (ap has_failed (c.loop-writer.invariant.kept failed).0 ∙ failed)).0
 
 pub returns-in-Failed-clause-kept : goal.returns-in-Failed-clause-kept
 returns-in-Failed-clause-kept g c failed =
@@ -56,9 +64,11 @@ returns-in-Failed-clause-kept g c failed =
     let last = c.in-Failed.ensures.kept (ap has_failed still.0 ∙ failed) in
     record {
       parser = last.1 ∙ still.0;
-      wrote = subst (λ (f : Fault). WroteFault c.faulted.result f (contents c.args.writer.now) (contents c.faulted.new.writer)) (last.0
+      wrote = subst (λ (f : Fault). WroteFault c.faulted.result f (contents c.args.writer.now)
+          (contents c.faulted.new.writer)) (last.0
           ∙ ap kept_fault still.0)
-          (subst (λ w. WroteFault c.faulted.result (fault_of c.in-Failed.fault) (contents w) (contents c.faulted.new.writer)) (last.2
+          (subst (λ w. WroteFault c.faulted.result (fault_of c.in-Failed.fault) (contents w)
+          (contents c.faulted.new.writer)) (last.2
           ∙ still.1) c.faulted.ensures);
     }
 
@@ -66,7 +76,8 @@ pub returns-in-Ended-clause-in_turn : goal.returns-in-Ended-clause-in_turn
 returns-in-Ended-clause-in_turn g c asked given history =
     let t = g.S.yaml_token_source_t in
     let at = c.loop-writer in
-    last_load_at c.of_history.ensures.no_fault t.gives t.known t.may_break g.W.Write.contents c.flushed.result step.Ended c.args.parser.now at.parser c.write_next.new.parser at.writer _ _ _
+    last_load_at c.of_history.ensures.no_fault t.gives t.known t.may_break g.W.Write.contents c.flushed.result
+    step.Ended c.args.parser.now at.parser c.write_next.new.parser at.writer _ _ _
     asked given at.invariant.bound (at.invariant.in_turn asked given history) c.in-Ended.ensures.turn
     (loads_end c.flushed.result _ _ _ _ c.flushed.ensures.end c.flushed.ensures.keeps) (λ is. refl)
 
@@ -74,8 +85,10 @@ pub returns-in-Failed-clause-in_turn : goal.returns-in-Failed-clause-in_turn
 returns-in-Failed-clause-in_turn g c asked given history =
     let t = g.S.yaml_token_source_t in
     let at = c.loop-writer in
-    last_load_at c.of_history.ensures.no_fault t.gives t.known t.may_break g.W.Write.contents c.faulted.result (step.Failed c.in-Failed.fault) c.args.parser.now at.parser
-    c.write_next.new.parser at.writer _ _ _ asked given at.invariant.bound (at.invariant.in_turn asked given history) c.in-Failed.ensures.turn
+    last_load_at c.of_history.ensures.no_fault t.gives t.known t.may_break g.W.Write.contents c.faulted.result
+    (step.Failed c.in-Failed.fault) c.args.parser.now at.parser
+    c.write_next.new.parser at.writer _ _ _ asked given at.invariant.bound
+    (at.invariant.in_turn asked given history) c.in-Failed.ensures.turn
     (loads_failed c.faulted.result c.in-Failed.fault _ _ _ _ c.faulted.ensures)
     (λ is. absurd ((rw is at c.faulted.ensures)))
 
@@ -85,21 +98,27 @@ returns-in-OutputFailed-clause-in_turn g c asked given history =
     let at = c.loop-writer in
     let contents = g.W.Write.contents in
     let q = c.write_next.new.parser in
-    last_load_at c.of_history.ensures.no_fault t.gives t.known t.may_break contents _ step.OutputFailed c.args.parser.now at.parser q at.writer (contents c.args.writer.now)
-    (contents c.write_next.new.writer) (contents c.write_next.new.writer) asked given at.invariant.bound (at.invariant.in_turn asked given history)
-    c.in-OutputFailed.ensures.turn (loads_output (kept_fault q) (contents at.writer) (contents c.write_next.new.writer) (contents c.write_next.new.writer))
+    last_load_at c.of_history.ensures.no_fault t.gives t.known t.may_break contents _ step.OutputFailed
+    c.args.parser.now at.parser q at.writer (contents c.args.writer.now)
+    (contents c.write_next.new.writer) (contents c.write_next.new.writer) asked given at.invariant.bound
+    (at.invariant.in_turn asked given history)
+    c.in-OutputFailed.ensures.turn
+    (loads_output (kept_fault q) (contents at.writer) (contents c.write_next.new.writer)
+    (contents c.write_next.new.writer))
     output_is_no_end
 
 pub returns-in-Ended-clause-writes : goal.returns-in-Ended-clause-writes
 returns-in-Ended-clause-writes g c events ending run =
     let t = g.S.yaml_token_source_t in
     writes_loads_so t.gives t.known t.may_break c.rest_of_run.ensures.further c.load_of_run.ensures g.W.Write.contents
-    (magnitude c.args.parser.now.max_entries) c.args.parser.now c.write_next.new.parser _ _ events ending run c.flushed.result
+    (magnitude c.args.parser.now.max_entries) c.args.parser.now c.write_next.new.parser _ _ events ending run
+    c.flushed.result
     (returns-in-Ended-clause-in_turn g c run.asked run.given run.history)
 
 pub returns-in-Failed-clause-writes : goal.returns-in-Failed-clause-writes
 returns-in-Failed-clause-writes g c events ending run =
     let t = g.S.yaml_token_source_t in
     writes_loads_so t.gives t.known t.may_break c.rest_of_run.ensures.further c.load_of_run.ensures g.W.Write.contents
-    (magnitude c.args.parser.now.max_entries) c.args.parser.now c.write_next.new.parser _ _ events ending run c.faulted.result
+    (magnitude c.args.parser.now.max_entries) c.args.parser.now c.write_next.new.parser _ _ events ending run
+    c.faulted.result
     (returns-in-Failed-clause-in_turn g c run.asked run.given run.history)

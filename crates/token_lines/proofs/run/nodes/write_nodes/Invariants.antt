@@ -13,7 +13,8 @@ invariant-loop-writer g l = record {
   bound : l.parser.max_entries ≡ l.initial.parser.max_entries;
   kept : has_failed l.initial.parser ≡ true → (l.parser ≡ l.initial.parser) × (l.writer ≡ l.initial.writer);
   in_turn : (asked : List yaml_token_t) (given : List yaml_event_t) → History l.initial.parser asked given
-      → AllLoaded g.S.yaml_token_source_t.gives (magnitude l.initial.parser.max_entries) l.initial.parser l.parser (g.W.Write.contents l.initial.writer)
+      → AllLoaded g.S.yaml_token_source_t.gives (magnitude l.initial.parser.max_entries) l.initial.parser l.parser
+      (g.W.Write.contents l.initial.writer)
       (g.W.Write.contents l.writer) asked given;
 }
 

@@ -1,7 +1,7 @@
 use Rattle.std.proofs.Common.{◌-◌, ◌≤◌}
 use Rattle.std.specs.Slice.Scan.{HoldsNowhere}
-use Rattle.byte_words.specs.Clean.{is_odd_at}
-use Rattle.byte_words.proofs.clean.is_clean.Given as goal
+use Rattle.clean_texts.specs.Clean.{is_odd_at}
+use Rattle.clean_texts.proofs.clean.is_clean.Given as goal
 
 abbrev pub invariant-loop-byte : goal.invariant-loop-byte
 invariant-loop-byte l = HoldsNowhere (is_odd_at l.bytes) 0 l.byte-index

@@ -1,7 +1,7 @@
 //! Texts that need no escape.
 ghost use Rattle.std.specs.Prelude.{◌≡◌, ◌+◌, ◌≤◌, true, false, length, All};
 ghost use Rattle.std.specs.Slice.Scan.{HoldsNowhere, HoldsSomewhere};
-ghost use Rattle.byte_words.specs.Clean.{IsClean, is_odd_at};
+ghost use Rattle.clean_texts.specs.Clean.{IsClean, is_odd_at};
 
 use crate::word::word_at;
 

@@ -1,6 +1,6 @@
 //! What the words of the command line ask for.
 ghost use Rattle.std.specs.Prelude.{◌≡◌, ◌<◌, Some, None, map, string_bytes};
-ghost use Rattle.token_words.specs.Arguments.{run_of, asked_run, RunsWith};
+ghost use Rattle.command_line.specs.Arguments.{run_of, asked_run, RunsWith};
 
 use std::alloc::Global;
 use std::io::{BufRead, Write};

@@ -1,12 +1,13 @@
 -- a word of bytes, and what the operations on words do to each byte
-use Rattle.std.proofs.Common.{◌≡◌, ◌≢◌, ◌+◌, ◌-◌, ◌*◌, ◌^◌, ◌<◌, ◌≤◌, ℕ, zero, suc, Bool, true, false, not, ◌==◌, List, [], ◌∷◌, length, length-drop, take}
+use Rattle.std.proofs.Common.{◌≡◌, ◌≢◌, ◌+◌, ◌-◌, ◌*◌, ◌^◌, ◌<◌, ◌≤◌, ℕ, zero, suc, Bool, true, false, not, ◌==◌, List}
+use Rattle.std.proofs.Common.{[], ◌∷◌, length, length-drop, take}
 use Rattle.std.proofs.Common.{drop, get_or, refl, ap, sym, ◌∙◌, arith, eq-eqb}
 use Rattle.std.specs.Int.Bits.{bit_and, bit_or, bit_xor}
 use Rattle.std.proofs.lemmas.Bool.{agree_below, agree_below_at, eqb-true, eqb-false}
 use Rattle.std.proofs.lemmas.List.{get_or-drop, get_or-take, length-take}
 use Rattle.std.proofs.lemmas.Nat.{and_block, or_block, xor_block, and_le_r, or_lt, xor_lt}
 use Rattle.std.specs.Slice.Scan.{little_endian, HoldsNowhere, HoldsSomewhere}
-use Rattle.byte_words.specs.Clean.{is_odd, is_odd_at}
+use Rattle.clean_texts.specs.Clean.{is_odd, is_odd_at}
 
 abbrev pub AreBytes : List ℕ → Type 0
 AreBytes [] = Unit {0}
@@ -25,7 +26,8 @@ KeepsBytes f = (b : ℕ) → b < 2 ^ 8 → f b < 2 ^ 8
 abbrev WorksByBytes : (ℕ → ℕ → ℕ) → Type 0
 WorksByBytes op = (a b x y : ℕ) → x < 2 ^ 8 → y < 2 ^ 8 → op (a * 2 ^ 8 + x) (b * 2 ^ 8 + y) ≡ op a b * 2 ^ 8 + op x y
 
-on_word : (op : ℕ → ℕ → ℕ) → WorksByBytes op → op 0 0 ≡ 0 → (f g : ℕ → ℕ) → KeepsBytes f → KeepsBytes g → (bs : List ℕ) → AreBytes bs
+on_word : (op : ℕ → ℕ → ℕ) → WorksByBytes op → op 0 0 ≡ 0 → (f g : ℕ → ℕ) → KeepsBytes f → KeepsBytes g
+    → (bs : List ℕ) → AreBytes bs
     → op (word f bs) (word g bs) ≡ word (λ b. op (f b) (g b)) bs
 on_word op works none f g F G [] h = none
 on_word op works none f g F G (b ∷ bs) h =
@@ -128,7 +130,8 @@ any_byte b h = or_lt 8 (either b) b (either_byte b h) h
 
 abbrev any_of : ℕ → ℕ → ℕ
 any_of w l =
-    let odd = bit_xor (bit_and (l + 0x5f5f_5f5f_5f5f_5f5f) (bit_xor l 0x2525_2525_2525_2525 + 0x7f7f_7f7f_7f7f_7f7f)) 0x8080_8080_8080_8080 in
+    let odd = bit_xor (bit_and (l + 0x5f5f_5f5f_5f5f_5f5f)
+    (bit_xor l 0x2525_2525_2525_2525 + 0x7f7f_7f7f_7f7f_7f7f)) 0x8080_8080_8080_8080 in
     bit_or (bit_or odd (l + 0x0101_0101_0101_0101)) w
 
 abbrev marks : ℕ → ℕ
@@ -136,33 +139,39 @@ marks w = bit_and (any_of w (bit_and w 0x7f7f_7f7f_7f7f_7f7f)) 0x8080_8080_8080_
 
 module _ (bs : List ℕ) (long : length bs ≡ 8) (fit : AreBytes bs) where
   low_is : bit_and (word (λ b. b) bs) 0x7f7f_7f7f_7f7f_7f7f ≡ word low bs
-  low_is = ap (bit_and (word (λ b. b) bs)) (sym (eight 127 bs long)) ∙ and_word (λ b. b) (λ _. 127) (λ b h. h) (constant 127 (omega arith)) bs fit
+  low_is = ap (bit_and (word (λ b. b) bs)) (sym (eight 127 bs long)) ∙ and_word (λ b. b) (λ _. 127) (λ b h. h)
+      (constant 127 (omega arith)) bs fit
 
   visible_is : word low bs + 0x5f5f_5f5f_5f5f_5f5f ≡ word visible bs
   visible_is = ap (λ w. word low bs + w) (sym (eight 95 bs long)) ∙ add_word low (λ _. 95) bs
 
   percent_is : bit_xor (word low bs) 0x2525_2525_2525_2525 ≡ word (λ b. bit_xor (low b) 37) bs
-  percent_is = ap (bit_xor (word low bs)) (sym (eight 37 bs long)) ∙ xor_word low (λ _. 37) low_byte (constant 37 (omega arith)) bs fit
+  percent_is = ap (bit_xor (word low bs)) (sym (eight 37 bs long)) ∙ xor_word low (λ _. 37) low_byte
+      (constant 37 (omega arith)) bs fit
 
   no_percent_is : word (λ b. bit_xor (low b) 37) bs + 0x7f7f_7f7f_7f7f_7f7f ≡ word no_percent bs
-  no_percent_is = ap (λ w. word (λ b. bit_xor (low b) 37) bs + w) (sym (eight 127 bs long)) ∙ add_word (λ b. bit_xor (low b) 37) (λ _. 127) bs
+  no_percent_is = ap (λ w. word (λ b. bit_xor (low b) 37) bs + w) (sym (eight 127 bs long))
+      ∙ add_word (λ b. bit_xor (low b) 37) (λ _. 127) bs
 
   delete_is : word low bs + 0x0101_0101_0101_0101 ≡ word delete bs
   delete_is = ap (λ w. word low bs + w) (sym (eight 1 bs long)) ∙ add_word low (λ _. 1) bs
 
   other_is : bit_xor (word both bs) 0x8080_8080_8080_8080 ≡ word other bs
-  other_is = ap (bit_xor (word both bs)) (sym (eight 128 bs long)) ∙ xor_word both (λ _. 128) both_byte (constant 128 (omega arith)) bs fit
+  other_is = ap (bit_xor (word both bs)) (sym (eight 128 bs long)) ∙ xor_word both (λ _. 128) both_byte
+      (constant 128 (omega arith)) bs fit
 
   any_is : any_of (word (λ b. b) bs) (word low bs) ≡ word any bs
   any_is =
       let both_is = and_word visible no_percent visible_byte no_percent_byte bs fit in
       let either_is = or_word other delete other_byte delete_byte bs fit in
-      rw (visible_is, percent_is, no_percent_is, delete_is, both_is, other_is, either_is) (or_word either (λ b. b) either_byte (λ b h. h) bs fit)
+      rw (visible_is, percent_is, no_percent_is, delete_is, both_is, other_is, either_is)
+      (or_word either (λ b. b) either_byte (λ b h. h) bs fit)
 
   pub marks_are : marks (word (λ b. b) bs) ≡ word marked bs
   marks_are =
       rw (low_is, any_is) (
-      ap (bit_and (word any bs)) (sym (eight 128 bs long)) ∙ and_word any (λ _. 128) any_byte (constant 128 (omega arith)) bs fit
+      ap (bit_and (word any bs)) (sym (eight 128 bs long)) ∙ and_word any (λ _. 128) any_byte
+      (constant 128 (omega arith)) bs fit
       )
 
 -- a byte is marked where it is odd
@@ -206,7 +215,8 @@ bytes_of (x ∷ xs) f = (f 0 (omega arith), bytes_of xs (λ i h. f (suc i) (omeg
 pub eight_are : (xs : List ℕ) → length xs ≡ 8
     → word (λ b. b) xs
     ≡ get_or xs 0 0 + get_or xs 1 0 * 256 + get_or xs 2 0 * 65536 + get_or xs 3 0 * 16777216
-    + get_or xs 4 0 * 4294967296 + get_or xs 5 0 * 1099511627776 + get_or xs 6 0 * 281474976710656 + get_or xs 7 0 * 72057594037927936
+    + get_or xs 4 0 * 4294967296 + get_or xs 5 0 * 1099511627776 + get_or xs 6 0 * 281474976710656 + get_or xs 7
+    0 * 72057594037927936
 eight_are [] e = absurd (omega arith)
 eight_are (a ∷ []) e = absurd (omega arith)
 eight_are (a ∷ b ∷ []) e = absurd (omega arith)
@@ -241,7 +251,8 @@ module _ (bs : List ℕ) (at : ℕ) (room : at + 8 ≤ length bs) (fits : (i : �
       let five = place 5 (omega arith) in
       let six = place 6 (omega arith) in
       let seven = place 7 (omega arith) in
-      let same : w ≡ word (λ b. b) xs = omega (arith, is, eight_are xs long, first, one, two, three, four, five, six, seven) in
+      let same : w ≡ word (λ b. b) xs =
+      omega (arith, is, eight_are xs long, first, one, two, three, four, five, six, seven) in
       ap marks same ∙ marks_are xs long are_bytes
 
   pub clean_at : (w : ℕ) → w ≡ little_endian bs at → (marks w == 0) ≡ true → HoldsNowhere (is_odd_at bs) at (at + 8)

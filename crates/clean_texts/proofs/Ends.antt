@@ -1,11 +1,12 @@
 -- the last bytes of a text, as a word that is shifted
-use Rattle.std.proofs.Common.{◌≡◌, ℕ, zero, suc, ◌+◌, ◌-◌, ◌*◌, ◌/◌, ◌^◌, ◌<◌, ◌≤◌, List, [], ◌∷◌, length, length-drop, drop, get_or, refl, ap, sym, ◌∙◌, arith}
+use Rattle.std.proofs.Common.{◌≡◌, ℕ, zero, suc, ◌+◌, ◌-◌, ◌*◌, ◌/◌, ◌^◌, ◌<◌, ◌≤◌, List, [], ◌∷◌, length, length-drop}
+use Rattle.std.proofs.Common.{drop, get_or, refl, ap, sym, ◌∙◌, arith}
 use Rattle.std.proofs.lemmas.List.{get_or-drop, drop-drop}
 use Rattle.std.specs.Slice.Scan.{little_endian}
 use native.Mathlib.Nat.{pow-suc, mul_comm, mul-suc, div-div-eq-div-mul, div-one, zero-div}
 use lib.Pow.{pow-add}
 use Rattle.std.proofs.lemmas.Nat.{div-mul-add}
-use Rattle.byte_words.proofs.Words.{AreBytes, word, bytes_of, eight_are}
+use Rattle.clean_texts.proofs.Words.{AreBytes, word, bytes_of, eight_are}
 
 power : (k : ℕ) → 2 ^ (8 * k) ≡ 256 ^ k
 power zero = refl
@@ -54,7 +55,8 @@ module _ (bytes : List ℕ) (room : 8 ≤ length bytes) (fits : (i : ℕ) → ge
   pub cut : (len : ℕ) → 0 < len → len ≤ 8 → drop (8 - len) last ≡ drop (length bytes - len) bytes
   cut len some few = drop-drop (8 - len) (length bytes - 8) bytes ∙ ap (λ n. drop n bytes) (omega (arith, room, some, few))
 
-  pub word_of : (len w : ℕ) → 0 < len → len ≤ 8 → w ≡ little_endian last 0 → w / (2 ^ (8 * (8 - len))) ≡ plain (drop (length bytes - len) bytes)
+  pub word_of : (len w : ℕ) → 0 < len → len ≤ 8 → w ≡ little_endian last 0
+      → w / (2 ^ (8 * (8 - len))) ≡ plain (drop (length bytes - len) bytes)
   word_of len w some few is =
       ap (λ x. x / 2 ^ (8 * (8 - len))) (read w is)
       ∙ ap (λ n. plain last / n) (power (8 - len))

@@ -1,4 +1,4 @@
-//! Bytes looked at eight at a time, as words.
+//! Whether a text is clean, and whether two end alike, eight bytes at a time.
 #![tactic(auto)]
 
 mod clean;

@@ -4,12 +4,13 @@ use Rattle.token_lines.specs.declared.run.Outcome.{Outcome}
 use Rattle.token_lines.specs.declared.run.Outcome.TheVariants.{Ended, Faulted, OutputFailed}
 use Rattle.token_lines.specs.events.LastCall.{RunsOver}
 use Rattle.token_lines.specs.nodes.LastLoad.{NodesOver}
-use Rattle.token_words.specs.declared.words.Run.{Run}
-use Rattle.token_words.specs.declared.words.Run.TheVariants.{Events, Nodes}
+use Rattle.command_line.specs.declared.words.Run.{Run}
+use Rattle.command_line.specs.declared.words.Run.TheVariants.{Events, Nodes}
 
 -- the run that one word asks for
 abbrev pub run_of : List ℕ → Option Run
-run_of word = if bytes_eq word (codes "events") then Some Events else (if bytes_eq word (codes "nodes") then Some Nodes else None)
+run_of word = if bytes_eq word (codes "events") then Some Events else
+    (if bytes_eq word (codes "nodes") then Some Nodes else None)
 
 -- the run that the words ask for: there is exactly one word
 abbrev pub asked_run : List (List ℕ) → Option Run
@@ -22,7 +23,8 @@ status_of Faulted = 1
 status_of OutputFailed = 3
 
 -- the run was over a reader's lines, and wrote what it writes
-abbrev pub WasOver : {R W : Type 0} → Run → (remaining : R → Option (List ℕ)) → (contents : W → Option (List ℕ)) → R → Outcome
+abbrev pub WasOver : {R W : Type 0} → Run → (remaining : R → Option (List ℕ)) → (contents : W → Option (List ℕ)) → R
+    → Outcome
     → (before after : Option (List ℕ)) → Type 0
 WasOver Events remaining contents reader outcome before after = RunsOver remaining contents reader outcome before after
 WasOver Nodes remaining contents reader outcome before after = NodesOver remaining contents reader outcome before after
