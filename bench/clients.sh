@@ -20,7 +20,7 @@ trap 'rm -rf "$work"' EXIT
 python=${PYTHON:-/usr/bin/python3}
 ruby=${RUBY:-ruby}
 crates=$(realpath "${CLIENT_CRATES:-/usr/share/cargo/registry}")
-export PYTHONDONTWRITEBYTECODE=1 TOKEN_RECORDS_LIBRARY="$dir/libtoken_records.so" TOKEN_LINES_LIB="$dir"
+export PYTHONDONTWRITEBYTECODE=1 TOKEN_RECORDS_LIBRARY="$dir/libtoken_records.so" TOKEN_RECORDS_DIR="$dir"
 export CARGO_TARGET_DIR="$work/target" CARGO_HOME="$work/cargo" RUSTFLAGS="--cap-lints allow"
 
 while [ "$(cat "$work/text.yaml" 2> /dev/null | wc -c)" -lt 350000 ]; do

@@ -10,7 +10,8 @@
  *
  * Memory. What a parser needs here stands in the yaml_parser_t itself, in the place of three lists that libyaml's parser
  * alone uses and its `yaml_parser_delete` frees: so a parser may be moved and deleted as with libyaml, at any time, and
- * two parsers share nothing. A failed allocation is the fault YAML_MEMORY_ERROR, after which a call gives no event.
+ * two parsers share nothing. A failed allocation is the fault YAML_MEMORY_ERROR, after which a call gives no event. Three
+ * blocks of at most 32 MB are kept for the next stream.
  *
  * What is other than with libyaml, beside docs/DIFFERENCES.md:
  *
@@ -22,6 +23,7 @@
  * - Not in a forked child of a process with threads (token_records.h). */
 #include "token_records.h"
 #include <assert.h>
+#include <malloc.h>
 #include <stdio.h>
 #include <stdlib.h>
 #include <string.h>
@@ -61,6 +63,31 @@ static int out_of_memory(yaml_parser_t *parser)
 {
     parser->error = YAML_MEMORY_ERROR;
     return 0;
+}
+
+/* ---- Blocks that a stream needs no longer ---- */
+
+/* They are kept for the next stream, one of each kind, and each is one parser's at a time: fresh memory costs as much as a
+ * run. */
+enum kind { RECORDS, TEXTS, RUN, KINDS };
+static void *kept[KINDS];
+
+enum { MOST_KEPT = 1 << 25 };
+
+/* The block that is kept, or NULL, and how many entries it has room for. */
+static void *take_kept(enum kind kind, size_t *room, size_t size)
+{
+    void *block = __atomic_exchange_n(&kept[kind], NULL, __ATOMIC_ACQ_REL);
+
+    *room = block == NULL ? 0 : malloc_usable_size(block) / size;
+    return block;
+}
+
+static void keep_block(enum kind kind, void *block)
+{
+    if (block != NULL && malloc_usable_size(block) <= MOST_KEPT)
+        block = __atomic_exchange_n(&kept[kind], block, __ATOMIC_ACQ_REL);
+    free(block);
 }
 
 /* ---- Tokens ---- */
@@ -185,11 +212,11 @@ static int scan(yaml_parser_t *parser, struct tokens *tokens)
     return put && parser->error != YAML_MEMORY_ERROR;
 }
 
-/* Frees the tokens, and the values with them where they are no parser's. */
+/* Gives up the tokens, and the values with them where they are no parser's. */
 static void free_tokens(struct tokens *tokens, int with_values)
 {
-    free(tokens->records);
-    free(tokens->texts);
+    keep_block(RECORDS, tokens->records);
+    keep_block(TEXTS, tokens->texts);
     if (!with_values)
         return;
     for (size_t i = 0; i < tokens->scalars; i++)
@@ -219,13 +246,18 @@ static uint8_t *texts_of(struct run *run)
 static struct run *new_run(record_counts_t room)
 {
     const size_t most = SIZE_MAX / 8;
+    size_t there, wanted;
     struct run *run;
 
     if (room.events > most / sizeof(event_record_t) || room.directives > most / sizeof(directive_record_t) ||
         room.texts > most)
         return NULL;
-    run = malloc(sizeof *run + room.events * sizeof(event_record_t) + room.directives * sizeof(directive_record_t) +
-                 room.texts);
+    wanted = sizeof *run + room.events * sizeof(event_record_t) + room.directives * sizeof(directive_record_t) + room.texts;
+    run = take_kept(RUN, &there, 1);
+    if (there < wanted) {
+        free(run);
+        run = malloc(wanted);
+    }
     if (run != NULL) {
         memset(run, 0, sizeof *run);
         run->room = room;
@@ -333,6 +365,8 @@ static int begin(yaml_parser_t *parser)
     struct tokens tokens = {0};
     struct run *run = NULL;
 
+    tokens.records = take_kept(RECORDS, &tokens.records_room, sizeof *tokens.records);
+    tokens.texts = take_kept(TEXTS, &tokens.texts_room, 1);
     if (scan(parser, &tokens))
         run = run_over(&tokens);
     if (run == NULL) {
@@ -463,6 +497,8 @@ static int next(yaml_parser_t *parser, yaml_event_t *event)
     if (event->type == YAML_STREAM_END_EVENT) {
         parser->state = YAML_PARSE_END_STATE;
         parser->stream_end_produced = 1;
+        parser->states.start = parser->states.end = parser->states.top = NULL;
+        keep_block(RUN, run);
     }
     return 1;
 }

@@ -25,8 +25,7 @@
 # A check that lacks something is skipped, which is said with what it lacks. The last line is `N passed, M failed`, and
 # `, K skipped` where some were; the exit status is 1 where one failed, 2 for wrong words.
 set -u
-[ $# -ge 1 ] && dir=$(realpath "$1") && [ -f "$dir/libtoken_lines.a" ] && [ -f "$dir/libtoken_records.a" ] &&
-    [ -f "$dir/libtoken_records.so" ] || {
+[ $# -ge 1 ] && dir=$(realpath "$1") && [ -f "$dir/libtoken_records.a" ] && [ -f "$dir/libtoken_records.so" ] || {
     echo "usage: sh scripts/clients.sh DIR [CHECK..], where build_c.sh made DIR" >&2
     exit 2
 }
@@ -42,7 +41,7 @@ crates=${CLIENT_CRATES:-/usr/share/cargo/registry}
 suite=$work/libyaml-pp-perl/test-suite/yaml-test-suite-data
 tests=$work/pyyaml/tests/legacy_tests
 preloaded=$work/libyaml_preload.so
-export PYTHONDONTWRITEBYTECODE=1 TOKEN_RECORDS_LIBRARY="$dir/libtoken_records.so" TOKEN_LINES_LIB="$dir"
+export PYTHONDONTWRITEBYTECODE=1 TOKEN_RECORDS_LIBRARY="$dir/libtoken_records.so" TOKEN_RECORDS_DIR="$dir"
 export CARGO_HOME="$work/cargo" CARGO_TARGET_DIR="$work/target"
 export RUSTFLAGS="--cap-lints allow"  # the originals are older than some lints
 passed=0
@@ -222,8 +221,8 @@ uses_patch() {
 crate() {
     prepare_cargo
     (cd "$work/unsafe_libyaml" && cargo test -q -j 1) || return 1
-    (cd "$work/unsafe_libyaml" && TOKEN_LINES_LIB=/nowhere cargo build -q -j 1) > "$work/missing" 2>&1 && return 1
-    grep -q "TOKEN_LINES_LIB has to be the folder" "$work/missing" || { cat "$work/missing"; return 1; }
+    (cd "$work/unsafe_libyaml" && TOKEN_RECORDS_DIR=/nowhere cargo build -q -j 1) > "$work/missing" 2>&1 && return 1
+    grep -q "TOKEN_RECORDS_DIR has to be the folder" "$work/missing" || { cat "$work/missing"; return 1; }
     echo "$(grep -c '^#\[test\]' examples/unsafe_libyaml/tests/calls.rs) tests"
 }
 

@@ -22,7 +22,7 @@ static const struct {
     {"--- a\n--- [b}\n", YAML_PARSER_ERROR, "did not find expected ',' or ']'", "while parsing a flow sequence", 12},
     {"- a\n- &b !<%ED%A0%80> c\n", YAML_SCANNER_ERROR, "text is not UTF-8", NULL, 9},
 };
-enum { EVENTS = 22, NODES = 11 };
+enum { EVENTS = 22, NODES = 11, KEPT = 3 };  /* blocks are kept for the next stream */
 
 /* ---- The C library's allocator, of which one call may be refused ---- */
 
@@ -145,26 +145,41 @@ static void check_whole(void)
     expect(load_text(TEXT, &error) == NODES && error == YAML_NO_ERROR, "nodes", 0);
 }
 
-/* Each allocation refused in turn: a memory fault or the same events, and everything given back. */
+/* How many blocks there are once all that may be kept are, after a whole stream. */
+static long settled(void)
+{
+    unsigned long sum = 0;
+    yaml_error_type_t error;
+
+    parse_text(TEXT, 1000, &sum, &error);
+    return live;
+}
+
+/* Each allocation refused in turn: a memory fault or the same events, and everything given back but what is kept. Nothing is
+ * kept at first; after a call by which more is, there are fewer allocations, and the same number is refused again. */
 static long check_refusals(void)
 {
     unsigned long whole = 0, sum;
     yaml_error_type_t error;
-    long at = 0, before, memory = 0, count;
+    long at = 0, before = live, last, memory = 0, count, refusals = 0;
 
-    parse_text(TEXT, 1000, &whole, &error);
     do {
         sum = 0;
-        before = live;
+        last = live;
         refused_at = ++at;
         count = parse_text(TEXT, 1000, &sum, &error);
-        expect(live == before, "blocks are lost", at);
+        expect(live >= before && live <= before + KEPT, "blocks are lost", at);
+        at -= live > last;
+        refusals++;
+        if (error == YAML_NO_ERROR && whole == 0)
+            whole = sum;
         expect(error == YAML_MEMORY_ERROR || (error == YAML_NO_ERROR && count == EVENTS && sum == whole), "a refusal", at);
         memory += error == YAML_MEMORY_ERROR;
     } while (refused_at == 0);
     refused_at = 0;
     expect(memory > 20, "refusals are told", memory);
-    return at - 1;
+    expect(settled() == before + KEPT, "blocks are lost", live - before);
+    return refusals;
 }
 
 static void check_deleted(void)
@@ -173,9 +188,9 @@ static void check_deleted(void)
     yaml_error_type_t error;
 
     for (long most = 0; most <= EVENTS; most++) {
-        long before = live;
+        long before = settled();
         expect(parse_text(TEXT, most, &sum, &error) == most, "deleted", most);
-        expect(live == before, "blocks are lost", most);
+        expect(settled() == before, "blocks are lost", most);
     }
 }
 
@@ -186,7 +201,7 @@ static void check_faults(void)
     unsigned long sum = 0;
 
     for (size_t i = 0; i < sizeof BROKEN / sizeof *BROKEN; i++) {
-        long before = live;
+        long before = settled();
         if (!begin(&parser, BROKEN[i].text))
             abort();
         parse(&parser, 1000, &sum);
@@ -197,7 +212,7 @@ static void check_faults(void)
                "its context", i);
         expect(yaml_parser_parse(&parser, &event) && event.type == YAML_NO_EVENT && parser.error == error, "after it", i);
         yaml_parser_delete(&parser);
-        expect(live == before, "blocks are lost", i);
+        expect(settled() == before, "blocks are lost", i);
     }
 }
 
@@ -280,6 +295,7 @@ static void check_threads(void)
 
 int main(void)
 {
+    long refused = check_refusals();
     check_whole();
     if (wrong)
         return 1;
@@ -288,7 +304,6 @@ int main(void)
     check_room();
     check_moved();
     check_threads();
-    long refused = check_refusals();
     printf("%ld allocations refused, parsers deleted, moved, used after a fault and by threads: %s\n", refused,
            wrong ? "wrong" : "as they should be");
     return wrong;

@@ -13,29 +13,27 @@
 //! ln -s ~/.cargo/registry/src/*/unsafe-libyaml-0.2.11 PATH/examples/unsafe_libyaml/original
 //! ```
 //!
-//! The environment's `TOKEN_LINES_LIB` names the folder of `libtoken_records.a` and `libtoken_lines.a`, which
-//! scripts/build_c.sh makes. Events come by the records of the first, documents by the lines of the second.
+//! The environment's `TOKEN_RECORDS_DIR` names the folder of `libtoken_records.a`, which scripts/build_c.sh makes.
 //!
 //! [`yaml_parser_parse`], [`yaml_parser_load`] and [`yaml_parser_delete`] are replaced. What a parser needs here is kept by
 //! the `yaml_parser_t` itself, in `problem_offset` while there is no error: so it may be moved and deleted as before, at
-//! any time, and two parsers share nothing.
+//! any time, and two parsers share nothing. The memory of a run that has ended is kept for the next, up to some 50 MB.
 //!
 //! What is other than in the original, beside docs/DIFFERENCES.md:
 //!
-//! - The first call reads the stream to its end: memory is that of all tokens, and of all events or nodes.
+//! - The first call reads the stream to its end: memory is that of all tokens, and of all events or documents.
 //! - A failed allocation of the library is the fault `YAML_MEMORY_ERROR`; one of Rust's ends the process, as there.
 //! - A tag, an anchor, an alias or a tag directive that isn't UTF-8 is the scanner's fault `text is not UTF-8`, with the
-//!   mark of its token. A load says `bad token line` of it, and `line too long` where it makes a line of more than 1,048,576
-//!   bytes; and of a value of more than 2147483647 bytes, `scalar too long`.
-//! - A parser parses or loads. The other call is the parser's fault `parse and load by one parser`.
+//!   mark of its token.
+//! - Where parses and loads take turns, a load within a document is the parser's fault `load within a document`, and one
+//!   after a document that was parsed and has a composer error is that error.
 //! - A load after a fault fails again with that fault.
 
 #![allow(non_camel_case_types, clippy::missing_safety_doc)]
 
 mod documents;
 mod events;
-mod fields;
-mod lines;
+mod fault;
 mod records;
 mod run;
 mod texts;
@@ -75,10 +73,7 @@ pub unsafe fn yaml_parser_parse(parser: *mut yaml_parser_t, event: *mut yaml_eve
     if run::prefix(parser).error != YAML_NO_ERROR {
         return Success { ok: true };
     }
-    let given = run::events(parser).and_then(|events| match events {
-        Some(events) => events.next(event),
-        None => Ok(true),
-    });
+    let given = run::of(parser).map_or(Ok(true), |run| run.event(event));
     Success {
         ok: run::settle(parser, given),
     }
@@ -91,13 +86,10 @@ pub unsafe fn yaml_parser_load(parser: *mut yaml_parser_t, document: *mut yaml_d
     if run::prefix(parser).error != YAML_NO_ERROR {
         return Success { ok: false };
     }
-    let given = run::nodes(parser).and_then(|lines| match lines.filter(|lines| !lines.is_over()) {
-        Some(lines) => documents::next(lines, document).map(|()| false),
-        None => match yaml_document_initialize(document, none, no_tags, no_tags, false, false).ok {
-            true => Ok(true),
-            false => Err(run::Fault::memory()),
-        },
-    });
+    let mut given = run::of(parser).map_or(Ok(true), |run| run.document(document));
+    if matches!(given, Ok(true)) && !yaml_document_initialize(document, none, no_tags, no_tags, false, false).ok {
+        given = Err(fault::Fault::memory());
+    }
     Success {
         ok: run::settle(parser, given),
     }

@@ -1,7 +1,6 @@
-//! The records of `examples/token_records.h`, and the scanner's tokens as records.
+//! The records of `examples/token_records.h`.
 
 use original::*;
-use std::ffi::CStr;
 
 /// A mark.
 #[derive(Clone, Copy, Default)]
@@ -24,14 +23,14 @@ pub struct RangeRecord {
 #[derive(Clone, Copy, Default)]
 #[repr(C)]
 pub struct TokenRecord {
-    kind: u32,
-    style: u32,
-    major: i32,
-    minor: i32,
+    pub kind: u32,
+    pub style: u32,
+    pub major: i32,
+    pub minor: i32,
     pub start_mark: MarkRecord,
-    end_mark: MarkRecord,
-    first: RangeRecord,
-    second: RangeRecord,
+    pub end_mark: MarkRecord,
+    pub first: RangeRecord,
+    pub second: RangeRecord,
 }
 
 /// A tag directive.
@@ -61,7 +60,43 @@ pub struct EventRecord {
     pub directives: RangeRecord,
 }
 
-/// Why a run gave no more events.
+/// A document; its first node has the id 1.
+#[derive(Clone, Copy)]
+#[repr(C)]
+pub struct DocumentRecord {
+    pub has_version: u32,
+    pub major: i32,
+    pub minor: i32,
+    pub start_implicit: u16,
+    pub end_implicit: u16,
+    pub start_mark: MarkRecord,
+    pub end_mark: MarkRecord,
+    pub directives: RangeRecord,
+    pub nodes: RangeRecord,
+}
+
+/// A node; numbers are the original's. Its children are items or pairs.
+#[derive(Clone, Copy)]
+#[repr(C)]
+pub struct NodeRecord {
+    pub kind: u32,
+    pub style: u32,
+    pub start_mark: MarkRecord,
+    pub end_mark: MarkRecord,
+    pub tag: RangeRecord,
+    pub value: RangeRecord,
+    pub children: RangeRecord,
+}
+
+/// A pair of a mapping, by the ids of its nodes.
+#[derive(Clone, Copy)]
+#[repr(C)]
+pub struct PairRecord {
+    pub key: i32,
+    pub value: i32,
+}
+
+/// Why a run gave no more events or documents.
 #[derive(Clone, Copy, Default)]
 #[repr(C)]
 pub struct FaultRecord {
@@ -77,8 +112,20 @@ pub struct FaultRecord {
 /// How many event records, directive records, and bytes of texts.
 #[derive(Clone, Copy, Default, PartialEq)]
 #[repr(C)]
-pub struct Counts {
+pub struct EventCounts {
     pub events: usize,
+    pub directives: usize,
+    pub texts: usize,
+}
+
+/// How many document records, node records, items, pair records, directive records, and bytes of texts.
+#[derive(Clone, Copy, Default, PartialEq)]
+#[repr(C)]
+pub struct DocumentCounts {
+    pub documents: usize,
+    pub nodes: usize,
+    pub items: usize,
+    pub pairs: usize,
     pub directives: usize,
     pub texts: usize,
 }
@@ -86,7 +133,7 @@ pub struct Counts {
 /// What a run did.
 #[derive(Clone, Copy, Default)]
 #[repr(C)]
-pub struct RunRecord {
+pub struct RunRecord<Counts> {
     pub wanted: Counts,
     pub written: Counts,
     pub fault: FaultRecord,
@@ -104,12 +151,32 @@ extern "C" {
         directives_length: usize,
         out: *mut u8,
         out_length: usize,
-        run: *mut RunRecord,
+        run: *mut RunRecord<EventCounts>,
+    );
+
+    pub fn token_records_run_documents(
+        tokens: *const TokenRecord,
+        tokens_length: usize,
+        texts: *const u8,
+        texts_length: usize,
+        documents: *mut DocumentRecord,
+        documents_length: usize,
+        nodes: *mut NodeRecord,
+        nodes_length: usize,
+        items: *mut i32,
+        items_length: usize,
+        pairs: *mut PairRecord,
+        pairs_length: usize,
+        directives: *mut DirectiveRecord,
+        directives_length: usize,
+        out: *mut u8,
+        out_length: usize,
+        run: *mut RunRecord<DocumentCounts>,
     );
 }
 
 impl MarkRecord {
-    fn new(mark: yaml_mark_t) -> MarkRecord {
+    pub fn new(mark: yaml_mark_t) -> MarkRecord {
         MarkRecord {
             index: mark.index,
             line: mark.line,
@@ -136,102 +203,49 @@ impl RangeRecord {
     }
 }
 
-/// A value that the scanner made, which is the event's once that has it.
-pub struct Value {
-    at: *mut u8,
-    pub length: u64,
+/// Makes room for so many entries of a list, which is emptied; returns whether that succeeded.
+pub fn reserve<T>(list: &mut Vec<T>, wanted: usize) -> bool {
+    list.clear();
+    list.try_reserve_exact(wanted).is_ok()
 }
 
-impl Value {
-    /// Takes the value of a scalar's token.
-    unsafe fn take(token: &mut yaml_token_t) -> Value {
-        let (at, length) = (token.data.scalar.value, token.data.scalar.length);
-        token.data.scalar.value = std::ptr::null_mut();
-        Value { at, length }
-    }
+/// Returns the entries of a range of a list.
+pub fn slice_of<T>(list: &[T], range: RangeRecord) -> &[T] {
+    &list[range.place..range.place + range.length]
+}
 
-    /// Returns the value, which has to be freed with an event.
-    pub fn into_raw(self) -> *mut u8 {
-        std::mem::ManuallyDrop::new(self).at
-    }
-
-    /// Takes a value that an event owns no longer.
-    pub unsafe fn from_raw(at: *mut u8, length: u64) -> Value {
-        Value { at, length }
+pub fn encoding(number: u8) -> yaml_encoding_t {
+    match number {
+        1 => YAML_UTF8_ENCODING,
+        2 => YAML_UTF16LE_ENCODING,
+        3 => YAML_UTF16BE_ENCODING,
+        _ => YAML_ANY_ENCODING,
     }
 }
 
-impl Drop for Value {
-    /// The original frees a value by its token.
-    fn drop(&mut self) {
-        // SAFETY: a token is numbers and pointers, and the original made the value.
-        unsafe {
-            let mut token: yaml_token_t = std::mem::zeroed();
-            token.type_ = YAML_SCALAR_TOKEN;
-            token.data.scalar.value = self.at;
-            yaml_token_delete(&mut token);
-        }
+pub fn scalar_style(number: u32) -> yaml_scalar_style_t {
+    match number {
+        1 => YAML_PLAIN_SCALAR_STYLE,
+        2 => YAML_SINGLE_QUOTED_SCALAR_STYLE,
+        3 => YAML_DOUBLE_QUOTED_SCALAR_STYLE,
+        4 => YAML_LITERAL_SCALAR_STYLE,
+        5 => YAML_FOLDED_SCALAR_STYLE,
+        _ => YAML_ANY_SCALAR_STYLE,
     }
 }
 
-/// Token records and their texts. The values of scalars stay as the scanner made them: the parser hands a value on unread, so
-/// a record has one byte in its place, the first of the texts, and the events with a value have these in turn.
-pub struct Tokens {
-    pub records: Vec<TokenRecord>,
-    pub texts: Vec<u8>,
-    pub values: Vec<Value>,
+pub fn sequence_style(number: u32) -> yaml_sequence_style_t {
+    match number {
+        1 => YAML_BLOCK_SEQUENCE_STYLE,
+        2 => YAML_FLOW_SEQUENCE_STYLE,
+        _ => YAML_ANY_SEQUENCE_STYLE,
+    }
 }
 
-impl Tokens {
-    const VALUE: RangeRecord = RangeRecord { place: 0, length: 1 };
-
-    pub fn new() -> Tokens {
-        Tokens {
-            records: Vec::new(),
-            texts: vec![b'-'],
-            values: Vec::new(),
-        }
-    }
-
-    unsafe fn put_text(&mut self, text: *const u8) -> RangeRecord {
-        let (place, text) = (self.texts.len(), CStr::from_ptr(text.cast()).to_bytes());
-        self.texts.extend_from_slice(text);
-        RangeRecord {
-            place,
-            length: text.len(),
-        }
-    }
-
-    /// Appends a token, and takes its value.
-    pub unsafe fn put_token(&mut self, token: &mut yaml_token_t) {
-        let mut made = TokenRecord {
-            kind: token.type_ as u32,
-            start_mark: MarkRecord::new(token.start_mark),
-            end_mark: MarkRecord::new(token.end_mark),
-            ..TokenRecord::default()
-        };
-        match token.type_ {
-            YAML_STREAM_START_TOKEN => made.style = token.data.stream_start.encoding as u32,
-            YAML_VERSION_DIRECTIVE_TOKEN => {
-                let version = &token.data.version_directive;
-                (made.major, made.minor) = (version.major, version.minor);
-            }
-            YAML_TAG_DIRECTIVE_TOKEN => {
-                made.first = self.put_text(token.data.tag_directive.handle);
-                made.second = self.put_text(token.data.tag_directive.prefix);
-            }
-            YAML_ALIAS_TOKEN => made.first = self.put_text(token.data.alias.value),
-            YAML_ANCHOR_TOKEN => made.first = self.put_text(token.data.anchor.value),
-            YAML_TAG_TOKEN => {
-                made.first = self.put_text(token.data.tag.handle);
-                made.second = self.put_text(token.data.tag.suffix);
-            }
-            YAML_SCALAR_TOKEN => {
-                (made.style, made.first) = (token.data.scalar.style as u32, Tokens::VALUE);
-                self.values.push(Value::take(token));
-            }
-            _ => {}
-        }
-        self.records.push(made);
+pub fn mapping_style(number: u32) -> yaml_mapping_style_t {
+    match number {
+        1 => YAML_BLOCK_MAPPING_STYLE,
+        2 => YAML_FLOW_MAPPING_STYLE,
+        _ => YAML_ANY_MAPPING_STYLE,
     }
 }
