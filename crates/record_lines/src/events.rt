@@ -34,13 +34,12 @@ fn mark_of(record: &mark_record_t) -> yaml_mark_t {
     }
 }
 
-/// Returns the text of a range.
-fn text_of<'a>(texts: &'a [u8], range: &range_record_t) -> Result<&'a [u8]> {
+/// Returns the entries of a range.
+pub fn slice_of<'a, T>(list: &'a [T], range: &range_record_t) -> Result<&'a [T]> {
     let end = range.place.saturating_add(range.length);
     Ok(
-        texts
-            .get(range.place..end)
-            .context("a text outside the buffer")?,
+        list.get(range.place..end)
+            .context("a range outside the buffer")?,
     )
 }
 
@@ -49,7 +48,7 @@ fn option_of<'a>(texts: &'a [u8], range: &range_record_t) -> Result<Option<&'a [
     if range.place == ABSENT {
         return Ok(None);
     }
-    let text = text_of(texts, range)?;
+    let text = slice_of(texts, range)?;
     Ok(Some(text))
 }
 
@@ -66,7 +65,7 @@ fn unmarked_event_of(
         3 => document_start_of(alloc, made, directives, texts),
         4 => Ok(yaml_document_end_event_initialize(implicit)),
         5 => {
-            let anchor = text_of(texts, &made.anchor)?;
+            let anchor = slice_of(texts, &made.anchor)?;
             Ok(yaml_alias_event_initialize(alloc, anchor)?)
         }
         6 => scalar_of(alloc, made, texts),
@@ -94,13 +93,9 @@ fn document_start_of(
     texts: &[u8],
 ) -> Result<yaml_event_t> {
     let mut pairs = Vec::new(alloc);
-    for directive in directives
-        .iter()
-        .skip(made.directives.place)
-        .take(made.directives.length)
-    {
-        let handle = text_of(texts, &directive.handle)?;
-        let prefix = text_of(texts, &directive.prefix)?;
+    for directive in slice_of(directives, &made.directives)? {
+        let handle = slice_of(texts, &directive.handle)?;
+        let prefix = slice_of(texts, &directive.prefix)?;
         pairs.push((handle, prefix))?;
     }
     let version = if made.has_version == 1 {
@@ -118,7 +113,7 @@ fn document_start_of(
 fn scalar_of(alloc: Global, made: &event_record_t, texts: &[u8]) -> Result<yaml_event_t> {
     let anchor = option_of(texts, &made.anchor)?;
     let tag = option_of(texts, &made.tag)?;
-    let value = text_of(texts, &made.value)?;
+    let value = slice_of(texts, &made.value)?;
     let plain_implicit = made.implicit == 1;
     let quoted_implicit = made.quoted_implicit == 1;
     let style = scalar_style_of(made.style);

@@ -1,10 +1,13 @@
-//! Token lines on standard input, event lines on standard output, by records: each token becomes a record,
-//! `events_of_records` runs over them, and each event record becomes an event again, whose line is written.
+//! Token lines on standard input, lines of events and then of documents on standard output, by records: each
+//! token becomes a record, `events_of_records` and `documents_of_records` run over them, each event record
+//! becomes an event again, whose line is written, and document records are written as lines.
 #![tactic(auto)]
 
+mod documents;
 mod events;
 mod tokens;
 
+use crate::documents::print_documents;
 use crate::events::event_of;
 use crate::tokens::Tokens;
 use anyhow::{Result, bail};
@@ -52,5 +55,5 @@ fn main(rt: HostRuntime) -> Result<()> {
     if run.fault.error != 0 {
         bail!("the tokens have a fault");
     }
-    Ok(())
+    print_documents(&rt, &tokens)
 }
