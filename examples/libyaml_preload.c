@@ -10,7 +10,7 @@
  *
  * Memory. What a parser needs here stands in the yaml_parser_t itself, in the place of three lists that libyaml's parser
  * alone uses and its `yaml_parser_delete` frees: so a parser may be moved and deleted as with libyaml, at any time, and
- * two parsers share nothing. A failed allocation is the fault YAML_MEMORY_ERROR, after which a call gives no event. Three
+ * two parsers share nothing. A failed allocation is the fault YAML_MEMORY_ERROR, after which a call gives no event. Five
  * blocks of at most 32 MB are kept for the next stream.
  *
  * What is other than with libyaml, beside docs/DIFFERENCES.md:
@@ -38,14 +38,13 @@ struct fault {
     yaml_mark_t problem_mark, context_mark;
 };
 
-/* All tokens of a stream. The values of its scalars stay as the scanner made them: the parser hands a value on unread, so a
- * record has one byte in its place, the first of `texts`, and the events with a value have these in turn. */
+/* All tokens of a stream. The parser hands a scalar's value on unread, so a record has one byte in its place, the first of
+ * `texts`, and the events with a value have these in turn. */
 struct tokens {
     token_record_t *records;
-    uint8_t *texts;
-    yaml_tag_directive_t *values;  /* each a `handle`: yaml_parser_delete frees a list of these with what they name */
-    size_t *lengths;
-    size_t count, texts_length, scalars;
+    uint8_t *texts, *values;
+    size_t *lengths;  /* of the values */
+    size_t count, texts_length, values_length, scalars;
     size_t records_room, texts_room, values_room, lengths_room;
 };
 
@@ -54,7 +53,7 @@ struct tokens {
 struct run {
     records_run_t made;
     record_counts_t room;
-    size_t given, values_given;  /* how many events and values were given */
+    size_t given, values_given, values_length;  /* how many events and values were given, and the bytes of these */
     struct fault fault;          /* what comes after the events */
     char problem[64], context[64];
 };
@@ -69,7 +68,7 @@ static int out_of_memory(yaml_parser_t *parser)
 
 /* They are kept for the next stream, one of each kind, and each is one parser's at a time: fresh memory costs as much as a
  * run. */
-enum kind { RECORDS, TEXTS, RUN, KINDS };
+enum kind { RECORDS, TEXTS, VALUES, LENGTHS, RUN, KINDS };
 static void *kept[KINDS];
 
 enum { MOST_KEPT = 1 << 25 };
@@ -120,26 +119,23 @@ static int put_text(struct tokens *tokens, range_record_t *range, const yaml_cha
     return 1;
 }
 
-/* Takes the value of a scalar's token. */
-static int take_value(struct tokens *tokens, token_record_t *record, yaml_token_t *token)
+static int put_value(struct tokens *tokens, token_record_t *record, const yaml_token_t *token)
 {
-    size_t wanted = tokens->scalars + 1;
+    size_t length = token->data.scalar.length;
 
-    if (!reserve(&tokens->values, &tokens->values_room, wanted, sizeof *tokens->values) ||
-        !reserve(&tokens->lengths, &tokens->lengths_room, wanted, sizeof *tokens->lengths))
+    if (!reserve(&tokens->values, &tokens->values_room, tokens->values_length + length + 1, 1) ||
+        !reserve(&tokens->lengths, &tokens->lengths_room, tokens->scalars + 1, sizeof *tokens->lengths))
         return 0;
+    memcpy(tokens->values + tokens->values_length, token->data.scalar.value, length);
+    tokens->values_length += length;
+    tokens->lengths[tokens->scalars++] = length;
     record->style = token->data.scalar.style;
     record->first.length = 1;
-    tokens->values[tokens->scalars].handle = token->data.scalar.value;
-    tokens->values[tokens->scalars].prefix = NULL;
-    tokens->lengths[tokens->scalars] = token->data.scalar.length;
-    token->data.scalar.value = NULL;
-    tokens->scalars++;
     return 1;
 }
 
 /* Fills in what a record of the token's kind has. */
-static int put_fields(struct tokens *tokens, token_record_t *record, yaml_token_t *token)
+static int put_fields(struct tokens *tokens, token_record_t *record, const yaml_token_t *token)
 {
     switch (token->type) {
     case YAML_STREAM_START_TOKEN:
@@ -160,7 +156,7 @@ static int put_fields(struct tokens *tokens, token_record_t *record, yaml_token_
         return put_text(tokens, &record->first, token->data.tag.handle) &&
                put_text(tokens, &record->second, token->data.tag.suffix);
     case YAML_SCALAR_TOKEN:
-        return take_value(tokens, record, token);
+        return put_value(tokens, record, token);
     default:
         return 1;
     }
@@ -178,7 +174,7 @@ static yaml_mark_t mark_of(mark_record_t mark)
     return made;
 }
 
-static int put_token(struct tokens *tokens, yaml_token_t *token)
+static int put_token(struct tokens *tokens, const yaml_token_t *token)
 {
     if (!reserve(&tokens->records, &tokens->records_room, tokens->count + 1, sizeof *tokens->records))
         return 0;
@@ -205,7 +201,8 @@ static int scan(yaml_parser_t *parser, struct tokens *tokens)
         if (type == YAML_NO_TOKEN)
             break;
         put = put_token(tokens, &token);
-        yaml_token_delete(&token);
+        if (type == YAML_TAG_DIRECTIVE_TOKEN || type >= YAML_ALIAS_TOKEN)  /* no other has texts */
+            yaml_token_delete(&token);
         if (type == YAML_STREAM_END_TOKEN)
             break;
     }
@@ -217,12 +214,10 @@ static void free_tokens(struct tokens *tokens, int with_values)
 {
     keep_block(RECORDS, tokens->records);
     keep_block(TEXTS, tokens->texts);
-    if (!with_values)
-        return;
-    for (size_t i = 0; i < tokens->scalars; i++)
-        free(tokens->values[i].handle);
-    free(tokens->values);
-    free(tokens->lengths);
+    if (with_values) {
+        keep_block(VALUES, tokens->values);
+        keep_block(LENGTHS, tokens->lengths);
+    }
 }
 
 /* ---- The run ---- */
@@ -353,8 +348,8 @@ static void keep(yaml_parser_t *parser, struct run *run, const struct tokens *to
     free(parser->tag_directives.start);
     parser->states.start = parser->states.end = parser->states.top = (yaml_parser_state_t *)(void *)run;
     parser->marks.start = parser->marks.end = parser->marks.top = (yaml_mark_t *)(void *)tokens->lengths;
-    parser->tag_directives.start = tokens->values;
-    parser->tag_directives.end = parser->tag_directives.top = tokens->values + tokens->scalars;
+    parser->tag_directives.start = (yaml_tag_directive_t *)(void *)tokens->values;
+    parser->tag_directives.end = parser->tag_directives.top = parser->tag_directives.start;
     parser->state = YAML_PARSE_DOCUMENT_CONTENT_STATE;
     parser->stream_end_produced = 0;  /* the scanner set it, and yaml_parser_load looks at it */
 }
@@ -367,6 +362,8 @@ static int begin(yaml_parser_t *parser)
 
     tokens.records = take_kept(RECORDS, &tokens.records_room, sizeof *tokens.records);
     tokens.texts = take_kept(TEXTS, &tokens.texts_room, 1);
+    tokens.values = take_kept(VALUES, &tokens.values_room, 1);
+    tokens.lengths = take_kept(LENGTHS, &tokens.lengths_room, sizeof *tokens.lengths);
     if (scan(parser, &tokens))
         run = run_over(&tokens);
     if (run == NULL) {
@@ -431,10 +428,15 @@ static int scalar(yaml_parser_t *parser, struct run *run, const event_record_t *
         return 0;
     if (made->value.length == 0)
         return copy(run, made->value, &event->data.scalar.value);
-    yaml_char_t **value = &parser->tag_directives.start[run->values_given].handle;
-    event->data.scalar.value = *value;
-    event->data.scalar.length = ((size_t *)(void *)parser->marks.start)[run->values_given++];
-    *value = NULL;
+    size_t length = ((size_t *)(void *)parser->marks.start)[run->values_given++];
+    yaml_char_t *value = malloc(length + 1);
+    if (value == NULL)
+        return 0;
+    memcpy(value, (uint8_t *)parser->tag_directives.start + run->values_length, length);
+    value[length] = '\0';
+    run->values_length += length;
+    event->data.scalar.value = value;
+    event->data.scalar.length = length;
     return 1;
 }
 
@@ -497,8 +499,12 @@ static int next(yaml_parser_t *parser, yaml_event_t *event)
     if (event->type == YAML_STREAM_END_EVENT) {
         parser->state = YAML_PARSE_END_STATE;
         parser->stream_end_produced = 1;
-        parser->states.start = parser->states.end = parser->states.top = NULL;
         keep_block(RUN, run);
+        keep_block(LENGTHS, parser->marks.start);
+        keep_block(VALUES, parser->tag_directives.start);
+        memset(&parser->states, 0, sizeof parser->states);
+        memset(&parser->marks, 0, sizeof parser->marks);
+        memset(&parser->tag_directives, 0, sizeof parser->tag_directives);
     }
     return 1;
 }

@@ -22,7 +22,7 @@ static const struct {
     {"--- a\n--- [b}\n", YAML_PARSER_ERROR, "did not find expected ',' or ']'", "while parsing a flow sequence", 12},
     {"- a\n- &b !<%ED%A0%80> c\n", YAML_SCANNER_ERROR, "text is not UTF-8", NULL, 9},
 };
-enum { EVENTS = 22, NODES = 11, KEPT = 3 };  /* blocks are kept for the next stream */
+enum { EVENTS = 22, NODES = 11, KEPT = 5 };  /* blocks are kept for the next stream */
 
 /* ---- The C library's allocator, of which one call may be refused ---- */
 
