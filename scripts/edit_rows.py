@@ -2,6 +2,7 @@
 """Tells which row sees each edit of crates/*/must-fail; fails where none does and WRONG_BODIES doesn't say so.
 
     python3 scripts/edit_rows.py [--write] [CRATE | CRATE/EDIT]..        (no such word: every edit)
+    python3 scripts/edit_rows.py none                                    runs the programs over no edit
 
 Each edit is made in a copy, and the programs of its crate's line in PROGRAMS are run over it in turn, without proof
 (`rt try`), until one ends otherwise than it should: `yamltokens` over the lists of `yaml_rows` and `line_rows`, the
@@ -30,13 +31,16 @@ PROGRAMS = {
     "libyaml_documents": ["yaml_rows", "keys", "hostile_rows"],
     "libyaml_loader": ["yamltokens", "yaml_rows", "keys", "hostile_rows"],
     "unsafe_libyaml": ["yaml_rows", "hostile_rows"],
-    "clean_texts": ["yamltokens", "hostile_rows"],
+    "clean_texts": ["yamltokens", "line_rows", "hostile_rows"],
     "line_reading": ["yamltokens", "line_rows"],
     "line_writing": ["yamltokens", "line_rows"],
     "token_lines": ["yamltokens", "line_rows"],
     "command_line": ["yamltokens", "line_rows"],
     "computed_tokens": ["hostile_rows"],
     "token_lines_c": [],
+    "token_records": ["record_lines"],
+    "document_records": ["record_lines"],
+    "token_records_c": [],
     "yaml_path": ["yamlvalue"],
 }
 # Tables that take minutes without proof: they are tried only for an edit of which the page names them.
@@ -63,6 +67,11 @@ class Case:
         self.words, self.stdin, self.stdout, self.status = words, stdin, stdout, status
 
 
+def text_of(path):
+    """What a file has, with its carriage returns."""
+    return path.read_bytes().decode()
+
+
 def lists():
     """The runs of `yamltokens` over each list of tokens, by the list's table and name."""
     tables = [TOP / "crates/yaml_rows/data" / name for name in ("rows", "completed", "loads", "libyaml_differs", "suite", "real")]
@@ -71,9 +80,9 @@ def lists():
             for kind in ("events", "nodes"):
                 wanted = tokens.with_suffix("." + kind)
                 if wanted.exists():
-                    text = wanted.read_text()
+                    text = text_of(wanted)
                     status = int(bool(re.search(r"^FAULT ", text, flags=re.M)))
-                    yield f"`yamltokens {kind}` over `{tokens.stem}` of \"{table.name}\"", Case([kind], tokens.read_text(), text, status)
+                    yield f"`yamltokens {kind}` over `{tokens.stem}` of \"{table.name}\"", Case([kind], text_of(tokens), text, status)
 
 
 def cases_of(program, named):
@@ -81,13 +90,17 @@ def cases_of(program, named):
     home = TOP / "crates" / program
     if program == "yamltokens":
         return dict(lists())
-    stored = {name: (home / name).read_text() for name in ("args", "stdin", "stdout", "status") if (home / name).exists()}
+    stored = {name: text_of(home / name) for name in ("args", "stdin", "stdout", "status") if (home / name).exists()}
     if (home / "data").is_dir():
-        tables = re.findall(r"^(.*): \d+ (?:lists|rows|checks), ", stored["stdout"], flags=re.M)
-        tables = [table for table in dict.fromkeys(tables) if table not in SLOW or f'"{table}"' in named]
-        return {f'`{program}`, "{table}"': Case([table]) for table in tables}
+        counts = r"(.*): \d+ (?:lists|rows|checks), .*\n"
+        tables = re.findall(rf"(?m)^({counts})((?:(?!{counts}).*\n)*)", stored["stdout"])
+        return {
+            f'`{program}`, "{table}"': Case([table], stdout=line + more if more else None)
+            for line, table, more, _ in tables
+            if table not in SLOW or f'"{table}"' in named
+        }
     words = stored.get("args", "").splitlines()
-    return {f"the stored run of `{program}`": Case(words, stored.get("stdin", ""), stored.get("stdout", ""), int(stored.get("status", "0")))}
+    return {f"`{program}`": Case(words, stored.get("stdin", ""), stored.get("stdout", ""), int(stored.get("status", "0")))}
 
 
 def first_row(said):
@@ -147,7 +160,7 @@ def run_laws(room, _):
     said = run.stdout + run.stderr
     if not re.search(r"^only=[1-9]", said, flags=re.M):
         raise NotRun(f"libyaml_original: {said[-1500:]}")
-    return None if run.returncode == 0 else "the worked rows of its module `rows`"
+    return None if run.returncode == 0 else "the worked rows"
 
 
 def tried(crate, edit):
@@ -173,6 +186,17 @@ def place(crate, edit):
     return None
 
 
+def run_unedited():
+    """Runs each program over no edit, and fails where one ends otherwise than it should."""
+    with tempfile.TemporaryDirectory() as room:
+        copied(Path(room))
+        programs = sorted({program for named in PROGRAMS.values() for program in named} - {"rows"})
+        seen = {program: run_cases(Path(room), program, cases_of(program, "")) for program in programs}
+    for program, where in seen.items():
+        print(f"{program}: {'as it should' if where is None else 'not as it should in ' + where}")
+    sys.exit(any(seen.values()))
+
+
 def line_of(crate, edit):
     """The line of an edit in WRONG_BODIES: what it gets wrong, where it is seen, and what refuses it."""
     part = re.search(rf"(?ms)^## `{crate}`.*?(?=^## |\Z)", PAGE.read_text())
@@ -190,6 +214,8 @@ def write(crate, edit, seen):
 def main(words):
     writes = "--write" in words
     words = [word for word in words if word != "--write"]
+    if words == ["none"]:
+        run_unedited()
     edits = [(path.parent.parent.name, path) for path in sorted(TOP.glob("crates/*/must-fail/*.edit"))]
     edits = [(crate, path) for crate, path in edits if not words or crate in words or f"{crate}/{path.stem}" in words]
     if not edits:
