@@ -1,7 +1,9 @@
-//! Documents by calls: each call once with ample memory, and the worked rows of them.
+//! Documents by calls: each call once with ample memory, and the worked rows of them; and documents that are
+//! equal but for their ends.
 
 ghost use Rattle.std.specs.Prelude.{◌≡◌, [], IfOk};
 
+use crate::tokens::list_of;
 use anyhow::Result;
 use row_checks::{unless, unless_made};
 use std::alloc::Global;
@@ -11,7 +13,8 @@ use unsafe_libyaml::{
     YAML_PLAIN_SCALAR_STYLE, yaml_document_add_mapping, yaml_document_add_scalar,
     yaml_document_add_sequence, yaml_document_append_mapping_pair,
     yaml_document_append_sequence_item, yaml_document_get_node, yaml_document_get_root_node,
-    yaml_document_initialize, yaml_document_t, yaml_refusal_t, yaml_version_directive_t,
+    yaml_document_initialize, yaml_document_t, yaml_parser_initialize, yaml_parser_load,
+    yaml_refusal_t, yaml_version_directive_t,
 };
 
 type Made = Result<yaml_document_t, yaml_refusal_t>;
@@ -135,8 +138,36 @@ fn keeps_directives(alloc: Global) -> bool {
     has_lines(alloc, with_directives(alloc), wanted)
 }
 
+/// Loads a scalar's document, of which these lines say how it ends.
+fn ended_by(alloc: Global, end: &str) -> Result<yaml_document_t> {
+    let start = "STREAM-START 0:0:0 0:0:0 utf8\nSCALAR 0:0:0 1:0:1 =a plain\n";
+    let lines = format!(in alloc; "{start}{end}")?;
+    let mut parser = yaml_parser_initialize(alloc, list_of(alloc, lines.as_str())?);
+    match yaml_parser_load(&mut parser) {
+        Ok(document) => Ok(document),
+        Err(_) => Err((*parser.prefix()).into()),
+    }
+}
+
+/// Whether each of three documents that are equal but for their ends is equal to itself alone. The third ends
+/// with a DOCUMENT-END.
+fn differ_in_their_ends(alloc: Global) -> Result<bool> {
+    let near = ended_by(alloc, "STREAM-END 2:0:2 2:0:2\n")?;
+    let far = ended_by(alloc, "STREAM-END 3:0:3 3:0:3\n")?;
+    let told = ended_by(alloc, "DOCUMENT-END 2:0:2 2:0:2\nSTREAM-END 3:0:3 3:0:3\n")?;
+    let others = [
+        near == far,
+        near == told,
+        far == near,
+        far == told,
+        told == near,
+        told == far,
+    ];
+    Ok([others == [false; 6], near == near, far == far, told == told] == [true; 4])
+}
+
 /// What is wrong with documents by calls.
-pub fn checks(alloc: Global) -> [Option<&'static str>; 6] {
+pub fn checks(alloc: Global) -> [Option<&'static str>; 7] {
     [
         unless_made(knows_its_node(alloc), "ids count from one"),
         unless(holds_its_items(alloc), "items are appended in order"),
@@ -144,5 +175,9 @@ pub fn checks(alloc: Global) -> [Option<&'static str>; 6] {
         unless_made(adds_no_node(alloc), "a tag that is no text adds no node"),
         unless(holds_its_pair(alloc), "a pair is appended"),
         unless(keeps_directives(alloc), "directives stay"),
+        unless_made(
+            differ_in_their_ends(alloc),
+            "documents differ by their ends",
+        ),
     ]
 }

@@ -4,7 +4,7 @@
 use crate::one_by_one::{without_fault_of_source, write_kept};
 use crate::tables::{Case, Given, Text};
 use crate::tokens::list_of;
-use anyhow::Result;
+use anyhow::{Result, bail};
 use std::alloc::Global;
 use std::io;
 use token_lines::{MAX_TOKENS, write_document, write_fault, yaml_line_source_t};
@@ -45,6 +45,7 @@ fn write_item(
     out: &mut Vec<u8>,
 ) -> Result<()> {
     match item {
+        Ok(document) if document.nodes().is_empty() => bail!("a document without nodes"),
         Ok(document) => write_document(alloc, document, out)?,
         Err(fault) => write_fault(fault, out)?,
     }

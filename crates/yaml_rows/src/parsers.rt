@@ -1,8 +1,8 @@
-//! Parsers between documents and after a load, and sources that have no memory.
+//! Parsers between documents and after a load, sources that have no memory, and a list's tokens by calls.
 
-use crate::tokens::list_of;
+use crate::tokens::{end_of, list_of};
 use anyhow::Result;
-use row_checks::{gives_event, unless, unless_made};
+use row_checks::{gives_event, push_tokens, unless, unless_made};
 use std::alloc::Global;
 use token_lines::write_event;
 use unsafe_libyaml::{
@@ -92,8 +92,19 @@ fn ends_by_a_reader(alloc: Global) -> bool {
     ] == [true; 2]
 }
 
+/// Whether calls for the next token of a list give each of its tokens, and then its fault, again and again.
+fn gives_its_fault_again(alloc: Global, scalar: &str) -> Result<bool> {
+    let (count, fault) = end_of(alloc, scalar)?;
+    let mut source = list_of(alloc, scalar)?;
+    let mut tokens = Vec::new(alloc);
+    let end = push_tokens(&mut tokens, &mut source, count.saturating_add(1))?;
+    let again = push_tokens(&mut tokens, &mut source, 1)?;
+    let ends = [end, again].map(|end| end.map(|fault| fault.prefix()));
+    Ok([tokens.len() == count, ends == [Some(fault.prefix()); 2]] == [true; 2])
+}
+
 /// What is wrong with parsers, over the lines of one scalar and those of two documents.
-pub fn checks(alloc: Global, scalar: &str, two: &str) -> [Option<&'static str>; 4] {
+pub fn checks(alloc: Global, scalar: &str, two: &str) -> [Option<&'static str>; 5] {
     [
         unless_made(
             stands_between_documents(alloc, scalar),
@@ -107,6 +118,10 @@ pub fn checks(alloc: Global, scalar: &str, two: &str) -> [Option<&'static str>; 
         unless(
             ends_by_a_reader(alloc),
             "a list that ends too soon ends by a reader's fault",
+        ),
+        unless_made(
+            gives_its_fault_again(alloc, scalar),
+            "a list's next tokens, and then its fault",
         ),
     ]
 }
