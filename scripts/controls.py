@@ -54,8 +54,8 @@ def proved(crate, function):
     """Whether `rt check --only` proves a function, and what it wrote."""
     run = subprocess.run(["rt", "check", "--only", function], cwd=crate, stdin=subprocess.DEVNULL, capture_output=True, text=True)
     said = run.stdout + run.stderr
-    count = re.search(r"^only=(\d+) proved=(\d+)", said, flags=re.M)
-    if not count or count[1] == "0":
+    counts = re.findall(r"^only=(\d+) proved=", said, flags=re.M)
+    if not counts or counts[-1] == "0":
         sys.exit(f"{crate.name}: no verdict on {function}:\n{said[-2000:]}")
     return run.returncode == 0, said
 

@@ -6,8 +6,8 @@
     python3 scripts/refusals.py --check ..        (changes nothing, and fails where the page says something else)
 
 A refusal is by shape where the prover only misses a step that the hand-written answers (`proofs/**/Answers.antt`) name, or
-where it stands in such answers and there is no edit of equal meaning that is proved over them (`controls/`). The last line
-counts. Needs `rt` but with --from.
+where it stands in such answers and there is no edit of equal meaning that is proved over them (`controls/`). One in another
+proof is that of a lemma, as where a definition is turned. The last line counts. Needs `rt` but with --from.
 """
 import re
 import subprocess
@@ -45,6 +45,8 @@ def function_at(crate, path, line):
 def clause_of(crate, function, goal):
     """What a goal is about, in words. Its name may be cut off at its end."""
     names = clauses(crate, function)
+    if match := re.match(r"(.*)-requires", goal):
+        return f"what `{re.sub(r'-.*', '', match[1])}` requires"
     if match := re.search(r"-clause-(\w+)$", goal):
         whole = [name for name in names if name and name.startswith(match[1])]
         return f"`{whole[0] if len(whole) == 1 else match[1]}`"
@@ -52,11 +54,9 @@ def clause_of(crate, function, goal):
         return "the invariant of its type"
     if re.match(r"loop-.*-(preserved|entered|entry)", goal):
         return "the invariant of its loop"
-    if match := re.match(r"(.*)-requires", goal):
-        return f"what `{re.sub(r'-.*', '', match[1])}` requires"
     if goal.startswith("returns"):
         return f"`{names[0]}`" if len(names) == 1 and names[0] else "its clause" if len(names) < 2 else "its clauses"
-    return f"`{goal}`"
+    return f"the lemma `{goal}`"
 
 
 def is_proved_over(crate, function):
@@ -71,6 +71,8 @@ def reason(crate, edit, said):
         return None
     if "only because a proof file names" in said:
         return SHAPE
+    if lemma := re.search(r"proofs/[\w/]+\.antt:\d+:\d+: error: `([^`]+)`", said.replace("Answers.antt", "Answers")):
+        return f"the lemma `{lemma[1]}`"
     goal = re.search(r"\(`([^`]+)(?:`|$)|error: `([^`]+)`", said)
     of_answers = re.search(r"proofs/([\w/+]+)/Answers\.antt:", said)
     of_code = re.search(r"(src/[\w/]+\.rt):(\d+):", said)

@@ -54,6 +54,28 @@ impl<S: yaml_token_source_t> Machine<S> {
             }
         }
     }
+
+    /// Puts the next event into `event`; where the run is over, the empty event.
+    fn put_event(
+        &mut self,
+        token: &mut yaml_token_t,
+        pending: &mut Pending,
+        event: &mut yaml_event_t,
+    ) -> Result<(), yaml_error_type_t>
+        ensures kept { IfErr (answered result event.new) (λ e. (e ≡ self.new.config.fault.error)
+            × (ended_or_failed self.new.config ≡ true)) }
+        ensures failed { IfErr (answered result event.new) (λ _. has_failed self.new ≡ true) }
+        ensures bound { self.new.max_entries ≡ self.old.max_entries }
+        ensures over { ended_or_failed self.old.config ≡ true → self.new ≡ self.old }
+        ensures call { Call S.gives self.old (answered result event.new) self.new }
+        ensures left { IfErr (answered result event.new) (λ e. Left self.old.config e self.new.config) }
+    {
+        if self.is_over() {
+            clear(event);
+            return Ok(());
+        }
+        self.fill(token, pending, event)
+    }
 }
 
 impl<S: yaml_token_source_t> yaml_parser_t<S> {
@@ -67,11 +89,8 @@ impl<S: yaml_token_source_t> yaml_parser_t<S> {
         ensures left { IfErr (answered result event.new) (λ e. Left self.old.config e self.new.config) }
         ensures remembers { Remembers self.old }
     {
-        if self.machine.is_over() {
-            clear(event);
-            return Ok(());
-        }
-        self.machine.fill(&mut self.token, &mut self.pending, event)
+        self.machine
+            .put_event(&mut self.token, &mut self.pending, event)
     }
 
     /// The next event, as the machine gives it.
