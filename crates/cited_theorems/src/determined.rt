@@ -16,7 +16,7 @@ pub fn events_twice(
     first: &mut [u8],
     second: &mut [u8],
 ) -> (memory_run_t, memory_run_t)
-    requires { first.old ≡ second.old }
+    requires { second.old ≡ first.old }
     ensures { OneInMemory result.0 result.1 first.new second.new }
 {
     one_run_in_memory();
@@ -33,7 +33,7 @@ pub fn documents_twice(
     first: &mut [u8],
     second: &mut [u8],
 ) -> (memory_run_t, memory_run_t)
-    requires { first.old ≡ second.old }
+    requires { second.old ≡ first.old }
     ensures { OneInMemory result.0 result.1 first.new second.new }
 {
     one_run_in_memory();
