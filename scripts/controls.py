@@ -6,8 +6,8 @@
 Such an edit has the form of those in must-fail/, and changes how a function is written and nothing in what it does. Each
 is made in a copy, and `rt check --only` has to prove the function. One whose first line is `by shape` has to be refused:
 there the answers of the function (`proofs/**/Answers.antt`) fit no other way to write it, so they refuse an edit of
-must-fail/ whatever it means. Each function that has answers and an edit in must-fail/ has one here, named as that edit
-begins; others may have one. Needs `rt`; some ten seconds an edit, after the crates below are proved.
+must-fail/ whatever it means. Each function that has answers and an edit of its code in must-fail/ has one here, named as
+that edit begins; others may have one. Needs `rt`; some ten seconds an edit, after the crates below are proved.
 """
 import re
 import subprocess
@@ -81,8 +81,8 @@ def tried(crate, edit):
 
 
 def lacking(crate):
-    """The functions with answers and an edit in must-fail/ that have no edit here."""
-    turned = {answered(crate, edit) for edit in crate.glob("must-fail/*.edit")} - {None}
+    """The functions with answers and an edit of their code in must-fail/ that have no edit here."""
+    turned = {answered(crate, edit) for edit in crate.glob("must-fail/*.edit") if "file: src/" in edit.read_text()} - {None}
     return sorted(turned - {answered(crate, edit) for edit in crate.glob("controls/*.edit")})
 
 
