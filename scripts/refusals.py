@@ -37,7 +37,7 @@ def function_at(crate, path, line):
     lines = (crate / path).read_text().splitlines()
     while lines[line - 1].strip().startswith("#"):
         line += 1
-    names = [match[1] for text in lines[:line] if (match := re.match(r"\s*(?:pub(?:\([^)]*\))? )?(?:const )?fn (\w+)", text))]
+    names = [match[1] for text in lines[:line] if (match := re.match(r"\s*(?:pub(?:\([^)]*\))? )?(?:const |extern \"C\" )*fn (\w+)", text))]
     module = path.removeprefix("src/").removesuffix(".rt").replace("/", "::")
     return "::".join([module, *names[-1:]]).removeprefix("lib::")
 
