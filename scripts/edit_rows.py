@@ -7,7 +7,8 @@
 Each edit is made in a copy, and the programs of its crate's line in PROGRAMS are run over it in turn, without proof
 (`rt try`), until one ends otherwise than it should: `yamltokens` over the lists of `yaml_rows` and `line_rows`, the
 programs of rows table by table, other programs over what is stored beside them. Of the Rust crate's definitions the
-worked rows are proved. The program that WRONG_BODIES names goes first, `yaml_rows` where it names none. With --write the
+worked rows are proved. The program that WRONG_BODIES names goes first, `yaml_rows` where it names none; where it names
+`PROGRAM failing`, that runs with the allocation failed that it names, or with each of the first 60 in turn. With --write the
 place goes into WRONG_BODIES, without the name of that program's table "rows"; where there is none, what the page says after
 "Seen in no row" stays. Two edits at a time (JOBS), half a minute to three minutes a program; needs `rt`.
 """
@@ -36,7 +37,7 @@ PROGRAMS = {
     "line_writing": ["yamltokens", "line_rows"],
     "token_lines": ["yamltokens", "line_rows"],
     "command_line": ["yamltokens", "line_rows"],
-    "computed_tokens": ["hostile_rows"],
+    "computed_tokens": [],
     "token_lines_c": [],
     "token_records": ["record_lines"],
     "document_records": ["record_lines"],
@@ -127,11 +128,30 @@ def ends_as_wanted(end, case):
     return f"run=ended status={case.status} " in end and "output=differs" not in end
 
 
+def data_of(home):
+    """The words that give a program of `rt try` its files of `data`."""
+    files = [path for path in sorted(home.glob("data/**/*")) if path.is_file()]
+    return [word for path in files for word in ("--data", f"{path.relative_to(home / 'data')}={path.relative_to(home)}")]
+
+
+def run_failing(room, program, nth):
+    """The failed allocation, this one or one of the first, with which a row of a program differs, in words."""
+    home = room / "crates" / program
+    for n in [nth] if nth else map(str, range(1, 61)):
+        command = ["rt", "try", "--seconds", SECONDS, "--fail-alloc", n, *data_of(home), "--", "failing"]
+        run = subprocess.run(command, cwd=home, stdin=subprocess.DEVNULL, capture_output=True, text=True, errors="replace")
+        if "run=ended" not in run.stderr:
+            raise NotRun(f"{program}: {run.stderr[-1500:]}")
+        row = first_row(run.stdout)
+        if row:
+            return f"`{program} failing`, allocation {n} failed{row}"
+    return None
+
+
 def run_cases(room, program, cases):
     """The first of these runs that does not end as it should, in words; None where each does."""
     home = room / "crates" / program
-    files = [path for path in sorted(home.glob("data/**/*")) if path.is_file()]
-    data = [word for path in files for word in ("--data", f"{path.relative_to(home / 'data')}={path.relative_to(home)}")]
+    data = data_of(home)
     names, lines, ended = list(cases), [], 0
     with tempfile.TemporaryDirectory() as folder, tempfile.TemporaryFile("w+", errors="replace") as texts:
         made(Path(folder), cases.values())
@@ -178,6 +198,9 @@ def place(crate, edit):
         for path, text in edited(Path(room) / "crates" / crate, edit).items():
             path.write_text(text)
         named = line_of(crate, edit.stem)[2] or ""
+        failing = re.search(r"`(\w+) failing`(?:, allocation (\d+) failed)?", named)
+        if failing:
+            return run_failing(Path(room), failing[1], failing[2])
         first = next((name for name in PROGRAMS[crate] if f"`{name}" in named), "yaml_rows")
         for program in sorted(PROGRAMS[crate], key=lambda name: name != first):
             seen = run_laws(Path(room), program) if program == "rows" else run_cases(Path(room), program, cases_of(program, named))

@@ -142,6 +142,16 @@ pub fn refuses_bytes_first(alloc: Global, constructor: Constructor) -> bool {
     }
 }
 
+/// Whether a document refuses a value that is no text before it allocates for the tag beside it.
+pub fn refuses_value_first(alloc: Global) -> bool {
+    let Ok(mut document) = begin_again(alloc) else {
+        return false;
+    };
+    let (tag, style) = (Some(SHORT.tag), YAML_ANY_SCALAR_STYLE);
+    let added = yaml_document_add_scalar(&mut document, tag, SURROGATE, style);
+    added == Err(yaml_refusal_t::NotUtf8)
+}
+
 /// Whether a call gives its node a tag.
 #[derive(Copy, Clone)]
 pub enum Tagged {

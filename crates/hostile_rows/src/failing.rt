@@ -3,12 +3,15 @@
 //! `scripts/allocation_failures.sh` runs this with the first allocation failed, then the second, and so on
 //! until none fails.
 
-use crate::calls::{Constructor, built, calls, constructed, constructors, refuses_bytes_first};
-use crate::growing::{Grown, lists};
+use crate::calls::{
+    Constructor, built, calls, constructed, constructors, refuses_bytes_first, refuses_value_first,
+};
+use crate::growing::{GrowingList, Grown, lists};
 use crate::lines::{LinesOf, are_same_or_cut, lines_of};
 use row_checks::Tables;
 use std::alloc::Global;
 use std::io;
+use unsafe_libyaml::{yaml_parser_initialize, yaml_parser_load, yaml_parser_parse};
 
 fn is_constructor_right(alloc: Global, constructor: Constructor) -> bool {
     let one = constructed(alloc, constructor);
@@ -36,6 +39,10 @@ fn show_bytes(rt: &(impl Print + AllocGlobal), tables: &mut Tables<'_>) -> io::R
         if table.has(name) {
             table.count(rt, name, refuses_bytes_first(rt.alloc(), *constructor))?;
         }
+    }
+    let value = "value of a document's scalar";
+    if table.has(value) {
+        table.count(rt, value, refuses_value_first(rt.alloc()))?;
     }
     tables.show(rt, table)
 }
@@ -87,10 +94,38 @@ fn show_lists(rt: &(impl Print + AllocGlobal), tables: &mut Tables<'_>) -> io::R
     tables.show(rt, table)
 }
 
+/// Whether a stream without documents is parsed and loaded without memory, so that no allocation fails.
+fn takes_no_memory(alloc: Global) -> bool {
+    let grown = Grown {
+        list: GrowingList::Documents,
+        n: 0,
+    };
+    let mut parser = yaml_parser_initialize(alloc, grown.computed(alloc));
+    let mut loader = yaml_parser_initialize(alloc, grown.computed(alloc));
+    [
+        yaml_parser_parse(&mut parser).is_ok(),
+        yaml_parser_parse(&mut parser).is_ok(),
+        yaml_parser_load(&mut loader).is_ok(),
+    ] == [true; 3]
+}
+
+fn show_stream(rt: &(impl Print + AllocGlobal), tables: &mut Tables<'_>) -> io::Result<()> {
+    let Some(mut table) = tables.begin("what takes no memory") else {
+        return Ok(());
+    };
+    table.count(
+        rt,
+        "a stream without documents",
+        takes_no_memory(rt.alloc()),
+    )?;
+    tables.show(rt, table)
+}
+
 /// Shows the tables of this module.
 pub fn show(rt: &(impl Print + AllocGlobal), tables: &mut Tables<'_>) -> io::Result<()> {
-    show_constructors(rt, tables)?;
+    show_stream(rt, tables)?;
     show_bytes(rt, tables)?;
+    show_constructors(rt, tables)?;
     show_calls(rt, tables)?;
     show_lists(rt, tables)
 }

@@ -1,4 +1,5 @@
 pub mod Notation
 pub mod ExampleRows
+pub mod AlikeRows
 pub mod DifferenceRows
 pub mod TextRows

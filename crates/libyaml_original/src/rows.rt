@@ -1,6 +1,9 @@
 //! Worked rows, by computation: lists of tokens with the run there, the run here, and the loads there.
 
 ghost use Rattle.libyaml_original.specs.rows.ExampleRows.{RowCompose, RowFault, RowList, RowListBegun};
+ghost use Rattle.libyaml_original.specs.rows.AlikeRows.{RowAtTheBound, RowBeyondTheBound};
+ghost use Rattle.libyaml_original.specs.rows.AlikeRows.{RowBlockSequenceAsAPairsKey};
+ghost use Rattle.libyaml_original.specs.rows.AlikeRows.{RowIndentlessSequence};
 ghost use Rattle.libyaml_original.specs.rows.DifferenceRows.{RowNoNodeBehindADocumentEnd};
 ghost use Rattle.libyaml_original.specs.rows.DifferenceRows.{RowPairKeyThenEnd, RowPairKeyThenEntry};
 ghost use Rattle.libyaml_original.specs.rows.DifferenceRows.{RowPairKeyThenTwoEnds};
@@ -22,6 +25,14 @@ pub fn example_rows()
     ensures list { RowList }
     ensures compose { RowCompose }
     ensures fault { RowFault }
+{}
+
+/// Both parsers do the same, and a load within a bound, and beyond it.
+pub fn alike_rows()
+    ensures indentless_sequence { RowIndentlessSequence }
+    ensures block_sequence_as_a_pairs_key { RowBlockSequenceAsAPairsKey }
+    ensures at_the_bound { RowAtTheBound }
+    ensures beyond_the_bound { RowBeyondTheBound }
 {}
 
 /// The three places where the parsers differ.

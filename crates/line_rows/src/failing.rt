@@ -3,10 +3,12 @@
 //! `scripts/allocation_failures.sh` runs this with the first allocation failed, then the second, and so on
 //! until none fails. Where none fails, a run is right only if it is whole.
 
+use crate::memory;
 use crate::runs::{LinesOf, Passage, Run, run_lines};
 use row_checks::{are_first_lines, is_cut};
 use std::alloc::Global;
-use std::io::Cursor;
+use std::io;
+use std::io::{Cursor, Write};
 use token_lines::{
     MAX_TOKENS, Outcome, line_refusal_t, write_document, write_event, yaml_line_source_t,
 };
@@ -25,26 +27,46 @@ fn are_right(one: Passage, other: Passage) -> bool {
     }
 }
 
-/// A writer that takes no memory, and has room for more than any run writes.
-type Room = Cursor<[u8; 4096]>;
-
-fn room() -> Room {
-    Cursor::new([0; 4096])
+/// A writer that takes no memory, has room for more than any run writes, and counts its writes.
+#[derive(Drop)]
+struct Room {
+    bytes: Cursor<[u8; 4096]>,
+    writes: usize,
 }
 
-/// What was written.
-fn written(room: &Room) -> &[u8] {
-    let len = usize::try_from(room.position()).unwrap_or(0);
-    room.get_ref().get(..len).unwrap_or(&[])
+impl Room {
+    fn new() -> Self {
+        Room {
+            bytes: Cursor::new([0; 4096]),
+            writes: 0,
+        }
+    }
+
+    /// What was written.
+    fn written(&self) -> &[u8] {
+        let len = usize::try_from(self.bytes.position()).unwrap_or(0);
+        self.bytes.get_ref().get(..len).unwrap_or(&[])
+    }
+}
+
+impl Write for Room {
+    fn write(&mut self, buf: &[u8]) -> io::Result<usize> {
+        self.writes = self.writes.saturating_add(1);
+        self.bytes.write(buf)
+    }
+
+    fn flush(&mut self) -> io::Result<()> {
+        Ok(())
+    }
 }
 
 /// How a run came through that writes to an array.
 fn comes_through(alloc: Global, row: Run<'_>) -> Passage {
-    let mut writer = room();
+    let mut writer = Room::new();
     let ended = run_lines(row.of, alloc, row.tokens, &mut writer);
-    if row.is_whole(written(&writer), ended) {
+    if row.is_whole(writer.written(), ended) {
         Passage::Whole
-    } else if ended == Outcome::Faulted && is_cut(written(&writer), row.lines) {
+    } else if ended == Outcome::Faulted && is_cut(writer.written(), row.lines) {
         Passage::Cut
     } else {
         Passage::Wrong
@@ -54,6 +76,14 @@ fn comes_through(alloc: Global, row: Run<'_>) -> Passage {
 /// Whether a run comes through failed allocations.
 pub fn is_right(alloc: Global, row: Run<'_>) -> bool {
     are_right(comes_through(alloc, row), comes_through(alloc, row))
+}
+
+/// The same of a run in memory.
+pub fn is_right_in_memory(alloc: Global, row: Run<'_>) -> bool {
+    are_right(
+        memory::comes_through(alloc, row),
+        memory::comes_through(alloc, row),
+    )
 }
 
 /// What is left to write, and how a run came through that writes nothing more.
@@ -67,30 +97,30 @@ fn behind<'a>(rest: &'a [u8], written: &[u8]) -> Left<'a> {
     }
 }
 
-/// What is left after an event's line, which is written again where its allocation failed. Then nothing of
-/// it may be written.
+/// What is left after an event's line, for which the writer is called once. It is written again where its
+/// allocation failed, before which the writer may not be called.
 fn behind_event<'a>(alloc: Global, event: &yaml_event_t, rest: &'a [u8]) -> Left<'a> {
-    let mut writer = room();
+    let mut writer = Room::new();
     let mut wrote = write_event(alloc, event, &mut writer);
-    if wrote == Err(line_refusal_t::Memory) && written(&writer).is_empty() {
+    if wrote == Err(line_refusal_t::Memory) && writer.writes == 0 {
         wrote = write_event(alloc, event, &mut writer);
     }
     match wrote {
-        Ok(()) => behind(rest, written(&writer)),
-        Err(_) => Err(Passage::Wrong),
+        Ok(()) if writer.writes == 1 => behind(rest, writer.written()),
+        _ => Err(Passage::Wrong),
     }
 }
 
 /// The same of a document's lines, of which then only whole ones may be written.
 fn behind_document<'a>(alloc: Global, document: &yaml_document_t, rest: &'a [u8]) -> Left<'a> {
-    let mut writer = room();
+    let mut writer = Room::new();
     let mut wrote = write_document(alloc, document, &mut writer);
-    if wrote == Err(line_refusal_t::Memory) && are_first_lines(written(&writer), rest) {
-        writer = room();
+    if wrote == Err(line_refusal_t::Memory) && are_first_lines(writer.written(), rest) {
+        writer = Room::new();
         wrote = write_document(alloc, document, &mut writer);
     }
     match wrote {
-        Ok(()) => behind(rest, written(&writer)),
+        Ok(()) => behind(rest, writer.written()),
         Err(_) => Err(Passage::Wrong),
     }
 }

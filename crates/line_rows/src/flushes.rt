@@ -1,6 +1,6 @@
 //! Flushes: how much a run has flushed when its reader is asked for bytes, for which it may have to wait.
 
-use crate::runs::{LinesOf, Run, run_lines, whole_lines};
+use crate::runs::{LinesOf, Run, first_line, run_lines, whole_lines};
 use anyhow::Result;
 use row_checks::Tables;
 use std::alloc::{AllocError, Global};
@@ -16,12 +16,16 @@ enum Piece {
     All,
 }
 
-/// The bytes of the first line, with its LF.
-fn first_line(bytes: &[u8]) -> &[u8] {
-    let end = bytes.iter().position(|byte| *byte == b'\n');
-    let len = end.map_or(bytes.len(), |at| at.saturating_add(1));
-    bytes.get(..len).unwrap_or(bytes)
+/// Which call of a writer fails.
+#[derive(Copy, Clone, PartialEq)]
+enum Failing {
+    Never,
+    Write,
+    Flush,
 }
+
+/// What is noted of the bytes that were flushed once a call of the writer has failed.
+const FAILED: usize = usize::MAX;
 
 /// Notes at each call how many bytes were flushed before.
 #[derive(Drop)]
@@ -54,39 +58,44 @@ impl BufRead for NotingReader<'_> {
     }
 }
 
-/// Tells the reader how much was flushed. Its flushes may fail, and then it notes whether more is written.
+/// Tells the reader how much was flushed. A call may fail, and then it notes whether another comes.
 #[derive(Drop)]
 struct FlushWriter<'a> {
     written: Vec<u8>,
     flushed: &'a Cell<usize>,
-    fails: bool,
-    has_failed: bool,
+    failing: Failing,
     goes_on: bool,
 }
 
 impl<'a> FlushWriter<'a> {
-    fn new(alloc: Global, flushed: &'a Cell<usize>, fails: bool) -> Self {
+    fn new(alloc: Global, flushed: &'a Cell<usize>, failing: Failing) -> Self {
         FlushWriter {
             written: Vec::new(alloc),
             flushed,
-            fails,
-            has_failed: false,
+            failing,
             goes_on: false,
         }
+    }
+
+    /// Fails where this call has to.
+    fn count(&mut self, call: Failing) -> io::Result<()> {
+        self.goes_on = self.goes_on || self.flushed.get() == FAILED;
+        if self.failing == call {
+            self.flushed.set(FAILED);
+            return Err(io::Error::from(ErrorKind::Other));
+        }
+        Ok(())
     }
 }
 
 impl Write for FlushWriter<'_> {
     fn write(&mut self, buf: &[u8]) -> io::Result<usize> {
-        self.goes_on = self.goes_on || self.has_failed;
+        self.count(Failing::Write)?;
         self.written.write(buf)
     }
 
     fn flush(&mut self) -> io::Result<()> {
-        if self.fails {
-            self.has_failed = true;
-            return Err(io::Error::from(ErrorKind::Other));
-        }
+        self.count(Failing::Flush)?;
         self.flushed.set(self.written.len());
         Ok(())
     }
@@ -117,7 +126,7 @@ fn flushed_at_calls(alloc: Global, run: Run<'_>, piece: Piece) -> Result<Vec<usi
         flushed: &flushed,
         noted: Vec::new(alloc),
     };
-    let mut writer = FlushWriter::new(alloc, &flushed, false);
+    let mut writer = FlushWriter::new(alloc, &flushed, Failing::Never);
     run_lines(run.of, alloc, &mut reader, &mut writer);
     let NotingReader { mut noted, .. } = reader;
     noted.push(flushed.get())?;
@@ -146,8 +155,8 @@ fn is_flushed_in_turn(alloc: Global, run: Run<'_>) -> Result<bool, AllocError> {
     Ok(are_settled(alloc, run, flushed.as_slice()))
 }
 
-/// Whether the run fails where its first flush does, and writes nothing more.
-fn fails_at_a_flush(alloc: Global, run: Run<'_>) -> bool {
+/// Whether the run fails where its first write or flush does, and then writes, flushes and reads nothing.
+fn fails_at(alloc: Global, run: Run<'_>, failing: Failing) -> bool {
     let flushed = Cell::new(0);
     let mut reader = NotingReader {
         bytes: run.tokens,
@@ -155,16 +164,21 @@ fn fails_at_a_flush(alloc: Global, run: Run<'_>) -> bool {
         flushed: &flushed,
         noted: Vec::new(alloc),
     };
-    let mut writer = FlushWriter::new(alloc, &flushed, true);
+    let mut writer = FlushWriter::new(alloc, &flushed, failing);
     let ended = run_lines(run.of, alloc, &mut reader, &mut writer);
-    [ended == Outcome::OutputFailed, !writer.goes_on] == [true; 2]
+    [
+        ended == Outcome::OutputFailed,
+        !writer.goes_on,
+        !reader.noted.contains(&FAILED),
+    ] == [true; 3]
 }
 
 /// Whether a run whose reader hands out a line a call flushes each line that is settled before the next call,
-/// and fails where a flush does.
+/// and fails where a write or a flush does.
 pub fn are_right(alloc: Global, run: Run<'_>) -> Result<bool, AllocError> {
     let is_flushed = is_flushed_in_turn(alloc, run)?;
-    Ok([is_flushed, fails_at_a_flush(alloc, run)] == [true; 2])
+    let ends = fails_at(alloc, run, Failing::Write) && fails_at(alloc, run, Failing::Flush);
+    Ok(is_flushed && ends)
 }
 
 /// How many bytes a reader that hands out all has left after the first line, and whether that is so few that

@@ -35,8 +35,12 @@ enum Check {
     Flushes,
     /// It writes its lines to memory.
     Memory,
+    /// In memory it ends at each bound on its tokens.
+    Bounds,
     /// An allocation may fail.
     Allocations,
+    /// An allocation may fail in memory.
+    MemoryAllocations,
     /// An allocation may fail where each event or document is written by itself.
     Parts,
     /// `Pieces`, `Reads`, `Writes` and `Memory`.
@@ -51,7 +55,9 @@ impl Check {
             Check::Writes => run.is_cut_at_each_write(rt)?,
             Check::Flushes => flushes::are_right(rt.alloc(), run)?,
             Check::Memory => memory::is_right(rt, run)?,
+            Check::Bounds => memory::is_right_within_each_bound(rt.alloc(), run)?,
             Check::Allocations => failing::is_right(rt.alloc(), run),
+            Check::MemoryAllocations => failing::is_right_in_memory(rt.alloc(), run),
             Check::Parts => failing::is_right_in_parts(rt.alloc(), run),
             Check::Line => run.is_line_right(rt)? && memory::is_right(rt, run)?,
         })
@@ -177,13 +183,11 @@ fn show_failing_tables(
     rt: &(impl Files + Print + AllocGlobal),
     tables: &mut Tables<'_>,
 ) -> Result<()> {
+    let memory = "runs in memory, allocations that fail";
+    show_runs(rt, tables, memory, Check::MemoryAllocations)?;
+    let runs = "runs, allocations that fail";
+    show_runs(rt, tables, runs, Check::Allocations)?;
     let parts = "events and documents, allocations that fail";
-    show_runs(
-        rt,
-        tables,
-        "runs, allocations that fail",
-        Check::Allocations,
-    )?;
     show_runs(rt, tables, parts, Check::Parts)
 }
 
@@ -193,6 +197,7 @@ fn show_tables(rt: &(impl Files + Print + AllocGlobal), tables: &mut Tables<'_>)
     show_runs(rt, tables, "runs, writes that fail", Check::Writes)?;
     show_runs(rt, tables, "runs, flushes", Check::Flushes)?;
     show_runs(rt, tables, "runs in memory", Check::Memory)?;
+    show_runs(rt, tables, "runs in memory, bounds", Check::Bounds)?;
     show_lines(
         rt,
         tables,

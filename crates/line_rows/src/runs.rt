@@ -182,6 +182,13 @@ pub fn whole_lines(bytes: &[u8]) -> &[u8] {
     bytes.get(..end).unwrap_or(bytes)
 }
 
+/// The bytes of the first line, with its LF.
+pub fn first_line(bytes: &[u8]) -> &[u8] {
+    let end = bytes.iter().position(|byte| *byte == b'\n');
+    let len = end.map_or(bytes.len(), |at| at.saturating_add(1));
+    bytes.get(..len).unwrap_or(bytes)
+}
+
 /// Whether a run whose reader failed wrote what it writes where the reader ends, with the other problem.
 fn are_same_but_the_problem(failed: &[u8], ended: &[u8]) -> bool {
     match (

@@ -1,29 +1,33 @@
-//! What stays in the reader of a line source: after the stream's end, and after its bound on tokens.
+//! What stays in the reader of a line source: after the stream's end, its bound on tokens, and a bad line.
 
 use row_checks::Tables;
 use std::alloc::Global;
 use std::io;
 use token_lines::{MAX_TOKENS, yaml_line_source_t};
 use unsafe_libyaml::{
-    YAML_READER_ERROR, ZERO_MARK, unnamed_yaml_token_t_data, yaml_mark_t, yaml_parser_delete,
-    yaml_parser_initialize, yaml_parser_parse, yaml_parser_t, yaml_parser_t_prefix,
-    yaml_source_fault_t, yaml_token_source_t, yaml_token_t,
+    YAML_READER_ERROR, YAML_SCANNER_ERROR, ZERO_MARK, unnamed_yaml_token_t_data, yaml_mark_t,
+    yaml_parser_delete, yaml_parser_initialize, yaml_parser_parse, yaml_parser_t,
+    yaml_parser_t_prefix, yaml_source_fault_t, yaml_token_source_t, yaml_token_t,
 };
 
 /// The lines of a stream with one scalar, and what is no line after them.
 const STREAM_AND_JUNK: &[u8] =
     b"STREAM-START 0:0:0 1:0:1 utf8\nSCALAR 2:0:2 3:0:3 =a plain\nSTREAM-END 4:0:4 5:0:5\njunk";
 
-/// The fault of a bound of one token.
-fn bound_of_one() -> yaml_source_fault_t {
-    let problem = Some("too many tokens");
-    let at = yaml_mark_t {
-        index: 1,
-        line: 1,
-        column: 0,
-    };
-    yaml_source_fault_t::new(YAML_READER_ERROR, problem, 1, -1, at, None, ZERO_MARK)
-}
+/// A stream with what is no token line in it.
+const JUNK_IN_A_STREAM: &[u8] = b"STREAM-START 0:0:0 1:0:1 utf8\njunk\nSTREAM-END 4:0:4 5:0:5\n";
+
+/// Its first line.
+const START: &[u8] = b"STREAM-START 0:0:0 1:0:1 utf8\n";
+/// Its last line.
+const END: &[u8] = b"STREAM-END 4:0:4 5:0:5\n";
+
+/// Where the line after the first stands.
+const SECOND: yaml_mark_t = yaml_mark_t {
+    index: 1,
+    line: 1,
+    column: 0,
+};
 
 fn is_start(token: &yaml_token_t) -> bool {
     matches!(token.content, unnamed_yaml_token_t_data::StreamStart(_))
@@ -42,23 +46,46 @@ fn next_kind<S: yaml_token_source_t>(source: &mut S) -> Result<bool, yaml_parser
     kind_of(&next)
 }
 
-/// Whether the next call of a source returns the fault of a bound of one, with all its fields.
-fn stops<S: yaml_token_source_t>(source: &mut S) -> bool {
-    next_kind(source) == Err(bound_of_one().prefix())
-}
-
-/// Whether a source that may give one token gives its first, the start of the stream, then the bound's fault
-/// again and again, and leaves the other lines in its reader.
-fn stops_at_its_bound(alloc: Global) -> bool {
-    let mut source = yaml_line_source_t::new(alloc, STREAM_AND_JUNK, 1);
+/// Whether a source gives the start of the stream, then this fault with all its fields again and again, and
+/// leaves so much in its reader.
+fn stops(mut source: yaml_line_source_t<&[u8]>, fault: &yaml_source_fault_t, left: &[u8]) -> bool {
     [
         next_kind(&mut source) == Ok(true),
-        stops(&mut source),
-        stops(&mut source),
-        source
-            .into_reader()
-            .starts_with(b"SCALAR 2:0:2 3:0:3 =a plain\n"),
+        next_kind(&mut source) == Err(fault.prefix()),
+        next_kind(&mut source) == Err(fault.prefix()),
+        source.into_reader() == left,
     ] == [true; 4]
+}
+
+fn stops_at_its_bound(alloc: Global) -> bool {
+    let source = yaml_line_source_t::new(alloc, STREAM_AND_JUNK, 1);
+    let problem = Some("too many tokens");
+    let fault = yaml_source_fault_t::new(
+        YAML_READER_ERROR,
+        problem,
+        1,
+        -1,
+        SECOND,
+        None,
+        ZERO_MARK,
+    );
+    let left = STREAM_AND_JUNK.strip_prefix(START).unwrap_or(&[]);
+    stops(source, &fault, left)
+}
+
+fn stops_at_a_bad_line(alloc: Global) -> bool {
+    let source = yaml_line_source_t::new(alloc, JUNK_IN_A_STREAM, MAX_TOKENS);
+    let problem = Some("bad token line");
+    let fault = yaml_source_fault_t::new(
+        YAML_SCANNER_ERROR,
+        problem,
+        1,
+        -1,
+        SECOND,
+        None,
+        ZERO_MARK,
+    );
+    stops(source, &fault, END)
 }
 
 fn parse_five<S: yaml_token_source_t>(parser: &mut yaml_parser_t<S>) -> bool {
@@ -85,7 +112,8 @@ pub fn show(rt: &(impl Print + AllocGlobal), tables: &mut Tables<'_>) -> io::Res
     let Some(mut table) = tables.begin("what stays in a reader") else {
         return Ok(());
     };
-    table.count(rt, "behind the bound", stops_at_its_bound(rt.alloc()))?;
-    table.count(rt, "behind the end", leaves_what_follows(rt.alloc()))?;
+    table.count(rt, "after its bound", stops_at_its_bound(rt.alloc()))?;
+    table.count(rt, "after a bad line", stops_at_a_bad_line(rt.alloc()))?;
+    table.count(rt, "after the end", leaves_what_follows(rt.alloc()))?;
     tables.show(rt, table)
 }

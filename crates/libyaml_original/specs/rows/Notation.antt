@@ -30,12 +30,15 @@ pub record Parsed : Type 0 where
   pub here : List Event × Option Ending
   pub loads : List Load
 
-abbrev pub loads_of : List Event × Option Ending → List Load
-loads_of (e, None) = []
-loads_of (e, Some x) = loads_there 2147483646 e x
+abbrev pub loads_of : (limit : ℕ) → List Event × Option Ending → List Load
+loads_of limit (e, None) = []
+loads_of limit (e, Some x) = loads_there limit e x
+
+abbrev pub loads_within : (limit : ℕ) → List Token → List Load
+loads_within limit l = loads_of limit (run_there l no_more)
 
 abbrev pub parse : List Token → Parsed
-parse l = record { there = run_there l no_more; here = run_here l no_more; loads = loads_of (run_there l no_more) }
+parse l = record { there = run_there l no_more; here = run_here l no_more; loads = loads_within 2147483646 l }
 
 -- runs; and where both are the same
 abbrev pub ends : List Event → List Event × Option Ending
