@@ -2,3 +2,4 @@ mod Adding
 mod Loops
 mod WholeRuns
 mod ReadBack
+mod OneDocumentRecords

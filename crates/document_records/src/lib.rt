@@ -3,6 +3,7 @@
 //! This is the Rust form of what `token_records_c` exports to C.
 #![tactic(auto)]
 
+pub mod determined;
 mod document;
 pub mod laws;
 mod nodes;

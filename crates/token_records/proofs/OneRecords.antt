@@ -1,5 +1,6 @@
 -- Two results of one run over records are one.
-use Rattle.std.proofs.Common.{◌≡◌, ◌≤◌, ◌^◌, ◌++◌, ◌⊎◌, ◌∷◌, ℕ, List, [], length, sym, ap, ◌∙◌, subst, inl, inr, arith}
+use Rattle.std.proofs.Common.{◌≡◌, ◌≤◌, ◌^◌, ◌++◌, ◌⊎◌, ◌∷◌, ℕ, List, [], length, refl, sym, ap, ◌∙◌, subst, inl, inr}
+use Rattle.std.proofs.Common.{arith}
 use Rattle.std.proofs.lemmas.List.{append-nil, length-append}
 use Rattle.libyaml_types.specs.declared.event.yaml_event_t.{yaml_event_t}
 use Rattle.libyaml_sources.specs.Fault.{Fault, memory_fault}
@@ -12,6 +13,7 @@ use Rattle.token_records.specs.RecordRun.{fault_record, uncounted}
 use Rattle.token_records.specs.declared.records.record_counts_t.{record_counts_t}
 use Rattle.token_records.specs.declared.records.records_run_t.{records_run_t}
 use Rattle.token_records.proofs.Running.{recorded_append}
+use Rattle.token_records.proofs.lent.HandedOut.{handed_once}
 
 -- what is recorded of events is no more than what is recorded of them and further ones
 record Grows (a b : Recorded) : Type 0 where
@@ -150,11 +152,6 @@ module _ (old : Buffers) (events : List yaml_event_t) (ending : Ending) where
       (record { events = x; directives = y; texts = z })
   counts a b c x y z i j k = (λ l. record { events = i l; directives = j l; texts = k l })
 
-  one_number : {A : Type 0} (all before a b : List A) (m n k l : ℕ) → HandsOut all before a m n
-      → HandsOut all before b k l → (m ≡ k) × (n ≡ l) × (a ≡ b)
-  one_number all before a b m n k l h i =
-      (h.wanted_is ∙ sym i.wanted_is, h.written_is ∙ sym i.written_is, h.filled_so ∙ sym i.filled_so)
-
   same_run : (a b : records_run_t) → a.wanted ≡ b.wanted → a.written ≡ b.written → a.fault ≡ b.fault → a ≡ b
   same_run a b i j k = (λ l. record { wanted = i l; written = j l; fault = k l })
 
@@ -163,9 +160,9 @@ module _ (old : Buffers) (events : List yaml_event_t) (ending : Ending) where
       → p.counts ≡ a.wanted → q.counts ≡ b.wanted → OneRecords old events ending a p b q
   both_whole a b p q f g e d h other is also =
       let k : HandsOutAll old q b events f = subst (HandsOutAll old q b events) (ends_by_one ending g f d e) other in
-      let evs = one_number _ _ _ _ _ _ _ _ h.event_records k.event_records in
-      let dirs = one_number _ _ _ _ _ _ _ _ h.directive_records k.directive_records in
-      let txts = one_number _ _ _ _ _ _ _ _ h.texts k.texts in
+      let evs = handed_once refl h.event_records k.event_records in
+      let dirs = handed_once refl h.directive_records k.directive_records in
+      let txts = handed_once refl h.texts k.texts in
       let wanted : a.wanted ≡ b.wanted = counts _ _ _ _ _ _ evs.0 dirs.0 txts.0 in
       let written : a.written ≡ b.written = counts _ _ _ _ _ _ evs.1 dirs.1 txts.1 in
       alike (same_run a b wanted written (h.fault_is ∙ sym k.fault_is))

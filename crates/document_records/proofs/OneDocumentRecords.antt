@@ -1,0 +1,108 @@
+-- Two results of one run over documents are one.
+use Rattle.std.proofs.Common.{◌≡◌, ◌++◌, ◌⊎◌, ◌∷◌, ℕ, List, [], length, map, Ok, Err, refl, sym, ap, ◌∙◌, subst, inl, inr}
+use Rattle.libyaml_sources.specs.Fault.{Fault, memory_fault}
+use Rattle.libyaml_grammar.specs.runs.Runs.{Ends}
+use Rattle.libyaml_documents.specs.Documents.{Document}
+use Rattle.libyaml_events.proofs.lent.OneOutcome.{head_same, tail_same, not_cons}
+use Rattle.libyaml_graphs.specs.loads.Loads.{Load, last_load}
+use Rattle.token_records.specs.RecordRun.{fault_bytes, fault_record}
+use Rattle.token_records.proofs.lent.HandedOut.{handed_once}
+use Rattle.document_records.specs.Buffers.{Lists, lists}
+use Rattle.document_records.specs.DocumentRecords.{recorded}
+use Rattle.document_records.specs.DocumentRun.{HandsOutLoads, LoadsEndBy, uncounted}
+use Rattle.document_records.specs.OneDocumentRecords.{OneDocumentRecords, alike, first_runs_out, first_uncounted}
+use Rattle.document_records.specs.OneDocumentRecords.{second_runs_out, second_uncounted}
+use Rattle.document_records.specs.declared.records.document_counts_t.{document_counts_t}
+use Rattle.document_records.specs.declared.records.documents_run_t.{documents_run_t}
+
+-- documents, and then one load
+document_same : (c d : Document) → ◌≡◌ {A = Load} (Ok c) (Ok d) → c ≡ d
+document_same c d e = cc
+
+none_more : (l : List Load) (y : Load) → [] ≡ l ++ y ∷ [] → ⊥
+none_more [] y e = not_cons y [] e
+none_more (x ∷ l) y e = not_cons x (l ++ y ∷ []) e
+
+same_loads : (a b : List Document) (x y : Load) → map Ok a ++ x ∷ [] ≡ map Ok b ++ y ∷ [] → (a ≡ b) × (x ≡ y)
+same_loads [] [] x y e = (refl, head_same x y [] [] e)
+same_loads [] (d ∷ b) x y e = absurd (none_more (map Ok b) y (tail_same x (Ok d) [] (map Ok b ++ y ∷ []) e))
+same_loads (c ∷ a) [] x y e = absurd (none_more (map Ok a) x (sym (tail_same (Ok c) y (map Ok a ++ x ∷ []) [] e)))
+same_loads (c ∷ a) (d ∷ b) x y e =
+    let r = same_loads a b x y (tail_same (Ok c) (Ok d) (map Ok a ++ x ∷ []) (map Ok b ++ y ∷ []) e) in
+    let h = document_same c d (head_same (Ok c) (Ok d) (map Ok a ++ x ∷ []) (map Ok b ++ y ∷ []) e) in
+    (ap (λ (z : Document). z ∷ a) h ∙ ap (λ (l : List Document). d ∷ l) r.0, r.1)
+
+-- one load is left, and it tells the fault
+last_one : (f : Fault) (later : List Load) → LoadsEndBy f later → (last : Load) × (later ≡ last ∷ [])
+last_one f later (inl h) = (last_load Ends, h.1)
+last_one f later (inr h) = (Err f, h)
+
+fault_one : (later : List Load) (f g : Fault) → LoadsEndBy f later → LoadsEndBy g later → f ≡ g
+fault_one later f g (inl h) (inl k) = h.0 ∙ sym k.0
+fault_one later f g (inl h) (inr k) = absurd (apart (sym h.1 ∙ k))
+  where
+    apart : ◌≡◌ {A = List Load} (last_load Ends ∷ []) (Err g ∷ []) → ⊥
+    apart e = cc
+fault_one later f g (inr h) (inl k) = absurd (apart (sym k.1 ∙ h))
+  where
+    apart : ◌≡◌ {A = List Load} (last_load Ends ∷ []) (Err f ∷ []) → ⊥
+    apart e = cc
+fault_one later f g (inr h) (inr k) = same (sym h ∙ k)
+  where
+    same : ◌≡◌ {A = List Load} (Err f ∷ []) (Err g ∷ []) → f ≡ g
+    same e = cc
+
+abbrev counts : ℕ → ℕ → ℕ → ℕ → ℕ → ℕ → document_counts_t
+counts documents nodes items pairs directives texts = record {
+  documents = documents;
+  nodes = nodes;
+  items = items;
+  pairs = pairs;
+  directives = directives;
+  texts = texts;
+}
+
+module _ (old : Lists) (loads : List Load) (a b : documents_run_t) (p q : Lists) where
+  abbrev AreOne : Type 0
+  AreOne = OneDocumentRecords old loads a p b q
+
+  both_whole : (h : HandsOutLoads old p a loads) (k : HandsOutLoads old q b loads) → h.documents ≡ k.documents
+      → h.fault ≡ k.fault → AreOne
+  both_whole h k same fault =
+      let all : recorded h.documents ≡ recorded k.documents = ap recorded same in
+      let documents = handed_once (ap (λ (l : Lists). l.documents) all) h.document_records k.document_records in
+      let nodes = handed_once (ap (λ (l : Lists). l.nodes) all) h.node_records k.node_records in
+      let items = handed_once (ap (λ (l : Lists). l.items) all) h.items k.items in
+      let pairs = handed_once (ap (λ (l : Lists). l.pairs) all) h.pair_records k.pair_records in
+      let directives = handed_once (ap (λ (l : Lists). l.directives) all) h.directive_records k.directive_records in
+      let texts = handed_once (λ i. (all i).texts ++ fault_bytes (fault i)) h.texts k.texts in
+      let told : a.fault ≡ b.fault = h.fault_is
+      ∙ ((λ i. fault_record (length (all i).texts) (fault i)) ∙ sym k.fault_is) in
+      let wanted : a.wanted ≡ b.wanted = (λ i. counts (documents.0 i) (nodes.0 i) (items.0 i) (pairs.0 i)
+      (directives.0 i) (texts.0 i)) in
+      let written : a.written ≡ b.written = (λ i. counts (documents.1 i) (nodes.1 i) (items.1 i) (pairs.1 i)
+      (directives.1 i) (texts.1 i)) in
+      alike (λ i. record { wanted = wanted i; written = written i; fault = told i })
+      (λ i. lists (documents.2 i) (nodes.2 i) (items.2 i) (pairs.2 i) (directives.2 i) (texts.2 i))
+
+  both_handed_out : HandsOutLoads old p a loads → HandsOutLoads old q b loads → AreOne
+  both_handed_out h k = go h.ends k.ends
+    where
+      go : LoadsEndBy h.fault h.later ⊎ (h.fault ≡ memory_fault) → LoadsEndBy k.fault k.later ⊎ (k.fault ≡ memory_fault)
+          → AreOne
+      go (inr e) y = first_runs_out h e
+      go x (inr e) = second_runs_out k e
+      go (inl x) (inl y) =
+          let u = last_one h.fault h.later x in
+          let v = last_one k.fault k.later y in
+          let s = same_loads h.documents k.documents u.0 v.0
+          (ap (λ (l : List Load). map Ok h.documents ++ l) (sym u.1)
+          ∙ (sym h.all ∙ (k.all ∙ ap (λ (l : List Load). map Ok k.documents ++ l) v.1))) in
+          let later : h.later ≡ k.later = u.1 ∙ (ap (λ (z : Load). z ∷ []) s.1 ∙ sym v.1) in
+          both_whole h k s.0 (fault_one k.later h.fault k.fault (subst (LoadsEndBy h.fault) later x) y)
+
+  pub one_document_records : HandsOutLoads old p a loads ⊎ (a ≡ uncounted)
+      → HandsOutLoads old q b loads ⊎ (b ≡ uncounted) → AreOne
+  one_document_records (inl h) (inl k) = both_handed_out h k
+  one_document_records (inr e) y = first_uncounted e
+  one_document_records x (inr e) = second_uncounted e
