@@ -37,7 +37,7 @@ PROGRAMS = {
     "line_writing": ["yamltokens", "line_rows"],
     "token_lines": ["yamltokens", "line_rows"],
     "command_line": ["yamltokens", "line_rows"],
-    "computed_tokens": [],
+    "computed_tokens": ["hostile_rows"],
     "token_lines_c": [],
     "token_records": ["record_lines"],
     "document_records": ["record_lines"],

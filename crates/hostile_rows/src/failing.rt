@@ -8,10 +8,14 @@ use crate::calls::{
 };
 use crate::growing::{GrowingList, Grown, lists};
 use crate::lines::{LinesOf, are_same_or_cut, lines_of};
+use computed_tokens::Letters;
 use row_checks::Tables;
 use std::alloc::Global;
 use std::io;
-use unsafe_libyaml::{yaml_parser_initialize, yaml_parser_load, yaml_parser_parse};
+use unsafe_libyaml::{
+    yaml_parser_initialize, yaml_parser_load, yaml_parser_parse, yaml_parser_t_prefix,
+    yaml_source_fault_t, yaml_token_source_t, yaml_token_t,
+};
 
 fn is_constructor_right(alloc: Global, constructor: Constructor) -> bool {
     let one = constructed(alloc, constructor);
@@ -109,21 +113,43 @@ fn takes_no_memory(alloc: Global) -> bool {
     ] == [true; 3]
 }
 
-fn show_stream(rt: &(impl Print + AllocGlobal), tables: &mut Tables<'_>) -> io::Result<()> {
-    let Some(mut table) = tables.begin("what takes no memory") else {
+fn fault_of(next: &Result<yaml_token_t, yaml_source_fault_t>) -> Option<yaml_parser_t_prefix> {
+    match next {
+        Ok(_) => None,
+        Err(fault) => Some(fault.prefix()),
+    }
+}
+
+fn next_fault<S: yaml_token_source_t>(source: &mut S) -> Option<yaml_parser_t_prefix> {
+    let next = source.next_token();
+    fault_of(&next)
+}
+
+/// Whether a source returns its fault again, also that of a token whose allocation failed.
+fn keeps_its_fault(alloc: Global) -> bool {
+    let mut letters = Letters::new(alloc, b"[a,b]");
+    for _ in 0..8u8 {
+        let fault = next_fault(&mut letters);
+        if fault.is_some() {
+            return fault == next_fault(&mut letters);
+        }
+    }
+    false
+}
+
+fn show_single_calls(rt: &(impl Print + AllocGlobal), tables: &mut Tables<'_>) -> io::Result<()> {
+    let Some(mut table) = tables.begin("what a failed allocation leaves") else {
         return Ok(());
     };
-    table.count(
-        rt,
-        "a stream without documents",
-        takes_no_memory(rt.alloc()),
-    )?;
+    let (stream, fault) = ("a stream without documents", "a fault of a source");
+    table.count(rt, stream, takes_no_memory(rt.alloc()))?;
+    table.count(rt, fault, keeps_its_fault(rt.alloc()))?;
     tables.show(rt, table)
 }
 
 /// Shows the tables of this module.
 pub fn show(rt: &(impl Print + AllocGlobal), tables: &mut Tables<'_>) -> io::Result<()> {
-    show_stream(rt, tables)?;
+    show_single_calls(rt, tables)?;
     show_bytes(rt, tables)?;
     show_constructors(rt, tables)?;
     show_calls(rt, tables)?;

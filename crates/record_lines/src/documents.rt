@@ -1,6 +1,6 @@
 //! The documents of records, as lines.
 
-use crate::events::slice_of;
+use crate::events::{option_of, slice_of};
 use crate::tokens::Tokens;
 use anyhow::{Result, bail};
 use document_records::{
@@ -8,7 +8,7 @@ use document_records::{
 };
 use percent_encoding::{AsciiSet, CONTROLS, ascii_set, percent_encode};
 use std::alloc::{AllocError, Global};
-use token_records::{directive_record_t, mark_record_t};
+use token_records::{directive_record_t, fault_record_t, mark_record_t};
 
 /// What is escaped besides the bytes above ASCII.
 const ESCAPED: AsciiSet = ascii_set!(CONTROLS.add(b' ').add(b'%'));
@@ -17,6 +17,9 @@ const ESCAPED: AsciiSet = ascii_set!(CONTROLS.add(b' ').add(b'%'));
 const DIRECTIVES: usize = 64;
 
 const TEXTS: usize = 1 << 16;
+
+/// The number of a composer error.
+const COMPOSER: u32 = 5;
 
 /// The buffers that a run fills.
 #[derive(Drop)]
@@ -57,7 +60,7 @@ impl Buffers {
     }
 }
 
-/// Makes document records of the tokens, and prints the lines of each document.
+/// Makes document records of the tokens, and prints the lines of each document, and then a composer error.
 pub fn print_documents(rt: &HostRuntime, tokens: &Tokens) -> Result<()> {
     let alloc = rt.alloc();
     let mut buffers = Buffers::new(alloc, tokens.records.len())?;
@@ -68,9 +71,27 @@ pub fn print_documents(rt: &HostRuntime, tokens: &Tokens) -> Result<()> {
     for made in buffers.documents.iter().take(run.written.documents) {
         print_document(rt, made, &buffers)?;
     }
-    if run.fault.error != 0 {
-        bail!("the tokens have a fault, or a document a composer error");
+    match run.fault.error {
+        0 => Ok(()),
+        COMPOSER => print_fault(rt, &run.fault, buffers.texts.as_slice()),
+        _ => bail!("the tokens have a fault"),
     }
+}
+
+/// Prints the text of a composer error.
+fn print_fault(rt: &HostRuntime, fault: &fault_record_t, texts: &[u8]) -> Result<()> {
+    if let Some(problem) = option_of(texts, &fault.problem)? {
+        print_words(rt, "FAULT composer", &fault.problem_mark, problem)?;
+    }
+    if let Some(context) = option_of(texts, &fault.context)? {
+        print_words(rt, "CONTEXT", &fault.context_mark, context)?;
+    }
+    Ok(())
+}
+
+fn print_words(rt: &HostRuntime, line: &str, at: &mark_record_t, words: &[u8]) -> Result<()> {
+    let words = str::from_utf8(words)?;
+    println!(rt; "{line} {}:{}:{} {words}", at.index, at.line, at.column)?;
     Ok(())
 }
 

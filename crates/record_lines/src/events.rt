@@ -44,7 +44,7 @@ pub fn slice_of<'a, T>(list: &'a [T], range: &range_record_t) -> Result<&'a [T]>
 }
 
 /// Returns the text of a range, where there is one.
-fn option_of<'a>(texts: &'a [u8], range: &range_record_t) -> Result<Option<&'a [u8]>> {
+pub fn option_of<'a>(texts: &'a [u8], range: &range_record_t) -> Result<Option<&'a [u8]>> {
     if range.place == ABSENT {
         return Ok(None);
     }
