@@ -1,6 +1,7 @@
 //! Worked rows, by computation: lists of tokens with the run there, the run here, and the loads there.
 
 ghost use Rattle.libyaml_original.specs.rows.ExampleRows.{RowCompose, RowFault, RowList, RowListBegun};
+ghost use Rattle.libyaml_original.specs.rows.ExampleRows.{RowLoadsOfFault};
 ghost use Rattle.libyaml_original.specs.rows.AlikeRows.{RowAtTheBound, RowBeyondTheBound};
 ghost use Rattle.libyaml_original.specs.rows.AlikeRows.{RowBlockSequenceAsAPairsKey};
 ghost use Rattle.libyaml_original.specs.rows.AlikeRows.{RowIndentlessSequence};
@@ -25,6 +26,11 @@ pub fn example_rows()
     ensures list { RowList }
     ensures compose { RowCompose }
     ensures fault { RowFault }
+{}
+
+/// The loads of one of them, as `LoadsThere` has them.
+pub fn load_rows()
+    ensures { RowLoadsOfFault }
 {}
 
 /// Both parsers do the same, and a load within a bound, and beyond it.

@@ -18,6 +18,7 @@ use Rattle.libyaml_grammar.specs.rows.RowNotation.{no_document_end, no_more, not
 use Rattle.libyaml_grammar.specs.sentences.Events.{Event}
 use Rattle.libyaml_grammar.specs.sentences.Tokens.{Token}
 use Rattle.libyaml_graphs.specs.rows.LoadRows.{no_root, pair}
+use Rattle.libyaml_original.specs.loader.LoadsThere.{LoadsThere}
 use Rattle.libyaml_original.specs.rows.Notation.{alike, block_map, block_seq, double, e, e_to, ends, fails}
 use Rattle.libyaml_original.specs.rows.Notation.{flow_map, flow_seq, folded, line, line_of, literal, mark, n}
 use Rattle.libyaml_original.specs.rows.Notation.{n_to, no_separator, parse, plain, single, str, styled, t}
@@ -219,3 +220,7 @@ RowCompose = parse compose_tokens
 
 abbrev pub RowFault : Type 0
 RowFault = parse fault_tokens ≡ alike (fails (no_separator 7 15) fault_events) (Err (no_separator 7 15) ∷ [])
+
+-- Its loads are those of LoadsThere.
+abbrev pub RowLoadsOfFault : Type 0
+RowLoadsOfFault = LoadsThere 2147483646 fault_tokens no_more (Err (no_separator 7 15) ∷ [])
