@@ -79,11 +79,11 @@ module _ (D D' : List document_record_t) (N : List node_record_t) (I : List ℤ)
         texts = held_more old.texts T T' all.texts _ n.texts m.texts h.texts texts;
       }
 
-nodes_append : (r : Lists) (xs ys : List yaml_node_t) → with_nodes r (xs ++ ys) ≡ with_nodes (with_nodes r xs) ys
+pub nodes_append : (r : Lists) (xs ys : List yaml_node_t) → with_nodes r (xs ++ ys) ≡ with_nodes (with_nodes r xs) ys
 nodes_append r [] ys = refl
 nodes_append r (x ∷ xs) ys = nodes_append (with_node r x) xs ys
 
-documents_append : (r : Lists) (xs ys : List Document)
+pub documents_append : (r : Lists) (xs ys : List Document)
     → with_documents r (xs ++ ys) ≡ with_documents (with_documents r xs) ys
 documents_append r [] ys = refl
 documents_append r (x ∷ xs) ys = documents_append (with_document r x) xs ys

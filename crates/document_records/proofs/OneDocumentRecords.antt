@@ -1,56 +1,18 @@
 -- Two results of one run over documents are one.
-use Rattle.std.proofs.Common.{◌≡◌, ◌++◌, ◌⊎◌, ◌∷◌, ℕ, List, [], length, map, Ok, Err, refl, sym, ap, ◌∙◌, subst, inl, inr}
-use Rattle.libyaml_sources.specs.Fault.{Fault, memory_fault}
-use Rattle.libyaml_grammar.specs.runs.Runs.{Ends}
-use Rattle.libyaml_documents.specs.Documents.{Document}
-use Rattle.libyaml_events.proofs.lent.OneOutcome.{head_same, tail_same, not_cons}
-use Rattle.libyaml_graphs.specs.loads.Loads.{Load, last_load}
+use Rattle.std.proofs.Common.{◌≡◌, ◌++◌, ◌⊎◌, ◌∷◌, ℕ, List, [], length, map, Ok, sym, ap, ◌∙◌, subst, inl, inr}
+use Rattle.libyaml_sources.specs.Fault.{memory_fault}
+use Rattle.libyaml_graphs.specs.loads.Loads.{Load}
 use Rattle.token_records.specs.RecordRun.{fault_bytes, fault_record}
 use Rattle.token_records.proofs.lent.HandedOut.{handed_once}
 use Rattle.document_records.specs.Buffers.{Lists, lists}
 use Rattle.document_records.specs.DocumentRecords.{recorded}
-use Rattle.document_records.specs.DocumentRun.{HandsOutLoads, LoadsEndBy, uncounted}
-use Rattle.document_records.specs.OneDocumentRecords.{OneDocumentRecords, alike, first_runs_out, first_uncounted}
-use Rattle.document_records.specs.OneDocumentRecords.{second_runs_out, second_uncounted}
+use Rattle.document_records.specs.DocumentRun.{HandsOutLoads, LoadsEndBy, Uncountable, uncounted}
+use Rattle.document_records.specs.OneDocumentRecords.{IsCounted, OneDocumentRecords, alike, both_uncounted}
+use Rattle.document_records.specs.OneDocumentRecords.{first_runs_out, second_runs_out}
 use Rattle.document_records.specs.declared.records.document_counts_t.{document_counts_t}
 use Rattle.document_records.specs.declared.records.documents_run_t.{documents_run_t}
-
--- documents, and then one load
-document_same : (c d : Document) → ◌≡◌ {A = Load} (Ok c) (Ok d) → c ≡ d
-document_same c d e = cc
-
-none_more : (l : List Load) (y : Load) → [] ≡ l ++ y ∷ [] → ⊥
-none_more [] y e = not_cons y [] e
-none_more (x ∷ l) y e = not_cons x (l ++ y ∷ []) e
-
-same_loads : (a b : List Document) (x y : Load) → map Ok a ++ x ∷ [] ≡ map Ok b ++ y ∷ [] → (a ≡ b) × (x ≡ y)
-same_loads [] [] x y e = (refl, head_same x y [] [] e)
-same_loads [] (d ∷ b) x y e = absurd (none_more (map Ok b) y (tail_same x (Ok d) [] (map Ok b ++ y ∷ []) e))
-same_loads (c ∷ a) [] x y e = absurd (none_more (map Ok a) x (sym (tail_same (Ok c) y (map Ok a ++ x ∷ []) [] e)))
-same_loads (c ∷ a) (d ∷ b) x y e =
-    let r = same_loads a b x y (tail_same (Ok c) (Ok d) (map Ok a ++ x ∷ []) (map Ok b ++ y ∷ []) e) in
-    let h = document_same c d (head_same (Ok c) (Ok d) (map Ok a ++ x ∷ []) (map Ok b ++ y ∷ []) e) in
-    (ap (λ (z : Document). z ∷ a) h ∙ ap (λ (l : List Document). d ∷ l) r.0, r.1)
-
--- one load is left, and it tells the fault
-last_one : (f : Fault) (later : List Load) → LoadsEndBy f later → (last : Load) × (later ≡ last ∷ [])
-last_one f later (inl h) = (last_load Ends, h.1)
-last_one f later (inr h) = (Err f, h)
-
-fault_one : (later : List Load) (f g : Fault) → LoadsEndBy f later → LoadsEndBy g later → f ≡ g
-fault_one later f g (inl h) (inl k) = h.0 ∙ sym k.0
-fault_one later f g (inl h) (inr k) = absurd (apart (sym h.1 ∙ k))
-  where
-    apart : ◌≡◌ {A = List Load} (last_load Ends ∷ []) (Err g ∷ []) → ⊥
-    apart e = cc
-fault_one later f g (inr h) (inl k) = absurd (apart (sym k.1 ∙ h))
-  where
-    apart : ◌≡◌ {A = List Load} (last_load Ends ∷ []) (Err f ∷ []) → ⊥
-    apart e = cc
-fault_one later f g (inr h) (inr k) = same (sym h ∙ k)
-  where
-    same : ◌≡◌ {A = List Load} (Err f ∷ []) (Err g ∷ []) → f ≡ g
-    same e = cc
+use Rattle.document_records.proofs.Countable.{countable}
+use Rattle.document_records.proofs.LoadLists.{fault_one, last_one, same_loads}
 
 abbrev counts : ℕ → ℕ → ℕ → ℕ → ℕ → ℕ → document_counts_t
 counts documents nodes items pairs directives texts = record {
@@ -101,8 +63,18 @@ module _ (old : Lists) (loads : List Load) (a b : documents_run_t) (p q : Lists)
           let later : h.later ≡ k.later = u.1 ∙ (ap (λ (z : Load). z ∷ []) s.1 ∙ sym v.1) in
           both_whole h k s.0 (fault_one k.later h.fault k.fault (subst (LoadsEndBy h.fault) later x) y)
 
-  pub one_document_records : HandsOutLoads old p a loads ⊎ (a ≡ uncounted)
-      → HandsOutLoads old q b loads ⊎ (b ≡ uncounted) → AreOne
-  one_document_records (inl h) (inl k) = both_handed_out h k
-  one_document_records (inr e) y = first_uncounted e
-  one_document_records x (inr e) = second_uncounted e
+  pub one_document_records : IsCounted a → IsCounted b
+      → HandsOutLoads old p a loads ⊎ ((a ≡ uncounted) × Uncountable loads)
+      → HandsOutLoads old q b loads ⊎ ((b ≡ uncounted) × Uncountable loads) → AreOne
+  one_document_records ca cb (inl h) (inl k) = both_handed_out h k
+  one_document_records ca cb (inr x) (inr y) = both_uncounted x.0 y.0
+  one_document_records ca cb (inl h) (inr y) = go h.ends
+    where
+      go : LoadsEndBy h.fault h.later ⊎ (h.fault ≡ memory_fault) → AreOne
+      go (inl e) = absurd (countable old p a loads h e ca y.1)
+      go (inr e) = first_runs_out h e
+  one_document_records ca cb (inr x) (inl k) = go k.ends
+    where
+      go : LoadsEndBy k.fault k.later ⊎ (k.fault ≡ memory_fault) → AreOne
+      go (inl e) = absurd (countable old q b loads k e cb x.1)
+      go (inr e) = second_runs_out k e

@@ -1,6 +1,7 @@
 -- What a whole run over documents hands out.
-use Rattle.std.proofs.Common.{arith, ◌≡◌, ◌++◌, ◌⊎◌, ◌∷◌, ℕ, List, [], Ok, length, map, min, refl, sym, ap, ◌∙◌, inl, inr}
-use Rattle.std.proofs.lemmas.List.{take_all}
+use Rattle.std.proofs.Common.{arith, ◌≡◌, ◌≢◌, ◌≤◌, ◌+◌, ◌^◌, ◌++◌, ◌⊎◌, ◌∷◌, ℕ, List, [], Ok, length, map, min, refl}
+use Rattle.std.proofs.Common.{sym, ap, ◌∙◌, inl, inr}
+use Rattle.std.proofs.lemmas.List.{length-append, take_all}
 use Rattle.libyaml_sources.specs.Fault.{Fault, memory_fault}
 use Rattle.libyaml_grammar.specs.runs.Runs.{Ending, Ends, Fails}
 use Rattle.libyaml_documents.specs.Documents.{Document}
@@ -9,12 +10,14 @@ use Rattle.libyaml_graphs.specs.loads.Loads.{Load, last_load}
 use Rattle.libyaml_loader.specs.loads.LoadsInTurn.{AreLoadsOf, cut_short, whole}
 use Rattle.token_records.specs.Puts.{Puts}
 use Rattle.token_records.specs.RecordRun.{EndsBy, HandsOut, fault_bytes, fault_record}
-use Rattle.document_records.specs.Buffers.{Adds, Held, Holds, Lists, counts_of, nothing}
+use Rattle.document_records.specs.Buffers.{Adds, Held, Holds, Lists, counts_of, many_texts, nothing}
 use Rattle.document_records.specs.DocumentRecords.{recorded, with_documents}
-use Rattle.document_records.specs.DocumentRun.{HandsOutLoads, LoadsEndBy, WithinRoom}
+use Rattle.document_records.specs.DocumentRun.{HandsOutLoads, LoadsEndBy, PutsUncounted, Uncountable, WithinRoom}
+use Rattle.document_records.specs.DocumentRun.{with_words}
 use Rattle.document_records.specs.declared.records.document_counts_t.{document_counts_t}
 use Rattle.document_records.specs.declared.records.documents_run_t.{documents_run_t}
 use Rattle.document_records.proofs.Adding.{held_more}
+use Rattle.document_records.proofs.Exceeding.{still_too_many, words_grow}
 
 untouched : {A : Type 0} (old : List A) → Held old old [] 0
 untouched old = record { filled_so = ap (λ l. l ++ old) (sym (take_all (length old) [] (omega arith))); counted = refl }
@@ -34,6 +37,20 @@ handed_out : {A : Type 0} (all old new : List A) (wanted written : ℕ) → Held
     → HandsOut all old new wanted written
 handed_out all old new wanted written h is
     = record { wanted_is = h.counted; written_is = is ∙ ap (λ k. min k (length old)) h.counted; filled_so = h.filled_so }
+
+-- documents that were put, of which the last is too many
+pub uncountable : (old : Lists) (loads : List Load) → PutsUncounted old (counts_of nothing) loads → Uncountable loads
+uncountable old loads u = record {
+  documents = u.documents;
+  later = u.later;
+  all = u.all;
+  more = u.more;
+  fault = memory_fault;
+  ends = inr refl;
+  too_many = still_too_many (recorded u.documents) (with_words (recorded u.documents) memory_fault)
+      (words_grow (recorded u.documents) memory_fault)
+      (u.exceeds old nothing (holds_nothing old));
+}
 
 -- what is left of the loads, where their documents were put
 record LeftBy (f : Fault) (documents : List Document) (loads : List Load) : Type 0 where
@@ -67,6 +84,26 @@ module _ {S : Type 0} (MayBreak : S → Fault → Type 0) (only : (s : S) (f : F
   left_by ending loads by (whole h) = record { later = last_load ending ∷ []; all = h; ends = inl (ends_of ending by) }
   left_by ending loads by (cut_short g is why rest h) =
       record { later = rest; all = h; ends = inr (cut_by g ending is (memory_by g why) by) }
+
+  -- documents that were put, and then the words of a fault, which are too many
+  pub words_uncountable : (old mid : Lists) (n : document_counts_t) (ending : Ending) (loads : List Load)
+      → Adds (λ r. with_documents r documents) old (counts_of nothing) mid n → EndsBy f ending
+      → AreLoadsOf MayBreak p documents ending loads
+      → ((rest : List Load) → loads ≡ map (λ (d : Document). Ok d) documents ++ rest → rest ≢ [])
+      → 2 ^ 64 ≤ n.texts + length (fault_bytes f) → Uncountable loads
+  words_uncountable old mid n ending loads adds by are last_left over =
+      let left = left_by ending loads by are in
+      let long = length-append (recorded documents).texts (fault_bytes f) in
+      let count = (adds old nothing (holds_nothing old)).texts.counted in
+      record {
+        documents = documents;
+        later = left.later;
+        all = left.all;
+        more = last_left left.later left.all;
+        fault = f;
+        ends = left.ends;
+        too_many = many_texts (omega (arith, long, count, over));
+      }
 
   -- documents that were put, and then the words of a fault
   pub hands_out : (old mid new : Lists) (n : document_counts_t) (run : documents_run_t) (ending : Ending)

@@ -1,5 +1,5 @@
 -- A caller's buffers for documents, and what they hold.
-use Rattle.std.specs.Prelude.{◌≡◌, ℕ, ℤ, List, [], length, min}
+use Rattle.std.specs.Prelude.{◌≡◌, ◌≤◌, ◌^◌, ℕ, ℤ, List, [], length, min}
 use Rattle.token_records.specs.Puts.{filled}
 use Rattle.token_records.specs.declared.records.directive_record_t.{directive_record_t}
 use Rattle.document_records.specs.declared.records.document_counts_t.{document_counts_t}
@@ -63,3 +63,16 @@ pub record Holds (old now : Lists) (counts : document_counts_t) (all : Lists) : 
 abbrev pub Adds : (more : Lists → Lists) → (before : Lists) → (n : document_counts_t) → (after : Lists)
     → (m : document_counts_t) → Type 0
 Adds more before n after m = (old all : Lists) → Holds old before n all → Holds old after m (more all)
+
+-- of one kind there are more than 64 bits count
+pub data TooMany (l : Lists) : Type 0 where
+  many_documents : 2 ^ 64 ≤ length l.documents → TooMany l
+  many_nodes : 2 ^ 64 ≤ length l.nodes → TooMany l
+  many_items : 2 ^ 64 ≤ length l.items → TooMany l
+  many_pairs : 2 ^ 64 ≤ length l.pairs → TooMany l
+  many_directives : 2 ^ 64 ≤ length l.directives → TooMany l
+  many_texts : 2 ^ 64 ≤ length l.texts → TooMany l
+
+-- what buffers held, and n counted, is too many with this more
+abbrev pub Exceeds : (more : Lists → Lists) → (before : Lists) → (n : document_counts_t) → Type 0
+Exceeds more before n = (old all : Lists) → Holds old before n all → TooMany (more all)

@@ -1,5 +1,5 @@
 -- The records of documents and their nodes, and what stands in their buffers.
-use Rattle.std.specs.Prelude.{◌++◌, ◌+◌, ℕ, pos, List, [], ◌∷◌, length, map, Option, Some, None}
+use Rattle.std.specs.Prelude.{◌++◌, ◌+◌, ◌^◌, ◌≤◌, ◌⊎◌, ℕ, pos, List, [], ◌∷◌, length, map, Option, Some, None}
 use Rattle.libyaml_types.specs.declared.directive.yaml_version_directive_t.{yaml_version_directive_t}
 use Rattle.libyaml_types.specs.Numbers.{node_type_number, scalar_style_number, sequence_style_number, mapping_style_number}
 use Rattle.libyaml_documents.specs.Documents.{Document}
@@ -11,6 +11,7 @@ use Rattle.libyaml_documents.specs.declared.node.yaml_node_t.{yaml_node_t}
 use Rattle.libyaml_documents.specs.declared.pairs.yaml_node_pair_t.{yaml_node_pair_t}
 use Rattle.token_records.specs.EventRecords.{directive_records, directives_bytes, flag, mark_record, no_range, range_of}
 use Rattle.document_records.specs.Buffers.{Lists, nothing}
+use Rattle.document_records.specs.declared.records.document_counts_t.{document_counts_t}
 use Rattle.document_records.specs.declared.records.document_record_t.{document_record_t}
 use Rattle.document_records.specs.declared.records.node_record_t.{node_record_t}
 use Rattle.document_records.specs.declared.records.pair_record_t.{pair_record_t}
@@ -65,6 +66,11 @@ content_record i p n (Mapping m) r = mapping_record p m r
 -- the record of a node: its texts stand from n on
 abbrev pub node_record : (i p n : ℕ) → yaml_node_t → node_record_t
 node_record i p n x = content_record i p (n + length x.tag) x.content (bare_record n x)
+
+-- after so many, a node has more items, pairs or bytes of texts than can be counted
+abbrev pub OverCounts : document_counts_t → yaml_node_t → Type 0
+OverCounts n x = (2 ^ 64 ≤ n.items + length (items_of x.content))
+    ⊎ ((2 ^ 64 ≤ n.pairs + length (pairs_of x.content)) ⊎ (2 ^ 64 ≤ n.texts + length (node_bytes x)))
 
 -- one node more, and all of some
 abbrev pub with_node : Lists → yaml_node_t → Lists

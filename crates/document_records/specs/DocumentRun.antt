@@ -1,5 +1,5 @@
 -- A run over token records that puts documents: what is put into the buffers, and what is returned.
-use Rattle.std.specs.Prelude.{◌≡◌, ◌++◌, ◌⊎◌, ◌∷◌, ℕ, List, [], length, map, Option, Ok, Err}
+use Rattle.std.specs.Prelude.{◌≡◌, ◌≢◌, ◌++◌, ◌⊎◌, ◌∷◌, ℕ, List, [], length, map, Option, Ok, Err}
 use Rattle.libyaml_sources.specs.Fault.{Answer, Fault, no_fault, memory_fault}
 use Rattle.libyaml_sources.specs.Source.{Coming}
 use Rattle.libyaml_grammar.specs.runs.Runs.{Ending, Ends}
@@ -11,7 +11,7 @@ use Rattle.libyaml_loader.specs.loads.LoadsInTurn.{LoopYields}
 use Rattle.token_records.specs.RecordRun.{EndsBy, HandsOut, fault_bytes, fault_record, memory_record}
 use Rattle.token_records.specs.RecordSource.{read_records}
 use Rattle.token_records.specs.declared.records.token_record_t.{token_record_t}
-use Rattle.document_records.specs.Buffers.{Adds, Lists, counts_of, least, nothing}
+use Rattle.document_records.specs.Buffers.{Adds, Exceeds, Lists, TooMany, counts_of, least, nothing}
 use Rattle.document_records.specs.DocumentRecords.{recorded, with_documents}
 use Rattle.document_records.specs.declared.records.document_counts_t.{document_counts_t}
 use Rattle.document_records.specs.declared.records.documents_run_t.{documents_run_t}
@@ -32,6 +32,14 @@ pub record PutsDocuments {S : Type 0} (gives : S → Answer → S → Type 0) (b
   pub yields : LoopYields gives bound known MayBreak parser documents ending last
   pub ends : EndsBy f ending
   pub adds : Adds (λ r. with_documents r documents) before n after m
+
+-- loads begin with documents that, put after what the buffers held, are too many, and then go on
+pub record PutsUncounted (before : Lists) (n : document_counts_t) (loads : List Load) : Type 0 where
+  pub documents : List Document
+  pub later : List Load
+  pub all : loads ≡ map Ok documents ++ later
+  pub more : later ≢ []
+  pub exceeds : Exceeds (λ r. with_documents r documents) before n
 
 -- loads of which this is left end by no fault, with the document without root, or by this fault
 abbrev pub LoadsEndBy : Fault → (later : List Load) → Type 0
@@ -56,6 +64,21 @@ pub record HandsOutLoads (old new : Lists) (run : documents_run_t) (loads : List
   pub texts : HandsOut ((recorded documents).texts ++ fault_bytes fault) old.texts new.texts run.wanted.texts
       run.written.texts
 
+-- and the words of a fault after the texts
+abbrev pub with_words : Lists → Fault → Lists
+with_words l f = record l { texts = l.texts ++ fault_bytes f }
+
+-- More of something than can be counted: of the loads' first documents, of which the last load is none, and of the words of
+-- a fault: all of them, with the loads' own ending, or those before an allocation failed, whose fault has no words.
+pub record Uncountable (loads : List Load) : Type 0 where
+  pub documents : List Document
+  pub later : List Load
+  pub all : loads ≡ map Ok documents ++ later
+  pub more : later ≢ []
+  pub fault : Fault
+  pub ends : LoadsEndBy fault later ⊎ (fault ≡ memory_fault)
+  pub too_many : TooMany (with_words (recorded documents) fault)
+
 -- what is returned of a run with more of something than can be counted
 abbrev pub uncounted : documents_run_t
 uncounted = record { wanted = counts_of nothing; written = counts_of nothing; fault = memory_record }
@@ -63,7 +86,7 @@ uncounted = record { wanted = counts_of nothing; written = counts_of nothing; fa
 -- The loads over the tokens of these records were handed out, or had more than can be counted.
 abbrev pub DocumentsOver : List token_record_t → List ℕ → (old new : Lists) → documents_run_t → Type 0
 DocumentsOver tokens texts old new run = (loads : List Load) → AreLoadsOfRecords tokens texts loads
-    → HandsOutLoads old new run loads ⊎ (run ≡ uncounted)
+    → HandsOutLoads old new run loads ⊎ ((run ≡ uncounted) × Uncountable loads)
 
 -- so many were put as are there, or have room
 abbrev pub WithinRoom : (old : Lists) → documents_run_t → Type 0

@@ -1,8 +1,9 @@
 //! Documents as records.
-ghost use Rattle.std.specs.Prelude.{◌≡◌, IfOk, OnOk};
-ghost use Rattle.token_records.specs.EventRecords.{directive_records, directives_bytes};
+ghost use Rattle.std.specs.Prelude.{◌≡◌, IfOk, OnErr, OnOk};
+ghost use Rattle.token_records.specs.EventRecords.{MoreThanCounted, directive_records};
+ghost use Rattle.token_records.specs.EventRecords.{directives_bytes};
 ghost use Rattle.token_records.specs.Puts.{Puts};
-ghost use Rattle.document_records.specs.Buffers.{Adds, lists};
+ghost use Rattle.document_records.specs.Buffers.{Adds, Exceeds, lists};
 ghost use Rattle.document_records.specs.DocumentRecords as spec;
 
 use crate::nodes::put_nodes;
@@ -29,9 +30,11 @@ pub(crate) fn put_document(
     texts: &mut [u8],
     wanted: &mut document_counts_t,
 ) -> Result<(), AllocError>
-    ensures { OnOk result (Adds (λ r. spec.with_document r document.now)
+    ensures adds { OnOk result (Adds (λ r. spec.with_document r document.now)
         (lists documents.old nodes.old items.old pairs.old directives.old texts.old) wanted.old
         (lists documents.new nodes.new items.new pairs.new directives.new texts.new) wanted.new) }
+    ensures too_many { OnErr result (Exceeds (λ r. spec.with_document r document.now)
+        (lists documents.old nodes.old items.old pairs.old directives.old texts.old) wanted.old) }
 {
     let of_document = document_record(document, directives, texts, wanted)?;
     put(documents, &mut wanted.documents, &[of_document])?;
@@ -54,6 +57,9 @@ fn document_record(
     ensures others { OnOk result ((wanted.new.documents ≡ wanted.old.documents)
         × (wanted.new.nodes ≡ wanted.old.nodes) × (wanted.new.items ≡ wanted.old.items)
         × (wanted.new.pairs ≡ wanted.old.pairs)) }
+    ensures too_many { OnErr result (MoreThanCounted wanted.old.directives wanted.old.texts
+        (directive_records wanted.old.texts document.now.tag_directives)
+        (directives_bytes document.now.tag_directives)) }
 {
     let place = wanted.directives;
     let members = document.tag_directives();

@@ -1,9 +1,9 @@
 //! Nodes as records.
-ghost use Rattle.std.specs.Prelude.{◌≡◌, IfOk, List, OnOk, map};
+ghost use Rattle.std.specs.Prelude.{◌≡◌, ◌≤◌, ◌+◌, ◌^◌, IfOk, List, OnErr, OnOk, length, map};
 ghost use Rattle.libyaml_documents.specs.Nodes.{items_of, pairs_of};
 ghost use Rattle.token_records.specs.Puts.{Puts};
 ghost use Rattle.token_records.specs.declared.records.directive_record_t.{directive_record_t as Directive};
-ghost use Rattle.document_records.specs.Buffers.{Adds, lists};
+ghost use Rattle.document_records.specs.Buffers.{Adds, Exceeds, lists};
 ghost use Rattle.document_records.specs.DocumentRecords as spec;
 ghost use Rattle.document_records.specs.declared.records.document_record_t.{document_record_t as Document};
 
@@ -33,10 +33,13 @@ pub(crate) fn put_nodes(
     texts: &mut [u8],
     wanted: &mut document_counts_t,
 ) -> Result<(), AllocError>
-    ensures { OnOk result ((documents : List Document) (directives : List Directive)
+    ensures adds { OnOk result ((documents : List Document) (directives : List Directive)
         → Adds (λ r. spec.with_nodes r members.now)
         (lists documents nodes.old items.old pairs.old directives texts.old) wanted.old
         (lists documents nodes.new items.new pairs.new directives texts.new) wanted.new) }
+    ensures too_many { OnErr result ((documents : List Document) (directives : List Directive)
+        → Exceeds (λ r. spec.with_nodes r members.now)
+        (lists documents nodes.old items.old pairs.old directives texts.old) wanted.old) }
 {
     for node in members {
         put_node(node, nodes, items, pairs, texts, wanted)?;
@@ -52,10 +55,13 @@ fn put_node(
     texts: &mut [u8],
     wanted: &mut document_counts_t,
 ) -> Result<(), AllocError>
-    ensures { OnOk result ((documents : List Document) (directives : List Directive)
+    ensures adds { OnOk result ((documents : List Document) (directives : List Directive)
         → Adds (λ r. spec.with_node r node.now)
         (lists documents nodes.old items.old pairs.old directives texts.old) wanted.old
         (lists documents nodes.new items.new pairs.new directives texts.new) wanted.new) }
+    ensures too_many { OnErr result ((documents : List Document) (directives : List Directive)
+        → Exceeds (λ r. spec.with_node r node.now)
+        (lists documents nodes.old items.old pairs.old directives texts.old) wanted.old) }
 {
     let of_node = node_record(node, items, pairs, texts, wanted)?;
     put(nodes, &mut wanted.nodes, &[of_node])
@@ -78,6 +84,7 @@ fn node_record(
         wanted.new.texts) }
     ensures others { OnOk result ((wanted.new.documents ≡ wanted.old.documents)
         × (wanted.new.nodes ≡ wanted.old.nodes) × (wanted.new.directives ≡ wanted.old.directives)) }
+    ensures too_many { OnErr result (spec.OverCounts wanted.old node.now) }
 {
     let tag = put_text(texts, &mut wanted.texts, node.tag.as_str())?;
     let bare = bare_record(node, tag);
@@ -126,6 +133,7 @@ fn scalar_record(
 ) -> Result<node_record_t, AllocError>
     ensures made { IfOk result (λ made. made ≡ spec.scalar_record wanted.old scalar.now bare) }
     ensures texts { OnOk result (Puts texts.old wanted.old scalar.now.value texts.new wanted.new) }
+    ensures too_many { OnErr result (2 ^ 64 ≤ wanted.old + length scalar.now.value) }
 {
     let value = put_text(texts, wanted, scalar.value.as_str())?;
     Ok(node_record_t {
@@ -143,6 +151,7 @@ fn sequence_record(
 ) -> Result<node_record_t, AllocError>
     ensures made { IfOk result (λ made. made ≡ spec.sequence_record wanted.old sequence.now bare) }
     ensures items { OnOk result (Puts items.old wanted.old sequence.now.items items.new wanted.new) }
+    ensures too_many { OnErr result (2 ^ 64 ≤ wanted.old + length sequence.now.items) }
 {
     let place = *wanted;
     let members = sequence.items.as_slice();
@@ -166,6 +175,7 @@ fn mapping_record(
     ensures made { IfOk result (λ made. made ≡ spec.mapping_record wanted.old mapping.now bare) }
     ensures pairs { OnOk result (Puts pairs.old wanted.old (map spec.pair_record mapping.now.pairs)
         pairs.new wanted.new) }
+    ensures too_many { OnErr result (2 ^ 64 ≤ wanted.old + length mapping.now.pairs) }
 {
     let place = *wanted;
     let members = mapping.pairs.as_slice();
@@ -186,8 +196,9 @@ fn put_pairs(
     pairs: &mut [pair_record_t],
     wanted: &mut usize,
 ) -> Result<(), AllocError>
-    ensures { OnOk result (Puts pairs.old wanted.old (map spec.pair_record members.now) pairs.new
+    ensures puts { OnOk result (Puts pairs.old wanted.old (map spec.pair_record members.now) pairs.new
         wanted.new) }
+    ensures too_many { OnErr result (2 ^ 64 ≤ wanted.old + length members.now) }
 {
     for pair in members {
         let of_pair = pair_record(pair);

@@ -1,11 +1,17 @@
 //! Runs over records.
-ghost use Rattle.std.specs.Prelude.{◌≡◌, IfOk, List, true};
+ghost use Rattle.std.specs.Prelude.{◌≡◌, IfOk, List, OnErr, true};
 ghost use Rattle.libyaml_events.specs.sources.History.{between_documents};
+ghost use Rattle.libyaml_events.specs.sources.RunToCome.{RunToCome};
+ghost use Rattle.libyaml_grammar.specs.runs.Runs.{Ending};
+ghost use Rattle.libyaml_grammar.specs.sentences.Events.{Event};
+ghost use Rattle.libyaml_graphs.specs.loads.Bounds.{bounded_loads};
 ghost use Rattle.libyaml_graphs.specs.loads.Loads.{Load};
+ghost use Rattle.libyaml_loader.specs.document.Ids.{magnitude};
 ghost use Rattle.libyaml_sources.specs.Fault.{fault_of};
 ghost use Rattle.document_records.specs.Buffers.{least, lists};
-ghost use Rattle.document_records.specs.DocumentRun.{AreLoadsOfRecords, HandsOutLoads, PutsDocuments};
-ghost use Rattle.document_records.specs.DocumentRun.{DocumentsOver, WithinRoom, uncounted};
+ghost use Rattle.document_records.specs.DocumentRun.{AreLoadsOfRecords, DocumentsOver, HandsOutLoads};
+ghost use Rattle.document_records.specs.DocumentRun.{PutsDocuments, PutsUncounted, Uncountable};
+ghost use Rattle.document_records.specs.DocumentRun.{WithinRoom, uncounted};
 
 use crate::document::put_document;
 use crate::records::{
@@ -13,7 +19,8 @@ use crate::records::{
 };
 use libyaml_documents::yaml_node_item_t;
 use libyaml_events::{yaml_parser_initialize, yaml_parser_t};
-use libyaml_loader::laws::loop_yields_loads;
+use libyaml_graphs::laws::whole_documents_have_roots;
+use libyaml_loader::laws::{load_of_run, loop_yields_loads};
 use libyaml_loader::yaml_parser_documents;
 use libyaml_sources::{NO_FAULT, yaml_parser_t_prefix, yaml_token_source_t};
 use std::alloc::{AllocError, Global};
@@ -94,6 +101,8 @@ fn hand_out(
         (lists documents.new nodes.new items.new pairs.new directives.new out.new) run loads) }
     ensures room { IfOk result
         (WithinRoom (lists documents.old nodes.old items.old pairs.old directives.old out.old)) }
+    ensures uncountable { OnErr result ((loads : List Load) → AreLoadsOfRecords tokens.now texts.now loads
+        → Uncountable loads) }
 {
     loop_yields_loads::<yaml_record_source_t<'_>>();
     let room = document_counts_t {
@@ -155,10 +164,16 @@ fn put_documents<S: yaml_token_source_t>(
     wanted: &mut document_counts_t,
 ) -> Result<yaml_parser_t_prefix, AllocError>
     requires between { between_documents parser.old ≡ true }
-    ensures { IfOk result (λ fault. PutsDocuments S.gives S.bound S.known S.may_break parser.old
+    ensures run { IfOk result (λ fault. PutsDocuments S.gives S.bound S.known S.may_break parser.old
         (fault_of fault) (lists documents.old nodes.old items.old pairs.old directives.old texts.old)
         wanted.old (lists documents.new nodes.new items.new pairs.new directives.new texts.new) wanted.new) }
+    ensures uncounted { OnErr result ((events : List Event) (ending : Ending)
+        → RunToCome S.known parser.old events ending
+        → PutsUncounted (lists documents.old nodes.old items.old pairs.old directives.old texts.old)
+        wanted.old (bounded_loads (magnitude parser.old.max_entries) events ending)) }
 {
+    load_of_run::<S>();
+    whole_documents_have_roots();
     for loaded in yaml_parser_documents(parser) {
         let document = match loaded {
             Ok(document) => document,

@@ -1,6 +1,7 @@
 use Rattle.std.proofs.Common.{ap, ◌∙◌}
+use Rattle.token_records.proofs.lent.Filling.{on_err}
 use Rattle.document_records.specs.Buffers.{lists}
-use Rattle.document_records.proofs.Loops.{put_all, put_none, put_one, put_up_to}
+use Rattle.document_records.proofs.Loops.{put_all, put_none, put_one, put_too_many, put_up_to}
 use Rattle.document_records.proofs.run.put_documents.Goals as goal
 
 pub loop-loaded-init : goal.loop-loaded-init
@@ -20,15 +21,16 @@ loop-loaded-preserved g c =
     let p = l.loaded-iterator.parser.now in
     let q = c.next.new.self.parser.now in
     let new = c.put_document.new in
-    put_one t.gives t.bound t.known t.may_break a.parser.now p q
+    put_one t.gives t.bound t.known t.may_break c.load_of_run.ensures c.whole_documents_have_roots.ensures.with_nodes
+    a.parser.now p q
     (lists a.documents.now a.nodes.now a.items.now a.pairs.now a.directives.now a.texts.now)
     (lists l.documents l.nodes l.items l.pairs l.directives l.texts)
     (lists new.documents new.nodes new.items new.pairs new.directives new.texts)
     a.wanted.now l.wanted new.wanted c.in-Ok.document l.invariant
-    (rw c.in-Ok.is at c.in-Some.ensures.steps.0) c.in_ok-put_document.ensures
+    (rw c.in-Ok.is at c.in-Some.ensures.steps.0) c.in_ok-put_document.ensures.adds
 
-pub returns-in-Err : goal.returns-in-Err
-returns-in-Err g c =
+pub returns-in-Err-clause-run : goal.returns-in-Err-clause-run
+returns-in-Err-clause-run g c =
     let t = g.S.yaml_token_source_t in
     let a = c.args in
     let l = c.loop-loaded in
@@ -37,8 +39,8 @@ returns-in-Err g c =
     (lists l.documents l.nodes l.items l.pairs l.directives l.texts)
     a.wanted.now l.wanted c.in-Err.fault l.invariant (rw c.in-Err.is at c.in-Some.ensures.steps.0)
 
-pub returns : goal.returns
-returns g c =
+pub returns-clause-run : goal.returns-clause-run
+returns-clause-run g c =
     let t = g.S.yaml_token_source_t in
     let a = c.args in
     let l = c.loop-loaded in
@@ -46,3 +48,17 @@ returns g c =
     (lists a.documents.now a.nodes.now a.items.now a.pairs.now a.directives.now a.texts.now)
     (lists l.documents l.nodes l.items l.pairs l.directives l.texts)
     a.wanted.now l.wanted l.invariant c.in-None.ensures.steps.0
+
+pub returns-in_err-put_document-clause-uncounted : goal.returns-in_err-put_document-clause-uncounted
+returns-in_err-put_document-clause-uncounted g c =
+    let t = g.S.yaml_token_source_t in
+    let a = c.args in
+    let l = c.loop-loaded in
+    on_err _ c.from_residual.result
+    (put_too_many t.gives t.bound t.known t.may_break c.load_of_run.ensures
+    c.whole_documents_have_roots.ensures.with_nodes
+    a.parser.now l.loaded-iterator.parser.now c.next.new.self.parser.now
+    (lists a.documents.now a.nodes.now a.items.now a.pairs.now a.directives.now a.texts.now)
+    (lists l.documents l.nodes l.items l.pairs l.directives l.texts)
+    a.wanted.now l.wanted c.in-Ok.document l.invariant
+    (rw c.in-Ok.is at c.in-Some.ensures.steps.0) c.in_err-put_document.ensures.too_many)
