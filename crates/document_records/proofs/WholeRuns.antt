@@ -113,8 +113,9 @@ module _ {S : Type 0} (MayBreak : S → Fault → Type 0) (only : (s : S) (f : F
       → new ≡ record mid { texts = new.texts } → run.wanted ≡ record n { texts = run.wanted.texts }
       → Puts mid.texts n.texts (fault_bytes f) new.texts run.wanted.texts → run.fault ≡ fault_record n.texts f
       → WithinRoom old run
+      → ((rest : List Load) → loads ≡ map (λ (d : Document). Ok d) documents ++ rest → rest ≢ [])
       → HandsOutLoads old new run loads
-  hands_out old mid new n run ending loads adds by are same_lists same_counts words fault_is room =
+  hands_out old mid new n run ending loads adds by are same_lists same_counts words fault_is room last_left =
       let left = left_by ending loads by are in
       let holds = adds old nothing (holds_nothing old) in
       let all = recorded documents in
@@ -124,6 +125,7 @@ module _ {S : Type 0} (MayBreak : S → Fault → Type 0) (only : (s : S) (f : F
         documents = documents;
         later = left.later;
         all = left.all;
+        more = last_left left.later left.all;
         fault = f;
         ends = left.ends;
         fault_is = fault_is ∙ ap (λ k. fault_record k f) holds.texts.counted;

@@ -45,12 +45,13 @@ pub record PutsUncounted (before : Lists) (n : document_counts_t) (loads : List 
 abbrev pub LoadsEndBy : Fault → (later : List Load) → Type 0
 LoadsEndBy f later = ((f ≡ no_fault) × (later ≡ last_load Ends ∷ [])) ⊎ (later ≡ Err f ∷ [])
 
--- The first documents of loads were handed out, and then the words of a fault: all of them, with the loads' own ending, or
--- those before an allocation failed.
+-- The first documents of loads were handed out, of which the last load is none, and then the words of a fault: all of
+-- them, with the loads' own ending, or those before an allocation failed.
 pub record HandsOutLoads (old new : Lists) (run : documents_run_t) (loads : List Load) : Type 0 where
   pub documents : List Document
   pub later : List Load
   pub all : loads ≡ map Ok documents ++ later
+  pub more : later ≢ []
   pub fault : Fault
   pub ends : LoadsEndBy fault later ⊎ (fault ≡ memory_fault)
   pub fault_is : run.fault ≡ fault_record (length (recorded documents).texts) fault

@@ -36,6 +36,9 @@ returns-clause-run c loads are =
     (record { wanted = counts; written = c.within.result; fault = c.in_ok-fault.fault })
     put.ending loads put.adds put.ends loads_are refl refl c.in_ok-fault.ensures.texts c.in_ok-fault.ensures.made
     c.within.ensures
+    (λ rest all. last_is_left Gives (λ (s : Coming). length s.tokens) (λ (s : Coming). Some s) BreaksOff parser.result
+    put.last put.documents put.ending put.yields
+    (first_stop most_nodes [] []) are.ending (begun are.events) loads rest are.all all)
 
 pub returns-in_err-ending-clause-uncountable : goal.returns-in_err-ending-clause-uncountable
 returns-in_err-ending-clause-uncountable c =
