@@ -1,11 +1,9 @@
 pub mod Taking
 pub mod Reaching
-pub mod Stepping
+pub mod OnTheWay
 pub mod NextLoads
 pub mod Ended
-pub mod Falling
 pub mod Faultless
-pub mod Outside
 pub mod Rootless
 pub mod Large
 pub mod OneLoads

@@ -1,5 +1,5 @@
 pub mod Leading
-pub mod Steps
 pub mod InTurn
+pub mod Steps
 pub mod Pushing
 pub mod OnePushLoads

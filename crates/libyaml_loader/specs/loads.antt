@@ -1,6 +1,5 @@
 pub mod LoadGrowth
 pub mod Loading
-pub mod ComposeSteps
 pub mod NextLoad
 pub mod OneLoad
 pub mod LoadsInTurn

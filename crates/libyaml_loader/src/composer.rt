@@ -1,46 +1,68 @@
-//! What composes documents, event by event.
-ghost use Rattle.std.specs.Prelude.{◌≡◌, ◌≤◌, [], ◌∷◌, None, Ok, IfErr, OnOk, true};
+//! What composes documents, event by event. A load, and a loader that is handed its tokens, are loops over it.
+ghost use Rattle.std.specs.Prelude.{◌≡◌, ◌≤◌, ◌⊎◌, [], ◌∷◌, Ok, IfErr, OnOk, true, false};
+ghost use Rattle.std.specs.Option.{option_map};
 ghost use Rattle.std.specs.Vec.{vec_capacity, vec_len};
 ghost use Rattle.libyaml_events.specs.machine.Config.{is_fault};
 ghost use Rattle.libyaml_events.specs.sources.Pushes.{done_by};
-ghost use Rattle.libyaml_sources.specs.Fault.{fault_of, memory_fault, no_fault};
+ghost use Rattle.libyaml_sources.specs.Fault.{fault_of, no_fault};
+ghost use Rattle.libyaml_graphs.specs.graphs.GraphParts as parts;
 ghost use Rattle.libyaml_graphs.specs.machine.Loader.{between};
-ghost use Rattle.libyaml_loader.specs.loads.ComposeSteps as steps;
-ghost use Rattle.libyaml_loader.specs.pushes.Composing.{Composes, EndsDocument, IsSound, state_of};
+ghost use Rattle.libyaml_loader.specs.document.Refusals.{fault_by};
+ghost use Rattle.libyaml_loader.specs.pushes.Composing.{Composes, ComposesEvent, IsSound, closing_by, ended_by};
+ghost use Rattle.libyaml_loader.specs.pushes.Composing.{opening_by, state_of};
 ghost use Rattle.libyaml_loader.specs.pushes.Leads.{Leads};
 
 use crate::context::loader_ctx;
-use crate::load::{Closing, closing_of, opening_of};
-use crate::refusal::fault_by;
+use crate::refusal::{Refusal, fault_by};
 use libyaml_documents::yaml_document_t;
 use libyaml_events::{MEMORY_FAULT, NO_FAULT, yaml_parser_t_prefix};
-use libyaml_types::{yaml_error_type_t, yaml_event_t};
+use libyaml_types::{
+    unnamed_yaml_event_t_data, unnamed_yaml_event_t_data_document_start, yaml_error_type_t,
+    yaml_event_t, yaml_mark_t,
+};
 use std::alloc::Global;
+use std::mem;
+
+/// The start of a document.
+#[derive(Drop)]
+struct Opening {
+    pub start: unnamed_yaml_event_t_data_document_start,
+    pub mark: yaml_mark_t,
+}
+
+/// The end of a document.
+#[derive(Copy, Clone)]
+pub(crate) struct Closing {
+    pub implicit: bool,
+    pub mark: yaml_mark_t,
+}
 
 /// What is kept between two events.
 #[derive(Drop)]
 pub(crate) struct Composer {
     /// The document that is open, if one is.
-    pub open: Option<loader_ctx>,
+    pub ctx: loader_ctx,
+    pub is_open: bool,
     /// The fault that is kept, or `NO_FAULT`.
     pub fault: yaml_parser_t_prefix,
     /// How many entries each list of a document may have.
     pub max_entries: usize,
-    pub alloc: Global,
 }
 
 impl Composer {
-    /// Returns a composer without an open document and without a fault.
+    /// Returns a composer without an open document and without a fault. Each list of a document may have
+    /// `max_entries` entries.
     pub(crate) fn new(alloc: Global, max_entries: usize) -> Self
-        ensures open { result.open ≡ None }
+        ensures none_open { result.is_open ≡ false }
         ensures fault { fault_of result.fault ≡ no_fault }
         ensures bound { result.max_entries ≡ max_entries }
+        ensures sound { IsSound result }
     {
         Composer {
-            open: None,
+            ctx: loader_ctx::new(alloc, max_entries),
+            is_open: false,
             fault: NO_FAULT,
             max_entries,
-            alloc,
         }
     }
 
@@ -61,12 +83,14 @@ impl Composer {
     /// Keeps this fault for good. The document that is open is dropped.
     #[cold]
     pub(crate) fn keep(&mut self, fault: yaml_parser_t_prefix)
-        ensures open { self.new.open ≡ None }
+        ensures none_open { self.new.is_open ≡ false }
+        ensures sound { IsSound self.new }
         ensures fault { self.new.fault ≡ fault }
         ensures bound { self.new.max_entries ≡ self.old.max_entries }
     {
         self.fault = fault;
-        self.open = None;
+        self.is_open = false;
+        self.ctx = loader_ctx::new(self.ctx.alloc, self.max_entries);
     }
 
     /// Composes these events, and appends the documents that end with them.
@@ -91,13 +115,13 @@ impl Composer {
             × (is_fault self.new.fault.error ≡ true)) }
     {
         for event in events.iter_mut() {
-            self.compose(event, documents)?;
+            self.compose_into(event, documents)?;
         }
         Ok(())
     }
 
-    /// Composes an event: begins a document, adds to it, or ends it and appends it.
-    fn compose(
+    /// Composes an event, and appends the document that ends with it.
+    fn compose_into(
         &mut self,
         event: &mut yaml_event_t,
         documents: &mut Vec<yaml_document_t>,
@@ -112,61 +136,134 @@ impl Composer {
             × (is_fault self.new.fault.error ≡ true)) }
         ensures capacity { vec_capacity documents.old ≤ vec_capacity documents.new }
     {
-        let Some(ctx) = &mut self.open else {
-            self.begin(event);
-            return Ok(());
-        };
-        if let Some(closing) = closing_of(&event.content, event.end_mark) {
-            return self.end(closing, documents);
-        }
-        let mark = event.start_mark;
-        match ctx.compose(event) {
-            Ok(()) => Ok(()),
-            Err(refusal) => {
-                let fault = fault_by(refusal, ctx.first_mark, mark);
-                self.keep(fault);
-                Err(fault.error)
+        match self.compose(event)? {
+            None => Ok(()),
+            Some(closing) => {
+                let document = self.end(closing);
+                if documents.push(document).is_err() {
+                    self.keep(MEMORY_FAULT);
+                    return Err(MEMORY_FAULT.error);
+                }
+                Ok(())
             }
         }
     }
 
+    /// Composes an event: begins a document, or adds to it. Where the event ends the document, returns its end,
+    /// and leaves the document for `end`.
+    ///
+    /// # Errors
+    ///
+    /// The error of the fault that is then kept.
+    #[inline(always)]
+    pub(crate) fn compose(
+        &mut self,
+        event: &mut yaml_event_t,
+    ) -> Result<Option<Closing>, yaml_error_type_t>
+        requires sound { IsSound self.old }
+        ensures composes { ComposesEvent self.old event.old result self.new }
+        ensures sound { IsSound self.new }
+        ensures bound { self.new.max_entries ≡ self.old.max_entries }
+        ensures fault { OnOk result (self.new.fault ≡ self.old.fault) }
+        ensures kept { IfErr result (λ x. x ≡ self.new.fault.error) }
+        ensures of_loader { IfErr result (λ x. (x ≡ yaml_error_type_t.YAML_MEMORY_ERROR)
+            ⊎ (x ≡ yaml_error_type_t.YAML_COMPOSER_ERROR)) }
+    {
+        if !self.is_open {
+            self.begin(event);
+            return Ok(None);
+        }
+        if let Some(closing) = closing_of(&event.content, event.end_mark) {
+            return Ok(Some(closing));
+        }
+        let mark = event.start_mark;
+        match self.ctx.compose(event) {
+            Ok(()) => Ok(None),
+            Err(refusal) => Err(self.refuse(refusal, mark)),
+        }
+    }
+
     /// Begins a document, if the event is its start.
+    #[inline(never)]
     fn begin(&mut self, event: &mut yaml_event_t)
-        requires none_open { self.old.open ≡ None }
-        ensures leads { Leads self.old.max_entries between (event.old ∷ []) [] (state_of self.new.open) }
+        requires none_open { self.old.is_open ≡ false }
+        requires sound { IsSound self.old }
+        ensures leads { Leads self.old.max_entries between (event.old ∷ []) [] (state_of self.new) }
         ensures sound { IsSound self.new }
         ensures bound { self.new.max_entries ≡ self.old.max_entries }
         ensures fault { self.new.fault ≡ self.old.fault }
     {
-        if let Some(opening) = opening_of(event, self.alloc) {
-            let ctx = loader_ctx::new(self.alloc, self.max_entries, opening.start, opening.mark);
-            self.open = Some(ctx);
+        if let Some(opening) = opening_of(event, self.ctx.alloc) {
+            self.ctx.begin(opening.start, opening.mark);
+            self.is_open = true;
         }
     }
 
-    /// Ends the document that is open, and appends it.
-    fn end(
-        &mut self,
-        closing: Closing,
-        documents: &mut Vec<yaml_document_t>,
-    ) -> Result<(), yaml_error_type_t>
-        ensures none_open { self.new.open ≡ None }
-        ensures appends { EndsDocument (vec_capacity documents.old ≤ vec_len documents.new) self.old.open
-            (steps.closing closing) documents.old.items result documents.new.items }
+    /// Ends the document that is open, and returns it.
+    fn end(&mut self, closing: Closing) -> yaml_document_t
+        ensures none_open { self.new.is_open ≡ false }
+        ensures sound { IsSound self.new }
+        ensures ended { result ≡ ended_by (closing_by closing) self.old.ctx }
         ensures bound { self.new.max_entries ≡ self.old.max_entries }
-        ensures fault { OnOk result (self.new.fault ≡ self.old.fault) }
-        ensures kept { IfErr result (λ x. (x ≡ self.new.fault.error)
-            × (fault_of self.new.fault ≡ memory_fault)) }
-        ensures capacity { vec_capacity documents.old ≤ vec_capacity documents.new }
+        ensures fault { self.new.fault ≡ self.old.fault }
     {
-        let Some(ctx) = self.open.take() else {
-            return Ok(());
-        };
-        let document = ctx.into_document(closing.implicit, closing.mark);
-        if documents.push(document).is_err() {
-            self.keep(MEMORY_FAULT);
-            return Err(MEMORY_FAULT.error);
-        }
-        Ok(())
+        self.is_open = false;
+        let fresh = loader_ctx::new(self.ctx.alloc, self.max_entries);
+        let ctx = mem::replace(&mut self.ctx, fresh);
+        ctx.into_document(closing.implicit, closing.mark)
+    }
+
+    /// Ends the document that is open, and returns it.
+    pub(crate) fn into_document(self, closing: Closing) -> yaml_document_t
+        ensures { result ≡ ended_by (closing_by closing) self.ctx }
+    {
+        self.ctx.into_document(closing.implicit, closing.mark)
+    }
+
+    /// Keeps the fault of this refusal, of an event that starts at `mark`, and returns its error.
+    #[cold]
+    fn refuse(&mut self, refusal: Refusal, mark: yaml_mark_t) -> yaml_error_type_t
+        ensures none_open { self.new.is_open ≡ false }
+        ensures sound { IsSound self.new }
+        ensures fault { fault_of self.new.fault ≡ fault_by refusal self.old.ctx.first_mark mark }
+        ensures bound { self.new.max_entries ≡ self.old.max_entries }
+        ensures error { result ≡ self.new.fault.error }
+        ensures of_loader { (result ≡ yaml_error_type_t.YAML_MEMORY_ERROR)
+            ⊎ (result ≡ yaml_error_type_t.YAML_COMPOSER_ERROR) }
+    {
+        let fault = fault_by(refusal, self.ctx.first_mark, mark);
+        self.keep(fault);
+        fault.error
+    }
+}
+
+/// Moves the start of a document out of the event, if it is one.
+fn opening_of(event: &mut yaml_event_t, alloc: Global) -> Option<Opening>
+    ensures { option_map opening_by result ≡ parts.opening_of event.old }
+{
+    let start_mark = event.start_mark;
+    match &mut event.content {
+        unnamed_yaml_event_t_data::DocumentStart(start) => Some(Opening {
+            start: unnamed_yaml_event_t_data_document_start {
+                version_directive: start.version_directive,
+                tag_directives: mem::replace(&mut start.tag_directives, Vec::new(alloc)),
+                implicit: start.implicit,
+            },
+            mark: start_mark,
+        }),
+        _ => None,
+    }
+}
+
+/// Returns the end of a document, if the event is one.
+fn closing_of(content: &unnamed_yaml_event_t_data, end_mark: yaml_mark_t) -> Option<Closing>
+    ensures { option_map closing_by result ≡ parts.closing_in content.now end_mark }
+{
+    match content {
+        unnamed_yaml_event_t_data::DocumentEnd(end) => Some(Closing {
+            implicit: end.implicit,
+            mark: end_mark,
+        }),
+        _ => None,
     }
 }

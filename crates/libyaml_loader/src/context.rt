@@ -4,6 +4,7 @@
 
 ghost use Rattle.std.specs.Prelude.{◌≡◌, suc, pos, [], length, nat_lt, true, false, Some, None};
 ghost use Rattle.std.specs.Prelude.{IfOk, IfErr, OnOk, option_map, string_bytes};
+ghost use Rattle.libyaml_documents.specs.Documents.{empty_document};
 ghost use Rattle.libyaml_documents.specs.LoadedNodes.{begun_document, ended_document};
 ghost use Rattle.libyaml_documents.specs.LoadedNodes.{mapping_loaded, scalar_loaded};
 ghost use Rattle.libyaml_documents.specs.LoadedNodes.{sequence_loaded};
@@ -46,26 +47,31 @@ pub(crate) struct loader_ctx {
 }
 
 impl loader_ctx {
-    /// Returns the document that this start event begins, without nodes.
-    pub(crate) fn new(
-        alloc: Global,
-        max_entries: usize,
-        start: unnamed_yaml_event_t_data_document_start,
-        start_mark: yaml_mark_t,
-    ) -> Self
-        ensures document { result.document ≡ begun_document start start_mark }
+    /// Returns a context without a document. Takes no memory.
+    pub(crate) fn new(alloc: Global, max_entries: usize) -> Self
         ensures stack { result.stack ≡ [] }
         ensures anchors { result.anchors ≡ no_anchors }
         ensures bound { result.max_entries ≡ max_entries }
     {
         loader_ctx {
-            document: begin_document(alloc, start, start_mark),
+            document: empty_document(alloc),
             stack: OpenCollections::new(alloc),
             anchors: Anchors::new(alloc),
             max_entries,
             first_mark: ZERO_MARK,
             alloc,
         }
+    }
+
+    /// Begins the document of this start event, without nodes.
+    pub(crate) fn begin(
+        &mut self,
+        start: unnamed_yaml_event_t_data_document_start,
+        start_mark: yaml_mark_t,
+    )
+        ensures { self.new ≡ record self.old { document = begun_document start start_mark } }
+    {
+        self.document = begin_document(self.alloc, start, start_mark);
     }
 
     /// Ends the document at `end_mark`, implicitly or explicitly, and returns it.
@@ -86,6 +92,7 @@ impl loader_ctx {
     /// `Memory`, where an allocation fails or a list has `max_entries` entries already; `UndefinedAlias`,
     /// where no earlier node has the alias's anchor; `RepeatedAnchor`, where an earlier node has the anchor
     /// of this one.
+    #[inline(never)]
     pub(crate) fn compose(&mut self, event: &mut yaml_event_t) -> Result<(), Refusal>
         requires { IdsAreIn (loader_of self.old) }
         ensures ok { OnOk result (Composed self.old self.new (part_of event.old)) }
@@ -321,4 +328,16 @@ impl loader_ctx {
         }
         Ok(())
     }
+}
+
+/// Returns the document without root.
+pub(crate) fn empty_document(alloc: Global) -> yaml_document_t
+    ensures { result ≡ empty_document None [] false false }
+{
+    let start = unnamed_yaml_event_t_data_document_start {
+        version_directive: None,
+        tag_directives: Vec::new(alloc),
+        implicit: false,
+    };
+    begin_document(alloc, start, ZERO_MARK)
 }

@@ -3,65 +3,30 @@
 ghost use Rattle.libyaml_graphs.specs.loads.Linear.{size};
 ghost use Rattle.std.specs.Prelude.{◌≤◌, ◌*◌, length};
 ghost use Rattle.std.specs.Prelude.{◌≡◌, ◌<◌, ◌⊎◌, List, [], None, Ok, Err, IfOk, IfErr, true, false};
-ghost use Rattle.std.specs.Option.{option_map};
 ghost use Rattle.libyaml_types.specs.declared.event.yaml_event_t.{yaml_event_t};
 ghost use Rattle.libyaml_documents.specs.Documents.{empty_document};
-ghost use Rattle.libyaml_documents.specs.LoadedNodes.{begun_document};
 ghost use Rattle.libyaml_events.specs.parsers.EventsLeft.{events_left};
 ghost use Rattle.libyaml_grammar.specs.runs.Runs.{Ending};
 ghost use Rattle.libyaml_events.specs.sources.RunToCome.{RunToCome, UnlessBroken};
 ghost use Rattle.libyaml_events.specs.sources.History.{ForHistory, between_documents, is_over};
 ghost use Rattle.libyaml_events.specs.sources.History.{has_failed, kept_fault};
 ghost use Rattle.libyaml_graphs.specs.loads.Bounds.{next_bounded};
-ghost use Rattle.libyaml_graphs.specs.machine.Loader as machine;
 ghost use Rattle.libyaml_graphs.specs.loads.Loads.{left_over};
-ghost use Rattle.libyaml_graphs.specs.graphs.GraphParts as parts;
-ghost use Rattle.libyaml_loader.specs.document.Context.{IdsAreIn, loader_of, with_nodes};
 ghost use Rattle.libyaml_loader.specs.document.Ids.{magnitude};
 ghost use Rattle.libyaml_loader.specs.loads.Loading.{HasEnded, LoadsFrom, Took};
 ghost use Rattle.libyaml_loader.specs.loads.NextLoad.{Answers};
-ghost use Rattle.libyaml_loader.specs.loads.ComposeSteps.{ComposesBy, closing, opening_at};
+ghost use Rattle.libyaml_loader.specs.pushes.Composing.{IsSound};
 
-use crate::context::loader_ctx;
-use crate::refusal::{has_failed, keep_refusal};
-use libyaml_documents::building::begin_document;
+use crate::composer::Composer;
+use crate::context::empty_document;
+use crate::refusal::{has_failed, keep_fault};
 use libyaml_documents::yaml_document_t;
 use libyaml_events::laws::calls::{of_history, rest_of_run};
 use libyaml_events::{
     is_event, no_event, yaml_parser_parse_into, yaml_parser_t, yaml_token_source_t,
 };
 use libyaml_graphs::laws::{linear_size, whole_documents_have_roots};
-use libyaml_types::{
-    ZERO_MARK, unnamed_yaml_event_t_data, unnamed_yaml_event_t_data_document_start,
-    yaml_error_type_t, yaml_event_t, yaml_mark_t,
-};
-use std::alloc::Global;
-use std::mem;
-
-/// The start of a document.
-#[derive(Drop)]
-pub(crate) struct Opening {
-    pub start: unnamed_yaml_event_t_data_document_start,
-    pub mark: yaml_mark_t,
-}
-
-/// The end of a document.
-#[derive(Copy, Clone)]
-pub(crate) struct Closing {
-    pub implicit: bool,
-    pub mark: yaml_mark_t,
-}
-
-/// What came of the next event of a document.
-#[derive(Copy, Clone)]
-enum ComposeStep {
-    /// It was composed.
-    Composed,
-    /// It ends the document.
-    Closed(Closing),
-    /// None came: the stream has ended.
-    Ended,
-}
+use libyaml_types::{yaml_error_type_t, yaml_event_t};
 
 /// Returns the next document, or at the stream's end the document without root.
 ///
@@ -116,13 +81,21 @@ pub fn yaml_parser_load<S: yaml_token_source_t>(
         return Err(parser.prefix().error);
     }
     parser.remembered();
-    next_document(parser)
+    let composer = Composer::new(parser.allocator(), bound_of(parser));
+    let mut event = no_event();
+    next_document(parser, composer, &mut event)
 }
 
-/// The next document, where no fault is kept.
+/// Returns the next document, where no fault is kept. Its events come in `event`, one after another.
+///
+/// libyaml: `yaml_parser_load`, `yaml_parser_load_document` and `yaml_parser_load_nodes`.
 fn next_document<S: yaml_token_source_t>(
     parser: &mut yaml_parser_t<S>,
+    mut composer: Composer,
+    event: &mut yaml_event_t,
 ) -> Result<yaml_document_t, yaml_error_type_t>
+    requires none_open { composer.is_open ≡ false }
+    requires sound { IsSound composer }
     ensures ended { is_over parser.old ≡ true → (result ≡ Ok (empty_document None [] false false))
         × (parser.new ≡ parser.old) }
     ensures falls { IfOk result (λ d. (d ≡ empty_document None [] false false)
@@ -131,34 +104,22 @@ fn next_document<S: yaml_token_source_t>(
     ensures failed { IfErr result (λ _. has_failed parser.new ≡ true) }
     ensures bound { parser.new.max_entries ≡ parser.old.max_entries }
     ensures between { between_documents parser.new ≡ true }
-    ensures loads { LoadsFrom S.gives S.known S.may_break (next_bounded (magnitude parser.old.max_entries))
-        left_over parser.old result parser.new }
+    ensures loads { LoadsFrom S.gives S.known S.may_break (next_bounded composer.max_entries) left_over
+        parser.old result parser.new }
 {
     of_history::<S>();
     rest_of_run::<S>();
-    let mut event = no_event();
     loop {
-        yaml_parser_parse_into(parser, &mut event)?;
-        if !is_event(&event) {
-            return Ok(without_root(parser.allocator()));
+        yaml_parser_parse_into(parser, event)?;
+        if !is_event(event) {
+            return Ok(empty_document(parser.allocator()));
         }
-        match opening_of(&mut event, parser.allocator()) {
-            Some(opening) => return yaml_parser_load_document(parser, opening, &mut event),
-            None => {}
+        match composer.compose(event) {
+            Ok(None) => {}
+            Ok(Some(closing)) => return Ok(composer.into_document(closing)),
+            Err(_) => return Err(keep_fault(parser, composer.fault)),
         }
     }
-}
-
-/// The document without root.
-fn without_root(alloc: Global) -> yaml_document_t
-    ensures { result ≡ empty_document None [] false false }
-{
-    let start = unnamed_yaml_event_t_data_document_start {
-        version_directive: None,
-        tag_directives: Vec::new(alloc),
-        implicit: false,
-    };
-    begin_document(alloc, start, ZERO_MARK)
 }
 
 /// How many entries each list may have.
@@ -166,128 +127,4 @@ fn bound_of<S>(parser: &yaml_parser_t<S>) -> usize
     ensures { result ≡ magnitude parser.now.max_entries }
 {
     parser.max_entries() as usize
-}
-
-/// Returns the rest of the document that this start event begins. Its events come in `event`, one after
-/// another.
-///
-/// libyaml: `yaml_parser_load_document`.
-fn yaml_parser_load_document<S: yaml_token_source_t>(
-    parser: &mut yaml_parser_t<S>,
-    opening: Opening,
-    event: &mut yaml_event_t,
-) -> Result<yaml_document_t, yaml_error_type_t>
-    ensures falls { IfOk result (λ d. (d ≡ empty_document None [] false false)
-        ⊎ (events_left S.bound parser.new < events_left S.bound parser.old)) }
-    ensures fails { IfErr result (λ x. (x ≡ (kept_fault parser.new).error) × (is_over parser.new ≡ true)) }
-    ensures failed { IfErr result (λ _. has_failed parser.new ≡ true) }
-    ensures bound { parser.new.max_entries ≡ parser.old.max_entries }
-    ensures between { between_documents parser.new ≡ true }
-    ensures loads { LoadsFrom S.gives S.known S.may_break
-        (machine.load_from (magnitude parser.old.max_entries)
-        (machine.within (opening_at opening) machine.fresh))
-        (machine.left_from (machine.within (opening_at opening) machine.fresh)) parser.old result parser.new }
-{
-    let alloc = parser.allocator();
-    let ctx = loader_ctx::new(alloc, bound_of(parser), opening.start, opening.mark);
-    yaml_parser_load_nodes(parser, ctx, event)
-}
-
-/// Returns the rest of a document on the way. Its events come in `event`, one after another.
-///
-/// libyaml: `yaml_parser_load_nodes`.
-fn yaml_parser_load_nodes<S: yaml_token_source_t>(
-    parser: &mut yaml_parser_t<S>,
-    mut ctx: loader_ctx,
-    event: &mut yaml_event_t,
-) -> Result<yaml_document_t, yaml_error_type_t>
-    requires ids { IdsAreIn (loader_of ctx) }
-    ensures falls { IfOk result (λ d. (d ≡ empty_document None [] false false)
-        ⊎ (events_left S.bound parser.new < events_left S.bound parser.old)) }
-    ensures fails { IfErr result (λ x. (x ≡ (kept_fault parser.new).error) × (is_over parser.new ≡ true)) }
-    ensures failed { IfErr result (λ _. has_failed parser.new ≡ true) }
-    ensures bound { parser.new.max_entries ≡ parser.old.max_entries }
-    ensures between { between_documents parser.new ≡ true }
-    ensures loads { (o : parts.Opening)
-        → ctx.document ≡ with_nodes ctx.document.nodes (begun_document o.start o.mark)
-        → LoadsFrom S.gives S.known S.may_break
-        (machine.load_from ctx.max_entries (machine.within o (loader_of ctx)))
-        (machine.left_from (machine.within o (loader_of ctx))) parser.old result parser.new }
-{
-    loop {
-        match compose_next(parser, &mut ctx, event)? {
-            ComposeStep::Composed => {}
-            ComposeStep::Closed(closing) => {
-                return Ok(ctx.into_document(closing.implicit, closing.mark));
-            }
-            ComposeStep::Ended => return Ok(without_root(ctx.alloc)),
-        }
-    }
-}
-
-/// Composes the next event of a document, which comes in `event`.
-fn compose_next<S: yaml_token_source_t>(
-    parser: &mut yaml_parser_t<S>,
-    ctx: &mut loader_ctx,
-    event: &mut yaml_event_t,
-) -> Result<ComposeStep, yaml_error_type_t>
-    requires ids { IdsAreIn (loader_of ctx.old) }
-    ensures falls { IfOk result (λ s. (s ≡ ComposeStep.Ended)
-        ⊎ (events_left S.bound parser.new < events_left S.bound parser.old)) }
-    ensures fails { IfErr result (λ x. (x ≡ (kept_fault parser.new).error) × (is_over parser.new ≡ true)) }
-    ensures failed { IfErr result (λ _. has_failed parser.new ≡ true) }
-    ensures bound { parser.new.max_entries ≡ parser.old.max_entries }
-    ensures between { IfOk result (λ s. (s ≡ ComposeStep.Composed) ⊎ (between_documents parser.new ≡ true)) }
-    ensures steps { ComposesBy S.gives S.known S.may_break result parser.old parser.new ctx.old ctx.new }
-{
-    of_history::<S>();
-    rest_of_run::<S>();
-    yaml_parser_parse_into(parser, event)?;
-    if !is_event(event) {
-        return Ok(ComposeStep::Ended);
-    }
-    match closing_of(&event.content, event.end_mark) {
-        Some(closing) => Ok(ComposeStep::Closed(closing)),
-        None => {
-            let mark = event.start_mark;
-            match ctx.compose(event) {
-                Ok(()) => Ok(ComposeStep::Composed),
-                Err(refusal) => Err(keep_refusal(parser, refusal, ctx.first_mark, mark)),
-            }
-        }
-    }
-}
-
-/// Moves the start of a document out of the event, if it is one.
-pub(crate) fn opening_of(event: &mut yaml_event_t, alloc: Global) -> Option<Opening>
-    ensures { option_map opening_at result ≡ parts.opening_of event.old }
-{
-    let start_mark = event.start_mark;
-    match &mut event.content {
-        unnamed_yaml_event_t_data::DocumentStart(start) => Some(Opening {
-            start: unnamed_yaml_event_t_data_document_start {
-                version_directive: start.version_directive,
-                tag_directives: mem::replace(&mut start.tag_directives, Vec::new(alloc)),
-                implicit: start.implicit,
-            },
-            mark: start_mark,
-        }),
-        _ => None,
-    }
-}
-
-/// Returns the end of a document, if the event is one.
-pub(crate) fn closing_of(
-    content: &unnamed_yaml_event_t_data,
-    end_mark: yaml_mark_t,
-) -> Option<Closing>
-    ensures { option_map closing result ≡ parts.closing_in content.now end_mark }
-{
-    match content {
-        unnamed_yaml_event_t_data::DocumentEnd(end) => Some(Closing {
-            implicit: end.implicit,
-            mark: end_mark,
-        }),
-        _ => None,
-    }
 }

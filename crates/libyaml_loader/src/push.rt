@@ -37,11 +37,11 @@ impl Model for yaml_push_loader_t {
 
     ghost coded = { Prim.hlevel (codes, handles_code, anchors_code) };
 
-    ghost view = { λ l. standing l.parser (state_of l.composer.open) (fault_of l.composer.fault)
+    ghost view = { λ l. standing l.parser (state_of l.composer) (fault_of l.composer.fault)
         l.composer.max_entries };
 
     ghost invariant = { λ l. (l.events.items ≡ []) × IsSound l.composer
-        × RemembersLoads (standing l.parser (state_of l.composer.open) (fault_of l.composer.fault)
+        × RemembersLoads (standing l.parser (state_of l.composer) (fault_of l.composer.fault)
         l.composer.max_entries) };
 }
 

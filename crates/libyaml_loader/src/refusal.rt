@@ -47,23 +47,21 @@ pub(crate) fn has_failed<S>(parser: &yaml_parser_t<S>) -> bool
     !matches!(parser.prefix().error, yaml_error_type_t::YAML_NO_ERROR)
 }
 
-/// Keeps the fault of this refusal for good, and returns its error. The event that is refused
-/// starts at `mark`, and the first node with a repeated anchor at `first_mark`.
+/// Keeps this fault of a load for good, and returns its error.
 #[cold]
-pub(crate) fn keep_refusal<S>(
+pub(crate) fn keep_fault<S>(
     parser: &mut yaml_parser_t<S>,
-    refusal: Refusal,
-    first_mark: yaml_mark_t,
-    mark: yaml_mark_t,
+    fault: yaml_parser_t_prefix,
 ) -> yaml_error_type_t
-    requires { has_failed parser.old ≡ false }
-    ensures kept { parser.new ≡ keeping (fault_by refusal first_mark mark) parser.old }
+    requires first { has_failed parser.old ≡ false }
+    requires of_loader { (fault.error ≡ yaml_error_type_t.YAML_MEMORY_ERROR)
+        ⊎ (fault.error ≡ yaml_error_type_t.YAML_COMPOSER_ERROR) }
+    ensures kept { parser.new ≡ keeping (fault_of fault) parser.old }
     ensures error { result ≡ (kept_fault parser.new).error }
     ensures failed { has_failed parser.new ≡ true }
     ensures ended { is_over parser.new ≡ true }
     ensures bound { parser.new.max_entries ≡ parser.old.max_entries }
 {
-    let fault = fault_by(refusal, first_mark, mark);
     parser.keep_fault(fault);
     fault.error
 }

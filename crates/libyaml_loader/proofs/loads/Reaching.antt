@@ -1,190 +1,99 @@
--- How a load goes on by the events that it takes.
-use Rattle.std.proofs.Common.{◌≡◌, ◌⊎◌, ◌++◌, ◌∷◌, ℕ, List, [], Option, Some, None, Ok, Err, true, false, refl, sym, ap}
-use Rattle.std.proofs.Common.{◌∙◌, subst, inl, inr, append_assoc}
-use Rattle.libyaml_documents.specs.Documents.{Document, empty_document}
-use Rattle.libyaml_events.specs.machine.Config.{Parser}
+-- One load by events that lead from one state to another and end no document: it comes to the load from there.
+use Rattle.std.proofs.Common.{◌≡◌, ◌++◌, ◌∷◌, ℕ, List, [], Option, Some, None, Ok, Err, refl, sym, ap, ◌∙◌, append-nil}
+use Rattle.libyaml_documents.specs.Documents.{Document}
+use Rattle.libyaml_documents.specs.declared.node.yaml_node_t.{yaml_node_t}
 use Rattle.libyaml_grammar.specs.sentences.Events.{Event}
-use Rattle.libyaml_sources.specs.Fault.{Answer, Fault, memory_fault}
-use Rattle.libyaml_events.specs.sources.History.{History}
-use Rattle.libyaml_events.specs.sources.RunToCome.{RunToCome}
-use Rattle.libyaml_grammar.specs.runs.Runs.{Ending}
-use Rattle.libyaml_sources.specs.Source.{Coming}
-use Rattle.libyaml_grammar.specs.sentences.Tokens.{Token}
-use Rattle.libyaml_graphs.specs.machine.Loader.{Loader, Loading, State, between, bounded_option, failed, fresh, going}
-use Rattle.libyaml_graphs.specs.machine.Loader.{if_going, left_from, load_from, within}
-use Rattle.libyaml_graphs.specs.loads.Loads.{Load, document}
-use Rattle.libyaml_graphs.specs.graphs.GraphParts as parts
-use Rattle.libyaml_graphs.specs.graphs.GraphParts.{Opening, closing_of, opening_of, part_of}
-use Rattle.libyaml_graphs.proofs.lent.Machine.{closes, closes_left, goes_on_left, nothing_left, opens, opens_left}
-use Rattle.libyaml_graphs.proofs.lent.Machine.{passes, passes_left, within_event}
-use Rattle.libyaml_loader.specs.document.Context.{loader_of}
-use Rattle.libyaml_loader.specs.declared.context.loader_ctx.{loader_ctx}
-use Rattle.libyaml_loader.specs.declared.load.Closing.{Closing}
-use Rattle.libyaml_loader.specs.declared.load.ComposeStep.TheVariants as step
-use Rattle.libyaml_loader.specs.loads.Loading.{DocumentOrError, KeptBy, LoadFails, Loads, LoadsFrom, ParserFails, Took}
-use Rattle.libyaml_loader.specs.loads.Loading.{at_end, by_loader, by_memory, by_parser}
-use Rattle.libyaml_loader.specs.loads.Loading.{whole}
-use Rattle.libyaml_loader.specs.loads.LoadGrowth.{may_grow}
-use Rattle.libyaml_loader.specs.loads.ComposeSteps.{FindsEnd, LoaderFails, TakesEvent, closing}
-use Rattle.libyaml_loader.proofs.loads.Taking.{took_both, took_none}
+use Rattle.libyaml_grammar.specs.runs.Runs.{Ending, Ends, Fails}
+use Rattle.libyaml_sources.specs.Fault.{Fault, memory_fault}
+use Rattle.libyaml_graphs.specs.graphs.GraphParts.{Closing, Opening, closing_of, graph, opening_of, part_of, parts}
+use Rattle.libyaml_graphs.specs.loads.Bounds.{bounded_loads, first_stop}
+use Rattle.libyaml_graphs.specs.loads.Loads.{Begun, Load, Stop, answer, begun, behind_document, document_end, last_load}
+use Rattle.libyaml_graphs.specs.loads.Loads.{load_then, loads_by, next_by}
+use Rattle.libyaml_graphs.specs.machine.Loader.{Loading, State, between, bounded_option, failed, fresh, going, left_from}
+use Rattle.libyaml_graphs.specs.machine.Loader.{load_from, within}
+use Rattle.libyaml_graphs.proofs.lent.BoundedLoader.{one_load}
+use Rattle.libyaml_graphs.proofs.lent.Machine.{goes_on_left, opens_left, passes_left}
+use Rattle.libyaml_loader.specs.pushes.Leads.{Leads, behind_events, loads_from, whole_then}
+use Rattle.libyaml_loader.proofs.pushes.Leading.{closes_there, from_none, goes_there, opens_there, passes_by, refused_there}
 
--- by these events a load comes from the one state to the other
-pub record Reaches (n : ℕ) (s t : State) (taken : List Event) : Type 0 where
-  pub load : (rest : List Event) (x : Ending) → load_from n s (taken ++ rest) x ≡ load_from n t rest x
-  pub left : (rest : List Event) → left_from s (taken ++ rest) ≡ left_from t rest
+-- a load is the first of the loads to come
+abbrev first : List Load → Load
+first [] = last_load Ends
+first (a ∷ l) = a
 
-pub reaches_none : (n : ℕ) (s : State) → Reaches n s s []
-reaches_none n s = record { load = λ (rest : List Event) (x : Ending). refl; left = λ (rest : List Event). refl }
+first_then : (f : Option Fault) (c : Option Closing) (o : Opening) (nodes : List yaml_node_t) (last : Load) (l : List Load)
+    → first (load_then f c o nodes last l) ≡ answer f c o nodes last
+first_then (Some f) c o nodes last l = refl
+first_then None (Some c) o nodes last l = refl
+first_then None None o nodes last l = refl
 
-pub reaches_both : (n : ℕ) (s t u : State) (a b : List Event) → Reaches n s t a → Reaches n t u b → Reaches n s u (a ++ b)
-reaches_both n s t u a b h k = record {
-  load = λ (rest : List Event) (x : Ending). ap (λ (l : List Event). load_from n s l x) (append_assoc a b rest)
-      ∙ h.load (b ++ rest) x ∙ k.load rest x;
-  left = λ (rest : List Event). ap (left_from s) (append_assoc a b rest) ∙ h.left (b ++ rest) ∙ k.left rest;
-}
+first_by : (stop : Stop) (x : Ending) (bs : List Begun) → first (loads_by stop x bs) ≡ next_by stop x bs
+first_by stop x [] = refl
+first_by stop x (b ∷ bs) = first_then (stop (parts b.rest)) (document_end b.rest) b.opening (graph [] (parts b.rest))
+    (last_load x) (loads_by stop x bs)
 
-pub reaches_pass : (n : ℕ) (e : Event) → opening_of e ≡ None → Reaches n between between (e ∷ [])
-reaches_pass n e h = record {
-  load = λ (rest : List Event) (x : Ending). passes n e rest x h;
-  left =
-      λ (rest : List Event). passes_left e rest h;
-}
+first_whole : (c : Option Closing) (a : Load) (l : List Load) → first (whole_then c a l) ≡ a
+first_whole c (Err f) l = refl
+first_whole None (Ok d) l = refl
+first_whole (Some c) (Ok d) l = refl
 
-pub reaches_open : (n : ℕ) (e : Event) (o : Opening) → opening_of e ≡ Some o → Reaches n between (within o fresh) (e ∷ [])
-reaches_open n e o h = record {
-  load = λ (rest : List Event) (x : Ending). opens n e rest x o h;
-  left =
-      λ (rest : List Event). opens_left e rest o h;
-}
+first_load : (n : ℕ) (s : State) (e : List Event) (x : Ending) → first (loads_from n s e x) ≡ load_from n s e x
+first_load n between e x = first_by (first_stop n [] []) x (begun e) ∙ sym (one_load e x n)
+first_load n (within o l) e x = first_whole (document_end e) (load_from n (within o l) e x)
+    (bounded_loads n (behind_document e) x)
 
-pub reaches_step : (n : ℕ) (o : Opening) (l k : Loader) (e : Event) → closing_of e ≡ None
-    → bounded_option n l (part_of e) ≡ going k
-    → Reaches n (within o l) (within o k) (e ∷ [])
-reaches_step n o l k e h g = record {
-  load = λ (rest : List Event) (x : Ending). ap (λ (d : Option parts.Closing). within_event n o l rest x d (part_of e)) h
-      ∙ ap (λ (u : Loading). if_going (λ (f : Fault). Err f) u (λ (j : Loader). load_from n (within o j) rest x)) g;
-  left = λ (rest : List Event). goes_on_left o l k e rest h;
-}
+-- the first of the loads from a state is the load from there
+pub load_of_first : (n : ℕ) (s : State) (e : List Event) (x : Ending) (a : Load) (l : List Load)
+    → loads_from n s e x ≡ a ∷ l → load_from n s e x ≡ a
+load_of_first n s e x a l h = sym (first_load n s e x) ∙ ap first h
 
-refuses : (n : ℕ) (o : Opening) (l : Loader) (e : Event) (f : Fault) → closing_of e ≡ None
-    → bounded_option n l (part_of e) ≡ failed f
-    → (rest : List Event) (x : Ending) → load_from n (within o l) (e ∷ rest) x ≡ Err f
-refuses n o l e f h g rest x = ap (λ (d : Option parts.Closing). within_event n o l rest x d (part_of e)) h
-    ∙ ap (λ (u : Loading). if_going (λ (y : Fault). Err y) u (λ (j : Loader). load_from n (within o j) rest x)) g
+pub load_by : (n : ℕ) (s t : State) (taken : List Event) → Leads n s taken [] t → (rest : List Event) (x : Ending)
+    → load_from n s (taken ++ rest) x ≡ load_from n t rest x
+load_by n s t taken h rest x = sym (first_load n s (taken ++ rest) x) ∙ (ap first (h.loads rest x) ∙ first_load n t rest x)
 
-none_left : (s : State) → left_from s [] ≡ []
-none_left between = refl
-none_left (within o l) = refl
+-- no document ends with these events, and none is refused
+abbrev Waits : ℕ → State → List Event → Type 0
+Waits n s taken = (x : Ending) → loads_from n s taken x ≡ last_load x ∷ []
 
-module _ {S : Type 0} (gives : S → Answer → S → Type 0) (known : S → Option Coming) (MayBreak : S → Fault → Type 0) where
-  -- a load after events that were taken: by them a load by f comes to one by g
-  pub loads_behind : (f g : List Event → Ending → Load) (l k : List Event → List Event) (old mid new : Parser S)
-      (a : List Event) (r : DocumentOrError)
-      → Took gives known old mid a → ((rest : List Event) (x : Ending) → f (a ++ rest) x ≡ g rest x)
-      → ((rest : List Event) → l (a ++ rest) ≡ k rest)
-      → LoadsFrom gives known MayBreak g k mid r new → LoadsFrom gives known MayBreak f l old r new
-  loads_behind f g l k old mid new a r took load left h = go r h
+not_refused : {f : Fault} {d : Document} {l m : List Load} → ◌≡◌ {A = List Load} (Ok d ∷ l) (Err f ∷ m) → ⊥
+not_refused h = cc
+
+module _ (n : ℕ) (e : Event) (a rest : List Event)
+    (later : (t : State) → Waits n t a → left_from t (a ++ rest) ≡ left_from (behind_events n t a) rest) where
+  left_step : (s t : State) → Leads n s (e ∷ []) [] t → left_from s (e ∷ (a ++ rest)) ≡ left_from t (a ++ rest)
+      → Waits n s (e ∷ a) → left_from s (e ∷ (a ++ rest)) ≡ left_from (behind_events n s (e ∷ a)) rest
+  left_step s t h left waits = left ∙ (later t (λ x. sym (h.loads a x) ∙ waits x)
+      ∙ ap (λ (u : State). left_from (behind_events n u a) rest) h.state)
+
+  left_first : (s : State) → Waits n s (e ∷ a) → left_from s (e ∷ (a ++ rest)) ≡ left_from (behind_events n s (e ∷ a)) rest
+  left_first between waits = go (opening_of e) refl
     where
-      both : (b : List Event) (rest : List Event) (x : Ending) → f ((a ++ b) ++ rest) x ≡ g (b ++ rest) x
-      both b rest x = ap (λ (m : List Event). f m x) (append_assoc a b rest) ∙ load (b ++ rest) x
-
-      go : (r : DocumentOrError) → LoadsFrom gives known MayBreak g k mid r new
-          → LoadsFrom gives known MayBreak f l old r new
-      go (Ok d) (whole b more loads left_over stands) =
-          whole (a ++ b) (took_both gives known MayBreak old mid new a b took more)
-          (λ (rest : List Event) (x : Ending). both b rest x ∙ loads rest x)
-          (λ (rest : List Event). ap l (append_assoc a b rest) ∙ left (b ++ rest) ∙ left_over rest)
-          (λ (asked : List Token) (given : List Event) (history : History old asked given). stands _ _
-          (took.history asked given history).history)
-      go (Ok d) (at_end b more loads left_over ends is stands) =
-          at_end (a ++ b) (took_both gives known MayBreak old mid new a b took more)
-          (λ (x : Ending). load b x ∙ loads x) (left b ∙ left_over)
-          (λ (events : List Event) (ending : Ending) (run : RunToCome known old events ending).
-          let t = took.runs events ending run in
-          let e = ends t.later ending t.run in
-          (t.all ∙ ap (λ (m : List Event). a ++ m) e.0, e.1))
-          is (λ (asked : List Token) (given : List Event) (history : History old asked given). stands _ _
-          (took.history asked given history).history)
-      go (Err y) (by_parser b p more fails loads)
-          = by_parser (a ++ b) p (took_both gives known MayBreak old mid p a b took more) fails
-          (λ (x : Ending). load b x ∙ loads x)
-      go (Err y) (by_loader b e p more fault keeps waits loads) =
-          by_loader (a ++ b) e p
-          (subst (λ (m : List Event). Took gives known old p m) (sym (append_assoc a b (e ∷ [])))
-          (took_both gives known MayBreak old mid p a (b ++ e ∷ []) took more)) fault keeps
-          (λ (x : Ending). load b x ∙ waits x)
-          (λ (rest : List Event) (x : Ending). ap (λ (m : List Event). f (m ++ rest) x) (append_assoc a b (e ∷ []))
-          ∙ both (b ++ e ∷ []) rest x ∙ loads rest x)
-      go (Err y) (by_memory b e p more keeps grows) =
-          by_memory (a ++ b) e p
-          (subst (λ (m : List Event). Took gives known old p m) (sym (append_assoc a b (e ∷ [])))
-          (took_both gives known MayBreak old mid p a (b ++ e ∷ []) took more)) keeps
-          (record {
-            most = grows.most;
-            opening = grows.opening;
-            loader = grows.loader;
-            stands = λ (rest : List Event) (x : Ending). both b rest x ∙ grows.stands rest x;
-            grows = grows.grows;
-          })
-
-module _ {S : Type 0} (gives : S → Answer → S → Type 0) (known : S → Option Coming) (MayBreak : S → Fault → Type 0)
-    (n : ℕ) where
-  pub behind : (s t : State) (old mid new : Parser S) (a : List Event) (r : DocumentOrError)
-      → Took gives known old mid a → Reaches n s t a
-      → LoadsFrom gives known MayBreak (load_from n t) (left_from t) mid r new
-      → LoadsFrom gives known MayBreak (load_from n s) (left_from s) old r new
-  behind s t old mid new a r took h
-      = loads_behind gives known MayBreak (load_from n s) (load_from n t) (left_from s)
-      (left_from t) old mid new a r took h.load h.left
-
-  pub ended_load : (s : State) (old new : Parser S) (d : Document) → FindsEnd gives known old new
-      → d ≡ empty_document None [] false false
-      → Loads gives known (load_from n s) (left_from s) old new d
-  ended_load s old new d h is = at_end [] h.took (λ (x : Ending). nothing_left n s x) (none_left s) h.ends is h.stands
-
-  pub closed_load : (o : Opening) (c : Closing) (old new : Parser S) (before after : loader_ctx) (d : Document)
-      → TakesEvent gives known (step.Closed c) old new before after → d ≡ document o before.document.nodes (closing c)
-      → Loads gives known (load_from n (within o (loader_of before))) (left_from (within o (loader_of before))) old new d
-  closed_load o c old new before after d h is =
-      whole (h.event ∷ []) h.took
-      (λ (rest : List Event) (x : Ending). closes n o (loader_of before) h.event rest x (closing c) h.by.0
-      ∙ ap (λ (y : Document). Ok y) (sym is))
-      (λ (rest : List Event). closes_left o (loader_of before) h.event rest (closing c) h.by.0)
-      (λ (asked : List Token) (given : List Event) (history : History old asked given). h.ended asked given history
-      (closing c) h.by.0)
-
-  pub parser_load : (s : State) (old new : Parser S) → ParserFails gives known MayBreak old new
-      → LoadFails gives known MayBreak (load_from n s) (left_from s) old new
-  parser_load s old new h = by_parser [] old (took_none gives known MayBreak old) h (λ (x : Ending). nothing_left n s x)
-
-  pub loader_load : (o : Opening) (old new : Parser S) (before : loader_ctx) → before.max_entries ≡ n
-      → LoaderFails gives known old new before
-      → LoadFails gives known MayBreak (load_from n (within o (loader_of before)))
-      (left_from (within o (loader_of before))) old new
-  loader_load o old new before bound h = go h.why
+      go : (c : Option Opening) → opening_of e ≡ c
+          → left_from between (e ∷ (a ++ rest)) ≡ left_from (behind_events n between (e ∷ a)) rest
+      go None is = left_step between between (passes_by n e is) (passes_left e (a ++ rest) is) waits
+      go (Some o) is = left_step between (within o fresh) (opens_there n e o is) (opens_left e (a ++ rest) o is) waits
+  left_first (within o l) waits = go (closing_of e) refl
     where
-      go : ((h.fault ≡ memory_fault) × (may_grow (loader_of before) (part_of h.event) ≡ true))
-          ⊎ (bounded_option before.max_entries (loader_of before) (part_of h.event) ≡ failed h.fault)
-          → LoadFails gives known MayBreak (load_from n (within o (loader_of before)))
-          (left_from (within o (loader_of before))) old new
-      go (inl m) = by_memory [] h.event h.parser h.took (subst (λ (f : Fault). KeptBy f h.parser new) m.0 h.keeps)
-          (record {
-            most = n;
-            opening = o;
-            loader = loader_of before;
-            stands =
-                λ (rest : List Event) (x : Ending). refl;
-            grows = m.1;
-          })
-      go (inr w) = by_loader [] h.event h.parser h.took h.fault h.keeps
-          (λ (x : Ending). nothing_left n (within o (loader_of before)) x)
-          (refuses n o (loader_of before) h.event h.fault h.no_end
-          (ap (λ (m : ℕ). bounded_option m (loader_of before) (part_of h.event)) (sym bound) ∙ w))
+      by : (r : Loading) → closing_of e ≡ None → bounded_option n l (part_of e) ≡ r
+          → left_from (within o l) (e ∷ (a ++ rest)) ≡ left_from (behind_events n (within o l) (e ∷ a)) rest
+      by (going k) no_end is = left_step (within o l) (within o k) (goes_there n o l k e no_end is)
+          (goes_on_left o l k e (a ++ rest) no_end) waits
+      by (failed f) no_end is = absurd (not_refused (sym (waits Ends) ∙ refused_there n o l e f no_end is a Ends))
 
-  pub fails_load : (o : Opening) (old new : Parser S) (before : loader_ctx) → before.max_entries ≡ n
-      → ParserFails gives known MayBreak old new
-      ⊎ LoaderFails gives known old new before
-      → LoadFails gives known MayBreak (load_from n (within o (loader_of before)))
-      (left_from (within o (loader_of before))) old new
-  fails_load o old new before bound (inl h) = parser_load (within o (loader_of before)) old new h
-  fails_load o old new before bound (inr h) = loader_load o old new before bound h
+      go : (c : Option Closing) → closing_of e ≡ c
+          → left_from (within o l) (e ∷ (a ++ rest)) ≡ left_from (behind_events n (within o l) (e ∷ a)) rest
+      go None is = by (bounded_option n l (part_of e)) is refl
+      go (Some c) is = absurd (not_refused (sym ((closes_there n o l e c is).loads a (Fails memory_fault))
+          ∙ waits (Fails memory_fault)))
+
+left_behind : (taken : List Event) (n : ℕ) (rest : List Event) (s : State) → Waits n s taken
+    → left_from s (taken ++ rest) ≡ left_from (behind_events n s taken) rest
+left_behind [] n rest s waits = refl
+left_behind (e ∷ a) n rest s waits = left_first n e a rest (left_behind a n rest) s waits
+
+pub left_by : (n : ℕ) (s t : State) (taken : List Event) → Leads n s taken [] t → (rest : List Event)
+    → left_from s (taken ++ rest) ≡ left_from t rest
+left_by n s t taken h rest = left_behind taken n rest s waits ∙ ap (λ (u : State). left_from u rest) (sym h.state)
+  where
+    waits : Waits n s taken
+    waits x = ap (λ (e : List Event). loads_from n s e x) (sym (append-nil taken)) ∙ (h.loads [] x ∙ from_none n t x)

@@ -1,16 +1,14 @@
 -- What one call of the parser says of the events that a load takes.
-use Rattle.std.proofs.Common.{◌≡◌, ◌||◌, ℕ, ◌++◌, ◌∷◌, List, [], Option, Some, Bool, Ok, Err, true, false, refl, sym}
+use Rattle.std.proofs.Common.{◌≡◌, ℕ, ◌++◌, ◌∷◌, List, [], Option, Some, Bool, Ok, Err, true, false, refl, sym}
 use Rattle.std.proofs.Common.{ap, ◌∙◌, subst, append_assoc}
 use Rattle.libyaml_types.specs.declared.enums.yaml_error_type_t.{yaml_error_type_t}
-use Rattle.libyaml_types.specs.declared.enums.yaml_parser_state_t.{yaml_parser_state_t}
-use Rattle.libyaml_types.specs.declared.enums.yaml_parser_state_t.TheVariants.{YAML_PARSE_END_STATE}
 use Rattle.libyaml_types.specs.declared.event.unnamed_yaml_event_t_data.{unnamed_yaml_event_t_data}
 use Rattle.libyaml_types.specs.declared.event.unnamed_yaml_event_t_data.TheVariants as ev
 use Rattle.libyaml_types.specs.declared.mark.yaml_mark_t.{yaml_mark_t}
 use Rattle.libyaml_types.specs.Events.{empty_event}
 use Rattle.libyaml_events.specs.sources.Calls.{EventOrError, Gave}
 use Rattle.libyaml_events.specs.sources.CallsInTurn.{CarriedOn}
-use Rattle.libyaml_events.specs.machine.Config.{Parser, is_between, is_end_state, is_fault}
+use Rattle.libyaml_events.specs.machine.Config.{Parser}
 use Rattle.libyaml_grammar.specs.sentences.Events.{Event}
 use Rattle.libyaml_sources.specs.Fault.{Answer, Fault}
 use Rattle.libyaml_events.specs.sources.History.{ForHistory, History, answers, between_documents, has_failed, is_over}
@@ -18,33 +16,31 @@ use Rattle.libyaml_events.specs.sources.History.{kept_fault}
 use Rattle.libyaml_events.specs.sources.ParsesNext.{ParsesNext}
 use Rattle.libyaml_events.specs.sources.Parsing.{CarriesOn, FailsBy, IsWhole}
 use Rattle.libyaml_events.specs.sources.RunToCome.{FailsHere, RestOfRun, RunToCome}
-use Rattle.libyaml_grammar.specs.runs.Runs.{Ending}
+use Rattle.libyaml_grammar.specs.runs.Runs.{Ending, Ends}
 use Rattle.libyaml_sources.specs.Source.{Coming}
-use Rattle.libyaml_events.specs.parsers.Stages.{Stage, after, at_start, is_event, is_outside, stage_of}
+use Rattle.libyaml_events.specs.parsers.OutsideEvents.{is_outside_event}
+use Rattle.libyaml_events.specs.parsers.Stages.{is_event}
 use Rattle.libyaml_grammar.specs.sentences.Tokens.{Token}
-use Rattle.libyaml_events.proofs.lent.CallsInTurn.{both_calls, no_call, one_call, stage_more}
+use Rattle.libyaml_events.proofs.lent.CallsInTurn.{both_calls, no_call, one_call}
 use Rattle.libyaml_graphs.specs.graphs.GraphParts.{Closing, closing_in, closing_of}
-use Rattle.libyaml_loader.specs.loads.Loading.{ParserFails, Took}
-use Rattle.libyaml_loader.specs.loads.ComposeSteps.{FindsEnd}
+use Rattle.libyaml_loader.specs.loads.Loading.{HasEnded, ParserFails, Took}
 
 no : true ≡ false → ⊥
 no h = cc
 
-over_between : (b : Bool) (s : yaml_parser_state_t) → (b || is_end_state s) ≡ true → (b || is_between s) ≡ true
-over_between true s h = refl
-over_between false YAML_PARSE_END_STATE h = refl
-over_between false _ h = absurd cc
-
-pub ended_between : {S : Type 0} (p : Parser S) → is_over p ≡ true → between_documents p ≡ true
-ended_between p h = over_between (is_fault (kept_fault p).error) p.config.state h
-
-outside_end : (st : Stage) (content : unnamed_yaml_event_t_data) (m : yaml_mark_t) (c : Closing)
-    → closing_in content m ≡ Some c
-    → is_outside (after st content) ≡ true
-outside_end st (ev.DocumentEnd d) m c h = refl
-outside_end st _ m c h = absurd cc
+outside_end : (k : unnamed_yaml_event_t_data) (m : yaml_mark_t) (c : Closing) → closing_in k m ≡ Some c
+    → is_outside_event k ≡ true
+outside_end (ev.DocumentEnd d) m c h = refl
+outside_end _ m c h = absurd cc
 
 module _ {S : Type 0} (gives : S → Answer → S → Type 0) (known : S → Option Coming) (MayBreak : S → Fault → Type 0) where
+  -- no event was left
+  pub record FindsEnd (old new : Parser S) : Type 0 where
+    pub took : Took gives known old new []
+    pub ends : (events : List Event) (ending : Ending) → RunToCome known old events ending
+        → (events ≡ []) × (ending ≡ Ends)
+    pub stands : (asked : List Token) (given : List Event) → History old asked given → HasEnded new
+
   pub took_none : (p : Parser S) → Took gives known p p []
   took_none p = record {
     history = λ (asked : List Token) (given : List Event) (h : History p asked given). no_call gives p p p asked given h;
@@ -110,13 +106,8 @@ module _ {S : Type 0} (gives : S → Answer → S → Type 0) (known : S → Opt
       }
 
       -- after a document's end the parser stands between documents
-      pub behind_end : is_event e.content ≡ true → (asked : List Token) (given : List Event)
-          → History old asked given → (d : Closing) → closing_of e ≡ Some d
-          → between_documents new ≡ true
-      behind_end an_event asked given h d closes =
-          let on = carried an_event asked given h in
-          c.parses.between _ _ on.history ∙ ap is_outside (stage_more at_start given (e ∷ []))
-          ∙ outside_end (stage_of given) e.content e.end_mark d closes
+      pub behind_close : (d : Closing) → closing_of e ≡ Some d → between_documents new ≡ true
+      behind_close d closes = (rw is at c.parses.outside) (outside_end e.content e.end_mark d closes)
 
       over : is_event e.content ≡ false → (asked : List Token) (given : List Event) → History old asked given
           → is_over old ≡ true
@@ -126,7 +117,7 @@ module _ {S : Type 0} (gives : S → Answer → S → Type 0) (known : S → Opt
           go true h = h
           go false h = absurd (no (sym ((rw is at (c.parses.carries_on h)) asked given history).an_event ∙ empty))
 
-      pub finds_end : is_event e.content ≡ false → FindsEnd gives known old new
+      pub finds_end : is_event e.content ≡ false → FindsEnd old new
       finds_end empty = record {
         took = record {
           history = λ (asked : List Token) (given : List Event) (h : History old asked given).

@@ -1,5 +1,5 @@
 -- Events composed in turn.
-use Rattle.std.proofs.Common.{◌≡◌, ℕ, List, [], ◌∷◌, ◌++◌, refl, sym, ap, subst, ◌∙◌, append_assoc, Result, Ok, Err}
+use Rattle.std.proofs.Common.{◌≡◌, ℕ, List, [], ◌∷◌, ◌++◌, sym, ap, subst, ◌∙◌, append_assoc, Result, Ok, Err}
 use Rattle.libyaml_types.specs.declared.enums.yaml_error_type_t.{yaml_error_type_t}
 use Rattle.libyaml_documents.specs.Documents.{Document}
 use Rattle.libyaml_grammar.specs.sentences.Events.{Event}
@@ -18,7 +18,7 @@ pub record InTurn (old : Composer) (events : List Event) (before : List Document
   pub all : events ≡ composed ++ left
   pub added : List Document
   pub appended : after ≡ before ++ added
-  pub leads : Leads old.max_entries (state_of old.open) composed added (state_of now.open)
+  pub leads : Leads old.max_entries (state_of old) composed added (state_of now)
   pub sound : IsSound now
   pub bound : now.max_entries ≡ old.max_entries
   pub fault : now.fault ≡ old.fault
@@ -28,27 +28,13 @@ not_none : (a : List Event) (e : Event) (b : List Event) → a ++ e ∷ b ≡ []
 not_none [] e b h = cc
 not_none (x ∷ a) e b h = cc
 
-front_none : (a b : List Event) → a ++ b ≡ [] → a ≡ []
-front_none [] b h = refl
-front_none (x ∷ a) b h = absurd cc
-
--- no event changes nothing
-pub none_turn : (old now : Composer) (events : List Event) (before after : List Document) (left : List Event)
-    → InTurn old events before now left after → events ≡ []
-    → (now ≡ old) × (after ≡ before)
-none_turn old now events before after left turn h = turn.unchanged (front_none turn.composed left (sym turn.all ∙ h))
-
-pub some_turn : (old now : Composer) (events : List Event) (before after : List Document) (e : Event) (left : List Event)
-    → InTurn old events before now (e ∷ left) after → events ≡ [] → ⊥
-some_turn old now events before after e left turn h = not_none turn.composed e left (sym turn.all ∙ h)
-
 -- a list that has more room
 needs_more : (Full More : Type 0) (here : State) (e : Event) → (Full → More) → NeedsMemoryAt Full here e
     → NeedsMemoryAt More here e
 needs_more Full More here e f (for_node o l is grows) = for_node o l is grows
 needs_more Full More here e f (for_document c is full) = for_document c is (f full)
 
-refuses_more : (Full More : Type 0) (n : ℕ) (here : State) (e : Event) (g : Fault) → (Full → More)
+pub refuses_more : (Full More : Type 0) (n : ℕ) (here : State) (e : Event) (g : Fault) → (Full → More)
     → RefusesEvent Full n here e g → RefusesEvent More n here e g
 refuses_more Full More n here e g f (by_loads h) = by_loads h
 refuses_more Full More n here e g f (by_memory is h) = by_memory is (needs_more Full More here e f h)
@@ -70,9 +56,9 @@ module _ (old now new : Composer) (events : List Event) (before docs after : Lis
         all = turn.all ∙ sym (append_assoc turn.composed (e ∷ []) left);
         added = turn.added ++ k.added;
         appended = all_added k.added k.appended;
-        leads = leads_both old.max_entries (state_of old.open) (state_of now.open) (state_of new.open) turn.composed
+        leads = leads_both old.max_entries (state_of old) (state_of now) (state_of new) turn.composed
             (e ∷ []) turn.added k.added turn.leads
-            (subst (λ (n : ℕ). Leads n (state_of now.open) (e ∷ []) k.added (state_of new.open)) turn.bound k.ends_so);
+            (subst (λ (n : ℕ). Leads n (state_of now) (e ∷ []) k.added (state_of new)) turn.bound k.ends_so);
         sound = sound;
         bound = bound ∙ turn.bound;
         fault = fault ∙ turn.fault;
@@ -88,8 +74,8 @@ module _ (old now new : Composer) (events : List Event) (before docs after : Lis
     where
       by : Composes Full now (e ∷ []) docs (Err x) new after → Composes More old events before (Err y) new after
       by k =
-          let i : RefusesOneOf Full old.max_entries (state_of now.open) (e ∷ []) k.added (fault_of new.fault)
-          = subst (λ (n : ℕ). RefusesOneOf Full n (state_of now.open) (e ∷ []) k.added (fault_of new.fault))
+          let i : RefusesOneOf Full old.max_entries (state_of now) (e ∷ []) k.added (fault_of new.fault)
+          = subst (λ (n : ℕ). RefusesOneOf Full n (state_of now) (e ∷ []) k.added (fault_of new.fault))
           turn.bound k.ends_so in
           record {
             added = turn.added ++ k.added;
@@ -102,7 +88,7 @@ module _ (old now new : Composer) (events : List Event) (before docs after : Lis
                   ∙ (ap (λ (l : List Event). turn.composed ++ l) (append_assoc i.composed (i.event ∷ i.later) left)
                   ∙ sym (append_assoc turn.composed i.composed (i.event ∷ (i.later ++ left)))));
               here = i.here;
-              leads = leads_both old.max_entries (state_of old.open) (state_of now.open) i.here turn.composed
+              leads = leads_both old.max_entries (state_of old) (state_of now) i.here turn.composed
                   i.composed turn.added k.added turn.leads i.leads;
               refuses = refuses_more Full More old.max_entries i.here i.event (fault_of new.fault) f i.refuses;
             };

@@ -1,5 +1,5 @@
 -- What a push of a token to a loader did, by the push to its parser and by the events that were composed.
-use Rattle.std.proofs.Common.{◌≡◌, ◌≤◌, ◌*◌, arith, length, inl, inr, ◌||◌, ℕ, List, [], ◌∷◌, ◌++◌, Option, Some, None}
+use Rattle.std.proofs.Common.{◌≡◌, ◌≤◌, ◌*◌, arith, length, inl, inr, ◌||◌, ℕ, List, [], ◌∷◌, ◌++◌, Some}
 use Rattle.std.proofs.Common.{Ok, Err, IfErr, OnOk, Bool, true, false, refl, sym, ap, subst, ◌∙◌}
 use Rattle.std.proofs.Common.{append_assoc}
 use Rattle.std.proofs.lemmas.List.{append-nil}
@@ -24,15 +24,14 @@ use Rattle.libyaml_events.specs.sources.Pushes as pushes
 use Rattle.libyaml_events.specs.sources.Pushes.{Done, NeedsMemory, Pushes, Stops, Takes, done_by, for_event, for_step}
 use Rattle.libyaml_loader.specs.pushes.Composing as comp
 use Rattle.libyaml_loader.specs.pushes.Composing.{Composes, RefusesEvent, RefusesOneOf, by_loads}
-use Rattle.libyaml_loader.specs.pushes.Composing.{by_memory as no_memory, state_of}
+use Rattle.libyaml_loader.specs.pushes.Composing.{by_memory as no_memory, state_by, state_of}
 use Rattle.libyaml_loader.specs.pushes.Leads.{Leads, as_loads, loads_from}
-use Rattle.libyaml_loader.specs.pushes.Loaded.{ForLoaded, Loaded, PushLoader, RemembersLoads, fault_in, has_stopped}
+use Rattle.libyaml_loader.specs.pushes.Loaded.{ForLoaded, Loaded, PushLoader, RemembersLoads, has_stopped}
 use Rattle.libyaml_loader.specs.pushes.Loaded.{keeps_fault, standing}
 use Rattle.libyaml_loader.specs.pushes.PushesLoads.{AreThen, BeginsEachLoads, PushesLoads, StopsLoading, by_memory}
 use Rattle.libyaml_loader.specs.pushes.PushesLoads.{by_tokens}
 use Rattle.libyaml_loader.specs.pushes.PushesLoads.{in_loader, in_parser}
 use Rattle.libyaml_loader.specs.declared.composer.Composer.{Composer}
-use Rattle.libyaml_loader.specs.declared.context.loader_ctx.{loader_ctx}
 use Rattle.libyaml_loader.proofs.pushes.Leading.{from_none, leads_both}
 
 -- the laws of pushes to a parser, and of the size of documents
@@ -181,7 +180,7 @@ module _ (law : PushLaws) where
       (same : s ≡ Ok tt → new.fault ≡ old.fault)
       (faultless : done_by (fault_of old.fault) ≡ Ok tt) where
     abbrev pub first : PushLoader
-    first = standing p (state_of old.open) (fault_of old.fault) old.max_entries
+    first = standing p (state_of old) (fault_of old.fault) old.max_entries
 
     not_kept : keeps_fault first ≡ false
     not_kept = go (is_fault old.fault.error) refl
@@ -212,17 +211,17 @@ module _ (law : PushLaws) where
 
     from_start : (tokens : List Token) (l : List Document) (k : Loaded first tokens l) (composed : List Event)
         (here : State)
-        → Leads old.max_entries (state_of old.open) composed composes.added here
+        → Leads old.max_entries (state_of old) composed composes.added here
         → Leads old.max_entries between (k.events ++ composed) (l ++ composes.added) here
-    from_start tokens l k composed here leads = leads_both old.max_entries between (state_of old.open) here k.events
+    from_start tokens l k composed here leads = leads_both old.max_entries between (state_of old) here k.events
         composed l composes.added k.leads leads
 
     -- and the push goes on
     abbrev pub second : PushLoader
-    second = standing q (state_of new.open) (fault_of new.fault) new.max_entries
+    second = standing q (state_of new) (fault_of new.fault) new.max_entries
 
-    all_led : (u : Unit {0}) → s ≡ Ok u → Leads old.max_entries (state_of old.open) given composes.added (state_of new.open)
-    all_led u is = subst (λ (z : Done). comp.EndsSo Full old.max_entries (state_of old.open) given composes.added z
+    all_led : (u : Unit {0}) → s ≡ Ok u → Leads old.max_entries (state_of old) given composes.added (state_of new)
+    all_led u is = subst (λ (z : Done). comp.EndsSo Full old.max_entries (state_of old) given composes.added z
         new) is composes.ends_so
 
     pub pushes_ok : (u v : Unit {0}) → s ≡ Ok u → r ≡ Ok v → PushesLoads Full first t before (Ok tt) second after
@@ -230,8 +229,8 @@ module _ (law : PushLaws) where
       stopped = λ h.
           let k = pushes_so.stopped (ended h) in
           let n = none_given k.1 in (
-            ap (λ (x : PushParser). standing x (state_of new.open) (fault_of new.fault) new.max_entries) k.0
-                ∙ ap (λ (x : Composer). standing p (state_of x.open) (fault_of x.fault) x.max_entries) n.0,
+            ap (λ (x : PushParser). standing x (state_of new) (fault_of new.fault) new.max_entries) k.0
+                ∙ ap (λ (x : Composer). standing p (state_of x) (fault_of x.fault) x.max_entries) n.0,
             n.1,
             sym faultless,
           );
@@ -242,9 +241,9 @@ module _ (law : PushLaws) where
           events = k.events ++ given;
           pushed = subst (λ (z : Done). pushes.EndsSo Room (tokens ++ t ∷ []) (k.events ++ given) z q) so
               (all_begin h tokens l k);
-          leads = subst (λ (n : ℕ). Leads n between (k.events ++ given) (l ++ composes.added) (state_of new.open))
+          leads = subst (λ (n : ℕ). Leads n between (k.events ++ given) (l ++ composes.added) (state_of new))
               (sym bound)
-              (from_start tokens l k given (state_of new.open) (all_led u is));
+              (from_start tokens l k given (state_of new) (all_led u is));
           none_kept = ap fault_of (same is) ∙ k.none_kept;
         };
       };
@@ -284,8 +283,8 @@ module _ (law : PushLaws) where
       linear = linear_loads second;
     }
       where
-        one : RefusesOneOf Full old.max_entries (state_of old.open) given composes.added (fault_of new.fault)
-        one = subst (λ (z : Done). comp.EndsSo Full old.max_entries (state_of old.open) given composes.added z new)
+        one : RefusesOneOf Full old.max_entries (state_of old) given composes.added (fault_of new.fault)
+        one = subst (λ (z : Done). comp.EndsSo Full old.max_entries (state_of old) given composes.added z new)
             is composes.ends_so
 
         stops : has_stopped first ≡ false → (tokens : List Token) (l : List Document) → Loaded first tokens l
@@ -339,34 +338,10 @@ module _ (law : PushLaws) where
         stops h tokens l k = subst (λ (n : ℕ). StopsLoading Full n (tokens ++ t ∷ []) (l ++ composes.added)
             (pushed.fault_in q)) (sym bound)
             (parser_stops Full Room old.max_entries (tokens ++ t ∷ []) (k.events ++ given) (l ++ composes.added)
-            (state_of new.open) (pushed.fault_in q)
-            (from_start tokens l k given (state_of new.open) (all_led u is))
+            (state_of new) (pushed.fault_in q)
+            (from_start tokens l k given (state_of new) (all_led u is))
             (subst (λ (z : Done). pushes.EndsSo Room (tokens ++ t ∷ []) (k.events ++ given) z q) so
             (all_begin h tokens l k)))
-
-  -- a loader that keeps a fault takes nothing
-  pub pushes_none : (Full : Type 0) (old : PushLoader) (t : Token) (before : List Document) (x : yaml_error_type_t)
-      → Err x ≡ done_by (fault_in old)
-      → PushesLoads Full old t before (Err x) old before
-  pushes_none Full old t before x is = record {
-    stopped = λ h. (refl, refl, is);
-    takes = λ h. absurd (no (sym kept.1 ∙ (either_false (keeps_fault old) (pushed.has_stopped old.parser) h).0));
-    kept = kept;
-    bound = refl;
-    so_far = loads_so_far old;
-    whole = whole_loads old;
-    ended = stopped_at old;
-    faultless = none_kept old;
-    begins = begins_loads old;
-    linear = linear_loads old;
-  }
-    where
-      by : (b : Bool) (f : Fault) → ◌≡◌ {A = Done} (Err x) (pushes.done_if b f) → (x ≡ f.error) × (b ≡ true)
-      by true f h = let k : x ≡ f.error = cc in (k, refl)
-      by false f h = absurd cc
-
-      kept : (x ≡ (fault_in old).error) × (keeps_fault old ≡ true)
-      kept = by (keeps_fault old) (fault_in old) is
 
   -- after a push a fault is kept, or there is a history
   pub push_remembers : (Full : Type 0) (old new : PushLoader) (t : Token) (before after : List Document) (r : Done)
@@ -389,9 +364,9 @@ on_ok P (Ok u) h is = h
 on_ok P (Err x) h is = absurd cc
 
 -- the parser's fault is kept
-pub kept_fault : (q : PushParser) (k : Composer) (n : ℕ) (f : Fault) → k.open ≡ None → fault_of k.fault ≡ f
+pub kept_fault : (q : PushParser) (k : Composer) (n : ℕ) (f : Fault) → k.is_open ≡ false → fault_of k.fault ≡ f
     → k.max_entries ≡ n
-    → standing q between f n ≡ standing q (state_of k.open) (fault_of k.fault) k.max_entries
+    → standing q between f n ≡ standing q (state_of k) (fault_of k.fault) k.max_entries
 kept_fault q k n f none fault bound = sym
-    (ap (λ (o : Option loader_ctx). standing q (state_of o) (fault_of k.fault) k.max_entries) none
+    (ap (λ (b : Bool). standing q (state_by b k.ctx) (fault_of k.fault) k.max_entries) none
     ∙ (ap (λ (g : Fault). standing q between g k.max_entries) fault ∙ ap (λ (m : ℕ). standing q between f m) bound))

@@ -1,17 +1,27 @@
 -- What the code that composes documents keeps, and what it does with events.
-use Rattle.std.specs.Prelude.{◌≡◌, ◌++◌, ◌∷◌, ℕ, List, [], Option, Some, None, Result, Ok, Err}
+use Rattle.std.specs.Prelude.{◌≡◌, ◌++◌, ◌∷◌, ℕ, List, [], Bool, true, false, Option, Some, None, Result, Ok, Err}
 use Rattle.libyaml_types.specs.declared.enums.yaml_error_type_t.{yaml_error_type_t}
 use Rattle.libyaml_documents.specs.Documents.{Document}
 use Rattle.libyaml_grammar.specs.sentences.Events.{Event}
 use Rattle.libyaml_grammar.specs.runs.Runs.{Ending}
 use Rattle.libyaml_graphs.specs.graphs.GraphParts as parts
+use Rattle.libyaml_graphs.specs.graphs.GraphParts.{closing_of}
 use Rattle.libyaml_graphs.specs.loads.Loads.{document}
-use Rattle.libyaml_graphs.specs.machine.Loader.{State, between, within}
+use Rattle.libyaml_graphs.specs.machine.Loader.{State, between, no_anchors, within}
 use Rattle.libyaml_sources.specs.Fault.{Fault, fault_of, memory_fault}
+use Rattle.libyaml_loader.specs.declared.composer.Closing.{Closing}
 use Rattle.libyaml_loader.specs.declared.composer.Composer.{Composer}
+use Rattle.libyaml_loader.specs.declared.composer.Opening.{Opening}
 use Rattle.libyaml_loader.specs.declared.context.loader_ctx.{loader_ctx}
 use Rattle.libyaml_loader.specs.document.Context.{IdsAreIn, loader_of}
 use Rattle.libyaml_loader.specs.pushes.Leads.{Leads, NeedsMemoryAt, loads_from}
+
+-- the start and the end of a document
+abbrev pub opening_by : Opening → parts.Opening
+opening_by o = record { start = o.start; mark = o.mark }
+
+abbrev pub closing_by : Closing → parts.Closing
+closing_by c = record { is_implicit = c.implicit; mark = c.mark }
 
 -- how a document on the way began
 abbrev pub opening_in : Document → parts.Opening
@@ -25,22 +35,34 @@ opening_in d = record {
   mark = d.start_mark;
 }
 
-abbrev pub state_of : Option loader_ctx → State
-state_of None = between
-state_of (Some c) = within (opening_in c.document) (loader_of c)
+abbrev pub state_by : (is_open : Bool) → loader_ctx → State
+state_by false c = between
+state_by true c = within (opening_in c.document) (loader_of c)
 
--- the document that is open is sound, and has the bound n
-abbrev pub IsSoundOpen : ℕ → Option loader_ctx → Type 0
-IsSoundOpen n None = Unit {0}
-IsSoundOpen n (Some c) = IdsAreIn (loader_of c) × (c.max_entries ≡ n)
+abbrev pub state_of : Composer → State
+state_of c = state_by c.is_open c.ctx
 
-abbrev pub IsSound : Composer → Type 0
-IsSound c = IsSoundOpen c.max_entries c.open
+-- the document that was open, ended so
+abbrev pub ended_by : parts.Closing → loader_ctx → Document
+ended_by c x = document (opening_in x.document) x.document.nodes c
+
+-- the document that is open is sound, or nothing is left of the one before; the bound is the composer's
+pub record IsSound (c : Composer) : Type 0 where
+  pub ids : c.is_open ≡ true → IdsAreIn (loader_of c.ctx)
+  pub fresh : c.is_open ≡ false → (c.ctx.stack ≡ []) × (c.ctx.anchors ≡ no_anchors)
+  pub bound : c.ctx.max_entries ≡ c.max_entries
 
 -- The event is refused: the loads end there with this fault, whatever comes after it; or an allocation failed.
 pub data RefusesEvent (Full : Type 0) (n : ℕ) (here : State) (e : Event) (f : Fault) : Type 0 where
   by_loads : ((rest : List Event) (x : Ending) → loads_from n here (e ∷ rest) x ≡ Err f ∷ []) → RefusesEvent Full n here e f
   by_memory : f ≡ memory_fault → NeedsMemoryAt Full here e → RefusesEvent Full n here e f
+
+-- What one event did: it ended no document; or it ends the one that is open, and nothing is done yet; or it was
+-- refused, and the fault is kept.
+abbrev pub ComposesEvent : (old : Composer) → Event → Result (Option Closing) yaml_error_type_t → (new : Composer) → Type 0
+ComposesEvent old e (Ok None) new = Leads old.max_entries (state_of old) (e ∷ []) [] (state_of new)
+ComposesEvent old e (Ok (Some c)) new = (old.is_open ≡ true) × (closing_of e ≡ Some (closing_by c)) × (new ≡ old)
+ComposesEvent old e (Err x) new = RefusesEvent ⊥ old.max_entries (state_of old) e (fault_of new.fault)
 
 -- Some of these events were composed, and the next was refused.
 pub record RefusesOneOf (Full : Type 0) (n : ℕ) (old : State) (events : List Event) (added : List Document)
@@ -56,7 +78,7 @@ pub record RefusesOneOf (Full : Type 0) (n : ℕ) (old : State) (events : List E
 -- what became of events, where these documents were added
 abbrev pub EndsSo : (Full : Type 0) → ℕ → State → List Event → List Document → Result (Unit {0}) yaml_error_type_t
     → Composer → Type 0
-EndsSo Full n old events added (Ok u) new = Leads n old events added (state_of new.open)
+EndsSo Full n old events added (Ok u) new = Leads n old events added (state_of new)
 EndsSo Full n old events added (Err x) new = RefusesOneOf Full n old events added (fault_of new.fault)
 
 -- Events were composed, and the documents that ended were appended.
@@ -65,13 +87,4 @@ pub record Composes (Full : Type 0) (old : Composer) (events : List Event) (befo
     (after : List Document) : Type 0 where
   pub added : List Document
   pub appended : after ≡ before ++ added
-  pub ends_so : EndsSo Full old.max_entries (state_of old.open) events added r new
-
--- The document that is open, if one is, was ended and appended; or the list had no room for it.
-abbrev pub EndsDocument : (Full : Type 0) → Option loader_ctx → parts.Closing → (before : List Document)
-    → Result (Unit {0}) yaml_error_type_t
-    → (after : List Document) → Type 0
-EndsDocument Full None c before r after = (r ≡ Ok tt) × (after ≡ before)
-EndsDocument Full (Some x) c before (Ok u) after = after ≡ before
-    ++ document (opening_in x.document) x.document.nodes c ∷ []
-EndsDocument Full (Some x) c before (Err e) after = (after ≡ before) × Full
+  pub ends_so : EndsSo Full old.max_entries (state_of old) events added r new

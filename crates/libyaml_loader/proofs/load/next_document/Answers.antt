@@ -1,18 +1,25 @@
-use Rattle.std.proofs.Common.{◌≡◌, ◌<◌, Ok, Err, ap, refl, rules, sym, ◌∙◌, subst, true, false, ℤ, inl, None, []}
+use Rattle.std.proofs.Common.{◌≡◌, ◌<◌, ℕ, Ok, Err, ap, refl, rules, sym, ◌∙◌, subst, [], ◌∷◌, true, false}
+use Rattle.std.proofs.Common.{arith, inr, Bool, Some}
 use Rattle.std.proofs.Math.Nat.{le_refl}
-use Rattle.libyaml_documents.specs.Documents.{Document, empty_document}
+use Rattle.libyaml_documents.specs.Documents.{Document}
 use Rattle.libyaml_events.specs.parsers.EventsLeft.{events_left}
 use Rattle.libyaml_events.specs.parsers.Stages.{is_event}
 use Rattle.libyaml_events.specs.sources.Calls.{answered}
-use Rattle.libyaml_graphs.specs.machine.Loader.{fresh, left_from, load_from, within}
-use Rattle.libyaml_loader.specs.document.Ids.{magnitude}
-use Rattle.libyaml_loader.specs.loads.Loading.{LoadsFrom}
-use Rattle.libyaml_loader.specs.loads.ComposeSteps.{opening_at}
+use Rattle.libyaml_events.specs.sources.History.{is_over}
+use Rattle.libyaml_sources.specs.Fault.{fault_of}
+use Rattle.libyaml_graphs.specs.graphs.GraphParts.{closing_of}
+use Rattle.libyaml_graphs.specs.loads.Bounds.{next_bounded}
+use Rattle.libyaml_graphs.specs.loads.Loads.{left_over}
+use Rattle.libyaml_loader.specs.declared.composer.Composer.{Composer}
+use Rattle.libyaml_loader.specs.document.Context.{loader_of}
+use Rattle.libyaml_loader.specs.loads.Loading.{DocumentOrError, LoadsFrom, Took}
+use Rattle.libyaml_loader.specs.pushes.Composing.{RefusesEvent, closing_by, ended_by, opening_in, state_by}
+use Rattle.libyaml_loader.specs.pushes.Composing.{state_of}
+use Rattle.libyaml_loader.specs.pushes.Leads.{Leads}
 use Rattle.libyaml_loader.proofs.loads.Ended.{has_not_ended, no_error, still_ended}
-use Rattle.libyaml_loader.proofs.loads.Falling.{falls_later, stays_since}
-use Rattle.libyaml_loader.proofs.loads.Outside.{behind_all}
-use Rattle.libyaml_loader.proofs.loads.Stepping.{skips_none, skips_end, skips_fail, skips_more, skips_opens}
-use Rattle.libyaml_loader.proofs.loads.Taking.{Called, ended_between, finds_end, parser_fails, running}
+use Rattle.libyaml_loader.proofs.loads.OnTheWay.{OnTheWay, way_ends, way_fails, way_finds_end, way_more, way_none}
+use Rattle.libyaml_loader.proofs.loads.OnTheWay.{way_refused}
+use Rattle.libyaml_loader.proofs.loads.Taking.{Called, behind_close, finds_end, parser_fails, running, took_event}
 use Rattle.libyaml_loader.proofs.load.next_document.Given as given
 use Rattle.libyaml_loader.proofs.load.next_document.Goals as goal
 use Rattle.libyaml_loader.proofs.load.next_document.Goals.{After-yaml_parser_parse_into}
@@ -20,7 +27,7 @@ use Rattle.libyaml_loader.proofs.load.next_document.Goals.{After-yaml_parser_par
 -- the clauses of the parser's call
 called_by : (g : given.Over) (c : After-yaml_parser_parse_into g)
     → Called g.S.yaml_token_source_t.gives g.S.yaml_token_source_t.known g.S.yaml_token_source_t.may_break
-    c.loop-event.parser c.yaml_parser_parse_into.new.parser
+    c.loop-composer.parser c.yaml_parser_parse_into.new.parser
     (answered c.yaml_parser_parse_into.result c.yaml_parser_parse_into.new.event)
 called_by g c =
     record {
@@ -32,19 +39,90 @@ called_by g c =
       fails = c.rest_of_run.ensures.fails;
     }
 
+-- an event came
+record Came (g : given.Over) (c : After-yaml_parser_parse_into g) : Type 0 where
+  took : Took g.S.yaml_token_source_t.gives g.S.yaml_token_source_t.known c.loop-composer.parser
+      c.yaml_parser_parse_into.new.parser (c.yaml_parser_parse_into.new.event ∷ [])
+  runs : is_over c.loop-composer.parser ≡ false
+  fell : events_left g.S.yaml_token_source_t.bound c.yaml_parser_parse_into.new.parser
+      < events_left g.S.yaml_token_source_t.bound c.loop-composer.parser
+
+came : (g : given.Over) (c : After-yaml_parser_parse_into g) (u : Unit {0}) → c.yaml_parser_parse_into.result ≡ Ok u
+    → is_event c.yaml_parser_parse_into.new.event.content ≡ true → Came g c
+came g c u ok an_event =
+    let t = g.S.yaml_token_source_t in
+    let call = c.yaml_parser_parse_into in
+    let is = ap (λ r. answered r call.new.event) ok in
+    let run = running t.gives t.known t.may_break c.loop-composer.parser call.new.parser
+    (answered call.result call.new.event) (called_by g c) call.new.event is an_event in
+    record {
+      took = took_event t.gives t.known t.may_break c.loop-composer.parser call.new.parser
+          (answered call.result call.new.event) (called_by g c) call.new.event is an_event;
+      runs = run;
+      fell = rw ok at (call.ensures.falls run);
+    }
+
+pub loop-composer-init : goal.loop-composer-init
+loop-composer-init g c =
+    let t = g.S.yaml_token_source_t in
+    let n = c.args.composer.max_entries in
+    let none = c.requires.none_open in (
+      subst (λ (b : Bool). OnTheWay t.gives t.known t.may_break n c.args.parser.now c.args.parser.now
+          (state_by b c.args.composer.ctx)) (sym none) (way_none t.gives t.known t.may_break n c.args.parser.now),
+      c.requires.sound,
+      refl,
+      le_refl (events_left t.bound c.args.parser.now),
+      λ ended. refl,
+    )
+
+pub compose-requires : goal.compose-requires
+compose-requires g c = record { sound = c.loop-composer.invariant.1 }
+
+pub loop-composer-smaller : goal.loop-composer-smaller
+loop-composer-smaller g c = (came g (goal.at.loop-composer-smaller g c).After-yaml_parser_parse_into _
+    c.in_ok-yaml_parser_parse_into.was (sym c.is_event.ensures ∙ c.if-not-is_event.false)).fell
+
+pub loop-composer-preserved : goal.loop-composer-preserved
+loop-composer-preserved g c =
+    let t = g.S.yaml_token_source_t in
+    let call = c.yaml_parser_parse_into in
+    let k = came g (goal.at.loop-composer-preserved g c).After-yaml_parser_parse_into _
+    c.in_ok-yaml_parser_parse_into.was (sym c.is_event.ensures ∙ c.if-not-is_event.false) in
+    let i = c.loop-composer.invariant in (
+      way_more t.gives t.known t.may_break c.args.composer.max_entries c.args.parser.now c.loop-composer.parser
+          (state_of c.loop-composer.composer) i.0 call.new.parser (state_of c.compose.new.self) call.new.event
+          k.took
+          (subst (λ (n : ℕ). Leads n (state_of c.loop-composer.composer) (call.new.event ∷ []) []
+          (state_of c.compose.new.self)) i.2 (rw c.in-Ok-None.field-0-is at c.in-Ok-None.ensures.composes))
+          call.ensures.bound,
+      c.compose.ensures.sound,
+      c.compose.ensures.bound ∙ i.2,
+      (let low = i.3 in let fell = k.fell in omega (arith, low, fell)),
+      λ ended. absurd (has_not_ended c.args.parser.now c.loop-composer.parser i.4 k.runs ended),
+    )
+
 pub returns-in_err-yaml_parser_parse_into-clause-loads : goal.returns-in_err-yaml_parser_parse_into-clause-loads
 returns-in_err-yaml_parser_parse_into-clause-loads g c =
     let t = g.S.yaml_token_source_t in
     let call = c.yaml_parser_parse_into in
     let called = called_by g (goal.at.returns-in_err-yaml_parser_parse_into-clause-loads g
     c).After-yaml_parser_parse_into in
+    let n = c.args.composer.max_entries in
     let e : c.from_residual.result ≡ Err c.in_err-yaml_parser_parse_into.field-0.0 = search rules in
-    skips_fail t.gives t.known t.may_break (magnitude c.args.parser.now.max_entries) c.args.parser.now
-    c.loop-event.parser call.new.parser
-    c.from_residual.result c.in_err-yaml_parser_parse_into.field-0.0 e c.loop-event.invariant.0
-    (parser_fails t.gives t.known t.may_break c.loop-event.parser call.new.parser
+    subst (λ (r : DocumentOrError). LoadsFrom t.gives t.known t.may_break (next_bounded n) left_over c.args.parser.now r
+    call.new.parser) (sym e)
+    (way_fails t.gives t.known t.may_break n c.args.parser.now c.loop-composer.parser
+    (state_of c.loop-composer.composer) c.loop-composer.invariant.0 call.new.parser
+    (parser_fails t.gives t.known t.may_break c.loop-composer.parser call.new.parser
     (answered call.result call.new.event) called c.in_err-yaml_parser_parse_into.field-0.0
-    (ap (λ r. answered r call.new.event) c.in_err-yaml_parser_parse_into.was))
+    (ap (λ r. answered r call.new.event) c.in_err-yaml_parser_parse_into.was)))
+
+pub returns-in_err-yaml_parser_parse_into-clause-ended : goal.returns-in_err-yaml_parser_parse_into-clause-ended
+returns-in_err-yaml_parser_parse_into-clause-ended g c ended =
+    let call = c.yaml_parser_parse_into in
+    absurd (no_error (sym (call.ensures.ended
+    (still_ended c.args.parser.now c.loop-composer.parser c.loop-composer.invariant.4 ended)).0
+    ∙ (ap (λ r. answered r call.new.event) c.in_err-yaml_parser_parse_into.was)))
 
 pub returns-then-not-is_event-clause-loads : goal.returns-then-not-is_event-clause-loads
 returns-then-not-is_event-clause-loads g c =
@@ -52,127 +130,67 @@ returns-then-not-is_event-clause-loads g c =
     let call = c.yaml_parser_parse_into in
     let called = called_by g (goal.at.returns-then-not-is_event-clause-loads g c).After-yaml_parser_parse_into in
     let empty : is_event call.new.event.content ≡ false = sym c.is_event.ensures ∙ c.if-not-is_event.true in
-    skips_end t.gives t.known t.may_break (magnitude c.args.parser.now.max_entries) c.args.parser.now
-    c.loop-event.parser call.new.parser
-    c.without_root.result c.loop-event.invariant.0
-    (finds_end t.gives t.known t.may_break c.loop-event.parser call.new.parser (answered call.result call.new.event)
+    way_finds_end t.gives t.known t.may_break c.args.composer.max_entries c.args.parser.now c.loop-composer.parser
+    (state_of c.loop-composer.composer) c.loop-composer.invariant.0 call.new.parser c.empty_document.result
+    (finds_end t.gives t.known t.may_break c.loop-composer.parser call.new.parser (answered call.result call.new.event)
     called call.new.event (ap (λ r. answered r call.new.event) c.in_ok-yaml_parser_parse_into.was) empty)
-    c.without_root.ensures
-
-pub returns-in-Some-clause-loads : goal.returns-in-Some-clause-loads
-returns-in-Some-clause-loads g c =
-    let t = g.S.yaml_token_source_t in
-    let call = c.yaml_parser_parse_into in
-    let called = called_by g (goal.at.returns-in-Some-clause-loads g c).After-yaml_parser_parse_into in
-    let an_event : is_event call.new.event.content ≡ true = sym c.is_event.ensures ∙ c.if-not-is_event.false in
-    let load = c.yaml_parser_load_document in
-    let same : call.new.parser.max_entries ≡ c.args.parser.now.max_entries = call.ensures.bound
-    ∙ c.loop-event.invariant.0.most in
-    let o = opening_at c.in-Some.opening in
-    let loads = subst (λ (z : ℤ). LoadsFrom t.gives t.known t.may_break (load_from (magnitude z) (within o fresh))
-    (left_from (within o fresh)) call.new.parser
-    load.result load.new.parser) same load.ensures.loads in
-    skips_opens t.gives t.known t.may_break (magnitude c.args.parser.now.max_entries) c.args.parser.now
-    c.loop-event.parser call.new.parser load.new.parser
-    (answered call.result call.new.event) called call.new.event
-    (ap (λ r. answered r call.new.event) c.in_ok-yaml_parser_parse_into.was) an_event o (sym c.in-Some.ensures)
-    load.result c.loop-event.invariant.0 loads
-
-pub loop-event-smaller : goal.loop-event-smaller
-loop-event-smaller g c =
-    let t = g.S.yaml_token_source_t in
-    let call = c.yaml_parser_parse_into in
-    let called = called_by g (goal.at.loop-event-smaller g c).After-yaml_parser_parse_into in
-    let an_event : is_event call.new.event.content ≡ true = sym c.is_event.ensures ∙ c.if-not-is_event.false in
-    let run = running t.gives t.known t.may_break c.loop-event.parser call.new.parser
-    (answered call.result call.new.event) called call.new.event
-    (ap (λ r. answered r call.new.event) c.in_ok-yaml_parser_parse_into.was) an_event
-    in
-    rw c.in_ok-yaml_parser_parse_into.was at (call.ensures.falls run)
-
-pub loop-event-preserved : goal.loop-event-preserved
-loop-event-preserved g c =
-    let t = g.S.yaml_token_source_t in
-    let call = c.yaml_parser_parse_into in
-    let called = called_by g (goal.at.loop-event-preserved g c).After-yaml_parser_parse_into in
-    let an_event : is_event call.new.event.content ≡ true = sym c.is_event.ensures ∙ c.if-not-is_event.false in
-    let run = running t.gives t.known t.may_break c.loop-event.parser call.new.parser
-    (answered call.result call.new.event) called call.new.event
-    (ap (λ r. answered r call.new.event) c.in_ok-yaml_parser_parse_into.was) an_event
-    in
-    let fell : events_left t.bound call.new.parser < events_left t.bound c.loop-event.parser =
-    rw c.in_ok-yaml_parser_parse_into.was at (call.ensures.falls run) in (
-      skips_more t.gives t.known t.may_break (magnitude c.args.parser.now.max_entries) c.args.parser.now
-          c.loop-event.parser call.new.parser (answered call.result call.new.event)
-          called call.new.event (ap (λ r. answered r call.new.event) c.in_ok-yaml_parser_parse_into.was) an_event
-          (sym c.in-None.ensures) call.ensures.bound c.loop-event.invariant.0,
-      stays_since _ _ _ c.loop-event.invariant.1 fell,
-      λ ended. absurd (has_not_ended c.args.parser.now c.loop-event.parser c.loop-event.invariant.2 run ended),
-    )
-
-pub loop-event-init : goal.loop-event-init
-loop-event-init g c =
-    let t = g.S.yaml_token_source_t in (
-      skips_none t.gives t.known t.may_break (magnitude c.args.parser.now.max_entries) c.args.parser.now,
-      le_refl (events_left t.bound c.args.parser.now),
-      λ ended. refl,
-    )
-
-pub returns-then-not-is_event-clause-falls : goal.returns-then-not-is_event-clause-falls
-returns-then-not-is_event-clause-falls g c = inl c.without_root.ensures
-
-pub returns-in-Some-clause-falls : goal.returns-in-Some-clause-falls
-returns-in-Some-clause-falls g c =
-    let t = g.S.yaml_token_source_t in
-    let call = c.yaml_parser_parse_into in
-    let called = called_by g (goal.at.returns-in-Some-clause-falls g c).After-yaml_parser_parse_into in
-    let an_event : is_event call.new.event.content ≡ true = sym c.is_event.ensures ∙ c.if-not-is_event.false in
-    let run = running t.gives t.known t.may_break c.loop-event.parser call.new.parser
-    (answered call.result call.new.event) called call.new.event
-    (ap (λ r. answered r call.new.event) c.in_ok-yaml_parser_parse_into.was) an_event
-    in
-    let fell : events_left t.bound call.new.parser < events_left t.bound c.loop-event.parser =
-    rw c.in_ok-yaml_parser_parse_into.was at (call.ensures.falls run) in
-    let load = c.yaml_parser_load_document in
-    falls_later (λ (d : Document). d ≡ empty_document None [] false false) load.result _ _ _
-    (stays_since _ _ _ c.loop-event.invariant.1 fell)
-    load.ensures.falls
-
-pub returns-in_err-yaml_parser_parse_into-clause-between : goal.returns-in_err-yaml_parser_parse_into-clause-between
-returns-in_err-yaml_parser_parse_into-clause-between g c =
-    let call = c.yaml_parser_parse_into in
-    ended_between call.new.parser (rw c.in_err-yaml_parser_parse_into.was at call.ensures.kept).1
-
-pub returns-then-not-is_event-clause-between : goal.returns-then-not-is_event-clause-between
-returns-then-not-is_event-clause-between g c =
-    let call = c.yaml_parser_parse_into in
-    behind_all call.new.parser (answered call.result call.new.event) call.new.event
-    (ap (λ r. answered r call.new.event) c.in_ok-yaml_parser_parse_into.was) call.ensures.outside
-    (sym c.is_event.ensures ∙ c.if-not-is_event.true)
-
-pub returns-in_err-yaml_parser_parse_into-clause-ended : goal.returns-in_err-yaml_parser_parse_into-clause-ended
-returns-in_err-yaml_parser_parse_into-clause-ended g c ended =
-    let call = c.yaml_parser_parse_into in
-    absurd (no_error (sym (call.ensures.ended
-    (still_ended c.args.parser.now c.loop-event.parser c.loop-event.invariant.2 ended)).0
-    ∙ (ap (λ r. answered r call.new.event) c.in_err-yaml_parser_parse_into.was)))
+    c.empty_document.ensures
 
 pub returns-then-not-is_event-clause-ended : goal.returns-then-not-is_event-clause-ended
 returns-then-not-is_event-clause-ended g c ended =
-    let call = c.yaml_parser_parse_into in (
-      ap (λ (d : Document). Ok d) c.without_root.ensures,
-      (call.ensures.ended (still_ended c.args.parser.now c.loop-event.parser c.loop-event.invariant.2 ended)).1
-          ∙ c.loop-event.invariant.2 ended,
+    let call = c.yaml_parser_parse_into in
+    let i = c.loop-composer.invariant.4 in (
+      ap (λ (d : Document). Ok d) c.empty_document.ensures,
+      (call.ensures.ended (still_ended c.args.parser.now c.loop-composer.parser i ended)).1 ∙ i ended,
     )
 
-pub returns-in-Some-clause-ended : goal.returns-in-Some-clause-ended
-returns-in-Some-clause-ended g c ended =
+pub returns-in-Ok-Some-clause-loads : goal.returns-in-Ok-Some-clause-loads
+returns-in-Ok-Some-clause-loads g c =
     let t = g.S.yaml_token_source_t in
     let call = c.yaml_parser_parse_into in
-    let called = called_by g (goal.at.returns-in-Some-clause-ended g c).After-yaml_parser_parse_into in
-    let an_event : is_event call.new.event.content ≡ true = sym c.is_event.ensures ∙ c.if-not-is_event.false in
-    let run = running t.gives t.known t.may_break c.loop-event.parser call.new.parser
-    (answered call.result call.new.event) called call.new.event
-    (ap (λ r. answered r call.new.event) c.in_ok-yaml_parser_parse_into.was) an_event
-    in
-    absurd (has_not_ended c.args.parser.now c.loop-event.parser c.loop-event.invariant.2 run ended)
+    let k = came g (goal.at.returns-in-Ok-Some-clause-loads g c).After-yaml_parser_parse_into _
+    c.in_ok-yaml_parser_parse_into.was (sym c.is_event.ensures ∙ c.if-not-is_event.false) in
+    let x = c.loop-composer.composer in
+    let ends : (x.is_open ≡ true) × (closing_of call.new.event ≡ Some (closing_by c.in-Ok-Some.closing))
+    × (c.compose.new.self ≡ x) = rw c.in-Ok-Some.field-0-is at c.in-Ok-Some.ensures.composes in
+    way_ends t.gives t.known t.may_break c.args.composer.max_entries c.args.parser.now c.loop-composer.parser
+    (state_of x) c.loop-composer.invariant.0 call.new.parser call.new.event (opening_in x.ctx.document) (loader_of x.ctx)
+    (closing_by c.in-Ok-Some.closing) c.into_document.result k.took (ap (λ (b : Bool). state_by b x.ctx) ends.0) ends.1
+    (c.into_document.ensures ∙ ap (λ (y : Composer). ended_by (closing_by c.in-Ok-Some.closing) y.ctx) ends.2)
+    (behind_close t.gives t.known t.may_break c.loop-composer.parser call.new.parser
+    (answered call.result call.new.event)
+    (called_by g (goal.at.returns-in-Ok-Some-clause-loads g c).After-yaml_parser_parse_into) call.new.event
+    (ap (λ r. answered r call.new.event) c.in_ok-yaml_parser_parse_into.was) (closing_by c.in-Ok-Some.closing) ends.1)
+
+pub returns-in-Ok-Some-clause-falls : goal.returns-in-Ok-Some-clause-falls
+returns-in-Ok-Some-clause-falls g c =
+    let low = c.loop-composer.invariant.3 in
+    let fell = (came g (goal.at.returns-in-Ok-Some-clause-falls g c).After-yaml_parser_parse_into _
+    c.in_ok-yaml_parser_parse_into.was (sym c.is_event.ensures ∙ c.if-not-is_event.false)).fell in
+    inr (omega (arith, low, fell))
+
+pub returns-in-Ok-Some-clause-ended : goal.returns-in-Ok-Some-clause-ended
+returns-in-Ok-Some-clause-ended g c ended =
+    let k = came g (goal.at.returns-in-Ok-Some-clause-ended g c).After-yaml_parser_parse_into _
+    c.in_ok-yaml_parser_parse_into.was (sym c.is_event.ensures ∙ c.if-not-is_event.false) in
+    absurd (has_not_ended c.args.parser.now c.loop-composer.parser c.loop-composer.invariant.4 k.runs ended)
+
+pub returns-in-Err-clause-loads : goal.returns-in-Err-clause-loads
+returns-in-Err-clause-loads g c =
+    let t = g.S.yaml_token_source_t in
+    let call = c.yaml_parser_parse_into in
+    let k = came g (goal.at.returns-in-Err-clause-loads g c).After-yaml_parser_parse_into _
+    c.in_ok-yaml_parser_parse_into.was (sym c.is_event.ensures ∙ c.if-not-is_event.false) in
+    let n = c.args.composer.max_entries in
+    way_refused t.gives t.known t.may_break n c.args.parser.now c.loop-composer.parser
+    (state_of c.loop-composer.composer) c.loop-composer.invariant.0 call.new.parser c.keep_fault.new.parser
+    call.new.event (fault_of c.compose.new.self.fault) k.took
+    (subst (λ (m : ℕ). RefusesEvent ⊥ m (state_of c.loop-composer.composer) call.new.event
+    (fault_of c.compose.new.self.fault))
+    c.loop-composer.invariant.2 c.in-Err.ensures.composes) c.keep_fault.ensures.kept
+
+pub returns-in-Err-clause-ended : goal.returns-in-Err-clause-ended
+returns-in-Err-clause-ended g c ended =
+    let k = came g (goal.at.returns-in-Err-clause-ended g c).After-yaml_parser_parse_into _
+    c.in_ok-yaml_parser_parse_into.was (sym c.is_event.ensures ∙ c.if-not-is_event.false) in
+    absurd (has_not_ended c.args.parser.now c.loop-composer.parser c.loop-composer.invariant.4 k.runs ended)

@@ -1,15 +1,29 @@
-use Rattle.std.proofs.Common.{◌≡◌, sym, ◌∙◌, true, false}
+use Rattle.std.proofs.Common.{◌≡◌, ℕ, subst, sym, ◌∙◌, true, false}
 use Rattle.libyaml_graphs.specs.loads.Bounds.{next_bounded}
 use Rattle.libyaml_graphs.specs.loads.Loads.{left_over}
 use Rattle.libyaml_loader.specs.document.Ids.{magnitude}
+use Rattle.libyaml_loader.specs.loads.Loading.{LoadsFrom}
 use Rattle.libyaml_loader.proofs.loads.Faultless.{faultless}
 use Rattle.libyaml_loader.proofs.loads.Large.{linear}
 use Rattle.libyaml_loader.proofs.loads.NextLoads.{next_load}
 use Rattle.libyaml_loader.proofs.loads.Rootless.{rootless}
+use Rattle.libyaml_loader.proofs.load.yaml_parser_load.Given as given
 use Rattle.libyaml_loader.proofs.load.yaml_parser_load.Goals as goal
+use Rattle.libyaml_loader.proofs.load.yaml_parser_load.Goals.{After-next_document}
 
 no : true ≡ false → ⊥
 no h = cc
+
+-- the composer's bound is the parser's
+loads : (g : given.Over) (c : After-next_document g)
+    → LoadsFrom g.S.yaml_token_source_t.gives g.S.yaml_token_source_t.known g.S.yaml_token_source_t.may_break
+    (next_bounded (magnitude c.args.parser.now.max_entries)) left_over c.args.parser.now c.next_document.result
+    c.next_document.new.parser
+loads g c =
+    let t = g.S.yaml_token_source_t in
+    subst (λ (n : ℕ). LoadsFrom t.gives t.known t.may_break (next_bounded n) left_over c.args.parser.now
+    c.next_document.result c.next_document.new.parser) (c.new-composer.ensures.bound ∙ c.bound_of.ensures)
+    c.next_document.ensures.loads
 
 pub returns-then-has_failed-clause-no_fault : goal.returns-then-has_failed-clause-no_fault
 returns-then-has_failed-clause-no_fault g c = c.of_history.ensures.no_fault c.args.parser.now
@@ -31,7 +45,7 @@ returns-clause-next_load g c =
     let call = c.next_document in
     next_load t.gives t.known t.may_break (next_bounded (magnitude c.args.parser.now.max_entries)) left_over
     c.args.parser.now call.new.parser call.result
-    call.ensures.fails (c.of_history.ensures.no_fault c.args.parser.now) (λ first. call.ensures.loads)
+    call.ensures.fails (c.of_history.ensures.no_fault c.args.parser.now) (λ first. loads g (goal.at.returns-clause-next_load g c).After-next_document)
 
 pub returns-then-has_failed-clause-ended : goal.returns-then-has_failed-clause-ended
 returns-then-has_failed-clause-ended g c ended none = absurd (no (sym c.if-has_failed.true ∙ c.has_failed.ensures ∙ none))
@@ -46,7 +60,7 @@ returns-clause-without_root g c =
     let roots = c.whole_documents_have_roots.ensures in
     rootless roots.roots_follow roots.without_nodes t.gives t.known t.may_break
     (magnitude c.args.parser.now.max_entries) c.args.parser.now call.new.parser
-    (c.of_history.ensures.nests call.new.parser) call.result call.ensures.loads
+    (c.of_history.ensures.nests call.new.parser) call.result (loads g (goal.at.returns-clause-without_root g c).After-next_document)
 
 pub returns-then-has_failed-clause-linear : goal.returns-then-has_failed-clause-linear
 returns-then-has_failed-clause-linear g c none = absurd (no (sym c.if-has_failed.true ∙ c.has_failed.ensures ∙ none))
@@ -57,7 +71,7 @@ returns-clause-linear g c none =
     let call = c.next_document in
     linear (magnitude c.args.parser.now.max_entries)
     (c.linear_size.ensures.of_one (magnitude c.args.parser.now.max_entries)) t.gives t.known t.may_break
-    c.args.parser.now call.new.parser call.result call.ensures.loads
+    c.args.parser.now call.new.parser call.result (loads g (goal.at.returns-clause-linear g c).After-next_document)
 
 pub returns-then-has_failed-clause-faultless : goal.returns-then-has_failed-clause-faultless
 returns-then-has_failed-clause-faultless g c none = tt
@@ -68,4 +82,4 @@ returns-clause-faultless g c none =
     let call = c.next_document in
     faultless t.gives t.known t.may_break (next_bounded (magnitude c.args.parser.now.max_entries)) left_over
     c.of_history.ensures.no_fault
-    c.args.parser.now call.new.parser none c.remembered.ensures call.result call.ensures.loads
+    c.args.parser.now call.new.parser none c.remembered.ensures call.result (loads g (goal.at.returns-clause-faultless g c).After-next_document)

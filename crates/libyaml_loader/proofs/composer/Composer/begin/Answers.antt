@@ -1,16 +1,27 @@
-use Rattle.std.proofs.Common.{sym}
-use Rattle.libyaml_loader.specs.loads.ComposeSteps.{opening_at}
-use Rattle.libyaml_loader.proofs.pushes.Steps.{begun_leads, begun_sound}
+use Rattle.std.proofs.Common.{◌≡◌, sym, ap, ◌∙◌, true, false}
+use Rattle.libyaml_loader.specs.declared.context.loader_ctx.{loader_ctx}
+use Rattle.libyaml_loader.specs.pushes.Composing.{opening_by}
+use Rattle.libyaml_loader.proofs.pushes.Steps.{begun_ids, begun_leads}
 use Rattle.libyaml_loader.proofs.composer.Composer.begin.Goals as goal
+
+no : true ≡ false → ⊥
+no h = cc
 
 pub returns-in-Some-clause-leads : goal.returns-in-Some-clause-leads
 returns-in-Some-clause-leads c =
-    let made = c.new-ctx.ensures in
-    begun_leads c.new-ctx.result (opening_at c.in-Some.opening) made.document made.stack made.anchors
+    let begun = c.begin.ensures in
+    let fresh = c.requires.sound.fresh c.requires.none_open in
+    begun_leads c.begin.new.self (opening_by c.in-Some.opening) (ap (λ (x : loader_ctx). x.document) begun)
+    (ap (λ (x : loader_ctx). x.stack) begun ∙ fresh.0) (ap (λ (x : loader_ctx). x.anchors) begun ∙ fresh.1)
     c.args.self.now.max_entries c.args.event.now (sym c.in-Some.ensures)
 
 pub returns-in-Some-clause-sound : goal.returns-in-Some-clause-sound
 returns-in-Some-clause-sound c =
-    let made = c.new-ctx.ensures in
-    begun_sound c.new-ctx.result (opening_at c.in-Some.opening) made.document made.stack made.anchors
-    c.args.self.now.max_entries made.bound
+    let begun = c.begin.ensures in
+    let fresh = c.requires.sound.fresh c.requires.none_open in
+    record {
+      ids = λ h. begun_ids c.begin.new.self (opening_by c.in-Some.opening) (ap (λ (x : loader_ctx). x.document) begun)
+          (ap (λ (x : loader_ctx). x.stack) begun ∙ fresh.0) (ap (λ (x : loader_ctx). x.anchors) begun ∙ fresh.1);
+      fresh = λ h. absurd (no h);
+      bound = ap (λ (x : loader_ctx). x.max_entries) begun ∙ c.requires.sound.bound;
+    }

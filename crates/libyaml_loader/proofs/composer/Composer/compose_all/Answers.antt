@@ -4,22 +4,22 @@ use Rattle.std.specs.Vec.{vec_capacity}
 use Rattle.libyaml_loader.proofs.pushes.InTurn.{InTurn, next_turn, refused_turn}
 use Rattle.libyaml_loader.proofs.composer.Composer.compose_all.Goals as goal
 
-pub returns-in_err-compose-clause-composes : goal.returns-in_err-compose-clause-composes
-returns-in_err-compose-clause-composes c =
+pub returns-in_err-compose_into-clause-composes : goal.returns-in_err-compose_into-clause-composes
+returns-in_err-compose_into-clause-composes c =
     let l = c.loop-event in
     let e = get_or l.event-items l.event-index c.event-item.result in
     let lt : l.event-index < length l.event-items = search rules in
     let here : drop l.event-index l.event-items ≡ e ∷ drop (l.event-index + 1) l.event-items
     = drop_more l.event-items l.event-index c.event-item.result lt in
     let room : vec_capacity c.args.documents.now ≤ vec_capacity l.documents = l.invariant.0 in
-    let err : c.from_residual.result ≡ Err c.in_err-compose.field-0.0 = search rules in
-    refused_turn c.args.self.now l.self c.compose.new.self c.args.events.now.items c.args.documents.now.items
-    l.documents.items c.compose.new.documents.items e
+    let err : c.from_residual.result ≡ Err c.in_err-compose_into.field-0.0 = search rules in
+    refused_turn c.args.self.now l.self c.compose_into.new.self c.args.events.now.items c.args.documents.now.items
+    l.documents.items c.compose_into.new.documents.items e
     (drop (l.event-index + 1) l.event-items)
     (subst (λ y. InTurn c.args.self.now c.args.events.now.items c.args.documents.now.items l.self y
     l.documents.items) here (rw c.deref_mut-event-items.ensures.value at l.invariant.1))
-    _ _ (λ full. omega (arith, room, full)) c.compose.result c.from_residual.result c.in_err-compose.field-0.0
-    c.in_err-compose.field-0.0 c.in_err-compose.was err c.compose.ensures.composes
+    _ _ (λ full. omega (arith, room, full)) c.compose_into.result c.from_residual.result c.in_err-compose_into.field-0.0
+    c.in_err-compose_into.field-0.0 c.in_err-compose_into.was err c.compose_into.ensures.composes
 
 pub loop-event-preserved : goal.loop-event-preserved
 loop-event-preserved c =
@@ -28,18 +28,18 @@ loop-event-preserved c =
     let lt : l.event-index < length l.event-items = search rules in
     let here : drop l.event-index l.event-items ≡ e ∷ drop (l.event-index + 1) l.event-items
     = drop_more l.event-items l.event-index c.event-item.result lt in
-    let room : vec_capacity c.args.documents.now ≤ vec_capacity c.compose.new.documents =
-    let a = l.invariant.0 in let b = c.compose.ensures.capacity in omega (arith, a, b)
+    let room : vec_capacity c.args.documents.now ≤ vec_capacity c.compose_into.new.documents =
+    let a = l.invariant.0 in let b = c.compose_into.ensures.capacity in omega (arith, a, b)
     in
-    let left = drop-set-lt (l.event-index + 1) l.event-items l.event-index c.compose.new.event (omega arith) in (
+    let left = drop-set-lt (l.event-index + 1) l.event-items l.event-index c.compose_into.new.event (omega arith) in (
       room,
       subst (λ y. InTurn c.args.self.now c.deref_mut-event-items.result.now c.args.documents.now.items
-          c.compose.new.self y c.compose.new.documents.items) (sym left)
-          (next_turn c.args.self.now l.self c.compose.new.self _ _ _ c.compose.new.documents.items e
+          c.compose_into.new.self y c.compose_into.new.documents.items) (sym left)
+          (next_turn c.args.self.now l.self c.compose_into.new.self _ _ _ c.compose_into.new.documents.items e
           (drop (l.event-index + 1) l.event-items)
           (subst (λ y. InTurn c.args.self.now c.deref_mut-event-items.result.now c.args.documents.now.items l.self y
           l.documents.items) here l.invariant.1)
-          _ c.compose.result c.in_ok-compose.field-0 c.in_ok-compose.was c.compose.ensures.composes
-          c.compose.ensures.sound c.compose.ensures.bound
-          (rw c.in_ok-compose.was at c.compose.ensures.fault)),
+          _ c.compose_into.result c.in_ok-compose_into.field-0 c.in_ok-compose_into.was c.compose_into.ensures.composes
+          c.compose_into.ensures.sound c.compose_into.ensures.bound
+          (rw c.in_ok-compose_into.was at c.compose_into.ensures.fault)),
     )

@@ -32,12 +32,12 @@ returns-in_err-composed c =
     let err : c.from_residual-in_err-composed.result ≡ Err c.in_err-composed.field-0.0 = search rules in
     subst (λ y. PushesLoads (vec_capacity c.args.documents.now ≤ vec_len composed.new.documents) y c.args.token
     c.args.documents.now.items c.from_residual-in_err-composed.result
-    (standing pushed.new.self (state_of composed.new.self.open) (fault_of composed.new.self.fault)
+    (standing pushed.new.self (state_of composed.new.self) (fault_of composed.new.self.fault)
     composed.new.self.max_entries) composed.new.documents.items) c.self.view_is
     (subst (λ z. PushesLoads (vec_capacity c.args.documents.now ≤ vec_len composed.new.documents)
-    (standing c.self.inside.parser (state_of first.open) (fault_of first.fault) first.max_entries) c.args.token
+    (standing c.self.inside.parser (state_of first) (fault_of first.fault) first.max_entries) c.args.token
     c.args.documents.now.items z
-    (standing pushed.new.self (state_of composed.new.self.open) (fault_of composed.new.self.fault)
+    (standing pushed.new.self (state_of composed.new.self) (fault_of composed.new.self.fault)
     composed.new.self.max_entries) composed.new.documents.items) (sym err)
     (pushes_refused law _ _ c.self.inside.parser pushed.new.self c.args.token pushed.new.events.items pushed.result
     so first composed.new.self c.args.documents.now.items composed.new.documents.items
@@ -65,14 +65,14 @@ returns-in-Err c =
     let none : done_by (fault_of first.fault) ≡ Ok tt = sym c.kept.ensures ∙ c.in_ok-kept.was in
     let same = on_ok (composed.new.self.fault ≡ first.fault) composed.result composed.ensures.fault in
     let now = c.keep.new.self in
-    let is = kept_fault pushed.new.self now composed.new.self.max_entries _ c.keep.ensures.open
+    let is = kept_fault pushed.new.self now composed.new.self.max_entries _ c.keep.ensures.none_open
     (ap fault_of c.keep.ensures.fault ∙ c.prefix.ensures.kept) c.keep.ensures.bound in
     subst (λ y. PushesLoads (vec_capacity c.args.documents.now ≤ vec_len composed.new.documents) y c.args.token
     c.args.documents.now.items (Err c.in-Err.error)
-    (standing pushed.new.self (state_of now.open) (fault_of now.fault) now.max_entries)
+    (standing pushed.new.self (state_of now) (fault_of now.fault) now.max_entries)
     composed.new.documents.items) c.self.view_is
     (subst (λ z. PushesLoads (vec_capacity c.args.documents.now ≤ vec_len composed.new.documents)
-    (standing c.self.inside.parser (state_of first.open) (fault_of first.fault) first.max_entries) c.args.token
+    (standing c.self.inside.parser (state_of first) (fault_of first.fault) first.max_entries) c.args.token
     c.args.documents.now.items (Err c.in-Err.error) z composed.new.documents.items) is
     (pushes_failed law _ _ c.self.inside.parser pushed.new.self c.args.token pushed.new.events.items pushed.result
     so first composed.new.self c.args.documents.now.items composed.new.documents.items
@@ -102,7 +102,7 @@ returns c =
     let same = on_ok (composed.new.self.fault ≡ first.fault) composed.result composed.ensures.fault in
     subst (λ y. PushesLoads (vec_capacity c.args.documents.now ≤ vec_len composed.new.documents) y c.args.token
     c.args.documents.now.items (Ok tt)
-    (standing pushed.new.self (state_of composed.new.self.open) (fault_of composed.new.self.fault)
+    (standing pushed.new.self (state_of composed.new.self) (fault_of composed.new.self.fault)
     composed.new.self.max_entries) composed.new.documents.items) c.self.view_is
     (pushes_ok law _ _ c.self.inside.parser pushed.new.self c.args.token pushed.new.events.items pushed.result so
     first composed.new.self c.args.documents.now.items composed.new.documents.items
