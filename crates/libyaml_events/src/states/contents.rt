@@ -1,7 +1,9 @@
 //! The content of an event, put where another event's content stands.
 //!
-//! Where that is of the same kind, it is written over field by field. Else it is dropped, which functions of
-//! their own do: to drop a content takes six registers, which the function then needn't save.
+//! Where that is of the same kind, it is written over field by field. Where it is of another kind and has
+//! nothing to be dropped, as the empty event of a call by value, an arm of its own lets the compiler see it.
+//! Else it is dropped, which functions of their own do (`any_by_..`): to drop a content takes six registers,
+//! which the function then needn't save.
 ghost use Rattle.std.specs.Prelude.{◌≡◌, None, false, true};
 ghost use Rattle.libyaml_types.specs.declared.event.unnamed_yaml_event_t_data.TheVariants.{Alias, MappingEnd};
 ghost use Rattle.libyaml_types.specs.declared.event.unnamed_yaml_event_t_data.TheVariants.{SequenceEnd};
@@ -11,9 +13,9 @@ ghost use Rattle.libyaml_events.specs.machine.Machine.{sequence_start};
 
 use crate::states::nodes::{is_plain, mapping_start, plain_scalar, sequence_start};
 use libyaml_types::{
-    unnamed_yaml_event_t_data, unnamed_yaml_event_t_data_alias, unnamed_yaml_event_t_data_scalar,
-    unnamed_yaml_token_t_data_alias, unnamed_yaml_token_t_data_scalar, yaml_mapping_style_t,
-    yaml_scalar_style_t, yaml_sequence_style_t,
+    unnamed_yaml_event_t_data, unnamed_yaml_event_t_data_alias, unnamed_yaml_token_t_data_alias,
+    unnamed_yaml_token_t_data_scalar, yaml_mapping_style_t, yaml_scalar_style_t,
+    yaml_sequence_style_t,
 };
 use std::alloc::Global;
 use std::mem;
@@ -62,16 +64,14 @@ fn replace_by_scalar(
     ensures { content.new ≡ scalar None None token.old.value (plain_flag None token.old.style)
         (quoted_flag None token.old.style) token.old.style }
 {
-    let plain_implicit = is_plain(token.style);
-    let event = unnamed_yaml_event_t_data_scalar {
-        anchor: None,
-        tag: None,
-        value: mem::replace(&mut token.value, String::new(alloc)),
-        plain_implicit,
-        quoted_implicit: !plain_implicit,
-        style: token.style,
-    };
-    *content = unnamed_yaml_event_t_data::Scalar(event);
+    replace_by_empty_scalar(alloc, content);
+    if let unnamed_yaml_event_t_data::Scalar(event) = content {
+        let plain_implicit = is_plain(token.style);
+        mem::swap(&mut event.value, &mut token.value);
+        event.plain_implicit = plain_implicit;
+        event.quoted_implicit = !plain_implicit;
+        event.style = token.style;
+    }
 }
 
 /// Puts a scalar that is left out into `content`.
@@ -89,12 +89,39 @@ pub(super) fn put_empty_scalar(alloc: Global, content: &mut unnamed_yaml_event_t
         event.value = String::new(alloc);
         return;
     }
-    replace_by_empty_scalar(alloc, content);
+    any_by_empty_scalar(alloc, content);
 }
 
 /// Puts a scalar that is left out in the place of `content`.
-#[inline(never)]
+#[inline(always)]
 fn replace_by_empty_scalar(alloc: Global, content: &mut unnamed_yaml_event_t_data)
+    ensures { content.new ≡ empty_scalar }
+{
+    match content {
+        unnamed_yaml_event_t_data::SequenceStart(event)
+            if event.anchor.is_none() && event.tag.is_none() => {
+            *content = plain_scalar(None, None, String::new(alloc), true);
+        }
+        unnamed_yaml_event_t_data::MappingStart(event)
+            if event.anchor.is_none() && event.tag.is_none() => {
+            *content = plain_scalar(None, None, String::new(alloc), true);
+        }
+        unnamed_yaml_event_t_data::NoEvent => {
+            *content = plain_scalar(None, None, String::new(alloc), true);
+        }
+        unnamed_yaml_event_t_data::SequenceEnd => {
+            *content = plain_scalar(None, None, String::new(alloc), true);
+        }
+        unnamed_yaml_event_t_data::MappingEnd => {
+            *content = plain_scalar(None, None, String::new(alloc), true);
+        }
+        _ => any_by_empty_scalar(alloc, content),
+    }
+}
+
+/// Puts a scalar that is left out in the place of a content that is to be dropped.
+#[inline(never)]
+fn any_by_empty_scalar(alloc: Global, content: &mut unnamed_yaml_event_t_data)
     ensures { content.new ≡ empty_scalar }
 {
     *content = plain_scalar(None, None, String::new(alloc), true);
@@ -124,6 +151,27 @@ pub(super) fn put_sequence_start(
 fn replace_by_sequence_start(style: yaml_sequence_style_t, content: &mut unnamed_yaml_event_t_data)
     ensures { content.new ≡ sequence_start None None style }
 {
+    match content {
+        unnamed_yaml_event_t_data::Scalar(event) if event.anchor.is_none() && event.tag.is_none() =>
+            {
+                *content = sequence_start(None, None, style);
+            }
+        unnamed_yaml_event_t_data::MappingStart(event)
+            if event.anchor.is_none() && event.tag.is_none() => {
+            *content = sequence_start(None, None, style);
+        }
+        unnamed_yaml_event_t_data::NoEvent => *content = sequence_start(None, None, style),
+        unnamed_yaml_event_t_data::SequenceEnd => *content = sequence_start(None, None, style),
+        unnamed_yaml_event_t_data::MappingEnd => *content = sequence_start(None, None, style),
+        _ => any_by_sequence_start(style, content),
+    }
+}
+
+/// Puts the start of a sequence in the place of a content that is to be dropped.
+#[inline(never)]
+fn any_by_sequence_start(style: yaml_sequence_style_t, content: &mut unnamed_yaml_event_t_data)
+    ensures { content.new ≡ sequence_start None None style }
+{
     *content = sequence_start(None, None, style);
 }
 
@@ -151,6 +199,27 @@ pub(super) fn put_mapping_start(
 fn replace_by_mapping_start(style: yaml_mapping_style_t, content: &mut unnamed_yaml_event_t_data)
     ensures { content.new ≡ mapping_start None None style }
 {
+    match content {
+        unnamed_yaml_event_t_data::Scalar(event) if event.anchor.is_none() && event.tag.is_none() =>
+            {
+                *content = mapping_start(None, None, style);
+            }
+        unnamed_yaml_event_t_data::SequenceStart(event)
+            if event.anchor.is_none() && event.tag.is_none() => {
+            *content = mapping_start(None, None, style);
+        }
+        unnamed_yaml_event_t_data::NoEvent => *content = mapping_start(None, None, style),
+        unnamed_yaml_event_t_data::SequenceEnd => *content = mapping_start(None, None, style),
+        unnamed_yaml_event_t_data::MappingEnd => *content = mapping_start(None, None, style),
+        _ => any_by_mapping_start(style, content),
+    }
+}
+
+/// Puts the start of a mapping in the place of a content that is to be dropped.
+#[inline(never)]
+fn any_by_mapping_start(style: yaml_mapping_style_t, content: &mut unnamed_yaml_event_t_data)
+    ensures { content.new ≡ mapping_start None None style }
+{
     *content = mapping_start(None, None, style);
 }
 
@@ -170,6 +239,30 @@ pub(super) fn put_sequence_end(content: &mut unnamed_yaml_event_t_data)
 fn replace_by_sequence_end(content: &mut unnamed_yaml_event_t_data)
     ensures { content.new ≡ SequenceEnd }
 {
+    match content {
+        unnamed_yaml_event_t_data::Scalar(event) if event.anchor.is_none() && event.tag.is_none() =>
+            {
+                *content = unnamed_yaml_event_t_data::SequenceEnd;
+            }
+        unnamed_yaml_event_t_data::SequenceStart(event)
+            if event.anchor.is_none() && event.tag.is_none() => {
+            *content = unnamed_yaml_event_t_data::SequenceEnd;
+        }
+        unnamed_yaml_event_t_data::MappingStart(event)
+            if event.anchor.is_none() && event.tag.is_none() => {
+            *content = unnamed_yaml_event_t_data::SequenceEnd;
+        }
+        unnamed_yaml_event_t_data::NoEvent => *content = unnamed_yaml_event_t_data::SequenceEnd,
+        unnamed_yaml_event_t_data::MappingEnd => *content = unnamed_yaml_event_t_data::SequenceEnd,
+        _ => any_by_sequence_end(content),
+    }
+}
+
+/// Puts the end of a sequence in the place of a content that is to be dropped.
+#[inline(never)]
+fn any_by_sequence_end(content: &mut unnamed_yaml_event_t_data)
+    ensures { content.new ≡ SequenceEnd }
+{
     *content = unnamed_yaml_event_t_data::SequenceEnd;
 }
 
@@ -187,6 +280,30 @@ pub(super) fn put_mapping_end(content: &mut unnamed_yaml_event_t_data)
 /// Puts the end of a mapping in the place of `content`.
 #[inline(never)]
 fn replace_by_mapping_end(content: &mut unnamed_yaml_event_t_data)
+    ensures { content.new ≡ MappingEnd }
+{
+    match content {
+        unnamed_yaml_event_t_data::Scalar(event) if event.anchor.is_none() && event.tag.is_none() =>
+            {
+                *content = unnamed_yaml_event_t_data::MappingEnd;
+            }
+        unnamed_yaml_event_t_data::SequenceStart(event)
+            if event.anchor.is_none() && event.tag.is_none() => {
+            *content = unnamed_yaml_event_t_data::MappingEnd;
+        }
+        unnamed_yaml_event_t_data::MappingStart(event)
+            if event.anchor.is_none() && event.tag.is_none() => {
+            *content = unnamed_yaml_event_t_data::MappingEnd;
+        }
+        unnamed_yaml_event_t_data::NoEvent => *content = unnamed_yaml_event_t_data::MappingEnd,
+        unnamed_yaml_event_t_data::SequenceEnd => *content = unnamed_yaml_event_t_data::MappingEnd,
+        _ => any_by_mapping_end(content),
+    }
+}
+
+/// Puts the end of a mapping in the place of a content that is to be dropped.
+#[inline(never)]
+fn any_by_mapping_end(content: &mut unnamed_yaml_event_t_data)
     ensures { content.new ≡ MappingEnd }
 {
     *content = unnamed_yaml_event_t_data::MappingEnd;
