@@ -94,6 +94,7 @@ impl<S: yaml_token_source_t> yaml_parser_t<S> {
     }
 
     /// The next event, as the machine gives it.
+    #[inline(always)]
     fn next_event(&mut self) -> Result<yaml_event_t, yaml_error_type_t>
         ensures kept { IfErr result (λ e. (e ≡ self.new.config.fault.error)
             × (ended_or_failed self.new.config ≡ true)) }
@@ -103,10 +104,22 @@ impl<S: yaml_token_source_t> yaml_parser_t<S> {
         ensures left { IfErr result (λ e. Left self.old.config e self.new.config) }
         ensures remembers { Remembers self.old }
     {
-        let mut event = no_event();
-        self.next_event_into(&mut event)?;
-        Ok(event)
+        let mut answer = Ok(no_event());
+        if let Ok(event) = &mut answer {
+            if let Err(error) = self.next_event_into(event) {
+                fail(error, &mut answer);
+            }
+        }
+        answer
     }
+}
+
+/// Puts an error in the place of an event.
+#[cold]
+fn fail(error: yaml_error_type_t, answer: &mut Result<yaml_event_t, yaml_error_type_t>)
+    ensures { answer.new ≡ Err error }
+{
+    *answer = Err(error);
 }
 
 /// Puts the empty event into `event`.
@@ -126,6 +139,7 @@ fn clear(event: &mut yaml_event_t)
 /// or a fault of the grammar.
 ///
 /// libyaml: `yaml_parser_parse`.
+#[inline(always)]
 pub fn yaml_parser_parse<S: yaml_token_source_t>(
     parser: &mut yaml_parser_t<S>,
 ) -> Result<yaml_event_t, yaml_error_type_t>

@@ -42,8 +42,13 @@ pub trait yaml_token_source_t {
     fn next_token_into(&mut self, token: &mut yaml_token_t) -> Result<(), yaml_source_fault_t>
         ensures { gives self.old (answer_in result token.new) self.new }
     {
-        *token = self.next_token()?;
-        Ok(())
+        match self.next_token() {
+            Ok(next) => {
+                *token = next;
+                Ok(())
+            }
+            Err(fault) => Err(fault),
+        }
     }
 
     /// Returns whether the next call may block, so callers flush output first. It does not affect the tokens.
