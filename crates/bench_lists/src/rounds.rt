@@ -4,10 +4,10 @@ use crate::copying::{Copying, copy_into, no_token};
 use crate::tally::{Checksum, Count, Tally};
 use libyaml_events::{
     is_stream_end, no_event, yaml_event_t, yaml_list_source_t, yaml_parser_between_documents,
-    yaml_parser_initialize, yaml_parser_parse_into, yaml_parser_t, yaml_push_parser_t,
-    yaml_token_source_t, yaml_token_t,
+    yaml_parser_initialize, yaml_parser_parse, yaml_parser_parse_into, yaml_parser_t,
+    yaml_push_parser_t, yaml_token_source_t, yaml_token_t,
 };
-use libyaml_loader::yaml_parser_load;
+use libyaml_loader::{yaml_parser_documents, yaml_parser_load};
 use std::alloc::{AllocError, Global};
 
 /// What is done with a list of tokens. In each, a copy of every token is made.
@@ -23,18 +23,27 @@ pub enum Work {
     ListNodes,
     /// Events, each copy pushed.
     PushEvents,
+    /// Events, each returned by value, each copy made in the parser's slot.
+    ValueEvents,
+    /// Events, by the parser as an iterator, each copy made in the parser's slot.
+    IterateEvents,
+    /// Nodes, by an iterator over the documents, each copy made in the parser's slot.
+    IterateNodes,
     /// The list of copies alone.
     ListTokens,
 }
 
 impl Work {
     /// All of them.
-    pub const ALL: [Work; 6] = [
+    pub const ALL: [Work; 9] = [
         Work::PlaceEvents,
         Work::PlaceNodes,
         Work::ListEvents,
         Work::ListNodes,
         Work::PushEvents,
+        Work::ValueEvents,
+        Work::IterateEvents,
+        Work::IterateNodes,
         Work::ListTokens,
     ];
 
@@ -46,6 +55,9 @@ impl Work {
             Work::ListEvents => "list-events",
             Work::ListNodes => "list-nodes",
             Work::PushEvents => "push-events",
+            Work::ValueEvents => "value-events",
+            Work::IterateEvents => "iterate-events",
+            Work::IterateNodes => "iterate-nodes",
             Work::ListTokens => "list-tokens",
         }
     }
@@ -95,6 +107,9 @@ fn run<T: Tally>(alloc: Global, work: Work, tokens: &[yaml_token_t], tally: &mut
         Work::ListEvents => parse(alloc, list_of_copies(alloc, tokens).ok()?, tally),
         Work::ListNodes => load(alloc, list_of_copies(alloc, tokens).ok()?, tally),
         Work::PushEvents => push(alloc, tokens, tally),
+        Work::ValueEvents => parse_by_value(alloc, Copying::new(tokens), tally),
+        Work::IterateEvents => iterate(alloc, Copying::new(tokens), tally),
+        Work::IterateNodes => iterate_documents(alloc, Copying::new(tokens), tally),
         Work::ListTokens => list_of_copies(alloc, tokens).ok().map(|_| ()),
     }
 }
@@ -140,6 +155,59 @@ fn parse_next<S: yaml_token_source_t>(
     event: &mut yaml_event_t,
 ) -> bool {
     yaml_parser_parse_into(parser, event).is_ok()
+}
+
+/// Parses to the end of the stream, each event returned by value.
+fn parse_by_value<S: yaml_token_source_t + Drop, T: Tally>(
+    alloc: Global,
+    source: S,
+    tally: &mut T,
+) -> Option<()> {
+    let mut parser = yaml_parser_initialize(alloc, source);
+    for _ in 0..u64::MAX {
+        match &yaml_parser_parse(&mut parser) {
+            Ok(event) => {
+                tally.event(event);
+                if is_stream_end(event) {
+                    break;
+                }
+            }
+            Err(_) => return None,
+        }
+    }
+    Some(())
+}
+
+/// Iterates over the events of the stream.
+fn iterate<S: yaml_token_source_t + Drop, T: Tally>(
+    alloc: Global,
+    source: S,
+    tally: &mut T,
+) -> Option<()> {
+    let mut parser = yaml_parser_initialize(alloc, source);
+    for event in parser.by_ref() {
+        match &event {
+            Ok(event) => tally.event(event),
+            Err(_) => return None,
+        }
+    }
+    Some(())
+}
+
+/// Iterates over the documents of the stream.
+fn iterate_documents<S: yaml_token_source_t + Drop, T: Tally>(
+    alloc: Global,
+    source: S,
+    tally: &mut T,
+) -> Option<()> {
+    let mut parser = yaml_parser_initialize(alloc, source);
+    for document in yaml_parser_documents(&mut parser) {
+        match &document {
+            Ok(document) => tally.nodes(document.nodes()),
+            Err(_) => return None,
+        }
+    }
+    Some(())
 }
 
 /// Loads all documents of the stream.
