@@ -22,6 +22,13 @@ if [ "${1-}" = clock ]; then
     clock=--clock
     shift
 fi
+known=$(cd "$top/bench" && python3 -c 'import lists; print(*lists.KINDS)')
+for word; do
+    case " $known growth program " in
+    *" $word "*) ;;
+    *) echo "usage: sh bench/run.sh [clock] [KIND..], where KIND is of: $known growth program" >&2; exit 2 ;;
+    esac
+done
 for tool in rt valgrind python3 "${CC:=cc}"; do
     command -v "$tool" > /dev/null || { echo "run.sh: $tool is missing" >&2; exit 1; }
 done
@@ -54,7 +61,6 @@ python3 lists.py "$work"
 if [ $# -gt 0 ]; then
     python3 measure.py "$work" $clock "$@"
 else
-    kinds=$(python3 -c 'import lists; print(*lists.KINDS)')
-    python3 measure.py "$work" $clock --out "$work/figures" $kinds growth program
+    python3 measure.py "$work" $clock --out "$work/figures" $known growth program
     python3 chart.py "$work/figures" "$top/docs/performance.svg"
 fi

@@ -13,8 +13,9 @@ static const char USAGE[] =
     "Writes the lines of a YAML file's tokens, events, or documents and nodes; FILE may be -, for standard input.\n"
     "A fault of the YAML is the last of the events or nodes: FAULT, who found it, its mark and its words, and maybe a\n"
     "line CONTEXT. Marks are index:line:column, counted in characters from 0. A fault is told on standard error too.\n"
+    "A token's line has at most 1,048,576 bytes; beyond it the run ends with `line too long`, no fault of the YAML.\n"
     "Exit status: 0 the file was read to its end, 1 it has a fault, 2 wrong words, 3 the file can't be read, the\n"
-    "output can't be written, or there is no memory.\n";
+    "output can't be written, there is no memory, or a line is too long.\n";
 
 enum { ENDED = 0, FAULTED = 1, WRONG_WORDS = 2, FAILED = 3 };
 
@@ -304,8 +305,8 @@ static size_t line_before(const struct text *text, size_t at)
     return at;
 }
 
-/* Says on standard error the fault that a text ends with, which has room for a byte more. A line of a context may
- * follow it. */
+/* Says on standard error the fault that a text ends with, which has room for a byte more, and returns the status. A line
+ * of a context may follow it. A token line that is too long is no fault of the YAML: its mark counts tokens. */
 static int say_fault(const char *name, struct text *text)
 {
     size_t start = line_before(text, text->length), line, column;
@@ -314,8 +315,13 @@ static int say_fault(const char *name, struct text *text)
     text->bytes[text->length] = '\0';
     if (memcmp(text->bytes + start, "FAULT ", strlen("FAULT ")) != 0)
         start = line_before(text, start);
-    if (sscanf((const char *)text->bytes + start, "FAULT %15s %*u:%zu:%zu %255[^\n]", finder, &line, &column, problem) == 4)
-        fprintf(stderr, "yaml: %s: line %zu, column %zu: %s (%s)\n", name, line + 1, column + 1, problem, finder);
+    if (sscanf((const char *)text->bytes + start, "FAULT %15s %*u:%zu:%zu %255[^\n]", finder, &line, &column, problem) != 4)
+        return FAULTED;
+    if (strcmp(finder, "reader") == 0 && strcmp(problem, "line too long") == 0) {
+        fprintf(stderr, "yaml: %s: line too long, after %zu tokens: a limit of this program, no fault of the YAML\n", name, line);
+        return FAILED;
+    }
+    fprintf(stderr, "yaml: %s: line %zu, column %zu: %s (%s)\n", name, line + 1, column + 1, problem, finder);
     return FAULTED;
 }
 

@@ -18,15 +18,17 @@ Events and nodes are made by the program yamltokens, and are at most those of 1,
   --program PATH   where it is; without it, crates/yamltokens/out/yamltokens or else the first in the path
   --library PATH   the runs as a shared library in its place, with no limit of tokens
 
-A line of a token is 1,048,576 bytes at most, where each byte of a text that is no visible ASCII counts as three.
+A line of a token is 1,048,576 bytes at most, where each byte of a text that is no visible ASCII counts as three. Where
+the YAML is beyond a limit, that is no fault of the YAML: the last line says `line too long` or `too many tokens`, and
+the status is 3.
 
 Where the YAML has a fault, the last lines are the fault and its context. The first fault of the scanner, its reader,
 the parser and the composer counts. Marks are index, line and column in characters, from 0. Among tokens no fault
 stands. It is told in words on standard error too, with line and column from 1.
 
 exit status: 0 the text was read to its end, 1 it has a fault, 2 wrong words, 3 anything else (as a file that is not
-there, output that failed, no PyYAML, or out of memory), 130 interrupted. Every status but 0 comes with one line on
-standard error.
+there, output that failed, no PyYAML, out of memory, or a limit), 130 interrupted. Every status but 0 comes with one
+line on standard error.
 """
 
 if sys.version_info < (3, 8):
@@ -84,6 +86,8 @@ class Fault:
                        br"(?:CONTEXT (\d+):(\d+):(\d+) ([^\n]*)\n)?\Z")
     # Faults of the lines: the mark counts tokens.
     OF_LINES = ("no more tokens", "too many tokens", "line too long", "bad token line", "read failed")
+    # Those of them that a YAML text without a fault may have.
+    LIMITS = ("too many tokens", "line too long")
 
     def __init__(self, kind, place, problem, context_place=None, context=None):
         self.kind, self.place, self.problem = kind, place, problem
@@ -103,6 +107,9 @@ class Fault:
     def is_of_lines(self):
         return self.kind in ("reader", "scanner") and self.problem in self.OF_LINES
 
+    def is_limit(self):
+        return self.kind == "reader" and self.problem in self.LIMITS
+
     def lines(self):
         text = "FAULT %s %s %s\n" % (self.kind, self.place.field(), self.problem)
         if self.context:
@@ -110,6 +117,8 @@ class Fault:
         return text.encode("utf-8", "backslashreplace")
 
     def __str__(self):
+        if self.is_limit():
+            return "%s, after %d tokens: a limit of this program, no fault of the YAML" % (self.problem, self.place.index)
         if self.is_of_lines():
             return "%s, after %d tokens (%s)" % (self.problem, self.place.index, self.kind)
         return "%s: %s (%s)" % (self.place, self.problem, self.kind)
@@ -161,10 +170,13 @@ class Tokens:
 class Program:
     """A run of `yamltokens` through pipes."""
 
+    # The line of a token that only a document has.
+    OF_DOCUMENT = re.compile(br"(?:\A|\n)(?!STREAM-|DOCUMENT-END|\Z)")
+
     def __init__(self, mode, path):
         built = os.path.join(HERE, os.pardir, "crates", "yamltokens", "out", "yamltokens")
         self.path = path or (os.path.normpath(built) if os.path.exists(built) else "yamltokens")
-        self.output = Output()
+        self.mode, self.has_node, self.output = mode, False, Output()
         pipe = subprocess.PIPE
         try:
             self.process = subprocess.Popen([self.path, mode], bufsize=0, stdin=pipe, stdout=pipe,
@@ -185,6 +197,7 @@ class Program:
 
     def give(self, lines):
         """Gives token lines to the run; returns whether it reads on."""
+        self.has_node = self.has_node or bool(self.OF_DOCUMENT.search(lines))
         lines = memoryview(lines)
         while lines:
             readable, writable, _ = select.select([self.out], [self.into], [])
@@ -207,7 +220,15 @@ class Program:
             raise MemoryError
         if status != (1 if fault else 0):
             raise Failure("%s failed, with status %d" % (self.path, status))
+        if not fault and not self.is_whole():
+            raise Failure("%s ended without writing its %s" % (self.path, self.mode))
         return fault
+
+    def is_whole(self):
+        """Returns whether what a run without a fault has written may be all of it: it has an end, or a document."""
+        if self.mode == "events":
+            return self.output.kept.rpartition(b"\n")[0].rpartition(b"\n")[2].startswith(b"STREAM-END ")
+        return bool(self.output.kept) or not self.has_node
 
     def close(self):
         self.process.kill()
@@ -429,7 +450,9 @@ def main(words):
         fault = run.end(Scanner(yaml, data).run(run.give))
     finally:
         run.close()
-    return (1, "%s: %s" % (shown(name), fault)) if fault else (0, None)
+    if not fault:
+        return 0, None
+    return 3 if fault.is_limit() else 1, "%s: %s" % (shown(name), fault)
 
 
 def fill_closed():

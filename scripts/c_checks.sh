@@ -69,6 +69,12 @@ check_failures() {
         expect 0 sh -c "'$yaml' $mode - < examples/list.yaml"
         cmp -s "$work/out" examples/list.$mode || complain "$mode of standard input"
     done
+    head -c 1100000 /dev/zero | tr '\0' a > "$work/wide.yaml"
+    for mode in events nodes; do
+        expect_message 3 "$yaml" $mode "$work/wide.yaml"
+        grep -q ': line too long, after 1 tokens: a limit of this program' "$work/err" || complain "a long line: $(cat "$work/err")"
+        [ "$(tail -n 1 "$work/out")" = 'FAULT reader 1:1:0 line too long' ] || complain "a long line: $(tail -n 1 "$work/out")"
+    done
     expect 2 "$yaml" events
     expect 2 "$yaml" lines examples/list.yaml
     expect 2 "$yaml"

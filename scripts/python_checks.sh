@@ -63,8 +63,12 @@ cp ok.yaml locked.yaml && chmod 0 locked.yaml
 ln -s "$front" linked.py
 printf '#!/bin/sh\ncat > /dev/null\necho FAULT memory 0:0:0 -\nexit 1\n' > refusing
 printf '#!/bin/sh\nexit 9\n' > failing
+printf '#!/bin/sh\ncat > /dev/null\n' > silent
+printf '#!/bin/sh\ncat > /dev/null\necho FAULT reader 5:5:0 too many tokens\nexit 1\n' > limited
 printf '#!/bin/sh\nkill -9 $$\n' > killed
-chmod +x refusing failing killed
+chmod +x refusing failing killed silent limited
+printf '...\n' > empty.yaml
+head -c 1100000 /dev/zero | tr '\0' a > wide.yaml
 mkdir pure other && cp "$(python3 -c 'import yaml; print(yaml.__path__[0])')"/*.py other && mv other pure/yaml
 echo 'import sys, runpy; sys.version_info = (3, 7, 9, "final", 0); sys.argv = sys.argv[1:]
 runpy.run_path(sys.argv[0], run_name="__main__")' > older.py
@@ -148,6 +152,13 @@ expect 3 'yaml.py: needs Python 3.8 or later, and this is 3.7' "python3 older.py
 expect 3 'yaml.py: out of memory' "ulimit -v 400000; python3 $front tokens huge.yaml"
 expect 3 'yaml.py: out of memory' "python3 $front events --program ./refusing ok.yaml"
 expect 3 'yaml.py: ./failing failed, with status 9' "python3 $front events --program ./failing ok.yaml"
+for mode in events nodes; do
+    expect 3 "yaml.py: ./silent ended without writing its $mode" "python3 $front $mode --program ./silent ok.yaml"
+    expect 3 'yaml.py: ok.yaml: too many tokens, after 5 tokens: a limit *' "python3 $front $mode --program ./limited ok.yaml"
+    expect 3 'yaml.py: wide.yaml: line too long, after 1 tokens: a limit *' "python3 $front $mode --program $program wide.yaml"
+    [ "$(tail -n 1 out)" = 'FAULT reader 1:1:0 line too long' ] || complain "$(tail -n 1 out)"
+done
+expect 0 '' "python3 $front nodes --program ./silent empty.yaml"
 expect 3 'yaml.py: ./killed failed, with status -9' "python3 $front events --program ./killed ok.yaml"
 expect 3 'yaml.py: cannot run ./nosuch: No such file or directory' "python3 $front events --program ./nosuch ok.yaml"
 mkdir alone && cp "$front" alone

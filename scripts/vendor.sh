@@ -9,20 +9,24 @@
 # a check kept there stays. Its line is put into DEST/crates.txt, whose other lines stay. DEST/vendored.txt says which version
 # and commit the crates are of, and has a checksum of each.
 #
-# It prints what it did with each crate: added, updated, or as it was. The exit status is 2 for wrong words. It is 1, and
-# nothing is changed, where a name is no crate of this repository, and where a crate there was not copied by this script or
-# was changed since.
+# It prints what it did with each crate: added, updated, or as it was. The exit status is 2 for wrong words, and 1 where DEST
+# is this repository or a folder of it, where a name is no crate of this repository, and where a crate there was not copied by
+# this script or was changed since. Then nothing is changed.
 set -eu
 fail() {
     echo "vendor.sh: $*" >&2
     exit 1
 }
-[ $# -ge 1 ] || { echo "usage: sh scripts/vendor.sh DEST [CRATE..]" >&2; exit 2; }
+usage='usage: sh scripts/vendor.sh DEST [CRATE..]'
+[ $# -ge 1 ] || { echo "$usage" >&2; exit 2; }
+for word; do
+    case $word in '' | -*) echo "$usage" >&2; exit 2 ;; esac
+done
 [ -d "$1" ] || { echo "vendor.sh: no folder $1" >&2; exit 2; }
 dest=$(cd "$1" && pwd)
 shift
 cd "$(dirname "$0")/.."
-[ "$dest" != "$PWD" ] || fail "$dest is this repository"
+case $dest/ in "$PWD"/*) fail "$dest is this repository, or in it" ;; esac
 parts='LICENSE README.md src specs proofs'
 record=$dest/vendored.txt
 work=$(mktemp -d)

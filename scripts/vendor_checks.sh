@@ -54,7 +54,13 @@ echo 'mine: unsafe_libyaml' > "$project/crates.txt"
 : > "$work/said"
 expect 2 0 0
 expect 2 0 0 "$work/nowhere"
+expect 2 0 0 ''
+expect 2 0 0 --help
+expect 2 0 0 "$project" ''
+[ ! -e "$project/vendored.txt" ] || complain "wrong words change the project"
 expect 1 0 0 .
+expect 1 0 0 crates
+[ ! -e crates/vendored.txt ] || complain "the repository's own crates are a project"
 refuse no_such_crate "$project" no_such_crate
 below=$(grep '^unsafe_libyaml:' crates.txt | wc -w)
 expect 0 "$below" 0 "$project"
