@@ -26,7 +26,7 @@ use std::marker::Model;
 /// Every id in the items and pairs of its nodes names one of its nodes.
 ///
 /// libyaml: `yaml_document_t`.
-#[derive(Debug, Drop)]
+#[derive(Debug)]
 pub struct yaml_document_t {
     nodes: Vec<yaml_node_t>,
     version_directive: Option<yaml_version_directive_t>,
@@ -53,6 +53,22 @@ impl Model for yaml_document_t {
     } };
 
     ghost invariant = { λ d. AreNodes d.nodes.items };
+}
+
+impl Drop for yaml_document_t {
+    /// The last node goes first, as libyaml's does: what it frees then stays with the process.
+    fn drop(self) {
+        let yaml_document_t {
+            mut nodes,
+            version_directive: _,
+            tag_directives: _,
+            start_implicit: _,
+            end_implicit: _,
+            start_mark: _,
+            end_mark: _,
+        } = self;
+        while let Some(_) = nodes.pop() {}
+    }
 }
 
 impl yaml_document_t {

@@ -7,7 +7,7 @@
 //!
 //! The token is in a slot of the parser's. A function moves out of the slot what it keeps of the token; the
 //! rest is dropped when the next token is put there.
-ghost use Rattle.std.specs.Prelude.{◌≡◌, Ok, Err, OnOk, OnErr, true, is_some};
+ghost use Rattle.std.specs.Prelude.{if◌then◌else◌, ◌≡◌, Ok, Err, OnOk, OnErr, true, is_some};
 ghost use Rattle.libyaml_sources.specs.Fault.{memory_fault};
 ghost use Rattle.libyaml_grammar.specs.sentences.Events.{event};
 ghost use Rattle.libyaml_events.specs.machine.Config.{with_config, with_fault, at};
@@ -17,7 +17,8 @@ ghost use Rattle.libyaml_types.specs.declared.event.unnamed_yaml_event_t_data.Th
 ghost use Rattle.libyaml_events.specs.machine.Machine.{step, at_state, at_slot, process_empty_scalar};
 ghost use Rattle.libyaml_events.specs.machine.Machine.{close_collection};
 ghost use Rattle.libyaml_events.specs.machine.Steps.{Steps};
-ghost use Rattle.libyaml_events.specs.machine.Slots.{state_behind, entered};
+ghost use Rattle.libyaml_events.specs.machine.Slots.{state_behind, entered, place};
+ghost use Rattle.libyaml_events.specs.machine.Machine.{parse_node};
 ghost use Rattle.libyaml_events.specs.machine.Answers.{answer, wanted};
 ghost use Rattle.libyaml_events.specs.machine.Want.{Given};
 ghost use Rattle.libyaml_events.specs.machine.Growth.{enters, may_grow, may_grow_at};
@@ -81,29 +82,27 @@ impl<S> Machine<S> {
             Next::BehindDirective => self.parse_explicit_document(token, pending, out),
             Next::BehindProperties => self.parse_behind_properties(token, pending, out),
             Next::BehindBlockEntry => {
-                self.parse_slot(Slot::BlockEntry, pending.mark, token, pending, out)
+                self.parse_slot(Slot::BlockEntry, true, token, pending, out)
             }
             Next::BehindIndentlessEntry => {
-                self.parse_slot(Slot::IndentlessEntry, pending.mark, token, pending, out)
+                self.parse_slot(Slot::IndentlessEntry, true, token, pending, out)
             }
-            Next::BehindKey => self.parse_slot(Slot::BlockKey, pending.mark, token, pending, out),
-            Next::BehindValue => {
-                self.parse_slot(Slot::BlockValue, pending.mark, token, pending, out)
-            }
+            Next::BehindKey => self.parse_slot(Slot::BlockKey, true, token, pending, out),
+            Next::BehindValue => { self.parse_slot(Slot::BlockValue, true, token, pending, out) }
             Next::BehindFlowSequenceEntry => {
                 self.parse_behind_flow_sequence_entry(token, pending, out)
             }
             Next::BehindFlowSequenceValue => {
-                self.parse_slot(Slot::PairValue, token.start_mark, token, pending, out)
+                self.parse_slot(Slot::PairValue, false, token, pending, out)
             }
             Next::BehindFlowMappingEntry => {
                 self.parse_behind_flow_mapping_entry(token, pending, out)
             }
             Next::BehindFlowMappingKey => {
-                self.parse_slot(Slot::FlowKey, token.start_mark, token, pending, out)
+                self.parse_slot(Slot::FlowKey, false, token, pending, out)
             }
             Next::BehindFlowMappingValue => {
-                self.parse_slot(Slot::FlowValue, token.start_mark, token, pending, out)
+                self.parse_slot(Slot::FlowValue, false, token, pending, out)
             }
         }
     }
@@ -133,7 +132,7 @@ impl<S> Machine<S> {
                 self.parse_document_start(token, pending, out)
             }
             yaml_parser_state_t::YAML_PARSE_DOCUMENT_CONTENT_STATE => {
-                self.parse_slot(Slot::Document, token.start_mark, token, pending, out)
+                self.parse_slot(Slot::Document, false, token, pending, out)
             }
             yaml_parser_state_t::YAML_PARSE_DOCUMENT_END_STATE => {
                 self.parse_document_end(token, out);
@@ -188,7 +187,7 @@ impl<S> Machine<S> {
                 self.parse_flow_sequence_entry(token, pending, out)
             }
             yaml_parser_state_t::YAML_PARSE_FLOW_SEQUENCE_ENTRY_MAPPING_KEY_STATE => {
-                self.parse_slot(Slot::PairKey, token.start_mark, token, pending, out)
+                self.parse_slot(Slot::PairKey, false, token, pending, out)
             }
             yaml_parser_state_t::YAML_PARSE_FLOW_SEQUENCE_ENTRY_MAPPING_VALUE_STATE => {
                 self.parse_flow_sequence_entry_mapping_value(token, pending, out)
@@ -225,12 +224,13 @@ impl<S> Machine<S> {
     fn parse_slot(
         &mut self,
         slot: Slot,
-        mark: yaml_mark_t,
+        behind: bool,
         token: &mut yaml_token_t,
         pending: &mut Pending,
         out: &mut yaml_event_t,
     ) -> Result<Step, yaml_error_type_t>
-        ensures steps { Steps (at_slot slot mark self.old.config token.old token.old.content)
+        ensures steps { Steps (at_slot slot (if behind then pending.old.mark else token.old.start_mark)
+            self.old.config token.old token.old.content)
             self.old (answer result pending.new out.new) self.new }
         ensures grows { result ≡ Err yaml_error_type_t.YAML_MEMORY_ERROR
             → enters slot token.old.content ≡ true }
@@ -240,25 +240,34 @@ impl<S> Machine<S> {
                 Some(state) => self.set_state(state),
                 None => self.pop_state(),
             }
+            let mark = if behind {
+                pending.mark
+            } else {
+                token.start_mark
+            };
             self.process_empty_scalar(mark, token, out);
             return Ok(Step::Given);
         }
-        self.push_state_behind(slot)?;
-        self.parse_node(slot.place(), token, pending, out)
+        self.parse_node_behind(slot, token, pending, out)
     }
 
-    /// Pushes the state that follows the place's node. That of a document's node is on the stack already.
+    /// A node at its first token, where it may be left out but isn't. The state after a document's node is on the stack
+    /// already.
     #[inline(always)]
-    fn push_state_behind(&mut self, slot: Slot) -> Result<(), yaml_error_type_t>
-        ensures ok { OnOk result (self.new
-            ≡ with_config self.old (entered (state_behind slot) self.old.config)) }
-        ensures err { OnErr result ((result ≡ Err yaml_error_type_t.YAML_MEMORY_ERROR)
-            × (self.new ≡ with_config self.old (with_fault self.old.config memory_fault))) }
-        ensures grows { OnErr result (is_some (state_behind slot) ≡ true) }
+    fn parse_node_behind(
+        &mut self,
+        slot: Slot,
+        token: &mut yaml_token_t,
+        pending: &mut Pending,
+        out: &mut yaml_event_t,
+    ) -> Result<Step, yaml_error_type_t>
+        ensures steps { Steps (parse_node (place slot) (entered (state_behind slot) self.old.config) token.old
+            token.old.content) self.old (answer result pending.new out.new) self.new }
+        ensures grows { result ≡ Err yaml_error_type_t.YAML_MEMORY_ERROR → is_some (state_behind slot) ≡ true }
     {
         match slot.state_behind() {
-            Some(state) => self.push_state(state),
-            None => Ok(()),
+            Some(state) => self.parse_node_then(state, slot.place(), token, pending, out),
+            None => self.parse_node(slot.place(), token, pending, out),
         }
     }
 

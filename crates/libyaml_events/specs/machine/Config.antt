@@ -87,7 +87,7 @@ token_if false t = None
 abbrev pub token_at : unnamed_yaml_token_t_data → yaml_token_t → yaml_token_t
 token_at content t = record t { content = content }
 
--- The token that stays, where one does. Of a token that opens a collection the marks alone are kept.
+-- The token that stays, where one does. Of a token without fields the marks alone are kept.
 abbrev pub kept_token : Kept → yaml_token_t → Option yaml_token_t
 kept_token kept.Nothing t = None
 kept_token kept.Token t = Some t
@@ -95,15 +95,35 @@ kept_token kept.BlockSequence t = Some (token_at content_of.BlockSequenceStart t
 kept_token kept.BlockMapping t = Some (token_at content_of.BlockMappingStart t)
 kept_token kept.FlowSequence t = Some (token_at content_of.FlowSequenceStart t)
 kept_token kept.FlowMapping t = Some (token_at content_of.FlowMappingStart t)
+kept_token kept.StreamEnd t = Some (token_at content_of.StreamEnd t)
+kept_token kept.DocumentStart t = Some (token_at content_of.DocumentStart t)
+kept_token kept.DocumentEnd t = Some (token_at content_of.DocumentEnd t)
+kept_token kept.BlockEnd t = Some (token_at content_of.BlockEnd t)
+kept_token kept.FlowSequenceEnd t = Some (token_at content_of.FlowSequenceEnd t)
+kept_token kept.FlowMappingEnd t = Some (token_at content_of.FlowMappingEnd t)
+kept_token kept.BlockEntry t = Some (token_at content_of.BlockEntry t)
+kept_token kept.FlowEntry t = Some (token_at content_of.FlowEntry t)
+kept_token kept.Key t = Some (token_at content_of.Key t)
+kept_token kept.Value t = Some (token_at content_of.Value t)
 
--- which opening token stays, where one does
-abbrev pub opening_of : Kept → Option unnamed_yaml_token_t_data
-opening_of kept.Nothing = None
-opening_of kept.Token = None
-opening_of kept.BlockSequence = Some content_of.BlockSequenceStart
-opening_of kept.BlockMapping = Some content_of.BlockMappingStart
-opening_of kept.FlowSequence = Some content_of.FlowSequenceStart
-opening_of kept.FlowMapping = Some content_of.FlowMappingStart
+-- which token without fields stays, where one does
+abbrev pub kept_content : Kept → Option unnamed_yaml_token_t_data
+kept_content kept.Nothing = None
+kept_content kept.Token = None
+kept_content kept.BlockSequence = Some content_of.BlockSequenceStart
+kept_content kept.BlockMapping = Some content_of.BlockMappingStart
+kept_content kept.FlowSequence = Some content_of.FlowSequenceStart
+kept_content kept.FlowMapping = Some content_of.FlowMappingStart
+kept_content kept.StreamEnd = Some content_of.StreamEnd
+kept_content kept.DocumentStart = Some content_of.DocumentStart
+kept_content kept.DocumentEnd = Some content_of.DocumentEnd
+kept_content kept.BlockEnd = Some content_of.BlockEnd
+kept_content kept.FlowSequenceEnd = Some content_of.FlowSequenceEnd
+kept_content kept.FlowMappingEnd = Some content_of.FlowMappingEnd
+kept_content kept.BlockEntry = Some content_of.BlockEntry
+kept_content kept.FlowEntry = Some content_of.FlowEntry
+kept_content kept.Key = Some content_of.Key
+kept_content kept.Value = Some content_of.Value
 
 -- where the token that stays begins
 abbrev pub kept_start : Option yaml_token_t → yaml_mark_t

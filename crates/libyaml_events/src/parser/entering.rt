@@ -23,8 +23,8 @@ impl<S> Machine<S> {
             × Enters self.old (Err e) self.new) }
     {
         match self.kept {
-            Kept::Nothing | Kept::Token => return Ok(false),
-            _ => {}
+            Kept::BlockSequence | Kept::BlockMapping | Kept::FlowSequence | Kept::FlowMapping => {}
+            _ => return Ok(false),
         }
         match self.state {
             yaml_parser_state_t::YAML_PARSE_BLOCK_SEQUENCE_FIRST_ENTRY_STATE => {

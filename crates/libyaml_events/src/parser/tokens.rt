@@ -1,11 +1,11 @@
 //! The next token: one that stayed, or else the source's.
 ghost use Rattle.std.specs.Prelude.{◌≡◌, Ok, Err, Some, MatchResult, IfErr, is_some, true};
 ghost use Rattle.libyaml_events.specs.machine.Config.{with_config, with_fault, keep, is_fault, taken};
-ghost use Rattle.libyaml_events.specs.machine.Config.{opening_of, token_if};
+ghost use Rattle.libyaml_events.specs.machine.Config.{kept_content, token_if};
 ghost use Rattle.libyaml_sources.specs.Errors.{IsSourceError};
 ghost use Rattle.libyaml_events.specs.sources.Calls.{Fetches};
 
-use crate::kept::Kept;
+use crate::kept::{Kept, kept_of, put_kept};
 use crate::parser::Machine;
 use libyaml_sources::yaml_token_source_t;
 use libyaml_types::{ZERO_MARK, unnamed_yaml_token_t_data, yaml_error_type_t, yaml_token_t};
@@ -27,15 +27,20 @@ impl<S> Machine<S> {
     pub(crate) fn keep(&mut self, token: &mut yaml_token_t)
         ensures { self.new ≡ with_config self.old (keep token.old self.old.config) }
     {
-        mem::swap(&mut self.held, token);
-        self.kept = Kept::Token;
+        match kept_of(&token.content) {
+            Some(kept) => self.keep_marks(kept, token),
+            None => {
+                mem::swap(&mut self.held, token);
+                self.kept = Kept::Token;
+            }
+        }
     }
 
-    /// The token that opens a collection stays, to be looked at again: its marks are kept.
+    /// A token without fields stays, to be looked at again: its marks are kept.
     #[inline(always)]
-    #[tactic(auto, using(crate::proofs::code::KeptLemmas::kept_opening))]
-    pub(crate) fn keep_opening(&mut self, kept: Kept, token: &yaml_token_t)
-        requires { opening_of kept ≡ Some token.now.content }
+    #[tactic(auto, using(crate::proofs::code::KeptLemmas::kept_marks))]
+    pub(crate) fn keep_marks(&mut self, kept: Kept, token: &yaml_token_t)
+        requires { kept_content kept ≡ Some token.now.content }
         ensures { self.new ≡ with_config self.old (keep token.now self.old.config) }
     {
         self.held.start_mark = token.start_mark;
@@ -45,19 +50,31 @@ impl<S> Machine<S> {
 
     /// Puts the token that stayed into `token`.
     #[inline(never)]
+    #[tactic(auto, using(crate::proofs::code::KeptLemmas::kept_marks))]
     fn take_kept(&mut self, token: &mut yaml_token_t)
         requires { is_some self.old.config.lookahead ≡ true }
         ensures token { self.old.config.lookahead ≡ Some token.new }
         ensures taken { self.new ≡ with_config self.old (taken self.old.config) }
     {
-        mem::swap(token, &mut self.held);
+        token.start_mark = self.held.start_mark;
+        token.end_mark = self.held.end_mark;
         match self.kept {
             Kept::Nothing => unreachable!(),
-            Kept::Token => {}
-            Kept::BlockSequence => token.content = unnamed_yaml_token_t_data::BlockSequenceStart,
-            Kept::BlockMapping => token.content = unnamed_yaml_token_t_data::BlockMappingStart,
-            Kept::FlowSequence => token.content = unnamed_yaml_token_t_data::FlowSequenceStart,
-            Kept::FlowMapping => token.content = unnamed_yaml_token_t_data::FlowMappingStart,
+            Kept::Token => mem::swap(&mut token.content, &mut self.held.content),
+            Kept::StreamEnd
+            | Kept::DocumentStart
+            | Kept::DocumentEnd
+            | Kept::BlockSequence
+            | Kept::BlockMapping
+            | Kept::BlockEnd
+            | Kept::FlowSequence
+            | Kept::FlowSequenceEnd
+            | Kept::FlowMapping
+            | Kept::FlowMappingEnd
+            | Kept::BlockEntry
+            | Kept::FlowEntry
+            | Kept::Key
+            | Kept::Value => put_kept(self.kept, &mut token.content),
         }
         self.kept = Kept::Nothing;
     }

@@ -39,10 +39,9 @@ ghost use Rattle.libyaml_events.specs.machine.Answers.{answer};
 use crate::next::{Next, Step};
 use crate::parser::Machine;
 use crate::pending::Pending;
-use crate::states::give;
+use crate::states::contents::put_sequence_end;
 use libyaml_types::{
-    unnamed_yaml_event_t_data, unnamed_yaml_token_t_data, yaml_error_type_t, yaml_event_t,
-    yaml_parser_state_t, yaml_token_t,
+    unnamed_yaml_token_t_data, yaml_error_type_t, yaml_event_t, yaml_parser_state_t, yaml_token_t,
 };
 
 impl<S> Machine<S> {
@@ -94,9 +93,10 @@ impl<S> Machine<S> {
             }
             _ => {
                 self.pop_state();
-                let mark = token.start_mark;
+                out.start_mark = token.start_mark;
+                out.end_mark = token.start_mark;
                 self.keep(token);
-                give(out, unnamed_yaml_event_t_data::SequenceEnd, mark, mark);
+                put_sequence_end(&mut out.content);
                 Ok(Step::Given)
             }
         }

@@ -56,11 +56,10 @@ use crate::next::{Next, Step};
 use crate::node_place::NodePlace;
 use crate::parser::Machine;
 use crate::pending::Pending;
-use crate::states::give;
-use crate::states::nodes::mapping_start;
+use crate::states::contents::{put_mapping_end, put_mapping_start};
 use libyaml_types::{
-    unnamed_yaml_event_t_data, unnamed_yaml_token_t_data, yaml_error_type_t, yaml_event_t,
-    yaml_mapping_style_t, yaml_parser_state_t, yaml_token_t,
+    unnamed_yaml_token_t_data, yaml_error_type_t, yaml_event_t, yaml_mapping_style_t,
+    yaml_parser_state_t, yaml_token_t,
 };
 
 impl<S> Machine<S> {
@@ -117,17 +116,22 @@ impl<S> Machine<S> {
                 self.set_state(
                     yaml_parser_state_t::YAML_PARSE_FLOW_SEQUENCE_ENTRY_MAPPING_KEY_STATE,
                 );
-                let event = mapping_start(
-                    None,
-                    None,
+                out.start_mark = token.start_mark;
+                out.end_mark = token.end_mark;
+                put_mapping_start(
                     yaml_mapping_style_t::YAML_FLOW_MAPPING_STYLE,
+                    &mut out.content,
                 );
-                give(out, event, token.start_mark, token.end_mark);
                 Ok(Step::Given)
             }
             _ => {
-                self.push_state(yaml_parser_state_t::YAML_PARSE_FLOW_SEQUENCE_ENTRY_STATE)?;
-                self.parse_node(NodePlace::Flow, token, pending, out)
+                self.parse_node_then(
+                    yaml_parser_state_t::YAML_PARSE_FLOW_SEQUENCE_ENTRY_STATE,
+                    NodePlace::Flow,
+                    token,
+                    pending,
+                    out,
+                )
             }
         }
     }
@@ -166,9 +170,10 @@ impl<S> Machine<S> {
             (Ok (Given out.new)) self.new }
     {
         self.set_state(yaml_parser_state_t::YAML_PARSE_FLOW_SEQUENCE_ENTRY_STATE);
-        let mark = token.start_mark;
+        out.start_mark = token.start_mark;
+        out.end_mark = token.start_mark;
         self.keep(token);
-        give(out, unnamed_yaml_event_t_data::MappingEnd, mark, mark);
+        put_mapping_end(&mut out.content);
     }
 
     pub(super) fn parse_flow_mapping_key(
@@ -221,8 +226,13 @@ impl<S> Machine<S> {
             }
             unnamed_yaml_token_t_data::Key => { Ok(pending.want(Next::BehindFlowMappingKey)) }
             _ => {
-                self.push_state(yaml_parser_state_t::YAML_PARSE_FLOW_MAPPING_EMPTY_VALUE_STATE)?;
-                self.parse_node(NodePlace::Flow, token, pending, out)
+                self.parse_node_then(
+                    yaml_parser_state_t::YAML_PARSE_FLOW_MAPPING_EMPTY_VALUE_STATE,
+                    NodePlace::Flow,
+                    token,
+                    pending,
+                    out,
+                )
             }
         }
     }

@@ -31,7 +31,11 @@ ghost use Rattle.libyaml_events.specs.machine.Growth.{joins, joins_before};
 ghost use Rattle.libyaml_events.specs.machine.Steps.{Steps};
 ghost use Rattle.libyaml_events.specs.machine.Answers.{answer, given};
 ghost use Rattle.libyaml_events.specs.machine.Want.{Given};
-ghost use Rattle.libyaml_events.specs.machine.Config.{opening_of, popped, with_config, with_fault};
+ghost use Rattle.libyaml_grammar.specs.sentences.Events.{event};
+ghost use Rattle.libyaml_types.specs.Numbers.{parser_state_number};
+ghost use Rattle.libyaml_events.specs.machine.State.{IsBackByte};
+ghost use Rattle.libyaml_events.specs.machine.Config.{pushed};
+ghost use Rattle.libyaml_events.specs.machine.Config.{kept_content, popped, with_config, with_fault};
 ghost use Rattle.libyaml_grammar.specs.cuts.FaultTexts.{content_fault};
 
 use crate::kept::Kept;
@@ -185,6 +189,23 @@ fn tag_read(alloc: Global, tag: &mut unnamed_yaml_token_t_data_tag, mark: yaml_m
     }
 }
 
+/// Gives a scalar without properties.
+#[inline(never)]
+fn give_scalar(
+    alloc: Global,
+    content: &mut unnamed_yaml_token_t_data_scalar,
+    start_mark: &yaml_mark_t,
+    end_mark: &yaml_mark_t,
+    out: &mut yaml_event_t,
+)
+    ensures { out.new ≡ event (scalar None None content.old.value (plain_flag None content.old.style)
+        (quoted_flag None content.old.style) content.old.style) start_mark.now end_mark.now }
+{
+    out.start_mark = *start_mark;
+    out.end_mark = *end_mark;
+    put_bare_scalar(alloc, content, &mut out.content);
+}
+
 impl<S> Machine<S> {
     /// A node at its first token, where it may not be empty.
     #[inline(always)]
@@ -230,9 +251,37 @@ impl<S> Machine<S> {
             self.old.config content.old end_mark.now) self.old (Ok (Given out.new)) self.new }
     {
         self.pop_state();
-        out.start_mark = *start_mark;
-        out.end_mark = *end_mark;
-        put_bare_scalar(self.allocator(), content, &mut out.content);
+        give_scalar(self.allocator(), content, start_mark, end_mark, out);
+    }
+
+    /// A node at its first token, after which `state` comes. A scalar without properties is the whole node, so that no state
+    /// is pushed for it.
+    #[inline(always)]
+    pub(super) fn parse_node_then(
+        &mut self,
+        state: yaml_parser_state_t,
+        place: NodePlace,
+        token: &mut yaml_token_t,
+        pending: &mut Pending,
+        out: &mut yaml_event_t,
+    ) -> Result<Step, yaml_error_type_t>
+        requires { IsBackByte (parser_state_number state) }
+        ensures { Steps (parse_node place (pushed state self.old.config) token.old token.old.content) self.old
+            (answer result pending.new out.new) self.new }
+    {
+        if let unnamed_yaml_token_t_data::Scalar(scalar) = &mut token.content {
+            self.set_state(state);
+            give_scalar(
+                self.allocator(),
+                scalar,
+                &token.start_mark,
+                &token.end_mark,
+                out,
+            );
+            return Ok(Step::Given);
+        }
+        self.push_state(state)?;
+        self.parse_node(place, token, pending, out)
     }
 
     /// An alias, which is the whole node.
@@ -375,14 +424,14 @@ impl<S> Machine<S> {
         token: &yaml_token_t,
         out: &mut yaml_event_t,
     )
-        requires { opening_of kept ≡ Some token.now.content }
+        requires { kept_content kept ≡ Some token.now.content }
         ensures { Steps (open_collection (collection_start None None style) state token.now.start_mark
             self.old.config token.now) self.old (Ok (Given out.new)) self.new }
     {
         self.set_state(state);
         out.start_mark = token.start_mark;
         out.end_mark = token.end_mark;
-        self.keep_opening(kept, token);
+        self.keep_marks(kept, token);
         match style {
             CollectionStyle::Sequence(style) => put_sequence_start(style, &mut out.content),
             CollectionStyle::Mapping(style) => put_mapping_start(style, &mut out.content),
