@@ -98,7 +98,7 @@ check vendor sha256sum -- sh scripts/vendor_checks.sh
 check calling rt -- sh scripts/calling_steps.sh
 check statuses $yamltokens -- sh scripts/statuses.sh $yamltokens
 check slow_pipe python3 $yamltokens -- python3 scripts/slow_pipe.py $yamltokens
-check inlined nm $yamltokens -- sh scripts/inlined.sh $yamltokens
+check inlined nm $yamltokens crates/bench_lists/out/bench_lists -- sh scripts/inlined.sh $yamltokens crates/bench_lists/out/bench_lists
 check faults_of_yaml.py PyYAML $yamltokens -- python3 scripts/compare_faults.py $front
 for rows in hostile_rows line_rows yaml_rows; do
     check "allocations_of_$rows" cc timeout crates/$rows/out/$rows -- sh scripts/allocation_failures.sh $rows

@@ -2,7 +2,9 @@
 # inlined.sh PROGRAM..: what the figures of docs/PERFORMANCE.md rest on. Names each function marked #[inline(always)] that
 # still stands in a program's symbols, as `enter` or `append_number`, and each one marked #[inline(never)], as `bare_scalar`,
 # that does not, in a program that has others of its crate. Fails where there is one, where a mark's function isn't found
-# in the code, and where a program has no symbols of the crates. `bench_lists` has the parser that is handed its tokens too.
+# in the code, and where a program has no symbols of the crates. `bench_lists` has the parser that is handed its tokens too,
+# and two loops `for event in parser.by_ref()`: the kit's `next` by reference, which has no mark, is inlined into them, or is
+# named.
 #
 #     sh scripts/inlined.sh crates/yamltokens/out/yamltokens crates/bench_lists/out/bench_lists
 set -eu
@@ -45,5 +47,9 @@ for program; do
             exit wrong
         }
     ' "$work/symbols" "$work/marked" >&2 || status=1
+    if grep -q '^bench_lists ' "$work/symbols" && grep -q '^core RefMutIterator next$' "$work/symbols"; then
+        echo "$program: a function of its own: next of an iterator by reference" >&2
+        status=1
+    fi
 done
 exit $status
