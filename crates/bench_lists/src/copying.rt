@@ -14,15 +14,40 @@ use libyaml_events::{
 use std::alloc::AllocError;
 use std::marker::Model;
 
+/// Makes a copy of a token in a slot.
+pub trait Copier {
+    fn copy_into(
+        &mut self,
+        token: &yaml_token_t,
+        slot: &mut yaml_token_t,
+    ) -> Result<(), AllocError>;
+}
+
+/// Makes each text anew.
+#[derive(Drop)]
+pub struct Afresh;
+
+impl Copier for Afresh {
+    #[inline(always)]
+    fn copy_into(
+        &mut self,
+        token: &yaml_token_t,
+        slot: &mut yaml_token_t,
+    ) -> Result<(), AllocError> {
+        copy_into(token, slot)
+    }
+}
+
 /// Copies of tokens, one after another, and then a fault for good.
 #[derive(Drop)]
-pub struct Copying<'a> {
+pub struct Copying<'a, C> {
     /// The tokens of which no copy was made yet.
     tokens: &'a [yaml_token_t],
+    copier: C,
     fault: yaml_source_fault_t,
 }
 
-impl<'a> Model for Copying<'a> {
+impl<'a, C> Model for Copying<'a, C> {
     ghost use Rattle.std.specs.Prelude.{length};
     ghost use Rattle.libyaml_sources.specs.Fault.{source_fault};
     ghost use Rattle.bench_lists.specs.Copying.{Copies};
@@ -32,13 +57,17 @@ impl<'a> Model for Copying<'a> {
     ghost view = { λ s. record { left = length s.tokens.now; fault = source_fault s.fault } };
 }
 
-impl<'a> Copying<'a> {
+impl<'a, C> Copying<'a, C> {
     /// A source of copies of these tokens. Takes no memory.
-    pub fn new(tokens: &'a [yaml_token_t]) -> Self
+    pub fn new(tokens: &'a [yaml_token_t], copier: C) -> Self
         ensures { result.left ≡ length tokens.now }
     {
         let fault = end_of_list();
-        Copying { tokens, fault }
+        Copying {
+            tokens,
+            copier,
+            fault,
+        }
     }
 
     /// Leaves no token, for out of memory.
@@ -51,7 +80,7 @@ impl<'a> Copying<'a> {
     }
 }
 
-impl<'a> yaml_token_source_t for Copying<'a> {
+impl<'a, C: Copier> yaml_token_source_t for Copying<'a, C> {
     ghost bound = { λ s. s.left };
 
     ghost gives = { Gives };
@@ -78,7 +107,7 @@ impl<'a> yaml_token_source_t for Copying<'a> {
             return Err(self.fault);
         };
         self.tokens = others;
-        if copy_into(first, token).is_err() {
+        if self.copier.copy_into(first, token).is_err() {
             self.break_off();
             return Err(self.fault);
         }
@@ -168,7 +197,7 @@ fn copied_rare(
 }
 
 /// Returns a copy of a token's content that has no text.
-fn copied_small(content: &unnamed_yaml_token_t_data) -> unnamed_yaml_token_t_data {
+pub(crate) fn copied_small(content: &unnamed_yaml_token_t_data) -> unnamed_yaml_token_t_data {
     use unnamed_yaml_token_t_data as Content;
     match content {
         Content::StreamStart(start) => {
@@ -193,7 +222,7 @@ fn copy_tag(
     })
 }
 
-fn copy_directive(
+pub(crate) fn copy_directive(
     directive: &unnamed_yaml_token_t_data_tag_directive,
 ) -> Result<unnamed_yaml_token_t_data_tag_directive, AllocError> {
     Ok(unnamed_yaml_token_t_data_tag_directive {

@@ -6,6 +6,7 @@
 #![tactic(auto)]
 
 mod copying;
+mod reusing;
 mod rounds;
 mod tally;
 

@@ -1,6 +1,7 @@
 //! The works, and rounds of them.
 
-use crate::copying::{Copying, copy_into, no_token};
+use crate::copying::{Afresh, Copying, copy_into, no_token};
+use crate::reusing::Reusing;
 use crate::tally::{Checksum, Count, Tally};
 use libyaml_events::{
     is_stream_end, no_event, yaml_event_t, yaml_list_source_t, yaml_parser_between_documents,
@@ -17,6 +18,10 @@ pub enum Work {
     PlaceEvents,
     /// Nodes, each copy made in the parser's slot.
     PlaceNodes,
+    /// Events, each copy made in the parser's slot, its texts in the memory of earlier ones.
+    ReuseEvents,
+    /// Nodes, each copy made so.
+    ReuseNodes,
     /// Events, over a list of copies.
     ListEvents,
     /// Nodes, over a list of copies.
@@ -35,9 +40,11 @@ pub enum Work {
 
 impl Work {
     /// All of them.
-    pub const ALL: [Work; 9] = [
+    pub const ALL: [Work; 11] = [
         Work::PlaceEvents,
         Work::PlaceNodes,
+        Work::ReuseEvents,
+        Work::ReuseNodes,
         Work::ListEvents,
         Work::ListNodes,
         Work::PushEvents,
@@ -52,6 +59,8 @@ impl Work {
         match self {
             Work::PlaceEvents => "place-events",
             Work::PlaceNodes => "place-nodes",
+            Work::ReuseEvents => "reuse-events",
+            Work::ReuseNodes => "reuse-nodes",
             Work::ListEvents => "list-events",
             Work::ListNodes => "list-nodes",
             Work::PushEvents => "push-events",
@@ -102,14 +111,16 @@ pub fn run_rounds(alloc: Global, work: Work, n: u32, tokens: &[yaml_token_t]) ->
 /// One round. Returns `None` where it met a fault.
 fn run<T: Tally>(alloc: Global, work: Work, tokens: &[yaml_token_t], tally: &mut T) -> Option<()> {
     match work {
-        Work::PlaceEvents => parse(alloc, Copying::new(tokens), tally),
-        Work::PlaceNodes => load(alloc, Copying::new(tokens), tally),
+        Work::PlaceEvents => parse(alloc, Copying::new(tokens, Afresh), tally),
+        Work::PlaceNodes => load(alloc, Copying::new(tokens, Afresh), tally),
+        Work::ReuseEvents => parse(alloc, Copying::new(tokens, Reusing::new(alloc)), tally),
+        Work::ReuseNodes => load(alloc, Copying::new(tokens, Reusing::new(alloc)), tally),
         Work::ListEvents => parse(alloc, list_of_copies(alloc, tokens).ok()?, tally),
         Work::ListNodes => load(alloc, list_of_copies(alloc, tokens).ok()?, tally),
         Work::PushEvents => push(alloc, tokens, tally),
-        Work::ValueEvents => parse_by_value(alloc, Copying::new(tokens), tally),
-        Work::IterateEvents => iterate(alloc, Copying::new(tokens), tally),
-        Work::IterateNodes => iterate_documents(alloc, Copying::new(tokens), tally),
+        Work::ValueEvents => parse_by_value(alloc, Copying::new(tokens, Afresh), tally),
+        Work::IterateEvents => iterate(alloc, Copying::new(tokens, Afresh), tally),
+        Work::IterateNodes => iterate_documents(alloc, Copying::new(tokens, Afresh), tally),
         Work::ListTokens => list_of_copies(alloc, tokens).ok().map(|_| ()),
     }
 }

@@ -68,6 +68,8 @@ pub(crate) struct Machine<S> {
     marks: Vec<yaml_mark_t>,
     handles: BTreeMap<String, String>,
     behind_document_end: bool,
+    /// The text of an earlier event, whose memory a later token's may take. Its value has no meaning.
+    pub(crate) spare: String,
     prefix: yaml_parser_t_prefix,
     max_entries: MaxEntries,
     alloc: Global,
@@ -240,6 +242,7 @@ impl<S> Machine<S> {
             marks: Vec::new(alloc),
             handles: BTreeMap::new(alloc),
             behind_document_end: false,
+            spare: String::new(alloc),
             prefix: NO_FAULT,
             max_entries: MaxEntries::all(),
             alloc,

@@ -328,7 +328,7 @@ impl<S> Machine<S> {
         self.leave_collection();
         out.start_mark = token.start_mark;
         out.end_mark = token.end_mark;
-        put_sequence_end(&mut out.content);
+        put_sequence_end(&mut self.spare, &mut out.content);
     }
 
     /// Gives the end event of a mapping, at the token that closes it.
@@ -340,6 +340,6 @@ impl<S> Machine<S> {
         self.leave_collection();
         out.start_mark = token.start_mark;
         out.end_mark = token.end_mark;
-        put_mapping_end(&mut out.content);
+        put_mapping_end(&mut self.spare, &mut out.content);
     }
 }

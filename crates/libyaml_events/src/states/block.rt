@@ -96,7 +96,7 @@ impl<S> Machine<S> {
                 out.start_mark = token.start_mark;
                 out.end_mark = token.start_mark;
                 self.keep(token);
-                put_sequence_end(&mut out.content);
+                put_sequence_end(&mut self.spare, &mut out.content);
                 Ok(Step::Given)
             }
         }

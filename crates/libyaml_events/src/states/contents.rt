@@ -30,10 +30,26 @@ fn drop_properties(anchor: &mut Option<String>, tag: &mut Option<String>)
     *tag = None;
 }
 
-/// Puts a scalar without properties into `content`. Its text is moved out of its token.
+/// The largest text that is kept, in bytes.
+const MAX_SPARE: usize = 1 << 16;
+
+/// Keeps the text of a scalar that is to be replaced, where it has more room than the one that was kept: a
+/// later token's text may take its memory. A text beyond `MAX_SPARE` is dropped with its event.
+#[inline(always)]
+fn keep_text(spare: &mut String, content: &mut unnamed_yaml_event_t_data) {
+    if let unnamed_yaml_event_t_data::Scalar(event) = content {
+        let room = event.value.capacity();
+        if room > spare.capacity() && room <= MAX_SPARE {
+            mem::swap(&mut event.value, spare);
+        }
+    }
+}
+
+/// Puts a scalar without properties into `content`. Its text is moved out of its token, into whose slot the
+/// text of an earlier event goes.
 #[inline(always)]
 pub(super) fn put_bare_scalar(
-    alloc: Global,
+    spare: &mut String,
     token: &mut unnamed_yaml_token_t_data_scalar,
     content: &mut unnamed_yaml_event_t_data,
 )
@@ -51,20 +67,20 @@ pub(super) fn put_bare_scalar(
         }
         return;
     }
-    replace_by_scalar(alloc, token, content);
+    replace_by_scalar(spare, token, content);
 }
 
 /// Puts a scalar without properties in the place of `content`.
 #[inline(never)]
 fn replace_by_scalar(
-    alloc: Global,
+    spare: &mut String,
     token: &mut unnamed_yaml_token_t_data_scalar,
     content: &mut unnamed_yaml_event_t_data,
 )
     ensures { content.new ≡ scalar None None token.old.value (plain_flag None token.old.style)
         (quoted_flag None token.old.style) token.old.style }
 {
-    replace_by_empty_scalar(alloc, content);
+    replace_by_empty_scalar(*spare.allocator(), content);
     if let unnamed_yaml_event_t_data::Scalar(event) = content {
         let plain_implicit = is_plain(token.style);
         mem::swap(&mut event.value, &mut token.value);
@@ -72,6 +88,7 @@ fn replace_by_scalar(
         event.quoted_implicit = !plain_implicit;
         event.style = token.style;
     }
+    mem::swap(spare, &mut token.value);
 }
 
 /// Puts a scalar that is left out into `content`.
@@ -131,6 +148,7 @@ fn any_by_empty_scalar(alloc: Global, content: &mut unnamed_yaml_event_t_data)
 #[inline(always)]
 pub(super) fn put_sequence_start(
     style: yaml_sequence_style_t,
+    spare: &mut String,
     content: &mut unnamed_yaml_event_t_data,
 )
     ensures { content.new ≡ sequence_start None None style }
@@ -143,14 +161,19 @@ pub(super) fn put_sequence_start(
         }
         return;
     }
-    replace_by_sequence_start(style, content);
+    replace_by_sequence_start(style, spare, content);
 }
 
 /// Puts the start of a sequence without properties in the place of `content`.
 #[inline(never)]
-fn replace_by_sequence_start(style: yaml_sequence_style_t, content: &mut unnamed_yaml_event_t_data)
+fn replace_by_sequence_start(
+    style: yaml_sequence_style_t,
+    spare: &mut String,
+    content: &mut unnamed_yaml_event_t_data,
+)
     ensures { content.new ≡ sequence_start None None style }
 {
+    keep_text(spare, content);
     match content {
         unnamed_yaml_event_t_data::Scalar(event) if event.anchor.is_none() && event.tag.is_none() =>
             {
@@ -179,6 +202,7 @@ fn any_by_sequence_start(style: yaml_sequence_style_t, content: &mut unnamed_yam
 #[inline(always)]
 pub(super) fn put_mapping_start(
     style: yaml_mapping_style_t,
+    spare: &mut String,
     content: &mut unnamed_yaml_event_t_data,
 )
     ensures { content.new ≡ mapping_start None None style }
@@ -191,14 +215,19 @@ pub(super) fn put_mapping_start(
         }
         return;
     }
-    replace_by_mapping_start(style, content);
+    replace_by_mapping_start(style, spare, content);
 }
 
 /// Puts the start of a mapping without properties in the place of `content`.
 #[inline(never)]
-fn replace_by_mapping_start(style: yaml_mapping_style_t, content: &mut unnamed_yaml_event_t_data)
+fn replace_by_mapping_start(
+    style: yaml_mapping_style_t,
+    spare: &mut String,
+    content: &mut unnamed_yaml_event_t_data,
+)
     ensures { content.new ≡ mapping_start None None style }
 {
+    keep_text(spare, content);
     match content {
         unnamed_yaml_event_t_data::Scalar(event) if event.anchor.is_none() && event.tag.is_none() =>
             {
@@ -225,20 +254,21 @@ fn any_by_mapping_start(style: yaml_mapping_style_t, content: &mut unnamed_yaml_
 
 /// Puts the end of a sequence into `content`.
 #[inline(always)]
-pub(super) fn put_sequence_end(content: &mut unnamed_yaml_event_t_data)
+pub(super) fn put_sequence_end(spare: &mut String, content: &mut unnamed_yaml_event_t_data)
     ensures { content.new ≡ SequenceEnd }
 {
     match content {
         unnamed_yaml_event_t_data::SequenceEnd => {}
-        _ => replace_by_sequence_end(content),
+        _ => replace_by_sequence_end(spare, content),
     }
 }
 
 /// Puts the end of a sequence in the place of `content`.
 #[inline(never)]
-fn replace_by_sequence_end(content: &mut unnamed_yaml_event_t_data)
+fn replace_by_sequence_end(spare: &mut String, content: &mut unnamed_yaml_event_t_data)
     ensures { content.new ≡ SequenceEnd }
 {
+    keep_text(spare, content);
     match content {
         unnamed_yaml_event_t_data::Scalar(event) if event.anchor.is_none() && event.tag.is_none() =>
             {
@@ -268,20 +298,21 @@ fn any_by_sequence_end(content: &mut unnamed_yaml_event_t_data)
 
 /// Puts the end of a mapping into `content`.
 #[inline(always)]
-pub(super) fn put_mapping_end(content: &mut unnamed_yaml_event_t_data)
+pub(super) fn put_mapping_end(spare: &mut String, content: &mut unnamed_yaml_event_t_data)
     ensures { content.new ≡ MappingEnd }
 {
     match content {
         unnamed_yaml_event_t_data::MappingEnd => {}
-        _ => replace_by_mapping_end(content),
+        _ => replace_by_mapping_end(spare, content),
     }
 }
 
 /// Puts the end of a mapping in the place of `content`.
 #[inline(never)]
-fn replace_by_mapping_end(content: &mut unnamed_yaml_event_t_data)
+fn replace_by_mapping_end(spare: &mut String, content: &mut unnamed_yaml_event_t_data)
     ensures { content.new ≡ MappingEnd }
 {
+    keep_text(spare, content);
     match content {
         unnamed_yaml_event_t_data::Scalar(event) if event.anchor.is_none() && event.tag.is_none() =>
             {

@@ -120,6 +120,7 @@ impl<S> Machine<S> {
                 out.end_mark = token.end_mark;
                 put_mapping_start(
                     yaml_mapping_style_t::YAML_FLOW_MAPPING_STYLE,
+                    &mut self.spare,
                     &mut out.content,
                 );
                 Ok(Step::Given)
@@ -173,7 +174,7 @@ impl<S> Machine<S> {
         out.start_mark = token.start_mark;
         out.end_mark = token.start_mark;
         self.keep(token);
-        put_mapping_end(&mut out.content);
+        put_mapping_end(&mut self.spare, &mut out.content);
     }
 
     pub(super) fn parse_flow_mapping_key(

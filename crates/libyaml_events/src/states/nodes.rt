@@ -192,7 +192,7 @@ fn tag_read(alloc: Global, tag: &mut unnamed_yaml_token_t_data_tag, mark: yaml_m
 /// Gives a scalar without properties.
 #[inline(never)]
 fn give_scalar(
-    alloc: Global,
+    spare: &mut String,
     content: &mut unnamed_yaml_token_t_data_scalar,
     start_mark: &yaml_mark_t,
     end_mark: &yaml_mark_t,
@@ -203,7 +203,7 @@ fn give_scalar(
 {
     out.start_mark = *start_mark;
     out.end_mark = *end_mark;
-    put_bare_scalar(alloc, content, &mut out.content);
+    put_bare_scalar(spare, content, &mut out.content);
 }
 
 impl<S> Machine<S> {
@@ -251,7 +251,7 @@ impl<S> Machine<S> {
             self.old.config content.old end_mark.now) self.old (Ok (Given out.new)) self.new }
     {
         self.pop_state();
-        give_scalar(self.allocator(), content, start_mark, end_mark, out);
+        give_scalar(&mut self.spare, content, start_mark, end_mark, out);
     }
 
     /// A node at its first token, after which `state` comes. A scalar without properties is the whole node, so that no state
@@ -272,7 +272,7 @@ impl<S> Machine<S> {
         if let unnamed_yaml_token_t_data::Scalar(scalar) = &mut token.content {
             self.set_state(state);
             give_scalar(
-                self.allocator(),
+                &mut self.spare,
                 scalar,
                 &token.start_mark,
                 &token.end_mark,
@@ -433,8 +433,16 @@ impl<S> Machine<S> {
         out.end_mark = token.end_mark;
         self.keep_marks(kept, token);
         match style {
-            CollectionStyle::Sequence(style) => put_sequence_start(style, &mut out.content),
-            CollectionStyle::Mapping(style) => put_mapping_start(style, &mut out.content),
+            CollectionStyle::Sequence(style) => put_sequence_start(
+                style,
+                &mut self.spare,
+                &mut out.content,
+            ),
+            CollectionStyle::Mapping(style) => put_mapping_start(
+                style,
+                &mut self.spare,
+                &mut out.content,
+            ),
         }
     }
 
