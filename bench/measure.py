@@ -29,6 +29,7 @@ MEASURES = {
     "libyaml events": ("libyaml", "events"),
     "unsafe events": ("unsafe_libyaml", "events"),
     "place events": ("bench_lists", "place-events"),
+    "reuse events": ("bench_lists", "reuse-events"),
     "list events": ("bench_lists", "list-events"),
     "push events": ("bench_lists", "push-events"),
     "value events": ("bench_lists", "value-events"),
@@ -38,6 +39,7 @@ MEASURES = {
     "libyaml nodes": ("libyaml", "nodes"),
     "unsafe nodes": ("unsafe_libyaml", "nodes"),
     "place nodes": ("bench_lists", "place-nodes"),
+    "reuse nodes": ("bench_lists", "reuse-nodes"),
     "iterate nodes": ("bench_lists", "iterate-nodes"),
     "list nodes": ("bench_lists", "list-nodes"),
     "floor nodes": ("libyaml", "floor-nodes"),
@@ -50,6 +52,7 @@ EVENTS = {
     "libyaml": "libyaml events",
     "`unsafe-libyaml`": "unsafe events",
     "ours, in place": "place events",
+    "texts kept": "reuse events",
     "by value": "value events",
     "by iterator": "iterate events",
     "over a list": "list events",
@@ -61,6 +64,7 @@ NODES = {
     "libyaml": "libyaml nodes",
     "`unsafe-libyaml`": "unsafe nodes",
     "ours, in place": "place nodes",
+    "texts kept": "reuse nodes",
     "by iterator": "iterate nodes",
     "over a list": "list nodes",
     "floor": "floor nodes",
@@ -167,11 +171,12 @@ class Bench:
         medians = [statistics.median(column) for column in zip(*times)]
         return medians[0], medians[1], statistics.median(b / a for a, b in times)
 
-    def clock(self, kind, what, peer):
-        """Nanoseconds a token of ours and of a peer, medians of runs in turn, and the median of the ratios of a turn."""
+    def clock(self, kind, source, what, peer):
+        """Nanoseconds a token of ours over a source and of a peer, medians of runs in turn, and the median of the ratios of
+        a turn."""
         count = self.token_count(kind)
         rounds = math.ceil(CLOCKED_TOKENS / count)
-        ours = [self.program("bench_lists"), "place-" + what, str(rounds)]
+        ours = [self.program("bench_lists"), f"{source}-{what}", str(rounds)]
         first, second, ratio = self.pairs(ours, [self.program(peer), what, str(rounds)], self.tokens(kind))
         return first * 1e9 / (rounds * count), second * 1e9 / (rounds * count), ratio
 
@@ -225,13 +230,15 @@ def print_program(bench):
 def print_clock(bench, kinds, program):
     """The time of ours beside each peer's; the ratio says how many times as long the peer takes."""
     peers = [peer for peer in ("libyaml", "unsafe_libyaml") if bench.has(peer)]
-    for what in ("events", "nodes"):
+    for what, source in ((what, source) for what in ("events", "nodes") for source in ("place", "reuse")):
         heads = "".join(f" {peer.replace('_', '-')} | ratio |" for peer in peers)
-        print(f"\n| {what}, nanoseconds a token | ours |{heads}\n|---|---|" + "---|---|" * len(peers))
+        ours = "in place" if source == "place" else "texts kept"
+        print(f"\n| {what}, nanoseconds a token | ours, {ours} |{heads}\n|---|---|" + "---|---|" * len(peers))
         for kind in kinds:
-            measured = [bench.clock(kind, what, peer) for peer in peers]
+            measured = [bench.clock(kind, source, what, peer) for peer in peers]
             cells = "".join(f" {theirs:.1f} | {ratio:.2f} |" for _, theirs, ratio in measured)
             print(f"| {KINDS[kind]} | {measured[0][0]:.1f} |{cells}", flush=True)
+    for what in ("events", "nodes"):
         if program:
             words = [[bench.program("yamltokens"), what], [bench.program("libyaml_lines"), what]]
             ours, theirs, ratio = bench.pairs(*words, bench.tokens("program"))
