@@ -1,7 +1,7 @@
 #!/bin/sh
 # Copies crates of this repository, and those below them, into another project; adds to what it copied there, or updates it:
 #
-#     sh scripts/vendor.sh DEST [CRATE..]
+#     sh scripts/vendor.sh [--proofs] DEST [CRATE..]
 #
 # DEST is the top of that project. Where no CRATE is named it is unsafe_libyaml, or what it copied there earlier; token_lines
 # and yaml_path are others. What it copied there earlier is updated too, so that all is of one state. Of each crate README.md,
@@ -9,15 +9,22 @@
 # a check kept there stays. Its line is put into DEST/crates.txt, whose other lines stay. DEST/vendored.txt says which version
 # and commit the crates are of, and has a checksum of each.
 #
+# With --proofs the proved libraries go along, which `rt lib` or `rt run` of a crate above left in crates/CRATE/out/rlib: the
+# first run there then proves what is its own. Each has a checksum of the sources and the kit that it was proved with, by which rt
+# proves it again where one of them is another.
+#
 # It prints what it did with each crate: added, updated, or as it was. The exit status is 2 for wrong words, and 1 where DEST
 # is this repository or a folder of it, where a name is no crate of this repository, and where a crate there was not copied by
-# this script or was changed since. Then nothing is changed.
+# this script or was changed since; and with --proofs where a crate has no proved library, or one that is older than its
+# sources. Then nothing is changed.
 set -eu
 fail() {
     echo "vendor.sh: $*" >&2
     exit 1
 }
-usage='usage: sh scripts/vendor.sh DEST [CRATE..]'
+usage='usage: sh scripts/vendor.sh [--proofs] DEST [CRATE..]'
+with_proofs=
+[ "${1-}" != --proofs ] || { with_proofs=yes && shift; }
 [ $# -ge 1 ] || { echo "$usage" >&2; exit 2; }
 for word; do
     case $word in '' | -*) echo "$usage" >&2; exit 2 ;; esac
@@ -69,6 +76,14 @@ for crate in $crates; do
     known=$(sed -n "s/^$crate //p" "$record" 2> /dev/null || true)
     [ ! -e "$at" ] || [ -n "$known" ] || fail "$at is there, and not copied by this script"
     [ ! -e "$at" ] || [ "$(sum "$at")" = "$known" ] || fail "$at was changed since it was copied"
+    if [ -n "$with_proofs" ]; then
+        built=crates/$crate/out/rlib/stamp
+        [ -e "$built" ] || fail "$crate has no proved library: (cd crates/${crates##*
+} && rt lib) makes those of all"
+        [ -z "$(cd "crates/$crate" && find src specs proofs -newer out/rlib/stamp -type f 2> /dev/null)" ] ||
+            fail "the proved library of $crate is older than its sources: (cd crates/${crates##*
+} && rt lib) makes it anew"
+    fi
     mkdir -p "$work/crates/$crate"
     cp LICENSE "$work/crates/$crate/"
     for part in $parts; do
@@ -91,6 +106,11 @@ for crate in $crates; do
         did=updated
     fi
     echo "$crate: $did"
+    if [ -n "$with_proofs" ]; then
+        mkdir -p "$at/out"
+        rm -rf "$at/out/rlib"
+        cp -R "crates/$crate/out/rlib" "$at/out/"
+    fi
     [ "$did" != 'as it was' ] || continue
     mkdir -p "$at"
     for part in $parts; do

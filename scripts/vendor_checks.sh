@@ -86,5 +86,24 @@ is_whole
 [ -e "$types/out/kept" ] || complain "kept work is lost"
 
 mkdir "$project/crates/token_lines" && refuse token_lines "$project" token_lines
+
+# With proofs: the library that a check of the copy takes as it is, by its checksum; none where it isn't there, or older.
+copy=$work/copy
+mkdir -p "$copy/crates/libyaml_types/out/rlib" "$copy/scripts" "$work/proofs"
+cp -R LICENSE VERSION crates.txt "$copy/"
+cp scripts/vendor.sh "$copy/scripts/"
+for part in README.md src specs proofs; do
+    cp -R "crates/libyaml_types/$part" "$copy/crates/libyaml_types/"
+done
+with_proofs() {
+    sh "$copy/scripts/vendor.sh" --proofs "$work/proofs" libyaml_types > "$work/said" 2>&1
+}
+! with_proofs && grep -q 'libyaml_types has no proved library' "$work/said" || complain "a proved library that isn't there is copied"
+echo sum > "$copy/crates/libyaml_types/out/rlib/stamp"
+touch -d tomorrow "$copy/crates/libyaml_types/src/lib.rt"
+! with_proofs && grep -q 'libyaml_types is older than its sources' "$work/said" || complain "an old proved library is copied"
+[ -z "$(ls "$work/proofs")" ] || complain "what is refused changes the project"
+touch -d tomorrow "$copy/crates/libyaml_types/out/rlib/stamp"
+with_proofs && grep -qx sum "$work/proofs/crates/libyaml_types/out/rlib/stamp" || complain "the proved library isn't copied"
 echo "$wrong wrong"
 [ "$wrong" = 0 ]
