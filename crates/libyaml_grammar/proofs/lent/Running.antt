@@ -318,30 +318,3 @@ ended_run l f e (of_sentence t a o g h) = (t, o, a, g)
 ended_run l f e (of_cut_tree before token behind c a i o g h) = absurd cc
 ended_run l f e (amid_properties before token behind c a i o g h) = absurd cc
 ended_run l f e (of_beginning b n s h) = absurd cc
-
-same_fault : (f g : Fault) → Fails f ≡ Fails g → f ≡ g
-same_fault f g e = cc
-
-no_source : (f g : Fault) → IsSourceError f.error → g.error ≡ YAML_PARSER_ERROR → g ≡ f → ⊥
-no_source f g s e h = let x : IsSourceError YAML_PARSER_ERROR =
-    subst IsSourceError (sym (ap (λ (x : Fault). x.error) h) ∙ e) s in cc
-
-pub parser_fault_run : (l : List Token) (f : Fault) (e : List Event) (g : Fault) → IsSourceError f.error
-    → g.error ≡ YAML_PARSER_ERROR → IsRun l f e (Fails g)
-    → HasFault (up_to_end l) e g
-parser_fault_run l f e g s p (of_sentence t a o d h) = absurd cc
-parser_fault_run l f e g s p (of_cut_tree before token behind c a i o d h)
-    = record {
-      before = before;
-      token = token;
-      behind = behind;
-      cut = c;
-      all = a;
-      fits = i;
-      given = d;
-      fails
-          = same_fault g (fault c token.content token.start_mark) h;
-    }
-parser_fault_run l f e g s p (amid_properties before token behind c a i o d h) =
-    absurd (no_source f g s p (same_fault g f h))
-parser_fault_run l f e g s p (of_beginning b n d h) = absurd (no_source f g s p (same_fault g f h))

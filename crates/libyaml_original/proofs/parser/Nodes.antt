@@ -172,10 +172,6 @@ module _ (f : Fault) (tags : List yaml_tag_directive_t) (hs : Handles) (agree : 
     behind_both anchor g a b k m n l = behind (Some anchor) (Some g) a b b (tk k m n) l refl
 
     -- after an anchor, and after a tag
-    abbrev rest_there : List Token → (anchor : Option (List ℕ)) → Option WrittenTag → (a b : Mark) → Outcome
-    rest_there l anchor tag a b
-        = orig.behind_properties (par ss l) (is_block_place p) (may_be_indentless p) anchor tag a b
-
     behind_anchor : (x : AnchorName) (a b : Mark) (k : Content) (m n : Mark) (l : List Token)
         → Matches f
         (orig.yaml_parser_parse_node (par ss (tk (Anchor x) a b ∷ tk k m n ∷ l)) (is_block_place p)

@@ -41,9 +41,6 @@ consumed_none (Some []) taken h = refl
 consumed_none (Some (b ∷ bs)) [] h = cc
 consumed_none (Some (b ∷ bs)) (c ∷ taken) h = cc
 
-err_same : (f g : Fault) → ◌≡◌ {A = Answer} (Err f) (Err g) → f ≡ g
-err_same f g e = cc
-
 ok_no_err : (t : yaml_token_t) (f : Fault) → ◌≡◌ {A = Answer} (Ok t) (Err f) → ⊥
 ok_no_err t f e = cc
 

@@ -122,9 +122,6 @@ pub record HasReadFew (bytes : List ℕ) (i n : ℕ) : Type 0 where
   pub read : HasRead bytes i n
   pub below : n < 10 ^ i
 
-pub none_read_few : (bytes : List ℕ) → HasReadFew bytes 0 0
-none_read_few bytes = record { read = none_read bytes; below = omega arith }
-
 -- so after fewer than 19 digits one more fits into 64 bits
 pub few_fit : (i n : ℕ) → n < 10 ^ i → i < 19 → n * 10 + 57 < 2 ^ 64
 few_fit i n h small =
