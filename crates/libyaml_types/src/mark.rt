@@ -8,6 +8,7 @@ use std::fmt;
 /// `column` characters within the line. Its `Display` counts lines and columns from 1.
 ///
 /// libyaml: `yaml_mark_t`.
+#[repr(C)]
 #[derive(Copy, Clone, PartialEq, Eq, Debug)]
 pub struct yaml_mark_t {
     /// Characters from the start of the text.
