@@ -1,0 +1,9 @@
+pub mod Problems
+pub mod Told
+pub mod Found
+pub mod Whole
+pub mod Follows
+pub mod Kept
+pub mod Running
+pub mod Failing
+pub mod Tables

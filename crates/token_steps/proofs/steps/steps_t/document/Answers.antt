@@ -1,0 +1,46 @@
+use Rattle.std.proofs.Common.{refl, rules}
+use Rattle.libyaml_types.specs.Events.{zero_mark}
+use Rattle.libyaml_automaton.specs.Wanted.{token}
+use Rattle.token_steps.proofs.Told.{told_in_document, not_states}
+use Rattle.token_steps.proofs.steps.steps_t.document.Goals as goal
+
+pub returns-in-AsksVersion-clause-tells : goal.returns-in-AsksVersion-clause-tells
+returns-in-AsksVersion-clause-tells c
+    = λ marks. c.tell.ensures.tells _ _ zero_mark c.document_step.new.states marks
+    (c.in-AsksVersion.ensures.steps marks c.args.at.now.end_mark
+    (record { token = c.args.fact; tag = c.args.self.now.tag }))
+    (c.version_directive-answer.ensures.steps c.document_step.new.states marks
+    (token c.args.kind c.args.at.now.start_mark c.args.at.now.end_mark)
+    (record { token = c.args.fact; tag = c.args.self.now.tag }))
+
+pub returns-in-AsksHandle-clause-tells : goal.returns-in-AsksHandle-clause-tells
+returns-in-AsksHandle-clause-tells c
+    = λ marks. c.tell-in-AsksHandle.ensures.tells _ _ zero_mark c.document_step.new.states marks
+    (c.in-AsksHandle.ensures.steps marks c.args.at.now.end_mark
+    (record { token = c.args.fact; tag = c.args.self.now.tag }))
+    (c.tag_directive-answer.ensures.steps c.document_step.new.states marks
+    (token c.args.kind c.args.at.now.start_mark c.args.at.now.end_mark)
+    (record { token = c.args.fact; tag = c.args.self.now.tag }))
+
+pub returns-in_default : goal.returns-in_default
+returns-in_default c =
+    let told = told_in_document _ _ c.document_step.ensures.fits c.in_default.not-Full c.in_default.not-AsksVersion c.in_default.not-AsksHandle in
+    let done = c.tell-in_default.ensures.done told in
+    record {
+      tells = λ marks. c.tell-in_default.ensures.tells _ _ zero_mark c.document_step.new.states marks refl
+          (c.document_step.ensures.steps marks c.args.at.now.end_mark
+          (record { token = c.args.fact; tag = c.args.self.now.tag }));
+      within = search rules;
+      marks = search rules;
+      full = (
+        λ e. absurd (not_states _ done e),
+        λ f. absurd
+            (c.in_default.not-Full (c.document_step.ensures.full.1 f)),
+      );
+      undone = λ e. absurd (not_states _ done e);
+      done = λ n. done;
+      event_number = c.tell-in_default.ensures.event_number;
+      event_flags = c.tell-in_default.ensures.event_flags;
+      event_kept = c.tell-in_default.ensures.event_kept;
+      fault_kept = c.tell-in_default.ensures.fault_kept;
+    }

@@ -1,0 +1,98 @@
+-- What the records stand for, whatever their bytes are.
+use Rattle.std.specs.Prelude.{◌≤◌, ◌==◌, ℕ, Bool, true, false, if◌then◌else◌}
+use Rattle.libyaml_types.specs.declared.mark.yaml_mark_t.{yaml_mark_t}
+use Rattle.libyaml_types.specs.declared.enums.yaml_token_type_t.{yaml_token_type_t}
+use Rattle.libyaml_types.specs.declared.enums.yaml_token_type_t.TheVariants as tok
+use Rattle.libyaml_automaton.specs.Numbers.{flag}
+use Rattle.libyaml_automaton.specs.Shape.{Shape}
+use Rattle.libyaml_automaton.specs.Shape as ev
+use Rattle.libyaml_automaton.specs.Want.{Token, TagRead, Undefined, Properties, Event, Fault}
+use Rattle.libyaml_automaton.specs.Wanted.{tag_if}
+use Rattle.token_steps.specs.declared.records.step_span_t.{step_span_t}
+use Rattle.token_steps.specs.declared.records.step_event_t.{step_event_t}
+use Rattle.token_steps.specs.declared.records.step_fault_t.{step_fault_t}
+use Rattle.token_steps.specs.declared.head.Head.{Head}
+
+-- the kind of libyaml's number; of other bytes none
+abbrev pub kind_of : ℕ → yaml_token_type_t
+kind_of byte =
+    if byte == 1 then tok.YAML_STREAM_START_TOKEN else
+    if byte == 2 then tok.YAML_STREAM_END_TOKEN else
+    if byte == 3 then tok.YAML_VERSION_DIRECTIVE_TOKEN else
+    if byte == 4 then tok.YAML_TAG_DIRECTIVE_TOKEN else
+    if byte == 5 then tok.YAML_DOCUMENT_START_TOKEN else
+    if byte == 6 then tok.YAML_DOCUMENT_END_TOKEN else
+    if byte == 7 then tok.YAML_BLOCK_SEQUENCE_START_TOKEN else
+    if byte == 8 then tok.YAML_BLOCK_MAPPING_START_TOKEN else
+    if byte == 9 then tok.YAML_BLOCK_END_TOKEN else
+    if byte == 10 then tok.YAML_FLOW_SEQUENCE_START_TOKEN else
+    if byte == 11 then tok.YAML_FLOW_SEQUENCE_END_TOKEN else
+    if byte == 12 then tok.YAML_FLOW_MAPPING_START_TOKEN else
+    if byte == 13 then tok.YAML_FLOW_MAPPING_END_TOKEN else
+    if byte == 14 then tok.YAML_BLOCK_ENTRY_TOKEN else
+    if byte == 15 then tok.YAML_FLOW_ENTRY_TOKEN else
+    if byte == 16 then tok.YAML_KEY_TOKEN else
+    if byte == 17 then tok.YAML_VALUE_TOKEN else
+    if byte == 18 then tok.YAML_ALIAS_TOKEN else
+    if byte == 19 then tok.YAML_ANCHOR_TOKEN else
+    if byte == 20 then tok.YAML_TAG_TOKEN else
+    if byte == 21 then tok.YAML_SCALAR_TOKEN else
+    tok.YAML_NO_TOKEN
+
+abbrev pub token_at : yaml_token_type_t → ℕ → step_span_t → Token
+token_at kind fact at = record {
+  kind = kind;
+  fact = fact;
+  start_mark = at.start_mark;
+  end_mark
+      = at.end_mark;
+}
+
+-- libyaml's numbers of events; of other bytes a mapping's end
+abbrev pub shape_of : step_event_t → Shape
+shape_of e =
+    if e.kind == 1 then ev.StreamStart else
+    if e.kind == 2 then ev.StreamEnd else
+    if e.kind == 3 then ev.DocumentStart (flag e.implicit) else
+    if e.kind == 4 then ev.DocumentEnd (flag e.implicit) else
+    if e.kind == 5 then ev.Alias else
+    if e.kind == 6 then ev.Scalar (flag e.has_anchor) (flag e.has_tag) (flag e.implicit)
+    (flag e.quoted_implicit) else
+    if e.kind == 7 then ev.SequenceStart (flag e.has_anchor) (flag e.has_tag) (flag e.implicit)
+    (flag e.is_flow) else
+    if e.kind == 8 then ev.SequenceEnd else
+    if e.kind == 9 then ev.MappingStart (flag e.has_anchor) (flag e.has_tag) (flag e.implicit)
+    (flag e.is_flow) else
+    ev.MappingEnd
+
+-- its flags are 1 or 0
+abbrev pub AreFlags : step_event_t → Type 0
+AreFlags e = (e.has_anchor ≤ 1) × ((e.has_tag ≤ 1) × ((e.implicit ≤ 1) × ((e.quoted_implicit ≤ 1) × (e.is_flow ≤ 1))))
+
+abbrev pub event_of : step_event_t → (stays : Bool) → Event
+event_of e stays = record {
+  shape = shape_of e;
+  stays = stays;
+  start_mark = e.start_mark;
+  end_mark
+      = e.end_mark;
+}
+
+abbrev pub fault_of : step_fault_t → Fault
+fault_of f = record { problem = f.problem; context_mark = f.context_mark; mark = f.problem_mark }
+
+abbrev pub head_tag : Head → TagRead
+head_tag h = tag_if (flag h.has_tag) h.tag
+
+abbrev pub head_of : Head → (start end tag_mark : yaml_mark_t) → Properties
+head_of h start end tag_mark = record {
+  anchor = flag h.has_anchor;
+  tag = head_tag h;
+  start_mark = start;
+  end_mark = end;
+  tag_mark = tag_mark;
+}
+
+abbrev pub is_undefined : TagRead → Bool
+is_undefined Undefined = true
+is_undefined _ = false

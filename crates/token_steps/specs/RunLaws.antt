@@ -1,0 +1,52 @@
+-- What holds of every run.
+use Rattle.std.specs.Prelude.{◌≡◌, List, ℕ, Option, None, Some, Err}
+use Rattle.libyaml_types.specs.declared.mark.yaml_mark_t.{yaml_mark_t}
+use Rattle.libyaml_sources.specs.Fault.{Fault, no_fault}
+use Rattle.libyaml_grammar.specs.sentences.Tokens.{Token}
+use Rattle.libyaml_grammar.specs.sentences.Events.{Event}
+use Rattle.libyaml_events.specs.machine.Config.{Handles}
+use Rattle.libyaml_events.specs.machine.Machine as parser
+use Rattle.libyaml_events.specs.machine.Want.{Want}
+use Rattle.libyaml_events.specs.sources.Pushed.{Fed}
+use Rattle.libyaml_automaton.specs.Config.{Config, config_of}
+use Rattle.automaton_laws.specs.Texts.{Held, config_with, fault_with}
+use Rattle.automaton_laws.specs.Histories.{StandsAs}
+use Rattle.token_steps.specs.declared.steps.steps_t.{steps_t}
+use Rattle.token_steps.specs.declared.records.step_event_t.{step_event_t}
+use Rattle.token_steps.specs.declared.records.step_fault_t.{step_fault_t}
+use Rattle.token_steps.specs.Records.{fault_of}
+use Rattle.token_steps.specs.Tells.{want_in}
+use Rattle.token_steps.specs.Runs.{Run, Calls}
+
+-- a parser that was handed the same tokens gave the same events, with the same handles and texts
+abbrev pub RunIsFed : Type 0
+RunIsFed = (d : steps_t) (ss : List ℕ) (ms : List yaml_mark_t) (hs : Handles) (kept : Held)
+    (o : Option Token) (l : List Token)
+    (g : List Event) → Run d ss ms hs kept o l g
+    → StandsAs (want_in d) (config_of d.machine ss ms) hs kept o l g
+
+-- P holds of the tokens and events of each run, whether a token is in hand or none
+abbrev pub ForRuns : (List Token → List Event → Type 0) → Type 0
+ForRuns P = (d : steps_t) (ss : List ℕ) (ms : List yaml_mark_t) (hs : Handles) (kept : Held)
+    (o : Option Token) (l : List Token)
+    (g : List Event) → Run d ss ms hs kept o l g → P l g
+
+-- and of each run between two tokens
+abbrev pub BetweenTokens : (List Token → List Event → Type 0) → Type 0
+BetweenTokens P = (d : steps_t) (ss : List ℕ) (ms : List yaml_mark_t) (hs : Handles) (kept : Held)
+    (l : List Token) (g : List Event)
+    → Run d ss ms hs kept None l g → P l g
+
+-- and of the tokens, the events and the fault of each run that ended with a fault, which has the text of its
+-- number
+abbrev pub ForFailed : (List Token → List Event → Fault → Type 0) → Type 0
+ForFailed P = (d d' : steps_t) (ss ss' : List ℕ) (ms ms' : List yaml_mark_t) (hs : Handles) (kept : Held)
+    (l : List Token)
+    (g : List Event) (t : Token) (e : step_event_t) (f : step_fault_t) → Run d ss ms hs kept (Some t) l g
+    → Calls 5 d ss ms hs t d' ss' ms' e f → P l g (fault_with (fault_of f))
+
+-- a parser that was handed these tokens, and gave these events, has this fault with the token in hand
+abbrev pub FailsAs : List Token → List Event → Fault → Type 0
+FailsAs l g f = (w : Want) × (k : Config) × (hs : Handles) × (t : Token)
+    × Fed w (config_with k hs no_fault None) (Some t) l g
+    × (parser.step w (config_with k hs no_fault None) t ≡ Err f)

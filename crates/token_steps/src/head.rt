@@ -1,0 +1,57 @@
+//! What is known of a node's properties.
+ghost use Rattle.std.specs.Prelude.{◌≡◌};
+ghost use Rattle.libyaml_automaton.specs.Automaton as automaton;
+ghost use Rattle.token_steps.specs.Records.{head_tag, is_undefined};
+
+/// What is known of a node's properties. Where there is a tag, `tag` is the fact of its token.
+#[derive(Copy, Clone)]
+pub(crate) struct Head {
+    pub has_anchor: u8,
+    pub has_tag: u8,
+    pub tag: u8,
+}
+
+/// No property.
+pub(crate) const NO_HEAD: Head = Head {
+    has_anchor: 0,
+    has_tag: 0,
+    tag: 0,
+};
+
+impl Head {
+    /// Returns whether there is no tag, or an empty one.
+    #[inline(always)]
+    pub(crate) fn is_missing(&self) -> bool
+        ensures { result ≡ automaton.is_missing (head_tag self.now) }
+    {
+        self.has_tag == 0 || self.tag == 1
+    }
+
+    /// Returns whether the tag may be left out where a scalar is written plain.
+    #[inline(always)]
+    pub(crate) fn plain_flag(&self, is_plain: bool) -> bool
+        ensures { result ≡ automaton.plain_flag (head_tag self.now) is_plain }
+    {
+        if self.has_tag == 0 {
+            is_plain
+        } else {
+            self.tag == 2
+        }
+    }
+
+    /// Returns whether it may be left out where a scalar isn't.
+    #[inline(always)]
+    pub(crate) fn quoted_flag(&self, is_plain: bool) -> bool
+        ensures { result ≡ automaton.quoted_flag (head_tag self.now) is_plain }
+    {
+        self.has_tag == 0 && !is_plain
+    }
+
+    /// Returns whether the handle of the tag isn't declared.
+    #[inline(always)]
+    pub(crate) fn is_undefined(&self) -> bool
+        ensures { result ≡ is_undefined (head_tag self.now) }
+    {
+        self.has_tag != 0 && !matches!(self.tag, 1 | 2 | 3)
+    }
+}

@@ -1,0 +1,86 @@
+//! What holds of a caller's run of calls. Each function does nothing when it runs: its contract is the law.
+ghost use Rattle.std.specs.Prelude.{◌≡◌, ◌≤◌, ◌*◌, ◌++◌, ◌∷◌, List, [], ℕ, length, is_some, true, false};
+ghost use Rattle.std.specs.FinMap.{get};
+ghost use Rattle.libyaml_types.specs.declared.token.unnamed_yaml_token_t_data.TheVariants as token;
+ghost use Rattle.libyaml_types.specs.declared.token.unnamed_yaml_token_t_data_version_directive as version;
+ghost use Rattle.libyaml_types.specs.Models.{TagDirectiveToken, TagToken};
+ghost use Rattle.libyaml_sources.specs.Fault.{Fault};
+ghost use Rattle.libyaml_grammar.specs.cuts.Settled.{BeginsEach};
+ghost use Rattle.libyaml_grammar.specs.runs.Runs.{Ends, Fails, IsRun};
+ghost use Rattle.libyaml_grammar.specs.sentences.Nesting.{NestsSoFar};
+ghost use Rattle.libyaml_grammar.specs.sentences.Order.{is_accepted};
+ghost use Rattle.libyaml_grammar.specs.sentences.Sentences.{has_end};
+ghost use Rattle.libyaml_grammar.specs.sentences.Tokens.{Token};
+ghost use Rattle.libyaml_events.specs.machine.Config.{Handles, no_handles};
+ghost use Rattle.libyaml_events.specs.machine.Machine.{resolve};
+ghost use Rattle.libyaml_events.specs.sources.Parsing.{IsWhole, StopsShort};
+ghost use Rattle.automaton_laws.specs.Texts.{bit, declared_by, fact_of, tag_fact};
+ghost use Rattle.token_steps.specs.declared.tags.handles.handle_t.{handle_t};
+ghost use Rattle.token_steps.specs.Handles.{AllWithin, bytes_at, handles_at};
+ghost use Rattle.token_steps.specs.RunLaws.{BetweenTokens, FailsAs, ForFailed, ForRuns, RunIsFed};
+
+use automaton_laws::{stepped_is_fed, steps_are_alike};
+use libyaml_events::laws::pushes::{each_step, of_pushed};
+
+/// Whatever a caller handed in and was given, with the texts that it kept by the kinds of tokens alone, a
+/// parser was handed and gave. So what is proved of pushes holds of a caller's calls.
+pub fn run_is_fed()
+    ensures { RunIsFed }
+{
+    stepped_is_fed();
+    of_pushed();
+}
+
+/// Before STREAM-END the events are those that the tokens settle, each given as soon as its token came; with
+/// it they are those of the whole tree, and of the run of all lists that begin so. They nest, and are at most
+/// four for each token.
+pub fn run_is_right()
+    ensures settled { BetweenTokens (λ tokens events. has_end tokens ≡ false → StopsShort tokens events) }
+    ensures whole { BetweenTokens (λ tokens events. has_end tokens ≡ true → IsWhole tokens events) }
+    ensures run_so_far { BetweenTokens (λ tokens events. has_end tokens ≡ false
+        → (source : Fault) → IsRun tokens source events (Fails source)) }
+    ensures run { BetweenTokens (λ tokens events. has_end tokens ≡ true
+        → (more : List Token) (source : Fault) → IsRun (tokens ++ more) source events Ends) }
+    ensures begins { BetweenTokens BeginsEach }
+    ensures nests { ForRuns (λ _ events. NestsSoFar events) }
+    ensures at_most_four { ForRuns (λ tokens events. length events ≤ 4 * length tokens) }
+{
+    run_is_fed();
+    of_pushed();
+    each_step();
+}
+
+/// A fault is that of a parser which was handed the same tokens, with its text and its marks, and so that of
+/// the run, whatever comes after.
+pub fn run_fails()
+    ensures parser { ForFailed FailsAs }
+    ensures run { ForFailed (λ tokens events fault. (more : List Token) (source : Fault)
+        → IsRun (tokens ++ more) source events (Fails fault)) }
+{
+    run_is_fed();
+    steps_are_alike();
+    each_step();
+}
+
+/// The functions over a table of handles return the facts of tokens, where the table stands for the document's
+/// handles. An empty one does at a document's start; and one entry more for each TAG-DIRECTIVE that is taken,
+/// with its texts behind the others, keeps it so.
+pub fn tables_follow()
+    ensures tag { (texts : List ℕ) (table : List handle_t) (tag : TagToken)
+        → tag_fact (resolve (handles_at texts table) tag.handle tag.suffix)
+        ≡ fact_of (handles_at texts table) (token.Tag tag) }
+    ensures directive { (texts : List ℕ) (table : List handle_t) (directive : TagDirectiveToken)
+        → bit (is_some (get (handles_at texts table) directive.handle))
+        ≡ fact_of (handles_at texts table) (token.TagDirective directive) }
+    ensures version { (handles : Handles) (directive : version.unnamed_yaml_token_t_data_version_directive)
+        → bit (is_accepted directive.major directive.minor)
+        ≡ fact_of handles (token.VersionDirective directive) }
+    ensures begins { (texts : List ℕ) → handles_at texts [] ≡ no_handles }
+    ensures declares { (texts more : List ℕ) (table : List handle_t) (entry : handle_t) (handles : Handles)
+        (directive : TagDirectiveToken) → handles ≡ handles_at texts table → AllWithin texts table
+        → fact_of handles (token.TagDirective directive) ≡ 0
+        → bytes_at (texts ++ more) entry.handle ≡ directive.handle
+        → bytes_at (texts ++ more) entry.prefix ≡ directive.prefix
+        → declared_by handles (token.TagDirective directive)
+        ≡ handles_at (texts ++ more) (table ++ entry ∷ []) }
+{}

@@ -1,0 +1,280 @@
+//! The call.
+ghost use Rattle.std.specs.Prelude.{◌≡◌, ◌≤◌, ◌↔◌, ℕ, List, length, true};
+ghost use Rattle.libyaml_types.specs.declared.mark.yaml_mark_t.{yaml_mark_t};
+ghost use Rattle.libyaml_automaton.specs.Automaton as automaton;
+ghost use Rattle.libyaml_automaton.specs.Config.{config_of, start, Within};
+ghost use Rattle.libyaml_automaton.specs.Numbers.{flag, next_of, state_of, place_of};
+ghost use Rattle.libyaml_automaton.specs.Want.{AtState, Token};
+ghost use Rattle.libyaml_automaton.specs.Wanted.{IsAt, wanted, properties};
+ghost use Rattle.libyaml_automaton.specs.Growth.{States, Marks, part_of, pushes_in_documents};
+ghost use Rattle.libyaml_automaton.specs.Fits.{Documents};
+ghost use Rattle.token_steps.specs.Growth.{grown};
+ghost use Rattle.token_steps.specs.Records.{AreFlags, kind_of, token_at};
+ghost use Rattle.token_steps.specs.Numbers.{IsEventNumber, IsFaultNumber};
+ghost use Rattle.token_steps.specs.Tells.{Tells, want_in, IsBehindEvent, IsDone, IsGiven, IsUndone};
+
+use crate::did::Did;
+use crate::head::{Head, NO_HEAD};
+use crate::records::{step_event_t, step_fault_t, step_span_t};
+use libyaml_automaton::{Answer, Machine, Reading, UNDEFINED_HANDLE};
+use libyaml_types::{yaml_mark_t, yaml_token_type_t};
+
+/// What is kept between two calls, beside the two stacks: plain numbers, each of which may be any.
+///
+/// libyaml: `yaml_parser_t`, without its scanner and its texts.
+#[repr(C)]
+#[derive(Copy, Clone)]
+pub struct steps_t {
+    /// What is kept between two events.
+    pub machine: Machine,
+    /// What was read since the last event.
+    pub read: Reading,
+    /// The fact of the tag that was read.
+    pub tag: u8,
+}
+
+/// Returns the kind of token with libyaml's number, and `YAML_NO_TOKEN` for any other number.
+#[inline(always)]
+pub fn token_kind(number: u8) -> yaml_token_type_t
+    ensures { result ≡ kind_of number }
+{
+    match number {
+        1 => yaml_token_type_t::YAML_STREAM_START_TOKEN,
+        2 => yaml_token_type_t::YAML_STREAM_END_TOKEN,
+        3 => yaml_token_type_t::YAML_VERSION_DIRECTIVE_TOKEN,
+        4 => yaml_token_type_t::YAML_TAG_DIRECTIVE_TOKEN,
+        5 => yaml_token_type_t::YAML_DOCUMENT_START_TOKEN,
+        6 => yaml_token_type_t::YAML_DOCUMENT_END_TOKEN,
+        7 => yaml_token_type_t::YAML_BLOCK_SEQUENCE_START_TOKEN,
+        8 => yaml_token_type_t::YAML_BLOCK_MAPPING_START_TOKEN,
+        9 => yaml_token_type_t::YAML_BLOCK_END_TOKEN,
+        10 => yaml_token_type_t::YAML_FLOW_SEQUENCE_START_TOKEN,
+        11 => yaml_token_type_t::YAML_FLOW_SEQUENCE_END_TOKEN,
+        12 => yaml_token_type_t::YAML_FLOW_MAPPING_START_TOKEN,
+        13 => yaml_token_type_t::YAML_FLOW_MAPPING_END_TOKEN,
+        14 => yaml_token_type_t::YAML_BLOCK_ENTRY_TOKEN,
+        15 => yaml_token_type_t::YAML_FLOW_ENTRY_TOKEN,
+        16 => yaml_token_type_t::YAML_KEY_TOKEN,
+        17 => yaml_token_type_t::YAML_VALUE_TOKEN,
+        18 => yaml_token_type_t::YAML_ALIAS_TOKEN,
+        19 => yaml_token_type_t::YAML_ANCHOR_TOKEN,
+        20 => yaml_token_type_t::YAML_TAG_TOKEN,
+        21 => yaml_token_type_t::YAML_SCALAR_TOKEN,
+        _ => yaml_token_type_t::YAML_NO_TOKEN,
+    }
+}
+
+impl steps_t {
+    /// Returns what is kept before a stream's first token.
+    pub fn new() -> Self
+        ensures config { (states : List ℕ) (marks : List yaml_mark_t)
+            → config_of result.machine states marks ≡ start }
+        ensures wanted { want_in result ≡ AtState }
+        ensures within { (states : List ℕ) (marks : List yaml_mark_t) → Within result.machine states marks }
+    {
+        steps_t {
+            machine: Machine::new(),
+            read: Reading::new(),
+            tag: 0,
+        }
+    }
+
+    /// Takes a token by its kind, fact and marks. Puts at most one event, or a fault, and returns which.
+    ///
+    /// The states and marks that the record counts lie at the start of their slices. The fact says what the
+    /// parser has to know of a token's texts: of a VERSION-DIRECTIVE 1 where its version is accepted, of a
+    /// TAG-DIRECTIVE 1 where its handle is declared already, of a scalar 1 where it is written plain, and else
+    /// 0; of a TAG 1 where the tag in full is empty, 2 where it is `!`, 3 for any other, and 4 where its handle
+    /// isn't declared. Of any other token it is 0.
+    ///
+    /// libyaml: `yaml_parser_parse`, for one token.
+    #[inline(always)]
+    pub fn step(
+        &mut self,
+        states: &mut [u8],
+        marks: &mut [yaml_mark_t],
+        kind: yaml_token_type_t,
+        fact: u8,
+        at: &step_span_t,
+        event: &mut step_event_t,
+        fault: &mut step_fault_t,
+    ) -> Did
+        ensures tells { Tells result (automaton.step (want_in self.old)
+            (config_of self.old.machine states.old marks.old) (token_at kind fact at.now))
+            (token_at kind fact at.now) self.new event.new fault.new
+            (config_of self.new.machine states.new marks.new) }
+        ensures within { Within self.old.machine states.old marks.old
+            → Within self.new.machine states.new marks.new }
+        ensures bad { (result ≡ Did.Bad) ↔ (Within self.old.machine states.old marks.old → ⊥) }
+        ensures full_states { Within self.old.machine states.old marks.old → (result ≡ Did.FullStates)
+            ↔ ((grown self.old kind ≡ States) × (length states.old ≤ self.old.machine.states_count)) }
+        ensures full_marks { Within self.old.machine states.old marks.old → (result ≡ Did.FullMarks)
+            ↔ ((grown self.old kind ≡ Marks) × (length marks.old ≤ self.old.machine.marks_count)) }
+        ensures undone { IsUndone result → (self.new.machine ≡ self.old.machine) × ((states.new ≡ states.old)
+            × ((marks.new ≡ marks.old) × (want_in self.new ≡ want_in self.old))) }
+        ensures holds_nothing { IsGiven result → IsBehindEvent (want_in self.new) }
+        ensures event_number { IsGiven result → IsEventNumber event.new.kind }
+        ensures event_flags { IsGiven result → AreFlags event.new }
+        ensures fault_number { result ≡ Did.Failed → IsFaultNumber fault.new.problem }
+        ensures event_kept { (IsGiven result → ⊥) → event.new ≡ event.old }
+        ensures fault_kept { (result ≡ Did.Failed → ⊥) → fault.new ≡ fault.old }
+    {
+        if self.machine.states_count > states.len() || self.machine.marks_count > marks.len() {
+            return Did::Bad;
+        }
+        self.read.settle(&self.machine);
+        match self.machine.step(
+            &mut self.read,
+            states,
+            marks,
+            kind,
+            &at.start_mark,
+            &at.end_mark,
+        ) {
+            Answer::Full => {
+                if self.read.is_first() {
+                    Did::FullMarks
+                } else {
+                    Did::FullStates
+                }
+            }
+            Answer::Document => self.document(states, kind, fact, at, event, fault),
+            Answer::AsksContent => self.content(states, marks, kind, fact, at, event, fault),
+            answer => self.tell(
+                answer,
+                &NO_HEAD,
+                &at.start_mark,
+                &at.end_mark,
+                kind,
+                fact,
+                at,
+                event,
+                fault,
+            ),
+        }
+    }
+
+    /// Takes a token that is the stream's or a document's.
+    #[inline(always)]
+    fn document(
+        &mut self,
+        states: &mut [u8],
+        kind: yaml_token_type_t,
+        fact: u8,
+        at: &step_span_t,
+        event: &mut step_event_t,
+        fault: &mut step_fault_t,
+    ) -> Did
+        requires within { self.old.machine.states_count ≤ length states.old }
+        requires at { IsAt (next_of self.old.read.next) (state_of self.old.machine.state) }
+        requires documents { part_of (next_of self.old.read.next) ≡ Documents }
+        ensures tells { (marks : List yaml_mark_t) → Tells result (automaton.step (want_in self.old)
+            (config_of self.old.machine states.old marks) (token_at kind fact at.now))
+            (token_at kind fact at.now) self.new event.new fault.new
+            (config_of self.new.machine states.new marks) }
+        ensures within { self.new.machine.states_count ≤ length states.new }
+        ensures marks { self.new.machine.marks_count ≡ self.old.machine.marks_count }
+        ensures full { (result ≡ Did.FullStates) ↔ ((pushes_in_documents (next_of self.old.read.next)
+            (flag self.old.machine.behind_document_end) kind ≡ true)
+            × (length states.old ≤ self.old.machine.states_count)) }
+        ensures undone { result ≡ Did.FullStates → (self.new.machine ≡ self.old.machine)
+            × ((states.new ≡ states.old) × (want_in self.new ≡ want_in self.old)) }
+        ensures done { (result ≡ Did.FullStates → ⊥) → IsDone result }
+        ensures event_number { IsGiven result → IsEventNumber event.new.kind }
+        ensures event_flags { IsGiven result → AreFlags event.new }
+        ensures event_kept { (IsGiven result → ⊥) → event.new ≡ event.old }
+        ensures fault_kept { (result ≡ Did.Failed → ⊥) → fault.new ≡ fault.old }
+    {
+        match self
+            .machine
+            .document_step(&mut self.read, states, kind, &at.start_mark)
+        {
+            Answer::Full => Did::FullStates,
+            Answer::AsksVersion => {
+                let answer = self.machine.version_directive(&mut self.read, fact != 0);
+                self.tell(
+                    answer,
+                    &NO_HEAD,
+                    &at.start_mark,
+                    &at.end_mark,
+                    kind,
+                    fact,
+                    at,
+                    event,
+                    fault,
+                )
+            }
+            Answer::AsksHandle => {
+                let answer = self.machine.tag_directive(&mut self.read, fact != 0);
+                self.tell(
+                    answer,
+                    &NO_HEAD,
+                    &at.start_mark,
+                    &at.end_mark,
+                    kind,
+                    fact,
+                    at,
+                    event,
+                    fault,
+                )
+            }
+            answer => self.tell(
+                answer,
+                &NO_HEAD,
+                &at.start_mark,
+                &at.end_mark,
+                kind,
+                fact,
+                at,
+                event,
+                fault,
+            ),
+        }
+    }
+
+    /// Takes a token behind a node's properties.
+    #[inline(always)]
+    fn content(
+        &mut self,
+        states: &[u8],
+        marks: &mut [yaml_mark_t],
+        kind: yaml_token_type_t,
+        fact: u8,
+        at: &step_span_t,
+        event: &mut step_event_t,
+        fault: &mut step_fault_t,
+    ) -> Did
+        requires within { Within self.old.machine states.now marks.old }
+        ensures tells { Tells result (automaton.content_behind (properties self.old.tag self.old.read).tag
+            (place_of self.old.read.place) (properties self.old.tag self.old.read)
+            (config_of self.old.machine states.now marks.old) (token_at kind fact at.now) kind)
+            (token_at kind fact at.now) self.new event.new fault.new
+            (config_of self.new.machine states.now marks.new) }
+        ensures within { Within self.new.machine states.now marks.new }
+        ensures done { IsDone result }
+        ensures event_number { IsGiven result → IsEventNumber event.new.kind }
+        ensures event_flags { IsGiven result → AreFlags event.new }
+        ensures event_kept { (IsGiven result → ⊥) → event.new ≡ event.old }
+        ensures fault_kept { (result ≡ Did.Failed → ⊥) → fault.new ≡ fault.old }
+    {
+        let head = Head {
+            has_anchor: self.read.has_anchor,
+            has_tag: self.read.has_tag,
+            tag: self.tag,
+        };
+        let start = self.read.start_mark;
+        let end = self.read.end_mark;
+        if head.is_undefined() {
+            return self.fail(&start, &self.read.tag_mark, UNDEFINED_HANDLE, fault);
+        }
+        let answer = self.machine.content_behind(
+            &mut self.read,
+            states,
+            marks,
+            kind,
+            &at.start_mark,
+            &at.end_mark,
+        );
+        self.tell(answer, &head, &start, &end, kind, fact, at, event, fault)
+    }
+}

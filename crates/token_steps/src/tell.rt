@@ -1,0 +1,440 @@
+//! How what a step led to is told to the caller.
+ghost use Rattle.std.specs.Prelude.{◌≡◌, ◌≤◌, ℕ, List, Bool, true, false};
+ghost use Rattle.libyaml_types.specs.declared.mark.yaml_mark_t.{yaml_mark_t};
+ghost use Rattle.libyaml_automaton.specs.Answers.{Says, outcome};
+ghost use Rattle.libyaml_automaton.specs.Automaton.{Progressed};
+ghost use Rattle.libyaml_automaton.specs.Config.{Config, config_of};
+ghost use Rattle.libyaml_automaton.specs.Numbers.{flag};
+ghost use Rattle.libyaml_automaton.specs.Openings.{start_by};
+ghost use Rattle.libyaml_automaton.specs.Want.{AtState};
+ghost use Rattle.libyaml_automaton.specs.Wanted.{wanted};
+ghost use Rattle.token_steps.specs.Records.{AreFlags, head_of, shape_of, token_at};
+ghost use Rattle.token_steps.specs.Numbers.{IsEventNumber};
+ghost use Rattle.token_steps.specs.Tells.{Tells, IsTold, IsDone, IsGiven};
+
+use crate::did::Did;
+use crate::head::{Head, NO_HEAD};
+use crate::records::{step_event_t, step_fault_t, step_span_t};
+use crate::steps::steps_t;
+use libyaml_automaton::Answer;
+use libyaml_types::{ZERO_MARK, yaml_mark_t, yaml_token_type_t};
+
+/// Returns 1 where this is set, and else 0.
+#[inline(always)]
+fn byte(set: bool) -> u8
+    ensures flag { flag result ≡ set }
+    ensures bit { result ≤ 1 }
+{
+    if set { 1 } else { 0 }
+}
+
+/// Puts an event that isn't a node's.
+#[inline(never)]
+fn put_event(
+    event: &mut step_event_t,
+    kind: u8,
+    is_implicit: bool,
+    start: &yaml_mark_t,
+    end: &yaml_mark_t,
+)
+    ensures kind { event.new.kind ≡ kind }
+    ensures implicit { flag event.new.implicit ≡ is_implicit }
+    ensures anchor { event.new.has_anchor ≡ 0 }
+    ensures tag { event.new.has_tag ≡ 0 }
+    ensures quoted { event.new.quoted_implicit ≡ 0 }
+    ensures flow { event.new.is_flow ≡ 0 }
+    ensures flags { AreFlags event.new }
+    ensures start { event.new.start_mark ≡ start.now }
+    ensures end { event.new.end_mark ≡ end.now }
+{
+    event.kind = kind;
+    event.has_anchor = 0;
+    event.has_tag = 0;
+    event.implicit = byte(is_implicit);
+    event.quoted_implicit = 0;
+    event.is_flow = 0;
+    event.start_mark = *start;
+    event.end_mark = *end;
+}
+
+/// Puts the event of a node with these properties.
+#[inline(never)]
+fn put_node(
+    event: &mut step_event_t,
+    kind: u8,
+    head: &Head,
+    is_implicit: bool,
+    is_quoted_implicit: bool,
+    is_flow: bool,
+    start: &yaml_mark_t,
+    end: &yaml_mark_t,
+)
+    ensures kind { event.new.kind ≡ kind }
+    ensures anchor { flag event.new.has_anchor ≡ flag head.now.has_anchor }
+    ensures tag { flag event.new.has_tag ≡ flag head.now.has_tag }
+    ensures implicit { flag event.new.implicit ≡ is_implicit }
+    ensures quoted { flag event.new.quoted_implicit ≡ is_quoted_implicit }
+    ensures flow { flag event.new.is_flow ≡ is_flow }
+    ensures flags { AreFlags event.new }
+    ensures start { event.new.start_mark ≡ start.now }
+    ensures end { event.new.end_mark ≡ end.now }
+{
+    event.kind = kind;
+    event.has_anchor = byte(head.has_anchor != 0);
+    event.has_tag = byte(head.has_tag != 0);
+    event.implicit = byte(is_implicit);
+    event.quoted_implicit = byte(is_quoted_implicit);
+    event.is_flow = byte(is_flow);
+    event.start_mark = *start;
+    event.end_mark = *end;
+}
+
+const STREAM_START: u8 = 1;
+
+const STREAM_END: u8 = 2;
+
+const DOCUMENT_START: u8 = 3;
+
+const DOCUMENT_END: u8 = 4;
+
+const ALIAS: u8 = 5;
+
+const SCALAR: u8 = 6;
+
+const SEQUENCE_START: u8 = 7;
+
+const SEQUENCE_END: u8 = 8;
+
+const MAPPING_START: u8 = 9;
+
+const MAPPING_END: u8 = 10;
+
+impl steps_t {
+    /// The parser's state says what the next token is wanted for. Returns what the call did.
+    #[inline(always)]
+    fn rest(&mut self, did: Did) -> Did
+        ensures did { result ≡ did }
+        ensures wanted { wanted self.new.tag self.new.read ≡ AtState }
+        ensures kept { self.new ≡ record self.old { read = record self.old.read { next = 0 } } }
+    {
+        self.read.next = 0;
+        did
+    }
+
+    /// Puts a fault.
+    #[cold]
+    #[inline(never)]
+    pub(crate) fn fail(
+        &self,
+        context: &yaml_mark_t,
+        mark: &yaml_mark_t,
+        problem: u8,
+        fault: &mut step_fault_t,
+    ) -> Did
+        ensures did { result ≡ Did.Failed }
+        ensures fault { fault.new ≡ record {
+          problem = problem;
+          context_mark = context.now;
+          problem_mark = mark.now;
+        } }
+    {
+        *fault = step_fault_t {
+            problem,
+            context_mark: *context,
+            problem_mark: *mark,
+        };
+        Did::Failed
+    }
+
+    /// Puts the event or the fault of a step that asks nothing further. Returns what the call did.
+    #[inline(always)]
+    pub(crate) fn tell(
+        &mut self,
+        answer: Answer,
+        head: &Head,
+        start: &yaml_mark_t,
+        end: &yaml_mark_t,
+        kind: yaml_token_type_t,
+        fact: u8,
+        at: &step_span_t,
+        event: &mut step_event_t,
+        fault: &mut step_fault_t,
+    ) -> Did
+        ensures tells { (p q : Progressed) (g : yaml_mark_t) (states : List ℕ) (marks : List yaml_mark_t)
+            → p ≡ q
+            → Says q (token_at kind fact at.now) (outcome answer (head_of head.now start.now end.now g)
+            (token_at kind fact at.now) self.old.tag self.old.read (config_of self.old.machine states marks))
+            → Tells result p (token_at kind fact at.now) self.new event.new fault.new
+            (config_of self.new.machine states marks) }
+        ensures machine { self.new.machine ≡ self.old.machine }
+        ensures done { IsTold answer → IsDone result }
+        ensures event_number { IsGiven result → IsEventNumber event.new.kind }
+        ensures event_flags { IsGiven result → AreFlags event.new }
+        ensures event_kept { (IsGiven result → ⊥) → event.new ≡ event.old }
+        ensures fault_kept { (result ≡ Did.Failed → ⊥) → fault.new ≡ fault.old }
+    {
+        match answer {
+            Answer::Wants => Did::Wants,
+            Answer::WantsAnchor => Did::Wants,
+            Answer::WantsTag => {
+                self.tag = fact;
+                Did::Wants
+            }
+            Answer::StreamStart => {
+                put_event(event, STREAM_START, false, &at.start_mark, &at.start_mark);
+                self.rest(Did::Gave)
+            }
+            Answer::StreamEnd => {
+                put_event(event, STREAM_END, false, &at.start_mark, &at.end_mark);
+                self.rest(Did::Gave)
+            }
+            Answer::ImplicitDocument => {
+                put_event(event, DOCUMENT_START, true, &at.start_mark, &at.start_mark);
+                self.rest(Did::Stays)
+            }
+            Answer::ExplicitDocument => {
+                put_event(
+                    event,
+                    DOCUMENT_START,
+                    false,
+                    &self.read.start_mark,
+                    &at.end_mark,
+                );
+                self.rest(Did::Gave)
+            }
+            Answer::DocumentEnd => {
+                put_event(event, DOCUMENT_END, false, &at.start_mark, &at.end_mark);
+                self.rest(Did::Gave)
+            }
+            Answer::ImplicitDocumentEnd => {
+                put_event(event, DOCUMENT_END, true, &at.start_mark, &at.start_mark);
+                self.rest(Did::Stays)
+            }
+            Answer::Alias => {
+                put_event(event, ALIAS, false, &at.start_mark, &at.end_mark);
+                self.rest(Did::Gave)
+            }
+            Answer::Scalar => {
+                let is_plain = fact != 0;
+                let is_implicit = head.plain_flag(is_plain);
+                let is_quoted_implicit = head.quoted_flag(is_plain);
+                put_node(
+                    event,
+                    SCALAR,
+                    head,
+                    is_implicit,
+                    is_quoted_implicit,
+                    false,
+                    start,
+                    &at.end_mark,
+                );
+                self.rest(Did::Gave)
+            }
+            Answer::Empty => {
+                put_event(event, SCALAR, true, &at.start_mark, &at.start_mark);
+                self.rest(Did::Stays)
+            }
+            Answer::EmptyBehind => {
+                put_event(event, SCALAR, true, &self.read.mark, &self.read.mark);
+                self.rest(Did::Stays)
+            }
+            Answer::EmptyHead => {
+                let is_missing = head.is_missing();
+                put_node(event, SCALAR, head, is_missing, false, false, start, end);
+                self.rest(Did::Stays)
+            }
+            Answer::BlockSequence => {
+                let is_missing = head.is_missing();
+                put_node(
+                    event,
+                    SEQUENCE_START,
+                    head,
+                    is_missing,
+                    false,
+                    false,
+                    start,
+                    &at.end_mark,
+                );
+                Did::Entered
+            }
+            Answer::BlockMapping => {
+                let is_missing = head.is_missing();
+                put_node(
+                    event,
+                    MAPPING_START,
+                    head,
+                    is_missing,
+                    false,
+                    false,
+                    start,
+                    &at.end_mark,
+                );
+                Did::Entered
+            }
+            Answer::FlowSequence => {
+                let is_missing = head.is_missing();
+                put_node(
+                    event,
+                    SEQUENCE_START,
+                    head,
+                    is_missing,
+                    false,
+                    true,
+                    start,
+                    &at.end_mark,
+                );
+                Did::Entered
+            }
+            Answer::FlowMapping => {
+                let is_missing = head.is_missing();
+                put_node(
+                    event,
+                    MAPPING_START,
+                    head,
+                    is_missing,
+                    false,
+                    true,
+                    start,
+                    &at.end_mark,
+                );
+                Did::Entered
+            }
+            Answer::Unentered => self.unentered(head, start, kind, at, event),
+            Answer::IndentlessSequence => {
+                let is_missing = head.is_missing();
+                put_node(
+                    event,
+                    SEQUENCE_START,
+                    head,
+                    is_missing,
+                    false,
+                    false,
+                    start,
+                    &at.end_mark,
+                );
+                self.rest(Did::Stays)
+            }
+            Answer::Pair => {
+                put_node(
+                    event,
+                    MAPPING_START,
+                    &NO_HEAD,
+                    true,
+                    false,
+                    true,
+                    &at.start_mark,
+                    &at.end_mark,
+                );
+                self.rest(Did::Gave)
+            }
+            Answer::SequenceEnd => {
+                put_event(event, SEQUENCE_END, false, &at.start_mark, &at.end_mark);
+                self.rest(Did::Gave)
+            }
+            Answer::IndentlessEnd => {
+                put_event(event, SEQUENCE_END, false, &at.start_mark, &at.start_mark);
+                self.rest(Did::Stays)
+            }
+            Answer::MappingEnd => {
+                put_event(event, MAPPING_END, false, &at.start_mark, &at.end_mark);
+                self.rest(Did::Gave)
+            }
+            Answer::PairEnd => {
+                put_event(event, MAPPING_END, false, &at.start_mark, &at.start_mark);
+                self.rest(Did::Stays)
+            }
+            Answer::Failed => self.fail(&at.start_mark, &at.start_mark, self.read.problem, fault),
+            Answer::FailedDocument => self.fail(
+                &ZERO_MARK,
+                &at.start_mark,
+                self.read.problem,
+                fault,
+            ),
+            Answer::FailedWithin => self.fail(
+                &self.read.mark,
+                &at.start_mark,
+                self.read.problem,
+                fault,
+            ),
+            _ => Did::Bad,
+        }
+    }
+
+    /// Puts the start of the collection that the token opens. The token stays.
+    #[cold]
+    #[inline(never)]
+    fn unentered(
+        &mut self,
+        head: &Head,
+        start: &yaml_mark_t,
+        kind: yaml_token_type_t,
+        at: &step_span_t,
+        event: &mut step_event_t,
+    ) -> Did
+        ensures did { result ≡ Did.Stays }
+        ensures wanted { wanted self.new.tag self.new.read ≡ AtState }
+        ensures machine { self.new.machine ≡ self.old.machine }
+        ensures shape { (e g : yaml_mark_t)
+            → shape_of event.new ≡ start_by kind (head_of head.now start.now e g) }
+        ensures start { event.new.start_mark ≡ start.now }
+        ensures end { event.new.end_mark ≡ at.now.end_mark }
+        ensures event_number { IsEventNumber event.new.kind }
+        ensures event_flags { AreFlags event.new }
+    {
+        let is_missing = head.is_missing();
+        match kind {
+            yaml_token_type_t::YAML_BLOCK_SEQUENCE_START_TOKEN => {
+                put_node(
+                    event,
+                    SEQUENCE_START,
+                    head,
+                    is_missing,
+                    false,
+                    false,
+                    start,
+                    &at.end_mark,
+                );
+                self.rest(Did::Stays)
+            }
+            yaml_token_type_t::YAML_FLOW_SEQUENCE_START_TOKEN => {
+                put_node(
+                    event,
+                    SEQUENCE_START,
+                    head,
+                    is_missing,
+                    false,
+                    true,
+                    start,
+                    &at.end_mark,
+                );
+                self.rest(Did::Stays)
+            }
+            yaml_token_type_t::YAML_FLOW_MAPPING_START_TOKEN => {
+                put_node(
+                    event,
+                    MAPPING_START,
+                    head,
+                    is_missing,
+                    false,
+                    true,
+                    start,
+                    &at.end_mark,
+                );
+                self.rest(Did::Stays)
+            }
+            _ => {
+                put_node(
+                    event,
+                    MAPPING_START,
+                    head,
+                    is_missing,
+                    false,
+                    false,
+                    start,
+                    &at.end_mark,
+                );
+                self.rest(Did::Stays)
+            }
+        }
+    }
+}
