@@ -1,0 +1,70 @@
+//! The calls of `token_steps` for C. `examples/steps.h` declares them, and says what a caller does.
+#![tactic(auto)]
+
+mod tags;
+
+ghost use Rattle.std.specs.Prelude.{◌≡◌, ◌≤◌, ◌↔◌, ℕ, List, length, true, false};
+ghost use Rattle.libyaml_types.specs.declared.mark.yaml_mark_t.{yaml_mark_t};
+ghost use Rattle.libyaml_automaton.specs.Automaton as automaton;
+ghost use Rattle.libyaml_automaton.specs.Config.{config_of, start, Within};
+ghost use Rattle.libyaml_automaton.specs.Growth.{States, Marks};
+ghost use Rattle.libyaml_automaton.specs.Want.{AtState};
+ghost use Rattle.token_steps.specs.Growth.{grown};
+ghost use Rattle.token_steps.specs.Records.{AreFlags, kind_of, token_at};
+ghost use Rattle.token_steps.specs.Numbers.{is_given, is_undone, IsEventNumber, IsFaultNumber};
+ghost use Rattle.token_steps.specs.Tells.{TellsNumber, want_in, IsBehindEvent};
+
+use libyaml_types::yaml_mark_t;
+use token_steps::{step_event_t, step_fault_t, step_span_t, steps_t, token_kind};
+
+/// Puts what is kept before a stream's first token.
+#[unsafe(no_mangle)]
+pub extern "C" fn pokhvizi_steps_new(steps: &mut steps_t)
+    ensures config { (states : List ℕ) (marks : List yaml_mark_t)
+        → config_of steps.new.machine states marks ≡ start }
+    ensures wanted { want_in steps.new ≡ AtState }
+    ensures within { (states : List ℕ) (marks : List yaml_mark_t) → Within steps.new.machine states marks }
+{
+    *steps = steps_t::new();
+}
+
+/// Takes a token by its kind, fact and marks, as `steps_t::step` does. Returns 0 where the next token is wanted; 1
+/// where an event was put, and 2 where one was put and the same token is to be handed in again; 3 and 4 where
+/// the stack of states, or that of marks, has no room, and nothing was done; 5 where a fault was put; and 6
+/// where the record counts more than the stacks have room for, and nothing was done.
+#[unsafe(no_mangle)]
+pub extern "C" fn pokhvizi_step(
+    steps: &mut steps_t,
+    states: &mut [u8],
+    marks: &mut [yaml_mark_t],
+    kind: u8,
+    fact: u8,
+    at: &step_span_t,
+    event: &mut step_event_t,
+    fault: &mut step_fault_t,
+) -> u32
+    ensures tells { TellsNumber result (automaton.step (want_in steps.old)
+        (config_of steps.old.machine states.old marks.old) (token_at (kind_of kind) fact at.now))
+        (token_at (kind_of kind) fact at.now) steps.new event.new fault.new
+        (config_of steps.new.machine states.new marks.new) }
+    ensures numbers { result ≤ 6 }
+    ensures within { Within steps.old.machine states.old marks.old
+        → Within steps.new.machine states.new marks.new }
+    ensures bad { (result ≡ 6) ↔ (Within steps.old.machine states.old marks.old → ⊥) }
+    ensures full_states { Within steps.old.machine states.old marks.old → (result ≡ 3)
+        ↔ ((grown steps.old (kind_of kind) ≡ States) × (length states.old ≤ steps.old.machine.states_count)) }
+    ensures full_marks { Within steps.old.machine states.old marks.old → (result ≡ 4)
+        ↔ ((grown steps.old (kind_of kind) ≡ Marks) × (length marks.old ≤ steps.old.machine.marks_count)) }
+    ensures undone { is_undone result ≡ true → (steps.new.machine ≡ steps.old.machine)
+        × ((states.new ≡ states.old) × ((marks.new ≡ marks.old) × (want_in steps.new ≡ want_in steps.old))) }
+    ensures holds_nothing { is_given result ≡ true → IsBehindEvent (want_in steps.new) }
+    ensures event_number { is_given result ≡ true → IsEventNumber event.new.kind }
+    ensures event_flags { is_given result ≡ true → AreFlags event.new }
+    ensures event_kept { is_given result ≡ false → event.new ≡ event.old }
+    ensures fault_number { result ≡ 5 → IsFaultNumber fault.new.problem }
+    ensures fault_kept { (result ≡ 5 → ⊥) → fault.new ≡ fault.old }
+{
+    steps
+        .step(states, marks, token_kind(kind), fact, at, event, fault)
+        .number()
+}

@@ -1,0 +1,46 @@
+//! The facts of tags and directives for C.
+ghost use Rattle.std.specs.Prelude.{◌≡◌, ◌≤◌, ℕ, List, Some, length, take, is_some};
+ghost use Rattle.std.specs.FinMap.{get};
+ghost use Rattle.libyaml_events.specs.machine.Machine.{resolve};
+ghost use Rattle.libyaml_grammar.specs.sentences.Order.{is_accepted};
+ghost use Rattle.automaton_laws.specs.Texts.{tag_fact, bit};
+ghost use Rattle.token_steps.specs.Handles.{handles_at};
+ghost use Rattle.token_steps.specs.Numbers.{length_or_none};
+
+use token_steps::{directive_fact, handle_t, tag, version_fact};
+
+/// Returns the fact of a VERSION-DIRECTIVE: 1 where its version is accepted, else 0.
+#[unsafe(no_mangle)]
+pub extern "C" fn pokhvizi_version_fact(major: i32, minor: i32) -> u8
+    ensures { result ≡ bit (is_accepted major minor) }
+{
+    version_fact(major, minor)
+}
+
+/// Returns the fact of a TAG-DIRECTIVE: 1 where the document declares the handle already, else 0.
+#[unsafe(no_mangle)]
+pub extern "C" fn pokhvizi_directive_fact(handles: &[handle_t], texts: &[u8], handle: &[u8]) -> u8
+    ensures { result ≡ bit (is_some (get (handles_at texts.now handles.now) handle.now)) }
+{
+    directive_fact(handles, texts, handle)
+}
+
+/// Returns the fact of a TAG, as `token_steps::tag` does. Puts the tag in full into `out`, where there is room
+/// for all of it, and its length into `size`; `SIZE_MAX` where its handle isn't declared.
+#[unsafe(no_mangle)]
+pub extern "C" fn pokhvizi_tag(
+    handles: &[handle_t],
+    texts: &[u8],
+    handle: &[u8],
+    suffix: &[u8],
+    out: &mut [u8],
+    size: &mut usize,
+) -> u8
+    ensures fact { result ≡ tag_fact (resolve (handles_at texts.now handles.now) handle.now suffix.now) }
+    ensures length { size.new
+        ≡ length_or_none (resolve (handles_at texts.now handles.now) handle.now suffix.now) }
+    ensures put { (t : List ℕ) → resolve (handles_at texts.now handles.now) handle.now suffix.now ≡ Some t
+        → length t ≤ length out.old → take (length t) out.new ≡ t }
+{
+    tag(handles, texts, handle, suffix, out, size)
+}
