@@ -1,61 +1,54 @@
 /* This parser in the place of libyaml's, in programs that link libyaml's shared library and stay as they are:
  *
  *     cc -O2 -shared -fPIC -fvisibility=hidden -Wl,--exclude-libs,ALL -o libyaml_preload.so \
- *         examples/libyaml_preload.c DIR/libtoken_records.a -lyaml
+ *         examples/libyaml_preload.c DIR/libtoken_steps.a -lyaml
  *     LD_PRELOAD=$PWD/libyaml_preload.so PROGRAM
  *
  * DIR is that of scripts/build_c.sh. Only `yaml_parser_parse` is replaced. libyaml's scanner gives the tokens, its
  * `yaml_event_delete` and `yaml_parser_delete` free all there is, and its `yaml_parser_load` composes documents of these
  * events.
  *
- * Memory. What a parser needs here stands in the yaml_parser_t itself, in the place of three lists that libyaml's parser
- * alone uses and its `yaml_parser_delete` frees: so a parser may be moved and deleted as with libyaml, at any time, and
- * two parsers share nothing. A failed allocation is the fault YAML_MEMORY_ERROR, after which a call gives no event. Five
- * blocks of at most 32 MB are kept for the next stream.
+ * A call reads no token past those that its event needs, and moves their texts into the event. What is kept between two
+ * calls stands in the yaml_parser_t, in the place of what libyaml's own parser keeps there: its states, the marks of open
+ * collections, and the tag directives of the document. So a parser may be moved and deleted as with libyaml, at any time,
+ * and two parsers share nothing. A failed allocation is the error YAML_MEMORY_ERROR, after which a call gives no event.
  *
- * What is other than with libyaml, beside docs/DIFFERENCES.md:
- *
- * - The first call reads the stream to its end: memory is that of all tokens and events, and a pipe gives no event before
- *   it is closed.
- * - `problem` and `context` are valid until the parser is deleted.
- * - A tag, an anchor, an alias or a tag directive that isn't UTF-8 is the scanner's fault `text is not UTF-8`, with the mark
- *   of its token. Values of scalars may have any bytes.
- * - Not in a forked child of a process with threads (token_records.h). */
-#include "token_records.h"
+ * What is other than with libyaml stands in docs/DIFFERENCES.md. */
+#include "pokhvizi/steps.h"
 #include <assert.h>
-#include <malloc.h>
-#include <stdio.h>
 #include <stdlib.h>
 #include <string.h>
 #include <yaml.h>
 
-/* What a parser tells of a fault; `error` is YAML_NO_ERROR where there is none. */
-struct fault {
-    yaml_error_type_t error;
-    const char *problem, *context;
-    size_t problem_offset;
-    int problem_value;
-    yaml_mark_t problem_mark, context_mark;
+/* libyaml's own, which its shared library exports. */
+int yaml_parser_fetch_more_tokens(yaml_parser_t *parser);
+
+static_assert(sizeof(yaml_mark_t) == sizeof(pokhvizi_mark_t), "a mark is libyaml's");
+static_assert(offsetof(yaml_token_t, end_mark) == offsetof(yaml_token_t, start_mark) + sizeof(yaml_mark_t) &&
+                  offsetof(yaml_event_t, end_mark) == offsetof(yaml_event_t, start_mark) + sizeof(yaml_mark_t) &&
+                  sizeof(pokhvizi_span_t) == 2 * sizeof(yaml_mark_t),
+              "the marks of a token and of an event are neighbours");
+
+/* The steps and their stack of states, in the place of `parser->states`. Their stack of marks is `parser->marks`. */
+struct kept {
+    pokhvizi_steps_t steps;
+    size_t room;
+    uint8_t states[];
 };
 
-/* All tokens of a stream. The parser hands a scalar's value on unread, so a record has one byte in its place, the first of
- * `texts`, and the events with a value have these in turn. */
-struct tokens {
-    token_record_t *records;
-    uint8_t *texts, *values;
-    size_t *lengths;  /* of the values */
-    size_t count, texts_length, values_length, scalars;
-    size_t records_room, texts_room, values_room, lengths_room;
+/* The tag directives of a document, in the place of `parser->tag_directives`. Their texts follow the handles that there is
+ * room for, each with a zero byte after it. */
+struct directives {
+    size_t count, room, length, texts_room;
+    pokhvizi_handle_t handles[];
 };
 
-/* All events of a stream, in the place of `parser->states`. Their records follow this, then those of tag directives, then
- * the texts. The values take the place of `parser->tag_directives`, their lengths that of `parser->marks`. */
-struct run {
-    records_run_t made;
-    record_counts_t room;
-    size_t given, values_given, values_length;  /* how many events and values were given, and the bytes of these */
-    struct fault fault;          /* what comes after the events */
-    char problem[64], context[64];
+/* What is held within one call: the properties of a node, and the version of a document. */
+struct held {
+    yaml_char_t *anchor, *tag;
+    size_t tag_length;
+    yaml_version_directive_t version;
+    int has_version;
 };
 
 static int out_of_memory(yaml_parser_t *parser)
@@ -64,460 +57,395 @@ static int out_of_memory(yaml_parser_t *parser)
     return 0;
 }
 
-/* ---- Blocks that a stream needs no longer ---- */
+/* ---- Stacks ---- */
 
-/* They are kept for the next stream, one of each kind, and each is one parser's at a time: fresh memory costs as much as a
- * run. */
-enum kind { RECORDS, TEXTS, VALUES, LENGTHS, RUN, KINDS };
-static void *kept[KINDS];
-
-enum { MOST_KEPT = 1 << 25 };
-
-/* The block that is kept, or NULL, and how many entries it has room for. */
-static void *take_kept(enum kind kind, size_t *room, size_t size)
+static struct kept *kept_of(const yaml_parser_t *parser)
 {
-    void *block = __atomic_exchange_n(&kept[kind], NULL, __ATOMIC_ACQ_REL);
-
-    *room = block == NULL ? 0 : malloc_usable_size(block) / size;
-    return block;
+    return (struct kept *)(void *)parser->states.start;
 }
 
-static void keep_block(enum kind kind, void *block)
+/* Makes room for so many states; 0 where memory is refused, and then all is as it was. */
+static int grow_states(yaml_parser_t *parser, size_t room)
 {
-    if (block != NULL && malloc_usable_size(block) <= MOST_KEPT)
-        block = __atomic_exchange_n(&kept[kind], block, __ATOMIC_ACQ_REL);
-    free(block);
+    struct kept *kept = realloc(parser->states.start, sizeof *kept + room);
+
+    if (kept == NULL)
+        return 0;
+    kept->room = room;
+    parser->states.start = parser->states.end = parser->states.top = (yaml_parser_state_t *)(void *)kept;
+    return 1;
+}
+
+static int grow_marks(yaml_parser_t *parser)
+{
+    size_t room = 2 * (size_t)(parser->marks.end - parser->marks.start);
+    yaml_mark_t *marks = realloc(parser->marks.start, room * sizeof *marks);
+
+    if (marks == NULL)
+        return 0;
+    parser->marks.start = parser->marks.top = marks;
+    parser->marks.end = marks + room;
+    return 1;
+}
+
+/* ---- Tag directives ---- */
+
+static const struct directives *directives_of(const yaml_parser_t *parser)
+{
+    static const struct directives NONE;
+
+    return parser->tag_directives.start == NULL ? &NONE : (const void *)parser->tag_directives.start;
+}
+
+static const uint8_t *texts_of(const struct directives *directives)
+{
+    return (const uint8_t *)(directives->handles + directives->room);
+}
+
+/* Makes room for so many directives and bytes of texts; NULL where memory is refused, and then all is as it was. */
+static struct directives *grow_directives(yaml_parser_t *parser, size_t room, size_t texts_room)
+{
+    const struct directives *old = directives_of(parser);
+    struct directives *made = malloc(sizeof *made + room * sizeof *made->handles + texts_room);
+
+    if (made == NULL)
+        return NULL;
+    made->count = old->count;
+    made->room = room;
+    made->length = old->length;
+    made->texts_room = texts_room;
+    memcpy(made->handles, old->handles, old->count * sizeof *old->handles);
+    memcpy(made->handles + room, texts_of(old), old->length);
+    free(parser->tag_directives.start);
+    parser->tag_directives.start = (yaml_tag_directive_t *)(void *)made;
+    parser->tag_directives.end = parser->tag_directives.top = parser->tag_directives.start;
+    return made;
+}
+
+/* Adds a directive; 0 where memory is refused. Its texts are still the token's. */
+static int declare(yaml_parser_t *parser, const yaml_token_t *token)
+{
+    const yaml_char_t *handle = token->data.tag_directive.handle, *prefix = token->data.tag_directive.prefix;
+    struct directives *all = (struct directives *)(void *)parser->tag_directives.start;
+    size_t first = strlen((const char *)handle) + 1, second = strlen((const char *)prefix) + 1;
+    size_t count = directives_of(parser)->count, length = directives_of(parser)->length;
+
+    if (all == NULL || count == all->room || first + second > all->texts_room - length)
+        all = grow_directives(parser, 2 * count + 2, 2 * (length + first + second));
+    if (all == NULL)
+        return 0;
+    uint8_t *texts = (uint8_t *)(all->handles + all->room);
+    memcpy(texts + length, handle, first);
+    memcpy(texts + length + first, prefix, second);
+    all->handles[all->count++] = (pokhvizi_handle_t){{length, first - 1}, {length + first, second - 1}};
+    all->length = length + first + second;
+    return 1;
+}
+
+static void forget_directives(yaml_parser_t *parser)
+{
+    struct directives *all = (struct directives *)(void *)parser->tag_directives.start;
+
+    if (all != NULL)
+        all->count = all->length = 0;
 }
 
 /* ---- Tokens ---- */
 
-/* Makes room for so many entries of an array; 0 where memory is refused. */
-static int reserve(void *array, size_t *room, size_t wanted, size_t size)
+/* The next token, which is left; NULL where the scanner has an error. */
+static yaml_token_t *peek(yaml_parser_t *parser)
 {
-    void *entries, *more;
+    return parser->token_available || yaml_parser_fetch_more_tokens(parser) ? parser->tokens.head : NULL;
+}
 
-    if (wanted <= *room)
+/* Takes the next token, whose texts have another owner now. */
+static void skip(yaml_parser_t *parser)
+{
+    parser->token_available = 0;
+    parser->tokens_parsed++;
+    parser->stream_end_produced = parser->tokens.head->type == YAML_STREAM_END_TOKEN;
+    parser->tokens.head++;
+}
+
+/* Puts the tag of a token in full where there is room for it, and its length; its fact. */
+static uint8_t put_tag(const yaml_parser_t *parser, const yaml_token_t *token, uint8_t *out, size_t room, size_t *length)
+{
+    const struct directives *all = directives_of(parser);
+    const yaml_char_t *handle = token->data.tag.handle, *suffix = token->data.tag.suffix;
+
+    return pokhvizi_tag(all->handles, all->count, texts_of(all), all->length, handle, strlen((const char *)handle), suffix,
+                        strlen((const char *)suffix), out, room, length);
+}
+
+static uint8_t directive_fact(const yaml_parser_t *parser, const yaml_char_t *handle)
+{
+    const struct directives *all = directives_of(parser);
+
+    return pokhvizi_directive_fact(all->handles, all->count, texts_of(all), all->length, handle,
+                                   strlen((const char *)handle));
+}
+
+/* The fact that a step takes with a token. */
+static uint8_t fact_of(const yaml_parser_t *parser, const yaml_token_t *token, struct held *held)
+{
+    uint8_t none;
+
+    switch (token->type) {
+    case YAML_VERSION_DIRECTIVE_TOKEN:
+        return pokhvizi_version_fact(token->data.version_directive.major, token->data.version_directive.minor);
+    case YAML_TAG_DIRECTIVE_TOKEN:
+        return directive_fact(parser, token->data.tag_directive.handle);
+    case YAML_TAG_TOKEN:
+        return put_tag(parser, token, &none, 0, &held->tag_length);
+    case YAML_SCALAR_TOKEN:
+        return token->data.scalar.style == YAML_PLAIN_SCALAR_STYLE;
+    default:
+        return 0;
+    }
+}
+
+/* Holds a tag in full, of which the fact was asked for; 0 where memory is refused, and then its texts are the token's. */
+static int hold_tag(const yaml_parser_t *parser, const yaml_token_t *token, struct held *held)
+{
+    if (*token->data.tag.handle == '\0') {
+        held->tag = token->data.tag.suffix;
+        free(token->data.tag.handle);
         return 1;
-    memcpy(&entries, array, sizeof entries);
-    if (wanted > SIZE_MAX / 4 / size || (more = realloc(entries, 2 * wanted * size)) == NULL)
-        return 0;
-    memcpy(array, &more, sizeof more);
-    *room = 2 * wanted;
+    }
+    if (held->tag_length != SIZE_MAX) {  /* the handle is declared */
+        held->tag = malloc(held->tag_length + 1);
+        if (held->tag == NULL)
+            return 0;
+        put_tag(parser, token, held->tag, held->tag_length, &held->tag_length);
+        held->tag[held->tag_length] = '\0';
+    }
+    free(token->data.tag.handle);
+    free(token->data.tag.suffix);
     return 1;
 }
 
-static int put_text(struct tokens *tokens, range_record_t *range, const yaml_char_t *text)
-{
-    size_t length = strlen((const char *)text);
-
-    if (!reserve(&tokens->texts, &tokens->texts_room, tokens->texts_length + length, 1))
-        return 0;
-    memcpy(tokens->texts + tokens->texts_length, text, length);
-    range->place = tokens->texts_length;
-    range->length = length;
-    tokens->texts_length += length;
-    return 1;
-}
-
-static int put_value(struct tokens *tokens, token_record_t *record, const yaml_token_t *token)
-{
-    size_t length = token->data.scalar.length;
-
-    if (!reserve(&tokens->values, &tokens->values_room, tokens->values_length + length + 1, 1) ||
-        !reserve(&tokens->lengths, &tokens->lengths_room, tokens->scalars + 1, sizeof *tokens->lengths))
-        return 0;
-    memcpy(tokens->values + tokens->values_length, token->data.scalar.value, length);
-    tokens->values_length += length;
-    tokens->lengths[tokens->scalars++] = length;
-    record->style = token->data.scalar.style;
-    record->first.length = 1;
-    return 1;
-}
-
-/* Fills in what a record of the token's kind has. */
-static int put_fields(struct tokens *tokens, token_record_t *record, const yaml_token_t *token)
+/* Takes what a token has for an event that comes later; 0 where memory is refused, and then its texts are the token's. */
+static int hold(yaml_parser_t *parser, const yaml_token_t *token, struct held *held)
 {
     switch (token->type) {
-    case YAML_STREAM_START_TOKEN:
-        record->style = token->data.stream_start.encoding;
+    case YAML_ANCHOR_TOKEN:
+        held->anchor = token->data.anchor.value;
         return 1;
+    case YAML_TAG_TOKEN:
+        return hold_tag(parser, token, held);
     case YAML_VERSION_DIRECTIVE_TOKEN:
-        record->major = token->data.version_directive.major;
-        record->minor = token->data.version_directive.minor;
+        held->version.major = token->data.version_directive.major;
+        held->version.minor = token->data.version_directive.minor;
+        held->has_version = 1;
         return 1;
     case YAML_TAG_DIRECTIVE_TOKEN:
-        return put_text(tokens, &record->first, token->data.tag_directive.handle) &&
-               put_text(tokens, &record->second, token->data.tag_directive.prefix);
-    case YAML_ALIAS_TOKEN:
-        return put_text(tokens, &record->first, token->data.alias.value);
-    case YAML_ANCHOR_TOKEN:
-        return put_text(tokens, &record->first, token->data.anchor.value);
-    case YAML_TAG_TOKEN:
-        return put_text(tokens, &record->first, token->data.tag.handle) &&
-               put_text(tokens, &record->second, token->data.tag.suffix);
-    case YAML_SCALAR_TOKEN:
-        return put_value(tokens, record, token);
+        if (!declare(parser, token))
+            return 0;
+        free(token->data.tag_directive.handle);
+        free(token->data.tag_directive.prefix);
+        return 1;
     default:
         return 1;
     }
-}
-
-static mark_record_t mark_record(yaml_mark_t mark)
-{
-    mark_record_t made = {mark.index, mark.line, mark.column};
-    return made;
-}
-
-static yaml_mark_t mark_of(mark_record_t mark)
-{
-    yaml_mark_t made = {mark.index, mark.line, mark.column};
-    return made;
-}
-
-static int put_token(struct tokens *tokens, const yaml_token_t *token)
-{
-    if (!reserve(&tokens->records, &tokens->records_room, tokens->count + 1, sizeof *tokens->records))
-        return 0;
-    token_record_t *record = &tokens->records[tokens->count++];
-    memset(record, 0, sizeof *record);
-    record->kind = token->type;
-    record->start_mark = mark_record(token->start_mark);
-    record->end_mark = mark_record(token->end_mark);
-    return put_fields(tokens, record, token);
-}
-
-/* Scans to the end of the stream, or to the scanner's fault, which the parser then keeps; 0 where memory is refused. */
-static int scan(yaml_parser_t *parser, struct tokens *tokens)
-{
-    static const yaml_char_t IN_PLACE_OF_A_VALUE[] = "-";
-    range_record_t range;
-    yaml_token_t token;
-    yaml_token_type_t type;
-    int put = reserve(&tokens->records, &tokens->records_room, 1, sizeof *tokens->records) &&
-              put_text(tokens, &range, IN_PLACE_OF_A_VALUE);
-
-    while (put && yaml_parser_scan(parser, &token)) {
-        type = token.type;
-        if (type == YAML_NO_TOKEN)
-            break;
-        put = put_token(tokens, &token);
-        if (type == YAML_TAG_DIRECTIVE_TOKEN || type >= YAML_ALIAS_TOKEN)  /* no other has texts */
-            yaml_token_delete(&token);
-        if (type == YAML_STREAM_END_TOKEN)
-            break;
-    }
-    return put && parser->error != YAML_MEMORY_ERROR;
-}
-
-/* Gives up the tokens, and the values with them where they are no parser's. */
-static void free_tokens(struct tokens *tokens, int with_values)
-{
-    keep_block(RECORDS, tokens->records);
-    keep_block(TEXTS, tokens->texts);
-    if (with_values) {
-        keep_block(VALUES, tokens->values);
-        keep_block(LENGTHS, tokens->lengths);
-    }
-}
-
-/* ---- The run ---- */
-
-static event_record_t *events_of(struct run *run)
-{
-    return (event_record_t *)(void *)(run + 1);
-}
-
-static directive_record_t *directives_of(struct run *run)
-{
-    return (directive_record_t *)(void *)(events_of(run) + run->room.events);
-}
-
-static uint8_t *texts_of(struct run *run)
-{
-    return (uint8_t *)(directives_of(run) + run->room.directives);
-}
-
-/* A run with room for so much, of which nothing is made; NULL where memory is refused. */
-static struct run *new_run(record_counts_t room)
-{
-    const size_t most = SIZE_MAX / 8;
-    size_t there, wanted;
-    struct run *run;
-
-    if (room.events > most / sizeof(event_record_t) || room.directives > most / sizeof(directive_record_t) ||
-        room.texts > most)
-        return NULL;
-    wanted = sizeof *run + room.events * sizeof(event_record_t) + room.directives * sizeof(directive_record_t) + room.texts;
-    run = take_kept(RUN, &there, 1);
-    if (there < wanted) {
-        free(run);
-        run = malloc(wanted);
-    }
-    if (run != NULL) {
-        memset(run, 0, sizeof *run);
-        run->room = room;
-    }
-    return run;
-}
-
-static int is_all_there(const records_run_t *made)
-{
-    return made->written.events == made->wanted.events && made->written.directives == made->wanted.directives &&
-           made->written.texts == made->wanted.texts;
-}
-
-/* Makes the events of these tokens; NULL where memory is refused. */
-static struct run *run_over(const struct tokens *tokens)
-{
-    record_counts_t room = {tokens->count + 64, 8, tokens->scalars + 4 * tokens->texts_length + 256};
-    struct run *run = new_run(room);
-
-    while (run != NULL) {
-        token_records_run_events(tokens->records, tokens->count, tokens->texts, tokens->texts_length, events_of(run),
-                                 room.events, directives_of(run), room.directives, texts_of(run), room.texts, &run->made);
-        if (run->made.fault.error != YAML_MEMORY_ERROR && is_all_there(&run->made))
-            break;
-        int refused = run->made.fault.error == YAML_MEMORY_ERROR;
-        room = run->made.wanted;
-        free(run);
-        run = refused ? NULL : new_run(room);
-    }
-    return run;
-}
-
-/* Takes the fault from a parser, which then has none. */
-static struct fault take_fault(yaml_parser_t *parser)
-{
-    struct fault fault = {parser->error, parser->problem, parser->context, parser->problem_offset, parser->problem_value,
-                          parser->problem_mark, parser->context_mark};
-    yaml_mark_t zero = {0, 0, 0};
-
-    parser->error = YAML_NO_ERROR;
-    parser->problem = parser->context = NULL;
-    parser->problem_offset = 0;
-    parser->problem_value = 0;
-    parser->problem_mark = parser->context_mark = zero;
-    return fault;
-}
-
-static int give_fault(yaml_parser_t *parser, const struct fault *fault)
-{
-    parser->error = fault->error;
-    parser->problem = fault->problem;
-    parser->context = fault->context;
-    parser->problem_offset = fault->problem_offset;
-    parser->problem_value = fault->problem_value;
-    parser->problem_mark = fault->problem_mark;
-    parser->context_mark = fault->context_mark;
-    return 0;
-}
-
-/* Keeps the words of a range as a string; NULL where there are none. */
-static const char *words_of(struct run *run, range_record_t range, char *kept, size_t room)
-{
-    if (range.place == TOKEN_RECORDS_ABSENT)
-        return NULL;
-    snprintf(kept, room, "%.*s", (int)range.length, (const char *)texts_of(run) + range.place);
-    return kept;
-}
-
-/* Sets the fault that a run ends with: the scanner's own, where the tokens ran out by it. */
-static void set_fault(struct run *run, const struct tokens *tokens, const struct fault *scanners)
-{
-    const fault_record_t *made = &run->made.fault;
-    int of_a_record = made->error == YAML_READER_ERROR || made->error == YAML_SCANNER_ERROR;
-
-    run->fault.error = (yaml_error_type_t)made->error;
-    run->fault.problem = words_of(run, made->problem, run->problem, sizeof run->problem);
-    run->fault.problem_mark = mark_of(made->problem_mark);
-    run->fault.context = words_of(run, made->context, run->context, sizeof run->context);
-    run->fault.context_mark = mark_of(made->context_mark);
-    if (of_a_record && made->problem_offset < tokens->count) {
-        run->fault.error = YAML_SCANNER_ERROR;
-        run->fault.problem_mark = mark_of(tokens->records[made->problem_offset].start_mark);
-    } else if (of_a_record && scanners->error != YAML_NO_ERROR) {
-        run->fault = *scanners;
-    }
-}
-
-/* Puts a run, and the values of its scalars, into the parser. */
-static void keep(yaml_parser_t *parser, struct run *run, const struct tokens *tokens)
-{
-    free(parser->states.start);
-    free(parser->marks.start);
-    free(parser->tag_directives.start);
-    parser->states.start = parser->states.end = parser->states.top = (yaml_parser_state_t *)(void *)run;
-    parser->marks.start = parser->marks.end = parser->marks.top = (yaml_mark_t *)(void *)tokens->lengths;
-    parser->tag_directives.start = (yaml_tag_directive_t *)(void *)tokens->values;
-    parser->tag_directives.end = parser->tag_directives.top = parser->tag_directives.start;
-    parser->state = YAML_PARSE_DOCUMENT_CONTENT_STATE;
-    parser->stream_end_produced = 0;  /* the scanner set it, and yaml_parser_load looks at it */
-}
-
-/* Scans the whole stream and runs over its tokens; 0 where memory is refused. */
-static int begin(yaml_parser_t *parser)
-{
-    struct tokens tokens = {0};
-    struct run *run = NULL;
-
-    tokens.records = take_kept(RECORDS, &tokens.records_room, sizeof *tokens.records);
-    tokens.texts = take_kept(TEXTS, &tokens.texts_room, 1);
-    tokens.values = take_kept(VALUES, &tokens.values_room, 1);
-    tokens.lengths = take_kept(LENGTHS, &tokens.lengths_room, sizeof *tokens.lengths);
-    if (scan(parser, &tokens))
-        run = run_over(&tokens);
-    if (run == NULL) {
-        free_tokens(&tokens, 1);
-        return out_of_memory(parser);
-    }
-    struct fault scanners = take_fault(parser);
-    set_fault(run, &tokens, &scanners);
-    keep(parser, run, &tokens);
-    free_tokens(&tokens, 0);
-    return 1;
 }
 
 /* ---- Events ---- */
 
-/* Copies a text, if there is one; 0 where memory is refused. */
-static int copy(struct run *run, range_record_t range, yaml_char_t **to)
+/* Copies a text and the zero byte after it; 0 where memory is refused. */
+static int copy(const struct directives *directives, pokhvizi_text_t text, yaml_char_t **to)
 {
-    if (range.place == TOKEN_RECORDS_ABSENT)
-        return 1;
-    if ((*to = malloc(range.length + 1)) == NULL)
+    if ((*to = malloc(text.length + 1)) == NULL)
         return 0;
-    memcpy(*to, texts_of(run) + range.place, range.length);
-    (*to)[range.length] = '\0';
+    memcpy(*to, texts_of(directives) + text.place, text.length + 1);
     return 1;
 }
 
-static int document_start(struct run *run, const event_record_t *made, yaml_event_t *event)
+static int document_start(const yaml_parser_t *parser, const struct held *held, yaml_event_t *event)
 {
-    const directive_record_t *directives = directives_of(run) + made->directives.place;
-    size_t count = made->directives.length;
+    const struct directives *all = directives_of(parser);
     yaml_version_directive_t *version;
     yaml_tag_directive_t *tags;
 
-    event->data.document_start.implicit = made->implicit;
-    if (made->has_version) {
+    if (held->has_version) {
         if ((version = malloc(sizeof *version)) == NULL)
             return 0;
-        version->major = made->major;
-        version->minor = made->minor;
+        *version = held->version;
         event->data.document_start.version_directive = version;
     }
-    if (count == 0)
+    if (all->count == 0)
         return 1;
-    if ((tags = calloc(count, sizeof *tags)) == NULL)
+    if ((tags = calloc(all->count, sizeof *tags)) == NULL)
         return 0;
     event->data.document_start.tag_directives.start = tags;
-    event->data.document_start.tag_directives.end = tags + count;
-    for (size_t i = 0; i < count; i++)
-        if (!copy(run, directives[i].handle, &tags[i].handle) || !copy(run, directives[i].prefix, &tags[i].prefix))
+    event->data.document_start.tag_directives.end = tags + all->count;
+    for (size_t i = 0; i < all->count; i++)
+        if (!copy(all, all->handles[i].handle, &tags[i].handle) || !copy(all, all->handles[i].prefix, &tags[i].prefix))
             return 0;
     return 1;
 }
 
-/* A value is the scanner's, or an empty one that the parser made. */
-static int scalar(yaml_parser_t *parser, struct run *run, const event_record_t *made, yaml_event_t *event)
+/* Moves the properties of a node into its event. */
+static void properties(const pokhvizi_event_t *made, struct held *held, yaml_char_t **anchor, yaml_char_t **tag)
+{
+    if (made->has_anchor) {
+        *anchor = held->anchor;
+        held->anchor = NULL;
+    }
+    if (made->has_tag) {
+        *tag = held->tag;
+        held->tag = NULL;
+    }
+}
+
+/* A scalar has the value and style of its token, or is empty where the token isn't its own. */
+static int scalar(const pokhvizi_event_t *made, const yaml_token_t *token, struct held *held, yaml_event_t *event)
 {
     event->data.scalar.plain_implicit = made->implicit;
     event->data.scalar.quoted_implicit = made->quoted_implicit;
-    event->data.scalar.style = (yaml_scalar_style_t)made->style;
-    if (!copy(run, made->anchor, &event->data.scalar.anchor) || !copy(run, made->tag, &event->data.scalar.tag))
-        return 0;
-    if (made->value.length == 0)
-        return copy(run, made->value, &event->data.scalar.value);
-    size_t length = ((size_t *)(void *)parser->marks.start)[run->values_given++];
-    yaml_char_t *value = malloc(length + 1);
-    if (value == NULL)
-        return 0;
-    memcpy(value, (uint8_t *)parser->tag_directives.start + run->values_length, length);
-    value[length] = '\0';
-    run->values_length += length;
-    event->data.scalar.value = value;
-    event->data.scalar.length = length;
+    properties(made, held, &event->data.scalar.anchor, &event->data.scalar.tag);
+    if (token == NULL) {
+        event->data.scalar.style = YAML_PLAIN_SCALAR_STYLE;
+        return (event->data.scalar.value = calloc(1, 1)) != NULL;
+    }
+    event->data.scalar.value = token->data.scalar.value;
+    event->data.scalar.length = token->data.scalar.length;
+    event->data.scalar.style = token->data.scalar.style;
     return 1;
 }
 
-static int sequence_start(struct run *run, const event_record_t *made, yaml_event_t *event)
-{
-    event->data.sequence_start.implicit = made->implicit;
-    event->data.sequence_start.style = (yaml_sequence_style_t)made->style;
-    return copy(run, made->anchor, &event->data.sequence_start.anchor) &&
-           copy(run, made->tag, &event->data.sequence_start.tag);
-}
-
-static int mapping_start(struct run *run, const event_record_t *made, yaml_event_t *event)
-{
-    event->data.mapping_start.implicit = made->implicit;
-    event->data.mapping_start.style = (yaml_mapping_style_t)made->style;
-    return copy(run, made->anchor, &event->data.mapping_start.anchor) &&
-           copy(run, made->tag, &event->data.mapping_start.tag);
-}
-
-/* Makes the event of a record; 0 where memory is refused, and then the event has what was made of it. */
-static int make_event(yaml_parser_t *parser, struct run *run, const event_record_t *made, yaml_event_t *event)
+/* Makes an event, of the token that ends with it where there is one; 0 where memory is refused, and then the event has what
+ * was made of it. */
+static int make_event(yaml_parser_t *parser, const pokhvizi_event_t *made, const yaml_token_t *token, struct held *held,
+                      yaml_event_t *event)
 {
     event->type = (yaml_event_type_t)made->kind;
-    event->start_mark = mark_of(made->start_mark);
-    event->end_mark = mark_of(made->end_mark);
+    memcpy(&event->start_mark, &made->start_mark, sizeof(pokhvizi_span_t));
     switch (event->type) {
     case YAML_STREAM_START_EVENT:
-        event->data.stream_start.encoding = (yaml_encoding_t)made->style;
+        event->data.stream_start.encoding = token->data.stream_start.encoding;
         return 1;
     case YAML_DOCUMENT_START_EVENT:
-        return document_start(run, made, event);
+        event->data.document_start.implicit = made->implicit;
+        return document_start(parser, held, event);
     case YAML_DOCUMENT_END_EVENT:
         event->data.document_end.implicit = made->implicit;
+        forget_directives(parser);
         return 1;
     case YAML_ALIAS_EVENT:
-        return copy(run, made->anchor, &event->data.alias.anchor);
+        event->data.alias.anchor = token->data.alias.value;
+        return 1;
     case YAML_SCALAR_EVENT:
-        return scalar(parser, run, made, event);
+        return scalar(made, token, held, event);
     case YAML_SEQUENCE_START_EVENT:
-        return sequence_start(run, made, event);
+        event->data.sequence_start.implicit = made->implicit;
+        event->data.sequence_start.style = made->is_flow ? YAML_FLOW_SEQUENCE_STYLE : YAML_BLOCK_SEQUENCE_STYLE;
+        properties(made, held, &event->data.sequence_start.anchor, &event->data.sequence_start.tag);
+        return 1;
     case YAML_MAPPING_START_EVENT:
-        return mapping_start(run, made, event);
+        event->data.mapping_start.implicit = made->implicit;
+        event->data.mapping_start.style = made->is_flow ? YAML_FLOW_MAPPING_STYLE : YAML_BLOCK_MAPPING_STYLE;
+        properties(made, held, &event->data.mapping_start.anchor, &event->data.mapping_start.tag);
+        return 1;
     default:
         return 1;
     }
 }
 
-/* Gives the next event, or the fault. */
-static int next(yaml_parser_t *parser, yaml_event_t *event)
-{
-    struct run *run = (struct run *)(void *)parser->states.start;
+/* ---- The parser ---- */
 
-    if (run->given == run->made.written.events)
-        return give_fault(parser, &run->fault);
-    if (!make_event(parser, run, &events_of(run)[run->given], event)) {
+static int give_fault(yaml_parser_t *parser, const pokhvizi_fault_t *fault)
+{
+    parser->error = YAML_PARSER_ERROR;
+    parser->problem = pokhvizi_problem(fault->problem, &parser->context);
+    memcpy(&parser->problem_mark, &fault->problem_mark, sizeof parser->problem_mark);
+    if (parser->context != NULL)
+        memcpy(&parser->context_mark, &fault->context_mark, sizeof parser->context_mark);
+    return 0;
+}
+
+/* Begins a stream; 0 where memory is refused. */
+static int begin(yaml_parser_t *parser)
+{
+    if (!grow_states(parser, 64))
+        return 0;
+    pokhvizi_steps_new(&kept_of(parser)->steps);
+    free(parser->tag_directives.start);
+    memset(&parser->tag_directives, 0, sizeof parser->tag_directives);
+    parser->state = YAML_PARSE_DOCUMENT_CONTENT_STATE;
+    return 1;
+}
+
+/* Makes the event that a step gave, and takes its token unless that stays. */
+static int give_event(yaml_parser_t *parser, const pokhvizi_event_t *made, int stays, struct held *held, yaml_event_t *event)
+{
+    if (!make_event(parser, made, stays ? NULL : parser->tokens.head, held, event)) {
         yaml_event_delete(event);
         return out_of_memory(parser);
     }
-    run->given++;
-    if (event->type == YAML_STREAM_END_EVENT) {
+    if (!stays)
+        skip(parser);
+    if (event->type == YAML_STREAM_END_EVENT)
         parser->state = YAML_PARSE_END_STATE;
-        parser->stream_end_produced = 1;
-        keep_block(RUN, run);
-        keep_block(LENGTHS, parser->marks.start);
-        keep_block(VALUES, parser->tag_directives.start);
-        memset(&parser->states, 0, sizeof parser->states);
-        memset(&parser->marks, 0, sizeof parser->marks);
-        memset(&parser->tag_directives, 0, sizeof parser->tag_directives);
-    }
     return 1;
+}
+
+/* Steps to the next event, or to an error. */
+static int next(yaml_parser_t *parser, struct held *held, yaml_event_t *event)
+{
+    pokhvizi_event_t made;
+    pokhvizi_fault_t fault;
+    const yaml_token_t *token;
+
+    while ((token = peek(parser)) != NULL) {
+        struct kept *kept = kept_of(parser);
+        uint32_t did = pokhvizi_step(&kept->steps, kept->states, kept->room, (pokhvizi_mark_t *)parser->marks.start,
+                                     parser->marks.end - parser->marks.start, token->type, fact_of(parser, token, held),
+                                     (const pokhvizi_span_t *)(const void *)&token->start_mark, &made, &fault);
+        switch (did) {
+        case POKHVIZI_WANTS:
+            if (!hold(parser, token, held))
+                return out_of_memory(parser);
+            skip(parser);
+            break;
+        case POKHVIZI_GAVE:
+        case POKHVIZI_STAYS:
+            return give_event(parser, &made, did == POKHVIZI_STAYS, held, event);
+        case POKHVIZI_FULL_STATES:
+            if (!grow_states(parser, 2 * kept->room))
+                return out_of_memory(parser);
+            break;
+        case POKHVIZI_FULL_MARKS:
+            if (!grow_marks(parser))
+                return out_of_memory(parser);
+            break;
+        case POKHVIZI_FAULT:
+            return give_fault(parser, &fault);
+        default:
+            parser->error = YAML_PARSER_ERROR;
+            parser->problem = "the parser's stacks were overwritten";
+            return 0;
+        }
+    }
+    return 0;
 }
 
 /* In the place of libyaml's function of this name. */
 __attribute__((visibility("default"))) int yaml_parser_parse(yaml_parser_t *parser, yaml_event_t *event)
 {
+    struct held held = {0};
+    int given;
+
     assert(parser);
     assert(event);
     memset(event, 0, sizeof *event);
     if (parser->error != YAML_NO_ERROR || parser->stream_end_produced || parser->state == YAML_PARSE_END_STATE)
         return 1;
     if (parser->state == YAML_PARSE_STREAM_START_STATE && !begin(parser))
-        return 0;
-    return next(parser, event);
+        return out_of_memory(parser);
+    given = next(parser, &held, event);
+    if (held.anchor != NULL || held.tag != NULL) {  /* an error, or the tag `!`, which a scalar's event hasn't */
+        free(held.anchor);
+        free(held.tag);
+    }
+    return given;
 }

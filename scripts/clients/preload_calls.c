@@ -1,6 +1,6 @@
 /* Calls of libyaml where examples/libyaml_preload.c is preloaded: each allocation refused in turn, parsers that are
- * deleted at each event, moved, used after a fault or after the end, and by several threads; documents; more events and
- * texts than there was room for at first. Says what was wrong, and exits with 1 where anything was. */
+ * deleted at each event, moved, used after a fault or after the end, and by several threads; documents; more states, marks,
+ * tag directives and texts than there was room for at first. Says what was wrong, and exits with 1 where anything was. */
 #include <pthread.h>
 #include <stdio.h>
 #include <stdlib.h>
@@ -20,9 +20,26 @@ static const struct {
     {"a: 'x", YAML_SCANNER_ERROR, "found unexpected end of stream", "while scanning a quoted scalar", 5},
     {"a: \xFF\n", YAML_READER_ERROR, "invalid leading UTF-8 octet", NULL, 0},
     {"--- a\n--- [b}\n", YAML_PARSER_ERROR, "did not find expected ',' or ']'", "while parsing a flow sequence", 12},
-    {"- a\n- &b !<%ED%A0%80> c\n", YAML_SCANNER_ERROR, "text is not UTF-8", NULL, 9},
+    {"- !a b\n- &c !d!e f\n", YAML_PARSER_ERROR, "found undefined tag handle", "while parsing a node", 12},
+    {"%TAG !e! a\n%TAG !e! b\n---\n", YAML_PARSER_ERROR, "found duplicate %TAG directive", NULL, 11},
+    {"- &a !!b @\n", YAML_SCANNER_ERROR, "found character that cannot start any token", "while scanning for the next token", 9},
+    {"- &a !!b &c d\n", YAML_PARSER_ERROR, "did not find expected '-' indicator", "while parsing a block collection", 9},
 };
-enum { EVENTS = 22, NODES = 11, KEPT = 5 };  /* blocks are kept for the next stream */
+enum { EVENTS = 22, NODES = 11, LEVELS = 150 };
+
+/* Five tag directives, and a flow sequence in a flow sequence, 150 levels deep: the states, the marks and the directives grow. */
+static char deep[1000];
+
+static void make_deep(void)
+{
+    char *at = deep;
+
+    for (int i = 0; i < 5; i++)
+        at += sprintf(at, "%%TAG !%d! tag:example.org,2000:%d:\n", i, i);
+    at += sprintf(at, "--- !4!x ");
+    memset(at, '[', LEVELS);
+    memset(at + LEVELS, ']', LEVELS);
+}
 
 /* ---- The C library's allocator, of which one call may be refused ---- */
 
@@ -145,41 +162,25 @@ static void check_whole(void)
     expect(load_text(TEXT, &error) == NODES && error == YAML_NO_ERROR, "nodes", 0);
 }
 
-/* How many blocks there are once all that may be kept are, after a whole stream. */
-static long settled(void)
-{
-    unsigned long sum = 0;
-    yaml_error_type_t error;
-
-    parse_text(TEXT, 1000, &sum, &error);
-    return live;
-}
-
-/* Each allocation refused in turn: a memory fault or the same events, and everything given back but what is kept. Nothing is
- * kept at first; after a call by which more is, there are fewer allocations, and the same number is refused again. */
-static long check_refusals(void)
+/* Each allocation refused in turn: a memory error or the same events, and every block given back. */
+static long check_refusals(const char *text, long events)
 {
     unsigned long whole = 0, sum;
     yaml_error_type_t error;
-    long at = 0, before = live, last, memory = 0, count, refusals = 0;
+    long at = 0, before = live, memory = 0, count;
 
+    expect(parse_text(text, 1000, &whole, &error) == events && error == YAML_NO_ERROR, "events", events);
     do {
         sum = 0;
-        last = live;
         refused_at = ++at;
-        count = parse_text(TEXT, 1000, &sum, &error);
-        expect(live >= before && live <= before + KEPT, "blocks are lost", at);
-        at -= live > last;
-        refusals++;
-        if (error == YAML_NO_ERROR && whole == 0)
-            whole = sum;
-        expect(error == YAML_MEMORY_ERROR || (error == YAML_NO_ERROR && count == EVENTS && sum == whole), "a refusal", at);
+        count = parse_text(text, 1000, &sum, &error);
+        expect(live == before, "blocks are lost", at);
+        expect(error == YAML_MEMORY_ERROR || (error == YAML_NO_ERROR && count == events && sum == whole), "a refusal", at);
         memory += error == YAML_MEMORY_ERROR;
     } while (refused_at == 0);
     refused_at = 0;
-    expect(memory > 20, "refusals are told", memory);
-    expect(settled() == before + KEPT, "blocks are lost", live - before);
-    return refusals;
+    expect(memory == at - 1, "refusals are told", memory);
+    return memory;
 }
 
 static void check_deleted(void)
@@ -188,9 +189,9 @@ static void check_deleted(void)
     yaml_error_type_t error;
 
     for (long most = 0; most <= EVENTS; most++) {
-        long before = settled();
+        long before = live;
         expect(parse_text(TEXT, most, &sum, &error) == most, "deleted", most);
-        expect(settled() == before, "blocks are lost", most);
+        expect(live == before, "blocks are lost", most);
     }
 }
 
@@ -201,7 +202,7 @@ static void check_faults(void)
     unsigned long sum = 0;
 
     for (size_t i = 0; i < sizeof BROKEN / sizeof *BROKEN; i++) {
-        long before = settled();
+        long before = live;
         if (!begin(&parser, BROKEN[i].text))
             abort();
         parse(&parser, 1000, &sum);
@@ -212,8 +213,35 @@ static void check_faults(void)
                "its context", i);
         expect(yaml_parser_parse(&parser, &event) && event.type == YAML_NO_EVENT && parser.error == error, "after it", i);
         yaml_parser_delete(&parser);
-        expect(settled() == before, "blocks are lost", i);
+        expect(live == before, "blocks are lost", i);
     }
+}
+
+/* Whether the first scalar of a text has this tag. */
+static int has_tag(const char *text, const char *tag)
+{
+    yaml_parser_t parser;
+    yaml_event_t event;
+    int more, is = 0;
+
+    if (!begin(&parser, text))
+        abort();
+    do {
+        more = yaml_parser_parse(&parser, &event) && event.type != YAML_NO_EVENT && event.type != YAML_SCALAR_EVENT;
+        is = event.type == YAML_SCALAR_EVENT && event.data.scalar.tag != NULL &&
+             strcmp((char *)event.data.scalar.tag, tag) == 0;
+        yaml_event_delete(&event);
+    } while (more);
+    yaml_parser_delete(&parser);
+    return is;
+}
+
+static void check_tags(void)
+{
+    expect(has_tag("- !a b", "!a") && has_tag("- !!str b", "tag:yaml.org,2002:str"), "default handles", 0);
+    expect(has_tag("%TAG ! tag:e:\n--- !a b", "tag:e:a"), "a primary handle", 0);
+    expect(has_tag("%TAG !e! a\n%TAG !f! b\n--- !f!c d", "bc"), "the second handle", 0);
+    expect(has_tag("- &b !<%ED%A0%80> c", "\xED\xA0\x80"), "a tag that isn't UTF-8", 0);
 }
 
 /* Documents without content, of which each has three events for one token, and a long tag that each has. */
@@ -295,12 +323,14 @@ static void check_threads(void)
 
 int main(void)
 {
-    long refused = check_refusals();
     check_whole();
     if (wrong)
         return 1;
+    make_deep();
+    long refused = check_refusals(TEXT, EVENTS) + check_refusals(deep, 4 + 2 * LEVELS);
     check_deleted();
     check_faults();
+    check_tags();
     check_room();
     check_moved();
     check_threads();
