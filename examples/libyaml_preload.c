@@ -32,7 +32,7 @@ static_assert(offsetof(yaml_token_t, end_mark) == offsetof(yaml_token_t, start_m
 /* The steps and their stack of states, in the place of `parser->states`. Their stack of marks is `parser->marks`. */
 struct kept {
     pokhvizi_steps_t steps;
-    size_t room;
+    size_t states_room, marks_room;
     uint8_t states[];
 };
 
@@ -71,20 +71,20 @@ static int grow_states(yaml_parser_t *parser, size_t room)
 
     if (kept == NULL)
         return 0;
-    kept->room = room;
+    kept->states_room = room;
     parser->states.start = parser->states.end = parser->states.top = (yaml_parser_state_t *)(void *)kept;
     return 1;
 }
 
 static int grow_marks(yaml_parser_t *parser)
 {
-    size_t room = 2 * (size_t)(parser->marks.end - parser->marks.start);
+    size_t room = 2 * kept_of(parser)->marks_room;
     yaml_mark_t *marks = realloc(parser->marks.start, room * sizeof *marks);
 
     if (marks == NULL)
         return 0;
-    parser->marks.start = parser->marks.top = marks;
-    parser->marks.end = marks + room;
+    kept_of(parser)->marks_room = room;
+    parser->marks.start = parser->marks.end = parser->marks.top = marks;
     return 1;
 }
 
@@ -163,18 +163,17 @@ static void skip(yaml_parser_t *parser)
 {
     parser->token_available = 0;
     parser->tokens_parsed++;
-    parser->stream_end_produced = parser->tokens.head->type == YAML_STREAM_END_TOKEN;
     parser->tokens.head++;
 }
 
-/* Puts the tag of a token in full where there is room for it, and its length; its fact. */
+/* Puts the tag of a token in full where there is room for it, and its length; returns its fact. */
 static uint8_t put_tag(const yaml_parser_t *parser, const yaml_token_t *token, uint8_t *out, size_t room, size_t *length)
 {
     const struct directives *all = directives_of(parser);
     const yaml_char_t *handle = token->data.tag.handle, *suffix = token->data.tag.suffix;
 
-    return pokhvizi_tag(all->handles, all->count, texts_of(all), all->length, handle, strlen((const char *)handle), suffix,
-                        strlen((const char *)suffix), out, room, length);
+    return pokhvizi_tag(all->handles, all->count, texts_of(all), all->length, handle, strlen((const char *)handle),
+                        suffix, strlen((const char *)suffix), out, room, length);
 }
 
 static uint8_t directive_fact(const yaml_parser_t *parser, const yaml_char_t *handle)
@@ -369,6 +368,7 @@ static int begin(yaml_parser_t *parser)
     if (!grow_states(parser, 64))
         return 0;
     pokhvizi_steps_new(&kept_of(parser)->steps);
+    kept_of(parser)->marks_room = parser->marks.end - parser->marks.start;
     free(parser->tag_directives.start);
     memset(&parser->tag_directives, 0, sizeof parser->tag_directives);
     parser->state = YAML_PARSE_DOCUMENT_CONTENT_STATE;
@@ -384,9 +384,22 @@ static int give_event(yaml_parser_t *parser, const pokhvizi_event_t *made, int s
     }
     if (!stays)
         skip(parser);
-    if (event->type == YAML_STREAM_END_EVENT)
+    if (event->type == YAML_STREAM_END_EVENT) {
         parser->state = YAML_PARSE_END_STATE;
+        parser->stream_end_produced = 1;
+    }
     return 1;
+}
+
+static inline uint32_t step(yaml_parser_t *parser, const yaml_token_t *token, struct held *held, pokhvizi_event_t *made,
+                            pokhvizi_fault_t *fault)
+{
+    struct kept *kept = kept_of(parser);
+    const pokhvizi_span_t *at = (const pokhvizi_span_t *)(const void *)&token->start_mark;
+    pokhvizi_mark_t *marks = (pokhvizi_mark_t *)(void *)parser->marks.start;
+
+    return pokhvizi_step(&kept->steps, kept->states, kept->states_room, marks, kept->marks_room, token->type,
+                         fact_of(parser, token, held), at, made, fault);
 }
 
 /* Steps to the next event, or to an error. */
@@ -397,10 +410,7 @@ static int next(yaml_parser_t *parser, struct held *held, yaml_event_t *event)
     const yaml_token_t *token;
 
     while ((token = peek(parser)) != NULL) {
-        struct kept *kept = kept_of(parser);
-        uint32_t did = pokhvizi_step(&kept->steps, kept->states, kept->room, (pokhvizi_mark_t *)parser->marks.start,
-                                     parser->marks.end - parser->marks.start, token->type, fact_of(parser, token, held),
-                                     (const pokhvizi_span_t *)(const void *)&token->start_mark, &made, &fault);
+        uint32_t did = step(parser, token, held, &made, &fault);
         switch (did) {
         case POKHVIZI_WANTS:
             if (!hold(parser, token, held))
@@ -411,7 +421,7 @@ static int next(yaml_parser_t *parser, struct held *held, yaml_event_t *event)
         case POKHVIZI_STAYS:
             return give_event(parser, &made, did == POKHVIZI_STAYS, held, event);
         case POKHVIZI_FULL_STATES:
-            if (!grow_states(parser, 2 * kept->room))
+            if (!grow_states(parser, 2 * kept_of(parser)->states_room))
                 return out_of_memory(parser);
             break;
         case POKHVIZI_FULL_MARKS:

@@ -6,9 +6,13 @@
 #     libtoken_lines.a     the runs over lines and the toolchain's allocator in one object, whose only global names are the
 #                          two runs
 #     libtoken_lines.so    the same as a shared library, which has that name in the programs that are linked to it
-#     libtoken_records.a   likewise the two runs over records
+#     libtoken_records.a   likewise the run over records
 #     libtoken_records.so
+#     libtoken_steps.a     the steps, without an allocator
+#     libtoken_steps.so
 #     yaml                 examples/yaml.c over the first; CFLAGS are taken from the environment
+#
+# The libraries run on any x86-64 processor.
 #
 # Needs the kit, a C compiler, binutils, and Debian's libyaml-dev. The first run proves the crates below, which takes many
 # minutes and is told in DIR/rt_lib.log. With the word `ci`, right after `rt ci` in a fresh checkout, the libraries that it
@@ -39,22 +43,24 @@ build_over_ci() {
     done
     mkdir -p out
     "$kit/bin/rattle" build --crate-name "$name" src/lib.rt "$@" --antt-project "$kit/rattle/logic/antt-project.json" \
-        --logic-built "$kit/logic_built" --jobs 1 --links "$name=" --crate-type staticlib \
+        --logic-built "$kit/logic_built" --jobs 1 --links "$name=" --crate-type staticlib --cpu x86-64 \
         --toolchain "$kit/toolchain" --backend llvm -o "out/lib$name.a"
 }
 
-# Makes libNAME.a and libNAME.so of the crate NAME_c, which stands on the crate NAME: they hand out these names alone.
+# Makes libNAME.a and libNAME.so of the crate NAME_c, which stands on the crate NAME, and of an archive beside it, if any: they
+# hand out these names alone.
 build_library() {
     name=$1
-    shift
+    beside=$2
+    shift 2
     wanted=$(printf '%s\n' "$@" | sort)
-    how='rt lib'
+    how='rt lib --cpu x86-64'
     if [ "$after" = ci ] && [ ! -e "crates/$name/out/rlib/stamp" ]; then
         how=build_over_ci
     fi
     echo "building crates/${name}_c ($how); what it says goes to $dir/rt_lib.log"
     (cd "crates/${name}_c" && $how >> "$dir/rt_lib.log" 2>&1) || { tail -5 "$dir/rt_lib.log" >&2; exit 1; }
-    ld -r -o "$dir/$name.o" --whole-archive "crates/${name}_c/out/lib${name}_c.a" "$kit/c/liblibc_c.a"
+    ld -r -o "$dir/$name.o" --whole-archive "crates/${name}_c/out/lib${name}_c.a" $beside
     for run in $wanted; do
         set -- "$@" "--keep-global-symbol=$run"
         shift
@@ -71,7 +77,13 @@ build_library() {
     fi
 }
 
-build_library token_lines token_lines_run_events token_lines_run_nodes
-build_library token_records token_records_run_documents token_records_run_events
+allocator=$kit/c/liblibc_c.a
+build_library token_lines "$allocator" token_lines_run_events token_lines_run_nodes
+build_library token_records "$allocator" token_records_run_documents
+build_library token_steps '' pokhvizi_directive_fact pokhvizi_step pokhvizi_steps_new pokhvizi_tag pokhvizi_version_fact
+if nm -u "$dir/libtoken_steps.a" | grep -v ':$' | grep -v -w -E 'U (memcmp|memcpy|memmove|memset)' | grep .; then
+    echo "the steps need more than memory in place" >&2
+    exit 1
+fi
 
 "$cc" ${CFLAGS:--O2 -Wall -Wextra} examples/yaml.c "$dir/libtoken_lines.a" -lyaml -o "$dir/yaml"

@@ -58,10 +58,9 @@ uint32_t pokhvizi_step(pokhvizi_steps_t *steps, uint8_t *states, size_t states_r
 /* A document's handles, as they are declared: ranges of one buffer of bytes. */
 typedef struct { uint64_t place, length; } pokhvizi_text_t;
 typedef struct { pokhvizi_text_t handle, prefix; } pokhvizi_handle_t;
+uint8_t pokhvizi_version_fact(int32_t major, int32_t minor);
 uint8_t pokhvizi_directive_fact(const pokhvizi_handle_t *handles, size_t count, const uint8_t *texts, size_t length,
     const uint8_t *handle, size_t handle_length);
-/* The fact of a VERSION-DIRECTIVE. */
-uint8_t pokhvizi_version_fact(int32_t major, int32_t minor);
 /* The fact of a TAG; puts the tag in full, if there is room for all of it, and its length, SIZE_MAX where its handle isn't declared. */
 uint8_t pokhvizi_tag(const pokhvizi_handle_t *handles, size_t count, const uint8_t *texts, size_t length, const uint8_t *handle,
     size_t handle_length, const uint8_t *suffix, size_t suffix_length, uint8_t *out, size_t room, size_t *size);

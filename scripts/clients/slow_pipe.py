@@ -1,10 +1,10 @@
 #!/usr/bin/env python3
-"""Feeds a program a line of YAML at a time: the events that a line settles have to be in the output before the next is sent.
+"""Feeds a program a line of YAML at a time: the events that a line settles have to be there before the next line is sent.
 
     slow_pipe.py PROGRAM WORD..
 
 The program prints the number of each event's kind (yaml_event_type_t) in a line of its own. The exit status is 1 where an
-event comes late (after ten seconds, or those that SECONDS names) or is another, and 2 for wrong words.
+event comes late (after ten seconds, or those that SECONDS names) or is another.
 """
 import os
 import select
@@ -13,11 +13,11 @@ import sys
 import time
 
 SECONDS = float(os.environ.get("SECONDS", "10"))
-# Each line, and the further events that are there once it was read. PyYAML reads twice before it looks at the input.
+# Each line, and the further events that are there once it was read.
 LINES = [
-    ("- a", []),
-    ("- [b, c]", []),
-    ("- d: e", [1, 3, 7, 6, 7, 6, 6, 8, 9, 6]),
+    ("- a", [1, 3, 7]),
+    ("- [b, c]", [6]),
+    ("- d: e", [7, 6, 6, 8, 9, 6]),
     ("  f: g", [6, 6]),
     ("---", [6, 10, 8, 4, 3]),
     ("- &h i", [7]),
