@@ -8,19 +8,18 @@
 Scanner, composer, resolver and constructor are PyYAML's (Debian: python3-yaml), and so are the events, nodes, marks and
 errors: an error has the text and the snippet of PyYAML without its C part. `ProvedParser` before any loader of that form
 makes another: `class Mine(ProvedParser, yaml.FullLoader): pass`. `use_library(PATH)` or the environment's
-TOKEN_RECORDS_LIBRARY says where libtoken_records.so is, which scripts/build_c.sh makes; without them it is looked for
+POKHVIZI_LIBRARY says where libtoken_steps.so is, which scripts/build_c.sh makes; without them it is looked for
 beside this file, in build/ beside its folder, and where the system looks for libraries.
 
-What is other than with PyYAML's parser, beside docs/DIFFERENCES.md, which is about libyaml's:
+Each event takes as many tokens of the scanner as PyYAML's parser takes. What is other than with that parser, beside
+docs/DIFFERENCES.md, which is about libyaml's:
 
-- The first event reads the stream to its end, and a pipe gives none before it is closed.
 - As with libyaml: a collection whose tag is `!` alone is not implicit, an empty node with that tag is a string, and versions
   other than 1.1 and 1.2 are refused.
 - A directive that is neither YAML nor TAG is left out: the document starts at the next directive or `---`.
 
 A loader is for one thread; several loaders may be used at once. An error is raised again by each later call for an event.
 """
-import collections
 import ctypes
 import importlib
 import os
@@ -54,69 +53,35 @@ class LibraryError(Exception):
     """The library isn't there, or is another."""
 
 
-class Counts(ctypes.Structure):
-    """How many event records, directive records and bytes of texts: record_counts_t of token_records.h."""
-
-    _fields_ = [("events", ctypes.c_size_t), ("directives", ctypes.c_size_t), ("texts", ctypes.c_size_t)]
-
-    def __iter__(self):
-        return iter((self.events, self.directives, self.texts))
-
-
-class Run(ctypes.Structure):
-    """What a run did: records_run_t, where a range is two numbers and a mark three."""
-
-    _fields_ = [
-        ("wanted", Counts), ("written", Counts), ("error", ctypes.c_uint32), ("problem_value", ctypes.c_int32),
-        ("problem_offset", ctypes.c_uint64), ("problem", ctypes.c_size_t * 2), ("problem_mark", ctypes.c_uint64 * 3),
-        ("context", ctypes.c_size_t * 2), ("context_mark", ctypes.c_uint64 * 3)]
-
-
 class Library:
-    """The events of token records, by libtoken_records.so."""
+    """libtoken_steps.so, as pokhvizi/steps.h declares it."""
 
-    TOKEN = struct.Struct("=2I2i10Q")
-    EVENT = struct.Struct("=I4B2i14Q")
-    DIRECTIVE = struct.Struct("=4Q")
-    SIZES = EVENT.size, DIRECTIVE.size, 1
-    ABSENT = (1 << 64) - 1
-    MEMORY, READER, SCANNER = 1, 2, 3
-    PLACES = os.path.join(HERE, "libtoken_records.so"), os.path.join(HERE, os.pardir, "build", "libtoken_records.so")
+    NAMES = ("pokhvizi_steps_new", "pokhvizi_step", "pokhvizi_tag", "pokhvizi_directive_fact", "pokhvizi_version_fact")
+    PLACES = os.path.join(HERE, "libtoken_steps.so"), os.path.join(HERE, os.pardir, "build", "libtoken_steps.so")
     used = None
 
     def __init__(self, path):
+        pointer, size, byte = ctypes.c_void_p, ctypes.c_size_t, ctypes.c_uint8
+        text = ctypes.c_char_p, size
         try:
-            self.function = ctypes.CDLL(path).token_records_run_events
+            library = ctypes.CDLL(path)
+            self.new, self.step, self.tag, self.directive_fact, self.version_fact = [library[name] for name in self.NAMES]
         except (OSError, AttributeError) as error:
-            raise LibraryError("cannot use %s: %s; TOKEN_RECORDS_LIBRARY says where libtoken_records.so is, which "
+            raise LibraryError("cannot use %s: %s; POKHVIZI_LIBRARY says where libtoken_steps.so is, which "
                                "scripts/build_c.sh makes" % (path, error)) from None
-        self.function.argtypes = [ctypes.c_void_p, ctypes.c_size_t] * 5 + [ctypes.POINTER(Run)]
-        self.function.restype = None
+        # The step has no argtypes: its arguments are made once, and are not converted at each call.
+        self.tag.argtypes = text * 4 + (pointer, size, ctypes.POINTER(size))
+        self.directive_fact.argtypes = text * 3
+        self.version_fact.argtypes = ctypes.c_int32, ctypes.c_int32
+        self.tag.restype = self.directive_fact.restype = self.version_fact.restype = byte
 
     @classmethod
     def get(cls):
         """Returns the library, which the first use opens."""
         if cls.used is None:
-            there = next(filter(os.path.exists, cls.PLACES), "libtoken_records.so")
-            cls.used = cls(os.environ.get("TOKEN_RECORDS_LIBRARY") or there)
+            there = next(filter(os.path.exists, cls.PLACES), "libtoken_steps.so")
+            cls.used = cls(os.environ.get("POKHVIZI_LIBRARY") or there)
         return cls.used
-
-    def run(self, records, texts):
-        """Runs, with as much room as the run before wanted. Returns what it did, and the bytes of the event records, the
-        directive records and the texts."""
-        count = len(records) // self.TOKEN.size
-        tokens = ctypes.create_string_buffer(bytes(records))
-        run, rooms = Run(), (count + 64, 8, count + 4 * len(texts) + 256)
-        while True:
-            buffers = [ctypes.create_string_buffer(room * size) for room, size in zip(rooms, self.SIZES)]
-            words = [word for pair in zip(buffers, rooms) for word in pair]
-            self.function(tokens, count, bytes(texts), len(texts), *words, ctypes.byref(run))
-            if run.error == self.MEMORY:
-                raise MemoryError
-            if tuple(run.written) == tuple(run.wanted):
-                written = zip(buffers, run.written, self.SIZES)
-                return (run, *(ctypes.string_at(buffer, count * size) for buffer, count, size in written))
-            rooms = tuple(run.wanted)
 
 
 def use_library(path):
@@ -124,191 +89,284 @@ def use_library(path):
     Library.used = Library(path)
 
 
-# ---- Tokens as records ----
+# ---- Tag directives ----
 
-class Tokens:
-    """The tokens of a scanner to its end or its failure, as records.
+class Directives:
+    """The tag directives of a document, as the library reads them and as an event has them."""
 
-    The parser hands on marks and the values of scalars unread. So a record has the number of a mark in its place: of the
-    token with the number N, from 0, the start is 2 N and the end 2 N + 1. A value's place is taken by the first byte of
-    the texts: the events that have one are those of the scalars, in their order.
-    """
+    HANDLE = struct.Struct("=4Q")
+    UNDECLARED = (1 << 64) - 1
+
+    def __init__(self, library):
+        self.library, self.size = library, ctypes.c_size_t()
+        self.forget()
+
+    def forget(self):
+        self.tags, self.handles, self.texts = {}, b"", b""
+
+    def records(self):
+        return self.handles, len(self.tags), self.texts, len(self.texts)
+
+    def fact(self, handle):
+        """Returns the fact of a directive: whether its handle has been declared."""
+        handle = handle.encode()
+        return self.library.directive_fact(*self.records(), handle, len(handle))
+
+    def declare(self, handle, prefix):
+        self.tags[handle] = prefix
+        place, handle, prefix = len(self.texts), handle.encode(), prefix.encode()
+        self.handles += self.HANDLE.pack(place, len(handle), place + len(handle), len(prefix))
+        self.texts += handle + prefix
+
+    def tag(self, handle, suffix):
+        """Returns the fact of a tag, and the tag in full, or None where its handle isn't declared."""
+        handle, suffix = (handle or "").encode(), suffix.encode()
+        room = max(len(self.texts), 18) + len(suffix)  # no prefix is longer
+        out = ctypes.create_string_buffer(room)
+        fact = self.library.tag(*self.records(), handle, len(handle), suffix, len(suffix), out, room, self.size)
+        length = self.size.value
+        return fact, None if length == self.UNDECLARED else out.raw[:length].decode()
+
+
+# ---- Steps ----
+
+class Marks:
+    """The marks of the tokens that may still stand in an event, by the numbers that the steps have in their place."""
+
+    FEW = 512
+
+    def __init__(self):
+        self.all, self.few = [], self.FEW
+
+    def put(self, token):
+        """Adds the marks of a token, and returns their numbers."""
+        number = len(self.all)
+        self.all += token.start_mark, token.end_mark
+        return number, number + 1
+
+    def keep(self, numbers):
+        """Keeps these marks alone, whose numbers are then 0, 1 and so on."""
+        self.all = [self.all[number] for number in numbers]
+        self.few = self.FEW + 2 * len(self.all)
+
+
+class Steps:
+    """The events of a scanner's tokens."""
 
     KINDS = {
-        yaml.StreamStartToken: 1, yaml.StreamEndToken: 2, yaml.DocumentStartToken: 5, yaml.DocumentEndToken: 6,
-        yaml.BlockSequenceStartToken: 7, yaml.BlockMappingStartToken: 8, yaml.BlockEndToken: 9,
+        yaml.StreamStartToken: 1, yaml.StreamEndToken: 2, yaml.DirectiveToken: 0, yaml.DocumentStartToken: 5,
+        yaml.DocumentEndToken: 6, yaml.BlockSequenceStartToken: 7, yaml.BlockMappingStartToken: 8, yaml.BlockEndToken: 9,
         yaml.FlowSequenceStartToken: 10, yaml.FlowSequenceEndToken: 11, yaml.FlowMappingStartToken: 12,
         yaml.FlowMappingEndToken: 13, yaml.BlockEntryToken: 14, yaml.FlowEntryToken: 15, yaml.KeyToken: 16,
         yaml.ValueToken: 17, yaml.AliasToken: 18, yaml.AnchorToken: 19, yaml.TagToken: 20, yaml.ScalarToken: 21,
     }
-    DIRECTIVES = {"YAML": 3, "TAG": 4}
-    ENCODINGS = {"utf-8": 1, "utf-16-le": 2, "utf-16-be": 3}
-    STYLES = {None: 1, "": 1, "'": 2, '"': 3, "|": 4, ">": 5}
-    NO_TEXT, VALUE = (0, 0), (0, 1)
-    MOST = (1 << 31) - 1
+    VERSION_DIRECTIVE, TAG_DIRECTIVE, ANCHOR, TAG, SCALAR = 3, 4, 19, 20, 21
+    DIRECTIVES = {"YAML": VERSION_DIRECTIVE, "TAG": TAG_DIRECTIVE}
+    HELD = VERSION_DIRECTIVE, TAG_DIRECTIVE, ANCHOR, TAG
+    WANTS, GAVE, STAYS, FULL_STATES, FULL_MARKS, FAULT = range(6)
+    RECORD, COUNTS = 136, struct.Struct("=16xQ")        # pokhvizi_steps_t, and its machine.marks_count
+    EVENT = struct.Struct("=6B2xQ16xQ16x")              # pokhvizi_event_t, of a mark the index alone
+    PROBLEM = struct.Struct("=B7xQ16xQ16x")             # pokhvizi_fault_t
+    FEW, MOST = 64, (1 << 31) - 1
+    # What PyYAML says for each problem; `%r` is the token's id, or its handle.
+    PROBLEMS = (
+        (None, None),
+        (None, "did not find expected <stream-start>"),
+        (None, "expected '<document start>', but found %r"),
+        (None, "found duplicate YAML directive"),
+        (None, "found incompatible YAML document"),
+        (None, "duplicate tag handle %r"),
+        ("while parsing a block node", "expected the node content, but found %r"),
+        ("while parsing a flow node", "expected the node content, but found %r"),
+        ("while parsing a node", "found undefined tag handle %r"),
+        ("while parsing a block collection", "expected <block end>, but found %r"),
+        ("while parsing a block mapping", "expected <block end>, but found %r"),
+        ("while parsing a flow sequence", "expected ',' or ']', but got %r"),
+        ("while parsing a flow mapping", "expected ',' or '}', but got %r"),
+    )
+    INCOMPATIBLE, DUPLICATE_HANDLE, UNDECLARED_HANDLE = 4, 5, 8
 
     def __init__(self, scanner):
-        self.all, self.marks, self.scalars, self.failure = [], [], [], None
-        self.records, self.texts = bytearray(), bytearray(b"-")
-        try:
-            while not self.all or type(self.all[-1]) is not yaml.StreamEndToken:
-                token = scanner.get_token()
-                if type(token) is yaml.DirectiveToken and token.name not in self.DIRECTIVES:
-                    self.leave_out(scanner)
-                    continue
-                self.records += self.record(token, type(token))
-                self.marks += token.start_mark, token.end_mark
-                self.all.append(token)
-        except MemoryError:
-            raise
-        except Exception as failure:
-            self.failure = failure
+        self.scanner, self.library, self.marks = scanner, Library.get(), Marks()
+        self.directives = Directives(self.library)
+        self.record, self.states = bytearray(self.RECORD), bytearray(self.FEW)
+        self.mark_stack = memoryview(bytearray(24 * self.FEW)).cast("Q")
+        self.at = memoryview(bytearray(48)).cast("Q")   # pokhvizi_span_t
+        self.event, self.fault = bytearray(self.EVENT.size), bytearray(self.EVENT.size)
+        self.words = self.arguments()
+        self.library.new(self.words[0])
+        self.token, self.has_ended = None, False
+        self.let_go()
+
+    def let_go(self):
+        """Forgets what was held for an event."""
+        self.anchor = self.tag = self.tag_token = self.version = None
+        self.holds = False
 
     @staticmethod
-    def leave_out(scanner):
-        """Leaves a directive out, after which another or a document's start has to stand."""
-        if not scanner.check_token(yaml.DirectiveToken, yaml.DocumentStartToken):
-            token = scanner.peek_token()
-            raise yaml.parser.ParserError(None, None, "expected '<document start>', but found %r" % token.id,
-                                          token.start_mark)
+    def pointer(buffer):
+        return ctypes.c_void_p(ctypes.addressof(ctypes.c_char.from_buffer(buffer)))
 
-    def record(self, token, kind):
-        number, style, version, first, second = self.KINDS.get(kind), 0, (0, 0), self.NO_TEXT, self.NO_TEXT
-        if kind is yaml.ScalarToken:
-            style, first = self.STYLES[token.style], self.VALUE
-            self.scalars.append(token)
-        elif kind is yaml.StreamStartToken:
-            style = self.ENCODINGS.get(token.encoding, 0)
-        elif kind is yaml.AliasToken or kind is yaml.AnchorToken:
-            first = self.put(token.value)
-        elif kind is yaml.TagToken:
-            first, second = map(self.put, token.value)
-        elif kind is yaml.DirectiveToken:
-            number = self.DIRECTIVES[token.name]
-            if token.name == "YAML":
-                version = [min(part, self.MOST) for part in token.value]
-            else:
-                first, second = map(self.put, token.value)
-        start = len(self.marks)
-        return Library.TOKEN.pack(number, style, *version, start, 0, 0, start + 1, 0, 0, *first, *second)
-
-    def put(self, text):
-        """Appends a text, and returns its range."""
-        start, added = len(self.texts), (text or "").encode()
-        self.texts += added
-        return start, len(added)
-
-
-# ---- Records as events ----
-
-EventRecord = collections.namedtuple(
-    "EventRecord", "kind style implicit quoted_implicit has_version major minor start start_line start_column end end_line "
-    "end_column anchor anchor_length tag tag_length value value_length directives directives_length")
-
-
-class Events:
-    """The events of a run over tokens."""
-
-    # What PyYAML says for each problem; `%r` is the token's id, or its tag handle.
-    PROBLEMS = {
-        "did not find expected <document start>": "expected '<document start>', but found %r",
-        "did not find expected node content": "expected the node content, but found %r",
-        "did not find expected '-' indicator": "expected <block end>, but found %r",
-        "did not find expected key": "expected <block end>, but found %r",
-        "did not find expected ',' or ']'": "expected ',' or ']', but got %r",
-        "did not find expected ',' or '}'": "expected ',' or '}', but got %r",
-        "found undefined tag handle": "found undefined tag handle %r",
-        "found duplicate %TAG directive": "duplicate tag handle %r",
-        "found duplicate %YAML directive": "found duplicate YAML directive",
-    }
-    FLOW = 2
-
-    def __init__(self, tokens):
-        self.tokens = tokens
-        self.scalars = iter(tokens.scalars)
-        self.run, self.records, directives, self.texts = Library.get().run(tokens.records, tokens.texts)
-        self.directives = list(Library.DIRECTIVE.iter_unpack(directives))
+    def arguments(self):
+        """Returns the arguments of a step before the token's kind and after its fact."""
+        states_room, marks_room = ctypes.c_size_t(len(self.states)), ctypes.c_size_t(len(self.mark_stack) // 3)
+        record, states, marks = map(self.pointer, (self.record, self.states, self.mark_stack))
+        return (record, states, states_room, marks, marks_room, *map(self.pointer, (self.at, self.event, self.fault)))
 
     def __iter__(self):
-        marks = self.tokens.marks
-        for record in map(EventRecord._make, Library.EVENT.iter_unpack(self.records)):
-            yield self.MAKERS[record.kind](self, record, marks[record.start], marks[record.end])
-        if self.run.error:
-            raise self.fault()
+        return self
 
-    def text(self, place, length):
-        """Returns the text of a range, or None where there is none."""
-        return None if place == Library.ABSENT else self.texts[place:place + length].decode()
+    def __next__(self):
+        if self.has_ended:
+            raise StopIteration
+        if self.token is None and len(self.marks.all) > self.marks.few:
+            self.forget_marks()
+        step = self.library.step
+        record, states, states_room, marks, marks_room, at, event, fault = self.words
+        while True:
+            if self.token is None:
+                self.take()
+            did = step(record, states, states_room, marks, marks_room, self.kind, self.fact, at, event, fault)
+            if did == self.WANTS:
+                if self.kind in self.HELD:
+                    self.hold()
+                self.token = None
+            elif did == self.GAVE:
+                token, self.token = self.token, None
+                return self.made(token)
+            elif did == self.STAYS:
+                return self.made(None)
+            elif did == self.FAULT:
+                raise self.error()
+            else:
+                self.grow(did)
+                record, states, states_room, marks, marks_room, at, event, fault = self.words
 
-    def fault(self):
-        """Returns the error of a fault: the scanner's own, where the tokens ran out by it."""
-        run, marks, context_mark = self.run, self.tokens.marks, None
-        if run.error in (Library.READER, Library.SCANNER):
-            return self.tokens.failure
-        context = self.text(*run.context)
-        if context is not None:
-            context_mark = marks[run.context_mark[0]]
-        number = run.problem_mark[0]
-        problem = self.problem(self.text(*run.problem), self.tokens.all[number // 2])
-        return yaml.parser.ParserError(context, context_mark, problem, marks[number])
+    def grow(self, did):
+        """Makes the stack larger that was full."""
+        if did == self.FULL_STATES:
+            self.states = self.states + bytes(len(self.states))
+        elif did == self.FULL_MARKS:
+            self.mark_stack = memoryview(bytearray(self.mark_stack) + bytes(self.mark_stack.nbytes)).cast("Q")
+        else:
+            raise RuntimeError("the stacks were overwritten")
+        self.words = self.arguments()
 
-    def problem(self, problem, token):
-        """Returns PyYAML's words for a problem of a token."""
-        words = self.PROBLEMS.get(problem, problem)
-        if "handle %r" in words:
-            return words % token.value[0]
-        if "%r" in words:
-            return words % token.id
-        if problem == "found incompatible YAML document" and token.value[0] != 1:
-            return problem + " (version 1.* is required)"
-        return words
+    # Tokens
 
-    def stream_start(self, record, start, end):
-        return yaml.StreamStartEvent(start, end, encoding=self.tokens.all[0].encoding)
+    def take(self):
+        """Takes the scanner's next token in hand, with its kind, fact and marks."""
+        token = self.scanner.get_token()
+        while type(token) is yaml.DirectiveToken and token.name not in self.DIRECTIVES:
+            token = self.leave_out()
+        kind = self.KINDS[type(token)] or self.DIRECTIVES[token.name]
+        if kind == self.SCALAR:
+            self.fact = token.plain
+        else:
+            self.fact = self.FACTS[kind](self, token) if kind in self.FACTS else 0
+        self.at[0], self.at[3] = self.marks.put(token)
+        self.kind, self.token = kind, token
 
-    def stream_end(self, record, start, end):
+    def leave_out(self):
+        """Leaves a directive out, after which another or a document's start has to stand; returns the token after it."""
+        token = self.scanner.get_token()
+        if not isinstance(token, (yaml.DirectiveToken, yaml.DocumentStartToken)):
+            raise yaml.parser.ParserError(None, None, "expected '<document start>', but found %r" % token.id,
+                                          token.start_mark)
+        return token
+
+    def forget_marks(self):
+        """Forgets marks but those of open collections: between two events, without a token in hand, the steps have no other."""
+        count = 3 * self.COUNTS.unpack_from(self.record)[0]
+        stack = self.mark_stack
+        self.marks.keep(stack[0:count:3].tolist())
+        for number, place in enumerate(range(0, count, 3)):
+            stack[place] = number
+
+    def version_fact(self, token):
+        return self.library.version_fact(*(min(part, self.MOST) for part in token.value))
+
+    def directive_fact(self, token):
+        return self.directives.fact(token.value[0])
+
+    def tag_fact(self, token):
+        fact, self.tag_in_hand = self.directives.tag(*token.value)
+        return fact
+
+    FACTS = {VERSION_DIRECTIVE: version_fact, TAG_DIRECTIVE: directive_fact, TAG: tag_fact}
+
+    def hold(self):
+        """Holds what the token in hand has for an event that comes later."""
+        token, kind = self.token, self.kind
+        if kind == self.ANCHOR:
+            self.anchor, self.holds = token.value, True
+        elif kind == self.TAG:
+            self.tag, self.tag_token, self.holds = self.tag_in_hand, token, True
+        elif kind == self.VERSION_DIRECTIVE:
+            self.version, self.holds = token.value, True
+        elif kind == self.TAG_DIRECTIVE:
+            self.directives.declare(*token.value)
+
+    # Events
+
+    def made(self, token):
+        """Returns the event that a step gave, of the token that ended with it, if any."""
+        kind, has_anchor, has_tag, implicit, quoted_implicit, is_flow, start, end = self.EVENT.unpack_from(self.event)
+        start, end = self.marks.all[start], self.marks.all[end]
+        anchor, tag = self.anchor if has_anchor else None, self.tag if has_tag else None
+        if kind == 6:
+            value, style = (token.value, token.style) if token else ("", None)
+            event = yaml.ScalarEvent(anchor, tag, (implicit == 1, quoted_implicit == 1), value, start, end, style=style)
+        elif kind == 7:
+            event = yaml.SequenceStartEvent(anchor, tag, implicit == 1, start, end, flow_style=is_flow == 1)
+        elif kind == 9:
+            event = yaml.MappingStartEvent(anchor, tag, implicit == 1, start, end, flow_style=is_flow == 1)
+        else:
+            event = self.MAKERS[kind](self, token, not implicit, start, end)
+        if self.holds:
+            self.let_go()
+        return event
+
+    def stream_start(self, token, explicit, start, end):
+        return yaml.StreamStartEvent(start, end, encoding=token.encoding)
+
+    def stream_end(self, token, explicit, start, end):
+        self.has_ended = True
         return yaml.StreamEndEvent(start, end)
 
-    def document_start(self, record, start, end):
-        version = (record.major, record.minor) if record.has_version else None
-        directives = self.directives[record.directives:][:record.directives_length]
-        tags = {self.text(*place[:2]): self.text(*place[2:]) for place in directives} or None
-        return yaml.DocumentStartEvent(start, end, explicit=not record.implicit, version=version, tags=tags)
+    def document_start(self, token, explicit, start, end):
+        tags = dict(self.directives.tags) or None
+        return yaml.DocumentStartEvent(start, end, explicit=explicit, version=self.version, tags=tags)
 
-    def document_end(self, record, start, end):
-        return yaml.DocumentEndEvent(start, end, explicit=not record.implicit)
+    def document_end(self, token, explicit, start, end):
+        self.directives.forget()
+        return yaml.DocumentEndEvent(start, end, explicit=explicit)
 
-    def alias(self, record, start, end):
-        return yaml.AliasEvent(self.text(record.anchor, record.anchor_length), start, end)
+    def alias(self, token, explicit, start, end):
+        return yaml.AliasEvent(token.value, start, end)
 
-    def scalar(self, record, start, end):
-        anchor, tag = self.properties(record)
-        token = next(self.scalars) if record.value_length else None
-        implicit = record.implicit == 1, record.quoted_implicit == 1
-        return yaml.ScalarEvent(anchor, tag, implicit, token.value if token else "", start, end,
-                                style=token.style if token else None)
-
-    def sequence_start(self, record, start, end):
-        anchor, tag = self.properties(record)
-        return yaml.SequenceStartEvent(anchor, tag, record.implicit == 1, start, end,
-                                       flow_style=record.style == self.FLOW)
-
-    def mapping_start(self, record, start, end):
-        anchor, tag = self.properties(record)
-        return yaml.MappingStartEvent(anchor, tag, record.implicit == 1, start, end,
-                                      flow_style=record.style == self.FLOW)
-
-    def properties(self, record):
-        return self.text(record.anchor, record.anchor_length), self.text(record.tag, record.tag_length)
-
-    def sequence_end(self, record, start, end):
+    def sequence_end(self, token, explicit, start, end):
         return yaml.SequenceEndEvent(start, end)
 
-    def mapping_end(self, record, start, end):
+    def mapping_end(self, token, explicit, start, end):
         return yaml.MappingEndEvent(start, end)
 
-    MAKERS = (None, stream_start, stream_end, document_start, document_end, alias, scalar, sequence_start, sequence_end,
-              mapping_start, mapping_end)
+    MAKERS = {1: stream_start, 2: stream_end, 3: document_start, 4: document_end, 5: alias, 8: sequence_end, 10: mapping_end}
+
+    def error(self):
+        """Returns the error of the fault that a step put, in PyYAML's words."""
+        number, context_mark, problem_mark = self.PROBLEM.unpack_from(self.fault)
+        marks, token = self.marks.all, self.token
+        context, problem = self.PROBLEMS[number]
+        if number == self.UNDECLARED_HANDLE:
+            problem %= (self.tag_token or token).value[0]
+        elif number == self.DUPLICATE_HANDLE:
+            problem %= token.value[0]
+        elif number == self.INCOMPATIBLE and token.value[0] != 1:
+            problem += " (version 1.* is required)"
+        elif "%r" in problem:
+            problem %= token.id
+        return yaml.parser.ParserError(context, marks[context_mark] if context else None, problem, marks[problem_mark])
 
 
 # ---- Loaders ----
@@ -342,7 +400,7 @@ class ProvedParser:
             raise self.failure
         try:
             if self.events is None:
-                self.events = iter(Events(Tokens(self)))
+                self.events = Steps(self)
             return next(self.events, None)
         except BaseException as failure:
             self.failure = failure

@@ -7,12 +7,18 @@
 # reason, in a file of scripts/clients/, and anything else fails, as does a name that is listed and doesn't differ. The
 # checks, of which all are run where none is named:
 #
-#     preload            this parser by LD_PRELOAD (examples/libyaml_preload.c), and each of its allocations refused
+#     preload            this parser by LD_PRELOAD (examples/libyaml_preload.c): each of its allocations refused, parsers deleted,
+#                        moved, used after a fault and by threads; and libyaml's memory over 7 MB
+#     events             libyaml's events and nodes of YAML files of this machine, broken texts and the YAML test suite,
+#                        preloaded, with all fields
+#     pipe_c             events before a slow pipe's end, preloaded
 #     pyyaml_c           PyYAML's own tests of its C form, preloaded
 #     psych              Ruby's psych over YAML files of this machine and the YAML test suite, preloaded
 #     pyyaml_pure        PyYAML's own tests of its form in Python, over examples/proved_yaml.py
 #     loaders            ProvedSafeLoader and SafeLoader over the test suite, PyYAML's test data and broken texts
+#     pipe_python        events before a slow pipe's end, by ProvedSafeLoader
 #     crate              the tests of examples/unsafe_libyaml
+#     pipe_rust          events before a slow pipe's end, by that crate
 #     yaml_test_suite    the parser of unsafe-libyaml's own tests over the YAML test suite
 #     serde_yaml         serde_yaml's own tests
 #
@@ -20,12 +26,12 @@
 # `apt-get source`, which needs deb-src lines; or their .orig.tar files in the folder that CLIENT_SOURCES names. Crates are
 # those of Debian's packages librust-unsafe-libyaml-dev, librust-serde-yaml-dev, librust-serde-derive-dev, librust-anyhow-dev
 # and librust-indoc-dev (release 13 and later), or those in the folder that CLIENT_CRATES names. PYTHON and RUBY are Debian's, whose YAML part
-# links libyaml; SAMPLE is how many files of the machine psych reads, 2000 where it isn't set.
+# links libyaml; SAMPLE is how many files of the machine are read, 2000 where it isn't set.
 #
 # A check that lacks something is skipped, which is said with what it lacks. The last line is `N passed, M failed`, and
 # `, K skipped` where some were; the exit status is 1 where one failed, 2 for wrong words.
 set -u
-[ $# -ge 1 ] && dir=$(realpath "$1") && [ -f "$dir/libtoken_records.a" ] && [ -f "$dir/libtoken_records.so" ] || {
+[ $# -ge 1 ] && dir=$(realpath "$1") && [ -f "$dir/libtoken_steps.so" ] && [ -f "$dir/libtoken_records.a" ] || {
     echo "usage: sh scripts/clients.sh DIR [CHECK..], where build_c.sh made DIR" >&2
     exit 2
 }
@@ -41,7 +47,7 @@ crates=${CLIENT_CRATES:-/usr/share/cargo/registry}
 suite=$work/libyaml-pp-perl/test-suite/yaml-test-suite-data
 tests=$work/pyyaml/tests/legacy_tests
 preloaded=$work/libyaml_preload.so
-export PYTHONDONTWRITEBYTECODE=1 TOKEN_RECORDS_LIBRARY="$dir/libtoken_records.so" TOKEN_RECORDS_DIR="$dir"
+export PYTHONDONTWRITEBYTECODE=1 POKHVIZI_LIBRARY="$dir/libtoken_steps.so" POKHVIZI_DIR="$dir"
 export CARGO_HOME="$work/cargo" CARGO_TARGET_DIR="$work/target"
 export RUSTFLAGS="--cap-lints allow"  # the originals are older than some lints
 passed=0
@@ -69,6 +75,7 @@ is_there() {
     yaml.h) echo '#include <yaml.h>' | cc -E - ;;
     PyYAML) (cd / && "$python" -c 'import yaml; yaml.CLoader') ;;
     libyaml_preload.so) [ -e "$preloaded" ] || build_preload ;;
+    events) [ -e "$work/events" ] || cc -O2 -Wall -Wextra -Werror -o "$work/events" scripts/clients/events.c -lyaml ;;
     psych) $ruby -e 'require "psych"; Psych::LIBYAML_VERSION' ;;
     unsafe-libyaml | serde_yaml | serde_derive | anyhow | indoc) set -- "$crates/$1-"*/Cargo.toml && [ -e "$1" ] ;;
     *) command -v "$1" ;;
@@ -109,19 +116,86 @@ as_listed() {
 # ---- libyaml, preloaded ----
 
 build_preload() {
-    cc -O2 -Wall -Wextra -Werror -shared -fPIC -fvisibility=hidden -Wl,--exclude-libs,ALL -o "$preloaded" \
-        examples/libyaml_preload.c "$dir/libtoken_records.a" -lyaml
+    cc -O2 -Wall -Wextra -Werror -pedantic -shared -fPIC -fvisibility=hidden -Wl,--exclude-libs,ALL -o "$preloaded" \
+        examples/libyaml_preload.c "$dir/libtoken_steps.a" -lyaml
 }
 
-# libyaml's parser and loader over this parser, with each allocation refused in turn, and with parsers that are deleted at
-# each event, moved, or used after a fault.
+# Writes 350 KB of documents, so often.
+documents() {
+    for again in $(seq "$1"); do
+        for number in $(seq 680); do
+            echo ---
+            cat examples/compose.yaml
+        done
+    done
+}
+
 preload() {
     cc -O1 -g -Wall -Wextra -Werror -o "$work/preload_calls" scripts/clients/preload_calls.c -lyaml -lpthread || return 1
     if "$work/preload_calls" > "$work/calls" 2>&1; then
         echo "without the preload, the calls should differ"
         return 1
     fi
-    LD_PRELOAD=$preloaded "$work/preload_calls"
+    documents 20 > "$work/text.yaml"
+    set -- $("$work/events" memory < "$work/text.yaml") $(LD_PRELOAD=$preloaded "$work/events" memory < "$work/text.yaml")
+    [ "$1" -gt 900000 ] && [ "$1" = "$3" ] && [ "$4" -le $(($2 + 400)) ] ||
+        { echo "$1 events in $2 KB plainly, $3 in $4"; return 1; }
+    said=$(LD_PRELOAD=$preloaded "$work/preload_calls") && echo "$said; $3 events in $4 KB, libyaml in $2"
+}
+
+# Names YAML files of this machine.
+name_files() {
+    find / -xdev \( -path /proc -o -path /tmp -o -path /sys \) -prune -o -type f \( -name '*.yaml' -o -name '*.yml' \) \
+        -size -1000k -print 2> /dev/null | sort | head -n "${SAMPLE:-2000}"
+}
+
+# Leaves the names of the texts in a file that differ from those in another; a line `file NAME` begins each.
+differing_files() {
+    for list in "$1" "$2"; do
+        awk '/^file / { name = $2; next } { print name "\t" $0 }' "$list" > "$list.named"
+    done
+    diff "$1.named" "$2.named" | sed -n 's/^[<>] \([^\t]*\)\t.*/\1/p' | sort -u
+}
+
+events() {
+    name_files > "$work/files"
+    (cd "$suite" && find . -name in.yaml | sort) > "$work/cases"
+    find "$top/scripts/broken" "$top/scripts/whole" "$top/examples" -name '*.yaml' | sort > "$work/texts"
+    : > "$work/differ"
+    for what in files nodes; do
+        for list in files cases texts; do
+            (cd "$suite" && "$work/events" $what < "$work/$list") > "$work/plain_$list" || return 1
+            (cd "$suite" && LD_PRELOAD=$preloaded "$work/events" $what < "$work/$list") > "$work/proved_$list" || return 1
+            differing_files "$work/plain_$list" "$work/proved_$list" | sed -E 's#^\./(.*)/in.yaml$#\1#' >> "$work/differ"
+        done
+    done
+    grep -x -F -f "$work/files" "$work/differ" > "$work/differ_files"
+    while read -r file; do
+        # A file of the machine may be read only where libyaml refuses what docs/DIFFERENCES.md says is read here.
+        echo "$file" | "$work/events" files 2>&1 | grep -q -E "^error 4 did not find expected (key|<document start>)" ||
+            { echo "$file is read otherwise"; return 1; }
+    done < "$work/differ_files"
+    grep -v -x -F -f "$work/files" "$work/differ" > "$work/differ_cases"
+    as_listed "$work/differ_cases" psych "$(wc -l < "$work/files") files, of which $(sort -u "$work/differ_files" | wc -l) that libyaml refuses differ; $(cat "$work/cases" "$work/texts" | wc -l) cases and texts"
+}
+
+# pipe WORD.. -- WORD..: the events of the first command come with their lines; those of the second, which reads to the end, don't.
+pipe() {
+    on_time=
+    while [ "$1" != -- ]; do
+        on_time="$on_time $1"
+        shift
+    done
+    shift
+    "$python" "$lists/slow_pipe.py" $on_time || return 1
+    if SECONDS=2 "$python" "$lists/slow_pipe.py" "$@" > "$work/late"; then
+        echo "late events are not seen"
+        return 1
+    fi
+}
+
+pipe_c() {
+    pipe env "LD_PRELOAD=$preloaded" "$work/events" pipe -- env "LD_PRELOAD=$preloaded" "$work/events" late
 }
 
 # The names of the tests that failed, in PyYAML's own report: the function and the files, without folders.
@@ -155,8 +229,7 @@ pyyaml_c() {
 psych() {
     [ "$($ruby scripts/clients/psych.rb --bare) $(LD_PRELOAD=$preloaded $ruby scripts/clients/psych.rb --bare)" = "refused read" ] ||
         { echo "$ruby doesn't take libyaml from its shared library"; return 1; }
-    find / -xdev \( -path /proc -o -path /tmp -o -path /sys \) -prune -o -type f \( -name '*.yaml' -o -name '*.yml' \) \
-        -size -1000k -print 2> /dev/null | sort | head -n "${SAMPLE:-2000}" > "$work/files"
+    name_files > "$work/files"
     (cd "$suite" && find . -name in.yaml | sort) > "$work/cases"
     for list in files cases; do
         (cd "$suite" && $ruby "$lists/psych.rb" < "$work/$list") > "$work/plain_$list" || return 1
@@ -185,6 +258,11 @@ loaders() {
     [ "$(grep -c documents "$work/turned")" -gt 0 ] || { echo "what is turned doesn't differ"; return 1; }
     cut -f 1 "$work/made" > "$work/differ"
     as_listed "$work/differ" loaders "$(cat "$work/count")"
+}
+
+pipe_python() {
+    set -- env "PYTHONPATH=$work/python" "$python" "$lists/events.py"
+    pipe "$@" proved -- "$@" late
 }
 
 # ---- Rust ----
@@ -221,9 +299,19 @@ uses_patch() {
 crate() {
     prepare_cargo
     (cd "$work/unsafe_libyaml" && cargo test -q -j 1) || return 1
-    (cd "$work/unsafe_libyaml" && TOKEN_RECORDS_DIR=/nowhere cargo build -q -j 1) > "$work/missing" 2>&1 && return 1
-    grep -q "TOKEN_RECORDS_DIR has to be the folder" "$work/missing" || { cat "$work/missing"; return 1; }
+    (cd "$work/unsafe_libyaml" && POKHVIZI_DIR=/nowhere cargo build -q -j 1) > "$work/missing" 2>&1 && return 1
+    grep -q "POKHVIZI_DIR has to be the folder" "$work/missing" || { cat "$work/missing"; return 1; }
     echo "$(grep -c '^#\[test\]' examples/unsafe_libyaml/tests/calls.rs) tests"
+}
+
+pipe_rust() {
+    prepare_cargo
+    mkdir -p "$work/pipe/src"
+    cp "$lists/events.rs" "$work/pipe/src/main.rs"
+    printf '[package]\nname = "events"\nversion = "0.0.0"\nedition = "2021"\n[dependencies]\n' > "$work/pipe/Cargo.toml"
+    printf 'unsafe-libyaml = { path = "%s" }\n[workspace]\n' "$work/unsafe_libyaml" >> "$work/pipe/Cargo.toml"
+    (cd "$work/pipe" && cargo build -q -j 1) || return 1
+    pipe "$CARGO_TARGET_DIR/debug/events" -- "$CARGO_TARGET_DIR/debug/events" late
 }
 
 yaml_test_suite() {
@@ -269,19 +357,23 @@ serde_yaml() {
 
 wanted=$*
 for word in $wanted; do
-    case " preload pyyaml_c psych pyyaml_pure loaders crate yaml_test_suite serde_yaml " in
+    case " preload events pipe_c pyyaml_c psych pyyaml_pure loaders pipe_python crate pipe_rust yaml_test_suite serde_yaml " in
     *" $word "*) ;;
     *) echo "no check has the name $word" >&2; exit 2 ;;
     esac
 done
 mkdir -p "$work/python"
 cp examples/proved_yaml.py "$work/python"
-check preload cc yaml.h libyaml_preload.so -- preload
+check preload cc yaml.h libyaml_preload.so events -- preload
+check events cc yaml.h libyaml_preload.so events libyaml-pp-perl -- events
+check pipe_c cc yaml.h libyaml_preload.so events -- pipe_c
 check pyyaml_c PyYAML cc yaml.h libyaml_preload.so pyyaml -- pyyaml_c
 check psych cc yaml.h libyaml_preload.so psych libyaml-pp-perl -- psych
 check pyyaml_pure PyYAML pyyaml -- pyyaml_pure
 check loaders PyYAML pyyaml libyaml-pp-perl -- loaders
+check pipe_python PyYAML -- pipe_python
 check crate cargo unsafe-libyaml -- crate
+check pipe_rust cargo unsafe-libyaml -- pipe_rust
 check yaml_test_suite cargo unsafe-libyaml libyaml-pp-perl -- yaml_test_suite
 check serde_yaml cargo unsafe-libyaml serde_yaml serde_derive anyhow indoc -- serde_yaml
 

@@ -4,12 +4,11 @@
  *     events nodes < NAMES     each node of their documents, by yaml_parser_load
  *     events pipe < YAML       the kind of each event of the input, as soon as it is there
  *     events late < YAML       the same, where the input is read to its end first
- *     events memory < YAML     how many events there are, and the peak of memory in KB */
+ *     events memory < YAML     how many events there are, and the peak of resident memory in KB */
 #define _DEFAULT_SOURCE
 #include <stdio.h>
 #include <stdlib.h>
 #include <string.h>
-#include <sys/resource.h>
 #include <unistd.h>
 #include <yaml.h>
 
@@ -199,18 +198,31 @@ static void put_kind(const yaml_event_t *event)
     fflush(stdout);
 }
 
+/* The peak of resident memory in KB; 0 where it isn't told. */
+static long peak(void)
+{
+    char line[256];
+    long found = 0;
+    FILE *status = fopen("/proc/self/status", "r");
+
+    while (status != NULL && found == 0 && fgets(line, sizeof line, status) != NULL)
+        sscanf(line, "VmHWM: %ld", &found);
+    if (status != NULL)
+        fclose(status);
+    return found;
+}
+
 static int input(const char *how)
 {
     yaml_parser_t parser;
-    struct rusage usage;
 
     if (!yaml_parser_initialize(&parser))
         return 3;
     yaml_parser_set_input(&parser, strcmp(how, "late") == 0 ? read_all : read_some, NULL);
     long count = parse(&parser, strcmp(how, "memory") == 0 ? NULL : put_kind);
     yaml_parser_delete(&parser);
-    if (strcmp(how, "memory") == 0 && getrusage(RUSAGE_SELF, &usage) == 0)
-        printf("%ld %ld\n", count, usage.ru_maxrss);
+    if (strcmp(how, "memory") == 0)
+        printf("%ld %ld\n", count, peak());
     return 0;
 }
 

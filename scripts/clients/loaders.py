@@ -9,8 +9,9 @@ on standard error, has how many were read.
 import os
 import sys
 
-from proved_yaml import ProvedSafeLoader, yaml
+from proved_yaml import Marks, ProvedSafeLoader, yaml
 
+Marks.FEW = 0  # marks are forgotten at each event: an error shows one that was needed
 FIELDS = "anchor", "tag", "implicit", "value", "style", "explicit", "version", "tags", "encoding"
 
 

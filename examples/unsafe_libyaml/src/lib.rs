@@ -13,20 +13,20 @@
 //! ln -s ~/.cargo/registry/src/*/unsafe-libyaml-0.2.11 PATH/examples/unsafe_libyaml/original
 //! ```
 //!
-//! The environment's `TOKEN_RECORDS_DIR` names the folder of `libtoken_records.a`, which scripts/build_c.sh makes.
+//! The environment's `POKHVIZI_DIR` names the folder of the libraries that scripts/build_c.sh makes.
 //!
-//! [`yaml_parser_parse`], [`yaml_parser_load`] and [`yaml_parser_delete`] are replaced. What a parser needs here is kept by
-//! the `yaml_parser_t` itself, in `problem_offset` while there is no error: so it may be moved and deleted as before, at
-//! any time, and two parsers share nothing. The memory of a run that has ended is kept for the next, up to some 50 MB.
+//! [`yaml_parser_parse`], [`yaml_parser_load`] and [`yaml_parser_delete`] are replaced. A parse takes as many tokens of the
+//! scanner as its event needs, and moves their texts; a load reads the stream to its end, and makes all its documents. What a
+//! parser needs here is kept by the `yaml_parser_t` itself, in `problem_offset` while there is no error: so it may be moved and
+//! deleted as before, at any time, and two parsers share nothing.
 //!
 //! What is other than in the original, beside docs/DIFFERENCES.md:
 //!
-//! - The first call reads the stream to its end: memory is that of all tokens, and of all events or documents.
+//! - The first load reads the stream to its end: memory is that of all tokens and documents.
 //! - A failed allocation of the library is the fault `YAML_MEMORY_ERROR`; one of Rust's ends the process, as there.
-//! - A tag, an anchor, an alias or a tag directive that isn't UTF-8 is the scanner's fault `text is not UTF-8`, with the
-//!   mark of its token.
-//! - Where parses and loads take turns, a load within a document is the parser's fault `load within a document`, and one
-//!   after a document that was parsed and has a composer error is that error.
+//! - Of a load, a tag, an anchor, an alias or a tag directive that isn't UTF-8 is the scanner's fault `text is not UTF-8`, with
+//!   the mark of its token.
+//! - A load within a document that is being parsed is the parser's fault `load within a document`.
 //! - A load after a fault fails again with that fault.
 
 #![allow(non_camel_case_types, clippy::missing_safety_doc)]
@@ -36,6 +36,7 @@ mod events;
 mod fault;
 mod records;
 mod run;
+mod steps;
 mod texts;
 mod tokens;
 
@@ -73,9 +74,8 @@ pub unsafe fn yaml_parser_parse(parser: *mut yaml_parser_t, event: *mut yaml_eve
     if run::prefix(parser).error != YAML_NO_ERROR {
         return Success { ok: true };
     }
-    let given = run::of(parser).map_or(Ok(true), |run| run.event(event));
     Success {
-        ok: run::settle(parser, given),
+        ok: run::with(parser, |run| run.event(parser, event)).is_ok(),
     }
 }
 
@@ -86,13 +86,14 @@ pub unsafe fn yaml_parser_load(parser: *mut yaml_parser_t, document: *mut yaml_d
     if run::prefix(parser).error != YAML_NO_ERROR {
         return Success { ok: false };
     }
-    let mut given = run::of(parser).map_or(Ok(true), |run| run.document(document));
-    if matches!(given, Ok(true)) && !yaml_document_initialize(document, none, no_tags, no_tags, false, false).ok {
-        given = Err(fault::Fault::memory());
-    }
-    Success {
-        ok: run::settle(parser, given),
-    }
+    let given = run::with(parser, |run| {
+        let is_over = run.document(parser, document)?;
+        match is_over && !yaml_document_initialize(document, none, no_tags, no_tags, false, false).ok {
+            true => Err(fault::Fault::memory()),
+            false => Ok(is_over),
+        }
+    });
+    Success { ok: given.is_ok() }
 }
 
 /// Destroys a parser, as libyaml's `yaml_parser_delete`.

@@ -1,4 +1,4 @@
-//! The records of `examples/token_records.h`.
+//! The records of `token_records.h`.
 
 use original::*;
 
@@ -41,25 +41,6 @@ pub struct DirectiveRecord {
     pub prefix: RangeRecord,
 }
 
-/// An event; numbers are the original's.
-#[derive(Clone, Copy)]
-#[repr(C)]
-pub struct EventRecord {
-    pub kind: u32,
-    pub style: u8,
-    pub implicit: u8,
-    pub quoted_implicit: u8,
-    pub has_version: u8,
-    pub major: i32,
-    pub minor: i32,
-    pub start_mark: MarkRecord,
-    pub end_mark: MarkRecord,
-    pub anchor: RangeRecord,
-    pub tag: RangeRecord,
-    pub value: RangeRecord,
-    pub directives: RangeRecord,
-}
-
 /// A document; its first node has the id 1.
 #[derive(Clone, Copy)]
 #[repr(C)]
@@ -96,7 +77,7 @@ pub struct PairRecord {
     pub value: i32,
 }
 
-/// Why a run gave no more events or documents.
+/// Why a run gave no more documents.
 #[derive(Clone, Copy, Default)]
 #[repr(C)]
 pub struct FaultRecord {
@@ -107,15 +88,6 @@ pub struct FaultRecord {
     pub problem_mark: MarkRecord,
     pub context: RangeRecord,
     pub context_mark: MarkRecord,
-}
-
-/// How many event records, directive records, and bytes of texts.
-#[derive(Clone, Copy, Default, PartialEq)]
-#[repr(C)]
-pub struct EventCounts {
-    pub events: usize,
-    pub directives: usize,
-    pub texts: usize,
 }
 
 /// How many document records, node records, items, pair records, directive records, and bytes of texts.
@@ -133,27 +105,13 @@ pub struct DocumentCounts {
 /// What a run did.
 #[derive(Clone, Copy, Default)]
 #[repr(C)]
-pub struct RunRecord<Counts> {
-    pub wanted: Counts,
-    pub written: Counts,
+pub struct RunRecord {
+    pub wanted: DocumentCounts,
+    pub written: DocumentCounts,
     pub fault: FaultRecord,
 }
 
 extern "C" {
-    pub fn token_records_run_events(
-        tokens: *const TokenRecord,
-        tokens_length: usize,
-        texts: *const u8,
-        texts_length: usize,
-        events: *mut EventRecord,
-        events_length: usize,
-        directives: *mut DirectiveRecord,
-        directives_length: usize,
-        out: *mut u8,
-        out_length: usize,
-        run: *mut RunRecord<EventCounts>,
-    );
-
     pub fn token_records_run_documents(
         tokens: *const TokenRecord,
         tokens_length: usize,
@@ -171,7 +129,7 @@ extern "C" {
         directives_length: usize,
         out: *mut u8,
         out_length: usize,
-        run: *mut RunRecord<DocumentCounts>,
+        run: *mut RunRecord,
     );
 }
 
@@ -212,15 +170,6 @@ pub fn reserve<T>(list: &mut Vec<T>, wanted: usize) -> bool {
 /// Returns the entries of a range of a list.
 pub fn slice_of<T>(list: &[T], range: RangeRecord) -> &[T] {
     &list[range.place..range.place + range.length]
-}
-
-pub fn encoding(number: u8) -> yaml_encoding_t {
-    match number {
-        1 => YAML_UTF8_ENCODING,
-        2 => YAML_UTF16LE_ENCODING,
-        3 => YAML_UTF16BE_ENCODING,
-        _ => YAML_ANY_ENCODING,
-    }
 }
 
 pub fn scalar_style(number: u32) -> yaml_scalar_style_t {

@@ -1,0 +1,328 @@
+//! The steps of `pokhvizi/steps.h`: a token in, at most one event out.
+
+use crate::fault::Fault;
+use original::*;
+use std::ffi::CStr;
+use std::{iter, ptr};
+
+/// What is kept between two steps: plain numbers, which nobody reads here.
+#[repr(C)]
+struct Record([u64; 17]);
+
+/// Where a token or an event begins and ends.
+#[derive(Clone, Copy)]
+#[repr(C)]
+struct Span {
+    start_mark: yaml_mark_t,
+    end_mark: yaml_mark_t,
+}
+
+/// An event without its texts; flags are 1 or 0, and the number of its kind is the original's.
+#[derive(Clone, Copy)]
+#[repr(C)]
+pub struct Shape {
+    pub kind: u8,
+    pub has_anchor: u8,
+    pub has_tag: u8,
+    pub implicit: u8,
+    pub quoted_implicit: u8,
+    pub is_flow: u8,
+    pub start_mark: yaml_mark_t,
+    pub end_mark: yaml_mark_t,
+}
+
+/// A fault, by its number.
+#[derive(Clone, Copy)]
+#[repr(C)]
+pub struct Problem {
+    pub number: u8,
+    pub context_mark: yaml_mark_t,
+    pub problem_mark: yaml_mark_t,
+}
+
+#[derive(Clone, Copy)]
+#[repr(C)]
+struct Range {
+    place: u64,
+    length: u64,
+}
+
+/// A tag directive, whose texts are ranges of a buffer.
+#[derive(Clone, Copy)]
+#[repr(C)]
+struct Handle {
+    handle: Range,
+    prefix: Range,
+}
+
+// A mark is three numbers, laid out as C lays them out; the original may add to them.
+#[allow(improper_ctypes)]
+extern "C" {
+    fn pokhvizi_steps_new(steps: *mut Record);
+
+    fn pokhvizi_step(
+        steps: *mut Record,
+        states: *mut u8,
+        states_room: usize,
+        marks: *mut yaml_mark_t,
+        marks_room: usize,
+        kind: u8,
+        fact: u8,
+        at: *const Span,
+        event: *mut Shape,
+        fault: *mut Problem,
+    ) -> u32;
+
+    fn pokhvizi_version_fact(major: i32, minor: i32) -> u8;
+
+    fn pokhvizi_directive_fact(
+        handles: *const Handle,
+        count: usize,
+        texts: *const u8,
+        length: usize,
+        handle: *const u8,
+        handle_length: usize,
+    ) -> u8;
+
+    fn pokhvizi_tag(
+        handles: *const Handle,
+        count: usize,
+        texts: *const u8,
+        length: usize,
+        handle: *const u8,
+        handle_length: usize,
+        suffix: *const u8,
+        suffix_length: usize,
+        out: *mut u8,
+        room: usize,
+        size: *mut usize,
+    ) -> u8;
+}
+
+/// The tag directives of a document.
+#[derive(Default)]
+pub struct TagDirectives {
+    handles: Vec<Handle>,
+    texts: Vec<u8>,
+}
+
+impl TagDirectives {
+    /// Appends a directive.
+    pub fn declare(&mut self, handle: &[u8], prefix: &[u8]) {
+        let made = Handle {
+            handle: self.put(handle),
+            prefix: self.put(prefix),
+        };
+        self.handles.push(made);
+    }
+
+    pub fn forget(&mut self) {
+        self.handles.clear();
+        self.texts.clear();
+    }
+
+    /// Returns the handles and prefixes.
+    pub fn iter(&self) -> impl Iterator<Item = (&[u8], &[u8])> {
+        self.handles
+            .iter()
+            .map(|made| (self.text(made.handle), self.text(made.prefix)))
+    }
+
+    /// Returns the tag in full; none where its handle isn't declared.
+    pub fn resolve(&self, handle: &[u8], suffix: &[u8]) -> Option<Vec<u8>> {
+        let mut out = Vec::new();
+        let (_, length) = self.put_tag(handle, suffix, &mut out);
+        if length == usize::MAX {
+            return None;
+        }
+        out.resize(length, 0);
+        self.put_tag(handle, suffix, &mut out);
+        Some(out)
+    }
+
+    fn put(&mut self, text: &[u8]) -> Range {
+        let place = self.texts.len() as u64;
+        self.texts.extend_from_slice(text);
+        Range {
+            place,
+            length: text.len() as u64,
+        }
+    }
+
+    fn text(&self, range: Range) -> &[u8] {
+        &self.texts[range.place as usize..][..range.length as usize]
+    }
+
+    /// Returns the fact of a tag and its length; puts it in full where there is room.
+    fn put_tag(&self, handle: &[u8], suffix: &[u8], out: &mut [u8]) -> (u8, usize) {
+        let mut length = 0;
+        // SAFETY: each pointer is to as many entries as are said.
+        let fact = unsafe {
+            pokhvizi_tag(
+                self.handles.as_ptr(),
+                self.handles.len(),
+                self.texts.as_ptr(),
+                self.texts.len(),
+                handle.as_ptr(),
+                handle.len(),
+                suffix.as_ptr(),
+                suffix.len(),
+                out.as_mut_ptr(),
+                out.len(),
+                &mut length,
+            )
+        };
+        (fact, length)
+    }
+
+    /// Returns the fact of a TAG-DIRECTIVE.
+    fn fact(&self, handle: &[u8]) -> u8 {
+        // SAFETY: each pointer is to as many entries as are said.
+        unsafe {
+            pokhvizi_directive_fact(
+                self.handles.as_ptr(),
+                self.handles.len(),
+                self.texts.as_ptr(),
+                self.texts.len(),
+                handle.as_ptr(),
+                handle.len(),
+            )
+        }
+    }
+}
+
+/// What a step did with a token.
+pub enum Step {
+    /// Took it; a further one is wanted.
+    Wants,
+    /// Gave an event, and took the token.
+    Gave(Shape),
+    /// Gave an event; the same token comes next.
+    Stays(Shape),
+}
+
+/// The parser's states, its stacks, and the tag directives of its document.
+pub struct Steps {
+    record: Record,
+    states: Vec<u8>,
+    marks: Vec<yaml_mark_t>,
+    pub directives: TagDirectives,
+}
+
+/// Returns the mark of the first character.
+pub fn no_mark() -> yaml_mark_t {
+    // SAFETY: a mark is three numbers.
+    unsafe { std::mem::zeroed() }
+}
+
+/// Returns the bytes of a text of the scanner's.
+pub unsafe fn bytes<'a>(text: *const u8) -> &'a [u8] {
+    CStr::from_ptr(text.cast()).to_bytes()
+}
+
+/// Doubles the room of a stack.
+fn grow<T: Clone>(stack: &mut Vec<T>, blank: T) -> Result<(), Fault> {
+    let room = stack.len();
+    stack.try_reserve_exact(room).map_err(|_| Fault::memory())?;
+    stack.extend(iter::repeat(blank).take(room));
+    Ok(())
+}
+
+impl Steps {
+    const ROOM: usize = 32;
+
+    pub fn new() -> Steps {
+        let mut record = Record([0; 17]);
+        // SAFETY: the record is the caller's.
+        unsafe { pokhvizi_steps_new(&mut record) };
+        Steps {
+            record,
+            states: vec![0; Steps::ROOM],
+            marks: vec![no_mark(); Steps::ROOM],
+            directives: TagDirectives::default(),
+        }
+    }
+
+    /// Steps with a token.
+    ///
+    /// # Errors
+    ///
+    /// The parser's error, or no memory for a stack.
+    pub unsafe fn step(&mut self, token: &yaml_token_t) -> Result<Step, Fault> {
+        let (kind, fact) = (token.type_ as u8, self.fact(token));
+        let at = Span {
+            start_mark: token.start_mark,
+            end_mark: token.end_mark,
+        };
+        let (mut shape, mut problem) = (Shape::blank(), Problem::blank());
+        loop {
+            let (states, marks) = (self.states.as_mut_slice(), self.marks.as_mut_slice());
+            let (states_at, states_room) = (states.as_mut_ptr(), states.len());
+            let (marks_at, marks_room) = (marks.as_mut_ptr(), marks.len());
+            let record = ptr::addr_of_mut!(self.record);
+            let did = pokhvizi_step(
+                record,
+                states_at,
+                states_room,
+                marks_at,
+                marks_room,
+                kind,
+                fact,
+                &at,
+                &mut shape,
+                &mut problem,
+            );
+            match did {
+                0 => return Ok(Step::Wants),
+                1 => return Ok(Step::Gave(shape)),
+                2 => return Ok(Step::Stays(shape)),
+                3 => grow(&mut self.states, 0)?,
+                4 => grow(&mut self.marks, no_mark())?,
+                5 => return Err(Fault::of_problem(&problem)),
+                _ => unreachable!("the stacks are as long as they are said to be"),
+            }
+        }
+    }
+
+    unsafe fn fact(&self, token: &yaml_token_t) -> u8 {
+        let data = &token.data;
+        match token.type_ {
+            YAML_VERSION_DIRECTIVE_TOKEN => {
+                pokhvizi_version_fact(data.version_directive.major, data.version_directive.minor)
+            }
+            YAML_TAG_DIRECTIVE_TOKEN => self.directives.fact(bytes(data.tag_directive.handle)),
+            YAML_TAG_TOKEN => {
+                self.directives
+                    .put_tag(bytes(data.tag.handle), bytes(data.tag.suffix), &mut [])
+                    .0
+            }
+            YAML_SCALAR_TOKEN => u8::from(data.scalar.style == YAML_PLAIN_SCALAR_STYLE),
+            _ => 0,
+        }
+    }
+}
+
+impl Shape {
+    fn blank() -> Shape {
+        Shape {
+            kind: 0,
+            has_anchor: 0,
+            has_tag: 0,
+            implicit: 0,
+            quoted_implicit: 0,
+            is_flow: 0,
+            start_mark: no_mark(),
+            end_mark: no_mark(),
+        }
+    }
+}
+
+impl Problem {
+    fn blank() -> Problem {
+        Problem {
+            number: 0,
+            context_mark: no_mark(),
+            problem_mark: no_mark(),
+        }
+    }
+}
