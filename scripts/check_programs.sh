@@ -11,7 +11,8 @@
 # Every check is run. It is passed, failed, or skipped: where a tool, a library or a program isn't there, which is named; it
 # doesn't count as passed. A check that doesn't end within half an hour fails. The last line is `N passed, M failed`, and
 # `, K skipped` where some were; the exit status is 1 where one failed. Tools: a C and a C++ compiler, binutils, python3 with
-# PyYAML, libyaml's header, valgrind, GNU time (Debian: build-essential python3-yaml libyaml-dev valgrind time), and `rt`.
+# PyYAML, libyaml's header, valgrind, GNU time, qemu-x86_64 (Debian: build-essential python3-yaml libyaml-dev valgrind time
+# qemu-user), and `rt`.
 set -u
 all='' ci=''
 for word in "$@"; do
@@ -67,8 +68,8 @@ check() {
 
 # Runs the checks of clients.sh, which are passed, failed or skipped there.
 check_clients() {
-    if ! is_there "$libraries/libtoken_records.so"; then
-        echo "skipped: clients.sh, which lacks c/libtoken_records.so"
+    if ! is_there "$libraries/libtoken_steps.so"; then
+        echo "skipped: clients.sh, which lacks c/libtoken_steps.so"
         skipped=$((skipped + 1))
         return
     fi
@@ -112,6 +113,8 @@ check fronts PyYAML $yamltokens "$yaml" -- python3 scripts/compare_fronts.py "$y
 check python PyYAML timeout truncate $yamltokens "$yaml" -- sh scripts/python_checks.sh $yamltokens "$libraries/libtoken_lines.so"
 check c cc c++ readelf valgrind yaml.h "$yaml" -- sh scripts/c_checks.sh "$libraries"
 check records cc c++ python3 readelf valgrind yaml.h "$libraries/libtoken_records.a" -- sh scripts/records_checks.sh "$libraries"
+check steps cc c++ python3 readelf valgrind yaml.h "$libraries/libtoken_steps.a" -- sh scripts/steps_checks.sh "$libraries"
+check any_processor qemu-x86_64 cc yaml.h "$libraries/libtoken_steps.a" -- sh scripts/any_processor.sh "$libraries"
 if [ -n "$all" ]; then
     check_clients
 fi

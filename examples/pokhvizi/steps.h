@@ -32,6 +32,10 @@
 #include <stdint.h>
 #define POKHVIZI_STEPS_VERSION 1
 
+#ifdef __cplusplus
+extern "C" {
+#endif
+
 typedef struct { uint64_t index, line, column; } pokhvizi_mark_t;                 /* yaml_mark_t, where size_t has 64 bits */
 typedef struct { pokhvizi_mark_t start_mark, end_mark; } pokhvizi_span_t;
 
@@ -66,7 +70,7 @@ uint8_t pokhvizi_tag(const pokhvizi_handle_t *handles, size_t count, const uint8
     size_t handle_length, const uint8_t *suffix, size_t suffix_length, uint8_t *out, size_t room, size_t *size);
 
 /* libyaml's words of a fault, by its number; NULL where it has no context. */
-static inline const char *pokhvizi_problem(uint8_t problem, const char **context)
+static __inline const char *pokhvizi_problem(uint8_t problem, const char **context)
 {
     static const char *const words[13][2] = {{0, 0}, {"did not find expected <stream-start>", 0}, {"did not find expected <document start>", 0},
         {"found duplicate %YAML directive", 0}, {"found incompatible YAML document", 0}, {"found duplicate %TAG directive", 0},
@@ -77,4 +81,9 @@ static inline const char *pokhvizi_problem(uint8_t problem, const char **context
     *context = words[problem < 13 ? problem : 0][1];
     return words[problem < 13 ? problem : 0][0];
 }
+
+#ifdef __cplusplus
+}
+#endif
+
 #endif
