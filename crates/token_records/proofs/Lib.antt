@@ -1,6 +1,3 @@
 mod Texts
-mod Running
-mod WholeRuns
 pub mod lent
 mod DirectiveLemmas
-mod OneRecords

@@ -6,4 +6,3 @@ pub mod Puts
 pub mod EventRecords
 pub mod RecordRun
 pub mod ReadsBack
-pub mod OneRecords

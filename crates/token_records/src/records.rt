@@ -63,40 +63,7 @@ pub struct directive_record_t {
     pub prefix: range_record_t,
 }
 
-/// An event. Its numbers are libyaml's. Fields that an event of its kind has no use for are 0, and ranges
-/// absent.
-#[repr(C)]
-#[derive(Copy, Clone, Default, PartialEq, Eq, Debug)]
-pub struct event_record_t {
-    /// The number of a `yaml_event_type_t`.
-    pub kind: u32,
-    /// The number of its style, or of a stream's encoding.
-    pub style: u8,
-    /// 1 where it is implicit; of a scalar, where it is so as a plain one.
-    pub implicit: u8,
-    /// 1 where a scalar is implicit as a quoted one.
-    pub quoted_implicit: u8,
-    /// 1 where a document has a version.
-    pub has_version: u8,
-    /// A document's version: the number before the point.
-    pub major: i32,
-    /// A document's version: the number after the point.
-    pub minor: i32,
-    /// Where it begins.
-    pub start_mark: mark_record_t,
-    /// Where it ends.
-    pub end_mark: mark_record_t,
-    /// The anchor, where it has one; of an alias, the one that it names.
-    pub anchor: range_record_t,
-    /// The tag, where it has one.
-    pub tag: range_record_t,
-    /// A scalar's text.
-    pub value: range_record_t,
-    /// A document's tag directives, as neighbours among the directive records.
-    pub directives: range_record_t,
-}
-
-/// Why a run gave no more events.
+/// Why a run gave no more documents.
 #[repr(C)]
 #[derive(Copy, Clone, Default, PartialEq, Eq, Debug)]
 pub struct fault_record_t {
@@ -114,28 +81,4 @@ pub struct fault_record_t {
     pub context: range_record_t,
     /// Where that begins.
     pub context_mark: mark_record_t,
-}
-
-/// How many there are of each kind that a run puts into its caller's buffers.
-#[repr(C)]
-#[derive(Copy, Clone, Default, PartialEq, Eq, Debug)]
-pub struct record_counts_t {
-    /// Event records.
-    pub events: usize,
-    /// Directive records.
-    pub directives: usize,
-    /// Bytes of texts.
-    pub texts: usize,
-}
-
-/// What a run did.
-#[repr(C)]
-#[derive(Copy, Clone, Default, PartialEq, Eq, Debug)]
-pub struct records_run_t {
-    /// How many the whole run has.
-    pub wanted: record_counts_t,
-    /// How many of them were put into the buffers: as many as there are, or as a buffer has room for.
-    pub written: record_counts_t,
-    /// Why the run ended before the stream's end, or no fault.
-    pub fault: fault_record_t,
 }
