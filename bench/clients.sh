@@ -20,7 +20,7 @@ trap 'rm -rf "$work"' EXIT
 python=${PYTHON:-/usr/bin/python3}
 ruby=${RUBY:-ruby}
 crates=$(realpath "${CLIENT_CRATES:-/usr/share/cargo/registry}")
-export PYTHONDONTWRITEBYTECODE=1 TOKEN_RECORDS_LIBRARY="$dir/libtoken_records.so" TOKEN_RECORDS_DIR="$dir"
+export PYTHONDONTWRITEBYTECODE=1 POKHVIZI_LIBRARY="$dir/libtoken_steps.so" POKHVIZI_DIR="$dir"
 export CARGO_TARGET_DIR="$work/target" CARGO_HOME="$work/cargo" RUSTFLAGS="--cap-lints allow"
 
 while [ "$(cat "$work/text.yaml" 2> /dev/null | wc -c)" -lt 350000 ]; do
@@ -50,7 +50,7 @@ runner=$CARGO_TARGET_DIR/release/runner
 "$python" bench/paired.py "$turns" "unsafe-libyaml's runner" "${runner}_proved $work/text.yaml" "${runner}_plain $work/text.yaml"
 
 cc -O2 -shared -fPIC -fvisibility=hidden -Wl,--exclude-libs,ALL -o "$work/libyaml_preload.so" examples/libyaml_preload.c \
-    "$dir/libtoken_records.a" -lyaml
+    "$dir/libtoken_steps.a" -lyaml
 find / -xdev \( -path /proc -o -path /tmp -o -path /sys \) -prune -o -type f \( -name '*.yaml' -o -name '*.yml' \) \
     -size -1000k -print 2> /dev/null | sort | head -n "${SAMPLE:-2000}" > "$work/files"
 cat > "$work/psych.rb" << 'RUBY'

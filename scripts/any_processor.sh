@@ -36,8 +36,8 @@ $cc -O2 -mssse3 -static -o "$work/later" "$work/later.c" || exit 2
 set -- examples/*.yaml scripts/broken/*.yaml scripts/whole/*.yaml
 $cc -O2 -static -Iexamples -o "$work/steps" examples/steps_driver.c "$dir/libtoken_steps.a" -lyaml || exit 2
 check libtoken_steps.a "$work/steps" "$@"
-$cc -O2 -static -Iexamples -o "$work/records" examples/record_driver.c "$dir/libtoken_records.a" -lyaml || exit 2
-check libtoken_records.a "$work/records" "$@"
+$cc -O2 -static -Iexamples -o "$work/records" examples/record_driver.c "$dir/librecords.a" -lyaml || exit 2
+check librecords.a "$work/records" "$@"
 $cc -O2 -static -Iexamples -o "$work/yaml" examples/yaml.c "$dir/libtoken_lines.a" -lyaml || exit 2
 for mode in events nodes; do
     check "libtoken_lines.a, $mode" "$work/yaml" $mode examples/compose.yaml

@@ -6,8 +6,8 @@
 #     libtoken_lines.a     the runs over lines and the toolchain's allocator in one object, whose only global names are the
 #                          two runs
 #     libtoken_lines.so    the same as a shared library, which has that name in the programs that are linked to it
-#     libtoken_records.a   likewise the run over records
-#     libtoken_records.so
+#     librecords.a         likewise the run over records
+#     librecords.so
 #     libtoken_steps.a     the steps, without an allocator
 #     libtoken_steps.so
 #     yaml                 examples/yaml.c over the first; CFLAGS are taken from the environment
@@ -79,7 +79,7 @@ build_library() {
 
 allocator=$kit/c/liblibc_c.a
 build_library token_lines "$allocator" token_lines_run_events token_lines_run_nodes
-build_library token_records "$allocator" token_records_run_documents
+build_library records "$allocator" pokhvizi_documents
 build_library token_steps '' pokhvizi_directive_fact pokhvizi_step pokhvizi_steps_new pokhvizi_tag pokhvizi_version_fact
 if nm -u "$dir/libtoken_steps.a" | grep -v ':$' | grep -v -w -E 'U (memcmp|memcpy|memmove|memset)' | grep .; then
     echo "the steps need more than memory in place" >&2

@@ -112,7 +112,7 @@ check faults_of_yaml.c PyYAML "$yaml" -- python3 scripts/compare_faults.py "$yam
 check fronts PyYAML $yamltokens "$yaml" -- python3 scripts/compare_fronts.py "$yaml"
 check python PyYAML timeout truncate $yamltokens "$yaml" -- sh scripts/python_checks.sh $yamltokens "$libraries/libtoken_lines.so"
 check c cc c++ readelf valgrind yaml.h "$yaml" -- sh scripts/c_checks.sh "$libraries"
-check records cc c++ python3 readelf valgrind yaml.h "$libraries/libtoken_records.a" -- sh scripts/records_checks.sh "$libraries"
+check records cc c++ python3 readelf valgrind yaml.h "$libraries/librecords.a" -- sh scripts/records_checks.sh "$libraries"
 check steps cc c++ python3 readelf valgrind yaml.h "$libraries/libtoken_steps.a" -- sh scripts/steps_checks.sh "$libraries"
 check any_processor qemu-x86_64 cc yaml.h "$libraries/libtoken_steps.a" -- sh scripts/any_processor.sh "$libraries"
 if [ -n "$all" ]; then

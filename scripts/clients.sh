@@ -31,7 +31,7 @@
 # A check that lacks something is skipped, which is said with what it lacks. The last line is `N passed, M failed`, and
 # `, K skipped` where some were; the exit status is 1 where one failed, 2 for wrong words.
 set -u
-[ $# -ge 1 ] && dir=$(realpath "$1") && [ -f "$dir/libtoken_steps.so" ] && [ -f "$dir/libtoken_records.a" ] || {
+[ $# -ge 1 ] && dir=$(realpath "$1") && [ -f "$dir/libtoken_steps.so" ] && [ -f "$dir/librecords.a" ] || {
     echo "usage: sh scripts/clients.sh DIR [CHECK..], where build_c.sh made DIR" >&2
     exit 2
 }

@@ -39,9 +39,8 @@ PROGRAMS = {
     "command_line": ["yamltokens", "line_rows"],
     "computed_tokens": ["hostile_rows"],
     "token_lines_c": [],
-    "token_records": ["record_lines"],
-    "document_records": ["record_lines"],
-    "token_records_c": [],
+    "records": ["record_lines"],
+    "records_c": [],
     "yaml_path": ["yamlvalue"],
 }
 # Tables that take minutes without proof: they are tried only for an edit of which the page names them.

@@ -13,7 +13,12 @@ from pathlib import Path
 CRATES = Path(__file__).resolve().parent.parent / "crates"
 # the header, the files that have its structs, and the structs' names in C where they are others
 HEADERS = (
-    ("token_records.h", ("token_records/src/records.rt", "document_records/src/records.rt"), {}, ()),
+    ("pokhvizi/documents.h", ("records/src/records.rt",),
+     {"mark_record_t": "pokhvizi_mark_t", "range_record_t": "pokhvizi_range_t", "token_record_t": "pokhvizi_token_t",
+      "directive_record_t": "pokhvizi_directive_t", "fault_record_t": "pokhvizi_documents_fault_t",
+      "document_record_t": "pokhvizi_document_t", "node_record_t": "pokhvizi_node_t", "pair_record_t": "pokhvizi_pair_t",
+      "document_counts_t": "pokhvizi_document_counts_t", "documents_run_t": "pokhvizi_documents_t"},
+     ()),
     ("pokhvizi/steps.h",
      ("libyaml_types/src/mark.rt", "libyaml_automaton/src/machine.rt", "libyaml_automaton/src/reading.rt",
       "token_steps/src/records.rt", "token_steps/src/steps.rt", "token_steps/src/tags/handles.rt"),

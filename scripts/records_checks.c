@@ -1,4 +1,4 @@
-/* What no proof covers of the runs over token records, for scripts/records_checks.sh:
+/* What no proof covers of the run over token records, for scripts/records_checks.sh:
  *
  *     records_checks bad              bad records, texts outside their buffer, lists that end too soon
  *     records_checks refused FILE..   each allocation of a run refused in turn; only where REFUSES is defined
@@ -10,32 +10,7 @@
 #undef main
 #include <pthread.h>
 
-static const record_counts_t ROOM = {1 << 14, 1 << 10, 1 << 18};
-static const document_counts_t DOCUMENTS_ROOM = {1 << 10, 1 << 14, 1 << 14, 1 << 14, 1 << 10, 1 << 18};
-
-/* What both runs made of the same tokens. */
-struct made {
-    struct events events;
-    struct documents documents;
-};
-
-static void new_made(struct made *made)
-{
-    new_events(&made->events, ROOM);
-    new_documents(&made->documents, DOCUMENTS_ROOM);
-}
-
-static void free_made(struct made *made)
-{
-    free_events(&made->events);
-    free_documents(&made->documents);
-}
-
-static void run_both(const struct tokens *tokens, struct made *made)
-{
-    run_records_once(tokens, &made->events);
-    run_documents_once(tokens, &made->documents);
-}
+static const pokhvizi_document_counts_t ROOM = {1 << 10, 1 << 14, 1 << 14, 1 << 14, 1 << 10, 1 << 18};
 
 /* Whether so many of the one are the first of the other, where it has them. */
 static int are_first(const void *some, size_t count, const void *all, size_t whole, size_t size)
@@ -44,19 +19,9 @@ static int are_first(const void *some, size_t count, const void *all, size_t who
 }
 
 /* Whether what was put into the buffers are the first of the whole run's records, and its texts. */
-static int begins(const struct events *whole, const struct events *made)
+static int begins(const struct documents *whole, const struct documents *made)
 {
-    record_counts_t n = made->run.written, w = whole->run.written;
-
-    return memcmp(&n, &made->run.wanted, sizeof n) == 0 &&
-           are_first(made->records, n.events, whole->records, w.events, sizeof *made->records) &&
-           are_first(made->directives, n.directives, whole->directives, w.directives, sizeof *made->directives) &&
-           are_first(made->texts, n.texts, whole->texts, w.texts, 1);
-}
-
-static int documents_begin(const struct documents *whole, const struct documents *made)
-{
-    document_counts_t n = made->run.written, w = whole->run.written;
+    pokhvizi_document_counts_t n = made->run.written, w = whole->run.written;
 
     return memcmp(&n, &made->run.wanted, sizeof n) == 0 &&
            are_first(made->records, n.documents, whole->records, w.documents, sizeof *made->records) &&
@@ -72,32 +37,30 @@ static int documents_begin(const struct documents *whole, const struct documents
 static int wrong, lists;
 
 /* Whether a run has this error with these words at this record; or ended, where the error is 0. */
-static int has(const struct events *events, uint32_t error, size_t at, const char *problem)
+static int has(const struct documents *documents, uint32_t error, size_t at, const char *problem)
 {
-    const fault_record_t *fault = &events->run.fault;
+    const pokhvizi_documents_fault_t *fault = &documents->run.fault;
     yaml_mark_t mark = {at, at, 0};
 
     return fault->error == error &&
            (error == 0 || (fault->problem_offset == at && fault->problem_value == -1 &&
-                           string_is(events, fault->problem, problem) && mark_is(fault->problem_mark, mark) &&
-                           fault->context.place == TOKEN_RECORDS_ABSENT));
+                           string_is(documents, fault->problem, problem) && mark_is(fault->problem_mark, mark) &&
+                           fault->context.place == POKHVIZI_ABSENT));
 }
 
-/* Runs both, and wants that of each. */
+/* Runs, and wants this. */
 static void want(const char *what, const struct tokens *tokens, uint32_t error, size_t at, const char *problem)
 {
-    struct made made;
+    struct documents made;
 
-    new_made(&made);
-    run_both(tokens, &made);
-    struct events of_documents = shared(&made.documents);
-    if (!has(&made.events, error, at, problem) || !has(&of_documents, error, at, problem)) {
-        printf("wrong: %s: error %u, and %u with documents\n", what, made.events.run.fault.error,
-               made.documents.run.fault.error);
+    new_documents(&made, ROOM);
+    run_documents_once(tokens, &made);
+    if (!has(&made, error, at, problem)) {
+        printf("wrong: %s: error %u\n", what, made.run.fault.error);
         wrong++;
     }
     lists++;
-    free_made(&made);
+    free_documents(&made);
 }
 
 static struct tokens *fresh(struct tokens *tokens)
@@ -113,7 +76,7 @@ static int bad_records(void)
 {
     static const char bad[] = "bad token record", outside[] = "text outside the buffer", ended[] = "no more tokens";
     struct tokens t = {0};
-    token_record_t *scalar;
+    pokhvizi_token_t *scalar;
 
     want("as it is", fresh(&t), 0, 0, NULL);
     scalar = &t.records[3];
@@ -173,37 +136,29 @@ void free(void *block)
 }
 
 /* Whether the run's fault is that of a failed allocation, without words. */
-static int is_memory(const fault_record_t *fault)
+static int is_memory(const pokhvizi_documents_fault_t *fault)
 {
-    return fault->error == YAML_MEMORY_ERROR && fault->problem.place == TOKEN_RECORDS_ABSENT &&
-           fault->context.place == TOKEN_RECORDS_ABSENT;
+    return fault->error == YAML_MEMORY_ERROR && fault->problem.place == POKHVIZI_ABSENT &&
+           fault->context.place == POKHVIZI_ABSENT;
 }
 
-/* What was seen: the allocations that were refused, and the events and documents before them. */
-static long refusals, events_before, documents_before;
+/* What was seen: the allocations that were refused, and the documents before them. */
+static long refusals, documents_before;
 
-/* Refuses the n-th allocation of both runs, where there is one, and looks at what each made. */
-static int refuse(long n, const struct tokens *tokens, const struct made *whole, struct made *made)
+/* Refuses the n-th allocation of a run, where there is one, and looks at what it made. */
+static int refuse(long n, const struct tokens *tokens, const struct documents *whole, struct documents *made)
 {
     until_refused = n;
     blocks = 0;
     watches = 1;
-    run_records_once(tokens, &made->events);
-    int in_events = until_refused == 0;
-    until_refused = n;
-    run_documents_once(tokens, &made->documents);
-    int in_documents = until_refused == 0;
+    run_documents_once(tokens, made);
     watches = 0;
-    wrong += blocks != 0 || !begins(&whole->events, &made->events) ||
-             !documents_begin(&whole->documents, &made->documents);
-    wrong += in_events ? !is_memory(&made->events.run.fault)
-                       : made->events.run.fault.error != whole->events.run.fault.error;
-    wrong += in_documents ? !is_memory(&made->documents.run.fault)
-                          : made->documents.run.fault.error != whole->documents.run.fault.error;
-    refusals += in_events + in_documents;
-    events_before += in_events ? made->events.run.written.events : 0;
-    documents_before += in_documents ? made->documents.run.written.documents : 0;
-    return in_events || in_documents;
+    int was_refused = until_refused == 0;
+    wrong += blocks != 0 || !begins(whole, made);
+    wrong += was_refused ? !is_memory(&made->run.fault) : made->run.fault.error != whole->run.fault.error;
+    refusals += was_refused;
+    documents_before += was_refused ? made->run.written.documents : 0;
+    return was_refused;
 }
 
 static int refused(char **names)
@@ -211,22 +166,21 @@ static int refused(char **names)
     for (; *names != NULL; names++) {
         struct bytes yaml = {0};
         struct tokens tokens = {0};
-        struct made whole, made;
+        struct documents whole, made;
         if (!read_file(*names, &yaml))
             return 3;
         scan(&yaml, &tokens);
-        new_made(&whole);
-        new_made(&made);
-        run_both(&tokens, &whole);
+        new_documents(&whole, ROOM);
+        new_documents(&made, ROOM);
+        run_documents_once(&tokens, &whole);
         for (long n = 1; refuse(n, &tokens, &whole, &made);)
             n++;
-        free_made(&whole);
-        free_made(&made);
+        free_documents(&whole);
+        free_documents(&made);
         free_tokens(&tokens);
         free(yaml.at);
     }
-    printf("%ld allocations refused in turn, %ld events and %ld documents before them, %d wrong\n", refusals,
-           events_before, documents_before, wrong);
+    printf("%ld allocations refused in turn, %ld documents before them, %d wrong\n", refusals, documents_before, wrong);
     return wrong != 0 || refusals == 0;
 }
 #else
@@ -243,28 +197,26 @@ enum { THREADS = 8, ROUNDS = 20 };
 
 struct work {
     const struct tokens *tokens;
-    const struct made *alone;
+    const struct documents *alone;
     int differs;
 };
 
-static int is_same(const struct made *one, const struct made *other)
+static int is_same(const struct documents *one, const struct documents *other)
 {
-    return memcmp(&one->events.run, &other->events.run, sizeof one->events.run) == 0 &&
-           memcmp(&one->documents.run, &other->documents.run, sizeof one->documents.run) == 0 &&
-           begins(&one->events, &other->events) && documents_begin(&one->documents, &other->documents);
+    return memcmp(&one->run, &other->run, sizeof one->run) == 0 && begins(one, other);
 }
 
 static void *run_rounds(void *word)
 {
     struct work *work = word;
-    struct made made;
+    struct documents made;
 
-    new_made(&made);
+    new_documents(&made, ROOM);
     for (int round = 0; round < ROUNDS; round++) {
-        run_both(work->tokens, &made);
+        run_documents_once(work->tokens, &made);
         work->differs |= !is_same(&made, work->alone);
     }
-    free_made(&made);
+    free_documents(&made);
     return NULL;
 }
 
@@ -276,14 +228,14 @@ static int threads(char **names)
     for (; *names != NULL; names++) {
         struct bytes yaml = {0};
         struct tokens tokens = {0};
-        struct made alone;
+        struct documents alone;
         pthread_t made[THREADS];
         struct work work[THREADS];
         if (!read_file(*names, &yaml))
             return 3;
         scan(&yaml, &tokens);
-        new_made(&alone);
-        run_both(&tokens, &alone);
+        new_documents(&alone, ROOM);
+        run_documents_once(&tokens, &alone);
         for (int i = 0; i < THREADS; i++) {
             work[i] = (struct work){&tokens, &alone, 0};
             if (pthread_create(&made[i], NULL, run_rounds, &work[i]) != 0)
@@ -293,7 +245,7 @@ static int threads(char **names)
             pthread_join(made[i], NULL);
             wrong += work[i].differs;
         }
-        free_made(&alone);
+        free_documents(&alone);
         free_tokens(&tokens);
         free(yaml.at);
         files++;

@@ -40,17 +40,14 @@
 #ifndef POKHVIZI_STEPS_H
 #define POKHVIZI_STEPS_H
 
+#include "version.h"
 #include <stddef.h>
-#include <stdint.h>
-
-#define POKHVIZI_STEPS_VERSION 1
 
 #ifdef __cplusplus
 extern "C" {
 #endif
 
-/* yaml_mark_t: counts from 0. */
-typedef struct { uint64_t index, line, column; } pokhvizi_mark_t;
+/* Where a token or an event begins and ends. */
 typedef struct { pokhvizi_mark_t start_mark, end_mark; } pokhvizi_span_t;
 
 /* What is kept between two calls, beside the stacks. */

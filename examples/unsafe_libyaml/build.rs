@@ -5,7 +5,7 @@ use std::{env, path::Path, process};
 fn main() {
     println!("cargo:rerun-if-env-changed=POKHVIZI_DIR");
     let folder = env::var("POKHVIZI_DIR").unwrap_or_default();
-    for name in ["token_steps", "token_records"] {
+    for name in ["token_steps", "records"] {
         let library = Path::new(&folder).join(format!("lib{name}.a"));
         if folder.is_empty() || !library.is_file() {
             eprintln!(

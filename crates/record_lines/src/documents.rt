@@ -3,12 +3,12 @@
 use crate::events::{option_of, slice_of};
 use crate::tokens::Tokens;
 use anyhow::{Result, bail};
-use document_records::{
-    document_record_t, documents_of_records, documents_run_t, node_record_t, pair_record_t,
-};
 use percent_encoding::{AsciiSet, CONTROLS, ascii_set, percent_encode};
+use records::{
+    directive_record_t, document_record_t, documents_of_records, documents_run_t, fault_record_t,
+    mark_record_t, node_record_t, pair_record_t,
+};
 use std::alloc::{AllocError, Global};
-use token_records::{directive_record_t, fault_record_t, mark_record_t};
 
 /// What is escaped besides the bytes above ASCII.
 const ESCAPED: AsciiSet = ascii_set!(CONTROLS.add(b' ').add(b'%'));

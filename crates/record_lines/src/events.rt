@@ -13,7 +13,7 @@ use libyaml_types::{
 };
 use line_writing::write_event;
 use std::alloc::Global;
-use token_records::{ABSENT, mark_record_t, range_record_t, token_record_t};
+use records::{ABSENT, mark_record_t, range_record_t, token_record_t};
 use token_steps::{
     Did, directive_fact, handle_t, step_event_t, step_fault_t, step_span_t, steps_t, tag, text_t,
     token_kind, version_fact,

@@ -2,8 +2,8 @@
 
 use libyaml_sources::yaml_token_source_t;
 use libyaml_types::{unnamed_yaml_token_t_data, yaml_mark_t, yaml_token_t};
+use records::{mark_record_t, range_record_t, token_record_t};
 use std::alloc::{AllocError, Global};
-use token_records::{mark_record_t, range_record_t, token_record_t};
 
 /// Token records and their texts.
 #[derive(Drop)]

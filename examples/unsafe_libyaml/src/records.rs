@@ -1,4 +1,4 @@
-//! The records of `token_records.h`.
+//! The records of `pokhvizi/documents.h`.
 
 use original::*;
 
@@ -112,7 +112,7 @@ pub struct RunRecord {
 }
 
 extern "C" {
-    pub fn token_records_run_documents(
+    pub fn pokhvizi_documents(
         tokens: *const TokenRecord,
         tokens_length: usize,
         texts: *const u8,

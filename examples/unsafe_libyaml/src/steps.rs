@@ -3,19 +3,12 @@
 use crate::fault::Fault;
 use original::*;
 use std::ffi::CStr;
+use std::mem::MaybeUninit;
 use std::{iter, ptr};
 
 /// What is kept between two steps: plain numbers, which nobody reads here.
 #[repr(C)]
 struct Record([u64; 17]);
-
-/// Where a token or an event begins and ends.
-#[derive(Clone, Copy)]
-#[repr(C)]
-struct Span {
-    start_mark: yaml_mark_t,
-    end_mark: yaml_mark_t,
-}
 
 /// An event without its texts; flags are 1 or 0, and the number of its kind is the original's.
 #[derive(Clone, Copy)]
@@ -68,7 +61,7 @@ extern "C" {
         marks_room: usize,
         kind: u8,
         fact: u8,
-        at: *const Span,
+        at: *const [yaml_mark_t; 2],
         event: *mut Shape,
         fault: *mut Problem,
     ) -> u32;
@@ -192,13 +185,14 @@ impl TagDirectives {
 }
 
 /// What a step did with a token.
-pub enum Step {
+#[derive(Clone, Copy, PartialEq)]
+pub enum Did {
     /// Took it; a further one is wanted.
     Wants,
     /// Gave an event, and took the token.
-    Gave(Shape),
+    Gave,
     /// Gave an event; the same token comes next.
-    Stays(Shape),
+    Stays,
 }
 
 /// The parser's states, its stacks, and the tag directives of its document.
@@ -221,6 +215,7 @@ pub unsafe fn bytes<'a>(text: *const u8) -> &'a [u8] {
 }
 
 /// Doubles the room of a stack.
+#[cold]
 fn grow<T: Clone>(stack: &mut Vec<T>, blank: T) -> Result<(), Fault> {
     let room = stack.len();
     stack.try_reserve_exact(room).map_err(|_| Fault::memory())?;
@@ -243,47 +238,43 @@ impl Steps {
         }
     }
 
-    /// Steps with a token.
+    /// Steps with a token, and writes the shape of the event that it gives.
     ///
     /// # Errors
     ///
     /// The parser's error, or no memory for a stack.
-    pub unsafe fn step(&mut self, token: &yaml_token_t) -> Result<Step, Fault> {
+    #[inline]
+    pub unsafe fn step(&mut self, token: &yaml_token_t, shape: &mut Shape) -> Result<Did, Fault> {
         let (kind, fact) = (token.type_ as u8, self.fact(token));
-        let at = Span {
-            start_mark: token.start_mark,
-            end_mark: token.end_mark,
-        };
-        let (mut shape, mut problem) = (Shape::blank(), Problem::blank());
+        // The two marks of a token are neighbours.
+        let at = ptr::addr_of!(token.start_mark).cast();
         loop {
-            let (states, marks) = (self.states.as_mut_slice(), self.marks.as_mut_slice());
-            let (states_at, states_room) = (states.as_mut_ptr(), states.len());
-            let (marks_at, marks_room) = (marks.as_mut_ptr(), marks.len());
-            let record = ptr::addr_of_mut!(self.record);
+            let mut problem = MaybeUninit::uninit();
             let did = pokhvizi_step(
-                record,
-                states_at,
-                states_room,
-                marks_at,
-                marks_room,
+                &mut self.record,
+                self.states.as_mut_ptr(),
+                self.states.len(),
+                self.marks.as_mut_ptr(),
+                self.marks.len(),
                 kind,
                 fact,
-                &at,
-                &mut shape,
-                &mut problem,
+                at,
+                shape,
+                problem.as_mut_ptr(),
             );
             match did {
-                0 => return Ok(Step::Wants),
-                1 => return Ok(Step::Gave(shape)),
-                2 => return Ok(Step::Stays(shape)),
+                0 => return Ok(Did::Wants),
+                1 => return Ok(Did::Gave),
+                2 => return Ok(Did::Stays),
                 3 => grow(&mut self.states, 0)?,
                 4 => grow(&mut self.marks, no_mark())?,
-                5 => return Err(Fault::of_problem(&problem)),
+                5 => return Err(Fault::of_problem(&problem.assume_init())),
                 _ => unreachable!("the stacks are as long as they are said to be"),
             }
         }
     }
 
+    #[inline]
     unsafe fn fact(&self, token: &yaml_token_t) -> u8 {
         let data = &token.data;
         match token.type_ {
@@ -303,26 +294,8 @@ impl Steps {
 }
 
 impl Shape {
-    fn blank() -> Shape {
-        Shape {
-            kind: 0,
-            has_anchor: 0,
-            has_tag: 0,
-            implicit: 0,
-            quoted_implicit: 0,
-            is_flow: 0,
-            start_mark: no_mark(),
-            end_mark: no_mark(),
-        }
-    }
-}
-
-impl Problem {
-    fn blank() -> Problem {
-        Problem {
-            number: 0,
-            context_mark: no_mark(),
-            problem_mark: no_mark(),
-        }
+    pub fn blank() -> Shape {
+        // SAFETY: a shape is numbers.
+        unsafe { std::mem::zeroed() }
     }
 }

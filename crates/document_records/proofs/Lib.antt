@@ -1,9 +1,0 @@
-mod Adding
-mod Exceeding
-mod LastLoads
-mod Loops
-mod WholeRuns
-mod ReadBack
-mod LoadLists
-mod Countable
-mod OneDocumentRecords

@@ -1,5 +1,0 @@
-use Rattle.document_records.proofs.ReadBack.{records_give_documents}
-use Rattle.document_records.proofs.laws.records_give_documents.Goals as goal
-
-pub returns : goal.returns
-returns c = records_give_documents

@@ -1,5 +1,0 @@
-pub mod Buffers
-pub mod DocumentRecords
-pub mod DocumentRun
-pub mod OneDocumentRecords
-pub mod ReadsBack

@@ -1,8 +1,0 @@
-//! A law of the records of documents: a function that does nothing, and whose contract is the law.
-ghost use Rattle.document_records.specs.ReadsBack.{RecordsGiveDocuments};
-
-/// The records of documents, their nodes, items, pairs, directives and texts are read back as exactly these
-/// documents.
-pub fn records_give_documents()
-    ensures { RecordsGiveDocuments }
-{}

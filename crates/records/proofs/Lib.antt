@@ -1,0 +1,14 @@
+mod Texts
+mod Filling
+mod HandedOut
+mod DirectiveLemmas
+mod FieldsBack
+mod Adding
+mod Exceeding
+mod LastLoads
+mod Loops
+mod WholeRuns
+mod ReadBack
+mod LoadLists
+mod Countable
+mod OneDocumentRecords

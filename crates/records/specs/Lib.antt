@@ -1,0 +1,13 @@
+pub mod RecordFault
+pub mod Records
+pub mod RecordSource
+pub mod RecordSourceLaws
+pub mod Puts
+pub mod FieldRecords
+pub mod FieldsBack
+pub mod FaultRecord
+pub mod Buffers
+pub mod DocumentRecords
+pub mod DocumentRun
+pub mod OneDocumentRecords
+pub mod ReadsBack

@@ -1,3 +1,0 @@
-mod Texts
-pub mod lent
-mod DirectiveLemmas
