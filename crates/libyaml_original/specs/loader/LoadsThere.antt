@@ -1,11 +1,12 @@
 -- What the Rust crate's parser and loader together make of a list of tokens, and how far it is what this
 -- repository's make.
-use Rattle.std.specs.Prelude.{◌≡◌, ◌∷◌, ◌++◌, ℕ, List, []}
+use Rattle.std.specs.Prelude.{◌≡◌, ◌∷◌, ◌++◌, ℕ, List, [], map, Ok}
 use Rattle.libyaml_sources.specs.Fault.{Fault}
 use Rattle.libyaml_grammar.specs.runs.Runs.{Ending, Ends}
 use Rattle.libyaml_grammar.specs.sentences.Events.{Event}
 use Rattle.libyaml_grammar.specs.sentences.Tokens.{Token}
-use Rattle.libyaml_graphs.specs.loads.Loads.{Load}
+use Rattle.libyaml_documents.specs.Documents.{Document}
+use Rattle.libyaml_graphs.specs.loads.Loads.{Load, last_load}
 use Rattle.libyaml_original.specs.loader.Loader.{loads_there}
 use Rattle.libyaml_original.specs.parser.Differences.{Differs, Reaches, call_here, call_there}
 use Rattle.libyaml_original.specs.parser.Parser.{Parser}
@@ -19,10 +20,10 @@ pub record LoadsThere (limit : ℕ) (l : List Token) (f : Fault) (a : List Load)
   pub all : a ≡ loads_there limit events ending
 
 -- Loads there and here, of a parser and its tokens: they are the same; or calls do the same up to one of the
--- three kinds, and the loads of the events before it, but the last, begin both.
+-- three kinds, the loads of the events before it have no fault, and their documents begin both.
 pub data LoadsCompare (limit : ℕ) (p : Parser) (a b : List Load) : Type 0 where
   same_loads : a ≡ b → LoadsCompare limit p a b
   loads_part : (before : List Event) (q : Parser) → Reaches p before q
       → Differs q (call_there q) (call_here q)
-      → (first : List Load) (last : Load) → loads_there limit before Ends ≡ first ++ last ∷ []
-      → (a' b' : List Load) → a ≡ first ++ a' → b ≡ first ++ b' → LoadsCompare limit p a b
+      → (documents : List Document) → loads_there limit before Ends ≡ map Ok documents ++ last_load Ends ∷ []
+      → (a' b' : List Load) → a ≡ map Ok documents ++ a' → b ≡ map Ok documents ++ b' → LoadsCompare limit p a b
