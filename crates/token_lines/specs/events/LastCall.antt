@@ -49,8 +49,8 @@ pub record StartsAt {R : Type 0} (reader : R) (p : Parser (LineSource R)) : Type
   pub source : p.source ≡ record { reader = reader; given = 0; max_tokens = most_tokens; fault = None }
   pub begins : History p [] []
 
--- A run over a reader's lines, by a parser that started there: what it wrote, where its source may have broken off as it
--- then was; and each line in its turn.
+-- A run over a reader's lines: what it wrote, where a source of these lines may have broken off as it then was; and that a
+-- parser which starts there can have written it in turn. Which calls were made is said of `write_events`, whose parser stays.
 pub record RunsOver {R W : Type 0} (remaining : R → Option (List ℕ)) (contents : W
     → Option (List ℕ)) (reader : R) (outcome : Outcome) (before after : Option (List ℕ)) : Type 0 where
   pub end : run_end_t

@@ -83,9 +83,10 @@ pub record WritesKept {S : Type 0} (end : run_end_t) (old new : Parser S) (befor
 abbrev pub most_entries : ℕ
 most_entries = 2147483647
 
--- A run over a reader's lines, by a parser that started there: what it wrote, where its source may have broken off as it
--- then was; and each document in its turn. The nodes of the documents that it wrote, and the entries of their lists, are
--- together at most eight for each token that was asked for.
+-- A run over a reader's lines: what it wrote, where a source of these lines may have broken off as it then was; and that a
+-- parser which starts there can have written it in turn. Which loads were made is said of `write_nodes`, whose parser stays.
+-- The nodes of the documents that it wrote, and the entries of their lists, are together at most eight for each token that
+-- such a parser asked for.
 pub record NodesOver {R W : Type 0} (remaining : R → Option (List ℕ)) (contents : W
     → Option (List ℕ)) (reader : R) (outcome : Outcome) (before after : Option (List ℕ)) : Type 0 where
   pub end : run_end_t

@@ -62,6 +62,7 @@ pub fn write_events<S: yaml_token_source_t, W: Write>(
         → History parser.old asked given
         → LastCall S.gives W.contents result parser.old parser.new (W.contents writer.old)
         (W.contents writer.new) asked given }
+    ensures bound { parser.new.max_entries ≡ parser.old.max_entries }
 {
     rest_of_run::<S>();
     items_in_turn::<S>();
@@ -92,6 +93,7 @@ fn write_next<S: yaml_token_source_t, W: Write>(
         → History parser.old asked given
         → Turn S.gives result parser.old parser.new (W.contents writer.old) (W.contents writer.new) asked
         given }
+    ensures bound { parser.new.max_entries ≡ parser.old.max_entries }
 {
     let parsed = yaml_parser_parse_into(parser, event);
     let Ok(()) = parsed else {

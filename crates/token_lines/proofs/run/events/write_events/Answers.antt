@@ -76,6 +76,7 @@ loop-writer-init g c = record {
   ended = λ ended. (refl, refl);
   in_turn = λ running asked given history. none_yet event_line g.S.yaml_token_source_t.gives _ _ asked given history
       running;
+  bound = refl;
 }
 
 pub loop-writer-preserved : goal.loop-writer-preserved
@@ -85,6 +86,7 @@ loop-writer-preserved g c = record {
   in_turn = λ not_ended asked given history. one_more event_line g.S.yaml_token_source_t.gives _
       c.loop-writer.parser c.write_next.new.parser _ _ _ asked given
       (c.loop-writer.invariant.in_turn not_ended asked given history) c.in-Written.ensures.turn;
+  bound = c.write_next.ensures.bound ∙ c.loop-writer.invariant.bound;
 }
 
 pub loop-writer-smaller : goal.loop-writer-smaller

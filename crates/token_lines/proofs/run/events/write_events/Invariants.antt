@@ -14,6 +14,7 @@ invariant-loop-writer g l = record {
       → History l.initial.parser asked given
       → AllWritten event_line g.S.yaml_token_source_t.gives l.initial.parser l.parser
       (g.W.Write.contents l.initial.writer) (g.W.Write.contents l.writer) asked given;
+  bound : l.parser.max_entries ≡ l.initial.parser.max_entries;
 }
 
 abbrev pub decreases-loop-writer : goal.decreases-loop-writer
