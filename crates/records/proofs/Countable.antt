@@ -6,6 +6,7 @@ use Rattle.libyaml_sources.specs.Fault.{Fault, memory_fault}
 use Rattle.libyaml_documents.specs.Documents.{Document}
 use Rattle.libyaml_graphs.specs.loads.Loads.{Load}
 use Rattle.records.specs.FaultRecord.{fault_bytes}
+use Rattle.records.specs.declared.records.token_record_t.{token_record_t}
 use Rattle.records.specs.Buffers.{Lists, TooMany, many_directives, many_documents, many_items, many_nodes}
 use Rattle.records.specs.Buffers.{many_pairs, many_texts, nothing}
 use Rattle.records.specs.DocumentRecords.{recorded}
@@ -38,7 +39,8 @@ wordless a b f g none h =
 few : (n m : ℕ) → n ≡ m → n < 2 ^ 64 → 2 ^ 64 ≤ m → ⊥
 few n m is less more = omega (arith, is, less, more)
 
-module _ (old new : Lists) (run : documents_run_t) (loads : List Load) (h : HandsOutLoads old new run loads)
+module _ (tokens : List token_record_t) (bytes : List ℕ) (old new : Lists) (run : documents_run_t)
+    (loads : List Load) (h : HandsOutLoads tokens bytes old new run loads)
     (whole : LoadsEndBy h.fault h.later) where
   not_too_many : IsCounted run → TooMany (with_words (recorded h.documents) h.fault) → ⊥
   not_too_many c (many_documents x) = few run.wanted.documents _ h.document_records.wanted_is c.documents x

@@ -3,10 +3,11 @@ use Rattle.std.proofs.Common.{◌≡◌, ◌++◌, ◌⊎◌, ◌∷◌, ℕ, Li
 use Rattle.libyaml_sources.specs.Fault.{memory_fault}
 use Rattle.libyaml_graphs.specs.loads.Loads.{Load}
 use Rattle.records.specs.FaultRecord.{fault_bytes, fault_record}
+use Rattle.records.specs.declared.records.token_record_t.{token_record_t}
 use Rattle.records.proofs.HandedOut.{handed_once}
 use Rattle.records.specs.Buffers.{Lists, lists}
 use Rattle.records.specs.DocumentRecords.{recorded}
-use Rattle.records.specs.DocumentRun.{HandsOutLoads, LoadsEndBy, Uncountable, uncounted}
+use Rattle.records.specs.DocumentRun.{HandsOutLoads, LoadsEndBy, RunsOut, Uncountable, uncounted}
 use Rattle.records.specs.OneDocumentRecords.{IsCounted, OneDocumentRecords, alike, both_uncounted}
 use Rattle.records.specs.OneDocumentRecords.{first_runs_out, second_runs_out}
 use Rattle.records.specs.declared.records.document_counts_t.{document_counts_t}
@@ -24,11 +25,12 @@ counts documents nodes items pairs directives texts = record {
   texts = texts;
 }
 
-module _ (old : Lists) (loads : List Load) (a b : documents_run_t) (p q : Lists) where
+module _ (tokens : List token_record_t) (bytes : List ℕ) (old : Lists) (loads : List Load) (a b : documents_run_t)
+    (p q : Lists) where
   abbrev AreOne : Type 0
-  AreOne = OneDocumentRecords old loads a p b q
+  AreOne = OneDocumentRecords tokens bytes old loads a p b q
 
-  both_whole : (h : HandsOutLoads old p a loads) (k : HandsOutLoads old q b loads) → h.documents ≡ k.documents
+  both_whole : (h : HandsOutLoads tokens bytes old p a loads) (k : HandsOutLoads tokens bytes old q b loads) → h.documents ≡ k.documents
       → h.fault ≡ k.fault → AreOne
   both_whole h k same fault =
       let all : recorded h.documents ≡ recorded k.documents = ap recorded same in
@@ -47,13 +49,13 @@ module _ (old : Lists) (loads : List Load) (a b : documents_run_t) (p q : Lists)
       alike (λ i. record { wanted = wanted i; written = written i; fault = told i })
       (λ i. lists (documents.2 i) (nodes.2 i) (items.2 i) (pairs.2 i) (directives.2 i) (texts.2 i))
 
-  both_handed_out : HandsOutLoads old p a loads → HandsOutLoads old q b loads → AreOne
+  both_handed_out : HandsOutLoads tokens bytes old p a loads → HandsOutLoads tokens bytes old q b loads → AreOne
   both_handed_out h k = go h.ends k.ends
     where
-      go : LoadsEndBy h.fault h.later ⊎ (h.fault ≡ memory_fault) → LoadsEndBy k.fault k.later ⊎ (k.fault ≡ memory_fault)
-          → AreOne
-      go (inr e) y = first_runs_out h e
-      go x (inr e) = second_runs_out k e
+      go : LoadsEndBy h.fault h.later ⊎ ((h.fault ≡ memory_fault) × RunsOut tokens bytes h.documents)
+          → LoadsEndBy k.fault k.later ⊎ ((k.fault ≡ memory_fault) × RunsOut tokens bytes k.documents) → AreOne
+      go (inr e) y = first_runs_out h e.0
+      go x (inr e) = second_runs_out k e.0
       go (inl x) (inl y) =
           let u = last_one h.fault h.later x in
           let v = last_one k.fault k.later y in
@@ -64,17 +66,17 @@ module _ (old : Lists) (loads : List Load) (a b : documents_run_t) (p q : Lists)
           both_whole h k s.0 (fault_one k.later h.fault k.fault (subst (LoadsEndBy h.fault) later x) y)
 
   pub one_document_records : IsCounted a → IsCounted b
-      → HandsOutLoads old p a loads ⊎ ((a ≡ uncounted) × Uncountable loads)
-      → HandsOutLoads old q b loads ⊎ ((b ≡ uncounted) × Uncountable loads) → AreOne
+      → HandsOutLoads tokens bytes old p a loads ⊎ ((a ≡ uncounted) × Uncountable loads)
+      → HandsOutLoads tokens bytes old q b loads ⊎ ((b ≡ uncounted) × Uncountable loads) → AreOne
   one_document_records ca cb (inl h) (inl k) = both_handed_out h k
   one_document_records ca cb (inr x) (inr y) = both_uncounted x.0 y.0
   one_document_records ca cb (inl h) (inr y) = go h.ends
     where
-      go : LoadsEndBy h.fault h.later ⊎ (h.fault ≡ memory_fault) → AreOne
-      go (inl e) = absurd (countable old p a loads h e ca y.1)
-      go (inr e) = first_runs_out h e
+      go : LoadsEndBy h.fault h.later ⊎ ((h.fault ≡ memory_fault) × RunsOut tokens bytes h.documents) → AreOne
+      go (inl e) = absurd (countable tokens bytes old p a loads h e ca y.1)
+      go (inr e) = first_runs_out h e.0
   one_document_records ca cb (inr x) (inl k) = go k.ends
     where
-      go : LoadsEndBy k.fault k.later ⊎ (k.fault ≡ memory_fault) → AreOne
-      go (inl e) = absurd (countable old q b loads k e cb x.1)
-      go (inr e) = second_runs_out k e
+      go : LoadsEndBy k.fault k.later ⊎ ((k.fault ≡ memory_fault) × RunsOut tokens bytes k.documents) → AreOne
+      go (inl e) = absurd (countable tokens bytes old q b loads k e cb x.1)
+      go (inr e) = second_runs_out k e.0

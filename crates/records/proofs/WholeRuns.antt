@@ -1,18 +1,23 @@
 -- What a whole run over documents hands out.
 use Rattle.std.proofs.Common.{arith, ◌≡◌, ◌≢◌, ◌≤◌, ◌+◌, ◌^◌, ◌++◌, ◌⊎◌, ◌∷◌, ℕ, List, [], Ok, length, map, min, refl}
-use Rattle.std.proofs.Common.{sym, ap, ◌∙◌, inl, inr}
+use Rattle.std.proofs.Common.{sym, ap, ◌∙◌, inl, inr, Some, subst}
 use Rattle.std.proofs.lemmas.List.{length-append, take_all}
-use Rattle.libyaml_sources.specs.Fault.{Fault, memory_fault}
+use Rattle.libyaml_sources.specs.Fault.{Fault, memory_fault, no_fault}
+use Rattle.libyaml_sources.specs.Source.{Coming}
 use Rattle.libyaml_grammar.specs.runs.Runs.{Ending, Ends, Fails}
 use Rattle.libyaml_documents.specs.Documents.{Document}
 use Rattle.libyaml_events.specs.machine.Config.{Parser}
+use Rattle.libyaml_events.specs.sources.History.{new_parser}
 use Rattle.libyaml_graphs.specs.loads.Loads.{Load, last_load}
-use Rattle.libyaml_loader.specs.loads.LoadsInTurn.{AreLoadsOf, cut_short, whole}
+use Rattle.libyaml_loader.specs.loads.LoadsInTurn.{AreLoadsOf, LoopYields, cut_short, whole}
 use Rattle.records.specs.Puts.{Puts}
 use Rattle.records.specs.FaultRecord.{EndsBy, HandsOut, fault_bytes, fault_record}
+use Rattle.records.specs.RecordSource.{Gives, read_records}
+use Rattle.records.specs.RecordSourceLaws.{BreaksOff}
+use Rattle.records.specs.declared.records.token_record_t.{token_record_t}
 use Rattle.records.specs.Buffers.{Adds, Held, Holds, Lists, counts_of, many_texts, nothing}
 use Rattle.records.specs.DocumentRecords.{recorded, with_documents}
-use Rattle.records.specs.DocumentRun.{HandsOutLoads, LoadsEndBy, PutsUncounted, Uncountable, WithinRoom}
+use Rattle.records.specs.DocumentRun.{HandsOutLoads, LoadsEndBy, PutsUncounted, RunsOut, Uncountable, WithinRoom}
 use Rattle.records.specs.DocumentRun.{with_words}
 use Rattle.records.specs.declared.records.document_counts_t.{document_counts_t}
 use Rattle.records.specs.declared.records.documents_run_t.{documents_run_t}
@@ -57,6 +62,28 @@ record LeftBy (f : Fault) (documents : List Document) (loads : List Load) : Type
   later : List Load
   all : loads ≡ map (λ (d : Document). Ok d) documents ++ later
   ends : LoadsEndBy f later ⊎ (f ≡ memory_fault)
+
+-- a loop over a parser's documents that ended so
+module _ (tokens : List token_record_t) (bytes : List ℕ) (f : Fault) (documents : List Document) where
+  no_memory : ◌≡◌ {A = Fault} no_fault memory_fault → ⊥
+  no_memory e = let i = ap (λ (y : Fault). y.error) e in cc
+
+  runs_out : (p : Parser Coming) (ending : Ending)
+      → LoopYields Gives (λ s. length s.tokens) Some BreaksOff (new_parser (read_records tokens bytes)) documents ending p
+      → EndsBy f ending → f ≡ memory_fault → RunsOut tokens bytes documents
+  runs_out p ending y (inl (none, is)) memory = absurd (no_memory (sym none ∙ memory))
+  runs_out p ending y (inr is) memory = record {
+    last = p;
+    yields = subst (λ (x : Ending). LoopYields Gives (λ s. length s.tokens) Some BreaksOff
+        (new_parser (read_records tokens bytes)) documents x p) (is ∙ ap Fails memory) y;
+  }
+
+  pub stops : (p : Parser Coming) (ending : Ending)
+      → LoopYields Gives (λ s. length s.tokens) Some BreaksOff (new_parser (read_records tokens bytes)) documents ending p
+      → EndsBy f ending → (later : List Load) → LoadsEndBy f later ⊎ (f ≡ memory_fault)
+      → LoadsEndBy f later ⊎ ((f ≡ memory_fault) × RunsOut tokens bytes documents)
+  stops p ending y by later (inl e) = inl e
+  stops p ending y by later (inr memory) = inr (memory, runs_out p ending y by memory)
 
 module _ {S : Type 0} (MayBreak : S → Fault → Type 0) (only : (s : S) (f : Fault) → MayBreak s f → f ≡ memory_fault)
     (p : Parser S) (f : Fault)
@@ -106,16 +133,18 @@ module _ {S : Type 0} (MayBreak : S → Fault → Type 0) (only : (s : S) (f : F
       }
 
   -- documents that were put, and then the words of a fault
-  pub hands_out : (old mid new : Lists) (n : document_counts_t) (run : documents_run_t) (ending : Ending)
-      (loads : List Load)
+  pub hands_out : (tokens : List token_record_t) (bytes : List ℕ) (old mid new : Lists) (n : document_counts_t)
+      (run : documents_run_t) (ending : Ending) (loads : List Load)
+      → ((later : List Load) → LoadsEndBy f later ⊎ (f ≡ memory_fault)
+      → LoadsEndBy f later ⊎ ((f ≡ memory_fault) × RunsOut tokens bytes documents))
       → Adds (λ r. with_documents r documents) old (counts_of nothing) mid n → EndsBy f ending
       → AreLoadsOf MayBreak p documents ending loads
       → new ≡ record mid { texts = new.texts } → run.wanted ≡ record n { texts = run.wanted.texts }
       → Puts mid.texts n.texts (fault_bytes f) new.texts run.wanted.texts → run.fault ≡ fault_record n.texts f
       → WithinRoom old run
       → ((rest : List Load) → loads ≡ map (λ (d : Document). Ok d) documents ++ rest → rest ≢ [])
-      → HandsOutLoads old new run loads
-  hands_out old mid new n run ending loads adds by are same_lists same_counts words fault_is room last_left =
+      → HandsOutLoads tokens bytes old new run loads
+  hands_out tokens bytes old mid new n run ending loads stop adds by are same_lists same_counts words fault_is room last_left =
       let left = left_by ending loads by are in
       let holds = adds old nothing (holds_nothing old) in
       let all = recorded documents in
@@ -127,7 +156,7 @@ module _ {S : Type 0} (MayBreak : S → Fault → Type 0) (only : (s : S) (f : F
         all = left.all;
         more = last_left left.later left.all;
         fault = f;
-        ends = left.ends;
+        ends = stop left.later left.ends;
         fault_is = fault_is ∙ ap (λ k. fault_record k f) holds.texts.counted;
         document_records = handed_out all.documents old.documents new.documents run.wanted.documents run.written.documents
             (moved old.documents mid.documents new.documents all.documents n.documents run.wanted.documents

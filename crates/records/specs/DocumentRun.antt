@@ -1,15 +1,17 @@
 -- A run over token records that puts documents: what is put into the buffers, and what is returned.
-use Rattle.std.specs.Prelude.{◌≡◌, ◌≢◌, ◌++◌, ◌⊎◌, ◌∷◌, ℕ, List, [], length, map, Option, Ok, Err}
+use Rattle.std.specs.Prelude.{◌≡◌, ◌≢◌, ◌++◌, ◌⊎◌, ◌∷◌, ℕ, List, [], length, map, Option, Some, Ok, Err}
 use Rattle.libyaml_sources.specs.Fault.{Answer, Fault, no_fault, memory_fault}
 use Rattle.libyaml_sources.specs.Source.{Coming}
-use Rattle.libyaml_grammar.specs.runs.Runs.{Ending, Ends}
+use Rattle.libyaml_grammar.specs.runs.Runs.{Ending, Ends, Fails}
 use Rattle.libyaml_documents.specs.Documents.{Document, most_nodes}
 use Rattle.libyaml_events.specs.machine.Config.{Parser}
+use Rattle.libyaml_events.specs.sources.History.{new_parser}
 use Rattle.libyaml_graphs.specs.loads.Bounds.{IsBoundedLoads}
 use Rattle.libyaml_graphs.specs.loads.Loads.{Load, last_load}
 use Rattle.libyaml_loader.specs.loads.LoadsInTurn.{LoopYields}
 use Rattle.records.specs.FaultRecord.{EndsBy, HandsOut, fault_bytes, fault_record, memory_record}
-use Rattle.records.specs.RecordSource.{read_records}
+use Rattle.records.specs.RecordSource.{Gives, read_records}
+use Rattle.records.specs.RecordSourceLaws.{BreaksOff}
 use Rattle.records.specs.declared.records.token_record_t.{token_record_t}
 use Rattle.records.specs.Buffers.{Adds, Exceeds, Lists, TooMany, counts_of, least, nothing}
 use Rattle.records.specs.DocumentRecords.{recorded, with_documents}
@@ -45,15 +47,22 @@ pub record PutsUncounted (before : Lists) (n : document_counts_t) (loads : List 
 abbrev pub LoadsEndBy : Fault → (later : List Load) → Type 0
 LoadsEndBy f later = ((f ≡ no_fault) × (later ≡ last_load Ends ∷ [])) ⊎ (later ≡ Err f ∷ [])
 
+-- A parser of these records loaded these documents, and its last load failed for memory, where it may take some.
+pub record RunsOut (tokens : List token_record_t) (texts : List ℕ) (documents : List Document) : Type 0 where
+  pub last : Parser Coming
+  pub yields : LoopYields Gives (λ s. length s.tokens) Some BreaksOff (new_parser (read_records tokens texts)) documents
+      (Fails memory_fault) last
+
 -- The first documents of loads were handed out, of which the last load is none, and then the words of a fault: all of
 -- them, with the loads' own ending, or those before an allocation failed.
-pub record HandsOutLoads (old new : Lists) (run : documents_run_t) (loads : List Load) : Type 0 where
+pub record HandsOutLoads (tokens : List token_record_t) (bytes : List ℕ) (old new : Lists) (run : documents_run_t)
+    (loads : List Load) : Type 0 where
   pub documents : List Document
   pub later : List Load
   pub all : loads ≡ map Ok documents ++ later
   pub more : later ≢ []
   pub fault : Fault
-  pub ends : LoadsEndBy fault later ⊎ (fault ≡ memory_fault)
+  pub ends : LoadsEndBy fault later ⊎ ((fault ≡ memory_fault) × RunsOut tokens bytes documents)
   pub fault_is : run.fault ≡ fault_record (length (recorded documents).texts) fault
   pub document_records : HandsOut (recorded documents).documents old.documents new.documents run.wanted.documents
       run.written.documents
@@ -87,7 +96,7 @@ uncounted = record { wanted = counts_of nothing; written = counts_of nothing; fa
 -- The loads over the tokens of these records were handed out, or had more than can be counted.
 abbrev pub DocumentsOver : List token_record_t → List ℕ → (old new : Lists) → documents_run_t → Type 0
 DocumentsOver tokens texts old new run = (loads : List Load) → AreLoadsOfRecords tokens texts loads
-    → HandsOutLoads old new run loads ⊎ ((run ≡ uncounted) × Uncountable loads)
+    → HandsOutLoads tokens texts old new run loads ⊎ ((run ≡ uncounted) × Uncountable loads)
 
 -- so many were put as are there, or have room
 abbrev pub WithinRoom : (old : Lists) → documents_run_t → Type 0

@@ -1,8 +1,9 @@
 -- Two results of one run over documents that its contract allows: they are one, unless memory ran out in one of them
 -- (docs/DEFINITIONS.md, "One outcome").
-use Rattle.std.specs.Prelude.{◌≡◌, ◌<◌, ◌^◌, List}
+use Rattle.std.specs.Prelude.{◌≡◌, ◌<◌, ◌^◌, ℕ, List}
 use Rattle.libyaml_sources.specs.Fault.{memory_fault}
 use Rattle.libyaml_graphs.specs.loads.Loads.{Load}
+use Rattle.records.specs.declared.records.token_record_t.{token_record_t}
 use Rattle.records.specs.Buffers.{Lists}
 use Rattle.records.specs.DocumentRun.{HandsOutLoads, uncounted}
 use Rattle.records.specs.declared.records.documents_run_t.{documents_run_t}
@@ -18,11 +19,11 @@ pub record IsCounted (run : documents_run_t) : Type 0 where
 
 -- What was returned and put into the buffers is the same. Or memory ran out in one of them, and it handed out the first
 -- documents; or they have more of something than can be counted, and both say so.
-pub data OneDocumentRecords (old : Lists) (loads : List Load) (first : documents_run_t) (after : Lists)
+pub data OneDocumentRecords (tokens : List token_record_t) (texts : List ℕ) (old : Lists) (loads : List Load) (first : documents_run_t) (after : Lists)
     (second : documents_run_t) (later : Lists) : Type 0 where
-  alike : first ≡ second → after ≡ later → OneDocumentRecords old loads first after second later
-  both_uncounted : first ≡ uncounted → second ≡ uncounted → OneDocumentRecords old loads first after second later
-  first_runs_out : (h : HandsOutLoads old after first loads) → h.fault ≡ memory_fault
-      → OneDocumentRecords old loads first after second later
-  second_runs_out : (h : HandsOutLoads old later second loads) → h.fault ≡ memory_fault
-      → OneDocumentRecords old loads first after second later
+  alike : first ≡ second → after ≡ later → OneDocumentRecords tokens texts old loads first after second later
+  both_uncounted : first ≡ uncounted → second ≡ uncounted → OneDocumentRecords tokens texts old loads first after second later
+  first_runs_out : (h : HandsOutLoads tokens texts old after first loads) → h.fault ≡ memory_fault
+      → OneDocumentRecords tokens texts old loads first after second later
+  second_runs_out : (h : HandsOutLoads tokens texts old later second loads) → h.fault ≡ memory_fault
+      → OneDocumentRecords tokens texts old loads first after second later

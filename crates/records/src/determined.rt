@@ -16,5 +16,5 @@ pub fn one_run_of_document_records()
         (first second : documents_run_t) (loads : List Load) → AreLoadsOfRecords tokens texts loads
         → IsCounted first → IsCounted second
         → DocumentsOver tokens texts old after first → DocumentsOver tokens texts old later second
-        → OneDocumentRecords old loads first after second later }
+        → OneDocumentRecords tokens texts old loads first after second later }
 {}

@@ -3,4 +3,4 @@ use Rattle.records.proofs.determined.one_run_of_document_records.Goals as goal
 
 pub returns : goal.returns
 returns c tokens texts old after later first second loads are ca cb a b
-    = one_document_records old loads first second after later ca cb (a loads are) (b loads are)
+    = one_document_records tokens texts old loads first second after later ca cb (a loads are) (b loads are)

@@ -2,7 +2,10 @@ use Rattle.std.proofs.Common.{◌≡◌, ℕ, [], Some, length, refl, ap, ◌∙
 use Rattle.libyaml_graphs.specs.loads.Bounds.{IsBoundedLoads, bounded_loads, first_stop}
 use Rattle.libyaml_graphs.specs.loads.Loads.{begun}
 use Rattle.libyaml_documents.specs.Documents.{most_nodes}
+use Rattle.libyaml_events.specs.machine.Config.{Parser}
+use Rattle.libyaml_events.specs.sources.History.{new_parser}
 use Rattle.libyaml_loader.specs.document.Ids.{magnitude}
+use Rattle.libyaml_loader.specs.loads.LoadsInTurn.{LoopYields}
 use Rattle.libyaml_sources.specs.Fault.{Fault, fault_of, memory_fault}
 use Rattle.libyaml_sources.specs.Source.{Coming}
 use Rattle.records.specs.RecordSource.{Gives, read_records}
@@ -12,7 +15,7 @@ use Rattle.records.specs.Buffers.{counts_of, lists, nothing}
 use Rattle.records.specs.DocumentRun.{PutsUncounted}
 use Rattle.records.specs.declared.records.document_counts_t.{document_counts_t}
 use Rattle.records.proofs.LastLoads.{last_is_left}
-use Rattle.records.proofs.WholeRuns.{hands_out, uncountable, words_uncountable}
+use Rattle.records.proofs.WholeRuns.{hands_out, stops, uncountable, words_uncountable}
 use Rattle.records.proofs.run.hand_out.Goals as goal
 
 pub returns-clause-run : goal.returns-clause-run
@@ -28,13 +31,18 @@ returns-clause-run c loads are =
     let loads_are = c.loop_yields_loads.ensures.of_list parser.result put.last put.documents put.ending
     coming.tokens coming.fault loads
     parser.ensures.begins (ap Some (parser.ensures.source ∙ c.new-source.ensures)) within put.yields in
+    let yields = subst (λ (p : Parser Coming). LoopYields Gives (λ (s : Coming). length s.tokens) (λ (s : Coming). Some s)
+    BreaksOff p put.documents put.ending put.last) (parser.ensures.value ∙ ap new_parser c.new-source.ensures) put.yields in
     let counts : document_counts_t = record made.wanted { texts = c.fault_record.new.wanted } in
     hands_out (λ s (f : Fault). f ≡ memory_fault) (λ s f h. h) put.last (fault_of c.in_ok-ending.ending) put.documents
+    tokens a.texts.now
     (lists a.documents.now a.nodes.now a.items.now a.pairs.now a.directives.now a.out.now)
     (lists made.documents made.nodes made.items made.pairs made.directives made.texts)
     (lists made.documents made.nodes made.items made.pairs made.directives c.fault_record.new.texts) made.wanted
     (record { wanted = counts; written = c.within.result; fault = c.in_ok-fault.fault })
-    put.ending loads put.adds put.ends loads_are refl refl c.in_ok-fault.ensures.texts c.in_ok-fault.ensures.made
+    put.ending loads
+    (stops tokens a.texts.now (fault_of c.in_ok-ending.ending) put.documents put.last put.ending yields put.ends)
+    put.adds put.ends loads_are refl refl c.in_ok-fault.ensures.texts c.in_ok-fault.ensures.made
     c.within.ensures
     (λ rest all. last_is_left Gives (λ (s : Coming). length s.tokens) (λ (s : Coming). Some s) BreaksOff parser.result
     put.last put.documents put.ending put.yields
