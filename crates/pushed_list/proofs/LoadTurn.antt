@@ -87,9 +87,9 @@ module _ (Full : Type 0) (old : PushLoader) (t : yaml_token_t) (all : Tokens) (d
       no_error f false e i = cc
       no_error f true e i = cc
 
-      so : StopsLoading Full most (turn.taken ++ t ∷ []) after (fault_in new) → all ≡ turn.taken
+      so : StopsLoading Full most (turn.taken ++ t ∷ []) turn.loaded.events after (fault_in new) → all ≡ turn.taken
           → LoadsFail (all ++ t ∷ rest) source (fault_in new)
-      so (by_memory e events here begins leads m) i = inl e
+      so (by_memory e more here begins leads m) i = inl e
       so (by_tokens loads) i = inr (
         after,
         subst (λ (y : Tokens). AreThen most y source after (Err (fault_in new)))
@@ -101,10 +101,11 @@ module _ (Full : Type 0) (old : PushLoader) (t : yaml_token_t) (all : Tokens) (d
           (p.stopped h).2)
       go false h =
           let f : TakesLoads Full old t documents (Err x) new after = p.takes h in
-          let s : StopsLoading Full new.max_entries (turn.taken ++ t ∷ []) (documents ++ f.added) (fault_in new) =
+          let g = turn.loaded.events in
+          let s : StopsLoading Full new.max_entries (turn.taken ++ t ∷ []) g (documents ++ f.added) (fault_in new) =
           f.ends_so turn.taken documents turn.loaded in
-          so (subst (λ (n : ℕ). StopsLoading Full n (turn.taken ++ t ∷ []) after (fault_in new)) (p.bound ∙ turn.bound)
-          (subst (λ (y : List Document). StopsLoading Full new.max_entries (turn.taken ++ t ∷ []) y (fault_in new))
+          so (subst (λ (n : ℕ). StopsLoading Full n (turn.taken ++ t ∷ []) g after (fault_in new)) (p.bound ∙ turn.bound)
+          (subst (λ (y : List Document). StopsLoading Full new.max_entries (turn.taken ++ t ∷ []) g y (fault_in new))
           (sym f.appended) s)) (no_end h)
 
 -- after all tokens

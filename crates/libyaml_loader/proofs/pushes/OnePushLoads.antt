@@ -127,7 +127,7 @@ module _ (one : (p q : PushParser) (l : List Token) (g h : List Event) → Pushe
     failed : (added : List Document) → r ≡ Err (fault_in new).error → after ≡ before ++ added
         → ((f : Fault) → AreThen old.max_entries (now ++ []) f (documents ++ added) (Err (fault_in new)))
         → Ended Full r new after
-    ran_out : PushLoadsRunOut Full now documents before r new after → Ended Full r new after
+    ran_out : PushLoadsRunOut Full now h.events documents before r new after → Ended Full r new after
 
   ended : (Full : Type 0) (r : Done) (new : PushLoader) (after : List Document)
       → PushesLoads Full old t before r new after → Ended Full r new after
@@ -145,15 +145,16 @@ module _ (one : (p q : PushParser) (l : List Token) (g h : List Event) → Pushe
       k : TakesLoads Full old t before (Err x) new after
       k = p.takes running
 
-      by : StopsLoading Full new.max_entries now (documents ++ k.added) (fault_in new) → Ended Full (Err x) new after
+      by : StopsLoading Full new.max_entries now h.events (documents ++ k.added) (fault_in new)
+          → Ended Full (Err x) new after
       by (by_tokens loads) = failed k.added (ap Err p.kept.0) k.appended
           (λ f. subst (λ (n : ℕ). AreThen n (now ++ []) f (documents ++ k.added) (Err (fault_in new))) p.bound (loads [] f))
-      by (by_memory i events here begins leads needs) = ran_out (record {
+      by (by_memory i more here begins leads needs) = ran_out (record {
         error = ap Err (p.kept.0 ∙ ap (λ (f : Fault). f.error) i);
         fault = i;
         added = k.added;
         appended = k.appended;
-        events = events;
+        more = more;
         here = here;
         begins = begins;
         leads = leads;
@@ -195,7 +196,7 @@ module _ (one : (p q : PushParser) (l : List Token) (g h : List Event) → Pushe
 
   pub one_push_loads : (Full More : Type 0) (p q : PushLoader) (after later : List Document) (r s : Done)
       → PushesLoads Full old t before r p after
-      → PushesLoads More old t before s q later → OnePushLoads Full More now documents before r p after s q later
+      → PushesLoads More old t before s q later → OnePushLoads Full More now h.events documents before r p after s q later
   one_push_loads Full More p q after later r s x y = go (ended Full r p after x) (ended More s q later y)
     where
       n : ℕ
@@ -204,7 +205,7 @@ module _ (one : (p q : PushParser) (l : List Token) (g h : List Event) → Pushe
       bound : p.max_entries ≡ q.max_entries
       bound = x.bound ∙ sym y.bound
 
-      go : Ended Full r p after → Ended More s q later → OnePushLoads Full More now documents before r p after s q later
+      go : Ended Full r p after → Ended More s q later → OnePushLoads Full More now h.events documents before r p after s q later
       go (ran_out m) z = first_runs_out m
       go z (ran_out m) = second_runs_out m
       go (went a i j k l) (went b i' j' k' l') =

@@ -133,12 +133,15 @@ module _ (law : PushLaws) where
       )
 
   -- an event is refused
-  refused_so : (Full : Type 0) (n : ℕ) (tokens : List Token) (events later : List Event) (documents : List Document)
-      (here : State) (e : Event) (f : Fault)
-      → BeginsEachRun tokens (events ++ e ∷ later) → Leads n between events documents here → RefusesEvent Full n here e f
-      → StopsLoading Full n tokens documents f
-  refused_so Full n tokens events later documents here e f begins leads (by_loads h) = by_tokens so
+  refused_so : (Full : Type 0) (n : ℕ) (tokens : List Token) (given more later : List Event)
+      (documents : List Document) (here : State) (e : Event) (f : Fault)
+      → BeginsEachRun tokens ((given ++ more) ++ e ∷ later) → Leads n between (given ++ more) documents here
+      → RefusesEvent Full n here e f → StopsLoading Full n tokens given documents f
+  refused_so Full n tokens given more later documents here e f begins leads (by_loads h) = by_tokens so
     where
+      events : List Event
+      events = given ++ more
+
       so : (more : List Token) (source : Fault) → AreThen n (tokens ++ more) source documents (Err f)
       so more source =
           let (all, x, run) = some_run_proof (tokens ++ more) source in
@@ -151,24 +154,26 @@ module _ (law : PushLaws) where
                 (b.1 ∙ append_assoc events (e ∷ later) b.0) leads
                 ∙ ap (λ (l : List Load). as_loads documents ++ l) (h (later ++ b.0) x));
           }
-  refused_so Full n tokens events later documents here e f begins leads (no_memory is needs) =
+  refused_so Full n tokens given more later documents here e f begins leads (no_memory is needs) =
+      let events : List Event = given ++ more in
       let with_it : BeginsEachRun tokens (events ++ e ∷ []) = begins_front tokens (events ++ e ∷ []) later
       (subst (BeginsEachRun tokens) (sym (append_assoc events (e ∷ []) later)) begins) in
-      by_memory is events here (begins_front tokens events (e ∷ later) begins) leads (in_loader e with_it needs)
+      by_memory is more here (begins_front tokens events (e ∷ later) begins) leads (in_loader e with_it needs)
 
   -- the parser stopped
   any_room : (Room : Type 0) (w : Want) (c : Config) (u : Token) → NeedsMemory Room w c u → NeedsMemory (Unit {0}) w c u
   any_room Room w c u (for_step grows) = for_step grows
   any_room Room w c u (for_event e d is full) = for_event e d is tt
 
-  parser_stops : (Full Room : Type 0) (n : ℕ) (tokens : List Token) (events : List Event)
+  parser_stops : (Full Room : Type 0) (n : ℕ) (tokens : List Token) (given added : List Event)
       (documents : List Document) (here : State) (f : Fault)
-      → Leads n between events documents here → Stops Room tokens events f → StopsLoading Full n tokens documents f
-  parser_stops Full Room n tokens events documents here f leads (pushes.by_grammar failed runs)
-      = by_tokens (λ more source. are_then n (tokens ++ more) source events (Fails f) documents here
+      → Leads n between (given ++ added) documents here → Stops Room tokens (given ++ added) f
+      → StopsLoading Full n tokens given documents f
+  parser_stops Full Room n tokens given added documents here f leads (pushes.by_grammar failed runs)
+      = by_tokens (λ more source. are_then n (tokens ++ more) source (given ++ added) (Fails f) documents here
       (runs more source) leads)
-  parser_stops Full Room n tokens events documents here f leads (pushes.by_memory is w c u fed needs)
-      = by_memory is events here (law.in_hand w c u tokens events fed) leads
+  parser_stops Full Room n tokens given added documents here f leads (pushes.by_memory is w c u fed needs)
+      = by_memory is added here (law.in_hand w c u tokens (given ++ added) fed) leads
       (in_parser w c u fed (any_room Room w c u needs))
 
   -- the loader keeps no fault, and its parser was handed a token; the events that came were composed
@@ -287,11 +292,11 @@ module _ (law : PushLaws) where
         one = subst (λ (z : Done). comp.EndsSo Full old.max_entries (state_of old) given composes.added z new)
             is composes.ends_so
 
-        stops : has_stopped first ≡ false → (tokens : List Token) (l : List Document) → Loaded first tokens l
-            → StopsLoading Full new.max_entries (tokens ++ t ∷ []) (l ++ composes.added) (fault_of new.fault)
-        stops h tokens l k = subst (λ (n : ℕ). StopsLoading Full n (tokens ++ t ∷ []) (l ++ composes.added)
-            (fault_of new.fault)) (sym bound)
-            (refused_so Full old.max_entries (tokens ++ t ∷ []) (k.events ++ one.composed) one.later
+        stops : has_stopped first ≡ false → (tokens : List Token) (l : List Document) (k : Loaded first tokens l)
+            → StopsLoading Full new.max_entries (tokens ++ t ∷ []) k.events (l ++ composes.added) (fault_of new.fault)
+        stops h tokens l k = subst (λ (n : ℕ). StopsLoading Full n (tokens ++ t ∷ []) k.events
+            (l ++ composes.added) (fault_of new.fault)) (sym bound)
+            (refused_so Full old.max_entries (tokens ++ t ∷ []) k.events one.composed one.later
             (l ++ composes.added) one.here one.event (fault_of new.fault)
             (subst (BeginsEachRun (tokens ++ t ∷ []))
             (ap (λ (e : List Event). k.events ++ e) one.all
@@ -333,11 +338,11 @@ module _ (law : PushLaws) where
         never (inr (tokens, l, k)) h = differ (pushed.fault_in p) (pushed.keeps_fault p)
             (law.faultless p tokens k.events k.pushed) h
 
-        stops : has_stopped first ≡ false → (tokens : List Token) (l : List Document) → Loaded first tokens l
-            → StopsLoading Full new.max_entries (tokens ++ t ∷ []) (l ++ composes.added) (pushed.fault_in q)
-        stops h tokens l k = subst (λ (n : ℕ). StopsLoading Full n (tokens ++ t ∷ []) (l ++ composes.added)
-            (pushed.fault_in q)) (sym bound)
-            (parser_stops Full Room old.max_entries (tokens ++ t ∷ []) (k.events ++ given) (l ++ composes.added)
+        stops : has_stopped first ≡ false → (tokens : List Token) (l : List Document) (k : Loaded first tokens l)
+            → StopsLoading Full new.max_entries (tokens ++ t ∷ []) k.events (l ++ composes.added) (pushed.fault_in q)
+        stops h tokens l k = subst (λ (n : ℕ). StopsLoading Full n (tokens ++ t ∷ []) k.events
+            (l ++ composes.added) (pushed.fault_in q)) (sym bound)
+            (parser_stops Full Room old.max_entries (tokens ++ t ∷ []) k.events given (l ++ composes.added)
             (state_of new) (pushed.fault_in q)
             (from_start tokens l k given (state_of new) (all_led u is))
             (subst (λ (z : Done). pushes.EndsSo Room (tokens ++ t ∷ []) (k.events ++ given) z q) so

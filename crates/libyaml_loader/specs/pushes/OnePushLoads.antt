@@ -13,20 +13,20 @@ use Rattle.libyaml_loader.specs.pushes.Leads.{Leads}
 use Rattle.libyaml_loader.specs.pushes.Loaded.{PushLoader, fault_in}
 use Rattle.libyaml_loader.specs.pushes.PushesLoads.{LoadNeedsMemory}
 
--- An allocation failed: events that the tokens settle gave the documents and those that were added, and then memory
--- is needed.
-pub record PushLoadsRunOut (Full : Type 0) (tokens : List Token) (documents before : List Document) (r : Done)
-    (new : PushLoader) (after : List Document)
+-- An allocation failed: after the events that were given before, some more that the tokens settle gave the documents
+-- and those that were added, and then memory is needed.
+pub record PushLoadsRunOut (Full : Type 0) (tokens : List Token) (given : List Event) (documents before : List Document)
+    (r : Done) (new : PushLoader) (after : List Document)
     : Type 0 where
   pub error : r ≡ Err YAML_MEMORY_ERROR
   pub fault : fault_in new ≡ memory_fault
   pub added : List Document
   pub appended : after ≡ before ++ added
-  pub events : List Event
+  pub more : List Event
   pub here : State
-  pub begins : BeginsEachRun tokens events
-  pub leads : Leads new.max_entries between events (documents ++ added) here
-  pub needs : LoadNeedsMemory Full tokens events here
+  pub begins : BeginsEachRun tokens (given ++ more)
+  pub leads : Leads new.max_entries between (given ++ more) (documents ++ added) here
+  pub needs : LoadNeedsMemory Full tokens (given ++ more) here
 
 -- One result, the same documents and bound; without an error the same loader, and with one the same fault.
 pub record PushLoadsAlike (r : Done) (p : PushLoader) (after : List Document) (s : Done) (q : PushLoader)
@@ -37,11 +37,11 @@ pub record PushLoadsAlike (r : Done) (p : PushLoader) (after : List Document) (s
   pub behind_push : IfOk r (λ _. p ≡ q)
   pub behind_error : IfErr r (λ _. fault_in p ≡ fault_in q)
 
-pub data OnePushLoads (Full More : Type 0) (tokens : List Token) (documents before : List Document) (r : Done)
-    (p : PushLoader) (after : List Document)
+pub data OnePushLoads (Full More : Type 0) (tokens : List Token) (given : List Event) (documents before : List Document)
+    (r : Done) (p : PushLoader) (after : List Document)
     (s : Done) (q : PushLoader) (later : List Document) : Type 0 where
-  alike : PushLoadsAlike r p after s q later → OnePushLoads Full More tokens documents before r p after s q later
-  first_runs_out : PushLoadsRunOut Full tokens documents before r p after
-      → OnePushLoads Full More tokens documents before r p after s q later
-  second_runs_out : PushLoadsRunOut More tokens documents before s q later
-      → OnePushLoads Full More tokens documents before r p after s q later
+  alike : PushLoadsAlike r p after s q later → OnePushLoads Full More tokens given documents before r p after s q later
+  first_runs_out : PushLoadsRunOut Full tokens given documents before r p after
+      → OnePushLoads Full More tokens given documents before r p after s q later
+  second_runs_out : PushLoadsRunOut More tokens given documents before s q later
+      → OnePushLoads Full More tokens given documents before r p after s q later

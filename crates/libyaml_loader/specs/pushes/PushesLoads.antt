@@ -38,18 +38,20 @@ pub data LoadNeedsMemory (Full : Type 0) (tokens : List Token) (events : List Ev
       → LoadNeedsMemory Full tokens events here
 
 -- The loads of the tokens are these documents and then this fault, whatever comes after them. Or an allocation
--- failed: some events that the tokens settle have these documents, and then memory is needed.
-pub data StopsLoading (Full : Type 0) (n : ℕ) (tokens : List Token) (documents : List Document) (f : Fault) : Type 0 where
+-- failed: after the events that were given before, some more that the tokens settle have these documents, and then
+-- memory is needed.
+pub data StopsLoading (Full : Type 0) (n : ℕ) (tokens : List Token) (given : List Event) (documents : List Document)
+    (f : Fault) : Type 0 where
   by_tokens : ((more : List Token) (source : Fault) → AreThen n (tokens ++ more) source documents (Err f))
-      → StopsLoading Full n tokens documents f
-  by_memory : f ≡ memory_fault → (events : List Event) (here : State) → BeginsEachRun tokens events
-      → Leads n between events documents here
-      → LoadNeedsMemory Full tokens events here → StopsLoading Full n tokens documents f
+      → StopsLoading Full n tokens given documents f
+  by_memory : f ≡ memory_fault → (more : List Event) (here : State) → BeginsEachRun tokens (given ++ more)
+      → Leads n between (given ++ more) documents here
+      → LoadNeedsMemory Full tokens (given ++ more) here → StopsLoading Full n tokens given documents f
 
--- after these tokens and documents a push ended so, and left this
-abbrev pub LoadEndsSo : (Full : Type 0) → List Token → List Document → Done → PushLoader → Type 0
-LoadEndsSo Full tokens documents (Ok u) new = Loaded new tokens documents
-LoadEndsSo Full tokens documents (Err x) new = StopsLoading Full new.max_entries tokens documents (fault_in new)
+-- after these tokens, the events given before the last of them, and these documents a push ended so, and left this
+abbrev pub LoadEndsSo : (Full : Type 0) → List Token → (given : List Event) → List Document → Done → PushLoader → Type 0
+LoadEndsSo Full tokens given documents (Ok u) new = Loaded new tokens documents
+LoadEndsSo Full tokens given documents (Err x) new = StopsLoading Full new.max_entries tokens given documents (fault_in new)
 
 -- The token was taken: the documents that ended with it were added to those before, and the push ended so. Full
 -- says that the list of documents had no room for one.
@@ -58,7 +60,8 @@ pub record TakesLoads (Full : Type 0) (old : PushLoader) (t : Token) (before : L
     : Type 0 where
   pub added : List Document
   pub appended : after ≡ before ++ added
-  pub ends_so : ForLoaded old (λ tokens documents. LoadEndsSo Full (tokens ++ t ∷ []) (documents ++ added) r new)
+  pub ends_so : (tokens : List Token) (documents : List Document) → (l : Loaded old tokens documents)
+      → LoadEndsSo Full (tokens ++ t ∷ []) l.events (documents ++ added) r new
 
 -- A push of the token t, with these documents in the list before and after it.
 pub record PushesLoads (Full : Type 0) (old : PushLoader) (t : Token) (before : List Document) (r : Done)
