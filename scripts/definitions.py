@@ -2,10 +2,12 @@
 """Counts the lines of definitions that the headline's clauses of the two whole runs cite, directly or through one another.
 
     python3 scripts/definitions.py            prints the table of docs/HEADLINE.md
-    python3 scripts/definitions.py --check    fails where the page says something else
+    python3 scripts/definitions.py --check    fails where the page says something else, or a page names what is not there
     python3 scripts/definitions.py --write    puts the table into the page
 
 A definition is what stands in a file of `specs/` from one name at the left edge to the next, with the comment above it.
+A name in backticks in a heading of docs/DEFINITIONS.md has to be a definition, a file of `specs/` or a module; one on any
+page or README has to be a word of the repository's files, but for those of OUTSIDE. CHANGELOG names what is gone, too.
 """
 import re
 import sys
@@ -14,6 +16,12 @@ from pathlib import Path
 ROOT = Path(__file__).resolve().parent.parent
 PAGE = ROOT / "docs" / "HEADLINE.md"
 RUNS = [("parse_all", "yaml_parser_parse_all"), ("load_all", "yaml_parser_load_all")]
+PAGES = [*ROOT.glob("docs/*.md"), ROOT / "README.md", ROOT / "CONTRIBUTING.md", *ROOT.glob("crates/*/README.md")]
+FOLDERS = ["crates", "scripts", "examples", "bench"]
+TEXTS = [".rt", ".antt", ".edit", ".py", ".sh", ".c", ".h", ".rs", ".txt", ""]
+# Names of other software, of the prover, and of what a reader makes.
+OUTSIDE = {"dac8208d650f15bf", "malloc_consolidate", "my_program", "yaml_buffer_t", "yaml_queue_t", "yaml_stack_t"}
+NAME = re.compile(r"`([A-Za-z_]\w*(?:(?:::|\.)\w+)*)`")
 WORD = re.compile(r"[^\s(){}\[\],;]+")
 USE = re.compile(r"^(?:ghost |pub )*use (Rattle\.[\w.]+?)(?:\.\{(.*)\})?(?: as (\w+))?;?$")
 HEAD = re.compile(r"^(?:(?:abbrev|unfoldable|pub|infix\w*) )*(?:(?:record|data) )?(mutual|[^\s:{(]+)")
@@ -115,6 +123,28 @@ def table():
     return "\n".join(rows) + "\n"
 
 
+def all_words():
+    """The words of the repository's files, but pages, and of their names."""
+    folders = [path for name in FOLDERS for path in (ROOT / name).glob("**/*") if "out" not in path.parts]
+    paths = folders + [*ROOT.glob("*")]
+    texts = [path.read_text(errors="ignore") for path in paths if path.is_file() and path.suffix in TEXTS]
+    return set(re.findall(r"\w+", "\n".join([*texts, *(str(path.relative_to(ROOT)) for path in paths)])))
+
+
+def unknown_names():
+    """The names in backticks that nothing has, each with its page."""
+    files, words = read_specs(), all_words()
+    defined = {name for module, file in files.items() for name in [*file.names, *module.split(".")]}
+    defined |= {path.stem for path in [*ROOT.glob("crates/*"), *ROOT.glob("crates/*/src/**/*.rt")]}
+    for page in PAGES:
+        text = re.sub(r"^```.*?^```", "", page.read_text(), flags=re.M | re.S)
+        for line in text.splitlines():
+            known = defined if page.name == "DEFINITIONS.md" and line.startswith("#") else words | OUTSIDE
+            for name in NAME.findall(line):
+                if not known.issuperset(re.split(r"::|\.", name)):
+                    yield f"{page.relative_to(ROOT)}: nothing is named `{name}`"
+
+
 def main():
     counted, page = table(), PAGE.read_text()
     shown = re.search(r"\| contract \| lines.*?\n\n|<!-- counted -->\n\n", page, re.DOTALL)
@@ -122,6 +152,9 @@ def main():
         PAGE.write_text(page[: shown.start()] + counted + "\n" + page[shown.end() :])
     elif "--check" in sys.argv and shown.group().strip() != counted.strip():
         sys.exit("docs/HEADLINE.md is stale: run python3 scripts/definitions.py --write")
+    elif "--check" in sys.argv:
+        if unknown := list(unknown_names()):
+            sys.exit("\n".join(unknown))
     else:
         print(counted, end="")
 

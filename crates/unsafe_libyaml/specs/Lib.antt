@@ -83,7 +83,9 @@ pub use Rattle.libyaml_loader.specs.document.Context
 pub use Rattle.libyaml_loader.specs.loads.Loading
 pub use Rattle.libyaml_loader.specs.loads.LoadsInTurn
 pub use Rattle.libyaml_loader.specs.loads.NextLoad
+pub use Rattle.libyaml_loader.specs.loads.OneLoad
 pub use Rattle.libyaml_loader.specs.pushes.Leads
 pub use Rattle.libyaml_loader.specs.pushes.Composing
 pub use Rattle.libyaml_loader.specs.pushes.Loaded
+pub use Rattle.libyaml_loader.specs.pushes.OnePushLoads
 pub use Rattle.libyaml_loader.specs.pushes.PushesLoads
