@@ -20,7 +20,7 @@ trap 'rm -rf "$work"' EXIT
 python=${PYTHON:-/usr/bin/python3}
 ruby=${RUBY:-ruby}
 crates=$(realpath "${CLIENT_CRATES:-/usr/share/cargo/registry}")
-export PYTHONDONTWRITEBYTECODE=1 POKHVIZI_LIBRARY="$dir/libtoken_steps.so" POKHVIZI_DIR="$dir"
+export PYTHONDONTWRITEBYTECODE=1 POKHVIZI_LIBRARY="$dir/libpokhvizi.so" POKHVIZI_DIR="$dir"
 export CARGO_TARGET_DIR="$work/target" CARGO_HOME="$work/cargo" RUSTFLAGS="--cap-lints allow"
 
 while [ "$(cat "$work/text.yaml" 2> /dev/null | wc -c)" -lt 350000 ]; do
@@ -31,7 +31,7 @@ done
 mkdir -p "$CARGO_HOME"
 printf '[source.crates-io]\nreplace-with = "debian"\n[source.debian]\ndirectory = "%s"\n[net]\noffline = true\n' "$crates" \
     > "$CARGO_HOME/config.toml"
-cp -R examples/unsafe_libyaml "$work/unsafe_libyaml"
+cp -R bindings/rust "$work/unsafe_libyaml"
 rm -rf "$work/unsafe_libyaml/original"
 ln -s "$crates/unsafe-libyaml-0.2.11" "$work/unsafe_libyaml/original"
 for how in plain proved; do
@@ -49,8 +49,9 @@ cmp "$work/plain.events" "$work/proved.events"
 runner=$CARGO_TARGET_DIR/release/runner
 "$python" bench/paired.py "$turns" "unsafe-libyaml's runner" "${runner}_proved $work/text.yaml" "${runner}_plain $work/text.yaml"
 
-cc -O2 -shared -fPIC -fvisibility=hidden -Wl,--exclude-libs,ALL -o "$work/libyaml_preload.so" examples/libyaml_preload.c \
-    "$dir/libtoken_steps.a" -lyaml
+cc -O2 -shared -fPIC -fvisibility=hidden -Wl,--exclude-libs,ALL -Ibindings/c/include \
+    -o "$work/libyaml_preload.so" bindings/c/libyaml_preload.c \
+    "$dir/libpokhvizi.a" -lyaml
 find / -xdev \( -path /proc -o -path /tmp -o -path /sys \) -prune -o -type f \( -name '*.yaml' -o -name '*.yml' \) \
     -size -1000k -print 2> /dev/null | sort | head -n "${SAMPLE:-2000}" > "$work/files"
 cat > "$work/psych.rb" << 'RUBY'
@@ -71,11 +72,12 @@ done > "$work/text_again"
 
 cat > "$work/load.py" << 'PYTHON'
 import sys
-from proved_yaml import ProvedSafeLoader, yaml
+import yaml
+from pokhvizi import SafeLoader
 with open(sys.argv[2]) as text:
-    count = sum(1 for _ in yaml.load_all(text, Loader=ProvedSafeLoader if sys.argv[1] == "proved" else yaml.SafeLoader))
+    count = sum(1 for _ in yaml.load_all(text, Loader=SafeLoader if sys.argv[1] == "proved" else yaml.SafeLoader))
 assert count > 600
 PYTHON
-cp examples/proved_yaml.py "$work"
+cp -R bindings/python/src/pokhvizi "$work"
 "$python" bench/paired.py "$(((turns + 2) / 3))" "PyYAML's loader in Python" "$python $work/load.py proved $work/text.yaml" \
     "$python $work/load.py plain $work/text.yaml"

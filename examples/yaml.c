@@ -1,6 +1,6 @@
 /* The tokens, the events or the nodes of a YAML file, as lines: libyaml's scanner (Debian: libyaml-dev), and then our
  * static library. `scripts/build_c.sh DIR` builds it; USAGE below says how it is called. */
-#include "token_lines.h"
+#include <pokhvizi/lines.h>
 #include <errno.h>
 #include <signal.h>
 #include <stdio.h>
@@ -265,7 +265,7 @@ static uint32_t run_whole(run_t *run, const struct text *tokens, struct text *ou
     do {
         out->length = 0;
         if (!reserve(out, wanted))
-            return TOKEN_LINES_NO_MEMORY;
+            return POKHVIZI_LINES_NO_MEMORY;
         uint32_t outcome = run(tokens->bytes, tokens->length, out->bytes, out->room, UINT64_MAX, &out->length, &wanted);
         if (out->length == wanted)
             return outcome;
@@ -333,10 +333,10 @@ static int write_lines(run_t *run, const char *name, struct scan *made, struct t
 
     if (run != NULL) {
         uint32_t ended = run_whole(run, &made->tokens, out);
-        if (ended == TOKEN_LINES_NO_MEMORY)
+        if (ended == POKHVIZI_LINES_NO_MEMORY)
             return out_of_memory();
         tell_fault(out, made);
-        outcome = ended == TOKEN_LINES_ENDED ? ENDED : FAULTED;
+        outcome = ended == POKHVIZI_LINES_ENDED ? ENDED : FAULTED;
         lines = fault = out;
     }
     if (out->failed || (outcome != ENDED && !reserve(fault, 1)))
@@ -393,9 +393,9 @@ int main(int count, char **words)
     if (count == 3 && strcmp(words[1], "tokens") == 0)
         return show(NULL, words[2]);
     if (count == 3 && strcmp(words[1], "events") == 0)
-        return show(token_lines_run_events, words[2]);
+        return show(pokhvizi_event_lines, words[2]);
     if (count == 3 && strcmp(words[1], "nodes") == 0)
-        return show(token_lines_run_nodes, words[2]);
+        return show(pokhvizi_node_lines, words[2]);
     fputs(USAGE, stderr);
     return WRONG_WORDS;
 }

@@ -74,7 +74,7 @@ work=$(mktemp -d) || exit 2
 trap 'rm -rf "$work"' EXIT
 shim=$work/fail_allocation.so
 errors=$work/errors
-cc -O2 -fPIC -shared -o "$shim" scripts/fail_allocation.c || exit 2
+cc -O2 -fPIC -shared -o "$shim" scripts/doors/fail_allocation.c || exit 2
 for crate in "$@"; do
     [ -x "$root/crates/$crate/out/$crate" ] || { echo "$crate is not built" >&2; exit 2; }
 done

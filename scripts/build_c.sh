@@ -1,35 +1,47 @@
 #!/bin/sh
-# Builds into DIR what a user in C or Python links, and the front program over it:
+# Builds into DIR what a user in C, Python or Rust links, and the front program over it:
 #
-#     sh scripts/build_c.sh DIR [ci]
+#     sh scripts/build_c.sh DIR [ci] [aarch64]
 #
-#     libtoken_lines.a     the runs over lines and the toolchain's allocator in one object, whose only global names are the
-#                          two runs
-#     libtoken_lines.so    the same as a shared library, which has that name in the programs that are linked to it
-#     librecords.a         likewise the run over records
-#     librecords.so
-#     libtoken_steps.a     the steps, without an allocator
-#     libtoken_steps.so
-#     yaml                 examples/yaml.c over the first; CFLAGS are taken from the environment
+#     libpokhvizi.a        one object a header of bindings/c/include/pokhvizi: steps.o, documents.o and lines.o, each with the
+#                          toolchain's allocator where it allocates, whose only global names are those of its header
+#     libpokhvizi.so       the same as a shared library, libpokhvizi.so.N: N rises when a struct or a function changes
+#     NAME_module.o        the objects that the prover's compiler wrote, of which NAME.o is made
+#     yaml                 examples/yaml.c over libpokhvizi.a; CFLAGS are taken from the environment
 #
-# The libraries run on any x86-64 processor.
+# They run on any x86-64 processor. With the word `aarch64` the libraries are made for that machine, over what was proved for the
+# first, with Debian's gcc-aarch64-linux-gnu; `yaml` is not.
 #
 # Needs the kit, a C compiler, binutils, and Debian's libyaml-dev. The first run proves the crates below, which takes many
 # minutes and is told in DIR/rt_lib.log. With the word `ci`, right after `rt ci` in a fresh checkout, the libraries that it
 # left are taken as they are.
 set -eu
-[ $# -eq 1 ] || [ "$#$2" = 2ci ] || { echo "usage: sh scripts/build_c.sh DIR [ci]" >&2; exit 2; }
-after=${2:-}
-mkdir -p "$1"
-dir=$(cd "$1" && pwd)
+usage='usage: sh scripts/build_c.sh DIR [ci] [aarch64]'
+case ${1-} in '' | -*) echo "$usage" >&2; exit 2 ;; esac
+dir=$1 after='' machine=x86_64
+shift
+for word; do
+    case $word in
+    ci) after=ci ;;
+    aarch64) machine=aarch64 ;;
+    *) echo "$usage" >&2; exit 2 ;;
+    esac
+done
+command -v rt > /dev/null || { echo "build_c.sh: the kit's rt is not in the path" >&2; exit 2; }
+mkdir -p "$dir"
+dir=$(cd "$dir" && pwd)
 cd "$(dirname "$0")/.."
 top=$PWD
 kit=$(dirname "$(rt doc)")
-cc=${CC:-cc}
+abi=$(cat bindings/c/ABI_VERSION)
+case $machine in
+x86_64) cc=${CC:-cc} tools='' for_machine='--cpu x86-64' ;;
+aarch64) cc=aarch64-linux-gnu-gcc tools=aarch64-linux-gnu- for_machine='--target aarch64-unknown-linux-gnu' ;;
+esac
 : > "$dir/rt_lib.log"
 
-# Builds a crate over the libraries that `rt ci` left: `rt lib` would prove each of these again.
-build_over_ci() {
+# Builds a crate over the kept libraries, which `rt lib` would prove again in a fresh checkout.
+build_over_kept() {
     name=$(basename "$PWD")
     below=$(sed -n "s/^$name staticlib: *//p" "$top/crates.txt")
     set -- --extern "std=$kit/rlibs/std.rlib" -L "dependency=$kit/rlibs"
@@ -43,47 +55,66 @@ build_over_ci() {
     done
     mkdir -p out
     "$kit/bin/rattle" build --crate-name "$name" src/lib.rt "$@" --antt-project "$kit/rattle/logic/antt-project.json" \
-        --logic-built "$kit/logic_built" --jobs 1 --links "$name=" --crate-type staticlib --cpu x86-64 \
-        --toolchain "$kit/toolchain" --backend llvm -o "out/lib$name.a"
+        --logic-built "$kit/logic_built" --jobs 1 --links "$name=" --crate-type staticlib $for_machine \
+        --toolchain "$kit/toolchain" --backend llvm -o "$archive"
 }
 
-# Makes libNAME.a and libNAME.so of the crate NAME_c, which stands on the crate NAME, and of an archive beside it, if any: they
-# hand out these names alone.
-build_library() {
-    name=$1
-    beside=$2
-    shift 2
+# Makes NAME.o of a crate, and of an allocator, if any: its only global names are these.
+build_door() {
+    door=$1 crate=$2 allocator=$3
+    shift 3
     wanted=$(printf '%s\n' "$@" | sort)
-    how='rt lib --cpu x86-64'
-    if [ "$after" = ci ] && [ ! -e "crates/$name/out/rlib/stamp" ]; then
-        how=build_over_ci
+    archive=$dir/lib$crate.a
+    echo "building $door of crates/$crate; what it says goes to $dir/rt_lib.log"
+    if [ $machine = x86_64 ] && [ -z "$after" ]; then
+        (cd "crates/$crate" && rt lib $for_machine) >> "$dir/rt_lib.log" 2>&1 || { tail -n 5 "$dir/rt_lib.log" >&2; exit 1; }
+        cp "crates/$crate/out/lib$crate.a" "$archive"
+    else
+        (cd "crates/$crate" && build_over_kept) >> "$dir/rt_lib.log" 2>&1 || { tail -n 5 "$dir/rt_lib.log" >&2; exit 1; }
     fi
-    echo "building crates/${name}_c ($how); what it says goes to $dir/rt_lib.log"
-    (cd "crates/${name}_c" && $how >> "$dir/rt_lib.log" 2>&1) || { tail -5 "$dir/rt_lib.log" >&2; exit 1; }
-    ld -r -o "$dir/$name.o" --whole-archive "crates/${name}_c/out/lib${name}_c.a" $beside
-    for run in $wanted; do
-        set -- "$@" "--keep-global-symbol=$run"
+    (cd "$dir" && "${tools}ar" x "$archive" && mv "$crate.o" "${door}_module.o")
+    rm -f "$archive"
+    "${tools}ld" -r -o "$dir/$door.o" "$dir/${door}_module.o" $allocator
+    for name in $wanted; do
+        set -- "$@" "--keep-global-symbol=$name"
         shift
     done
-    objcopy "$@" "$dir/$name.o"
-    rm -f "$dir/lib$name.a"
-    ar rcs "$dir/lib$name.a" "$dir/$name.o"
-    "$cc" -shared -Wl,-soname,"lib$name.so" -o "$dir/lib$name.so" "$dir/$name.o"
-    static=$(nm -g --defined-only "$dir/lib$name.a" | awk 'NF == 3 { print $3 }' | sort)
-    shared=$(nm -D --defined-only "$dir/lib$name.so" | awk 'NF == 3 { print $3 }' | sort)
-    if [ "$static" != "$wanted" ] || [ "$shared" != "$wanted" ]; then
-        printf 'other names are exported:\n%s\n%s\n' "$static" "$shared" >&2
-        exit 1
-    fi
+    "${tools}objcopy" "$@" "$dir/$door.o"
+    made=$("${tools}nm" -g --defined-only "$dir/$door.o" | awk 'NF == 3 { print $3 }' | sort)
+    [ "$made" = "$wanted" ] || { printf 'other names are exported:\n%s\n' "$made" >&2; exit 1; }
 }
 
-allocator=$kit/c/liblibc_c.a
-build_library token_lines "$allocator" token_lines_run_events token_lines_run_nodes
-build_library records "$allocator" pokhvizi_documents
-build_library token_steps '' pokhvizi_directive_fact pokhvizi_step pokhvizi_steps_new pokhvizi_tag pokhvizi_version_fact
-if nm -u "$dir/libtoken_steps.a" | grep -v ':$' | grep -v -w -E 'U (memcmp|memcpy|memmove|memset)' | grep .; then
+# The names that a header declares.
+names_of() {
+    sed -n 's/^[a-z].*\b\(pokhvizi_[a-z_]*\)(.*/\1/p' "bindings/c/include/pokhvizi/$1.h" | grep -v -x pokhvizi_problem | sort -u
+}
+
+case $machine in
+x86_64) allocator="--whole-archive $kit/c/liblibc_c.a" ;;
+aarch64)
+    "$cc" -O2 -fPIC -Wall -Wextra -c -o "$dir/heap.o" bindings/llvm/heap.c
+    allocator=$dir/heap.o
+    ;;
+esac
+build_door steps token_steps_c '' $(names_of steps)
+build_door documents records_c "$allocator" $(names_of documents)
+build_door lines token_lines_c "$allocator" $(names_of lines)
+if "${tools}nm" -u "$dir/steps.o" | grep -v -w -E 'U (memcmp|memcpy|memmove|memset)' | grep .; then
     echo "the steps need more than memory in place" >&2
     exit 1
 fi
 
-"$cc" ${CFLAGS:--O2 -Wall -Wextra} examples/yaml.c "$dir/libtoken_lines.a" -lyaml -o "$dir/yaml"
+cd "$dir"
+rm -f libpokhvizi.a libpokhvizi.so*
+"${tools}ar" rcsD libpokhvizi.a steps.o documents.o lines.o
+names=$(cd "$top" && for door in steps documents lines; do names_of $door; done | sort)
+{ echo "POKHVIZI_$abi {"; echo "global:"; printf '%s;\n' $names; echo "local: *; };"; } > pokhvizi.map
+"$cc" -shared -nostartfiles -Wl,-soname,"libpokhvizi.so.$abi" -Wl,--version-script,pokhvizi.map -Wl,-z,relro,-z,now,-z,noexecstack \
+    -Wl,--gc-sections -Wl,--build-id=sha1 -Wl,-z,defs -o "libpokhvizi.so.$abi" steps.o documents.o lines.o
+"${tools}strip" --strip-unneeded "libpokhvizi.so.$abi"
+ln -s "libpokhvizi.so.$abi" libpokhvizi.so
+shared=$("${tools}nm" -D --defined-only libpokhvizi.so | awk 'NF == 3 && $2 == "T" { sub(/@.*/, "", $3); print $3 }' | sort)
+[ "$shared" = "$names" ] || { printf 'other names are exported:\n%s\n' "$shared" >&2; exit 1; }
+
+cd "$top"
+[ $machine != x86_64 ] || "$cc" ${CFLAGS:--O2 -Wall -Wextra} -Ibindings/c/include examples/yaml.c "$dir/libpokhvizi.a" -lyaml -o "$dir/yaml"

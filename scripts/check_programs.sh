@@ -68,13 +68,13 @@ check() {
 
 # Runs the checks of clients.sh, which are passed, failed or skipped there.
 check_clients() {
-    if ! is_there "$libraries/libtoken_steps.so"; then
-        echo "skipped: clients.sh, which lacks c/libtoken_steps.so"
+    if ! is_there "$libraries/libpokhvizi.so"; then
+        echo "skipped: clients.sh, which lacks c/libpokhvizi.so"
         skipped=$((skipped + 1))
         return
     fi
     begun=$(date +%s)
-    timeout 3600 sh scripts/clients.sh "$libraries" > "$work/said" 2>&1
+    timeout 3600 sh scripts/doors/clients.sh "$libraries" > "$work/said" 2>&1
     grep -E '^(passed|failed|skipped): ' "$work/said"
     if counts=$(tail -n 1 "$work/said" | grep -E '^[0-9]+ passed, [0-9]+ failed(, [0-9]+ skipped)?$'); then
         case $counts in *", 0 failed"*) ;; *) tail -n 100 "$work/said" ;; esac
@@ -91,7 +91,7 @@ check_clients() {
 yamltokens=crates/yamltokens/out/yamltokens
 libraries=$work/c
 yaml=$libraries/yaml
-front="python3 examples/yaml.py"
+front="python3 examples/yaml_lines.py"
 lists=2000
 [ -z "$all" ] || lists=100000
 
@@ -110,11 +110,11 @@ check differential python3 cc yaml.h $yamltokens -- env JOBS=4 sh scripts/differ
 check libraries_for_c rt cc ld objcopy ar nm yaml.h -- sh scripts/build_c.sh "$libraries" $ci
 check faults_of_yaml.c PyYAML "$yaml" -- python3 scripts/compare_faults.py "$yaml"
 check fronts PyYAML $yamltokens "$yaml" -- python3 scripts/compare_fronts.py "$yaml"
-check python PyYAML timeout truncate $yamltokens "$yaml" -- sh scripts/python_checks.sh $yamltokens "$libraries/libtoken_lines.so"
-check c cc c++ readelf valgrind yaml.h "$yaml" -- sh scripts/c_checks.sh "$libraries"
-check records cc c++ python3 readelf valgrind yaml.h "$libraries/librecords.a" -- sh scripts/records_checks.sh "$libraries"
-check steps cc c++ python3 readelf valgrind yaml.h "$libraries/libtoken_steps.a" -- sh scripts/steps_checks.sh "$libraries"
-check any_processor qemu-x86_64 cc yaml.h "$libraries/libtoken_steps.a" -- sh scripts/any_processor.sh "$libraries"
+check python PyYAML timeout truncate $yamltokens "$yaml" -- sh scripts/doors/python_checks.sh $yamltokens "$libraries/libpokhvizi.so"
+check c cc c++ readelf valgrind yaml.h "$yaml" -- sh scripts/doors/lines_checks.sh "$libraries"
+check records cc c++ python3 readelf valgrind yaml.h "$libraries/libpokhvizi.a" -- sh scripts/doors/documents_checks.sh "$libraries"
+check steps cc c++ python3 readelf valgrind yaml.h "$libraries/libpokhvizi.a" -- sh scripts/doors/steps_checks.sh "$libraries"
+check any_processor qemu-x86_64 cc yaml.h "$libraries/libpokhvizi.a" -- sh scripts/doors/any_processor.sh "$libraries"
 if [ -n "$all" ]; then
     check_clients
 fi

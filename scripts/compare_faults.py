@@ -3,7 +3,7 @@
 
     python3 scripts/compare_faults.py [--write] FRONT..
 
-FRONT is the command of a front, as `python3 examples/yaml.py` or a built `examples/yaml.c`; it is called with `nodes` and
+FRONT is the command of a front, as `python3 examples/yaml_lines.py` or a built `examples/yaml.c`; it is called with `nodes` and
 each file of `scripts/broken`. What stands in NAME.fault is expected of it. libyaml (through PyYAML's CLoader) and PyYAML
 itself parse the same text; where one of them says something else, `scripts/broken/differences` names that with the reason,
 one line each: NAME SIDE REASON. The exit status is 1 where a fault is another than expected, a difference is not named, a

@@ -3,7 +3,7 @@
 
     python3 scripts/compare_fronts.py YAML [WORD..]
 
-YAML is a built `examples/yaml.c`; the words go to `examples/yaml.py` where it writes events or nodes (`--program PATH`). The
+YAML is a built `examples/yaml.c`; the words go to `examples/yaml_lines.py` where it writes events or nodes (`--program PATH`). The
 texts are those of `scripts/broken`, of `scripts/whole`, none of which ends with a line feed, and the examples; each is written
 as tokens, as events and as nodes. The exit status is 1 where the two differ.
 """
@@ -27,12 +27,12 @@ def run(words):
 def difference(mode, path, program, words):
     """What differs between the two programs, if anything."""
     status, output = run([program, mode, path])
-    other_status, other = run([sys.executable, TOP / "examples" / "yaml.py", mode, path, *(words if mode != "tokens" else [])])
+    other_status, other = run([sys.executable, TOP / "examples" / "yaml_lines.py", mode, path, *(words if mode != "tokens" else [])])
     if status != other_status:
-        return f"{path.name} {mode}: yaml has status {status}, yaml.py {other_status}"
+        return f"{path.name} {mode}: yaml has status {status}, yaml_lines.py {other_status}"
     pairs = zip([*output.split(b"\n"), None], [*other.split(b"\n"), None])
     number, line, other_line = next(((n, *pair) for n, pair in enumerate(pairs, 1) if pair[0] != pair[1]), (0, None, None))
-    return f"{path.name} {mode}: line {number}: yaml says {line}, yaml.py {other_line}" if number else None
+    return f"{path.name} {mode}: line {number}: yaml says {line}, yaml_lines.py {other_line}" if number else None
 
 
 def main():

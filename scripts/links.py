@@ -8,7 +8,7 @@
 - a line "Stands on" of a crate's README, that is not as crates.txt has it;
 - an edit that WRONG_BODIES lists and no crate has, or the other way round;
 - a script that CONTRIBUTING doesn't list;
-- another version than that of the file VERSION, in CHANGELOG's first entry or in the macro of examples/token_lines.h.
+- another version than that of the file VERSION, in CHANGELOG's first entry or in the macro of bindings/c/include/pokhvizi/lines.h.
 
     python3 scripts/links.py
 """
@@ -128,7 +128,7 @@ def unlisted_scripts():
 
 def other_versions():
     version = (TOP / "VERSION").read_text().strip()
-    for name, form in [("CHANGELOG.md", r"^## (.*)$"), ("examples/token_lines.h", r'^#define TOKEN_LINES_VERSION "(.*)"$')]:
+    for name, form in [("CHANGELOG.md", r"^## (.*)$"), ("bindings/c/include/pokhvizi/lines.h", r'^#define TOKEN_LINES_VERSION "(.*)"$')]:
         shown = re.search(form, (TOP / name).read_text(), flags=re.M)
         if shown is None or shown[1] != version:
             yield f"{name}: the version is {shown and shown[1]}, and VERSION says {version}"

@@ -1,6 +1,6 @@
 //! The run over records, for C: token records in, document records out.
 //!
-//! `examples/pokhvizi/documents.h` declares the export, and says what a caller owes.
+//! `bindings/c/include/pokhvizi/documents.h` declares the export, and says what a caller owes.
 #![tactic(auto)]
 
 ghost use Rattle.records.specs.Buffers.{lists};

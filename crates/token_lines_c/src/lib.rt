@@ -1,6 +1,6 @@
 //! Runs over memory, for C: token lines in, event lines or node lines out.
 //!
-//! `examples/token_lines.h` declares the exports, and says what a caller owes.
+//! `bindings/c/include/pokhvizi/lines.h` declares the exports, and says what a caller owes.
 #![tactic(auto)]
 
 ghost use Rattle.std.specs.Prelude.{◌≡◌};
@@ -13,7 +13,7 @@ use token_lines::memory::{events_in_memory, memory_outcome_t, nodes_in_memory};
 /// Does what `events_in_memory` does, and returns its outcome: 0 where the run ended, 1 where it had a
 /// fault, 2 where an allocation failed. `written` and `wanted` are set on each return.
 #[unsafe(no_mangle)]
-pub extern "C" fn token_lines_run_events(
+pub extern "C" fn pokhvizi_event_lines(
     alloc: Global,
     tokens: &[u8],
     out: &mut [u8],
@@ -31,7 +31,7 @@ pub extern "C" fn token_lines_run_events(
 
 /// Does what `nodes_in_memory` does, and returns its outcome in the same way.
 #[unsafe(no_mangle)]
-pub extern "C" fn token_lines_run_nodes(
+pub extern "C" fn pokhvizi_node_lines(
     alloc: Global,
     tokens: &[u8],
     out: &mut [u8],

@@ -1,4 +1,4 @@
-//! The calls of `token_steps` for C. `examples/steps.h` declares them, and says what a caller does.
+//! The calls of `token_steps` for C. `bindings/c/include/pokhvizi/steps.h` declares them, and says what a caller does.
 #![tactic(auto)]
 
 mod tags;

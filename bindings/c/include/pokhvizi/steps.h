@@ -1,0 +1,155 @@
+/* YAML events of a scanner's tokens, one at a time: a token goes in, and at most one event comes out.
+ *
+ * The scanner, all memory and all texts are the caller's. A call takes a token's kind and marks, and puts an event's kind,
+ * flags and marks; no text is read or copied. The library allocates nothing and keeps nothing outside of the structs below,
+ * so any number of threads may each parse a stream. Numbers and marks are libyaml's (yaml_token_type_t, yaml_event_type_t,
+ * yaml_mark_t), so that they may be cast. examples/events.c is a whole program, with a loop of 40 lines.
+ *
+ *     pokhvizi_steps_new(&steps);                       and the first token
+ *     did = pokhvizi_step(&steps, states, states_room, marks, marks_room, kind, fact, &span, &event, &fault);
+ *
+ *     POKHVIZI_WANTS         no event yet                call again with the next token
+ *     POKHVIZI_GAVE          `event` is set              call again with the next token; after STREAM-END (kind 2) stop
+ *     POKHVIZI_STAYS         `event` is set              call again with the same token
+ *     POKHVIZI_FULL_STATES   nothing was done            make `states` larger, call again with the same token
+ *     POKHVIZI_FULL_MARKS    nothing was done            make `marks` larger, call again with the same token
+ *     POKHVIZI_FAULT         `fault` is set              stop: the tokens are no YAML stream
+ *     POKHVIZI_BAD           nothing was done            stop: `steps` counts more than `states_room` or `marks_room`
+ *
+ * `states` and `marks` are stacks in the caller's memory: one entry each for a collection that is open, and a few more. What
+ * stands in them before the first call doesn't matter; to make them larger, move their bytes, as by realloc.
+ *
+ * Facts. What a call has to know of a token's texts is one number, `fact`:
+ *
+ *     VERSION-DIRECTIVE (3)   pokhvizi_version_fact: 1 where the version is accepted, which 1.1 and 1.2 are
+ *     TAG-DIRECTIVE (4)       pokhvizi_directive_fact: 1 where the document has declared the handle before
+ *     TAG (20)                pokhvizi_tag: 1 where the tag in full is empty, 2 where it is "!", 3 for any other, 4 where its
+ *                             handle isn't declared
+ *     SCALAR (21)             1 where it is plain, else 0
+ *     any other               not looked at
+ *
+ * Texts of an event. An ALIAS (kind 5) has the text of its token. A SCALAR (6) has the text and style of the token in hand;
+ * where the token stays, its text is empty and it is plain. A node with `has_anchor` or `has_tag` has the texts of the ANCHOR
+ * and TAG tokens since the last event. A DOCUMENT-START (3) has the directives since the last event, and their handles last
+ * until the document's DOCUMENT-END (4). So between two events nothing is held but the document's handles, and a parse may
+ * be given up at any time. Keep the token in hand until its event has been used.
+ *
+ * Any bytes may stand in the structs, and `kind` and `fact` may be any numbers: then the events are wrong, and nothing else
+ * happens. What the library does is proved. That the caller keeps to this is not: no pointer is null, also where its length
+ * is 0; each array has as many entries as the length after it says; none of them overlap. */
+#ifndef POKHVIZI_STEPS_H
+#define POKHVIZI_STEPS_H
+#include "version.h"
+
+#ifdef __cplusplus
+extern "C" {
+#endif
+
+/* The start and the end of a token, neighbours as in a yaml_token_t. */
+typedef struct {
+    pokhvizi_mark_t start_mark, end_mark;
+} pokhvizi_span_t;
+
+/* A parse. It may be copied and moved: nothing points into it. Its fields are the library's. */
+typedef struct {
+    struct {
+        uint8_t state, behind_document_end;
+        size_t states_count, marks_count;
+    } machine;
+    struct {
+        uint8_t next, entering, place, has_tag, has_anchor, has_version, problem;
+        pokhvizi_mark_t mark, start_mark, end_mark, tag_mark;
+    } read;
+    uint8_t tag;
+} pokhvizi_steps_t;
+
+/* An event: `kind` is 1 to 10, flags are 0 or 1, and what an event of its kind has no use for is 0. */
+typedef struct {
+    uint8_t kind;
+    uint8_t has_anchor;      /* of a node */
+    uint8_t has_tag;         /* of a node */
+    uint8_t implicit;        /* of a document's start and end, a collection's start; of a scalar: plain_implicit */
+    uint8_t quoted_implicit; /* of a scalar */
+    uint8_t is_flow;         /* of a collection's start */
+    pokhvizi_mark_t start_mark, end_mark;
+} pokhvizi_event_t;
+
+/* Why the tokens are no YAML stream: `problem` is 1 to 12, and `context_mark` is 0 where it has no context. */
+typedef struct {
+    uint8_t problem;
+    pokhvizi_mark_t context_mark, problem_mark;
+} pokhvizi_fault_t;
+
+enum {
+    POKHVIZI_WANTS,
+    POKHVIZI_GAVE,
+    POKHVIZI_STAYS,
+    POKHVIZI_FULL_STATES,
+    POKHVIZI_FULL_MARKS,
+    POKHVIZI_FAULT,
+    POKHVIZI_BAD
+};
+
+/* Begins a parse. */
+void pokhvizi_steps_new(pokhvizi_steps_t *steps);
+
+/* Takes a token, as told above. */
+uint32_t pokhvizi_step(pokhvizi_steps_t *steps, uint8_t *states, size_t states_room, pokhvizi_mark_t *marks,
+                       size_t marks_room, uint8_t kind, uint8_t fact, const pokhvizi_span_t *at, pokhvizi_event_t *event,
+                       pokhvizi_fault_t *fault);
+
+/* ---- Directives and tags ---- */
+
+/* A text: so many bytes behind `place` of a buffer. */
+typedef struct {
+    uint64_t place, length;
+} pokhvizi_text_t;
+
+/* A tag directive that the document has declared. */
+typedef struct {
+    pokhvizi_text_t handle, prefix;
+} pokhvizi_handle_t;
+
+/* The fact of a VERSION-DIRECTIVE. */
+uint8_t pokhvizi_version_fact(int32_t major, int32_t minor);
+
+/* The fact of a TAG-DIRECTIVE, where the document has declared `handles`, whose texts are ranges of `texts`. */
+uint8_t pokhvizi_directive_fact(const pokhvizi_handle_t *handles, size_t count, const uint8_t *texts, size_t length,
+                                const uint8_t *handle, size_t handle_length);
+
+/* The fact of a TAG. `*size` is the length of the tag in full, which is put into `out` where all of it has room, or SIZE_MAX
+ * where the handle isn't declared. A handle needs no directive if it is empty, `!` or `!!`. */
+uint8_t pokhvizi_tag(const pokhvizi_handle_t *handles, size_t count, const uint8_t *texts, size_t length,
+                     const uint8_t *handle, size_t handle_length, const uint8_t *suffix, size_t suffix_length,
+                     uint8_t *out, size_t room, size_t *size);
+
+/* ---- Words ---- */
+
+/* Returns libyaml's words of a fault's problem, and sets `*context` to those of its context, or to NULL. */
+static __inline const char *pokhvizi_problem(uint8_t problem, const char **context)
+{
+    static const char *const words[13][2] = {
+        {"no fault", NULL},
+        {"did not find expected <stream-start>", NULL},
+        {"did not find expected <document start>", NULL},
+        {"found duplicate %YAML directive", NULL},
+        {"found incompatible YAML document", NULL},
+        {"found duplicate %TAG directive", NULL},
+        {"did not find expected node content", "while parsing a block node"},
+        {"did not find expected node content", "while parsing a flow node"},
+        {"found undefined tag handle", "while parsing a node"},
+        {"did not find expected '-' indicator", "while parsing a block collection"},
+        {"did not find expected key", "while parsing a block mapping"},
+        {"did not find expected ',' or ']'", "while parsing a flow sequence"},
+        {"did not find expected ',' or '}'", "while parsing a flow mapping"},
+    };
+
+    *context = words[problem < 13 ? problem : 0][1];
+    return words[problem < 13 ? problem : 0][0];
+}
+
+#ifdef __cplusplus
+}
+#endif
+
+#endif

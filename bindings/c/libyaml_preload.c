@@ -1,0 +1,461 @@
+/* This parser in the place of libyaml's, in programs that link libyaml's shared library and stay as they are:
+ *
+ *     cc -O2 -shared -fPIC -fvisibility=hidden -Wl,--exclude-libs,ALL -o libyaml_preload.so \
+ *         bindings/c/libyaml_preload.c DIR/libpokhvizi.a -lyaml
+ *     LD_PRELOAD=$PWD/libyaml_preload.so PROGRAM
+ *
+ * DIR is that of scripts/build_c.sh. Only `yaml_parser_parse` is replaced. libyaml's scanner gives the tokens, its
+ * `yaml_event_delete` and `yaml_parser_delete` free all there is, and its `yaml_parser_load` composes documents of these
+ * events.
+ *
+ * A call reads no token past those that its event needs, and moves their texts into the event. What is kept between two
+ * calls stands in the yaml_parser_t, in the place of what libyaml's own parser keeps there: its states, the marks of open
+ * collections, and the tag directives of the document. So a parser may be moved and deleted as with libyaml, at any time,
+ * and two parsers share nothing. A failed allocation is the error YAML_MEMORY_ERROR, after which a call gives no event.
+ *
+ * What is other than with libyaml stands in docs/DIFFERENCES.md. */
+#include <pokhvizi/steps.h>
+#include <assert.h>
+#include <stdlib.h>
+#include <string.h>
+#include <yaml.h>
+
+/* libyaml's own, which its shared library exports. */
+int yaml_parser_fetch_more_tokens(yaml_parser_t *parser);
+
+static_assert(sizeof(yaml_mark_t) == sizeof(pokhvizi_mark_t), "a mark is libyaml's");
+static_assert(offsetof(yaml_token_t, end_mark) == offsetof(yaml_token_t, start_mark) + sizeof(yaml_mark_t) &&
+                  offsetof(yaml_event_t, end_mark) == offsetof(yaml_event_t, start_mark) + sizeof(yaml_mark_t) &&
+                  sizeof(pokhvizi_span_t) == 2 * sizeof(yaml_mark_t),
+              "the marks of a token and of an event are neighbours");
+
+/* The steps and their stack of states, in the place of `parser->states`. Their stack of marks is `parser->marks`. */
+struct kept {
+    pokhvizi_steps_t steps;
+    size_t states_room, marks_room;
+    uint8_t states[];
+};
+
+/* The tag directives of a document, in the place of `parser->tag_directives`. Their texts follow the handles that there is
+ * room for, each with a zero byte after it. */
+struct directives {
+    size_t count, room, length, texts_room;
+    pokhvizi_handle_t handles[];
+};
+
+/* What is held within one call: the properties of a node, and the version of a document. */
+struct held {
+    yaml_char_t *anchor, *tag;
+    size_t tag_length;
+    yaml_version_directive_t version;
+    int has_version;
+};
+
+static int out_of_memory(yaml_parser_t *parser)
+{
+    parser->error = YAML_MEMORY_ERROR;
+    return 0;
+}
+
+/* ---- Stacks ---- */
+
+static struct kept *kept_of(const yaml_parser_t *parser)
+{
+    return (struct kept *)(void *)parser->states.start;
+}
+
+/* Makes room for so many states; 0 where memory is refused, and then all is as it was. */
+static int grow_states(yaml_parser_t *parser, size_t room)
+{
+    struct kept *kept = realloc(parser->states.start, sizeof *kept + room);
+
+    if (kept == NULL)
+        return 0;
+    kept->states_room = room;
+    parser->states.start = parser->states.end = parser->states.top = (yaml_parser_state_t *)(void *)kept;
+    return 1;
+}
+
+static int grow_marks(yaml_parser_t *parser)
+{
+    size_t room = 2 * kept_of(parser)->marks_room;
+    yaml_mark_t *marks = realloc(parser->marks.start, room * sizeof *marks);
+
+    if (marks == NULL)
+        return 0;
+    kept_of(parser)->marks_room = room;
+    parser->marks.start = parser->marks.end = parser->marks.top = marks;
+    return 1;
+}
+
+/* ---- Tag directives ---- */
+
+static const struct directives *directives_of(const yaml_parser_t *parser)
+{
+    static const struct directives NONE;
+
+    return parser->tag_directives.start == NULL ? &NONE : (const void *)parser->tag_directives.start;
+}
+
+static const uint8_t *texts_of(const struct directives *directives)
+{
+    return (const uint8_t *)(directives->handles + directives->room);
+}
+
+/* Makes room for so many directives and bytes of texts; NULL where memory is refused, and then all is as it was. */
+static struct directives *grow_directives(yaml_parser_t *parser, size_t room, size_t texts_room)
+{
+    const struct directives *old = directives_of(parser);
+    struct directives *made = malloc(sizeof *made + room * sizeof *made->handles + texts_room);
+
+    if (made == NULL)
+        return NULL;
+    made->count = old->count;
+    made->room = room;
+    made->length = old->length;
+    made->texts_room = texts_room;
+    memcpy(made->handles, old->handles, old->count * sizeof *old->handles);
+    memcpy(made->handles + room, texts_of(old), old->length);
+    free(parser->tag_directives.start);
+    parser->tag_directives.start = (yaml_tag_directive_t *)(void *)made;
+    parser->tag_directives.end = parser->tag_directives.top = parser->tag_directives.start;
+    return made;
+}
+
+/* Adds a directive; 0 where memory is refused. Its texts are still the token's. */
+static int declare(yaml_parser_t *parser, const yaml_token_t *token)
+{
+    const yaml_char_t *handle = token->data.tag_directive.handle, *prefix = token->data.tag_directive.prefix;
+    struct directives *all = (struct directives *)(void *)parser->tag_directives.start;
+    size_t first = strlen((const char *)handle) + 1, second = strlen((const char *)prefix) + 1;
+    size_t count = directives_of(parser)->count, length = directives_of(parser)->length;
+
+    if (all == NULL || count == all->room || first + second > all->texts_room - length)
+        all = grow_directives(parser, 2 * count + 2, 2 * (length + first + second));
+    if (all == NULL)
+        return 0;
+    uint8_t *texts = (uint8_t *)(all->handles + all->room);
+    memcpy(texts + length, handle, first);
+    memcpy(texts + length + first, prefix, second);
+    all->handles[all->count++] = (pokhvizi_handle_t){{length, first - 1}, {length + first, second - 1}};
+    all->length = length + first + second;
+    return 1;
+}
+
+static void forget_directives(yaml_parser_t *parser)
+{
+    struct directives *all = (struct directives *)(void *)parser->tag_directives.start;
+
+    if (all != NULL)
+        all->count = all->length = 0;
+}
+
+/* ---- Tokens ---- */
+
+/* The next token, which is left; NULL where the scanner has an error. */
+static yaml_token_t *peek(yaml_parser_t *parser)
+{
+    return parser->token_available || yaml_parser_fetch_more_tokens(parser) ? parser->tokens.head : NULL;
+}
+
+/* Takes the next token, whose texts have another owner now. */
+static void skip(yaml_parser_t *parser)
+{
+    parser->token_available = 0;
+    parser->tokens_parsed++;
+    parser->tokens.head++;
+}
+
+/* Puts the tag of a token in full where there is room for it, and its length; returns its fact. */
+static uint8_t put_tag(const yaml_parser_t *parser, const yaml_token_t *token, uint8_t *out, size_t room, size_t *length)
+{
+    const struct directives *all = directives_of(parser);
+    const yaml_char_t *handle = token->data.tag.handle, *suffix = token->data.tag.suffix;
+
+    return pokhvizi_tag(all->handles, all->count, texts_of(all), all->length, handle, strlen((const char *)handle),
+                        suffix, strlen((const char *)suffix), out, room, length);
+}
+
+static uint8_t directive_fact(const yaml_parser_t *parser, const yaml_char_t *handle)
+{
+    const struct directives *all = directives_of(parser);
+
+    return pokhvizi_directive_fact(all->handles, all->count, texts_of(all), all->length, handle,
+                                   strlen((const char *)handle));
+}
+
+/* The fact that a step takes with a token. */
+static uint8_t fact_of(const yaml_parser_t *parser, const yaml_token_t *token, struct held *held)
+{
+    uint8_t none;
+
+    switch (token->type) {
+    case YAML_VERSION_DIRECTIVE_TOKEN:
+        return pokhvizi_version_fact(token->data.version_directive.major, token->data.version_directive.minor);
+    case YAML_TAG_DIRECTIVE_TOKEN:
+        return directive_fact(parser, token->data.tag_directive.handle);
+    case YAML_TAG_TOKEN:
+        return put_tag(parser, token, &none, 0, &held->tag_length);
+    case YAML_SCALAR_TOKEN:
+        return token->data.scalar.style == YAML_PLAIN_SCALAR_STYLE;
+    default:
+        return 0;
+    }
+}
+
+/* Holds a tag in full, of which the fact was asked for; 0 where memory is refused, and then its texts are the token's. */
+static int hold_tag(const yaml_parser_t *parser, const yaml_token_t *token, struct held *held)
+{
+    if (*token->data.tag.handle == '\0') {
+        held->tag = token->data.tag.suffix;
+        free(token->data.tag.handle);
+        return 1;
+    }
+    if (held->tag_length != SIZE_MAX) {  /* the handle is declared */
+        held->tag = malloc(held->tag_length + 1);
+        if (held->tag == NULL)
+            return 0;
+        put_tag(parser, token, held->tag, held->tag_length, &held->tag_length);
+        held->tag[held->tag_length] = '\0';
+    }
+    free(token->data.tag.handle);
+    free(token->data.tag.suffix);
+    return 1;
+}
+
+/* Takes what a token has for an event that comes later; 0 where memory is refused, and then its texts are the token's. */
+static int hold(yaml_parser_t *parser, const yaml_token_t *token, struct held *held)
+{
+    switch (token->type) {
+    case YAML_ANCHOR_TOKEN:
+        held->anchor = token->data.anchor.value;
+        return 1;
+    case YAML_TAG_TOKEN:
+        return hold_tag(parser, token, held);
+    case YAML_VERSION_DIRECTIVE_TOKEN:
+        held->version.major = token->data.version_directive.major;
+        held->version.minor = token->data.version_directive.minor;
+        held->has_version = 1;
+        return 1;
+    case YAML_TAG_DIRECTIVE_TOKEN:
+        if (!declare(parser, token))
+            return 0;
+        free(token->data.tag_directive.handle);
+        free(token->data.tag_directive.prefix);
+        return 1;
+    default:
+        return 1;
+    }
+}
+
+/* ---- Events ---- */
+
+/* Copies a text and the zero byte after it; 0 where memory is refused. */
+static int copy(const struct directives *directives, pokhvizi_text_t text, yaml_char_t **to)
+{
+    if ((*to = malloc(text.length + 1)) == NULL)
+        return 0;
+    memcpy(*to, texts_of(directives) + text.place, text.length + 1);
+    return 1;
+}
+
+static int document_start(const yaml_parser_t *parser, const struct held *held, yaml_event_t *event)
+{
+    const struct directives *all = directives_of(parser);
+    yaml_version_directive_t *version;
+    yaml_tag_directive_t *tags;
+
+    if (held->has_version) {
+        if ((version = malloc(sizeof *version)) == NULL)
+            return 0;
+        *version = held->version;
+        event->data.document_start.version_directive = version;
+    }
+    if (all->count == 0)
+        return 1;
+    if ((tags = calloc(all->count, sizeof *tags)) == NULL)
+        return 0;
+    event->data.document_start.tag_directives.start = tags;
+    event->data.document_start.tag_directives.end = tags + all->count;
+    for (size_t i = 0; i < all->count; i++)
+        if (!copy(all, all->handles[i].handle, &tags[i].handle) || !copy(all, all->handles[i].prefix, &tags[i].prefix))
+            return 0;
+    return 1;
+}
+
+/* Moves the properties of a node into its event. */
+static void properties(const pokhvizi_event_t *made, struct held *held, yaml_char_t **anchor, yaml_char_t **tag)
+{
+    if (made->has_anchor) {
+        *anchor = held->anchor;
+        held->anchor = NULL;
+    }
+    if (made->has_tag) {
+        *tag = held->tag;
+        held->tag = NULL;
+    }
+}
+
+/* A scalar has the value and style of its token, or is empty where the token isn't its own. */
+static int scalar(const pokhvizi_event_t *made, const yaml_token_t *token, struct held *held, yaml_event_t *event)
+{
+    event->data.scalar.plain_implicit = made->implicit;
+    event->data.scalar.quoted_implicit = made->quoted_implicit;
+    properties(made, held, &event->data.scalar.anchor, &event->data.scalar.tag);
+    if (token == NULL) {
+        event->data.scalar.style = YAML_PLAIN_SCALAR_STYLE;
+        return (event->data.scalar.value = calloc(1, 1)) != NULL;
+    }
+    event->data.scalar.value = token->data.scalar.value;
+    event->data.scalar.length = token->data.scalar.length;
+    event->data.scalar.style = token->data.scalar.style;
+    return 1;
+}
+
+/* Makes an event, of the token that ends with it where there is one; 0 where memory is refused, and then the event has what
+ * was made of it. */
+static int make_event(yaml_parser_t *parser, const pokhvizi_event_t *made, const yaml_token_t *token, struct held *held,
+                      yaml_event_t *event)
+{
+    event->type = (yaml_event_type_t)made->kind;
+    memcpy(&event->start_mark, &made->start_mark, sizeof(pokhvizi_span_t));
+    switch (event->type) {
+    case YAML_STREAM_START_EVENT:
+        event->data.stream_start.encoding = token->data.stream_start.encoding;
+        return 1;
+    case YAML_DOCUMENT_START_EVENT:
+        event->data.document_start.implicit = made->implicit;
+        return document_start(parser, held, event);
+    case YAML_DOCUMENT_END_EVENT:
+        event->data.document_end.implicit = made->implicit;
+        forget_directives(parser);
+        return 1;
+    case YAML_ALIAS_EVENT:
+        event->data.alias.anchor = token->data.alias.value;
+        return 1;
+    case YAML_SCALAR_EVENT:
+        return scalar(made, token, held, event);
+    case YAML_SEQUENCE_START_EVENT:
+        event->data.sequence_start.implicit = made->implicit;
+        event->data.sequence_start.style = made->is_flow ? YAML_FLOW_SEQUENCE_STYLE : YAML_BLOCK_SEQUENCE_STYLE;
+        properties(made, held, &event->data.sequence_start.anchor, &event->data.sequence_start.tag);
+        return 1;
+    case YAML_MAPPING_START_EVENT:
+        event->data.mapping_start.implicit = made->implicit;
+        event->data.mapping_start.style = made->is_flow ? YAML_FLOW_MAPPING_STYLE : YAML_BLOCK_MAPPING_STYLE;
+        properties(made, held, &event->data.mapping_start.anchor, &event->data.mapping_start.tag);
+        return 1;
+    default:
+        return 1;
+    }
+}
+
+/* ---- The parser ---- */
+
+static int give_fault(yaml_parser_t *parser, const pokhvizi_fault_t *fault)
+{
+    parser->error = YAML_PARSER_ERROR;
+    parser->problem = pokhvizi_problem(fault->problem, &parser->context);
+    memcpy(&parser->problem_mark, &fault->problem_mark, sizeof parser->problem_mark);
+    if (parser->context != NULL)
+        memcpy(&parser->context_mark, &fault->context_mark, sizeof parser->context_mark);
+    return 0;
+}
+
+/* Begins a stream; 0 where memory is refused. */
+static int begin(yaml_parser_t *parser)
+{
+    if (!grow_states(parser, 64))
+        return 0;
+    pokhvizi_steps_new(&kept_of(parser)->steps);
+    kept_of(parser)->marks_room = parser->marks.end - parser->marks.start;
+    free(parser->tag_directives.start);
+    memset(&parser->tag_directives, 0, sizeof parser->tag_directives);
+    parser->state = YAML_PARSE_DOCUMENT_CONTENT_STATE;
+    return 1;
+}
+
+/* Makes the event that a step gave, and takes its token unless that stays. */
+static int give_event(yaml_parser_t *parser, const pokhvizi_event_t *made, int stays, struct held *held, yaml_event_t *event)
+{
+    if (!make_event(parser, made, stays ? NULL : parser->tokens.head, held, event)) {
+        yaml_event_delete(event);
+        return out_of_memory(parser);
+    }
+    if (!stays)
+        skip(parser);
+    if (event->type == YAML_STREAM_END_EVENT) {
+        parser->state = YAML_PARSE_END_STATE;
+        parser->stream_end_produced = 1;
+    }
+    return 1;
+}
+
+static inline uint32_t step(yaml_parser_t *parser, const yaml_token_t *token, struct held *held, pokhvizi_event_t *made,
+                            pokhvizi_fault_t *fault)
+{
+    struct kept *kept = kept_of(parser);
+    const pokhvizi_span_t *at = (const pokhvizi_span_t *)(const void *)&token->start_mark;
+    pokhvizi_mark_t *marks = (pokhvizi_mark_t *)(void *)parser->marks.start;
+
+    return pokhvizi_step(&kept->steps, kept->states, kept->states_room, marks, kept->marks_room, token->type,
+                         fact_of(parser, token, held), at, made, fault);
+}
+
+/* Steps to the next event, or to an error. */
+static int next(yaml_parser_t *parser, struct held *held, yaml_event_t *event)
+{
+    pokhvizi_event_t made;
+    pokhvizi_fault_t fault;
+    const yaml_token_t *token;
+
+    while ((token = peek(parser)) != NULL) {
+        uint32_t did = step(parser, token, held, &made, &fault);
+        switch (did) {
+        case POKHVIZI_WANTS:
+            if (!hold(parser, token, held))
+                return out_of_memory(parser);
+            skip(parser);
+            break;
+        case POKHVIZI_GAVE:
+        case POKHVIZI_STAYS:
+            return give_event(parser, &made, did == POKHVIZI_STAYS, held, event);
+        case POKHVIZI_FULL_STATES:
+            if (!grow_states(parser, 2 * kept_of(parser)->states_room))
+                return out_of_memory(parser);
+            break;
+        case POKHVIZI_FULL_MARKS:
+            if (!grow_marks(parser))
+                return out_of_memory(parser);
+            break;
+        case POKHVIZI_FAULT:
+            return give_fault(parser, &fault);
+        default:
+            parser->error = YAML_PARSER_ERROR;
+            parser->problem = "the parser's stacks were overwritten";
+            return 0;
+        }
+    }
+    return 0;
+}
+
+/* In the place of libyaml's function of this name. */
+__attribute__((visibility("default"))) int yaml_parser_parse(yaml_parser_t *parser, yaml_event_t *event)
+{
+    struct held held = {0};
+    int given;
+
+    assert(parser);
+    assert(event);
+    memset(event, 0, sizeof *event);
+    if (parser->error != YAML_NO_ERROR || parser->stream_end_produced || parser->state == YAML_PARSE_END_STATE)
+        return 1;
+    if (parser->state == YAML_PARSE_STREAM_START_STATE && !begin(parser))
+        return out_of_memory(parser);
+    given = next(parser, &held, event);
+    if (held.anchor != NULL || held.tag != NULL) {  /* an error, or the tag `!`, which a scalar's event hasn't */
+        free(held.anchor);
+        free(held.tag);
+    }
+    return given;
+}

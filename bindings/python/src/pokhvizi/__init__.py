@@ -1,0 +1,403 @@
+"""PyYAML's loaders with this parser in place of PyYAML's own.
+
+    import yaml
+    from pokhvizi import SafeLoader
+
+    yaml.load(text, Loader=SafeLoader)    # as yaml.parse, yaml.compose and the others that take a loader
+
+Scanner, composer, resolver and constructor are PyYAML's (Debian: python3-yaml), and so are the events, nodes, marks and
+errors: an error has the text and the snippet of PyYAML without its C part. `Parser` before any loader of that form
+makes another: `class Mine(Parser, yaml.FullLoader): pass`. The library is libpokhvizi.so in this
+package, or without it libpokhvizi.so.0 where the system looks for libraries; the environment's POKHVIZI_LIBRARY names
+another, and so does `use_library(PATH)`.
+
+Each event takes as many tokens of the scanner as PyYAML's parser takes. What is other than with that parser:
+
+- What PyYAML refuses and YAML 1.1 allows is read, as `[ ? ]`, a value without a key in a block mapping (`: x`), and a document
+  after `...` without `---`.
+- As with libyaml: a collection whose tag is `!` alone is not implicit, an empty node with that tag is a string, and versions
+  other than 1.1 and 1.2 are refused.
+- A directive that is neither YAML nor TAG is left out: the document starts at the next directive or `---`.
+
+A loader is for one thread; several loaders may be used at once. An error is raised again by each later call for an event.
+"""
+import ctypes
+import os
+import struct
+
+import yaml
+
+__all__ = ["LibraryError", "Loader", "Parser", "SafeLoader", "use_library"]
+
+__version__ = "0.3.0"
+
+
+# ---- The library ----
+
+class LibraryError(Exception):
+    """The library isn't there, or is another."""
+
+
+class Library:
+    """libpokhvizi.so, as pokhvizi/steps.h declares it."""
+
+    NAMES = ("pokhvizi_steps_new", "pokhvizi_step", "pokhvizi_tag", "pokhvizi_directive_fact", "pokhvizi_version_fact")
+    PLACE = os.path.join(os.path.dirname(os.path.realpath(__file__)), "libpokhvizi.so")
+    used = None
+
+    def __init__(self, path):
+        pointer, size, byte = ctypes.c_void_p, ctypes.c_size_t, ctypes.c_uint8
+        text = ctypes.c_char_p, size
+        try:
+            library = ctypes.CDLL(path)
+            self.new, self.step, self.tag, self.directive_fact, self.version_fact = [library[name] for name in self.NAMES]
+        except (OSError, AttributeError) as error:
+            raise LibraryError("cannot use %s: %s; POKHVIZI_LIBRARY may name the library" % (path, error)) from None
+        # The step has no argtypes: its arguments are made once, and are not converted at each call.
+        self.tag.argtypes = text * 4 + (pointer, size, ctypes.POINTER(size))
+        self.directive_fact.argtypes = text * 3
+        self.version_fact.argtypes = ctypes.c_int32, ctypes.c_int32
+        self.tag.restype = self.directive_fact.restype = self.version_fact.restype = byte
+
+    @classmethod
+    def get(cls):
+        """Returns the library, which the first use opens."""
+        if cls.used is None:
+            there = cls.PLACE if os.path.exists(cls.PLACE) else "libpokhvizi.so.0"
+            cls.used = cls(os.environ.get("POKHVIZI_LIBRARY") or there)
+        return cls.used
+
+
+def use_library(path):
+    """Takes the library at a path from now on."""
+    Library.used = Library(path)
+
+
+# ---- Tag directives ----
+
+class Directives:
+    """The tag directives of a document, as the library reads them and as an event has them."""
+
+    HANDLE = struct.Struct("=4Q")
+    UNDECLARED = (1 << 64) - 1
+
+    def __init__(self, library):
+        self.library, self.size = library, ctypes.c_size_t()
+        self.forget()
+
+    def forget(self):
+        self.tags, self.handles, self.texts = {}, b"", b""
+
+    def records(self):
+        return self.handles, len(self.tags), self.texts, len(self.texts)
+
+    def fact(self, handle):
+        """Returns the fact of a directive: whether its handle has been declared."""
+        handle = handle.encode()
+        return self.library.directive_fact(*self.records(), handle, len(handle))
+
+    def declare(self, handle, prefix):
+        self.tags[handle] = prefix
+        place, handle, prefix = len(self.texts), handle.encode(), prefix.encode()
+        self.handles += self.HANDLE.pack(place, len(handle), place + len(handle), len(prefix))
+        self.texts += handle + prefix
+
+    def tag(self, handle, suffix):
+        """Returns the fact of a tag, and the tag in full, or None where its handle isn't declared."""
+        handle, suffix = (handle or "").encode(), suffix.encode()
+        room = max(len(self.texts), 18) + len(suffix)  # no prefix is longer
+        out = ctypes.create_string_buffer(room)
+        fact = self.library.tag(*self.records(), handle, len(handle), suffix, len(suffix), out, room, self.size)
+        length = self.size.value
+        return fact, None if length == self.UNDECLARED else out.raw[:length].decode()
+
+
+# ---- Steps ----
+
+class Marks:
+    """The marks of the tokens that may still stand in an event, by the numbers that the steps have in their place."""
+
+    FEW = 512
+
+    def __init__(self):
+        self.all, self.few = [], self.FEW
+
+    def put(self, token):
+        """Adds the marks of a token, and returns their numbers."""
+        number = len(self.all)
+        self.all += token.start_mark, token.end_mark
+        return number, number + 1
+
+    def keep(self, numbers):
+        """Keeps these marks alone, whose numbers are then 0, 1 and so on."""
+        self.all = [self.all[number] for number in numbers]
+        self.few = self.FEW + 2 * len(self.all)
+
+
+class Steps:
+    """The events of a scanner's tokens."""
+
+    KINDS = {
+        yaml.StreamStartToken: 1, yaml.StreamEndToken: 2, yaml.DirectiveToken: 0, yaml.DocumentStartToken: 5,
+        yaml.DocumentEndToken: 6, yaml.BlockSequenceStartToken: 7, yaml.BlockMappingStartToken: 8, yaml.BlockEndToken: 9,
+        yaml.FlowSequenceStartToken: 10, yaml.FlowSequenceEndToken: 11, yaml.FlowMappingStartToken: 12,
+        yaml.FlowMappingEndToken: 13, yaml.BlockEntryToken: 14, yaml.FlowEntryToken: 15, yaml.KeyToken: 16,
+        yaml.ValueToken: 17, yaml.AliasToken: 18, yaml.AnchorToken: 19, yaml.TagToken: 20, yaml.ScalarToken: 21,
+    }
+    VERSION_DIRECTIVE, TAG_DIRECTIVE, ANCHOR, TAG, SCALAR = 3, 4, 19, 20, 21
+    DIRECTIVES = {"YAML": VERSION_DIRECTIVE, "TAG": TAG_DIRECTIVE}
+    HELD = VERSION_DIRECTIVE, TAG_DIRECTIVE, ANCHOR, TAG
+    WANTS, GAVE, STAYS, FULL_STATES, FULL_MARKS, FAULT = range(6)
+    RECORD, COUNTS = 136, struct.Struct("=16xQ")        # pokhvizi_steps_t, and its machine.marks_count
+    EVENT = struct.Struct("=6B2xQ16xQ16x")              # pokhvizi_event_t, of a mark the index alone
+    PROBLEM = struct.Struct("=B7xQ16xQ16x")             # pokhvizi_fault_t
+    FEW, MOST = 64, (1 << 31) - 1
+    # What PyYAML says for each problem; `%r` is the token's id, or its handle.
+    PROBLEMS = (
+        (None, None),
+        (None, "did not find expected <stream-start>"),
+        (None, "expected '<document start>', but found %r"),
+        (None, "found duplicate YAML directive"),
+        (None, "found incompatible YAML document"),
+        (None, "duplicate tag handle %r"),
+        ("while parsing a block node", "expected the node content, but found %r"),
+        ("while parsing a flow node", "expected the node content, but found %r"),
+        ("while parsing a node", "found undefined tag handle %r"),
+        ("while parsing a block collection", "expected <block end>, but found %r"),
+        ("while parsing a block mapping", "expected <block end>, but found %r"),
+        ("while parsing a flow sequence", "expected ',' or ']', but got %r"),
+        ("while parsing a flow mapping", "expected ',' or '}', but got %r"),
+    )
+    INCOMPATIBLE, DUPLICATE_HANDLE, UNDECLARED_HANDLE = 4, 5, 8
+
+    def __init__(self, scanner):
+        self.scanner, self.library, self.marks = scanner, Library.get(), Marks()
+        self.directives = Directives(self.library)
+        self.record, self.states = bytearray(self.RECORD), bytearray(self.FEW)
+        self.mark_stack = memoryview(bytearray(24 * self.FEW)).cast("Q")
+        self.at = memoryview(bytearray(48)).cast("Q")   # pokhvizi_span_t
+        self.event, self.fault = bytearray(self.EVENT.size), bytearray(self.EVENT.size)
+        self.words = self.arguments()
+        self.library.new(self.words[0])
+        self.token, self.has_ended = None, False
+        self.let_go()
+
+    def let_go(self):
+        """Forgets what was held for an event."""
+        self.anchor = self.tag = self.tag_token = self.version = None
+        self.holds = False
+
+    @staticmethod
+    def pointer(buffer):
+        return ctypes.c_void_p(ctypes.addressof(ctypes.c_char.from_buffer(buffer)))
+
+    def arguments(self):
+        """Returns the arguments of a step before the token's kind and after its fact."""
+        states_room, marks_room = ctypes.c_size_t(len(self.states)), ctypes.c_size_t(len(self.mark_stack) // 3)
+        record, states, marks = map(self.pointer, (self.record, self.states, self.mark_stack))
+        return (record, states, states_room, marks, marks_room, *map(self.pointer, (self.at, self.event, self.fault)))
+
+    def __iter__(self):
+        return self
+
+    def __next__(self):
+        if self.has_ended:
+            raise StopIteration
+        if self.token is None and len(self.marks.all) > self.marks.few:
+            self.forget_marks()
+        step = self.library.step
+        record, states, states_room, marks, marks_room, at, event, fault = self.words
+        while True:
+            if self.token is None:
+                self.take()
+            did = step(record, states, states_room, marks, marks_room, self.kind, self.fact, at, event, fault)
+            if did == self.WANTS:
+                if self.kind in self.HELD:
+                    self.hold()
+                self.token = None
+            elif did == self.GAVE:
+                token, self.token = self.token, None
+                return self.made(token)
+            elif did == self.STAYS:
+                return self.made(None)
+            elif did == self.FAULT:
+                raise self.error()
+            else:
+                self.grow(did)
+                record, states, states_room, marks, marks_room, at, event, fault = self.words
+
+    def grow(self, did):
+        """Makes the stack larger that was full."""
+        if did == self.FULL_STATES:
+            self.states = self.states + bytes(len(self.states))
+        elif did == self.FULL_MARKS:
+            self.mark_stack = memoryview(bytearray(self.mark_stack) + bytes(self.mark_stack.nbytes)).cast("Q")
+        else:
+            raise RuntimeError("the stacks were overwritten")
+        self.words = self.arguments()
+
+    # Tokens
+
+    def take(self):
+        """Takes the scanner's next token in hand, with its kind, fact and marks."""
+        token = self.scanner.get_token()
+        while type(token) is yaml.DirectiveToken and token.name not in self.DIRECTIVES:
+            token = self.leave_out()
+        kind = self.KINDS[type(token)] or self.DIRECTIVES[token.name]
+        if kind == self.SCALAR:
+            self.fact = token.plain
+        else:
+            self.fact = self.FACTS[kind](self, token) if kind in self.FACTS else 0
+        self.at[0], self.at[3] = self.marks.put(token)
+        self.kind, self.token = kind, token
+
+    def leave_out(self):
+        """Leaves a directive out, after which another or a document's start has to stand; returns the token after it."""
+        token = self.scanner.get_token()
+        if not isinstance(token, (yaml.DirectiveToken, yaml.DocumentStartToken)):
+            raise yaml.parser.ParserError(None, None, "expected '<document start>', but found %r" % token.id,
+                                          token.start_mark)
+        return token
+
+    def forget_marks(self):
+        """Forgets marks but those of open collections: between two events, without a token in hand, the steps have no other."""
+        count = 3 * self.COUNTS.unpack_from(self.record)[0]
+        stack = self.mark_stack
+        self.marks.keep(stack[0:count:3].tolist())
+        for number, place in enumerate(range(0, count, 3)):
+            stack[place] = number
+
+    def version_fact(self, token):
+        return self.library.version_fact(*(min(part, self.MOST) for part in token.value))
+
+    def directive_fact(self, token):
+        return self.directives.fact(token.value[0])
+
+    def tag_fact(self, token):
+        fact, self.tag_in_hand = self.directives.tag(*token.value)
+        return fact
+
+    FACTS = {VERSION_DIRECTIVE: version_fact, TAG_DIRECTIVE: directive_fact, TAG: tag_fact}
+
+    def hold(self):
+        """Holds what the token in hand has for an event that comes later."""
+        token, kind = self.token, self.kind
+        if kind == self.ANCHOR:
+            self.anchor, self.holds = token.value, True
+        elif kind == self.TAG:
+            self.tag, self.tag_token, self.holds = self.tag_in_hand, token, True
+        elif kind == self.VERSION_DIRECTIVE:
+            self.version, self.holds = token.value, True
+        elif kind == self.TAG_DIRECTIVE:
+            self.directives.declare(*token.value)
+
+    # Events
+
+    def made(self, token):
+        """Returns the event that a step gave, of the token that ended with it, if any."""
+        kind, has_anchor, has_tag, implicit, quoted_implicit, is_flow, start, end = self.EVENT.unpack_from(self.event)
+        start, end = self.marks.all[start], self.marks.all[end]
+        anchor, tag = self.anchor if has_anchor else None, self.tag if has_tag else None
+        if kind == 6:
+            value, style = (token.value, token.style) if token else ("", None)
+            event = yaml.ScalarEvent(anchor, tag, (implicit == 1, quoted_implicit == 1), value, start, end, style=style)
+        elif kind == 7:
+            event = yaml.SequenceStartEvent(anchor, tag, implicit == 1, start, end, flow_style=is_flow == 1)
+        elif kind == 9:
+            event = yaml.MappingStartEvent(anchor, tag, implicit == 1, start, end, flow_style=is_flow == 1)
+        else:
+            event = self.MAKERS[kind](self, token, not implicit, start, end)
+        if self.holds:
+            self.let_go()
+        return event
+
+    def stream_start(self, token, explicit, start, end):
+        return yaml.StreamStartEvent(start, end, encoding=token.encoding)
+
+    def stream_end(self, token, explicit, start, end):
+        self.has_ended = True
+        return yaml.StreamEndEvent(start, end)
+
+    def document_start(self, token, explicit, start, end):
+        tags = dict(self.directives.tags) or None
+        return yaml.DocumentStartEvent(start, end, explicit=explicit, version=self.version, tags=tags)
+
+    def document_end(self, token, explicit, start, end):
+        self.directives.forget()
+        return yaml.DocumentEndEvent(start, end, explicit=explicit)
+
+    def alias(self, token, explicit, start, end):
+        return yaml.AliasEvent(token.value, start, end)
+
+    def sequence_end(self, token, explicit, start, end):
+        return yaml.SequenceEndEvent(start, end)
+
+    def mapping_end(self, token, explicit, start, end):
+        return yaml.MappingEndEvent(start, end)
+
+    MAKERS = {1: stream_start, 2: stream_end, 3: document_start, 4: document_end, 5: alias, 8: sequence_end, 10: mapping_end}
+
+    def error(self):
+        """Returns the error of the fault that a step put, in PyYAML's words."""
+        number, context_mark, problem_mark = self.PROBLEM.unpack_from(self.fault)
+        marks, token = self.marks.all, self.token
+        context, problem = self.PROBLEMS[number]
+        if number == self.UNDECLARED_HANDLE:
+            problem %= (self.tag_token or token).value[0]
+        elif number == self.DUPLICATE_HANDLE:
+            problem %= token.value[0]
+        elif number == self.INCOMPATIBLE and token.value[0] != 1:
+            problem += " (version 1.* is required)"
+        elif "%r" in problem:
+            problem %= token.id
+        return yaml.parser.ParserError(context, marks[context_mark] if context else None, problem, marks[problem_mark])
+
+
+# ---- Loaders ----
+
+class Parser:
+    """This parser with the methods of `yaml.parser.Parser`, over the scanner of the same loader."""
+
+    current_event = None
+    failure = None
+    events = None
+
+    def check_event(self, *choices):
+        """Returns whether there is a next event, of one of these kinds where some are named."""
+        event = self.current_event or self.peek_event()
+        return event is not None and (not choices or isinstance(event, choices))
+
+    def peek_event(self):
+        """Returns the next event and leaves it, or None after the last."""
+        if self.current_event is None:
+            self.current_event = self.next_event()
+        return self.current_event
+
+    def get_event(self):
+        """Returns the next event, or None after the last."""
+        event = self.peek_event()
+        self.current_event = None
+        return event
+
+    def next_event(self):
+        if self.failure is not None:
+            raise self.failure
+        try:
+            if self.events is None:
+                self.events = Steps(self)
+            return next(self.events, None)
+        except BaseException as failure:
+            self.failure = failure
+            raise
+
+    def dispose(self):
+        """Gives back what the parser holds; it then has no further event."""
+        self.events, self.failure = iter(()), None
+
+
+class Loader(Parser, yaml.Loader):
+    """As `yaml.Loader`."""
+
+
+class SafeLoader(Parser, yaml.SafeLoader):
+    """As `yaml.SafeLoader`."""

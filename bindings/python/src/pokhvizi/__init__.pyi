@@ -1,0 +1,17 @@
+import os
+from typing import Union
+
+import yaml
+from yaml.parser import Parser as _Parser
+
+__version__: str
+
+class LibraryError(Exception): ...
+
+class Parser(_Parser): ...
+
+class Loader(Parser, yaml.Loader): ...
+
+class SafeLoader(Parser, yaml.SafeLoader): ...
+
+def use_library(path: Union[str, os.PathLike[str]]) -> None: ...

@@ -1,0 +1,99 @@
+//! `unsafe-libyaml` with this parser and loader in place of its own: its scanner, emitter, types and memory stay.
+//!
+//! A project that uses `unsafe-libyaml`, as by `serde_yaml`, takes it by two lines of its `Cargo.toml`:
+//!
+//! ```toml
+//! [patch.crates-io]
+//! unsafe-libyaml = { path = "PATH" }
+//! ```
+//!
+//! PATH is the unpacked archive of a release, which has the library and the original crate in it; README.md says how this is built
+//! from the repository. `cargo tree -i unsafe-libyaml@0.2.12` names what stands on it: where cargo leaves the patch out, it builds
+//! with the original and says no more than a warning.
+//!
+//! [`yaml_parser_parse`], [`yaml_parser_load`] and [`yaml_parser_delete`] are replaced. A parse takes as many tokens of the
+//! scanner as its event needs, and moves their texts; a load reads the stream to its end, and makes all its documents. What a
+//! parser needs here is kept by the `yaml_parser_t` itself, in `problem_offset` while there is no error: so it may be moved and
+//! deleted as before, at any time, and two parsers share nothing.
+//!
+//! What is other than in the original, beside what DIFFERENCES.md of the repository says of libyaml's:
+//!
+//! - The first load reads the stream to its end: memory is that of all tokens and documents.
+//! - A failed allocation of the library is the fault `YAML_MEMORY_ERROR`; one of Rust's ends the process, as there.
+//! - Of a load, a tag, an anchor, an alias or a tag directive that isn't UTF-8 is the scanner's fault `text is not UTF-8`, with
+//!   the mark of its token.
+//! - A load within a document that is being parsed is the parser's fault `load within a document`.
+//! - A load after a fault fails again with that fault.
+
+#![allow(non_camel_case_types, clippy::missing_safety_doc)]
+
+mod documents;
+mod events;
+mod fault;
+mod records;
+mod run;
+mod steps;
+mod texts;
+mod tokens;
+
+use std::ops::Deref;
+use std::ptr;
+
+pub use original::*;
+
+/// Whether a call succeeded.
+#[must_use]
+pub struct Success {
+    pub ok: bool,
+}
+
+/// The opposite of [`Success`], to which that dereferences.
+pub struct Failure {
+    pub fail: bool,
+}
+
+impl Deref for Success {
+    type Target = Failure;
+
+    fn deref(&self) -> &Failure {
+        if self.ok {
+            &Failure { fail: false }
+        } else {
+            &Failure { fail: true }
+        }
+    }
+}
+
+/// Parses the input and produces the next event, as libyaml's `yaml_parser_parse`; after the last, and after a fault, none.
+pub unsafe fn yaml_parser_parse(parser: *mut yaml_parser_t, event: *mut yaml_event_t) -> Success {
+    ptr::write_bytes(event, 0, 1);
+    if run::prefix(parser).error != YAML_NO_ERROR {
+        return Success { ok: true };
+    }
+    Success {
+        ok: run::with(parser, |run| run.event(parser, event)).is_ok(),
+    }
+}
+
+/// Loads the next document, as libyaml's `yaml_parser_load`; after the last, one without nodes.
+pub unsafe fn yaml_parser_load(parser: *mut yaml_parser_t, document: *mut yaml_document_t) -> Success {
+    let (none, no_tags) = (ptr::null_mut(), ptr::null_mut());
+    ptr::write_bytes(document, 0, 1);
+    if run::prefix(parser).error != YAML_NO_ERROR {
+        return Success { ok: false };
+    }
+    let given = run::with(parser, |run| {
+        let is_over = run.document(parser, document)?;
+        match is_over && !yaml_document_initialize(document, none, no_tags, no_tags, false, false).ok {
+            true => Err(fault::Fault::memory()),
+            false => Ok(is_over),
+        }
+    });
+    Success { ok: given.is_ok() }
+}
+
+/// Destroys a parser, as libyaml's `yaml_parser_delete`.
+pub unsafe fn yaml_parser_delete(parser: *mut yaml_parser_t) {
+    run::discard(parser);
+    original::yaml_parser_delete(parser);
+}

@@ -1,0 +1,381 @@
+#!/bin/sh
+# Runs what stands on libyaml, unsafe-libyaml and PyYAML over this parser, and again without it:
+#
+#     sh scripts/doors/clients.sh DIR [CHECK..]
+#
+# DIR has the libraries that build_c.sh made there. Each check compares the two; what differs is listed by name, with its
+# reason, in a file of scripts/doors/clients/, and anything else fails, as does a name that is listed and doesn't differ. The
+# checks, of which all are run where none is named:
+#
+#     preload            this parser by LD_PRELOAD (bindings/c/libyaml_preload.c): each of its allocations refused, parsers deleted,
+#                        moved, used after a fault and by threads; and libyaml's memory over 7 MB
+#     events             libyaml's events and nodes of YAML files of this machine, broken texts and the YAML test suite,
+#                        preloaded, with all fields
+#     pipe_c             events before a slow pipe's end, preloaded
+#     pyyaml_c           PyYAML's own tests of its C form, preloaded
+#     psych              Ruby's psych over YAML files of this machine and the YAML test suite, preloaded
+#     pyyaml_pure        PyYAML's own tests of its form in Python, over bindings/python
+#     loaders            the SafeLoader of bindings/python and PyYAML's over the test suite, PyYAML's test data and broken texts
+#     pipe_python        events before a slow pipe's end, by that SafeLoader
+#     crate              the tests of bindings/rust
+#     pipe_rust          events before a slow pipe's end, by that crate
+#     yaml_test_suite    the parser of unsafe-libyaml's own tests over the YAML test suite
+#     serde_yaml         serde_yaml's own tests
+#
+# Sources are those of Debian's packages pyyaml (6.0.2 or later) and libyaml-pp-perl (which has the YAML test suite), by
+# `apt-get source`, which needs deb-src lines; or their .orig.tar files in the folder that CLIENT_SOURCES names. Crates are
+# those of Debian's packages librust-unsafe-libyaml-dev, librust-serde-yaml-dev, librust-serde-derive-dev, librust-anyhow-dev
+# and librust-indoc-dev (release 13 and later), or those in the folder that CLIENT_CRATES names. PYTHON and RUBY are Debian's, whose YAML part
+# links libyaml; SAMPLE is how many files of the machine are read, 2000 where it isn't set.
+#
+# A check that lacks something is skipped, which is said with what it lacks. The last line is `N passed, M failed`, and
+# `, K skipped` where some were; the exit status is 1 where one failed, 2 for wrong words.
+set -u
+[ $# -ge 1 ] && dir=$(realpath "$1") && [ -f "$dir/libpokhvizi.so" ] && [ -f "$dir/libpokhvizi.a" ] || {
+    echo "usage: sh scripts/doors/clients.sh DIR [CHECK..], where build_c.sh made DIR" >&2
+    exit 2
+}
+shift
+cd "$(dirname "$0")/../.." || exit 2
+top=$PWD
+lists=$top/scripts/doors/clients
+work=$(mktemp -d) || exit 2
+trap 'rm -rf "$work"' EXIT
+python=${PYTHON:-/usr/bin/python3}
+ruby=${RUBY:-ruby}
+crates=${CLIENT_CRATES:-/usr/share/cargo/registry}
+suite=$work/libyaml-pp-perl/test-suite/yaml-test-suite-data
+tests=$work/pyyaml/tests/legacy_tests
+preloaded=$work/libyaml_preload.so
+export PYTHONDONTWRITEBYTECODE=1 POKHVIZI_LIBRARY="$dir/libpokhvizi.so" POKHVIZI_DIR="$dir"
+export CARGO_HOME="$work/cargo" CARGO_TARGET_DIR="$work/target"
+export RUSTFLAGS="--cap-lints allow"  # the originals are older than some lints
+passed=0
+failed=0
+skipped=0
+
+# ---- What the checks need ----
+
+# Unpacks the source of one of Debian's packages.
+source_of() {
+    mkdir -p "$work/$1" "$work/sources"
+    for folder in "${CLIENT_SOURCES:-$work/sources}" "$work/sources"; do
+        archive=$(find "$folder" -name "$1_*.orig.tar.*" | sort | tail -n 1)
+        [ -n "$archive" ] && break
+        (cd "$work/sources" && apt-get source -q --download-only "$1") > "$work/sources/$1.log" 2>&1
+    done
+    archive=${archive:-$(find "$work/sources" -name "$1_*.orig.tar.*" | sort | tail -n 1)}
+    [ -n "$archive" ] && tar xf "$archive" -C "$work/$1" --strip-components=1
+}
+
+is_there() {
+    case $1 in
+    pyyaml) [ -e "$tests" ] || { source_of pyyaml && [ -e "$tests" ]; } ;;
+    libyaml-pp-perl) [ -e "$suite" ] || { source_of libyaml-pp-perl && [ -e "$suite" ]; } ;;
+    yaml.h) echo '#include <yaml.h>' | cc -E - ;;
+    PyYAML) (cd / && "$python" -c 'import yaml; yaml.CLoader') ;;
+    libyaml_preload.so) [ -e "$preloaded" ] || build_preload ;;
+    events) [ -e "$work/events" ] || cc -O2 -Wall -Wextra -Werror -o "$work/events" scripts/doors/clients/events.c -lyaml ;;
+    psych) $ruby -e 'require "psych"; Psych::LIBYAML_VERSION' ;;
+    unsafe-libyaml | serde_yaml | serde_derive | anyhow | indoc) set -- "$crates/$1-"*/Cargo.toml && [ -e "$1" ] ;;
+    *) command -v "$1" ;;
+    esac > /dev/null 2>&1
+}
+
+# check NAME NEED.. -- COMMAND WORD..
+check() {
+    name=$1
+    lacks=
+    shift
+    case " $wanted " in *" $name "* | "  ") ;; *) return ;; esac
+    while [ "$1" != -- ]; do
+        is_there "$1" || lacks="$lacks $1"
+        shift
+    done
+    shift
+    if [ -n "$lacks" ]; then
+        echo "skipped: $name, which lacks$lacks"
+        skipped=$((skipped + 1))
+    elif "$@" > "$work/said" 2>&1; then
+        passed=$((passed + 1))
+        echo "passed: $name: $(tail -n 1 "$work/said")"
+    else
+        failed=$((failed + 1))
+        tail -n 40 "$work/said"
+        echo "failed: $name"
+    fi
+}
+
+# Fails where the names in a file are not those of a list; a line of a list is a name, two spaces and a reason.
+as_listed() {
+    grep -v '^#' "$lists/$2.txt" | sed 's/  .*//' | sort -u > "$work/listed"
+    sort -u "$1" | diff "$work/listed" - || { echo "< listed and alike, > differs and not listed"; return 1; }
+    echo "$3, of which $(wc -l < "$work/listed") differ as scripts/doors/clients/$2.txt says"
+}
+
+# ---- libyaml, preloaded ----
+
+build_preload() {
+    cc -O2 -Wall -Wextra -Werror -pedantic -shared -fPIC -fvisibility=hidden -Wl,--exclude-libs,ALL -Ibindings/c/include \
+        -o "$preloaded" bindings/c/libyaml_preload.c "$dir/libpokhvizi.a" -lyaml
+}
+
+# Writes 350 KB of documents, so often.
+documents() {
+    for again in $(seq "$1"); do
+        for number in $(seq 680); do
+            echo ---
+            cat examples/compose.yaml
+        done
+    done
+}
+
+preload() {
+    cc -O1 -g -Wall -Wextra -Werror -o "$work/preload_calls" scripts/doors/clients/preload_calls.c -lyaml -lpthread || return 1
+    if "$work/preload_calls" > "$work/calls" 2>&1; then
+        echo "without the preload, the calls should differ"
+        return 1
+    fi
+    documents 20 > "$work/text.yaml"
+    set -- $("$work/events" memory < "$work/text.yaml") $(LD_PRELOAD=$preloaded "$work/events" memory < "$work/text.yaml")
+    [ "$1" -gt 900000 ] && [ "$1" = "$3" ] && [ "$4" -le $(($2 + 400)) ] ||
+        { echo "$1 events in $2 KB plainly, $3 in $4"; return 1; }
+    said=$(LD_PRELOAD=$preloaded "$work/preload_calls") && echo "$said; $3 events in $4 KB, libyaml in $2"
+}
+
+# Names YAML files of this machine.
+name_files() {
+    find / -xdev \( -path /proc -o -path /tmp -o -path /sys \) -prune -o -type f \( -name '*.yaml' -o -name '*.yml' \) \
+        -size -1000k -print 2> /dev/null | sort | head -n "${SAMPLE:-2000}"
+}
+
+# Leaves the names of the texts in a file that differ from those in another; a line `file NAME` begins each.
+differing_files() {
+    for list in "$1" "$2"; do
+        awk '/^file / { name = $2; next } { print name "\t" $0 }' "$list" > "$list.named"
+    done
+    diff "$1.named" "$2.named" | sed -n 's/^[<>] \([^\t]*\)\t.*/\1/p' | sort -u
+}
+
+events() {
+    name_files > "$work/files"
+    (cd "$suite" && find . -name in.yaml | sort) > "$work/cases"
+    find "$top/scripts/broken" "$top/scripts/whole" "$top/examples" -name '*.yaml' | sort > "$work/texts"
+    : > "$work/differ"
+    for what in files nodes; do
+        for list in files cases texts; do
+            (cd "$suite" && "$work/events" $what < "$work/$list") > "$work/plain_$list" || return 1
+            (cd "$suite" && LD_PRELOAD=$preloaded "$work/events" $what < "$work/$list") > "$work/proved_$list" || return 1
+            differing_files "$work/plain_$list" "$work/proved_$list" | sed -E 's#^\./(.*)/in.yaml$#\1#' >> "$work/differ"
+        done
+    done
+    grep -x -F -f "$work/files" "$work/differ" > "$work/differ_files"
+    while read -r file; do
+        # A file of the machine may be read only where libyaml refuses what docs/DIFFERENCES.md says is read here.
+        echo "$file" | "$work/events" files 2>&1 | grep -q -E "^error 4 did not find expected (key|<document start>)" ||
+            { echo "$file is read otherwise"; return 1; }
+    done < "$work/differ_files"
+    grep -v -x -F -f "$work/files" "$work/differ" > "$work/differ_cases"
+    as_listed "$work/differ_cases" psych "$(wc -l < "$work/files") files, of which $(sort -u "$work/differ_files" | wc -l) that libyaml refuses differ; $(cat "$work/cases" "$work/texts" | wc -l) cases and texts"
+}
+
+# pipe WORD.. -- WORD..: the events of the first command come with their lines; those of the second, which reads to the end, don't.
+pipe() {
+    on_time=
+    while [ "$1" != -- ]; do
+        on_time="$on_time $1"
+        shift
+    done
+    shift
+    "$python" "$lists/slow_pipe.py" $on_time || return 1
+    if SECONDS=2 "$python" "$lists/slow_pipe.py" "$@" > "$work/late"; then
+        echo "late events are not seen"
+        return 1
+    fi
+}
+
+pipe_c() {
+    pipe env "LD_PRELOAD=$preloaded" "$work/events" pipe -- env "LD_PRELOAD=$preloaded" "$work/events" late
+}
+
+# The names of the tests that failed, in PyYAML's own report: the function and the files, without folders.
+failures_of() {
+    sed -n -E 's/^([a-z_]+\(.*\)): (FAILURE|ERROR)$/\1/p' "$1" | sed -E 's#(\(|, )[^(,]*/#\1#g'
+}
+
+count_of() {
+    sed -n 's/^TESTS: //p' "$1"
+}
+
+# Runs PyYAML's tests twice by the two commands that are left and right of `--`; the failures that only the second has are listed.
+pyyaml_tests() {
+    (cd "$tests" && PYTHONPATH=$work/python $1) > "$work/plain" 2>&1
+    (cd "$tests" && PYTHONPATH=$work/python $2) > "$work/proved" 2>&1
+    [ -n "$(count_of "$work/plain")" ] && [ "$(count_of "$work/plain")" = "$(count_of "$work/proved")" ] || {
+        tail -n 5 "$work/plain" "$work/proved"
+        return 1
+    }
+    failures_of "$work/plain" | sort > "$work/plain_failures"
+    failures_of "$work/proved" | sort | comm -13 "$work/plain_failures" - > "$work/differ"
+    as_listed "$work/differ" "$3" "$(count_of "$work/proved") tests"
+}
+
+pyyaml_c() {
+    said=$(cd / && LD_PRELOAD=$preloaded "$python" -c 'import yaml; print(len(list(yaml.parse("a\n...\nb\n", yaml.CLoader))))')
+    [ "$said" = 8 ] || { echo "$python doesn't take libyaml from its shared library: $said"; return 1; }
+    pyyaml_tests "$python test_yaml_ext.py" "env LD_PRELOAD=$preloaded $python test_yaml_ext.py" pyyaml_c
+}
+
+psych() {
+    [ "$($ruby scripts/doors/clients/psych.rb --bare) $(LD_PRELOAD=$preloaded $ruby scripts/doors/clients/psych.rb --bare)" = "refused read" ] ||
+        { echo "$ruby doesn't take libyaml from its shared library"; return 1; }
+    name_files > "$work/files"
+    (cd "$suite" && find . -name in.yaml | sort) > "$work/cases"
+    for list in files cases; do
+        (cd "$suite" && $ruby "$lists/psych.rb" < "$work/$list") > "$work/plain_$list" || return 1
+        (cd "$suite" && LD_PRELOAD=$preloaded $ruby "$lists/psych.rb" < "$work/$list") > "$work/proved_$list" || return 1
+        diff "$work/plain_$list" "$work/proved_$list" | sed -n 's/^< //p' > "$work/differ_$list"
+    done
+    # A file of the machine may be read only where libyaml refuses what docs/DIFFERENCES.md says is read here.
+    if grep -v -E "refused: did not find expected (key|<document start>)" "$work/differ_files"; then
+        echo "files of this machine are read otherwise"
+        return 1
+    fi
+    sed -E 's#^\./(.*)/in.yaml\t.*#\1#' "$work/differ_cases" > "$work/differ"
+    as_listed "$work/differ" psych "$(wc -l < "$work/files") files, of which $(wc -l < "$work/differ_files") that libyaml refuses differ; $(wc -l < "$work/cases") cases"
+}
+
+# ---- PyYAML in Python ----
+
+pyyaml_pure() {
+    pyyaml_tests "$python $lists/pyyaml_pure.py plain" "$python $lists/pyyaml_pure.py proved" pyyaml_pure
+}
+
+loaders() {
+    set -- "$suite" "$tests/data" scripts/broken
+    PYTHONPATH=$work/python "$python" "$lists/loaders.py" "$@" > "$work/made" 2> "$work/count" || { cat "$work/count"; return 1; }
+    PYTHONPATH=$work/python "$python" "$lists/loaders.py" --turned scripts/broken > "$work/turned" 2>&1
+    [ "$(grep -c documents "$work/turned")" -gt 0 ] || { echo "what is turned doesn't differ"; return 1; }
+    cut -f 1 "$work/made" > "$work/differ"
+    as_listed "$work/differ" loaders "$(cat "$work/count")"
+}
+
+pipe_python() {
+    set -- env "PYTHONPATH=$work/python" "$python" "$lists/events.py"
+    pipe "$@" proved -- "$@" late
+}
+
+# ---- Rust ----
+
+# Has cargo take crates from Debian's folder, and puts the original into a copy of the crate that takes its place.
+prepare_cargo() {
+    if [ ! -e "$work/unsafe_libyaml" ]; then
+        cp -R bindings/rust "$work/unsafe_libyaml"
+        rm -rf "$work/unsafe_libyaml/original"
+        ln -s "$(realpath "$crates"/unsafe-libyaml-0.2.11)" "$work/unsafe_libyaml/original"
+    fi
+    mkdir -p "$CARGO_HOME"
+    printf '[source.crates-io]\nreplace-with = "debian"\n[source.debian]\ndirectory = "%s"\n[net]\noffline = true\n' \
+        "$(realpath "$crates")" > "$CARGO_HOME/config.toml"
+}
+
+# Copies a crate, and one that takes the place of unsafe-libyaml there.
+copy_crate() {
+    mkdir -p "$2"
+    cp -R "$1/." "$2"
+    rm -f "$2/Cargo.lock"
+    [ "$3" = plain ] || printf '\n[patch.crates-io]\nunsafe-libyaml = { path = "%s" }\n' "$work/unsafe_libyaml" >> "$2/Cargo.toml"
+    printf '\n[workspace]\n' >> "$2/Cargo.toml"
+}
+
+# Fails where cargo left the crate out that takes the original's place.
+uses_patch() {
+    if ! grep -q '"0.2.12"' "$1/Cargo.lock" || grep -q 'patch.unused' "$1/Cargo.lock"; then
+        echo "the crate is not used"
+        return 1
+    fi
+}
+
+crate() {
+    prepare_cargo
+    (cd "$work/unsafe_libyaml" && cargo test -q -j 1) || return 1
+    (cd "$work/unsafe_libyaml" && POKHVIZI_DIR=/nowhere cargo build -q -j 1) > "$work/missing" 2>&1 && return 1
+    grep -q "POKHVIZI_DIR may name the folder of libpokhvizi.a" "$work/missing" || { cat "$work/missing"; return 1; }
+    echo "$(grep -c '^#\[test\]' bindings/rust/tests/calls.rs) tests"
+}
+
+pipe_rust() {
+    prepare_cargo
+    mkdir -p "$work/pipe/src"
+    cp "$lists/events.rs" "$work/pipe/src/main.rs"
+    printf '[package]\nname = "events"\nversion = "0.0.0"\nedition = "2021"\n[dependencies]\n' > "$work/pipe/Cargo.toml"
+    printf 'unsafe-libyaml = { path = "%s" }\n[workspace]\n' "$work/unsafe_libyaml" >> "$work/pipe/Cargo.toml"
+    (cd "$work/pipe" && cargo build -q -j 1) || return 1
+    pipe "$CARGO_TARGET_DIR/debug/events" -- "$CARGO_TARGET_DIR/debug/events" late
+}
+
+yaml_test_suite() {
+    prepare_cargo
+    set -- "$crates"/unsafe-libyaml-*
+    for how in plain proved; do
+        runner=$work/runner_$how
+        mkdir -p "$runner/src"
+        cp -R "$1/src/bin/." "$runner/src"
+        printf '[package]\nname = "runner"\nversion = "0.0.0"\nedition = "2021"\n[[bin]]\nname = "runner_%s"\n' $how > "$runner/Cargo.toml"
+        printf 'path = "src/run-parser-test-suite.rs"\n[dependencies]\nunsafe-libyaml = "0.2"\n' >> "$runner/Cargo.toml"
+        copy_crate "$runner" "$work/built_$how" $how
+        (cd "$work/built_$how" && cargo build -q -j 1) || return 1
+    done
+    uses_patch "$work/built_proved" || return 1
+    (cd "$suite" && find . -name in.yaml | sort) > "$work/cases"
+    : > "$work/differ"
+    while read -r case; do
+        folder=$(dirname "${case#./}")
+        for how in plain proved; do
+            "$CARGO_TARGET_DIR/debug/runner_$how" "$suite/$case" > "$work/$how" 2>&1
+            echo "status $?" >> "$work/$how"
+        done
+        cmp -s "$work/plain" "$work/proved" || echo "$folder" >> "$work/differ"
+    done < "$work/cases"
+    as_listed "$work/differ" yaml_test_suite "$(wc -l < "$work/cases") cases"
+}
+
+serde_yaml() {
+    prepare_cargo
+    set -- "$crates"/serde_yaml-*
+    for how in plain proved; do
+        copy_crate "$1" "$work/serde_yaml_$how" $how
+        (cd "$work/serde_yaml_$how" && cargo test -q -j 1 --no-fail-fast) > "$work/$how" 2>&1
+        grep -E '^    [a-z_:]+$|^    .* - .*\(line' "$work/$how" | sort -u > "$work/${how}_failures"
+        sed -n 's/^test result: .* \([0-9]*\) passed; \([0-9]*\) failed.*/\1 \2/p' "$work/$how" | awk '{ n += $1 + $2 } END { print n + 0 }' > "$work/${how}_count"
+    done
+    uses_patch "$work/serde_yaml_proved" || { tail -n 20 "$work/proved"; return 1; }
+    [ "$(cat "$work/plain_count")" -gt 0 ] && cmp "$work/plain_count" "$work/proved_count" || { tail -n 20 "$work/proved"; return 1; }
+    comm -13 "$work/plain_failures" "$work/proved_failures" > "$work/differ"
+    as_listed "$work/differ" serde_yaml "$(cat "$work/proved_count") tests"
+}
+
+wanted=$*
+for word in $wanted; do
+    case " preload events pipe_c pyyaml_c psych pyyaml_pure loaders pipe_python crate pipe_rust yaml_test_suite serde_yaml " in
+    *" $word "*) ;;
+    *) echo "no check has the name $word" >&2; exit 2 ;;
+    esac
+done
+mkdir -p "$work/python"
+cp -R bindings/python/src/pokhvizi "$work/python"
+check preload cc yaml.h libyaml_preload.so events -- preload
+check events cc yaml.h libyaml_preload.so events libyaml-pp-perl -- events
+check pipe_c cc yaml.h libyaml_preload.so events -- pipe_c
+check pyyaml_c PyYAML cc yaml.h libyaml_preload.so pyyaml -- pyyaml_c
+check psych cc yaml.h libyaml_preload.so psych libyaml-pp-perl -- psych
+check pyyaml_pure PyYAML pyyaml -- pyyaml_pure
+check loaders PyYAML pyyaml libyaml-pp-perl -- loaders
+check pipe_python PyYAML -- pipe_python
+check crate cargo unsafe-libyaml -- crate
+check pipe_rust cargo unsafe-libyaml -- pipe_rust
+check yaml_test_suite cargo unsafe-libyaml libyaml-pp-perl -- yaml_test_suite
+check serde_yaml cargo unsafe-libyaml serde_yaml serde_derive anyhow indoc -- serde_yaml
+
+echo "$passed passed, $failed failed$([ $skipped -eq 0 ] || echo ", $skipped skipped")"
+[ "$failed" -eq 0 ]

@@ -1,0 +1,236 @@
+/* What libyaml's parser gives, for clients.sh, plainly and where bindings/c/libyaml_preload.c is preloaded:
+ *
+ *     events files < NAMES     each event of each file that a line of the input names, all fields
+ *     events nodes < NAMES     each node of their documents, by yaml_parser_load
+ *     events pipe < YAML       the kind of each event of the input, as soon as it is there
+ *     events late < YAML       the same, where the input is read to its end first
+ *     events memory < YAML     how many events there are, and the peak of resident memory in KB */
+#define _DEFAULT_SOURCE
+#include <stdio.h>
+#include <stdlib.h>
+#include <string.h>
+#include <unistd.h>
+#include <yaml.h>
+
+static void put_mark(yaml_mark_t mark)
+{
+    printf(" %zu:%zu:%zu", mark.index, mark.line, mark.column);
+}
+
+static void put_bytes(const yaml_char_t *bytes, size_t length)
+{
+    putchar(' ');
+    for (size_t i = 0; i < length; i++)
+        if (bytes[i] <= ' ' || bytes[i] == '%' || bytes[i] > '~')
+            printf("%%%02X", bytes[i]);
+        else
+            putchar(bytes[i]);
+    fputs(bytes[length] == '\0' ? "." : " without a zero byte", stdout);
+}
+
+static void put_text(const yaml_char_t *text)
+{
+    if (text == NULL)
+        fputs(" -", stdout);
+    else
+        put_bytes(text, strlen((const char *)text));
+}
+
+static void put_document_start(const yaml_event_t *event)
+{
+    const yaml_version_directive_t *version = event->data.document_start.version_directive;
+    const yaml_tag_directive_t *tag = event->data.document_start.tag_directives.start;
+
+    printf(" %d", event->data.document_start.implicit);
+    if (version != NULL)
+        printf(" %d.%d", version->major, version->minor);
+    for (; tag != event->data.document_start.tag_directives.end; tag++) {
+        put_text(tag->handle);
+        put_text(tag->prefix);
+    }
+}
+
+static void put_scalar(const yaml_event_t *event)
+{
+    put_text(event->data.scalar.anchor);
+    put_text(event->data.scalar.tag);
+    put_bytes(event->data.scalar.value, event->data.scalar.length);
+    printf(" %d %d %d", event->data.scalar.plain_implicit, event->data.scalar.quoted_implicit, event->data.scalar.style);
+}
+
+static void put_event(const yaml_event_t *event)
+{
+    printf("%d", event->type);
+    put_mark(event->start_mark);
+    put_mark(event->end_mark);
+    if (event->type == YAML_STREAM_START_EVENT)
+        printf(" %d", event->data.stream_start.encoding);
+    else if (event->type == YAML_DOCUMENT_START_EVENT)
+        put_document_start(event);
+    else if (event->type == YAML_DOCUMENT_END_EVENT)
+        printf(" %d", event->data.document_end.implicit);
+    else if (event->type == YAML_ALIAS_EVENT)
+        put_text(event->data.alias.anchor);
+    else if (event->type == YAML_SCALAR_EVENT)
+        put_scalar(event);
+    else if (event->type == YAML_SEQUENCE_START_EVENT || event->type == YAML_MAPPING_START_EVENT) {
+        /* the two have one layout */
+        put_text(event->data.sequence_start.anchor);
+        put_text(event->data.sequence_start.tag);
+        printf(" %d %d", event->data.sequence_start.implicit, event->data.sequence_start.style);
+    }
+    putchar('\n');
+}
+
+static void put_node(const yaml_node_t *node)
+{
+    printf("%d", node->type);
+    put_mark(node->start_mark);
+    put_mark(node->end_mark);
+    put_text(node->tag);
+    if (node->type == YAML_SCALAR_NODE)
+        put_bytes(node->data.scalar.value, node->data.scalar.length);
+    else if (node->type == YAML_SEQUENCE_NODE)
+        for (yaml_node_item_t *item = node->data.sequence.items.start; item != node->data.sequence.items.top; item++)
+            printf(" %d", *item);
+    else
+        for (yaml_node_pair_t *pair = node->data.mapping.pairs.start; pair != node->data.mapping.pairs.top; pair++)
+            printf(" %d:%d", pair->key, pair->value);
+    putchar('\n');
+}
+
+static void put_error(const yaml_parser_t *parser)
+{
+    printf("error %d %s", parser->error, parser->problem ? parser->problem : "-");
+    put_mark(parser->problem_mark);
+    printf(" %s", parser->context ? parser->context : "-");
+    put_mark(parser->context_mark);
+    printf(" %zu %d\n", parser->problem_offset, parser->problem_value);
+}
+
+/* Gives each event to `put`, where there is one; how many there were. */
+static long parse(yaml_parser_t *parser, void (*put)(const yaml_event_t *))
+{
+    yaml_event_t event;
+    yaml_event_type_t type = YAML_NO_EVENT;
+    long count = 0;
+
+    do {
+        if (!yaml_parser_parse(parser, &event)) {
+            put_error(parser);
+            return count;
+        }
+        if (put != NULL)
+            put(&event);
+        count++;
+        type = event.type;
+        yaml_event_delete(&event);
+    } while (type != YAML_STREAM_END_EVENT && type != YAML_NO_EVENT);
+    return count;
+}
+
+static long load(yaml_parser_t *parser)
+{
+    yaml_document_t document;
+    long count = 0;
+    int more;
+
+    do {
+        if (!yaml_parser_load(parser, &document)) {
+            put_error(parser);
+            return count;
+        }
+        printf("document %d %d\n", document.start_implicit, document.end_implicit);
+        for (yaml_node_t *node = document.nodes.start; node != document.nodes.top; node++, count++)
+            put_node(node);
+        more = yaml_document_get_root_node(&document) != NULL;
+        yaml_document_delete(&document);
+    } while (more);
+    return count;
+}
+
+/* Each file that a line of the input names. */
+static int each_file(int by_nodes)
+{
+    char name[4096];
+    yaml_parser_t parser;
+    long files = 0, count = 0;
+
+    while (fgets(name, sizeof name, stdin) != NULL) {
+        name[strcspn(name, "\n")] = '\0';
+        FILE *file = fopen(name, "rb");
+        if (file == NULL || !yaml_parser_initialize(&parser))
+            return 3;
+        yaml_parser_set_input_file(&parser, file);
+        printf("file %s\n", name);
+        count += by_nodes ? load(&parser) : parse(&parser, put_event);
+        yaml_parser_delete(&parser);
+        fclose(file);
+        files++;
+    }
+    fprintf(stderr, "%ld files, %ld %s\n", files, count, by_nodes ? "nodes" : "events");
+    return 0;
+}
+
+/* Reads what there is: as little as a pipe has. */
+static int read_some(void *data, unsigned char *buffer, size_t size, size_t *got)
+{
+    ssize_t count = read(0, buffer, size);
+
+    (void)data;
+    *got = count > 0 ? count : 0;
+    return count >= 0;
+}
+
+static int read_all(void *data, unsigned char *buffer, size_t size, size_t *got)
+{
+    size_t some;
+
+    for (*got = 0; *got < size; *got += some)
+        if (!read_some(data, buffer + *got, size - *got, &some) || some == 0)
+            break;
+    return 1;
+}
+
+static void put_kind(const yaml_event_t *event)
+{
+    printf("%d\n", event->type);
+    fflush(stdout);
+}
+
+/* The peak of resident memory in KB; 0 where it isn't told. */
+static long peak(void)
+{
+    char line[256];
+    long found = 0;
+    FILE *status = fopen("/proc/self/status", "r");
+
+    while (status != NULL && found == 0 && fgets(line, sizeof line, status) != NULL)
+        sscanf(line, "VmHWM: %ld", &found);
+    if (status != NULL)
+        fclose(status);
+    return found;
+}
+
+static int input(const char *how)
+{
+    yaml_parser_t parser;
+
+    if (!yaml_parser_initialize(&parser))
+        return 3;
+    yaml_parser_set_input(&parser, strcmp(how, "late") == 0 ? read_all : read_some, NULL);
+    long count = parse(&parser, strcmp(how, "memory") == 0 ? NULL : put_kind);
+    yaml_parser_delete(&parser);
+    if (strcmp(how, "memory") == 0)
+        printf("%ld %ld\n", count, peak());
+    return 0;
+}
+
+int main(int count, char **words)
+{
+    if (count != 2)
+        return 2;
+    if (strcmp(words[1], "files") == 0 || strcmp(words[1], "nodes") == 0)
+        return each_file(strcmp(words[1], "nodes") == 0);
+    return input(words[1]);
+}

@@ -1,0 +1,340 @@
+/* Calls of libyaml where bindings/c/libyaml_preload.c is preloaded: each allocation refused in turn, parsers that are
+ * deleted at each event, moved, used after a fault or after the end, and by several threads; documents; more states, marks,
+ * tag directives and texts than there was room for at first. Says what was wrong, and exits with 1 where anything was. */
+#include <pthread.h>
+#include <stdio.h>
+#include <stdlib.h>
+#include <string.h>
+#include <yaml.h>
+
+static const char *const TEXT =
+    "%TAG !e! tag:e,2000:\n--- !e!x\n- &a [b, {c: d}, 'e f']\n- ? *a\n  : |\n   g\n- \"\\0\\u00e9 %\"\n...\nbare\n";
+static const struct {
+    const char *text;
+    yaml_error_type_t error;
+    const char *problem, *context;
+    size_t at;
+} BROKEN[] = {
+    {"[a, b", YAML_PARSER_ERROR, "did not find expected ',' or ']'", "while parsing a flow sequence", 5},
+    {"a: b: c\n", YAML_SCANNER_ERROR, "mapping values are not allowed in this context", NULL, 4},
+    {"a: 'x", YAML_SCANNER_ERROR, "found unexpected end of stream", "while scanning a quoted scalar", 5},
+    {"a: \xFF\n", YAML_READER_ERROR, "invalid leading UTF-8 octet", NULL, 0},
+    {"--- a\n--- [b}\n", YAML_PARSER_ERROR, "did not find expected ',' or ']'", "while parsing a flow sequence", 12},
+    {"- !a b\n- &c !d!e f\n", YAML_PARSER_ERROR, "found undefined tag handle", "while parsing a node", 12},
+    {"%TAG !e! a\n%TAG !e! b\n---\n", YAML_PARSER_ERROR, "found duplicate %TAG directive", NULL, 11},
+    {"- &a !!b @\n", YAML_SCANNER_ERROR, "found character that cannot start any token", "while scanning for the next token", 9},
+    {"- &a !!b &c d\n", YAML_PARSER_ERROR, "did not find expected '-' indicator", "while parsing a block collection", 9},
+};
+enum { EVENTS = 22, NODES = 11, LEVELS = 150 };
+
+/* Five tag directives, and a flow sequence in a flow sequence, 150 levels deep: the states, the marks and the directives grow. */
+static char deep[1000];
+
+static void make_deep(void)
+{
+    char *at = deep;
+
+    for (int i = 0; i < 5; i++)
+        at += sprintf(at, "%%TAG !%d! tag:example.org,2000:%d:\n", i, i);
+    at += sprintf(at, "--- !4!x ");
+    memset(at, '[', LEVELS);
+    memset(at + LEVELS, ']', LEVELS);
+}
+
+/* ---- The C library's allocator, of which one call may be refused ---- */
+
+extern void *__libc_malloc(size_t), *__libc_realloc(void *, size_t), *__libc_calloc(size_t, size_t);
+extern void __libc_free(void *);
+static __thread long refused_at, live, allocations;
+
+static int refuse(void)
+{
+    allocations++;
+    return refused_at > 0 && --refused_at == 0;
+}
+
+void *malloc(size_t size)
+{
+    void *block = refuse() ? NULL : __libc_malloc(size);
+    live += block != NULL;
+    return block;
+}
+
+void *calloc(size_t count, size_t size)
+{
+    void *block = refuse() ? NULL : __libc_calloc(count, size);
+    live += block != NULL;
+    return block;
+}
+
+void *realloc(void *block, size_t size)
+{
+    void *more = refuse() ? NULL : __libc_realloc(block, size);
+    live += block == NULL && more != NULL;
+    return more;
+}
+
+void free(void *block)
+{
+    live -= block != NULL;
+    __libc_free(block);
+}
+
+/* ---- The calls ---- */
+
+static int wrong;
+
+static void expect(int is, const char *what, long at)
+{
+    if (!is) {
+        printf("wrong: %s, at %ld\n", what, at);
+        wrong = 1;
+    }
+}
+
+static int begin(yaml_parser_t *parser, const char *text)
+{
+    if (!yaml_parser_initialize(parser))
+        return 0;
+    yaml_parser_set_input_string(parser, (const unsigned char *)text, strlen(text));
+    return 1;
+}
+
+/* Parses so many events at most; how many there were, and a sum over what they have. */
+static long parse(yaml_parser_t *parser, long most, unsigned long *sum)
+{
+    yaml_event_t event;
+    long count = 0;
+    int more = 1;
+
+    while (more && count < most && yaml_parser_parse(parser, &event) && event.type != YAML_NO_EVENT) {
+        *sum = *sum * 31 + event.type + event.start_mark.index * 7 + event.end_mark.column;
+        for (size_t i = 0; event.type == YAML_SCALAR_EVENT && i < event.data.scalar.length; i++)
+            *sum = *sum * 31 + event.data.scalar.value[i];
+        more = event.type != YAML_STREAM_END_EVENT;
+        yaml_event_delete(&event);
+        count++;
+    }
+    return count;
+}
+
+static long parse_text(const char *text, long most, unsigned long *sum, yaml_error_type_t *error)
+{
+    yaml_parser_t parser;
+    long count = 0;
+
+    *error = YAML_MEMORY_ERROR;
+    if (begin(&parser, text)) {
+        count = parse(&parser, most, sum);
+        *error = parser.error;
+    }
+    yaml_parser_delete(&parser);
+    return count;
+}
+
+/* Loads all documents; how many nodes there were, or -1 by a fault. */
+static long load_text(const char *text, yaml_error_type_t *error)
+{
+    yaml_parser_t parser;
+    yaml_document_t document;
+    long nodes = 0;
+    int more = begin(&parser, text);
+
+    *error = YAML_MEMORY_ERROR;
+    while (more && (more = yaml_parser_load(&parser, &document))) {
+        more = yaml_document_get_root_node(&document) != NULL;
+        nodes += document.nodes.top - document.nodes.start;
+        yaml_document_delete(&document);
+        *error = YAML_NO_ERROR;
+    }
+    if (parser.error != YAML_NO_ERROR)
+        *error = parser.error;
+    yaml_parser_delete(&parser);
+    return nodes;
+}
+
+static void check_whole(void)
+{
+    unsigned long sum = 0;
+    yaml_error_type_t error;
+
+    expect(parse_text(TEXT, 1000, &sum, &error) == EVENTS && error == YAML_NO_ERROR, "events", 0);
+    expect(load_text(TEXT, &error) == NODES && error == YAML_NO_ERROR, "nodes", 0);
+}
+
+/* Each allocation refused in turn: a memory error or the same events, and every block given back. */
+static long check_refusals(const char *text, long events)
+{
+    unsigned long whole = 0, sum;
+    yaml_error_type_t error;
+    long at = 0, before = live, memory = 0, count;
+
+    expect(parse_text(text, 1000, &whole, &error) == events && error == YAML_NO_ERROR, "events", events);
+    do {
+        sum = 0;
+        refused_at = ++at;
+        count = parse_text(text, 1000, &sum, &error);
+        expect(live == before, "blocks are lost", at);
+        expect(error == YAML_MEMORY_ERROR || (error == YAML_NO_ERROR && count == events && sum == whole), "a refusal", at);
+        memory += error == YAML_MEMORY_ERROR;
+    } while (refused_at == 0);
+    refused_at = 0;
+    expect(memory == at - 1, "refusals are told", memory);
+    return memory;
+}
+
+static void check_deleted(void)
+{
+    unsigned long sum;
+    yaml_error_type_t error;
+
+    for (long most = 0; most <= EVENTS; most++) {
+        long before = live;
+        expect(parse_text(TEXT, most, &sum, &error) == most, "deleted", most);
+        expect(live == before, "blocks are lost", most);
+    }
+}
+
+static void check_faults(void)
+{
+    yaml_parser_t parser;
+    yaml_event_t event;
+    unsigned long sum = 0;
+
+    for (size_t i = 0; i < sizeof BROKEN / sizeof *BROKEN; i++) {
+        long before = live;
+        if (!begin(&parser, BROKEN[i].text))
+            abort();
+        parse(&parser, 1000, &sum);
+        yaml_error_type_t error = parser.error;
+        expect(error == BROKEN[i].error && strcmp(parser.problem, BROKEN[i].problem) == 0, "a fault", i);
+        expect(parser.problem_mark.index == BROKEN[i].at, "where it is", parser.problem_mark.index);
+        expect(BROKEN[i].context ? parser.context && strcmp(parser.context, BROKEN[i].context) == 0 : !parser.context,
+               "its context", i);
+        expect(yaml_parser_parse(&parser, &event) && event.type == YAML_NO_EVENT && parser.error == error, "after it", i);
+        yaml_parser_delete(&parser);
+        expect(live == before, "blocks are lost", i);
+    }
+}
+
+/* Whether the first scalar of a text has this tag. */
+static int has_tag(const char *text, const char *tag)
+{
+    yaml_parser_t parser;
+    yaml_event_t event;
+    int more, is = 0;
+
+    if (!begin(&parser, text))
+        abort();
+    do {
+        more = yaml_parser_parse(&parser, &event) && event.type != YAML_NO_EVENT && event.type != YAML_SCALAR_EVENT;
+        is = event.type == YAML_SCALAR_EVENT && event.data.scalar.tag != NULL &&
+             strcmp((char *)event.data.scalar.tag, tag) == 0;
+        yaml_event_delete(&event);
+    } while (more);
+    yaml_parser_delete(&parser);
+    return is;
+}
+
+static void check_tags(void)
+{
+    expect(has_tag("- !a b", "!a") && has_tag("- !!str b", "tag:yaml.org,2002:str"), "default handles", 0);
+    expect(has_tag("%TAG ! tag:e:\n--- !a b", "tag:e:a"), "a primary handle", 0);
+    expect(has_tag("%TAG !e! a\n%TAG !f! b\n--- !f!c d", "bc"), "the second handle", 0);
+    expect(has_tag("- &b !<%ED%A0%80> c", "\xED\xA0\x80"), "a tag that isn't UTF-8", 0);
+}
+
+/* Documents without content, of which each has three events for one token, and a long tag that each has. */
+static void check_room(void)
+{
+    enum { DOCUMENTS = 500, PREFIX = 2000, TAGS = 100 };
+    static char text[PREFIX + 4 * DOCUMENTS + 8 * TAGS + 100];
+    unsigned long sum;
+    yaml_error_type_t error;
+    char *at = text;
+
+    for (int i = 0; i < DOCUMENTS; i++)
+        at += sprintf(at, "---\n");
+    expect(parse_text(text, 10000, &sum, &error) == 2 + 3 * DOCUMENTS && error == YAML_NO_ERROR, "documents", DOCUMENTS);
+    at = text + sprintf(text, "%%TAG !e! tag:");
+    memset(at, 'x', PREFIX);
+    at += PREFIX;
+    at += sprintf(at, "\n---\n");
+    for (int i = 0; i < TAGS; i++)
+        at += sprintf(at, "- !e!a b\n");
+    expect(parse_text(text, 10000, &sum, &error) == 6 + TAGS && error == YAML_NO_ERROR, "tags", TAGS);
+}
+
+/* A parser that is moved before each call, as it may be where its input is no string. */
+static void check_moved(void)
+{
+    yaml_parser_t parsers[2];
+    yaml_event_t event;
+    unsigned long whole = 0, sum = 0;
+    yaml_error_type_t error;
+    long at = 0;
+    FILE *file = tmpfile();
+
+    if (file == NULL || fputs(TEXT, file) < 0 || !yaml_parser_initialize(&parsers[0]))
+        abort();
+    rewind(file);
+    yaml_parser_set_input_file(&parsers[0], file);
+    sum = 0;
+    while (parse(&parsers[at % 2], 1, &sum) == 1) {
+        parsers[(at + 1) % 2] = parsers[at % 2];
+        memset(&parsers[at % 2], 0xAA, sizeof *parsers);
+        at++;
+    }
+    parse_text(TEXT, 1000, &whole, &error);
+    expect(at == EVENTS && sum == whole, "moved", at);
+    expect(yaml_parser_parse(&parsers[at % 2], &event) && event.type == YAML_NO_EVENT, "after the end", at);
+    yaml_parser_delete(&parsers[at % 2]);
+    fclose(file);
+}
+
+static void *many(void *whole)
+{
+    yaml_error_type_t error;
+
+    for (int i = 0; i < 500; i++) {
+        unsigned long sum = 0;
+        if (parse_text(TEXT, 1000, &sum, &error) != EVENTS || sum != *(unsigned long *)whole)
+            return whole;
+    }
+    return NULL;
+}
+
+static void check_threads(void)
+{
+    pthread_t threads[8];
+    unsigned long whole = 0;
+    yaml_error_type_t error;
+    void *returned;
+
+    parse_text(TEXT, 1000, &whole, &error);
+    for (int i = 0; i < 8; i++)
+        if (pthread_create(&threads[i], NULL, many, &whole) != 0)
+            abort();
+    for (int i = 0; i < 8; i++) {
+        pthread_join(threads[i], &returned);
+        expect(returned == NULL, "threads", i);
+    }
+}
+
+int main(void)
+{
+    check_whole();
+    if (wrong)
+        return 1;
+    make_deep();
+    long refused = check_refusals(TEXT, EVENTS) + check_refusals(deep, 4 + 2 * LEVELS);
+    check_deleted();
+    check_faults();
+    check_tags();
+    check_room();
+    check_moved();
+    check_threads();
+    printf("%ld allocations refused, parsers deleted, moved, used after a fault and by threads: %s\n", refused,
+           wrong ? "wrong" : "as they should be");
+    return wrong;
+}

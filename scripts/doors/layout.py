@@ -1,0 +1,84 @@
+#!/usr/bin/env python3
+"""Writes a C program that the compiler refuses unless the headers in bindings/c/include have the structs that cross to C, as the crates
+declare them: as many bytes, and each field by its name, with its type, at its offset.
+
+    python3 scripts/doors/layout.py > layout.c && cc -Ibindings/c/include -fsyntax-only layout.c
+
+The table is made of the Rust structs alone. Each has `#[repr(C)]`, so its fields stand in their order, each at the next
+multiple of its alignment. A struct that has no name in C is a part of another one.
+"""
+import re
+from pathlib import Path
+
+CRATES = Path(__file__).resolve().parents[2] / "crates"
+# the header, the files that have its structs, and the structs' names in C where they are others
+HEADERS = (
+    ("pokhvizi/documents.h", ("records/src/records.rt",),
+     {"mark_record_t": "pokhvizi_mark_t", "range_record_t": "pokhvizi_range_t", "token_record_t": "pokhvizi_token_t",
+      "directive_record_t": "pokhvizi_directive_t", "fault_record_t": "pokhvizi_documents_fault_t",
+      "document_record_t": "pokhvizi_document_t", "node_record_t": "pokhvizi_node_t", "pair_record_t": "pokhvizi_pair_t",
+      "document_counts_t": "pokhvizi_document_counts_t", "documents_run_t": "pokhvizi_documents_t"},
+     ()),
+    ("pokhvizi/steps.h",
+     ("libyaml_types/src/mark.rt", "libyaml_automaton/src/machine.rt", "libyaml_automaton/src/reading.rt",
+      "token_steps/src/records.rt", "token_steps/src/steps.rt", "token_steps/src/tags/handles.rt"),
+     {"yaml_mark_t": "pokhvizi_mark_t", "step_span_t": "pokhvizi_span_t", "step_event_t": "pokhvizi_event_t",
+      "step_fault_t": "pokhvizi_fault_t", "steps_t": "pokhvizi_steps_t", "text_t": "pokhvizi_text_t",
+      "handle_t": "pokhvizi_handle_t"},
+     ("Machine", "Reading")),
+)
+STRUCT = re.compile(r"#\[repr\(C\)\]\n(?:#\[[^\n]*\]\n)*pub struct (\w+) \{\n(.*?)^\}", re.M | re.S)
+FIELD = re.compile(r"^    pub (\w+): (\w+),$", re.M)
+# the name in C, and the size, which is the alignment too
+NUMBERS = {"u8": ("uint8_t", 1), "u16": ("uint16_t", 2), "u32": ("uint32_t", 4), "i32": ("int32_t", 4), "u64": ("uint64_t", 8), "usize": ("size_t", 8)}
+
+
+class Layout:
+    """A type's name in C, size and alignment, and the fields of a struct."""
+
+    def __init__(self, name, size, alignment, fields=()):
+        self.name, self.size, self.alignment, self.fields = name, size, alignment, fields
+
+
+def struct(name, body, types):
+    """The layout of a struct whose fields have these types."""
+    fields, offset, alignment = [], 0, 1
+    found = FIELD.findall(body)
+    if len(found) != body.count("pub "):
+        raise SystemExit(f"{name}: a field that this script can't read")
+    for field, kind in found:
+        layout = types[kind]
+        offset += -offset % layout.alignment
+        fields.append((field, offset, layout))
+        offset, alignment = offset + layout.size, max(alignment, layout.alignment)
+    return Layout(name, offset + -offset % alignment, alignment, fields)
+
+
+def write_fields(name, layout, parts, path="", start=0):
+    """Writes what the fields of a struct have to be, and those of its parts."""
+    for field, offset, kind in layout.fields:
+        place = path + field
+        print(f'_Static_assert(offsetof({name}, {place}) == {start + offset}, "{name}.{place}: its place");')
+        if kind.name in parts:
+            print(f'_Static_assert(sizeof((({name} *)0)->{place}) == {kind.size}, "{name}.{place}: its size");')
+            write_fields(name, kind, parts, place + ".", start + offset)
+        else:
+            print(f'_Static_assert(_Generic((({name} *)0)->{place}, {kind.name}: 1, default: 0), "{name}.{place}: its type");')
+
+
+def main():
+    for header, sources, names, parts in HEADERS:
+        types = {name: Layout(c, size, size) for name, (c, size) in NUMBERS.items()}
+        print(f'#include "{header}"')
+        for name, body in STRUCT.findall("".join((CRATES / source).read_text() for source in sources)):
+            layout = types[name] = struct(names.get(name, name), body, types)
+            if name not in parts:
+                write_fields(layout.name, layout, parts)
+                print(f'_Static_assert(sizeof({layout.name}) == {layout.size}, "{layout.name}: its size");')
+        missing = (set(names) | set(parts)) - set(types)
+        if missing:
+            raise SystemExit(f"{header}: no struct {missing}")
+
+
+if __name__ == "__main__":
+    main()

@@ -1,0 +1,54 @@
+#!/bin/sh
+# Writes into DIR the LLVM modules that the prover's compiler makes of the libraries for C, as steps.ll, documents.ll and lines.ll,
+# and beside them the objects that its clang makes of these, as NAME_module.o:
+#
+#     sh scripts/llvm_source.sh DIR
+#
+# The kit has no word for a module. So its compiler is run with a folder of tools whose clang first copies what it is given. This
+# rests on how the kit calls clang: with the module as the file module.bc in the folder that it is run in. Where that is no longer
+# so, no module is found, and the script fails. Needs what build_c.sh made before: the proved libraries in crates/*/out/rlib.
+set -eu
+[ $# -eq 1 ] || { echo "usage: sh scripts/llvm_source.sh DIR" >&2; exit 2; }
+mkdir -p "$1"
+dir=$(cd "$1" && pwd)
+cd "$(dirname "$0")/.."
+top=$PWD
+kit=$(dirname "$(rt doc)")
+work=$(mktemp -d)
+trap 'rm -rf "$work"' EXIT
+mkdir -p "$work/toolchain/bin"
+for part in "$kit"/toolchain/*; do
+    [ "${part##*/}" = bin ] || ln -s "$part" "$work/toolchain/${part##*/}"
+done
+for tool in "$kit"/toolchain/bin/*; do
+    ln -s "$tool" "$work/toolchain/bin/${tool##*/}"
+done
+rm "$work/toolchain/bin/clang"
+printf '#!/bin/sh\n[ ! -e module.bc ] || cp module.bc "%s/module.bc"\nexec "%s" "$@"\n' "$work" "$kit/toolchain/bin/clang" > "$work/toolchain/bin/clang"
+chmod 755 "$work/toolchain/bin/clang"
+
+module() {
+    door=$1 name=$2
+    below=$(sed -n "s/^$name staticlib: *//p" crates.txt)
+    set -- --extern "std=$kit/rlibs/std.rlib" -L "dependency=$kit/rlibs"
+    for crate in $below; do
+        made=$top/crates/$crate/out/rlib/$crate.rlib
+        [ -d "crates/$crate" ] || made=$kit/rlibs/$crate.rlib
+        set -- "$@" --extern "$crate=$made"
+    done
+    for folder in "$top"/crates/*/out/rlib; do
+        set -- "$@" -L "dependency=$folder"
+    done
+    rm -f "$work/module.bc"
+    (cd "crates/$name" && "$kit/bin/rattle" build --crate-name "$name" src/lib.rt "$@" --antt-project "$kit/rattle/logic/antt-project.json" \
+        --logic-built "$kit/logic_built" --jobs 1 --links "$name=" --crate-type staticlib --cpu x86-64 \
+        --toolchain "$work/toolchain" --backend llvm -o "$work/lib.a") > "$work/said" 2>&1 || { tail -n 5 "$work/said" >&2; exit 1; }
+    [ -s "$work/module.bc" ] || { echo "llvm_source.sh: no module of $name was found" >&2; exit 1; }
+    "$kit/toolchain/bin/clang" --target=x86_64-unknown-linux-gnu --no-default-config -S -emit-llvm -O0 -Xclang -disable-llvm-passes \
+        -x ir "$work/module.bc" -o "$dir/$door.ll"
+    (cd "$work" && ar x lib.a && mv "$name.o" "$dir/${door}_module.o")
+}
+
+module steps token_steps_c
+module documents records_c
+module lines token_lines_c

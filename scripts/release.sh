@@ -1,0 +1,168 @@
+#!/bin/sh
+# Makes what a user without the kit installs:
+#
+#     sh scripts/release.sh OUTDIR [BUILT]
+#
+#     pokhvizi-VERSION-MACHINE-linux.tar.gz      for C and C++: headers, static and shared library, pkg-config, the preload
+#                                                library with its starter, samples, pages, PROOF
+#     pokhvizi-VERSION-py3-none-MACHINE.whl      for Python
+#     pokhvizi-unsafe-libyaml-VERSION.tar.gz     for Rust, to be named by [patch.crates-io]; it has the library for both machines
+#                                                and the original crate, which ORIGINAL names
+#     pokhvizi-VERSION-llvm.tar.gz               the LLVM modules, to be compiled
+#     SHA256SUMS
+#
+# MACHINE is x86_64 and aarch64; MACHINES names others of these. WITHOUT_MODULES leaves the LLVM archive out. BUILT has what build_c.sh made, for aarch64 in BUILT/aarch64;
+# without it both are made here. ORIGINAL is the folder of unsafe-libyaml 0.2.11, as Debian's librust-unsafe-libyaml-dev has it
+# in /usr/share/cargo/registry; without one there is no archive for Rust, which is said. Times are those of the last commit, so
+# two runs over one commit write the same bytes.
+#
+# Needs the kit, gcc, binutils, python3, libyaml-dev, and for aarch64 gcc-aarch64-linux-gnu with libyaml's library for that machine
+# (Debian: libyaml-dev:arm64), without which that archive has no preload library, which is said.
+set -eu
+case ${1-} in '' | -*) echo "usage: sh scripts/release.sh OUTDIR [BUILT]" >&2; exit 2 ;; esac
+[ $# -le 2 ] || { echo "usage: sh scripts/release.sh OUTDIR [BUILT]" >&2; exit 2; }
+mkdir -p "$1"
+out=$(cd "$1" && pwd)
+built=${2:+$(cd "$2" && pwd)}
+cd "$(dirname "$0")/.."
+top=$PWD
+work=$(mktemp -d)
+trap 'rm -rf "$work"' EXIT
+version=$(cat VERSION)
+abi=$(cat bindings/c/ABI_VERSION)
+machines=${MACHINES:-x86_64 aarch64}
+original=${ORIGINAL:-$(ls -d /usr/share/cargo/registry/unsafe-libyaml-0.2.11 2> /dev/null || true)}
+SOURCE_DATE_EPOCH=$(git log -1 --format=%ct)
+export SOURCE_DATE_EPOCH LC_ALL=C TZ=UTC
+umask 022
+rm -f "$out"/*.tar.gz "$out"/*.whl "$out/SHA256SUMS"
+
+if [ -z "$built" ]; then
+    built=$work/built
+    sh scripts/build_c.sh "$built"
+    case " $machines " in *" aarch64 "*) sh scripts/build_c.sh "$built/aarch64" aarch64 ;; esac
+fi
+
+# Where the libraries of a machine are, and its tools.
+folder_of() { [ "$1" = x86_64 ] && echo "$built" || echo "$built/$1"; }
+tools_of() { [ "$1" = x86_64 ] || echo "$1-linux-gnu-"; }
+
+# An archive of a tree that depends on nothing but its files.
+pack() {
+    (cd "$1/.." && tar --sort=name --mtime="@$SOURCE_DATE_EPOCH" --owner=0 --group=0 --numeric-owner --format=ustar -cf - "${1##*/}") |
+        gzip -9n > "$2"
+}
+
+# ---- What was proved ----
+
+proof_note() {
+    commit=$(git rev-parse HEAD)
+    [ -z "$(git status --porcelain -- crates crates.txt bindings)" ] || commit="$commit and changes"
+    echo "Pokhvizi $version, commit $commit"
+    rt version
+    echo
+    echo "SHA-256 of the objects that the prover's compiler wrote, before they were linked with its allocator ($1):"
+    (cd "$(folder_of "$1")" && sha256sum steps_module.o documents_module.o lines_module.o)
+    echo
+    echo "The prover's last lines for each of them, steps, documents and lines:"
+    grep -E '^(fn|axioms|logic[ =])' "$(folder_of "$1")/rt_lib.log" | sed "s#/[^ ]*/rattle/logic/#rattle/logic/#"
+}
+
+# ---- C ----
+
+c_archive() {
+    machine=$1
+    folder=$(folder_of "$machine")
+    tree=$work/pokhvizi-$version-$machine-linux
+    mkdir -p "$tree/bin" "$tree/include" "$tree/lib/pkgconfig" "$tree/lib/pokhvizi" "$tree/share/doc/pokhvizi/examples"
+    cp -R bindings/c/include/pokhvizi "$tree/include"
+    cp "$folder/libpokhvizi.a" "$tree/lib"
+    cp "$folder/libpokhvizi.so.$abi" "$tree/lib/libpokhvizi.so.$version"
+    ln -s "libpokhvizi.so.$version" "$tree/lib/libpokhvizi.so.$abi"
+    ln -s "libpokhvizi.so.$abi" "$tree/lib/libpokhvizi.so"
+    sed "s/@VERSION@/$version/" bindings/c/pokhvizi.pc.in > "$tree/lib/pkgconfig/pokhvizi.pc"
+    cp bindings/c/install.mk "$tree/Makefile"
+    install -m 755 bindings/c/proved-libyaml "$tree/bin"
+    if ! "$(tools_of "$machine")gcc" -O2 -Wall -Wextra -shared -fPIC -fvisibility=hidden -Ibindings/c/include -Wl,--exclude-libs,ALL \
+        -Wl,-z,relro,-z,now -Wl,--build-id=sha1 -ffile-prefix-map="$top=." -o "$work/preload.so" bindings/c/libyaml_preload.c \
+        "$folder/steps.o" -lyaml 2> "$work/said"; then
+        [ "$machine" != x86_64 ] || { cat "$work/said" >&2; exit 1; }
+        echo "no preload library for $machine: $(tail -n 1 "$work/said")"
+        rm -r "$tree/bin" "$tree/lib/pokhvizi"
+        sed -i '/preload\|proved-libyaml/d' "$tree/Makefile"
+    else
+        "$(tools_of "$machine")strip" --strip-unneeded -o "$tree/lib/pokhvizi/libyaml_preload.so" "$work/preload.so"
+    fi
+    glibc=$(for file in "$tree"/lib/libpokhvizi.so "$tree"/lib/pokhvizi/*.so; do
+        [ ! -e "$file" ] || "$(tools_of "$machine")objdump" -T "$file"
+    done | grep -o 'GLIBC_[0-9.]*' | sed s/GLIBC_// | sort -Vu | tail -n 1)
+    sed "s/@GLIBC@/$glibc/" bindings/c/README.md > "$tree/README.md"
+    cp LICENSE CHANGELOG.md docs/PROVED.md docs/DEFINITIONS.md docs/DIFFERENCES.md docs/HEADLINE.md "$tree/share/doc/pokhvizi"
+    cp "$tree/README.md" "$tree/share/doc/pokhvizi"
+    cp examples/events.c examples/documents.c examples/yaml.c examples/list.yaml "$tree/share/doc/pokhvizi/examples"
+    proof_note "$machine" > "$tree/share/doc/pokhvizi/PROOF"
+    pack "$tree" "$out/pokhvizi-$version-$machine-linux.tar.gz"
+}
+
+# ---- Python ----
+
+wheel() {
+    machine=$1
+    tree=$work/pokhvizi-$version-$machine-linux
+    needs=$("$(tools_of "$machine")objdump" -T "$tree/lib/libpokhvizi.so" | grep -o 'GLIBC_[0-9.]*' | sed s/GLIBC_// | sort -Vu | tail -n 1)
+    case $needs in
+    2.[0-9] | 2.[0-9].* | 2.1[0-7]) tag=manylinux_2_17_$machine.manylinux2014_$machine ;;
+    *) tag=manylinux_$(echo "$needs" | tr . _)_$machine ;;
+    esac
+    python3 bindings/python/wheel.py "$tree/lib/libpokhvizi.so.$version" LICENSE "$tree/share/doc/pokhvizi/PROOF" "$version" "$tag" "$out"
+}
+
+# ---- Rust ----
+
+crate() {
+    tree=$work/pokhvizi-unsafe-libyaml-$version
+    mkdir -p "$tree"
+    git ls-files bindings/rust | while read -r file; do
+        mkdir -p "$tree/$(dirname "${file#bindings/rust/}")"
+        cp "$file" "$tree/${file#bindings/rust/}"
+    done
+    for machine in $machines; do
+        mkdir -p "$tree/lib/$machine-unknown-linux"
+        cp "$(folder_of "$machine")/libpokhvizi.a" "$tree/lib/$machine-unknown-linux"
+        cp "$work/pokhvizi-$version-$machine-linux/share/doc/pokhvizi/PROOF" "$tree/lib/$machine-unknown-linux"
+    done
+    cp LICENSE "$tree"
+    # The original, without which cargo can't have both: its licence goes with it.
+    mkdir "$tree/original"
+    cp -RL "$original/src" "$original/Cargo.toml" "$original/LICENSE-MIT" "$tree/original"
+    rm -rf "$tree/original/src/bin"
+    printf '\n# cargo hides the warnings of a crate of the registry, and not those of a path.\n[lints.rust]\nwarnings = "allow"\n' \
+        >> "$tree/original/Cargo.toml"
+    pack "$tree" "$out/pokhvizi-unsafe-libyaml-$version.tar.gz"
+}
+
+# ---- LLVM ----
+
+modules() {
+    tree=$work/pokhvizi-$version-llvm
+    mkdir -p "$tree/include"
+    sh scripts/llvm_source.sh "$tree" > "$work/said" 2>&1 || { cat "$work/said" >&2; exit 1; }
+    for door in steps documents lines; do
+        cmp "$tree/${door}_module.o" "$built/${door}_module.o"
+        rm "$tree/${door}_module.o"
+    done
+    cp -R bindings/c/include/pokhvizi "$tree/include"
+    cp bindings/llvm/Makefile bindings/llvm/README.md bindings/llvm/heap.c bindings/llvm/lower.py LICENSE "$built/pokhvizi.map" "$tree"
+    cp "$work/pokhvizi-$version-x86_64-linux/share/doc/pokhvizi/PROOF" "$tree"
+    pack "$tree" "$out/pokhvizi-$version-llvm.tar.gz"
+}
+
+for machine in $machines; do
+    c_archive "$machine"
+    wheel "$machine"
+done
+if [ -n "$original" ]; then crate; else echo "no archive for Rust: ORIGINAL doesn't name the folder of unsafe-libyaml 0.2.11"; fi
+case ${WITHOUT_MODULES-}$machines in x86_64*) modules ;; esac
+(cd "$out" && sha256sum -- *.tar.gz *.whl > SHA256SUMS)
+echo "made in $out:"
+sed 's/^[0-9a-f]*  //' "$out/SHA256SUMS"

@@ -1,0 +1,181 @@
+#!/bin/sh
+# Makes a release of built libraries twice, compares the two, and installs and uses each archive in an empty place:
+#
+#     sh scripts/release_checks.sh BUILT [all]
+#
+# BUILT is what build_c.sh made. The archives are those of release.sh for x86-64, with the modules where the word `all` is given,
+# and for aarch64 too where BUILT/aarch64 is there. What is installed is used with a path of the system's alone and no variables:
+# programs in C of 1989 to C++, by gcc and by clang, static and shared; a program that is preloaded; the wheel in an environment of
+# its own, typed; the crate below serde_yaml. What lacks a tool is skipped, which is said: clang, python3 with venv and PyYAML, mypy,
+# cargo, and the crates of Debian's librust-unsafe-libyaml-dev, librust-serde-yaml-dev and those below it, in the folder that
+# CLIENT_CRATES names or /usr/share/cargo/registry. The status is 1 where something is wrong.
+set -u
+[ $# -ge 1 ] && [ -f "$1/libpokhvizi.a" ] && case ${2:-all} in all) ;; *) false ;; esac ||
+    { echo "usage: sh scripts/release_checks.sh BUILT [all], where build_c.sh made BUILT" >&2; exit 2; }
+built=$(cd "$1" && pwd)
+cd "$(dirname "$0")/.." || exit 2
+top=$PWD
+work=$(mktemp -d) || exit 2
+trap 'rm -rf "$work"' EXIT
+crates=$(realpath "${CLIENT_CRATES:-/usr/share/cargo/registry}" 2> /dev/null || true)
+cargo=$(command -v cargo || true)
+version=$(cat VERSION)
+wrong=0 skipped=0
+
+complain() {
+    echo "wrong: $*"
+    wrong=$((wrong + 1))
+}
+
+skip() {
+    echo "skipped: $*"
+    skipped=$((skipped + 1))
+}
+
+# want WHAT WANTED COMMAND..: the command's output.
+want() {
+    what=$1 wanted=$2
+    shift 2
+    said=$("$@" 2>&1)
+    if [ "$said" = "$wanted" ]; then echo "as wanted: $what"; else complain "$what: $said"; fi
+}
+
+# ---- The archives ----
+
+machines=x86_64
+[ ! -f "$built/aarch64/libpokhvizi.a" ] || machines="x86_64 aarch64"
+for run in first second; do
+    ORIGINAL=${ORIGINAL:-$(ls -d "$crates"/unsafe-libyaml-0.2.11 2> /dev/null)} MACHINES=$machines WITHOUT_MODULES=$([ $# -eq 2 ] || echo yes) \
+        sh scripts/release.sh "$work/$run" "$built" > "$work/said" 2>&1 || { cat "$work/said"; complain "release.sh"; }
+done
+grep '^no ' "$work/said"
+diff -r "$work/first" "$work/second" > /dev/null || complain "two releases differ: $(diff -rq "$work/first" "$work/second")"
+out=$work/first
+[ -s "$out/SHA256SUMS" ] || { complain "nothing was made"; exit 1; }
+(cd "$out" && sha256sum --quiet -c SHA256SUMS) || complain "checksums"
+mkdir "$work/unpacked"
+for archive in "$out"/*.tar.gz; do
+    tar xzf "$archive" -C "$work/unpacked"
+done
+want 'no path of this machine' '' sh -c "cd '$work/unpacked' && grep -rlE \"$top|$work|/opt/rattle\" . | head -n 3"
+
+# ---- C ----
+
+cd "$work" || exit 2
+unset CC CXX CFLAGS LD_LIBRARY_PATH LD_PRELOAD PYTHONPATH POKHVIZI_DIR POKHVIZI_LIBRARY
+PATH=/usr/bin:/bin
+export PATH
+installed=$work/installed
+make -s -C "unpacked/pokhvizi-$version-x86_64-linux" PREFIX="$installed" install > "$work/said" 2>&1 || complain "make install: $(cat "$work/said")"
+export PKG_CONFIG_PATH="$installed/lib/pkgconfig"
+cat > three.c << 'C'
+#include <pokhvizi/documents.h>
+#include <pokhvizi/lines.h>
+#include <pokhvizi/steps.h>
+#include <stdio.h>
+#include <string.h>
+
+int main(void)
+{
+    static const unsigned char kinds[] = {1, 14, 21, 16, 21, 15, 2}; /* [ a, b ] */
+    static const char lines[] = "STREAM-START 0:0:0 0:0:0 utf8\nSTREAM-END 0:0:0 0:0:0\n";
+    static pokhvizi_span_t at;
+    pokhvizi_steps_t steps;
+    pokhvizi_event_t event;
+    pokhvizi_fault_t fault;
+    pokhvizi_documents_t run;
+    pokhvizi_token_t token;
+    unsigned char states[20], out[100], none = 0;
+    pokhvizi_mark_t marks[20];
+    pokhvizi_document_t document;
+    pokhvizi_node_t node;
+    pokhvizi_pair_t pair;
+    pokhvizi_directive_t directive;
+    int32_t item;
+    size_t i = 0, written, wanted;
+
+    pokhvizi_steps_new(&steps);
+    while (i < sizeof kinds) {
+        uint32_t did = pokhvizi_step(&steps, states, 20, marks, 20, kinds[i], 1, &at, &event, &fault);
+        if (did == POKHVIZI_GAVE || did == POKHVIZI_STAYS)
+            printf("%d ", event.kind);
+        i += did == POKHVIZI_GAVE || did == POKHVIZI_WANTS;
+        if (did > POKHVIZI_STAYS)
+            break;
+    }
+    memset(&token, 0, sizeof token);
+    pokhvizi_documents(&token, 0, &none, 0, &document, 1, &node, 1, &item, 1, &pair, 1, &directive, 1, out, 100, &run);
+    printf("%u %.*s ", run.fault.error, (int)run.fault.problem.length, (const char *)out + run.fault.problem.place);
+    printf("%u ", pokhvizi_event_lines((const unsigned char *)lines, strlen(lines), out, 100, 9, &written, &wanted));
+    printf("%lu\n", (unsigned long)wanted);
+    return 0;
+}
+C
+run='1 3 7 6 6 8 4 2 2 no more tokens 0 54'
+strict='-Wall -Wextra -Werror -pedantic'
+for words in 'gcc -std=c89' 'gcc -std=c11' 'gcc -static' 'g++ -x c++' 'clang -std=c99' 'clang++ -x c++'; do
+    command -v "${words%% *}" > /dev/null || { skip "$words, which isn't there"; continue; }
+    case $words in
+    *-static) $words $strict three.c -o three $(pkg-config --cflags --libs pokhvizi) ;;
+    *) $words $strict three.c -o three $(pkg-config --cflags pokhvizi) -x none $(pkg-config --libs pokhvizi) -Wl,-rpath,"$installed/lib" ;;
+    esac || complain "$words does not compile"
+    want "$words" "$run" ./three
+done
+want 'names that are handed out' \
+    'pokhvizi_directive_fact pokhvizi_documents pokhvizi_event_lines pokhvizi_node_lines pokhvizi_step pokhvizi_steps_new pokhvizi_tag pokhvizi_version_fact' \
+    sh -c "nm -D --defined-only '$installed/lib/libpokhvizi.so' | sed -n 's/.* T \([a-z_]*\).*/\1/p' | sort | tr '\n' ' ' | sed 's/ \$//'"
+want 'what the shared library needs' 'libc.so.6' sh -c "readelf -d '$installed/lib/libpokhvizi.so' | sed -n 's/.*NEEDED.*\[\(.*\)\]/\1/p'"
+for sample in events documents; do
+    gcc -O2 "$installed/share/doc/pokhvizi/examples/$sample.c" -o $sample $(pkg-config --cflags pokhvizi) "$installed/lib/libpokhvizi.a" -lyaml || complain "$sample.c"
+done
+want 'the sample of documents' '1 scalar a ... 1 scalar b ...' sh -c "printf 'a\n...\nb\n' | ./documents | tr '\n' ' ' | sed 's/ \$//'"
+want 'the sample of events' '8' sh -c "printf 'a\n...\nb\n' | ./events | wc -l"
+if python3 -c 'import yaml; yaml.CLoader' 2> /dev/null; then
+    want 'a program that is preloaded' 8 "$installed/bin/proved-libyaml" python3 -c \
+        'import yaml; print(len(list(yaml.parse("a\n...\nb\n", yaml.CLoader))))'
+else
+    skip "a program that is preloaded: python3 lacks PyYAML's C part"
+fi
+make -s -C "unpacked/pokhvizi-$version-x86_64-linux" PREFIX="$installed" uninstall
+want 'what uninstalling leaves' '' find "$installed" ! -type d
+
+# ---- Python ----
+
+cat > ask.py << 'PYTHON'
+import yaml
+from pokhvizi import SafeLoader
+print(yaml.load("a: [1, {b: c}]\n", Loader=SafeLoader), [d for d in yaml.load_all("a\n...\nb\n", Loader=SafeLoader)])
+PYTHON
+if python3 -c 'import yaml, venv' 2> /dev/null && python3 -m venv --system-site-packages environment > "$work/said" 2>&1; then
+    environment/bin/pip install -q --no-index --no-deps "$out"/pokhvizi-*x86_64.whl > "$work/said" 2>&1 || complain "pip install: $(cat "$work/said")"
+    want 'the wheel' "{'a': [1, {'b': 'c'}]} ['a', 'b']" env -i environment/bin/python ask.py
+    want 'its version' "$version" env -i environment/bin/python -c 'import pokhvizi; print(pokhvizi.__version__)'
+else
+    skip "the wheel: python3 lacks venv or PyYAML"
+fi
+
+# ---- Rust ----
+
+if [ -n "$cargo" ] && ls -d "$crates"/serde_yaml-* unpacked/pokhvizi-unsafe-libyaml-* > /dev/null 2>&1; then
+    mkdir -p home app/src
+    printf '[source.crates-io]\nreplace-with = "debian"\n[source.debian]\ndirectory = "%s"\n[net]\noffline = true\n' "$crates" > home/config.toml
+    printf '[package]\nname = "app"\nversion = "0.1.0"\nedition = "2021"\n[dependencies]\nserde_yaml = "0.9"\n[patch.crates-io]\nunsafe-libyaml = { path = "%s" }\n' \
+        "$work"/unpacked/pokhvizi-unsafe-libyaml-* > app/Cargo.toml
+    printf 'fn main() { println!("{}", serde_yaml::Deserializer::from_str("a\\n...\\nb\\n").take(9).count()); }\n' > app/src/main.rs
+    want 'the crate, below serde_yaml' 2 sh -c "cd app && CARGO_HOME='$work/home' timeout 600 '$cargo' run -q --offline"
+else
+    skip "the crate: cargo or serde_yaml isn't there, or no archive for Rust was made"
+fi
+
+# ---- LLVM ----
+
+if [ -d "unpacked/pokhvizi-$version-llvm" ]; then
+    if command -v clang-22 > /dev/null; then
+        want 'the objects of the modules' 'steps_module.o: OK documents_module.o: OK lines_module.o: OK' \
+            sh -c "cd unpacked/pokhvizi-$version-llvm && make -s check | tr '\n' ' ' | sed 's/ \$//'"
+    else
+        skip "the objects of the modules: clang-22 isn't there"
+    fi
+fi
+echo "$wrong wrong, $skipped skipped"
+[ $wrong -eq 0 ]
