@@ -1,6 +1,5 @@
 -- Where a step leads: no first state of a collection lies on the stack, one comes at its opening token alone,
--- and a token without an
--- event is a property or a directive where one is read.
+-- and a token without an event is a property or a directive where one is read.
 use Rattle.std.proofs.Common.{◌≡◌, ◌∙◌, ◌∷◌, List, [], Bool, true, false, Ok, Err, refl, sym, ap, subst}
 use Rattle.std.proofs.Common.{if◌then◌else◌}
 use mathlib.Core.Bool.{true≢false}

@@ -30,7 +30,7 @@ use Rattle.token_steps.specs.declared.records.step_event_t.{step_event_t}
 use Rattle.token_steps.specs.declared.records.step_fault_t.{step_fault_t}
 use Rattle.token_steps.specs.Records.{shape_of, event_of}
 use Rattle.token_steps.specs.Numbers.{number}
-use Rattle.token_steps.specs.Tells.{Tells, Enters, IsBehindEvent, is_start, want_in}
+use Rattle.token_steps.specs.Tells.{Tells, Enters, IsAfterEvent, is_start, want_in}
 use Rattle.token_steps.specs.Runs.{Run, begins, moves, takes, wants, gave, stays}
 use Rattle.token_steps.proofs.Follows.{no, is_first, Calm, is_at_state, keeping, Keeping, nothing}
 use Rattle.token_steps.proofs.Follows.{Adds, follows}
@@ -123,7 +123,7 @@ handles_stay : (x : Shape) (hs : Handles) → is_start x ≡ true → handles_af
 handles_stay (ev.DocumentEnd i) hs e = no e
 handles_stay _ hs e = refl
 
-keeps_nothing : (v : Want) → IsBehindEvent v → keeping v ≡ nothing
+keeps_nothing : (v : Want) → IsAfterEvent v → keeping v ≡ nothing
 keeps_nothing w.AtState b = refl
 keeps_nothing w.BehindFlowSequenceEntry b = refl
 keeps_nothing w.BehindFlowMappingEntry b = refl
@@ -131,7 +131,7 @@ keeps_nothing _ b = absurd b
 
 stood_enters : (v v' : Want) (k k' : Config) (hs : Handles) (h : Held) (l : List Token) (g : List Event)
     (t : Token) (e : step_event_t)
-    → Stood v k hs h (Some t) l g → is_start (shape_of e) ≡ true → IsBehindEvent v'
+    → Stood v k hs h (Some t) l g → is_start (shape_of e) ≡ true → IsAfterEvent v'
     → Enters (step v k (token_of hs t)) (token_of hs t) e v' k'
     → Stood v' k' hs nothing_held None l (g ++ event_with hs h t.content (event_of e true) ∷ [])
 stood_enters v v' k k' hs h l g t e s i b q =

@@ -30,7 +30,7 @@ use Rattle.token_steps.specs.declared.did.Did.TheVariants as did
 use Rattle.token_steps.specs.declared.steps.steps_t.{steps_t}
 use Rattle.token_steps.specs.declared.records.step_event_t.{step_event_t}
 use Rattle.token_steps.specs.declared.records.step_fault_t.{step_fault_t}
-use Rattle.token_steps.specs.Tells.{IsTold, IsDone, IsUndone, IsGiven, IsBehindEvent, Tells, want_in}
+use Rattle.token_steps.specs.Tells.{IsTold, IsDone, IsUndone, IsGiven, IsAfterEvent, Tells, want_in}
 
 pub same_says : (p q : Progressed) (t : Token) (o : Outcome) → p ≡ q → Says q t o → Says p t o
 same_says p q t o e s = subst (λ x. Says x t o) (sym e) s
@@ -248,15 +248,15 @@ abbrev want_of : Progressed → Want
 want_of (Ok (Wants w, c)) = w
 want_of _ = AtState
 
-pub entered_want : (v w : Want) (c d : Config) → IsBehindEvent v → want v c ≡ want w d → IsBehindEvent w
-entered_want v w c d h e = subst IsBehindEvent (ap want_of e) h
+pub entered_want : (v w : Want) (c d : Config) → IsAfterEvent v → want v c ≡ want w d → IsAfterEvent w
+entered_want v w c d h e = subst IsAfterEvent (ap want_of e) h
 
 -- after an event no text is needed
 pub told_want : (a : Did) (p : Progressed) (t : Token) (d : steps_t) (e : step_event_t) (f : step_fault_t)
     (c : Config)
-    → Tells a p t d e f c → IsGiven a → IsBehindEvent (want_in d)
-told_want did.Gave p t d e f c h g = subst IsBehindEvent (sym h.1) tt
-told_want did.Stays p t d e f c h g = subst IsBehindEvent (sym h.1) tt
+    → Tells a p t d e f c → IsGiven a → IsAfterEvent (want_in d)
+told_want did.Gave p t d e f c h g = subst IsAfterEvent (sym h.1) tt
+told_want did.Stays p t d e f c h g = subst IsAfterEvent (sym h.1) tt
 told_want did.Entered p t d e f c h g = h.1.0
 told_want did.Wants p t d e f c h g = absurd g
 told_want did.FullStates p t d e f c h g = absurd g

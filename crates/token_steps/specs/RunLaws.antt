@@ -21,29 +21,25 @@ use Rattle.token_steps.specs.Runs.{Run, Calls}
 -- a parser that was handed the same tokens gave the same events, with the same handles and texts
 abbrev pub RunIsFed : Type 0
 RunIsFed = (d : steps_t) (ss : List ℕ) (ms : List yaml_mark_t) (hs : Handles) (kept : Held)
-    (o : Option Token) (l : List Token)
-    (g : List Event) → Run d ss ms hs kept o l g
+    (o : Option Token) (l : List Token) (g : List Event) → Run d ss ms hs kept o l g
     → StandsAs (want_in d) (config_of d.machine ss ms) hs kept o l g
 
 -- P holds of the tokens and events of each run, whether a token is in hand or none
 abbrev pub ForRuns : (List Token → List Event → Type 0) → Type 0
 ForRuns P = (d : steps_t) (ss : List ℕ) (ms : List yaml_mark_t) (hs : Handles) (kept : Held)
-    (o : Option Token) (l : List Token)
-    (g : List Event) → Run d ss ms hs kept o l g → P l g
+    (o : Option Token) (l : List Token) (g : List Event) → Run d ss ms hs kept o l g → P l g
 
 -- and of each run between two tokens
 abbrev pub BetweenTokens : (List Token → List Event → Type 0) → Type 0
 BetweenTokens P = (d : steps_t) (ss : List ℕ) (ms : List yaml_mark_t) (hs : Handles) (kept : Held)
-    (l : List Token) (g : List Event)
-    → Run d ss ms hs kept None l g → P l g
+    (l : List Token) (g : List Event) → Run d ss ms hs kept None l g → P l g
 
 -- and of the tokens, the events and the fault of each run that ended with a fault, which has the text of its
 -- number
 abbrev pub ForFailed : (List Token → List Event → Fault → Type 0) → Type 0
 ForFailed P = (d d' : steps_t) (ss ss' : List ℕ) (ms ms' : List yaml_mark_t) (hs : Handles) (kept : Held)
-    (l : List Token)
-    (g : List Event) (t : Token) (e : step_event_t) (f : step_fault_t) → Run d ss ms hs kept (Some t) l g
-    → Calls 5 d ss ms hs t d' ss' ms' e f → P l g (fault_with (fault_of f))
+    (l : List Token) (g : List Event) (t : Token) (e : step_event_t) (f : step_fault_t)
+    → Run d ss ms hs kept (Some t) l g → Calls 5 d ss ms hs t d' ss' ms' e f → P l g (fault_with (fault_of f))
 
 -- a parser that was handed these tokens, and gave these events, has this fault with the token in hand
 abbrev pub FailsAs : List Token → List Event → Fault → Type 0

@@ -17,54 +17,44 @@ use Rattle.token_steps.specs.Records.{shape_of, event_of}
 use Rattle.token_steps.specs.Tells.{TellsNumber, want_in}
 
 -- A call with this record and these stacks at the token t, with its fact by the handles hs, returned the
--- number n to C, and left that
--- record, those stacks, the event e and the fault f.
-abbrev pub Calls : (n : ℕ) → (old : steps_t) → (states : List ℕ) → (marks : List yaml_mark_t)
-    → (hs : Handles) → (t : Token)
-    → (new : steps_t) → (states' : List ℕ) → (marks' : List yaml_mark_t) → (e : step_event_t)
+-- number n to C, and left that record, those stacks, the event e and the fault f.
+abbrev pub Calls : (n : ℕ) → (old : steps_t) → (states : List ℕ) → (marks : List yaml_mark_t) → (hs : Handles)
+    → (t : Token) → (new : steps_t) → (states' : List ℕ) → (marks' : List yaml_mark_t) → (e : step_event_t)
     → (f : step_fault_t) → Type 0
 Calls n d ss ms hs t d' ss' ms' e f = TellsNumber n
     (step (want_in d) (config_of d.machine ss ms) (token_of hs t)) (token_of hs t) d' e f
     (config_of d'.machine ss' ms')
 
 -- With this record and these stacks the caller handed in these tokens, one by one, and was given these
--- events; a token is in its hand, or
--- none is. Beside them it keeps a document's handles until its end, and the texts of each property and
--- directive until the next event.
--- An event has the texts that are kept, and those of the token in hand.
+-- events; a token is in its hand, or none is. Beside them it keeps a document's handles until its end, and
+-- the texts of each property and directive until the next event. An event has the texts that are kept, and
+-- those of the token in hand.
 pub data Run : steps_t → (states : List ℕ) → (marks : List yaml_mark_t) → (hs : Handles) → (kept : Held)
-    → Option Token → List Token
-    → List Event → Type 0 where
+    → Option Token → List Token → List Event → Type 0 where
   begins : (d : steps_t) (ss : List ℕ) (ms : List yaml_mark_t) → want_in d ≡ want.AtState
-      → config_of d.machine ss ms ≡ start
-      → Run d ss ms no_handles nothing_held None [] []
+      → config_of d.machine ss ms ≡ start → Run d ss ms no_handles nothing_held None [] []
   -- other stacks with the same in them, and the record that a call left which found no room
   moves : (d d' : steps_t) (ss ss' : List ℕ) (ms ms' : List yaml_mark_t) (hs : Handles) (h : Held)
-      (o : Option Token) (l : List Token)
-      (g : List Event) → Run d ss ms hs h o l g → want_in d' ≡ want_in d
-      → config_of d'.machine ss' ms' ≡ config_of d.machine ss ms
-      → Run d' ss' ms' hs h o l g
+      (o : Option Token) (l : List Token) (g : List Event) → Run d ss ms hs h o l g → want_in d' ≡ want_in d
+      → config_of d'.machine ss' ms' ≡ config_of d.machine ss ms → Run d' ss' ms' hs h o l g
   -- the next token is looked at, where there was no STREAM-END
   takes : (d : steps_t) (ss : List ℕ) (ms : List yaml_mark_t) (hs : Handles) (h : Held) (l : List Token)
-      (g : List Event) (t : Token)
-      → Run d ss ms hs h None l g → has_end l ≡ false → Run d ss ms hs h (Some t) (l ++ t ∷ []) g
+      (g : List Event) (t : Token) → Run d ss ms hs h None l g → has_end l ≡ false
+      → Run d ss ms hs h (Some t) (l ++ t ∷ []) g
   -- 0: it is taken without an event
   wants : (d d' : steps_t) (ss ss' : List ℕ) (ms ms' : List yaml_mark_t) (hs : Handles) (h : Held)
-      (l : List Token) (g : List Event)
-      (t : Token) (e : step_event_t) (f : step_fault_t) → Run d ss ms hs h (Some t) l g
-      → Calls 0 d ss ms hs t d' ss' ms' e f
+      (l : List Token) (g : List Event) (t : Token) (e : step_event_t) (f : step_fault_t)
+      → Run d ss ms hs h (Some t) l g → Calls 0 d ss ms hs t d' ss' ms' e f
       → Run d' ss' ms' (declared_by hs t.content) (held_behind h t t.content) None l g
   -- 1: with one
   gave : (d d' : steps_t) (ss ss' : List ℕ) (ms ms' : List yaml_mark_t) (hs : Handles) (h : Held)
-      (l : List Token) (g : List Event)
-      (t : Token) (e : step_event_t) (f : step_fault_t) → Run d ss ms hs h (Some t) l g
-      → Calls 1 d ss ms hs t d' ss' ms' e f
+      (l : List Token) (g : List Event) (t : Token) (e : step_event_t) (f : step_fault_t)
+      → Run d ss ms hs h (Some t) l g → Calls 1 d ss ms hs t d' ss' ms' e f
       → Run d' ss' ms' (handles_after hs (shape_of e)) nothing_held None l
       (g ++ event_with hs h t.content (event_of e false) ∷ [])
   -- 2: it stays after one
   stays : (d d' : steps_t) (ss ss' : List ℕ) (ms ms' : List yaml_mark_t) (hs : Handles) (h : Held)
-      (l : List Token) (g : List Event)
-      (t : Token) (e : step_event_t) (f : step_fault_t) → Run d ss ms hs h (Some t) l g
-      → Calls 2 d ss ms hs t d' ss' ms' e f
+      (l : List Token) (g : List Event) (t : Token) (e : step_event_t) (f : step_fault_t)
+      → Run d ss ms hs h (Some t) l g → Calls 2 d ss ms hs t d' ss' ms' e f
       → Run d' ss' ms' (handles_after hs (shape_of e)) nothing_held (Some t) l
       (g ++ event_with hs h t.content (event_of e true) ∷ [])

@@ -21,14 +21,13 @@ use Rattle.token_steps.specs.Records.{event_of, fault_of, shape_of}
 abbrev pub want_in : steps_t → Want
 want_in d = wanted d.tag d.read
 
--- What a token is wanted for after an event: the parser's state says it, or the token comes behind one that
--- opens a flow
--- collection. No text is needed for these.
-abbrev pub IsBehindEvent : Want → Type 0
-IsBehindEvent AtState = Unit {0}
-IsBehindEvent BehindFlowSequenceEntry = Unit {0}
-IsBehindEvent BehindFlowMappingEntry = Unit {0}
-IsBehindEvent _ = ⊥
+-- What a token is wanted for after an event: the parser's state says it, or the token follows one that opens
+-- a flow collection. No text is kept for these.
+abbrev pub IsAfterEvent : Want → Type 0
+IsAfterEvent AtState = Unit {0}
+IsAfterEvent BehindFlowSequenceEntry = Unit {0}
+IsAfterEvent BehindFlowMappingEntry = Unit {0}
+IsAfterEvent _ = ⊥
 
 abbrev pub is_start : Shape → Bool
 is_start (ev.SequenceStart anchor tag implicit is_flow) = true
@@ -43,12 +42,12 @@ Enters (Err f) t e w c = ⊥
 
 -- p is what the automaton does at the token t; d, e, f and c are the record, the event, the fault and the
 -- configuration after it
-abbrev pub Tells : Did → (p : Progressed) → (t : Token) → (d : steps_t) → (e : step_event_t)
-    → (f : step_fault_t) → (c : Config) → Type 0
+abbrev pub Tells : Did → (p : Progressed) → (t : Token) → (d : steps_t) → (e : step_event_t) →
+    (f : step_fault_t) → (c : Config) → Type 0
 Tells did.Wants p t d e f c = p ≡ want (want_in d) c
 Tells did.Gave p t d e f c = (p ≡ Ok (Given (event_of e false), c)) × (want_in d ≡ AtState)
 Tells did.Entered p t d e f c = (is_start (shape_of e) ≡ true)
-    × (IsBehindEvent (want_in d) × Enters p t e (want_in d) c)
+    × (IsAfterEvent (want_in d) × Enters p t e (want_in d) c)
 Tells did.Stays p t d e f c = (p ≡ Ok (Given (event_of e true), c)) × (want_in d ≡ AtState)
 Tells did.FullStates p t d e f c = Unit {0}
 Tells did.FullMarks p t d e f c = Unit {0}
@@ -89,6 +88,6 @@ IsTold answer.Node = ⊥
 IsTold _ = Unit {0}
 
 -- the same by the number that C sees
-abbrev pub TellsNumber : ℕ → (p : Progressed) → (t : Token) → (d : steps_t) → (e : step_event_t)
-    → (f : step_fault_t) → (c : Config) → Type 0
+abbrev pub TellsNumber : ℕ → (p : Progressed) → (t : Token) → (d : steps_t) → (e : step_event_t) →
+    (f : step_fault_t) → (c : Config) → Type 0
 TellsNumber n p t d e f c = (a : Did) × (n ≡ number a) × Tells a p t d e f c

@@ -64,7 +64,7 @@ pub fn run_fails()
 
 /// The functions over a table of handles return the facts of tokens, where the table stands for the document's
 /// handles. An empty one does at a document's start; and one entry more for each TAG-DIRECTIVE that is taken,
-/// with its texts behind the others, keeps it so.
+/// with its texts after the others, keeps it so.
 pub fn tables_follow()
     ensures tag { (texts : List ℕ) (table : List handle_t) (tag : TagToken)
         → tag_fact (resolve (handles_at texts table) tag.handle tag.suffix)

@@ -11,7 +11,7 @@ ghost use Rattle.libyaml_automaton.specs.Fits.{Documents};
 ghost use Rattle.token_steps.specs.Growth.{grown};
 ghost use Rattle.token_steps.specs.Records.{AreFlags, kind_of, token_at};
 ghost use Rattle.token_steps.specs.Numbers.{IsEventNumber, IsFaultNumber};
-ghost use Rattle.token_steps.specs.Tells.{Tells, want_in, IsBehindEvent, IsDone, IsGiven, IsUndone};
+ghost use Rattle.token_steps.specs.Tells.{Tells, want_in, IsAfterEvent, IsDone, IsGiven, IsUndone};
 
 use crate::did::Did;
 use crate::head::{Head, NO_HEAD};
@@ -112,7 +112,7 @@ impl steps_t {
             ↔ ((grown self.old kind ≡ Marks) × (length marks.old ≤ self.old.machine.marks_count)) }
         ensures undone { IsUndone result → (self.new.machine ≡ self.old.machine) × ((states.new ≡ states.old)
             × ((marks.new ≡ marks.old) × (want_in self.new ≡ want_in self.old))) }
-        ensures holds_nothing { IsGiven result → IsBehindEvent (want_in self.new) }
+        ensures holds_nothing { IsGiven result → IsAfterEvent (want_in self.new) }
         ensures event_number { IsGiven result → IsEventNumber event.new.kind }
         ensures event_flags { IsGiven result → AreFlags event.new }
         ensures fault_number { result ≡ Did.Failed → IsFaultNumber fault.new.problem }
@@ -232,7 +232,7 @@ impl steps_t {
         }
     }
 
-    /// Takes a token behind a node's properties.
+    /// Takes a token that follows a node's properties.
     #[inline(always)]
     fn content(
         &mut self,

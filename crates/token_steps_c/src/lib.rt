@@ -12,9 +12,10 @@ ghost use Rattle.libyaml_automaton.specs.Want.{AtState};
 ghost use Rattle.token_steps.specs.Growth.{grown};
 ghost use Rattle.token_steps.specs.Records.{AreFlags, kind_of, token_at};
 ghost use Rattle.token_steps.specs.Numbers.{is_given, is_undone, IsEventNumber, IsFaultNumber};
-ghost use Rattle.token_steps.specs.Tells.{TellsNumber, want_in, IsBehindEvent};
+ghost use Rattle.token_steps.specs.Tells.{TellsNumber, want_in, IsAfterEvent};
 
 use libyaml_types::yaml_mark_t;
+pub use tags::{pokhvizi_directive_fact, pokhvizi_tag, pokhvizi_version_fact};
 use token_steps::{step_event_t, step_fault_t, step_span_t, steps_t, token_kind};
 
 /// Puts what is kept before a stream's first token.
@@ -57,7 +58,7 @@ pub extern "C" fn pokhvizi_step(
         ↔ ((grown steps.old (kind_of kind) ≡ Marks) × (length marks.old ≤ steps.old.machine.marks_count)) }
     ensures undone { is_undone result ≡ true → (steps.new.machine ≡ steps.old.machine)
         × ((states.new ≡ states.old) × ((marks.new ≡ marks.old) × (want_in steps.new ≡ want_in steps.old))) }
-    ensures holds_nothing { is_given result ≡ true → IsBehindEvent (want_in steps.new) }
+    ensures holds_nothing { is_given result ≡ true → IsAfterEvent (want_in steps.new) }
     ensures event_number { is_given result ≡ true → IsEventNumber event.new.kind }
     ensures event_flags { is_given result ≡ true → AreFlags event.new }
     ensures event_kept { is_given result ≡ false → event.new ≡ event.old }

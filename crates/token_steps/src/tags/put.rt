@@ -8,7 +8,7 @@ ghost use Rattle.token_steps.specs.Numbers.{length_or_none};
 use crate::tags::facts::whole_fact;
 use crate::tags::handles::{handle_t, prefix_of};
 
-/// Puts these two texts, one behind the other.
+/// Puts these two texts, one after the other.
 fn put_both(prefix: &[u8], suffix: &[u8], out: &mut [u8])
     requires { length (prefix.now ++ suffix.now) ≤ length out.old }
     ensures { take (length (prefix.now ++ suffix.now)) out.new ≡ prefix.now ++ suffix.now }
