@@ -122,6 +122,6 @@ abbrev pub settled_by : Option yaml_parser_state_t → Next → yaml_parser_stat
 settled_by None n state = n
 settled_by (Some _) n state = next_at state
 
--- this one, where it comes behind a token, and else the state's
+-- this one, where it follows a token within a production, and else the state's
 abbrev pub settled : Next → yaml_parser_state_t → Next
 settled n state = settled_by (state_at n) n state

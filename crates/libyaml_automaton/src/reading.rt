@@ -60,7 +60,7 @@ impl Reading {
         }
     }
 
-    /// The function of the parser's state takes the next token, as after each event.
+    /// Has the function of the parser's state take the next token, as after each event.
     #[inline(always)]
     pub fn at_state_of(&mut self, machine: &Machine)
         ensures wanted { (tag : ℕ) → wanted tag self.new ≡ AtState }
@@ -70,8 +70,8 @@ impl Reading {
         self.next = state_number(state_of_number(machine.state));
     }
 
-    /// Behind a token nothing changes; else the function of the parser's state takes the next token. So the
-    /// numbers fit each other, whatever they were.
+    /// Has the function of the parser's state take the next token, where it doesn't follow one within a
+    /// production. So the numbers fit each other, whatever they were.
     #[inline(always)]
     pub fn settle(&mut self, machine: &Machine)
         ensures wanted { (tag : ℕ) → wanted tag self.new ≡ wanted tag self.old }
@@ -95,7 +95,7 @@ impl Reading {
         }
     }
 
-    /// A collection whose opening token stayed is entered next: the step pushes a mark.
+    /// Returns whether the next step enters a collection whose opening token stayed, and so pushes a mark.
     #[inline(always)]
     pub fn is_first(&self) -> bool
         ensures { result ≡ is_first (part_of (next_of self.now.next)) }
