@@ -41,8 +41,12 @@ def answered(crate, edit):
     begins = edit.stem.partition("-")[0]
     found = [name for name in answers(crate) if re.search(rf"(^|_){re.escape(begins)}$", name.replace("::", "_"))]
     file = re.search(r"^file: src/(.*)\.rt$", edit.read_text(), flags=re.M)
-    module = file[1].replace("/", "::") + "::" if file else ""
-    own = [name for name in found if name.startswith(module) and begins in (name.split("::")[-1], "_".join(name.split("::")[-2:]))]
+    module = file[1].replace("/", "::") + "::" if file and file[1] != "lib" else ""
+    named = [name for name in found if begins in (name.split("::")[-1], "_".join(name.split("::")[-2:]))]
+    own = [name for name in named if name.startswith(module)]
+    if not own and file:  # a method in another file than its type
+        types = re.findall(r"^impl(?:<.*?>)? (\w+)", (crate / "src" / f"{file[1]}.rt").read_text(), flags=re.M)
+        own = [name for name in named if name.split("::")[-2:-1] and name.split("::")[-2] in types]
     return own[0] if own else None
 
 

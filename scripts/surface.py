@@ -21,7 +21,9 @@ METHOD = re.compile(r"    (pub )?fn (\w+)")
 IMPL = re.compile(r"impl(<.*?>)? (?:(.+?) for )?(\w+)")
 USE = re.compile(r"pub use ([\w:]+?)(?:::\{([^}]*)\}| as (\w+))?;")
 LAWS = re.compile(r"(?:laws|rows|determined)::")
-NAMED = ("unsafe_libyaml", "token_lines", "token_lines_c", "yaml_path", "records", "records_c")
+NAMED = (
+    "unsafe_libyaml", "token_lines", "token_lines_c", "yaml_path", "token_steps", "token_steps_c", "records", "records_c",
+)
 INNER = re.compile(r"putting::")  # a module for the crates above alone
 EXAMPLES = {"computed_tokens", "pushed_list", "cited_theorems", "row_checks"}
 WIDTH = 110

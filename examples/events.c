@@ -1,0 +1,151 @@
+/* events < FILE: the events of a YAML text, a line each with its marks and texts, by libyaml's scanner and the calls of
+ * pokhvizi/steps.h. The status is 1 after a fault, which the last line tells, and 2 where memory ran out.
+ *
+ *     cc events.c -o events $(pkg-config --cflags --libs pokhvizi) -lyaml */
+#include <pokhvizi/steps.h>
+#include <stdio.h>
+#include <stdlib.h>
+#include <string.h>
+#include <yaml.h>
+
+static const char *const NAMES[] = {
+    "", "+STR", "-STR", "+DOC", "-DOC", "=ALI", "=VAL", "+SEQ", "-SEQ", "+MAP", "-MAP"};
+
+/* The document's handles, and their texts, one after the other; the anchor and the tag in full since the last event. */
+static pokhvizi_handle_t *handles;
+static uint8_t *texts;
+static size_t count, length;
+static char *anchor, *tag;
+
+static void *resized(void *block, size_t size)
+{
+    if ((block = realloc(block, size)) == NULL)
+        exit((puts("out of memory"), 2));
+    return block;
+}
+
+static pokhvizi_text_t kept(const yaml_char_t *text)
+{
+    pokhvizi_text_t range = {length, strlen((const char *)text)};
+
+    texts = resized(texts, length + range.length + 1);
+    memcpy(texts + length, text, range.length);
+    length += range.length;
+    return range;
+}
+
+static uint8_t tag_fact(const yaml_char_t *handle, const yaml_char_t *suffix)
+{
+    size_t handle_length = strlen((const char *)handle), suffix_length = strlen((const char *)suffix), size;
+    size_t room = length + suffix_length + 32; /* the longest prefix that needs no directive has 18 bytes */
+    uint8_t fact;
+
+    tag = resized(tag, room);
+    fact = pokhvizi_tag(
+        handles, count, texts, length, handle, handle_length, suffix, suffix_length, (uint8_t *)tag, room, &size);
+    if (fact < 4)
+        tag[size] = 0;
+    return fact;
+}
+
+static uint8_t fact_of(const yaml_token_t *token)
+{
+    const yaml_char_t *handle;
+
+    switch (token->type) {
+    case YAML_SCALAR_TOKEN:
+        return token->data.scalar.style == YAML_PLAIN_SCALAR_STYLE;
+    case YAML_VERSION_DIRECTIVE_TOKEN:
+        return pokhvizi_version_fact(token->data.version_directive.major, token->data.version_directive.minor);
+    case YAML_TAG_DIRECTIVE_TOKEN:
+        handle = token->data.tag_directive.handle;
+        return pokhvizi_directive_fact(handles, count, texts, length, handle, strlen((const char *)handle));
+    case YAML_TAG_TOKEN:
+        return tag_fact(token->data.tag.handle, token->data.tag.suffix);
+    default:
+        return 0;
+    }
+}
+
+/* Keeps the texts of a token that was taken without an event. */
+static void keep(yaml_token_t *token)
+{
+    if (token->type == YAML_ANCHOR_TOKEN) {
+        free(anchor);
+        anchor = (char *)token->data.anchor.value;
+        token->data.anchor.value = NULL;
+    } else if (token->type == YAML_TAG_DIRECTIVE_TOKEN) {
+        handles = resized(handles, (count + 1) * sizeof *handles);
+        handles[count].handle = kept(token->data.tag_directive.handle);
+        handles[count++].prefix = kept(token->data.tag_directive.prefix);
+    }
+}
+
+static void show(const pokhvizi_event_t *event, int stays, const yaml_token_t *token)
+{
+    const char *value = "";
+
+    if (event->kind == YAML_ALIAS_EVENT)
+        value = (const char *)token->data.alias.value;
+    if (event->kind == YAML_SCALAR_EVENT && !stays)
+        value = (const char *)token->data.scalar.value;
+    printf("%s %zu:%zu %zu:%zu", NAMES[event->kind], (size_t)event->start_mark.line, (size_t)event->start_mark.column,
+        (size_t)event->end_mark.line, (size_t)event->end_mark.column);
+    if (event->has_anchor)
+        printf(" &%s", anchor);
+    if (event->has_tag)
+        printf(" <%s>", tag);
+    printf(" %s\n", value);
+    if (event->kind == YAML_DOCUMENT_END_EVENT)
+        count = length = 0;
+}
+
+static int failed(const char *problem, size_t line, size_t column)
+{
+    printf("%s at %zu:%zu\n", problem, line, column);
+    return 1;
+}
+
+int main(void)
+{
+    size_t states_room = 8, marks_room = 8;
+    uint8_t *states = resized(NULL, states_room), fact = 0;
+    pokhvizi_mark_t *marks = resized(NULL, marks_room * sizeof *marks);
+    uint32_t did = POKHVIZI_WANTS;
+    pokhvizi_steps_t steps;
+    pokhvizi_event_t event = {0};
+    pokhvizi_fault_t fault;
+    yaml_parser_t scanner;
+    yaml_token_t token = {0};
+    const char *context;
+
+    handles = resized(NULL, sizeof *handles);
+    texts = resized(NULL, 1);
+    if (!yaml_parser_initialize(&scanner))
+        return 2;
+    yaml_parser_set_input_file(&scanner, stdin);
+    pokhvizi_steps_new(&steps);
+    while (event.kind != YAML_STREAM_END_EVENT) {
+        if (did == POKHVIZI_WANTS || did == POKHVIZI_GAVE) {
+            yaml_token_delete(&token);
+            if (!yaml_parser_scan(&scanner, &token))
+                return failed(scanner.problem, scanner.problem_mark.line, scanner.problem_mark.column);
+            fact = fact_of(&token);
+        }
+        did = pokhvizi_step(&steps, states, states_room, marks, marks_room, (uint8_t)token.type, fact,
+            (const pokhvizi_span_t *)&token.start_mark, &event, &fault);
+        if (did == POKHVIZI_WANTS)
+            keep(&token);
+        else if (did == POKHVIZI_FULL_STATES)
+            states = resized(states, states_room *= 2);
+        else if (did == POKHVIZI_FULL_MARKS)
+            marks = resized(marks, (marks_room *= 2) * sizeof *marks);
+        else if (did == POKHVIZI_FAULT)
+            return failed(pokhvizi_problem(fault.problem, &context), fault.problem_mark.line, fault.problem_mark.column);
+        else
+            show(&event, did == POKHVIZI_STAYS, &token);
+    }
+    yaml_token_delete(&token);
+    yaml_parser_delete(&scanner);
+    return 0;
+}
