@@ -8,7 +8,7 @@
 - a line "Stands on" of a crate's README, that is not as crates.txt has it;
 - an edit that WRONG_BODIES lists and no crate has, or the other way round;
 - a script that CONTRIBUTING doesn't list;
-- another version than that of the file VERSION, in CHANGELOG's first entry or in the macro of bindings/c/include/pokhvizi/lines.h.
+- another version than that of the file VERSION, in CHANGELOG's first entry the macro of pokhvizi/version.h, or the Python package.
 
     python3 scripts/links.py
 """
@@ -17,11 +17,11 @@ import sys
 from pathlib import Path
 
 TOP = Path(__file__).resolve().parent.parent
-PAGES = [*TOP.glob("*.md"), *TOP.glob("docs/*.md"), *TOP.glob("crates/*/README.md")]
+PAGES = [*TOP.glob("*.md"), *TOP.glob("docs/*.md"), *TOP.glob("crates/*/README.md"), *TOP.glob("bindings/*/README.md")]
 MADE = re.compile(r"(^|/)(out|build|my_project)(/|$)|^(list\.tokens|vendored\.txt)$|\b(NAME|FILE|DEST)\b")
 FILE = r"rt|antt|oantt|edit|md|py|sh|c|h|txt|yaml|tokens|events|nodes"
 PATH = re.compile(rf"[\w.*-]+(/[\w.*-]+)+/?|\w+\.({FILE})")
-IN_COMMAND = re.compile(r"(?<![\w./])(?:crates|docs|scripts|examples)/[\w./*-]*[\w*/]")
+IN_COMMAND = re.compile(r"(?<![\w./])(?:crates|docs|scripts|examples|bindings)/[\w./*-]*[\w*/]")
 LINK = re.compile(r"\[[^\]]*\]\(([^)\s]+)\)")
 HEADING = re.compile(r"(\w+\.md)\)?`?, (\"[^\"\n]+\"(?:(?:, | and |, and )\"[^\"\n]+\")*)")
 
@@ -120,7 +120,7 @@ def wrong_edits():
 
 def unlisted_scripts():
     text = (TOP / "CONTRIBUTING.md").read_text()
-    for path in [*TOP.glob("scripts/*.sh"), *TOP.glob("scripts/*.py"), *TOP.glob("scripts/*/run.sh")]:
+    for path in [*TOP.glob("scripts/*.sh"), *TOP.glob("scripts/*.py"), *TOP.glob("scripts/*/run.sh"), *TOP.glob("scripts/doors/*.sh"), *TOP.glob("scripts/doors/*.py")]:
         name = str(path.relative_to(TOP / "scripts"))
         if not re.search(rf"(`|/){re.escape(name)}`", text):
             yield f"CONTRIBUTING.md: {name} is not listed"
@@ -128,7 +128,8 @@ def unlisted_scripts():
 
 def other_versions():
     version = (TOP / "VERSION").read_text().strip()
-    for name, form in [("CHANGELOG.md", r"^## (.*)$"), ("bindings/c/include/pokhvizi/lines.h", r'^#define TOKEN_LINES_VERSION "(.*)"$')]:
+    for name, form in [("CHANGELOG.md", r"^## (.*)$"), ("bindings/c/include/pokhvizi/version.h", r'^#define POKHVIZI_VERSION "(.*)"$'),
+                       ("bindings/python/src/pokhvizi/__init__.py", r'^__version__ = "(.*)"$')]:
         shown = re.search(form, (TOP / name).read_text(), flags=re.M)
         if shown is None or shown[1] != version:
             yield f"{name}: the version is {shown and shown[1]}, and VERSION says {version}"
@@ -136,7 +137,7 @@ def other_versions():
 
 def comments():
     """The files of code, definitions and examples, each with its comments, joined over the ends of lines."""
-    for path in [*TOP.glob("crates/**/*.rt"), *TOP.glob("crates/**/*.antt"), *TOP.glob("examples/*"), *TOP.glob("scripts/*.*")]:
+    for path in [*TOP.glob("crates/**/*.rt"), *TOP.glob("crates/**/*.antt"), *TOP.glob("examples/*"), *TOP.glob("scripts/**/*.*"), *TOP.glob("bindings/**/*.*")]:
         if is_kept(path) and path.is_file() and path != Path(__file__).resolve():
             yield path, re.sub(r"\n\s*(//[/!]?|--|\*|#) *", " ", path.read_text(errors="replace"))
 
