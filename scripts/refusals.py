@@ -5,16 +5,19 @@
     python3 scripts/refusals.py --from FILE       (reads what `rt must-fail` wrote, in place of running it)
     python3 scripts/refusals.py --check ..        (changes nothing, and fails where the page says something else)
 
-A refusal is by shape where the prover only misses a step that the hand-written answers (`proofs/**/Answers.antt`) name, or
-where it stands in such answers and there is no edit of equal meaning that is proved over them (`controls/`). One in another
-proof is that of a lemma, as where a definition is turned. The last line counts. Needs `rt` but with --from.
+A refusal in the hand-written answers of a function (`proofs/**/Answers.antt`) is by shape, unless an edit of equal meaning
+that turns the same lines of the function (`controls/`) is proved over them. What refuses the edit is then a goal that is
+left open without the answers that it breaks: the edit is made in the repository, these answers are left out, and the
+function is checked with its holes; afterwards all is as before. Where no goal is left open, the refusal is by shape too.
+One in another proof is that of a lemma, as where a definition is turned. The last line counts. Needs `rt`, and the crates
+below proved.
 """
 import re
 import subprocess
 import sys
 
 from answers import TOP, answers
-from controls import answered, is_by_shape
+from controls import answered, edited, is_by_shape
 
 PAGE = TOP / "docs" / "WRONG_BODIES.md"
 SAID = re.compile(r"must-fail (\w+)/([\w.-]+)\.edit: (.*)")
@@ -59,10 +62,47 @@ def clause_of(crate, function, goal):
     return f"the lemma `{goal}`"
 
 
-def is_proved_over(crate, function):
-    """Whether an edit of equal meaning is proved over the answers of this function."""
-    edits = [edit for edit in crate.glob("controls/*.edit") if answered(crate, edit) == function]
-    return any(not is_by_shape(edit) for edit in edits)
+def turned(edit):
+    """The lines of functions that an edit turns."""
+    lines = {line.strip() for line in re.findall(r"^old: (.*)$", edit.read_text(), flags=re.M)}
+    return {line for line in lines if not line.startswith(("use ", "///", "const ", "pub const "))}
+
+
+def is_proved_over(crate, function, edit):
+    """Whether an edit of equal meaning that turns the same lines is proved over the answers of this function."""
+    edits = [own for own in crate.glob("controls/*.edit") if answered(crate, own) == function and not is_by_shape(own)]
+    return any(turned(crate / "must-fail" / f"{edit}.edit") <= turned(own) for own in edits)
+
+
+def without(text, names):
+    """Answers without those of some goals."""
+    kept, is_one = [], False
+    for line in text.splitlines(keepends=True):
+        if line[0].isalpha():
+            is_one = line.removeprefix("pub ").split()[0] in names
+        kept += [] if is_one else [line]
+    return "".join(kept)
+
+
+def left_open(crate, function, edit):
+    """The goals of a function that an edit leaves open, where the answers that it breaks are left out."""
+    path = answers(crate)[function]
+    texts = edited(crate, crate / "must-fail" / f"{edit}.edit")
+    was = {file: file.read_text() for file in [*texts, path]}
+    try:
+        for file, text in texts.items():
+            file.write_text(text)
+        while True:
+            run = subprocess.run(["rt", "check", "--only", function, "--allow-holes"], cwd=crate, stdin=subprocess.DEVNULL, capture_output=True, text=True)
+            said = run.stdout + run.stderr
+            broken = re.findall(r"/Answers\.antt:\d+:\d+: error: `([^`]+)`", said)
+            kept = without(path.read_text(), broken)
+            if kept == path.read_text():
+                return re.findall(r"^note: src/[\w/]+\.rt:\d+:\d+: .*?\(`([^`]+)`\)", said, flags=re.M)
+            path.write_text(kept)
+    finally:
+        for file, text in was.items():
+            file.write_text(text)
 
 
 def reason(crate, edit, said):
@@ -80,12 +120,15 @@ def reason(crate, edit, said):
         return None
     if of_answers:
         function = of_answers[1].replace("/", "::")
-        if not is_proved_over(crate, function):
+        goals = left_open(crate, function, edit) if is_proved_over(crate, function, edit) else []
+        if not goals:
             return SHAPE
     else:
         function = function_at(crate, of_code[1], int(of_code[2]))
     name = function.split("::")[-1]
-    clause = clause_of(crate, function, goal[1] or goal[2])
+    goals = goals if of_answers else [goal[1] or goal[2]]
+    *most, last = dict.fromkeys(clause_of(crate, function, goal) for goal in goals)
+    clause = f"{', '.join(most)} and {last}" if most else last
     own = re.search(rf"(^|_){name}$", edit.partition("-")[0])
     return clause if own else re.sub(r"\bits (?!type)", "the ", clause) + f" of `{name}`"
 

@@ -1,5 +1,5 @@
--- Where the runs there and here are the same, so are the loads; where they part, so they are behind a fault of the events
--- before, and else the documents of these begin both.
+-- Where the runs there and here are the same, so are the loads. Where they part, the loads are the same after a fault of
+-- the events before, and else the documents of these begin both.
 use Rattle.std.proofs.Common.{◌≡◌, ◌∷◌, ◌++◌, ◌∙◌, ℕ, List, [], Ok, Err, map, refl, sym, ap}
 use Rattle.libyaml_types.specs.declared.event.unnamed_yaml_event_t_data.{unnamed_yaml_event_t_data}
 use Rattle.libyaml_types.specs.declared.event.unnamed_yaml_event_t_data.TheVariants as ev
