@@ -41,6 +41,7 @@ check python3 scripts/unused_dependencies.py
 check python3 scripts/lent.py
 check python3 scripts/passed_on.py
 check python3 scripts/doubles.py
+check python3 scripts/doors/abi.py
 check layout
 echo "$passed passed, $failed failed"
 [ "$failed" -eq 0 ]

@@ -100,7 +100,7 @@ check calling rt -- sh scripts/calling_steps.sh
 check statuses $yamltokens -- sh scripts/statuses.sh $yamltokens
 check slow_pipe python3 $yamltokens -- python3 scripts/slow_pipe.py $yamltokens
 check inlined nm $yamltokens crates/bench_lists/out/bench_lists -- sh scripts/inlined.sh $yamltokens crates/bench_lists/out/bench_lists
-check faults_of_yaml.py PyYAML $yamltokens -- python3 scripts/compare_faults.py $front
+check faults_of_yaml_lines.py PyYAML $yamltokens -- python3 scripts/compare_faults.py $front
 for rows in hostile_rows line_rows yaml_rows; do
     check "allocations_of_$rows" cc timeout crates/$rows/out/$rows -- sh scripts/allocation_failures.sh $rows
 done
@@ -111,9 +111,10 @@ check libraries_for_c rt cc ld objcopy ar nm yaml.h -- sh scripts/build_c.sh "$l
 check faults_of_yaml.c PyYAML "$yaml" -- python3 scripts/compare_faults.py "$yaml"
 check fronts PyYAML $yamltokens "$yaml" -- python3 scripts/compare_fronts.py "$yaml"
 check python PyYAML timeout truncate $yamltokens "$yaml" -- sh scripts/doors/python_checks.sh $yamltokens "$libraries/libpokhvizi.so"
-check c cc c++ readelf valgrind yaml.h "$yaml" -- sh scripts/doors/lines_checks.sh "$libraries"
-check records cc c++ python3 readelf valgrind yaml.h "$libraries/libpokhvizi.a" -- sh scripts/doors/documents_checks.sh "$libraries"
+check lines cc c++ readelf valgrind yaml.h "$yaml" -- sh scripts/doors/lines_checks.sh "$libraries"
+check documents cc c++ python3 readelf valgrind yaml.h "$libraries/libpokhvizi.a" -- sh scripts/doors/documents_checks.sh "$libraries"
 check steps cc c++ python3 readelf valgrind yaml.h "$libraries/libpokhvizi.a" -- sh scripts/doors/steps_checks.sh "$libraries"
+check release cc c++ make pkg-config readelf python3 yaml.h "$libraries/libpokhvizi.a" -- sh scripts/release_checks.sh "$libraries" $all
 check any_processor qemu-x86_64 cc yaml.h "$libraries/libpokhvizi.a" -- sh scripts/doors/any_processor.sh "$libraries"
 if [ -n "$all" ]; then
     check_clients
