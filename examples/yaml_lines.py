@@ -393,8 +393,7 @@ def line_name(kind):
 
 
 def import_yaml():
-    """Returns PyYAML, whose module has the name of this file."""
-    sys.path[:] = [path for path in sys.path if os.path.realpath(path) != HERE]
+    """Returns PyYAML."""
     try:
         import yaml
         yaml.SafeLoader, yaml.reader.ReaderError

@@ -16,8 +16,8 @@ from pathlib import Path
 ROOT = Path(__file__).resolve().parent.parent
 PAGE = ROOT / "docs" / "HEADLINE.md"
 RUNS = [("parse_all", "yaml_parser_parse_all"), ("load_all", "yaml_parser_load_all")]
-PAGES = [*ROOT.glob("docs/*.md"), ROOT / "README.md", ROOT / "CONTRIBUTING.md", *ROOT.glob("crates/*/README.md")]
-FOLDERS = ["crates", "scripts", "examples", "bench"]
+PAGES = [*ROOT.glob("docs/*.md"), ROOT / "README.md", ROOT / "CONTRIBUTING.md", *ROOT.glob("crates/*/README.md"), *ROOT.glob("bindings/*/README.md")]
+FOLDERS = ["crates", "scripts", "examples", "bindings", "bench"]
 TEXTS = [".rt", ".antt", ".edit", ".py", ".sh", ".c", ".h", ".rs", ".txt", ""]
 # Names of other software, of the prover, and of what a reader makes.
 OUTSIDE = {"dac8208d650f15bf", "malloc_consolidate", "my_program", "yaml_buffer_t", "yaml_queue_t", "yaml_stack_t"}

@@ -56,7 +56,7 @@ def given_up(lines):
 
 
 def files(crates):
-    for page in [*TOP.glob("*.md"), *TOP.glob("docs/*.md"), *TOP.glob("crates/*/README.md"), *TOP.glob("examples/*.[hc]")]:
+    for page in [*TOP.glob("*.md"), *TOP.glob("docs/*.md"), *TOP.glob("crates/*/README.md"), *TOP.glob("bindings/*/README.md"), *TOP.glob("examples/*.[hc]"), *TOP.glob("bindings/c/**/*.[hc]")]:
         if page.name not in LEFT_OUT:
             yield page, lines_of_page(page.read_text())
     for crate in crates:
