@@ -100,7 +100,7 @@ uint32_t pokhvizi_step(pokhvizi_steps_t *steps, uint8_t *states, size_t states_r
 
 /* ---- Directives and tags ---- */
 
-/* A text: so many bytes behind `place` of a buffer. */
+/* A text: `length` bytes of a buffer, from `place` on. */
 typedef struct {
     uint64_t place, length;
 } pokhvizi_text_t;
