@@ -13,8 +13,8 @@ use Rattle.libyaml_automaton.specs.Fits.{is_rich, Part, Nodes, First, Documents}
 
 -- `step`
 
--- A node that is not nothing is entered, after which a state comes. A scalar or an alias is the whole node: its state isn't
--- put on the stack. A document's is there already.
+-- A node that is not nothing is entered, after which a state comes. A scalar or an alias is the whole node:
+-- its state isn't put on the stack. A document's is there already.
 abbrev pub pushes_at_slot : Slot → yaml_token_type_t → Bool
 pushes_at_slot slot.Document k = false
 pushes_at_slot s k = if is_nothing_before s k then false else is_rich k

@@ -44,8 +44,7 @@ token_at kind fact at = record {
   kind = kind;
   fact = fact;
   start_mark = at.start_mark;
-  end_mark
-      = at.end_mark;
+  end_mark = at.end_mark;
 }
 
 -- libyaml's numbers of events; of other bytes a mapping's end
@@ -74,8 +73,7 @@ event_of e stays = record {
   shape = shape_of e;
   stays = stays;
   start_mark = e.start_mark;
-  end_mark
-      = e.end_mark;
+  end_mark = e.end_mark;
 }
 
 abbrev pub fault_of : step_fault_t → Fault
