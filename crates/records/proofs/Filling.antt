@@ -7,16 +7,6 @@ use Rattle.std.proofs.lemmas.Bool.{cases_lt}
 use borrow.Rule.Slice.PartMut.{put_mid}
 use Rattle.records.specs.Puts.{filled, Puts}
 
-add_nil : (n : ℕ) → n + 0 ≡ n
-add_nil n = omega arith
-
--- nothing is put
-pub puts_none : {A : Type 0} (a : List A) (n : ℕ) → Puts a n [] a n
-puts_none a n = record {
-  counts = sym (add_nil n);
-  fills = λ old all h k. h ∙ ap (filled old) (sym (append-nil all));
-}
-
 -- some, and then others
 pub puts_then : {A : Type 0} (a b c : List A) (n m k : ℕ) (xs ys : List A) → Puts a n xs b m → Puts b m ys c k
     → Puts a n (xs ++ ys) c k

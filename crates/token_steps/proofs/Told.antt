@@ -60,28 +60,6 @@ told_in_document answer.Enter k f n d c = f
 told_in_document answer.Node k f n d c = f
 told_in_document _ k f n d c = tt
 
-pub told_in_directive : (a : Answer) → FitsDirective a → IsTold a
-told_in_directive answer.Full f = f
-told_in_directive answer.AsksVersion f = f
-told_in_directive answer.AsksHandle f = f
-told_in_directive answer.Document f = f
-told_in_directive answer.AsksContent f = f
-told_in_directive answer.First f = f
-told_in_directive answer.Enter f = f
-told_in_directive answer.Node f = f
-told_in_directive _ f = tt
-
-pub told_in_content : (a : Answer) (k : yaml_token_type_t) → FitsContent a k → IsTold a
-told_in_content answer.Full k f = f
-told_in_content answer.AsksVersion k f = f
-told_in_content answer.AsksHandle k f = f
-told_in_content answer.Document k f = f
-told_in_content answer.AsksContent k f = f
-told_in_content answer.First k f = f
-told_in_content answer.Enter k f = f
-told_in_content answer.Node k f = f
-told_in_content _ k f = tt
-
 pub defined : (g : TagRead) (p : NodePlace) (r : Properties) (c : Config) (t : Token) (k : yaml_token_type_t)
     → is_undefined g ≡ false → content_behind g p r c t k ≡ node_content p r c t k
 defined NoTag p r c t k e = refl
@@ -99,14 +77,6 @@ undefined NoTag p r c t k e = absurd (true≢false (sym e))
 undefined EmptyTag p r c t k e = absurd (true≢false (sym e))
 undefined Bang p r c t k e = absurd (true≢false (sym e))
 undefined OtherTag p r c t k e = absurd (true≢false (sym e))
-
-pub states_full : (d : Part) (p q : Bool) (m : Machine) (ss : List ℕ) (ms : List yaml_mark_t)
-    → is_first d ≡ false
-    → IsFull (stack_of_part d p) m ss ms → (stack_by d p q ≡ States) × (length ss ≤ m.states_count)
-states_full Nodes true q m ss ms e f = (refl, f)
-states_full Nodes false q m ss ms e f = absurd f
-states_full Documents p q m ss ms e f = absurd f
-states_full First p q m ss ms e f = absurd (true≢false e)
 
 pub marks_full : (d : Part) (p q : Bool) (m : Machine) (ss : List ℕ) (ms : List yaml_mark_t)
     → is_first d ≡ true
@@ -247,9 +217,6 @@ start_by_other _ h a b c = refl
 abbrev want_of : Progressed → Want
 want_of (Ok (Wants w, c)) = w
 want_of _ = AtState
-
-pub entered_want : (v w : Want) (c d : Config) → IsAfterEvent v → want v c ≡ want w d → IsAfterEvent w
-entered_want v w c d h e = subst IsAfterEvent (ap want_of e) h
 
 -- after an event no text is needed
 pub told_want : (a : Did) (p : Progressed) (t : Token) (d : steps_t) (e : step_event_t) (f : step_fault_t)
