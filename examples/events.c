@@ -109,7 +109,7 @@ static int failed(const char *problem, size_t line, size_t column)
 int main(void)
 {
     size_t states_room = 8, marks_room = 8;
-    uint8_t *states = resized(NULL, states_room), fact = 0;
+    uint8_t *states = resized(NULL, states_room);
     pokhvizi_mark_t *marks = resized(NULL, marks_room * sizeof *marks);
     uint32_t did = POKHVIZI_WANTS;
     pokhvizi_steps_t steps;
@@ -130,9 +130,8 @@ int main(void)
             yaml_token_delete(&token);
             if (!yaml_parser_scan(&scanner, &token))
                 return failed(scanner.problem, scanner.problem_mark.line, scanner.problem_mark.column);
-            fact = fact_of(&token);
         }
-        did = pokhvizi_step(&steps, states, states_room, marks, marks_room, (uint8_t)token.type, fact,
+        did = pokhvizi_step(&steps, states, states_room, marks, marks_room, (uint8_t)token.type, fact_of(&token),
             (const pokhvizi_span_t *)&token.start_mark, &event, &fault);
         if (did == POKHVIZI_WANTS)
             keep(&token);

@@ -19,7 +19,8 @@
  * `states` and `marks` are stacks in the caller's memory: one entry each for a collection that is open, and a few more. What
  * stands in them before the first call doesn't matter; to make them larger, move their bytes, as by realloc.
  *
- * Facts. What a call has to know of a token's texts is one number, `fact`:
+ * Facts. What a call has to know of a token's texts is one number, `fact`. It goes by the document's handles, so ask for it at
+ * each call, also where the token stayed:
  *
  *     VERSION-DIRECTIVE (3)   pokhvizi_version_fact: 1 where the version is accepted, which 1.1 and 1.2 are
  *     TAG-DIRECTIVE (4)       pokhvizi_directive_fact: 1 where the document has declared the handle before
