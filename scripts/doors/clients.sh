@@ -252,7 +252,7 @@ pyyaml_pure() {
 }
 
 loaders() {
-    set -- "$suite" "$tests/data" scripts/broken
+    set -- "$suite" "$tests/data" scripts/broken scripts/whole
     PYTHONPATH=$work/python "$python" "$lists/loaders.py" "$@" > "$work/made" 2> "$work/count" || { cat "$work/count"; return 1; }
     PYTHONPATH=$work/python "$python" "$lists/loaders.py" --turned scripts/broken > "$work/turned" 2>&1
     [ "$(grep -c documents "$work/turned")" -gt 0 ] || { echo "what is turned doesn't differ"; return 1; }

@@ -219,7 +219,10 @@ class Steps:
                 token, self.token = self.token, None
                 return self.made(token)
             elif did == self.STAYS:
-                return self.made(None)
+                made = self.made(None)
+                if self.kind in self.FACTS:  # it goes by the document's handles, which end with a document
+                    self.fact = self.FACTS[self.kind](self, self.token)
+                return made
             elif did == self.FAULT:
                 raise self.error()
             else:
