@@ -13,7 +13,7 @@ from pathlib import Path
 
 TOP = Path(__file__).resolve().parent.parent
 PAGE = TOP / "docs" / "ARCHITECTURE.md"
-PICTURE = re.compile(r"^```mermaid\n.*?^```\n", re.MULTILINE | re.DOTALL)
+PICTURE = re.compile(r"^```mermaid\nflowchart BT\n.*?^```\n", re.MULTILINE | re.DOTALL)
 LINE = re.compile(r"^- (`\w+`(?:, `\w+`)*): ", re.MULTILINE)
 
 
