@@ -12,8 +12,8 @@ use libyaml_types::{
     yaml_version_directive_t,
 };
 use line_writing::write_event;
-use std::alloc::Global;
 use records::{ABSENT, mark_record_t, range_record_t, token_record_t};
+use std::alloc::Global;
 use token_steps::{
     Did, directive_fact, handle_t, step_event_t, step_fault_t, step_span_t, steps_t, tag, text_t,
     token_kind, version_fact,
@@ -97,7 +97,7 @@ impl Parser {
         let did = self.steps.step(
             self.states.as_mut_slice(),
             self.marks.as_mut_slice(),
-            token_kind(token.kind as u8),
+            token_kind(byte_of(token.kind)),
             fact,
             &at,
             &mut event,
@@ -122,19 +122,48 @@ impl Parser {
     fn fact(&mut self, alloc: Global, token: &token_record_t, texts: &[u8]) -> Result<u8> {
         match token.kind {
             3 => Ok(version_fact(token.major, token.minor)),
-            4 => Ok(directive_fact(self.handles.as_slice(), texts, slice_of(texts, &token.first)?)),
-            20 => self.tag_fact(alloc, slice_of(texts, &token.first)?, slice_of(texts, &token.second)?, texts),
+            4 => Ok(directive_fact(
+                self.handles.as_slice(),
+                texts,
+                slice_of(texts, &token.first)?,
+            )),
+            20 => self.tag_fact(
+                alloc,
+                slice_of(texts, &token.first)?,
+                slice_of(texts, &token.second)?,
+                texts,
+            ),
             21 if token.style == 1 => Ok(1),
             _ => Ok(0),
         }
     }
 
-    fn tag_fact(&mut self, alloc: Global, handle: &[u8], suffix: &[u8], texts: &[u8]) -> Result<u8> {
+    fn tag_fact(
+        &mut self,
+        alloc: Global,
+        handle: &[u8],
+        suffix: &[u8],
+        texts: &[u8],
+    ) -> Result<u8> {
         let mut size = 0usize;
-        let fact = tag(self.handles.as_slice(), texts, handle, suffix, &mut [], &mut size);
+        let fact = tag(
+            self.handles.as_slice(),
+            texts,
+            handle,
+            suffix,
+            &mut [],
+            &mut size,
+        );
         if size != usize::MAX {
             let mut whole = vec![in alloc; 0u8; size]?;
-            tag(self.handles.as_slice(), texts, handle, suffix, whole.as_mut_slice(), &mut size);
+            tag(
+                self.handles.as_slice(),
+                texts,
+                handle,
+                suffix,
+                whole.as_mut_slice(),
+                &mut size,
+            );
             self.tag = whole;
         }
         Ok(fact)
@@ -192,7 +221,11 @@ impl Parser {
         let implicit = event.implicit == 1;
         let anchor = option_of(texts, &self.anchor)?;
         let whole = self.tag.as_slice();
-        let tag = if event.has_tag == 1 { Some(whole) } else { None };
+        let tag = if event.has_tag == 1 {
+            Some(whole)
+        } else {
+            None
+        };
         match event.kind {
             1 => Ok(yaml_stream_start_event_initialize(encoding_of(token.style))),
             2 => Ok(yaml_stream_end_event_initialize()),
@@ -203,7 +236,9 @@ impl Parser {
                 let quoted = event.quoted_implicit == 1;
                 let value = slice_of(texts, &token.first)?;
                 let style = scalar_style_of(token);
-                Ok(yaml_scalar_event_initialize(alloc, anchor, tag, value, implicit, quoted, style)?)
+                Ok(yaml_scalar_event_initialize(
+                    alloc, anchor, tag, value, implicit, quoted, style,
+                )?)
             }
             7 => {
                 let style = sequence_style_of(event);
@@ -234,6 +269,11 @@ const NO_TEXT: range_record_t = range_record_t {
     place: ABSENT,
     length: 0,
 };
+
+/// Returns the number of a token's kind, and 255 for any number that is none.
+fn byte_of(kind: u32) -> u8 {
+    if kind < 255 { kind as u8 } else { 255 }
+}
 
 fn mark_of(record: &mark_record_t) -> yaml_mark_t {
     yaml_mark_t {
