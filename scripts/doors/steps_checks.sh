@@ -64,6 +64,9 @@ done
 $cc -O2 $strict -nodefaultlibs -r -o "$work/header_static" "$work/header.c" "$library" || complain "the header cannot be linked"
 check "a program over the shared library" sh -c "$cc $strict '$work/header.c' '$shared' -o '$work/header' && LD_LIBRARY_PATH='${shared%/*}' '$work/header'"
 readelf -d "$work/header" | grep -q 'NEEDED.*\[libpokhvizi\.so\.[0-9]*\]' || complain "the shared library has no name of its own"
+# The program of docs/CALLING.md.
+$cc -O2 $strict -o "$work/events" examples/events.c "$library" -lyaml || exit 2
+check "examples/events.c" sh -c "'$work/events' < examples/compose.yaml | tee '$work/lines' | wc -l && cut -d ' ' -f 1 '$work/lines' | uniq | tail -n 1 | grep -x -e -STR"
 # It allocates nothing, and calls nothing but what moves bytes.
 nm -u "${library%/*}/steps.o" | grep ' U ' | grep -v -E ' U (memcmp|memcpy|memmove|memset)(@|$)' && complain "the steps need more than they say"
 # A program that only steps links nothing that allocates.
