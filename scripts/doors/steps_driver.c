@@ -33,7 +33,7 @@ struct bytes {
     size_t length, room;
 };
 
-/* Puts bytes behind those that there are, and a zero byte behind them all. */
+/* Appends bytes, and a zero byte that follows them. */
 static void put(struct bytes *bytes, const void *from, size_t length)
 {
     bytes->at = grown(bytes->at, &bytes->room, bytes->length + length + 1, 1);

@@ -16,7 +16,7 @@ use std::alloc::AllocError;
 /// # Errors
 ///
 /// Where the texts are more than can be counted.
-pub fn fault_record(
+pub(crate) fn fault_record(
     fault: &yaml_parser_t_prefix,
     texts: &mut [u8],
     wanted: &mut usize,
@@ -36,7 +36,7 @@ pub fn fault_record(
 }
 
 /// Returns the record of a failed allocation.
-pub fn memory_record() -> fault_record_t
+pub(crate) fn memory_record() -> fault_record_t
     ensures { result ≡ spec.memory_record }
 {
     wordless(&MEMORY_FAULT)

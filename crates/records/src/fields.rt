@@ -17,7 +17,7 @@ use std::alloc::AllocError;
 /// # Errors
 ///
 /// Where they are more than can be counted.
-pub fn put_directives(
+pub(crate) fn put_directives(
     members: &[yaml_tag_directive_t],
     directives: &mut [directive_record_t],
     directives_wanted: &mut usize,
@@ -58,7 +58,7 @@ fn directive_record(
 /// # Errors
 ///
 /// The texts have more bytes than 64 bits count.
-pub fn put_text(
+pub(crate) fn put_text(
     texts: &mut [u8],
     wanted: &mut usize,
     text: &str,
@@ -76,7 +76,7 @@ pub fn put_text(
 }
 
 /// Returns the record of a mark.
-pub fn mark_record(mark: &yaml_mark_t) -> mark_record_t
+pub(crate) fn mark_record(mark: &yaml_mark_t) -> mark_record_t
     ensures { result ≡ spec.mark_record mark.now }
 {
     mark_record_t {
@@ -87,28 +87,28 @@ pub fn mark_record(mark: &yaml_mark_t) -> mark_record_t
 }
 
 /// Returns 1 where it is set.
-pub fn flag(is_set: bool) -> u8
+pub(crate) fn flag(is_set: bool) -> u8
     ensures { result ≡ spec.flag is_set }
 {
     if is_set { 1 } else { 0 }
 }
 
 /// Returns the number of a scalar's style.
-pub fn scalar_style_number(style: yaml_scalar_style_t) -> u8
+pub(crate) fn scalar_style_number(style: yaml_scalar_style_t) -> u8
     ensures { result ≡ numbers.scalar_style_number style }
 {
     style as u8
 }
 
 /// Returns the number of a sequence's style.
-pub fn sequence_style_number(style: yaml_sequence_style_t) -> u8
+pub(crate) fn sequence_style_number(style: yaml_sequence_style_t) -> u8
     ensures { result ≡ numbers.sequence_style_number style }
 {
     style as u8
 }
 
 /// Returns the number of a mapping's style.
-pub fn mapping_style_number(style: yaml_mapping_style_t) -> u8
+pub(crate) fn mapping_style_number(style: yaml_mapping_style_t) -> u8
     ensures { result ≡ numbers.mapping_style_number style }
 {
     style as u8

@@ -9,7 +9,7 @@ use std::alloc::AllocError;
 /// # Errors
 ///
 /// Where they are more than can be counted.
-pub fn put<T: Copy>(out: &mut [T], wanted: &mut usize, items: &[T]) -> Result<(), AllocError>
+pub(crate) fn put<T: Copy>(out: &mut [T], wanted: &mut usize, items: &[T]) -> Result<(), AllocError>
     ensures puts { OnOk result (Puts out.old wanted.old items.now out.new wanted.new) }
     ensures too_many { OnErr result (2 ^ 64 ≤ wanted.old + length items.now) }
 {

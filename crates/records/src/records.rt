@@ -26,7 +26,7 @@ pub struct range_record_t {
 pub const ABSENT: usize = usize::MAX;
 
 /// The range of a text that isn't there.
-pub const NO_RANGE: range_record_t = range_record_t {
+pub(crate) const NO_RANGE: range_record_t = range_record_t {
     place: ABSENT,
     length: 0,
 };
