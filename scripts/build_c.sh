@@ -61,7 +61,7 @@ build_over_kept() {
 
 # Makes NAME.o of a crate, and of an allocator, if any: its only global names are these.
 build_door() {
-    door=$1 crate=$2 allocator=$3
+    door=$1 crate=$2 beside=$3
     shift 3
     wanted=$(printf '%s\n' "$@" | sort)
     archive=$dir/lib$crate.a
@@ -74,7 +74,7 @@ build_door() {
     fi
     (cd "$dir" && "${tools}ar" x "$archive" && mv "$crate.o" "${door}_module.o")
     rm -f "$archive"
-    "${tools}ld" -r -o "$dir/$door.o" "$dir/${door}_module.o" $allocator
+    "${tools}ld" -r -o "$dir/$door.o" "$dir/${door}_module.o" $beside
     for name in $wanted; do
         set -- "$@" "--keep-global-symbol=$name"
         shift
