@@ -6,7 +6,7 @@
  *
  * The last line of each says what was seen; the status is 1 where something is wrong. */
 #define main documents_driver_main
-#include "../scripts/doors/documents_driver.c"
+#include "documents_driver.c"
 #undef main
 #include <pthread.h>
 

@@ -5,7 +5,7 @@
  *
  * The last line of each says what was seen; the status is 1 where something is wrong. */
 #define main steps_driver_main
-#include "../scripts/doors/steps_driver.c"
+#include "steps_driver.c"
 #undef main
 #include <pthread.h>
 
