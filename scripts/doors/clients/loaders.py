@@ -36,8 +36,9 @@ def said(made):
     return made[1].split("\n")[-1 if len(made[1].split("\n")) < 2 else 0] if isinstance(made, tuple) else "read"
 
 
-# More events than tokens, and more bytes of tags than the text has.
-MADE = {"documents": b"---\n" * 500, "tags": b"%TAG !e! tag:" + b"x" * 2000 + b"\n---\n" + b"- &a !e!b c\n" * 100}
+# More events than tokens; more bytes of tags than the text has; a handle that two documents declare.
+MADE = {"documents": b"---\n" * 500, "tags": b"%TAG !e! tag:" + b"x" * 2000 + b"\n---\n" + b"- &a !e!b c\n" * 100,
+        "handles": b'%TAG !e! tag:a,2000:\n--- !e!y "x"\n%TAG !e! tag:b,2000:\n--- !e!y z\n'}
 
 
 def texts(folders):

@@ -217,7 +217,7 @@ static void check_faults(void)
     }
 }
 
-/* Whether the first scalar of a text has this tag. */
+/* Whether a scalar of a text has this tag. */
 static int has_tag(const char *text, const char *tag)
 {
     yaml_parser_t parser;
@@ -227,11 +227,11 @@ static int has_tag(const char *text, const char *tag)
     if (!begin(&parser, text))
         abort();
     do {
-        more = yaml_parser_parse(&parser, &event) && event.type != YAML_NO_EVENT && event.type != YAML_SCALAR_EVENT;
+        more = yaml_parser_parse(&parser, &event) && event.type != YAML_NO_EVENT;
         is = event.type == YAML_SCALAR_EVENT && event.data.scalar.tag != NULL &&
              strcmp((char *)event.data.scalar.tag, tag) == 0;
         yaml_event_delete(&event);
-    } while (more);
+    } while (more && !is);
     yaml_parser_delete(&parser);
     return is;
 }
@@ -241,6 +241,7 @@ static void check_tags(void)
     expect(has_tag("- !a b", "!a") && has_tag("- !!str b", "tag:yaml.org,2002:str"), "default handles", 0);
     expect(has_tag("%TAG ! tag:e:\n--- !a b", "tag:e:a"), "a primary handle", 0);
     expect(has_tag("%TAG !e! a\n%TAG !f! b\n--- !f!c d", "bc"), "the second handle", 0);
+    expect(has_tag("%TAG !e! a\n--- 'b'\n%TAG !e! c\n--- !e!d e", "cd"), "a handle that two documents declare", 0);
     expect(has_tag("- &b !<%ED%A0%80> c", "\xED\xA0\x80"), "a tag that isn't UTF-8", 0);
 }
 

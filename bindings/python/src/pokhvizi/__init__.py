@@ -219,10 +219,7 @@ class Steps:
                 token, self.token = self.token, None
                 return self.made(token)
             elif did == self.STAYS:
-                made = self.made(None)
-                if self.kind in self.FACTS:  # it goes by the document's handles, which end with a document
-                    self.fact = self.FACTS[self.kind](self, self.token)
-                return made
+                return self.made(None)
             elif did == self.FAULT:
                 raise self.error()
             else:
@@ -246,13 +243,16 @@ class Steps:
         token = self.scanner.get_token()
         while type(token) is yaml.DirectiveToken and token.name not in self.DIRECTIVES:
             token = self.leave_out()
-        kind = self.KINDS[type(token)] or self.DIRECTIVES[token.name]
-        if kind == self.SCALAR:
-            self.fact = token.plain
-        else:
-            self.fact = self.FACTS[kind](self, token) if kind in self.FACTS else 0
+        self.token, self.kind = token, self.KINDS[type(token)] or self.DIRECTIVES[token.name]
         self.at[0], self.at[3] = self.marks.put(token)
-        self.kind, self.token = kind, token
+        self.look()
+
+    def look(self):
+        """Finds the fact of the token in hand."""
+        if self.kind == self.SCALAR:
+            self.fact = self.token.plain
+        else:
+            self.fact = self.FACTS[self.kind](self, self.token) if self.kind in self.FACTS else 0
 
     def leave_out(self):
         """Leaves a directive out, after which another or a document's start has to stand; returns the token after it."""
@@ -327,6 +327,8 @@ class Steps:
 
     def document_end(self, token, explicit, start, end):
         self.directives.forget()
+        if token is None:  # the token in hand isn't of this document
+            self.look()
         return yaml.DocumentEndEvent(start, end, explicit=explicit)
 
     def alias(self, token, explicit, start, end):
