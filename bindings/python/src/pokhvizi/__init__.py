@@ -46,16 +46,16 @@ class Library:
     used = None
 
     def __init__(self, path):
-        pointer, size, byte = ctypes.c_void_p, ctypes.c_size_t, ctypes.c_uint8
-        text = ctypes.c_char_p, size
+        address, size, byte = ctypes.c_void_p, ctypes.c_size_t, ctypes.c_uint8
+        array, text = (address, size), (ctypes.c_char_p, size)
         try:
             library = ctypes.CDLL(path)
             self.new, self.step, self.tag, self.directive_fact, self.version_fact = [library[name] for name in self.NAMES]
         except (OSError, AttributeError) as error:
             raise LibraryError("cannot use %s: %s; POKHVIZI_LIBRARY may name the library" % (path, error)) from None
         # The step has no argtypes: its arguments are made once, and are not converted at each call.
-        self.tag.argtypes = text * 4 + (pointer, size, ctypes.POINTER(size))
-        self.directive_fact.argtypes = text * 3
+        self.tag.argtypes = array * 2 + text * 2 + (address, size, ctypes.POINTER(size))
+        self.directive_fact.argtypes = array * 2 + text
         self.version_fact.argtypes = ctypes.c_int32, ctypes.c_int32
         self.tag.restype = self.directive_fact.restype = self.version_fact.restype = byte
 
@@ -73,12 +73,21 @@ def use_library(path):
     Library.used = Library(path)
 
 
+def pointer(buffer):
+    """Returns the address of a buffer, which the caller keeps; that of another where it is empty."""
+    return ctypes.c_void_p(ctypes.addressof(ctypes.c_char.from_buffer(buffer or NOTHING)))
+
+
+NOTHING = bytearray(8)
+
+
 # ---- Tag directives ----
 
 class Directives:
     """The tag directives of a document, as the library reads them and as an event has them."""
 
     HANDLE = struct.Struct("=4Q")
+    DEFAULT = len("tag:yaml.org,2002:")  # the longest prefix that needs no directive
     UNDECLARED = (1 << 64) - 1
 
     def __init__(self, library):
@@ -86,10 +95,10 @@ class Directives:
         self.forget()
 
     def forget(self):
-        self.tags, self.handles, self.texts = {}, b"", b""
+        self.tags, self.handles, self.texts, self.longest = {}, bytearray(), bytearray(), self.DEFAULT
 
     def records(self):
-        return self.handles, len(self.tags), self.texts, len(self.texts)
+        return pointer(self.handles), len(self.tags), pointer(self.texts), len(self.texts)
 
     def fact(self, handle):
         """Returns the fact of a directive: whether its handle has been declared."""
@@ -101,11 +110,12 @@ class Directives:
         place, handle, prefix = len(self.texts), handle.encode(), prefix.encode()
         self.handles += self.HANDLE.pack(place, len(handle), place + len(handle), len(prefix))
         self.texts += handle + prefix
+        self.longest = max(self.longest, len(prefix))
 
     def tag(self, handle, suffix):
         """Returns the fact of a tag, and the tag in full, or None where its handle isn't declared."""
         handle, suffix = (handle or "").encode(), suffix.encode()
-        room = max(len(self.texts), 18) + len(suffix)  # no prefix is longer
+        room = self.longest + len(suffix)
         out = ctypes.create_string_buffer(room)
         fact = self.library.tag(*self.records(), handle, len(handle), suffix, len(suffix), out, room, self.size)
         length = self.size.value
@@ -187,15 +197,11 @@ class Steps:
         self.anchor = self.tag = self.tag_token = self.version = None
         self.holds = False
 
-    @staticmethod
-    def pointer(buffer):
-        return ctypes.c_void_p(ctypes.addressof(ctypes.c_char.from_buffer(buffer)))
-
     def arguments(self):
         """Returns the arguments of a step before the token's kind and after its fact."""
         states_room, marks_room = ctypes.c_size_t(len(self.states)), ctypes.c_size_t(len(self.mark_stack) // 3)
-        record, states, marks = map(self.pointer, (self.record, self.states, self.mark_stack))
-        return (record, states, states_room, marks, marks_room, *map(self.pointer, (self.at, self.event, self.fault)))
+        record, states, marks = map(pointer, (self.record, self.states, self.mark_stack))
+        return (record, states, states_room, marks, marks_room, *map(pointer, (self.at, self.event, self.fault)))
 
     def __iter__(self):
         return self
