@@ -121,7 +121,7 @@ library=${1:-$work/plain}/libpokhvizi.a
 shared=${library%.a}.so
 yaml=$work/yaml
 sanitized=$work/sanitized
-build="${CC:-cc} -O1 -g -Wall -Wextra -Werror examples/yaml.c $library -lyaml"
+build="${CC:-cc} -O1 -g -Wall -Wextra -Werror -Ibindings/c/include examples/yaml.c $library -lyaml"
 $build -o "$yaml" || exit 2
 $build -fsanitize=address,undefined -fno-sanitize-recover=all -o "$sanitized" || exit 2
 ${CC:-cc} -O2 -Wall -Wextra -fPIC -shared -o "$work/fail_allocation.so" scripts/doors/fail_allocation.c || exit 2
