@@ -10,16 +10,43 @@ use std::io::Write;
 /// A line that is read.
 const LINE: &[u8] = b"STREAM-START 0:0:0 0:0:0 utf8\n";
 
-/// Words that ask for a run, and what that writes over the line.
-const ASKED: [(&str, &str); 2] = [
-    (
-        "events",
-        "STREAM-START 0:0:0 0:0:0 utf8\nFAULT reader 1:1:0 no more tokens\n",
-    ),
-    ("nodes", "FAULT reader 1:1:0 no more tokens\n"),
+/// A word that asks for a run, and what that writes over an input.
+#[derive(Copy, Clone)]
+struct WordRun {
+    row: &'static str,
+    word: &'static str,
+    input: &'static [u8],
+    lines: &'static str,
+}
+
+const ASKED: [WordRun; 4] = [
+    WordRun {
+        row: "events",
+        word: "events",
+        input: LINE,
+        lines: "STREAM-START 0:0:0 0:0:0 utf8\nFAULT reader 1:1:0 no more tokens\n",
+    },
+    WordRun {
+        row: "nodes",
+        word: "nodes",
+        input: LINE,
+        lines: "FAULT reader 1:1:0 no more tokens\n",
+    },
+    WordRun {
+        row: "events of nothing",
+        word: "events",
+        input: b"",
+        lines: "FAULT reader 0:0:0 no more tokens\n",
+    },
+    WordRun {
+        row: "nodes of nothing",
+        word: "nodes",
+        input: b"",
+        lines: "FAULT reader 0:0:0 no more tokens\n",
+    },
 ];
 
-fn asked() -> &'static [(&'static str, &'static str)] {
+fn asked() -> &'static [WordRun] {
     &ASKED
 }
 
@@ -63,19 +90,19 @@ fn are_refused(alloc: Global, words: &[&str]) -> Result<bool, AllocError> {
     )
 }
 
-/// Whether a word's run over the line writes this, and nothing for the user; or that the output failed.
-fn is_asked(alloc: Global, word: &str, lines: &str) -> Result<bool, AllocError> {
-    let words = owned(alloc, &[word])?;
+/// Whether the word's run writes these lines, and nothing for the user; or that the output failed.
+fn is_right(alloc: Global, asked: WordRun) -> Result<bool, AllocError> {
+    let words = owned(alloc, &[asked.word])?;
     let words = words.as_slice();
     let (mut output, mut errors) = (Vec::new(alloc), Vec::new(alloc));
     let mut told = Vec::new(alloc);
     let mut full = PieceWriter::new(alloc, 1, 0);
     Ok(
         [
-            run_words(alloc, words, LINE, &mut output, &mut errors) == 1,
-            output.as_slice() == lines.as_bytes(),
+            run_words(alloc, words, asked.input, &mut output, &mut errors) == 1,
+            output.as_slice() == asked.lines.as_bytes(),
             errors.is_empty(),
-            run_words(alloc, words, LINE, &mut full, &mut told) == 3,
+            run_words(alloc, words, asked.input, &mut full, &mut told) == 3,
             told.as_slice() == b"yamltokens: output failed\n".as_slice(),
         ] == [true; 5],
     )
@@ -126,9 +153,9 @@ fn show_asked(rt: &(impl Print + AllocGlobal), tables: &mut Tables<'_>) -> io::R
     let Some(mut table) = tables.begin("words that ask for a run") else {
         return Ok(());
     };
-    for (word, lines) in asked() {
-        if table.has(word) {
-            table.count(rt, word, is_asked(rt.alloc(), word, lines) == Ok(true))?;
+    for asked in asked() {
+        if table.has(asked.row) {
+            table.count(rt, asked.row, is_right(rt.alloc(), *asked) == Ok(true))?;
         }
     }
     tables.show(rt, table)
