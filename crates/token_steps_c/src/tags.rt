@@ -1,5 +1,5 @@
 //! The facts of tags and directives for C.
-ghost use Rattle.std.specs.Prelude.{◌≡◌, ◌≤◌, ℕ, List, Some, length, take, is_some};
+ghost use Rattle.std.specs.Prelude.{◌≡◌, ◌≤◌, ◌<◌, ℕ, List, Some, None, length, take, drop, is_some};
 ghost use Rattle.std.specs.FinMap.{get};
 ghost use Rattle.libyaml_events.specs.machine.Machine.{resolve};
 ghost use Rattle.libyaml_grammar.specs.sentences.Order.{is_accepted};
@@ -39,8 +39,14 @@ pub extern "C" fn pokhvizi_tag(
     ensures fact { result ≡ tag_fact (resolve (handles_at texts.now handles.now) handle.now suffix.now) }
     ensures length { size.new
         ≡ length_or_none (resolve (handles_at texts.now handles.now) handle.now suffix.now) }
-    ensures put { (t : List ℕ) → resolve (handles_at texts.now handles.now) handle.now suffix.now ≡ Some t
-        → length t ≤ length out.old → take (length t) out.new ≡ t }
+    ensures put { (tag : List ℕ) → resolve (handles_at texts.now handles.now) handle.now suffix.now ≡ Some tag
+        → length tag ≤ length out.old → take (length tag) out.new ≡ tag }
+    ensures rest { (tag : List ℕ) → resolve (handles_at texts.now handles.now) handle.now suffix.now ≡ Some tag
+        → drop (length tag) out.new ≡ drop (length tag) out.old }
+    ensures no_room { (tag : List ℕ) → resolve (handles_at texts.now handles.now) handle.now suffix.now ≡ Some tag
+        → length out.old < length tag → out.new ≡ out.old }
+    ensures undefined { resolve (handles_at texts.now handles.now) handle.now suffix.now ≡ None
+        → out.new ≡ out.old }
 {
     tag(handles, texts, handle, suffix, out, size)
 }

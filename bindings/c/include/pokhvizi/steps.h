@@ -118,8 +118,9 @@ uint8_t pokhvizi_version_fact(int32_t major, int32_t minor);
 uint8_t pokhvizi_directive_fact(const pokhvizi_handle_t *handles, size_t count, const uint8_t *texts, size_t length,
                                 const uint8_t *handle, size_t handle_length);
 
-/* The fact of a TAG. `*size` is the length of the tag in full, which is put into `out` where all of it has room, or SIZE_MAX
- * where the handle isn't declared. A handle needs no directive if it is empty, `!` or `!!`. */
+/* The fact of a TAG. `*size` is the length of the tag in full, or SIZE_MAX where the handle isn't declared. The tag in full is
+ * put at the beginning of `out` where all of it has room; else, and beyond it, `out` stays as it was. A handle needs no directive
+ * if it is empty, `!` or `!!`. */
 uint8_t pokhvizi_tag(const pokhvizi_handle_t *handles, size_t count, const uint8_t *texts, size_t length,
                      const uint8_t *handle, size_t handle_length, const uint8_t *suffix, size_t suffix_length,
                      uint8_t *out, size_t room, size_t *size);

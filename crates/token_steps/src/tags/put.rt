@@ -1,5 +1,5 @@
 //! A tag in full.
-ghost use Rattle.std.specs.Prelude.{◌≡◌, ◌≤◌, ◌++◌, ℕ, List, Some, None, length, drop, take};
+ghost use Rattle.std.specs.Prelude.{◌≡◌, ◌≤◌, ◌<◌, ◌++◌, ℕ, List, Some, None, length, drop, take};
 ghost use Rattle.libyaml_events.specs.machine.Machine.{resolve};
 ghost use Rattle.token_steps.specs.Handles.{handles_at};
 ghost use Rattle.automaton_laws.specs.Texts.{tag_fact};
@@ -11,15 +11,17 @@ use crate::tags::handles::{handle_t, prefix_of};
 /// Puts these two texts, one after the other.
 fn put_both(prefix: &[u8], suffix: &[u8], out: &mut [u8])
     requires { length (prefix.now ++ suffix.now) ≤ length out.old }
-    ensures { take (length (prefix.now ++ suffix.now)) out.new ≡ prefix.now ++ suffix.now }
+    ensures put { take (length (prefix.now ++ suffix.now)) out.new ≡ prefix.now ++ suffix.now }
+    ensures rest { drop (length (prefix.now ++ suffix.now)) out.new
+        ≡ drop (length (prefix.now ++ suffix.now)) out.old }
 {
     out[..prefix.len()].copy_from_slice(prefix);
     out[prefix.len()..prefix.len() + suffix.len()].copy_from_slice(suffix);
 }
 
 /// Returns the fact of a TAG: 1 where the tag in full is empty, 2 where it is `!`, 3 for any other, and 4 where
-/// its handle isn't declared. Puts the tag into `out`, where there is room for all of it, and its length in
-/// bytes into `size`; `usize::MAX` where the handle isn't declared.
+/// its handle isn't declared. Puts the tag at the start of `out`, where there is room for all of it, and else
+/// leaves `out` as it was; and its length in bytes into `size`, `usize::MAX` where the handle isn't declared.
 pub fn tag(
     handles: &[handle_t],
     texts: &[u8],
@@ -33,6 +35,12 @@ pub fn tag(
         ≡ length_or_none (resolve (handles_at texts.now handles.now) handle.now suffix.now) }
     ensures put { (tag : List ℕ) → resolve (handles_at texts.now handles.now) handle.now suffix.now ≡ Some tag
         → length tag ≤ length out.old → take (length tag) out.new ≡ tag }
+    ensures rest { (tag : List ℕ) → resolve (handles_at texts.now handles.now) handle.now suffix.now ≡ Some tag
+        → drop (length tag) out.new ≡ drop (length tag) out.old }
+    ensures no_room { (tag : List ℕ) → resolve (handles_at texts.now handles.now) handle.now suffix.now ≡ Some tag
+        → length out.old < length tag → out.new ≡ out.old }
+    ensures undefined { resolve (handles_at texts.now handles.now) handle.now suffix.now ≡ None
+        → out.new ≡ out.old }
 {
     if handle.is_empty() {
         *size = put_whole(&[], suffix, out);
@@ -55,6 +63,9 @@ fn put_whole(prefix: &[u8], suffix: &[u8], out: &mut [u8]) -> usize
     ensures length { result ≡ length (prefix.now ++ suffix.now) }
     ensures put { length (prefix.now ++ suffix.now) ≤ length out.old
         → take (length (prefix.now ++ suffix.now)) out.new ≡ prefix.now ++ suffix.now }
+    ensures rest { drop (length (prefix.now ++ suffix.now)) out.new
+        ≡ drop (length (prefix.now ++ suffix.now)) out.old }
+    ensures no_room { length out.old < length (prefix.now ++ suffix.now) → out.new ≡ out.old }
 {
     let length = prefix.len() + suffix.len();
     if length <= out.len() {
