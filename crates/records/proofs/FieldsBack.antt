@@ -20,7 +20,7 @@ use Rattle.libyaml_types.specs.declared.enums.yaml_mapping_style_t.TheVariants.{
 use Rattle.libyaml_types.specs.declared.enums.yaml_mapping_style_t.TheVariants.{YAML_BLOCK_MAPPING_STYLE}
 use Rattle.libyaml_types.specs.declared.enums.yaml_mapping_style_t.TheVariants.{YAML_FLOW_MAPPING_STYLE}
 use Rattle.records.specs.FieldRecords.{directive_bytes, directive_record, directive_records, directives_bytes, flag}
-use Rattle.records.specs.FieldsBack.{cut_by, directive_by, mapping_style_by, scalar_style_by, sequence_style_by}
+use Rattle.records.specs.FieldsBack.{directive_by, mapping_style_by, scalar_style_by, sequence_style_by}
 
 cut : {A : Type 0} (all front text back : List A) (n : ℕ) → all ≡ front ++ (text ++ back) → n ≡ length front
     → take (length text) (drop n all) ≡ text
