@@ -83,7 +83,7 @@ def doubled_names(specs):
 
 
 def dead(every):
-    """What neither code nor a goal nor an operator reaches. A mention of a name reaches each definition of that name."""
+    """What neither code nor a goal, an operator or a set of rules reaches. A mention of a name reaches each definition of that name."""
     by_name = defaultdict(list)
     for one in every:
         by_name[one.name].append(one)
@@ -93,6 +93,9 @@ def dead(every):
     for one in every:
         if is_goal(one.path) or "◌" in one.name:
             todo |= one.mentions()
+    for path in [*files("specs"), *files("proofs")]:
+        for line in re.findall(r"^(?:pub )?ruleset .*(?:\n .*)*", path.read_text(), flags=re.M):
+            todo.update(WORD.findall(line))
     seen = set()
     while todo:
         name = todo.pop()
