@@ -35,6 +35,7 @@ original=${ORIGINAL:-$(ls -d /usr/share/cargo/registry/unsafe-libyaml-0.2.11 2> 
 SOURCE_DATE_EPOCH=$(git log -1 --format=%ct)
 export SOURCE_DATE_EPOCH LC_ALL=C TZ=UTC
 umask 022
+kit=$(dirname "$(rt doc)")
 rm -f "$out"/*.tar.gz "$out"/*.whl "$out/SHA256SUMS"
 
 if [ -z "$built" ]; then
@@ -52,6 +53,18 @@ pack() {
     (cd "$1/.." && tar --sort=name --mtime="@$SOURCE_DATE_EPOCH" --owner=0 --group=0 --numeric-owner --format=ustar -cf - "${1##*/}") |
         gzip -9n > "$2"
 }
+
+# ---- Licences of what is built in ----
+
+notices() {
+    echo "The library has code of these crates, which the prover's kit ported from Rust."
+    for ported in simdutf8 percent_encoding memchr itoa; do
+        printf '\n---- %s ----\n\n' "$ported"
+        if [ -e "$kit/rattle/$ported/LICENSE-MIT" ]; then licence=LICENSE-MIT; else licence=LICENSE; fi
+        cat "$kit/rattle/$ported/$licence"
+    done
+}
+notices > "$work/NOTICES"
 
 # ---- What was proved ----
 
@@ -97,7 +110,7 @@ c_archive() {
         [ ! -e "$file" ] || "$(tools_of "$machine")objdump" -T "$file"
     done | grep -o 'GLIBC_[0-9.]*' | sed s/GLIBC_// | sort -Vu | tail -n 1)
     sed "s/@GLIBC@/$glibc/" bindings/c/README.md > "$tree/README.md"
-    cp LICENSE CHANGELOG.md docs/PROVED.md docs/DEFINITIONS.md docs/DIFFERENCES.md docs/HEADLINE.md "$tree/share/doc/pokhvizi"
+    cp LICENSE "$work/NOTICES" CHANGELOG.md docs/PROVED.md docs/DEFINITIONS.md docs/DIFFERENCES.md docs/HEADLINE.md "$tree/share/doc/pokhvizi"
     cp "$tree/README.md" "$tree/share/doc/pokhvizi"
     cp examples/events.c examples/documents.c examples/yaml.c examples/list.yaml "$tree/share/doc/pokhvizi/examples"
     proof_note "$machine" > "$tree/share/doc/pokhvizi/PROOF"
@@ -114,7 +127,7 @@ wheel() {
     2.[0-9] | 2.[0-9].* | 2.1[0-7]) tag=manylinux_2_17_$machine.manylinux2014_$machine ;;
     *) tag=manylinux_$(echo "$needs" | tr . _)_$machine ;;
     esac
-    python3 bindings/python/wheel.py "$tree/lib/libpokhvizi.so.$version" LICENSE "$tree/share/doc/pokhvizi/PROOF" "$version" "$tag" "$out"
+    python3 bindings/python/wheel.py "$tree/lib/libpokhvizi.so.$version" "$tree/share/doc/pokhvizi" "$version" "$tag" "$out"
 }
 
 # ---- Rust ----
@@ -131,7 +144,7 @@ crate() {
         cp "$(folder_of "$machine")/libpokhvizi.a" "$tree/lib/$machine-unknown-linux"
         cp "$work/pokhvizi-$version-$machine-linux/share/doc/pokhvizi/PROOF" "$tree/lib/$machine-unknown-linux"
     done
-    cp LICENSE "$tree"
+    cp LICENSE "$work/NOTICES" "$tree"
     # The original, without which cargo can't have both: its licence goes with it.
     mkdir "$tree/original"
     cp -RL "$original/src" "$original/Cargo.toml" "$original/LICENSE-MIT" "$tree/original"
@@ -152,7 +165,7 @@ modules() {
         rm "$tree/${door}_module.o"
     done
     cp -R bindings/c/include/pokhvizi "$tree/include"
-    cp bindings/llvm/Makefile bindings/llvm/README.md bindings/llvm/heap.c bindings/llvm/lower.py LICENSE "$built/pokhvizi.map" "$tree"
+    cp bindings/llvm/Makefile bindings/llvm/README.md bindings/llvm/heap.c bindings/llvm/lower.py LICENSE "$work/NOTICES" "$built/pokhvizi.map" "$tree"
     cp "$work/pokhvizi-$version-x86_64-linux/share/doc/pokhvizi/PROOF" "$tree"
     pack "$tree" "$out/pokhvizi-$version-llvm.tar.gz"
 }

@@ -58,6 +58,16 @@ for archive in "$out"/*.tar.gz; do
     tar xzf "$archive" -C "$work/unpacked"
 done
 want 'no path of this machine' '' sh -c "cd '$work/unpacked' && grep -rlE \"$top|$work|/opt/rattle\" . | head -n 3"
+notices_of() {
+    case $1 in
+    *.whl) python3 -c 'import sys, zipfile; z = zipfile.ZipFile(sys.argv[1])
+print(*[z.read(name).decode() for name in z.namelist() if name.endswith("/NOTICES")])' "$1" ;;
+    *) tar xzOf "$1" --wildcards '*/NOTICES' ;;
+    esac | grep -c 'Permission is hereby granted'
+}
+for archive in "$out"/*.tar.gz "$out"/*.whl; do
+    want "licences of four ported crates in ${archive##*/}" 4 notices_of "$archive"
+done
 
 # ---- C ----
 

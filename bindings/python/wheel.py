@@ -1,9 +1,10 @@
 #!/usr/bin/env python3
 """Writes a wheel of the package, with no tool beside Python:
 
-    wheel.py LIBRARY LICENSE PROOF VERSION TAG OUTDIR
+    wheel.py LIBRARY PAGES VERSION TAG OUTDIR
 
-LIBRARY is libpokhvizi.so for the machine that TAG names, as manylinux_2_17_x86_64. Times are SOURCE_DATE_EPOCH's, so two runs
+LIBRARY is libpokhvizi.so for the machine that TAG names, as manylinux_2_17_x86_64. PAGES is the folder of its LICENSE, NOTICES
+and PROOF. Times are SOURCE_DATE_EPOCH's, so two runs
 write the same bytes."""
 import base64
 import hashlib
@@ -20,6 +21,7 @@ Version: {version}
 Summary: PyYAML's loaders over a proved parser
 License: MIT
 License-File: LICENSE
+License-File: NOTICES
 Requires-Python: >=3.8
 Requires-Dist: PyYAML>=5.1
 Classifier: License :: OSI Approved :: MIT License
@@ -43,11 +45,11 @@ def package_files(library):
     return files
 
 
-def main(library, licence, proof, version, tag, out):
+def main(library, pages, version, tag, out):
     info = f"pokhvizi-{version}.dist-info"
     files = package_files(library)
-    files[f"{info}/LICENSE"] = Path(licence).read_bytes()
-    files[f"{info}/PROOF"] = Path(proof).read_bytes()
+    for page in ("LICENSE", "NOTICES", "PROOF"):
+        files[f"{info}/{page}"] = (Path(pages) / page).read_bytes()
     files[f"{info}/METADATA"] = METADATA.format(version=version, readme=(HERE / "README.md").read_text()).encode()
     tags = "".join(f"Tag: py3-none-{one}\n" for one in tag.split("."))
     files[f"{info}/WHEEL"] = f"Wheel-Version: 1.0\nGenerator: wheel.py\nRoot-Is-Purelib: false\n{tags}".encode()
@@ -63,6 +65,6 @@ def main(library, licence, proof, version, tag, out):
 
 
 if __name__ == "__main__":
-    if len(sys.argv) != 7:
+    if len(sys.argv) != 6:
         sys.exit(__doc__)
     main(*sys.argv[1:])
