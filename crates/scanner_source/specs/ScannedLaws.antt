@@ -5,15 +5,12 @@ use Rattle.libyaml_types.specs.declared.token.yaml_token_t.{yaml_token_t}
 use Rattle.libyaml_sources.specs.Fault.{Fault, Answer}
 use Rattle.scanner_source.specs.Scanned.{Scanned, Gives}
 
-no_token : (token : yaml_token_t) (fault : Fault) → Ok token ≡ Err fault → ⊥
-no_token token fault e = cc
-
 below_bound : {S : Type 0} (scans : S → Answer → S → Type 0) (s t : Scanned S) (token : yaml_token_t)
     (kept : Option Fault) → s.fault ≡ kept → Gives scans s (Ok token) t → s.given < s.max_tokens
-below_bound scans s t token (Some fault) e h = absurd (no_token token fault (h.kept fault e))
+below_bound scans s t token (Some fault) e h = cc (h.kept fault e)
 below_bound scans s t token None e h
     = elim (cases_lt s.given s.max_tokens)
-    [ inl below ↦ below | inr bound ↦ absurd (no_token token _ (h.too_many e bound)) ]
+    [ inl below ↦ below | inr bound ↦ cc (h.too_many e bound) ]
 
 pub scanned_falls : {S : Type 0} (scans : S → Answer → S → Type 0) (s t : Scanned S) (token : yaml_token_t)
     → Gives scans s (Ok token) t → s.max_tokens - s.given ≡ t.max_tokens - t.given + 1
