@@ -22,7 +22,8 @@ IMPL = re.compile(r"impl(<.*?>)? (?:(.+?) for )?(\w+)")
 USE = re.compile(r"pub use ([\w:]+?)(?:::\{([^}]*)\}| as (\w+))?;")
 LAWS = re.compile(r"(?:laws|rows|determined)::")
 NAMED = (
-    "unsafe_libyaml", "token_lines", "token_lines_c", "yaml_path", "token_steps", "token_steps_c", "records", "records_c",
+    "unsafe_libyaml", "scanner_source", "token_lines", "token_lines_c", "yaml_path", "token_steps", "token_steps_c", "records",
+    "records_c",
 )
 INNER = re.compile(r"putting::")  # a module for the crates above alone
 EXAMPLES = {"computed_tokens", "pushed_list", "cited_theorems", "row_checks"}
@@ -39,7 +40,8 @@ FIRST = [
         """
         yaml_token_t yaml_token_t::new unnamed_yaml_token_t_data unnamed_yaml_token_t_data_scalar yaml_mark_t
         yaml_list_source_t::from yaml_list_source_t::new yaml_line_source_t::new
-        yaml_token_source_t::next_token yaml_source_fault_t::scanner_error
+        yaml_scanner_source_t::new yaml_scanner_t::scan yaml_token_source_t::next_token
+        yaml_source_fault_t::scanner_error
         """,
     ),
     (
