@@ -27,7 +27,7 @@ PAGE = TOP / "docs" / "WRONG_BODIES.md"
 PROGRAMS = {
     "libyaml_types": ["yaml_rows", "push_scanner", "hostile_rows"],
     "libyaml_sources": ["yaml_rows", "outline"],
-    "scanner_source": ["own_source"],
+    "scanner_source": ["scanner_rows"],
     "libyaml_events": ["yamltokens", "yaml_rows", "line_rows", "hostile_rows"],
     "libyaml_original": ["rows"],
     "libyaml_documents": ["yaml_rows", "keys", "hostile_rows"],
