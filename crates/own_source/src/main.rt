@@ -23,8 +23,6 @@ fn main(rt: HostRuntime) -> Result<()> {
     let alloc = rt.alloc();
     let mut text = String::new(alloc);
     rt.stdin().read_to_string(&mut text)?;
-    print_events(
-        &rt,
-        yaml_scanner_source_t::new(Pairs::new(alloc, &text), 1_000_000),
-    )
+    let source = yaml_scanner_source_t::new(Pairs::new(alloc, &text), 1_000_000);
+    print_events(&rt, source)
 }
