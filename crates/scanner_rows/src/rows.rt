@@ -117,7 +117,7 @@ fn row_of(
     }
 }
 
-/// Returns all rows: tokens of the scanner, bound and calls; tokens given and calls of the scanner; the fault.
+/// Returns all rows: tokens of the scanner, bound, calls; tokens given, calls of the scanner; the fault.
 pub fn rows() -> [Row; 6] {
     [
         row_of("a token for each call", [3, 5, 2], [2, 2], NO_FAULT),

@@ -4,8 +4,8 @@ use Rattle.libyaml_types.specs.declared.mark.yaml_mark_t.{yaml_mark_t}
 use Rattle.libyaml_types.specs.declared.enums.yaml_error_type_t.TheVariants.{YAML_READER_ERROR}
 use Rattle.libyaml_sources.specs.Fault.{Fault, Answer, no_fault}
 
--- a source: its scanner, how many tokens it has given and how many it may give, where the last of them ends, and the fault that
--- it keeps
+-- a source: its scanner, how many tokens it has given and how many it may give, where the last of them ends, and
+-- the fault that it keeps
 pub record Scanned (S : Type 0) : Type 0 where
   pub scanner : S
   pub given : ℕ
@@ -41,7 +41,8 @@ abbrev pub Asks : {S : Type 0} → Scanned S → Type 0
 Asks s = (s.fault ≡ None) × (s.given < s.max_tokens)
 
 -- what a call returns, and where that leaves the source
-pub record Gives {S : Type 0} (scans : S → Answer → S → Type 0) (s : Scanned S) (answer : Answer) (t : Scanned S) : Type 0 where
+pub record Gives {S : Type 0} (scans : S → Answer → S → Type 0) (s : Scanned S) (answer : Answer) (t : Scanned S)
+    : Type 0 where
   pub asked : Asks s → scans s.scanner answer t.scanner
   pub not_asked : ¬ Asks s → t.scanner ≡ s.scanner
   pub kept : (fault : Fault) → s.fault ≡ Some fault → answer ≡ Err fault

@@ -18,6 +18,6 @@ scanned_falls scans s t token h =
     let below : s.given < s.max_tokens = below_bound scans s t token s.fault refl h in
     omega (arith, below, h.given, h.max_tokens)
 
-pub scanned_repeats : {S : Type 0} (scans : S → Answer → S → Type 0) (s t u : Scanned S) (fault : Fault) (answer : Answer)
-    → Gives scans s (Err fault) t → Gives scans t answer u → answer ≡ Err fault
+pub scanned_repeats : {S : Type 0} (scans : S → Answer → S → Type 0) (s t u : Scanned S) (fault : Fault)
+    (answer : Answer) → Gives scans s (Err fault) t → Gives scans t answer u → answer ≡ Err fault
 scanned_repeats scans s t u fault answer h k = k.kept fault h.fault

@@ -6,8 +6,8 @@ use libyaml_types::yaml_token_t;
 
 /// A scanner, whose tokens `yaml_scanner_source_t` gives to a parser. An implementation needs `scan` alone.
 pub trait yaml_scanner_t {
-    /// What a call may do: the scanner before it, its result, and the scanner after it. An implementation that
-    /// leaves this out says nothing of its tokens.
+    /// What a call may do: the scanner before it, its result, and the scanner after it. An implementation
+    /// that leaves this out says nothing of its tokens.
     ghost scans: { Self → Answer → Self → Type 0 } = { λ _ _ _. Unit {0} };
 
     /// Returns the next token. The source does not call it again after a fault.
