@@ -44,8 +44,9 @@ module() {
         --logic-built "$kit/logic_built" --jobs 1 --links "$name=" --crate-type staticlib --cpu x86-64 \
         --toolchain "$work/toolchain" --backend llvm -o "$work/lib.a") > "$work/said" 2>&1 || { tail -n 5 "$work/said" >&2; exit 1; }
     [ -s "$work/module.bc" ] || { echo "llvm_source.sh: no module of $name was found" >&2; exit 1; }
-    "$kit/toolchain/bin/clang" --target=x86_64-unknown-linux-gnu --no-default-config -S -emit-llvm -O0 -Xclang -disable-llvm-passes \
-        -x ir "$work/module.bc" -o "$dir/$door.ll"
+    # In its folder, as clang writes the name that it is given into the module.
+    (cd "$work" && "$kit/toolchain/bin/clang" --target=x86_64-unknown-linux-gnu --no-default-config -S -emit-llvm -O0 \
+        -Xclang -disable-llvm-passes -x ir module.bc -o "$dir/$door.ll")
     (cd "$work" && ar x lib.a && mv "$name.o" "$dir/${door}_module.o")
 }
 
