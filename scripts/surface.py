@@ -31,7 +31,7 @@ WIDTH = 110
 
 HEAD = """# Every public item
 
-Made from the sources by `python3 scripts/surface.py --write`. You name `unsafe_libyaml`, which re-exports the crates of events, documents and loads, and `token_lines`, which re-exports those of lines. `fn T::f` is a method or a function of the type `T`, a struct without fields here has private ones. [CALLING.md](CALLING.md) shows their use; what each is, returns and asks for is in the comment and the contract beside it.
+This page is made from the sources by `python3 scripts/surface.py --write`. You name `unsafe_libyaml`, which re-exports the crates of events, documents and loads, and `token_lines`, which re-exports those of lines. `fn T::f` is a method or a function of the type `T`; a struct that is shown without fields has private ones. [CALLING.md](CALLING.md) shows their use; what each is, returns and asks for is in the comment and the contract beside it.
 """
 
 FIRST = [
