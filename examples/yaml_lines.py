@@ -238,9 +238,11 @@ class Program:
 class Library:
     """A run of the shared library, over all tokens at once."""
 
+    FUNCTIONS = {"events": "pokhvizi_event_lines", "nodes": "pokhvizi_node_lines"}
+
     def __init__(self, mode, path):
         try:
-            self.function = getattr(ctypes.CDLL(path), "token_lines_run_" + mode)
+            self.function = getattr(ctypes.CDLL(path), self.FUNCTIONS[mode])
         except (OSError, AttributeError) as error:
             raise Failure("cannot use %s: %s" % (path, error))
         size = ctypes.POINTER(ctypes.c_size_t)
