@@ -23,7 +23,8 @@ impl Machine {
     #[inline(always)]
     #[tactic(auto, unfolding(crate::specs::Config::states_of, crate::specs::Config::marks_of))]
     pub fn new() -> Self
-        ensures config { (states : List ℕ) (marks : List yaml_mark_t) → config_of result states marks ≡ start }
+        ensures config { (states : List ℕ) (marks : List yaml_mark_t)
+            → config_of result states marks ≡ start }
         ensures within { (states : List ℕ) (marks : List yaml_mark_t) → Within result states marks }
     {
         Machine {

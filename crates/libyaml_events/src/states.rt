@@ -251,8 +251,8 @@ impl<S> Machine<S> {
         self.parse_node_behind(slot, token, pending, out)
     }
 
-    /// A node at its first token, where it may be left out but isn't. The state after a document's node is on the stack
-    /// already.
+    /// A node at its first token, where it may be left out but isn't. The state after a document's node is on
+    /// the stack already.
     #[inline(always)]
     fn parse_node_behind(
         &mut self,
@@ -263,7 +263,8 @@ impl<S> Machine<S> {
     ) -> Result<Step, yaml_error_type_t>
         ensures steps { Steps (parse_node (place slot) (entered (state_behind slot) self.old.config) token.old
             token.old.content) self.old (answer result pending.new out.new) self.new }
-        ensures grows { result ≡ Err yaml_error_type_t.YAML_MEMORY_ERROR → is_some (state_behind slot) ≡ true }
+        ensures grows { result ≡ Err yaml_error_type_t.YAML_MEMORY_ERROR
+            → is_some (state_behind slot) ≡ true }
     {
         match slot.state_behind() {
             Some(state) => self.parse_node_then(state, slot.place(), token, pending, out),

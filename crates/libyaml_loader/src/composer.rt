@@ -1,4 +1,5 @@
-//! What composes documents, event by event. A load, and a loader that is handed its tokens, are loops over it.
+//! What composes documents, event by event. A load, and a loader that is handed its tokens, are loops over
+//! it.
 ghost use Rattle.std.specs.Prelude.{◌≡◌, ◌≤◌, ◌⊎◌, [], ◌∷◌, Ok, IfErr, OnOk, true, false};
 ghost use Rattle.std.specs.Option.{option_map};
 ghost use Rattle.std.specs.Vec.{vec_capacity, vec_len};
@@ -8,7 +9,13 @@ ghost use Rattle.libyaml_sources.specs.Fault.{fault_of, no_fault};
 ghost use Rattle.libyaml_graphs.specs.graphs.GraphParts as parts;
 ghost use Rattle.libyaml_graphs.specs.machine.Loader.{between};
 ghost use Rattle.libyaml_loader.specs.document.Refusals.{fault_by};
-ghost use Rattle.libyaml_loader.specs.pushes.Composing.{Composes, ComposesEvent, IsSound, closing_by, ended_by};
+ghost use Rattle.libyaml_loader.specs.pushes.Composing.{
+  Composes,
+  ComposesEvent,
+  IsSound,
+  closing_by,
+  ended_by,
+};
 ghost use Rattle.libyaml_loader.specs.pushes.Composing.{opening_by, state_of};
 ghost use Rattle.libyaml_loader.specs.pushes.Leads.{Leads};
 
@@ -149,8 +156,8 @@ impl Composer {
         }
     }
 
-    /// Composes an event: begins a document, or adds to it. Where the event ends the document, returns its end,
-    /// and leaves the document for `end`.
+    /// Composes an event: begins a document, or adds to it. Where the event ends the document, returns its
+    /// end, and leaves the document for `end`.
     ///
     /// # Errors
     ///

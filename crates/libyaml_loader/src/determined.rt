@@ -63,7 +63,8 @@ pub fn one_push()
         (r s : Done) (tokens : List Token) (documents : List Document) → (l : Loaded old tokens documents)
         → has_stopped old ≡ false → PushesLoads (room ≤ m) old t before r p after
         → PushesLoads (room ≤ n) old t before s q later
-        → OnePushLoads (room ≤ m) (room ≤ n) (tokens ++ t ∷ []) l.events documents before r p after s q later }
+        → OnePushLoads (room ≤ m) (room ≤ n) (tokens ++ t ∷ []) l.events documents
+        before r p after s q later }
     ensures stopped { (room m n : ℕ) (old p q : PushLoader) (t : Token) (before after later : List Document)
         (r s : Done) → has_stopped old ≡ true → PushesLoads (room ≤ m) old t before r p after
         → PushesLoads (room ≤ n) old t before s q later → (r ≡ s) × (p ≡ q) × (after ≡ later) }

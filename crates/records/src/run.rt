@@ -98,7 +98,8 @@ fn hand_out(
     out: &mut [u8],
 ) -> Result<documents_run_t, AllocError>
     ensures run { IfOk result (λ run. (loads : List Load) → AreLoadsOfRecords tokens.now texts.now loads
-        → HandsOutLoads tokens.now texts.now (lists documents.old nodes.old items.old pairs.old directives.old out.old)
+        → HandsOutLoads tokens.now texts.now
+        (lists documents.old nodes.old items.old pairs.old directives.old out.old)
         (lists documents.new nodes.new items.new pairs.new directives.new out.new) run loads) }
     ensures room { IfOk result
         (WithinRoom (lists documents.old nodes.old items.old pairs.old directives.old out.old)) }

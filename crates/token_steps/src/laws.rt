@@ -62,9 +62,9 @@ pub fn run_fails()
     each_step();
 }
 
-/// The functions over a table of handles return the facts of tokens, where the table stands for the document's
-/// handles. An empty one does at a document's start; and one entry more for each TAG-DIRECTIVE that is taken,
-/// with its texts after the others, keeps it so.
+/// The functions over a table of handles return the facts of tokens, where the table stands for the
+/// document's handles. An empty one does at a document's start; and one entry more for each TAG-DIRECTIVE
+/// that is taken, with its texts after the others, keeps it so.
 pub fn tables_follow()
     ensures tag { (texts : List ℕ) (table : List handle_t) (tag : TagToken)
         → tag_fact (resolve (handles_at texts table) tag.handle tag.suffix)

@@ -1,8 +1,8 @@
 //! The event parser a token at a time, for a caller who owns all memory and all texts: the call, the facts of
 //! tags, and the laws of a run of calls.
 //!
-//! A call takes one token by its kind and marks, and puts at most one event's kind, flags and marks. Between two
-//! calls there is one record of plain numbers and two stacks, in the caller's memory.
+//! A call takes one token by its kind and marks, and puts at most one event's kind, flags and marks. Between
+//! two calls there is one record of plain numbers and two stacks, in the caller's memory.
 #![tactic(auto)]
 
 mod did;

@@ -83,9 +83,9 @@ impl steps_t {
     ///
     /// The states and marks that the record counts lie at the start of their slices. The fact says what the
     /// parser has to know of a token's texts: of a VERSION-DIRECTIVE 1 where its version is accepted, of a
-    /// TAG-DIRECTIVE 1 where its handle is declared already, of a scalar 1 where it is written plain, and else
-    /// 0; of a TAG 1 where the tag in full is empty, 2 where it is `!`, 3 for any other, and 4 where its handle
-    /// isn't declared. Of any other token it is 0.
+    /// TAG-DIRECTIVE 1 where its handle is declared already, of a scalar 1 where it is written plain, and
+    /// else 0; of a TAG 1 where the tag in full is empty, 2 where it is `!`, 3 for any other, and 4 where its
+    /// handle isn't declared. Of any other token it is 0.
     ///
     /// libyaml: `yaml_parser_parse`, for one token.
     #[inline(always)]

@@ -25,8 +25,8 @@ pub extern "C" fn pokhvizi_directive_fact(handles: &[handle_t], texts: &[u8], ha
     directive_fact(handles, texts, handle)
 }
 
-/// Returns the fact of a TAG, as `token_steps::tag` does. Puts the tag in full into `out`, where there is room
-/// for all of it, and its length into `size`; `SIZE_MAX` where its handle isn't declared.
+/// Returns the fact of a TAG, as `token_steps::tag` does. Puts the tag in full into `out`, where there is
+/// room for all of it, and its length into `size`; `SIZE_MAX` where its handle isn't declared.
 #[unsafe(no_mangle)]
 pub extern "C" fn pokhvizi_tag(
     handles: &[handle_t],
@@ -41,9 +41,11 @@ pub extern "C" fn pokhvizi_tag(
         ≡ length_or_none (resolve (handles_at texts.now handles.now) handle.now suffix.now) }
     ensures put { (tag : List ℕ) → resolve (handles_at texts.now handles.now) handle.now suffix.now ≡ Some tag
         → length tag ≤ length out.old → take (length tag) out.new ≡ tag }
-    ensures rest { (tag : List ℕ) → resolve (handles_at texts.now handles.now) handle.now suffix.now ≡ Some tag
+    ensures rest { (tag : List ℕ)
+        → resolve (handles_at texts.now handles.now) handle.now suffix.now ≡ Some tag
         → drop (length tag) out.new ≡ drop (length tag) out.old }
-    ensures no_room { (tag : List ℕ) → resolve (handles_at texts.now handles.now) handle.now suffix.now ≡ Some tag
+    ensures no_room { (tag : List ℕ)
+        → resolve (handles_at texts.now handles.now) handle.now suffix.now ≡ Some tag
         → length out.old < length tag → out.new ≡ out.old }
     ensures undefined { resolve (handles_at texts.now handles.now) handle.now suffix.now ≡ None
         → out.new ≡ out.old }

@@ -15,7 +15,9 @@
 //!   properties alone goes there too, and stays.
 //! ```
 ghost use Rattle.std.specs.Prelude.{◌≡◌, Some, Ok, Err, IfErr, None, false, true, option_map, string_bytes};
-ghost use Rattle.libyaml_types.specs.declared.event.unnamed_yaml_event_t_data_scalar.{unnamed_yaml_event_t_data_scalar};
+ghost use Rattle.libyaml_types.specs.declared.event.unnamed_yaml_event_t_data_scalar.{
+  unnamed_yaml_event_t_data_scalar,
+};
 ghost use Rattle.libyaml_types.specs.declared.enums.yaml_scalar_style_t.TheVariants.{YAML_PLAIN_SCALAR_STYLE};
 ghost use Rattle.libyaml_grammar.specs.sentences.Events.{is_plain, plain_flag, quoted_flag, is_missing};
 ghost use Rattle.libyaml_types.specs.declared.event.unnamed_yaml_event_t_data.TheVariants.{Alias};
@@ -254,8 +256,8 @@ impl<S> Machine<S> {
         give_scalar(&mut self.spare, content, start_mark, end_mark, out);
     }
 
-    /// A node at its first token, after which `state` comes. A scalar without properties is the whole node, so that no state
-    /// is pushed for it.
+    /// A node at its first token, after which `state` comes. A scalar without properties is the whole node,
+    /// so that no state is pushed for it.
     #[inline(always)]
     pub(super) fn parse_node_then(
         &mut self,

@@ -19,9 +19,10 @@ fn put_both(prefix: &[u8], suffix: &[u8], out: &mut [u8])
     out[prefix.len()..prefix.len() + suffix.len()].copy_from_slice(suffix);
 }
 
-/// Returns the fact of a TAG: 1 where the tag in full is empty, 2 where it is `!`, 3 for any other, and 4 where
-/// its handle isn't declared. Puts the tag at the start of `out`, where there is room for all of it, and else
-/// leaves `out` as it was; and its length in bytes into `size`, `usize::MAX` where the handle isn't declared.
+/// Returns the fact of a TAG: 1 where the tag in full is empty, 2 where it is `!`, 3 for any other, and 4
+/// where its handle isn't declared. Puts the tag at the start of `out`, where there is room for all of it,
+/// and else leaves `out` as it was; and its length in bytes into `size`, `usize::MAX` where the handle isn't
+/// declared.
 pub fn tag(
     handles: &[handle_t],
     texts: &[u8],
@@ -35,9 +36,11 @@ pub fn tag(
         ≡ length_or_none (resolve (handles_at texts.now handles.now) handle.now suffix.now) }
     ensures put { (tag : List ℕ) → resolve (handles_at texts.now handles.now) handle.now suffix.now ≡ Some tag
         → length tag ≤ length out.old → take (length tag) out.new ≡ tag }
-    ensures rest { (tag : List ℕ) → resolve (handles_at texts.now handles.now) handle.now suffix.now ≡ Some tag
+    ensures rest { (tag : List ℕ)
+        → resolve (handles_at texts.now handles.now) handle.now suffix.now ≡ Some tag
         → drop (length tag) out.new ≡ drop (length tag) out.old }
-    ensures no_room { (tag : List ℕ) → resolve (handles_at texts.now handles.now) handle.now suffix.now ≡ Some tag
+    ensures no_room { (tag : List ℕ)
+        → resolve (handles_at texts.now handles.now) handle.now suffix.now ≡ Some tag
         → length out.old < length tag → out.new ≡ out.old }
     ensures undefined { resolve (handles_at texts.now handles.now) handle.now suffix.now ≡ None
         → out.new ≡ out.old }
