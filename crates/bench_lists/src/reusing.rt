@@ -1,4 +1,5 @@
-//! A copier that makes a text in the memory of an earlier one, as the parser hands it back in the token's slot.
+//! A copier that makes a text in the memory of an earlier one, as the parser hands it back in the token's
+//! slot.
 
 use crate::copying::{Copier, copied_small, copy_directive};
 use libyaml_events::{

@@ -1,6 +1,6 @@
-//! Token lines on standard input, lines of events and then of documents on standard output: each token becomes
-//! a record; steps over these give events, whose lines are written, and `documents_of_records` document
-//! records, which are written as lines.
+//! Token lines on standard input, lines of events and then of documents on standard output: each token
+//! becomes a record; steps over these give events, whose lines are written, and `documents_of_records`
+//! document records, which are written as lines.
 #![tactic(auto)]
 
 mod documents;
