@@ -2,12 +2,12 @@
 """The lists of tokens that the bench takes, as token lines: `lists.py DIR` writes DIR/NAME.tokens for each kind of list
 (`KINDS`), DIR/NAME-few.tokens and DIR/NAME-many.tokens for those of `GROWING`, and DIR/program.tokens.
 
-The mixes are those of crates/yaml_rows/data/real; each other list repeats one form and has some 4,000 tokens, or ten
+The mixes are those of crates/rows_yaml/data/real; each other list repeats one form and has some 4,000 tokens, or ten
 times as many."""
 import os
 import sys
 
-REAL = os.path.join(os.path.dirname(os.path.abspath(__file__)), "../crates/yaml_rows/data/real")
+REAL = os.path.join(os.path.dirname(os.path.abspath(__file__)), "../crates/rows_yaml/data/real")
 FILES = ["compose", "list", "manifests", "workflow"]
 TOKENS = 4000
 PROGRAM_LINES = 60000

@@ -9,7 +9,7 @@
 #
 #     sh scripts/allocation_failures.sh [CRATE..]
 #
-# Without words: hostile_rows line_rows yaml_rows.
+# Without words: rows_hostile rows_lines rows_yaml.
 set -u
 cd "$(dirname "$0")/.." || exit 2
 root=$PWD
@@ -69,7 +69,7 @@ $told"
     printf '%s\n' "$whole" "$1: $allocations allocations failed in turn, $own of them the program's own"
 }
 
-[ $# -gt 0 ] || set -- hostile_rows line_rows yaml_rows
+[ $# -gt 0 ] || set -- rows_hostile rows_lines rows_yaml
 work=$(mktemp -d) || exit 2
 trap 'rm -rf "$work"' EXIT
 shim=$work/fail_allocation.so

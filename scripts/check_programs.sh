@@ -101,10 +101,10 @@ check statuses $yamltokens -- sh scripts/statuses.sh $yamltokens
 check slow_pipe python3 $yamltokens -- python3 scripts/slow_pipe.py $yamltokens
 check inlined nm $yamltokens crates/bench_lists/out/bench_lists -- sh scripts/inlined.sh $yamltokens crates/bench_lists/out/bench_lists
 check faults_of_yaml_lines.py PyYAML $yamltokens -- python3 scripts/compare_faults.py $front
-for rows in hostile_rows line_rows yaml_rows; do
+for rows in rows_hostile rows_lines rows_yaml; do
     check "allocations_of_$rows" cc timeout crates/$rows/out/$rows -- sh scripts/allocation_failures.sh $rows
 done
-check flat_memory /usr/bin/time crates/hostile_rows/out/hostile_rows -- sh scripts/flat_memory.sh
+check flat_memory /usr/bin/time crates/rows_hostile/out/rows_hostile -- sh scripts/flat_memory.sh
 check differential python3 cc yaml.h $yamltokens -- env JOBS=4 sh scripts/differential/run.sh $lists
 
 check libraries_for_c rt cc ld objcopy ar nm yaml.h -- sh scripts/build_c.sh "$libraries" $ci

@@ -5,9 +5,9 @@
     python3 scripts/edit_rows.py none                                    runs the programs over no edit
 
 Each edit is made in a copy, and the programs of its crate's line in PROGRAMS are run over it in turn, without proof
-(`rt try`), until one ends otherwise than it should: `yamltokens` over the lists of `yaml_rows` and `line_rows`, the
+(`rt try`), until one ends otherwise than it should: `yamltokens` over the lists of `rows_yaml` and `rows_lines`, the
 programs of rows table by table, other programs over what is stored beside them. Of the Rust crate's definitions the
-worked rows are proved. The program that WRONG_BODIES names goes first, `yaml_rows` where it names none; where it names
+worked rows are proved. The program that WRONG_BODIES names goes first, `rows_yaml` where it names none; where it names
 `PROGRAM failing`, that runs with the allocation failed that it names, or with each of the first 60 in turn. With --write the
 place goes into WRONG_BODIES, without the name of that program's table "rows"; where there is none, what the page says after
 "Seen in no row" stays. Two edits at a time (JOBS), half a minute to three minutes a program; needs `rt`.
@@ -25,24 +25,22 @@ from controls import edited
 
 PAGE = TOP / "docs" / "WRONG_BODIES.md"
 PROGRAMS = {
-    "libyaml_types": ["yaml_rows", "push_scanner", "hostile_rows"],
-    "libyaml_sources": ["yaml_rows", "outline"],
-    "scanner_source": ["scanner_rows"],
-    "libyaml_events": ["yamltokens", "yaml_rows", "line_rows", "hostile_rows"],
-    "libyaml_original": ["rows"],
-    "libyaml_documents": ["yaml_rows", "keys", "hostile_rows"],
-    "libyaml_loader": ["yamltokens", "yaml_rows", "keys", "hostile_rows"],
-    "unsafe_libyaml": ["yaml_rows", "hostile_rows"],
-    "clean_texts": ["yamltokens", "line_rows", "hostile_rows"],
-    "line_reading": ["yamltokens", "line_rows"],
-    "line_writing": ["yamltokens", "line_rows"],
-    "token_lines": ["yamltokens", "line_rows"],
-    "command_line": ["yamltokens", "line_rows"],
-    "computed_tokens": ["hostile_rows"],
+    "libyaml_types": ["rows_yaml", "example_push", "rows_hostile", "rows_scanner", "example_outline"],
+    "libyaml_events": ["yamltokens", "rows_yaml", "rows_lines", "rows_hostile"],
+    "rust_original": ["rows"],
+    "libyaml_documents": ["rows_yaml", "example_keys", "rows_hostile"],
+    "libyaml_loader": ["yamltokens", "rows_yaml", "example_keys", "rows_hostile"],
+    "unsafe_libyaml": ["rows_yaml", "rows_hostile"],
+    "byte_tests": ["yamltokens", "rows_lines", "rows_hostile"],
+    "line_reading": ["yamltokens", "rows_lines"],
+    "line_writing": ["yamltokens", "rows_lines"],
+    "token_lines": ["yamltokens", "rows_lines"],
+    "yamltokens_program": ["yamltokens", "rows_lines"],
+    "example_source": ["rows_hostile"],
     "token_lines_c": [],
-    "records": ["record_lines"],
+    "records": ["rows_records"],
     "records_c": [],
-    "yaml_path": ["yamlvalue"],
+    "yaml_path": ["example_paths"],
 }
 # Tables that take minutes without proof: they are tried only for an edit of which the page names them.
 SLOW = {
@@ -53,7 +51,7 @@ SLOW = {
     "drawn lists",
 }
 # The table that the page leaves unnamed.
-ROWS = '`yaml_rows`, "rows": '
+ROWS = '`rows_yaml`, "rows": '
 SECONDS = "240"
 
 
@@ -75,8 +73,8 @@ def text_of(path):
 
 def lists():
     """The runs of `yamltokens` over each list of tokens, by the list's table and name."""
-    tables = [TOP / "crates/yaml_rows/data" / name for name in ("rows", "completed", "loads", "libyaml_differs", "suite", "real")]
-    for table in [*tables, TOP / "crates/line_rows/data/runs"]:
+    tables = [TOP / "crates/rows_yaml/data" / name for name in ("rows", "completed", "loads", "libyaml_differs", "suite", "real")]
+    for table in [*tables, TOP / "crates/rows_lines/data/runs"]:
         for tokens in sorted(table.glob("*.tokens")):
             for kind in ("events", "nodes"):
                 wanted = tokens.with_suffix("." + kind)
@@ -175,11 +173,11 @@ def run_cases(room, program, cases):
 
 def run_laws(room, _):
     """Whether the worked rows of the Rust crate's definitions are proved no more."""
-    home = room / "crates/libyaml_original"
+    home = room / "crates/rust_original"
     run = subprocess.run(["rt", "check", "--only", "rows"], cwd=home, stdin=subprocess.DEVNULL, capture_output=True, text=True)
     said = run.stdout + run.stderr
     if not re.search(r"^only=[1-9]", said, flags=re.M):
-        raise NotRun(f"libyaml_original: {said[-1500:]}")
+        raise NotRun(f"rust_original: {said[-1500:]}")
     return None if run.returncode == 0 else "the worked rows"
 
 
@@ -201,7 +199,7 @@ def place(crate, edit):
         failing = re.search(r"`(\w+) failing`(?:, allocation (\d+) failed)?", named)
         if failing:
             return run_failing(Path(room), failing[1], failing[2])
-        first = next((name for name in PROGRAMS[crate] if f"`{name}" in named), "yaml_rows")
+        first = next((name for name in PROGRAMS[crate] if f"`{name}" in named), "rows_yaml")
         for program in sorted(PROGRAMS[crate], key=lambda name: name != first):
             seen = run_laws(Path(room), program) if program == "rows" else run_cases(Path(room), program, cases_of(program, named))
             if seen:

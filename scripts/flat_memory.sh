@@ -1,15 +1,15 @@
 #!/bin/sh
-# Shows that memory goes back: does each work of `hostile_rows` (src/flat.rt) so many times and ten times as often, and
+# Shows that memory goes back: does each work of `rows_hostile` (src/flat.rt) so many times and ten times as often, and
 # writes what it counted and the largest resident size of the run in KB. The second may be 512 KB more at most: a body that
-# never frees passes every proof. The program has to be built (`rt run` in crates/hostile_rows) and GNU time be there.
+# never frees passes every proof. The program has to be built (`rt run` in crates/rows_hostile) and GNU time be there.
 #
 #     scripts/flat_memory.sh
 set -u
-cd "$(dirname "$0")/../crates/hostile_rows/out" || exit 2
+cd "$(dirname "$0")/../crates/rows_hostile/out" || exit 2
 
 # The largest resident size of a work, done so many times.
 size() {
-    counted=$(command time -f %M -o time.txt ./hostile_rows work "$1" "$2") || exit 2
+    counted=$(command time -f %M -o time.txt ./rows_hostile work "$1" "$2") || exit 2
     kb=$(tail -n 1 time.txt)
     echo "$1 $2: $counted counted, $kb KB"
 }

@@ -5,9 +5,9 @@
 #     scripts/row.sh CRATE [TABLE [ROW]]
 #     scripts/row.sh --write CRATE
 #
-# CRATE is yaml_rows, line_rows or hostile_rows; the names of tables are those that it prints. With --write all rows run,
+# CRATE is rows_yaml, rows_lines or rows_hostile; the names of tables are those that it prints. With --write all rows run,
 # and where none differs what the program printed, the counts of its tables, becomes its `stdout`. Unproved, a program runs
-# with checks that make it many times slower: of line_rows and hostile_rows ask for a table. Proved and built, they run by
+# with checks that make it many times slower: of rows_lines and rows_hostile ask for a table. Proved and built, they run by
 # `rt run -- [TABLE [ROW]]` in their folder.
 set -u
 cd "$(dirname "$0")/../crates" || exit 2

@@ -22,11 +22,11 @@ IMPL = re.compile(r"impl(<.*?>)? (?:(.+?) for )?(\w+)")
 USE = re.compile(r"pub use ([\w:]+?)(?:::\{([^}]*)\}| as (\w+))?;")
 LAWS = re.compile(r"(?:laws|rows|determined)::")
 NAMED = (
-    "unsafe_libyaml", "scanner_source", "token_lines", "token_lines_c", "yaml_path", "token_steps", "token_steps_c", "records",
+    "unsafe_libyaml", "token_lines", "token_lines_c", "yaml_path", "token_steps", "token_steps_c", "records",
     "records_c",
 )
 INNER = re.compile(r"putting::")  # a module for the crates above alone
-EXAMPLES = {"computed_tokens", "pushed_list", "cited_theorems", "row_checks"}
+EXAMPLES = {"example_source", "example_list", "example_theorems", "rows_common"}
 WIDTH = 110
 
 HEAD = """# Every public item

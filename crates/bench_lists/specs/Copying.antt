@@ -1,7 +1,7 @@
 -- A source that copies the tokens of a list, and its laws.
 use Rattle.std.specs.Prelude.{◌≡◌, ℕ, ◌+◌, ◌<◌, Ok, Err}
 use Rattle.std.proofs.Common.{ap, ◌∙◌, arith}
-use Rattle.libyaml_sources.specs.Fault.{Fault, Answer, memory_fault}
+use Rattle.libyaml_types.specs.Fault.{Fault, Answer, memory_fault}
 
 -- what is seen of it: how many tokens are left to copy, and the fault after them
 pub record Copies : Type 0 where

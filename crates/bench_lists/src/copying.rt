@@ -1,7 +1,7 @@
 //! A source that copies tokens, each into the slot in which it is wanted, as a scanner makes it there.
 
 ghost use Rattle.std.specs.Prelude.{◌≡◌, None, length};
-ghost use Rattle.libyaml_sources.specs.Fault.{memory_fault, source_fault};
+ghost use Rattle.libyaml_types.specs.Fault.{memory_fault, source_fault};
 ghost use Rattle.bench_lists.specs.Copying.{Gives, gives_repeats};
 
 use libyaml_events::{
@@ -49,7 +49,7 @@ pub struct Copying<'a, C> {
 
 impl<'a, C> Model for Copying<'a, C> {
     ghost use Rattle.std.specs.Prelude.{length};
-    ghost use Rattle.libyaml_sources.specs.Fault.{source_fault};
+    ghost use Rattle.libyaml_types.specs.Fault.{source_fault};
     ghost use Rattle.bench_lists.specs.Copying.{Copies};
 
     ghost Value = { Copies };

@@ -25,7 +25,7 @@ pub use parser::{
 };
 pub use push::yaml_push_parser_t;
 // Where tokens come from, and what a fault says.
-pub use libyaml_sources::{
+pub use libyaml_types::{
     MEMORY_FAULT, NO_FAULT, yaml_list_source_t, yaml_parser_t_prefix, yaml_source_fault_t,
     yaml_token_source_t,
 };

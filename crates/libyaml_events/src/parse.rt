@@ -11,8 +11,7 @@ use crate::event_kinds::no_event;
 use crate::next::{Next, Step};
 use crate::parser::{Machine, yaml_parser_t};
 use crate::pending::Pending;
-use libyaml_sources::yaml_token_source_t;
-use libyaml_types::{yaml_error_type_t, yaml_event_t, yaml_token_t};
+use libyaml_types::{yaml_error_type_t, yaml_event_t, yaml_token_source_t, yaml_token_t};
 
 impl<S: yaml_token_source_t> Machine<S> {
     /// Takes tokens until the event is given.

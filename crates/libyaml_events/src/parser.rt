@@ -1,8 +1,8 @@
 //! The parser.
 ghost use Rattle.std.specs.Prelude.{◌≡◌, ◌⊎◌, [], pos, ◌≤ℤ◌, true, false, List, Option, Some};
-ghost use Rattle.libyaml_sources.specs.Fault.{Fault, fault_of, no_fault};
+ghost use Rattle.libyaml_types.specs.Fault.{Fault, fault_of, no_fault};
 ghost use Rattle.libyaml_events.specs.machine.Config.{with_config, with_fault, marked_ended, ended_or_failed};
-ghost use Rattle.libyaml_sources.specs.Source.{Coming, coming};
+ghost use Rattle.libyaml_types.specs.Source.{Coming, coming};
 ghost use Rattle.libyaml_grammar.specs.runs.Runs.{Ending, IsRun};
 ghost use Rattle.libyaml_events.specs.parsers.Stages.{is_outside, stage_of};
 ghost use Rattle.libyaml_events.specs.sources.History.{History, ForHistory, Remembers, new_parser};
@@ -23,8 +23,10 @@ use crate::entries::MaxEntries;
 use crate::kept::Kept;
 use crate::parser::tokens::no_token;
 use crate::pending::Pending;
-use libyaml_sources::{NO_FAULT, yaml_parser_t_prefix, yaml_token_source_t};
-use libyaml_types::{yaml_error_type_t, yaml_mark_t, yaml_parser_state_t, yaml_token_t};
+use libyaml_types::{
+    NO_FAULT, yaml_error_type_t, yaml_mark_t, yaml_parser_state_t, yaml_parser_t_prefix,
+    yaml_token_source_t, yaml_token_t,
+};
 use std::alloc::Global;
 use std::collections::BTreeMap;
 use std::marker::Model;
@@ -78,7 +80,7 @@ pub(crate) struct Machine<S> {
 impl<S> Model for Machine<S> {
     ghost use Rattle.std.specs.Prelude.{All, reverse};
     ghost use Rattle.std.specs.Coded.{codes};
-    ghost use Rattle.libyaml_sources.specs.Fault.{fault_of};
+    ghost use Rattle.libyaml_types.specs.Fault.{fault_of};
     ghost use Rattle.libyaml_events.specs.machine.State.{stack_of, IsBackByte};
     ghost use Rattle.libyaml_events.specs.machine.Config.{Parser, handles_code, handles_of, kept_token};
 

@@ -1,7 +1,7 @@
 //! A parser that is handed its tokens.
 ghost use Rattle.std.specs.Prelude.{◌≡◌, ◌≤◌, ◌<◌, [], None, IfErr, true, false};
 ghost use Rattle.std.specs.Vec.{vec_capacity, vec_len};
-ghost use Rattle.libyaml_sources.specs.Fault.{fault_of, no_fault};
+ghost use Rattle.libyaml_types.specs.Fault.{fault_of, no_fault};
 ghost use Rattle.libyaml_events.specs.machine.Answers.{wanted};
 ghost use Rattle.libyaml_events.specs.machine.Config.{ended_or_failed, is_fault};
 ghost use Rattle.libyaml_events.specs.machine.StepsOnto.{StepsOnto};
@@ -13,8 +13,9 @@ use crate::event_kinds::no_event;
 use crate::next::{Next, Step};
 use crate::parser::Machine;
 use crate::pending::Pending;
-use libyaml_sources::yaml_parser_t_prefix;
-use libyaml_types::{yaml_error_type_t, yaml_event_t, yaml_parser_state_t, yaml_token_t};
+use libyaml_types::{
+    yaml_error_type_t, yaml_event_t, yaml_parser_state_t, yaml_parser_t_prefix, yaml_token_t,
+};
 use std::alloc::Global;
 use std::marker::Model;
 

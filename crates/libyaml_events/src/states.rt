@@ -8,7 +8,7 @@
 //! The token is in a slot of the parser's. A function moves out of the slot what it keeps of the token; the
 //! rest is dropped when the next token is put there.
 ghost use Rattle.std.specs.Prelude.{if◌then◌else◌, ◌≡◌, Ok, Err, OnOk, OnErr, true, is_some};
-ghost use Rattle.libyaml_sources.specs.Fault.{memory_fault};
+ghost use Rattle.libyaml_types.specs.Fault.{memory_fault};
 ghost use Rattle.libyaml_grammar.specs.sentences.Events.{event};
 ghost use Rattle.libyaml_events.specs.machine.Config.{with_config, with_fault, at};
 ghost use Rattle.libyaml_events.specs.machine.Config.{popped, popped_mark, pushed_mark};

@@ -9,12 +9,12 @@ ghost use Rattle.libyaml_types.specs.declared.enums.yaml_error_type_t.TheVariant
 ghost use Rattle.libyaml_grammar.specs.cuts.CutEvents.{cut_events};
 ghost use Rattle.libyaml_grammar.specs.cuts.CutFaults.{fault};
 ghost use Rattle.libyaml_grammar.specs.cuts.CutTrees.{Cut, Place, cut_tokens, cut_in_order};
-ghost use Rattle.libyaml_sources.specs.Errors.{IsSourceError};
+ghost use Rattle.libyaml_types.specs.Errors.{IsSourceError};
 ghost use Rattle.libyaml_grammar.specs.sentences.Events.{Event, before_events, block_slot_events};
 ghost use Rattle.libyaml_grammar.specs.sentences.Events.{document_start_at, documents_events};
 ghost use Rattle.libyaml_grammar.specs.sentences.Events.{events, first_block, first_directive};
 ghost use Rattle.libyaml_grammar.specs.sentences.Events.{free_events, prefix_of};
-ghost use Rattle.libyaml_sources.specs.Fault.{Fault};
+ghost use Rattle.libyaml_types.specs.Fault.{Fault};
 ghost use Rattle.libyaml_grammar.specs.cuts.Fits.{Fits, HasCut, NodeBegins};
 ghost use Rattle.libyaml_grammar.specs.sentences.Nesting.{IsNested, NestsSoFar};
 ghost use Rattle.libyaml_grammar.specs.sentences.Order.{in_order};

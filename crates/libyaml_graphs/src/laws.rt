@@ -13,7 +13,7 @@ ghost use Rattle.libyaml_grammar.specs.cuts.CutEvents.{cut_events};
 ghost use Rattle.libyaml_grammar.specs.cuts.CutFaults.{fault};
 ghost use Rattle.libyaml_grammar.specs.cuts.CutTrees.{Cut};
 ghost use Rattle.libyaml_grammar.specs.sentences.Events.{Event, events};
-ghost use Rattle.libyaml_sources.specs.Fault.{Fault, memory_fault};
+ghost use Rattle.libyaml_types.specs.Fault.{Fault, memory_fault};
 ghost use Rattle.libyaml_grammar.specs.cuts.Fits.{Fits};
 ghost use Rattle.libyaml_grammar.specs.sentences.Nesting.{HasPairs, IsNested, NestsSoFar, Texts};
 ghost use Rattle.libyaml_grammar.specs.sentences.Nesting.{TextsHavePairs, Value, scalar_value, value_events};

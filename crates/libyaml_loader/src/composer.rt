@@ -5,7 +5,7 @@ ghost use Rattle.std.specs.Option.{option_map};
 ghost use Rattle.std.specs.Vec.{vec_capacity, vec_len};
 ghost use Rattle.libyaml_events.specs.machine.Config.{is_fault};
 ghost use Rattle.libyaml_events.specs.sources.Pushes.{done_by};
-ghost use Rattle.libyaml_sources.specs.Fault.{fault_of, no_fault};
+ghost use Rattle.libyaml_types.specs.Fault.{fault_of, no_fault};
 ghost use Rattle.libyaml_graphs.specs.graphs.GraphParts as parts;
 ghost use Rattle.libyaml_graphs.specs.machine.Loader.{between};
 ghost use Rattle.libyaml_loader.specs.document.Refusals.{fault_by};

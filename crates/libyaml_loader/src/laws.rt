@@ -2,8 +2,8 @@
 //! contract is the law.
 
 ghost use Rattle.std.specs.Prelude.{◌≡◌, ◌≤◌, ◌*◌, ◌++◌, ℕ, List, [], Err, Some, length, false, true};
-ghost use Rattle.libyaml_sources.specs.Fault.{Fault};
-ghost use Rattle.libyaml_sources.specs.Source.{coming};
+ghost use Rattle.libyaml_types.specs.Fault.{Fault};
+ghost use Rattle.libyaml_types.specs.Source.{coming};
 ghost use Rattle.libyaml_grammar.specs.runs.Runs.{Ending, Ends};
 ghost use Rattle.libyaml_grammar.specs.sentences.Events.{Event};
 ghost use Rattle.libyaml_grammar.specs.sentences.Nesting.{NestsSoFar};

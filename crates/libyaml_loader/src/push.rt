@@ -1,7 +1,7 @@
 //! A loader that is handed its tokens.
 ghost use Rattle.std.specs.Prelude.{◌≡◌, ◌≤◌, [], pos, ◌≤ℤ◌};
 ghost use Rattle.std.specs.Vec.{vec_capacity, vec_len};
-ghost use Rattle.libyaml_sources.specs.Fault.{fault_of, no_fault};
+ghost use Rattle.libyaml_types.specs.Fault.{fault_of, no_fault};
 ghost use Rattle.libyaml_loader.specs.document.Ids.{magnitude};
 ghost use Rattle.libyaml_loader.specs.pushes.Loaded.{ForLoaded, Loaded, RemembersLoads, fault_in, made};
 ghost use Rattle.libyaml_loader.specs.pushes.PushesLoads.{PushesLoads};
@@ -28,7 +28,7 @@ impl Model for yaml_push_loader_t {
     ghost use Rattle.std.specs.Prelude.{◌≡◌, []};
     ghost use Rattle.std.specs.Coded.{codes};
     ghost use Rattle.libyaml_events.specs.machine.Config.{handles_code};
-    ghost use Rattle.libyaml_sources.specs.Fault.{fault_of};
+    ghost use Rattle.libyaml_types.specs.Fault.{fault_of};
     ghost use Rattle.libyaml_loader.specs.document.Anchors.{anchors_code};
     ghost use Rattle.libyaml_loader.specs.pushes.Composing.{IsSound, state_of};
     ghost use Rattle.libyaml_loader.specs.pushes.Loaded.{PushLoader, RemembersLoads, standing};

@@ -2,7 +2,7 @@
 
 ghost use Rattle.std.specs.Prelude.{◌≡◌, ◌⊎◌, true, false};
 ghost use Rattle.libyaml_events.specs.sources.History.{is_over, has_failed, kept_fault, keeping};
-ghost use Rattle.libyaml_sources.specs.Fault.{fault_of};
+ghost use Rattle.libyaml_types.specs.Fault.{fault_of};
 ghost use Rattle.libyaml_loader.specs.document.Refusals.{fault_by};
 
 use libyaml_events::{MEMORY_FAULT, NO_FAULT, yaml_parser_t, yaml_parser_t_prefix};

@@ -5,3 +5,10 @@ pub mod Numbers
 pub mod Texts
 pub mod Types
 pub mod Words
+pub mod Fault
+pub mod Errors
+pub mod Message
+pub mod Source
+pub mod ListLaws
+pub mod Scanned
+pub mod ScannedLaws

@@ -1,13 +1,19 @@
-//! The data types of libyaml's event parser: marks, directives, tokens and events.
+//! The data types of libyaml's event parser: marks, directives, tokens, events, faults, and sources of tokens.
 #![tactic(auto)]
 
 pub mod constructors;
 pub mod directive;
 pub mod enums;
 pub mod event;
+mod fault;
 pub mod laws;
+mod list_source;
 pub mod mark;
+mod message;
 pub mod refusal;
+mod scanner;
+mod scanner_source;
+mod source;
 pub mod token;
 pub mod utf8;
 mod words;
@@ -31,8 +37,13 @@ pub use event::{
     unnamed_yaml_event_t_data_mapping_start, unnamed_yaml_event_t_data_scalar,
     unnamed_yaml_event_t_data_sequence_start, unnamed_yaml_event_t_data_stream_start, yaml_event_t,
 };
+pub use fault::{MEMORY_FAULT, NO_FAULT, yaml_parser_t_prefix, yaml_source_fault_t};
+pub use list_source::yaml_list_source_t;
 pub use mark::{ZERO_MARK, yaml_mark_t};
 pub use refusal::yaml_refusal_t;
+pub use scanner::yaml_scanner_t;
+pub use scanner_source::yaml_scanner_source_t;
+pub use source::yaml_token_source_t;
 pub use token::{
     unnamed_yaml_token_t_data, unnamed_yaml_token_t_data_alias, unnamed_yaml_token_t_data_anchor,
     unnamed_yaml_token_t_data_scalar, unnamed_yaml_token_t_data_stream_start,

@@ -1,7 +1,7 @@
 //! That the contract of a line source leaves its result open nowhere but where an allocation or a read fails.
 
 ghost use Rattle.std.specs.Prelude.{◌≡◌, ℕ, List, Some};
-ghost use Rattle.libyaml_sources.specs.Fault.{Answer};
+ghost use Rattle.libyaml_types.specs.Fault.{Answer};
 ghost use Rattle.line_reading.specs.sources.LineSource.{LineSource};
 ghost use Rattle.line_reading.specs.sources.OneLine.{LineOutcome, OneLine, SourcesAlike};
 

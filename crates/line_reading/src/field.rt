@@ -8,7 +8,7 @@ ghost use Rattle.line_reading.specs.tokens.Reading.{IsTextReadAs};
 use crate::line_problem::LineProblem;
 use crate::number::read_signed;
 use crate::pieces::Pieces;
-use clean_texts::is_clean;
+use byte_tests::is_clean;
 use libyaml_types::{
     unnamed_yaml_token_t_data_version_directive, yaml_encoding_t, yaml_scalar_style_t,
 };

@@ -1,11 +1,10 @@
 //! Why a line source gave no token.
 ghost use Rattle.std.specs.Prelude.{◌≡◌};
-ghost use Rattle.libyaml_sources.specs.Errors.{IsSourceError};
-ghost use Rattle.libyaml_sources.specs.Fault.{source_fault};
+ghost use Rattle.libyaml_types.specs.Errors.{IsSourceError};
+ghost use Rattle.libyaml_types.specs.Fault.{source_fault};
 ghost use Rattle.line_reading.specs.sources.LineFault.{problem_at, line_fault};
 
-use libyaml_sources::yaml_source_fault_t;
-use libyaml_types::{ZERO_MARK, yaml_error_type_t, yaml_mark_t};
+use libyaml_types::{ZERO_MARK, yaml_error_type_t, yaml_mark_t, yaml_source_fault_t};
 use std::alloc::AllocError;
 use std::io;
 

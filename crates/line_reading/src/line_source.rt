@@ -1,7 +1,7 @@
 //! A source of tokens over the lines of a reader.
 ghost use Rattle.std.specs.Prelude.{◌≡◌, ◌+◌, ◌-◌, IfOk, IfSome, Some, None, Err};
-ghost use Rattle.libyaml_sources.specs.Fault.{answer_of, source_fault};
-ghost use Rattle.libyaml_sources.specs.Source.{answer_in};
+ghost use Rattle.libyaml_types.specs.Fault.{answer_of, source_fault};
+ghost use Rattle.libyaml_types.specs.Source.{answer_in};
 ghost use Rattle.line_reading.specs.sources.LineSource.{Gives, known_of, BreaksOff};
 ghost use Rattle.line_reading.specs.sources.LineSourceLaws.{source_falls, source_follows, source_repeats};
 ghost use Rattle.line_reading.specs.sources.ReadLines.{longest_line, read_lines};
@@ -12,8 +12,9 @@ ghost use Rattle.line_reading.specs.declared.line_problem.LineProblem.TheVariant
 use crate::line::read_line;
 use crate::line_problem::LineProblem;
 use crate::token_line::read_token_line;
-use libyaml_sources::{yaml_source_fault_t, yaml_token_source_t};
-use libyaml_types::{ZERO_MARK, unnamed_yaml_token_t_data, yaml_token_t};
+use libyaml_types::{
+    ZERO_MARK, unnamed_yaml_token_t_data, yaml_source_fault_t, yaml_token_source_t, yaml_token_t,
+};
 use std::alloc::Global;
 use std::io::BufRead;
 use std::marker::Model;

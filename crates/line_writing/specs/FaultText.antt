@@ -6,7 +6,7 @@ use Rattle.libyaml_types.specs.declared.enums.yaml_error_type_t.TheVariants.{YAM
 use Rattle.libyaml_types.specs.declared.enums.yaml_error_type_t.TheVariants.{YAML_READER_ERROR, YAML_SCANNER_ERROR}
 use Rattle.libyaml_types.specs.declared.enums.yaml_error_type_t.TheVariants.{YAML_PARSER_ERROR, YAML_COMPOSER_ERROR}
 use Rattle.libyaml_types.specs.declared.enums.yaml_error_type_t.TheVariants.{YAML_WRITER_ERROR, YAML_EMITTER_ERROR}
-use Rattle.libyaml_sources.specs.Fault.{Fault}
+use Rattle.libyaml_types.specs.Fault.{Fault}
 use Rattle.line_writing.specs.FieldTexts.{line_text, absent, mark_text}
 
 abbrev pub fault_kind : yaml_error_type_t → List ℕ

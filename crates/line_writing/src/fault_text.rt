@@ -1,14 +1,13 @@
 //! Faults as lines.
 ghost use Rattle.std.specs.Prelude.{◌≡◌, OnOk, IsOkUnless, Some};
 ghost use Rattle.std.specs.Io.KnownBytes.{Appends};
-ghost use Rattle.libyaml_sources.specs.Fault.{fault_of};
+ghost use Rattle.libyaml_types.specs.Fault.{fault_of};
 ghost use Rattle.line_writing.specs.FaultText.{fault_kind, problem_line};
 ghost use Rattle.line_writing.specs.FaultText.{context_line, fault_text};
 
 use crate::field_text::ABSENT;
 use crate::refusal::line_refusal_t;
-use libyaml_sources::yaml_parser_t_prefix;
-use libyaml_types::{yaml_error_type_t, yaml_mark_t};
+use libyaml_types::{yaml_error_type_t, yaml_mark_t, yaml_parser_t_prefix};
 use std::io::Write;
 
 /// Writes the text of a fault: its line, and the line of its context where there is one. Takes no

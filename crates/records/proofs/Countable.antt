@@ -2,7 +2,7 @@
 use Rattle.std.proofs.Common.{arith, ◌≡◌, ◌≤◌, ◌<◌, ◌^◌, ◌++◌, ◌⊎◌, ◌∷◌, ℕ, List, [], length, map, Ok, sym, ap, ◌∙◌}
 use Rattle.std.proofs.Common.{subst, inl, inr}
 use Rattle.std.proofs.lemmas.List.{length-append}
-use Rattle.libyaml_sources.specs.Fault.{Fault, memory_fault}
+use Rattle.libyaml_types.specs.Fault.{Fault, memory_fault}
 use Rattle.libyaml_documents.specs.Documents.{Document}
 use Rattle.libyaml_graphs.specs.loads.Loads.{Load}
 use Rattle.records.specs.FaultRecord.{fault_bytes}

@@ -1,8 +1,8 @@
 -- The last load is none of a loop's documents.
 use Rattle.std.proofs.Common.{◌≡◌, ◌≢◌, ◌++◌, ◌∷◌, ℕ, List, [], Option, Some, None, false, Ok, Err, map, sym, ap, ◌∙◌}
 use Rattle.std.proofs.lemmas.List.{append-nil}
-use Rattle.libyaml_sources.specs.Fault.{Answer, Fault}
-use Rattle.libyaml_sources.specs.Source.{Coming}
+use Rattle.libyaml_types.specs.Fault.{Answer, Fault}
+use Rattle.libyaml_types.specs.Source.{Coming}
 use Rattle.libyaml_grammar.specs.runs.Runs.{Ending, Ends, Fails}
 use Rattle.libyaml_documents.specs.Documents.{Document, empty_document}
 use Rattle.libyaml_documents.specs.declared.node.yaml_node_t.{yaml_node_t}

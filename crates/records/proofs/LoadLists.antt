@@ -1,6 +1,6 @@
 -- Documents and loads after them that are the same list as others.
 use Rattle.std.proofs.Common.{◌≡◌, ◌≢◌, ◌++◌, ◌∷◌, List, [], map, Ok, Err, refl, sym, ap, ◌∙◌, inl, inr}
-use Rattle.libyaml_sources.specs.Fault.{Fault}
+use Rattle.libyaml_types.specs.Fault.{Fault}
 use Rattle.libyaml_grammar.specs.runs.Runs.{Ends}
 use Rattle.libyaml_documents.specs.Documents.{Document}
 use Rattle.libyaml_events.proofs.lent.OneOutcome.{head_same, tail_same, not_cons}

@@ -2,9 +2,9 @@
 use Rattle.std.proofs.Common.{◌≡◌, ◌≢◌, ◌++◌, ◌⊎◌, ℕ, List, [], ◌∷◌, Option, Some, None, Ok, Err, map, refl, sym}
 use Rattle.std.proofs.Common.{inl, inr, ap, ◌∙◌, append_assoc, subst}
 use Rattle.std.proofs.lemmas.List.{append-nil, map-append}
-use Rattle.libyaml_sources.specs.Fault.{Answer, Fault, fault_of, no_fault}
-use Rattle.libyaml_sources.specs.Source.{Coming}
-use Rattle.libyaml_sources.specs.declared.fault.yaml_parser_t_prefix.{yaml_parser_t_prefix}
+use Rattle.libyaml_types.specs.Fault.{Answer, Fault, fault_of, no_fault}
+use Rattle.libyaml_types.specs.Source.{Coming}
+use Rattle.libyaml_types.specs.declared.fault.yaml_parser_t_prefix.{yaml_parser_t_prefix}
 use Rattle.libyaml_grammar.specs.runs.Runs.{Ending, Ends, Fails}
 use Rattle.libyaml_grammar.specs.sentences.Events.{Event}
 use Rattle.libyaml_documents.specs.Documents.{Document}

@@ -1,6 +1,6 @@
 -- Two results of one run over documents are one.
 use Rattle.std.proofs.Common.{◌≡◌, ◌++◌, ◌⊎◌, ◌∷◌, ℕ, List, [], length, map, Ok, sym, ap, ◌∙◌, subst, inl, inr}
-use Rattle.libyaml_sources.specs.Fault.{memory_fault}
+use Rattle.libyaml_types.specs.Fault.{memory_fault}
 use Rattle.libyaml_graphs.specs.loads.Loads.{Load}
 use Rattle.records.specs.FaultRecord.{fault_bytes, fault_record}
 use Rattle.records.specs.declared.records.token_record_t.{token_record_t}

@@ -2,8 +2,8 @@
 use Rattle.std.proofs.Common.{arith, ◌≡◌, ◌≢◌, ◌≤◌, ◌+◌, ◌^◌, ◌++◌, ◌⊎◌, ◌∷◌, ℕ, List, [], Ok, length, map, min, refl}
 use Rattle.std.proofs.Common.{sym, ap, ◌∙◌, inl, inr, Some, subst}
 use Rattle.std.proofs.lemmas.List.{length-append, take_all}
-use Rattle.libyaml_sources.specs.Fault.{Fault, memory_fault, no_fault}
-use Rattle.libyaml_sources.specs.Source.{Coming}
+use Rattle.libyaml_types.specs.Fault.{Fault, memory_fault, no_fault}
+use Rattle.libyaml_types.specs.Source.{Coming}
 use Rattle.libyaml_grammar.specs.runs.Runs.{Ending, Ends, Fails}
 use Rattle.libyaml_documents.specs.Documents.{Document}
 use Rattle.libyaml_events.specs.machine.Config.{Parser}

@@ -1,7 +1,7 @@
 -- A run over token records that puts documents: what is put into the buffers, and what is returned.
 use Rattle.std.specs.Prelude.{◌≡◌, ◌≢◌, ◌++◌, ◌⊎◌, ◌∷◌, ℕ, List, [], length, map, Option, Some, Ok, Err}
-use Rattle.libyaml_sources.specs.Fault.{Answer, Fault, no_fault, memory_fault}
-use Rattle.libyaml_sources.specs.Source.{Coming}
+use Rattle.libyaml_types.specs.Fault.{Answer, Fault, no_fault, memory_fault}
+use Rattle.libyaml_types.specs.Source.{Coming}
 use Rattle.libyaml_grammar.specs.runs.Runs.{Ending, Ends, Fails}
 use Rattle.libyaml_documents.specs.Documents.{Document, most_nodes}
 use Rattle.libyaml_events.specs.machine.Config.{Parser}

@@ -1,7 +1,7 @@
 -- The record of a fault, and what is handed out of a run.
 use Rattle.std.specs.Prelude.{◌≡◌, ◌++◌, ◌+◌, ◌⊎◌, ℕ, List, length, min}
 use Rattle.libyaml_types.specs.Numbers.{error_type_number}
-use Rattle.libyaml_sources.specs.Fault.{Fault, no_fault, memory_fault}
+use Rattle.libyaml_types.specs.Fault.{Fault, no_fault, memory_fault}
 use Rattle.libyaml_grammar.specs.runs.Runs.{Ending, Ends, Fails}
 use Rattle.records.specs.FieldRecords.{bytes_of, mark_record, range_of_option}
 use Rattle.records.specs.Puts.{filled}

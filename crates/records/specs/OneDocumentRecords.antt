@@ -1,7 +1,7 @@
 -- Two results of one run over documents that its contract allows: they are one, unless memory ran out in one of them
 -- (docs/DEFINITIONS.md, "One outcome").
 use Rattle.std.specs.Prelude.{◌≡◌, ◌<◌, ◌^◌, ℕ, List}
-use Rattle.libyaml_sources.specs.Fault.{memory_fault}
+use Rattle.libyaml_types.specs.Fault.{memory_fault}
 use Rattle.libyaml_graphs.specs.loads.Loads.{Load}
 use Rattle.records.specs.declared.records.token_record_t.{token_record_t}
 use Rattle.records.specs.Buffers.{Lists}

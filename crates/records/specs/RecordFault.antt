@@ -2,7 +2,7 @@
 use Rattle.std.specs.Prelude.{ℕ, List, Some, codes, negsuc}
 use Rattle.libyaml_types.specs.declared.enums.yaml_error_type_t.{yaml_error_type_t}
 use Rattle.libyaml_types.specs.declared.enums.yaml_error_type_t.TheVariants.{YAML_READER_ERROR, YAML_SCANNER_ERROR}
-use Rattle.libyaml_sources.specs.Fault.{Fault, no_fault, memory_fault}
+use Rattle.libyaml_types.specs.Fault.{Fault, no_fault, memory_fault}
 use Rattle.records.specs.declared.record_problem.RecordProblem.{RecordProblem}
 use Rattle.records.specs.declared.record_problem.RecordProblem.TheVariants.{Memory, BadTokenRecord, TextOutside}
 use Rattle.records.specs.declared.record_problem.RecordProblem.TheVariants.{TextNotUtf8, NoMoreTokens}

@@ -1,8 +1,8 @@
 -- A source over token records.
 use Rattle.std.specs.Prelude.{◌≡◌, ◌+◌, ℕ, List, [], ◌∷◌, Bool, drop, Result, Ok, Err, if◌then◌else◌}
 use Rattle.libyaml_types.specs.declared.token.yaml_token_t.{yaml_token_t}
-use Rattle.libyaml_sources.specs.Fault.{Fault, Answer, memory_fault}
-use Rattle.libyaml_sources.specs.Source.{Coming, coming}
+use Rattle.libyaml_types.specs.Fault.{Fault, Answer, memory_fault}
+use Rattle.libyaml_types.specs.Source.{Coming, coming}
 use Rattle.records.specs.RecordFault.{record_fault}
 use Rattle.records.specs.Records.{token_of_record}
 use Rattle.records.specs.declared.record_problem.RecordProblem.{RecordProblem}

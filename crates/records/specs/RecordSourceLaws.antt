@@ -1,8 +1,8 @@
 -- a source over records keeps the laws of a source
 use Rattle.std.proofs.Common.{◌≡◌, ◌+◌, List, [], ◌∷◌, Some, Ok, Err, length, refl, ap, sym, ◌∙◌, inl, add-one, subst}
 use Rattle.libyaml_types.specs.declared.token.yaml_token_t.{yaml_token_t}
-use Rattle.libyaml_sources.specs.Fault.{Fault, Answer, memory_fault}
-use Rattle.libyaml_sources.specs.Source.{Coming, coming, Follows, FollowsList}
+use Rattle.libyaml_types.specs.Fault.{Fault, Answer, memory_fault}
+use Rattle.libyaml_types.specs.Source.{Coming, coming, Follows, FollowsList}
 use Rattle.records.specs.RecordSource.{GivesOf, Gives}
 
 falls_at : (ts : List yaml_token_t) (f : Fault) (t : Coming) (token : yaml_token_t) → GivesOf ts f (Ok token) t

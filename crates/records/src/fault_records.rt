@@ -1,14 +1,14 @@
 //! Faults as records.
 ghost use Rattle.std.specs.Prelude.{◌≡◌, ◌≤◌, ◌+◌, ◌^◌, IfOk, OnOk, OnErr, length};
 ghost use Rattle.std.specs.Option.{option_copied};
-ghost use Rattle.libyaml_sources.specs.Fault.{fault_of};
+ghost use Rattle.libyaml_types.specs.Fault.{fault_of};
 ghost use Rattle.records.specs.FieldRecords.{bytes_of, no_range, range_of_option};
 ghost use Rattle.records.specs.Puts.{Puts};
 ghost use Rattle.records.specs.FaultRecord as spec;
 
 use crate::fields::{mark_record, put_text};
 use crate::records::{NO_RANGE, fault_record_t, range_record_t};
-use libyaml_sources::{MEMORY_FAULT, yaml_parser_t_prefix};
+use libyaml_types::{MEMORY_FAULT, yaml_parser_t_prefix};
 use std::alloc::AllocError;
 
 /// Puts the words of a fault after the texts, and returns its record.

@@ -1,11 +1,10 @@
 //! Why a record source gave no token.
 ghost use Rattle.std.specs.Prelude.{◌≡◌};
-ghost use Rattle.libyaml_sources.specs.Errors.{IsSourceError};
-ghost use Rattle.libyaml_sources.specs.Fault.{source_fault};
+ghost use Rattle.libyaml_types.specs.Errors.{IsSourceError};
+ghost use Rattle.libyaml_types.specs.Fault.{source_fault};
 ghost use Rattle.records.specs.RecordFault.{problem_at, record_fault};
 
-use libyaml_sources::yaml_source_fault_t;
-use libyaml_types::{ZERO_MARK, yaml_error_type_t, yaml_mark_t};
+use libyaml_types::{ZERO_MARK, yaml_error_type_t, yaml_mark_t, yaml_source_fault_t};
 use std::alloc::AllocError;
 
 /// Why a record source gave no token.

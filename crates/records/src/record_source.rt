@@ -7,8 +7,9 @@ ghost use Rattle.records.specs.RecordSourceLaws.{records_repeat};
 use crate::reading::read_token_record;
 use crate::record_problem::RecordProblem;
 use crate::records::token_record_t;
-use libyaml_sources::{yaml_source_fault_t, yaml_token_source_t};
-use libyaml_types::{ZERO_MARK, unnamed_yaml_token_t_data, yaml_token_t};
+use libyaml_types::{
+    ZERO_MARK, unnamed_yaml_token_t_data, yaml_source_fault_t, yaml_token_source_t, yaml_token_t,
+};
 use std::alloc::Global;
 use std::marker::Model;
 
@@ -24,7 +25,7 @@ pub struct yaml_record_source_t<'a> {
 }
 
 impl<'a> Model for yaml_record_source_t<'a> {
-    ghost use Rattle.libyaml_sources.specs.Source.{Coming};
+    ghost use Rattle.libyaml_types.specs.Source.{Coming};
     ghost use Rattle.records.specs.RecordSource.{coming_at};
 
     ghost Value = { Coming };

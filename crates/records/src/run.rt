@@ -7,7 +7,7 @@ ghost use Rattle.libyaml_grammar.specs.sentences.Events.{Event};
 ghost use Rattle.libyaml_graphs.specs.loads.Bounds.{bounded_loads};
 ghost use Rattle.libyaml_graphs.specs.loads.Loads.{Load};
 ghost use Rattle.libyaml_loader.specs.document.Ids.{magnitude};
-ghost use Rattle.libyaml_sources.specs.Fault.{fault_of};
+ghost use Rattle.libyaml_types.specs.Fault.{fault_of};
 ghost use Rattle.records.specs.Buffers.{least, lists};
 ghost use Rattle.records.specs.DocumentRun.{AreLoadsOfRecords, DocumentsOver, HandsOutLoads};
 ghost use Rattle.records.specs.DocumentRun.{PutsDocuments, PutsUncounted, Uncountable};
@@ -25,7 +25,7 @@ use libyaml_events::{yaml_parser_initialize, yaml_parser_t};
 use libyaml_graphs::laws::whole_documents_have_roots;
 use libyaml_loader::laws::{load_of_run, loop_yields_loads};
 use libyaml_loader::yaml_parser_documents;
-use libyaml_sources::{NO_FAULT, yaml_parser_t_prefix, yaml_token_source_t};
+use libyaml_types::{NO_FAULT, yaml_parser_t_prefix, yaml_token_source_t};
 use std::alloc::{AllocError, Global};
 
 /// Runs over the tokens of these records, whose texts are ranges of `texts`, and puts the records of their

@@ -1,6 +1,6 @@
 //! Runs over token lines in memory, which put as many bytes of the lines as a buffer has room for there.
 ghost use Rattle.std.specs.Prelude.{◌≡◌, ℕ, min, true};
-ghost use Rattle.libyaml_sources.specs.Fault.{fault_of};
+ghost use Rattle.libyaml_types.specs.Fault.{fault_of};
 ghost use Rattle.line_reading.specs.sources.NextLine.{BreaksOffAt};
 ghost use Rattle.token_lines.specs.lines.InMemory.{EndsAs, HandsOut, bytes_of};
 
@@ -9,8 +9,7 @@ mod nodes;
 
 use crate::run::run_end_t;
 pub use events::events_in_memory;
-use libyaml_sources::yaml_parser_t_prefix;
-use libyaml_types::yaml_error_type_t;
+use libyaml_types::{yaml_error_type_t, yaml_parser_t_prefix};
 use line_reading::READ_FAILED;
 pub use nodes::nodes_in_memory;
 

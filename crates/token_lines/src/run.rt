@@ -1,7 +1,7 @@
 //! Runs: from token lines to the lines of events or of documents.
 ghost use Rattle.std.specs.Prelude.{◌≡◌, ◌⊎◌};
 ghost use Rattle.std.specs.Io.KnownBytes.{Keeps};
-ghost use Rattle.libyaml_sources.specs.Fault.{fault_of};
+ghost use Rattle.libyaml_types.specs.Fault.{fault_of};
 ghost use Rattle.token_lines.specs.lines.LineRun.{WroteFault, outcome_of};
 
 mod events;

@@ -1,6 +1,6 @@
 -- A fault of a call is the parser's.
 use Rattle.std.proofs.Common.{◌≡◌, ◌∙◌, ◌==◌, ℕ, sym, ap, Err, None}
-use Rattle.libyaml_sources.specs.Fault.{no_fault}
+use Rattle.libyaml_types.specs.Fault.{no_fault}
 use Rattle.libyaml_grammar.specs.sentences.Tokens.{Token}
 use Rattle.libyaml_events.specs.machine.Config.{Handles}
 use Rattle.libyaml_events.specs.machine.Machine as parser

@@ -1,4 +1,5 @@
 -- A look-up over records is one in the map that they stand for.
+use Rattle.std.specs.Prelude.{bytes_eq}
 use Rattle.std.proofs.Common.{◌≡◌, ◌≤◌, ◌+◌, ◌++◌, ℕ, List, [], ◌∷◌, Some, None, refl, sym, ap, ◌∙◌}
 use Rattle.std.proofs.Common.{Bool, cond, nat_cmp, length, drop, take, arith}
 use Rattle.std.proofs.lemmas.List.{length-drop, drop-append-le, take-append-le}
@@ -7,11 +8,10 @@ use Rattle.std.specs.Cmp.Lexicographic.{slice_cmp, texts_ties, nat_list_eq_equiv
 use Rattle.std.specs.FinMap.{find, get, insert, from_entries, from_entries_push, get-from_entries}
 use Rattle.std.specs.FinMap.{slice_cmp-IsAntisymmetric, nat_cmp-IsAntisymmetric}
 use Rattle.token_steps.specs.declared.tags.handles.text_t.{text_t}
-use Rattle.libyaml_grammar.specs.sentences.Events.{same_text}
 use Rattle.token_steps.specs.declared.tags.handles.handle_t.{handle_t}
 use Rattle.token_steps.specs.Handles.{bytes_at, entries_at, handles_at, prefix_in, AllWithin}
 
-same_keys : (q g : List ℕ) → eq_by_cmp (slice_cmp nat_cmp) q g ≡ same_text g q
+same_keys : (q g : List ℕ) → eq_by_cmp (slice_cmp nat_cmp) q g ≡ bytes_eq g q
 same_keys q g = sym (texts_ties q g) ∙ nat_list_eq_equiv.symm q g
 
 find_handle : (texts : List ℕ) (es : List handle_t) (q : List ℕ)
@@ -19,7 +19,7 @@ find_handle : (texts : List ℕ) (es : List handle_t) (q : List ℕ)
 find_handle texts [] q = refl
 find_handle texts (e ∷ es) q = ap (λ (u : Bool). cond u (Some (bytes_at texts e.prefix))
     (find (slice_cmp nat_cmp) q (entries_at texts es))) (same_keys q (bytes_at texts e.handle))
-    ∙ ap (cond (same_text (bytes_at texts e.handle) q) (Some (bytes_at texts e.prefix)))
+    ∙ ap (cond (bytes_eq (bytes_at texts e.handle) q) (Some (bytes_at texts e.prefix)))
     (find_handle texts es q)
 
 pub get_handle : (texts : List ℕ) (es : List handle_t) (q : List ℕ)

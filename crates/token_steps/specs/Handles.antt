@@ -1,7 +1,6 @@
 -- A document's handles, in the caller's memory.
-use Rattle.std.specs.Prelude.{◌≤◌, ◌+◌, ◌∷◌, ℕ, List, [], Option, None, Some, cond, take, drop, length}
+use Rattle.std.specs.Prelude.{◌≤◌, ◌+◌, ◌∷◌, ℕ, List, [], Option, None, Some, cond, take, drop, length, bytes_eq}
 use Rattle.std.specs.FinMap.{from_entries}
-use Rattle.libyaml_grammar.specs.sentences.Events.{same_text}
 use Rattle.libyaml_events.specs.machine.Config.{Handles}
 use Rattle.token_steps.specs.declared.tags.handles.text_t.{text_t}
 use Rattle.token_steps.specs.declared.tags.handles.handle_t.{handle_t}
@@ -21,7 +20,7 @@ handles_at texts es = from_entries (entries_at texts es)
 -- the prefix of the first record with this handle
 abbrev pub prefix_in : List ℕ → List handle_t → List ℕ → Option (List ℕ)
 prefix_in texts [] h = None
-prefix_in texts (e ∷ es) h = cond (same_text (bytes_at texts e.handle) h) (Some (bytes_at texts e.prefix))
+prefix_in texts (e ∷ es) h = cond (bytes_eq (bytes_at texts e.handle) h) (Some (bytes_at texts e.prefix))
     (prefix_in texts es h)
 
 abbrev pub AllWithin : List ℕ → List handle_t → Type 0

@@ -1,7 +1,7 @@
 -- What holds of every run.
 use Rattle.std.specs.Prelude.{◌≡◌, List, ℕ, Option, None, Some, Err}
 use Rattle.libyaml_types.specs.declared.mark.yaml_mark_t.{yaml_mark_t}
-use Rattle.libyaml_sources.specs.Fault.{Fault, no_fault}
+use Rattle.libyaml_types.specs.Fault.{Fault, no_fault}
 use Rattle.libyaml_grammar.specs.sentences.Tokens.{Token}
 use Rattle.libyaml_grammar.specs.sentences.Events.{Event}
 use Rattle.libyaml_events.specs.machine.Config.{Handles}

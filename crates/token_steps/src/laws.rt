@@ -4,7 +4,7 @@ ghost use Rattle.std.specs.FinMap.{get};
 ghost use Rattle.libyaml_types.specs.declared.token.unnamed_yaml_token_t_data.TheVariants as token;
 ghost use Rattle.libyaml_types.specs.declared.token.unnamed_yaml_token_t_data_version_directive as version;
 ghost use Rattle.libyaml_types.specs.Models.{TagDirectiveToken, TagToken};
-ghost use Rattle.libyaml_sources.specs.Fault.{Fault};
+ghost use Rattle.libyaml_types.specs.Fault.{Fault};
 ghost use Rattle.libyaml_grammar.specs.cuts.Settled.{BeginsEach};
 ghost use Rattle.libyaml_grammar.specs.runs.Runs.{Ends, Fails, IsRun};
 ghost use Rattle.libyaml_grammar.specs.sentences.Nesting.{NestsSoFar};

@@ -3,7 +3,7 @@ use Rattle.std.proofs.Common.{◌≡◌, ◌≤◌, ◌*◌, ◌++◌, arith, Li
 use Rattle.std.proofs.Common.{subst}
 use Rattle.std.proofs.lemmas.List.{append-nil}
 use Rattle.libyaml_documents.specs.Documents.{Document}
-use Rattle.libyaml_sources.specs.Fault.{Answer, Fault, no_fault}
+use Rattle.libyaml_types.specs.Fault.{Answer, Fault, no_fault}
 use Rattle.libyaml_grammar.specs.runs.Runs.{Ending, IsRun}
 use Rattle.libyaml_grammar.specs.sentences.Events.{Event}
 use Rattle.libyaml_grammar.specs.sentences.Tokens.{Token}

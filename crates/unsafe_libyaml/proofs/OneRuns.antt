@@ -1,7 +1,7 @@
 -- Two runs that the contract of a whole parse allows are one.
 use Rattle.std.proofs.Common.{◌≡◌, List, Option, Some, None, refl}
-use Rattle.libyaml_sources.specs.Fault.{Answer, Fault, fault_of}
-use Rattle.libyaml_sources.specs.declared.fault.yaml_parser_t_prefix.{yaml_parser_t_prefix}
+use Rattle.libyaml_types.specs.Fault.{Answer, Fault, fault_of}
+use Rattle.libyaml_types.specs.declared.fault.yaml_parser_t_prefix.{yaml_parser_t_prefix}
 use Rattle.libyaml_grammar.specs.sentences.Tokens.{Token}
 use Rattle.libyaml_grammar.specs.sentences.Events.{Event}
 use Rattle.libyaml_grammar.specs.runs.Runs.{Fails}

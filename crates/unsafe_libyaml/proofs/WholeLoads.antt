@@ -11,8 +11,8 @@ use Rattle.libyaml_documents.specs.Documents.{Document, empty_document}
 use Rattle.libyaml_documents.specs.declared.node.yaml_node_t.{yaml_node_t}
 use Rattle.libyaml_events.specs.machine.Config.{Parser}
 use Rattle.libyaml_grammar.specs.sentences.Events.{Event, events}
-use Rattle.libyaml_sources.specs.Fault.{Answer, Fault, memory_fault}
-use Rattle.libyaml_sources.specs.Fault as faults
+use Rattle.libyaml_types.specs.Fault.{Answer, Fault, memory_fault}
+use Rattle.libyaml_types.specs.Fault as faults
 use Rattle.libyaml_events.proofs.lent.CallsInTurn.{both_calls}
 use Rattle.libyaml_events.specs.sources.History.{ForHistory, answers, between_documents, has_failed, kept_fault, new_parser}
 use Rattle.libyaml_grammar.specs.cuts.Settled.{Begins, BeginsEach}
@@ -20,10 +20,10 @@ use Rattle.libyaml_grammar.specs.sentences.Nesting.{IsNested, NestsSoFar}
 use Rattle.libyaml_grammar.specs.sentences.Order.{in_order}
 use Rattle.libyaml_events.specs.sources.Determined.{BeginsEachRun}
 use Rattle.libyaml_grammar.specs.runs.Runs.{Ending, Ends, Fails}
-use Rattle.libyaml_sources.specs.Source.{Coming}
+use Rattle.libyaml_types.specs.Source.{Coming}
 use Rattle.libyaml_grammar.specs.sentences.Tokens.{Token}
 use Rattle.libyaml_grammar.specs.sentences.Trees.{Stream, tokens}
-use Rattle.libyaml_sources.specs.declared.fault.yaml_parser_t_prefix.{yaml_parser_t_prefix}
+use Rattle.libyaml_types.specs.declared.fault.yaml_parser_t_prefix.{yaml_parser_t_prefix}
 use Rattle.libyaml_graphs.specs.loads.Bounds.{NoneLacksMemory, bounded_loads, next_bounded}
 use Rattle.libyaml_graphs.specs.loads.GraphLaws.{RootsFollow}
 use Rattle.libyaml_graphs.specs.loads.Loads.{IsLoads, Load, last_load, left_over, loads, loads_of}

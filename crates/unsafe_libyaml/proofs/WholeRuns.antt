@@ -14,15 +14,15 @@ use Rattle.libyaml_grammar.specs.cuts.Settled.{Begins, BeginsEach}
 use Rattle.libyaml_grammar.specs.sentences.Nesting.{NestsSoFar}
 use Rattle.libyaml_grammar.specs.sentences.Order.{in_order}
 use Rattle.libyaml_grammar.specs.sentences.Trees.{Stream, tokens}
-use Rattle.libyaml_sources.specs.Fault.{Fault, Answer, fault_of}
+use Rattle.libyaml_types.specs.Fault.{Fault, Answer, fault_of}
 use Rattle.libyaml_events.specs.sources.History.{ForHistory, History, answers, kept_fault, new_parser}
 use Rattle.libyaml_events.specs.sources.Needs.{EachNeeded}
 use Rattle.libyaml_events.specs.sources.Parsing.{CarriesOn, Cause, FailsBy, HasFailed, IsWhole, StopsShort}
 use Rattle.libyaml_events.specs.sources.Parsing as cause
 use Rattle.libyaml_grammar.specs.runs.Runs.{Ending, Ends, Fails, IsRun}
-use Rattle.libyaml_sources.specs.Source.{Coming, coming}
+use Rattle.libyaml_types.specs.Source.{Coming, coming}
 use Rattle.libyaml_grammar.specs.sentences.Tokens.{Token}
-use Rattle.libyaml_sources.specs.declared.fault.yaml_parser_t_prefix.{yaml_parser_t_prefix}
+use Rattle.libyaml_types.specs.declared.fault.yaml_parser_t_prefix.{yaml_parser_t_prefix}
 use Rattle.libyaml_events.proofs.lent.CallsInTurn.{both_calls, gave_then, no_call, one_call}
 use Rattle.libyaml_events.proofs.lent.RunStops.{answers_both}
 use Rattle.unsafe_libyaml.specs.WholeRun.{Asked, Gathers, RunsTo, StoppedBy, whole, broken_off, ending_of, of_grammar}

@@ -20,9 +20,9 @@ pub use Rattle.libyaml_grammar.specs.rows.CutRows
 pub use Rattle.libyaml_grammar.specs.rows.EmptyRows
 pub use Rattle.libyaml_grammar.specs.rows.RowNotation
 pub use Rattle.libyaml_grammar.specs.rows.Rows
-pub use Rattle.libyaml_sources.specs.Errors
-pub use Rattle.libyaml_sources.specs.Fault
-pub use Rattle.libyaml_sources.specs.Message
+pub use Rattle.libyaml_types.specs.Errors
+pub use Rattle.libyaml_types.specs.Fault
+pub use Rattle.libyaml_types.specs.Message
 pub use Rattle.libyaml_grammar.specs.runs.Runs
 pub use Rattle.libyaml_grammar.specs.runs.StreamEnds
 pub use Rattle.libyaml_grammar.specs.sentences.Events
@@ -48,7 +48,7 @@ pub use Rattle.libyaml_events.specs.sources.Calls
 pub use Rattle.libyaml_events.specs.sources.CallsInTurn
 pub use Rattle.libyaml_events.specs.sources.Determined
 pub use Rattle.libyaml_events.specs.sources.History
-pub use Rattle.libyaml_sources.specs.ListLaws
+pub use Rattle.libyaml_types.specs.ListLaws
 pub use Rattle.libyaml_events.specs.sources.Needs
 pub use Rattle.libyaml_events.specs.sources.Iterates
 pub use Rattle.libyaml_events.specs.sources.Iterated
@@ -58,7 +58,9 @@ pub use Rattle.libyaml_events.specs.sources.Pushed
 pub use Rattle.libyaml_events.specs.sources.OnePush
 pub use Rattle.libyaml_events.specs.sources.Pushes
 pub use Rattle.libyaml_events.specs.sources.RunToCome
-pub use Rattle.libyaml_sources.specs.Source
+pub use Rattle.libyaml_types.specs.Source
+pub use Rattle.libyaml_types.specs.Scanned
+pub use Rattle.libyaml_types.specs.ScannedLaws
 pub use Rattle.libyaml_documents.specs.Documents
 pub use Rattle.libyaml_documents.specs.Equal as EqualDocuments
 pub use Rattle.libyaml_documents.specs.EqualNodes

@@ -1,6 +1,6 @@
 -- Two whole runs, or two lists of loads, that a contract allows: they are one (docs/DEFINITIONS.md, "One outcome").
 use Rattle.std.specs.Prelude.{◌≡◌}
-use Rattle.libyaml_sources.specs.Fault.{Answer}
+use Rattle.libyaml_types.specs.Fault.{Answer}
 use Rattle.libyaml_events.specs.sources.Determined.{OneBegins}
 use Rattle.libyaml_events.specs.sources.History.{answers}
 use Rattle.unsafe_libyaml.specs.WholeLoads.{GathersLoads}

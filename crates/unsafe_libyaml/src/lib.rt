@@ -39,10 +39,11 @@ pub use libyaml_types::{
     yaml_error_type_t, yaml_error_words, yaml_event_delete, yaml_event_t, yaml_event_type_t,
     yaml_mapping_end_event_initialize, yaml_mapping_start_event_initialize, yaml_mapping_style_t,
     yaml_mark_t, yaml_node_type_t, yaml_parser_state_t, yaml_refusal_t,
-    yaml_scalar_event_initialize, yaml_scalar_style_t, yaml_sequence_end_event_initialize,
-    yaml_sequence_start_event_initialize, yaml_sequence_style_t, yaml_stream_end_event_initialize,
-    yaml_stream_start_event_initialize, yaml_tag_directive_t, yaml_token_delete, yaml_token_t,
-    yaml_token_type_t, yaml_version_directive_t,
+    yaml_scalar_event_initialize, yaml_scalar_style_t, yaml_scanner_source_t, yaml_scanner_t,
+    yaml_sequence_end_event_initialize, yaml_sequence_start_event_initialize,
+    yaml_sequence_style_t, yaml_stream_end_event_initialize, yaml_stream_start_event_initialize,
+    yaml_tag_directive_t, yaml_token_delete, yaml_token_t, yaml_token_type_t,
+    yaml_version_directive_t,
 };
 pub use load_all::{yaml_documents_t, yaml_parser_load_all};
 pub use parse_all::{yaml_parser_parse_all, yaml_run_t};

@@ -2,8 +2,8 @@
 //! documents on standard output.
 #![tactic(auto)]
 
-use command_line::program;
 use std::process::ExitCode;
+use yamltokens_program::program;
 
 fn main(rt: HostRuntime) -> ExitCode {
     program(rt)

@@ -1,4 +1,5 @@
 -- What the machine makes of directives and handles is what the grammar says of them.
+use Rattle.std.specs.Prelude.{◌||◌, not, bytes_eq}
 use Rattle.std.proofs.Common.{◌≡◌, ℕ, ◌++◌, List, [], ◌∷◌, Option, Some, None, refl, sym, ap, ◌∙◌, Bool, true, false}
 use Rattle.std.proofs.Common.{cond, nat_cmp, codes}
 use Rattle.std.specs.Ordering.{eq_by_cmp}
@@ -9,10 +10,10 @@ use Rattle.libyaml_grammar.specs.cuts.CutFaults.{directive_fault}
 use Rattle.libyaml_grammar.specs.sentences.Tokens.{HandleDeclared, Mark, Marks, TagDirective, TagName, Token}
 use Rattle.libyaml_grammar.specs.sentences.Tokens.{VersionAsked, VersionDirective, tok}
 use Rattle.libyaml_grammar.specs.sentences.Trees.{Directives, directive, no_directives, tag_directive, version}
-use Rattle.libyaml_grammar.specs.sentences.Events.{Event, declaration, either, prefix_of, resolved, same_text}
+use Rattle.libyaml_grammar.specs.sentences.Events.{Event, declaration, prefix_of, resolved}
 use Rattle.libyaml_grammar.specs.sentences.Events.{tag_directives_of, tag_directives_then}
 use Rattle.libyaml_grammar.specs.sentences.Events.{tag_from, version_of}
-use Rattle.libyaml_grammar.specs.sentences.Order.{declares, is_known, is_accepted, negated, no_version}
+use Rattle.libyaml_grammar.specs.sentences.Order.{declares, is_known, is_accepted, no_version}
 use Rattle.libyaml_grammar.proofs.lent.Reading.{keeps_order}
 use Rattle.libyaml_events.specs.machine.Config.{Config, Handles}
 use Rattle.libyaml_events.specs.machine.Machine.{explicit_document, or_default, resolve, with_prefix}
@@ -24,10 +25,10 @@ use Rattle.libyaml_types.specs.declared.directive.yaml_tag_directive_t.{yaml_tag
 use Rattle.libyaml_types.specs.declared.directive.yaml_version_directive_t.{yaml_version_directive_t}
 
 -- comparing texts
-same_swapped : (a b : List ℕ) → same_text a b ≡ same_text b a
+same_swapped : (a b : List ℕ) → bytes_eq a b ≡ bytes_eq b a
 same_swapped a b = nat_list_eq_equiv.symm a b
 
-same_keys : (q g : List ℕ) → eq_by_cmp (slice_cmp nat_cmp) q g ≡ same_text g q
+same_keys : (q g : List ℕ) → eq_by_cmp (slice_cmp nat_cmp) q g ≡ bytes_eq g q
 same_keys q g = sym (texts_ties q g) ∙ same_swapped q g
 
 -- a handle in the map of handles
@@ -35,16 +36,16 @@ abbrev text_or : Bool → List ℕ → List ℕ → List ℕ
 text_or u x y = elim u [ true ↦ x | false ↦ y ]
 
 default_same : (h : List ℕ) → mach.undeclared_prefix h
-    ≡ cond (same_text (codes "!") h) (Some (codes "!"))
-    (cond (same_text (codes "!!") h) (Some (codes "tag:yaml.org,2002:")) None)
+    ≡ cond (bytes_eq (codes "!") h) (Some (codes "!"))
+    (cond (bytes_eq (codes "!!") h) (Some (codes "tag:yaml.org,2002:")) None)
 default_same h = ap (λ (u : Bool). cond u (Some (codes "!"))
-    (cond (same_text h (codes "!!")) (Some (codes "tag:yaml.org,2002:")) None))
+    (cond (bytes_eq h (codes "!!")) (Some (codes "tag:yaml.org,2002:")) None))
     (same_swapped h (codes "!"))
-    ∙ ap (λ (u : Bool). cond (same_text (codes "!") h) (Some (codes "!"))
+    ∙ ap (λ (u : Bool). cond (bytes_eq (codes "!") h) (Some (codes "!"))
     (cond u (Some (codes "tag:yaml.org,2002:")) None))
     (same_swapped h (codes "!!"))
 
-inserted : (hs : Handles) (g p h : List ℕ) → get (insert hs g p) h ≡ cond (same_text g h) (Some p) (get hs h)
+inserted : (hs : Handles) (g p h : List ℕ) → get (insert hs g p) h ≡ cond (bytes_eq g h) (Some p) (get hs h)
 inserted hs g p h = get-insert nat_list_cmp_total hs g p h ∙ ap (λ (u : Bool). cond u (Some p) (get hs h)) (same_keys h g)
 
 none_declared : (h : List ℕ) → get (handles_of no_directives) h ≡ None
@@ -54,9 +55,9 @@ pub undeclared : (ds : Directives) (h : List ℕ) → declares ds h ≡ false �
 undeclared no_directives h e = none_declared h
 undeclared (directive ds (version v m)) h e = undeclared ds h e
 undeclared (directive ds (tag_directive d m)) h e = inserted (handles_of ds) d.handle d.prefix h
-    ∙ go (same_text d.handle h) (λ f. undeclared ds h f) e
+    ∙ go (bytes_eq d.handle h) (λ f. undeclared ds h f) e
   where
-    go : (u : Bool) → (declares ds h ≡ false → get (handles_of ds) h ≡ None) → either u (declares ds h) ≡ false
+    go : (u : Bool) → (declares ds h ≡ false → get (handles_of ds) h ≡ None) → u || declares ds h ≡ false
         → cond u (Some d.prefix) (get (handles_of ds) h) ≡ None
     go true ih e = absurd cc
     go false ih e = ih e
@@ -66,23 +67,23 @@ pub already_declared : (ds : Directives) (h : List ℕ) → declares ds h ≡ tr
 already_declared no_directives h e = absurd cc
 already_declared (directive ds (version v m)) h e = already_declared ds h e
 already_declared (directive ds (tag_directive d m)) h e =
-    let r = go (same_text d.handle h) (λ f. already_declared ds h f) e in
+    let r = go (bytes_eq d.handle h) (λ f. already_declared ds h f) e in
     (r.0, inserted (handles_of ds) d.handle d.prefix h ∙ r.1)
   where
     go : (u : Bool) → (declares ds h ≡ true → (p : List ℕ) × (get (handles_of ds) h ≡ Some p))
-        → either u (declares ds h) ≡ true → (p : List ℕ)
+        → u || declares ds h ≡ true → (p : List ℕ)
         × (cond u (Some d.prefix) (get (handles_of ds) h) ≡ Some p)
     go true ih e = (d.prefix, refl)
     go false ih e = ih e
 
 abbrev Known : Directives → List ℕ → Bool
-Known ds h = either (declares ds h) (either (same_text (codes "!") h) (same_text (codes "!!") h))
+Known ds h = declares ds h || (bytes_eq (codes "!") h || bytes_eq (codes "!!") h)
 
 found : (ds : Directives) (h : List ℕ) → Known ds h ≡ true → or_default (get (handles_of ds) h) h ≡ Some (prefix_of ds h)
 found no_directives h e = ap (λ (o : Option (List ℕ)). or_default o h) (none_declared h) ∙ default_same h
-    ∙ go (same_text (codes "!") h) (same_text (codes "!!") h) e
+    ∙ go (bytes_eq (codes "!") h) (bytes_eq (codes "!!") h) e
   where
-    go : (u v : Bool) → either u v ≡ true
+    go : (u v : Bool) → u || v ≡ true
         → cond u (Some (codes "!")) (cond v (Some (codes "tag:yaml.org,2002:")) None)
         ≡ Some (text_or u (codes "!") (text_or v (codes "tag:yaml.org,2002:") []))
     go true v e = refl
@@ -91,10 +92,10 @@ found no_directives h e = ap (λ (o : Option (List ℕ)). or_default o h) (none_
 found (directive ds (version v m)) h e = found ds h e
 found (directive ds (tag_directive d m)) h e = ap (λ (o : Option (List ℕ)). or_default o h)
     (inserted (handles_of ds) d.handle d.prefix h)
-    ∙ go (same_text d.handle h) (λ f. found ds h f) e
+    ∙ go (bytes_eq d.handle h) (λ f. found ds h f) e
   where
     go : (u : Bool) → (Known ds h ≡ true → or_default (get (handles_of ds) h) h ≡ Some (prefix_of ds h))
-        → either (either u (declares ds h)) (either (same_text (codes "!") h) (same_text (codes "!!") h)) ≡ true
+        → (u || declares ds h) || (bytes_eq (codes "!") h || bytes_eq (codes "!!") h) ≡ true
         → or_default (cond u (Some d.prefix) (get (handles_of ds) h)) h ≡ Some (text_or u d.prefix (prefix_of ds h))
     go true ih e = refl
     go false ih e = ih e
@@ -110,17 +111,17 @@ resolve_is ds t e = go t.handle e
 not_found : (ds : Directives) (h : List ℕ) → Known ds h ≡ false → or_default (get (handles_of ds) h) h ≡ None
 not_found ds h e = go (declares ds h) refl e
   where
-    ends : (u v : Bool) → either u v ≡ false
+    ends : (u v : Bool) → u || v ≡ false
         → cond u (Some (codes "!")) (cond v (Some (codes "tag:yaml.org,2002:")) None) ≡ None
     ends true v e = absurd cc
     ends false true e = absurd cc
     ends false false e = refl
 
-    go : (u : Bool) → declares ds h ≡ u → either u (either (same_text (codes "!") h) (same_text (codes "!!") h)) ≡ false
+    go : (u : Bool) → declares ds h ≡ u → u || (bytes_eq (codes "!") h || bytes_eq (codes "!!") h) ≡ false
         → or_default (get (handles_of ds) h) h ≡ None
     go true f e = absurd cc
     go false f e = ap (λ (o : Option (List ℕ)). or_default o h) (undeclared ds h f)
-        ∙ (default_same h ∙ ends (same_text (codes "!") h) (same_text (codes "!!") h) e)
+        ∙ (default_same h ∙ ends (bytes_eq (codes "!") h) (bytes_eq (codes "!!") h) e)
 
 pub resolve_not : (ds : Directives) (t : TagName) → is_known ds t.handle ≡ false
     → resolve (handles_of ds) t.handle t.suffix ≡ None
@@ -201,6 +202,6 @@ tag_after s ds c d m f r h = go (declares ds d.handle) refl
 
     go : (u : Bool) → declares ds d.handle ≡ u
         → after_it (get c.handles d.handle)
-        ≡ (r, directive_ends (negated (declares ds d.handle)) ds (TagDirective d) m goes_on)
+        ≡ (r, directive_ends (not (declares ds d.handle)) ds (TagDirective d) m goes_on)
     go true e = rw (ap (λ (x : Handles). get x d.handle) h ∙ (already_declared ds d.handle e).1, e) refl
     go false e = rw (ap (λ (x : Handles). get x d.handle) h ∙ undeclared ds d.handle e, e) (ap (λ (x : End). (r, x)) new)

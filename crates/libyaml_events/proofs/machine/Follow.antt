@@ -1,4 +1,5 @@
 -- The machine follows the grammar: all that one token makes it do at a position is what the grammar says of it.
+use Rattle.std.specs.Prelude.{◌&&◌}
 use Rattle.std.proofs.Common.{◌≡◌, ℕ, suc, List, [], ◌∷◌, Option, Some, None, refl, ap, ◌∙◌, Bool, true, false, Ok}
 use Rattle.libyaml_events.specs.machine.Machine.{Progressed, parse_node, node_content, no_content, content_behind}
 use Rattle.libyaml_events.specs.machine.Machine.{content_resolved, implicit_document}
@@ -23,7 +24,7 @@ use Rattle.libyaml_grammar.specs.sentences.Events.{Event, alone_of, anchor_of, d
 use Rattle.libyaml_grammar.specs.sentences.Events.{document_start_at, empty_at, end_at, end_of}
 use Rattle.libyaml_grammar.specs.sentences.Events.{first_directive, first_of_properties, last_of_properties, scalar_of}
 use Rattle.libyaml_grammar.specs.sentences.Events.{tag_of}
-use Rattle.libyaml_grammar.specs.sentences.Order.{both, is_known, properties_in_order}
+use Rattle.libyaml_grammar.specs.sentences.Order.{is_known, properties_in_order}
 use Rattle.libyaml_grammar.specs.cuts.CutTrees.{BlockPlace, Open, PartPlace, Place, block, entry, explicit_root}
 use Rattle.libyaml_grammar.specs.cuts.CutTrees.{flow_entry, flow_key}
 use Rattle.libyaml_grammar.specs.cuts.CutTrees.{flow_value, implicit_root, indentless_entry, part_place, root, slot}
@@ -283,7 +284,7 @@ only_is p (tag h x) k m = refl
 only_is p (anchor_tag a x h y) k m = refl
 only_is p (tag_anchor h x a y) k m = refl
 
-and_true : (a b : Bool) → both a b ≡ true → a ≡ true
+and_true : (a b : Bool) → a && b ≡ true → a ≡ true
 and_true true b e = refl
 and_true false b e = absurd cc
 

@@ -2,7 +2,7 @@
 use Rattle.std.proofs.Common.{ℕ, zero, suc, List, [], ◌∷◌, Option, Some, None, Ok, Err, Bool, true, false}
 use Rattle.std.specs.FinMap.{insert}
 use Rattle.libyaml_grammar.specs.cuts.CutTrees.{declared, open_collection}
-use Rattle.libyaml_sources.specs.Fault.{no_fault, Fault}
+use Rattle.libyaml_types.specs.Fault.{no_fault, Fault}
 use Rattle.libyaml_grammar.specs.cuts.FaultTexts.{document_start_fault}
 use Rattle.libyaml_grammar.specs.sentences.Tokens.{Content, Mark, Marks, TagDirective, TagName, Token, VersionDirective}
 use Rattle.libyaml_grammar.specs.sentences.Tokens.{marks_of, tok}

@@ -4,7 +4,7 @@ use Rattle.std.proofs.Common.{true, false, refl, sym, ap, ◌∙◌, subst}
 use Rattle.libyaml_types.specs.declared.enums.yaml_error_type_t.{yaml_error_type_t}
 use Rattle.libyaml_types.specs.declared.enums.yaml_error_type_t.TheVariants.{YAML_MEMORY_ERROR, YAML_PARSER_ERROR}
 use Rattle.libyaml_types.specs.declared.enums.yaml_parser_state_t.TheVariants.{YAML_PARSE_END_STATE}
-use Rattle.libyaml_sources.specs.Fault.{Fault, memory_fault}
+use Rattle.libyaml_types.specs.Fault.{Fault, memory_fault}
 use Rattle.libyaml_grammar.specs.sentences.Tokens.{Token}
 use Rattle.libyaml_grammar.specs.sentences.Events.{Event}
 use Rattle.libyaml_grammar.proofs.lent.Lists.{assoc, nil_right}

@@ -17,7 +17,7 @@ use Rattle.libyaml_types.specs.declared.token.unnamed_yaml_token_t_data.{unnamed
 use Rattle.libyaml_types.specs.declared.token.unnamed_yaml_token_t_data.TheVariants as content_of
 use Rattle.libyaml_events.specs.declared.kept.Kept.{Kept}
 use Rattle.libyaml_events.specs.declared.kept.Kept.TheVariants as kept
-use Rattle.libyaml_sources.specs.Fault.{Fault, no_fault}
+use Rattle.libyaml_types.specs.Fault.{Fault, no_fault}
 use Rattle.libyaml_types.specs.Events.{zero_mark}
 
 -- the prefix of each handle that the document declares

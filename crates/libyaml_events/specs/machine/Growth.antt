@@ -1,7 +1,7 @@
 -- Where a step may take memory of the parser's own (docs/DEFINITIONS.md, "Growth"): a state is pushed after which the
 -- parser goes on, the start of a collection is pushed, a tag directive is kept, or a tag is joined from its handle's prefix
 -- and its suffix. At all other steps none is taken.
-use Rattle.std.specs.Prelude.{ℕ, List, [], ◌∷◌, Option, None, Some, Bool, true, false, is_some}
+use Rattle.std.specs.Prelude.{ℕ, List, [], ◌∷◌, Option, None, Some, Bool, true, false, is_some, not}
 use Rattle.std.specs.FinMap.{get}
 use Rattle.libyaml_types.specs.declared.token.unnamed_yaml_token_t_data.{unnamed_yaml_token_t_data}
 use Rattle.libyaml_types.specs.declared.token.unnamed_yaml_token_t_data.TheVariants as tok
@@ -9,7 +9,6 @@ use Rattle.libyaml_types.specs.declared.enums.yaml_parser_state_t.{yaml_parser_s
 use Rattle.libyaml_types.specs.declared.enums.yaml_parser_state_t.TheVariants as st
 use Rattle.libyaml_events.specs.machine.Config.{Config, Handles}
 use Rattle.libyaml_events.specs.machine.Machine.{or_default}
-use Rattle.libyaml_grammar.specs.sentences.Order.{negated}
 use Rattle.libyaml_events.specs.machine.Slots.{is_nothing_before}
 use Rattle.libyaml_events.specs.declared.node_head.PropertiesRead.{PropertiesRead}
 use Rattle.libyaml_events.specs.declared.node_head.TagRead.{TagRead}
@@ -33,13 +32,13 @@ grows_at_directive _ = false
 abbrev pub grows_at_document : (behind_document_end : Bool) → unnamed_yaml_token_t_data → Bool
 grows_at_document behind_document_end tok.StreamEnd = false
 grows_at_document behind_document_end (tok.VersionDirective v) = false
-grows_at_document behind_document_end tok.DocumentEnd = negated behind_document_end
+grows_at_document behind_document_end tok.DocumentEnd = not behind_document_end
 grows_at_document behind_document_end _ = true
 
 -- a node that is not nothing is entered, after which a state comes
 abbrev pub enters : Slot → unnamed_yaml_token_t_data → Bool
 enters Document k = false
-enters s k = negated (is_nothing_before s k)
+enters s k = not (is_nothing_before s k)
 
 abbrev pub enters_sequence_entry : unnamed_yaml_token_t_data → Bool
 enters_sequence_entry tok.FlowSequenceEnd = false

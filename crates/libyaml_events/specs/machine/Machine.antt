@@ -1,6 +1,6 @@
 -- The parser as a machine that is fed one token at a time (docs/DEFINITIONS.md, "The parser as a machine"). In each
 -- function k is the content of the token t.
-use Rattle.std.specs.Prelude.{◌∷◌, ◌++◌, ℕ, List, [], Option, None, Some, Bool, true, false, Result, Ok, Err, codes}
+use Rattle.std.specs.Prelude.{◌∷◌, ◌++◌, ℕ, List, [], Option, None, Some, Bool, true, false, Result, Ok, Err, codes, bytes_eq}
 use Rattle.std.specs.Prelude.{cond, if◌then◌else◌}
 use Rattle.std.specs.FinMap.{get}
 use Rattle.libyaml_types.specs.declared.mark.yaml_mark_t.{yaml_mark_t}
@@ -22,12 +22,12 @@ use Rattle.libyaml_types.specs.declared.enums.yaml_mapping_style_t.TheVariants.{
 use Rattle.libyaml_types.specs.declared.enums.yaml_mapping_style_t.TheVariants.{YAML_FLOW_MAPPING_STYLE}
 use Rattle.libyaml_types.specs.declared.enums.yaml_parser_state_t.{yaml_parser_state_t}
 use Rattle.libyaml_types.specs.declared.enums.yaml_parser_state_t.TheVariants as st
-use Rattle.libyaml_sources.specs.Fault.{Fault}
+use Rattle.libyaml_types.specs.Fault.{Fault}
 use Rattle.libyaml_grammar.specs.cuts.FaultTexts.{stream_start_fault, document_start_fault, duplicate_version_fault}
 use Rattle.libyaml_grammar.specs.cuts.FaultTexts.{version_fault, duplicate_tag_fault}
 use Rattle.libyaml_grammar.specs.cuts.FaultTexts.{content_fault, tag_fault, item_fault, part_fault, sequence_fault}
 use Rattle.libyaml_grammar.specs.cuts.FaultTexts.{mapping_fault}
-use Rattle.libyaml_grammar.specs.sentences.Events.{event, is_missing, plain_flag, quoted_flag, same_text}
+use Rattle.libyaml_grammar.specs.sentences.Events.{event, is_missing, plain_flag, quoted_flag}
 use Rattle.libyaml_grammar.specs.sentences.Order.{is_accepted}
 use Rattle.libyaml_events.specs.machine.Config.{Config, Handles, no_handles, at, keep, pushed, popped, pushed_mark}
 use Rattle.libyaml_events.specs.machine.Config.{top_mark, popped_mark, declared}
@@ -246,8 +246,8 @@ node_content p h c t tok.BlockEntry
 node_content p h c t _ = no_content p h.anchor h.tag h c t
 
 abbrev pub undeclared_prefix : List ℕ → Option (List ℕ)
-undeclared_prefix handle = cond (same_text handle (codes "!")) (Some (codes "!"))
-    (cond (same_text handle (codes "!!")) (Some (codes "tag:yaml.org,2002:")) None)
+undeclared_prefix handle = cond (bytes_eq handle (codes "!")) (Some (codes "!"))
+    (cond (bytes_eq handle (codes "!!")) (Some (codes "tag:yaml.org,2002:")) None)
 
 abbrev pub or_default : Option (List ℕ) → List ℕ → Option (List ℕ)
 or_default None handle = undeclared_prefix handle

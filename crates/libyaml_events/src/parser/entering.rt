@@ -1,6 +1,6 @@
 //! A collection whose opening token stayed is entered without a step.
 ghost use Rattle.std.specs.Prelude.{◌≡◌, Err, IfErr, IfOk, OnErr, OnOk, is_some, true};
-ghost use Rattle.libyaml_sources.specs.Fault.{memory_fault};
+ghost use Rattle.libyaml_types.specs.Fault.{memory_fault};
 ghost use Rattle.libyaml_events.specs.machine.Answers.{wanted};
 ghost use Rattle.libyaml_events.specs.machine.Config.{at, kept_start, pushed_mark, taken};
 ghost use Rattle.libyaml_events.specs.machine.Config.{with_config, with_fault};

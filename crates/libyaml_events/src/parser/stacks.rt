@@ -1,7 +1,7 @@
 //! The parser's stacks: states to go back to, and the starts of the open collections.
 ghost use Rattle.std.specs.Prelude.{◌≡◌, Err, OnOk, OnErr};
 ghost use Rattle.libyaml_types.specs.Numbers.{parser_state_number};
-ghost use Rattle.libyaml_sources.specs.Fault.{memory_fault};
+ghost use Rattle.libyaml_types.specs.Fault.{memory_fault};
 ghost use Rattle.libyaml_events.specs.machine.State.{IsBackByte, back_state};
 ghost use Rattle.libyaml_events.specs.machine.Config.{with_config, with_fault, at, pushed, popped};
 ghost use Rattle.libyaml_events.specs.machine.Config.{pushed_mark, popped_mark, top_mark};

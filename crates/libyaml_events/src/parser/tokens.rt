@@ -2,13 +2,14 @@
 ghost use Rattle.std.specs.Prelude.{◌≡◌, Ok, Err, Some, MatchResult, IfErr, is_some, true};
 ghost use Rattle.libyaml_events.specs.machine.Config.{with_config, with_fault, keep, is_fault, taken};
 ghost use Rattle.libyaml_events.specs.machine.Config.{kept_content, token_if};
-ghost use Rattle.libyaml_sources.specs.Errors.{IsSourceError};
+ghost use Rattle.libyaml_types.specs.Errors.{IsSourceError};
 ghost use Rattle.libyaml_events.specs.sources.Calls.{Fetches};
 
 use crate::kept::{Kept, kept_of, put_kept};
 use crate::parser::Machine;
-use libyaml_sources::yaml_token_source_t;
-use libyaml_types::{ZERO_MARK, unnamed_yaml_token_t_data, yaml_error_type_t, yaml_token_t};
+use libyaml_types::{
+    ZERO_MARK, unnamed_yaml_token_t_data, yaml_error_type_t, yaml_token_source_t, yaml_token_t,
+};
 use std::mem;
 
 /// A token of no content.

@@ -24,7 +24,7 @@
 //!   At a token other than DOCUMENT-END, 7 ends the document, and the token stays for 3.
 //! ```
 ghost use Rattle.std.specs.Prelude.{◌≡◌, Ok, Err, OnOk, OnErr, IfErr, true};
-ghost use Rattle.libyaml_sources.specs.Fault.{memory_fault};
+ghost use Rattle.libyaml_types.specs.Fault.{memory_fault};
 ghost use Rattle.libyaml_grammar.specs.sentences.Order.{is_accepted};
 ghost use Rattle.libyaml_events.specs.machine.Config.{with_config, with_fault};
 ghost use Rattle.libyaml_events.specs.machine.Machine.{parse_stream_start, begin_document};

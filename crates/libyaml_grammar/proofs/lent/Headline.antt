@@ -1,6 +1,6 @@
 -- A list whose only STREAM-END is its last token runs to its tree's events, or to its cut tree's events and fault.
 use Rattle.std.proofs.Common.{◌≡◌, List, [], ◌∷◌, ◌++◌, refl, sym, ap, ◌∙◌, subst, Bool, true, false, inl, inr}
-use Rattle.libyaml_sources.specs.Fault.{Fault}
+use Rattle.libyaml_types.specs.Fault.{Fault}
 use Rattle.libyaml_grammar.specs.sentences.Tokens.{Anchor, Content, Marks, StreamEnd, Tag, Token, tok}
 use Rattle.libyaml_grammar.specs.sentences.Trees.{Directives, tokens}
 use Rattle.libyaml_grammar.specs.sentences.Events.{events}

@@ -1,5 +1,6 @@
 -- A step keeps the tokens and their order: up to the next position there are those before it and the token, in order where
 -- what stands before is and the token is legal there; and a bad token's place has what stands before it.
+use Rattle.std.specs.Prelude.{◌&&◌}
 use Rattle.std.proofs.Common.{◌≡◌, List, ◌∷◌, ◌++◌, refl, ◌∙◌, Bool, None, subst}
 use Rattle.libyaml_grammar.specs.sentences.Tokens.{Content, Marks, Token, marks_of, tok}
 use Rattle.libyaml_grammar.specs.sentences.Trees.{BlockNode, BlockSlot, FlowNode, FlowSlot, alone, block_node_tokens}
@@ -19,13 +20,13 @@ use Rattle.libyaml_grammar.proofs.lent.ReadSteps.{closes_at_sequence, closes_map
 use Rattle.libyaml_grammar.proofs.lent.ReadSteps.{closes_sequence, ends_mapping, ends_sequence, fails, is_alone}
 use Rattle.libyaml_grammar.proofs.lent.ReadSteps.{is_past, leaves, moves, no_stream}
 use Rattle.libyaml_grammar.proofs.lent.ReadSteps.{read_step}
-use Rattle.libyaml_grammar.specs.sentences.Order.{block_node_in_order, block_slot_in_order, both, flow_node_in_order}
+use Rattle.libyaml_grammar.specs.sentences.Order.{block_node_in_order, block_slot_in_order, flow_node_in_order}
 use Rattle.libyaml_grammar.specs.sentences.Order.{flow_slot_in_order}
 
 -- what a step says of the tokens consumed, and of the order
 abbrev pub Keeps : Step → Position → Token → Bool → Type 0
 Keeps (goes p) q t b = ((r : List Token) → position_tokens p r ≡ position_tokens q (t ∷ r))
-    × ((r : Bool) → position_in_order p r ≡ position_in_order q (both b r))
+    × ((r : Bool) → position_in_order p r ≡ position_in_order q (b && r))
 Keeps (bad c) q t b = ((r : List Token) → cut_tokens c r ≡ position_tokens q r) × ((r : Bool)
     → cut_in_order c r ≡ position_in_order q r)
 Keeps over q t b = Unit {0}
@@ -71,7 +72,7 @@ moved_keeps (is_alone p ps) = fill_flow_keeps p (alone ps)
 moved_keeps _ = (λ r. refl, λ r. refl)
 
 retold : (s : Step) (p q : Position) (t : Token) (b : Bool) → ToldAlike p q → Keeps s p t b → Keeps s q t b
-retold (goes x) p q t b e h = (λ r. h.0 r ∙ e.0 (t ∷ r), λ r. h.1 r ∙ e.1 (both b r))
+retold (goes x) p q t b e h = (λ r. h.0 r ∙ e.0 (t ∷ r), λ r. h.1 r ∙ e.1 (b && r))
 retold (bad x) p q t b e h = (λ r. h.0 r ∙ e.0 r, λ r. h.1 r ∙ e.1 r)
 retold over p q t b e h = tt
 

@@ -1,4 +1,5 @@
 -- The events of a tree are those of its values.
+use Rattle.std.specs.Prelude.{not}
 use Rattle.std.proofs.Common.{◌≡◌, ℕ, List, [], ◌∷◌, Option, Bool, true, false, refl, sym, ap, ◌∙◌}
 use Rattle.libyaml_types.specs.declared.event.unnamed_yaml_event_t_data.TheVariants as ev
 use Rattle.libyaml_types.specs.declared.event.unnamed_yaml_event_t_data_document_start.{unnamed_yaml_event_t_data_document_start}
@@ -17,7 +18,6 @@ use Rattle.libyaml_grammar.specs.sentences.Nesting.{Value, Values, alias_value}
 use Rattle.libyaml_grammar.specs.sentences.Nesting.{collection_value, first_value, is_even, no_texts, no_values}
 use Rattle.libyaml_grammar.specs.sentences.Nesting.{scalar_value, text_behind, texts_events}
 use Rattle.libyaml_grammar.specs.sentences.Nesting.{value_events, values_events}
-use Rattle.libyaml_grammar.specs.sentences.Order.{negated}
 use Rattle.libyaml_grammar.specs.sentences.Tokens.{Mark, StreamHead}
 use Rattle.libyaml_grammar.specs.sentences.Trees.{Before, BlockItems, BlockNode, BlockSlot, Directives, Documents}
 use Rattle.libyaml_grammar.specs.sentences.Trees.{Ended, FlowItems, FlowLast, FlowMember}
@@ -56,15 +56,15 @@ join_pairs (first_value v a) b h k = (h.0, join_pairs a b h.1 k)
 -- evenness of what follows values, where b is that of the rest
 abbrev pub turns : Values → Bool → Bool
 turns no_values b = b
-turns (first_value v a) b = negated (turns a b)
+turns (first_value v a) b = not (turns a b)
 
 even_turns : (a : Values) → is_even a ≡ turns a true
 even_turns no_values = refl
-even_turns (first_value v a) = ap negated (even_turns a)
+even_turns (first_value v a) = ap not (even_turns a)
 
 join_turns : (a b : Values) (c : Bool) → turns (join a b) c ≡ turns a (turns b c)
 join_turns no_values b c = refl
-join_turns (first_value v a) b c = ap negated (join_turns a b c)
+join_turns (first_value v a) b c = ap not (join_turns a b c)
 
 join_even : (k : Sort) (a b : Values) → IsEven k a → IsEven k b → IsEven k (join a b)
 join_even sequence a b h k = tt
@@ -155,10 +155,10 @@ mutual
 -- parts of a block mapping: after a key, an odd number of values
 abbrev pub waits : Parts → Bool → Bool
 waits no_parts b = b
-waits (part ps key m x) b = negated b
+waits (part ps key m x) b = not b
 waits (part ps value m x) b = b
 
-twice : (b : Bool) → negated (negated b) ≡ b
+twice : (b : Bool) → not (not b) ≡ b
 twice true = refl
 twice false = refl
 
@@ -172,14 +172,14 @@ turned_as : {f h : Bool → Bool} {g : List Event → List Event} → ((b : Bool
 turned_as e a = record { vals = a.vals; same = a.same; pairs = a.pairs; turned = λ b. a.turned b ∙ e b }
 
 turned_then : {f : Bool → Bool} {g h : List Event → List Event} → Turned f g → Gives h
-    → Turned (λ (b : Bool). f (negated b)) (λ (r : List Event). g (h r))
+    → Turned (λ (b : Bool). f (not b)) (λ (r : List Event). g (h r))
 turned_then {h = h} a x =
     let y : Values = first_value x.val no_values in
     record {
       vals = join a.vals y;
       same = λ r. a.same (h r) ∙ (ap (values_events a.vals) (x.same r) ∙ sym (of_join a.vals y r));
       pairs = join_pairs a.vals y a.pairs (x.pairs, tt);
-      turned = λ b. join_turns a.vals y b ∙ a.turned (negated b);
+      turned = λ b. join_turns a.vals y b ∙ a.turned (not b);
     }
 
 turned_all : {g : List Event → List Event} → Turned (λ (b : Bool). b) g → GivesAll mapping g
@@ -192,7 +192,7 @@ whole_pairs ds (part ps key v x) m a = turned_as twice (turned_then a (empty_giv
 whole_pairs ds (part ps value v x) m a = a
 
 with_key : (ds : Directives) (ps : Parts) (m : Mark) → Turned (waits ps) (parts_events ds ps m)
-    → Turned negated (λ (r : List Event). parts_events ds ps m (missing_key ps m r))
+    → Turned not (λ (r : List Event). parts_events ds ps m (missing_key ps m r))
 with_key ds no_parts m a = turned_then a (empty_gives m)
 with_key ds (part ps key v x) m a = a
 with_key ds (part ps value v x) m a = turned_then a (empty_gives m)

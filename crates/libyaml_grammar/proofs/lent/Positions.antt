@@ -1,6 +1,6 @@
 -- Positions: what is known after a list of tokens that begins a stream. It is the place on the right edge, with what is
 -- in hand there and the whole trees to the left of it. By positions the laws are proved, which speak of none.
-use Rattle.std.specs.Prelude.{List, [], ◌∷◌, Option, Some, None, Bool}
+use Rattle.std.specs.Prelude.{List, [], ◌∷◌, Option, Some, None, Bool, ◌&&◌}
 use Rattle.libyaml_grammar.specs.sentences.Tokens.{BlockEnd, BlockEntry, BlockMappingStart, BlockSequenceStart}
 use Rattle.libyaml_grammar.specs.sentences.Tokens.{DocumentStart, Key, Mark, Marks, Scalar}
 use Rattle.libyaml_grammar.specs.sentences.Tokens.{StreamEnd, StreamStart, Token, empty_plain, tok}
@@ -16,7 +16,7 @@ use Rattle.libyaml_grammar.specs.sentences.Events.{documents_events, first_direc
 use Rattle.libyaml_grammar.specs.sentences.Events.{first_of, flow_member_events, flow_slot_events, free_events}
 use Rattle.libyaml_grammar.specs.sentences.Events.{items_events, opens_pair, parts_events}
 use Rattle.libyaml_grammar.specs.sentences.Events.{start_of, stream_events}
-use Rattle.libyaml_grammar.specs.sentences.Order.{admits, before_in_order, block_slot_in_order, both}
+use Rattle.libyaml_grammar.specs.sentences.Order.{admits, before_in_order, block_slot_in_order}
 use Rattle.libyaml_grammar.specs.sentences.Order.{directives_in_order, flow_member_in_order}
 use Rattle.libyaml_grammar.specs.sentences.Order.{flow_slot_in_order, items_in_order, option_in_order, parts_in_order}
 use Rattle.libyaml_grammar.specs.sentences.Order.{stream_in_order}
@@ -68,7 +68,7 @@ position_tokens (done t) r = stream_tokens t r
 abbrev pub position_in_order : Position → Bool → Bool
 position_in_order unopened b = b
 position_in_order (between c) b = before_in_order c b
-position_in_order (headed c ds d) b = before_in_order c (directives_in_order ds (both (admits ds d) b))
+position_in_order (headed c ds d) b = before_in_order c (directives_in_order ds (admits ds d && b))
 position_in_order (due p o) b = place_in_order p (option_in_order (declared p) o b)
 position_in_order (in_sequence c o m is) b =
     block_place_in_order c (option_in_order (declared_block c) o (items_in_order (declared_block c) is b))

@@ -1,6 +1,7 @@
 -- Reading: what one token makes of a position. It is taken, or it is bad at a place. A reading step takes one token
 -- and closes at most a node that is nothing or properties alone, a sequence without tokens of its own or a pair,
 -- and the collection around it. A node is nothing exactly where the token is taken after it.
+use Rattle.std.specs.Prelude.{◌&&◌, not}
 use Rattle.std.proofs.Common.{◌≡◌, List, [], ◌∷◌, Option, Some, None, Bool, true, false, sym, subst, refl}
 use Rattle.libyaml_grammar.specs.sentences.Tokens.{Alias, AliasName, Anchor, AnchorName, BlockEnd, BlockEntry}
 use Rattle.libyaml_grammar.specs.sentences.Tokens.{BlockMappingStart, BlockSequenceStart}
@@ -20,7 +21,7 @@ use Rattle.libyaml_grammar.specs.sentences.Trees.{more_items, no_directives, no_
 use Rattle.libyaml_grammar.specs.sentences.Trees.{no_last, no_parts, no_value, node, nothing, once, opened, pair, part}
 use Rattle.libyaml_grammar.specs.sentences.Trees.{scalar, sequence, single, slot_of}
 use Rattle.libyaml_grammar.specs.sentences.Trees.{tag, tag_anchor, tag_directive, value, version, whole, with_value}
-use Rattle.libyaml_grammar.specs.sentences.Order.{both, declares, is_accepted, is_known, negated, no_version}
+use Rattle.libyaml_grammar.specs.sentences.Order.{declares, is_accepted, is_known, no_version}
 use Rattle.libyaml_grammar.specs.cuts.CutTrees.{BlockPlace, Cut, Open, PartPlace, Place, at_directive, at_tag}
 use Rattle.libyaml_grammar.specs.cuts.CutTrees.{at_tag_behind, before_stream, block}
 use Rattle.libyaml_grammar.specs.cuts.CutTrees.{content_due, declared, declared_open, document_due, entry, entry_due}
@@ -242,8 +243,8 @@ feeds (t ∷ r) q = then_all (feed q t) (feeds r)
 -- whether a token that the grammar takes keeps the order; ds are the directives that wait for their DOCUMENT-START,
 -- es those in force
 abbrev pub keeps_order : Directives → Directives → Content → Bool
-keeps_order ds es (VersionDirective v) = both (no_version ds) (is_accepted v.major v.minor)
-keeps_order ds es (TagDirective d) = negated (declares ds d.handle)
+keeps_order ds es (VersionDirective v) = no_version ds && is_accepted v.major v.minor
+keeps_order ds es (TagDirective d) = not (declares ds d.handle)
 keeps_order ds es (Tag t) = is_known es t.handle
 keeps_order ds es _ = true
 

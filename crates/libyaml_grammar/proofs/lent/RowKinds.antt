@@ -5,7 +5,7 @@ use Rattle.libyaml_grammar.specs.cuts.CutEvents.{cut_events}
 use Rattle.libyaml_grammar.specs.cuts.CutFaults.{fault}
 use Rattle.libyaml_grammar.specs.cuts.CutTrees.{Cut}
 use Rattle.libyaml_grammar.specs.sentences.Events.{Event, events}
-use Rattle.libyaml_sources.specs.Fault.{Fault}
+use Rattle.libyaml_types.specs.Fault.{Fault}
 use Rattle.libyaml_grammar.proofs.lent.Positions.{Position, done, unopened}
 use Rattle.libyaml_grammar.proofs.lent.Reading.{bad, goes, reads, reads_all}
 use Rattle.libyaml_grammar.specs.runs.Runs.{Ends, Fails, IsRun, is_behind_properties}

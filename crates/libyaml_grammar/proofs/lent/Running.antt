@@ -1,14 +1,15 @@
 -- Each list has one run for each fault of its source.
+use Rattle.std.specs.Prelude.{◌||◌}
 use Rattle.std.proofs.Common.{◌≡◌, ◌⊎◌, inl, inr, List, [], ◌∷◌, ◌++◌, Bool, true, false, refl, sym, ap, ◌∙◌, subst}
 use Rattle.std.proofs.Common.{append-nil}
 use Rattle.std.proofs.lemmas.List.{append_cancel_left}
 use Rattle.libyaml_types.specs.declared.enums.yaml_error_type_t.TheVariants.{YAML_PARSER_ERROR}
-use Rattle.libyaml_sources.specs.Errors.{IsSourceError}
+use Rattle.libyaml_types.specs.Errors.{IsSourceError}
 use Rattle.libyaml_grammar.specs.cuts.CutEvents.{shown_cut}
 use Rattle.libyaml_grammar.specs.cuts.CutFaults.{fault}
 use Rattle.libyaml_grammar.specs.cuts.CutTrees.{Cut, at_tag, at_tag_behind, cut_tokens, declared}
-use Rattle.libyaml_grammar.specs.sentences.Events.{Event, either, events}
-use Rattle.libyaml_sources.specs.Fault.{Fault}
+use Rattle.libyaml_grammar.specs.sentences.Events.{Event, events}
+use Rattle.libyaml_types.specs.Fault.{Fault}
 use Rattle.libyaml_grammar.specs.cuts.Fits.{Fits, FitsTag, IsUnknown}
 use Rattle.libyaml_grammar.specs.sentences.Order.{in_order}
 use Rattle.libyaml_grammar.proofs.lent.Positions.{Position, done, unopened}
@@ -53,15 +54,15 @@ end_last (y ∷ l) (x ∷ a) t r e
 
     go : (up_to_end l ≡ a ++ t ∷ r → has_end a ≡ false) → (b : Bool) → b ≡ is_end x.content
         → elim b [ true ↦ [] | false ↦ up_to_end l ] ≡ a ++ t ∷ r
-        → either (is_end x.content) (has_end a) ≡ false
+        → is_end x.content || has_end a ≡ false
     go ih true f g = absurd (none a g)
-    go ih false f g = ap (λ (b : Bool). either b (has_end a)) (sym f) ∙ ih g
+    go ih false f g = ap (λ (b : Bool). (b || has_end a)) (sym f) ∙ ih g
 
 up_to_later : (a l : List Token) → has_end a ≡ false → up_to_end (a ++ l) ≡ a ++ up_to_end l
 up_to_later [] l e = refl
 up_to_later (x ∷ a) l e = go (λ (f : has_end a ≡ false). up_to_later a l f) (is_end x.content) e
   where
-    go : (has_end a ≡ false → up_to_end (a ++ l) ≡ a ++ up_to_end l) → (b : Bool) → either b (has_end a) ≡ false
+    go : (has_end a ≡ false → up_to_end (a ++ l) ≡ a ++ up_to_end l) → (b : Bool) → b || has_end a ≡ false
         → x ∷ elim b [ true ↦ [] | false ↦ up_to_end (a ++ l) ] ≡ x ∷ (a ++ up_to_end l)
     go ih true f = absurd cc
     go ih false f = ap (λ (r : List Token). x ∷ r) (ih f)
@@ -85,7 +86,7 @@ up_to_read (x ∷ l) q p r e h =
   where
     go : ((y : Position) → reads_all l y ≡ goes p → has_end l ≡ true → up_to_end (l ++ r) ≡ l) → (b : Bool)
         → is_end x.content ≡ b → (s : Step) → reads q x ≡ s
-        → then_all s (reads_all l) ≡ goes p → either b (has_end l) ≡ true
+        → then_all s (reads_all l) ≡ goes p → b || has_end l ≡ true
         → x ∷ elim b [ true ↦ [] | false ↦ up_to_end (l ++ r) ] ≡ x ∷ l
     go ih true j (goes y) f g k = ap (λ (a : List Token). x ∷ a) (sym (none_left l y p (read_done q y x j f) g))
     go ih false j (goes y) f g k = ap (λ (a : List Token). x ∷ a) (ih y g k)

@@ -1,9 +1,10 @@
 -- What holds of each position that is reached from before the stream.
+use Rattle.std.specs.Prelude.{◌&&◌}
 use Rattle.std.proofs.Common.{◌≡◌, Some, None, refl, Bool, true, false, List}
 use Rattle.libyaml_grammar.specs.sentences.Tokens.{Content, Marks}
 use Rattle.libyaml_grammar.specs.sentences.Trees.{BlockNode, FlowMember, FlowNode, alone, flow, no_value, pair, single}
 use Rattle.libyaml_grammar.specs.sentences.Trees.{with_value}
-use Rattle.libyaml_grammar.specs.sentences.Order.{both, is_known, properties_in_order}
+use Rattle.libyaml_grammar.specs.sentences.Order.{is_known, properties_in_order}
 use Rattle.libyaml_grammar.specs.sentences.Events.{Event}
 use Rattle.libyaml_grammar.specs.cuts.CutTrees.{BlockPlace, Place, block, declared, flow_entry, flow_key, flow_value}
 use Rattle.libyaml_grammar.specs.cuts.CutTrees.{implicit_root, part_place, root, slot}
@@ -68,7 +69,7 @@ left_held (block (root (implicit_root f))) = tt
 left_held (block (slot (part_place c o s ps k v))) = tt
 left_held _ = tt
 
-and_true : (b : Bool) → b ≡ true → both b true ≡ true
+and_true : (b : Bool) → b ≡ true → b && true ≡ true
 and_true true e = refl
 and_true false e = cc
 

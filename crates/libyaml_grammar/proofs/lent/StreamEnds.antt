@@ -1,6 +1,6 @@
 -- A STREAM-END is the last token of a sentence, and each sentence has one.
+use Rattle.std.specs.Prelude.{◌||◌}
 use Rattle.std.proofs.Common.{◌≡◌, List, [], ◌∷◌, Bool, true, false, refl, subst}
-use Rattle.libyaml_grammar.specs.sentences.Events.{either}
 use Rattle.libyaml_grammar.specs.sentences.Sentences.{IsSentence, has_end, is_end}
 use Rattle.libyaml_grammar.specs.sentences.Tokens.{Token}
 use Rattle.libyaml_grammar.proofs.lent.Positions.{Position, done, unopened}
@@ -36,7 +36,7 @@ end_is_done (t ∷ l) q p e h =
   where
     go : ((x : Position) → reads_all l x ≡ goes p → has_end l ≡ true → IsDone p) → (b : Bool) → is_end t.content ≡ b
         → (s : Step) → reads q t ≡ s
-        → then_all s (reads_all l) ≡ goes p → either b (has_end l) ≡ true → IsDone p
+        → then_all s (reads_all l) ≡ goes p → b || has_end l ≡ true → IsDone p
     go ih true j (goes x) f g i = done_stays l x p (read_done q x t j f) g
     go ih false j (goes x) f g i = ih x g i
     go ih b j (bad c) f g i = absurd cc

@@ -1,9 +1,10 @@
 -- A TAG goes on exactly where a node may begin, or after an ANCHOR that begins one.
+use Rattle.std.specs.Prelude.{◌&&◌}
 use Rattle.std.proofs.Common.{◌≡◌, ℕ, List, [], ◌∷◌, ◌++◌, Some, refl, sym, ap, ◌∙◌, subst, Bool, true, false, inl, inr}
 use Rattle.std.proofs.Common.{◌↔◌, append-nil}
 use Rattle.libyaml_grammar.specs.sentences.Tokens.{Anchor, Marks, Tag, TagName, Token, tok, zero_marks}
 use Rattle.libyaml_grammar.specs.sentences.Trees.{anchor_tag, tag}
-use Rattle.libyaml_grammar.specs.sentences.Order.{both, is_known}
+use Rattle.libyaml_grammar.specs.sentences.Order.{is_known}
 use Rattle.libyaml_grammar.specs.cuts.CutTrees.{Place, at_tag_behind, content_due, declared, place_in_order, place_tokens}
 use Rattle.libyaml_grammar.specs.sentences.Sentences.{IsBeginning, IsSentence}
 use Rattle.libyaml_grammar.specs.cuts.Fits.{NodeBegins}
@@ -57,7 +58,7 @@ module _ (l : List Token) (m : Marks) (s : List ℕ) where
       (sym (cut_append (content_due p) (tok (Tag h) n ∷ [])) ∙ e) in (
         p,
         (
-          subst (λ (t : TagName). place_in_order p (both (is_known (declared p) t.handle) true) ≡ true)
+          subst (λ (t : TagName). place_in_order p (is_known (declared p) t.handle && true) ≡ true)
               (same_tag h n f.1) o,
           inl f.0,
         ),
@@ -67,7 +68,7 @@ module _ (l : List Token) (m : Marks) (s : List ℕ) where
       (sym (cut_append (at_tag_behind p a k) (tok (Tag h) n ∷ [])) ∙ e) in (
         p,
         (
-          subst (λ (t : TagName). place_in_order p (both (is_known (declared p) t.handle) true) ≡ true)
+          subst (λ (t : TagName). place_in_order p (is_known (declared p) t.handle && true) ≡ true)
               (same_tag h n f.1) o,
           inr (a, k, f.0),
         ),

@@ -1,8 +1,9 @@
 -- STREAM-END alone leads past the stream's end, so a list without it never stands there.
+use Rattle.std.specs.Prelude.{◌||◌}
 use Rattle.std.proofs.Common.{◌≡◌, List, [], ◌∷◌, refl, sym, ap, ◌∙◌, subst, Bool, true, false}
 use Rattle.libyaml_grammar.specs.sentences.Tokens.{Content, Marks, StreamEnd, Token, marks_of, tok}
 use Rattle.libyaml_grammar.specs.sentences.Trees.{BlockNode, FlowNode, Stream, flow}
-use Rattle.libyaml_grammar.specs.sentences.Events.{Event, either}
+use Rattle.libyaml_grammar.specs.sentences.Events.{Event}
 use Rattle.libyaml_grammar.specs.sentences.Sentences.{has_end, is_end}
 use Rattle.libyaml_grammar.specs.cuts.CutTrees.{BlockPlace, Place, block, implicit_root, part_place, root, slot}
 use Rattle.libyaml_grammar.proofs.lent.Positions.{Position, done}
@@ -68,11 +69,11 @@ stays_open (t ∷ l) q p d n e =
     go : ((x : Position) → DoneAt x false → has_end l ≡ false → reads_all l x ≡ goes p → DoneAt p false)
         → (b : Bool) → is_end t.content ≡ b → (s : Step)
         → Done s (is_end t.content) → then_all s (reads_all l) ≡ goes p → DoneAt p false
-    go ih true f s h g = absurd (no (sym (ap (λ (x : Bool). either x (has_end l)) f) ∙ n))
+    go ih true f s h g = absurd (no (sym (ap (λ (x : Bool). (x || has_end l)) f) ∙ n))
       where
         no : true ≡ false → ⊥
         no x = cc
-    go ih false f (goes x) h g = ih x (subst (DoneAt x) f h) (sym (ap (λ (x : Bool). either x (has_end l)) f) ∙ n) g
+    go ih false f (goes x) h g = ih x (subst (DoneAt x) f h) (sym (ap (λ (x : Bool). (x || has_end l)) f) ∙ n) g
     go ih false f (bad c) h g = cc
     go ih false f over h g = cc
 

@@ -1,5 +1,6 @@
 -- Where reading stops with a cut tree, the rules name that one: what ends it, what its place wants, and whether its
 -- token is a directive or a TAG.
+use Rattle.std.specs.Prelude.{◌&&◌, not}
 use Rattle.std.proofs.Common.{◌≡◌, List, [], ◌∷◌, Option, Some, None, refl, sym, ap, ◌∙◌, subst, ◌⊎◌, inl, inr, ⊎_elim}
 use Rattle.std.proofs.Common.{Bool, true, false}
 use Rattle.libyaml_grammar.specs.sentences.Tokens.{Anchor, AnchorName, Content, DocumentEnd, DocumentStart, Marks}
@@ -10,7 +11,7 @@ use Rattle.libyaml_grammar.specs.sentences.Trees.{anchor_tag, behind, directive}
 use Rattle.libyaml_grammar.specs.sentences.Trees.{explicit, flow_nothing, free, implicit, indentless, item}
 use Rattle.libyaml_grammar.specs.sentences.Trees.{no_directives, no_value, node, nothing, pair}
 use Rattle.libyaml_grammar.specs.sentences.Trees.{part, slot_of, tag, tag_directive, version, with_value}
-use Rattle.libyaml_grammar.specs.sentences.Order.{both, declares, is_accepted, is_known, negated, no_version}
+use Rattle.libyaml_grammar.specs.sentences.Order.{declares, is_accepted, is_known, no_version}
 use Rattle.libyaml_grammar.specs.sentences.Events.{Event}
 use Rattle.libyaml_grammar.specs.cuts.CutTrees.{Cut, Place, at_directive, at_tag, at_tag_behind, before_stream, block}
 use Rattle.libyaml_grammar.specs.cuts.CutTrees.{content_due, declared, document_due}
@@ -190,10 +191,10 @@ no_root : (f : Free) (k : Content) (m : Marks)
     → is_directive k ≡ false
 no_root f (VersionDirective x) m e = let h
     = order_or_goes (headed (free f) no_directives (version x m))
-    (both (no_version no_directives) (is_accepted x.major x.minor))
+    (no_version no_directives && is_accepted x.major x.minor)
     (content_due (block (root (implicit_root f)))) e in cc
 no_root f (TagDirective x) m e = let h
-    = order_or_goes (headed (free f) no_directives (tag_directive x m)) (negated (declares no_directives x.handle))
+    = order_or_goes (headed (free f) no_directives (tag_directive x m)) (not (declares no_directives x.handle))
     (content_due (block (root (implicit_root f)))) e in cc
 no_root f _ m e = refl
 

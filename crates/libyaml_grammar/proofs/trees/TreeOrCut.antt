@@ -1,9 +1,9 @@
 -- Each list is a sentence or a beginning, or a cut tree fits it, and not both.
+use Rattle.std.specs.Prelude.{◌||◌}
 use Rattle.std.proofs.Common.{◌≡◌, List, [], ◌∷◌, ◌++◌, refl, sym, ap, ◌∙◌, subst, Bool, true, false, ◌⊎◌, inl, inr}
 use Rattle.std.proofs.Common.{append-nil}
 use Rattle.libyaml_grammar.specs.sentences.Tokens.{Marks, StreamEnd, Token, tok, zero_marks}
 use Rattle.libyaml_grammar.specs.sentences.Trees.{Stream}
-use Rattle.libyaml_grammar.specs.sentences.Events.{either}
 use Rattle.libyaml_grammar.specs.cuts.CutTrees.{Cut, cut_in_order, cut_tokens}
 use Rattle.libyaml_grammar.specs.cuts.Rest.{rest}
 use Rattle.libyaml_grammar.specs.sentences.Sentences.{EitherNotBoth, IsBadToken, IsBeginning, IsSentence, has_end, is_end}
@@ -50,15 +50,15 @@ stopped l h = go (reads h.at h.token) refl
         let (t, f) = read_over h.at h.token e in
         inr (t, h.reached ∙ ap goes f)
 
-either_left : (a b : Bool) → either a b ≡ false → a ≡ false
+either_left : (a b : Bool) → a || b ≡ false → a ≡ false
 either_left true b e = e
 either_left false b e = refl
 
-either_right : (a b : Bool) → either a b ≡ false → b ≡ false
+either_right : (a b : Bool) → a || b ≡ false → b ≡ false
 either_right true b e = cc
 either_right false b e = e
 
-false_either : (a b : Bool) → a ≡ false → b ≡ false → either a b ≡ false
+false_either : (a b : Bool) → a ≡ false → b ≡ false → a || b ≡ false
 false_either true b e f = e
 false_either false b e f = f
 

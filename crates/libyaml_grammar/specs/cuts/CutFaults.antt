@@ -1,7 +1,7 @@
 -- The fault of a cut tree (docs/DEFINITIONS.md, "Cut trees"): which problem its place names, at the start m of the
 -- bad token.
 use Rattle.std.specs.Prelude.{Bool, true, false}
-use Rattle.libyaml_sources.specs.Fault.{Fault}
+use Rattle.libyaml_types.specs.Fault.{Fault}
 use Rattle.libyaml_grammar.specs.cuts.FaultTexts.{stream_start_fault, document_start_fault, duplicate_version_fault}
 use Rattle.libyaml_grammar.specs.cuts.FaultTexts.{version_fault, duplicate_tag_fault}
 use Rattle.libyaml_grammar.specs.cuts.FaultTexts.{content_fault, tag_fault, item_fault, part_fault, sequence_fault}

@@ -1,6 +1,6 @@
 -- Cut trees (docs/DEFINITIONS.md, "Cut trees"): a stream tree broken off at one place of its right edge. All to the
 -- left of the place is whole, and the collections and the document around it are open.
-use Rattle.std.specs.Prelude.{List, ◌∷◌, Option, Bool}
+use Rattle.std.specs.Prelude.{List, ◌∷◌, Option, Bool, ◌&&◌}
 use Rattle.libyaml_grammar.specs.sentences.Tokens.{Anchor, AnchorName, BlockEntry, BlockMappingStart}
 use Rattle.libyaml_grammar.specs.sentences.Tokens.{BlockSequenceStart, DocumentStart, Key, Marks, Token}
 use Rattle.libyaml_grammar.specs.sentences.Tokens.{Value, tok}
@@ -11,7 +11,7 @@ use Rattle.libyaml_grammar.specs.sentences.Trees.{directives_tokens, documents_t
 use Rattle.libyaml_grammar.specs.sentences.Trees.{flow_items_tokens, flow_member_tokens, flow_slot_tokens, free_tokens}
 use Rattle.libyaml_grammar.specs.sentences.Trees.{items_tokens, no_directives, opening}
 use Rattle.libyaml_grammar.specs.sentences.Trees.{option_tokens, parts_tokens, role_token}
-use Rattle.libyaml_grammar.specs.sentences.Order.{admits, before_in_order, both, directives_in_order}
+use Rattle.libyaml_grammar.specs.sentences.Order.{admits, before_in_order, directives_in_order}
 use Rattle.libyaml_grammar.specs.sentences.Order.{documents_in_order, flow_items_in_order}
 use Rattle.libyaml_grammar.specs.sentences.Order.{flow_member_in_order, flow_slot_in_order, free_in_order}
 use Rattle.libyaml_grammar.specs.sentences.Order.{items_in_order, option_in_order, parts_in_order}
@@ -162,7 +162,7 @@ abbrev mutual
 abbrev pub cut_in_order : Cut → Bool → Bool
 cut_in_order before_stream b = b
 cut_in_order (document_due d) b = documents_in_order d b
-cut_in_order (start_due c ds d) b = before_in_order c (directives_in_order ds (both (admits ds d) b))
+cut_in_order (start_due c ds d) b = before_in_order c (directives_in_order ds (admits ds d && b))
 cut_in_order (at_directive c ds) b = before_in_order c (directives_in_order ds b)
 cut_in_order (content_due p) b = place_in_order p b
 cut_in_order (at_tag p) b = place_in_order p b

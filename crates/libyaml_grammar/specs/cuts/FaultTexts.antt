@@ -2,7 +2,7 @@
 use Rattle.std.specs.Prelude.{ℕ, List, Some, Bool, true, false, codes}
 use Rattle.libyaml_types.specs.declared.mark.yaml_mark_t.{yaml_mark_t}
 use Rattle.libyaml_types.specs.declared.enums.yaml_error_type_t.TheVariants.{YAML_PARSER_ERROR}
-use Rattle.libyaml_sources.specs.Fault.{Fault, no_fault}
+use Rattle.libyaml_types.specs.Fault.{Fault, no_fault}
 
 abbrev pub parser_fault : List ℕ → yaml_mark_t → Fault
 parser_fault problem mark = record no_fault { error = YAML_PARSER_ERROR; problem = Some problem; problem_mark = mark }

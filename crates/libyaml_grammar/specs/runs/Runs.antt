@@ -4,7 +4,7 @@ use Rattle.libyaml_grammar.specs.cuts.CutEvents.{cut_events}
 use Rattle.libyaml_grammar.specs.cuts.CutFaults.{fault}
 use Rattle.libyaml_grammar.specs.cuts.CutTrees.{Cut, at_tag, at_tag_behind}
 use Rattle.libyaml_grammar.specs.sentences.Events.{Event, events}
-use Rattle.libyaml_sources.specs.Fault.{Fault}
+use Rattle.libyaml_types.specs.Fault.{Fault}
 use Rattle.libyaml_grammar.specs.cuts.Fits.{Fits}
 use Rattle.libyaml_grammar.specs.sentences.Order.{in_order}
 use Rattle.libyaml_grammar.specs.sentences.Sentences.{IsBeginning, has_end}

@@ -1,6 +1,6 @@
 -- The events of a tree (docs/DEFINITIONS.md, "Events"). A mark m is the start of the first token after the part,
 -- and r are the events after it.
-use Rattle.std.specs.Prelude.{ℕ, List, [], ◌∷◌, ◌++◌, Option, Some, None, Bool, true, false, nat_eq, cond, codes}
+use Rattle.std.specs.Prelude.{ℕ, List, [], ◌∷◌, ◌++◌, Option, Some, None, Bool, true, false, nat_eq, cond, codes, bytes_eq}
 use Rattle.std.specs.Cmp.Lexicographic.{pointwise}
 use Rattle.libyaml_types.specs.declared.event.yaml_event_t.{yaml_event_t}
 use Rattle.libyaml_types.specs.declared.event.unnamed_yaml_event_t_data.{unnamed_yaml_event_t_data}
@@ -117,25 +117,18 @@ abbrev pub end_at : Sort → Mark → Mark → Event
 end_at k m n = event (end_content k) m n
 
 -- The tag of a handle and a suffix (YAML 1.1, 7.1.2 and 8.2; docs/DEFINITIONS.md, "Tags").
-abbrev pub same_text : List ℕ → List ℕ → Bool
-same_text a b = pointwise nat_eq a b
-
-abbrev pub either : Bool → Bool → Bool
-either true b = true
-either false b = b
-
 -- the prefixes that need no directive, and nothing for a handle that has none
 abbrev pub default_prefix : List ℕ → List ℕ
-default_prefix h = elim (same_text (codes "!") h) [
+default_prefix h = elim (bytes_eq (codes "!") h) [
   | true ↦ codes "!"
-  | false ↦ elim (same_text (codes "!!") h) [ true ↦ codes "tag:yaml.org,2002:" | false ↦ [] ]
+  | false ↦ elim (bytes_eq (codes "!!") h) [ true ↦ codes "tag:yaml.org,2002:" | false ↦ [] ]
 ]
 
 -- the prefix of a handle: by the document's own directives first
 abbrev pub prefix_of : Directives → List ℕ → List ℕ
 prefix_of no_directives h = default_prefix h
 prefix_of (directive ds (version v m)) h = prefix_of ds h
-prefix_of (directive ds (tag_directive d m)) h = elim (same_text d.handle h) [ true ↦ d.prefix | false ↦ prefix_of ds h ]
+prefix_of (directive ds (tag_directive d m)) h = elim (bytes_eq d.handle h) [ true ↦ d.prefix | false ↦ prefix_of ds h ]
 
 -- a suffix with an empty handle is the whole tag
 abbrev pub tag_from : Directives → (handle suffix : List ℕ) → List ℕ
@@ -189,7 +182,7 @@ is_plain _ = false
 -- no tag and plain, or the tag `!`
 abbrev pub plain_flag : Option (List ℕ) → yaml_scalar_style_t → Bool
 plain_flag None s = is_plain s
-plain_flag (Some t) s = same_text t (codes "!")
+plain_flag (Some t) s = bytes_eq t (codes "!")
 
 -- no tag and not plain
 abbrev pub quoted_flag : Option (List ℕ) → yaml_scalar_style_t → Bool

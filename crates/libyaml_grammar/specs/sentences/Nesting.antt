@@ -1,14 +1,13 @@
 -- Events that nest (docs/DEFINITIONS.md, "Nesting"; YAML 1.1, 3.1): a stream of documents, each of one value. A value is
 -- an alias, a scalar, or a collection with its values between its start and its end; a mapping holds keys and values in
 -- turn.
-use Rattle.std.specs.Prelude.{◌≡◌, ◌++◌, ℕ, List, [], ◌∷◌, Option, Bool, true}
+use Rattle.std.specs.Prelude.{◌≡◌, ◌++◌, ℕ, List, [], ◌∷◌, Option, Bool, true, not}
 use Rattle.libyaml_types.specs.declared.event.unnamed_yaml_event_t_data_alias.{unnamed_yaml_event_t_data_alias}
 use Rattle.libyaml_types.specs.declared.event.unnamed_yaml_event_t_data_document_start.{unnamed_yaml_event_t_data_document_start}
 use Rattle.libyaml_types.specs.declared.event.unnamed_yaml_event_t_data_scalar.{unnamed_yaml_event_t_data_scalar}
 use Rattle.libyaml_types.specs.declared.event.unnamed_yaml_event_t_data.TheVariants as ev
 use Rattle.libyaml_grammar.specs.sentences.Events.{Event, Layout, document_end_at, end_at, event, start_at}
 use Rattle.libyaml_grammar.specs.sentences.Events.{stream_end_at, stream_start_at}
-use Rattle.libyaml_grammar.specs.sentences.Order.{negated}
 use Rattle.libyaml_grammar.specs.sentences.Tokens.{Mark, StreamHead}
 use Rattle.libyaml_grammar.specs.sentences.Trees.{Sort, mapping, sequence}
 
@@ -37,7 +36,7 @@ abbrev mutual
 -- a mapping has an even number of values
 abbrev pub is_even : Values → Bool
 is_even no_values = true
-is_even (first_value v vs) = negated (is_even vs)
+is_even (first_value v vs) = not (is_even vs)
 
 abbrev pub IsEven : Sort → Values → Type 0
 IsEven sequence vs = Unit {0}

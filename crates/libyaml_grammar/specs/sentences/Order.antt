@@ -1,7 +1,7 @@
 -- Documents in order (YAML 1.1, 7.1 and 8.2; docs/DEFINITIONS.md, "Documents in order"): directives that agree with
 -- one another, and tags whose handles are known. Each test returns what holds of its part and, as b, of what
 -- follows it.
-use Rattle.std.specs.Prelude.{ℕ, ℤ, pos, List, [], ◌∷◌, Option, Some, None, Bool, true, false, codes}
+use Rattle.std.specs.Prelude.{ℕ, ℤ, pos, List, [], ◌∷◌, Option, Some, None, Bool, true, false, codes, ◌&&◌, ◌||◌, not, bytes_eq}
 use Rattle.std.specs.Ordering.{int_eq}
 use Rattle.libyaml_grammar.specs.sentences.Trees.{Before, BlockItems, BlockNode, BlockSlot, Directive, Directives}
 use Rattle.libyaml_grammar.specs.sentences.Trees.{Documents, Ended, FlowItems, FlowLast}
@@ -14,15 +14,6 @@ use Rattle.libyaml_grammar.specs.sentences.Trees.{more_items, no_directives, no_
 use Rattle.libyaml_grammar.specs.sentences.Trees.{no_last, no_parts, no_value, node, nothing, once, opened, pair, part}
 use Rattle.libyaml_grammar.specs.sentences.Trees.{scalar, single, slot_of, tag}
 use Rattle.libyaml_grammar.specs.sentences.Trees.{tag_anchor, tag_directive, version, whole, with_value}
-use Rattle.libyaml_grammar.specs.sentences.Events.{either, same_text}
-
-abbrev pub both : Bool → Bool → Bool
-both true b = b
-both false b = false
-
-abbrev pub negated : Bool → Bool
-negated true = false
-negated false = true
 
 -- A document asks for at most one version, and that is one that is accepted.
 abbrev pub no_version : Directives → Bool
@@ -33,29 +24,29 @@ no_version (directive ds (tag_directive h m)) = no_version ds
 -- Of major version 1 the minor versions 1 and 2. YAML 1.1 (7.1.1) has a parser accept 1.1, process a higher minor version
 -- with a warning, and refuse a higher major one; there is no warning here, and as in libyaml 1.0 and 1.3 are refused.
 abbrev pub is_accepted : (major minor : ℤ) → Bool
-is_accepted major minor = both (int_eq major (pos 1)) (either (int_eq minor (pos 1)) (int_eq minor (pos 2)))
+is_accepted major minor = int_eq major (pos 1) && (int_eq minor (pos 1) || int_eq minor (pos 2))
 
 -- A document declares a handle at most once.
 abbrev pub declares : Directives → List ℕ → Bool
 declares no_directives h = false
 declares (directive ds (version v m)) h = declares ds h
-declares (directive ds (tag_directive d m)) h = either (same_text d.handle h) (declares ds h)
+declares (directive ds (tag_directive d m)) h = bytes_eq d.handle h || declares ds h
 
 abbrev pub admits : Directives → Directive → Bool
-admits ds (version v m) = both (no_version ds) (is_accepted v.major v.minor)
-admits ds (tag_directive d m) = negated (declares ds d.handle)
+admits ds (version v m) = no_version ds && is_accepted v.major v.minor
+admits ds (tag_directive d m) = not (declares ds d.handle)
 
 -- A handle is known if it is empty, declared in its document, `!` or `!!`.
 abbrev pub is_known : Directives → List ℕ → Bool
 is_known ds [] = true
-is_known ds (x ∷ h) = either (declares ds (x ∷ h)) (either (same_text (codes "!") (x ∷ h)) (same_text (codes "!!") (x ∷ h)))
+is_known ds (x ∷ h) = declares ds (x ∷ h) || (bytes_eq (codes "!") (x ∷ h) || bytes_eq (codes "!!") (x ∷ h))
 
 -- The handles of a part are known to the directives ds of its document.
 abbrev pub properties_in_order : Directives → Properties → Bool → Bool
 properties_in_order ds (anchor a m) b = b
-properties_in_order ds (tag h m) b = both (is_known ds h.handle) b
-properties_in_order ds (anchor_tag a m h n) b = both (is_known ds h.handle) b
-properties_in_order ds (tag_anchor h m a n) b = both (is_known ds h.handle) b
+properties_in_order ds (tag h m) b = is_known ds h.handle && b
+properties_in_order ds (anchor_tag a m h n) b = is_known ds h.handle && b
+properties_in_order ds (tag_anchor h m a n) b = is_known ds h.handle && b
 
 abbrev pub option_in_order : Directives → Option Properties → Bool → Bool
 option_in_order ds None b = b
@@ -114,7 +105,7 @@ abbrev mutual
 -- Each directive is admitted after those before it.
 abbrev pub directives_in_order : Directives → Bool → Bool
 directives_in_order no_directives b = b
-directives_in_order (directive ds d) b = directives_in_order ds (both (admits ds d) b)
+directives_in_order (directive ds d) b = directives_in_order ds (admits ds d && b)
 
 abbrev mutual
   pub documents_in_order : Documents → Bool → Bool

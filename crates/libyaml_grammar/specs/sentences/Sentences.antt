@@ -1,8 +1,7 @@
 -- Sentences and beginnings (docs/DEFINITIONS.md, "Sentences").
-use Rattle.std.specs.Prelude.{◌≡◌, ◌⊎◌, List, [], ◌∷◌, ◌++◌, Bool, true, false}
+use Rattle.std.specs.Prelude.{◌≡◌, ◌⊎◌, List, [], ◌∷◌, ◌++◌, Bool, true, false, ◌||◌}
 use Rattle.libyaml_grammar.specs.sentences.Tokens.{Content, StreamEnd, Token}
 use Rattle.libyaml_grammar.specs.sentences.Trees.{Stream, tokens}
-use Rattle.libyaml_grammar.specs.sentences.Events.{either}
 use Rattle.libyaml_grammar.specs.sentences.Order.{in_order}
 
 -- the tokens of a stream tree whose documents are in order
@@ -27,7 +26,7 @@ is_end _ = false
 
 abbrev pub has_end : List Token → Bool
 has_end [] = false
-has_end (t ∷ l) = either (is_end t.content) (has_end l)
+has_end (t ∷ l) = is_end t.content || has_end l
 
 -- one of the two holds, and not both
 abbrev pub EitherNotBoth : Type 0 → Type 0 → Type 0

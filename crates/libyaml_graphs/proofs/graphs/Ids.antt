@@ -1,17 +1,17 @@
 -- The ids of a graph: each names a node, a node holds those of all its children, and children come later than their
 -- parents.
+use Rattle.std.specs.Prelude.{not}
 use Rattle.std.proofs.Common.{◌≡◌, ◌≤◌, ℕ, suc, ℤ, pos, List, [], ◌∷◌, ◌+◌, length, All, arith, add-zero, zero-add}
 use Rattle.std.proofs.Common.{Option, Some, None, Bool, true, false}
 use Rattle.std.proofs.Common.{refl, sym, ap, ◌∙◌, subst, le_refl, le_trans, le_of_lt, lt-suc_self, suc-le-suc, zero-le}
 use Rattle.std.proofs.lemmas.Int.{ints}
 use Rattle.std.proofs.lemmas.List.Elements.{All-nil, All-cons}
 use Rattle.libyaml_grammar.specs.sentences.Events.{Event, Layout, end_at}
-use Rattle.libyaml_sources.specs.Fault.{Fault}
+use Rattle.libyaml_types.specs.Fault.{Fault}
 use Rattle.libyaml_grammar.specs.sentences.Nesting.{AllHavePairs, HasPairs, Texts, TextsHavePairs, Value, Values}
 use Rattle.libyaml_grammar.specs.sentences.Nesting.{alias_value, collection_value, first_value}
 use Rattle.libyaml_grammar.specs.sentences.Nesting.{is_even, no_texts, no_values, scalar_value, text_behind}
 use Rattle.libyaml_grammar.specs.sentences.Nesting.{value_events, values_events}
-use Rattle.libyaml_grammar.specs.sentences.Order.{negated}
 use Rattle.libyaml_grammar.specs.sentences.Tokens.{Mark}
 use Rattle.libyaml_grammar.specs.sentences.Trees.{Sort, mapping, sequence}
 use Rattle.libyaml_documents.specs.Nodes.{EveryIdNamesANode, IsIdUpTo, ids_of, ids_of_pairs}
@@ -203,13 +203,13 @@ every_id v e = value_ids v (length (nodes_of v [] [])) [] [] [] e
 -- each node holds the ids of all its children
 abbrev pub even_list : List ℕ → Bool
 even_list [] = true
-even_list (i ∷ is) = negated (even_list is)
+even_list (i ∷ is) = not (even_list is)
 
 pub ids_even : (vs : Values) (es : List Start) → even_list (ids_of_all vs es) ≡ is_even vs
 ids_even no_values es = refl
-ids_even (first_value v vs) es = ap negated (ids_even vs (starts_behind v es))
+ids_even (first_value v vs) es = ap not (ids_even vs (starts_behind v es))
 
-pub twice : (b : Bool) → negated (negated b) ≡ true → b ≡ true
+pub twice : (b : Bool) → not (not b) ≡ true → b ≡ true
 twice true e = refl
 twice false e = e
 

@@ -2,7 +2,7 @@
 use Rattle.std.proofs.Common.{◌≡◌, ◌⊎◌, ◌++◌, ◌∷◌, ℕ, List, [], length, map, nat_lt, Option, Some, None, Bool, true, false}
 use Rattle.std.proofs.Common.{Ok, Err, refl, sym, ap, subst, inl, inr}
 use Rattle.libyaml_documents.specs.Documents.{Document}
-use Rattle.libyaml_sources.specs.Fault.{memory_fault, Fault}
+use Rattle.libyaml_types.specs.Fault.{memory_fault, Fault}
 use Rattle.libyaml_grammar.specs.runs.Runs.{Ending}
 use Rattle.libyaml_grammar.specs.sentences.Events.{Event}
 use Rattle.libyaml_graphs.specs.loads.Bounds.{NoneLacksMemory, bounded_loads, first_stop, if_above, if_wrong}

@@ -6,7 +6,7 @@ use Rattle.libyaml_types.specs.declared.enums.yaml_node_type_t.{yaml_node_type_t
 use Rattle.libyaml_types.specs.declared.enums.yaml_node_type_t.TheVariants.{YAML_NO_NODE, YAML_SCALAR_NODE}
 use Rattle.libyaml_types.specs.declared.enums.yaml_node_type_t.TheVariants.{YAML_SEQUENCE_NODE, YAML_MAPPING_NODE}
 use Rattle.libyaml_grammar.specs.sentences.Events.{Event}
-use Rattle.libyaml_sources.specs.Fault.{Fault}
+use Rattle.libyaml_types.specs.Fault.{Fault}
 use Rattle.libyaml_grammar.specs.runs.Runs.{Ending}
 use Rattle.libyaml_documents.specs.LoadedNodes.{children_at, children_of, children_of_node}
 use Rattle.libyaml_documents.specs.Nodes.{changed_at, item_behind, node_at, node_type, pair_behind, type_at, type_of}

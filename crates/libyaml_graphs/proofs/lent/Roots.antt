@@ -4,7 +4,7 @@ use Rattle.std.proofs.Common.{refl, sym, ap, ◌∙◌, subst}
 use Rattle.libyaml_types.specs.declared.event.unnamed_yaml_event_t_data.{unnamed_yaml_event_t_data}
 use Rattle.libyaml_types.specs.declared.event.unnamed_yaml_event_t_data.TheVariants as ev
 use Rattle.libyaml_grammar.specs.sentences.Events.{Event, document_end_at, end_at, event, stream_end_at}
-use Rattle.libyaml_sources.specs.Fault.{Fault}
+use Rattle.libyaml_types.specs.Fault.{Fault}
 use Rattle.libyaml_grammar.specs.sentences.Nesting.{IsOpenDocument, NestsSoFar, Texts, Value, Values, alias_value}
 use Rattle.libyaml_grammar.specs.sentences.Nesting.{collection_value, first_value, has_begun}
 use Rattle.libyaml_grammar.specs.sentences.Nesting.{no_texts, no_values, none_open, not_begun, one_open, scalar_value}

@@ -4,7 +4,7 @@ use Rattle.libyaml_types.specs.declared.event.unnamed_yaml_event_t_data.TheVaria
 use Rattle.libyaml_graphs.specs.loads.GraphLaws as law
 use Rattle.libyaml_types.specs.declared.event.unnamed_yaml_event_t_data_document_start.{unnamed_yaml_event_t_data_document_start}
 use Rattle.libyaml_grammar.specs.sentences.Events.{Event, document_end_at, event, stream_end_at}
-use Rattle.libyaml_sources.specs.Fault.{Fault}
+use Rattle.libyaml_types.specs.Fault.{Fault}
 use Rattle.libyaml_grammar.specs.sentences.Nesting.{BeginsValue, HasBegun, IsNested, IsOpenDocument, NestsSoFar, Texts}
 use Rattle.libyaml_grammar.specs.sentences.Nesting.{Value, has_begun, no_texts}
 use Rattle.libyaml_grammar.specs.sentences.Nesting.{none_open, not_begun, one_open, text_behind, texts_events}

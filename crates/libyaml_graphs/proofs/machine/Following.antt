@@ -3,12 +3,11 @@
 use Rattle.std.proofs.Common.{◌≡◌, ℕ, zero, suc, ℤ, pos, List, [], ◌∷◌, ◌++◌, length, refl, sym, ap, ◌∙◌, cond, Option}
 use Rattle.std.proofs.Common.{Some, None, Bool, true, false}
 use Rattle.std.proofs.Common.{nat_cmp}
-use Rattle.std.specs.Prelude.{slice_get}
+use Rattle.std.specs.Prelude.{slice_get, bytes_eq}
 use Rattle.std.specs.Ordering.{eq_by_cmp}
 use Rattle.std.specs.Cmp.Lexicographic.{slice_cmp, texts_ties, nat_list_eq_equiv, nat_list_cmp_total}
 use Rattle.std.specs.FinMap.{get, insert, get-insert, get-from_entries}
-use Rattle.libyaml_grammar.specs.sentences.Events.{same_text}
-use Rattle.libyaml_sources.specs.Fault.{Fault}
+use Rattle.libyaml_types.specs.Fault.{Fault}
 use Rattle.libyaml_grammar.specs.sentences.Tokens.{Mark}
 use Rattle.libyaml_documents.specs.LoadedNodes.{with_end}
 use Rattle.libyaml_documents.specs.Nodes.{changed_at}
@@ -253,11 +252,11 @@ Agrees es xs = (a : List ℕ) → get xs a ≡ carrier a es
 pub none_known : Agrees [] no_anchors
 none_known a = get-from_entries nat_list_cmp_total [] a
 
-same_keys : (q g : List ℕ) → eq_by_cmp (slice_cmp nat_cmp) q g ≡ same_text g q
+same_keys : (q g : List ℕ) → eq_by_cmp (slice_cmp nat_cmp) q g ≡ bytes_eq g q
 same_keys q g = sym (texts_ties q g) ∙ nat_list_eq_equiv.symm q g
 
 inserted : (xs : Anchors) (b : List ℕ) (c : Carrier) (a : List ℕ)
-    → get (insert xs b c) a ≡ cond (same_text b a) (Some c) (get xs a)
+    → get (insert xs b c) a ≡ cond (bytes_eq b a) (Some c) (get xs a)
 inserted xs b c a = get-insert nat_list_cmp_total xs b c a ∙ ap (λ (u : Bool). cond u (Some c) (get xs a)) (same_keys a b)
 
 -- with the anchor of a node of this id
@@ -286,7 +285,7 @@ registers (Some b) i m es xs h = go (get xs b) (h b)
     go None e = (
       ap (λ (c : Option Carrier). known_fault c m) (sym e),
       λ (a : List ℕ). inserted xs b (record { id = i; mark = m }) a
-          ∙ ends (same_text b a) (record { id = i; mark = m }) (get xs a) (carrier a es) (h a),
+          ∙ ends (bytes_eq b a) (record { id = i; mark = m }) (get xs a) (carrier a es) (h a),
     )
 
 -- What a part does: it fails as the composer does, or the loader goes on with what is built.

@@ -2,9 +2,8 @@
 use Rattle.std.proofs.Common.{◌≡◌, ℕ, zero, suc, ℤ, pos, List, [], ◌∷◌, ◌++◌, length, nat_lt, le-ltb, zero-le, refl}
 use Rattle.std.proofs.Common.{sym, ap, ◌∙◌, Option, Some, None, Bool}
 use Rattle.std.proofs.Common.{true, false}
-use Rattle.std.specs.Prelude.{slice_get}
+use Rattle.std.specs.Prelude.{slice_get, ◌||◌}
 use Rattle.libyaml_types.specs.declared.enums.yaml_mapping_style_t.{yaml_mapping_style_t}
-use Rattle.libyaml_grammar.specs.sentences.Events.{either}
 use Rattle.libyaml_grammar.specs.sentences.Tokens.{Mark}
 use Rattle.libyaml_documents.specs.declared.node.unnamed_yaml_node_t_data.{unnamed_yaml_node_t_data}
 use Rattle.libyaml_documents.specs.declared.node.unnamed_yaml_node_t_data.TheVariants.{Scalar, Sequence, Mapping}
@@ -32,14 +31,14 @@ abbrev pub sizes : List Held → List ℕ
 sizes [] = []
 sizes (h ∷ hs) = begun h.key h.node.content ∷ sizes hs
 
-pub either_false : (a b : Bool) → either a b ≡ false → (a ≡ false) × (b ≡ false)
+pub either_false : (a b : Bool) → a || b ≡ false → (a ≡ false) × (b ≡ false)
 either_false false b e = (refl, e)
 either_false true b e = cc
 
-pub either_none : (a b : Bool) → a ≡ false → either a b ≡ b
-either_none a b e = ap (λ (x : Bool). either x b) e
+pub either_none : (a b : Bool) → a ≡ false → a || b ≡ b
+either_none a b e = ap (λ (x : Bool). (x || b)) e
 
-or_false : (b : Bool) → either b false ≡ b
+or_false : (b : Bool) → b || false ≡ b
 or_false true = refl
 or_false false = refl
 
@@ -67,7 +66,7 @@ change_grows : (p n i : ℕ) (hs : List Held) → one_above n (sizes hs) ≡ fal
 change_grows p n i [] e = refl
 change_grows zero n i (h ∷ hs) e =
     let k : (nat_lt n (begun h.key h.node.content) ≡ false) × (one_above n (sizes hs) ≡ false) = either_false _ _ e in
-    ap (either (nat_lt n (begun (key_behind h.key (pos i) h.node.content) (content_with h.key (pos i) h.node.content)))) k.1
+    ap (λ (b : Bool). (nat_lt n (begun (key_behind h.key (pos i) h.node.content) (content_with h.key (pos i) h.node.content)) || b)) k.1
     ∙ (or_false (nat_lt n (begun (key_behind h.key (pos i) h.node.content) (content_with h.key (pos i) h.node.content)))
     ∙ content_grows n i h.key h.node.content k.0)
 change_grows (suc p) n i (h ∷ hs) e =
@@ -100,7 +99,7 @@ no_entries c e = ap (begun None) (sym e) ∙ go c
 
 more_grows : (n : ℕ) (hs : List Held) (x : yaml_node_t) → begun None x.content ≡ 0 → one_above n (sizes hs) ≡ false
     → one_above n (sizes (hs ++ bare x ∷ [])) ≡ false
-more_grows n [] x e h = ap (λ (i : ℕ). either (nat_lt n i) false) e ∙ ap (λ (b : Bool). either b false) (none_below n)
+more_grows n [] x e h = ap (λ (i : ℕ). (nat_lt n i || false)) e ∙ ap (λ (b : Bool). (b || false)) (none_below n)
 more_grows n (y ∷ hs) x e h =
     let k : (nat_lt n (begun y.key y.node.content) ≡ false) × (one_above n (sizes hs) ≡ false) = either_false _ _ h in
     either_none _ _ k.0 ∙ more_grows n hs x e k.1
@@ -173,12 +172,12 @@ pub graph_sizes : (P : List Part) (es : List Start) (n : ℕ) → AllBegin P
 graph_sizes [] es n e = refl
 graph_sizes (alias_part a m ∷ P) es n e = graph_sizes P es n e.1
 graph_sizes (leaf_part a x ∷ P) es n e =
-    ap (λ (i : ℕ). either (nat_lt n i) (one_above n (sizes (held_graph (start_of a x ∷ es) P))))
+    ap (λ (i : ℕ). (nat_lt n i || (one_above n (sizes (held_graph (start_of a x ∷ es) P)))))
     (no_entries x.content e.0)
     ∙ (either_none _ _ (none_below n) ∙ graph_sizes P (start_of a x ∷ es) n e.1)
 graph_sizes (start_part a x ∷ P) es n e =
-    ap (λ (i : ℕ). either (nat_lt n i) (one_above n (sizes (held_graph (start_of a x ∷ es) P))))
+    ap (λ (i : ℕ). (nat_lt n i || (one_above n (sizes (held_graph (start_of a x ∷ es) P)))))
     (key_left (children 0 (start_of a x ∷ es) P) x.content e.0)
-    ∙ ap (either (nat_lt n (entries x.content (children 0 (start_of a x ∷ es) P))))
+    ∙ ap (λ (b : Bool). (nat_lt n (entries x.content (children 0 (start_of a x ∷ es) P)) || b))
     (graph_sizes P (start_of a x ∷ es) n e.1)
 graph_sizes (end_part m ∷ P) es n e = graph_sizes P es n e.1

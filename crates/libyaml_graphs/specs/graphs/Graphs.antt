@@ -1,7 +1,7 @@
 -- The graph of a document, by recursion on its value (docs/DEFINITIONS.md, "Graphs"). A node's id is one more
 -- than the nodes that start before it; es are the starts of those nodes, the newest first.
-use Rattle.std.specs.Prelude.{ℕ, suc, ℤ, pos, List, [], ◌∷◌, length, Option, Some, None, Bool, true, false}
-use Rattle.libyaml_grammar.specs.sentences.Events.{Layout, mapping_style, same_text, sequence_style}
+use Rattle.std.specs.Prelude.{ℕ, suc, ℤ, pos, List, [], ◌∷◌, length, Option, Some, None, Bool, true, false, bytes_eq}
+use Rattle.libyaml_grammar.specs.sentences.Events.{Layout, mapping_style, sequence_style}
 use Rattle.libyaml_grammar.specs.sentences.Nesting.{Value, Values, alias_value, collection_value, first_value}
 use Rattle.libyaml_grammar.specs.sentences.Nesting.{no_values, scalar_value}
 use Rattle.libyaml_grammar.specs.sentences.Tokens.{Mark}
@@ -22,7 +22,7 @@ pub record Carrier : Type 0 where
 
 abbrev pub carries : Option (List ℕ) → List ℕ → Bool
 carries None a = false
-carries (Some b) a = same_text b a
+carries (Some b) a = bytes_eq b a
 
 abbrev pub carrier : List ℕ → List Start → Option Carrier
 carrier a [] = None

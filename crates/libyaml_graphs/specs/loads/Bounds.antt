@@ -1,10 +1,10 @@
 -- Loads in which each list of a document has at most n entries: the list of its nodes, and the items or pairs of each node
 -- (docs/DEFINITIONS.md, "Loads within a bound").
-use Rattle.std.specs.Prelude.{◌≡◌, ◌≢◌, ◌≤◌, ℕ, suc, List, [], ◌∷◌, ◌++◌, length, nat_lt, Option, Some, None, All, Bool}
+use Rattle.std.specs.Prelude.{◌≡◌, ◌≢◌, ◌≤◌, ℕ, suc, List, [], ◌∷◌, ◌++◌, length, nat_lt, Option, Some, None, All, Bool, ◌||◌}
 use Rattle.std.specs.Prelude.{true, false, Ok, Err}
 use Rattle.libyaml_types.specs.declared.enums.yaml_error_type_t.TheVariants.{YAML_MEMORY_ERROR}
-use Rattle.libyaml_grammar.specs.sentences.Events.{Event, either}
-use Rattle.libyaml_sources.specs.Fault.{Fault, memory_fault}
+use Rattle.libyaml_grammar.specs.sentences.Events.{Event}
+use Rattle.libyaml_types.specs.Fault.{Fault, memory_fault}
 use Rattle.libyaml_grammar.specs.runs.Runs.{Ending}
 use Rattle.libyaml_grammar.specs.sentences.Tokens.{Token}
 use Rattle.libyaml_documents.specs.declared.node.unnamed_yaml_node_t_data.{unnamed_yaml_node_t_data}
@@ -38,7 +38,7 @@ list_sizes es (end_part n ∷ r) = list_sizes es r
 -- one of them is more than n
 abbrev pub one_above : ℕ → List ℕ → Bool
 one_above n [] = false
-one_above n (k ∷ ks) = either (nat_lt n k) (one_above n ks)
+one_above n (k ∷ ks) = nat_lt n k || one_above n ks
 
 -- What stops a load: the first part with which there are more than n nodes, else which has a composer error, else
 -- with which a node's list has more than n entries. The first and the last are reported as out of memory. `before`

@@ -7,7 +7,7 @@ use Rattle.std.specs.FinMap.{FinMap, from_entries, get, insert}
 use Rattle.std.specs.Cmp.Lexicographic.{slice_cmp}
 use Rattle.std.specs.Ordering.{nat_cmp}
 use Rattle.libyaml_grammar.specs.sentences.Events.{Event}
-use Rattle.libyaml_sources.specs.Fault.{Fault, memory_fault}
+use Rattle.libyaml_types.specs.Fault.{Fault, memory_fault}
 use Rattle.libyaml_grammar.specs.runs.Runs.{Ending}
 use Rattle.libyaml_grammar.specs.sentences.Tokens.{Mark}
 use Rattle.libyaml_documents.specs.LoadedNodes.{with_end}

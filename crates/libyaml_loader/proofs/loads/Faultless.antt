@@ -6,8 +6,8 @@ use Rattle.libyaml_grammar.specs.runs.Runs.{Ending}
 use Rattle.libyaml_grammar.specs.sentences.Events.{Event}
 use Rattle.libyaml_graphs.specs.loads.Loads.{Load}
 use Rattle.libyaml_loader.specs.loads.Loading.{DocumentOrError, LoadsFrom, at_end, whole}
-use Rattle.libyaml_sources.specs.Fault.{Answer, Fault}
-use Rattle.libyaml_sources.specs.Source.{Coming}
+use Rattle.libyaml_types.specs.Fault.{Answer, Fault}
+use Rattle.libyaml_types.specs.Source.{Coming}
 
 no : true ≡ false → ⊥
 no h = cc

@@ -7,8 +7,8 @@ use Rattle.libyaml_events.specs.machine.Config.{Parser}
 use Rattle.libyaml_events.specs.sources.History.{ForHistory, Remembers, has_failed, is_over}
 use Rattle.libyaml_loader.specs.loads.Loading.{DocumentOrError, HasEnded}
 use Rattle.libyaml_loader.specs.loads.LoadsInTurn.{LoadsNext}
-use Rattle.libyaml_sources.specs.Fault.{Answer, Fault}
-use Rattle.libyaml_sources.specs.Source.{Coming}
+use Rattle.libyaml_types.specs.Fault.{Answer, Fault}
+use Rattle.libyaml_types.specs.Source.{Coming}
 
 no : true ≡ false → ⊥
 no h = cc

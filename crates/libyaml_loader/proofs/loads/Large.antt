@@ -1,8 +1,8 @@
 -- A loaded document is at most twice as large as its events.
 use Rattle.std.proofs.Common.{◌≡◌, ◌≤◌, ◌*◌, arith, ℕ, List, [], ◌++◌, length, Option, Ok, Err, IfOk, ap, append-nil}
 use Rattle.libyaml_documents.specs.Documents.{Document}
-use Rattle.libyaml_sources.specs.Fault.{Answer, Fault}
-use Rattle.libyaml_sources.specs.Source.{Coming}
+use Rattle.libyaml_types.specs.Fault.{Answer, Fault}
+use Rattle.libyaml_types.specs.Source.{Coming}
 use Rattle.libyaml_grammar.specs.runs.Runs.{Ending, Ends}
 use Rattle.libyaml_grammar.specs.sentences.Events.{Event}
 use Rattle.libyaml_events.specs.machine.Config.{Parser}

@@ -16,9 +16,9 @@ use Rattle.libyaml_loader.specs.loads.Loading.{DocumentOrError}
 use Rattle.libyaml_loader.specs.loads.LoadsInTurn.{AreLoadsOf, LoopYields, YieldsDocument, cut_short, document, fault}
 use Rattle.libyaml_loader.specs.loads.LoadsInTurn.{no_item, whole}
 use Rattle.libyaml_loader.specs.loads.NextLoad.{Answers}
-use Rattle.libyaml_sources.specs.Fault.{Answer, Fault, fault_of}
-use Rattle.libyaml_sources.specs.Source.{Coming, coming}
-use Rattle.libyaml_sources.specs.declared.fault.yaml_parser_t_prefix.{yaml_parser_t_prefix}
+use Rattle.libyaml_types.specs.Fault.{Answer, Fault, fault_of}
+use Rattle.libyaml_types.specs.Source.{Coming, coming}
+use Rattle.libyaml_types.specs.declared.fault.yaml_parser_t_prefix.{yaml_parser_t_prefix}
 use Rattle.libyaml_types.specs.declared.enums.yaml_error_type_t.{yaml_error_type_t}
 
 no : true ≡ false → ⊥

@@ -6,12 +6,12 @@ use Rattle.libyaml_types.specs.declared.enums.yaml_error_type_t.{yaml_error_type
 use Rattle.libyaml_documents.specs.Documents.{Document}
 use Rattle.libyaml_events.specs.machine.Config.{Parser}
 use Rattle.libyaml_grammar.specs.sentences.Events.{Event}
-use Rattle.libyaml_sources.specs.Fault.{Answer, Fault}
+use Rattle.libyaml_types.specs.Fault.{Answer, Fault}
 use Rattle.libyaml_events.specs.sources.History.{ForHistory, is_over, has_failed, kept_fault}
 use Rattle.libyaml_grammar.specs.sentences.Tokens.{Token}
 use Rattle.libyaml_grammar.specs.runs.Runs.{Ending}
 use Rattle.libyaml_events.specs.sources.RunToCome.{FailsHere, RestOfRun, RunToCome, UnlessBroken, breaks, does, no_memory}
-use Rattle.libyaml_sources.specs.Source.{Coming}
+use Rattle.libyaml_types.specs.Source.{Coming}
 use Rattle.libyaml_graphs.specs.loads.Loads.{Load, last_load}
 use Rattle.libyaml_loader.specs.loads.Loading.{DocumentOrError, LoadsFrom, at_end, by_loader, by_memory, by_parser, whole}
 use Rattle.libyaml_loader.specs.loads.NextLoad.{Answers, LoadOfRun}

@@ -8,8 +8,8 @@ use Rattle.libyaml_events.specs.sources.RunToCome.{RunToCome}
 use Rattle.libyaml_grammar.specs.runs.Runs.{Ending}
 use Rattle.libyaml_grammar.specs.sentences.Events.{Event}
 use Rattle.libyaml_grammar.specs.sentences.Tokens.{Token}
-use Rattle.libyaml_sources.specs.Fault.{Answer, Fault}
-use Rattle.libyaml_sources.specs.Source.{Coming}
+use Rattle.libyaml_types.specs.Fault.{Answer, Fault}
+use Rattle.libyaml_types.specs.Source.{Coming}
 use Rattle.libyaml_graphs.specs.loads.Bounds.{next_bounded}
 use Rattle.libyaml_graphs.specs.graphs.GraphParts.{Closing, Opening, closing_of}
 use Rattle.libyaml_graphs.specs.loads.Loads.{document, last_load, left_over}

@@ -2,8 +2,8 @@
 use Rattle.std.proofs.Common.{◌≡◌, ◌⊎◌, inl, inr, List, [], ◌∷◌, ◌++◌, Option, None, Ok, Err, IfOk, IfErr, false, refl}
 use Rattle.std.proofs.Common.{sym, ap, ◌∙◌, subst}
 use Rattle.libyaml_documents.specs.Documents.{Document, empty_document}
-use Rattle.libyaml_sources.specs.Fault.{Answer, Fault, no_fault}
-use Rattle.libyaml_sources.specs.Source.{Coming}
+use Rattle.libyaml_types.specs.Fault.{Answer, Fault, no_fault}
+use Rattle.libyaml_types.specs.Source.{Coming}
 use Rattle.libyaml_grammar.specs.sentences.Tokens.{Token}
 use Rattle.libyaml_grammar.specs.sentences.Events.{Event}
 use Rattle.libyaml_grammar.specs.cuts.Settled.{Begins}

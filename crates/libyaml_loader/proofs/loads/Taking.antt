@@ -10,14 +10,14 @@ use Rattle.libyaml_events.specs.sources.Calls.{EventOrError, Gave}
 use Rattle.libyaml_events.specs.sources.CallsInTurn.{CarriedOn}
 use Rattle.libyaml_events.specs.machine.Config.{Parser}
 use Rattle.libyaml_grammar.specs.sentences.Events.{Event}
-use Rattle.libyaml_sources.specs.Fault.{Answer, Fault}
+use Rattle.libyaml_types.specs.Fault.{Answer, Fault}
 use Rattle.libyaml_events.specs.sources.History.{ForHistory, History, answers, between_documents, has_failed, is_over}
 use Rattle.libyaml_events.specs.sources.History.{kept_fault}
 use Rattle.libyaml_events.specs.sources.ParsesNext.{ParsesNext}
 use Rattle.libyaml_events.specs.sources.Parsing.{CarriesOn, FailsBy, IsWhole}
 use Rattle.libyaml_events.specs.sources.RunToCome.{FailsHere, RestOfRun, RunToCome}
 use Rattle.libyaml_grammar.specs.runs.Runs.{Ending, Ends}
-use Rattle.libyaml_sources.specs.Source.{Coming}
+use Rattle.libyaml_types.specs.Source.{Coming}
 use Rattle.libyaml_events.specs.parsers.OutsideEvents.{is_outside_event}
 use Rattle.libyaml_events.specs.parsers.Stages.{is_event}
 use Rattle.libyaml_grammar.specs.sentences.Tokens.{Token}

@@ -4,7 +4,7 @@ use Rattle.libyaml_types.specs.declared.enums.yaml_error_type_t.{yaml_error_type
 use Rattle.libyaml_documents.specs.Documents.{Document}
 use Rattle.libyaml_grammar.specs.sentences.Events.{Event}
 use Rattle.libyaml_graphs.specs.machine.Loader.{State}
-use Rattle.libyaml_sources.specs.Fault.{Fault, fault_of}
+use Rattle.libyaml_types.specs.Fault.{Fault, fault_of}
 use Rattle.libyaml_loader.specs.declared.composer.Composer.{Composer}
 use Rattle.libyaml_loader.specs.pushes.Composing.{Composes, IsSound, RefusesEvent, RefusesOneOf, by_loads, by_memory}
 use Rattle.libyaml_loader.specs.pushes.Composing.{state_of}

@@ -2,7 +2,7 @@
 use Rattle.std.proofs.Common.{◌≡◌, ◌++◌, ◌∷◌, ℕ, List, [], Ok, Err, Bool, true, false, refl, sym, ap, ◌∙◌, subst}
 use Rattle.std.proofs.lemmas.List.{append_cancel_left}
 use Rattle.libyaml_types.specs.declared.enums.yaml_error_type_t.{yaml_error_type_t}
-use Rattle.libyaml_sources.specs.Fault.{Fault, memory_fault, no_fault}
+use Rattle.libyaml_types.specs.Fault.{Fault, memory_fault, no_fault}
 use Rattle.libyaml_grammar.specs.runs.Runs.{Ends}
 use Rattle.libyaml_grammar.specs.sentences.Events.{Event}
 use Rattle.libyaml_grammar.specs.sentences.Sentences.{has_end}

@@ -5,7 +5,7 @@ use Rattle.libyaml_documents.specs.Documents.{Document, empty_document}
 use Rattle.libyaml_events.specs.sources.CallsInTurn.{CarriedOn}
 use Rattle.libyaml_events.specs.machine.Config.{Parser}
 use Rattle.libyaml_grammar.specs.sentences.Events.{Event}
-use Rattle.libyaml_sources.specs.Fault.{Answer, Fault, memory_fault}
+use Rattle.libyaml_types.specs.Fault.{Answer, Fault, memory_fault}
 use Rattle.libyaml_events.specs.sources.History.{ForHistory, History, between_documents, has_failed, is_over}
 use Rattle.libyaml_events.specs.sources.History.{kept_fault, keeping, stack_depth}
 use Rattle.libyaml_events.specs.parsers.Lookahead.{tokens_held}
@@ -13,7 +13,7 @@ use Rattle.libyaml_events.specs.parsers.Stages.{open_collections, stage_of}
 use Rattle.libyaml_events.specs.sources.Parsing.{FailsBy, IsWhole}
 use Rattle.libyaml_grammar.specs.runs.Runs.{Ending, Ends}
 use Rattle.libyaml_events.specs.sources.RunToCome.{FailsHere, RestOfRun, RunToCome}
-use Rattle.libyaml_sources.specs.Source.{Coming}
+use Rattle.libyaml_types.specs.Source.{Coming}
 use Rattle.libyaml_grammar.specs.sentences.Tokens.{Token}
 use Rattle.libyaml_graphs.specs.loads.Loads.{Load, last_load}
 use Rattle.libyaml_loader.specs.loads.LoadGrowth.{GrowsAt}

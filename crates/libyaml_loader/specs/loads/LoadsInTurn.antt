@@ -1,9 +1,9 @@
 -- A loop over the documents of a parser (docs/DEFINITIONS.md, "Loads of a parser").
 use Rattle.std.specs.Prelude.{◌≡◌, ◌≢◌, ◌≤◌, ◌<◌, ◌⊎◌, ◌*◌, ◌++◌, ◌∷◌, ℕ, List, [], length, map, Option, None, Some}
 use Rattle.std.specs.Prelude.{Result, Ok, Err, IfOk, IfErr, true, false}
-use Rattle.libyaml_sources.specs.Fault.{Answer, Fault, fault_of, memory_fault}
-use Rattle.libyaml_sources.specs.Source.{Coming}
-use Rattle.libyaml_sources.specs.declared.fault.yaml_parser_t_prefix.{yaml_parser_t_prefix}
+use Rattle.libyaml_types.specs.Fault.{Answer, Fault, fault_of, memory_fault}
+use Rattle.libyaml_types.specs.Source.{Coming}
+use Rattle.libyaml_types.specs.declared.fault.yaml_parser_t_prefix.{yaml_parser_t_prefix}
 use Rattle.libyaml_grammar.specs.runs.Runs.{Ending, Ends, Fails}
 use Rattle.libyaml_grammar.specs.sentences.Events.{Event}
 use Rattle.libyaml_events.specs.machine.Config.{Parser}

@@ -5,8 +5,8 @@ use Rattle.libyaml_grammar.specs.sentences.Events.{Event}
 use Rattle.libyaml_events.specs.sources.History.{kept_fault}
 use Rattle.libyaml_grammar.specs.runs.Runs.{Ending}
 use Rattle.libyaml_events.specs.sources.RunToCome.{RunToCome}
-use Rattle.libyaml_sources.specs.Fault.{Fault, memory_fault}
-use Rattle.libyaml_sources.specs.Source.{Coming}
+use Rattle.libyaml_types.specs.Fault.{Fault, memory_fault}
+use Rattle.libyaml_types.specs.Source.{Coming}
 use Rattle.libyaml_graphs.specs.loads.Loads.{Load}
 use Rattle.libyaml_loader.specs.loads.Loading.{DocumentOrError}
 

@@ -2,8 +2,8 @@
 -- (docs/DEFINITIONS.md, "One outcome").
 use Rattle.std.specs.Prelude.{◌≡◌, ◌++◌, ◌∷◌, List, [], Option, Ok, Err, IfOk, IfErr}
 use Rattle.libyaml_types.specs.declared.enums.yaml_error_type_t.TheVariants.{YAML_MEMORY_ERROR}
-use Rattle.libyaml_sources.specs.Fault.{Answer, Fault, memory_fault}
-use Rattle.libyaml_sources.specs.Source.{Coming}
+use Rattle.libyaml_types.specs.Fault.{Answer, Fault, memory_fault}
+use Rattle.libyaml_types.specs.Source.{Coming}
 use Rattle.libyaml_grammar.specs.sentences.Tokens.{Token}
 use Rattle.libyaml_grammar.specs.sentences.Events.{Event}
 use Rattle.libyaml_grammar.specs.runs.Runs.{Ending}

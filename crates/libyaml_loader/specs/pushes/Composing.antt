@@ -8,7 +8,7 @@ use Rattle.libyaml_graphs.specs.graphs.GraphParts as parts
 use Rattle.libyaml_graphs.specs.graphs.GraphParts.{closing_of}
 use Rattle.libyaml_graphs.specs.loads.Loads.{document}
 use Rattle.libyaml_graphs.specs.machine.Loader.{State, between, no_anchors, within}
-use Rattle.libyaml_sources.specs.Fault.{Fault, fault_of, memory_fault}
+use Rattle.libyaml_types.specs.Fault.{Fault, fault_of, memory_fault}
 use Rattle.libyaml_loader.specs.declared.composer.Closing.{Closing}
 use Rattle.libyaml_loader.specs.declared.composer.Composer.{Composer}
 use Rattle.libyaml_loader.specs.declared.composer.Opening.{Opening}

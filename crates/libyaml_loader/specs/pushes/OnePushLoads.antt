@@ -2,7 +2,7 @@
 -- (docs/DEFINITIONS.md, "One outcome").
 use Rattle.std.specs.Prelude.{◌≡◌, ◌++◌, List, Err, IfOk, IfErr}
 use Rattle.libyaml_types.specs.declared.enums.yaml_error_type_t.TheVariants.{YAML_MEMORY_ERROR}
-use Rattle.libyaml_sources.specs.Fault.{memory_fault}
+use Rattle.libyaml_types.specs.Fault.{memory_fault}
 use Rattle.libyaml_grammar.specs.sentences.Tokens.{Token}
 use Rattle.libyaml_grammar.specs.sentences.Events.{Event}
 use Rattle.libyaml_documents.specs.Documents.{Document}

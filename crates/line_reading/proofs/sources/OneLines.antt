@@ -6,7 +6,7 @@ use Rattle.std.proofs.lemmas.Bool.{cases_lt}
 use Rattle.std.specs.Io.KnownBytes.{Consumes}
 use Rattle.std.specs.List.{onto_first, slice_split}
 use Rattle.libyaml_types.specs.declared.token.yaml_token_t.{yaml_token_t}
-use Rattle.libyaml_sources.specs.Fault.{Answer, Fault}
+use Rattle.libyaml_types.specs.Fault.{Answer, Fault}
 use Rattle.line_reading.specs.declared.line_problem.LineProblem.TheVariants.{BadTokenLine, LineTooLong, NoMoreTokens}
 use Rattle.line_reading.specs.declared.line_problem.LineProblem.TheVariants.{TooManyTokens}
 use Rattle.line_reading.specs.sources.LineFault.{line_fault}

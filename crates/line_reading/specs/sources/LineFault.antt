@@ -2,7 +2,7 @@
 use Rattle.std.specs.Prelude.{ℕ, negsuc, List, Some, None, codes}
 use Rattle.libyaml_types.specs.declared.enums.yaml_error_type_t.{yaml_error_type_t}
 use Rattle.libyaml_types.specs.declared.enums.yaml_error_type_t.TheVariants.{YAML_READER_ERROR, YAML_SCANNER_ERROR}
-use Rattle.libyaml_sources.specs.Fault.{Fault, memory_fault}
+use Rattle.libyaml_types.specs.Fault.{Fault, memory_fault}
 use Rattle.libyaml_types.specs.Events.{zero_mark}
 use Rattle.line_reading.specs.declared.line_problem.LineProblem.{LineProblem}
 use Rattle.line_reading.specs.declared.line_problem.LineProblem.TheVariants.{Memory, ReadFailed, LineTooLong}

@@ -1,7 +1,7 @@
 -- A source of token lines (docs/DEFINITIONS.md, "Lines").
 use Rattle.std.specs.Prelude.{◌≡◌, ◌<◌, ◌≤◌, ℕ, ◌+◌, List, [], Option, Some, None, Ok, Err, option_map}
-use Rattle.libyaml_sources.specs.Fault.{Fault, Answer}
-use Rattle.libyaml_sources.specs.Source.{Coming, coming}
+use Rattle.libyaml_types.specs.Fault.{Fault, Answer}
+use Rattle.libyaml_types.specs.Source.{Coming, coming}
 use Rattle.line_reading.specs.declared.line_problem.LineProblem.{LineProblem}
 use Rattle.line_reading.specs.declared.line_problem.LineProblem.TheVariants.{TooManyTokens}
 use Rattle.line_reading.specs.sources.LineFault.{line_fault}

@@ -3,8 +3,8 @@ use Rattle.std.proofs.Common.{◌≡◌, ◌<◌, ◌≤◌, ℕ, ◌+◌, ◌-�
 use Rattle.std.proofs.Common.{◌∙◌, subst, arith, inl, inr}
 use Rattle.std.proofs.lemmas.Bool.{lt-ltb, le-ltb, cases_lt}
 use Rattle.libyaml_types.specs.declared.token.yaml_token_t.{yaml_token_t}
-use Rattle.libyaml_sources.specs.Fault.{Fault, Answer}
-use Rattle.libyaml_sources.specs.Source.{Coming, coming, Follows, FollowsList}
+use Rattle.libyaml_types.specs.Fault.{Fault, Answer}
+use Rattle.libyaml_types.specs.Source.{Coming, coming, Follows, FollowsList}
 use Rattle.line_reading.specs.declared.line_problem.LineProblem.TheVariants.{TooManyTokens, NoMoreTokens}
 use Rattle.line_reading.specs.sources.LineFault.{line_fault}
 use Rattle.line_reading.specs.sources.LineLaws.{lines_behind}

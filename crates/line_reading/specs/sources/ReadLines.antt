@@ -2,8 +2,8 @@
 use Rattle.std.specs.Prelude.{ℕ, ◌+◌, ◌==◌, List, [], ◌∷◌, length, Option, Some, None, Ok, Err, nat_lt, if◌then◌else◌}
 use Rattle.std.specs.List.{slice_split}
 use Rattle.libyaml_types.specs.declared.token.yaml_token_t.{yaml_token_t}
-use Rattle.libyaml_sources.specs.Fault.{Answer}
-use Rattle.libyaml_sources.specs.Source.{Coming, coming}
+use Rattle.libyaml_types.specs.Fault.{Answer}
+use Rattle.libyaml_types.specs.Source.{Coming, coming}
 use Rattle.line_reading.specs.declared.line_problem.LineProblem.TheVariants.{LineTooLong, BadTokenLine, TooManyTokens}
 use Rattle.line_reading.specs.declared.line_problem.LineProblem.TheVariants.{NoMoreTokens}
 use Rattle.line_reading.specs.sources.LineFault.{line_fault}

@@ -9,7 +9,7 @@ use Rattle.libyaml_types.specs.declared.event.yaml_event_t.{yaml_event_t}
 use Rattle.libyaml_types.specs.declared.token.yaml_token_t.{yaml_token_t}
 use Rattle.libyaml_events.specs.machine.Config.{Parser}
 use Rattle.libyaml_events.specs.sources.History.{History, is_over, is_stream_end}
-use Rattle.libyaml_sources.specs.Fault.{Answer, Fault}
+use Rattle.libyaml_types.specs.Fault.{Answer, Fault}
 use Rattle.libyaml_events.proofs.lent.CallsInTurn.{gave_both}
 use Rattle.token_lines.specs.events.InTurn.{AllWritten, Call, WrittenInTurn, gave_event, failed}
 

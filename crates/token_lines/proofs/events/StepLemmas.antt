@@ -16,9 +16,9 @@ use Rattle.libyaml_events.specs.sources.Parsing.{FailsBy}
 use Rattle.libyaml_events.specs.sources.RunToCome.{FailsHere, ForRun, RestOfRun, RunToCome}
 use Rattle.libyaml_events.proofs.lent.CallsInTurn.{gave_both}
 use Rattle.libyaml_grammar.specs.runs.Runs.{Ending, Ends}
-use Rattle.libyaml_sources.specs.declared.fault.yaml_parser_t_prefix.{yaml_parser_t_prefix}
-use Rattle.libyaml_sources.specs.Fault.{Answer, Fault, fault_of}
-use Rattle.libyaml_sources.specs.Source.{Coming}
+use Rattle.libyaml_types.specs.declared.fault.yaml_parser_t_prefix.{yaml_parser_t_prefix}
+use Rattle.libyaml_types.specs.Fault.{Answer, Fault, fault_of}
+use Rattle.libyaml_types.specs.Source.{Coming}
 use Rattle.line_writing.specs.EventText.{event_line}
 use Rattle.line_writing.specs.FaultText.{fault_text}
 use Rattle.token_lines.specs.declared.run.RunStep.TheVariants as step

@@ -1,7 +1,7 @@
 -- Two runs in memory over the same token lines are one.
 use Rattle.std.proofs.Common.{◌≡◌, ◌++◌, ℕ, List, drop, take, sym, ap, ◌∙◌, subst}
 use Rattle.std.specs.List.{concat}
-use Rattle.libyaml_sources.specs.Fault.{Fault}
+use Rattle.libyaml_types.specs.Fault.{Fault}
 use Rattle.libyaml_grammar.specs.runs.Runs.{Ending}
 use Rattle.line_writing.specs.FaultText.{fault_text}
 use Rattle.token_lines.specs.declared.memory.memory_outcome_t.{memory_outcome_t}

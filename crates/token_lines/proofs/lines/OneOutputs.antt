@@ -2,7 +2,7 @@
 use Rattle.std.proofs.Common.{◌≡◌, inl, inr, ℕ, List, ◌++◌, Option, None, Some, refl, sym, ap, ◌∙◌, subst}
 use Rattle.std.specs.List.{concat}
 use Rattle.std.specs.Io.KnownBytes.{Appends}
-use Rattle.libyaml_sources.specs.Fault.{Fault, fault_of}
+use Rattle.libyaml_types.specs.Fault.{Fault, fault_of}
 use Rattle.libyaml_grammar.specs.runs.Runs.{Ending, Ends, Fails}
 use Rattle.line_writing.specs.FaultText.{fault_text}
 use Rattle.token_lines.specs.declared.run.Outcome.{Outcome}

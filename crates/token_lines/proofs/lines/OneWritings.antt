@@ -16,8 +16,8 @@ use Rattle.libyaml_events.proofs.lent.OneOutcome.{front_same}
 use Rattle.libyaml_events.proofs.lent.RunStops.{RunStop, answers_both, ended_stop, grammar_stop, one_run_by_answers}
 use Rattle.libyaml_events.proofs.lent.RunStops.{source_stop}
 use Rattle.libyaml_grammar.specs.runs.Runs.{Ending, Ends, Fails}
-use Rattle.libyaml_sources.specs.Fault.{Answer, Fault, memory_fault}
-use Rattle.libyaml_sources.specs.declared.fault.yaml_parser_t_prefix.{yaml_parser_t_prefix}
+use Rattle.libyaml_types.specs.Fault.{Answer, Fault, memory_fault}
+use Rattle.libyaml_types.specs.declared.fault.yaml_parser_t_prefix.{yaml_parser_t_prefix}
 use Rattle.line_writing.specs.EventText.{event_line}
 use Rattle.line_writing.specs.FaultText.{fault_text}
 use Rattle.token_lines.specs.declared.run.Outcome.{Outcome}

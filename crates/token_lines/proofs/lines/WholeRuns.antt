@@ -1,6 +1,6 @@
 -- That a run in memory which tells its end wrote all that belongs to it.
 use Rattle.std.proofs.Common.{◌≡◌, ◌⊎◌, ℕ, List, [], Some, refl, sym, subst, inl, inr}
-use Rattle.libyaml_sources.specs.Fault.{Fault, fault_of, memory_fault}
+use Rattle.libyaml_types.specs.Fault.{Fault, fault_of, memory_fault}
 use Rattle.libyaml_grammar.specs.runs.Runs.{Ending}
 use Rattle.line_reading.specs.sources.NextLine.{BreaksOffAt}
 use Rattle.token_lines.specs.declared.memory.memory_outcome_t.{memory_outcome_t}

@@ -3,7 +3,7 @@ use Rattle.std.proofs.Common.{◌≡◌, ◌++◌, ◌∷◌, ℕ, List, [], map
 use Rattle.std.proofs.Common.{append_assoc}
 use Rattle.std.proofs.lemmas.List.{append-nil}
 use Rattle.libyaml_documents.specs.Documents.{Document}
-use Rattle.libyaml_sources.specs.Fault.{Fault, fault_of, memory_fault}
+use Rattle.libyaml_types.specs.Fault.{Fault, fault_of, memory_fault}
 use Rattle.libyaml_grammar.specs.runs.Runs.{Ends, Fails}
 use Rattle.libyaml_graphs.specs.loads.Loads.{Load}
 use Rattle.libyaml_graphs.proofs.lent.BoundedFronts.{IsFront, met, same}

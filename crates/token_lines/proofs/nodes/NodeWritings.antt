@@ -26,9 +26,9 @@ use Rattle.libyaml_graphs.specs.loads.Loads.{Load, last_load, left_over}
 use Rattle.libyaml_graphs.proofs.lent.Roots.{fault_of, last_of, roots_follow}
 use Rattle.libyaml_loader.specs.loads.Loading.{DocumentOrError, LoadsFrom, at_end, by_loader, by_memory, by_parser, whole}
 use Rattle.libyaml_loader.specs.loads.OneLoad.{results_in}
-use Rattle.libyaml_sources.specs.Fault.{Answer, Fault, memory_fault, no_fault}
-use Rattle.libyaml_sources.specs.declared.fault.yaml_parser_t_prefix.{yaml_parser_t_prefix}
-use Rattle.libyaml_sources.specs.Source.{Coming}
+use Rattle.libyaml_types.specs.Fault.{Answer, Fault, memory_fault, no_fault}
+use Rattle.libyaml_types.specs.declared.fault.yaml_parser_t_prefix.{yaml_parser_t_prefix}
+use Rattle.libyaml_types.specs.Source.{Coming}
 use Rattle.line_writing.specs.DocumentText.{document_lines}
 use Rattle.line_writing.specs.FaultText.{fault_text}
 use Rattle.token_lines.specs.declared.run.Outcome.{Outcome}

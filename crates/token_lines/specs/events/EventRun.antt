@@ -1,7 +1,7 @@
 -- The run of an input's token lines, and what is written of it (docs/DEFINITIONS.md, "Runs over lines").
 use Rattle.std.specs.Prelude.{ℕ, List, Option, map, IfSome}
 use Rattle.libyaml_types.specs.declared.event.yaml_event_t.{yaml_event_t}
-use Rattle.libyaml_sources.specs.Fault.{Fault}
+use Rattle.libyaml_types.specs.Fault.{Fault}
 use Rattle.libyaml_grammar.specs.runs.Runs.{Ending, IsRun}
 use Rattle.line_reading.specs.sources.ReadLines.{read_lines}
 use Rattle.line_writing.specs.EventText.{event_line}

@@ -5,7 +5,7 @@ use Rattle.libyaml_types.specs.declared.event.yaml_event_t.{yaml_event_t}
 use Rattle.libyaml_types.specs.declared.token.yaml_token_t.{yaml_token_t}
 use Rattle.libyaml_events.specs.machine.Config.{Parser}
 use Rattle.libyaml_events.specs.sources.History.{is_stream_end}
-use Rattle.libyaml_sources.specs.Fault.{Fault, Answer, fault_of, memory_fault}
+use Rattle.libyaml_types.specs.Fault.{Fault, Answer, fault_of, memory_fault}
 use Rattle.line_writing.specs.EventText.{event_line}
 use Rattle.token_lines.specs.declared.run.RunStep.{RunStep}
 use Rattle.token_lines.specs.declared.run.RunStep.TheVariants.{Written, Ended, Failed, OutputFailed}

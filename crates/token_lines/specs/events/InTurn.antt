@@ -9,7 +9,7 @@ use Rattle.libyaml_events.specs.machine.Config.{Parser}
 use Rattle.libyaml_events.specs.sources.Calls.{Gave}
 use Rattle.libyaml_events.specs.sources.History.{History, answers, is_over, kept_fault}
 use Rattle.libyaml_events.specs.sources.Parsing.{CarriesOn, FailsBy}
-use Rattle.libyaml_sources.specs.Fault.{Answer, Fault}
+use Rattle.libyaml_types.specs.Fault.{Answer, Fault}
 
 -- a call of the parser, which returned an event or failed, and what is said of that event or fault
 pub data Call {S : Type 0} (gives : S → Answer → S → Type 0) (ForEvent : yaml_event_t → Type 0) (ForFault : Fault

@@ -4,7 +4,7 @@ use Rattle.std.specs.Io.KnownBytes.{Appends, Keeps}
 use Rattle.libyaml_types.specs.declared.event.yaml_event_t.{yaml_event_t}
 use Rattle.libyaml_types.specs.declared.token.yaml_token_t.{yaml_token_t}
 use Rattle.libyaml_events.specs.machine.Config.{Parser}
-use Rattle.libyaml_sources.specs.Fault.{Answer, fault_of, memory_fault}
+use Rattle.libyaml_types.specs.Fault.{Answer, fault_of, memory_fault}
 use Rattle.libyaml_events.specs.sources.History.{History, is_stream_end}
 use Rattle.token_lines.specs.declared.run.Outcome.{Outcome}
 use Rattle.token_lines.specs.declared.run.run_end_t.{run_end_t}

@@ -2,7 +2,7 @@
 use Rattle.std.specs.Prelude.{◌≡◌, ◌++◌, ℕ, List, length, min, take, drop, codes}
 use Rattle.std.specs.List.{concat}
 use Rattle.libyaml_types.specs.declared.event.yaml_event_t.{yaml_event_t}
-use Rattle.libyaml_sources.specs.Fault.{Fault, fault_of}
+use Rattle.libyaml_types.specs.Fault.{Fault, fault_of}
 use Rattle.libyaml_grammar.specs.runs.Runs.{Ending, Ends, Fails, IsRun}
 use Rattle.libyaml_graphs.specs.loads.Loads.{IsLoads, Load}
 use Rattle.line_reading.specs.sources.NextLine.{BreaksOffAt}

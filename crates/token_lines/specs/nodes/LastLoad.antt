@@ -8,10 +8,10 @@ use Rattle.libyaml_types.specs.declared.token.yaml_token_t.{yaml_token_t}
 use Rattle.libyaml_documents.specs.Documents.{Document}
 use Rattle.libyaml_events.specs.sources.Calls.{Gave}
 use Rattle.libyaml_events.specs.machine.Config.{Parser}
-use Rattle.libyaml_sources.specs.Fault.{Answer, Fault, fault_of, memory_fault}
+use Rattle.libyaml_types.specs.Fault.{Answer, Fault, fault_of, memory_fault}
 use Rattle.libyaml_events.specs.sources.History.{History, answers, kept_fault}
 use Rattle.libyaml_grammar.specs.runs.Runs.{Ending}
-use Rattle.libyaml_sources.specs.Source.{Coming}
+use Rattle.libyaml_types.specs.Source.{Coming}
 use Rattle.libyaml_graphs.specs.loads.Bounds.{bounded_loads, next_bounded}
 use Rattle.libyaml_graphs.specs.loads.Linear.{documents_size}
 use Rattle.libyaml_graphs.specs.loads.Loads.{Load, left_over}

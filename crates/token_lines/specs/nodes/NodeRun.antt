@@ -2,7 +2,7 @@
 use Rattle.std.specs.Prelude.{ℕ, List, [], ◌∷◌, Option, IfSome, Ok, Err}
 use Rattle.std.specs.List.{flat_map}
 use Rattle.libyaml_documents.specs.declared.node.yaml_node_t.{yaml_node_t}
-use Rattle.libyaml_sources.specs.Fault.{Fault}
+use Rattle.libyaml_types.specs.Fault.{Fault}
 use Rattle.libyaml_grammar.specs.runs.Runs.{Ending, Ends, Fails}
 use Rattle.libyaml_graphs.specs.loads.Loads.{IsLoads, Load}
 use Rattle.line_reading.specs.sources.ReadLines.{read_lines}

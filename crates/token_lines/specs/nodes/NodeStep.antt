@@ -3,9 +3,9 @@ use Rattle.std.specs.Prelude.{◌≡◌, ◌≢◌, ℕ, List, [], Option, Ok, E
 use Rattle.std.specs.List.{concat}
 use Rattle.std.specs.Io.KnownBytes.{Appends, Keeps}
 use Rattle.libyaml_events.specs.machine.Config.{Parser}
-use Rattle.libyaml_sources.specs.Fault.{Answer, Fault, fault_of, memory_fault}
+use Rattle.libyaml_types.specs.Fault.{Answer, Fault, fault_of, memory_fault}
 use Rattle.libyaml_events.specs.sources.History.{ForHistory, kept_fault}
-use Rattle.libyaml_sources.specs.Source.{Coming}
+use Rattle.libyaml_types.specs.Source.{Coming}
 use Rattle.libyaml_graphs.specs.loads.Bounds.{next_bounded}
 use Rattle.libyaml_graphs.specs.loads.Loads.{left_over}
 use Rattle.libyaml_loader.specs.loads.Loading.{DocumentOrError, HasEnded, LoadsFrom}

@@ -1,9 +1,8 @@
 //! A document's handles: a table of ranges, and the buffer that these are of.
-ghost use Rattle.std.specs.Prelude.{◌≡◌};
+ghost use Rattle.std.specs.Prelude.{◌≡◌, bytes_eq};
 ghost use Rattle.std.specs.FinMap.{get};
 ghost use Rattle.std.specs.Option.{option_copied};
 ghost use Rattle.libyaml_events.specs.machine.Machine.{or_default, undeclared_prefix};
-ghost use Rattle.libyaml_grammar.specs.sentences.Events.{same_text};
 ghost use Rattle.token_steps.specs.Handles.{bytes_at, handles_at, prefix_in};
 
 /// A range of a buffer of bytes.
@@ -43,7 +42,7 @@ pub(crate) fn text_at<'a>(texts: &'a [u8], text: &text_t) -> &'a [u8]
 
 /// Returns whether the two texts have the same bytes.
 pub(crate) fn is_same(left: &[u8], right: &[u8]) -> bool
-    ensures { result ≡ same_text left.now right.now }
+    ensures { result ≡ bytes_eq left.now right.now }
 {
     left == right
 }

@@ -6,7 +6,7 @@ use Rattle.libyaml_events.specs.parsers.EventsLeft.{events_left}
 use Rattle.libyaml_events.specs.parsers.Stages.{is_event}
 use Rattle.libyaml_events.specs.sources.Calls.{answered}
 use Rattle.libyaml_events.specs.sources.History.{is_over}
-use Rattle.libyaml_sources.specs.Fault.{fault_of}
+use Rattle.libyaml_types.specs.Fault.{fault_of}
 use Rattle.libyaml_graphs.specs.graphs.GraphParts.{closing_of}
 use Rattle.libyaml_graphs.specs.loads.Bounds.{next_bounded}
 use Rattle.libyaml_graphs.specs.loads.Loads.{left_over}

@@ -6,8 +6,8 @@ use Rattle.libyaml_events.specs.machine.Config.{Parser}
 use Rattle.libyaml_events.specs.sources.History.{new_parser}
 use Rattle.libyaml_loader.specs.document.Ids.{magnitude}
 use Rattle.libyaml_loader.specs.loads.LoadsInTurn.{LoopYields}
-use Rattle.libyaml_sources.specs.Fault.{Fault, fault_of, memory_fault}
-use Rattle.libyaml_sources.specs.Source.{Coming}
+use Rattle.libyaml_types.specs.Fault.{Fault, fault_of, memory_fault}
+use Rattle.libyaml_types.specs.Source.{Coming}
 use Rattle.records.specs.RecordSource.{Gives, read_records}
 use Rattle.records.specs.RecordSourceLaws.{BreaksOff}
 use Rattle.records.proofs.Filling.{on_err}

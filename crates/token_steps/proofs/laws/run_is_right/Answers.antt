@@ -1,5 +1,5 @@
 use Rattle.std.proofs.Common.{None}
-use Rattle.libyaml_sources.specs.Fault.{no_fault}
+use Rattle.libyaml_types.specs.Fault.{no_fault}
 use Rattle.libyaml_events.specs.sources.Pushed.{standing}
 use Rattle.libyaml_automaton.specs.Config.{config_of}
 use Rattle.automaton_laws.specs.Texts.{config_with}

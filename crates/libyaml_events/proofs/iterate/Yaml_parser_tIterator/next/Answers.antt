@@ -1,5 +1,5 @@
 use Rattle.std.proofs.Common.{◌∙◌, sym, ap}
-use Rattle.libyaml_sources.specs.Fault.{Fault}
+use Rattle.libyaml_types.specs.Fault.{Fault}
 use Rattle.libyaml_events.proofs.iterate.Yaml_parser_tIterator.next.Goals as goal
 
 pub returns-in-Err-clause-steps : goal.returns-in-Err-clause-steps

@@ -1,6 +1,6 @@
 use Rattle.std.proofs.Common.{◌≡◌, ◌≤◌, ◌∷◌, [], Err, ap, rules, subst, sym}
 use Rattle.std.specs.Vec.{vec_capacity, vec_len}
-use Rattle.libyaml_sources.specs.Fault.{fault_of}
+use Rattle.libyaml_types.specs.Fault.{fault_of}
 use Rattle.libyaml_loader.specs.pushes.Composing.{Composes}
 use Rattle.libyaml_loader.proofs.pushes.Steps.{into_full, into_refused}
 use Rattle.libyaml_loader.proofs.composer.Composer.compose_into.Goals as goal

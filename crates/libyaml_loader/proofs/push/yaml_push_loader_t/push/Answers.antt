@@ -1,7 +1,7 @@
 use Rattle.std.proofs.Common.{◌≡◌, ◌≤◌, Err, Ok, ap, rules, subst, sym, ◌∙◌}
 use Rattle.std.specs.Vec.{vec_capacity, vec_len}
 use Rattle.libyaml_events.specs.sources.Pushes.{Pushes, done_by}
-use Rattle.libyaml_sources.specs.Fault.{fault_of}
+use Rattle.libyaml_types.specs.Fault.{fault_of}
 use Rattle.libyaml_loader.specs.pushes.Composing.{state_of}
 use Rattle.libyaml_loader.specs.pushes.Loaded.{standing}
 use Rattle.libyaml_loader.specs.pushes.PushesLoads.{PushesLoads}

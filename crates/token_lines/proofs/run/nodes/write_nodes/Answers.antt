@@ -1,5 +1,5 @@
 use Rattle.std.proofs.Common.{◌≡◌, refl, ap, ◌∙◌, subst}
-use Rattle.libyaml_sources.specs.Fault.{Fault, fault_of}
+use Rattle.libyaml_types.specs.Fault.{Fault, fault_of}
 use Rattle.libyaml_events.specs.sources.History.{has_failed, kept_fault}
 use Rattle.libyaml_loader.specs.document.Ids.{magnitude}
 use Rattle.token_lines.specs.declared.run.run_end_t.TheVariants.{Ended, OutputFailed}

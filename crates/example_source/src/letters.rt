@@ -1,0 +1,150 @@
+//! The source: what it keeps, what it says of itself, and its tokens.
+
+ghost use Rattle.std.specs.Prelude.{◌≡◌, ◌≢◌, None, Some, Err, [], IfErr, IfOk, length};
+ghost use Rattle.unsafe_libyaml.specs.Fault.{memory_fault, source_fault};
+ghost use Rattle.unsafe_libyaml.specs.RowNotation.{STREAM, place};
+ghost use Rattle.unsafe_libyaml.specs.Source.{coming};
+ghost use Rattle.example_source.specs.Letters.{Gives, all_tokens, content_of, token_at};
+ghost use Rattle.example_source.specs.LettersLaws.{letters_fall, letters_follow, letters_repeat};
+
+use std::alloc::{AllocError, Global};
+use std::marker::Model;
+use unsafe_libyaml::{
+    YAML_PLAIN_SCALAR_STYLE, YAML_UTF8_ENCODING, unnamed_yaml_token_t_data,
+    unnamed_yaml_token_t_data_scalar, unnamed_yaml_token_t_data_stream_start, yaml_mark_t,
+    yaml_source_fault_t, yaml_token_source_t, yaml_token_t,
+};
+
+/// The tokens of a text of brackets, commas and letters: each character is a token.
+#[derive(Drop)]
+pub struct Letters<'a> {
+    alloc: Global,
+    text: &'a [u8],
+    /// The place of the next character, or `None` before the first token.
+    next: Option<usize>,
+    /// The fault that each call returns, where the tokens have ended.
+    fault: Option<yaml_source_fault_t>,
+}
+
+impl<'a> Model for Letters<'a> {
+    ghost use Rattle.std.specs.Prelude.{option_map};
+    ghost use Rattle.unsafe_libyaml.specs.Fault.{source_fault};
+    ghost use Rattle.unsafe_libyaml.specs.Source.{Coming};
+    ghost use Rattle.example_source.specs.Letters.{coming_at};
+
+    ghost Value = { Coming };
+
+    ghost view = { λ s. coming_at s.text.now s.next (option_map source_fault s.fault) };
+}
+
+impl<'a> Letters<'a> {
+    /// Returns the source of this text's tokens. Takes no memory.
+    pub fn new(alloc: Global, text: &'a [u8]) -> Self
+        ensures { result ≡ all_tokens text.now }
+    {
+        Letters {
+            alloc,
+            text,
+            next: None,
+            fault: None,
+        }
+    }
+
+    /// Ends the tokens by this fault.
+    fn end(&mut self, fault: yaml_source_fault_t) -> Result<yaml_token_t, yaml_source_fault_t>
+        ensures fault { result ≡ Err fault }
+        ensures for_good { self.new ≡ coming [] (source_fault fault) }
+    {
+        self.fault = Some(fault);
+        Err(fault)
+    }
+}
+
+impl<'a> yaml_token_source_t for Letters<'a> {
+    ghost bound = { λ s. length s.tokens };
+
+    ghost gives = { Gives };
+
+    ghost known = { λ s. Some s };
+
+    ghost may_break = { λ _ fault. fault ≡ memory_fault };
+
+    ghost falls = { letters_fall };
+
+    ghost follows = { letters_follow };
+
+    ghost repeats = { letters_repeat };
+
+    fn next_token(&mut self) -> Result<yaml_token_t, yaml_source_fault_t> {
+        if let Some(fault) = self.fault {
+            return Err(fault);
+        }
+        let Some(place) = self.next else {
+            self.next = Some(0);
+            return Ok(token(stream_start(), 0));
+        };
+        let Some(character) = self.text.get(place) else {
+            self.fault = Some(yaml_source_fault_t::scanner_error("text ended", mark(place)));
+            return Ok(token(unnamed_yaml_token_t_data::StreamEnd, place));
+        };
+        match content(self.alloc, *character) {
+            Ok(Some(content)) => {
+                self.next = Some(place + 1);
+                Ok(token(content, place))
+            }
+            Ok(None) => self.end(yaml_source_fault_t::scanner_error("found no token", mark(place))),
+            Err(_) => self.end(yaml_source_fault_t::out_of_memory()),
+        }
+    }
+}
+
+/// Returns the content of a character's token, or `None` for a character that is no token.
+///
+/// # Errors
+///
+/// Out of memory, for a character that is a token.
+fn content(alloc: Global, character: u8) -> Result<Option<unnamed_yaml_token_t_data>, AllocError>
+    ensures ok { IfOk result (λ content. content ≡ content_of character) }
+    ensures err { IfErr result (λ _. content_of character ≢ None) }
+{
+    use unnamed_yaml_token_t_data::{FlowEntry, FlowSequenceEnd, FlowSequenceStart, Scalar};
+    Ok(match character {
+        b'[' => Some(FlowSequenceStart),
+        b']' => Some(FlowSequenceEnd),
+        b',' => Some(FlowEntry),
+        letter if letter.is_ascii_alphabetic() => {
+            let mut value = String::new(alloc);
+            value.push(char::from(letter))?;
+            let style = YAML_PLAIN_SCALAR_STYLE;
+            Some(Scalar(unnamed_yaml_token_t_data_scalar { value, style }))
+        }
+        _ => None,
+    })
+}
+
+/// Returns the content of the first token.
+fn stream_start() -> unnamed_yaml_token_t_data
+    ensures { result ≡ STREAM }
+{
+    let encoding = YAML_UTF8_ENCODING;
+    unnamed_yaml_token_t_data::StreamStart(unnamed_yaml_token_t_data_stream_start { encoding })
+}
+
+/// Returns the mark of a place in the text.
+fn mark(index: usize) -> yaml_mark_t
+    ensures { result ≡ place index }
+{
+    let index = index as u64;
+    yaml_mark_t {
+        index,
+        line: 0,
+        column: index,
+    }
+}
+
+/// Returns a token with both marks at its place.
+fn token(content: unnamed_yaml_token_t_data, place: usize) -> yaml_token_t
+    ensures { result ≡ token_at place content }
+{
+    yaml_token_t::new(content, mark(place), mark(place))
+}

@@ -1,5 +1,0 @@
-pub mod Fault
-pub mod Errors
-pub mod Message
-pub mod Source
-pub mod ListLaws

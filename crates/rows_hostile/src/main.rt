@@ -1,0 +1,59 @@
+//! Hostile use: lists that are large, deep or drawn, texts of every length, and allocations that fail.
+//!
+//! The program makes the checks of each module, counts the rows of each table and names those that differ.
+//! `rows_hostile TABLE` makes those of one table, `rows_hostile TABLE ROW` those of one row, and
+//! `rows_hostile failing` those of `failing`, for `scripts/allocation_failures.sh`. `rows_hostile work
+//! WORK N` does the work of `scripts/flat_memory.sh`.
+#![tactic(auto)]
+
+mod calls;
+mod drawn;
+mod failing;
+mod flat;
+mod growing;
+mod large;
+mod lines;
+mod nested;
+mod shapes;
+mod texts;
+
+use anyhow::{Context, Result};
+use rows_common::{Tables, read_text, read_words};
+use std::rt::Files;
+
+fn show_tables(rt: &(impl Files + Print + AllocGlobal), tables: &mut Tables<'_>) -> Result<()> {
+    let row = read_text(rt, "text.tokens")?;
+    let kinds = read_text(rt, "kinds")?;
+    large::show(rt, tables)?;
+    nested::show(rt, tables)?;
+    texts::show(rt, tables, row.as_str())?;
+    drawn::show(rt, tables, kinds.as_str())?;
+    failing::show(rt, tables)?;
+    Ok(())
+}
+
+fn show_all(rt: &(impl Files + Print + AllocGlobal), words: &[String]) -> Result<()> {
+    let mut tables = Tables::asked(words)?;
+    show_tables(rt, &mut tables)?;
+    tables.end()
+}
+
+fn show_failing(rt: &(impl Print + AllocGlobal)) -> Result<()> {
+    let mut tables = Tables::asked(&[])?;
+    failing::show(rt, &mut tables)?;
+    tables.end()
+}
+
+fn do_work(rt: &(impl Print + AllocGlobal), work: &str, n: &str) -> Result<()> {
+    let n = n.parse::<u32>().context("no number")?;
+    flat::show(rt, work, n)
+}
+
+fn main(rt: HostRuntime) -> Result<()> {
+    let words = read_words(&rt)?;
+    match words.as_slice() {
+        [word] if word.as_str() == "failing" => show_failing(&rt),
+        [word, work, n] if word.as_str() == "work" => do_work(&rt, work.as_str(), n.as_str()),
+        words => show_all(&rt, words),
+    }
+}

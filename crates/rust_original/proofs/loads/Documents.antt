@@ -1,0 +1,143 @@
+-- The original's loader over the events of a document.
+use Rattle.std.proofs.Common.{◌≡◌, ◌∷◌, ◌++◌, ℕ, suc, List, [], length, nat_lt, Option, Some, Bool, true, false, Ok}
+use Rattle.std.proofs.Common.{Err, refl, sym, ap, ◌∙◌}
+use Rattle.libyaml_types.specs.declared.event.unnamed_yaml_event_t_data.{unnamed_yaml_event_t_data}
+use Rattle.libyaml_types.specs.declared.event.unnamed_yaml_event_t_data.TheVariants as ev
+use Rattle.libyaml_types.specs.Fault.{Fault}
+use Rattle.libyaml_grammar.specs.runs.Runs.{Ending, Ends, Fails}
+use Rattle.libyaml_grammar.specs.sentences.Events.{Event, event}
+use Rattle.libyaml_grammar.specs.sentences.Tokens.{Mark}
+use Rattle.libyaml_graphs.specs.graphs.ComposerFaults.{part_fault}
+use Rattle.libyaml_documents.specs.LoadedNodes.{mapping_loaded, scalar_loaded, sequence_loaded}
+use Rattle.libyaml_graphs.specs.graphs.GraphParts.{Opening, Part, alias_part, behind, end_part, leaf_part, part_in}
+use Rattle.libyaml_graphs.specs.graphs.GraphParts.{parts, start_part}
+use Rattle.libyaml_graphs.specs.graphs.Graphs.{Start}
+use Rattle.libyaml_graphs.specs.machine.Loader.{no_anchors}
+use Rattle.libyaml_graphs.specs.loads.Loads.{Load, behind_document, document, document_end, last_load, load_then}
+use Rattle.libyaml_graphs.specs.loads.Bounds.{first_stop, if_above, if_wrong, list_sizes, one_above}
+use Rattle.libyaml_graphs.proofs.lent.BoundedLoader.{Within, all_begin_more, held_so_far, reaches}
+use Rattle.libyaml_graphs.proofs.lent.Building.{graph_sizes, list_grows, sizes, build_stands, BeginsEmpty, Built, Held}
+use Rattle.libyaml_graphs.proofs.lent.Building.{build}
+use Rattle.libyaml_graphs.proofs.lent.Building as built
+use Rattle.rust_original.specs.loader.Loader as orig
+use Rattle.rust_original.specs.loader.Loader.{FAIL, Loaded, OK, yaml_alias_data_t}
+use Rattle.rust_original.proofs.loads.Halves.{AllSound, halves}
+use Rattle.rust_original.proofs.loads.Steps.{Agrees, Follows, event_follows, halves_length, load_event, there}
+use Rattle.rust_original.proofs.loads.Bound.{event_limited, full_there, guard_part, guarded, not_less, over_there}
+use Rattle.rust_original.proofs.loads.Bound.{part_full}
+
+-- the events of a document, from one on
+module _ (n : ℕ) (o : Opening) (x : Ending) where
+  abbrev loaded_there : List Event → orig.Loader → List Load
+  loaded_there r l = orig.loads_from n (orig.within o l) r x
+
+  abbrev Same : List Event → Type 0
+  Same r = (es : List Start) (F : List Part) (b : Built) (xs : List yaml_alias_data_t) → Within n es F b → Agrees es xs
+      → AllSound b.held → loaded_there r (there xs b) ≡ load_then (first_stop n es F (parts r)) (document_end r) o
+      (halves (built.finished es (parts r) b)) (last_load x)
+      (orig.loads_from n orig.between (behind_document r) x)
+
+  module _ (r : List Event) (ih : Same r) (p : Part) (e : BeginsEmpty p) (es : List Start) (F : List Part) (b : Built)
+      (s : Within n es F b) (h : AllSound b.held) where
+    abbrev ends_as : Bool → Option Fault → Bool → List Load
+    ends_as c w d
+        = load_then (if_above c (if_wrong w (if_above d (first_stop n (behind p es) (F ++ p ∷ []) (parts r)))))
+        (document_end r) o
+        (halves (built.finished es (p ∷ parts r) b)) (last_load x)
+        (orig.loads_from n orig.between (behind_document r) x)
+
+    over_is : (q : Part) → over_there n q b ≡ nat_lt n (length (behind q es))
+    over_is (alias_part a m) = sym s.few
+    over_is (leaf_part a y)
+        = not_less (length (halves b.held)) n ∙ ap (λ (i : ℕ). nat_lt n (suc i)) (halves_length b.held ∙ s.stands.size)
+    over_is (start_part a y)
+        = not_less (length (halves b.held)) n ∙ ap (λ (i : ℕ). nat_lt n (suc i)) (halves_length b.held ∙ s.stands.size)
+    over_is (end_part m) = sym s.few
+
+    grown : full_there n p b ≡ one_above n (sizes (build es p b).held)
+    grown = part_full n p b h ∙ sym (list_grows p n es b no_anchors e s.stands.there s.short)
+
+    full_is : full_there n p b ≡ one_above n (list_sizes [] (F ++ p ∷ []))
+    full_is = grown ∙ (ap (λ (hs : List Held). one_above n (sizes hs))
+        (held_so_far (behind p es) (F ++ p ∷ []) (build es p b) (reaches p es F b e s.stands s.reached))
+        ∙ graph_sizes (F ++ p ∷ []) [] n (all_begin_more F p s.all_begin e))
+
+    part_same : (c : Bool) → c ≡ nat_lt n (length (behind p es)) → (d : Bool) → full_there n p b ≡ d → (y : Loaded)
+        → Follows y (part_fault es p) (behind p es) (build es p b)
+        → ◌≡◌ {A = List Load} (elim (guarded c d y) [ FAIL f ↦ Err f ∷ [] | OK m ↦ loaded_there r m ])
+        (ends_as c (part_fault es p) d)
+    part_same true i d j y w = refl
+    part_same false i d j (FAIL f) w = ap (λ (v : Option Fault). ends_as false v d) (sym w)
+    part_same false i true j (OK m) w = ap (λ (v : Option Fault). ends_as false v true) (sym w.0)
+    part_same false i false j (OK m) (w, (xs, k, g, t)) =
+        ap (loaded_there r) k
+        ∙ (ih (behind p es) (F ++ p ∷ []) (build es p b) xs (record {
+          stands = build_stands p es b s.stands;
+          few = sym i;
+          short = sym grown ∙ j;
+          reached = reaches p es F b e s.stands s.reached;
+          all_begin = all_begin_more F p s.all_begin e;
+        }) g t
+        ∙ (ap (λ (hs : List Held). load_then (first_stop n (behind p es) (F ++ p ∷ []) (parts r)) (document_end r) o
+        (halves hs) (last_load x)
+        (orig.loads_from n orig.between (behind_document r) x)) (built.build_finished p es (parts r) b e s.stands.there)
+        ∙ ap (λ (v : Option Fault). ends_as false v false) (sym w)))
+
+    event_ends : (y : Loaded) → Follows y (part_fault es p) (behind p es) (build es p b)
+        → ◌≡◌ {A = List Load}
+        (elim (guarded (over_there n p b) (full_there n p b) y) [ FAIL f ↦ Err f ∷ [] | OK m ↦ loaded_there r m ])
+        (ends_as (nat_lt n (length (behind p es))) (part_fault es p) (one_above n (list_sizes [] (F ++ p ∷ []))))
+    event_ends y w = part_same (over_there n p b) (over_is p) (full_there n p b) refl y w
+        ∙ (ap (λ (c : Bool). ends_as c (part_fault es p) (full_there n p b)) (over_is p)
+        ∙ ap (ends_as (nat_lt n (length (behind p es))) (part_fault es p)) full_is)
+
+  limited_same : (k : unnamed_yaml_event_t_data) (m m' : Mark) (r : List Event) → Same r → (p : Part)
+      → part_in k m m' ≡ Some p → BeginsEmpty p
+      → (es : List Start) (F : List Part) (b : Built) (xs : List yaml_alias_data_t) → (s : Within n es F b)
+      → AllSound b.held
+      → Follows (load_event (there xs b) (event k m m')) (part_fault es p) (behind p es) (build es p b)
+      → ◌≡◌ {A = List Load}
+      (elim (orig.load_event n (there xs b) (event k m m')) [ FAIL f ↦ Err f ∷ [] | OK l ↦ loaded_there r l ])
+      (load_then (first_stop n es F (p ∷ parts r)) (document_end r) o (halves (built.finished es (p ∷ parts r) b))
+      (last_load x)
+      (orig.loads_from n orig.between (behind_document r) x))
+  limited_same k m m' r ih p i e es F b xs s h w =
+      ap (λ (y : Loaded). elim y [ FAIL f ↦ Err f ∷ [] | OK l ↦ loaded_there r l ])
+      (event_limited n k m m' b xs s.stands.there s.stands.falls
+      ∙ ap (λ (q : Option Part). guard_part n q b (load_event (there xs b) (event k m m'))) i)
+      ∙ event_ends r ih p e es F b s h (load_event (there xs b) (event k m m')) w
+
+  event_same : (k : unnamed_yaml_event_t_data) (m m' : Mark) (r : List Event) → Same r → Same (event k m m' ∷ r)
+  event_same (ev.DocumentEnd d) m m' r ih es F b xs s g h
+      = ap (λ (hs : List Held). Ok (document o (halves hs) (record { is_implicit = d.implicit; mark = m' }))
+      ∷ orig.loads_from n orig.between r x) (sym (built.finished_none es b))
+  event_same (ev.Alias a) m m' r ih es F b xs s g h
+      = limited_same (ev.Alias a) m m' r ih (alias_part a.anchor m) refl tt es F b xs s h
+      (event_follows (ev.Alias a) m m' es b xs s.stands.size g h)
+  event_same (ev.Scalar a) m m' r ih es F b xs s g h
+      = limited_same (ev.Scalar a) m m' r ih (leaf_part a.anchor (scalar_loaded a m m')) refl refl es F b xs s h
+      (event_follows (ev.Scalar a) m m' es b xs s.stands.size g h)
+  event_same (ev.SequenceStart a) m m' r ih es F b xs s g h
+      = limited_same (ev.SequenceStart a) m m' r ih (start_part a.anchor (sequence_loaded a.tag a.style [] m m')) refl
+      refl es F b xs s h
+      (event_follows (ev.SequenceStart a) m m' es b xs s.stands.size g h)
+  event_same (ev.MappingStart a) m m' r ih es F b xs s g h
+      = limited_same (ev.MappingStart a) m m' r ih (start_part a.anchor (mapping_loaded a.tag a.style [] m m')) refl
+      refl es F b xs s h
+      (event_follows (ev.MappingStart a) m m' es b xs s.stands.size g h)
+  event_same ev.SequenceEnd m m' r ih es F b xs s g h
+      = limited_same ev.SequenceEnd m m' r ih (end_part m') refl tt es F b xs s h
+      (event_follows ev.SequenceEnd m m' es b xs s.stands.size g h)
+  event_same ev.MappingEnd m m' r ih es F b xs s g h
+      = limited_same ev.MappingEnd m m' r ih (end_part m') refl tt es F b xs s h
+      (event_follows ev.MappingEnd m m' es b xs s.stands.size g h)
+  event_same _ m m' r ih es F b xs s g h = ih es F b xs s g h
+
+  pub document_same : (r : List Event) → Same r
+  document_same [] es F b xs s g h = go x
+    where
+      go : (y : Ending) → orig.loads_from n (orig.within o (there xs b)) [] y ≡ last_load y ∷ []
+      go Ends = refl
+      go (Fails f) = refl
+  document_same (e ∷ r) es F b xs s g h
+      = event_same e.content e.start_mark e.end_mark r (document_same r) es F b xs s g h

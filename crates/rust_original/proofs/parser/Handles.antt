@@ -1,0 +1,137 @@
+-- A list of tag directives gives each handle the prefix that the map of handles gives.
+use Rattle.std.specs.Prelude.{bytes_eq}
+use Rattle.std.proofs.Common.{◌≡◌, ◌∷◌, ◌++◌, ℕ, List, [], Option, Some, None, Bool, true, false, cond, codes, refl}
+use Rattle.std.proofs.Common.{sym, ap, ◌∙◌, subst}
+use Rattle.std.specs.Cmp.Lexicographic.{texts_ties, nat_list_eq_equiv, nat_list_cmp_total}
+use Rattle.std.specs.Cmp.Lexicographic as lex
+use Rattle.std.specs.FinMap.{get, insert, get-insert, get-from_entries}
+use Rattle.libyaml_types.specs.declared.directive.yaml_tag_directive_t.{yaml_tag_directive_t}
+use Rattle.libyaml_grammar.specs.sentences.Tokens.{Mark}
+use Rattle.libyaml_events.specs.machine.Config.{Handles, no_handles}
+use Rattle.libyaml_events.specs.machine.Machine.{or_default}
+use Rattle.rust_original.specs.parser.Parser.{Outcome, Parser, default_tag_directives, directive_of}
+use Rattle.rust_original.specs.parser.Parser.{yaml_parser_append_tag_directive}
+use Rattle.rust_original.proofs.parser.Relation.{Agree}
+
+-- before the defaults
+abbrev pub Reads : List yaml_tag_directive_t → Handles → Type 0
+Reads tags hs = (h : List ℕ) → directive_of tags h ≡ get hs h
+
+abbrev pub declares : List ℕ → List ℕ → yaml_tag_directive_t
+declares h p = record { handle = h; prefix = p }
+
+inserted : (hs : Handles) (g p h : List ℕ) → get (insert hs g p) h ≡ cond (bytes_eq g h) (Some p) (get hs h)
+inserted hs g p h = get-insert nat_list_cmp_total hs g p h
+    ∙ ap (λ (u : Bool). cond u (Some p) (get hs h)) (sym (texts_ties h g) ∙ nat_list_eq_equiv.symm h g)
+
+pub none_declared : Reads [] no_handles
+none_declared h = sym (get-from_entries nat_list_cmp_total [] h)
+
+abbrev or_else : Option (List ℕ) → Option (List ℕ) → Option (List ℕ)
+or_else None o = o
+or_else (Some x) o = Some x
+
+or_none : (o : Option (List ℕ)) → or_else o None ≡ o
+or_none None = refl
+or_none (Some x) = refl
+
+-- a directive after the others
+one_more : (tags : List yaml_tag_directive_t) (d : yaml_tag_directive_t) (h : List ℕ)
+    → directive_of (tags ++ d ∷ []) h ≡ or_else (directive_of tags h) (cond (bytes_eq d.handle h) (Some d.prefix) None)
+one_more [] d h = refl
+one_more (e ∷ tags) d h = go (one_more tags d h) (bytes_eq e.handle h)
+  where
+    go : directive_of (tags ++ d ∷ []) h ≡ or_else (directive_of tags h)
+        (cond (bytes_eq d.handle h) (Some d.prefix) None) → (u : Bool)
+        → cond u (Some e.prefix) (directive_of (tags ++ d ∷ []) h)
+        ≡ or_else (cond u (Some e.prefix) (directive_of tags h)) (cond (bytes_eq d.handle h) (Some d.prefix) None)
+    go ih true = refl
+    go ih false = ih
+
+pub reads_more : (tags : List yaml_tag_directive_t) (hs : Handles) (g p : List ℕ) → Reads tags hs
+    → directive_of tags g ≡ None → Reads (tags ++ declares g p ∷ []) (insert hs g p)
+reads_more tags hs g p r e h = one_more tags (declares g p) h ∙ (go (bytes_eq g h) refl ∙ sym (inserted hs g p h))
+  where
+    go : (u : Bool) → u ≡ bytes_eq g h
+        → or_else (directive_of tags h) (cond u (Some p) None) ≡ cond u (Some p) (get hs h)
+    go true s
+        = ap (λ (o : Option (List ℕ)). or_else o (Some p))
+        (subst (λ (y : List ℕ). directive_of tags y ≡ None) (lex.same_text g h s) e)
+    go false s = or_none (directive_of tags h) ∙ r h
+
+-- the defaults
+abbrev with_default : List yaml_tag_directive_t → yaml_tag_directive_t → Option (List ℕ) → List yaml_tag_directive_t
+with_default tags d None = tags ++ d ∷ []
+with_default tags d (Some x) = tags
+
+abbrev after : List yaml_tag_directive_t → yaml_tag_directive_t → List yaml_tag_directive_t
+after tags d = with_default tags d (directive_of tags d.handle)
+
+appended : (p : Parser) (d : yaml_tag_directive_t) (m : Mark) (next : Parser → Outcome)
+    → yaml_parser_append_tag_directive d true m p next ≡ next (record p { tag_directives = after p.tag_directives d })
+appended p d m next = go (directive_of p.tag_directives d.handle)
+  where
+    go : (o : Option (List ℕ))
+        → elim o [ Some earlier ↦ next p | None ↦ next (record p { tag_directives = p.tag_directives ++ d ∷ [] }) ]
+        ≡ next (record p { tag_directives = with_default p.tag_directives d o })
+    go None = refl
+    go (Some x) = refl
+
+found : (tags : List yaml_tag_directive_t) (d : yaml_tag_directive_t) (h : List ℕ)
+    → directive_of (after tags d) h ≡ or_else (directive_of tags h) (cond (bytes_eq d.handle h) (Some d.prefix) None)
+found tags d h = go (directive_of tags d.handle) refl
+  where
+    there : (x : List ℕ) → directive_of tags d.handle ≡ Some x → (u : Bool) → u ≡ bytes_eq d.handle h
+        → directive_of tags h ≡ or_else (directive_of tags h) (cond u (Some d.prefix) None)
+    there x e true s =
+        let i : directive_of tags h ≡ Some x
+        = subst (λ (y : List ℕ). directive_of tags y ≡ Some x) (lex.same_text d.handle h s) e in
+        i ∙ sym (ap (λ (o : Option (List ℕ)). or_else o (Some d.prefix)) i)
+    there x e false s = sym (or_none (directive_of tags h))
+
+    go : (o : Option (List ℕ)) → directive_of tags d.handle ≡ o
+        → directive_of (with_default tags d o) h ≡ or_else (directive_of tags h)
+        (cond (bytes_eq d.handle h) (Some d.prefix) None)
+    go None e = one_more tags d h
+    go (Some x) e = there x e (bytes_eq d.handle h) refl
+
+abbrev bang : yaml_tag_directive_t
+bang = declares (codes "!") (codes "!")
+
+abbrev bangs : yaml_tag_directive_t
+bangs = declares (codes "!!") (codes "tag:yaml.org,2002:")
+
+abbrev pub defaulted : List yaml_tag_directive_t → List yaml_tag_directive_t
+defaulted tags = after (after tags bang) bangs
+
+pub defaults_appended : (p : Parser) (m : Mark) (next : Parser → Outcome)
+    → default_tag_directives m p next ≡ next (record p { tag_directives = defaulted p.tag_directives })
+defaults_appended p m next = appended p bang m (λ q. yaml_parser_append_tag_directive bangs true m q next)
+    ∙ appended (record p { tag_directives = after p.tag_directives bang }) bangs m next
+
+pub agree : (tags : List yaml_tag_directive_t) (hs : Handles) → Reads tags hs → Agree (defaulted tags) hs
+agree tags hs r h = found (after tags bang) bangs h
+    ∙ (ap (λ (o : Option (List ℕ)). or_else o
+    (cond (bytes_eq (codes "!!") h) (Some (codes "tag:yaml.org,2002:")) None)) (found tags bang h)
+    ∙ (cases (directive_of tags h) (bytes_eq (codes "!") h) (bytes_eq (codes "!!") h)
+    ∙ (swapped (directive_of tags h) ∙ ap (λ (o : Option (List ℕ)). or_default o h) (r h))))
+  where
+    cases : (o : Option (List ℕ)) (u v : Bool)
+        → or_else (or_else o (cond u (Some (codes "!")) None)) (cond v (Some (codes "tag:yaml.org,2002:")) None)
+        ≡ or_else o (cond u (Some (codes "!")) (cond v (Some (codes "tag:yaml.org,2002:")) None))
+    cases None true v = refl
+    cases None false v = refl
+    cases (Some x) u v = refl
+
+    swapped : (o : Option (List ℕ))
+        → or_else o
+        (cond (bytes_eq (codes "!") h) (Some (codes "!"))
+        (cond (bytes_eq (codes "!!") h) (Some (codes "tag:yaml.org,2002:")) None)) ≡ or_default o h
+    swapped None
+        = ap (λ (u : Bool). cond u (Some (codes "!"))
+        (cond (bytes_eq (codes "!!") h) (Some (codes "tag:yaml.org,2002:")) None))
+        (nat_list_eq_equiv.symm (codes "!") h)
+        ∙ ap (λ (u : Bool). cond (bytes_eq h (codes "!")) (Some (codes "!"))
+        (cond u (Some (codes "tag:yaml.org,2002:")) None))
+        (nat_list_eq_equiv.symm (codes "!!") h)
+    swapped (Some x) = refl

@@ -1,0 +1,184 @@
+-- How the two parsers stand to one another between two calls, and what it is for a call of each to do the same.
+use Rattle.std.proofs.Common.{◌≡◌, ◌∷◌, ℕ, List, [], Option, Some, None, Bool, true, false, Ok, Err}
+use Rattle.std.specs.FinMap.{get}
+use Rattle.libyaml_types.specs.declared.directive.yaml_tag_directive_t.{yaml_tag_directive_t}
+use Rattle.libyaml_types.specs.declared.enums.yaml_parser_state_t.{yaml_parser_state_t}
+use Rattle.libyaml_types.specs.declared.enums.yaml_parser_state_t.TheVariants as st
+use Rattle.libyaml_types.specs.Fault.{Fault}
+use Rattle.libyaml_grammar.specs.sentences.Events.{Event}
+use Rattle.libyaml_grammar.specs.sentences.Sentences.{is_end}
+use Rattle.libyaml_grammar.specs.sentences.Tokens.{Content, DocumentEnd, Mark, Token}
+use Rattle.libyaml_events.specs.machine.Config.{Config, Handles, below, no_handles, top}
+use Rattle.libyaml_events.specs.machine.Machine.{Progressed, or_default, step}
+use Rattle.libyaml_events.specs.machine.Want.{Want, Given, Wants}
+use Rattle.rust_original.specs.parser.Parser.{FAIL, OK, Outcome, Parser, directive_of}
+
+abbrev pub tk : Content → Mark → Mark → Token
+tk k m n = record { content = k; start_mark = m; end_mark = n }
+
+-- a call of this repository's machine, fed with a list of tokens after which the source fails
+pub data HereCall : Type 0 where
+  given : Event → Config → List Token → HereCall
+  stopped : Fault → HereCall
+
+abbrev pub led : Progressed → List Token → (Want → Config → HereCall) → HereCall
+led (Err g) l more = stopped g
+led (Ok (Given e, d)) l more = given e d l
+led (Ok (Wants v, d)) l more = more v d
+
+abbrev pub feed : Fault → Want → Config → List Token → HereCall
+feed f w c [] = stopped f
+feed f w c (t ∷ l) = led (step w c t) l (λ v d. feed f v d l)
+
+abbrev pub fed : Fault → Progressed → List Token → HereCall
+fed f o l = led o l (λ v d. feed f v d l)
+
+abbrev pub tokens_of : Option Token → List Token → List Token
+tokens_of None l = l
+tokens_of (Some t) l = t ∷ l
+
+-- the original's parser with the stacks of a configuration
+abbrev pub there : Fault → List yaml_tag_directive_t → Bool → yaml_parser_state_t → Bool → Config → List Token → Parser
+there f tags flag state ended c l = record {
+  tokens = l;
+  scanner_fault = f;
+  stream_end_produced = ended;
+  state = state;
+  states = c.states;
+  marks = c.marks;
+  tag_directives = tags;
+  behind_explicit_end = flag;
+}
+
+-- within a document, each handle has the same prefix
+abbrev pub Agree : List yaml_tag_directive_t → Handles → Type 0
+Agree tags hs = (h : List ℕ) → directive_of tags h ≡ or_default (get hs h) h
+
+-- where a stack is one of states that a node goes back to, the last of them a document's end
+abbrev pub Below : List yaml_parser_state_t → Type 0
+Below [] = ⊥
+Below (st.YAML_PARSE_DOCUMENT_END_STATE ∷ ss) = Unit {0}
+Below (st.YAML_PARSE_BLOCK_SEQUENCE_ENTRY_STATE ∷ ss) = Below ss
+Below (st.YAML_PARSE_INDENTLESS_SEQUENCE_ENTRY_STATE ∷ ss) = Below ss
+Below (st.YAML_PARSE_BLOCK_MAPPING_KEY_STATE ∷ ss) = Below ss
+Below (st.YAML_PARSE_BLOCK_MAPPING_VALUE_STATE ∷ ss) = Below ss
+Below (st.YAML_PARSE_FLOW_SEQUENCE_ENTRY_STATE ∷ ss) = Below ss
+Below (st.YAML_PARSE_FLOW_SEQUENCE_ENTRY_MAPPING_VALUE_STATE ∷ ss) = Below ss
+Below (st.YAML_PARSE_FLOW_SEQUENCE_ENTRY_MAPPING_END_STATE ∷ ss) = Below ss
+Below (st.YAML_PARSE_FLOW_MAPPING_KEY_STATE ∷ ss) = Below ss
+Below (st.YAML_PARSE_FLOW_MAPPING_VALUE_STATE ∷ ss) = Below ss
+Below (st.YAML_PARSE_FLOW_MAPPING_EMPTY_VALUE_STATE ∷ ss) = Below ss
+Below (_ ∷ ss) = ⊥
+
+-- the states within a document: where a collection's opening token is still to be skipped, and the others
+abbrev pub IsFirst : yaml_parser_state_t → Type 0
+IsFirst st.YAML_PARSE_BLOCK_SEQUENCE_FIRST_ENTRY_STATE = Unit {0}
+IsFirst st.YAML_PARSE_BLOCK_MAPPING_FIRST_KEY_STATE = Unit {0}
+IsFirst st.YAML_PARSE_FLOW_SEQUENCE_FIRST_ENTRY_STATE = Unit {0}
+IsFirst st.YAML_PARSE_FLOW_MAPPING_FIRST_KEY_STATE = Unit {0}
+IsFirst _ = ⊥
+
+abbrev pub IsInside : yaml_parser_state_t → Type 0
+IsInside st.YAML_PARSE_STREAM_START_STATE = ⊥
+IsInside st.YAML_PARSE_IMPLICIT_DOCUMENT_START_STATE = ⊥
+IsInside st.YAML_PARSE_DOCUMENT_START_STATE = ⊥
+IsInside st.YAML_PARSE_DOCUMENT_END_STATE = ⊥
+IsInside st.YAML_PARSE_BLOCK_SEQUENCE_FIRST_ENTRY_STATE = ⊥
+IsInside st.YAML_PARSE_BLOCK_MAPPING_FIRST_KEY_STATE = ⊥
+IsInside st.YAML_PARSE_FLOW_SEQUENCE_FIRST_ENTRY_STATE = ⊥
+IsInside st.YAML_PARSE_FLOW_MAPPING_FIRST_KEY_STATE = ⊥
+IsInside st.YAML_PARSE_END_STATE = ⊥
+IsInside _ = Unit {0}
+
+abbrev pub is_document_end : Content → Bool
+is_document_end DocumentEnd = true
+is_document_end _ = false
+
+-- Both states, the stack, the tag directives and handles, the two flags for an explicit end, the flag for the stream's
+-- end, and the tokens to come.
+pub data Fits (ss : List yaml_parser_state_t) : (here there : yaml_parser_state_t) → List yaml_tag_directive_t → Handles
+    → Bool → Bool → Bool → List Token → Type 0 where
+  before : {l : List Token}
+      → Fits ss st.YAML_PARSE_STREAM_START_STATE st.YAML_PARSE_STREAM_START_STATE [] no_handles false false false l
+  first : {l : List Token}
+      → Fits ss st.YAML_PARSE_IMPLICIT_DOCUMENT_START_STATE st.YAML_PARSE_IMPLICIT_DOCUMENT_START_STATE [] no_handles
+      false false false l
+  behind_end : {l : List Token}
+      → Fits ss st.YAML_PARSE_IMPLICIT_DOCUMENT_START_STATE st.YAML_PARSE_DOCUMENT_START_STATE [] no_handles true true
+      false l
+  behind : {be : Bool} {t : Token} {l : List Token} → is_document_end t.content ≡ false
+      → Fits ss st.YAML_PARSE_DOCUMENT_START_STATE st.YAML_PARSE_DOCUMENT_START_STATE [] no_handles be false false
+      (t ∷ l)
+  root_end : {tags : List yaml_tag_directive_t} {hs : Handles} {be flag : Bool} {l : List Token}
+      → Fits ss st.YAML_PARSE_DOCUMENT_END_STATE st.YAML_PARSE_DOCUMENT_END_STATE tags hs be flag false l
+  entering : {s : yaml_parser_state_t} {tags : List yaml_tag_directive_t} {hs : Handles} {be flag : Bool} {t :
+      Token} {l : List Token} → IsFirst s
+      → Below ss → Agree tags hs → is_end t.content ≡ false → Fits ss s s tags hs be flag false (t ∷ l)
+  inside : {s : yaml_parser_state_t} {tags : List yaml_tag_directive_t} {hs : Handles} {be flag : Bool} {l : List Token}
+      → IsInside s → Below ss → Agree tags hs → Fits ss s s tags hs be flag false l
+  over : {tags : List yaml_tag_directive_t} {hs : Handles} {be flag : Bool} {l : List Token}
+      → Fits ss st.YAML_PARSE_END_STATE st.YAML_PARSE_END_STATE tags hs be flag true l
+
+-- where the key of a flow sequence's pair is due, no token is held
+abbrev pub IsFresh : yaml_parser_state_t → Option Token → Type 0
+IsFresh st.YAML_PARSE_FLOW_SEQUENCE_ENTRY_MAPPING_KEY_STATE (Some t) = ⊥
+IsFresh _ o = Unit {0}
+
+pub record Stands (f : Fault) (q : Parser) (d : Config) (l : List Token) : Type 0 where
+  pub tags : List yaml_tag_directive_t
+  pub flag : Bool
+  pub state : yaml_parser_state_t
+  pub ended : Bool
+  pub is : q ≡ there f tags flag state ended d (tokens_of d.lookahead l)
+  pub fits : Fits d.states d.state state tags d.handles d.behind_document_end flag ended (tokens_of d.lookahead l)
+  pub fresh : IsFresh d.state d.lookahead
+
+-- the parsers stand so, with what the original's fields say
+pub standing : {f : Fault} {q : Parser} {d : Config} {l : List Token} {tags : List yaml_tag_directive_t} {flag ended :
+    Bool}
+    {state : yaml_parser_state_t} → q ≡ there f tags flag state ended d (tokens_of d.lookahead l)
+    → Fits d.states d.state state tags d.handles d.behind_document_end flag ended (tokens_of d.lookahead l)
+    → IsFresh d.state d.lookahead → Stands f q d l
+standing {tags} {flag} {ended} {state} i fits fresh
+    = record { tags = tags; flag = flag; state = state; ended = ended; is = i; fits = fits; fresh = fresh }
+
+-- the same event, and parsers that stand so again; or the same fault
+abbrev pub Matches : Fault → Outcome → HereCall → Type 0
+Matches f (OK e q) (given x d l) = (e ≡ x) × Stands f q d l
+Matches f (OK e q) (stopped h) = ⊥
+Matches f (FAIL g) (given x d l) = ⊥
+Matches f (FAIL g) (stopped h) = g ≡ h
+
+-- the parser goes back to a state from the stack
+pub popped_fits :
+    (ss : List yaml_parser_state_t) {tags : List yaml_tag_directive_t} {hs : Handles} {be flag : Bool} {l : List Token}
+    → Below ss → Agree tags hs → Fits (below ss) (top ss) (top ss) tags hs be flag false l
+popped_fits [] b a = absurd b
+popped_fits (st.YAML_PARSE_DOCUMENT_END_STATE ∷ ss) b a = root_end
+popped_fits (st.YAML_PARSE_BLOCK_SEQUENCE_ENTRY_STATE ∷ ss) b a = inside tt b a
+popped_fits (st.YAML_PARSE_INDENTLESS_SEQUENCE_ENTRY_STATE ∷ ss) b a = inside tt b a
+popped_fits (st.YAML_PARSE_BLOCK_MAPPING_KEY_STATE ∷ ss) b a = inside tt b a
+popped_fits (st.YAML_PARSE_BLOCK_MAPPING_VALUE_STATE ∷ ss) b a = inside tt b a
+popped_fits (st.YAML_PARSE_FLOW_SEQUENCE_ENTRY_STATE ∷ ss) b a = inside tt b a
+popped_fits (st.YAML_PARSE_FLOW_SEQUENCE_ENTRY_MAPPING_VALUE_STATE ∷ ss) b a = inside tt b a
+popped_fits (st.YAML_PARSE_FLOW_SEQUENCE_ENTRY_MAPPING_END_STATE ∷ ss) b a = inside tt b a
+popped_fits (st.YAML_PARSE_FLOW_MAPPING_KEY_STATE ∷ ss) b a = inside tt b a
+popped_fits (st.YAML_PARSE_FLOW_MAPPING_VALUE_STATE ∷ ss) b a = inside tt b a
+popped_fits (st.YAML_PARSE_FLOW_MAPPING_EMPTY_VALUE_STATE ∷ ss) b a = inside tt b a
+popped_fits (_ ∷ ss) b a = absurd b
+
+-- no such state is on the stack
+pub popped_fresh : (ss : List yaml_parser_state_t) (o : Option Token) → Below ss → IsFresh (top ss) o
+popped_fresh [] o b = absurd b
+popped_fresh (st.YAML_PARSE_DOCUMENT_END_STATE ∷ ss) o b = tt
+popped_fresh (st.YAML_PARSE_BLOCK_SEQUENCE_ENTRY_STATE ∷ ss) o b = tt
+popped_fresh (st.YAML_PARSE_INDENTLESS_SEQUENCE_ENTRY_STATE ∷ ss) o b = tt
+popped_fresh (st.YAML_PARSE_BLOCK_MAPPING_KEY_STATE ∷ ss) o b = tt
+popped_fresh (st.YAML_PARSE_BLOCK_MAPPING_VALUE_STATE ∷ ss) o b = tt
+popped_fresh (st.YAML_PARSE_FLOW_SEQUENCE_ENTRY_STATE ∷ ss) o b = tt
+popped_fresh (st.YAML_PARSE_FLOW_SEQUENCE_ENTRY_MAPPING_VALUE_STATE ∷ ss) o b = tt
+popped_fresh (st.YAML_PARSE_FLOW_SEQUENCE_ENTRY_MAPPING_END_STATE ∷ ss) o b = tt
+popped_fresh (st.YAML_PARSE_FLOW_MAPPING_KEY_STATE ∷ ss) o b = tt
+popped_fresh (st.YAML_PARSE_FLOW_MAPPING_VALUE_STATE ∷ ss) o b = tt
+popped_fresh (st.YAML_PARSE_FLOW_MAPPING_EMPTY_VALUE_STATE ∷ ss) o b = tt
+popped_fresh (_ ∷ ss) o b = absurd b

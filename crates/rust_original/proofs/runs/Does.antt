@@ -1,0 +1,63 @@
+-- What our machine does in a call, of a list that it is handed token by token and then a fault.
+use Rattle.std.proofs.Common.{◌≡◌, ◌∷◌, ◌++◌, List, [], Option, Some, None, Ok, Err, false, append-nil, append_assoc}
+use Rattle.std.proofs.Common.{refl, sym, subst, ◌∙◌}
+use Rattle.libyaml_types.specs.Fault.{Fault}
+use Rattle.libyaml_grammar.specs.runs.Runs.{Fails, IsRun}
+use Rattle.libyaml_grammar.specs.sentences.Events.{Event}
+use Rattle.libyaml_grammar.specs.sentences.Tokens.{Token}
+use Rattle.libyaml_events.specs.machine.Config.{Config, ended_or_failed, taken}
+use Rattle.libyaml_events.specs.machine.Machine.{Progressed, step}
+use Rattle.libyaml_events.specs.machine.Want.{AtState, Given, Want, Wants}
+use Rattle.libyaml_events.specs.sources.History.{is_stream_end}
+use Rattle.libyaml_events.specs.sources.Pushed.{Fed, standing}
+use Rattle.libyaml_events.specs.sources.Pushed as pushed
+use Rattle.rust_original.proofs.parser.Relation.{HereCall, feed, given, led, stopped, tokens_of}
+use Rattle.rust_original.proofs.runs.Laws.{Laws}
+
+module _ (law : Laws) (f : Fault) where
+  -- From where it was handed l and gave g it takes some of the tokens and gives an event, or has the run's fault.
+  pub data Does (l : List Token) (g : List Event) (rest : List Token) : HereCall → Type 0 where
+    gives : {e : Event} {d : Config} {r : List Token} (more : List Token) → rest ≡ more ++ r
+        → Fed AtState (taken d) d.lookahead (l ++ more) (g ++ e ∷ []) → ended_or_failed d ≡ is_stream_end e
+        → Does l g rest (given e d r)
+    fails : {x : Fault} → IsRun (l ++ rest) f g (Fails x) → Does l g rest (stopped x)
+
+  one_more : {l rest : List Token} {g : List Event} (t : Token) {o : HereCall} → Does (l ++ t ∷ []) g rest o
+      → Does l g (t ∷ rest) o
+  one_more {l} {rest} {g} t (gives {e} {d} more i h n)
+      = gives (t ∷ more) (cc)
+      (subst (λ (y : List Token). Fed AtState (taken d) d.lookahead y (g ++ e ∷ [])) (append_assoc l (t ∷ []) more) h) n
+  one_more {l} {rest} {g} t (fails {x} run)
+      = fails (subst (λ (y : List Token). IsRun y f g (Fails x)) (append_assoc l (t ∷ []) rest) run)
+
+  abbrev DoesFrom : List Token → Type 0
+  DoesFrom rest = (w : Want) (c : Config) (l : List Token) (g : List Event) → Fed w c None l g
+      → ended_or_failed c ≡ false → Does l g rest (feed f w c rest)
+
+  -- with a token in hand
+  by_hand : (rest : List Token) → DoesFrom rest → (w : Want) (c : Config) (u : Token) (l : List Token) (g : List Event)
+      → Fed w c (Some u) l g → Does l g rest (led (step w c u) rest (λ v d. feed f v d rest))
+  by_hand rest next w c u l g h = go (step w c u) refl
+    where
+      go : (o : Progressed) → step w c u ≡ o → Does l g rest (led o rest (λ v d. feed f v d rest))
+      go (Err x) i = fails (law.fails w c u l g x h i rest f)
+      go (Ok (Wants v, d)) i = next v d l g (pushed.wants w c u h i) (law.wants w v c d u l g h i)
+      go (Ok (Given e, d)) i
+          = gives [] refl (pushed.gives w c u g e d
+          (subst (λ (y : List Token). Fed w c (Some u) y g) (sym (append-nil l)) h)
+          i refl refl refl) (law.gives w c d u l g e h i)
+
+  by_tokens : (rest : List Token) → DoesFrom rest
+  by_tokens [] w c l g h n = fails (subst (λ (y : List Token). IsRun y f g (Fails f)) (sym (append-nil l))
+      (law.run_so_far (standing w c) l g h (sym (law.ended (standing w c) l g h) ∙ n) f))
+  by_tokens (t ∷ rest) w c l g h n
+      = one_more t (by_hand rest (by_tokens rest) w c t (l ++ t ∷ []) g (pushed.takes w c l g t h n refl))
+
+  pub does : (d : Config) (rest l : List Token) (g : List Event) → Fed AtState (taken d) d.lookahead l g
+      → ended_or_failed d ≡ false → Does l g rest (feed f AtState (taken d) (tokens_of d.lookahead rest))
+  does d rest l g h n = go d.lookahead h
+    where
+      go : (o : Option Token) → Fed AtState (taken d) o l g
+          → Does l g rest (feed f AtState (taken d) (tokens_of o rest))
+      go None h = by_tokens rest AtState (taken d) l g h n
+      go (Some u) h = by_hand rest (by_tokens rest) AtState (taken d) u l g h

@@ -1,0 +1,44 @@
+-- Events that nest to the end have the stream end event, and so a run that fails has none that do.
+use Rattle.std.proofs.Common.{◌≡◌, ◌∷◌, List, [], true, false, refl, subst}
+use Rattle.libyaml_types.specs.Fault.{Fault}
+use Rattle.libyaml_types.specs.declared.event.unnamed_yaml_event_t_data.TheVariants as ev
+use Rattle.libyaml_grammar.specs.runs.Runs.{Ending, Ends, Fails}
+use Rattle.libyaml_grammar.specs.sentences.Events.{Event, document_end_at, end_at as end_event, event, stream_end_at}
+use Rattle.libyaml_grammar.specs.sentences.Nesting.{IsNested, Texts, Value, Values, alias_value, collection_value}
+use Rattle.libyaml_grammar.specs.sentences.Nesting.{first_value, no_texts, no_values, scalar_value, text_behind}
+use Rattle.libyaml_grammar.specs.sentences.Nesting.{texts_events, value_events, values_events}
+use Rattle.libyaml_grammar.specs.sentences.Trees.{mapping, sequence}
+use Rattle.libyaml_events.specs.sources.History.{is_stream_end}
+
+-- none of these is the stream's end
+abbrev pub NoEnd : List Event → Type 0
+NoEnd [] = Unit {0}
+NoEnd (e ∷ l) = (is_stream_end e ≡ false) × NoEnd l
+
+mutual
+  behind_value : (v : Value) (r : List Event) → NoEnd (value_events v r) → NoEnd r
+  behind_value (alias_value a m n) r h = h.1
+  behind_value (scalar_value s m n) r h = h.1
+  behind_value (collection_value sequence a t i s m n vs p q) r h
+      = (behind_values vs (end_event sequence p q ∷ r) h.1).1
+  behind_value (collection_value mapping a t i s m n vs p q) r h = (behind_values vs (end_event mapping p q ∷ r) h.1).1
+
+  behind_values : (vs : Values) (r : List Event) → NoEnd (values_events vs r) → NoEnd r
+  behind_values no_values r h = h
+  behind_values (first_value v vs) r h = behind_values vs r (behind_value v (values_events vs r) h)
+
+behind_texts : (ts : Texts) (r : List Event) → NoEnd (texts_events ts r) → NoEnd r
+behind_texts no_texts r h = h
+behind_texts (text_behind ts d m n v i p q) r h
+    = (behind_value v (document_end_at i p q ∷ r)
+    (behind_texts ts (event (ev.DocumentStart d) m n ∷ value_events v (document_end_at i p q ∷ r)) h).1).1
+
+unended : (e : List Event) → NoEnd e → IsNested e → ⊥
+unended e n h = no_end (behind_texts h.texts (stream_end_at h.end h.end_end ∷ []) (subst NoEnd h.all n).1).0
+  where
+    no_end : true ≡ false → ⊥
+    no_end k = cc
+
+pub ends_whole : (e : List Event) (x : Ending) → ((g : Fault) → x ≡ Fails g → NoEnd e) → IsNested e → x ≡ Ends
+ends_whole e Ends n h = refl
+ends_whole e (Fails g) n h = absurd (unended e (n g refl) h)

@@ -1,0 +1,262 @@
+-- Over every list there is a run: with each call a number falls.
+use Rattle.std.proofs.Common.{◌≡◌, ◌≤◌, ◌<◌, ◌+◌, ◌*◌, ◌∷◌, ◌++◌, ◌⊎◌, ◌||◌, ℕ, zero, suc, arith, inl, inr, List, []}
+use Rattle.std.proofs.Common.{length, Option, Some, None, Bool, true, false, Ok, refl, sym, ap, ◌∙◌, subst}
+use Rattle.std.proofs.Common.{append-nil, append_assoc}
+use Rattle.std.proofs.lemmas.List.{length-append}
+use Rattle.libyaml_types.specs.declared.directive.yaml_tag_directive_t.{yaml_tag_directive_t}
+use Rattle.libyaml_types.specs.declared.enums.yaml_parser_state_t.{yaml_parser_state_t}
+use Rattle.libyaml_types.specs.declared.enums.yaml_parser_state_t.TheVariants as st
+use Rattle.libyaml_types.specs.declared.enums.yaml_scalar_style_t.TheVariants.{YAML_PLAIN_SCALAR_STYLE}
+use Rattle.libyaml_types.specs.declared.enums.yaml_token_type_t.TheVariants as ty
+use Rattle.libyaml_types.specs.Fault.{Fault}
+use Rattle.libyaml_grammar.specs.runs.Runs.{Ending, Ends, Fails, IsRun}
+use Rattle.libyaml_grammar.specs.sentences.Events.{Event, event}
+use Rattle.libyaml_grammar.specs.sentences.Nesting.{NestsSoFar}
+use Rattle.libyaml_grammar.specs.sentences.Tokens.{Content, Mark, Scalar, StreamEnd, Token}
+use Rattle.libyaml_events.specs.machine.Config.{Config, Handles, ended_or_failed, is_end_state, is_fault, start}
+use Rattle.libyaml_events.specs.machine.Config.{taken}
+use Rattle.libyaml_events.specs.machine.Machine.{step}
+use Rattle.libyaml_events.specs.machine.Want.{AtState, Given}
+use Rattle.libyaml_events.specs.sources.History.{is_stream_end}
+use Rattle.libyaml_events.specs.sources.Pushed.{Fed, standing as between_tokens}
+use Rattle.libyaml_events.specs.sources.Pushed as pushed
+use Rattle.rust_original.specs.parser.Differences.{Differs, bare_document, call_here, pair_key, value_first}
+use Rattle.rust_original.specs.parser.Parser.{FAIL, Mends, OK, Outcome, Parser, SKIP_TOKEN, is_one_of, scalar_event}
+use Rattle.rust_original.specs.parser.Parser.{set_state}
+use Rattle.rust_original.specs.parser.Runs.{Runs, call, ends, fails, goes_on, new_parser}
+use Rattle.rust_original.proofs.parser.Calls.{call_same, flagged}
+use Rattle.rust_original.proofs.parser.Relation.{standing, Agree, Below, Fits, HereCall, IsFirst, IsFresh, Matches}
+use Rattle.rust_original.proofs.parser.Relation.{Stands, before, behind, behind_end, entering, first, inside, over}
+use Rattle.rust_original.proofs.parser.Relation.{root_end, there, tk, tokens_of}
+use Rattle.rust_original.proofs.runs.Does as does
+use Rattle.rust_original.proofs.runs.Does.{Does}
+use Rattle.rust_original.proofs.runs.Ended.{NoEnd}
+use Rattle.rust_original.proofs.runs.Laws.{Laws}
+
+-- where the key of a flow sequence's pair is due: an empty scalar that stands at the end of the token that the
+-- original skips
+abbrev behind_pair_key : Config → Config
+behind_pair_key c = record c { lookahead = None; state = st.YAML_PARSE_FLOW_SEQUENCE_ENTRY_MAPPING_VALUE_STATE }
+
+abbrev empty_token : Mark → Token
+empty_token n = tk (Scalar (record { value = []; style = YAML_PLAIN_SCALAR_STYLE })) n n
+
+abbrev empty_at : Mark → Event
+empty_at n = event (scalar_event None None [] true false YAML_PLAIN_SCALAR_STYLE) n n
+
+empty_step : (n : Mark) (c : Config) → c.state ≡ st.YAML_PARSE_FLOW_SEQUENCE_ENTRY_MAPPING_KEY_STATE
+    → step AtState (taken c) (empty_token n) ≡ Ok (Given (empty_at n), behind_pair_key c)
+empty_step n c i = subst (λ (s : yaml_parser_state_t).
+    step AtState (taken (record c { state = s })) (empty_token n) ≡ Ok (Given (empty_at n), behind_pair_key c)) (sym i) refl
+
+not_both : {b : Bool} → b ≡ false → b ≡ true → ⊥
+not_both e h = no (sym e ∙ h)
+  where
+    no : false ≡ true → ⊥
+    no k = cc
+
+not_over : (c : Config) → ended_or_failed c ≡ false → is_end_state c.state ≡ false
+not_over c e = go (is_fault c.fault.error) e
+  where
+    go : (u : Bool) → u || is_end_state c.state ≡ false → is_end_state c.state ≡ false
+    go true h = absurd cc
+    go false h = h
+
+-- where they part: after the KEY of a pair the original goes on, elsewhere it fails
+pair_stands : {ss : List yaml_parser_state_t} {s s' : yaml_parser_state_t} {tags : List yaml_tag_directive_t} {hs :
+    Handles} {be flag ended : Bool}
+    {l : List Token} → Fits ss s s' tags hs be flag ended l → s' ≡ st.YAML_PARSE_FLOW_SEQUENCE_ENTRY_MAPPING_KEY_STATE
+    → Below ss × Agree tags hs × (s ≡ st.YAML_PARSE_FLOW_SEQUENCE_ENTRY_MAPPING_KEY_STATE)
+pair_stands before e = absurd cc
+pair_stands first e = absurd cc
+pair_stands behind_end e = absurd cc
+pair_stands (behind i) e = absurd cc
+pair_stands root_end e = absurd cc
+pair_stands (entering i b a n) e = absurd (subst IsFirst e i)
+pair_stands (inside i b a) e = (b, a, e)
+pair_stands over e = absurd cc
+
+fresh_none : (s : yaml_parser_state_t) (o : Option Token) → s ≡ st.YAML_PARSE_FLOW_SEQUENCE_ENTRY_MAPPING_KEY_STATE
+    → IsFresh s o → o ≡ None
+fresh_none s None e h = refl
+fresh_none s (Some t) e h = absurd (subst (λ (x : yaml_parser_state_t). IsFresh x (Some t)) e h)
+
+no_end : (k : Content) (m n : Mark)
+    → is_one_of (tk k m n) (ty.YAML_VALUE_TOKEN ∷ ty.YAML_FLOW_ENTRY_TOKEN ∷ ty.YAML_FLOW_SEQUENCE_END_TOKEN ∷ []) ≡
+    true
+    → is_one_of (tk k m n) (ty.YAML_STREAM_END_TOKEN ∷ []) ≡ false
+no_end StreamEnd m n e = absurd cc
+no_end k m n e = refl
+
+-- The parser with the mends m; it may differ from the one with all three where b is true.
+module _ (law : Laws) (f : Fault) (m : Mends) (b : Bool)
+    (places : (p : Parser) → (call m p ≡ call_here p) ⊎ ((b ≡ true) × Differs p (call m p) (call_here p))) (most : ℕ) where
+  -- it stands beside our machine, which was handed l and gave g, with no more tokens than there are
+  record Along (q : Parser) (d : Config) (rest l : List Token) (g : List Event) : Type 0 where
+    stands : Stands f q d rest
+    fed : Fed AtState (taken d) d.lookahead l g
+    few : length l + length rest ≤ most
+
+  pub record HasRun (q : Parser) (all : List Token) (g : List Event) : Type 0 where
+    pub events : List Event
+    pub ending : Ending
+    pub runs : Runs m q events ending
+    pub nests : NestsSoFar (g ++ events)
+    pub unended : (x : Fault) → ending ≡ Fails x → NoEnd events
+    pub run : b ≡ false → IsRun all f (g ++ events) ending
+
+  abbrev Next : ℕ → Type 0
+  Next n = (q : Parser) (d : Config) (rest l : List Token) (g : List Event) → Along q d rest l g
+      → 4 * most < n + length g → q.stream_end_produced ≡ false → HasRun q (l ++ rest) g
+
+  over_flag : (q : Parser) (d : Config) (rest l : List Token) (g : List Event) → Along q d rest l g
+      → ended_or_failed d ≡ q.stream_end_produced
+  over_flag q d rest l g a
+      = ap (λ (u : Bool). u || is_end_state d.state) (law.faultless AtState (taken d) d.lookahead l g a.fed)
+      ∙ (sym (flagged a.stands.fits) ∙ ap (λ (p : Parser). p.stream_end_produced) (sym a.stands.is))
+
+  failed_here : (q : Parser) (d : Config) (rest l : List Token) (g : List Event) → Along q d rest l g → (x : Fault)
+      → call m q ≡ FAIL x → (b ≡ false → IsRun (l ++ rest) f g (Fails x)) → HasRun q (l ++ rest) g
+  failed_here q d rest l g a x i run = record {
+    events = [];
+    ending = Fails x;
+    runs = fails i;
+    nests = subst NestsSoFar (sym (append-nil g)) (law.nests AtState (taken d) d.lookahead l g a.fed);
+    unended = λ y j. tt;
+    run = λ j. subst (λ (y : List Event). IsRun (l ++ rest) f y (Fails x)) (sym (append-nil g)) (run j);
+  }
+
+  -- after an event
+  behind_event : (n : ℕ) (q p : Parser) (e : Event) (d : Config) (rest l all : List Token) (g : List Event)
+      → call m q ≡ OK e p → Along p d rest l (g ++ e ∷ []) → ended_or_failed d ≡ is_stream_end e
+      → (b ≡ false → all ≡ l ++ rest) → 4 * most < suc n + length g → Next n → HasRun q all g
+  behind_event n q p e d rest l all g i a ends_so same less next = go p.stream_end_produced refl
+    where
+      none : (o : Option Token) → Fed AtState (taken d) o l (g ++ e ∷ []) → ended_or_failed d ≡ true
+          → Fed AtState (taken d) None l (g ++ e ∷ [])
+      none None h j = h
+      none (Some u) h j = absurd (not_both (law.in_hand AtState (taken d) u l (g ++ e ∷ []) h) j)
+
+      whole : p.stream_end_produced ≡ true → IsRun (l ++ rest) f (g ++ e ∷ []) Ends
+      whole k =
+          let j = over_flag p d rest l (g ++ e ∷ []) a ∙ k in
+          let h = none d.lookahead a.fed j in
+          law.run (between_tokens AtState (taken d)) l (g ++ e ∷ []) h
+          (sym (law.ended (between_tokens AtState (taken d)) l (g ++ e ∷ []) h) ∙ j) rest f
+
+      go : (u : Bool) → p.stream_end_produced ≡ u → HasRun q all g
+      go true k = record {
+        events = e ∷ [];
+        ending = Ends;
+        runs = ends i k;
+        nests = law.nests AtState (taken d) d.lookahead l (g ++ e ∷ []) a.fed;
+        unended = λ x j. absurd (never x j);
+        run = λ j. subst (λ (y : List Token). IsRun y f (g ++ e ∷ []) Ends) (sym (same j)) (whole k);
+      }
+        where
+          never : (x : Fault) → Ends ≡ Fails x → ⊥
+          never x j = cc
+      go false k =
+          let longer : length (g ++ e ∷ []) ≡ length g + 1 = length-append g (e ∷ []) in
+          let h = next p d rest l (g ++ e ∷ []) a (omega arith) k in
+          record {
+            events = e ∷ h.events;
+            ending = h.ending;
+            runs = goes_on i k h.runs;
+            nests = subst NestsSoFar (append_assoc g (e ∷ []) h.events) h.nests;
+            unended = λ x j. (sym ends_so ∙ (over_flag p d rest l (g ++ e ∷ []) a ∙ k), h.unended x j);
+            run = λ j. subst (λ (y : List Token). IsRun y f (g ++ e ∷ h.events) h.ending) (sym (same j))
+                (subst (λ (y : List Event). IsRun (l ++ rest) f y h.ending) (append_assoc g (e ∷ []) h.events) (h.run j));
+          }
+
+  -- where both do the same
+  alike : (n : ℕ) (q : Parser) (d : Config) (rest l : List Token) (g : List Event) → Along q d rest l g
+      → 4 * most < suc n + length g → ended_or_failed d ≡ false → Next n → call m q ≡ call_here q
+      → HasRun q (l ++ rest) g
+  alike n q d rest l g a less begun next same
+      = go (call_here q) refl (does.does law f d rest l g a.fed begun) (call_same f q d rest a.stands (not_over d begun))
+    where
+      go : (o : Outcome) → call_here q ≡ o → {z : HereCall} → Does law f l g rest z → Matches f o z
+          → HasRun q (l ++ rest) g
+      go (OK e p) i (does.gives {e = y} {d = x} {r} more j fed ends_so) w =
+          let parts : l ++ rest ≡ (l ++ more) ++ r
+          = ap (λ (z : List Token). l ++ z) j ∙ sym (append_assoc l more r) in
+          let few : length (l ++ more) + length r ≤ most = fewer (l ++ more) r parts in
+          behind_event n q p y x r (l ++ more) (l ++ rest) g (same ∙ (i ∙ ap (λ (z : Event). OK z p) w.0))
+          (record { stands = w.1; fed = fed; few = few }) ends_so (λ k. parts) less next
+        where
+          fewer : (a' r' : List Token) → l ++ rest ≡ a' ++ r' → length a' + length r' ≤ most
+          fewer a' r' k =
+              let s : length (l ++ rest) ≡ length (a' ++ r') = ap length k in
+              let t : length (l ++ rest) ≡ length l + length rest = length-append l rest in
+              let v : length (a' ++ r') ≡ length a' + length r' = length-append a' r' in
+              let few = a.few in omega arith
+      go (OK e p) i (does.fails run) w = absurd w
+      go (FAIL x) i (does.gives more j fed ends_so) w = absurd w
+      go (FAIL x) i (does.fails {x = y} run) w
+          = failed_here q d rest l g a x (same ∙ i)
+          (λ k. subst (λ (z : Fault). IsRun (l ++ rest) f g (Fails z)) (sym w) run)
+
+  -- where they part
+  parted : (n : ℕ) (q : Parser) (d : Config) (rest l : List Token) (g : List Event) → Along q d rest l g
+      → 4 * most < suc n + length g → ended_or_failed d ≡ false → Next n → b ≡ true
+      → {o u : Outcome} → Differs q o u → call m q ≡ o → HasRun q (l ++ rest) g
+  parted n q d rest l g a less begun next may (value_first p t k due e i) c
+      = failed_here q d rest l g a _ c (λ j. absurd (not_both j may))
+  parted n q d rest l g a less begun next may (bare_document p t k s e i h j) c
+      = failed_here q d rest l g a _ c (λ v. absurd (not_both v may))
+  parted n q d rest l g a less begun next may (pair_key t k s e i) c =
+      let fits = pair_stands a.stands.fits (sym (ap (λ (p : Parser). p.state) a.stands.is) ∙ s) in
+      let none = fresh_none d.state d.lookahead fits.2 a.stands.fresh in
+      let tokens : tokens_of d.lookahead rest ≡ t ∷ k = sym (ap (λ (p : Parser). p.tokens) a.stands.is) ∙ e in
+      let left : rest ≡ t ∷ k = ap (λ (o : Option Token). tokens_of o rest) (sym none) ∙ tokens in
+      let hand : Fed AtState (taken d) (Some (empty_token t.end_mark)) (l ++ empty_token t.end_mark ∷ []) g
+      = pushed.takes AtState (taken d) l g (empty_token t.end_mark)
+      (subst (λ (o : Option Token). Fed AtState (taken d) o l g) none a.fed) begun refl in
+      let led = empty_step t.end_mark d fits.2 in
+      let one : length (l ++ empty_token t.end_mark ∷ []) ≡ length l + 1 = length-append l (empty_token t.end_mark ∷ []) in
+      let gone : length rest ≡ suc (length k) = ap length left in
+      let few = a.few in
+      behind_event n q (set_state st.YAML_PARSE_FLOW_SEQUENCE_ENTRY_MAPPING_VALUE_STATE (SKIP_TOKEN q))
+      (empty_at t.end_mark) (behind_pair_key d) k (l ++ empty_token t.end_mark ∷ []) (l ++ rest) g c (record {
+        stands = record {
+          tags = a.stands.tags;
+          flag = a.stands.flag;
+          state = st.YAML_PARSE_FLOW_SEQUENCE_ENTRY_MAPPING_VALUE_STATE;
+          ended = false;
+          is = ap goes a.stands.is ∙
+              (ap (λ (y : List Token). goes (there f a.stands.tags a.stands.flag a.stands.state a.stands.ended d y))
+              tokens
+              ∙ ap (λ (u : Bool). there f a.stands.tags a.stands.flag
+              st.YAML_PARSE_FLOW_SEQUENCE_ENTRY_MAPPING_VALUE_STATE u (behind_pair_key d) k)
+              (no_end t.content t.start_mark t.end_mark i));
+          fits = inside tt fits.0 fits.1;
+          fresh = tt;
+        };
+        fed = pushed.gives AtState (taken d) (empty_token t.end_mark) g (empty_at t.end_mark) (behind_pair_key d) hand led
+            refl refl refl;
+        few = omega arith;
+      })
+      (law.gives AtState (taken d) (behind_pair_key d) (empty_token t.end_mark) (l ++ empty_token t.end_mark ∷ []) g
+      (empty_at t.end_mark) hand led) (λ j. absurd (not_both j may)) less next
+    where
+      goes : Parser → Parser
+      goes p = set_state st.YAML_PARSE_FLOW_SEQUENCE_ENTRY_MAPPING_VALUE_STATE (SKIP_TOKEN p)
+
+  total : (n : ℕ) → Next n
+  total zero q d rest l g a less k =
+      let i = law.at_most_four AtState (taken d) d.lookahead l g a.fed in let few = a.few in absurd (omega arith)
+  total (suc n) q d rest l g a less k = go (places q) (λ p x r v h. total n p x r v h)
+    where
+      begun : ended_or_failed d ≡ false
+      begun = over_flag q d rest l g a ∙ k
+
+      go : (call m q ≡ call_here q) ⊎ ((b ≡ true) × Differs q (call m q) (call_here q)) → Next n → HasRun q (l ++ rest) g
+      go (inl i) next = alike n q d rest l g a less begun next i
+      go (inr (may, i)) next = parted n q d rest l g a less begun next may i refl
+
+pub has_run : (law : Laws) (f : Fault) (m : Mends) (b : Bool)
+    → (places : (p : Parser) → (call m p ≡ call_here p) ⊎ ((b ≡ true) × Differs p (call m p) (call_here p)))
+    → (l : List Token) → HasRun law f m b places (length l) (new_parser l f) l []
+has_run law f m b places l = total law f m b places (length l) (suc (4 * length l)) (new_parser l f) start l [] []
+    (record { stands = standing refl before tt; fed = pushed.begins; few = omega arith }) (omega arith) refl

@@ -1,0 +1,67 @@
+-- Whole runs of the Rust crate's parser over a list of tokens: its events, and how it ends.
+use Rattle.std.specs.Prelude.{◌≡◌, ◌∷◌, ◌+◌, ◌*◌, ℕ, zero, suc, List, [], length, map}
+use Rattle.std.specs.Prelude.{Option, Some, None, true, false}
+use Rattle.libyaml_types.specs.declared.enums.yaml_parser_state_t.TheVariants as st
+use Rattle.libyaml_types.specs.Fault.{Fault, no_fault}
+use Rattle.libyaml_grammar.specs.sentences.Events.{Event}
+use Rattle.libyaml_grammar.specs.sentences.Tokens.{Token}
+use Rattle.libyaml_grammar.specs.runs.Runs.{Ending, Ends, Fails}
+use Rattle.rust_original.specs.parser.Parser.{FAIL, Mends, OK, Outcome, Parser, yaml_parser_parse}
+use Rattle.rust_original.specs.parser.Texts.{as_held}
+
+-- A parser before its first call.
+abbrev pub new_parser : List Token → Fault → Parser
+new_parser tokens scanner_fault = record {
+  tokens = tokens;
+  scanner_fault = scanner_fault;
+  stream_end_produced = false;
+  state = st.YAML_PARSE_STREAM_START_STATE;
+  states = [];
+  marks = [];
+  tag_directives = [];
+  behind_explicit_end = false;
+}
+
+-- The parser as it is there, and with the three mends.
+abbrev pub as_there : Mends
+as_there = record { pair_key_stays = false; value_begins_entry = false; bare_document_behind_end = false }
+
+abbrev pub as_here : Mends
+as_here = record { pair_key_stays = true; value_begins_entry = true; bare_document_behind_end = true }
+
+-- A call of a parser that keeps no fault.
+abbrev pub call : Mends → Parser → Outcome
+call mends p = yaml_parser_parse mends no_fault p
+
+-- Calls in turn, up to the stream end event or a fault.
+pub data Runs (mends : Mends) : Parser → List Event → Ending → Type 0 where
+  ends : {p : Parser} {e : Event} {q : Parser} → call mends p ≡ OK e q → q.stream_end_produced ≡ true
+      → Runs mends p (e ∷ []) Ends
+  goes_on : {p : Parser} {e : Event} {q : Parser} {later : List Event} {x : Ending} → call mends p ≡ OK e q
+      → q.stream_end_produced ≡ false → Runs mends q later x → Runs mends p (e ∷ later) x
+  fails : {p : Parser} {f : Fault} → call mends p ≡ FAIL f → Runs mends p [] (Fails f)
+
+-- The run of the Rust crate over a list, whose texts are held as there.
+abbrev pub RunsThere : List Token → Fault → List Event → Ending → Type 0
+RunsThere l f e x = Runs as_there (new_parser (map as_held l) f) e x
+
+-- The same by computation, within so many calls.
+abbrev pub run_within : Mends → ℕ → Parser → List Event × Option Ending
+run_within mends zero p = ([], None)
+run_within mends (suc n) p = elim (call mends p) [
+  | FAIL f ↦ ([], Some (Fails f))
+  | OK e q ↦ elim q.stream_end_produced [
+    | true ↦ (e ∷ [], Some Ends)
+    | false ↦ let (later, x) = run_within mends n q in (e ∷ later, x)
+  ]
+]
+
+-- Of each token come at most four events.
+abbrev pub enough_calls : List Token → ℕ
+enough_calls l = 4 * length l + 1
+
+abbrev pub run_there : List Token → Fault → List Event × Option Ending
+run_there l f = run_within as_there (enough_calls l) (new_parser (map as_held l) f)
+
+abbrev pub run_here : List Token → Fault → List Event × Option Ending
+run_here l f = run_within as_here (enough_calls l) (new_parser l f)

@@ -1,0 +1,45 @@
+-- Worked rows where both parsers do the same, at places that the lists in examples do not reach, in the notation of
+-- Notation.
+use Rattle.std.specs.Prelude.{◌≡◌, ◌∷◌, List, [], codes, Err}
+use Rattle.libyaml_types.specs.declared.event.unnamed_yaml_event_t_data.TheVariants as ev
+use Rattle.libyaml_types.specs.declared.token.unnamed_yaml_token_t_data.TheVariants.{BlockEnd, BlockEntry}
+use Rattle.libyaml_types.specs.declared.token.unnamed_yaml_token_t_data.TheVariants.{BlockMappingStart}
+use Rattle.libyaml_types.specs.declared.token.unnamed_yaml_token_t_data.TheVariants.{BlockSequenceStart}
+use Rattle.libyaml_types.specs.declared.token.unnamed_yaml_token_t_data.TheVariants.{FlowEntry}
+use Rattle.libyaml_types.specs.declared.token.unnamed_yaml_token_t_data.TheVariants.{FlowSequenceEnd}
+use Rattle.libyaml_types.specs.declared.token.unnamed_yaml_token_t_data.TheVariants.{FlowSequenceStart, Key}
+use Rattle.libyaml_types.specs.declared.token.unnamed_yaml_token_t_data.TheVariants.{StreamEnd}
+use Rattle.libyaml_grammar.specs.rows.RowNotation.{SCALAR, STREAM, at, flow_mapping, flow_sequence, list, mapping}
+use Rattle.libyaml_grammar.specs.rows.RowNotation.{nothing, sequence, text}
+use Rattle.libyaml_grammar.specs.sentences.Tokens.{Token}
+use Rattle.libyaml_graphs.specs.rows.LoadRows.{implicit, no_memory, no_root, pair}
+use Rattle.rust_original.specs.rows.Notation.{alike, block_map, block_seq, broken_run, flow_seq}
+use Rattle.rust_original.specs.rows.Notation.{loads_within, no_flow_content, node_at, parse, plain, run_to, str}
+
+-- A sequence without indentation ends where the next token begins.
+abbrev pub RowIndentlessSequence : Type 0
+RowIndentlessSequence = parse (list (STREAM ∷ BlockMappingStart ∷ Key ∷ BlockEntry ∷ SCALAR (codes "x") ∷ Key ∷
+    SCALAR (codes "y") ∷ BlockEnd ∷ StreamEnd ∷ [])) ≡ alike
+    (run_to 16 (at 2 3 mapping ∷ at 6 7 sequence ∷ at 8 9 (text (codes "x")) ∷ at 10 10 ev.SequenceEnd ∷
+    at 10 10 nothing ∷ at 12 13 (text (codes "y")) ∷ at 14 14 nothing ∷ at 14 15 ev.MappingEnd ∷ []))
+    (implicit 16 (node_at 2 15 (block_map (pair 2 4 ∷ pair 5 6 ∷ [])) ∷ node_at 6 10 (block_seq (3 ∷ [])) ∷
+    node_at 8 9 (str plain (codes "x")) ∷ node_at 10 10 (str plain []) ∷ node_at 12 13 (str plain (codes "y")) ∷
+    node_at 14 14 (str plain []) ∷ []) ∷ no_root ∷ [])
+
+-- A pair's key is no block collection.
+abbrev pub RowBlockSequenceAsAPairsKey : Type 0
+RowBlockSequenceAsAPairsKey = parse (list (STREAM ∷ FlowSequenceStart ∷ Key ∷ BlockSequenceStart ∷ StreamEnd ∷
+    [])) ≡ alike (broken_run (no_flow_content 6) (at 2 3 flow_sequence ∷ at 4 5 flow_mapping ∷ []))
+    (Err (no_flow_content 6) ∷ [])
+
+-- A document of three nodes, with a bound of three and of two.
+abbrev pub two_entries : List Token
+two_entries = list (STREAM ∷ FlowSequenceStart ∷ SCALAR (codes "a") ∷ FlowEntry ∷ SCALAR (codes "b") ∷
+    FlowSequenceEnd ∷ StreamEnd ∷ [])
+
+abbrev pub RowAtTheBound : Type 0
+RowAtTheBound = loads_within 3 two_entries ≡ implicit 12 (node_at 2 11 (flow_seq (2 ∷ 3 ∷ [])) ∷
+    node_at 4 5 (str plain (codes "a")) ∷ node_at 8 9 (str plain (codes "b")) ∷ []) ∷ no_root ∷ []
+
+abbrev pub RowBeyondTheBound : Type 0
+RowBeyondTheBound = loads_within 2 two_entries ≡ no_memory ∷ []

@@ -1,2 +1,0 @@
-pub mod Scanned
-pub mod ScannedLaws

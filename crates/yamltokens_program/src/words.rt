@@ -1,0 +1,95 @@
+//! What the words of the command line ask for.
+ghost use Rattle.std.specs.Prelude.{◌≡◌, ◌<◌, Some, None, map, string_bytes};
+ghost use Rattle.yamltokens_program.specs.Arguments.{run_of, asked_run, RunsWith};
+
+use std::alloc::Global;
+use std::io::{BufRead, Write};
+use token_lines::{Outcome, run_events, run_nodes};
+
+/// The exit status of words that ask for nothing, or that can't be read.
+const WRONG_WORDS: u8 = 2;
+
+/// The exit status where a write or a flush failed, or where no memory was found for a buffer.
+const OUTPUT_FAILED: u8 = 3;
+
+/// What the program is asked to write.
+#[derive(Copy, Clone)]
+pub enum Run {
+    /// The lines of events.
+    Events,
+    /// The texts of documents.
+    Nodes,
+}
+
+/// Runs what the words after the program's name ask for, from `reader` to `output`, and returns the
+/// exit status. The words are looked at before anything is read.
+///
+/// A line for the user goes to `errors`; if it can't be written, the status stays.
+pub fn run_words<R: BufRead + Drop, W: Write, E: Write>(
+    alloc: Global,
+    words: &[String],
+    reader: R,
+    output: &mut W,
+    errors: &mut E,
+) -> u8
+    ensures runs { (run : Run) → asked_run (map string_bytes words.now) ≡ Some run
+        → RunsWith run R.remaining W.contents reader result (W.contents output.old)
+        (W.contents output.new) }
+    ensures refused { asked_run (map string_bytes words.now) ≡ None → (result ≡ 2)
+        × (output.new ≡ output.old) }
+    ensures quiet { result < 2 → errors.new ≡ errors.old }
+{
+    let outcome = match asked_run(words) {
+        Some(Run::Events) => run_events(alloc, reader, output),
+        Some(Run::Nodes) => run_nodes(alloc, reader, output),
+        None => return refuse_words(errors),
+    };
+    match outcome {
+        Outcome::Ended => 0,
+        Outcome::Faulted => 1,
+        Outcome::OutputFailed => refuse(OUTPUT_FAILED, "yamltokens: output failed\n", errors),
+    }
+}
+
+/// The run that the words ask for, of which there is exactly one.
+fn asked_run(words: &[String]) -> Option<Run>
+    ensures { result ≡ asked_run (map string_bytes words.now) }
+{
+    match words {
+        [word] => run_of(word.as_str()),
+        _ => None,
+    }
+}
+
+/// The run that a word asks for.
+fn run_of(word: &str) -> Option<Run>
+    ensures { result ≡ run_of word.now }
+{
+    match word {
+        "events" => Some(Run::Events),
+        "nodes" => Some(Run::Nodes),
+        _ => None,
+    }
+}
+
+/// Writes the usage line.
+pub fn refuse_words<E: Write>(errors: &mut E) -> u8
+    ensures { result ≡ 2 }
+{
+    refuse(WRONG_WORDS, "usage: yamltokens events|nodes\n", errors)
+}
+
+/// Writes that no memory was found for a buffer.
+pub fn no_memory<E: Write>(errors: &mut E) -> u8
+    ensures { result ≡ 3 }
+{
+    refuse(OUTPUT_FAILED, "yamltokens: no memory\n", errors)
+}
+
+/// Writes a line for the user, and returns the status.
+fn refuse<E: Write>(status: u8, line: &str, errors: &mut E) -> u8
+    ensures { result ≡ status }
+{
+    let _ = errors.write_all(line.as_bytes());
+    status
+}
