@@ -1,0 +1,136 @@
+#!/bin/sh
+# Installs and uses the archives of a release in Debian trees that have neither the kit nor this repository:
+#
+#     sh scripts/release_trees.sh OUT TREES
+#
+# OUT is what release.sh made. TREES has the folders `bookworm`, for C and C++, Ruby, Python, aarch64 and the LLVM modules, and
+# `trixie`, for Rust with the tests of serde_yaml over the patched crate; one that isn't there is made by debootstrap. Packages
+# are installed in them by apt-get. Needs root, debootstrap, and Debian's packages over the network; ten minutes. What OUT has no
+# archive of is skipped, which is said. The last line counts; the exit status is 1 where something is wrong.
+set -u
+[ $# -eq 2 ] && [ -f "$1/SHA256SUMS" ] || { echo "usage: sh scripts/release_trees.sh OUT TREES, where release.sh made OUT" >&2; exit 2; }
+[ "$(id -u)" = 0 ] || { echo "release_trees.sh: needs root" >&2; exit 2; }
+out=$(cd "$1" && pwd)
+mkdir -p "$2"
+trees=$(cd "$2" && pwd)
+cd "$(dirname "$0")/.." || exit 2
+version=$(cat VERSION)
+export DEBIAN_FRONTEND=noninteractive LC_ALL=C.UTF-8
+wrong=0 skipped=0 right=0
+
+# tree NAME PACKAGE..: a tree of that release with these packages and the archives, and nothing of this machine's.
+tree() {
+    root=$trees/$1
+    if [ ! -x "$root/bin/sh" ]; then
+        debootstrap --variant=minbase "$1" "$root" > "$root.log" 2>&1 || { tail -n 5 "$root.log"; exit 1; }
+    fi
+    cp /etc/resolv.conf "$root/etc/resolv.conf"
+    [ "$1" != bookworm ] || grep -q security "$root/etc/apt/sources.list" ||
+        echo 'deb http://deb.debian.org/debian-security bookworm-security main' >> "$root/etc/apt/sources.list"
+    shift
+    chroot "$root" sh -c 'apt-get -q update && apt-get -q -y --no-install-recommends install "$@"' sh "$@" > "$root.log" 2>&1 ||
+        { tail -n 5 "$root.log"; exit 1; }
+    rm -rf "$root/root/use" "$root/usr/local/include/pokhvizi"
+    mkdir -p "$root/root/use"
+    cp "$out"/* "$root/root/use"
+}
+
+# want WHAT WANTED WORDS: what the words of a shell print in the tree, with a path of the system's alone.
+want() {
+    said=$(chroot "$root" env -i PATH=/usr/bin:/bin:/usr/sbin:/sbin LC_ALL=C.UTF-8 HOME=/root sh -c "cd /root/use && $3" 2>&1)
+    if [ "$said" = "$2" ]; then
+        right=$((right + 1))
+        echo "as wanted: $1"
+    else
+        wrong=$((wrong + 1))
+        echo "wrong: $1: $said"
+    fi
+}
+
+has() {
+    for archive in "$out"/$1; do [ ! -e "$archive" ] || return 0; done
+    echo "skipped: $2, of which there is no archive"
+    skipped=$((skipped + 1))
+    return 1
+}
+
+# ---- C, C++, Ruby, Python, aarch64, the modules ----
+
+tree bookworm gcc g++ clang make pkg-config libyaml-dev python3-venv python3-yaml ruby libc6-dev xz-utils clang-22 \
+    gcc-aarch64-linux-gnu libc6-dev-arm64-cross qemu-user
+want 'no kit' '' 'command -v rt rattle; ls -d /opt/rattle 2> /dev/null; true'
+folder=pokhvizi-$version-x86_64-linux
+samples=/usr/local/share/doc/pokhvizi/examples
+want 'checksums' '' 'sha256sum --quiet -c SHA256SUMS'
+want 'make install' '' "tar xzf $folder.tar.gz && make -s -C $folder PREFIX=/usr/local install > said 2>&1 || cat said; ldconfig"
+for compiler in gcc clang 'gcc -static'; do
+    for sample in events:8 documents:2; do
+        want "${sample%:*}.c, $compiler" "${sample#*:}" "$compiler -O2 $samples/${sample%:*}.c -o sample \$(pkg-config --cflags --libs pokhvizi) \
+            -lyaml && printf 'a\n...\nb\n' | ./sample | wc -l"
+    done
+done
+want 'C++' '0' "printf '%s\n' '#include <pokhvizi/steps.h>' '#include <cstdio>' \
+    'int main() { pokhvizi_steps_t s; pokhvizi_steps_new(&s); std::printf(\"%u\\\\n\", (unsigned)s.state); }' > s.cc &&
+    g++ -Wall -Wextra -Werror s.cc -o s \$(pkg-config --cflags --libs pokhvizi) && ./s"
+want 'Python over the preload library' '8' \
+    "proved-libyaml python3 -c 'import yaml; print(len(list(yaml.parse(\"a\\n...\\nb\\n\", yaml.CLoader))))'"
+want 'Ruby over the preload library' '["a", "b"]' "proved-libyaml ruby -ryaml -e 'p YAML.load_stream(\"a\\n...\\nb\\n\")'"
+want 'Ruby without it' 'refused' "ruby -ryaml -e 'begin; p YAML.load_stream(\"a\\n...\\nb\\n\"); rescue Psych::SyntaxError; puts :refused; end'"
+want 'the wheel' "{'a': [1, {'b': 'c'}]} ['a', 'b']" "python3 -m venv --system-site-packages v && v/bin/pip install -q --no-index --no-deps \
+    pokhvizi-$version-*x86_64.whl && v/bin/python -c 'import yaml; from pokhvizi import SafeLoader
+print(yaml.load(\"a: [1, {b: c}]\", Loader=SafeLoader), list(yaml.load_all(\"a\\n...\\nb\\n\", Loader=SafeLoader)))'"
+if has "pokhvizi-$version-aarch64-linux.tar.gz" aarch64; then
+    arm=pokhvizi-$version-aarch64-linux
+    printf '%s\n' '#include <pokhvizi/steps.h>' '#include <stdio.h>' 'int main(void) {' \
+        'static const unsigned char kinds[] = {1, 10, 21, 15, 21, 11, 2}; static pokhvizi_span_t at; pokhvizi_steps_t steps;' \
+        'pokhvizi_event_t event; pokhvizi_fault_t fault; unsigned char states[20]; pokhvizi_mark_t marks[20]; size_t i = 0;' \
+        'pokhvizi_steps_new(&steps);' 'while (i < sizeof kinds) {' \
+        'uint32_t did = pokhvizi_step(&steps, states, 20, marks, 20, kinds[i], 1, &at, &event, &fault);' \
+        'if (did == POKHVIZI_GAVE || did == POKHVIZI_STAYS) printf("%d ", event.kind);' \
+        'i += did == POKHVIZI_GAVE || did == POKHVIZI_WANTS; if (did > POKHVIZI_STAYS) break; }' 'return 0; }' > "$root/root/use/kinds.c"
+    for words in '-static' "-Wl,-rpath,/root/use/$arm/lib -L$arm/lib -lpokhvizi"; do
+        case $words in -static) how="$words $arm/lib/libpokhvizi.a" ;; *) how=$words ;; esac
+        want "aarch64, by qemu: ${words%% *}" '1 3 7 6 6 8 4 2 ' "tar xzf $arm.tar.gz && aarch64-linux-gnu-gcc -O2 -Wall -Werror \
+            kinds.c -o kinds -I$arm/include $how && qemu-aarch64 -L /usr/aarch64-linux-gnu ./kinds"
+    done
+    want 'the wheel for aarch64' 'ELF 64-bit, AArch64' "python3 -m zipfile -e pokhvizi-$version-*aarch64.whl w &&
+        readelf -h w/pokhvizi/libpokhvizi.so | grep -q AArch64 && echo ELF 64-bit, AArch64"
+fi
+if has "pokhvizi-$version-llvm.tar.gz" 'the LLVM modules'; then
+    want 'the objects of the modules, by clang-22' 'steps_module.o: OK documents_module.o: OK lines_module.o: OK' \
+        "tar xzf pokhvizi-$version-llvm.tar.gz && make -s -C pokhvizi-$version-llvm check 2>&1 | tr '\n' ' ' | sed 's/ \$//'"
+    want 'the library of the modules' '1 3 7 6 6 8 4 2 ' "make -s -C pokhvizi-$version-llvm > said 2>&1 || tail -n 3 said
+        gcc -O2 kinds.c -o kinds -Ipokhvizi-$version-llvm/include pokhvizi-$version-llvm/libpokhvizi.a && ./kinds"
+fi
+
+# ---- Rust ----
+
+if has "pokhvizi-unsafe-libyaml-$version.tar.gz" 'the crate'; then
+    tree trixie cargo rustc gcc libc6-dev librust-serde-yaml-dev librust-unsafe-libyaml-dev librust-serde-derive-dev \
+        librust-anyhow-dev librust-indoc-dev
+    want 'no kit' '' 'command -v rt rattle; ls -d /opt/rattle 2> /dev/null; true'
+    mkdir -p "$root/root/use/app/src" "$root/root/use/home"
+    printf '[source.crates-io]\nreplace-with = "debian"\n[source.debian]\ndirectory = "/usr/share/cargo/registry"\n[net]\noffline = true\n' \
+        > "$root/root/use/home/config.toml"
+    patch="[patch.crates-io]\nunsafe-libyaml = { path = \"/root/use/pokhvizi-unsafe-libyaml-$version\" }\n"
+    printf "[package]\nname = \"app\"\nversion = \"0.1.0\"\nedition = \"2021\"\n[dependencies]\nserde_yaml = \"0.9\"\n$patch" \
+        > "$root/root/use/app/Cargo.toml"
+    printf 'fn main() { println!("{}", serde_yaml::Deserializer::from_str("a\\n...\\nb\\n").take(9).count()); }\n' > "$root/root/use/app/src/main.rs"
+    want 'serde_yaml over the crate' 2 "tar xzf pokhvizi-unsafe-libyaml-$version.tar.gz && cd app &&
+        CARGO_HOME=/root/use/home timeout 900 cargo run -q --offline"
+    want 'what stands on the crate' 'serde_yaml' \
+        "cd app && CARGO_HOME=/root/use/home cargo tree -q --offline -i unsafe-libyaml@0.2.12 | sed -n 's/^.── \\(serde_yaml\\) .*/\\1/p'"
+    want "serde_yaml's own tests, with and without the crate" 'the same' "
+        for how in plain proved; do
+            rm -rf \$how && cp -RL /usr/share/cargo/registry/serde_yaml-* \$how && rm -f \$how/.cargo-checksum.json \$how/Cargo.lock
+            [ \$how = plain ] || printf '$patch' >> \$how/Cargo.toml
+            (cd \$how && CARGO_HOME=/root/use/home RUSTFLAGS='--cap-lints allow' cargo test -q --offline --no-fail-fast > ../\$how.said 2>&1)
+            sed -n 's/^test result: .* \\([0-9]*\\) passed; \\([0-9]*\\) failed.*/\\1 \\2/p' \$how.said | awk '{ n += \$1; m += \$2 } END { print n + 0, m + 0 }' > \$how.count
+        done
+        grep -q 0.2.12 proved/Cargo.lock || echo 'without the patch'
+        [ \"\$(cut -d' ' -f1 plain.count)\" -gt 100 ] && cmp plain.count proved.count && echo the same"
+    echo "serde_yaml's tests (passed, failed): $(cat "$root/root/use/plain.count") without, $(cat "$root/root/use/proved.count") with the crate"
+fi
+
+echo "$right as wanted, $wrong wrong, $skipped skipped"
+[ $wrong -eq 0 ]
