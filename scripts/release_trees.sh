@@ -37,7 +37,7 @@ tree() {
 
 # want WHAT WANTED WORDS: what the words of a shell print in the tree, with a path of the system's alone.
 want() {
-    said=$(chroot "$root" env -i PATH=/usr/bin:/bin:/usr/sbin:/sbin LC_ALL=C.UTF-8 HOME=/root sh -c "cd /root/use && $3" 2>&1)
+    said=$(chroot "$root" env -i PATH=/usr/local/bin:/usr/bin:/bin:/usr/sbin:/sbin LC_ALL=C.UTF-8 HOME=/root sh -c "cd /root/use && $3" 2>&1)
     if [ "$said" = "$2" ]; then
         right=$((right + 1))
         echo "as wanted: $1"
@@ -59,19 +59,45 @@ has() {
 tree bookworm gcc g++ clang make pkg-config libyaml-dev python3-venv python3-yaml ruby libc6-dev xz-utils clang-22 \
     gcc-aarch64-linux-gnu libc6-dev-arm64-cross qemu-user
 want 'no kit' '' 'command -v rt rattle; ls -d /opt/rattle 2> /dev/null; true'
+cat > "$root/root/use/kinds.c" << 'C'
+#include <pokhvizi/steps.h>
+#include <stdio.h>
+
+int main(void)
+{
+    static const unsigned char kinds[] = {1, 10, 21, 15, 21, 11, 2}; /* [ a, b ] */
+    static pokhvizi_span_t at;
+    pokhvizi_steps_t steps;
+    pokhvizi_event_t event;
+    pokhvizi_fault_t fault;
+    unsigned char states[20];
+    pokhvizi_mark_t marks[20];
+    size_t i = 0;
+
+    pokhvizi_steps_new(&steps);
+    while (i < sizeof kinds) {
+        uint32_t did = pokhvizi_step(&steps, states, 20, marks, 20, kinds[i], 1, &at, &event, &fault);
+        if (did == POKHVIZI_GAVE || did == POKHVIZI_STAYS)
+            printf("%d ", event.kind);
+        i += did == POKHVIZI_GAVE || did == POKHVIZI_WANTS;
+        if (did > POKHVIZI_STAYS)
+            break;
+    }
+    return 0;
+}
+C
+kinds='1 3 7 6 6 8 4 2 '
 folder=pokhvizi-$version-x86_64-linux
 samples=/usr/local/share/doc/pokhvizi/examples
 want 'checksums' '' 'sha256sum --quiet -c SHA256SUMS'
 want 'make install' '' "tar xzf $folder.tar.gz && make -s -C $folder PREFIX=/usr/local install > said 2>&1 || cat said; ldconfig"
 for compiler in gcc clang 'gcc -static'; do
-    for sample in events:8 documents:2; do
+    for sample in events:8 documents:4; do
         want "${sample%:*}.c, $compiler" "${sample#*:}" "$compiler -O2 $samples/${sample%:*}.c -o sample \$(pkg-config --cflags --libs pokhvizi) \
             -lyaml && printf 'a\n...\nb\n' | ./sample | wc -l"
     done
 done
-want 'C++' '0' "printf '%s\n' '#include <pokhvizi/steps.h>' '#include <cstdio>' \
-    'int main() { pokhvizi_steps_t s; pokhvizi_steps_new(&s); std::printf(\"%u\\\\n\", (unsigned)s.state); }' > s.cc &&
-    g++ -Wall -Wextra -Werror s.cc -o s \$(pkg-config --cflags --libs pokhvizi) && ./s"
+want 'kinds.c as C++' "$kinds" "g++ -x c++ -Wall -Wextra -Werror kinds.c -o kinds \$(pkg-config --cflags --libs pokhvizi) && ./kinds"
 want 'Python over the preload library' '8' \
     "proved-libyaml python3 -c 'import yaml; print(len(list(yaml.parse(\"a\\n...\\nb\\n\", yaml.CLoader))))'"
 want 'Ruby over the preload library' '["a", "b"]' "proved-libyaml ruby -ryaml -e 'p YAML.load_stream(\"a\\n...\\nb\\n\")'"
@@ -81,16 +107,9 @@ want 'the wheel' "{'a': [1, {'b': 'c'}]} ['a', 'b']" "python3 -m venv --system-s
 print(yaml.load(\"a: [1, {b: c}]\", Loader=SafeLoader), list(yaml.load_all(\"a\\n...\\nb\\n\", Loader=SafeLoader)))'"
 if has "pokhvizi-$version-aarch64-linux.tar.gz" aarch64; then
     arm=pokhvizi-$version-aarch64-linux
-    printf '%s\n' '#include <pokhvizi/steps.h>' '#include <stdio.h>' 'int main(void) {' \
-        'static const unsigned char kinds[] = {1, 10, 21, 15, 21, 11, 2}; static pokhvizi_span_t at; pokhvizi_steps_t steps;' \
-        'pokhvizi_event_t event; pokhvizi_fault_t fault; unsigned char states[20]; pokhvizi_mark_t marks[20]; size_t i = 0;' \
-        'pokhvizi_steps_new(&steps);' 'while (i < sizeof kinds) {' \
-        'uint32_t did = pokhvizi_step(&steps, states, 20, marks, 20, kinds[i], 1, &at, &event, &fault);' \
-        'if (did == POKHVIZI_GAVE || did == POKHVIZI_STAYS) printf("%d ", event.kind);' \
-        'i += did == POKHVIZI_GAVE || did == POKHVIZI_WANTS; if (did > POKHVIZI_STAYS) break; }' 'return 0; }' > "$root/root/use/kinds.c"
     for words in '-static' "-Wl,-rpath,/root/use/$arm/lib -L$arm/lib -lpokhvizi"; do
         case $words in -static) how="$words $arm/lib/libpokhvizi.a" ;; *) how=$words ;; esac
-        want "aarch64, by qemu: ${words%% *}" '1 3 7 6 6 8 4 2 ' "tar xzf $arm.tar.gz && aarch64-linux-gnu-gcc -O2 -Wall -Werror \
+        want "aarch64, by qemu: ${words%% *}" "$kinds" "tar xzf $arm.tar.gz && aarch64-linux-gnu-gcc -O2 -Wall -Werror \
             kinds.c -o kinds -I$arm/include $how && qemu-aarch64 -L /usr/aarch64-linux-gnu ./kinds"
     done
     want 'the wheel for aarch64' 'ELF 64-bit, AArch64' "python3 -m zipfile -e pokhvizi-$version-*aarch64.whl w &&
@@ -99,7 +118,7 @@ fi
 if has "pokhvizi-$version-llvm.tar.gz" 'the LLVM modules'; then
     want 'the objects of the modules, by clang-22' 'steps_module.o: OK documents_module.o: OK lines_module.o: OK' \
         "tar xzf pokhvizi-$version-llvm.tar.gz && make -s -C pokhvizi-$version-llvm check 2>&1 | tr '\n' ' ' | sed 's/ \$//'"
-    want 'the library of the modules' '1 3 7 6 6 8 4 2 ' "make -s -C pokhvizi-$version-llvm > said 2>&1 || tail -n 3 said
+    want 'the library of the modules' "$kinds" "make -s -C pokhvizi-$version-llvm > said 2>&1 || tail -n 3 said
         gcc -O2 kinds.c -o kinds -Ipokhvizi-$version-llvm/include pokhvizi-$version-llvm/libpokhvizi.a && ./kinds"
 fi
 
