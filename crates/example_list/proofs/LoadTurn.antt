@@ -3,6 +3,7 @@ use Rattle.std.proofs.Common.{◌≡◌, ◌⊎◌, inl, inr, ◌++◌, ◌∷�
 use Rattle.std.proofs.Common.{◌∙◌, subst, append_assoc}
 use Rattle.std.proofs.lemmas.List.{append-nil}
 use Rattle.std.specs.Result.{is_err}
+use Rattle.std.proofs.lemmas.Bool.{true≢false}
 use Rattle.libyaml_types.specs.declared.token.yaml_token_t.{yaml_token_t}
 use Rattle.libyaml_documents.specs.Documents.{Document}
 use Rattle.libyaml_types.specs.Fault.{Fault}
@@ -19,9 +20,6 @@ Tokens = List yaml_token_t
 
 abbrev most : ℕ
 most = 2147483647
-
-never : true ≡ false → ⊥
-never i = cc
 
 -- after some tokens of a list: those that were taken, and those after the stream's end
 pub record LoadTurn (l : PushLoader) (all : Tokens) (documents : List Document) : Type 0 where
@@ -54,7 +52,7 @@ module _ (Full : Type 0) (old : PushLoader) (t : yaml_token_t) (all : Tokens) (d
     where
       go : (turn.later ≡ []) ⊎ (has_stopped old ≡ true) → all ≡ turn.taken
       go (inl e) = turn.parts ∙ (ap (λ (x : Tokens). turn.taken ++ x) e ∙ append-nil turn.taken)
-      go (inr e) = absurd (never (sym e ∙ h))
+      go (inr e) = absurd (true≢false (sym e ∙ h))
 
   -- a push without an error
   pub next_load_turn : (r : Done) → is_err r ≡ false → PushesLoads Full old t documents r new after
@@ -129,4 +127,4 @@ last_load_turn l all documents turn ended so_far whole source = go (has_end turn
             (subst (λ (y : Tokens). AreThen l.max_entries y source documents (Err source))
             (sym (turn.parts ∙ (ap (λ (x : Tokens). turn.taken ++ x) e ∙ append-nil turn.taken)))
             (so_far l turn.taken documents turn.loaded h source))
-        by (inr e) = absurd (never (sym e ∙ (ended l turn.taken documents turn.loaded ∙ h)))
+        by (inr e) = absurd (true≢false (sym e ∙ (ended l turn.taken documents turn.loaded ∙ h)))

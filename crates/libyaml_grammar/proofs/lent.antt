@@ -1,5 +1,7 @@
 -- The theorems that crates above may name, and no others of these proofs.
 pub mod Lists
+pub mod Same
+pub mod TextMaps
 pub mod Given
 pub mod Positions
 pub mod Reading

@@ -4,3 +4,4 @@ pub mod BoundedLoader
 pub mod Machine
 pub mod Roots
 pub mod Building
+pub mod LoadLists

@@ -5,6 +5,7 @@ use Rattle.std.proofs.lemmas.List.{length-append}
 use Rattle.libyaml_types.specs.Fault.{Fault, memory_fault}
 use Rattle.libyaml_documents.specs.Documents.{Document}
 use Rattle.libyaml_graphs.specs.loads.Loads.{Load}
+use Rattle.libyaml_graphs.proofs.lent.LoadLists.{same_loads}
 use Rattle.records.specs.FaultRecord.{fault_bytes}
 use Rattle.records.specs.declared.records.token_record_t.{token_record_t}
 use Rattle.records.specs.Buffers.{Lists, TooMany, many_directives, many_documents, many_items, many_nodes}
@@ -15,7 +16,7 @@ use Rattle.records.specs.OneDocumentRecords.{IsCounted}
 use Rattle.records.specs.declared.records.documents_run_t.{documents_run_t}
 use Rattle.records.proofs.Adding.{documents_append}
 use Rattle.records.proofs.Exceeding.{Grows, documents_grow, still_too_many}
-use Rattle.records.proofs.LoadLists.{fault_one, first_of, last_one, same_loads}
+use Rattle.records.proofs.LoadLists.{fault_one, first_of, last_one}
 
 grow_to : (first rest all : List Document) → all ≡ first ++ rest → Grows (recorded first) (recorded all)
 grow_to first rest all is = subst (Grows (recorded first))

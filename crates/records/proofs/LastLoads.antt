@@ -7,7 +7,7 @@ use Rattle.libyaml_grammar.specs.runs.Runs.{Ending, Ends, Fails}
 use Rattle.libyaml_documents.specs.Documents.{Document, empty_document}
 use Rattle.libyaml_documents.specs.declared.node.yaml_node_t.{yaml_node_t}
 use Rattle.libyaml_events.specs.machine.Config.{Parser}
-use Rattle.libyaml_events.proofs.lent.OneOutcome.{head_same, tail_same, not_cons}
+use Rattle.libyaml_grammar.proofs.lent.Same.{head_same, not_cons, tail_same}
 use Rattle.libyaml_graphs.specs.graphs.GraphParts.{Closing, Opening}
 use Rattle.libyaml_graphs.specs.loads.Loads.{Begun, Load, Stop, last_load, load_then, loads_by}
 use Rattle.libyaml_loader.specs.loads.LoadsInTurn.{LoopYields, document, fault, no_item}

@@ -3,26 +3,9 @@ use Rattle.std.proofs.Common.{◌≡◌, ◌≢◌, ◌++◌, ◌∷◌, List, [
 use Rattle.libyaml_types.specs.Fault.{Fault}
 use Rattle.libyaml_grammar.specs.runs.Runs.{Ends}
 use Rattle.libyaml_documents.specs.Documents.{Document}
-use Rattle.libyaml_events.proofs.lent.OneOutcome.{head_same, tail_same, not_cons}
+use Rattle.libyaml_grammar.proofs.lent.Same.{head_same, not_cons, ok_same, tail_same}
 use Rattle.libyaml_graphs.specs.loads.Loads.{Load, last_load}
 use Rattle.records.specs.DocumentRun.{LoadsEndBy}
-
--- documents, and then one load
-document_same : (c d : Document) → ◌≡◌ {A = Load} (Ok c) (Ok d) → c ≡ d
-document_same c d e = cc
-
-none_more : (l : List Load) (y : Load) → [] ≡ l ++ y ∷ [] → ⊥
-none_more [] y e = not_cons y [] e
-none_more (x ∷ l) y e = not_cons x (l ++ y ∷ []) e
-
-pub same_loads : (a b : List Document) (x y : Load) → map Ok a ++ x ∷ [] ≡ map Ok b ++ y ∷ [] → (a ≡ b) × (x ≡ y)
-same_loads [] [] x y e = (refl, head_same x y [] [] e)
-same_loads [] (d ∷ b) x y e = absurd (none_more (map Ok b) y (tail_same x (Ok d) [] (map Ok b ++ y ∷ []) e))
-same_loads (c ∷ a) [] x y e = absurd (none_more (map Ok a) x (sym (tail_same (Ok c) y (map Ok a ++ x ∷ []) [] e)))
-same_loads (c ∷ a) (d ∷ b) x y e =
-    let r = same_loads a b x y (tail_same (Ok c) (Ok d) (map Ok a ++ x ∷ []) (map Ok b ++ y ∷ []) e) in
-    let h = document_same c d (head_same (Ok c) (Ok d) (map Ok a ++ x ∷ []) (map Ok b ++ y ∷ []) e) in
-    (ap (λ (z : Document). z ∷ a) h ∙ ap (λ (l : List Document). d ∷ l) r.0, r.1)
 
 -- one load is left, and it tells the fault
 pub last_one : (f : Fault) (later : List Load) → LoadsEndBy f later → (last : Load) × (later ≡ last ∷ [])
@@ -55,5 +38,5 @@ first_of [] b l x some e = (b, refl)
 first_of (c ∷ a) [] l x some e = absurd (some (none_behind a l (tail_same (Ok c) x (map Ok a ++ l) [] e)))
 first_of (c ∷ a) (d ∷ b) l x some e =
     let r = first_of a b l x some (tail_same (Ok c) (Ok d) (map Ok a ++ l) (map Ok b ++ x ∷ []) e) in
-    let h = document_same c d (head_same (Ok c) (Ok d) (map Ok a ++ l) (map Ok b ++ x ∷ []) e) in
+    let h = ok_same c d (head_same (Ok c) (Ok d) (map Ok a ++ l) (map Ok b ++ x ∷ []) e) in
     (r.0, ap (λ (z : Document). z ∷ b) (sym h) ∙ ap (λ (k : List Document). c ∷ k) r.1)

@@ -1,7 +1,7 @@
 -- A loop over a parser's documents, each of which is put before the next comes.
 use Rattle.std.proofs.Common.{◌≡◌, ◌≢◌, ◌++◌, ◌⊎◌, ℕ, List, [], ◌∷◌, Option, Some, None, Ok, Err, map, refl, sym}
 use Rattle.std.proofs.Common.{inl, inr, ap, ◌∙◌, append_assoc, subst}
-use Rattle.std.proofs.lemmas.List.{append-nil, map-append}
+use Rattle.std.proofs.lemmas.List.{append-nil}
 use Rattle.libyaml_types.specs.Fault.{Answer, Fault, fault_of, no_fault}
 use Rattle.libyaml_types.specs.Source.{Coming}
 use Rattle.libyaml_types.specs.declared.fault.yaml_parser_t_prefix.{yaml_parser_t_prefix}
@@ -11,10 +11,11 @@ use Rattle.libyaml_documents.specs.Documents.{Document}
 use Rattle.libyaml_documents.specs.declared.node.yaml_node_t.{yaml_node_t}
 use Rattle.libyaml_events.specs.machine.Config.{Parser}
 use Rattle.libyaml_events.specs.sources.RunToCome.{RunToCome}
-use Rattle.libyaml_events.proofs.lent.OneOutcome.{not_cons}
+use Rattle.libyaml_grammar.proofs.lent.Same.{not_cons}
 use Rattle.libyaml_graphs.specs.graphs.GraphParts.{Closing, Opening}
 use Rattle.libyaml_graphs.specs.loads.Bounds.{bounded_loads, first_stop, next_bounded}
 use Rattle.libyaml_graphs.specs.loads.Loads.{Begun, Load, Stop, begun, last_load, left_over, load_then, loads_by}
+use Rattle.libyaml_graphs.proofs.lent.LoadLists.{oks_last}
 use Rattle.libyaml_loader.specs.document.Ids.{magnitude}
 use Rattle.libyaml_loader.specs.loads.Loading.{DocumentOrError, LoadsFrom}
 use Rattle.libyaml_loader.specs.loads.LoadsInTurn.{LoopYields, YieldsDocument, document, fault, no_item}
@@ -78,11 +79,6 @@ module _ {S : Type 0} (gives : S → Answer → S → Type 0) (bound : S → ℕ
   NodesLaw = (l : List Event) (x : Ending) (n : ℕ) (d : Document) → next_bounded n l x ≡ Ok d → d.nodes ≢ []
       → bounded_loads n l x ≡ Ok d ∷ bounded_loads n (left_over l) x
 
-  one_behind : (done : List Document) (d : Document) (l : List Load)
-      → map (λ (x : Document). Ok x) done ++ Ok d ∷ l ≡ map (λ (x : Document). Ok x) (done ++ d ∷ []) ++ l
-  one_behind done d l = sym (ap (λ (k : List Load). k ++ l) (map-append (λ (x : Document). Ok x) done (d ∷ []))
-      ∙ append_assoc (map (λ (x : Document). Ok x) done) (Ok d ∷ []) l)
-
   goes_on_one : LoadLaw → NodesLaw → (most : ℕ) (p q : Parser S) (done : List Document) (d : Document)
       (events : List Event) (ending : Ending) → magnitude p.max_entries ≡ most → GoesOn known p most done events ending
       → YieldsDocument gives bound known MayBreak p (Some (Ok d)) q
@@ -96,7 +92,7 @@ module _ {S : Type 0} (gives : S → Answer → S → Type 0) (bound : S → ℕ
         run = h.1;
         all = g.all ∙ (ap (λ (l : List Load). map (λ (x : Document). Ok x) done ++ l)
             (roots g.rest ending most d h.0 item.1)
-            ∙ one_behind done d (bounded_loads most (left_over g.rest) ending));
+            ∙ oks_last done d (bounded_loads most (left_over g.rest) ending));
       }
 
   pub put_one : LoadLaw → NodesLaw → (first p q : Parser S) (a b c : Lists) (n k m : document_counts_t) (d : Document)

@@ -2,6 +2,7 @@
 use Rattle.std.proofs.Common.{◌≡◌, ◌++◌, ◌⊎◌, ◌∷◌, ℕ, List, [], length, map, Ok, sym, ap, ◌∙◌, subst, inl, inr}
 use Rattle.libyaml_types.specs.Fault.{memory_fault}
 use Rattle.libyaml_graphs.specs.loads.Loads.{Load}
+use Rattle.libyaml_graphs.proofs.lent.LoadLists.{same_loads}
 use Rattle.records.specs.FaultRecord.{fault_bytes, fault_record}
 use Rattle.records.specs.declared.records.token_record_t.{token_record_t}
 use Rattle.records.proofs.HandedOut.{handed_once}
@@ -13,7 +14,7 @@ use Rattle.records.specs.OneDocumentRecords.{first_runs_out, second_runs_out}
 use Rattle.records.specs.declared.records.document_counts_t.{document_counts_t}
 use Rattle.records.specs.declared.records.documents_run_t.{documents_run_t}
 use Rattle.records.proofs.Countable.{countable}
-use Rattle.records.proofs.LoadLists.{fault_one, last_one, same_loads}
+use Rattle.records.proofs.LoadLists.{fault_one, last_one}
 
 abbrev counts : ℕ → ℕ → ℕ → ℕ → ℕ → ℕ → document_counts_t
 counts documents nodes items pairs directives texts = record {

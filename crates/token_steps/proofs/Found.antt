@@ -3,16 +3,13 @@ use Rattle.std.specs.Prelude.{bytes_eq}
 use Rattle.std.proofs.Common.{◌≡◌, ◌≤◌, ◌+◌, ◌++◌, ℕ, List, [], ◌∷◌, Some, None, refl, sym, ap, ◌∙◌}
 use Rattle.std.proofs.Common.{Bool, cond, nat_cmp, length, drop, take, arith}
 use Rattle.std.proofs.lemmas.List.{length-drop, drop-append-le, take-append-le}
-use Rattle.std.specs.Ordering.{eq_by_cmp}
-use Rattle.std.specs.Cmp.Lexicographic.{slice_cmp, texts_ties, nat_list_eq_equiv, nat_list_cmp_total}
+use Rattle.std.specs.Cmp.Lexicographic.{slice_cmp, nat_list_cmp_total}
 use Rattle.std.specs.FinMap.{find, get, insert, from_entries, from_entries_push, get-from_entries}
 use Rattle.std.specs.FinMap.{slice_cmp-IsAntisymmetric, nat_cmp-IsAntisymmetric}
 use Rattle.token_steps.specs.declared.tags.handles.text_t.{text_t}
 use Rattle.token_steps.specs.declared.tags.handles.handle_t.{handle_t}
 use Rattle.token_steps.specs.Handles.{bytes_at, entries_at, handles_at, prefix_in, AllWithin}
-
-same_keys : (q g : List ℕ) → eq_by_cmp (slice_cmp nat_cmp) q g ≡ bytes_eq g q
-same_keys q g = sym (texts_ties q g) ∙ nat_list_eq_equiv.symm q g
+use Rattle.libyaml_grammar.proofs.lent.TextMaps.{same_keys}
 
 find_handle : (texts : List ℕ) (es : List handle_t) (q : List ℕ)
     → find (slice_cmp nat_cmp) q (entries_at texts es) ≡ prefix_in texts es q

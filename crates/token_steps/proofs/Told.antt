@@ -10,11 +10,9 @@ use Rattle.libyaml_automaton.specs.declared.answer.Answer.{Answer}
 use Rattle.libyaml_automaton.specs.declared.answer.Answer.TheVariants as answer
 use Rattle.libyaml_automaton.specs.declared.machine.Machine.{Machine}
 use Rattle.libyaml_automaton.specs.declared.node_place.NodePlace.{NodePlace}
-use Rattle.libyaml_automaton.specs.Answers.{Says, Outcome}
 use Rattle.libyaml_automaton.specs.Automaton.{Progressed, content_behind, node_content, fail, mapping_start}
-use Rattle.libyaml_automaton.specs.Automaton.{want}
 use Rattle.libyaml_automaton.specs.Config.{Config}
-use Rattle.libyaml_automaton.specs.Fits.{FitsStep, FitsDocument, FitsDirective, FitsContent, Part, Nodes}
+use Rattle.libyaml_automaton.specs.Fits.{FitsStep, FitsDocument, Part, Nodes}
 use Rattle.libyaml_automaton.specs.Fits.{First, Documents}
 use Rattle.libyaml_automaton.specs.Growth.{IsFull, Stack, States, Marks, stack_of_part, is_first}
 use Rattle.libyaml_automaton.specs.Growth.{part_of, pushes, pushes_in_documents, stack_in_step}
@@ -31,9 +29,6 @@ use Rattle.token_steps.specs.declared.steps.steps_t.{steps_t}
 use Rattle.token_steps.specs.declared.records.step_event_t.{step_event_t}
 use Rattle.token_steps.specs.declared.records.step_fault_t.{step_fault_t}
 use Rattle.token_steps.specs.Tells.{IsTold, IsDone, IsUndone, IsGiven, IsAfterEvent, Tells, want_in}
-
-pub same_says : (p q : Progressed) (t : Token) (o : Outcome) → p ≡ q → Says q t o → Says p t o
-same_says p q t o e s = subst (λ x. Says x t o) (sym e) s
 
 pub told_in_step : (a : Answer) (k : yaml_token_type_t) → FitsStep a k → (a ≡ answer.Full → ⊥)
     → (a ≡ answer.Document → ⊥)

@@ -1,56 +1,25 @@
 -- Two lists of documents that the contract of a whole load allows are one.
-use Rattle.std.proofs.Common.{◌≡◌, ◌⊎◌, inl, inr, List, [], ◌∷◌, map, Option, Some, None, Ok, Err, refl, sym, ap, ◌∙◌}
+use Rattle.std.proofs.Common.{◌≡◌, ◌⊎◌, inl, inr, List, Option, Some, None, refl, sym, ap, ◌∙◌}
 use Rattle.std.proofs.Common.{subst}
 use Rattle.libyaml_documents.specs.Documents.{Document}
 use Rattle.libyaml_types.specs.Fault.{Answer, fault_of}
 use Rattle.libyaml_types.specs.declared.fault.yaml_parser_t_prefix.{yaml_parser_t_prefix}
 use Rattle.libyaml_grammar.specs.sentences.Events.{Event}
 use Rattle.libyaml_grammar.specs.cuts.Settled.{Begins}
-use Rattle.libyaml_grammar.specs.runs.Runs.{Ending, Ends, Fails}
+use Rattle.libyaml_grammar.specs.runs.Runs.{Ending}
 use Rattle.libyaml_events.specs.sources.Determined.{OneBegins}
 use Rattle.libyaml_events.specs.sources.History.{answers}
-use Rattle.libyaml_events.proofs.lent.OneOutcome.{head_same, tail_same, not_cons}
+use Rattle.libyaml_graphs.proofs.lent.LoadLists.{last_same, same_loads}
 use Rattle.libyaml_events.proofs.lent.RunStops.{RunStop, begins_stopped, ended_stop, one_run_by_answers, taken_comparable}
-use Rattle.libyaml_graphs.specs.loads.Loads.{Load, last_load, loads}
+use Rattle.libyaml_graphs.specs.loads.Loads.{last_load, loads}
 use Rattle.unsafe_libyaml.specs.OneWhole.{OneDocuments}
 use Rattle.unsafe_libyaml.specs.WholeLoads.{ComposerError, GathersLoads, as_loads}
 use Rattle.unsafe_libyaml.specs.WholeRun.{StoppedBy, ending_of}
 use Rattle.unsafe_libyaml.specs.declared.load_all.yaml_documents_t.{yaml_documents_t}
 use Rattle.unsafe_libyaml.proofs.OneRuns.{failed_stop}
 
--- lists of loads
-
-oks : List Document → List Load
-oks ds = map (λ (d : Document). Ok d) ds
-
-last_same : (x y : Ending) → last_load x ≡ last_load y → x ≡ y
-last_same Ends Ends e = refl
-last_same Ends (Fails f) e = absurd cc
-last_same (Fails f) Ends e = absurd cc
-last_same (Fails f) (Fails g) e = ap Fails (go e)
-  where
-    go : ◌≡◌ {A = Load} (Err f) (Err g) → f ≡ g
-    go h = cc
-
-document_same : (d c : Document) → ◌≡◌ {A = Load} (Ok d) (Ok c) → d ≡ c
-document_same d c e = cc
-
 loads_same : (c d : List Document) (x y : Ending) → as_loads c x ≡ as_loads d y → (c ≡ d) × (x ≡ y)
-loads_same [] [] x y e = (refl, last_same x y (head_same (last_load x) (last_load y) [] [] e))
-loads_same [] (b ∷ d) x y e = absurd (go d (tail_same (last_load x) (Ok b) [] (as_loads d y) e))
-  where
-    go : (d : List Document) → [] ≡ as_loads d y → ⊥
-    go [] h = not_cons (last_load y) [] h
-    go (b ∷ d) h = not_cons (Ok b) (as_loads d y) h
-loads_same (a ∷ c) [] x y e = absurd (go c (sym (tail_same (Ok a) (last_load y) (as_loads c x) [] e)))
-  where
-    go : (d : List Document) → [] ≡ as_loads d x → ⊥
-    go [] h = not_cons (last_load x) [] h
-    go (b ∷ d) h = not_cons (Ok b) (as_loads d x) h
-loads_same (a ∷ c) (b ∷ d) x y e =
-    let r = loads_same c d x y (tail_same (Ok a) (Ok b) (as_loads c x) (as_loads d y) e) in
-    let h = document_same a b (head_same (Ok a) (Ok b) (as_loads c x) (as_loads d y) e) in
-    (ap (λ (z : Document). z ∷ c) h ∙ ap (λ (z : List Document). b ∷ z) r.0, r.1)
+loads_same c d x y e = let s = same_loads c d (last_load x) (last_load y) e in (s.0, last_same x y s.1)
 
 -- what a list of loads says of itself: it stopped as a run does, or by a composer error
 data LoadStop (a : List Answer) (taken : List Event) (all : yaml_documents_t) : Type 0 where

@@ -1,14 +1,12 @@
 -- How the documents of a whole run are gathered, load by load.
-use Rattle.std.proofs.Common.{◌≡◌, ◌≢◌, ◌<◌, ◌⊎◌, ◌++◌, ℕ, pos, nat_eq, List, [], ◌∷◌, length, map, arith, All, Option}
+use Rattle.std.proofs.Common.{◌≡◌, ◌≢◌, ◌<◌, ◌⊎◌, ◌++◌, ℕ, pos, List, [], ◌∷◌, map, All, Option}
 use Rattle.std.proofs.Common.{Some, None, Ok, Err}
 use Rattle.std.proofs.Common.{true, false, append_assoc, refl, sym, ap, ap₂, ◌∙◌, subst, inl, inr, ⊎_elim}
-use Rattle.std.proofs.lemmas.Bool.{eqb-true}
 use Rattle.std.proofs.lemmas.List.{append-nil}
-use Rattle.std.proofs.lemmas.List.Elements.{All-cons, All-head, All-nil, All-tail}
+use Rattle.std.proofs.lemmas.List.Elements.{All-nil}
 use Rattle.libyaml_types.specs.declared.enums.yaml_error_type_t.{yaml_error_type_t}
 use Rattle.libyaml_types.specs.declared.enums.yaml_error_type_t.TheVariants.{YAML_MEMORY_ERROR}
 use Rattle.libyaml_documents.specs.Documents.{Document, empty_document}
-use Rattle.libyaml_documents.specs.declared.node.yaml_node_t.{yaml_node_t}
 use Rattle.libyaml_events.specs.machine.Config.{Parser}
 use Rattle.libyaml_grammar.specs.sentences.Events.{Event, events}
 use Rattle.libyaml_types.specs.Fault.{Answer, Fault, memory_fault}
@@ -28,6 +26,7 @@ use Rattle.libyaml_graphs.specs.loads.Bounds.{NoneLacksMemory, bounded_loads, ne
 use Rattle.libyaml_graphs.specs.loads.GraphLaws.{RootsFollow}
 use Rattle.libyaml_graphs.specs.loads.Loads.{IsLoads, Load, last_load, left_over, loads, loads_of}
 use Rattle.libyaml_graphs.proofs.lent.BoundedFronts.{IsFront, front_of_loads, met, same}
+use Rattle.libyaml_graphs.proofs.lent.LoadLists.{HasRoot, oks_last, roots_behind, roots_last}
 use Rattle.libyaml_loader.specs.document.Ids.{magnitude}
 use Rattle.libyaml_loader.specs.loads.Loading.{DocumentOrError, KeptBy, LoadFails, Loads, LoadsFrom, ParserFails, Took}
 use Rattle.libyaml_loader.specs.loads.Loading.{at_end, by_loader}
@@ -41,9 +40,6 @@ use Rattle.unsafe_libyaml.specs.declared.load_all.yaml_documents_t.{yaml_documen
 -- the bound of a parser that was made and not told another
 abbrev pub most : ℕ
 most = 2147483647
-
-abbrev HasRoot : Document → Type 0
-HasRoot d = d.nodes ≢ []
 
 abbrev oks : List Document → List Load
 oks ds = map (λ (d : Document). Ok d) ds
@@ -78,15 +74,6 @@ pub record LoadLaws {S : Type 0} (gives : S → Answer → S → Type 0) : Type 
       → bounded_loads n l x ≡ loads l x
 
 -- lists of loads
-oks_last : (ds : List Document) (d : Document) (l : List Load) → oks ds ++ Ok d ∷ l ≡ oks (ds ++ d ∷ []) ++ l
-oks_last [] d l = refl
-oks_last (c ∷ ds) d l = ap (λ (k : List Load). Ok c ∷ k) (oks_last ds d l)
-
-roots_last : (ds : List Document) (d : Document) → All HasRoot ds → d.nodes ≢ [] → All HasRoot (ds ++ d ∷ [])
-roots_last [] d h k = All-cons HasRoot d [] k (All-nil HasRoot)
-roots_last (c ∷ ds) d h k = All-cons HasRoot c (ds ++ d ∷ []) (All-head HasRoot c ds h)
-    (roots_last ds d (All-tail HasRoot c ds h) k)
-
 none_lacks : (ds : List Document) (l : List Load) → NoneLacksMemory l → NoneLacksMemory (oks ds ++ l)
 none_lacks [] l h = h
 none_lacks (d ∷ ds) l h = none_lacks ds l h
@@ -117,10 +104,6 @@ loaded_first : (within all : List Load) → IsFront within all → (loaded : Lis
 loaded_first within all (same e) loaded behind h = (behind, sym e ∙ h)
 loaded_first within all (met ds rest i j) loaded behind h = let k = oks_first loaded ds behind rest (sym i ∙ h)
     in (k.0, j ∙ k.1)
-
-roots_behind : (l r : List Event) → RootsFollow (l ++ r) → RootsFollow r
-roots_behind [] r h = h
-roots_behind (e ∷ l) r h = roots_behind l r h.1
 
 pub loaded_none : {S : Type 0} (gives : S → Answer → S → Type 0) (source : S) (p : Parser S)
     → GaveSoFar gives source p [] → between_documents p ≡ true
@@ -338,15 +321,6 @@ loads_to gives MayBreak source all g l f a h tells = subst (LoadsTo gives MayBre
         (tells.stopped (faults.fault_of p) s))
         (λ c. told.whole (sym (c begins.0 h.ending) ∙ ap (λ (l : List Event). loads l h.ending) (sym begins.1)))
         (g.stopped p i)
-
--- a document whose nodes are counted
-pub bare : (ns : List yaml_node_t) → nat_eq (length ns) 0 ≡ true → ns ≡ []
-bare [] h = refl
-bare (n ∷ ns) h = absurd (omega (arith, eqb-true (length (n ∷ ns)) 0 h))
-
-pub rooted : (ns : List yaml_node_t) → nat_eq (length ns) 0 ≡ false → ns ≢ []
-rooted [] h e = absurd cc
-rooted (n ∷ ns) h e = cc
 
 -- after a document with a root fewer events are left
 pub fewer : (d : Document) (new old : ℕ) → (d ≡ empty_document None [] false false) ⊎ (new < old) → d.nodes ≢ [] → new < old

@@ -1,10 +1,9 @@
 -- What the machine makes of directives and handles is what the grammar says of them.
 use Rattle.std.specs.Prelude.{◌||◌, not, bytes_eq}
 use Rattle.std.proofs.Common.{◌≡◌, ℕ, ◌++◌, List, [], ◌∷◌, Option, Some, None, refl, sym, ap, ◌∙◌, Bool, true, false}
-use Rattle.std.proofs.Common.{cond, nat_cmp, codes}
-use Rattle.std.specs.Ordering.{eq_by_cmp}
-use Rattle.std.specs.Cmp.Lexicographic.{slice_cmp, texts_ties, nat_list_eq_equiv, nat_list_cmp_total}
-use Rattle.std.specs.FinMap.{get, insert, get-insert, get-from_entries}
+use Rattle.std.proofs.Common.{cond, codes}
+use Rattle.std.specs.Cmp.Lexicographic.{nat_list_eq_equiv, nat_list_cmp_total}
+use Rattle.std.specs.FinMap.{get, insert, get-from_entries}
 use Rattle.libyaml_events.specs.machine.Machine as mach
 use Rattle.libyaml_grammar.specs.cuts.CutFaults.{directive_fault}
 use Rattle.libyaml_grammar.specs.sentences.Tokens.{HandleDeclared, Mark, Marks, TagDirective, TagName, Token}
@@ -19,6 +18,7 @@ use Rattle.libyaml_events.specs.machine.Config.{Config, Handles}
 use Rattle.libyaml_events.specs.machine.Machine.{explicit_document, or_default, resolve, with_prefix}
 use Rattle.libyaml_events.proofs.machine.Link.{End, after, directive_ends, handles_of, waits}
 use Rattle.libyaml_grammar.proofs.lent.Lists.{assoc}
+use Rattle.libyaml_grammar.proofs.lent.TextMaps.{inserted}
 use Rattle.libyaml_events.specs.declared.pending.DirectivesRead.{DirectivesRead}
 use Rattle.libyaml_events.specs.machine.Want.{BehindDirective}
 use Rattle.libyaml_types.specs.declared.directive.yaml_tag_directive_t.{yaml_tag_directive_t}
@@ -27,9 +27,6 @@ use Rattle.libyaml_types.specs.declared.directive.yaml_version_directive_t.{yaml
 -- comparing texts
 same_swapped : (a b : List ℕ) → bytes_eq a b ≡ bytes_eq b a
 same_swapped a b = nat_list_eq_equiv.symm a b
-
-same_keys : (q g : List ℕ) → eq_by_cmp (slice_cmp nat_cmp) q g ≡ bytes_eq g q
-same_keys q g = sym (texts_ties q g) ∙ same_swapped q g
 
 -- a handle in the map of handles
 abbrev text_or : Bool → List ℕ → List ℕ → List ℕ
@@ -44,9 +41,6 @@ default_same h = ap (λ (u : Bool). cond u (Some (codes "!"))
     ∙ ap (λ (u : Bool). cond (bytes_eq (codes "!") h) (Some (codes "!"))
     (cond u (Some (codes "tag:yaml.org,2002:")) None))
     (same_swapped h (codes "!!"))
-
-inserted : (hs : Handles) (g p h : List ℕ) → get (insert hs g p) h ≡ cond (bytes_eq g h) (Some p) (get hs h)
-inserted hs g p h = get-insert nat_list_cmp_total hs g p h ∙ ap (λ (u : Bool). cond u (Some p) (get hs h)) (same_keys h g)
 
 none_declared : (h : List ℕ) → get (handles_of no_directives) h ≡ None
 none_declared h = get-from_entries nat_list_cmp_total [] h

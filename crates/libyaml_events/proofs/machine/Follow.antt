@@ -1,6 +1,6 @@
 -- The machine follows the grammar: all that one token makes it do at a position is what the grammar says of it.
-use Rattle.std.specs.Prelude.{◌&&◌}
 use Rattle.std.proofs.Common.{◌≡◌, ℕ, suc, List, [], ◌∷◌, Option, Some, None, refl, ap, ◌∙◌, Bool, true, false, Ok}
+use Rattle.std.proofs.lemmas.Bool.{and_parts}
 use Rattle.libyaml_events.specs.machine.Machine.{Progressed, parse_node, node_content, no_content, content_behind}
 use Rattle.libyaml_events.specs.machine.Machine.{content_resolved, implicit_document}
 use Rattle.libyaml_grammar.specs.cuts.CutTrees.{declared, open_collection}
@@ -284,25 +284,21 @@ only_is p (tag h x) k m = refl
 only_is p (anchor_tag a x h y) k m = refl
 only_is p (tag_anchor h x a y) k m = refl
 
-and_true : (a b : Bool) → a && b ≡ true → a ≡ true
-and_true true b e = refl
-and_true false b e = absurd cc
-
 content_is : (p : Place) (ps : Properties) (k : Content) (m : Marks) → properties_in_order (declared p) ps true ≡ true
     → content_behind (kind p) (read_of ps) (read_of ps).tag (node_config p) (tok k m) k ≡ with_tag p ps k m
 content_is p (anchor a x) k m e = refl
 content_is p (tag h x) k m e =
     ap (λ (o : Option (List ℕ)). content_resolved (kind p) (read_of (tag h x)) (tag_read h x.start) o
     (node_config p) (tok k m) k)
-    (resolve_is (declared p) h (and_true (is_known (declared p) h.handle) true e))
+    (resolve_is (declared p) h (and_parts (is_known (declared p) h.handle) true e).0)
 content_is p (anchor_tag a x h y) k m e
     = ap (λ (o : Option (List ℕ)). content_resolved (kind p) (read_of (anchor_tag a x h y)) (tag_read h y.start) o
     (node_config p) (tok k m) k)
-    (resolve_is (declared p) h (and_true (is_known (declared p) h.handle) true e))
+    (resolve_is (declared p) h (and_parts (is_known (declared p) h.handle) true e).0)
 content_is p (tag_anchor h x a y) k m e
     = ap (λ (o : Option (List ℕ)). content_resolved (kind p) (read_of (tag_anchor h x a y)) (tag_read h x.start) o
     (node_config p) (tok k m) k)
-    (resolve_is (declared p) h (and_true (is_known (declared p) h.handle) true e))
+    (resolve_is (declared p) h (and_parts (is_known (declared p) h.handle) true e).0)
 
 abbrev Behind : ℕ → Place → Properties → Content → Marks → List Event → Progressed → Step → List Event → Type 0
 Behind n p ps k m r o s g = after o (more (suc (suc (suc n))) r) r ≡ (g, step_ends s no_directives k m)

@@ -1,6 +1,7 @@
 -- How the steps of a push take the token.
 use Rattle.std.proofs.Common.{◌≡◌, ◌≤◌, ◌<◌, ◌+◌, arith, ◌++◌, ◌∷◌, List, [], length, Option, Some, None, Ok, Err, Bool}
 use Rattle.std.proofs.Common.{true, false, refl, sym, ap, ◌∙◌, subst}
+use Rattle.std.proofs.lemmas.Bool.{both_ways}
 use Rattle.libyaml_types.specs.declared.enums.yaml_error_type_t.{yaml_error_type_t}
 use Rattle.libyaml_types.specs.declared.enums.yaml_error_type_t.TheVariants.{YAML_MEMORY_ERROR, YAML_PARSER_ERROR}
 use Rattle.libyaml_types.specs.declared.enums.yaml_parser_state_t.TheVariants.{YAML_PARSE_END_STATE}
@@ -23,7 +24,7 @@ use Rattle.libyaml_events.proofs.calls.Falling.{FallsBelow, falls_on, weight}
 use Rattle.libyaml_events.proofs.calls.Parsed.{has_failed}
 use Rattle.libyaml_events.proofs.machine.StepKinds.{room}
 use Rattle.libyaml_events.proofs.machine.Stand.{Leads, Links}
-use Rattle.libyaml_events.proofs.pushes.Feeding.{InHand, Running, fed_to, has_ended, not_both, running, runs}
+use Rattle.libyaml_events.proofs.pushes.Feeding.{InHand, Running, fed_to, has_ended, running, runs}
 use Rattle.libyaml_events.proofs.pushes.Few.{few}
 use Rattle.libyaml_events.proofs.lent.OneOutcome.{failed_run}
 
@@ -170,7 +171,7 @@ module _ {S : Type 0} (Full : Type 0) (w0 : Want) (c0 : Config) (t : Token) (bef
 
         by : Running w0 c0 l g → length (k.added ++ e ∷ []) ≤ 4
         by (runs i s) = few l g w0 c0 t (k.added ++ e ∷ []) mid.config s links
-        by (has_ended i m) = absurd (not_both (ended_or_failed c0) k.begun i)
+        by (has_ended i m) = absurd (both_ways (ended_or_failed c0) k.begun i)
 
     -- and the token stays
     pub goes_on : (v : Token) → mid.config.lookahead ≡ Some v → ended_or_failed (taken mid.config) ≡ false
@@ -202,5 +203,5 @@ module _ {S : Type 0} (Full : Type 0) (w0 : Want) (c0 : Config) (t : Token) (bef
       ends_so = λ l g f.
           let b : InHand AtState (taken mid.config) v (l ++ t ∷ []) (g ++ (k.added ++ e ∷ [])) =
           fed_to (given_fed (Some v) i l g f) in
-          absurd (not_both (ended_or_failed (taken mid.config)) (running (taken mid.config) b.good.1 b.alive) (r refl));
+          absurd (both_ways (ended_or_failed (taken mid.config)) (running (taken mid.config) b.good.1 b.alive) (r refl));
     }

@@ -1,6 +1,7 @@
 -- The events of a tree are those of its values.
 use Rattle.std.specs.Prelude.{not}
 use Rattle.std.proofs.Common.{◌≡◌, ℕ, List, [], ◌∷◌, Option, Bool, true, false, refl, sym, ap, ◌∙◌}
+use Rattle.std.proofs.Math.Bool.{not-not}
 use Rattle.libyaml_types.specs.declared.event.unnamed_yaml_event_t_data.TheVariants as ev
 use Rattle.libyaml_types.specs.declared.event.unnamed_yaml_event_t_data_document_start.{unnamed_yaml_event_t_data_document_start}
 use Rattle.libyaml_grammar.specs.sentences.Events.{Event, Layout, before_events, block_layout, block_node_events}
@@ -158,10 +159,6 @@ waits no_parts b = b
 waits (part ps key m x) b = not b
 waits (part ps value m x) b = b
 
-twice : (b : Bool) → not (not b) ≡ b
-twice true = refl
-twice false = refl
-
 pub record Turned (f : Bool → Bool) (g : List Event → List Event) : Type 0 where
   pub vals : Values
   pub same : (r : List Event) → g r ≡ values_events vals r
@@ -188,7 +185,7 @@ turned_all a = record { vals = a.vals; same = a.same; pairs = a.pairs; even = ev
 whole_pairs : (ds : Directives) (ps : Parts) (m : Mark) → Turned (waits ps) (parts_events ds ps m)
     → Turned (λ (b : Bool). b) (λ (r : List Event). parts_events ds ps m (missing_value ps m r))
 whole_pairs ds no_parts m a = a
-whole_pairs ds (part ps key v x) m a = turned_as twice (turned_then a (empty_gives m))
+whole_pairs ds (part ps key v x) m a = turned_as not-not (turned_then a (empty_gives m))
 whole_pairs ds (part ps value v x) m a = a
 
 with_key : (ds : Directives) (ps : Parts) (m : Mark) → Turned (waits ps) (parts_events ds ps m)
@@ -224,7 +221,7 @@ mutual
   parts_give ds (part ps key v x) m
       = turned_then (whole_pairs ds ps v.start (parts_give ds ps v.start)) (slot_gives ds x v.end m)
   parts_give ds (part ps value v x) m
-      = turned_as twice (turned_then (with_key ds ps v.start (parts_give ds ps v.start)) (slot_gives ds x v.end m))
+      = turned_as not-not (turned_then (with_key ds ps v.start (parts_give ds ps v.start)) (slot_gives ds x v.end m))
 
 -- documents
 pub record AllTexts (g : List Event → List Event) : Type 0 where

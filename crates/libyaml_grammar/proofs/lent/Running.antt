@@ -3,8 +3,7 @@ use Rattle.std.specs.Prelude.{◌||◌}
 use Rattle.std.proofs.Common.{◌≡◌, ◌⊎◌, inl, inr, List, [], ◌∷◌, ◌++◌, Bool, true, false, refl, sym, ap, ◌∙◌, subst}
 use Rattle.std.proofs.Common.{append-nil}
 use Rattle.std.proofs.lemmas.List.{append_cancel_left}
-use Rattle.libyaml_types.specs.declared.enums.yaml_error_type_t.TheVariants.{YAML_PARSER_ERROR}
-use Rattle.libyaml_types.specs.Errors.{IsSourceError}
+use Rattle.std.proofs.lemmas.Bool.{false_from_ne_true}
 use Rattle.libyaml_grammar.specs.cuts.CutEvents.{shown_cut}
 use Rattle.libyaml_grammar.specs.cuts.CutFaults.{fault}
 use Rattle.libyaml_grammar.specs.cuts.CutTrees.{Cut, at_tag, at_tag_behind, cut_tokens, declared}
@@ -14,7 +13,7 @@ use Rattle.libyaml_grammar.specs.cuts.Fits.{Fits, FitsTag, IsUnknown}
 use Rattle.libyaml_grammar.specs.sentences.Order.{in_order}
 use Rattle.libyaml_grammar.proofs.lent.Positions.{Position, done, unopened}
 use Rattle.libyaml_grammar.proofs.lent.Reading.{Step, bad, bad_same, goes, goes_same, over, reads, reads_all, then_all}
-use Rattle.libyaml_grammar.specs.runs.Runs.{Ending, Ends, Fails, HasFault, IsRun, amid_properties, has_token, is_behind}
+use Rattle.libyaml_grammar.specs.runs.Runs.{Ending, Ends, Fails, IsRun, amid_properties, has_token, is_behind}
 use Rattle.libyaml_grammar.specs.runs.Runs.{is_behind_properties}
 use Rattle.libyaml_grammar.specs.runs.Runs.{of_beginning, of_cut_tree, of_sentence}
 use Rattle.libyaml_grammar.specs.sentences.Sentences.{IsBeginning, IsSentence, has_end, is_end}
@@ -29,15 +28,9 @@ use Rattle.libyaml_grammar.proofs.lent.Fitting.{read_over, stops_fits}
 use Rattle.libyaml_grammar.proofs.lent.ReadSteps.{IsNotDone}
 use Rattle.libyaml_grammar.proofs.lent.OneCut.{fits_reach, fits_stop}
 use Rattle.libyaml_grammar.proofs.lent.Settling.{begin_front, front_settles, one_settled_proof}
-use Rattle.libyaml_grammar.proofs.lent.StreamEnds.{IsDone, end_is_done, no_end_unless, not_end_not_done, read_done}
+use Rattle.libyaml_grammar.proofs.lent.StreamEnds.{IsDone, end_is_done, not_end_not_done, read_done}
 use Rattle.libyaml_grammar.proofs.lent.StreamEnds.{sentence_has_end}
-
--- lists of tokens
-first_same : (a b : Token) (l r : List Token) → a ∷ l ≡ b ∷ r → a ≡ b
-first_same a b l r e = cc
-
-rest_same : (a b : Token) (l r : List Token) → a ∷ l ≡ b ∷ r → l ≡ r
-rest_same a b l r e = cc
+use Rattle.libyaml_grammar.proofs.lent.Same.{head_same, tail_same}
 
 -- before the last of these tokens there is no STREAM-END
 end_last : (l a : List Token) (t : Token) (r : List Token) → up_to_end l ≡ a ++ t ∷ r → has_end a ≡ false
@@ -45,8 +38,8 @@ end_last l [] t r e = refl
 end_last [] (x ∷ a) t r e = absurd cc
 end_last (y ∷ l) (x ∷ a) t r e
     = go (λ (g : up_to_end l ≡ a ++ t ∷ r). end_last l a t r g) (is_end y.content)
-    (ap (λ (u : Token). is_end u.content) (first_same y x _ (a ++ t ∷ r) e))
-    (rest_same y x _ (a ++ t ∷ r) e)
+    (ap (λ (u : Token). is_end u.content) (head_same y x _ (a ++ t ∷ r) e))
+    (tail_same y x _ (a ++ t ∷ r) e)
   where
     none : (a : List Token) → [] ≡ a ++ t ∷ r → ⊥
     none [] f = cc
@@ -137,8 +130,8 @@ cut_same : (l : List Token) (f : Fault) (d e : List Event) (x y : Ending) (a b :
 cut_same l f d e x y a b t u r s c g h i j k m n =
     let o : t ∷ r ≡ u ∷ s = append_cancel_left a (t ∷ r) (u ∷ s) (sym g ∙ (h
     ∙ ap (λ (z : List Token). z ++ u ∷ s) (sym i))) in
-    let p : t ≡ u = first_same t u r s o in
-    let q : r ≡ s = rest_same t u r s o in
+    let p : t ≡ u = head_same t u r s o in
+    let q : r ≡ s = tail_same t u r s o in
     let ending : Token → List Token
     → Ending = λ z w. elim (is_behind_properties c w)
     [ true ↦ Fails (fault c z.content z.start_mark) | false ↦ Fails f ] in (
@@ -246,7 +239,7 @@ sentence_run t r f o =
 -- no cut tree has a STREAM-END
 cut_not_ended : (l : List Token) (b : Token) (c : Cut) → Fits l b c → has_end l ≡ false
 cut_not_ended l b c f
-    = no_end_unless l (λ e. no (reached c) refl (end_is_done l unopened (reached c) (fits_reach l b c f) e))
+    = false_from_ne_true (has_end l) (λ e. no (reached c) refl (end_is_done l unopened (reached c) (fits_reach l b c f) e))
   where
     no : (x : Position) → reached c ≡ x → IsDone x → ⊥
     no (done t) g d = let h : bad c ≡ over = sym (fits_stop l b c f) ∙ ap (λ (y : Position). reads y b) g in cc

@@ -1,6 +1,7 @@
 -- What a front tree settles is what its sentences' events have in common.
 use Rattle.std.proofs.Common.{◌≡◌, ◌↔◌, ℕ, List, [], ◌∷◌, ◌++◌, None, true, false, refl, sym, ap, ◌∙◌, subst}
 use Rattle.std.proofs.Common.{append_assoc, arith, append-nil}
+use Rattle.std.proofs.lemmas.Bool.{false_from_ne_true}
 use Rattle.libyaml_types.specs.Events.{zero_mark}
 use Rattle.libyaml_grammar.specs.sentences.Events.{Event, events, first_block, first_flow}
 use Rattle.libyaml_grammar.specs.sentences.Order.{in_order}
@@ -32,10 +33,11 @@ use Rattle.libyaml_grammar.proofs.lent.Orders.{reads_to}
 use Rattle.libyaml_grammar.proofs.lent.Run.{begin_events, given_shown}
 use Rattle.libyaml_grammar.proofs.lent.Shows.{block_shows, node_shows}
 use Rattle.libyaml_grammar.proofs.lent.Splits.{position_splits}
-use Rattle.libyaml_grammar.proofs.lent.StreamEnds.{IsDone, end_is_done, no_end_unless, not_end_not_done}
+use Rattle.libyaml_grammar.proofs.lent.StreamEnds.{IsDone, end_is_done, not_end_not_done}
 use Rattle.libyaml_grammar.proofs.trees.Complete.{edge_block, edge_flow, stream_reads}
 use Rattle.libyaml_grammar.proofs.trees.Edge.{reached}
 use Rattle.libyaml_grammar.proofs.runs.Prompt.{differ}
+use Rattle.libyaml_grammar.proofs.lent.Same.{head_same, tail_same}
 
 -- what is sure is what is shown at the right edge
 flow_edge_shows : (p : Place) (n : FlowNode) (m : Mark) → shown (edge_flow p n) m [] ≡ shown_place p (first_flow n)
@@ -93,12 +95,6 @@ begins_each l c f = λ t rest o e. (
 )
 
 -- lists of events
-head_same : (a b : Event) (l r : List Event) → a ∷ l ≡ b ∷ r → a ≡ b
-head_same a b l r e = cc
-
-tail_same : (a b : Event) (l r : List Event) → a ∷ l ≡ b ∷ r → l ≡ r
-tail_same a b l r e = cc
-
 in_common : (d r s e x y : List Event) → e ++ x ≡ d ++ r → e ++ y ≡ d ++ s → (next_event x ≡ next_event y → ⊥) → Begins d e
 in_common [] r s e x y f g n = (e, refl)
 in_common (a ∷ d) r s [] x y f g n = absurd (n (ap next_event f ∙ sym (ap next_event g)))
@@ -209,7 +205,7 @@ settled_open l e b h s =
 pub front_begins : (l : List Token) (c : Cut) → IsFront l c → IsBeginning l × (has_end l ≡ false)
 front_begins l c f = (
   reached_begins l (reached c) (front_reads l c f),
-  no_end_unless l (λ e. open_still (reached c) (not_done_front l c f)
+  false_from_ne_true (has_end l) (λ e. open_still (reached c) (not_done_front l c f)
       (end_is_done l unopened (reached c) (front_reads l c f) e)),
 )
   where

@@ -1,6 +1,6 @@
 -- What holds of each position that is reached from before the stream.
-use Rattle.std.specs.Prelude.{◌&&◌}
-use Rattle.std.proofs.Common.{◌≡◌, Some, None, refl, Bool, true, false, List}
+use Rattle.std.proofs.Common.{◌≡◌, Some, None, refl, Bool, true, List}
+use Rattle.std.proofs.lemmas.Bool.{and_from}
 use Rattle.libyaml_grammar.specs.sentences.Tokens.{Content, Marks}
 use Rattle.libyaml_grammar.specs.sentences.Trees.{BlockNode, FlowMember, FlowNode, alone, flow, no_value, pair, single}
 use Rattle.libyaml_grammar.specs.sentences.Trees.{with_value}
@@ -69,10 +69,6 @@ left_held (block (root (implicit_root f))) = tt
 left_held (block (slot (part_place c o s ps k v))) = tt
 left_held _ = tt
 
-and_true : (b : Bool) → b ≡ true → b && true ≡ true
-and_true true e = refl
-and_true false e = cc
-
 meets : {m : Marks} {q : Position} {k : Content} {s : Step} {g : List Event → List Event} {l : Bool}
     → ReadStep m q k s g l → IsHeld q → Meets s l
 meets is_past w = tt
@@ -82,8 +78,8 @@ meets (fails x) w = tt
 meets (an_alias p a) w = λ e. fill_flow_met p _
 meets an_anchor w = λ e. refl
 meets (anchor_behind_tag p h n) w = λ e. w
-meets (a_tag p h) w = λ e. and_true (is_known (declared p) h.handle) e
-meets (tag_behind_anchor p a n h) w = λ e. and_true (is_known (declared p) h.handle) e
+meets (a_tag p h) w = λ e. and_from (is_known (declared p) h.handle) true e refl
+meets (tag_behind_anchor p a n h) w = λ e. and_from (is_known (declared p) h.handle) true e refl
 meets (a_scalar p o v) w = λ e. fill_flow_met p _
 meets (ends_sequence c) w = λ e. fill_met c _
 meets (ends_mapping c) w = λ e. fill_met c _

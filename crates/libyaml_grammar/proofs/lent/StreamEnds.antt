@@ -50,13 +50,6 @@ not_end_not_done l q e h = open_at q (stays_open l unopened q refl h e)
     open_at (done t) f = absurd cc
     open_at _ f = tt
 
-pub no_end_unless : (l : List Token) → (has_end l ≡ true → ⊥) → has_end l ≡ false
-no_end_unless l n = go (has_end l) refl
-  where
-    go : (b : Bool) → has_end l ≡ b → has_end l ≡ false
-    go true e = absurd (n e)
-    go false e = e
-
 pub sentence_has_end : (l : List Token) → IsSentence l → has_end l ≡ true
 sentence_has_end l s = go (has_end l) refl
   where

@@ -3,6 +3,7 @@
 use Rattle.std.specs.Prelude.{◌&&◌, not}
 use Rattle.std.proofs.Common.{◌≡◌, List, [], ◌∷◌, Option, Some, None, refl, sym, ap, ◌∙◌, subst, ◌⊎◌, inl, inr, ⊎_elim}
 use Rattle.std.proofs.Common.{Bool, true, false}
+use Rattle.std.proofs.lemmas.Bool.{true_from_ne_false}
 use Rattle.libyaml_grammar.specs.sentences.Tokens.{Anchor, AnchorName, Content, DocumentEnd, DocumentStart, Marks}
 use Rattle.libyaml_grammar.specs.sentences.Tokens.{StreamEnd, TagDirective, Token}
 use Rattle.libyaml_grammar.specs.sentences.Tokens.{VersionDirective, tok}
@@ -169,10 +170,6 @@ no_directive (tag_behind_anchor p a n h) b ds f e =
     let z = order_or_goes (due p (Some (anchor_tag a n h _))) (is_known (declared p) h.handle) (at_directive b ds) e in cc
 no_directive _ b ds f e = cc
 
-true_unless_false : (b : Bool) → (b ≡ false → ⊥) → b ≡ true
-true_unless_false true f = refl
-true_unless_false false f = absurd (f refl)
-
 document_fails : {m : Marks} {q : Position} {k : Content} {s : Step} {g : List Event → List Event} {l : Bool}
     → ReadStep m q k s g l → (d : Documents) → s ≡ bad (document_due d) → is_directive k ≡ false
 document_fails (moves x h) d e = document_fails h d e
@@ -204,10 +201,10 @@ gives_directive (document_due d) k m e
 gives_directive (start_due b ds d) k m e
     = start_fails (read_step m (headed b ds d) k) b ds d (step_fails (headed b ds d) k m (start_due b ds d) (λ f. f) e)
 gives_directive (at_directive (free f) no_directives) k m e =
-    true_unless_false (is_directive k) (λ g. no_directive (read_step m (between (free f)) k) (free f) no_directives g e)
+    true_from_ne_false (is_directive k) (λ g. no_directive (read_step m (between (free f)) k) (free f) no_directives g e)
 gives_directive (at_directive (behind d) no_directives) k m e =
-    true_unless_false (is_directive k) (λ g. no_directive (read_step m (edge_documents d) k) (behind d) no_directives g e)
+    true_from_ne_false (is_directive k) (λ g. no_directive (read_step m (edge_documents d) k) (behind d) no_directives g e)
 gives_directive (at_directive b (directive ds d)) k m e =
-    true_unless_false (is_directive k) (λ g. no_directive (read_step m (headed b ds d) k) b (directive ds d) g e)
+    true_from_ne_false (is_directive k) (λ g. no_directive (read_step m (headed b ds d) k) b (directive ds d) g e)
 gives_directive (content_due (block (root (implicit_root f)))) k m e = no_root f k m e
 gives_directive _ k m e = tt

@@ -1,7 +1,7 @@
 -- Each list is a sentence or a beginning, or a cut tree fits it, and not both.
-use Rattle.std.specs.Prelude.{◌||◌}
-use Rattle.std.proofs.Common.{◌≡◌, List, [], ◌∷◌, ◌++◌, refl, sym, ap, ◌∙◌, subst, Bool, true, false, ◌⊎◌, inl, inr}
+use Rattle.std.proofs.Common.{◌≡◌, List, [], ◌∷◌, ◌++◌, refl, sym, ap, ◌∙◌, subst, true, false, ◌⊎◌, inl, inr}
 use Rattle.std.proofs.Common.{append-nil}
+use Rattle.std.proofs.lemmas.Bool.{false≢true, or_from, or_parts}
 use Rattle.libyaml_grammar.specs.sentences.Tokens.{Marks, StreamEnd, Token, tok, zero_marks}
 use Rattle.libyaml_grammar.specs.sentences.Trees.{Stream}
 use Rattle.libyaml_grammar.specs.cuts.CutTrees.{Cut, cut_in_order, cut_tokens}
@@ -50,23 +50,12 @@ stopped l h = go (reads h.at h.token) refl
         let (t, f) = read_over h.at h.token e in
         inr (t, h.reached ∙ ap goes f)
 
-either_left : (a b : Bool) → a || b ≡ false → a ≡ false
-either_left true b e = e
-either_left false b e = refl
-
-either_right : (a b : Bool) → a || b ≡ false → b ≡ false
-either_right true b e = cc
-either_right false b e = e
-
-false_either : (a b : Bool) → a ≡ false → b ≡ false → a || b ≡ false
-false_either true b e f = e
-false_either false b e f = f
-
 -- a prefix of a list without STREAM-END has none
 front_open : (a b : List Token) → has_end (a ++ b) ≡ false → has_end a ≡ false
 front_open [] b e = refl
-front_open (t ∷ a) b e = false_either (is_end t.content) (has_end a) (either_left (is_end t.content) (has_end (a ++ b)) e)
-    (front_open a b (either_right (is_end t.content) (has_end (a ++ b)) e))
+front_open (t ∷ a) b e =
+    let h = or_parts (is_end t.content) (has_end (a ++ b)) e in
+    or_from (is_end t.content) (has_end a) h.0 (front_open a b h.1)
 
 -- neither has what stands before the last token of a list whose only STREAM-END is the last
 before_open : (l a b : List Token) (e t : Token) → l ++ e ∷ [] ≡ a ++ t ∷ b → has_end l ≡ false → has_end a ≡ false
@@ -75,15 +64,12 @@ before_open [] (x ∷ []) b e t f h = cc
 before_open [] (x ∷ y ∷ a) b e t f h = cc
 before_open (y ∷ l) (x ∷ a) b e t f h =
     let (g, r) = parts y x (l ++ e ∷ []) (a ++ t ∷ b) f in
-    false_either (is_end x.content) (has_end a)
-    (ap (λ (z : Token). is_end z.content) (sym g) ∙ either_left (is_end y.content) (has_end l) h)
-    (before_open l a b e t r (either_right (is_end y.content) (has_end l) h))
+    let k = or_parts (is_end y.content) (has_end l) h in
+    or_from (is_end x.content) (has_end a) (ap (λ (z : Token). is_end z.content) (sym g) ∙ k.0)
+    (before_open l a b e t r k.1)
   where
     parts : (y x : Token) (l a : List Token) → y ∷ l ≡ x ∷ a → (y ≡ x) × (l ≡ a)
     parts y x l a f = (cc, cc)
-
-no : false ≡ true → ⊥
-no e = cc
 
 pub beginning_or_cut : (l : List Token) → has_end l ≡ false → EitherNotBoth (IsBeginning l) (HasCut l)
 beginning_or_cut l n = (go (goes_or_stops l unopened), not_both l)
@@ -91,7 +77,7 @@ beginning_or_cut l n = (go (goes_or_stops l unopened), not_both l)
     late : (h : Stops l unopened) → HasCut l ⊎ ((t : Stream) × (reads_all h.before unopened ≡ goes (done t)))
         → IsBeginning l ⊎ HasCut l
     late h (inl c) = inr c
-    late h (inr (t, e)) = absurd (no
+    late h (inr (t, e)) = absurd (false≢true
         (stays_open h.before unopened (done t) refl
         (front_open h.before (h.token ∷ h.after) (sym (ap has_end h.all) ∙ n)) e))
 
@@ -112,7 +98,7 @@ sentence_or_cut l m n = (
     late : (h : Stops all unopened) → HasCut all ⊎ ((t : Stream) × (reads_all h.before unopened ≡ goes (done t)))
         → IsSentence all ⊎ HasCut all
     late h (inl c) = inr c
-    late h (inr (t, e)) = absurd (no
+    late h (inr (t, e)) = absurd (false≢true
         (stays_open h.before unopened (done t) refl
         (before_open l h.before h.after (tok StreamEnd m) h.token h.all n) e))
 

@@ -6,6 +6,7 @@ use Rattle.std.proofs.Common.{Option, Some, None, Bool, true, false}
 use Rattle.std.proofs.Common.{refl, sym, ap, ◌∙◌, subst, le_refl, le_trans, le_of_lt, lt-suc_self, suc-le-suc, zero-le}
 use Rattle.std.proofs.lemmas.Int.{ints}
 use Rattle.std.proofs.lemmas.List.Elements.{All-nil, All-cons}
+use Rattle.std.proofs.Math.Bool.{not-not}
 use Rattle.libyaml_grammar.specs.sentences.Events.{Event, Layout, end_at}
 use Rattle.libyaml_types.specs.Fault.{Fault}
 use Rattle.libyaml_grammar.specs.sentences.Nesting.{AllHavePairs, HasPairs, Texts, TextsHavePairs, Value, Values}
@@ -173,7 +174,7 @@ mutual
       (le_trans (all_starts_grow vs (starts_behind v es)) h)
       (values_ids vs n (starts_behind v es) r l (value_sound v es (values_events vs r) e).1 h k)
 
-moved : (a b : ℕ) → suc a + b ≡ a + suc b
+pub moved : (a b : ℕ) → suc a + b ≡ a + suc b
 moved a b = omega arith
 
 mutual
@@ -209,14 +210,10 @@ pub ids_even : (vs : Values) (es : List Start) → even_list (ids_of_all vs es) 
 ids_even no_values es = refl
 ids_even (first_value v vs) es = ap not (ids_even vs (starts_behind v es))
 
-pub twice : (b : Bool) → not (not b) ≡ true → b ≡ true
-twice true e = refl
-twice false e = e
-
 pairs_hold : (is : List ℕ) → even_list is ≡ true → ids_of_pairs (pairs is) ≡ items is
 pairs_hold [] e = refl
 pairs_hold (k ∷ []) e = cc
-pairs_hold (k ∷ v ∷ is) e = ap (λ (l : List ℤ). pos k ∷ pos v ∷ l) (pairs_hold is (twice (even_list is) e))
+pairs_hold (k ∷ v ∷ is) e = ap (λ (l : List ℤ). pos k ∷ pos v ∷ l) (pairs_hold is (sym (not-not (even_list is)) ∙ e))
 
 mutual
   pub holds_children : (v : Value) (es : List Start) → HasPairs v → HoldsItsChildren v es

@@ -16,12 +16,7 @@ use Rattle.libyaml_grammar.specs.sentences.Nesting.{first_value, no_texts, no_va
 use Rattle.libyaml_grammar.specs.sentences.Nesting.{scalar_value, text_behind, texts_events, value_events, values_events}
 use Rattle.libyaml_grammar.specs.sentences.Tokens.{Mark}
 use Rattle.libyaml_grammar.specs.sentences.Trees.{Sort, mapping, sequence}
-
-head_same : (a b : Event) (l m : List Event) → a ∷ l ≡ b ∷ m → a ≡ b
-head_same a b l m e = cc
-
-tail_same : (a b : Event) (l m : List Event) → a ∷ l ≡ b ∷ m → l ≡ m
-tail_same a b l m e = cc
+use Rattle.libyaml_grammar.proofs.lent.Same.{head_same, tail_same}
 
 -- two events that are one
 record OneEvent (k : unnamed_yaml_event_t_data) (m n : Mark) (l : List Event) (j : unnamed_yaml_event_t_data)

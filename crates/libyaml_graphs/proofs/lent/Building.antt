@@ -1,5 +1,5 @@
 -- A graph as it is built part by part, for a crate that follows another loader.
-pub use Rattle.libyaml_graphs.proofs.graphs.Ids.{even_list, ids_even, twice}
+pub use Rattle.libyaml_graphs.proofs.graphs.Ids.{even_list, ids_even}
 pub use Rattle.libyaml_graphs.proofs.graphs.TreeGraphs.{values_children}
 pub use Rattle.libyaml_graphs.proofs.loads.TextLoads.{front_closes, value_behind}
 pub use Rattle.libyaml_graphs.proofs.machine.Built.{AllHas, BeginsEmpty, Built, Has, Held, bare, build, build_finished}

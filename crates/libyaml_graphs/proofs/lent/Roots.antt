@@ -13,6 +13,7 @@ use Rattle.libyaml_grammar.specs.sentences.Nesting.{value_events, values_events,
 use Rattle.libyaml_grammar.specs.runs.Runs.{Ending, Ends, Fails}
 use Rattle.libyaml_grammar.specs.sentences.Tokens.{Mark}
 use Rattle.libyaml_grammar.specs.sentences.Trees.{mapping, sequence}
+use Rattle.libyaml_grammar.proofs.lent.Same.{ok_same}
 use Rattle.libyaml_documents.specs.Documents.{Document}
 use Rattle.libyaml_graphs.specs.loads.Bounds.{bounded_loads, first_stop, if_above, next_bounded}
 use Rattle.libyaml_graphs.specs.loads.GraphLaws.{BeginsNode, RootFollows, RootsFollow}
@@ -23,6 +24,7 @@ use Rattle.libyaml_graphs.specs.graphs.GraphParts.{Closing, Opening, Part, alias
 use Rattle.libyaml_graphs.specs.graphs.GraphParts.{end_part, graph, leaf_part, opening_of, part_in, part_of}
 use Rattle.libyaml_graphs.specs.graphs.GraphParts.{parts, start_part, with_part}
 use Rattle.libyaml_graphs.proofs.loads.OneLoad.{Follow, follow}
+pub use Rattle.libyaml_graphs.proofs.loads.OneLoad.{left_behind}
 
 -- an event within a document, and what such events keep of those after them
 abbrev pub IsInner : Event → Type 0
@@ -141,11 +143,8 @@ has_nodes (f ∷ r) o c n h s d e =
     first_node (part_of f) (parts r) n h (ap (λ (l : List Part). first_stop n [] [] l) (sym p) ∙ s)
     (ap (λ (l : List Part). graph [] l) (sym p) ∙ e)
 
-ok : (a b : Document) → ◌≡◌ {A = Load} (Ok a) (Ok b) → a ≡ b
-ok a b h = cc
-
 last_bare : (x : Ending) (d : Document) → last_load x ≡ Ok d → d.nodes ≡ []
-last_bare Ends d h = ap (λ (a : Document). a.nodes) (sym (ok _ d h))
+last_bare Ends d h = ap (λ (a : Document). a.nodes) (sym (ok_same _ d h))
 last_bare (Fails f) d h = absurd cc
 
 -- the root of the first document that begins follows
@@ -180,7 +179,7 @@ last_of r x n d h a e = go (begun r) (first_root r h) a
         at (Some f) c s u b = absurd cc
         at None (Some c) s u b
             = absurd (has_nodes t.rest t.opening c n root s u
-            (ap (λ (k : Document). k.nodes) (ok (document t.opening (graph [] (parts t.rest)) c) d b) ∙ e))
+            (ap (λ (k : Document). k.nodes) (ok_same (document t.opening (graph [] (parts t.rest)) c) d b) ∙ e))
         at None None s u b = (ap (λ (l : Load). l ∷ []) b, b)
 
 -- After a load with nodes come the loads of the events that it leaves.

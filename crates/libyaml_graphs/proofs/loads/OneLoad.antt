@@ -14,7 +14,7 @@ abbrev pub Follow : List Begun → Type 0
 Follow [] = Unit {0}
 Follow (b ∷ bs) = bs ≡ begun (behind_document b.rest)
 
-left_behind : (r : List Event) → begun_behind r ≡ begun (behind_document r)
+pub left_behind : (r : List Event) → begun_behind r ≡ begun (behind_document r)
 left_behind [] = refl
 left_behind (e ∷ r) = go (closing_of e) (left_behind r)
   where

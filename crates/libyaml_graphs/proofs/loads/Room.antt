@@ -5,6 +5,7 @@ use Rattle.std.proofs.Common.{ap, ◌∙◌, subst, append_assoc, append-nil, ar
 use Rattle.std.proofs.Common.{lt-suc_self, suc-le-suc, zero-le}
 use Rattle.std.proofs.Common.{le-ltb, ltb-false}
 use Rattle.std.proofs.lemmas.List.Elements.{All-cons, All-head, All-nil, All-tail}
+use Rattle.std.proofs.lemmas.Bool.{or_parts}
 use Rattle.libyaml_grammar.specs.sentences.Events.{Event}
 use Rattle.libyaml_types.specs.Fault.{Fault}
 use Rattle.libyaml_grammar.specs.runs.Runs.{Ending}
@@ -19,7 +20,8 @@ use Rattle.libyaml_graphs.specs.loads.Loads.{Begun, Load, answer, begun, documen
 use Rattle.libyaml_graphs.specs.loads.Loads.{loads_by, next_by, next_load}
 use Rattle.libyaml_graphs.specs.graphs.GraphParts.{Closing, Part, alias_part, behind, children, end_part, graph}
 use Rattle.libyaml_graphs.specs.graphs.GraphParts.{if_outer, leaf_part, parts, start_of, start_part}
-use Rattle.libyaml_graphs.proofs.machine.Sizes.{either_false, either_none}
+use Rattle.libyaml_graphs.proofs.machine.Sizes.{either_none}
+use Rattle.libyaml_graphs.proofs.graphs.Ids.{moved}
 
 outer_append : (d : ℕ) (is a x : List ℕ) → if_outer d is (a ++ x) ≡ if_outer d is a ++ x
 outer_append zero is a x = sym (append_assoc is a x)
@@ -72,7 +74,7 @@ front_shorter (leaf_part a x ∷ f) g es n h = front_shorter f g (start_of a x �
 front_shorter (start_part a x ∷ f) g es n h =
     let fs : List Start = start_of a x ∷ es in
     let k : (nat_lt n (entries x.content (children 0 fs (f ++ g))) ≡ false)
-    × (one_above n (list_sizes fs (f ++ g)) ≡ false) = either_false _ _ h in
+    × (one_above n (list_sizes fs (f ++ g)) ≡ false) = or_parts _ _ h in
     either_none _ _ (lt_down n _ _
     (more_entries x.content (children 0 fs f) (children 0 fs (f ++ g)) (children_begin f g 0 fs)) k.0)
     ∙ front_shorter f g fs n k.1
@@ -109,9 +111,6 @@ room (p ∷ r) es F n a b =
     go : (w : Option Fault) → if_wrong w (composer_fault (behind p es) r) ≡ or_else w (composer_fault (behind p es) r)
     go None = refl
     go (Some f) = refl
-
-moved : (a b : ℕ) → suc a + b ≡ a + suc b
-moved a b = omega arith
 
 graph_count : (r : List Part) (es : List Start) → length (all_behind es r) ≡ length es + length (graph es r)
 graph_count [] es = omega arith
@@ -189,7 +188,7 @@ unstopped (p ∷ P) es F n a b e =
 all_within : (n : ℕ) (ks : List ℕ) → one_above n ks ≡ false → All (λ k. k ≤ n) ks
 all_within n [] h = All-nil (λ k. k ≤ n)
 all_within n (k ∷ ks) h = let e : (nat_lt n k ≡ false)
-    × (one_above n ks ≡ false) = either_false _ _ h in All-cons (λ i. i ≤ n) k ks (ltb-false n k e.0) (all_within n ks e.1)
+    × (one_above n ks ≡ false) = or_parts _ _ h in All-cons (λ i. i ≤ n) k ks (ltb-false n k e.0) (all_within n ks e.1)
 
 -- the bound is exact
 pub bound_exact : (P : List Part) (n : ℕ) → (first_stop n [] [] P ≡ None) ↔ ((composer_fault [] P ≡ None) × StaysWithin n P)

@@ -9,6 +9,7 @@ use Rattle.std.specs.Cmp.Lexicographic.{slice_cmp, texts_ties, nat_list_eq_equiv
 use Rattle.std.specs.FinMap.{get, insert, get-insert, get-from_entries}
 use Rattle.libyaml_types.specs.Fault.{Fault}
 use Rattle.libyaml_grammar.specs.sentences.Tokens.{Mark}
+use Rattle.libyaml_grammar.proofs.lent.TextMaps.{inserted}
 use Rattle.libyaml_documents.specs.LoadedNodes.{with_end}
 use Rattle.libyaml_documents.specs.Nodes.{changed_at}
 use Rattle.libyaml_documents.specs.declared.node.yaml_node_t.{yaml_node_t}
@@ -251,13 +252,6 @@ Agrees es xs = (a : List ℕ) → get xs a ≡ carrier a es
 
 pub none_known : Agrees [] no_anchors
 none_known a = get-from_entries nat_list_cmp_total [] a
-
-same_keys : (q g : List ℕ) → eq_by_cmp (slice_cmp nat_cmp) q g ≡ bytes_eq g q
-same_keys q g = sym (texts_ties q g) ∙ nat_list_eq_equiv.symm q g
-
-inserted : (xs : Anchors) (b : List ℕ) (c : Carrier) (a : List ℕ)
-    → get (insert xs b c) a ≡ cond (bytes_eq b a) (Some c) (get xs a)
-inserted xs b c a = get-insert nat_list_cmp_total xs b c a ∙ ap (λ (u : Bool). cond u (Some c) (get xs a)) (same_keys a b)
 
 -- with the anchor of a node of this id
 abbrev pub with_anchor : Option (List ℕ) → ℕ → Mark → List Start → List ℕ → Option Carrier

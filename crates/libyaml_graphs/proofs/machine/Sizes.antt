@@ -1,8 +1,10 @@
 -- How long the lists of what is built are: a pair counts from its key on.
 use Rattle.std.proofs.Common.{◌≡◌, ℕ, zero, suc, ℤ, pos, List, [], ◌∷◌, ◌++◌, length, nat_lt, le-ltb, zero-le, refl}
 use Rattle.std.proofs.Common.{sym, ap, ◌∙◌, Option, Some, None, Bool}
-use Rattle.std.proofs.Common.{true, false}
+use Rattle.std.proofs.Common.{false}
 use Rattle.std.specs.Prelude.{slice_get, ◌||◌}
+use Rattle.std.proofs.lemmas.Bool.{or_parts}
+use Rattle.std.proofs.Math.Bool.{or-false}
 use Rattle.libyaml_types.specs.declared.enums.yaml_mapping_style_t.{yaml_mapping_style_t}
 use Rattle.libyaml_grammar.specs.sentences.Tokens.{Mark}
 use Rattle.libyaml_documents.specs.declared.node.unnamed_yaml_node_t_data.{unnamed_yaml_node_t_data}
@@ -31,16 +33,8 @@ abbrev pub sizes : List Held → List ℕ
 sizes [] = []
 sizes (h ∷ hs) = begun h.key h.node.content ∷ sizes hs
 
-pub either_false : (a b : Bool) → a || b ≡ false → (a ≡ false) × (b ≡ false)
-either_false false b e = (refl, e)
-either_false true b e = cc
-
 pub either_none : (a b : Bool) → a ≡ false → a || b ≡ b
 either_none a b e = ap (λ (x : Bool). (x || b)) e
-
-or_false : (b : Bool) → b || false ≡ b
-or_false true = refl
-or_false false = refl
 
 pub none_below : (n : ℕ) → nat_lt n 0 ≡ false
 none_below n = le-ltb n 0 zero-le
@@ -65,12 +59,12 @@ change_grows : (p n i : ℕ) (hs : List Held) → one_above n (sizes hs) ≡ fal
     → one_above n (sizes (change p (hold i) hs)) ≡ node_full n (key_in p hs) (slice_get (nodes_in hs) p)
 change_grows p n i [] e = refl
 change_grows zero n i (h ∷ hs) e =
-    let k : (nat_lt n (begun h.key h.node.content) ≡ false) × (one_above n (sizes hs) ≡ false) = either_false _ _ e in
+    let k : (nat_lt n (begun h.key h.node.content) ≡ false) × (one_above n (sizes hs) ≡ false) = or_parts _ _ e in
     ap (λ (b : Bool). (nat_lt n (begun (key_behind h.key (pos i) h.node.content) (content_with h.key (pos i) h.node.content)) || b)) k.1
-    ∙ (or_false (nat_lt n (begun (key_behind h.key (pos i) h.node.content) (content_with h.key (pos i) h.node.content)))
+    ∙ (or-false (nat_lt n (begun (key_behind h.key (pos i) h.node.content) (content_with h.key (pos i) h.node.content)))
     ∙ content_grows n i h.key h.node.content k.0)
 change_grows (suc p) n i (h ∷ hs) e =
-    let k : (nat_lt n (begun h.key h.node.content) ≡ false) × (one_above n (sizes hs) ≡ false) = either_false _ _ e in
+    let k : (nat_lt n (begun h.key h.node.content) ≡ false) × (one_above n (sizes hs) ≡ false) = or_parts _ _ e in
     either_none _ _ k.0 ∙ change_grows p n i hs k.1
 
 hold_grows : (s : List ℕ) (n i : ℕ) (hs : List Held) → one_above n (sizes hs) ≡ false
@@ -101,7 +95,7 @@ more_grows : (n : ℕ) (hs : List Held) (x : yaml_node_t) → begun None x.conte
     → one_above n (sizes (hs ++ bare x ∷ [])) ≡ false
 more_grows n [] x e h = ap (λ (i : ℕ). (nat_lt n i || false)) e ∙ ap (λ (b : Bool). (b || false)) (none_below n)
 more_grows n (y ∷ hs) x e h =
-    let k : (nat_lt n (begun y.key y.node.content) ≡ false) × (one_above n (sizes hs) ≡ false) = either_false _ _ h in
+    let k : (nat_lt n (begun y.key y.node.content) ≡ false) × (one_above n (sizes hs) ≡ false) = or_parts _ _ h in
     either_none _ _ k.0 ∙ more_grows n hs x e k.1
 
 full_append : (p n : ℕ) (k : Option ℤ) (hs : List Held) (x : yaml_node_t) → Has p hs

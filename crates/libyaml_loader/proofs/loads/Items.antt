@@ -1,26 +1,13 @@
 -- What an iterator over the documents of a parser yields, by the clauses of a load.
-use Rattle.std.proofs.Common.{◌≡◌, ◌≢◌, ℕ, List, [], ◌∷◌, length, nat_eq, Option, inl, inr, true, false, arith, refl}
+use Rattle.std.proofs.Common.{◌≡◌, ℕ, Option, inl, inr, true, false}
 use Rattle.std.proofs.Common.{sym, subst, ◌∙◌}
-use Rattle.std.proofs.lemmas.Bool.{eqb-true}
-use Rattle.libyaml_documents.specs.declared.node.yaml_node_t.{yaml_node_t}
+use Rattle.std.proofs.lemmas.Bool.{true≢false}
 use Rattle.libyaml_events.specs.machine.Config.{Parser}
 use Rattle.libyaml_events.specs.sources.History.{ForHistory, Remembers, has_failed, is_over}
 use Rattle.libyaml_loader.specs.loads.Loading.{DocumentOrError, HasEnded}
 use Rattle.libyaml_loader.specs.loads.LoadsInTurn.{LoadsNext}
 use Rattle.libyaml_types.specs.Fault.{Answer, Fault}
 use Rattle.libyaml_types.specs.Source.{Coming}
-
-no : true ≡ false → ⊥
-no h = cc
-
--- a document whose nodes are counted
-pub bare : (ns : List yaml_node_t) → nat_eq (length ns) 0 ≡ true → ns ≡ []
-bare [] h = refl
-bare (n ∷ ns) h = absurd (omega (arith, eqb-true (length (n ∷ ns)) 0 h))
-
-pub rooted : (ns : List yaml_node_t) → nat_eq (length ns) 0 ≡ false → ns ≢ []
-rooted [] h e = absurd cc
-rooted (n ∷ ns) h e = cc
 
 module _ {S : Type 0} (gives : S → Answer → S → Type 0) (bound : S → ℕ) (known : S → Option Coming)
     (MayBreak : S → Fault → Type 0) (old new : Parser S) where
@@ -30,5 +17,5 @@ module _ {S : Type 0} (gives : S → Answer → S → Type 0) (bound : S → ℕ
 
   -- a parser that ends by its history ends
   pub ended : Remembers old → has_failed old ≡ false → ForHistory old (λ _ _. HasEnded new) → is_over new ≡ true
-  ended (inl fault) none h = absurd (no (sym fault ∙ none))
+  ended (inl fault) none h = absurd (true≢false (sym fault ∙ none))
   ended (inr (asked, given, history)) none h = (h asked given history).over

@@ -1,6 +1,7 @@
 -- What a whole loop over documents yielded, by the run that was to come.
-use Rattle.std.proofs.Common.{◌≡◌, ◌≢◌, ◌∷◌, ℕ, List, [], Option, None, Some, Ok, Err, true, false, inl, inr, refl, sym}
+use Rattle.std.proofs.Common.{◌≡◌, ◌≢◌, ◌∷◌, ℕ, List, [], Option, None, Some, Ok, Err, false, inl, inr, refl, sym}
 use Rattle.std.proofs.Common.{ap, subst, ◌∙◌}
+use Rattle.std.proofs.lemmas.Bool.{true≢false}
 use Rattle.libyaml_documents.specs.Documents.{Document}
 use Rattle.libyaml_events.specs.machine.Config.{Parser}
 use Rattle.libyaml_events.specs.sources.History.{ForHistory, History, has_failed, kept_fault}
@@ -20,9 +21,6 @@ use Rattle.libyaml_types.specs.Fault.{Answer, Fault, fault_of}
 use Rattle.libyaml_types.specs.Source.{Coming, coming}
 use Rattle.libyaml_types.specs.declared.fault.yaml_parser_t_prefix.{yaml_parser_t_prefix}
 use Rattle.libyaml_types.specs.declared.enums.yaml_error_type_t.{yaml_error_type_t}
-
-no : true ≡ false → ⊥
-no h = cc
 
 no_error : {d : Document} {y : yaml_error_type_t} → ◌≡◌ {A = DocumentOrError} (Ok d) (Err y) → ⊥
 no_error h = cc
@@ -82,7 +80,7 @@ module _ (law : LoopLaws) {S : Type 0} (gives : S → Answer → S → Type 0) (
   of_run n old new documents ending e x within run roots (no_item y) = go y
     where
       go : YieldsDocument gives bound known MayBreak old None new → AreLoadsOf MayBreak new [] Ends (bounded_loads n e x)
-      go (inl (failed_before, same)) = absurd (no (sym failed_before ∙ no_fault old run.asked run.given run.history))
+      go (inl (failed_before, same)) = absurd (true≢false (sym failed_before ∙ no_fault old run.asked run.given run.history))
       go (inr (none, over, (d, no_root, next))) =
           let b = answered new d (next_bounded n e x) (left_over e) x
           (subst (λ (m : ℕ). UnlessBroken {A = Document} MayBreak (Ok d) new

@@ -1,7 +1,7 @@
 -- Two outcomes that the contract of a load allows are one.
 use Rattle.std.proofs.Common.{◌≡◌, ◌⊎◌, inl, inr, List, [], ◌∷◌, ◌++◌, Option, None, Ok, Err, IfOk, IfErr, false, refl}
 use Rattle.std.proofs.Common.{sym, ap, ◌∙◌, subst}
-use Rattle.libyaml_documents.specs.Documents.{Document, empty_document}
+use Rattle.libyaml_documents.specs.Documents.{empty_document}
 use Rattle.libyaml_types.specs.Fault.{Answer, Fault, no_fault}
 use Rattle.libyaml_types.specs.Source.{Coming}
 use Rattle.libyaml_grammar.specs.sentences.Tokens.{Token}
@@ -17,7 +17,8 @@ use Rattle.libyaml_events.specs.sources.History.{ForHistory, History, answers, k
 use Rattle.libyaml_events.specs.sources.Needs.{EachNeeded, EachWasNeeded}
 use Rattle.libyaml_events.specs.sources.Parsing.{Cause, FailsBy, of_memory, of_grammar, of_source}
 use Rattle.libyaml_events.proofs.lent.CallsInTurn.{gave_then}
-use Rattle.libyaml_events.proofs.lent.OneOutcome.{before_last, front_same, ran_once, tail_same}
+use Rattle.libyaml_grammar.proofs.lent.Same.{err_same, fault_same, ok_not_err, ok_same, tail_same}
+use Rattle.libyaml_events.proofs.lent.OneOutcome.{before_last, front_same, ran_once}
 use Rattle.libyaml_events.proofs.lent.RunStops.{RunStop, answers_both, begins_stopped, ended_stop, grammar_stop}
 use Rattle.libyaml_events.proofs.lent.RunStops.{one_run_by_answers, source_stop}
 use Rattle.libyaml_events.proofs.lent.RunStops.{taken_comparable, token_front}
@@ -62,20 +63,8 @@ behind_given : (given a b : List Event) → Begins (given ++ a) (given ++ b) →
 behind_given given a b h = (h.0, front_same given b (a ++ h.0) (h.1 ∙ assoc given a h.0))
 
 -- no load is the last one of every ending
-ok_no_err : (d : Document) (f : Fault) → ◌≡◌ {A = Load} (Ok d) (Err f) → ⊥
-ok_no_err d f e = cc
-
 not_last : (z : Load) → ((x : Ending) → z ≡ last_load x) → ⊥
-not_last z h = ok_no_err (empty_document None [] false false) no_fault (sym (h Ends) ∙ h (Fails no_fault))
-
-same_document : (c d : Document) → ◌≡◌ {A = Load} (Ok c) (Ok d) → c ≡ d
-same_document c d e = cc
-
-same_fault : (f g : Fault) → ◌≡◌ {A = Load} (Err f) (Err g) → f ≡ g
-same_fault f g e = cc
-
-ending_fault : (f g : Fault) → Fails f ≡ Fails g → f ≡ g
-ending_fault f g e = cc
+not_last z h = ok_not_err (empty_document None [] false false) no_fault (sym (h Ends) ∙ h (Fails no_fault))
 
 empty_front : (t : List Event) → t ++ [] ≡ [] → t ≡ []
 empty_front t e = sym (nil_right t) ∙ e
@@ -226,8 +215,8 @@ module _ {S : Type 0} (gives : S → Answer → S → Type 0) (known : S → Opt
       → Decided z mid a r p → Decided y other b s q → a ≡ b
   same_taken r s p q mid other a b (Ok c) (Ok d) e (inl o) l k g h = both_leave a b g.2 h.2 o
   same_taken r s p q mid other a b (Ok c) (Ok d) e (inr o) l k g h = sym (both_leave b a h.2 g.2 o)
-  same_taken r s p q mid other a b (Ok c) (Err f) e o l k g h = absurd (ok_no_err c f e)
-  same_taken r s p q mid other a b (Err f) (Ok d) e o l k g h = absurd (ok_no_err d f (sym e))
+  same_taken r s p q mid other a b (Ok c) (Err f) e o l k g h = absurd (ok_not_err c f e)
+  same_taken r s p q mid other a b (Err f) (Ok d) e o l k g h = absurd (ok_not_err d f (sym e))
   same_taken r s p q mid other a b (Err f) (Err x) e (inl o) l k g h = both_last a b (Err f) l h.2 o
   same_taken r s p q mid other a b (Err f) (Err x) e (inr o) l k g h = sym (both_last b a (Err x) k g.2 o)
 
@@ -236,16 +225,16 @@ module _ {S : Type 0} (gives : S → Answer → S → Type 0) (known : S → Opt
       → p.max_entries ≡ q.max_entries → Decided z mid a r p → Decided y other b s q → LoadsAlike r p s q
   both_decided r s p q mid other a b (Ok c) (Ok d) e k m g h =
       record {
-        result = g.0 ∙ (ap Ok (same_document c d e) ∙ sym h.0);
+        result = g.0 ∙ (ap Ok (ok_same c d e) ∙ sym h.0);
         bound = m;
         behind_document = subst (λ (v : DocumentOrError). IfOk v (λ _. p.config ≡ q.config)) (sym g.0)
             (sym g.1 ∙ (k ∙ h.1));
         behind_error = subst (λ (v : DocumentOrError). IfErr v (λ _. kept_fault p ≡ kept_fault q)) (sym g.0) tt;
       }
-  both_decided r s p q mid other a b (Ok c) (Err f) e k m g h = absurd (ok_no_err c f e)
-  both_decided r s p q mid other a b (Err f) (Ok d) e k m g h = absurd (ok_no_err d f (sym e))
+  both_decided r s p q mid other a b (Ok c) (Err f) e k m g h = absurd (ok_not_err c f e)
+  both_decided r s p q mid other a b (Err f) (Ok d) e k m g h = absurd (ok_not_err d f (sym e))
   both_decided r s p q mid other a b (Err f) (Err x) e k m g h =
-      let n = same_fault f x e in
+      let n = err_same f x e in
       record {
         result = g.0 ∙ (ap (λ (v : Fault). Err v.error) n ∙ sym h.0);
         bound = m;
@@ -268,7 +257,7 @@ module _ {S : Type 0} (gives : S → Answer → S → Type 0) (known : S → Opt
   both_stopped r s p q mid other Ends (Fails f) e k g h m = absurd cc
   both_stopped r s p q mid other (Fails f) Ends e k g h m = absurd cc
   both_stopped r s p q mid other (Fails f) (Fails x) e k g h m =
-      let n = ending_fault f x e in
+      let n = fault_same f x e in
       record {
         result = g.0 ∙ (ap (λ (v : Fault). Err v.error) n ∙ sym h.0);
         bound = m;

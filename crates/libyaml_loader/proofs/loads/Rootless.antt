@@ -13,11 +13,8 @@ use Rattle.libyaml_types.specs.Source.{Coming}
 use Rattle.libyaml_graphs.specs.loads.Bounds.{bounded_loads, next_bounded}
 use Rattle.libyaml_graphs.specs.loads.GraphLaws.{RootsFollow}
 use Rattle.libyaml_graphs.specs.loads.Loads.{Load, last_load, left_over}
+use Rattle.libyaml_graphs.proofs.lent.LoadLists.{roots_behind}
 use Rattle.libyaml_loader.specs.loads.Loading.{DocumentOrError, HasEnded, Loads, LoadsFrom, at_end, whole}
-
-roots_behind : (l r : List Event) → RootsFollow (l ++ r) → RootsFollow r
-roots_behind [] r h = h
-roots_behind (e ∷ l) r h = roots_behind l r h.1
 
 no_fault : {f : Fault} {d : Document} → ◌≡◌ {A = Load} (Err f) (Ok d) → ⊥
 no_fault h = cc

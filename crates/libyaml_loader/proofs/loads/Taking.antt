@@ -1,6 +1,7 @@
 -- What one call of the parser says of the events that a load takes.
 use Rattle.std.proofs.Common.{◌≡◌, ℕ, ◌++◌, ◌∷◌, List, [], Option, Some, Bool, Ok, Err, true, false, refl, sym}
 use Rattle.std.proofs.Common.{ap, ◌∙◌, subst, append_assoc}
+use Rattle.std.proofs.lemmas.Bool.{true≢false}
 use Rattle.libyaml_types.specs.declared.enums.yaml_error_type_t.{yaml_error_type_t}
 use Rattle.libyaml_types.specs.declared.event.unnamed_yaml_event_t_data.{unnamed_yaml_event_t_data}
 use Rattle.libyaml_types.specs.declared.event.unnamed_yaml_event_t_data.TheVariants as ev
@@ -25,16 +26,13 @@ use Rattle.libyaml_events.proofs.lent.CallsInTurn.{both_calls, no_call, one_call
 use Rattle.libyaml_graphs.specs.graphs.GraphParts.{Closing, closing_in, closing_of}
 use Rattle.libyaml_loader.specs.loads.Loading.{HasEnded, ParserFails, Took}
 
-no : true ≡ false → ⊥
-no h = cc
-
 outside_end : (k : unnamed_yaml_event_t_data) (m : yaml_mark_t) (c : Closing) → closing_in k m ≡ Some c
     → is_outside_event k ≡ true
 outside_end (ev.DocumentEnd d) m c h = refl
 outside_end _ m c h = absurd cc
 
 module _ {S : Type 0} (gives : S → Answer → S → Type 0) (known : S → Option Coming) (MayBreak : S → Fault → Type 0) where
-  -- no event was left
+  -- true≢false event was left
   pub record FindsEnd (old new : Parser S) : Type 0 where
     pub took : Took gives known old new []
     pub ends : (events : List Event) (ending : Ending) → RunToCome known old events ending
@@ -91,7 +89,7 @@ module _ {S : Type 0} (gives : S → Answer → S → Type 0) (known : S → Opt
         where
           go : (b : Bool) → is_over old ≡ b → is_over old ≡ false
           go false h = h
-          go true h = absurd (no (sym an_event ∙ ap (λ (x : Event). is_event x.content) (same (c.parses.ended h).0)))
+          go true h = absurd (true≢false (sym an_event ∙ ap (λ (x : Event). is_event x.content) (same (c.parses.ended h).0)))
 
       carried : is_event e.content ≡ true → (asked : List Token) (given : List Event) → History old asked given
           → CarriesOn gives old e new asked given
@@ -115,7 +113,7 @@ module _ {S : Type 0} (gives : S → Answer → S → Type 0) (known : S → Opt
         where
           go : (b : Bool) → is_over old ≡ b → is_over old ≡ true
           go true h = h
-          go false h = absurd (no (sym ((rw is at (c.parses.carries_on h)) asked given history).an_event ∙ empty))
+          go false h = absurd (true≢false (sym ((rw is at (c.parses.carries_on h)) asked given history).an_event ∙ empty))
 
       pub finds_end : is_event e.content ≡ false → FindsEnd old new
       finds_end empty = record {

@@ -13,6 +13,7 @@ use Rattle.libyaml_graphs.specs.machine.Loader.{Loader, Loading, State, between,
 use Rattle.libyaml_graphs.specs.machine.Loader.{if_going, load_from, within}
 use Rattle.libyaml_graphs.proofs.lent.BoundedLoader.{one_load}
 use Rattle.libyaml_graphs.proofs.lent.Machine.{nothing_left, opens, within_event}
+use Rattle.libyaml_graphs.proofs.lent.Roots.{left_behind}
 use Rattle.libyaml_loader.specs.pushes.Leads.{Leads, as_loads, behind_event, behind_events, loads_from, whole_then}
 
 -- at the end of the events
@@ -47,17 +48,6 @@ leads_both n s t u a b ds es h k = record {
   state = k.state ∙ (ap (λ (v : State). behind_events n v b) h.state ∙ sym (behind_both n s a b));
 }
 
--- the documents that begin after the end of one are those of the events after it
-begun_after : (r : List Event) → begun_behind r ≡ begun (behind_document r)
-begun_after [] = refl
-begun_after (e ∷ r) = go (closing_of e) (begun_after r)
-  where
-    go : (c : Option Closing) → begun_behind r ≡ begun (behind_document r)
-        → ◌≡◌ {A = List Begun} (elim c [ Some y ↦ begun r | None ↦ begun_behind r ])
-        (begun (elim c [ Some y ↦ r | None ↦ behind_document r ]))
-    go (Some y) h = refl
-    go None h = h
-
 -- between documents
 pub passes_by : (n : ℕ) (e : Event) → opening_of e ≡ None → Leads n between (e ∷ []) [] between
 passes_by n e h = record {
@@ -84,7 +74,7 @@ opens_loads n e o h rest x
     (loads_by (first_stop n [] []) x (begun_behind rest))
     ∙ (ap (λ (a : Load). whole_then (document_end rest) a (loads_by (first_stop n [] []) x (begun_behind rest))) first
     ∙ ap (λ (l : List Begun). whole_then (document_end rest) (load_from n (within o fresh) rest x)
-    (loads_by (first_stop n [] []) x l)) (begun_after rest)))
+    (loads_by (first_stop n [] []) x l)) (left_behind rest)))
   where
     at : Option Opening → List Begun
     at c = elim c [ None ↦ begun rest | Some p ↦ record { opening = p; rest = rest } ∷ begun_behind rest ]

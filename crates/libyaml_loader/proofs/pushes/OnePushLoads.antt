@@ -9,12 +9,14 @@ use Rattle.libyaml_grammar.specs.sentences.Sentences.{has_end}
 use Rattle.libyaml_grammar.specs.sentences.Tokens.{Token}
 use Rattle.libyaml_grammar.proofs.lent.Lists.{nil_right}
 use Rattle.libyaml_grammar.proofs.lent.Running.{one_run_proof}
+use Rattle.libyaml_grammar.proofs.lent.Same.{err_same, ok_not_err}
 use Rattle.libyaml_documents.specs.Documents.{Document}
 use Rattle.libyaml_events.specs.sources.Pushed.{PushParser, Pushed}
 use Rattle.libyaml_events.specs.sources.Pushes.{Done}
 use Rattle.libyaml_graphs.specs.loads.Bounds.{IsBoundedLoads, bounded_loads}
 use Rattle.libyaml_graphs.specs.loads.Loads.{Load, last_load}
 use Rattle.libyaml_graphs.specs.machine.Loader.{State, between}
+use Rattle.libyaml_graphs.proofs.lent.LoadLists.{same_loads}
 use Rattle.libyaml_loader.specs.pushes.Leads.{Leads, as_loads, loads_from}
 use Rattle.libyaml_loader.specs.pushes.Loaded.{Loaded, PushLoader, fault_in, has_stopped, standing}
 use Rattle.libyaml_loader.specs.pushes.OnePushLoads.{OnePushLoads, PushLoadsAlike, PushLoadsRunOut, alike}
@@ -22,44 +24,15 @@ use Rattle.libyaml_loader.specs.pushes.OnePushLoads.{first_runs_out, second_runs
 use Rattle.libyaml_loader.specs.pushes.PushesLoads.{AreThen, PushesLoads, StopsLoading, TakesLoads, by_memory, by_tokens}
 use Rattle.libyaml_loader.proofs.pushes.Leading.{from_none}
 
-first_same : (x y : Load) (l m : List Load) → x ∷ l ≡ y ∷ m → x ≡ y
-first_same x y l m e = cc
-
-rest_same : (x y : Load) (l m : List Load) → x ∷ l ≡ y ∷ m → l ≡ m
-rest_same x y l m e = cc
-
-document_same : (c d : Document) → ◌≡◌ {A = Load} (Ok c) (Ok d) → c ≡ d
-document_same c d e = cc
-
-fault_same : (f g : Fault) → ◌≡◌ {A = Load} (Err f) (Err g) → f ≡ g
-fault_same f g e = cc
-
-ok_no_err : (d : Document) (f : Fault) → ◌≡◌ {A = Load} (Ok d) (Err f) → ⊥
-ok_no_err d f e = cc
-
-none_more : (l : List Load) (y : Load) → [] ≡ l ++ y ∷ [] → ⊥
-none_more [] y e = cc
-none_more (x ∷ l) y e = cc
-
--- documents and then one load
-same_then : (a b : List Document) (x y : Load) → as_loads a ++ x ∷ [] ≡ as_loads b ++ y ∷ [] → (a ≡ b) × (x ≡ y)
-same_then [] [] x y e = (refl, first_same x y [] [] e)
-same_then [] (d ∷ b) x y e = absurd (none_more (as_loads b) y (rest_same x (Ok d) [] (as_loads b ++ y ∷ []) e))
-same_then (c ∷ a) [] x y e = absurd (none_more (as_loads a) x (sym (rest_same (Ok c) y (as_loads a ++ x ∷ []) [] e)))
-same_then (c ∷ a) (d ∷ b) x y e =
-    let r = same_then a b x y (rest_same (Ok c) (Ok d) (as_loads a ++ x ∷ []) (as_loads b ++ y ∷ []) e) in
-    let h = document_same c d (first_same (Ok c) (Ok d) (as_loads a ++ x ∷ []) (as_loads b ++ y ∷ []) e) in
-    (ap (λ (l : List Document). c ∷ l) r.0 ∙ ap (λ (f : Document). f ∷ b) h, r.1)
-
-same_loads : (n : ℕ) (l : List Token) (f : Fault) (a b : List Load) → IsBoundedLoads n l f a
+one_loads : (n : ℕ) (l : List Token) (f : Fault) (a b : List Load) → IsBoundedLoads n l f a
     → IsBoundedLoads n l f b → a ≡ b
-same_loads n l f a b h k =
+one_loads n l f a b h k =
     let o = one_run_proof l f h.events k.events h.ending k.ending h.run k.run in
     h.all ∙ (ap (λ (e : List Event). bounded_loads n e h.ending) o.0 ∙ (ap (bounded_loads n k.events) o.1 ∙ sym k.all))
 
 same_are : (n : ℕ) (l : List Token) (f : Fault) (a b : List Document) (x y : Load) → AreThen n l f a x
     → AreThen n l f b y → (a ≡ b) × (x ≡ y)
-same_are n l f a b x y h k = same_then a b x y (same_loads n l f (as_loads a ++ x ∷ []) (as_loads b ++ y ∷ []) h k)
+same_are n l f a b x y h k = same_loads a b x y (one_loads n l f (as_loads a ++ x ∷ []) (as_loads b ++ y ∷ []) h k)
 
 -- the documents that events lead to
 ends_there : (n : ℕ) (events : List Event) (a : List Document) (s : State) → Leads n between events a s
@@ -82,7 +55,7 @@ one_loaded_proof one p q tokens a b bound h k =
           ∙ (ap (λ (x : State). standing q.parser x p.fault p.max_entries) here
           ∙ (ap (λ (x : Fault). standing q.parser q.state x p.max_entries) f
           ∙ ap (standing q.parser q.state q.fault) bound)),
-      (same_then a b (last_load Ends) (last_load Ends)
+      (same_loads a b (last_load Ends) (last_load Ends)
           (sym (ends_there p.max_entries h.events a p.state h.leads) ∙ ends_there p.max_entries h.events b q.state led)).0,
     )
 
@@ -97,7 +70,7 @@ no_failure : (n : ℕ) (l : List Token) (g k : List Document) (x : Fault) → Lo
 no_failure n l g k x (to_end r) s = never (last_load Ends) refl
   where
     never : (y : Load) → last_load Ends ≡ y → ⊥
-    never (Ok d) i = ok_no_err d x
+    never (Ok d) i = ok_not_err d x
         (sym i ∙ (same_are n (l ++ []) no_fault g k (last_load Ends) (Err x) (r no_fault) (s no_fault)).1)
     never (Err f) i = absurd (by i)
       where
@@ -106,7 +79,7 @@ no_failure n l g k x (to_end r) s = never (last_load Ends) refl
 no_failure n l g k x (so_far r) s = apart (each no_fault) (each memory_fault)
   where
     each : (f : Fault) → f ≡ x
-    each f = fault_same f x
+    each f = err_same f x
         (same_are n (l ++ []) f g k (Err f) (Err x)
         (subst (λ (y : List Token). AreThen n y f g (Err f)) (sym (nil_right l)) (r f)) (s f)).1
 
@@ -219,7 +192,7 @@ module _ (one : (p q : PushParser) (l : List Token) (g h : List Event) → Pushe
           let o = same_are n (now ++ []) no_fault (documents ++ a) (documents ++ b) (Err (fault_in p))
           (Err (fault_in q)) (loads no_fault) (more no_fault) in
           alike (alike_err r s p q after later i i' (both_added a b after later j j' o.0) bound
-          (fault_same (fault_in p) (fault_in q) o.1))
+          (err_same (fault_in p) (fault_in q) o.1))
 
 pub stopped_push_loads : (Full More : Type 0) (old p q : PushLoader) (t : Token)
     (before after later : List Document) (r s : Done) → has_stopped old ≡ true

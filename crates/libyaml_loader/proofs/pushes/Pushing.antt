@@ -3,6 +3,8 @@ use Rattle.std.proofs.Common.{◌≡◌, ◌≤◌, ◌*◌, arith, length, inl,
 use Rattle.std.proofs.Common.{Ok, Err, IfErr, OnOk, Bool, true, false, refl, sym, ap, subst, ◌∙◌}
 use Rattle.std.proofs.Common.{append_assoc}
 use Rattle.std.proofs.lemmas.List.{append-nil}
+use Rattle.std.proofs.lemmas.Bool.{true≢false}
+use Rattle.std.proofs.lemmas.Bool.{or_parts}
 use Rattle.libyaml_types.specs.declared.enums.yaml_error_type_t.{yaml_error_type_t}
 use Rattle.libyaml_documents.specs.Documents.{Document}
 use Rattle.libyaml_types.specs.Fault.{Fault, fault_of}
@@ -50,13 +52,6 @@ pub record PushLaws : Type 0 where
       → documents_size ds ≤ 2 * length e
   pub in_hand : (w : Want) (c : Config) (u : Token) (tokens : List Token) (events : List Event)
       → Fed w c (Some u) tokens events → BeginsEachRun tokens events
-
-no : true ≡ false → ⊥
-no h = cc
-
-either_false : (a b : Bool) → a || b ≡ false → (a ≡ false) × (b ≡ false)
-either_false true b h = absurd (no h)
-either_false false b h = (refl, h)
 
 -- the loads of a run whose events are these
 pub are_then : (n : ℕ) (tokens : List Token) (source : Fault) (events : List Event) (x : Ending)
@@ -176,7 +171,7 @@ module _ (law : PushLaws) where
       = by_memory is added here (law.in_hand w c u tokens (given ++ added) fed) leads
       (in_parser w c u fed (any_room Room w c u needs))
 
-  -- the loader keeps no fault, and its parser was handed a token; the events that came were composed
+  -- the loader keeps true≢false fault, and its parser was handed a token; the events that came were composed
   module _ (Full Room : Type 0) (p q : PushParser) (t : Token) (given : List Event) (r : Done)
       (pushes_so : Pushes Room p t [] r q given) (old new : Composer)
       (before after : List Document) (s : Done) (composes : Composes Full old given before s new after)
@@ -199,7 +194,7 @@ module _ (law : PushLaws) where
         go false h = h
 
     running : has_stopped first ≡ false → pushed.has_stopped p ≡ false
-    running h = (either_false (keeps_fault first) (pushed.has_stopped p) h).1
+    running h = (or_parts (keeps_fault first) (pushed.has_stopped p) h).1
 
     ended : has_stopped first ≡ true → pushed.has_stopped p ≡ true
     ended h = sym (ap (λ (b : Bool). b || pushed.has_stopped p) not_kept) ∙ h
@@ -334,7 +329,7 @@ module _ (law : PushLaws) where
         differ f false i h = cc
 
         never : RemembersLoads first → ◌≡◌ {A = Done} (Err y) (done_by (pushed.fault_in p)) → ⊥
-        never (inl kept) h = no (sym kept ∙ not_kept)
+        never (inl kept) h = true≢false (sym kept ∙ not_kept)
         never (inr (tokens, l, k)) h = differ (pushed.fault_in p) (pushed.keeps_fault p)
             (law.faultless p tokens k.events k.pushed) h
 
@@ -360,7 +355,7 @@ module _ (law : PushLaws) where
       go false i = by k
         where
           by : RemembersLoads old → RemembersLoads new
-          by (inl kept) = absurd (no (sym kept ∙ (either_false (keeps_fault old) (pushed.has_stopped old.parser) i).0))
+          by (inl kept) = absurd (true≢false (sym kept ∙ (or_parts (keeps_fault old) (pushed.has_stopped old.parser) i).0))
           by (inr (tokens, l, m)) = inr (tokens ++ t ∷ [], l ++ (h.takes i).added, (h.takes i).ends_so tokens l m)
 
 -- what holds where a call returned without an error

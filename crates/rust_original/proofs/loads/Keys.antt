@@ -1,5 +1,6 @@
 -- At a document's end no key waits, so the nodes are the same.
-use Rattle.std.proofs.Common.{◌≡◌, ◌∷◌, ◌++◌, ℕ, ℤ, pos, List, [], Option, None, true, refl, ap, ◌∙◌, append-nil}
+use Rattle.std.proofs.Common.{◌≡◌, ◌∷◌, ◌++◌, ℕ, ℤ, pos, List, [], Option, None, true, refl, sym, ap, ◌∙◌, append-nil}
+use Rattle.std.proofs.Math.Bool.{not-not}
 use Rattle.libyaml_documents.specs.declared.node.unnamed_yaml_node_t_data.TheVariants.{Sequence, Mapping}
 use Rattle.libyaml_documents.specs.declared.node.yaml_node_t.{yaml_node_t}
 use Rattle.libyaml_grammar.specs.sentences.Events.{Event, end_at as end_event}
@@ -9,7 +10,7 @@ use Rattle.libyaml_grammar.specs.sentences.Nesting.{value_events, values_events}
 use Rattle.libyaml_grammar.specs.sentences.Trees.{mapping, sequence}
 use Rattle.libyaml_graphs.specs.graphs.GraphParts.{children, parts}
 use Rattle.libyaml_graphs.specs.graphs.Graphs.{Start, ids_of_all, starts_behind, starts_behind_all}
-use Rattle.libyaml_graphs.proofs.lent.Building.{even_list, ids_even, twice, values_children, Held, nodes_in}
+use Rattle.libyaml_graphs.proofs.lent.Building.{even_list, ids_even, values_children, Held, nodes_in}
 use Rattle.libyaml_documents.specs.declared.node.unnamed_yaml_node_t_data_mapping.{unnamed_yaml_node_t_data_mapping}
 use Rattle.libyaml_documents.specs.declared.node.unnamed_yaml_node_t_data_sequence.{unnamed_yaml_node_t_data_sequence}
 use Rattle.libyaml_graphs.proofs.lent.Building as built
@@ -43,7 +44,7 @@ mapping_key m [] e = refl
 mapping_key m (k ∷ []) e = absurd cc
 mapping_key m (k ∷ v ∷ is) e
     = mapping_key (record m { pairs = m.pairs ++ record { key = pos k; value = pos v } ∷ [] }) is
-    (twice (even_list is) e)
+    (sym (not-not (even_list is)) ∙ e)
 
 mutual
   pub value_keys : (v : Value) (es : List Start) (r : List Event) → HasPairs v

@@ -4,9 +4,10 @@ use Rattle.std.proofs.Common.{◌≡◌, ◌∷◌, ◌++◌, ℕ, List, [], Opt
 use Rattle.std.proofs.Common.{sym, ap, ◌∙◌, subst}
 use Rattle.std.specs.Cmp.Lexicographic.{texts_ties, nat_list_eq_equiv, nat_list_cmp_total}
 use Rattle.std.specs.Cmp.Lexicographic as lex
-use Rattle.std.specs.FinMap.{get, insert, get-insert, get-from_entries}
+use Rattle.std.specs.FinMap.{get, insert, get-from_entries}
 use Rattle.libyaml_types.specs.declared.directive.yaml_tag_directive_t.{yaml_tag_directive_t}
 use Rattle.libyaml_grammar.specs.sentences.Tokens.{Mark}
+use Rattle.libyaml_grammar.proofs.lent.TextMaps.{inserted}
 use Rattle.libyaml_events.specs.machine.Config.{Handles, no_handles}
 use Rattle.libyaml_events.specs.machine.Machine.{or_default}
 use Rattle.rust_original.specs.parser.Parser.{Outcome, Parser, default_tag_directives, directive_of}
@@ -19,10 +20,6 @@ Reads tags hs = (h : List ℕ) → directive_of tags h ≡ get hs h
 
 abbrev pub declares : List ℕ → List ℕ → yaml_tag_directive_t
 declares h p = record { handle = h; prefix = p }
-
-inserted : (hs : Handles) (g p h : List ℕ) → get (insert hs g p) h ≡ cond (bytes_eq g h) (Some p) (get hs h)
-inserted hs g p h = get-insert nat_list_cmp_total hs g p h
-    ∙ ap (λ (u : Bool). cond u (Some p) (get hs h)) (sym (texts_ties h g) ∙ nat_list_eq_equiv.symm h g)
 
 pub none_declared : Reads [] no_handles
 none_declared h = sym (get-from_entries nat_list_cmp_total [] h)

@@ -3,13 +3,14 @@ use Rattle.std.proofs.Common.{◌≡◌, ◌++◌, ℕ, List, drop, take, sym, a
 use Rattle.std.specs.List.{concat}
 use Rattle.libyaml_types.specs.Fault.{Fault}
 use Rattle.libyaml_grammar.specs.runs.Runs.{Ending}
+use Rattle.libyaml_grammar.proofs.lent.Same.{fault_same}
 use Rattle.line_writing.specs.FaultText.{fault_text}
 use Rattle.token_lines.specs.declared.memory.memory_outcome_t.{memory_outcome_t}
 use Rattle.token_lines.specs.declared.memory.memory_outcome_t.TheVariants.{Ended, Faulted, OutOfMemory}
 use Rattle.token_lines.specs.declared.memory.memory_run_t.{memory_run_t}
 use Rattle.token_lines.specs.lines.InMemory.{HandsOut, Has}
 use Rattle.token_lines.specs.lines.OneInMemory.{OneInMemory, alike, first_runs_out, second_runs_out}
-use Rattle.token_lines.proofs.lines.OneOutputs.{not_fails, same_fault}
+use Rattle.token_lines.proofs.lines.OneOutputs.{not_fails}
 
 handed_same : (bytes old new later : List ℕ) (a b : memory_run_t) → a.outcome ≡ b.outcome → HandsOut bytes old new a
     → HandsOut bytes old later b
@@ -32,7 +33,7 @@ one_in_memory lines ending old new later a b x y Ended Ended e f g h i j =
 one_in_memory lines ending old new later a b x y Ended Faulted e f g h i j = absurd (not_fails ending h.0 g.0 h.1)
 one_in_memory lines ending old new later a b x y Faulted Ended e f g h i j = absurd (not_fails ending g.0 h.0 g.1)
 one_in_memory lines ending old new later a b x y Faulted Faulted e f g h i j =
-    let s = same_fault h.0 g.0 (sym h.1 ∙ g.1) in
+    let s = fault_same h.0 g.0 (sym h.1 ∙ g.1) in
     handed_same x old new later a b (e ∙ sym f) i
     (subst (λ (z : List ℕ). HandsOut z old later b)
     (h.2 ∙ (ap (λ (k : Fault). concat lines ++ fault_text k) s ∙ sym g.2)) j)

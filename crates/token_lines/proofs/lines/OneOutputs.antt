@@ -4,6 +4,7 @@ use Rattle.std.specs.List.{concat}
 use Rattle.std.specs.Io.KnownBytes.{Appends}
 use Rattle.libyaml_types.specs.Fault.{Fault, fault_of}
 use Rattle.libyaml_grammar.specs.runs.Runs.{Ending, Ends, Fails}
+use Rattle.libyaml_grammar.proofs.lent.Same.{fault_same}
 use Rattle.line_writing.specs.FaultText.{fault_text}
 use Rattle.token_lines.specs.declared.run.Outcome.{Outcome}
 use Rattle.token_lines.specs.declared.run.run_end_t.{run_end_t}
@@ -23,9 +24,6 @@ not_fails x f e g = go (sym e ∙ g)
   where
     go : Ends ≡ Fails f → ⊥
     go h = cc
-
-pub same_fault : (f g : Fault) → Fails f ≡ Fails g → f ≡ g
-same_fault f g e = cc
 
 one_ends : (P Q : Fault → Type 0) (o u : run_end_t) (written : List ℕ) (after later : Option (List ℕ))
     (lines : List (List ℕ)) (ending : Ending)
@@ -49,7 +47,7 @@ one_ends P Q (Faulted f) (Faulted g) written after later lines ending (whole e w
 one_ends P Q (Faulted f) (Faulted g) written after later lines ending (whole e w) (whole i v)
     = alike refl (same_bytes written after later (concat lines ++ fault_text (fault_of f))
     (concat lines ++ fault_text (fault_of g))
-    (ap (λ (z : Fault). concat lines ++ fault_text z) (same_fault (fault_of f) (fault_of g) (sym e ∙ i))) w v)
+    (ap (λ (z : Fault). concat lines ++ fault_text z) (fault_same (fault_of f) (fault_of g) (sym e ∙ i))) w v)
 
 pub one_writes : (P Q : Fault → Type 0) (o u : run_end_t) (first second : Outcome) → first ≡ outcome_of o
     → second ≡ outcome_of u → (written : List ℕ)

@@ -16,6 +16,7 @@ use Rattle.libyaml_events.proofs.lent.OneOutcome.{front_same}
 use Rattle.libyaml_events.proofs.lent.RunStops.{RunStop, answers_both, ended_stop, grammar_stop, one_run_by_answers}
 use Rattle.libyaml_events.proofs.lent.RunStops.{source_stop}
 use Rattle.libyaml_grammar.specs.runs.Runs.{Ending, Ends, Fails}
+use Rattle.libyaml_grammar.proofs.lent.Same.{fault_same}
 use Rattle.libyaml_types.specs.Fault.{Answer, Fault, memory_fault}
 use Rattle.libyaml_types.specs.declared.fault.yaml_parser_t_prefix.{yaml_parser_t_prefix}
 use Rattle.line_writing.specs.EventText.{event_line}
@@ -30,7 +31,7 @@ use Rattle.token_lines.specs.events.LastCall.{LastCall, NothingLeft, WroteForEve
 use Rattle.token_lines.specs.lines.LineRun.{WroteFault, outcome_of}
 use Rattle.token_lines.specs.lines.OneOutput.{BrokeOff, OneOutput, alike, first_breaks, output_failed, second_breaks}
 use Rattle.token_lines.specs.lines.OneWriting.{BreaksOffByNone, results_in_call, results_of}
-use Rattle.token_lines.proofs.lines.OneOutputs.{same_bytes, same_fault}
+use Rattle.token_lines.proofs.lines.OneOutputs.{same_bytes}
 
 -- results that begin one another, after the same tokens
 more_after : (l : List yaml_token_t) (x y : List Answer) → answers l (x ++ y) ≡ answers l x ++ y
@@ -180,7 +181,7 @@ both_wrote (Fails f) (Fails k) o u d e written after later i j g h = (
   g.0 ∙ sym h.0,
   same_bytes written after later (concat (event_lines d) ++ fault_text f) (concat (event_lines e) ++ fault_text k)
       (ap (λ (l : List yaml_event_t). concat (event_lines l) ++ fault_text f) j
-      ∙ ap (λ (z : Fault). concat (event_lines e) ++ fault_text z) (same_fault f k i))
+      ∙ ap (λ (z : Fault). concat (event_lines e) ++ fault_text z) (fault_same f k i))
       g.1 h.1,
 )
 

@@ -1,11 +1,11 @@
 -- How a run's steps write each document in its turn.
-use Rattle.std.proofs.Common.{◌≡◌, ◌≢◌, ◌⊎◌, ◌++◌, ◌∷◌, ◌==◌, ℕ, ℤ, List, [], All, length, map, Option, Some, None}
+use Rattle.std.proofs.Common.{◌≡◌, ◌≢◌, ◌⊎◌, ◌++◌, ◌∷◌, ◌==◌, ℕ, ℤ, List, [], length, map, Option, Some, None}
 use Rattle.std.proofs.Common.{Bool, true, false, Ok, Err, refl, sym, ap, ◌∙◌}
 use Rattle.std.proofs.Common.{subst, inl, inr, append_assoc}
 use Rattle.std.proofs.KnownBytes.{Appends-nil, Appends-trans}
 use Rattle.std.proofs.lemmas.Bool.{eqb-true}
 use Rattle.std.proofs.lemmas.List.{append-nil, nil_from_length}
-use Rattle.std.proofs.lemmas.List.Elements.{All-cons, All-head, All-nil, All-tail}
+use Rattle.std.proofs.lemmas.List.Elements.{All-nil}
 use Rattle.std.proofs.lemmas.List.Folds.{concat-append}
 use Rattle.std.specs.List.{concat, flat_map}
 use Rattle.std.specs.Io.KnownBytes.{Appends, Keeps}
@@ -23,6 +23,7 @@ use Rattle.libyaml_events.proofs.lent.CallsInTurn.{gave_both}
 use Rattle.libyaml_graphs.specs.loads.Bounds.{bounded_loads, next_bounded}
 use Rattle.libyaml_graphs.specs.loads.Loads.{Load, left_over}
 use Rattle.libyaml_graphs.proofs.lent.Roots.{earlier_of}
+use Rattle.libyaml_graphs.proofs.lent.LoadLists.{HasRoot, roots_last}
 use Rattle.libyaml_loader.specs.document.Ids.{magnitude}
 use Rattle.libyaml_loader.specs.loads.Loading.{DocumentOrError, HasEnded, LoadsFrom, at_end, whole}
 use Rattle.line_writing.specs.DocumentText.{document_lines}
@@ -58,14 +59,6 @@ keeps_both (Some x) (Some y) (Some z) h k = k ∙ h
 -- what the histories of parsers say
 abbrev pub NoFault : Type 0 → Type 0
 NoFault S = (p : Parser S) → ForHistory p (λ _ _. has_failed p ≡ false)
-
-abbrev HasRoot : Document → Type 0
-HasRoot d = d.nodes ≢ []
-
-roots_last : (ds : List Document) (d : Document) → All HasRoot ds → d.nodes ≢ [] → All HasRoot (ds ++ d ∷ [])
-roots_last [] d h k = All-cons HasRoot d [] k (All-nil HasRoot)
-roots_last (c ∷ ds) d h k = All-cons HasRoot c (ds ++ d ∷ []) (All-head HasRoot c ds h)
-    (roots_last ds d (All-tail HasRoot c ds h) k)
 
 module _ {S : Type 0} (gives : S → Answer → S → Type 0) (known : S → Option Coming) (MayBreak : S → Fault → Type 0)
     (n : ℕ) where

@@ -24,6 +24,7 @@ use Rattle.libyaml_graphs.specs.loads.GraphLaws.{RootsFollow}
 use Rattle.libyaml_graphs.specs.loads.Loads.{Load, left_over}
 use Rattle.libyaml_graphs.proofs.lent.Roots as roots
 use Rattle.libyaml_graphs.proofs.lent.Roots.{earlier_of, last_of, roots_follow}
+use Rattle.libyaml_graphs.proofs.lent.LoadLists.{HasRoot, roots_behind}
 use Rattle.libyaml_loader.specs.loads.Loading.{DocumentOrError, LoadsFrom}
 use Rattle.libyaml_loader.specs.loads.NextLoad.{LoadOfRun}
 use Rattle.line_writing.specs.DocumentText.{document_lines}
@@ -33,10 +34,6 @@ use Rattle.token_lines.specs.declared.run.run_end_t.TheVariants.{Ended, Faulted,
 use Rattle.token_lines.specs.lines.LineRun.{WritesFault, broken_off, whole}
 use Rattle.token_lines.specs.nodes.LastLoad.{LastLoad, WroteForLoad}
 use Rattle.token_lines.specs.nodes.NodeRun.{WritesLoads, lines_with, loads_ending, loads_lines}
-
-pub roots_behind : (l r : List yaml_event_t) → RootsFollow (l ++ r) → RootsFollow r
-roots_behind [] r h = h
-roots_behind (e ∷ l) r h = roots_behind l r h.1
 
 lines_with_nodes : (ns : List yaml_node_t) (lines : List (List ℕ)) → ns ≢ [] → lines_with ns lines ≡ lines
 lines_with_nodes [] lines h = absurd (h refl)
@@ -55,9 +52,6 @@ first_lines loads later d is some = ap loads_lines is ∙ ap (λ (l : List (List
 no_lines : (loads : List Load) (d : Document) → loads ≡ Ok d ∷ [] → d.nodes ≡ [] → loads_lines loads ≡ []
 no_lines loads d is none = ap loads_lines is ∙ append-nil (lines_with d.nodes (document_lines d))
     ∙ lines_without_nodes d.nodes (document_lines d) none
-
-abbrev HasRoot : Document → Type 0
-HasRoot d = d.nodes ≢ []
 
 -- the lines and the ending of loads whose first are these documents
 lines_of : (ds : List Document) → All (λ (d : Document). d.nodes ≢ []) ds → (l : List Load) → loads_lines (map Ok ds ++ l)

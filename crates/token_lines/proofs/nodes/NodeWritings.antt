@@ -20,10 +20,13 @@ use Rattle.libyaml_events.proofs.lent.RunStops.{one_run_by_answers, source_stop,
 use Rattle.libyaml_grammar.specs.cuts.Settled.{Begins}
 use Rattle.libyaml_grammar.specs.runs.Runs.{Ending, Ends, Fails}
 use Rattle.libyaml_grammar.specs.sentences.Nesting.{NestsSoFar}
+use Rattle.libyaml_grammar.proofs.lent.Same.{ok_not_err}
+use Rattle.libyaml_grammar.proofs.lent.Same.{fault_same}
 use Rattle.libyaml_graphs.specs.loads.Bounds.{bounded_loads, next_bounded}
 use Rattle.libyaml_graphs.specs.loads.GraphLaws.{RootsFollow}
 use Rattle.libyaml_graphs.specs.loads.Loads.{Load, last_load, left_over}
 use Rattle.libyaml_graphs.proofs.lent.Roots.{fault_of, last_of, roots_follow}
+use Rattle.libyaml_graphs.proofs.lent.LoadLists.{last_same, roots_behind, same_loads}
 use Rattle.libyaml_loader.specs.loads.Loading.{DocumentOrError, LoadsFrom, at_end, by_loader, by_memory, by_parser, whole}
 use Rattle.libyaml_loader.specs.loads.OneLoad.{results_in}
 use Rattle.libyaml_types.specs.Fault.{Answer, Fault, memory_fault, no_fault}
@@ -39,41 +42,8 @@ use Rattle.token_lines.specs.lines.LineRun.{outcome_of}
 use Rattle.token_lines.specs.lines.OneOutput.{BrokeOff, OneOutput, alike, first_breaks, output_failed, second_breaks}
 use Rattle.token_lines.specs.lines.OneWriting.{BreaksOffByNone, results_of_nodes}
 use Rattle.token_lines.specs.nodes.LastLoad.{CutText, LastLoad, WroteForLoad}
-use Rattle.token_lines.proofs.lines.OneOutputs.{same_bytes, same_fault}
+use Rattle.token_lines.proofs.lines.OneOutputs.{same_bytes}
 use Rattle.token_lines.proofs.lines.OneWritings.{after_asked, nothing_needed}
-use Rattle.token_lines.proofs.nodes.NodeWritesLemmas.{roots_behind}
-
--- documents, and then one load
-first_same : (x y : Load) (l m : List Load) → x ∷ l ≡ y ∷ m → x ≡ y
-first_same x y l m e = cc
-
-rest_same : (x y : Load) (l m : List Load) → x ∷ l ≡ y ∷ m → l ≡ m
-rest_same x y l m e = cc
-
-document_same : (c d : Document) → ◌≡◌ {A = Load} (Ok c) (Ok d) → c ≡ d
-document_same c d e = cc
-
-none_more : (l : List Load) (y : Load) → [] ≡ l ++ y ∷ [] → ⊥
-none_more [] y e = cc
-none_more (x ∷ l) y e = cc
-
-same_loads : (a b : List Document) (x y : Load) → map Ok a ++ x ∷ [] ≡ map Ok b ++ y ∷ [] → (a ≡ b) × (x ≡ y)
-same_loads [] [] x y e = (refl, first_same x y [] [] e)
-same_loads [] (d ∷ b) x y e = absurd (none_more (map Ok b) y (rest_same x (Ok d) [] (map Ok b ++ y ∷ []) e))
-same_loads (c ∷ a) [] x y e = absurd (none_more (map Ok a) x (sym (rest_same (Ok c) y (map Ok a ++ x ∷ []) [] e)))
-same_loads (c ∷ a) (d ∷ b) x y e =
-    let r = same_loads a b x y (rest_same (Ok c) (Ok d) (map Ok a ++ x ∷ []) (map Ok b ++ y ∷ []) e) in
-    let h = document_same c d (first_same (Ok c) (Ok d) (map Ok a ++ x ∷ []) (map Ok b ++ y ∷ []) e) in
-    (ap (λ (l : List Document). c ∷ l) r.0 ∙ ap (λ (f : Document). f ∷ b) h, r.1)
-
-last_same : (x y : Ending) → last_load x ≡ last_load y → x ≡ y
-last_same Ends Ends e = refl
-last_same Ends (Fails f) e = absurd cc
-last_same (Fails f) Ends e = absurd cc
-last_same (Fails f) (Fails g) e = ap Fails (go e)
-  where
-    go : ◌≡◌ {A = Load} (Err f) (Err g) → f ≡ g
-    go h = cc
 
 -- what was written of documents and an ending
 abbrev Wrote : Ending → Outcome → List Document → (before after : Option (List ℕ)) → Type 0
@@ -96,12 +66,8 @@ both_wrote (Fails f) (Fails k) o u d e written after later i j g h = (
   same_bytes written after later (concat (flat_map document_lines d) ++ fault_text f)
       (concat (flat_map document_lines e) ++ fault_text k)
       (ap (λ (l : List Document). concat (flat_map document_lines l) ++ fault_text f) j
-      ∙ ap (λ (z : Fault). concat (flat_map document_lines e) ++ fault_text z) (same_fault f k i)) g.1 h.1,
+      ∙ ap (λ (z : Fault). concat (flat_map document_lines e) ++ fault_text z) (fault_same f k i)) g.1 h.1,
 )
-
--- a document without nodes is no load whatever the run's ending
-ok_no_err : (d : Document) (f : Fault) → ◌≡◌ {A = Load} (Err f) (Ok d) → ⊥
-ok_no_err d f e = cc
 
 after_given : (given a b : List yaml_event_t) → Begins (given ++ a) (given ++ b) → Begins a b
 after_given given a b h = (h.0, front_same given b (a ++ h.0) (h.1 ∙ append_assoc given a h.0))
@@ -210,7 +176,7 @@ module _ {S W : Type 0} (gives : S → Answer → S → Type 0) (known : S → O
         let here : next_bounded n taken (Fails no_fault) ≡ Ok d =
         ap (λ (l : List yaml_event_t). next_bounded n l (Fails no_fault)) (sym (append-nil taken))
         ∙ load [] (Fails no_fault) in
-        absurd (ok_no_err d no_fault (last_of taken (Fails no_fault) n d (roots Ended o last taken c) here w.0).1)
+        absurd (ok_not_err d no_fault (sym (last_of taken (Fails no_fault) n d (roots Ended o last taken c) here w.0).1))
     ended o (Ok d) (at_end taken took load leaves runs is over) w =
         let c = took.history (asked_there Ended o) (given_there Ended o) o.earlier.history in
         let history = further Ended o last taken c in

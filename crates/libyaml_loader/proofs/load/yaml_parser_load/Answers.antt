@@ -1,4 +1,5 @@
-use Rattle.std.proofs.Common.{◌≡◌, ℕ, subst, sym, ◌∙◌, true, false}
+use Rattle.std.proofs.Common.{ℕ, subst, sym, ◌∙◌}
+use Rattle.std.proofs.lemmas.Bool.{true≢false}
 use Rattle.libyaml_graphs.specs.loads.Bounds.{next_bounded}
 use Rattle.libyaml_graphs.specs.loads.Loads.{left_over}
 use Rattle.libyaml_loader.specs.document.Ids.{magnitude}
@@ -10,9 +11,6 @@ use Rattle.libyaml_loader.proofs.loads.Rootless.{rootless}
 use Rattle.libyaml_loader.proofs.load.yaml_parser_load.Given as given
 use Rattle.libyaml_loader.proofs.load.yaml_parser_load.Goals as goal
 use Rattle.libyaml_loader.proofs.load.yaml_parser_load.Goals.{After-next_document}
-
-no : true ≡ false → ⊥
-no h = cc
 
 -- the composer's bound is the parser's
 loads : (g : given.Over) (c : After-next_document g)
@@ -33,7 +31,7 @@ returns-clause-no_fault g c = c.of_history.ensures.no_fault c.args.parser.now
 
 pub returns-then-has_failed-clause-next_load : goal.returns-then-has_failed-clause-next_load
 returns-then-has_failed-clause-next_load g c events ending run =
-    absurd (no (sym c.if-has_failed.true ∙ c.has_failed.ensures ∙ c.of_history.ensures.no_fault c.args.parser.now
+    absurd (true≢false (sym c.if-has_failed.true ∙ c.has_failed.ensures ∙ c.of_history.ensures.no_fault c.args.parser.now
     run.asked run.given run.history))
 
 pub returns-then-has_failed-clause-between : goal.returns-then-has_failed-clause-between
@@ -48,7 +46,7 @@ returns-clause-next_load g c =
     call.ensures.fails (c.of_history.ensures.no_fault c.args.parser.now) (λ first. loads g (goal.at.returns-clause-next_load g c).After-next_document)
 
 pub returns-then-has_failed-clause-ended : goal.returns-then-has_failed-clause-ended
-returns-then-has_failed-clause-ended g c ended none = absurd (no (sym c.if-has_failed.true ∙ c.has_failed.ensures ∙ none))
+returns-then-has_failed-clause-ended g c ended none = absurd (true≢false (sym c.if-has_failed.true ∙ c.has_failed.ensures ∙ none))
 
 pub returns-clause-ended : goal.returns-clause-ended
 returns-clause-ended g c ended none = c.next_document.ensures.ended ended
@@ -63,7 +61,7 @@ returns-clause-without_root g c =
     (c.of_history.ensures.nests call.new.parser) call.result (loads g (goal.at.returns-clause-without_root g c).After-next_document)
 
 pub returns-then-has_failed-clause-linear : goal.returns-then-has_failed-clause-linear
-returns-then-has_failed-clause-linear g c none = absurd (no (sym c.if-has_failed.true ∙ c.has_failed.ensures ∙ none))
+returns-then-has_failed-clause-linear g c none = absurd (true≢false (sym c.if-has_failed.true ∙ c.has_failed.ensures ∙ none))
 
 pub returns-clause-linear : goal.returns-clause-linear
 returns-clause-linear g c none =

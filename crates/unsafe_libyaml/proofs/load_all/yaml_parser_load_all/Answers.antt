@@ -1,12 +1,13 @@
-use Rattle.std.proofs.Common.{◌≡◌, ◌≢◌, ◌++◌, ◌∷◌, [], All, ap, refl, sym, ◌∙◌, subst}
-use Rattle.unsafe_libyaml.proofs.WholeLoads.{LoadLaws, bare, fewer, gathers_loads, gathers_to_fault, loaded_as}
-use Rattle.unsafe_libyaml.proofs.WholeLoads.{loaded_next, loaded_none, loads_to, rooted}
+use Rattle.std.proofs.Common.{◌≡◌, ◌≢◌, [], All, ap, refl, sym, ◌∙◌, subst}
+use Rattle.unsafe_libyaml.proofs.WholeLoads.{LoadLaws, fewer, gathers_loads, gathers_to_fault, loaded_as}
+use Rattle.unsafe_libyaml.proofs.WholeLoads.{loaded_next, loaded_none, loads_to}
 use Rattle.unsafe_libyaml.proofs.WholeLoads.{tree_loads}
 use Rattle.unsafe_libyaml.proofs.WholeRuns.{gave_none, if_ok, tells}
 use Rattle.unsafe_libyaml.proofs.LargeLoads.{loads_linear}
 use Rattle.unsafe_libyaml.proofs.load_all.yaml_parser_load_all.Given as given
 use Rattle.unsafe_libyaml.proofs.load_all.yaml_parser_load_all.Goals as goal
 use Rattle.unsafe_libyaml.proofs.load_all.yaml_parser_load_all.Goals.{After-yaml_parser_load}
+use Rattle.libyaml_graphs.proofs.lent.LoadLists.{bare, rooted}
 
 pub loop-document-init : goal.loop-document-init
 loop-document-init g c =

@@ -1,6 +1,6 @@
 use Rattle.std.proofs.Common.{◌≤◌, arith, rules, sym}
 use Rattle.std.specs.Vec.{vec_capacity}
-use Rattle.libyaml_events.proofs.pushes.Feeding.{not_both}
+use Rattle.std.proofs.lemmas.Bool.{both_ways}
 use Rattle.libyaml_events.proofs.pushes.Taking.{taking_begins, wants_next, none_held, fails_onto, onto_kept, goes_on}
 use Rattle.libyaml_events.proofs.pushes.Taking.{is_done, step_falls}
 use Rattle.libyaml_events.specs.machine.Answers.{wanted}
@@ -42,7 +42,7 @@ returns-then-not-take_held-clause-takes g c =
     rw c.take_held.ensures.taken
     (is_done _ _ _ _ _ _ _ _ _ c.loop-error.invariant.1 _ c.step_onto.new.self s.1 _ s.2 _ _ c.take_held.ensures.token
     (λ h. elim c.then-not-take_held.branch [
-      | then-not-take_held-via-then-not-take_held w ↦ absurd (not_both _ w.if-not-take_held.true h)
+      | then-not-take_held-via-then-not-take_held w ↦ absurd (both_ways _ w.if-not-take_held.true h)
       | then-not-take_held-via-else-not-take_held+then-is_over w ↦
           rw c.take_held.ensures.taken at (sym w.if-is_over.ensures)
     ]))

@@ -1,15 +1,13 @@
-use Rattle.std.proofs.Common.{◌≡◌, Option, None, Some, Bool, true, false, Result, Ok, Err, if◌then◌else◌}
+use Rattle.std.proofs.Common.{◌≡◌, Bool, true, false, Result, if◌then◌else◌}
 use Rattle.libyaml_types.specs.declared.enums.yaml_error_type_t.{yaml_error_type_t}
-use Rattle.libyaml_types.specs.declared.enums.yaml_parser_state_t.{yaml_parser_state_t}
 use Rattle.libyaml_types.specs.declared.mark.yaml_mark_t.{yaml_mark_t}
 use Rattle.libyaml_types.specs.declared.token.yaml_token_t.{yaml_token_t}
-use Rattle.libyaml_events.specs.declared.node_place.NodePlace.{NodePlace}
 use Rattle.libyaml_events.specs.declared.slot.Slot.{Slot}
-use Rattle.libyaml_events.specs.machine.Config.{Parser, with_config}
-use Rattle.libyaml_events.specs.machine.Machine.{Progressed, at_slot, parse_node, process_empty_scalar}
+use Rattle.libyaml_events.specs.machine.Config.{Parser}
+use Rattle.libyaml_events.specs.machine.Machine.{at_slot, parse_node, process_empty_scalar}
 use Rattle.libyaml_events.specs.machine.Slots.{entered, is_nothing_before, left_out, place, state_behind}
 use Rattle.libyaml_events.specs.machine.Steps.{Steps}
-use Rattle.libyaml_events.specs.machine.Want.{Progress, Given, Wants}
+use Rattle.libyaml_events.specs.machine.Want.{Progress}
 use Rattle.libyaml_events.proofs.parser.Machine.parse_slot.Goals as goal
 
 -- a node is read after the state that comes next

@@ -1,11 +1,9 @@
-use Rattle.std.proofs.Common.{◌≡◌, sym, ap, ◌∙◌, true, false}
+use Rattle.std.proofs.Common.{sym, ap, ◌∙◌}
+use Rattle.std.proofs.lemmas.Bool.{true≢false}
 use Rattle.libyaml_loader.specs.declared.context.loader_ctx.{loader_ctx}
 use Rattle.libyaml_loader.specs.pushes.Composing.{opening_by}
 use Rattle.libyaml_loader.proofs.pushes.Steps.{begun_ids, begun_leads}
 use Rattle.libyaml_loader.proofs.composer.Composer.begin.Goals as goal
-
-no : true ≡ false → ⊥
-no h = cc
 
 pub returns-in-Some-clause-leads : goal.returns-in-Some-clause-leads
 returns-in-Some-clause-leads c =
@@ -22,6 +20,6 @@ returns-in-Some-clause-sound c =
     record {
       ids = λ h. begun_ids c.begin.new.self (opening_by c.in-Some.opening) (ap (λ (x : loader_ctx). x.document) begun)
           (ap (λ (x : loader_ctx). x.stack) begun ∙ fresh.0) (ap (λ (x : loader_ctx). x.anchors) begun ∙ fresh.1);
-      fresh = λ h. absurd (no h);
+      fresh = λ h. absurd (true≢false h);
       bound = ap (λ (x : loader_ctx). x.max_entries) begun ∙ c.requires.sound.bound;
     }

@@ -1,9 +1,7 @@
-use Rattle.std.proofs.Common.{◌≡◌, sym, ◌∙◌, true, false}
+use Rattle.std.proofs.Common.{sym, ◌∙◌}
+use Rattle.std.proofs.lemmas.Bool.{true≢false}
 use Rattle.libyaml_loader.proofs.pushes.Steps.{added_ids, refused}
 use Rattle.libyaml_loader.proofs.composer.Composer.compose.Goals as goal
-
-no : true ≡ false → ⊥
-no h = cc
 
 pub returns-in-Ok-clause-sound : goal.returns-in-Ok-clause-sound
 returns-in-Ok-clause-sound c =
@@ -11,7 +9,7 @@ returns-in-Ok-clause-sound c =
     record {
       ids = λ h. added_ids c.args.self.now c.compose.new.self c.args.event.now c.requires.sound c.if-not-self.false
           composed;
-      fresh = λ none. absurd (no (sym c.if-not-self.false ∙ none));
+      fresh = λ none. absurd (true≢false (sym c.if-not-self.false ∙ none));
       bound = composed.bound ∙ c.requires.sound.bound;
     }
 
