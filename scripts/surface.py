@@ -20,7 +20,7 @@ ITEM = re.compile(r"pub (?:extern \"C\" )?(fn|struct|enum|trait|type|const) (\w+
 METHOD = re.compile(r"    (pub )?fn (\w+)")
 IMPL = re.compile(r"impl(<.*?>)? (?:(.+?) for )?(\w+)")
 USE = re.compile(r"pub use ([\w:]+?)(?:::\{([^}]*)\}| as (\w+))?;")
-LAWS = re.compile(r"(?:laws|rows|determined)::")
+LAWS = re.compile(r"(?:laws|rows)::")
 NAMED = (
     "unsafe_libyaml", "token_lines", "token_lines_c", "yaml_path", "token_steps", "token_steps_c", "records",
     "records_c",

@@ -1,5 +1,7 @@
 //! Laws: the headline of runs and of loads, one tree, and what a history says.
 
+pub mod determined;
+
 ghost use Rattle.std.specs.Prelude.{◌≡◌, ◌++◌, ◌∷◌, List, [], false};
 ghost use Rattle.unsafe_libyaml.specs.Config.{Parser};
 ghost use Rattle.unsafe_libyaml.specs.Fault.{Fault};

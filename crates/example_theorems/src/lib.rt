@@ -2,14 +2,13 @@
 //! over the words that `unsafe_libyaml` and `token_lines` pass on, and is proved by a call of the public one.
 #![tactic(auto)]
 
-mod determined;
 mod laws;
 mod lines;
 mod loading;
 mod parsing;
 mod runs;
 
-pub use determined::{documents_twice, events_twice};
+pub use laws::determined::{documents_twice, events_twice};
 pub use laws::{headline, of_every_history, one_tree};
 pub use lines::{lines_of_reader, texts_of_reader};
 pub use loading::{load_fails_after_parse, next_document, next_load_fails};

@@ -1,6 +1,8 @@
 //! The laws of a loop over documents, and of pushes to a loader. Each function does nothing when it runs: its
 //! contract is the law.
 
+pub mod determined;
+
 ghost use Rattle.std.specs.Prelude.{◌≡◌, ◌≤◌, ◌*◌, ◌++◌, ℕ, List, [], Err, Some, length, false, true};
 ghost use Rattle.libyaml_types.specs.Fault.{Fault};
 ghost use Rattle.libyaml_types.specs.Source.{coming};

@@ -4,7 +4,6 @@
 mod anchors;
 mod composer;
 mod context;
-pub mod determined;
 mod documents;
 mod ids;
 pub mod laws;

@@ -1,8 +1,8 @@
 //! Token lines as they are read.
 #![tactic(auto)]
 
-pub mod determined;
 mod field;
+pub mod laws;
 mod line;
 mod line_problem;
 mod line_source;

@@ -3,7 +3,6 @@
 //! This is the Rust form of what `records_c` exports to C.
 #![tactic(auto)]
 
-pub mod determined;
 mod document;
 mod fault_records;
 mod fields;

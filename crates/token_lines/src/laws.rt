@@ -1,4 +1,7 @@
 //! Laws of the texts of lines. Each is a function that does nothing, and whose contract is the law.
+
+pub mod determined;
+
 ghost use Rattle.token_lines.specs.lines.ReadsBack.{BytesReadBack, EncodingsReadBack, StringsAreFields};
 ghost use Rattle.token_lines.specs.lines.ReadsBack.{StringsReadBack, StylesReadBack};
 

@@ -3,7 +3,7 @@
 //! You only name this crate: it re-exports the crates below it.
 #![tactic(auto)]
 
-pub mod determined;
+pub mod laws;
 mod load_all;
 mod parse_all;
 
@@ -16,15 +16,15 @@ pub use libyaml_documents::{
     yaml_node_item_t, yaml_node_items_t, yaml_node_pair_t, yaml_node_pairs_t, yaml_node_t,
 };
 pub use libyaml_events::{
-    MEMORY_FAULT, NO_FAULT, laws, yaml_list_source_t, yaml_parser_between_documents,
-    yaml_parser_delete, yaml_parser_initialize, yaml_parser_parse, yaml_parser_parse_into,
-    yaml_parser_set_max_entries, yaml_parser_t, yaml_parser_t_prefix, yaml_push_parser_t,
-    yaml_source_fault_t, yaml_token_source_t,
+    MEMORY_FAULT, NO_FAULT, yaml_list_source_t, yaml_parser_between_documents, yaml_parser_delete,
+    yaml_parser_initialize, yaml_parser_parse, yaml_parser_parse_into, yaml_parser_set_max_entries,
+    yaml_parser_t, yaml_parser_t_prefix, yaml_push_parser_t, yaml_source_fault_t,
+    yaml_token_source_t,
 };
 pub use libyaml_graphs::laws as graph_laws;
 pub use libyaml_loader::{
-    determined as loader_determined, laws as loader_laws, yaml_parser_documents,
-    yaml_parser_documents_t, yaml_parser_load, yaml_push_loader_t,
+    laws as loader_laws, yaml_parser_documents, yaml_parser_documents_t, yaml_parser_load,
+    yaml_push_loader_t,
 };
 pub use libyaml_types::{
     ZERO_MARK, laws as type_laws, unnamed_yaml_event_t_data, unnamed_yaml_event_t_data_alias,

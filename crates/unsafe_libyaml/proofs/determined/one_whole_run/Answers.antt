@@ -1,5 +1,0 @@
-use Rattle.unsafe_libyaml.proofs.OneRuns.{one_whole_run_proof}
-use Rattle.unsafe_libyaml.proofs.determined.one_whole_run.Goals as goal
-
-pub returns : goal.returns
-returns g c = one_whole_run_proof g.S.yaml_token_source_t.gives
