@@ -5,3 +5,4 @@ pub mod Machine
 pub mod Roots
 pub mod Building
 pub mod LoadLists
+pub mod RunLoads

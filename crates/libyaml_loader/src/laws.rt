@@ -25,11 +25,7 @@ ghost use Rattle.libyaml_loader.specs.loads.NextLoad.{LoadOfRun};
 ghost use Rattle.libyaml_loader.specs.pushes.Loaded.{ForLoaded, PushLoader, has_stopped, keeps_fault};
 ghost use Rattle.libyaml_loader.specs.pushes.PushesLoads.{AreThen, BeginsEachLoads};
 
-use libyaml_events::laws::calls::of_history;
-use libyaml_events::laws::pushes::{in_hand, of_pushed};
-use libyaml_events::laws::run_nests;
 use libyaml_events::yaml_token_source_t;
-use libyaml_graphs::laws::{linear_size, whole_documents_have_roots};
 
 /// What a whole loop over the documents of a parser yielded: over a list of tokens from the start, or over
 /// events that are to come and nest, exactly the loads within the parser's bound; or memory ran out, or the
@@ -44,11 +40,7 @@ pub fn loop_yields_loads<S: yaml_token_source_t>()
         (x : Ending) → RunToCome S.known old e x → NestsSoFar e
         → LoopYields S.gives S.bound S.known S.may_break old documents ending new
         → AreLoadsOf S.may_break new documents ending (bounded_loads (magnitude old.max_entries) e x) }
-{
-    of_history::<S>();
-    run_nests();
-    whole_documents_have_roots();
-}
+{}
 
 /// What a load says of each run that its parser had to come: a document is the run's first load, and the
 /// events that it leaves are to come; a fault is the run's first load, or an allocation failed, or the source
@@ -72,8 +64,4 @@ pub fn of_loaded()
     ensures begins { (l : PushLoader) → ForLoaded l (BeginsEachLoads l.max_entries) }
     ensures linear { (l : PushLoader) → ForLoaded l (λ tokens documents. documents_size documents
         ≤ 8 * length tokens) }
-{
-    of_pushed();
-    in_hand();
-    linear_size();
-}
+{}

@@ -21,11 +21,9 @@ use crate::composer::Composer;
 use crate::context::empty_document;
 use crate::refusal::{has_failed, keep_fault};
 use libyaml_documents::yaml_document_t;
-use libyaml_events::laws::calls::{of_history, rest_of_run};
 use libyaml_events::{
     is_event, no_event, yaml_parser_parse_into, yaml_parser_t, yaml_token_source_t,
 };
-use libyaml_graphs::laws::{linear_size, whole_documents_have_roots};
 use libyaml_types::{yaml_error_type_t, yaml_event_t};
 
 /// Returns the next document, or at the stream's end the document without root.
@@ -74,9 +72,6 @@ pub fn yaml_parser_load<S: yaml_token_source_t>(
         (Answers S.known (next_bounded (magnitude parser.old.max_entries) events ending) result parser.new
         (left_over events) ending) }
 {
-    of_history::<S>();
-    whole_documents_have_roots();
-    linear_size();
     if has_failed(parser) {
         return Err(parser.prefix().error);
     }
@@ -107,8 +102,6 @@ fn next_document<S: yaml_token_source_t>(
     ensures loads { LoadsFrom S.gives S.known S.may_break (next_bounded composer.max_entries) left_over
         parser.old result parser.new }
 {
-    of_history::<S>();
-    rest_of_run::<S>();
     loop {
         yaml_parser_parse_into(parser, event)?;
         if !is_event(event) {

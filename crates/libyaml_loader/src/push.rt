@@ -8,9 +8,7 @@ ghost use Rattle.libyaml_loader.specs.pushes.PushesLoads.{PushesLoads};
 
 use crate::composer::Composer;
 use libyaml_documents::yaml_document_t;
-use libyaml_events::laws::pushes::{in_hand, of_pushed};
 use libyaml_events::{yaml_parser_t_prefix, yaml_push_parser_t};
-use libyaml_graphs::laws::linear_size;
 use libyaml_types::{yaml_error_type_t, yaml_event_t, yaml_token_t};
 use std::alloc::Global;
 use std::marker::Model;
@@ -86,9 +84,6 @@ impl yaml_push_loader_t {
         ensures { PushesLoads (vec_capacity documents.old ≤ vec_len documents.new) self.old token
             documents.old.items result self.new documents.new.items }
     {
-        of_pushed();
-        in_hand();
-        linear_size();
         self.composer.kept()?;
         let mut token = token;
         let pushed = self.parser.push_from(&mut token, &mut self.events);

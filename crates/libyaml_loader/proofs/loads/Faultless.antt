@@ -1,8 +1,9 @@
--- After a document true≢false fault is kept.
+-- After a document no fault is kept.
 use Rattle.std.proofs.Common.{◌≡◌, List, Option, Ok, Err, IfOk, inl, inr, false, sym, ◌∙◌}
 use Rattle.std.proofs.lemmas.Bool.{true≢false}
 use Rattle.libyaml_events.specs.machine.Config.{Parser}
-use Rattle.libyaml_events.specs.sources.History.{ForHistory, Remembers, has_failed}
+use Rattle.libyaml_events.specs.sources.History.{Remembers, has_failed}
+use Rattle.libyaml_events.proofs.lent.Histories as histories
 use Rattle.libyaml_grammar.specs.runs.Runs.{Ending}
 use Rattle.libyaml_grammar.specs.sentences.Events.{Event}
 use Rattle.libyaml_graphs.specs.loads.Loads.{Load}
@@ -12,13 +13,12 @@ use Rattle.libyaml_types.specs.Source.{Coming}
 
 module _ {S : Type 0} (gives : S → Answer → S → Type 0) (known : S → Option Coming) (MayBreak : S → Fault → Type 0)
     (load : List Event → Ending → Load)
-    (left : List Event → List Event) (law : (p : Parser S) → ForHistory p (λ _ _. has_failed p ≡ false))
-    (old new : Parser S) (none : has_failed old ≡ false) where
+    (left : List Event → List Event) (old new : Parser S) (none : has_failed old ≡ false) where
   pub faultless : Remembers old → (r : DocumentOrError) → LoadsFrom gives known MayBreak load left old r new
       → IfOk r (λ _. has_failed new ≡ false)
   faultless h (Err x) l = tt
   faultless (inl fault) (Ok d) l = absurd (true≢false (sym fault ∙ none))
   faultless (inr (asked, given, history)) (Ok d) (whole taken took loads leaves stands) =
-      law new _ _ (took.history asked given history).history
+      histories.faultless new _ _ (took.history asked given history).history
   faultless (inr (asked, given, history)) (Ok d) (at_end taken took loads leaves runs is ended) =
-      law new _ _ (took.history asked given history).history
+      histories.faultless new _ _ (took.history asked given history).history

@@ -1,17 +1,21 @@
 -- What a whole loop over documents yielded, by the run that was to come.
-use Rattle.std.proofs.Common.{◌≡◌, ◌≢◌, ◌∷◌, ℕ, List, [], Option, None, Some, Ok, Err, false, inl, inr, refl, sym}
+use Rattle.std.proofs.Common.{◌≡◌, ◌∷◌, ℕ, List, [], Option, None, Some, Ok, Err, inl, inr, refl, sym}
 use Rattle.std.proofs.Common.{ap, subst, ◌∙◌}
 use Rattle.std.proofs.lemmas.Bool.{true≢false}
 use Rattle.libyaml_documents.specs.Documents.{Document}
 use Rattle.libyaml_events.specs.machine.Config.{Parser}
-use Rattle.libyaml_events.specs.sources.History.{ForHistory, History, has_failed, kept_fault}
+use Rattle.libyaml_events.specs.sources.History.{History, kept_fault}
 use Rattle.libyaml_events.specs.sources.RunToCome.{RunToCome, UnlessBroken, breaks, does, no_memory}
-use Rattle.libyaml_grammar.specs.runs.Runs.{Ending, Ends, Fails, IsRun}
+use Rattle.libyaml_events.proofs.lent.Histories as histories
+use Rattle.libyaml_grammar.specs.runs.Runs.{Ending, Ends, Fails}
 use Rattle.libyaml_grammar.specs.sentences.Events.{Event}
 use Rattle.libyaml_grammar.specs.sentences.Tokens.{Token}
+use Rattle.libyaml_grammar.proofs.lent.NestingSoFar.{run_nests_so_far}
 use Rattle.libyaml_graphs.specs.loads.Bounds.{IsBoundedLoads, bounded_loads, next_bounded}
 use Rattle.libyaml_graphs.specs.loads.GraphLaws.{RootsFollow}
 use Rattle.libyaml_graphs.specs.loads.Loads.{Load, last_load, left_over}
+use Rattle.libyaml_graphs.proofs.lent.Roots as roots
+use Rattle.libyaml_graphs.proofs.lent.Roots.{earlier_of, last_of, left_roots, roots_follow}
 use Rattle.libyaml_loader.specs.document.Ids.{magnitude}
 use Rattle.libyaml_loader.specs.loads.Loading.{DocumentOrError}
 use Rattle.libyaml_loader.specs.loads.LoadsInTurn.{AreLoadsOf, LoopYields, YieldsDocument, cut_short, document, fault}
@@ -32,20 +36,8 @@ ends_here : (x : Ending) (d : Document) → last_load x ≡ Ok d → Ends ≡ x
 ends_here Ends d h = refl
 ends_here (Fails f) d h = absurd cc
 
--- the laws of loads
-pub record LoopLaws : Type 0 where
-  pub left : (l : List Event) → RootsFollow l → RootsFollow (left_over l)
-  pub without : (l : List Event) (x : Ending) (n : ℕ) (d : Document) → RootsFollow l → next_bounded n l x ≡ Ok d
-      → d.nodes ≡ []
-      → (bounded_loads n l x ≡ Ok d ∷ []) × (last_load x ≡ Ok d)
-  pub with : (l : List Event) (x : Ending) (n : ℕ) (d : Document) → next_bounded n l x ≡ Ok d → d.nodes ≢ []
-      → bounded_loads n l x ≡ Ok d ∷ bounded_loads n (left_over l) x
-  pub fault : (l : List Event) (x : Ending) (n : ℕ) (f : Fault) → next_bounded n l x ≡ Err f
-      → bounded_loads n l x ≡ Err f ∷ []
-
-module _ (law : LoopLaws) {S : Type 0} (gives : S → Answer → S → Type 0) (bound : S → ℕ) (known : S → Option Coming)
-    (MayBreak : S → Fault → Type 0)
-    (no_fault : (p : Parser S) → ForHistory p (λ _ _. has_failed p ≡ false)) where
+module _ {S : Type 0} (gives : S → Answer → S → Type 0) (bound : S → ℕ) (known : S → Option Coming)
+    (MayBreak : S → Fault → Type 0) where
   -- a load that returned this document, or failed
   answered : (new : Parser S) (d : Document) (a : Load) (e : List Event) (x : Ending)
       → UnlessBroken {A = Document} MayBreak (Ok d) new (Answers known a (Ok d) new e x)
@@ -77,37 +69,36 @@ module _ (law : LoopLaws) {S : Type 0} (gives : S → Answer → S → Type 0) (
       (x : Ending) → magnitude old.max_entries ≡ n
       → RunToCome known old e x → RootsFollow e → LoopYields gives bound known MayBreak old documents ending new
       → AreLoadsOf MayBreak new documents ending (bounded_loads n e x)
-  of_run n old new documents ending e x within run roots (no_item y) = go y
+  of_run n old new documents ending e x within run follow (no_item y) = go y
     where
       go : YieldsDocument gives bound known MayBreak old None new → AreLoadsOf MayBreak new [] Ends (bounded_loads n e x)
-      go (inl (failed_before, same)) = absurd (true≢false (sym failed_before ∙ no_fault old run.asked run.given run.history))
+      go (inl (failed_before, same)) = absurd (true≢false (sym failed_before ∙ histories.faultless old run.asked run.given run.history))
       go (inr (none, over, (d, no_root, next))) =
           let b = answered new d (next_bounded n e x) (left_over e) x
           (subst (λ (m : ℕ). UnlessBroken {A = Document} MayBreak (Ok d) new
           (Answers known (next_bounded m e x) (Ok d) new (left_over e) x)) within (next.next_load e x run)) in
-          let z = law.without e x n d roots b.0 no_root in
+          let z = last_of e x n d follow b.0 no_root in
           whole (z.0 ∙ ap (λ (t : Load). t ∷ []) (sym z.1 ∙ ap last_load (sym (ends_here x d z.1))))
-  of_run n old new documents ending e x within run roots (fault f (none, next, kept)) =
-      failed new f kept (bounded_loads n e x) (next_bounded n e x) (left_over e) x (λ (g : Fault). law.fault e x n g)
+  of_run n old new documents ending e x within run follow (fault f (none, next, kept)) =
+      failed new f kept (bounded_loads n e x) (next_bounded n e x) (left_over e) x (λ (g : Fault). roots.fault_of e x n g)
       (subst (λ (m : ℕ). UnlessBroken {A = Document} MayBreak (Err f.error) new
       (Answers known (next_bounded m e x) (Err f.error) new (left_over e) x)) within
       (next.next_load e x run))
-  of_run n old new documents ending e x within run roots (document d later end mid (none, root, next) more) =
+  of_run n old new documents ending e x within run follow (document d later end mid (none, root, next) more) =
       let b = answered mid d (next_bounded n e x) (left_over e) x
       (subst (λ (m : ℕ). UnlessBroken {A = Document} MayBreak (Ok d) mid
       (Answers known (next_bounded m e x) (Ok d) mid (left_over e) x)) within (next.next_load e x run)) in
-      one_more new d later end (bounded_loads n (left_over e) x) (bounded_loads n e x) (law.with e x n d b.0 root)
-      (of_run n mid new later end (left_over e) x (ap magnitude next.bound ∙ within) b.1 (law.left e roots) more)
+      one_more new d later end (bounded_loads n (left_over e) x) (bounded_loads n e x) (earlier_of e x n d b.0 root)
+      (of_run n mid new later end (left_over e) x (ap magnitude next.bound ∙ within) b.1 (left_roots e follow) more)
 
   -- from the start
-  pub of_list : ((l : List Token) (f : Fault) (e : List Event) (x : Ending) → IsRun l f e x → RootsFollow e)
-      → (old new : Parser S)
+  pub of_list : (old new : Parser S)
       (documents : List Document) (ending : Ending) (l : List Token) (f : Fault) (loads : List Load) → History old [] []
       → known old.source ≡ Some (coming l f) → IsBoundedLoads (magnitude old.max_entries) l f loads
       → LoopYields gives bound known MayBreak old documents ending new → AreLoadsOf MayBreak new documents ending loads
-  of_list roots old new documents ending l f loads history knows are y =
+  of_list old new documents ending l f loads history knows are y =
       let run : RunToCome known old are.events are.ending
       = record { asked = []; given = []; rest = l; fault = f; history = history; knows = knows; run = are.run } in
       subst (λ (k : List Load). AreLoadsOf MayBreak new documents ending k) (sym are.all)
       (of_run (magnitude old.max_entries) old new documents ending are.events are.ending refl run
-      (roots l f are.events are.ending are.run) y)
+      (roots_follow are.events (run_nests_so_far l f are.events are.ending are.run)) y)

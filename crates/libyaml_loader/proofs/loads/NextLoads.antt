@@ -7,10 +7,10 @@ use Rattle.libyaml_documents.specs.Documents.{Document}
 use Rattle.libyaml_events.specs.machine.Config.{Parser}
 use Rattle.libyaml_grammar.specs.sentences.Events.{Event}
 use Rattle.libyaml_types.specs.Fault.{Answer, Fault}
-use Rattle.libyaml_events.specs.sources.History.{ForHistory, is_over, has_failed, kept_fault}
-use Rattle.libyaml_grammar.specs.sentences.Tokens.{Token}
+use Rattle.libyaml_events.specs.sources.History.{is_over, has_failed, kept_fault}
 use Rattle.libyaml_grammar.specs.runs.Runs.{Ending}
 use Rattle.libyaml_events.specs.sources.RunToCome.{FailsHere, RestOfRun, RunToCome, UnlessBroken, breaks, does, no_memory}
+use Rattle.libyaml_events.proofs.lent.Histories as histories
 use Rattle.libyaml_types.specs.Source.{Coming}
 use Rattle.libyaml_graphs.specs.loads.Loads.{Load, last_load}
 use Rattle.libyaml_loader.specs.loads.Loading.{DocumentOrError, LoadsFrom, at_end, by_loader, by_memory, by_parser, whole}
@@ -61,12 +61,11 @@ module _ {S : Type 0} (gives : S → Answer → S → Type 0) (known : S → Opt
 
   pub next_load : (old new : Parser S) (r : DocumentOrError)
       → IfErr r (λ (x : yaml_error_type_t). (x ≡ (kept_fault new).error) × (is_over new ≡ true))
-      → ForHistory old (λ (asked : List Token) (given : List Event). has_failed old ≡ false)
       → (has_failed old ≡ false → LoadsFrom gives known MayBreak load left old r new)
       → (events : List Event) (ending : Ending) → RunToCome known old events ending
       → UnlessBroken MayBreak r new (Answers known (load events ending) r new (left events) ending)
-  next_load old new r kept no_fault loads events ending run
-      = go r kept (load_of_run old new r events ending run (loads (no_fault run.asked run.given run.history)))
+  next_load old new r kept loads events ending run
+      = go r kept (load_of_run old new r events ending run (loads (histories.faultless old run.asked run.given run.history)))
     where
       answered : (l : Load) (q : DocumentOrError) → load events ending ≡ l → Answers known l q new (left events) ending
           → UnlessBroken MayBreak q new (Answers known (load events ending) q new (left events) ending)

@@ -41,7 +41,7 @@ module _ {S : Type 0} (gives : S → Answer → S → Type 0) (known : S → Opt
   pub way_none : (p : Parser S) → OnTheWay p p between
   way_none p = record {
     taken = [];
-    took = took_none gives known MayBreak p;
+    took = took_none gives known p;
     leads = leads_none n between;
     most = refl;
   }
@@ -51,7 +51,7 @@ module _ {S : Type 0} (gives : S → Answer → S → Type 0) (known : S → Opt
         → Leads n here (e ∷ []) [] there → new.max_entries ≡ now.max_entries → OnTheWay first new there
     way_more new there e took leads most = record {
       taken = w.taken ++ e ∷ [];
-      took = took_both gives known MayBreak first now new w.taken (e ∷ []) w.took took;
+      took = took_both gives known first now new w.taken (e ∷ []) w.took took;
       leads = leads_both n between here there w.taken (e ∷ []) [] [] w.leads leads;
       most = most ∙ w.most;
     }
@@ -74,7 +74,7 @@ module _ {S : Type 0} (gives : S → Answer → S → Type 0) (known : S → Opt
         → between_documents new ≡ true
         → LoadsFrom gives known MayBreak (next_bounded n) left_over first (Ok d) new
     way_ends new e o l c d took at ends is stands = whole (w.taken ++ e ∷ [])
-        (took_both gives known MayBreak first now new w.taken (e ∷ []) w.took took)
+        (took_both gives known first now new w.taken (e ∷ []) w.took took)
         (λ (rest : List Event) (x : Ending). load_behind e rest x
         ∙ (ap (λ (s : State). load_from n s (e ∷ rest) x) at
         ∙ (closes n o l e rest x c ends ∙ ap (λ (y : Document). Ok y) (sym is))))
@@ -88,7 +88,7 @@ module _ {S : Type 0} (gives : S → Answer → S → Type 0) (known : S → Opt
         → d ≡ empty_document None [] false false
         → LoadsFrom gives known MayBreak (next_bounded n) left_over first (Ok d) new
     way_finds_end new d h is = at_end (w.taken ++ [])
-        (took_both gives known MayBreak first now new w.taken [] w.took h.took)
+        (took_both gives known first now new w.taken [] w.took h.took)
         (λ (x : Ending). load_here [] x ∙ nothing_left n here x)
         (left_by n between here w.taken w.leads [] ∙ none_left here)
         (λ (events : List Event) (ending : Ending) (run : RunToCome known first events ending).
@@ -111,7 +111,7 @@ module _ {S : Type 0} (gives : S → Answer → S → Type 0) (known : S → Opt
     way_refused mid new e f took refuses keeps = go refuses
       where
         took_all : Took gives known first mid (w.taken ++ e ∷ [])
-        took_all = took_both gives known MayBreak first now mid w.taken (e ∷ []) w.took took
+        took_all = took_both gives known first now mid w.taken (e ∷ []) w.took took
 
         go : RefusesEvent ⊥ n here e f → LoadFails gives known MayBreak (next_bounded n) left_over first new
         go (composing.by_loads loads) = by_loader w.taken e mid took_all f

@@ -12,16 +12,17 @@ use Rattle.libyaml_grammar.proofs.lent.Lists.{nil_right, assoc}
 use Rattle.libyaml_events.specs.machine.Config.{Parser}
 use Rattle.libyaml_events.specs.sources.Calls.{Gave, MeetsRefusal}
 use Rattle.libyaml_events.specs.sources.CallsInTurn.{CarriedOn}
-use Rattle.libyaml_events.specs.sources.Determined.{BeginsEachRun, OneBegins}
-use Rattle.libyaml_events.specs.sources.History.{ForHistory, History, answers, kept_fault}
-use Rattle.libyaml_events.specs.sources.Needs.{EachNeeded, EachWasNeeded}
+use Rattle.libyaml_events.specs.sources.Determined.{AnswersOneWay, OneBegins}
+use Rattle.libyaml_events.specs.sources.History.{History, answers, kept_fault}
+use Rattle.libyaml_events.specs.sources.Needs.{EachNeeded}
 use Rattle.libyaml_events.specs.sources.Parsing.{Cause, FailsBy, of_memory, of_grammar, of_source}
 use Rattle.libyaml_events.proofs.lent.CallsInTurn.{gave_then}
 use Rattle.libyaml_grammar.proofs.lent.Same.{err_same, fault_same, ok_not_err, ok_same, tail_same}
-use Rattle.libyaml_events.proofs.lent.OneOutcome.{before_last, front_same, ran_once}
+use Rattle.libyaml_events.proofs.lent.OneOutcome.{before_last, front_same, one_source_proof, ran_once}
 use Rattle.libyaml_events.proofs.lent.RunStops.{RunStop, answers_both, begins_stopped, ended_stop, grammar_stop}
 use Rattle.libyaml_events.proofs.lent.RunStops.{one_run_by_answers, source_stop}
 use Rattle.libyaml_events.proofs.lent.RunStops.{taken_comparable, token_front}
+use Rattle.libyaml_events.proofs.lent.Histories as histories
 use Rattle.libyaml_graphs.specs.loads.Loads.{Load, last_load}
 use Rattle.libyaml_loader.specs.loads.Loading.{DocumentOrError, LoadsFrom}
 use Rattle.libyaml_loader.specs.loads.Loading.{at_end, by_loader, by_memory, by_parser, whole}
@@ -71,9 +72,7 @@ empty_front t e = sym (nil_right t) ∙ e
 
 module _ {S : Type 0} (gives : S → Answer → S → Type 0) (known : S → Option Coming) (may_break : S → Fault → Type 0)
     (load : List Event → Ending → Load)
-    (left : List Event → List Event) (law_needed : (p : Parser S)
-    → ForHistory p (λ (a : List Token) (g : List Event). EachWasNeeded [] a [] g))
-    (law_begins : (p : Parser S) → ForHistory p BeginsEachRun) (old : Parser S) (asked : List Token)
+    (left : List Event → List Event) (old : Parser S) (asked : List Token)
     (given : List Event) (history : History old asked given) where
   -- before the last of these events no load was decided
   record IsLastOf (taken : List Event) : Type 0 where
@@ -274,7 +273,7 @@ module _ {S : Type 0} (gives : S → Answer → S → Type 0) (known : S → Opt
       → OneBegins (answers (asked ++ m) r) (answers (asked ++ n) s) → ⊥
   not_both m n a b mid r s z x i l stop last o =
       let w = behind_given given a b (begins_stopped (asked ++ m) r (answers (asked ++ n) s) (given ++ a) (given ++ b) x
-      (law_needed mid (asked ++ m) (given ++ a) i) (law_begins mid (asked ++ m) (given ++ a) i) stop o) in
+      (histories.needed mid (asked ++ m) (given ++ a) i) (histories.begins_each_run mid (asked ++ m) (given ++ a) i) stop o) in
       not_last z (λ y. sym (l w.0 y) ∙ (ap (λ (v : List Event). load v y) (sym w.1) ∙ last y))
 
   turned : (a b : List Answer) → OneBegins a b → OneBegins b a
@@ -294,8 +293,8 @@ module _ {S : Type 0} (gives : S → Answer → S → Type 0) (known : S → Opt
   one_of a b r s p q same o (decided m t mid z e i l g) (decided n u other y f j k h) =
       let w = behind_asked a b m n [] [] e f o in
       let c = taken_comparable (asked ++ m) (asked ++ n) [] [] (given ++ t) (given ++ u)
-      (law_begins mid (asked ++ m) (given ++ t) i)
-      (law_begins other (asked ++ n) (given ++ u) j) w in
+      (histories.begins_each_run mid (asked ++ m) (given ++ t) i)
+      (histories.begins_each_run other (asked ++ n) (given ++ u) j) w in
       let d = within c in
       let v = same_taken r s p q mid other t u z y (same_load d) d l k g h in
       let kept = same_kept mid other m n (given ++ t) (given ++ u) i j (ap (λ (x : List Event). given ++ x) v) [] [] w in
@@ -324,7 +323,7 @@ module _ {S : Type 0} (gives : S → Answer → S → Type 0) (known : S → Opt
       (record {
         asked = asked ++ m;
         last = u;
-        needed = law_needed mid (asked ++ m) (given ++ t) i;
+        needed = histories.needed mid (asked ++ m) (given ++ t) i;
         needed_last =
             needed;
         stop = stop;
@@ -332,7 +331,7 @@ module _ {S : Type 0} (gives : S → Answer → S → Type 0) (known : S → Opt
       (record {
         asked = asked ++ n;
         last = v;
-        needed = law_needed other (asked ++ n) (given ++ w) j;
+        needed = histories.needed other (asked ++ n) (given ++ w) j;
         needed_last =
             wanted;
         stop = halt;
@@ -357,15 +356,14 @@ module _ {S : Type 0} (gives : S → Answer → S → Type 0) (known : S → Opt
         one = λ o. one_of (results_of history a) (results_of history b) r s p q (a.bound ∙ sym b.bound) o x.came y.came;
       }
 
-  -- over a source of which two lists of results begin one another
-  module _ (one_source : (t u : S) (k l : List Answer) → Gave gives old.source k t → Gave gives old.source l u
-      → OneBegins k l × (k ≡ l → t ≡ u)) where
+  -- over a source that returns in one way
+  module _ (way : AnswersOneWay gives old.source) where
     pub one_way_load : (r s : DocumentOrError) (p q : Parser S) → Of r p → Of s q
         → (LoadRunsOut gives load old r p asked given ⊎ LoadRunsOut gives load old s q asked given)
         ⊎ (LoadsAlike r p s q × (p.source ≡ q.source))
     one_way_load r s p q a b =
         let x = one_load_proof r s p q a b in
-        let w = one_source p.source q.source (results_of history a) (results_of history b) x.first_gave x.second_gave in
+        let w = one_source_proof gives old.source p.source q.source (results_of history a) (results_of history b) way x.first_gave x.second_gave in
         go (results_of history a) (results_of history b) w.1 (x.one w.0)
       where
         go : (k l : List Answer) → (k ≡ l → p.source ≡ q.source) → OneLoad gives load old asked given k l r p s q

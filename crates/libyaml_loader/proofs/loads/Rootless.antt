@@ -1,39 +1,33 @@
 -- A load gives a document without nodes only where the parser has ended: a whole document begins with a node.
-use Rattle.std.proofs.Common.{◌≡◌, ◌++◌, ℕ, List, [], ◌∷◌, Option, Ok, Err, IfOk, sym, ap, ◌∙◌}
+use Rattle.std.proofs.Common.{◌≡◌, ◌++◌, ℕ, List, [], Option, Ok, Err, IfOk, sym, ap, ◌∙◌}
 use Rattle.std.proofs.lemmas.List.{append-nil}
 use Rattle.libyaml_documents.specs.Documents.{Document}
 use Rattle.libyaml_events.specs.machine.Config.{Parser}
 use Rattle.libyaml_grammar.specs.sentences.Events.{Event}
-use Rattle.libyaml_grammar.specs.sentences.Nesting.{NestsSoFar}
-use Rattle.libyaml_grammar.specs.sentences.Tokens.{Token}
 use Rattle.libyaml_types.specs.Fault.{Answer, Fault, memory_fault}
-use Rattle.libyaml_grammar.specs.runs.Runs.{Ending, Fails}
+use Rattle.libyaml_grammar.specs.runs.Runs.{Fails}
 use Rattle.libyaml_events.specs.sources.History.{ForHistory}
+use Rattle.libyaml_events.proofs.lent.Histories as histories
 use Rattle.libyaml_types.specs.Source.{Coming}
-use Rattle.libyaml_graphs.specs.loads.Bounds.{bounded_loads, next_bounded}
-use Rattle.libyaml_graphs.specs.loads.GraphLaws.{RootsFollow}
-use Rattle.libyaml_graphs.specs.loads.Loads.{Load, last_load, left_over}
+use Rattle.libyaml_graphs.specs.loads.Bounds.{next_bounded}
+use Rattle.libyaml_graphs.specs.loads.Loads.{Load, left_over}
 use Rattle.libyaml_graphs.proofs.lent.LoadLists.{roots_behind}
+use Rattle.libyaml_graphs.proofs.lent.Roots.{last_of, roots_follow}
 use Rattle.libyaml_loader.specs.loads.Loading.{DocumentOrError, HasEnded, Loads, LoadsFrom, at_end, whole}
 
 no_fault : {f : Fault} {d : Document} → ◌≡◌ {A = Load} (Err f) (Ok d) → ⊥
 no_fault h = cc
 
-module _ (roots_follow : (l : List Event) → NestsSoFar l → RootsFollow l)
-    (without_nodes : (l : List Event) (x : Ending) (n : ℕ) (d : Document) → RootsFollow l
-    → next_bounded n l x ≡ Ok d → d.nodes ≡ []
-    → (bounded_loads n l x ≡ Ok d ∷ []) × (last_load x ≡ Ok d)) {S : Type 0} (gives : S → Answer → S → Type 0)
-    (known : S → Option Coming)
-    (MayBreak : S → Fault → Type 0) (n : ℕ) (old new : Parser S)
-    (nests : ForHistory new (λ (asked : List Token) (given : List Event). NestsSoFar given)) where
+module _ {S : Type 0} (gives : S → Answer → S → Type 0) (known : S → Option Coming) (MayBreak : S → Fault → Type 0)
+    (n : ℕ) (old new : Parser S) where
   ended_of : (d : Document) → Loads gives known (next_bounded n) left_over old new d → d.nodes ≡ []
       → ForHistory old (λ _ _. HasEnded new)
   ended_of d (whole taken took loads left between) none asked given history =
       let on = took.history asked given history in
       let roots = roots_behind given taken
-      (roots_follow (given ++ taken) (nests (asked ++ on.more) (given ++ taken) on.history)) in
+      (roots_follow (given ++ taken) (histories.nests new (asked ++ on.more) (given ++ taken) on.history)) in
       let x = Fails memory_fault in
-      absurd (no_fault (without_nodes taken x n d roots
+      absurd (no_fault (last_of taken x n d roots
       (ap (λ (l : List Event). next_bounded n l x) (sym (append-nil taken)) ∙ loads [] x) none).1)
   ended_of d (at_end taken took loads left ends is has_ended) none asked given history = has_ended asked given history
 

@@ -7,22 +7,23 @@ use Rattle.libyaml_types.specs.declared.event.unnamed_yaml_event_t_data.{unnamed
 use Rattle.libyaml_types.specs.declared.event.unnamed_yaml_event_t_data.TheVariants as ev
 use Rattle.libyaml_types.specs.declared.mark.yaml_mark_t.{yaml_mark_t}
 use Rattle.libyaml_types.specs.Events.{empty_event}
-use Rattle.libyaml_events.specs.sources.Calls.{EventOrError, Gave}
+use Rattle.libyaml_events.specs.sources.Calls.{EventOrError}
 use Rattle.libyaml_events.specs.sources.CallsInTurn.{CarriedOn}
 use Rattle.libyaml_events.specs.machine.Config.{Parser}
 use Rattle.libyaml_grammar.specs.sentences.Events.{Event}
 use Rattle.libyaml_types.specs.Fault.{Answer, Fault}
-use Rattle.libyaml_events.specs.sources.History.{ForHistory, History, answers, between_documents, has_failed, is_over}
-use Rattle.libyaml_events.specs.sources.History.{kept_fault}
+use Rattle.libyaml_events.specs.sources.History.{History, between_documents, has_failed, is_over}
 use Rattle.libyaml_events.specs.sources.ParsesNext.{ParsesNext}
-use Rattle.libyaml_events.specs.sources.Parsing.{CarriesOn, FailsBy, IsWhole}
-use Rattle.libyaml_events.specs.sources.RunToCome.{FailsHere, RestOfRun, RunToCome}
+use Rattle.libyaml_events.specs.sources.Parsing.{CarriesOn}
+use Rattle.libyaml_events.specs.sources.RunToCome.{RunToCome}
 use Rattle.libyaml_grammar.specs.runs.Runs.{Ending, Ends}
-use Rattle.libyaml_types.specs.Source.{Coming}
+use Rattle.libyaml_types.specs.Source.{Coming, Follows}
 use Rattle.libyaml_events.specs.parsers.OutsideEvents.{is_outside_event}
 use Rattle.libyaml_events.specs.parsers.Stages.{is_event}
 use Rattle.libyaml_grammar.specs.sentences.Tokens.{Token}
 use Rattle.libyaml_events.proofs.lent.CallsInTurn.{both_calls, no_call, one_call}
+use Rattle.libyaml_events.proofs.lent.Histories as histories
+use Rattle.libyaml_events.proofs.lent.KnownTokens.{fails_here, further}
 use Rattle.libyaml_graphs.specs.graphs.GraphParts.{Closing, closing_in, closing_of}
 use Rattle.libyaml_loader.specs.loads.Loading.{HasEnded, ParserFails, Took}
 
@@ -31,14 +32,7 @@ outside_end : (k : unnamed_yaml_event_t_data) (m : yaml_mark_t) (c : Closing) �
 outside_end (ev.DocumentEnd d) m c h = refl
 outside_end _ m c h = absurd cc
 
-module _ {S : Type 0} (gives : S → Answer → S → Type 0) (known : S → Option Coming) (MayBreak : S → Fault → Type 0) where
-  -- true≢false event was left
-  pub record FindsEnd (old new : Parser S) : Type 0 where
-    pub took : Took gives known old new []
-    pub ends : (events : List Event) (ending : Ending) → RunToCome known old events ending
-        → (events ≡ []) × (ending ≡ Ends)
-    pub stands : (asked : List Token) (given : List Event) → History old asked given → HasEnded new
-
+module _ {S : Type 0} (gives : S → Answer → S → Type 0) (known : S → Option Coming) where
   pub took_none : (p : Parser S) → Took gives known p p []
   took_none p = record {
     history = λ (asked : List Token) (given : List Event) (h : History p asked given). no_call gives p p p asked given h;
@@ -62,20 +56,19 @@ module _ {S : Type 0} (gives : S → Answer → S → Type 0) (known : S → Opt
         };
   }
 
-  module _ (old new : Parser S) (r : EventOrError) where
-    -- the clauses of a call, and the laws of histories and of the run to come
-    pub record Called : Type 0 where
-      pub token_bound : S → ℕ
-      pub parses : ParsesNext gives token_bound known MayBreak old r new
-      pub no_fault : (p : Parser S) → ForHistory p (λ (asked : List Token) (given : List Event). has_failed p ≡ false)
-      pub whole : (p : Parser S) → is_over p ≡ true → ForHistory p IsWhole
-      pub further : (p q : Parser S) (more : List Token) (events to_come : List Event) (ending : Ending)
-          (run : RunToCome known p to_come ending)
-          → Gave gives p.source (answers more []) q.source → History q (run.asked ++ more) (run.given ++ events)
-          → RestOfRun known q events to_come ending
-      pub fails : (p q : Parser S) (to_come : List Event) (ending : Ending) (run : RunToCome known p to_come ending)
-          → FailsBy gives p q run.asked run.given
-          → FailsHere (MayBreak q.source) (kept_fault q) to_come ending
+module _ {S : Type 0} (gives : S → Answer → S → Type 0) (known : S → Option Coming) (MayBreak : S → Fault → Type 0) where
+  -- no event was left
+  pub record FindsEnd (old new : Parser S) : Type 0 where
+    pub took : Took gives known old new []
+    pub ends : (events : List Event) (ending : Ending) → RunToCome known old events ending
+        → (events ≡ []) × (ending ≡ Ends)
+    pub stands : (asked : List Token) (given : List Event) → History old asked given → HasEnded new
+
+  module _ (follows : (s t : S) (a : Answer) → gives s a t → Follows (MayBreak t) (known s) a (known t))
+      (old new : Parser S) (r : EventOrError) where
+    -- the clauses of a call
+    abbrev pub Called : Type 0
+    Called = (bound : S → ℕ) × ParsesNext gives bound known MayBreak old r new
 
     module _ (c : Called) (e : Event) (is : r ≡ Ok e) where
       same : r ≡ Ok empty_event → e ≡ empty_event
@@ -89,23 +82,23 @@ module _ {S : Type 0} (gives : S → Answer → S → Type 0) (known : S → Opt
         where
           go : (b : Bool) → is_over old ≡ b → is_over old ≡ false
           go false h = h
-          go true h = absurd (true≢false (sym an_event ∙ ap (λ (x : Event). is_event x.content) (same (c.parses.ended h).0)))
+          go true h = absurd (true≢false (sym an_event ∙ ap (λ (x : Event). is_event x.content) (same (c.1.ended h).0)))
 
       carried : is_event e.content ≡ true → (asked : List Token) (given : List Event) → History old asked given
           → CarriesOn gives old e new asked given
-      carried an_event = rw is at (c.parses.carries_on (running an_event))
+      carried an_event = rw is at (c.1.carries_on (running an_event))
 
       pub took_event : is_event e.content ≡ true → Took gives known old new (e ∷ [])
       took_event an_event = record {
         history = λ asked given h. one_call gives old old new asked given e (carried an_event asked given h);
         runs = λ events ending run.
             let k = carried an_event run.asked run.given run.history in
-            c.further old new k.more (e ∷ []) events ending run k.gave k.history;
+            further gives known MayBreak follows old new events ending run k.more (e ∷ []) k.gave k.history;
       }
 
       -- after a document's end the parser stands between documents
       pub behind_close : (d : Closing) → closing_of e ≡ Some d → between_documents new ≡ true
-      behind_close d closes = (rw is at c.parses.outside) (outside_end e.content e.end_mark d closes)
+      behind_close d closes = (rw is at c.1.outside) (outside_end e.content e.end_mark d closes)
 
       over : is_event e.content ≡ false → (asked : List Token) (given : List Event) → History old asked given
           → is_over old ≡ true
@@ -113,44 +106,43 @@ module _ {S : Type 0} (gives : S → Answer → S → Type 0) (known : S → Opt
         where
           go : (b : Bool) → is_over old ≡ b → is_over old ≡ true
           go true h = h
-          go false h = absurd (true≢false (sym ((rw is at (c.parses.carries_on h)) asked given history).an_event ∙ empty))
+          go false h = absurd (true≢false (sym ((rw is at (c.1.carries_on h)) asked given history).an_event ∙ empty))
 
       pub finds_end : is_event e.content ≡ false → FindsEnd old new
       finds_end empty = record {
         took = record {
           history = λ (asked : List Token) (given : List Event) (h : History old asked given).
               subst (λ (p : Parser S). CarriedOn gives old p asked given [])
-              (sym (c.parses.ended (over empty asked given h)).1) (no_call gives old old old asked given h);
+              (sym (c.1.ended (over empty asked given h)).1) (no_call gives old old old asked given h);
           runs = λ (events : List Event) (ending : Ending) (run : RunToCome known old events ending). record {
             later = events;
             all = refl;
             run
                 = subst (λ (p : Parser S). RunToCome known p events ending)
-                (sym (c.parses.ended (over empty run.asked run.given run.history)).1) run;
+                (sym (c.1.ended (over empty run.asked run.given run.history)).1) run;
           };
         };
         ends = λ (events : List Event) (ending : Ending) (run : RunToCome known old events ending).
             let h = over empty run.asked run.given run.history in
-            let s = (c.parses.ended h).1 in
-            c.parses.nothing_behind_end (ap is_over s ∙ h) events ending
+            let s = (c.1.ended h).1 in
+            c.1.nothing_behind_end (ap is_over s ∙ h) events ending
             (subst (λ (p : Parser S). RunToCome known p events ending) (sym s) run);
         stands = λ (asked : List Token) (given : List Event) (history : History old asked given).
             let h = over empty asked given history in
-            let s = (c.parses.ended h).1 in
+            let s = (c.1.ended h).1 in
             let over : is_over new ≡ true = ap is_over s ∙ h in
             record {
               over = over;
-              no_fault = ap has_failed s ∙ c.no_fault old asked given history;
-              whole =
-                  c.whole new over;
+              no_fault = ap has_failed s ∙ histories.faultless old asked given history;
+              whole = histories.whole new over;
             };
       }
 
     pub parser_fails : Called → (x : yaml_error_type_t) → r ≡ Err x → ParserFails gives known MayBreak old new
     parser_fails c x is = record {
-      history = rw is at c.parses.fails;
-      none_held = rw is at c.parses.none_held;
-      depth_left = rw is at c.parses.depth_left;
-      runs = λ events ending run. c.fails old new events ending run
-          ((rw is at c.parses.fails) run.asked run.given run.history);
+      history = rw is at c.1.fails;
+      none_held = rw is at c.1.none_held;
+      depth_left = rw is at c.1.depth_left;
+      runs = λ events ending run. fails_here gives known MayBreak follows old new events ending run
+          ((rw is at c.1.fails) run.asked run.given run.history);
     }

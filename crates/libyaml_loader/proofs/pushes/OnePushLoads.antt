@@ -11,8 +11,9 @@ use Rattle.libyaml_grammar.proofs.lent.Lists.{nil_right}
 use Rattle.libyaml_grammar.proofs.lent.Running.{one_run_proof}
 use Rattle.libyaml_grammar.proofs.lent.Same.{err_same, ok_not_err}
 use Rattle.libyaml_documents.specs.Documents.{Document}
-use Rattle.libyaml_events.specs.sources.Pushed.{PushParser, Pushed}
+use Rattle.libyaml_events.specs.sources.Pushed.{PushParser}
 use Rattle.libyaml_events.specs.sources.Pushes.{Done}
+use Rattle.libyaml_events.proofs.lent.Pushes.{one_pushed}
 use Rattle.libyaml_graphs.specs.loads.Bounds.{IsBoundedLoads, bounded_loads}
 use Rattle.libyaml_graphs.specs.loads.Loads.{Load, last_load}
 use Rattle.libyaml_graphs.specs.machine.Loader.{State, between}
@@ -39,12 +40,11 @@ ends_there : (n : ℕ) (events : List Event) (a : List Document) (s : State) →
     → loads_from n between (events ++ []) Ends ≡ as_loads a ++ last_load Ends ∷ []
 ends_there n events a s h = h.loads [] Ends ∙ ap (λ (l : List Load). as_loads a ++ l) (from_none n s Ends)
 
-pub one_loaded_proof : ((p q : PushParser) (l : List Token) (g h : List Event) → Pushed p l g → Pushed q l h
-    → (p ≡ q) × (g ≡ h)) → (p q : PushLoader)
+pub one_loaded_proof : (p q : PushLoader)
     (tokens : List Token) (a b : List Document) → p.max_entries ≡ q.max_entries → Loaded p tokens a
     → Loaded q tokens b → (p ≡ q) × (a ≡ b)
-one_loaded_proof one p q tokens a b bound h k =
-    let s = one p.parser q.parser tokens h.events k.events h.pushed k.pushed in
+one_loaded_proof p q tokens a b bound h k =
+    let s = one_pushed p.parser q.parser tokens h.events k.events h.pushed k.pushed in
     let led : Leads p.max_entries between h.events b q.state =
     subst (λ (g : List Event). Leads p.max_entries between g b q.state) (sym s.1)
     (subst (λ (n : ℕ). Leads n between k.events b q.state) (sym bound) k.leads)
@@ -86,8 +86,7 @@ no_failure n l g k x (so_far r) s = apart (each no_fault) (each memory_fault)
     apart : no_fault ≡ x → memory_fault ≡ x → ⊥
     apart e f = let i = ap (λ (y : Fault). y.error) (e ∙ sym f) in cc
 
-module _ (one : (p q : PushParser) (l : List Token) (g h : List Event) → Pushed p l g → Pushed q l h
-    → (p ≡ q) × (g ≡ h)) (old : PushLoader) (t : Token)
+module _ (old : PushLoader) (t : Token)
     (before : List Document) (tokens : List Token) (documents : List Document) (h : Loaded old tokens documents)
     (running : has_stopped old ≡ false) where
   abbrev now : List Token
@@ -182,7 +181,7 @@ module _ (one : (p q : PushParser) (l : List Token) (g h : List Event) → Pushe
       go (ran_out m) z = first_runs_out m
       go z (ran_out m) = second_runs_out m
       go (went a i j k l) (went b i' j' k' l') =
-          let o = one_loaded_proof one p q now (documents ++ a) (documents ++ b) bound k k' in
+          let o = one_loaded_proof p q now (documents ++ a) (documents ++ b) bound k k' in
           alike (alike_ok r s p q after later i i' (both_added a b after later j j' o.1) bound o.0)
       go (went a i j k l) (failed b i' j' loads) =
           absurd (no_failure n now (documents ++ a) (documents ++ b) (fault_in q) l loads)

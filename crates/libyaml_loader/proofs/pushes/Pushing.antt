@@ -1,5 +1,5 @@
 -- What a push of a token to a loader did, by the push to its parser and by the events that were composed.
-use Rattle.std.proofs.Common.{◌≡◌, ◌≤◌, ◌*◌, arith, length, inl, inr, ◌||◌, ℕ, List, [], ◌∷◌, ◌++◌, Some}
+use Rattle.std.proofs.Common.{◌≡◌, ◌≤◌, ◌*◌, arith, length, inl, inr, ◌||◌, ℕ, List, [], ◌∷◌, ◌++◌}
 use Rattle.std.proofs.Common.{Ok, Err, IfErr, OnOk, Bool, true, false, refl, sym, ap, subst, ◌∙◌}
 use Rattle.std.proofs.Common.{append_assoc}
 use Rattle.std.proofs.lemmas.List.{append-nil}
@@ -17,6 +17,8 @@ use Rattle.libyaml_graphs.specs.loads.Bounds.{IsBoundedLoads, bounded_loads}
 use Rattle.libyaml_graphs.specs.loads.Linear.{documents_size}
 use Rattle.libyaml_graphs.specs.loads.Loads.{Load, last_load}
 use Rattle.libyaml_graphs.specs.machine.Loader.{State, between}
+use Rattle.libyaml_graphs.proofs.lent.RunLoads.{first_linear}
+use Rattle.libyaml_graphs.specs.loads.Bounds.{first_stop}
 use Rattle.libyaml_events.specs.machine.Config.{Config, is_fault}
 use Rattle.libyaml_events.specs.machine.Want.{Want}
 use Rattle.libyaml_events.specs.sources.Determined.{BeginsEachRun}
@@ -24,6 +26,8 @@ use Rattle.libyaml_events.specs.sources.Pushed as pushed
 use Rattle.libyaml_events.specs.sources.Pushed.{Fed, ForPushed, PushParser, Pushed}
 use Rattle.libyaml_events.specs.sources.Pushes as pushes
 use Rattle.libyaml_events.specs.sources.Pushes.{Done, NeedsMemory, Pushes, Stops, Takes, done_by, for_event, for_step}
+use Rattle.libyaml_events.proofs.lent.Pushes.{fed_begins_run, fed_count, fed_ended, fed_faultless, fed_settled, fed_whole}
+use Rattle.libyaml_events.proofs.lent.RunStops.{short_run, whole_run}
 use Rattle.libyaml_loader.specs.pushes.Composing as comp
 use Rattle.libyaml_loader.specs.pushes.Composing.{Composes, RefusesEvent, RefusesOneOf, by_loads}
 use Rattle.libyaml_loader.specs.pushes.Composing.{by_memory as no_memory, state_by, state_of}
@@ -35,23 +39,6 @@ use Rattle.libyaml_loader.specs.pushes.PushesLoads.{by_tokens}
 use Rattle.libyaml_loader.specs.pushes.PushesLoads.{in_loader, in_parser}
 use Rattle.libyaml_loader.specs.declared.composer.Composer.{Composer}
 use Rattle.libyaml_loader.proofs.pushes.Leading.{from_none, leads_both}
-
--- the laws of pushes to a parser, and of the size of documents
-pub record PushLaws : Type 0 where
-  pub run_so_far : (p : PushParser)
-      → ForPushed p (λ tokens events. has_end tokens ≡ false → (source : Fault)
-      → IsRun tokens source events (Fails source))
-  pub run : (p : PushParser) → ForPushed p (λ tokens events. has_end tokens ≡ true → (more : List Token) (source : Fault)
-      → IsRun (tokens ++ more) source events Ends)
-  pub ended : (p : PushParser) → ForPushed p (λ tokens _. pushed.has_stopped p ≡ has_end tokens)
-  pub faultless : (p : PushParser) → ForPushed p (λ _ _. pushed.keeps_fault p ≡ false)
-  pub begins_run : (p : PushParser) → ForPushed p BeginsEachRun
-  pub at_most_four : (p : PushParser) → ForPushed p (λ tokens events. length events ≤ 4 * length tokens)
-  pub size : (n : ℕ) (e : List Event) (x : Ending) (ds : List Document) (l : List Load)
-      → bounded_loads n e x ≡ as_loads ds ++ l
-      → documents_size ds ≤ 2 * length e
-  pub in_hand : (w : Want) (c : Config) (u : Token) (tokens : List Token) (events : List Event)
-      → Fed w c (Some u) tokens events → BeginsEachRun tokens events
 
 -- the loads of a run whose events are these
 pub are_then : (n : ℕ) (tokens : List Token) (source : Fault) (events : List Event) (x : Ending)
@@ -83,280 +70,279 @@ begin_loads n tokens events documents here begins leads rest source loads are =
 begins_front : (tokens : List Token) (a b : List Event) → BeginsEachRun tokens (a ++ b) → BeginsEachRun tokens a
 begins_front tokens a b h rest f e x run = let i = h rest f e x run in (b ++ i.0, i.1 ∙ append_assoc a b i.0)
 
-module _ (law : PushLaws) where
-  -- what holds of all that a loader was handed and gave
-  module _ (l : PushLoader) where
-    pub loads_so_far : ForLoaded l (λ tokens documents. has_end tokens ≡ false → (source : Fault)
-        → AreThen l.max_entries tokens source documents (Err source))
-    loads_so_far tokens documents h none source = are_then l.max_entries tokens source h.events
-        (Fails source) documents l.state (law.run_so_far l.parser tokens h.events h.pushed none source) h.leads
+-- what holds of all that a loader was handed and gave
+module _ (l : PushLoader) where
+  pub loads_so_far : ForLoaded l (λ tokens documents. has_end tokens ≡ false → (source : Fault)
+      → AreThen l.max_entries tokens source documents (Err source))
+  loads_so_far tokens documents h none source = are_then l.max_entries tokens source h.events
+      (Fails source) documents l.state (short_run tokens h.events source (fed_settled h.pushed none)) h.leads
 
-    pub whole_loads : ForLoaded l (λ tokens documents. has_end tokens ≡ true → (more : List Token) (source : Fault)
-        → AreThen l.max_entries (tokens ++ more) source documents (last_load Ends))
-    whole_loads tokens documents h is more source = are_then l.max_entries (tokens ++ more) source h.events Ends
-        documents l.state (law.run l.parser tokens h.events h.pushed is more source) h.leads
+  pub whole_loads : ForLoaded l (λ tokens documents. has_end tokens ≡ true → (more : List Token) (source : Fault)
+      → AreThen l.max_entries (tokens ++ more) source documents (last_load Ends))
+  whole_loads tokens documents h is more source = are_then l.max_entries (tokens ++ more) source h.events Ends
+      documents l.state (whole_run tokens h.events more source (fed_whole h.pushed is)) h.leads
 
-    pub none_kept : ForLoaded l (λ _ _. keeps_fault l ≡ false)
-    none_kept tokens documents h = ap (λ (f : Fault). is_fault f.error) h.none_kept
+  pub none_kept : ForLoaded l (λ _ _. keeps_fault l ≡ false)
+  none_kept tokens documents h = ap (λ (f : Fault). is_fault f.error) h.none_kept
 
-    pub stopped_at : ForLoaded l (λ tokens _. has_stopped l ≡ has_end tokens)
-    stopped_at tokens documents h = ap (λ (b : Bool). b || pushed.has_stopped l.parser)
-        (none_kept tokens documents h) ∙ law.ended l.parser tokens h.events h.pushed
+  pub stopped_at : ForLoaded l (λ tokens _. has_stopped l ≡ has_end tokens)
+  stopped_at tokens documents h = ap (λ (b : Bool). b || pushed.has_stopped l.parser)
+      (none_kept tokens documents h) ∙ fed_ended h.pushed
 
-    pub begins_loads : ForLoaded l (BeginsEachLoads l.max_entries)
-    begins_loads tokens documents h = begin_loads l.max_entries tokens h.events documents l.state
-        (law.begins_run l.parser tokens h.events h.pushed) h.leads
+  pub begins_loads : ForLoaded l (BeginsEachLoads l.max_entries)
+  begins_loads tokens documents h = begin_loads l.max_entries tokens h.events documents l.state
+      (fed_begins_run h.pushed) h.leads
 
-    pub linear_loads : ForLoaded l (λ tokens documents. documents_size documents ≤ 8 * length tokens)
-    linear_loads tokens documents h =
-        let a : documents_size documents ≤ 2 * length h.events = law.size l.max_entries h.events Ends documents
-        (loads_from l.max_entries l.state [] Ends)
-        (front_loads l.max_entries h.events documents l.state h.events [] Ends (sym (append-nil h.events)) h.leads) in
-        let b : length h.events ≤ 4 * length tokens = law.at_most_four l.parser tokens h.events h.pushed in
-        omega arith
+  pub linear_loads : ForLoaded l (λ tokens documents. documents_size documents ≤ 8 * length tokens)
+  linear_loads tokens documents h =
+      let a : documents_size documents ≤ 2 * length h.events = first_linear (first_stop l.max_entries [] []) h.events Ends documents
+      (loads_from l.max_entries l.state [] Ends)
+      (front_loads l.max_entries h.events documents l.state h.events [] Ends (sym (append-nil h.events)) h.leads) in
+      let b : length h.events ≤ 4 * length tokens = fed_count h.pushed in
+      omega arith
 
-  -- the events of a push begin those of every run
-  begins_so : (Room : Type 0) (tokens : List Token) (events : List Event) (r : Done) (new : PushParser)
-      → pushes.EndsSo Room tokens events r new → BeginsEachRun tokens events
-  begins_so Room tokens events (Ok u) new h = law.begins_run new tokens events h
-  begins_so Room tokens events (Err x) new (pushes.by_memory is w c u fed needs) = law.in_hand w c u tokens events fed
-  begins_so Room tokens events (Err x) new (pushes.by_grammar failed runs)
-      = λ rest f e y run. (
-        [],
-        (one_run_proof (tokens ++ rest) f e events y (Fails (pushed.fault_in new)) run
-            (runs rest f)).0 ∙ sym (append-nil events),
-      )
+-- the events of a push begin those of every run
+begins_so : (Room : Type 0) (tokens : List Token) (events : List Event) (r : Done) (new : PushParser)
+    → pushes.EndsSo Room tokens events r new → BeginsEachRun tokens events
+begins_so Room tokens events (Ok u) new h = fed_begins_run h
+begins_so Room tokens events (Err x) new (pushes.by_memory is w c u fed needs) = fed_begins_run fed
+begins_so Room tokens events (Err x) new (pushes.by_grammar failed runs)
+    = λ rest f e y run. (
+      [],
+      (one_run_proof (tokens ++ rest) f e events y (Fails (pushed.fault_in new)) run
+          (runs rest f)).0 ∙ sym (append-nil events),
+    )
+
+-- an event is refused
+refused_so : (Full : Type 0) (n : ℕ) (tokens : List Token) (given more later : List Event)
+    (documents : List Document) (here : State) (e : Event) (f : Fault)
+    → BeginsEachRun tokens ((given ++ more) ++ e ∷ later) → Leads n between (given ++ more) documents here
+    → RefusesEvent Full n here e f → StopsLoading Full n tokens given documents f
+refused_so Full n tokens given more later documents here e f begins leads (by_loads h) = by_tokens so
+  where
+    events : List Event
+    events = given ++ more
+
+    so : (more : List Token) (source : Fault) → AreThen n (tokens ++ more) source documents (Err f)
+    so more source =
+        let (all, x, run) = some_run_proof (tokens ++ more) source in
+        let b = begins more source all x run in
+        record {
+          events = all;
+          ending = x;
+          run = run;
+          all = sym (front_loads n events documents here all (e ∷ (later ++ b.0)) x
+              (b.1 ∙ append_assoc events (e ∷ later) b.0) leads
+              ∙ ap (λ (l : List Load). as_loads documents ++ l) (h (later ++ b.0) x));
+        }
+refused_so Full n tokens given more later documents here e f begins leads (no_memory is needs) =
+    let events : List Event = given ++ more in
+    let with_it : BeginsEachRun tokens (events ++ e ∷ []) = begins_front tokens (events ++ e ∷ []) later
+    (subst (BeginsEachRun tokens) (sym (append_assoc events (e ∷ []) later)) begins) in
+    by_memory is more here (begins_front tokens events (e ∷ later) begins) leads (in_loader e with_it needs)
+
+-- the parser stopped
+any_room : (Room : Type 0) (w : Want) (c : Config) (u : Token) → NeedsMemory Room w c u → NeedsMemory (Unit {0}) w c u
+any_room Room w c u (for_step grows) = for_step grows
+any_room Room w c u (for_event e d is full) = for_event e d is tt
+
+parser_stops : (Full Room : Type 0) (n : ℕ) (tokens : List Token) (given added : List Event)
+    (documents : List Document) (here : State) (f : Fault)
+    → Leads n between (given ++ added) documents here → Stops Room tokens (given ++ added) f
+    → StopsLoading Full n tokens given documents f
+parser_stops Full Room n tokens given added documents here f leads (pushes.by_grammar failed runs)
+    = by_tokens (λ more source. are_then n (tokens ++ more) source (given ++ added) (Fails f) documents here
+    (runs more source) leads)
+parser_stops Full Room n tokens given added documents here f leads (pushes.by_memory is w c u fed needs)
+    = by_memory is added here (fed_begins_run fed) leads
+    (in_parser w c u fed (any_room Room w c u needs))
+
+-- the loader keeps no fault, and its parser was handed a token; the events that came were composed
+module _ (Full Room : Type 0) (p q : PushParser) (t : Token) (given : List Event) (r : Done)
+    (pushes_so : Pushes Room p t [] r q given) (old new : Composer)
+    (before after : List Document) (s : Done) (composes : Composes Full old given before s new after)
+    (none_given : given ≡ [] → (new ≡ old) × (after ≡ before) × (s ≡ Ok tt)) (bound : new.max_entries ≡ old.max_entries)
+    (kept_so : IfErr s (λ x. (x ≡ new.fault.error) × (is_fault new.fault.error ≡ true)))
+    (same : s ≡ Ok tt → new.fault ≡ old.fault)
+    (faultless : done_by (fault_of old.fault) ≡ Ok tt) where
+  abbrev pub first : PushLoader
+  first = standing p (state_of old) (fault_of old.fault) old.max_entries
+
+  not_kept : keeps_fault first ≡ false
+  not_kept = go (is_fault old.fault.error) refl
+    where
+      error : (f : Fault) (b : Bool) → b ≡ true → pushes.done_if b f ≡ Ok tt → ⊥
+      error f true h k = cc
+      error f false h k = cc
+
+      go : (b : Bool) → is_fault old.fault.error ≡ b → is_fault old.fault.error ≡ false
+      go true h = absurd (error (fault_of old.fault) (is_fault old.fault.error) h faultless)
+      go false h = h
+
+  running : has_stopped first ≡ false → pushed.has_stopped p ≡ false
+  running h = (or_parts (keeps_fault first) (pushed.has_stopped p) h).1
+
+  ended : has_stopped first ≡ true → pushed.has_stopped p ≡ true
+  ended h = sym (ap (λ (b : Bool). b || pushed.has_stopped p) not_kept) ∙ h
+
+  taken : has_stopped first ≡ false → Takes Room p t [] r q given
+  taken h = pushes_so.takes (running h)
+
+  -- all events of the tokens
+  all_begin : (h : has_stopped first ≡ false) (tokens : List Token) (l : List Document)
+      (k : Loaded first tokens l) → pushes.EndsSo Room (tokens ++ t ∷ []) (k.events ++ given) r q
+  all_begin h tokens l k = subst (λ (e : List Event). pushes.EndsSo Room (tokens ++ t ∷ []) (k.events ++ e) r q)
+      (sym (taken h).appended)
+      ((taken h).ends_so tokens k.events k.pushed)
+
+  from_start : (tokens : List Token) (l : List Document) (k : Loaded first tokens l) (composed : List Event)
+      (here : State)
+      → Leads old.max_entries (state_of old) composed composes.added here
+      → Leads old.max_entries between (k.events ++ composed) (l ++ composes.added) here
+  from_start tokens l k composed here leads = leads_both old.max_entries between (state_of old) here k.events
+      composed l composes.added k.leads leads
+
+  -- and the push goes on
+  abbrev pub second : PushLoader
+  second = standing q (state_of new) (fault_of new.fault) new.max_entries
+
+  all_led : (u : Unit {0}) → s ≡ Ok u → Leads old.max_entries (state_of old) given composes.added (state_of new)
+  all_led u is = subst (λ (z : Done). comp.EndsSo Full old.max_entries (state_of old) given composes.added z
+      new) is composes.ends_so
+
+  pub pushes_ok : (u v : Unit {0}) → s ≡ Ok u → r ≡ Ok v → PushesLoads Full first t before (Ok tt) second after
+  pushes_ok u v is so = record {
+    stopped = λ h.
+        let k = pushes_so.stopped (ended h) in
+        let n = none_given k.1 in (
+          ap (λ (x : PushParser). standing x (state_of new) (fault_of new.fault) new.max_entries) k.0
+              ∙ ap (λ (x : Composer). standing p (state_of x) (fault_of x.fault) x.max_entries) n.0,
+          n.1,
+          sym faultless,
+        );
+    takes = λ h. record {
+      added = composes.added;
+      appended = composes.appended;
+      ends_so = λ tokens l k. record {
+        events = k.events ++ given;
+        pushed = subst (λ (z : Done). pushes.EndsSo Room (tokens ++ t ∷ []) (k.events ++ given) z q) so
+            (all_begin h tokens l k);
+        leads = subst (λ (n : ℕ). Leads n between (k.events ++ given) (l ++ composes.added) (state_of new))
+            (sym bound)
+            (from_start tokens l k given (state_of new) (all_led u is));
+        none_kept = ap fault_of (same is) ∙ k.none_kept;
+      };
+    };
+    kept = tt;
+    bound = bound;
+    so_far = loads_so_far second;
+    whole = whole_loads second;
+    ended = stopped_at second;
+    faultless = none_kept second;
+    begins = begins_loads second;
+    linear = linear_loads second;
+  }
 
   -- an event is refused
-  refused_so : (Full : Type 0) (n : ℕ) (tokens : List Token) (given more later : List Event)
-      (documents : List Document) (here : State) (e : Event) (f : Fault)
-      → BeginsEachRun tokens ((given ++ more) ++ e ∷ later) → Leads n between (given ++ more) documents here
-      → RefusesEvent Full n here e f → StopsLoading Full n tokens given documents f
-  refused_so Full n tokens given more later documents here e f begins leads (by_loads h) = by_tokens so
+  not_ok : (x : yaml_error_type_t) → s ≡ Err x → s ≡ Ok tt → ⊥
+  not_ok x is so = go (sym is ∙ so)
     where
-      events : List Event
-      events = given ++ more
+      go : ◌≡◌ {A = Done} (Err x) (Ok tt) → ⊥
+      go h = cc
 
-      so : (more : List Token) (source : Fault) → AreThen n (tokens ++ more) source documents (Err f)
-      so more source =
-          let (all, x, run) = some_run_proof (tokens ++ more) source in
-          let b = begins more source all x run in
-          record {
-            events = all;
-            ending = x;
-            run = run;
-            all = sym (front_loads n events documents here all (e ∷ (later ++ b.0)) x
-                (b.1 ∙ append_assoc events (e ∷ later) b.0) leads
-                ∙ ap (λ (l : List Load). as_loads documents ++ l) (h (later ++ b.0) x));
-          }
-  refused_so Full n tokens given more later documents here e f begins leads (no_memory is needs) =
-      let events : List Event = given ++ more in
-      let with_it : BeginsEachRun tokens (events ++ e ∷ []) = begins_front tokens (events ++ e ∷ []) later
-      (subst (BeginsEachRun tokens) (sym (append_assoc events (e ∷ []) later)) begins) in
-      by_memory is more here (begins_front tokens events (e ∷ later) begins) leads (in_loader e with_it needs)
-
-  -- the parser stopped
-  any_room : (Room : Type 0) (w : Want) (c : Config) (u : Token) → NeedsMemory Room w c u → NeedsMemory (Unit {0}) w c u
-  any_room Room w c u (for_step grows) = for_step grows
-  any_room Room w c u (for_event e d is full) = for_event e d is tt
-
-  parser_stops : (Full Room : Type 0) (n : ℕ) (tokens : List Token) (given added : List Event)
-      (documents : List Document) (here : State) (f : Fault)
-      → Leads n between (given ++ added) documents here → Stops Room tokens (given ++ added) f
-      → StopsLoading Full n tokens given documents f
-  parser_stops Full Room n tokens given added documents here f leads (pushes.by_grammar failed runs)
-      = by_tokens (λ more source. are_then n (tokens ++ more) source (given ++ added) (Fails f) documents here
-      (runs more source) leads)
-  parser_stops Full Room n tokens given added documents here f leads (pushes.by_memory is w c u fed needs)
-      = by_memory is added here (law.in_hand w c u tokens (given ++ added) fed) leads
-      (in_parser w c u fed (any_room Room w c u needs))
-
-  -- the loader keeps true≢false fault, and its parser was handed a token; the events that came were composed
-  module _ (Full Room : Type 0) (p q : PushParser) (t : Token) (given : List Event) (r : Done)
-      (pushes_so : Pushes Room p t [] r q given) (old new : Composer)
-      (before after : List Document) (s : Done) (composes : Composes Full old given before s new after)
-      (none_given : given ≡ [] → (new ≡ old) × (after ≡ before) × (s ≡ Ok tt)) (bound : new.max_entries ≡ old.max_entries)
-      (kept_so : IfErr s (λ x. (x ≡ new.fault.error) × (is_fault new.fault.error ≡ true)))
-      (same : s ≡ Ok tt → new.fault ≡ old.fault)
-      (faultless : done_by (fault_of old.fault) ≡ Ok tt) where
-    abbrev pub first : PushLoader
-    first = standing p (state_of old) (fault_of old.fault) old.max_entries
-
-    not_kept : keeps_fault first ≡ false
-    not_kept = go (is_fault old.fault.error) refl
-      where
-        error : (f : Fault) (b : Bool) → b ≡ true → pushes.done_if b f ≡ Ok tt → ⊥
-        error f true h k = cc
-        error f false h k = cc
-
-        go : (b : Bool) → is_fault old.fault.error ≡ b → is_fault old.fault.error ≡ false
-        go true h = absurd (error (fault_of old.fault) (is_fault old.fault.error) h faultless)
-        go false h = h
-
-    running : has_stopped first ≡ false → pushed.has_stopped p ≡ false
-    running h = (or_parts (keeps_fault first) (pushed.has_stopped p) h).1
-
-    ended : has_stopped first ≡ true → pushed.has_stopped p ≡ true
-    ended h = sym (ap (λ (b : Bool). b || pushed.has_stopped p) not_kept) ∙ h
-
-    taken : has_stopped first ≡ false → Takes Room p t [] r q given
-    taken h = pushes_so.takes (running h)
-
-    -- all events of the tokens
-    all_begin : (h : has_stopped first ≡ false) (tokens : List Token) (l : List Document)
-        (k : Loaded first tokens l) → pushes.EndsSo Room (tokens ++ t ∷ []) (k.events ++ given) r q
-    all_begin h tokens l k = subst (λ (e : List Event). pushes.EndsSo Room (tokens ++ t ∷ []) (k.events ++ e) r q)
-        (sym (taken h).appended)
-        ((taken h).ends_so tokens k.events k.pushed)
-
-    from_start : (tokens : List Token) (l : List Document) (k : Loaded first tokens l) (composed : List Event)
-        (here : State)
-        → Leads old.max_entries (state_of old) composed composes.added here
-        → Leads old.max_entries between (k.events ++ composed) (l ++ composes.added) here
-    from_start tokens l k composed here leads = leads_both old.max_entries between (state_of old) here k.events
-        composed l composes.added k.leads leads
-
-    -- and the push goes on
-    abbrev pub second : PushLoader
-    second = standing q (state_of new) (fault_of new.fault) new.max_entries
-
-    all_led : (u : Unit {0}) → s ≡ Ok u → Leads old.max_entries (state_of old) given composes.added (state_of new)
-    all_led u is = subst (λ (z : Done). comp.EndsSo Full old.max_entries (state_of old) given composes.added z
-        new) is composes.ends_so
-
-    pub pushes_ok : (u v : Unit {0}) → s ≡ Ok u → r ≡ Ok v → PushesLoads Full first t before (Ok tt) second after
-    pushes_ok u v is so = record {
-      stopped = λ h.
-          let k = pushes_so.stopped (ended h) in
-          let n = none_given k.1 in (
-            ap (λ (x : PushParser). standing x (state_of new) (fault_of new.fault) new.max_entries) k.0
-                ∙ ap (λ (x : Composer). standing p (state_of x) (fault_of x.fault) x.max_entries) n.0,
-            n.1,
-            sym faultless,
-          );
-      takes = λ h. record {
-        added = composes.added;
-        appended = composes.appended;
-        ends_so = λ tokens l k. record {
-          events = k.events ++ given;
-          pushed = subst (λ (z : Done). pushes.EndsSo Room (tokens ++ t ∷ []) (k.events ++ given) z q) so
-              (all_begin h tokens l k);
-          leads = subst (λ (n : ℕ). Leads n between (k.events ++ given) (l ++ composes.added) (state_of new))
-              (sym bound)
-              (from_start tokens l k given (state_of new) (all_led u is));
-          none_kept = ap fault_of (same is) ∙ k.none_kept;
-        };
-      };
-      kept = tt;
-      bound = bound;
-      so_far = loads_so_far second;
-      whole = whole_loads second;
-      ended = stopped_at second;
-      faultless = none_kept second;
-      begins = begins_loads second;
-      linear = linear_loads second;
-    }
-
-    -- an event is refused
-    not_ok : (x : yaml_error_type_t) → s ≡ Err x → s ≡ Ok tt → ⊥
-    not_ok x is so = go (sym is ∙ so)
-      where
-        go : ◌≡◌ {A = Done} (Err x) (Ok tt) → ⊥
-        go h = cc
-
-    pub pushes_refused : (x : yaml_error_type_t) → s ≡ Err x → PushesLoads Full first t before (Err x) second after
-    pushes_refused x is = record {
-      stopped = λ h. absurd (not_ok x is (none_given (pushes_so.stopped (ended h)).1).2);
-      takes = λ h. record {
-        added = composes.added;
-        appended = composes.appended;
-        ends_so =
-            λ tokens l k. stops h tokens l k;
-      };
-      kept = subst (λ (z : Done). IfErr z (λ y. (y ≡ new.fault.error) × (is_fault new.fault.error ≡ true))) is kept_so;
-      bound = bound;
-      so_far = loads_so_far second;
-      whole = whole_loads second;
-      ended = stopped_at second;
-      faultless = none_kept second;
-      begins = begins_loads second;
-      linear = linear_loads second;
-    }
-      where
-        one : RefusesOneOf Full old.max_entries (state_of old) given composes.added (fault_of new.fault)
-        one = subst (λ (z : Done). comp.EndsSo Full old.max_entries (state_of old) given composes.added z new)
-            is composes.ends_so
-
-        stops : has_stopped first ≡ false → (tokens : List Token) (l : List Document) (k : Loaded first tokens l)
-            → StopsLoading Full new.max_entries (tokens ++ t ∷ []) k.events (l ++ composes.added) (fault_of new.fault)
-        stops h tokens l k = subst (λ (n : ℕ). StopsLoading Full n (tokens ++ t ∷ []) k.events
-            (l ++ composes.added) (fault_of new.fault)) (sym bound)
-            (refused_so Full old.max_entries (tokens ++ t ∷ []) k.events one.composed one.later
-            (l ++ composes.added) one.here one.event (fault_of new.fault)
-            (subst (BeginsEachRun (tokens ++ t ∷ []))
-            (ap (λ (e : List Event). k.events ++ e) one.all
-            ∙ sym (append_assoc k.events one.composed (one.event ∷ one.later)))
-            (begins_so Room (tokens ++ t ∷ []) (k.events ++ given) r q (all_begin h tokens l k)))
-            (from_start tokens l k one.composed one.here one.leads) one.refuses)
-
-    -- or the parser stops
-    abbrev pub third : PushLoader
-    third = standing q between (pushed.fault_in q) new.max_entries
-
-    pub pushes_failed : RemembersLoads first → (u : Unit {0}) (y : yaml_error_type_t) → s ≡ Ok u → r ≡ Err y
-        → PushesLoads Full first t before (Err y) third after
-    pushes_failed remembers u y is so = record {
-      stopped = λ h. absurd (never remembers (sym so ∙ (pushes_so.stopped (ended h)).2));
-      takes = λ h. record {
-        added = composes.added;
-        appended = composes.appended;
-        ends_so =
-            λ tokens l k. stops h tokens l k;
-      };
-      kept = subst (λ (z : Done). IfErr z (λ x. (x ≡ (pushed.fault_in q).error) × (pushed.keeps_fault q ≡ true))) so
-          pushes_so.kept;
-      bound = bound;
-      so_far = loads_so_far third;
-      whole = whole_loads third;
-      ended = stopped_at third;
-      faultless = none_kept third;
-      begins = begins_loads third;
-      linear = linear_loads third;
-    }
-      where
-        differ : (f : Fault) (b : Bool) → b ≡ false → ◌≡◌ {A = Done} (Err y) (pushes.done_if b f) → ⊥
-        differ f true i h = cc
-        differ f false i h = cc
-
-        never : RemembersLoads first → ◌≡◌ {A = Done} (Err y) (done_by (pushed.fault_in p)) → ⊥
-        never (inl kept) h = true≢false (sym kept ∙ not_kept)
-        never (inr (tokens, l, k)) h = differ (pushed.fault_in p) (pushed.keeps_fault p)
-            (law.faultless p tokens k.events k.pushed) h
-
-        stops : has_stopped first ≡ false → (tokens : List Token) (l : List Document) (k : Loaded first tokens l)
-            → StopsLoading Full new.max_entries (tokens ++ t ∷ []) k.events (l ++ composes.added) (pushed.fault_in q)
-        stops h tokens l k = subst (λ (n : ℕ). StopsLoading Full n (tokens ++ t ∷ []) k.events
-            (l ++ composes.added) (pushed.fault_in q)) (sym bound)
-            (parser_stops Full Room old.max_entries (tokens ++ t ∷ []) k.events given (l ++ composes.added)
-            (state_of new) (pushed.fault_in q)
-            (from_start tokens l k given (state_of new) (all_led u is))
-            (subst (λ (z : Done). pushes.EndsSo Room (tokens ++ t ∷ []) (k.events ++ given) z q) so
-            (all_begin h tokens l k)))
-
-  -- after a push a fault is kept, or there is a history
-  pub push_remembers : (Full : Type 0) (old new : PushLoader) (t : Token) (before after : List Document) (r : Done)
-      → PushesLoads Full old t before r new after
-      → RemembersLoads old → RemembersLoads new
-  push_remembers Full old new t before after (Err x) h k = inl h.kept.1
-  push_remembers Full old new t before after (Ok u) h k = go (has_stopped old) refl
+  pub pushes_refused : (x : yaml_error_type_t) → s ≡ Err x → PushesLoads Full first t before (Err x) second after
+  pushes_refused x is = record {
+    stopped = λ h. absurd (not_ok x is (none_given (pushes_so.stopped (ended h)).1).2);
+    takes = λ h. record {
+      added = composes.added;
+      appended = composes.appended;
+      ends_so =
+          λ tokens l k. stops h tokens l k;
+    };
+    kept = subst (λ (z : Done). IfErr z (λ y. (y ≡ new.fault.error) × (is_fault new.fault.error ≡ true))) is kept_so;
+    bound = bound;
+    so_far = loads_so_far second;
+    whole = whole_loads second;
+    ended = stopped_at second;
+    faultless = none_kept second;
+    begins = begins_loads second;
+    linear = linear_loads second;
+  }
     where
-      go : (b : Bool) → has_stopped old ≡ b → RemembersLoads new
-      go true i = subst RemembersLoads (sym (h.stopped i).0) k
-      go false i = by k
-        where
-          by : RemembersLoads old → RemembersLoads new
-          by (inl kept) = absurd (true≢false (sym kept ∙ (or_parts (keeps_fault old) (pushed.has_stopped old.parser) i).0))
-          by (inr (tokens, l, m)) = inr (tokens ++ t ∷ [], l ++ (h.takes i).added, (h.takes i).ends_so tokens l m)
+      one : RefusesOneOf Full old.max_entries (state_of old) given composes.added (fault_of new.fault)
+      one = subst (λ (z : Done). comp.EndsSo Full old.max_entries (state_of old) given composes.added z new)
+          is composes.ends_so
+
+      stops : has_stopped first ≡ false → (tokens : List Token) (l : List Document) (k : Loaded first tokens l)
+          → StopsLoading Full new.max_entries (tokens ++ t ∷ []) k.events (l ++ composes.added) (fault_of new.fault)
+      stops h tokens l k = subst (λ (n : ℕ). StopsLoading Full n (tokens ++ t ∷ []) k.events
+          (l ++ composes.added) (fault_of new.fault)) (sym bound)
+          (refused_so Full old.max_entries (tokens ++ t ∷ []) k.events one.composed one.later
+          (l ++ composes.added) one.here one.event (fault_of new.fault)
+          (subst (BeginsEachRun (tokens ++ t ∷ []))
+          (ap (λ (e : List Event). k.events ++ e) one.all
+          ∙ sym (append_assoc k.events one.composed (one.event ∷ one.later)))
+          (begins_so Room (tokens ++ t ∷ []) (k.events ++ given) r q (all_begin h tokens l k)))
+          (from_start tokens l k one.composed one.here one.leads) one.refuses)
+
+  -- or the parser stops
+  abbrev pub third : PushLoader
+  third = standing q between (pushed.fault_in q) new.max_entries
+
+  pub pushes_failed : RemembersLoads first → (u : Unit {0}) (y : yaml_error_type_t) → s ≡ Ok u → r ≡ Err y
+      → PushesLoads Full first t before (Err y) third after
+  pushes_failed remembers u y is so = record {
+    stopped = λ h. absurd (never remembers (sym so ∙ (pushes_so.stopped (ended h)).2));
+    takes = λ h. record {
+      added = composes.added;
+      appended = composes.appended;
+      ends_so =
+          λ tokens l k. stops h tokens l k;
+    };
+    kept = subst (λ (z : Done). IfErr z (λ x. (x ≡ (pushed.fault_in q).error) × (pushed.keeps_fault q ≡ true))) so
+        pushes_so.kept;
+    bound = bound;
+    so_far = loads_so_far third;
+    whole = whole_loads third;
+    ended = stopped_at third;
+    faultless = none_kept third;
+    begins = begins_loads third;
+    linear = linear_loads third;
+  }
+    where
+      differ : (f : Fault) (b : Bool) → b ≡ false → ◌≡◌ {A = Done} (Err y) (pushes.done_if b f) → ⊥
+      differ f true i h = cc
+      differ f false i h = cc
+
+      never : RemembersLoads first → ◌≡◌ {A = Done} (Err y) (done_by (pushed.fault_in p)) → ⊥
+      never (inl kept) h = true≢false (sym kept ∙ not_kept)
+      never (inr (tokens, l, k)) h = differ (pushed.fault_in p) (pushed.keeps_fault p)
+          (fed_faultless k.pushed) h
+
+      stops : has_stopped first ≡ false → (tokens : List Token) (l : List Document) (k : Loaded first tokens l)
+          → StopsLoading Full new.max_entries (tokens ++ t ∷ []) k.events (l ++ composes.added) (pushed.fault_in q)
+      stops h tokens l k = subst (λ (n : ℕ). StopsLoading Full n (tokens ++ t ∷ []) k.events
+          (l ++ composes.added) (pushed.fault_in q)) (sym bound)
+          (parser_stops Full Room old.max_entries (tokens ++ t ∷ []) k.events given (l ++ composes.added)
+          (state_of new) (pushed.fault_in q)
+          (from_start tokens l k given (state_of new) (all_led u is))
+          (subst (λ (z : Done). pushes.EndsSo Room (tokens ++ t ∷ []) (k.events ++ given) z q) so
+          (all_begin h tokens l k)))
+
+-- after a push a fault is kept, or there is a history
+pub push_remembers : (Full : Type 0) (old new : PushLoader) (t : Token) (before after : List Document) (r : Done)
+    → PushesLoads Full old t before r new after
+    → RemembersLoads old → RemembersLoads new
+push_remembers Full old new t before after (Err x) h k = inl h.kept.1
+push_remembers Full old new t before after (Ok u) h k = go (has_stopped old) refl
+  where
+    go : (b : Bool) → has_stopped old ≡ b → RemembersLoads new
+    go true i = subst RemembersLoads (sym (h.stopped i).0) k
+    go false i = by k
+      where
+        by : RemembersLoads old → RemembersLoads new
+        by (inl kept) = absurd (true≢false (sym kept ∙ (or_parts (keeps_fault old) (pushed.has_stopped old.parser) i).0))
+        by (inr (tokens, l, m)) = inr (tokens ++ t ∷ [], l ++ (h.takes i).added, (h.takes i).ends_so tokens l m)
 
 -- what holds where a call returned without an error
 pub on_ok : (P : Type 0) (s : Done) → OnOk s P → s ≡ Ok tt → P

@@ -18,8 +18,6 @@ ghost use Rattle.libyaml_loader.specs.pushes.Loaded.{Loaded, PushLoader, has_sto
 ghost use Rattle.libyaml_loader.specs.pushes.OnePushLoads.{OnePushLoads};
 ghost use Rattle.libyaml_loader.specs.pushes.PushesLoads.{PushesLoads};
 
-use libyaml_events::laws::calls::of_history;
-use libyaml_events::laws::determined::{one_pushed, one_source};
 use libyaml_events::yaml_token_source_t;
 
 /// Two outcomes of one load, both of which the clauses `loads`, `fails` and `bound` of `yaml_parser_load`
@@ -40,10 +38,7 @@ pub fn one_load<S: yaml_token_source_t>()
         → (LoadRunsOut S.gives (next_bounded n) old r p asked given
         ⊎ LoadRunsOut S.gives (next_bounded n) old s q asked given)
         ⊎ (LoadsAlike r p s q × (p.source ≡ q.source)) }
-{
-    of_history::<S>();
-    one_source::<S>();
-}
+{}
 
 /// Loaders with one bound that were handed the same tokens, without a fault, gave the same documents and
 /// stand the same.
@@ -51,9 +46,7 @@ pub fn one_loaded()
     ensures { (p q : PushLoader) (tokens : List Token) (documents given : List Document)
         → p.max_entries ≡ q.max_entries → Loaded p tokens documents → Loaded q tokens given
         → (p ≡ q) × (documents ≡ given) }
-{
-    one_pushed();
-}
+{}
 
 /// Two outcomes of one push to a loader, both of which the contract of `push` allows, of a list of documents
 /// with this room: they are one, unless memory ran out in one of them, where memory may be taken or the list
@@ -68,6 +61,4 @@ pub fn one_push()
     ensures stopped { (room m n : ℕ) (old p q : PushLoader) (t : Token) (before after later : List Document)
         (r s : Done) → has_stopped old ≡ true → PushesLoads (room ≤ m) old t before r p after
         → PushesLoads (room ≤ n) old t before s q later → (r ≡ s) × (p ≡ q) × (after ≡ later) }
-{
-    one_pushed();
-}
+{}

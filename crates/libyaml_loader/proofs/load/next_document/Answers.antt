@@ -19,25 +19,10 @@ use Rattle.libyaml_loader.specs.pushes.Leads.{Leads}
 use Rattle.libyaml_loader.proofs.loads.Ended.{has_not_ended, no_error, still_ended}
 use Rattle.libyaml_loader.proofs.loads.OnTheWay.{OnTheWay, way_ends, way_fails, way_finds_end, way_more, way_none}
 use Rattle.libyaml_loader.proofs.loads.OnTheWay.{way_refused}
-use Rattle.libyaml_loader.proofs.loads.Taking.{Called, behind_close, finds_end, parser_fails, running, took_event}
+use Rattle.libyaml_loader.proofs.loads.Taking.{behind_close, finds_end, parser_fails, running, took_event}
 use Rattle.libyaml_loader.proofs.load.next_document.Given as given
 use Rattle.libyaml_loader.proofs.load.next_document.Goals as goal
 use Rattle.libyaml_loader.proofs.load.next_document.Goals.{After-yaml_parser_parse_into}
-
--- the clauses of the parser's call
-called_by : (g : given.Over) (c : After-yaml_parser_parse_into g)
-    → Called g.S.yaml_token_source_t.gives g.S.yaml_token_source_t.known g.S.yaml_token_source_t.may_break
-    c.loop-composer.parser c.yaml_parser_parse_into.new.parser
-    (answered c.yaml_parser_parse_into.result c.yaml_parser_parse_into.new.event)
-called_by g c =
-    record {
-      token_bound = g.S.yaml_token_source_t.bound;
-      parses = c.yaml_parser_parse_into.ensures;
-      no_fault = c.of_history.ensures.no_fault;
-      whole = c.of_history.ensures.whole;
-      further = c.rest_of_run.ensures.further;
-      fails = c.rest_of_run.ensures.fails;
-    }
 
 -- an event came
 record Came (g : given.Over) (c : After-yaml_parser_parse_into g) : Type 0 where
@@ -53,11 +38,11 @@ came g c u ok an_event =
     let t = g.S.yaml_token_source_t in
     let call = c.yaml_parser_parse_into in
     let is = ap (λ r. answered r call.new.event) ok in
-    let run = running t.gives t.known t.may_break c.loop-composer.parser call.new.parser
-    (answered call.result call.new.event) (called_by g c) call.new.event is an_event in
+    let run = running t.gives t.known t.may_break g.met.S.yaml_token_source_t.follows c.loop-composer.parser call.new.parser
+    (answered call.result call.new.event) (t.bound, call.ensures) call.new.event is an_event in
     record {
-      took = took_event t.gives t.known t.may_break c.loop-composer.parser call.new.parser
-          (answered call.result call.new.event) (called_by g c) call.new.event is an_event;
+      took = took_event t.gives t.known t.may_break g.met.S.yaml_token_source_t.follows c.loop-composer.parser call.new.parser
+          (answered call.result call.new.event) (t.bound, call.ensures) call.new.event is an_event;
       runs = run;
       fell = rw ok at (call.ensures.falls run);
     }
@@ -105,16 +90,14 @@ pub returns-in_err-yaml_parser_parse_into-clause-loads : goal.returns-in_err-yam
 returns-in_err-yaml_parser_parse_into-clause-loads g c =
     let t = g.S.yaml_token_source_t in
     let call = c.yaml_parser_parse_into in
-    let called = called_by g (goal.at.returns-in_err-yaml_parser_parse_into-clause-loads g
-    c).After-yaml_parser_parse_into in
     let n = c.args.composer.max_entries in
     let e : c.from_residual.result ≡ Err c.in_err-yaml_parser_parse_into.field-0.0 = search rules in
     subst (λ (r : DocumentOrError). LoadsFrom t.gives t.known t.may_break (next_bounded n) left_over c.args.parser.now r
     call.new.parser) (sym e)
     (way_fails t.gives t.known t.may_break n c.args.parser.now c.loop-composer.parser
     (state_of c.loop-composer.composer) c.loop-composer.invariant.0 call.new.parser
-    (parser_fails t.gives t.known t.may_break c.loop-composer.parser call.new.parser
-    (answered call.result call.new.event) called c.in_err-yaml_parser_parse_into.field-0.0
+    (parser_fails t.gives t.known t.may_break g.met.S.yaml_token_source_t.follows c.loop-composer.parser call.new.parser
+    (answered call.result call.new.event) (t.bound, call.ensures) c.in_err-yaml_parser_parse_into.field-0.0
     (ap (λ r. answered r call.new.event) c.in_err-yaml_parser_parse_into.was)))
 
 pub returns-in_err-yaml_parser_parse_into-clause-ended : goal.returns-in_err-yaml_parser_parse_into-clause-ended
@@ -128,12 +111,11 @@ pub returns-then-not-is_event-clause-loads : goal.returns-then-not-is_event-clau
 returns-then-not-is_event-clause-loads g c =
     let t = g.S.yaml_token_source_t in
     let call = c.yaml_parser_parse_into in
-    let called = called_by g (goal.at.returns-then-not-is_event-clause-loads g c).After-yaml_parser_parse_into in
     let empty : is_event call.new.event.content ≡ false = sym c.is_event.ensures ∙ c.if-not-is_event.true in
     way_finds_end t.gives t.known t.may_break c.args.composer.max_entries c.args.parser.now c.loop-composer.parser
     (state_of c.loop-composer.composer) c.loop-composer.invariant.0 call.new.parser c.empty_document.result
-    (finds_end t.gives t.known t.may_break c.loop-composer.parser call.new.parser (answered call.result call.new.event)
-    called call.new.event (ap (λ r. answered r call.new.event) c.in_ok-yaml_parser_parse_into.was) empty)
+    (finds_end t.gives t.known t.may_break g.met.S.yaml_token_source_t.follows c.loop-composer.parser call.new.parser (answered call.result call.new.event)
+    (t.bound, call.ensures) call.new.event (ap (λ r. answered r call.new.event) c.in_ok-yaml_parser_parse_into.was) empty)
     c.empty_document.ensures
 
 pub returns-then-not-is_event-clause-ended : goal.returns-then-not-is_event-clause-ended
@@ -157,9 +139,9 @@ returns-in-Ok-Some-clause-loads g c =
     (state_of x) c.loop-composer.invariant.0 call.new.parser call.new.event (opening_in x.ctx.document) (loader_of x.ctx)
     (closing_by c.in-Ok-Some.closing) c.into_document.result k.took (ap (λ (b : Bool). state_by b x.ctx) ends.0) ends.1
     (c.into_document.ensures ∙ ap (λ (y : Composer). ended_by (closing_by c.in-Ok-Some.closing) y.ctx) ends.2)
-    (behind_close t.gives t.known t.may_break c.loop-composer.parser call.new.parser
+    (behind_close t.gives t.known t.may_break g.met.S.yaml_token_source_t.follows c.loop-composer.parser call.new.parser
     (answered call.result call.new.event)
-    (called_by g (goal.at.returns-in-Ok-Some-clause-loads g c).After-yaml_parser_parse_into) call.new.event
+    (t.bound, call.ensures) call.new.event
     (ap (λ r. answered r call.new.event) c.in_ok-yaml_parser_parse_into.was) (closing_by c.in-Ok-Some.closing) ends.1)
 
 pub returns-in-Ok-Some-clause-falls : goal.returns-in-Ok-Some-clause-falls

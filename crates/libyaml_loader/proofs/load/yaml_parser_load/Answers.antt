@@ -11,6 +11,7 @@ use Rattle.libyaml_loader.proofs.loads.Rootless.{rootless}
 use Rattle.libyaml_loader.proofs.load.yaml_parser_load.Given as given
 use Rattle.libyaml_loader.proofs.load.yaml_parser_load.Goals as goal
 use Rattle.libyaml_loader.proofs.load.yaml_parser_load.Goals.{After-next_document}
+use Rattle.libyaml_events.proofs.lent.Histories as histories
 
 -- the composer's bound is the parser's
 loads : (g : given.Over) (c : After-next_document g)
@@ -24,14 +25,14 @@ loads g c =
     c.next_document.ensures.loads
 
 pub returns-then-has_failed-clause-no_fault : goal.returns-then-has_failed-clause-no_fault
-returns-then-has_failed-clause-no_fault g c = c.of_history.ensures.no_fault c.args.parser.now
+returns-then-has_failed-clause-no_fault g c = histories.faultless c.args.parser.now
 
 pub returns-clause-no_fault : goal.returns-clause-no_fault
-returns-clause-no_fault g c = c.of_history.ensures.no_fault c.args.parser.now
+returns-clause-no_fault g c = histories.faultless c.args.parser.now
 
 pub returns-then-has_failed-clause-next_load : goal.returns-then-has_failed-clause-next_load
 returns-then-has_failed-clause-next_load g c events ending run =
-    absurd (true≢false (sym c.if-has_failed.true ∙ c.has_failed.ensures ∙ c.of_history.ensures.no_fault c.args.parser.now
+    absurd (true≢false (sym c.if-has_failed.true ∙ c.has_failed.ensures ∙ histories.faultless c.args.parser.now
     run.asked run.given run.history))
 
 pub returns-then-has_failed-clause-between : goal.returns-then-has_failed-clause-between
@@ -43,7 +44,7 @@ returns-clause-next_load g c =
     let call = c.next_document in
     next_load t.gives t.known t.may_break (next_bounded (magnitude c.args.parser.now.max_entries)) left_over
     c.args.parser.now call.new.parser call.result
-    call.ensures.fails (c.of_history.ensures.no_fault c.args.parser.now) (λ first. loads g (goal.at.returns-clause-next_load g c).After-next_document)
+    call.ensures.fails (λ first. loads g (goal.at.returns-clause-next_load g c).After-next_document)
 
 pub returns-then-has_failed-clause-ended : goal.returns-then-has_failed-clause-ended
 returns-then-has_failed-clause-ended g c ended none = absurd (true≢false (sym c.if-has_failed.true ∙ c.has_failed.ensures ∙ none))
@@ -55,10 +56,9 @@ pub returns-clause-without_root : goal.returns-clause-without_root
 returns-clause-without_root g c =
     let t = g.S.yaml_token_source_t in
     let call = c.next_document in
-    let roots = c.whole_documents_have_roots.ensures in
-    rootless roots.roots_follow roots.without_nodes t.gives t.known t.may_break
+    rootless t.gives t.known t.may_break
     (magnitude c.args.parser.now.max_entries) c.args.parser.now call.new.parser
-    (c.of_history.ensures.nests call.new.parser) call.result (loads g (goal.at.returns-clause-without_root g c).After-next_document)
+    call.result (loads g (goal.at.returns-clause-without_root g c).After-next_document)
 
 pub returns-then-has_failed-clause-linear : goal.returns-then-has_failed-clause-linear
 returns-then-has_failed-clause-linear g c none = absurd (true≢false (sym c.if-has_failed.true ∙ c.has_failed.ensures ∙ none))
@@ -67,8 +67,7 @@ pub returns-clause-linear : goal.returns-clause-linear
 returns-clause-linear g c none =
     let t = g.S.yaml_token_source_t in
     let call = c.next_document in
-    linear (magnitude c.args.parser.now.max_entries)
-    (c.linear_size.ensures.of_one (magnitude c.args.parser.now.max_entries)) t.gives t.known t.may_break
+    linear (magnitude c.args.parser.now.max_entries) t.gives t.known t.may_break
     c.args.parser.now call.new.parser call.result (loads g (goal.at.returns-clause-linear g c).After-next_document)
 
 pub returns-then-has_failed-clause-faultless : goal.returns-then-has_failed-clause-faultless
@@ -79,5 +78,4 @@ returns-clause-faultless g c none =
     let t = g.S.yaml_token_source_t in
     let call = c.next_document in
     faultless t.gives t.known t.may_break (next_bounded (magnitude c.args.parser.now.max_entries)) left_over
-    c.of_history.ensures.no_fault
     c.args.parser.now call.new.parser none c.remembered.ensures call.result (loads g (goal.at.returns-clause-faultless g c).After-next_document)

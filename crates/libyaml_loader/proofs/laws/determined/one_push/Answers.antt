@@ -4,7 +4,7 @@ use Rattle.libyaml_loader.proofs.laws.determined.one_push.Goals as goal
 
 pub returns-clause-running : goal.returns-clause-running
 returns-clause-running c room m n old p q t before after later r s tokens documents h running x y
-    = one_push_loads c.one_pushed.ensures old t before tokens documents h running (room ≤ m) (room ≤ n) p q after
+    = one_push_loads old t before tokens documents h running (room ≤ m) (room ≤ n) p q after
     later r s x y
 
 pub returns-clause-stopped : goal.returns-clause-stopped

@@ -5,22 +5,12 @@ use Rattle.libyaml_types.specs.Fault.{fault_of}
 use Rattle.libyaml_loader.specs.pushes.Composing.{state_of}
 use Rattle.libyaml_loader.specs.pushes.Loaded.{standing}
 use Rattle.libyaml_loader.specs.pushes.PushesLoads.{PushesLoads}
-use Rattle.libyaml_loader.proofs.pushes.Pushing.{PushLaws, kept_fault, on_ok, push_remembers, pushes_failed, pushes_ok}
+use Rattle.libyaml_loader.proofs.pushes.Pushing.{kept_fault, on_ok, push_remembers, pushes_failed, pushes_ok}
 use Rattle.libyaml_loader.proofs.pushes.Pushing.{pushes_refused}
 use Rattle.libyaml_loader.proofs.push.yaml_push_loader_t.push.Goals as goal
 
 pub returns-in_err-composed : goal.returns-in_err-composed
 returns-in_err-composed c =
-    let law : PushLaws = record {
-      run_so_far = c.of_pushed.ensures.run_so_far;
-      run = c.of_pushed.ensures.run;
-      ended = c.of_pushed.ensures.ended;
-      faultless = c.of_pushed.ensures.faultless;
-      begins_run = c.of_pushed.ensures.begins_run;
-      at_most_four = c.of_pushed.ensures.at_most_four;
-      size = c.linear_size.ensures.first_within_bound;
-      in_hand = c.in_hand.ensures.begins_run;
-    } in
     let pushed = c.push_from-pushed in
     let composed = c.compose_all-composed in
     let first = c.self.inside.composer in
@@ -39,23 +29,13 @@ returns-in_err-composed c =
     c.args.documents.now.items z
     (standing pushed.new.self (state_of composed.new.self) (fault_of composed.new.self.fault)
     composed.new.self.max_entries) composed.new.documents.items) (sym err)
-    (pushes_refused law _ _ c.self.inside.parser pushed.new.self c.args.token pushed.new.events.items pushed.result
+    (pushes_refused _ _ c.self.inside.parser pushed.new.self c.args.token pushed.new.events.items pushed.result
     so first composed.new.self c.args.documents.now.items composed.new.documents.items
     composed.result composed.ensures.composes composed.ensures.none composed.ensures.bound composed.ensures.kept
     same none c.in_err-composed.field-0.0 c.in_err-composed.was))
 
 pub returns-in-Err : goal.returns-in-Err
 returns-in-Err c =
-    let law : PushLaws = record {
-      run_so_far = c.of_pushed.ensures.run_so_far;
-      run = c.of_pushed.ensures.run;
-      ended = c.of_pushed.ensures.ended;
-      faultless = c.of_pushed.ensures.faultless;
-      begins_run = c.of_pushed.ensures.begins_run;
-      at_most_four = c.of_pushed.ensures.at_most_four;
-      size = c.linear_size.ensures.first_within_bound;
-      in_hand = c.in_hand.ensures.begins_run;
-    } in
     let pushed = c.push_from-pushed in
     let composed = c.compose_all-composed in
     let first = c.self.inside.composer in
@@ -74,7 +54,7 @@ returns-in-Err c =
     (subst (λ z. PushesLoads (vec_capacity c.args.documents.now ≤ vec_len composed.new.documents)
     (standing c.self.inside.parser (state_of first) (fault_of first.fault) first.max_entries) c.args.token
     c.args.documents.now.items (Err c.in-Err.error) z composed.new.documents.items) is
-    (pushes_failed law _ _ c.self.inside.parser pushed.new.self c.args.token pushed.new.events.items pushed.result
+    (pushes_failed _ _ c.self.inside.parser pushed.new.self c.args.token pushed.new.events.items pushed.result
     so first composed.new.self c.args.documents.now.items composed.new.documents.items
     composed.result composed.ensures.composes composed.ensures.none composed.ensures.bound composed.ensures.kept
     same none c.self.invariant.2 c.in_ok-composed.field-0 c.in-Err.error
@@ -82,16 +62,6 @@ returns-in-Err c =
 
 pub returns : goal.returns
 returns c =
-    let law : PushLaws = record {
-      run_so_far = c.of_pushed.ensures.run_so_far;
-      run = c.of_pushed.ensures.run;
-      ended = c.of_pushed.ensures.ended;
-      faultless = c.of_pushed.ensures.faultless;
-      begins_run = c.of_pushed.ensures.begins_run;
-      at_most_four = c.of_pushed.ensures.at_most_four;
-      size = c.linear_size.ensures.first_within_bound;
-      in_hand = c.in_hand.ensures.begins_run;
-    } in
     let pushed = c.push_from-pushed in
     let composed = c.compose_all-composed in
     let first = c.self.inside.composer in
@@ -104,23 +74,13 @@ returns c =
     c.args.documents.now.items (Ok tt)
     (standing pushed.new.self (state_of composed.new.self) (fault_of composed.new.self.fault)
     composed.new.self.max_entries) composed.new.documents.items) c.self.view_is
-    (pushes_ok law _ _ c.self.inside.parser pushed.new.self c.args.token pushed.new.events.items pushed.result so
+    (pushes_ok _ _ c.self.inside.parser pushed.new.self c.args.token pushed.new.events.items pushed.result so
     first composed.new.self c.args.documents.now.items composed.new.documents.items
     composed.result composed.ensures.composes composed.ensures.none composed.ensures.bound composed.ensures.kept
     same none c.in_ok-composed.field-0 c.in_default.field-0 c.in_ok-composed.was c.in_default.is)
 
 pub invariant_of-self-in_default : goal.invariant_of-self-in_default
 invariant_of-self-in_default c =
-    let law : PushLaws = record {
-      run_so_far = c.of_pushed.ensures.run_so_far;
-      run = c.of_pushed.ensures.run;
-      ended = c.of_pushed.ensures.ended;
-      faultless = c.of_pushed.ensures.faultless;
-      begins_run = c.of_pushed.ensures.begins_run;
-      at_most_four = c.of_pushed.ensures.at_most_four;
-      size = c.linear_size.ensures.first_within_bound;
-      in_hand = c.in_hand.ensures.begins_run;
-    } in
     let pushed = c.push_from-pushed in
     let composed = c.compose_all-composed in
     let first = c.self.inside.composer in
@@ -129,13 +89,13 @@ invariant_of-self-in_default c =
     c.self.invariant.0 pushed.ensures in
     let none : done_by (fault_of first.fault) ≡ Ok tt = sym c.kept.ensures ∙ c.in_ok-kept.was in
     let same = on_ok (composed.new.self.fault ≡ first.fault) composed.result composed.ensures.fault in
-    let p = pushes_ok law _ _ c.self.inside.parser pushed.new.self c.args.token pushed.new.events.items
+    let p = pushes_ok _ _ c.self.inside.parser pushed.new.self c.args.token pushed.new.events.items
     pushed.result so first composed.new.self c.args.documents.now.items composed.new.documents.items
     composed.result composed.ensures.composes composed.ensures.none composed.ensures.bound composed.ensures.kept
     same none c.in_ok-composed.field-0 c.in_default.field-0
     c.in_ok-composed.was c.in_default.is in (
       c.clear.ensures.items,
       composed.ensures.sound,
-      push_remembers law (vec_capacity c.args.documents.now ≤ vec_len composed.new.documents) _ _ c.args.token _ _ _
+      push_remembers (vec_capacity c.args.documents.now ≤ vec_len composed.new.documents) _ _ c.args.token _ _ _
           p c.self.invariant.2,
     )
