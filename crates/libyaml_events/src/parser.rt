@@ -70,7 +70,8 @@ pub(crate) struct Machine<S> {
     marks: Vec<yaml_mark_t>,
     handles: BTreeMap<String, String>,
     behind_document_end: bool,
-    /// The text of an earlier event, whose memory a later token's may take. Its value has no meaning.
+    /// A text of an earlier event, whose memory a later token's text or tag in full may take. Its value has
+    /// no meaning.
     pub(crate) spare: String,
     prefix: yaml_parser_t_prefix,
     max_entries: MaxEntries,

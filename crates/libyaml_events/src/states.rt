@@ -288,7 +288,7 @@ impl<S> Machine<S> {
         self.keep(token);
         out.start_mark = mark;
         out.end_mark = mark;
-        put_empty_scalar(self.allocator(), &mut out.content);
+        put_empty_scalar(&mut self.spare, &mut out.content);
     }
 
     /// At the token that starts a collection: its start is kept, and `state` says what comes in it.

@@ -46,15 +46,19 @@ use crate::node_head::{NodeHead, PropertiesRead, TagRead};
 use crate::node_place::NodePlace;
 use crate::parser::Machine;
 use crate::pending::Pending;
-use crate::states::contents::{put_alias, put_bare_scalar, put_mapping_start, put_sequence_start};
+use crate::states::contents::{
+    put_alias, put_anchored_scalar, put_bare_scalar, put_mapping_start, put_scalar,
+    put_sequence_start,
+};
 use crate::states::give;
 use crate::texts::is_text;
 use libyaml_types::{
     unnamed_yaml_event_t_data, unnamed_yaml_event_t_data_mapping_start,
     unnamed_yaml_event_t_data_scalar, unnamed_yaml_event_t_data_sequence_start,
-    unnamed_yaml_token_t_data, unnamed_yaml_token_t_data_alias, unnamed_yaml_token_t_data_scalar,
-    unnamed_yaml_token_t_data_tag, yaml_error_type_t, yaml_event_t, yaml_mapping_style_t,
-    yaml_mark_t, yaml_parser_state_t, yaml_scalar_style_t, yaml_sequence_style_t, yaml_token_t,
+    unnamed_yaml_token_t_data, unnamed_yaml_token_t_data_alias, unnamed_yaml_token_t_data_anchor,
+    unnamed_yaml_token_t_data_scalar, unnamed_yaml_token_t_data_tag, yaml_error_type_t,
+    yaml_event_t, yaml_mapping_style_t, yaml_mark_t, yaml_parser_state_t, yaml_scalar_style_t,
+    yaml_sequence_style_t, yaml_token_t,
 };
 use std::alloc::Global;
 use std::mem;
@@ -80,7 +84,7 @@ pub(super) fn is_plain(style: yaml_scalar_style_t) -> bool
 }
 
 /// Whether a scalar's tag may be left out where it is written plain.
-fn is_plain_implicit(tag: &Option<String>, style: yaml_scalar_style_t) -> bool
+pub(super) fn is_plain_implicit(tag: &Option<String>, style: yaml_scalar_style_t) -> bool
     ensures { result ≡ plain_flag (option_map string_bytes tag.now) style }
 {
     match tag {
@@ -90,7 +94,7 @@ fn is_plain_implicit(tag: &Option<String>, style: yaml_scalar_style_t) -> bool
 }
 
 /// Whether a scalar's tag may be left out where it is not written plain.
-fn is_quoted_implicit(tag: &Option<String>, style: yaml_scalar_style_t) -> bool
+pub(super) fn is_quoted_implicit(tag: &Option<String>, style: yaml_scalar_style_t) -> bool
     ensures { result ≡ quoted_flag (option_map string_bytes tag.now) style }
 {
     match tag {
@@ -161,6 +165,24 @@ pub(super) fn mapping_start(
     })
 }
 
+/// Puts the anchor of a token, moved out of it, into `read`. The text that is kept goes into the token's
+/// slot.
+#[inline(always)]
+fn put_anchor(
+    spare: &mut String,
+    anchor: &mut unnamed_yaml_token_t_data_anchor,
+    read: &mut Option<String>,
+)
+    ensures { option_map string_bytes read.new ≡ Some anchor.old.value }
+{
+    if read.is_some() {
+        forget_anchor(read);
+    }
+    let alloc = *spare.allocator();
+    mem::swap(&mut anchor.value, spare);
+    *read = Some(mem::replace(spare, String::new(alloc)));
+}
+
 /// Puts the tag of a token that begins at `mark`, moved out of it, into `read`.
 #[inline(always)]
 fn put_tag(
@@ -171,13 +193,26 @@ fn put_tag(
 )
     ensures { read.new ≡ Some (record { handle = tag.old.handle; suffix = tag.old.suffix; mark = mark }) }
 {
-    if let Some(earlier) = read {
-        mem::swap(&mut earlier.handle, &mut tag.handle);
-        mem::swap(&mut earlier.suffix, &mut tag.suffix);
-        earlier.mark = mark;
-        return;
+    if read.is_some() {
+        forget_tag(read);
     }
     *read = Some(tag_read(alloc, tag, mark));
+}
+
+/// Forgets an anchor.
+#[cold]
+fn forget_anchor(anchor: &mut Option<String>)
+    ensures { anchor.new ≡ None }
+{
+    *anchor = None;
+}
+
+/// Forgets a tag.
+#[cold]
+fn forget_tag(tag: &mut Option<TagRead>)
+    ensures { tag.new ≡ None }
+{
+    *tag = None;
 }
 
 /// The tag of a token that begins at `mark`, moved out of it.
@@ -189,6 +224,64 @@ fn tag_read(alloc: Global, tag: &mut unnamed_yaml_token_t_data_tag, mark: yaml_m
         suffix: mem::replace(&mut tag.suffix, String::new(alloc)),
         mark,
     }
+}
+
+/// Reads an anchor that begins a node.
+#[inline(never)]
+fn begin_with_anchor(
+    spare: &mut String,
+    anchor: &mut unnamed_yaml_token_t_data_anchor,
+    start_mark: &yaml_mark_t,
+    end_mark: &yaml_mark_t,
+    pending: &mut Pending,
+)
+    ensures { pending.new ≡ record pending.old {
+      next = Next.BehindProperties;
+      properties = record {
+        anchor = Some anchor.old.value;
+        tag = None;
+        start_mark = start_mark.now;
+        end_mark = end_mark.now;
+      };
+    } }
+{
+    pending.next = Next::BehindProperties;
+    let read = &mut pending.properties;
+    put_anchor(spare, anchor, &mut read.anchor);
+    if read.tag.is_some() {
+        forget_tag(&mut read.tag);
+    }
+    read.start_mark = *start_mark;
+    read.end_mark = *end_mark;
+}
+
+/// Reads a tag that begins a node.
+#[inline(never)]
+fn begin_with_tag(
+    alloc: Global,
+    tag: &mut unnamed_yaml_token_t_data_tag,
+    start_mark: &yaml_mark_t,
+    end_mark: &yaml_mark_t,
+    pending: &mut Pending,
+)
+    ensures { pending.new ≡ record pending.old {
+      next = Next.BehindProperties;
+      properties = record {
+        anchor = None;
+        tag = Some (record { handle = tag.old.handle; suffix = tag.old.suffix; mark = start_mark.now });
+        start_mark = start_mark.now;
+        end_mark = end_mark.now;
+      };
+    } }
+{
+    pending.next = Next::BehindProperties;
+    let read = &mut pending.properties;
+    put_tag(alloc, tag, *start_mark, &mut read.tag);
+    if read.anchor.is_some() {
+        forget_anchor(&mut read.anchor);
+    }
+    read.start_mark = *start_mark;
+    read.end_mark = *end_mark;
 }
 
 /// Gives a scalar without properties.
@@ -227,10 +320,31 @@ impl<S> Machine<S> {
                 self.bare_scalar(scalar, &token.start_mark, &token.end_mark, out);
                 Ok(Step::Given)
             }
-            unnamed_yaml_token_t_data::Alias(_)
-            | unnamed_yaml_token_t_data::Anchor(_)
-            | unnamed_yaml_token_t_data::Tag(_) => {
-                self.parse_alias_or_property(place, token, pending, out)
+            unnamed_yaml_token_t_data::Alias(alias) => {
+                self.alias(alias, &token.start_mark, &token.end_mark, out);
+                Ok(Step::Given)
+            }
+            unnamed_yaml_token_t_data::Anchor(anchor) => {
+                pending.place = place;
+                begin_with_anchor(
+                    &mut self.spare,
+                    anchor,
+                    &token.start_mark,
+                    &token.end_mark,
+                    pending,
+                );
+                Ok(Step::Wants)
+            }
+            unnamed_yaml_token_t_data::Tag(tag) => {
+                pending.place = place;
+                begin_with_tag(
+                    self.allocator(),
+                    tag,
+                    &token.start_mark,
+                    &token.end_mark,
+                    pending,
+                );
+                Ok(Step::Wants)
             }
             _ => {
                 self.parse_bare_content(place, token, out)?;
@@ -287,7 +401,7 @@ impl<S> Machine<S> {
     }
 
     /// An alias, which is the whole node.
-    #[inline(always)]
+    #[inline(never)]
     fn alias(
         &mut self,
         content: &mut unnamed_yaml_token_t_data_alias,
@@ -301,54 +415,7 @@ impl<S> Machine<S> {
         self.pop_state();
         out.start_mark = *start_mark;
         out.end_mark = *end_mark;
-        put_alias(self.allocator(), content, &mut out.content);
-    }
-
-    /// A node that begins with an alias or a property.
-    #[inline(never)]
-    fn parse_alias_or_property(
-        &mut self,
-        place: NodePlace,
-        token: &mut yaml_token_t,
-        pending: &mut Pending,
-        out: &mut yaml_event_t,
-    ) -> Result<Step, yaml_error_type_t>
-        ensures steps { Steps (parse_node place self.old.config token.old token.old.content) self.old
-            (answer result pending.new out.new) self.new }
-        ensures error { IfErr result (λ e. e ≡ yaml_error_type_t.YAML_PARSER_ERROR) }
-    {
-        match &mut token.content {
-            unnamed_yaml_token_t_data::Alias(alias) => {
-                self.alias(alias, &token.start_mark, &token.end_mark, out);
-                Ok(Step::Given)
-            }
-            unnamed_yaml_token_t_data::Anchor(anchor) => {
-                let anchor = mem::replace(&mut anchor.value, String::new(self.allocator()));
-                pending.place = place;
-                pending.properties.anchor = Some(anchor);
-                pending.properties.tag = None;
-                pending.properties.start_mark = token.start_mark;
-                pending.properties.end_mark = token.end_mark;
-                Ok(pending.want(Next::BehindProperties))
-            }
-            unnamed_yaml_token_t_data::Tag(tag) => {
-                put_tag(
-                    self.allocator(),
-                    tag,
-                    token.start_mark,
-                    &mut pending.properties.tag,
-                );
-                pending.place = place;
-                pending.properties.anchor = None;
-                pending.properties.start_mark = token.start_mark;
-                pending.properties.end_mark = token.end_mark;
-                Ok(pending.want(Next::BehindProperties))
-            }
-            _ => {
-                self.parse_bare_content(place, token, out)?;
-                Ok(Step::Given)
-            }
-        }
+        put_alias(&mut self.spare, content, &mut out.content);
     }
 
     /// A node without properties.
@@ -465,8 +532,7 @@ impl<S> Machine<S> {
         let end_mark = token.end_mark;
         match &mut token.content {
             unnamed_yaml_token_t_data::Anchor(anchor) if pending.properties.anchor.is_none() => {
-                let anchor = mem::replace(&mut anchor.value, String::new(self.allocator()));
-                pending.properties.anchor = Some(anchor);
+                put_anchor(&mut self.spare, anchor, &mut pending.properties.anchor);
                 pending.properties.end_mark = end_mark;
                 Ok(pending.want(Next::BehindProperties))
             }
@@ -476,13 +542,37 @@ impl<S> Machine<S> {
                 Ok(pending.want(Next::BehindProperties))
             }
             _ => {
-                self.parse_content_behind(token, pending, out)?;
+                self.parse_content(token, pending, out)?;
                 Ok(Step::Given)
             }
         }
     }
 
+    /// What the node is, after its properties.
+    #[inline(always)]
+    fn parse_content(
+        &mut self,
+        token: &mut yaml_token_t,
+        pending: &mut Pending,
+        out: &mut yaml_event_t,
+    ) -> Result<(), yaml_error_type_t>
+        ensures steps { Steps (content_behind pending.old.place pending.old.properties
+            pending.old.properties.tag self.old.config token.old token.old.content) self.old
+            (given result out.new) self.new }
+        ensures grows { result ≡ Err yaml_error_type_t.YAML_MEMORY_ERROR
+            → joins pending.old.properties.tag self.old.config.handles ≡ true }
+    {
+        match &mut token.content {
+            unnamed_yaml_token_t_data::Scalar(scalar) if pending.properties.tag.is_none() => {
+                self.anchored_scalar(scalar, &token.end_mark, &mut pending.properties, out);
+                Ok(())
+            }
+            _ => self.parse_content_behind(token, pending, out),
+        }
+    }
+
     /// What the node is, after its properties. A handle that is not defined is found here.
+    #[inline(never)]
     fn parse_content_behind(
         &mut self,
         token: &mut yaml_token_t,
@@ -514,6 +604,29 @@ impl<S> Machine<S> {
         }
     }
 
+    /// A scalar after an anchor alone.
+    #[inline(never)]
+    fn anchored_scalar(
+        &mut self,
+        content: &mut unnamed_yaml_token_t_data_scalar,
+        end_mark: &yaml_mark_t,
+        properties: &mut PropertiesRead,
+        out: &mut yaml_event_t,
+    )
+        ensures { Steps (scalar_content (head properties.old None) self.old.config content.old end_mark.now)
+            self.old (Ok (Given out.new)) self.new }
+    {
+        self.pop_state();
+        out.start_mark = properties.start_mark;
+        out.end_mark = *end_mark;
+        put_anchored_scalar(
+            &mut self.spare,
+            &mut properties.anchor,
+            content,
+            &mut out.content,
+        );
+    }
+
     /// A scalar after properties, with its tag in full.
     #[inline(never)]
     fn scalar_behind(
@@ -530,28 +643,13 @@ impl<S> Machine<S> {
         self.pop_state();
         out.start_mark = properties.start_mark;
         out.end_mark = *end_mark;
-        if let unnamed_yaml_event_t_data::Scalar(event) = &mut out.content {
-            event.plain_implicit = is_plain_implicit(&tag, content.style);
-            event.quoted_implicit = is_quoted_implicit(&tag, content.style);
-            event.style = content.style;
-            event.tag = tag;
-            mem::swap(&mut event.value, &mut content.value);
-            if properties.anchor.is_some() || event.anchor.is_some() {
-                event.anchor = properties.anchor.take();
-            }
-            return;
-        }
-        let plain_implicit = is_plain_implicit(&tag, content.style);
-        let quoted_implicit = is_quoted_implicit(&tag, content.style);
-        let event = unnamed_yaml_event_t_data_scalar {
-            anchor: properties.anchor.take(),
+        put_scalar(
+            &mut self.spare,
+            &mut properties.anchor,
             tag,
-            value: mem::replace(&mut content.value, String::new(self.allocator())),
-            plain_implicit,
-            quoted_implicit,
-            style: content.style,
-        };
-        out.content = unnamed_yaml_event_t_data::Scalar(event);
+            content,
+            &mut out.content,
+        );
     }
 
     /// What a node is that is no scalar, after its properties.

@@ -30,10 +30,10 @@ as_content : {S : Type 0} (p : NodePlace) (r : PropertiesRead) (c : Config) (t u
     → Steps (content_behind p r r.tag c t t.content) old a new → Steps (behind_properties p r c u u.content) old a new
 as_content p r c t u e h old new a s = rw (h, ← e) s
 
-pub returns-in_err-parse_content_behind-in_default-clause-steps :
-    goal.returns-in_err-parse_content_behind-in_default-clause-steps
-returns-in_err-parse_content_behind-in_default-clause-steps g c =
-    let e : c.from_residual.result ≡ Err c.in_err-parse_content_behind-in_default.field-0.0 = search rules in
+pub returns-in_err-parse_content-in_default-clause-steps :
+    goal.returns-in_err-parse_content-in_default-clause-steps
+returns-in_err-parse_content-in_default-clause-steps g c =
+    let e : c.from_residual.result ≡ Err c.in_err-parse_content-in_default.field-0.0 = search rules in
     let p = c.args.pending.now.place in
     let r = c.args.pending.now.properties in
     let t = c.args.token.now in
@@ -54,13 +54,13 @@ returns-in_err-parse_content_behind-in_default-clause-steps g c =
       | in_default-via-in_default w ↦
           (w.token-is, behind_no_property p r d t _ w.in_default.not-Anchor w.in_default.not-Tag)
     ] in
-    rw e (as_content p r d c.in_default.token t both.0 both.1 c.args.self.now c.parse_content_behind.new.self
-    (Err c.in_err-parse_content_behind-in_default.field-0.0)
-    c.in_err-parse_content_behind-in_default.ensures.steps)
+    rw e (as_content p r d c.in_default.token t both.0 both.1 c.args.self.now c.parse_content.new.self
+    (Err c.in_err-parse_content-in_default.field-0.0)
+    c.in_err-parse_content-in_default.ensures.steps)
 
-pub returns-in_ok-parse_content_behind-in_default-clause-steps :
-    goal.returns-in_ok-parse_content_behind-in_default-clause-steps
-returns-in_ok-parse_content_behind-in_default-clause-steps g c =
+pub returns-in_ok-parse_content-in_default-clause-steps :
+    goal.returns-in_ok-parse_content-in_default-clause-steps
+returns-in_ok-parse_content-in_default-clause-steps g c =
     let p = c.args.pending.now.place in
     let r = c.args.pending.now.properties in
     let t = c.args.token.now in
@@ -81,6 +81,6 @@ returns-in_ok-parse_content_behind-in_default-clause-steps g c =
       | in_default-via-in_default w ↦
           (w.token-is, behind_no_property p r d t _ w.in_default.not-Anchor w.in_default.not-Tag)
     ] in
-    as_content p r d c.in_default.token t both.0 both.1 c.args.self.now c.parse_content_behind.new.self
-    (Ok (Given c.parse_content_behind.new.out))
-    c.in_ok-parse_content_behind-in_default.ensures.steps
+    as_content p r d c.in_default.token t both.0 both.1 c.args.self.now c.parse_content.new.self
+    (Ok (Given c.parse_content.new.out))
+    c.in_ok-parse_content-in_default.ensures.steps
