@@ -22,8 +22,6 @@ use crate::records::{
 };
 use libyaml_documents::yaml_node_item_t;
 use libyaml_events::{yaml_parser_initialize, yaml_parser_t};
-use libyaml_graphs::laws::whole_documents_have_roots;
-use libyaml_loader::laws::{load_of_run, loop_yields_loads};
 use libyaml_loader::yaml_parser_documents;
 use libyaml_types::{NO_FAULT, yaml_parser_t_prefix, yaml_token_source_t};
 use std::alloc::{AllocError, Global};
@@ -106,7 +104,6 @@ fn hand_out(
     ensures uncountable { OnErr result ((loads : List Load) → AreLoadsOfRecords tokens.now texts.now loads
         → Uncountable loads) }
 {
-    loop_yields_loads::<yaml_record_source_t<'_>>();
     let room = document_counts_t {
         documents: documents.len(),
         nodes: nodes.len(),
@@ -174,8 +171,6 @@ fn put_documents<S: yaml_token_source_t>(
         → PutsUncounted (lists documents.old nodes.old items.old pairs.old directives.old texts.old)
         wanted.old (bounded_loads (magnitude parser.old.max_entries) events ending)) }
 {
-    load_of_run::<S>();
-    whole_documents_have_roots();
     for loaded in yaml_parser_documents(parser) {
         let document = match loaded {
             Ok(document) => document,

@@ -1,9 +1,8 @@
 -- How the documents of a whole run are gathered, load by load.
-use Rattle.std.proofs.Common.{◌≡◌, ◌≢◌, ◌<◌, ◌⊎◌, ◌++◌, ℕ, pos, List, [], ◌∷◌, map, All, Option}
+use Rattle.std.proofs.Common.{◌≡◌, ◌≢◌, ◌<◌, ◌⊎◌, ◌++◌, ℕ, pos, List, [], ◌∷◌, map, Option}
 use Rattle.std.proofs.Common.{Some, None, Ok, Err}
 use Rattle.std.proofs.Common.{true, false, append_assoc, refl, sym, ap, ap₂, ◌∙◌, subst, inl, inr, ⊎_elim}
 use Rattle.std.proofs.lemmas.List.{append-nil}
-use Rattle.std.proofs.lemmas.List.Elements.{All-nil}
 use Rattle.libyaml_types.specs.declared.enums.yaml_error_type_t.{yaml_error_type_t}
 use Rattle.libyaml_types.specs.declared.enums.yaml_error_type_t.TheVariants.{YAML_MEMORY_ERROR}
 use Rattle.libyaml_documents.specs.Documents.{Document, empty_document}
@@ -12,11 +11,11 @@ use Rattle.libyaml_grammar.specs.sentences.Events.{Event, events}
 use Rattle.libyaml_types.specs.Fault.{Answer, Fault, memory_fault}
 use Rattle.libyaml_types.specs.Fault as faults
 use Rattle.libyaml_events.proofs.lent.CallsInTurn.{both_calls}
-use Rattle.libyaml_events.specs.sources.History.{ForHistory, answers, between_documents, has_failed, kept_fault, new_parser}
-use Rattle.libyaml_grammar.specs.cuts.Settled.{Begins, BeginsEach}
-use Rattle.libyaml_grammar.specs.sentences.Nesting.{IsNested, NestsSoFar}
+use Rattle.libyaml_events.specs.sources.History.{answers, begins, between_documents, has_failed, kept_fault, new_parser}
+use Rattle.libyaml_grammar.specs.cuts.Settled.{Begins}
+use Rattle.libyaml_grammar.specs.sentences.Nesting.{IsNested}
 use Rattle.libyaml_grammar.specs.sentences.Order.{in_order}
-use Rattle.libyaml_events.specs.sources.Determined.{BeginsEachRun}
+use Rattle.libyaml_events.proofs.lent.Histories as histories
 use Rattle.libyaml_grammar.specs.runs.Runs.{Ending, Ends, Fails}
 use Rattle.libyaml_types.specs.Source.{Coming}
 use Rattle.libyaml_grammar.specs.sentences.Tokens.{Token}
@@ -25,12 +24,15 @@ use Rattle.libyaml_types.specs.declared.fault.yaml_parser_t_prefix.{yaml_parser_
 use Rattle.libyaml_graphs.specs.loads.Bounds.{NoneLacksMemory, bounded_loads, next_bounded}
 use Rattle.libyaml_graphs.specs.loads.GraphLaws.{RootsFollow}
 use Rattle.libyaml_graphs.specs.loads.Loads.{IsLoads, Load, last_load, left_over, loads, loads_of}
-use Rattle.libyaml_graphs.proofs.lent.BoundedFronts.{IsFront, front_of_loads, met, same}
-use Rattle.libyaml_graphs.proofs.lent.LoadLists.{HasRoot, oks_last, roots_behind, roots_last}
+use Rattle.libyaml_graphs.proofs.lent.BoundedFronts.{IsFront, front_of_loads, met, same, unmet_loads}
+use Rattle.libyaml_graphs.proofs.lent.LoadLists.{roots_behind}
+use Rattle.libyaml_graphs.proofs.lent.Roots.{fault_of, last_of, roots_follow}
+use Rattle.libyaml_graphs.proofs.lent.RunLoads.{sentence_loads}
 use Rattle.libyaml_loader.specs.document.Ids.{magnitude}
 use Rattle.libyaml_loader.specs.loads.Loading.{DocumentOrError, KeptBy, LoadFails, Loads, LoadsFrom, ParserFails, Took}
 use Rattle.libyaml_loader.specs.loads.Loading.{at_end, by_loader}
 use Rattle.libyaml_loader.specs.loads.Loading.{by_memory, by_parser, whole}
+use Rattle.libyaml_loader.proofs.lent.LoadsInTurn.{LoadedInTurn, none_in_turn, one_more}
 use Rattle.unsafe_libyaml.specs.WholeRun.{ending_of}
 use Rattle.unsafe_libyaml.specs.WholeLoads.{GathersLoads, LoadsTo, as_loads}
 use Rattle.unsafe_libyaml.specs.WholeLoads as told
@@ -44,34 +46,12 @@ most = 2147483647
 abbrev oks : List Document → List Load
 oks ds = map (λ (d : Document). Ok d) ds
 
--- Within the loads over a source: the parser loaded these documents since it was made. They are the first loads of
--- the events that it gave, whatever follows these.
-pub record Loaded {S : Type 0} (gives : S → Answer → S → Type 0) (source : S) (p : Parser S)
+-- Within the loads over a source: the parser loaded these documents since it was made.
+pub record Loaded {S : Type 0} (gives : S → Answer → S → Type 0) (known : S → Option Coming) (source : S) (p : Parser S)
     (loaded : List Document) : Type 0 where
-  pub given : List Event
-  pub so : GaveSoFar gives source p given
-  pub so_far : (rest : List Event) (x : Ending)
-      → bounded_loads most (given ++ rest) x ≡ map (λ (d : Document). Ok d) loaded ++ bounded_loads most rest x
+  pub in_turn : LoadedInTurn gives known most (new_parser source) p loaded
   pub between : between_documents p ≡ true
   pub bound : p.max_entries ≡ pos 2147483647
-  pub roots : All (λ (d : Document). d.nodes ≢ []) loaded
-
--- the laws of histories and of loads that the loop calls
-pub record LoadLaws {S : Type 0} (gives : S → Answer → S → Type 0) : Type 0 where
-  pub no_fault : (p : Parser S) → ForHistory p (λ (asked : List Token) (given : List Event). has_failed p ≡ false)
-  pub begins : (p : Parser S) → ForHistory p BeginsEach
-  pub begins_run : (p : Parser S) → ForHistory p BeginsEachRun
-  pub nests : (p : Parser S) → ForHistory p (λ (asked : List Token) (given : List Event). NestsSoFar given)
-  pub follow : (l : List Event) → NestsSoFar l → RootsFollow l
-  pub without : (l : List Event) (x : Ending) (n : ℕ) (d : Document) → RootsFollow l → next_bounded n l x ≡ Ok d
-      → d.nodes ≡ []
-      → (bounded_loads n l x ≡ Ok d ∷ []) × (last_load x ≡ Ok d)
-  pub with : (l : List Event) (x : Ending) (n : ℕ) (d : Document) → next_bounded n l x ≡ Ok d → d.nodes ≢ []
-      → bounded_loads n l x ≡ Ok d ∷ bounded_loads n (left_over l) x
-  pub fault : (l : List Event) (x : Ending) (n : ℕ) (f : Fault) → next_bounded n l x ≡ Err f
-      → bounded_loads n l x ≡ Err f ∷ []
-  pub unmet : (l : List Event) (x : Ending) (n : ℕ) → NoneLacksMemory (bounded_loads n l x)
-      → bounded_loads n l x ≡ loads l x
 
 -- lists of loads
 none_lacks : (ds : List Document) (l : List Load) → NoneLacksMemory l → NoneLacksMemory (oks ds ++ l)
@@ -105,60 +85,59 @@ loaded_first within all (same e) loaded behind h = (behind, sym e ∙ h)
 loaded_first within all (met ds rest i j) loaded behind h = let k = oks_first loaded ds behind rest (sym i ∙ h)
     in (k.0, j ∙ k.1)
 
-pub loaded_none : {S : Type 0} (gives : S → Answer → S → Type 0) (source : S) (p : Parser S)
-    → GaveSoFar gives source p [] → between_documents p ≡ true
-    → p.max_entries ≡ pos 2147483647 → Loaded gives source p []
-loaded_none gives source p so between bound
-    = record { given = []; so = so; so_far = λ rest x. refl; between = between; bound = bound; roots = All-nil HasRoot }
+pub loaded_none : {S : Type 0} (gives : S → Answer → S → Type 0) (known : S → Option Coming) (source : S) (p : Parser S)
+    → p ≡ new_parser source → between_documents p ≡ true → p.max_entries ≡ pos 2147483647
+    → Loaded gives known source p []
+loaded_none gives known source p is between bound = record {
+  in_turn = subst (λ q. LoadedInTurn gives known most (new_parser source) q []) (sym is)
+      (none_in_turn gives known most (new_parser source));
+  between = between;
+  bound = bound;
+}
 
-pub loaded_as : {S : Type 0} (gives : S → Answer → S → Type 0) (source : S) (p : Parser S) (a b : List Document)
-    → b ≡ a → Loaded gives source p a
-    → Loaded gives source p b
-loaded_as gives source p a b h l = subst (λ (k : List Document). Loaded gives source p k) (sym h) l
+pub loaded_as : {S : Type 0} (gives : S → Answer → S → Type 0) (known : S → Option Coming) (source : S) (p : Parser S)
+    (a b : List Document) → b ≡ a → Loaded gives known source p a → Loaded gives known source p b
+loaded_as gives known source p a b h l = subst (λ (k : List Document). Loaded gives known source p k) (sym h) l
 
 module _ {S : Type 0} (gives : S → Answer → S → Type 0) (known : S → Option Coming) (MayBreak : S → Fault → Type 0)
-    (source : S) (law : LoadLaws gives) (old new : Parser S)
+    (source : S) (old new : Parser S)
     (r : DocumentOrError) (call : has_failed old ≡ false
     → LoadsFrom gives known MayBreak (next_bounded (magnitude old.max_entries)) left_over old r new)
-    (loaded : List Document) (was : Loaded gives source old loaded) where
+    (loaded : List Document) (was : Loaded gives known source old loaded) where
+  abbrev given : List Event
+  given = was.in_turn.taken
+
+  abbrev so : GaveSoFar gives source old given
+  so = was.in_turn.took.history [] [] begins
+
   loads_of_call : (q : DocumentOrError) → r ≡ q → LoadsFrom gives known MayBreak (next_bounded most) left_over old q new
   loads_of_call q is =
       subst (λ (n : ℕ). LoadsFrom gives known MayBreak (next_bounded n) left_over old q new) (ap magnitude was.bound)
       (subst (λ (q : DocumentOrError). LoadsFrom gives known MayBreak (next_bounded (magnitude old.max_entries))
       left_over old q new) is
-      (call (law.no_fault old was.so.more was.given was.so.history)))
+      (call (histories.faultless old so.more given so.history)))
 
   -- what was given goes on by the events that were taken
   gave_on : (p : Parser S) (taken : List Event) → Took gives known old p taken
-      → GaveSoFar gives source p (was.given ++ taken)
+      → GaveSoFar gives source p (given ++ taken)
   gave_on p taken took
-      = both_calls gives (new_parser source) old p [] [] was.given taken was.so
-      (took.history was.so.more was.given was.so.history)
+      = both_calls gives (new_parser source) old p [] [] given taken so
+      (took.history so.more given so.history)
 
-  so_far_behind : (taken rest : List Event) (x : Ending) → bounded_loads most ((was.given ++ taken) ++ rest) x
+  so_far_behind : (taken rest : List Event) (x : Ending) → bounded_loads most ((given ++ taken) ++ rest) x
       ≡ oks loaded ++ bounded_loads most (taken ++ rest) x
-  so_far_behind taken rest x = ap (λ (l : List Event). bounded_loads most l x) (append_assoc was.given taken rest)
-      ∙ was.so_far (taken ++ rest) x
+  so_far_behind taken rest x = ap (λ (l : List Event). bounded_loads most l x) (append_assoc given taken rest)
+      ∙ was.in_turn.loads (taken ++ rest) x
 
   -- after one document more
   pub loaded_next : between_documents new ≡ true → new.max_entries ≡ old.max_entries → (d : Document) → r ≡ Ok d
       → d.nodes ≢ []
-      → Loaded gives source new (loaded ++ d ∷ [])
-  loaded_next between bound d is has_root = go (loads_of_call (Ok d) is)
-    where
-      go : Loads gives known (next_bounded most) left_over old new d → Loaded gives source new (loaded ++ d ∷ [])
-      go (whole taken took is_load left b) = record {
-        given = was.given ++ taken;
-        so = gave_on new taken took;
-        so_far = λ rest x. so_far_behind taken rest x
-            ∙ (ap (λ (t : List Load). oks loaded ++ t) (law.with (taken ++ rest) x most d (is_load rest x) has_root
-            ∙ ap (λ (l : List Event). Ok d ∷ bounded_loads most l x) (left rest))
-            ∙ oks_last loaded d (bounded_loads most rest x));
-        between = between;
-        bound = bound ∙ was.bound;
-        roots = roots_last loaded d was.roots has_root;
-      }
-      go (at_end taken took a b c empty h) = absurd (has_root (ap (λ (k : Document). k.nodes) empty))
+      → Loaded gives known source new (loaded ++ d ∷ [])
+  loaded_next between bound d is has_root = record {
+    in_turn = one_more gives known most (new_parser source) old new loaded d was.in_turn (loads_of_call (Ok d) is) has_root;
+    between = between;
+    bound = bound ∙ was.bound;
+  }
 
   -- what all calls gathered
   module _ (all : yaml_documents_t) (items : all.documents.items ≡ loaded) where
@@ -168,12 +147,12 @@ module _ {S : Type 0} (gives : S → Answer → S → Type 0) (known : S → Opt
         → as_loads all.documents.items (ending_of all.fault) ≡ loads e x
     are_loads_so e x y list memory fault_is =
         ap₂ as_loads items fault_is ∙ (sym list
-        ∙ law.unmet e x most (subst NoneLacksMemory (sym list) (none_lacks loaded (last_load y ∷ []) memory)))
+        ∙ unmet_loads e x most (subst NoneLacksMemory (sym list) (none_lacks loaded (last_load y ∷ []) memory)))
 
     are_first : (taken rest : List Event) (x : Ending)
-        → (later : List Load) × (loads ((was.given ++ taken) ++ rest) x ≡ oks all.documents.items ++ later)
+        → (later : List Load) × (loads ((given ++ taken) ++ rest) x ≡ oks all.documents.items ++ later)
     are_first taken rest x =
-        let e = (was.given ++ taken) ++ rest in
+        let e = (given ++ taken) ++ rest in
         let (later, h) = loaded_first (bounded_loads most e x) (loads e x) (front_of_loads e x most) loaded
         (bounded_loads most (taken ++ rest) x)
         (so_far_behind taken rest x) in
@@ -189,32 +168,32 @@ module _ {S : Type 0} (gives : S → Answer → S → Type 0) (known : S → Opt
         no_end h = cc
 
         roots_of : (taken : List Event) → Took gives known old new taken → RootsFollow taken
-        roots_of taken took = roots_behind was.given taken
-            (law.follow (was.given ++ taken) (law.nests new _ _ (gave_on new taken took).history))
+        roots_of taken took = roots_behind given taken
+            (roots_follow (given ++ taken) (histories.nests new _ _ (gave_on new taken took).history))
 
         go : Loads gives known (next_bounded most) left_over old new d → GathersLoads gives source all
         go (whole taken took is_load left b) =
             let x = Fails memory_fault in
             let load = ap (λ (l : List Event). next_bounded most l x) (sym (append-nil taken)) ∙ is_load [] x in
-            absurd (no_end (law.without taken x most d (roots_of taken took) load no_root).1)
+            absurd (no_end (last_of taken x most d (roots_of taken took) load no_root).1)
         go (at_end taken took last left run empty ended) =
             let k = gave_on new taken took in
-            let z = law.without taken Ends most (empty_document None [] false false) (roots_of taken took)
+            let z = last_of taken Ends most (empty_document None [] false false) (roots_of taken took)
             (last Ends) refl in
-            let list = was.so_far taken Ends ∙ ap (λ (t : List Load). oks loaded ++ t) z.0 in
+            let list = was.in_turn.loads taken Ends ∙ ap (λ (t : List Load). oks loaded ++ t) z.0 in
             record {
               asked = k.more;
               last = [];
-              taken = was.given ++ taken;
+              taken = given ++ taken;
               tokens = asked_all k;
-              begins = law.begins new _ _ k.history;
-              begins_run = law.begins_run new _ _ k.history;
-              nests = law.nests new _ _ k.history;
+              begins = histories.begins_each new _ _ k.history;
+              begins_run = histories.begins_each_run new _ _ k.history;
+              nests = histories.nests new _ _ k.history;
               are_loads
-                  = are_loads_so (was.given ++ taken) Ends Ends list tt ends
-                  ∙ ap (λ (y : Ending). loads (was.given ++ taken) y) (sym ends);
+                  = are_loads_so (given ++ taken) Ends Ends list tt ends
+                  ∙ ap (λ (y : Ending). loads (given ++ taken) y) (sym ends);
               are_first = are_first taken;
-              whole = λ (h : all.fault ≡ None). (ended was.so.more was.given was.so.history).whole _ _ k.history;
+              whole = λ (h : all.fault ≡ None). (ended so.more given so.history).whole _ _ k.history;
               stopped = λ (f : yaml_parser_t_prefix) (h : all.fault ≡ Some f). absurd (none_is_some f (sym no_fault ∙ h));
             }
 
@@ -232,7 +211,7 @@ module _ {S : Type 0} (gives : S → Answer → S → Type 0) (known : S → Opt
           → bounded_loads most given x ≡ oks loaded ++ bounded_loads most e x
           → as_loads all.documents.items (ending_of all.fault) ≡ loads given x
       stands e x last given so_far = are_loads_so given x (Fails (kept_fault new))
-          (so_far ∙ ap (λ (t : List Load). oks loaded ++ t) (law.fault e x most (kept_fault new) last))
+          (so_far ∙ ap (λ (t : List Load). oks loaded ++ t) (fault_of e x most (kept_fault new) last))
           (has_memory, tt) ends_so
 
       by_parser_call : (taken : List Event) (parser : Parser S) → Took gives known old parser taken
@@ -245,14 +224,14 @@ module _ {S : Type 0} (gives : S → Answer → S → Type 0) (known : S → Opt
           record {
             asked = k.more;
             last = call.more;
-            taken = was.given ++ taken;
+            taken = given ++ taken;
             tokens = asked_until k new call;
-            begins = law.begins parser _ _ k.history;
-            begins_run = law.begins_run parser _ _ k.history;
-            nests = law.nests parser _ _ k.history;
+            begins = histories.begins_each parser _ _ k.history;
+            begins_run = histories.begins_each_run parser _ _ k.history;
+            nests = histories.nests parser _ _ k.history;
             are_loads
-                = stands taken x (last x) (was.given ++ taken) (was.so_far taken x)
-                ∙ ap (λ (e : Ending). loads (was.given ++ taken) e) (sym ends_so);
+                = stands taken x (last x) (given ++ taken) (was.in_turn.loads taken x)
+                ∙ ap (λ (e : Ending). loads (given ++ taken) e) (sym ends_so);
             are_first = are_first taken;
             whole = λ (h : all.fault ≡ None). absurd (none_is_some p (sym h ∙ fault_is));
             stopped = λ (f : yaml_parser_t_prefix) (h : all.fault ≡ Some f). inl
@@ -267,14 +246,14 @@ module _ {S : Type 0} (gives : S → Answer → S → Type 0) (known : S → Opt
           record {
             asked = k.more;
             last = [];
-            taken = was.given ++ taken;
+            taken = given ++ taken;
             tokens = asked_all k;
-            begins = law.begins parser _ _ k.history;
-            begins_run = law.begins_run parser _ _ k.history;
-            nests = law.nests parser _ _ k.history;
+            begins = histories.begins_each parser _ _ k.history;
+            begins_run = histories.begins_each_run parser _ _ k.history;
+            nests = histories.nests parser _ _ k.history;
             are_loads
                 = sym (error (ap kept_fault (keeps _ _ k.history)) [] (ending_of all.fault))
-                ∙ ap (λ (l : List Event). loads l (ending_of all.fault)) (append-nil (was.given ++ taken));
+                ∙ ap (λ (l : List Event). loads l (ending_of all.fault)) (append-nil (given ++ taken));
             are_first = are_first taken;
             whole = λ (h : all.fault ≡ None). absurd (none_is_some p (sym h ∙ fault_is));
             stopped = λ (g : yaml_parser_t_prefix) (h : all.fault ≡ Some g). inr
@@ -282,9 +261,9 @@ module _ {S : Type 0} (gives : S → Answer → S → Type 0) (known : S → Opt
           }
         where
           error : kept_fault new ≡ f → (rest : List Event) (x : Ending)
-              → loads ((was.given ++ taken) ++ rest) x ≡ as_loads all.documents.items (ending_of all.fault)
+              → loads ((given ++ taken) ++ rest) x ≡ as_loads all.documents.items (ending_of all.fault)
           error is_kept rest x = sym (stands (taken ++ rest) x
-              (fails rest x ∙ ap (λ (g : Fault). Err g) (sym is_kept)) ((was.given ++ taken) ++ rest)
+              (fails rest x ∙ ap (λ (g : Fault). Err g) (sym is_kept)) ((given ++ taken) ++ rest)
               (so_far_behind taken rest x))
 
       pub gathers_to_fault : GathersLoads gives source all
@@ -327,12 +306,9 @@ pub fewer : (d : Document) (new old : ℕ) → (d ≡ empty_document None [] fal
 fewer d new old (inl e) h = absurd (h (ap (λ (k : Document). k.nodes) e))
 fewer d new old (inr k) h = k
 
--- the loads over a tree's tokens, by the law of the loads over these and any others after them
-pub tree_loads : ((t : Stream) (r : List Token) (f : Fault) → in_order t ≡ true
-    → (n : IsNested (events t)) × IsLoads (tokens t ++ r) f (loads_of n.texts (last_load Ends ∷ [])))
-    → (t : Stream) (f : Fault) → in_order t ≡ true
+-- the loads over a tree's tokens
+pub tree_loads : (t : Stream) (f : Fault) → in_order t ≡ true
     → (n : IsNested (events t)) × IsLoads (tokens t) f (loads_of n.texts (last_load Ends ∷ []))
-tree_loads law t f o =
-    let h : (n : IsNested (events t)) × IsLoads (tokens t ++ []) f (loads_of n.texts (last_load Ends ∷ [])) =
-    law t [] f o in
+tree_loads t f o =
+    let h = sentence_loads t [] f o in
     (h.0, subst (λ (l : List Token). IsLoads l f (loads_of h.0.texts (last_load Ends ∷ []))) (append-nil (tokens t)) h.1)

@@ -9,21 +9,23 @@ use Rattle.libyaml_events.specs.sources.CallsInTurn.{CarriedOn}
 use Rattle.libyaml_events.specs.sources.Determined.{BeginsEachRun}
 use Rattle.libyaml_events.specs.machine.Config.{Config, Parser}
 use Rattle.libyaml_grammar.specs.sentences.Events.{Event, events}
-use Rattle.libyaml_grammar.specs.cuts.Settled.{Begins, BeginsEach}
-use Rattle.libyaml_grammar.specs.sentences.Nesting.{NestsSoFar}
+use Rattle.libyaml_grammar.specs.cuts.Settled.{Begins}
 use Rattle.libyaml_grammar.specs.sentences.Order.{in_order}
 use Rattle.libyaml_grammar.specs.sentences.Trees.{Stream, tokens}
 use Rattle.libyaml_types.specs.Fault.{Fault, Answer, fault_of}
-use Rattle.libyaml_events.specs.sources.History.{ForHistory, History, answers, kept_fault, new_parser}
+use Rattle.libyaml_events.specs.sources.History.{ForHistory, History, is_over, answers, kept_fault, new_parser}
 use Rattle.libyaml_events.specs.sources.Needs.{EachNeeded}
 use Rattle.libyaml_events.specs.sources.Parsing.{CarriesOn, Cause, FailsBy, HasFailed, IsWhole, StopsShort}
 use Rattle.libyaml_events.specs.sources.Parsing as cause
 use Rattle.libyaml_grammar.specs.runs.Runs.{Ending, Ends, Fails, IsRun}
-use Rattle.libyaml_types.specs.Source.{Coming, coming}
+use Rattle.libyaml_types.specs.Source.{Coming, Follows, coming}
 use Rattle.libyaml_grammar.specs.sentences.Tokens.{Token}
+use Rattle.libyaml_grammar.proofs.lent.Running.{sentence_run}
 use Rattle.libyaml_types.specs.declared.fault.yaml_parser_t_prefix.{yaml_parser_t_prefix}
 use Rattle.libyaml_events.proofs.lent.CallsInTurn.{both_calls, gave_then, no_call, one_call}
 use Rattle.libyaml_events.proofs.lent.RunStops.{answers_both}
+use Rattle.libyaml_events.proofs.lent.Histories as histories
+use Rattle.libyaml_events.proofs.lent.KnownTokens.{asked_front, failed_known, short_known, whole_known}
 use Rattle.unsafe_libyaml.specs.WholeRun.{Asked, Gathers, RunsTo, StoppedBy, whole, broken_off, ending_of, of_grammar}
 use Rattle.unsafe_libyaml.specs.WholeRun.{of_source}
 use Rattle.unsafe_libyaml.specs.declared.parse_all.yaml_run_t.{yaml_run_t}
@@ -92,20 +94,18 @@ stopped_so {S} {gives} {old} {new} {asked} {given} p f is kept other fails =
     (stopped_by old.config asked given fails.more (kept_fault new) fails.cause
     (λ m. other (ap (λ (q : Fault). q.error) kept ∙ m)))
 
--- over every source, by the laws of histories
+-- over every source
 module _ {S : Type 0} (gives : S → Answer → S → Type 0) (source : S) (p : Parser S) (run : yaml_run_t)
-    (k : GaveSoFar gives source p run.events.items)
-    (begins : ForHistory p BeginsEach) (begins_run : ForHistory p BeginsEachRun)
-    (nests : ForHistory p (λ _ given. NestsSoFar given)) where
-  pub gathers_all : ForHistory p IsWhole → run.fault ≡ None → Gathers gives source run
-  gathers_all is_whole no_fault = record {
+    (k : GaveSoFar gives source p run.events.items) where
+  pub gathers_all : is_over p ≡ true → run.fault ≡ None → Gathers gives source run
+  gathers_all over no_fault = record {
     asked = k.more;
     last = [];
     tokens = asked_all k;
-    begins = begins k.more run.events.items k.history;
-    begins_run = begins_run k.more run.events.items k.history;
-    nests = nests k.more run.events.items k.history;
-    whole = λ (h : run.fault ≡ None). is_whole k.more run.events.items k.history;
+    begins = histories.begins_each p k.more run.events.items k.history;
+    begins_run = histories.begins_each_run p k.more run.events.items k.history;
+    nests = histories.nests p k.more run.events.items k.history;
+    whole = λ (h : run.fault ≡ None). histories.whole p over k.more run.events.items k.history;
     stopped = λ (f : yaml_parser_t_prefix) (h : run.fault ≡ Some f). absurd (none_is_some f (sym no_fault ∙ h));
   }
 
@@ -119,9 +119,9 @@ module _ {S : Type 0} (gives : S → Answer → S → Type 0) (source : S) (p : 
         asked = k.more;
         last = by.more;
         tokens = asked_until k new by;
-        begins = begins k.more run.events.items k.history;
-        begins_run = begins_run k.more run.events.items k.history;
-        nests = nests k.more run.events.items k.history;
+        begins = histories.begins_each p k.more run.events.items k.history;
+        begins_run = histories.begins_each_run p k.more run.events.items k.history;
+        nests = histories.nests p k.more run.events.items k.history;
         whole = λ (h : run.fault ≡ None). absurd (none_is_some f (sym h ∙ fault));
         stopped = λ (g : yaml_parser_t_prefix) (h : run.fault ≡ Some g). stopped_so f g (sym fault ∙ h) kept other by;
       }
@@ -134,20 +134,9 @@ pub record Tells {S : Type 0} (MayBreak : S → Fault → Type 0) (stands : S) (
   pub stopped : (g : Fault) → StoppedBy asked last given g → ((given ≡ e) × (Fails g ≡ x)) ⊎ MayBreak stands g
   pub begins : BeginsEachRun asked given → Begins given e
 
--- over a source that knows its tokens, by the law of the run of what it was asked for
+-- over a source that knows its tokens
 module _ {S : Type 0} (gives : S → Answer → S → Type 0) (known : S → Option Coming) (MayBreak : S → Fault → Type 0)
-    (front : (s t : S) (asked l : List Token) (more : List Answer) (f : Fault) → known s ≡ Some (coming l f)
-    → Gave gives s (answers asked more) t
-    → (rest : List Token) × (l ≡ asked ++ rest))
-    (of_whole : (s t : S) (asked l : List Token) (more : List Answer) (f : Fault) (given e : List Event)
-    (x : Ending) → known s ≡ Some (coming l f)
-    → IsRun l f e x → Gave gives s (answers asked more) t → IsWhole asked given → (given ≡ e) × (Ends ≡ x))
-    (of_fault : (s t : S) (asked l : List Token) (f g : Fault) (given e : List Event) (x : Ending)
-    → known s ≡ Some (coming l f) → IsRun l f e x
-    → Gave gives s (answers asked []) t → HasFailed asked given g → (given ≡ e) × (Fails g ≡ x))
-    (of_short : (s t : S) (asked l : List Token) (f g : Fault) (given e : List Event) (x : Ending)
-    → known s ≡ Some (coming l f) → IsRun l f e x
-    → Gave gives s (answers asked (Err g ∷ [])) t → StopsShort asked given → ((given ≡ e) × (Fails g ≡ x)) ⊎ MayBreak t g)
+    (follows : (s t : S) (a : Answer) → gives s a t → Follows (MayBreak t) (known s) a (known t))
     (source : S) (l : List Token) (f : Fault) (e : List Event) (x : Ending) (is_run : IsRun l f e x)
     (k : known source ≡ Some (coming l f))
     (asked : List Token) (last : List Answer) (given : List Event) (a : Asked gives source asked last given) where
@@ -160,14 +149,16 @@ module _ {S : Type 0} (gives : S → Answer → S → Type 0) (known : S → Opt
           (ap (answers asked) i ∙ answers_both asked b r) a.gave
 
       go : StoppedBy asked last given g → ((given ≡ e) × (Fails g ≡ x)) ⊎ MayBreak a.stands g
-      go (of_grammar b i h) = inl (of_fault source a.stands (asked ++ b) l f g given e x k is_run (gave_as b [] i) h)
-      go (of_source b i c h) = of_short source a.stands (asked ++ b) l f g given e x k is_run (gave_as b (Err g ∷ []) i) h
+      go (of_grammar b i h) = inl (failed_known gives known MayBreak follows [] source a.stands l f k e x is_run (asked ++ b)
+          given g (gave_as b [] i) h)
+      go (of_source b i c h) = short_known gives known MayBreak follows [] source a.stands l f k e x is_run (asked ++ b)
+          given g (gave_as b (Err g ∷ []) i) h
 
   pub tells : Tells MayBreak a.stands asked last given e x
   tells = record {
-    whole = of_whole source a.stands asked l last f given e x k is_run a.gave;
+    whole = whole_known gives known MayBreak follows [] source a.stands l f k e x is_run asked given last a.gave;
     stopped = stopped_run;
-    begins = λ begins. let (rest, all) = front source a.stands asked l last f k a.gave in
+    begins = λ begins. let (rest, all) = asked_front gives known MayBreak follows asked last source a.stands a.gave l f k in
         begins rest f e x (subst (λ (y : List Token). IsRun y f e x) all is_run);
   }
 
@@ -188,11 +179,9 @@ runs_to gives MayBreak source run g e x tells = go run.fault refl
         (tells.begins g.begins_run))
         (tells.stopped (fault_of p) (g.stopped p i))
 
--- the run over a tree's tokens, by the law of the run over these and any others after them
-pub tree_runs : ((t : Stream) (r : List Token) (f : Fault) → in_order t ≡ true
-    → IsRun (tokens t ++ r) f (events t) Ends) → (t : Stream) (f : Fault)
-    → in_order t ≡ true → IsRun (tokens t) f (events t) Ends
-tree_runs law t f o = subst (λ (l : List Token). IsRun l f (events t) Ends) (append-nil (tokens t)) (law t [] f o)
+-- the run over a tree's tokens
+pub tree_runs : (t : Stream) (f : Fault) → in_order t ≡ true → IsRun (tokens t) f (events t) Ends
+tree_runs t f o = subst (λ (l : List Token). IsRun l f (events t) Ends) (append-nil (tokens t)) (sentence_run t [] f o)
 
 pub if_ok : {A : Type 0} (r : Result A AllocError) (P Q : A → Type 0) → IfOk r P → ((a : A) → P a → Q a) → IfOk r Q
 if_ok (Ok a) P Q h k = k a h

@@ -20,10 +20,7 @@ ghost use Rattle.unsafe_libyaml.specs.WholeLoads.{GathersLoads, LoadsTo};
 
 use crate::parse_all::unless_memory;
 use libyaml_documents::yaml_document_t;
-use libyaml_events::laws::calls::{four_events, of_history, run_of_asked};
-use libyaml_events::laws::one_run;
 use libyaml_events::{yaml_parser_initialize, yaml_parser_t_prefix, yaml_token_source_t};
-use libyaml_graphs::laws::{enough_room, linear_size, loads_of_tree, whole_documents_have_roots};
 use libyaml_loader::yaml_parser_load;
 use libyaml_types::yaml_error_type_t;
 use std::alloc::{AllocError, Global};
@@ -76,14 +73,6 @@ pub fn yaml_parser_load_all<S: yaml_token_source_t + Drop>(
         × (documents_size all.documents.items ≤ 8 * length g.asked)) }
     ensures roots { IfOk result (λ all. All (λ d. d.nodes ≢ []) all.documents.items) }
 {
-    of_history::<S>();
-    run_of_asked::<S>();
-    whole_documents_have_roots();
-    enough_room();
-    loads_of_tree();
-    linear_size();
-    one_run();
-    four_events::<S>();
     let mut parser = yaml_parser_initialize(alloc, source);
     let mut documents = Vec::new(alloc);
     loop {

@@ -13,8 +13,6 @@ ghost use Rattle.libyaml_grammar.specs.sentences.Tokens.{Token};
 ghost use Rattle.libyaml_grammar.specs.sentences.Trees.{Stream, tokens};
 ghost use Rattle.unsafe_libyaml.specs.WholeRun.{Gathers, RunsTo};
 
-use libyaml_events::laws::calls::{of_history, run_of_asked};
-use libyaml_events::laws::run_of_tree;
 use libyaml_events::{
     is_stream_end, yaml_parser_initialize, yaml_parser_parse, yaml_parser_t_prefix,
     yaml_token_source_t,
@@ -60,9 +58,6 @@ pub fn yaml_parser_parse_all<S: yaml_token_source_t + Drop>(
     // over every source, also one that does not know its tokens
     ensures gathers { IfOk result (λ run. Gathers S.gives source run) }
 {
-    run_of_tree();
-    of_history::<S>();
-    run_of_asked::<S>();
     let mut parser = yaml_parser_initialize(alloc, source);
     let mut events = Vec::new(alloc);
     loop {

@@ -2,4 +2,4 @@
 pub use Rattle.libyaml_events.proofs.calls.Counting.{run_count}
 pub use Rattle.libyaml_events.proofs.calls.Items.{fault_more, gave_events, gave_fault, in_turn, one_event_more}
 pub use Rattle.libyaml_events.proofs.calls.KnownRuns.{asked_front, failed_known, fails_behind, fails_here, further}
-pub use Rattle.libyaml_events.proofs.calls.KnownRuns.{short_known, whole_known}
+pub use Rattle.libyaml_events.proofs.calls.KnownRuns.{nothing_behind_end, short_known, whole_known}

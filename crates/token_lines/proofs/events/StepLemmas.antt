@@ -6,19 +6,18 @@ use Rattle.std.proofs.lemmas.List.{append-nil, map-append}
 use Rattle.std.specs.List.{concat}
 use Rattle.std.specs.Io.KnownBytes.{Appends, Keeps}
 use Rattle.libyaml_types.specs.declared.event.yaml_event_t.{yaml_event_t}
-use Rattle.libyaml_types.specs.declared.token.yaml_token_t.{yaml_token_t}
 use Rattle.libyaml_types.specs.Events.{empty_event}
 use Rattle.libyaml_events.specs.machine.Config.{Parser}
 use Rattle.libyaml_events.specs.parsers.Stages.{is_event}
-use Rattle.libyaml_events.specs.sources.Calls.{EventOrError, Gave}
-use Rattle.libyaml_events.specs.sources.History.{History, answers, is_over, kept_fault}
-use Rattle.libyaml_events.specs.sources.Parsing.{FailsBy}
-use Rattle.libyaml_events.specs.sources.RunToCome.{FailsHere, ForRun, RestOfRun, RunToCome}
+use Rattle.libyaml_events.specs.sources.Calls.{EventOrError}
+use Rattle.libyaml_events.specs.sources.History.{is_over}
+use Rattle.libyaml_events.specs.sources.RunToCome.{FailsHere, RunToCome}
 use Rattle.libyaml_events.proofs.lent.CallsInTurn.{gave_both}
+use Rattle.libyaml_events.proofs.lent.KnownTokens.{fails_behind, further, nothing_behind_end}
 use Rattle.libyaml_grammar.specs.runs.Runs.{Ending, Ends}
 use Rattle.libyaml_types.specs.declared.fault.yaml_parser_t_prefix.{yaml_parser_t_prefix}
 use Rattle.libyaml_types.specs.Fault.{Answer, Fault, fault_of}
-use Rattle.libyaml_types.specs.Source.{Coming}
+use Rattle.libyaml_types.specs.Source.{Coming, Follows}
 use Rattle.line_writing.specs.EventText.{event_line}
 use Rattle.line_writing.specs.FaultText.{fault_text}
 use Rattle.token_lines.specs.declared.run.RunStep.TheVariants as step
@@ -46,38 +45,20 @@ module _ {S : Type 0} (old new : Parser S) (r : EventOrError) (e : yaml_event_t)
   running_by true h is an_event ended = absurd (gives_empty is (ended h) an_event)
   running_by false h is an_event ended = h
 
-module _ {S : Type 0} (gives : S → Answer → S → Type 0) (known : S → Option Coming) (MayBreak : S → Fault → Type 0) where
-  -- what `rest_of_run` and `items_in_turn` say
-  abbrev pub Further : Type 0
-  Further = (p q : Parser S) (more : List yaml_token_t) (events to_come : List yaml_event_t) (ending : Ending)
-      (r : RunToCome known p to_come ending)
-      → Gave gives p.source (answers more []) q.source → History q (r.asked ++ more) (r.given ++ events)
-      → RestOfRun known q events to_come ending
-
-  abbrev pub FailsBehind : Type 0
-  FailsBehind = (p q new : Parser S) (more : List yaml_token_t) (events to_come : List yaml_event_t)
-      (ending : Ending) (r : RunToCome known p to_come ending)
-      → Gave gives p.source (answers more []) q.source → History q (r.asked ++ more) (r.given ++ events)
-      → FailsBy gives q new (r.asked ++ more) (r.given ++ events)
-      → (later : List yaml_event_t) × (to_come ≡ events ++ later) × FailsHere (MayBreak new.source) (kept_fault new)
-      later ending
-
-  abbrev pub NothingBehind : Type 0
-  NothingBehind = (p : Parser S) → is_over p ≡ true → ForRun known p (λ later ending. (later ≡ []) × (ending ≡ Ends))
-
+module _ {S : Type 0} (gives : S → Answer → S → Type 0) (known : S → Option Coming) (MayBreak : S → Fault → Type 0)
+    (follows : (s t : S) (a : Answer) → gives s a t → Follows (MayBreak t) (known s) a (known t)) where
   -- a run that was to come, of which the lines of some events were written, and then a last step was made
   module _ (first p q : Parser S) (a b c d : Option (List ℕ)) (all : List yaml_event_t) (ending : Ending)
       (r : RunToCome known first all ending)
       (w : AllWritten event_line gives first p a b r.asked r.given) where
-    pub all_lines : Further → NothingBehind
-        → Turn gives step.Ended p q b c (r.asked ++ w.more) (r.given ++ w.events) → Keeps c d → (ending ≡ Ends)
+    pub all_lines : Turn gives step.Ended p q b c (r.asked ++ w.more) (r.given ++ w.events) → Keeps c d → (ending ≡ Ends)
         × Appends a d (concat (event_lines all))
-    all_lines further nothing (gave_event e on wrote) kept =
+    all_lines (gave_event e on wrote) kept =
         let done = w.events ++ e ∷ [] in
-        let rest = further first q (w.more ++ on.more) done all ending r
+        let rest = further gives known MayBreak follows first q all ending r (w.more ++ on.more) done
         (gave_both gives w.more on.more first.source p.source q.source w.gave on.gave)
         (history_more q r.asked w.more on.more r.given w.events (e ∷ []) on.history) in
-        let none = nothing q (on.ends ∙ wrote.0) rest.later ending rest.run in
+        let none = nothing_behind_end known q (on.ends ∙ wrote.0) rest.later ending rest.run in
         let same : w.events ++ e ∷ [] ≡ all =
         sym (rest.all ∙ ap (λ (l : List yaml_event_t). done ++ l) none.0 ∙ append-nil done) in
         let lines : Appends a c (concat (event_lines (w.events ++ e ∷ []))) =
@@ -87,7 +68,7 @@ module _ {S : Type 0} (gives : S → Answer → S → Type 0) (known : S → Opt
           Appends-kept a c d (concat (event_lines all))
               (subst (λ (l : List yaml_event_t). Appends a c (concat (event_lines l))) same lines) kept,
         )
-    all_lines further nothing (failed by wrote) kept = absurd wrote
+    all_lines (failed by wrote) kept = absurd wrote
 
     fails_there : (f : Fault) (later : List yaml_event_t) → all ≡ w.events ++ later
         → FailsHere (MayBreak q.source) f later ending
@@ -100,10 +81,10 @@ module _ {S : Type 0} (gives : S → Answer → S → Type 0) (known : S → Opt
         = broken_off (event_lines w.events) (event_lines later)
         (ap event_lines split ∙ map-append event_line w.events later) why wrote
 
-    pub lines_and_fault : Further → FailsBehind → (f : yaml_parser_t_prefix)
+    pub lines_and_fault : (f : yaml_parser_t_prefix)
         → Turn gives (step.Failed f) p q b c (r.asked ++ w.more) (r.given ++ w.events)
         → Appends c d (fault_text (fault_of f)) → WritesFault (MayBreak q.source) (fault_of f) a d (event_lines all) ending
-    lines_and_fault further behind f turn told = go turn
+    lines_and_fault f turn told = go turn
       where
         then_fault : Keeps b c → Appends a d (concat (event_lines w.events) ++ fault_text (fault_of f))
         then_fault kept = Appends-trans a b d (concat (event_lines w.events)) (fault_text (fault_of f)) w.wrote
@@ -112,10 +93,10 @@ module _ {S : Type 0} (gives : S → Answer → S → Type 0) (known : S → Opt
         go : Turn gives (step.Failed f) p q b c (r.asked ++ w.more) (r.given ++ w.events)
             → WritesFault (MayBreak q.source) (fault_of f) a d (event_lines all) ending
         go (gave_event e on wrote) =
-            let rest = further first p w.more w.events all ending r w.gave w.history in
+            let rest = further gives known MayBreak follows first p all ending r w.more w.events w.gave w.history in
             fails_there (fault_of f) rest.later rest.all (inr (inl wrote.0)) (then_fault wrote.1)
         go (failed by wrote) =
-            let rest = behind first p q w.more w.events all ending r w.gave w.history by in
+            let rest = fails_behind gives known MayBreak follows first p q all ending r w.more w.events w.gave w.history by in
             fails_there (fault_of f) rest.0 rest.1
             (subst (λ (g : Fault). FailsHere (MayBreak q.source) g rest.0 ending) (sym wrote.0) rest.2)
             (then_fault wrote.1)

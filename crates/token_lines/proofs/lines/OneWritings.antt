@@ -9,12 +9,13 @@ use Rattle.libyaml_types.specs.declared.event.yaml_event_t.{yaml_event_t}
 use Rattle.libyaml_types.specs.declared.token.yaml_token_t.{yaml_token_t}
 use Rattle.libyaml_events.specs.machine.Config.{Parser}
 use Rattle.libyaml_events.specs.sources.Determined.{OneBegins}
-use Rattle.libyaml_events.specs.sources.History.{ForHistory, History, answers, kept_fault}
+use Rattle.libyaml_events.specs.sources.History.{History, answers, kept_fault}
 use Rattle.libyaml_events.specs.sources.Needs.{EachNeeded, EachWasNeeded}
 use Rattle.libyaml_events.specs.sources.Parsing.{CarriesOn, Cause, FailsBy, IsWhole, of_grammar, of_memory, of_source}
 use Rattle.libyaml_events.proofs.lent.OneOutcome.{front_same}
 use Rattle.libyaml_events.proofs.lent.RunStops.{RunStop, answers_both, ended_stop, grammar_stop, one_run_by_answers}
 use Rattle.libyaml_events.proofs.lent.RunStops.{source_stop}
+use Rattle.libyaml_events.proofs.lent.Histories as histories
 use Rattle.libyaml_grammar.specs.runs.Runs.{Ending, Ends, Fails}
 use Rattle.libyaml_grammar.proofs.lent.Same.{fault_same}
 use Rattle.libyaml_types.specs.Fault.{Answer, Fault, memory_fault}
@@ -66,8 +67,7 @@ Wrote (Fails f) o events before after = (o ≡ outcome.Faulted)
     × Appends before after (concat (event_lines events) ++ fault_text f)
 
 module _ {S W : Type 0} (gives : S → Answer → S → Type 0) (contents : W → Option (List ℕ))
-    (needed : (p : Parser S) → ForHistory p
-    (λ (a : List yaml_token_t) (g : List yaml_event_t). EachWasNeeded [] a [] g)) (old : Parser S)
+    (old : Parser S)
     (before : Option (List ℕ))
     (asked : List yaml_token_t) (given : List yaml_event_t) where
   -- how an outcome came: the parser stopped; or memory ran out, or the output failed
@@ -97,7 +97,7 @@ module _ {S W : Type 0} (gives : S → Answer → S → Type 0) (contents : W �
         subst (λ (l : List yaml_token_t). IsWhole l (given ++ (o.earlier.events ++ e ∷ []))) tokens
         (subst (IsWhole ((asked ++ o.earlier.more) ++ c.more)) events (c.whole w.0)) in
         stopped (o.earlier.more ++ c.more) [] (o.earlier.events ++ e ∷ []) Ends (answers_both o.earlier.more c.more [])
-        (needed last (asked ++ (o.earlier.more ++ c.more)) (given ++ (o.earlier.events ++ e ∷ [])) history)
+        (histories.needed last (asked ++ (o.earlier.more ++ c.more)) (given ++ (o.earlier.events ++ e ∷ [])) history)
         (nothing_needed (asked ++ (o.earlier.more ++ c.more)) (given ++ (o.earlier.events ++ e ∷ [])))
         (ended_stop (asked ++ (o.earlier.more ++ c.more)) [] (given ++ (o.earlier.events ++ e ∷ []))
         (nothing_needed (asked ++ (o.earlier.more ++ c.more)) (given ++ (o.earlier.events ++ e ∷ []))) is_whole) (
@@ -123,7 +123,7 @@ module _ {S W : Type 0} (gives : S → Answer → S → Type 0) (contents : W �
     })
     by_fault told o h w (of_grammar l e f)
         = stopped o.earlier.more h.more o.earlier.events (Fails (kept_fault last)) refl
-        (needed o.parser (asked ++ o.earlier.more) (given ++ o.earlier.events) o.earlier.history) h.needed
+        (histories.needed o.parser (asked ++ o.earlier.more) (given ++ o.earlier.events) o.earlier.history) h.needed
         (grammar_stop (asked ++ o.earlier.more) h.more (given ++ o.earlier.events) (kept_fault last) l e f) (
           refl,
           Appends-trans before (contents o.writer) after (concat (event_lines o.earlier.events))
@@ -131,7 +131,7 @@ module _ {S W : Type 0} (gives : S → Answer → S → Type 0) (contents : W �
         )
     by_fault told o h w (of_source l e s f)
         = stopped o.earlier.more h.more o.earlier.events (Fails (kept_fault last)) refl
-        (needed o.parser (asked ++ o.earlier.more) (given ++ o.earlier.events) o.earlier.history) h.needed
+        (histories.needed o.parser (asked ++ o.earlier.more) (given ++ o.earlier.events) o.earlier.history) h.needed
         (source_stop (asked ++ o.earlier.more) h.more (given ++ o.earlier.events) (kept_fault last) l e f) (
           refl,
           Appends-trans before (contents o.writer) after (concat (event_lines o.earlier.events))
@@ -186,21 +186,20 @@ both_wrote (Fails f) (Fails k) o u d e written after later i j g h = (
 )
 
 pub one_writing_proof : {S W : Type 0} (gives : S → Answer → S → Type 0) (contents : W → Option (List ℕ))
-    → ((p : Parser S) → ForHistory p (λ (a : List yaml_token_t) (g : List yaml_event_t). EachWasNeeded [] a [] g))
     → (old p q : Parser S) (first second : run_end_t)
     (written : List ℕ) (after later : Option (List ℕ)) (asked : List yaml_token_t) (given : List yaml_event_t)
     → (a : LastCall gives contents first old p (Some written) after asked given)
     → (b : LastCall gives contents second old q (Some written) later asked given)
     → OneBegins (results_of first a) (results_of second b)
     → OneOutput BreaksOffByNone BreaksOffByNone (outcome_of first) (outcome_of second) (Some written) after later
-one_writing_proof {S} gives contents needed old p q first second written after later asked given a b one
+one_writing_proof {S} gives contents old p q first second written after later asked given a b one
     = go (results_of first a) (results_of second b) one
-    (came gives contents needed old (Some written) asked given p after first a)
-    (came gives contents needed old (Some written) asked given q later second b)
+    (came gives contents old (Some written) asked given p after first a)
+    (came gives contents old (Some written) asked given q later second b)
   where
-    go : (k l : List Answer) → OneBegins k l → Came gives contents needed old (Some written) asked given
+    go : (k l : List Answer) → OneBegins k l → Came gives contents old (Some written) asked given
         (outcome_of first) after k
-        → Came gives contents needed old (Some written) asked given (outcome_of second) later l
+        → Came gives contents old (Some written) asked given (outcome_of second) later l
         → OneOutput BreaksOffByNone BreaksOffByNone (outcome_of first) (outcome_of second) (Some written) after
         later
     go k l o (broke x) y = first_breaks x

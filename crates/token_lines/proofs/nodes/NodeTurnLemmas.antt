@@ -1,11 +1,10 @@
 -- How a run's steps write each document in its turn.
-use Rattle.std.proofs.Common.{◌≡◌, ◌≢◌, ◌⊎◌, ◌++◌, ◌∷◌, ◌==◌, ℕ, ℤ, List, [], length, map, Option, Some, None}
-use Rattle.std.proofs.Common.{Bool, true, false, Ok, Err, refl, sym, ap, ◌∙◌}
+use Rattle.std.proofs.Common.{◌≡◌, ◌≢◌, ◌⊎◌, ◌++◌, ◌∷◌, ◌==◌, ℕ, ℤ, List, [], length, Option, Some, None}
+use Rattle.std.proofs.Common.{Bool, true, false, Ok, Err, sym, ap, ◌∙◌}
 use Rattle.std.proofs.Common.{subst, inl, inr, append_assoc}
 use Rattle.std.proofs.KnownBytes.{Appends-nil, Appends-trans}
 use Rattle.std.proofs.lemmas.Bool.{eqb-true}
 use Rattle.std.proofs.lemmas.List.{append-nil, nil_from_length}
-use Rattle.std.proofs.lemmas.List.Elements.{All-nil}
 use Rattle.std.proofs.lemmas.List.Folds.{concat-append}
 use Rattle.std.specs.List.{concat, flat_map}
 use Rattle.std.specs.Io.KnownBytes.{Appends, Keeps}
@@ -17,15 +16,14 @@ use Rattle.libyaml_events.specs.machine.Config.{Parser}
 use Rattle.libyaml_types.specs.declared.fault.yaml_parser_t_prefix.{yaml_parser_t_prefix}
 use Rattle.libyaml_types.specs.Fault.{Answer, Fault, fault_of}
 use Rattle.libyaml_events.specs.sources.History.{ForHistory, History, has_failed, kept_fault}
-use Rattle.libyaml_grammar.specs.runs.Runs.{Ending}
 use Rattle.libyaml_types.specs.Source.{Coming}
-use Rattle.libyaml_events.proofs.lent.CallsInTurn.{gave_both}
-use Rattle.libyaml_graphs.specs.loads.Bounds.{bounded_loads, next_bounded}
-use Rattle.libyaml_graphs.specs.loads.Loads.{Load, left_over}
-use Rattle.libyaml_graphs.proofs.lent.Roots.{earlier_of}
-use Rattle.libyaml_graphs.proofs.lent.LoadLists.{HasRoot, roots_last}
+use Rattle.libyaml_events.proofs.lent.Histories as histories
+use Rattle.libyaml_graphs.specs.loads.Bounds.{next_bounded}
+use Rattle.libyaml_graphs.specs.loads.Loads.{left_over}
 use Rattle.libyaml_loader.specs.document.Ids.{magnitude}
-use Rattle.libyaml_loader.specs.loads.Loading.{DocumentOrError, HasEnded, LoadsFrom, at_end, whole}
+use Rattle.libyaml_loader.specs.loads.Loading.{DocumentOrError, HasEnded, LoadsFrom}
+use Rattle.libyaml_loader.proofs.lent.LoadsInTurn.{LoadedInTurn, none_in_turn}
+use Rattle.libyaml_loader.proofs.lent.LoadsInTurn as loader
 use Rattle.line_writing.specs.DocumentText.{document_lines}
 use Rattle.line_writing.specs.FaultText.{fault_text}
 use Rattle.token_lines.specs.declared.run.run_end_t.{run_end_t}
@@ -35,7 +33,6 @@ use Rattle.token_lines.specs.declared.run.RunStep.TheVariants as step
 use Rattle.token_lines.specs.nodes.LastLoad.{AllLoaded, LastLoad, WroteForLoad}
 use Rattle.token_lines.specs.nodes.NodeStep.{LoadTurn, StepForLoad}
 use Rattle.token_lines.specs.lines.LineRun.{WroteFault}
-use Rattle.token_lines.proofs.events.InTurnLemmas.{history_more, history_none}
 use Rattle.token_lines.proofs.events.LastCallLemmas.{fault_after}
 
 -- whether a document has nodes, by their count
@@ -56,9 +53,12 @@ keeps_both (Some x) None c h k = absurd h
 keeps_both (Some x) (Some y) None h k = absurd k
 keeps_both (Some x) (Some y) (Some z) h k = k ∙ h
 
--- what the histories of parsers say
-abbrev pub NoFault : Type 0 → Type 0
-NoFault S = (p : Parser S) → ForHistory p (λ _ _. has_failed p ≡ false)
+-- From the first parser to this one loads returned documents in turn, and the text of each was written.
+pub record WrittenInTurn {S : Type 0} (gives : S → Answer → S → Type 0) (known : S → Option Coming) (n : ℕ)
+    (first now : Parser S) (before after : Option (List ℕ)) : Type 0 where
+  pub documents : List Document
+  pub loaded : LoadedInTurn gives known n first now documents
+  pub wrote : Appends before after (concat (flat_map document_lines documents))
 
 module _ {S : Type 0} (gives : S → Answer → S → Type 0) (known : S → Option Coming) (MayBreak : S → Fault → Type 0)
     (n : ℕ) where
@@ -74,19 +74,8 @@ module _ {S : Type 0} (gives : S → Answer → S → Type 0) (known : S → Opt
         ends = ends;
       }
 
-  pub none_loaded : (p : Parser S) (x : Option (List ℕ)) (asked : List yaml_token_t) (given : List yaml_event_t)
-      → History p asked given
-      → AllLoaded gives n p p x x asked given
-  none_loaded p x asked given h = record {
-    more = [];
-    events = [];
-    documents = [];
-    gave = refl;
-    history = history_none p asked given h;
-    loads = λ (rest : List yaml_event_t) (x : Ending). refl;
-    roots = All-nil HasRoot;
-    wrote = Appends-nil x;
-  }
+  pub none_loaded : (p : Parser S) (x : Option (List ℕ)) → WrittenInTurn gives known n p p x x
+  none_loaded p x = record { documents = []; loaded = none_in_turn gives known n p; wrote = Appends-nil x }
 
   texts_more : (ds : List Document) (d : Document)
       → concat (flat_map document_lines ds) ++ concat (document_lines d) ≡ concat (flat_map document_lines (ds ++ d ∷ []))
@@ -97,58 +86,37 @@ module _ {S : Type 0} (gives : S → Answer → S → Type 0) (known : S → Opt
       ∙ ap (λ (l : List ℕ). concat (document_lines e) ++ l) (texts_more ds d)
       ∙ sym (concat-append (document_lines e) (flat_map document_lines (ds ++ d ∷ [])))
 
-  loads_more : (events taken rest : List yaml_event_t) (x : Ending) (ds : List Document) (d : Document) → d.nodes ≢ []
-      → ((r : List yaml_event_t) → ◌≡◌ {A = List Load} (bounded_loads n (events ++ r) x) (map Ok ds ++ bounded_loads n r x))
-      → next_bounded n (taken ++ rest) x ≡ Ok d → left_over (taken ++ rest) ≡ rest
-      → ◌≡◌ {A = List Load} (bounded_loads n ((events ++ taken) ++ rest) x)
-      (map Ok (ds ++ d ∷ []) ++ bounded_loads n rest x)
-  loads_more events taken rest x ds d some before load left =
-      let oks : List Load = map Ok ds in
-      let one : List Load = Ok d ∷ [] in
-      let all : List Load = bounded_loads n rest x in
-      ap (λ (l : List yaml_event_t). bounded_loads n l x) (append_assoc events taken rest) ∙ before (taken ++ rest)
-      ∙ ap (λ (l : List Load). oks ++ l)
-      (earlier_of (taken ++ rest) x n d load some ∙ ap (λ (l : List yaml_event_t). one ++ bounded_loads n l x)
-      left)
-      ∙ sym (append_assoc oks one all)
-      ∙ ap (λ (l : List Load). l ++ all) (sym (oks_more ds))
+  pub one_loaded : (first p q : Parser S) (a b c : Option (List ℕ)) → WrittenInTurn gives known n first p a b
+      → LoadTurn gives known MayBreak n step.Written p q b c → WrittenInTurn gives known n first q a c
+  one_loaded first p q a b c w turn = go turn.loaded turn.load turn.wrote
     where
-      oks_more : (l : List Document) → ◌≡◌ {A = List Load} (map Ok (l ++ d ∷ [])) (map Ok l ++ (Ok d ∷ []))
-      oks_more [] = refl
-      oks_more (e ∷ l) = ap (λ (m : List Load). Ok e ∷ m) (oks_more l)
-
-  pub one_loaded : NoFault S → (first p q : Parser S) (a b c : Option (List ℕ)) (asked : List yaml_token_t)
-      (given : List yaml_event_t)
-      → AllLoaded gives n first p a b asked given
-      → (has_failed p ≡ false → LoadTurn gives known MayBreak n step.Written p q b c)
-      → AllLoaded gives n first q a c asked given
-  one_loaded running first p q a b c asked given w turns = go turn.loaded turn.load turn.wrote
-    where
-      turn : LoadTurn gives known MayBreak n step.Written p q b c
-      turn = turns (running p (asked ++ w.more) (given ++ w.events) w.history)
-
       go : (r : DocumentOrError) → LoadsFrom gives known MayBreak (next_bounded n) left_over p r q
           → StepForLoad step.Written r (kept_fault q) b c
-          → AllLoaded gives n first q a c asked given
-      go (Ok d) (whole taken took load left stands) (some, wrote) =
-          let on = took.history (asked ++ w.more) (given ++ w.events) w.history in
-          record {
-            more = w.more ++ on.more;
-            events = w.events ++ taken;
-            documents = w.documents ++ d ∷ [];
-            gave = gave_both gives w.more on.more first.source p.source q.source w.gave on.gave;
-            history = history_more q asked w.more on.more given w.events taken on.history;
-            loads = λ (rest : List yaml_event_t) (x : Ending). loads_more w.events taken rest x w.documents d some
-                (λ (r : List yaml_event_t). w.loads r x)
-                (load rest x) (left rest);
-            roots = roots_last w.documents d w.roots some;
-            wrote = subst (Appends a c) (texts_more w.documents d)
-                (Appends-trans a b c (concat (flat_map document_lines w.documents)) (concat (document_lines d))
-                w.wrote wrote);
-          }
-      go (Ok d) (at_end taken took load left ends is stands) (some, wrote) =
-          absurd (some (ap (λ (x : Document). x.nodes) is))
+          → WrittenInTurn gives known n first q a c
+      go (Ok d) load (some, wrote) = record {
+        documents = w.documents ++ d ∷ [];
+        loaded = loader.one_more gives known n first p q w.documents d w.loaded load some;
+        wrote = subst (Appends a c) (texts_more w.documents d)
+            (Appends-trans a b c (concat (flat_map document_lines w.documents)) (concat (document_lines d)) w.wrote wrote);
+      }
       go (Err x) load wrote = absurd wrote
+
+  -- as what was asked for and given since
+  all_loaded : (first p : Parser S) (a b : Option (List ℕ)) → WrittenInTurn gives known n first p a b
+      → (asked : List yaml_token_t) (given : List yaml_event_t) → History first asked given
+      → AllLoaded gives n first p a b asked given
+  all_loaded first p a b w asked given history =
+      let on = w.loaded.took.history asked given history in
+      record {
+        more = on.more;
+        events = w.loaded.taken;
+        documents = w.documents;
+        gave = on.gave;
+        history = on.history;
+        loads = w.loaded.loads;
+        roots = w.loaded.roots;
+        wrote = w.wrote;
+      }
 
 -- nothing more was written
 pub loads_end : (end : run_end_t) (kept : Fault) (b c d : Option (List ℕ)) → (end ≡ Ended) ⊎ (end ≡ OutputFailed)
@@ -196,22 +164,23 @@ module _ {S : Type 0} (gives : S → Answer → S → Type 0) (known : S → Opt
       → LoadTurn gives known MayBreak (magnitude w) s p q b c
   turn_at turns running = subst (λ (y : ℤ). LoadTurn gives known MayBreak (magnitude y) s p q b c) same (turns running)
 
-pub last_load_at : {S W : Type 0} → NoFault S → (gives : S → Answer → S → Type 0) (known : S → Option Coming)
+pub last_load_at : {S W : Type 0} (gives : S → Answer → S → Type 0) (known : S → Option Coming)
     (MayBreak : S → Fault → Type 0) (contents : W
     → Option (List ℕ)) (end : run_end_t) (s : RunStep) (first p q : Parser S) (writer : W) (a c d : Option (List ℕ))
     (asked : List yaml_token_t)
     (given : List yaml_event_t) → p.max_entries ≡ first.max_entries
-    → AllLoaded gives (magnitude first.max_entries) first p a (contents writer) asked given
+    → WrittenInTurn gives known (magnitude first.max_entries) first p a (contents writer)
     → (has_failed p ≡ false → LoadTurn gives known MayBreak (magnitude p.max_entries) s p q (contents writer) c)
     → ((r : DocumentOrError) → StepForLoad s r (kept_fault q) (contents writer) c
     → WroteForLoad end r (kept_fault q) (contents writer) d)
-    → (end ≡ Ended → s ≡ step.Ended)
+    → (end ≡ Ended → s ≡ step.Ended) → History first asked given
     → LastLoad gives known MayBreak contents (magnitude first.max_entries) end first q a d asked given
-last_load_at running gives known MayBreak contents end s first p q writer a c d asked given bound earlier turns
-    wrote ended =
-    let failed = running p (asked ++ earlier.more) (given ++ earlier.events) earlier.history in
+last_load_at gives known MayBreak contents end s first p q writer a c d asked given bound w turns wrote ended history =
+    let earlier = all_loaded gives known MayBreak (magnitude first.max_entries) first p a (contents writer) w asked given
+    history in
+    let running = histories.faultless p (asked ++ earlier.more) (given ++ earlier.events) earlier.history in
     let turn = turn_at gives known MayBreak s p q
-    (contents writer) c p.max_entries first.max_entries bound turns failed in
+    (contents writer) c p.max_entries first.max_entries bound turns running in
     record {
       parser = p;
       writer = writer;

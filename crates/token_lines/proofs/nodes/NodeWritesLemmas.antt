@@ -8,25 +8,25 @@ use Rattle.std.proofs.lemmas.List.Folds.{concat-append}
 use Rattle.std.specs.List.{concat, flat_map}
 use Rattle.std.specs.Io.KnownBytes.{Appends}
 use Rattle.libyaml_types.specs.declared.event.yaml_event_t.{yaml_event_t}
-use Rattle.libyaml_types.specs.declared.token.yaml_token_t.{yaml_token_t}
 use Rattle.libyaml_documents.specs.declared.node.yaml_node_t.{yaml_node_t}
 use Rattle.libyaml_documents.specs.Documents.{Document}
 use Rattle.libyaml_events.specs.machine.Config.{Parser}
-use Rattle.libyaml_events.specs.sources.Calls.{Gave}
-use Rattle.libyaml_events.specs.sources.History.{History, answers, kept_fault}
+use Rattle.libyaml_events.specs.sources.History.{kept_fault}
 use Rattle.libyaml_events.specs.sources.RunToCome.{RestOfRun, RunToCome}
+use Rattle.libyaml_events.proofs.lent.KnownTokens.{further}
 use Rattle.libyaml_grammar.proofs.lent.NestingSoFar.{run_nests_so_far}
 use Rattle.libyaml_grammar.specs.runs.Runs.{Ending}
 use Rattle.libyaml_types.specs.Fault.{Answer, Fault, memory_fault}
-use Rattle.libyaml_types.specs.Source.{Coming}
+use Rattle.libyaml_types.specs.Source.{Coming, Follows}
 use Rattle.libyaml_graphs.specs.loads.Bounds.{bounded_loads, next_bounded}
 use Rattle.libyaml_graphs.specs.loads.GraphLaws.{RootsFollow}
 use Rattle.libyaml_graphs.specs.loads.Loads.{Load, left_over}
 use Rattle.libyaml_graphs.proofs.lent.Roots as roots
 use Rattle.libyaml_graphs.proofs.lent.Roots.{earlier_of, last_of, roots_follow}
 use Rattle.libyaml_graphs.proofs.lent.LoadLists.{HasRoot, roots_behind}
-use Rattle.libyaml_loader.specs.loads.Loading.{DocumentOrError, LoadsFrom}
+use Rattle.libyaml_loader.specs.loads.Loading.{DocumentOrError}
 use Rattle.libyaml_loader.specs.loads.NextLoad.{LoadOfRun}
+use Rattle.libyaml_loader.proofs.lent.Loops.{load_of_run}
 use Rattle.line_writing.specs.DocumentText.{document_lines}
 use Rattle.line_writing.specs.FaultText.{fault_text}
 use Rattle.token_lines.specs.declared.run.run_end_t.{run_end_t}
@@ -67,20 +67,14 @@ ending_of [] l = refl
 ending_of (d ∷ ds) l = ending_of ds l
 
 module _ {S W : Type 0} (gives : S → Answer → S → Type 0) (known : S → Option Coming) (MayBreak : S → Fault → Type 0)
-    (further : (p q : Parser S) (more : List yaml_token_t) (events to_come : List yaml_event_t) (ending : Ending)
-    (r : RunToCome known p to_come ending)
-    → Gave gives p.source (answers more []) q.source → History q (r.asked ++ more) (r.given ++ events)
-    → RestOfRun known q events to_come ending)
-    (load_of_run : (n : ℕ) (p q : Parser S) (r : DocumentOrError) (events : List yaml_event_t) (ending : Ending)
-    → RunToCome known p events ending
-    → LoadsFrom gives known MayBreak (next_bounded n) left_over p r q
-    → LoadOfRun known MayBreak (next_bounded n) left_over r q events ending)
+    (follows : (s t : S) (a : Answer) → gives s a t → Follows (MayBreak t) (known s) a (known t))
     (contents : W → Option (List ℕ)) (n : ℕ) (first last : Parser S) (before after : Option (List ℕ))
     (events : List yaml_event_t) (ending : Ending)
     (run : RunToCome known first events ending) (result : run_end_t)
     (l : LastLoad gives known MayBreak contents n result first last before after run.asked run.given) where
   rest : RestOfRun known l.parser l.earlier.events events ending
-  rest = further first l.parser l.earlier.more l.earlier.events events ending run l.earlier.gave l.earlier.history
+  rest = further gives known MayBreak follows first l.parser events ending run l.earlier.more l.earlier.events
+      l.earlier.gave l.earlier.history
 
   abbrev later : List Load
   later = bounded_loads n rest.later ending
@@ -154,4 +148,5 @@ module _ {S W : Type 0} (gives : S → Answer → S → Type 0) (known : S → O
   go OutputFailed (Err x) load wrote = tt
 
   pub writes_loads_so : WritesLoads (MayBreak last.source) result before after loads
-  writes_loads_so = go result l.loaded (load_of_run n l.parser last l.loaded rest.later ending rest.run l.load) l.wrote
+  writes_loads_so = go result l.loaded (load_of_run gives known MayBreak (next_bounded n) left_over l.parser last l.loaded rest.later
+      ending rest.run l.load) l.wrote

@@ -11,15 +11,15 @@ use Rattle.libyaml_documents.specs.Documents.{Document, empty_document}
 use Rattle.libyaml_events.specs.machine.Config.{Parser}
 use Rattle.libyaml_events.specs.sources.CallsInTurn.{CarriedOn}
 use Rattle.libyaml_events.specs.sources.Determined.{BeginsEachRun, OneBegins}
-use Rattle.libyaml_events.specs.sources.History.{ForHistory, History, answers, kept_fault}
+use Rattle.libyaml_events.specs.sources.History.{History, answers, kept_fault}
 use Rattle.libyaml_events.specs.sources.Needs.{EachNeeded, EachWasNeeded}
 use Rattle.libyaml_events.specs.sources.Parsing.{Cause, FailsBy, IsWhole, of_grammar, of_memory, of_source}
 use Rattle.libyaml_events.proofs.lent.OneOutcome.{front_same}
 use Rattle.libyaml_events.proofs.lent.RunStops.{RunStop, answers_both, begins_stopped, ended_stop, grammar_stop}
 use Rattle.libyaml_events.proofs.lent.RunStops.{one_run_by_answers, source_stop, taken_comparable}
+use Rattle.libyaml_events.proofs.lent.Histories as histories
 use Rattle.libyaml_grammar.specs.cuts.Settled.{Begins}
 use Rattle.libyaml_grammar.specs.runs.Runs.{Ending, Ends, Fails}
-use Rattle.libyaml_grammar.specs.sentences.Nesting.{NestsSoFar}
 use Rattle.libyaml_grammar.proofs.lent.Same.{ok_not_err}
 use Rattle.libyaml_grammar.proofs.lent.Same.{fault_same}
 use Rattle.libyaml_graphs.specs.loads.Bounds.{bounded_loads, next_bounded}
@@ -78,9 +78,6 @@ turned a b (inr h) = inl h
 
 module _ {S W : Type 0} (gives : S → Answer → S → Type 0) (known : S → Option Coming)
     (may_break : S → Fault → Type 0) (contents : W → Option (List ℕ)) (n : ℕ)
-    (needed : (p : Parser S) → ForHistory p (λ (a : List yaml_token_t) (g : List yaml_event_t). EachWasNeeded [] a [] g))
-    (begins : (p : Parser S) → ForHistory p BeginsEachRun)
-    (nests : (p : Parser S) → ForHistory p (λ (_ : List yaml_token_t) (g : List yaml_event_t). NestsSoFar g))
     (old : Parser S) (before : Option (List ℕ)) (asked : List yaml_token_t) (given : List yaml_event_t) where
   -- how an outcome came: the parser stopped, or the last event has a composer error; or memory ran out, or the
   -- output failed
@@ -121,7 +118,7 @@ module _ {S W : Type 0} (gives : S → Answer → S → Type 0) (known : S → O
         → (c : CarriedOn gives o.parser p (asked ++ o.earlier.more) (given ++ o.earlier.events) taken) → RootsFollow taken
     roots end o p taken c = roots_behind (given ++ o.earlier.events) taken
         (roots_follow ((given ++ o.earlier.events) ++ taken)
-        (nests p ((asked ++ o.earlier.more) ++ c.more) ((given ++ o.earlier.events) ++ taken) c.history))
+        (histories.nests p ((asked ++ o.earlier.more) ++ c.more) ((given ++ o.earlier.events) ++ taken) c.history))
 
     abbrev text : (end : run_end_t) → Of end → List ℕ
     text end o = concat (flat_map document_lines o.earlier.documents)
@@ -187,7 +184,7 @@ module _ {S W : Type 0} (gives : S → Answer → S → Type 0) (known : S → O
         in
         stopped (o.earlier.more ++ c.more) [] (o.earlier.events ++ taken) o.earlier.documents Ends
         (answers_both o.earlier.more c.more [])
-        (needed last asked_all given_all history) (nothing_needed asked_all given_all)
+        (histories.needed last asked_all given_all history) (nothing_needed asked_all given_all)
         (ended_stop asked_all [] given_all (nothing_needed asked_all given_all) is_whole)
         (all_loads Ended o taken Ends (last_load Ends)
         (last_of taken Ends n (empty_document None [] false false) (roots Ended o last taken c)
@@ -214,7 +211,7 @@ module _ {S W : Type 0} (gives : S → Answer → S → Type 0) (known : S → O
         = stopped (o.earlier.more ++ c.more) h.more (o.earlier.events ++ taken) o.earlier.documents
         (Fails (kept_fault last))
         (answers_both o.earlier.more c.more h.more)
-        (needed parser (asked ++ (o.earlier.more ++ c.more)) (given ++ (o.earlier.events ++ taken))
+        (histories.needed parser (asked ++ (o.earlier.more ++ c.more)) (given ++ (o.earlier.events ++ taken))
         (further (Faulted told) o parser taken c))
         (moved (λ (l : List yaml_token_t) (g : List yaml_event_t). EachNeeded l h.more g) o.earlier.more c.more
         o.earlier.events taken h.needed)
@@ -229,7 +226,7 @@ module _ {S W : Type 0} (gives : S → Answer → S → Type 0) (known : S → O
         = stopped (o.earlier.more ++ c.more) h.more (o.earlier.events ++ taken) o.earlier.documents
         (Fails (kept_fault last))
         (answers_both o.earlier.more c.more h.more)
-        (needed parser (asked ++ (o.earlier.more ++ c.more)) (given ++ (o.earlier.events ++ taken))
+        (histories.needed parser (asked ++ (o.earlier.more ++ c.more)) (given ++ (o.earlier.events ++ taken))
         (further (Faulted told) o parser taken c))
         (moved (λ (l : List yaml_token_t) (g : List yaml_event_t). EachNeeded l h.more g) o.earlier.more c.more
         o.earlier.events taken h.needed)
@@ -257,8 +254,8 @@ module _ {S W : Type 0} (gives : S → Answer → S → Type 0) (known : S → O
         (kept (asked_there (Faulted told) o ++ c.more) (given_there (Faulted told) o ++ taken) c.history) in
         composer (o.earlier.more ++ c.more) (o.earlier.events ++ taken) o.earlier.documents f
         (answers_both o.earlier.more c.more [])
-        (needed parser (asked ++ (o.earlier.more ++ c.more)) (given ++ (o.earlier.events ++ taken)) history)
-        (begins parser (asked ++ (o.earlier.more ++ c.more)) (given ++ (o.earlier.events ++ taken)) history)
+        (histories.needed parser (asked ++ (o.earlier.more ++ c.more)) (given ++ (o.earlier.events ++ taken)) history)
+        (histories.begins_each_run parser (asked ++ (o.earlier.more ++ c.more)) (given ++ (o.earlier.events ++ taken)) history)
         (λ rest y. ap (λ (l : List yaml_event_t). bounded_loads n l y) (append_assoc o.earlier.events taken rest)
         ∙ (o.earlier.loads (taken ++ rest) y ∙ ap (λ (l : List Load). map Ok o.earlier.documents ++ l)
         (fault_of (taken ++ rest) y n f (load rest y))))
@@ -283,20 +280,17 @@ module _ {S W : Type 0} (gives : S → Answer → S → Type 0) (known : S → O
 pub one_writing_of_nodes_proof : {S W : Type 0} (gives : S → Answer → S → Type 0) (known : S → Option Coming)
     (may_break : S → Fault → Type 0) (contents : W
     → Option (List ℕ)) (n : ℕ)
-    → ((p : Parser S) → ForHistory p (λ (a : List yaml_token_t) (g : List yaml_event_t). EachWasNeeded [] a [] g))
-    → ((p : Parser S) → ForHistory p BeginsEachRun)
-    → ((p : Parser S) → ForHistory p (λ (_ : List yaml_token_t) (g : List yaml_event_t). NestsSoFar g))
     → (old p q : Parser S) (first second : run_end_t) (written : List ℕ) (after later : Option (List ℕ))
     (asked : List yaml_token_t) (given : List yaml_event_t)
     → (a : LastLoad gives known may_break contents n first old p (Some written) after asked given)
     → (b : LastLoad gives known may_break contents n second old q (Some written) later asked given)
     → OneBegins (results_of_nodes a) (results_of_nodes b)
     → OneOutput BreaksOffByNone BreaksOffByNone (outcome_of first) (outcome_of second) (Some written) after later
-one_writing_of_nodes_proof {S} gives known may_break contents n needed begins nests old p q first second written
+one_writing_of_nodes_proof {S} gives known may_break contents n old p q first second written
     after later asked given a b one
     = go (results_of_nodes a) (results_of_nodes b) one
-    (came gives known may_break contents n needed begins nests old (Some written) asked given p after first a)
-    (came gives known may_break contents n needed begins nests old (Some written) asked given q later second b)
+    (came gives known may_break contents n old (Some written) asked given p after first a)
+    (came gives known may_break contents n old (Some written) asked given q later second b)
   where
     after_both : (k l : List Answer) (m i : List yaml_token_t) (u v : List Answer) → k ≡ answers m u
         → l ≡ answers i v → OneBegins k l
@@ -329,9 +323,9 @@ one_writing_of_nodes_proof {S} gives known may_break contents n needed begins ne
     alike_by x y d c s w z = let r = both_wrote x y (outcome_of first) (outcome_of second) d c written after later
         s.1 s.0 w z in alike r.0 r.1
 
-    go : (k l : List Answer) → OneBegins k l → Came gives known may_break contents n needed begins nests old
+    go : (k l : List Answer) → OneBegins k l → Came gives known may_break contents n old
         (Some written) asked given (outcome_of first) after k
-        → Came gives known may_break contents n needed begins nests old (Some written) asked given
+        → Came gives known may_break contents n old (Some written) asked given
         (outcome_of second) later l → OneOutput BreaksOffByNone BreaksOffByNone (outcome_of first)
         (outcome_of second) (Some written) after later
     go k l o (broke x) y = first_breaks x

@@ -17,10 +17,7 @@ ghost use Rattle.token_lines.specs.lines.OneOutput.{OneOutput};
 ghost use Rattle.token_lines.specs.lines.OneWriting.{BreaksOffByNone, results_of, results_of_nodes};
 ghost use Rattle.token_lines.specs.nodes.LastLoad.{LastLoad, NodesOver};
 
-use libyaml_events::laws::calls::of_history;
-use libyaml_events::laws::one_run;
 use libyaml_events::yaml_token_source_t;
-use libyaml_graphs::laws::one_loads;
 use std::io::{BufRead, Write};
 
 /// Two runs over readers of the same bytes, with a writer that has written the same: unless an allocation or
@@ -40,10 +37,7 @@ pub fn one_output<R: BufRead, W: Write>()
         → (b : NodesOver R.remaining W.contents other second (Some written) later)
         → OneOutput (BreaksOff a.last.source) (BreaksOff b.last.source) first second (Some written)
         after later }
-{
-    one_run();
-    one_loads();
-}
+{}
 
 /// Two outcomes of one `write_events`, both of which its contract allows, with a writer that has written the
 /// same: where the source gave the same results as far as both asked, both end alike and have written the
@@ -61,9 +55,7 @@ pub fn one_writing_of_events<S: yaml_token_source_t, W: Write>()
         → NothingLeft second old q (Some written) later
         → OneOutput BreaksOffByNone BreaksOffByNone (outcome_of first) (outcome_of second)
         (Some written) after later }
-{
-    of_history::<S>();
-}
+{}
 
 /// Likewise two outcomes of one `write_nodes`. n is the parser's bound.
 pub fn one_writing_of_nodes<S: yaml_token_source_t, W: Write>()
@@ -75,9 +67,7 @@ pub fn one_writing_of_nodes<S: yaml_token_source_t, W: Write>()
         → OneBegins (results_of_nodes a) (results_of_nodes b)
         → OneOutput BreaksOffByNone BreaksOffByNone (outcome_of first) (outcome_of second)
         (Some written) after later }
-{
-    of_history::<S>();
-}
+{}
 
 /// Two runs in memory over the same token lines, of which at most so many are read, into the same buffer:
 /// what is told and the buffer are the same, unless memory ran out in one of them.
@@ -88,7 +78,4 @@ pub fn one_run_in_memory()
     ensures nodes { (tokens old after later : List ℕ) (max : ℕ) (first second : memory_run_t)
         → InMemory (has_nodes tokens max) old after first → InMemory (has_nodes tokens max) old later second
         → OneInMemory first second after later }
-{
-    one_run();
-    one_loads();
-}
+{}

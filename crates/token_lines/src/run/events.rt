@@ -13,8 +13,6 @@ ghost use Rattle.token_lines.specs.lines.LineRun.{Writes};
 
 use super::{Outcome, RunStep, faulted, flushed, run_end_t, show};
 use crate::MAX_TOKENS;
-use libyaml_events::laws::calls::rest_of_run;
-use libyaml_events::laws::items::items_in_turn;
 use libyaml_events::{
     MEMORY_FAULT, is_event, is_stream_end, no_event, yaml_parser_initialize,
     yaml_parser_parse_into, yaml_parser_t, yaml_token_source_t,
@@ -64,8 +62,6 @@ pub fn write_events<S: yaml_token_source_t, W: Write>(
         (W.contents writer.new) asked given }
     ensures bound { parser.new.max_entries ≡ parser.old.max_entries }
 {
-    rest_of_run::<S>();
-    items_in_turn::<S>();
     let mut line = String::new(parser.allocator());
     let mut event = no_event();
     loop {

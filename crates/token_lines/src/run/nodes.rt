@@ -14,10 +14,7 @@ ghost use Rattle.token_lines.specs.nodes.NodeStep.{IsKept, LoadTurn};
 
 use super::{Outcome, RunStep, faulted, flushed, run_end_t, show};
 use crate::MAX_TOKENS;
-use libyaml_events::laws::calls::{of_history, rest_of_run};
 use libyaml_events::{MEMORY_FAULT, yaml_parser_initialize, yaml_parser_t, yaml_token_source_t};
-use libyaml_graphs::laws::linear_size;
-use libyaml_loader::laws::load_of_run;
 use libyaml_loader::yaml_parser_load;
 use line_reading::yaml_line_source_t;
 use line_writing::{line_refusal_t, write_document};
@@ -33,8 +30,6 @@ use std::io::{BufRead, Write};
 pub fn run_nodes<R: BufRead + Drop, W: Write>(alloc: Global, reader: R, writer: &mut W) -> Outcome
     ensures { NodesOver R.remaining W.contents reader result (W.contents writer.old) (W.contents writer.new) }
 {
-    linear_size();
-    of_history::<yaml_line_source_t<R>>();
     let source = yaml_line_source_t::new(alloc, reader, MAX_TOKENS);
     let mut parser = yaml_parser_initialize(alloc, source);
     write_nodes(&mut parser, writer).outcome()
@@ -67,9 +62,6 @@ pub fn write_nodes<S: yaml_token_source_t, W: Write>(
     ensures between { between_documents parser.new ≡ true }
     ensures bound { parser.new.max_entries ≡ parser.old.max_entries }
 {
-    of_history::<S>();
-    rest_of_run::<S>();
-    load_of_run::<S>();
     loop {
         match write_next(parser, writer) {
             RunStep::Written => {}

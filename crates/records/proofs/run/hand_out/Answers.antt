@@ -6,6 +6,7 @@ use Rattle.libyaml_events.specs.machine.Config.{Parser}
 use Rattle.libyaml_events.specs.sources.History.{new_parser}
 use Rattle.libyaml_loader.specs.document.Ids.{magnitude}
 use Rattle.libyaml_loader.specs.loads.LoadsInTurn.{LoopYields}
+use Rattle.libyaml_loader.proofs.lent.Loops.{of_list}
 use Rattle.libyaml_types.specs.Fault.{Fault, fault_of, memory_fault}
 use Rattle.libyaml_types.specs.Source.{Coming}
 use Rattle.records.specs.RecordSource.{Gives, read_records}
@@ -28,7 +29,8 @@ returns-clause-run c loads are =
     let coming = read_records tokens a.texts.now in
     let within = subst (λ n. IsBoundedLoads n coming.tokens coming.fault loads)
     (sym (ap magnitude parser.ensures.bound)) are in
-    let loads_are = c.loop_yields_loads.ensures.of_list parser.result put.last put.documents put.ending
+    let loads_are = of_list Gives (λ (s : Coming). length s.tokens) (λ (s : Coming). Some s)
+    BreaksOff parser.result put.last put.documents put.ending
     coming.tokens coming.fault loads
     parser.ensures.begins (ap Some (parser.ensures.source ∙ c.new-source.ensures)) within put.yields in
     let yields = subst (λ (p : Parser Coming). LoopYields Gives (λ (s : Coming). length s.tokens) (λ (s : Coming). Some s)
@@ -71,7 +73,8 @@ returns-in_err-fault-clause-uncountable c =
     on_err _ c.from_residual-in_err-fault.result (λ loads are.
     let within = subst (λ n. IsBoundedLoads n coming.tokens coming.fault loads)
     (sym (ap magnitude parser.ensures.bound)) are in
-    let loads_are = c.loop_yields_loads.ensures.of_list parser.result put.last put.documents put.ending
+    let loads_are = of_list Gives (λ (s : Coming). length s.tokens) (λ (s : Coming). Some s)
+    BreaksOff parser.result put.last put.documents put.ending
     coming.tokens coming.fault loads
     parser.ensures.begins (ap Some (parser.ensures.source ∙ c.new-source.ensures)) within put.yields in
     words_uncountable (λ s (f : Fault). f ≡ memory_fault) (λ s f h. h) put.last (fault_of c.in_ok-ending.ending)

@@ -21,7 +21,7 @@ loop-loaded-preserved g c =
     let p = l.loaded-iterator.parser.now in
     let q = c.next.new.self.parser.now in
     let new = c.put_document.new in
-    put_one t.gives t.bound t.known t.may_break c.load_of_run.ensures c.whole_documents_have_roots.ensures.with_nodes
+    put_one t.gives t.bound t.known t.may_break
     a.parser.now p q
     (lists a.documents.now a.nodes.now a.items.now a.pairs.now a.directives.now a.texts.now)
     (lists l.documents l.nodes l.items l.pairs l.directives l.texts)
@@ -55,8 +55,7 @@ returns-in_err-put_document-clause-uncounted g c =
     let a = c.args in
     let l = c.loop-loaded in
     on_err _ c.from_residual.result
-    (put_too_many t.gives t.bound t.known t.may_break c.load_of_run.ensures
-    c.whole_documents_have_roots.ensures.with_nodes
+    (put_too_many t.gives t.bound t.known t.may_break
     a.parser.now l.loaded-iterator.parser.now c.next.new.self.parser.now
     (lists a.documents.now a.nodes.now a.items.now a.pairs.now a.directives.now a.texts.now)
     (lists l.documents l.nodes l.items l.pairs l.directives l.texts)

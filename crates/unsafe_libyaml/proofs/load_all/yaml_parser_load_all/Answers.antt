@@ -1,71 +1,52 @@
 use Rattle.std.proofs.Common.{◌≡◌, ◌≢◌, [], All, ap, refl, sym, ◌∙◌, subst}
-use Rattle.unsafe_libyaml.proofs.WholeLoads.{LoadLaws, fewer, gathers_loads, gathers_to_fault, loaded_as}
+use Rattle.unsafe_libyaml.proofs.WholeLoads.{fewer, gathers_loads, gathers_to_fault, loaded_as}
 use Rattle.unsafe_libyaml.proofs.WholeLoads.{loaded_next, loaded_none, loads_to}
 use Rattle.unsafe_libyaml.proofs.WholeLoads.{tree_loads}
-use Rattle.unsafe_libyaml.proofs.WholeRuns.{gave_none, if_ok, tells}
+use Rattle.unsafe_libyaml.proofs.WholeRuns.{if_ok, tells}
 use Rattle.unsafe_libyaml.proofs.LargeLoads.{loads_linear}
-use Rattle.unsafe_libyaml.proofs.load_all.yaml_parser_load_all.Given as given
 use Rattle.unsafe_libyaml.proofs.load_all.yaml_parser_load_all.Goals as goal
 use Rattle.unsafe_libyaml.proofs.load_all.yaml_parser_load_all.Goals.{After-yaml_parser_load}
 use Rattle.libyaml_graphs.proofs.lent.LoadLists.{bare, rooted}
+use Rattle.libyaml_graphs.proofs.lent.RunLoads.{cut_tree_loads}
 
 pub loop-document-init : goal.loop-document-init
 loop-document-init g c =
     let parser = c.yaml_parser_initialize-parser in
-    let none = gave_none g.S.yaml_token_source_t.gives _ _ parser.ensures.value parser.ensures.begins in
-    loaded_as _ _ _ _ _ c.new-documents.ensures.items (loaded_none _ _ _ none parser.ensures.between parser.ensures.bound)
+    loaded_as _ _ _ _ _ _ c.new-documents.ensures.items
+    (loaded_none _ _ _ _ parser.ensures.value parser.ensures.between parser.ensures.bound)
 
 pub yaml_parser_load-requires : goal.yaml_parser_load-requires
 yaml_parser_load-requires g c = record { between = c.loop-document.invariant.between }
 
--- what follows a call
-laws_of : (g : given.Over) (c : After-yaml_parser_load g) → LoadLaws g.S.yaml_token_source_t.gives
-laws_of g c =
-    let say = c.of_history.ensures in
-    let roots = c.whole_documents_have_roots.ensures in
-    record {
-      no_fault = say.no_fault;
-      begins = say.begins;
-      begins_run = say.begins_run;
-      nests = say.nests;
-      follow = roots.roots_follow;
-      without = roots.without_nodes;
-      with = roots.with_nodes;
-      fault = roots.fault;
-      unmet = c.enough_room.ensures.unmet;
-    }
-
 pub returns-then-is_empty-clause-gathers : goal.returns-then-is_empty-clause-gathers
 returns-then-is_empty-clause-gathers g c =
     let t = g.S.yaml_token_source_t in
-    let law = laws_of g (goal.at.returns-then-is_empty-clause-gathers g c).After-yaml_parser_load in
     let call = c.yaml_parser_load in
     let no_root : c.in-Ok.document.nodes ≡ [] = sym c.nodes.ensures.all
     ∙ bare c.nodes.result.now (sym c.if-is_empty.ensures) in
-    gathers_loads t.gives t.known t.may_break c.args.source law c.loop-document.parser call.new.parser call.result
+    gathers_loads t.gives t.known t.may_break c.args.source c.loop-document.parser call.new.parser call.result
     call.ensures.loads
     c.loop-document.documents.items c.loop-document.invariant _ refl c.in-Ok.document c.in-Ok.is no_root refl
 
 pub returns-then-is_empty-clause-of_list : goal.returns-then-is_empty-clause-of_list
 returns-then-is_empty-clause-of_list g c l f a h k =
     let t = g.S.yaml_token_source_t in
-    let law = c.run_of_asked.ensures in
     let s = returns-then-is_empty-clause-gathers g c in
     loads_to t.gives t.may_break c.args.source _ s l f a h
-    (tells t.gives t.known t.may_break law.front law.whole law.grammar law.source _ l f _ _ h.run k _ _ _ s.tokens)
+    (tells t.gives t.known t.may_break g.met.S.yaml_token_source_t.follows _ l f _ _ h.run k _ _ _ s.tokens)
 
 pub returns-then-is_empty-clause-of_tree : goal.returns-then-is_empty-clause-of_tree
 returns-then-is_empty-clause-of_tree g c t f o k =
-    let n = tree_loads c.loads_of_tree.ensures.sentence t f o in
+    let n = tree_loads t f o in
     (n.0, returns-then-is_empty-clause-of_list g c _ f _ n.1 k)
 
 pub returns-then-is_empty-clause-of_cut_tree : goal.returns-then-is_empty-clause-of_cut_tree
 returns-then-is_empty-clause-of_cut_tree g c before token behind cut f fits waited k =
-    let a = c.loads_of_tree.ensures.cut_tree before token behind cut f fits waited in
+    let a = cut_tree_loads before token behind cut f fits waited in
     (a.0, a.2, returns-then-is_empty-clause-of_list g c _ f _ a.1 k)
 
 pub returns-then-is_empty-clause-roots : goal.returns-then-is_empty-clause-roots
-returns-then-is_empty-clause-roots g c = c.loop-document.invariant.roots
+returns-then-is_empty-clause-roots g c = c.loop-document.invariant.in_turn.roots
 
 pub loop-document-smaller : goal.loop-document-smaller
 loop-document-smaller g c =
@@ -76,12 +57,11 @@ loop-document-smaller g c =
 pub loop-document-preserved : goal.loop-document-preserved
 loop-document-preserved g c =
     let t = g.S.yaml_token_source_t in
-    let law = laws_of g (goal.at.loop-document-preserved g c).After-yaml_parser_load in
     let call = c.yaml_parser_load in
     let has_root : c.in-Ok.document.nodes ≢ [] = λ e. rooted c.nodes.result.now (sym c.if-is_empty.ensures)
     (c.nodes.ensures.all ∙ e) in
-    loaded_as t.gives c.args.source call.new.parser _ _ c.in_ok-push-in-Ok.ensures.items
-    (loaded_next t.gives t.known t.may_break c.args.source law c.loop-document.parser call.new.parser call.result
+    loaded_as t.gives t.known c.args.source call.new.parser _ _ c.in_ok-push-in-Ok.ensures.items
+    (loaded_next t.gives t.known t.may_break c.args.source c.loop-document.parser call.new.parser call.result
     call.ensures.loads
     c.loop-document.documents.items c.loop-document.invariant call.ensures.between call.ensures.bound
     c.in-Ok.document c.in-Ok.is has_root)
@@ -89,10 +69,9 @@ loop-document-preserved g c =
 pub returns-in-Err-clause-gathers : goal.returns-in-Err-clause-gathers
 returns-in-Err-clause-gathers g c =
     let t = g.S.yaml_token_source_t in
-    let law = laws_of g (goal.at.returns-in-Err-clause-gathers g c).After-yaml_parser_load in
     let call = c.yaml_parser_load in
     if_ok c.failed_load.result _ _ c.failed_load.ensures.ok
-    (λ all r. gathers_to_fault t.gives t.known t.may_break c.args.source law c.loop-document.parser call.new.parser
+    (λ all r. gathers_to_fault t.gives t.known t.may_break c.args.source c.loop-document.parser call.new.parser
     call.result call.ensures.loads
     c.loop-document.documents.items c.loop-document.invariant all (ap (λ v. v.items) r.0) c.in-Err.field-0
     c.in-Err.is _ c.prefix.ensures.kept r.1 r.2)
@@ -100,34 +79,31 @@ returns-in-Err-clause-gathers g c =
 pub returns-in-Err-clause-of_list : goal.returns-in-Err-clause-of_list
 returns-in-Err-clause-of_list g c l f a h k =
     let t = g.S.yaml_token_source_t in
-    let law = c.run_of_asked.ensures in
     if_ok c.failed_load.result _ _ (returns-in-Err-clause-gathers g c)
     (λ all s. loads_to t.gives t.may_break c.args.source all s l f a h
-    (tells t.gives t.known t.may_break law.front law.whole law.grammar law.source _ l f _ _ h.run k _ _ _ s.tokens))
+    (tells t.gives t.known t.may_break g.met.S.yaml_token_source_t.follows _ l f _ _ h.run k _ _ _ s.tokens))
 
 pub returns-in-Err-clause-roots : goal.returns-in-Err-clause-roots
 returns-in-Err-clause-roots g c
     = if_ok c.failed_load.result _ _ c.failed_load.ensures.ok
-    (λ all r. subst (λ v. All (λ d. d.nodes ≢ []) v.items) (sym r.0) c.loop-document.invariant.roots)
+    (λ all r. subst (λ v. All (λ d. d.nodes ≢ []) v.items) (sym r.0) c.loop-document.invariant.in_turn.roots)
 
 pub returns-in-Err-clause-of_tree : goal.returns-in-Err-clause-of_tree
 returns-in-Err-clause-of_tree g c t f o k =
-    let n = tree_loads c.loads_of_tree.ensures.sentence t f o in
+    let n = tree_loads t f o in
     if_ok c.failed_load.result _ _ (returns-in-Err-clause-of_list g c _ f _ n.1 k) (λ all r. (n.0, r))
 
 pub returns-in-Err-clause-of_cut_tree : goal.returns-in-Err-clause-of_cut_tree
 returns-in-Err-clause-of_cut_tree g c before token behind cut f fits waited k =
-    let a = c.loads_of_tree.ensures.cut_tree before token behind cut f fits waited in
+    let a = cut_tree_loads before token behind cut f fits waited in
     if_ok c.failed_load.result _ _ (returns-in-Err-clause-of_list g c _ f _ a.1 k) (λ all r. (a.0, a.2, r))
 
 pub returns-then-is_empty-clause-linear : goal.returns-then-is_empty-clause-linear
 returns-then-is_empty-clause-linear g c
-    = loads_linear c.one_run.ensures.some c.four_events.ensures.events c.linear_size.ensures.first_of_loads
-    g.S.yaml_token_source_t.gives c.args.source _
+    = loads_linear g.S.yaml_token_source_t.gives c.args.source _
     (returns-then-is_empty-clause-gathers g c)
 
 pub returns-in-Err-clause-linear : goal.returns-in-Err-clause-linear
 returns-in-Err-clause-linear g c
     = if_ok c.failed_load.result _ _ (returns-in-Err-clause-gathers g c)
-    (loads_linear c.one_run.ensures.some c.four_events.ensures.events c.linear_size.ensures.first_of_loads
-    g.S.yaml_token_source_t.gives c.args.source)
+    (loads_linear g.S.yaml_token_source_t.gives c.args.source)

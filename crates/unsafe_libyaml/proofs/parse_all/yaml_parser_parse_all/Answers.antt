@@ -2,6 +2,7 @@ use Rattle.std.proofs.Common.{refl, subst, sym, ◌∙◌}
 use Rattle.unsafe_libyaml.proofs.WholeRuns.{GaveSoFar, gathers_all, gathers_some, gave_more, gave_none, if_ok, runs_to}
 use Rattle.unsafe_libyaml.proofs.WholeRuns.{tells, tree_runs}
 use Rattle.unsafe_libyaml.proofs.parse_all.yaml_parser_parse_all.Goals as goal
+use Rattle.libyaml_grammar.proofs.lent.Running.{cut_run}
 
 pub loop-event-init : goal.loop-event-init
 loop-event-init g c =
@@ -21,54 +22,49 @@ pub returns-then-is_last-clause-gathers : goal.returns-then-is_last-clause-gathe
 returns-then-is_last-clause-gathers g c =
     let t = g.S.yaml_token_source_t in
     let new = c.yaml_parser_parse.new.parser in
-    let say = c.of_history.ensures in
     let old = c.loop-event.invariant in
     let on = c.in-Ok.ensures.carries_on old.1 old.0.more _ old.0.history in
     let all : GaveSoFar t.gives c.args.source new c.push.new.self.items = rw c.in_ok-push-in-Ok.ensures.items
     (gave_more _ _ _ _ _ _ old.0 on) in
-    gathers_all t.gives c.args.source new _ all (say.begins new) (say.begins_run new) (say.nests new)
-    (say.whole new (on.ends ∙ sym c.if-is_last.ensures)) refl
+    gathers_all t.gives c.args.source new _ all (on.ends ∙ sym c.if-is_last.ensures) refl
 
 pub returns-then-is_last-clause-of_list : goal.returns-then-is_last-clause-of_list
 returns-then-is_last-clause-of_list g c l f e x run k =
     let t = g.S.yaml_token_source_t in
-    let law = c.run_of_asked.ensures in
     let h = returns-then-is_last-clause-gathers g c in
     runs_to t.gives t.may_break c.args.source _ h e x
-    (tells t.gives t.known t.may_break law.front law.whole law.grammar law.source _ l f e x run k _ _ _ h.tokens)
+    (tells t.gives t.known t.may_break g.met.S.yaml_token_source_t.follows _ l f e x run k _ _ _ h.tokens)
 
 pub returns-then-is_last-clause-of_tree : goal.returns-then-is_last-clause-of_tree
 returns-then-is_last-clause-of_tree g c t f o k = returns-then-is_last-clause-of_list g c _ f _ _
-    (tree_runs c.run_of_tree.ensures.sentence t f o) k
+    (tree_runs t f o) k
 
 pub returns-then-is_last-clause-of_cut_tree : goal.returns-then-is_last-clause-of_cut_tree
 returns-then-is_last-clause-of_cut_tree g c before token behind cut f fits waited k
     = returns-then-is_last-clause-of_list g c _ f _ _
-    (c.run_of_tree.ensures.cut_tree before token behind cut f fits waited) k
+    (cut_run before token behind cut f fits waited) k
 
 pub returns-in-Err-clause-gathers : goal.returns-in-Err-clause-gathers
 returns-in-Err-clause-gathers g c =
     let t = g.S.yaml_token_source_t in
     let old = c.loop-event.parser in
-    let say = c.of_history.ensures in
     if_ok c.failed_run.result _ _ c.failed_run.ensures.ok
     (λ r h. gathers_some t.gives c.args.source old r
     (subst (λ v. GaveSoFar t.gives c.args.source old v.items) (sym h.0) c.loop-event.invariant.0)
-    (say.begins old) (say.begins_run old) (say.nests old) c.yaml_parser_parse.new.parser c.in-Err.ensures.fails _
+    c.yaml_parser_parse.new.parser c.in-Err.ensures.fails _
     c.prefix.ensures.kept h.1 h.2)
 
 pub returns-in-Err-clause-of_list : goal.returns-in-Err-clause-of_list
 returns-in-Err-clause-of_list g c l f e x run k =
     let t = g.S.yaml_token_source_t in
-    let law = c.run_of_asked.ensures in
     if_ok c.failed_run.result _ _ (returns-in-Err-clause-gathers g c)
     (λ r h. runs_to t.gives t.may_break c.args.source r h e x
-    (tells t.gives t.known t.may_break law.front law.whole law.grammar law.source _ l f e x run k _ _ _ h.tokens))
+    (tells t.gives t.known t.may_break g.met.S.yaml_token_source_t.follows _ l f e x run k _ _ _ h.tokens))
 
 pub returns-in-Err-clause-of_tree : goal.returns-in-Err-clause-of_tree
 returns-in-Err-clause-of_tree g c t f o k = returns-in-Err-clause-of_list g c _ f _ _
-    (tree_runs c.run_of_tree.ensures.sentence t f o) k
+    (tree_runs t f o) k
 
 pub returns-in-Err-clause-of_cut_tree : goal.returns-in-Err-clause-of_cut_tree
 returns-in-Err-clause-of_cut_tree g c before token behind cut f fits waited k
-    = returns-in-Err-clause-of_list g c _ f _ _ (c.run_of_tree.ensures.cut_tree before token behind cut f fits waited) k
+    = returns-in-Err-clause-of_list g c _ f _ _ (cut_run before token behind cut f fits waited) k

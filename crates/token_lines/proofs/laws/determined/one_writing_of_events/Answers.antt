@@ -3,7 +3,7 @@ use Rattle.token_lines.proofs.laws.determined.one_writing_of_events.Goals as goa
 
 pub returns-clause-running : goal.returns-clause-running
 returns-clause-running g c old p q first second written after later asked given a b one
-    = one_writing_proof g.S.yaml_token_source_t.gives g.W.Write.contents c.of_history.ensures.needed old p q first
+    = one_writing_proof g.S.yaml_token_source_t.gives g.W.Write.contents old p q first
     second written after later asked given a b one
 
 pub returns-clause-nothing_left : goal.returns-clause-nothing_left

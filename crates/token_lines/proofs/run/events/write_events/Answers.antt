@@ -5,6 +5,7 @@ use Rattle.std.specs.Io.KnownBytes.{Appends, Keeps}
 use Rattle.libyaml_types.specs.declared.event.yaml_event_t.{yaml_event_t}
 use Rattle.libyaml_types.specs.Fault.{fault_of}
 use Rattle.libyaml_events.specs.sources.History.{is_over}
+use Rattle.libyaml_events.proofs.lent.KnownTokens.{nothing_behind_end}
 use Rattle.token_lines.specs.declared.run.run_end_t.TheVariants.{OutputFailed}
 use Rattle.line_writing.specs.EventText.{event_line}
 use Rattle.token_lines.specs.events.EventRun.{event_lines}
@@ -29,14 +30,13 @@ returns-in-Ended-clause-writes g c events ending run =
     let at = c.loop-writer in
     let before = contents c.args.writer.now in
     let after = contents c.flushed.new.writer in
-    let nothing = c.items_in_turn.ensures.end in
     writes_ended (t.may_break c.write_next.new.parser.source) c.flushed.result before after (event_lines events)
     ending c.flushed.ensures.end
     (either_way (is_over first)
     (λ (over : is_over first ≡ true).
     let still = at.invariant.ended over in
     let last = c.in-Ended.ensures.ended (ap is_over still.0 ∙ over) in
-    let none = nothing first over events ending run in
+    let none = nothing_behind_end t.known first over events ending run in
     let kept = subst (λ w. Keeps (contents w) after) (last.2 ∙ still.1) c.flushed.ensures.keeps in (
       none.1,
       subst (λ (l : List yaml_event_t). Appends before after (concat (event_lines l))) (sym none.0)
@@ -44,9 +44,9 @@ returns-in-Ended-clause-writes g c events ending run =
     ))
     (λ (running : is_over first ≡ false).
     let w = at.invariant.in_turn running run.asked run.given run.history in
-    all_lines t.gives t.known t.may_break first at.parser c.write_next.new.parser before (contents at.writer)
+    all_lines t.gives t.known t.may_break g.met.S.yaml_token_source_t.follows first at.parser c.write_next.new.parser before (contents at.writer)
     (contents c.write_next.new.writer) after events
-    ending run w c.rest_of_run.ensures.further nothing
+    ending run w
     (c.in-Ended.ensures.turn w.running (run.asked ++ w.more) (run.given ++ w.events) w.history) c.flushed.ensures.keeps))
 
 pub returns-in-Failed-clause-writes : goal.returns-in-Failed-clause-writes
@@ -66,9 +66,9 @@ returns-in-Failed-clause-writes g c events ending run =
     (c.in-Failed.ensures.ended (ap is_over (at.invariant.ended over).0 ∙ over)).0)
     (λ (running : is_over first ≡ false).
     let w = at.invariant.in_turn running run.asked run.given run.history in
-    lines_and_fault t.gives t.known t.may_break first at.parser c.write_next.new.parser before (contents at.writer)
+    lines_and_fault t.gives t.known t.may_break g.met.S.yaml_token_source_t.follows first at.parser c.write_next.new.parser before (contents at.writer)
     (contents c.write_next.new.writer) after events
-    ending run w c.rest_of_run.ensures.further c.rest_of_run.ensures.fails_behind fault
+    ending run w fault
     (c.in-Failed.ensures.turn w.running (run.asked ++ w.more) (run.given ++ w.events) w.history) told))
 
 pub loop-writer-init : goal.loop-writer-init

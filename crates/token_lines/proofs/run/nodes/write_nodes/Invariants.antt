@@ -1,10 +1,8 @@
-use Rattle.std.proofs.Common.{◌≡◌, List, true}
-use Rattle.libyaml_types.specs.declared.event.yaml_event_t.{yaml_event_t}
-use Rattle.libyaml_types.specs.declared.token.yaml_token_t.{yaml_token_t}
+use Rattle.std.proofs.Common.{◌≡◌, true}
 use Rattle.libyaml_events.specs.parsers.EventsLeft.{events_left}
-use Rattle.libyaml_events.specs.sources.History.{History, between_documents, has_failed}
+use Rattle.libyaml_events.specs.sources.History.{between_documents, has_failed}
 use Rattle.libyaml_loader.specs.document.Ids.{magnitude}
-use Rattle.token_lines.specs.nodes.LastLoad.{AllLoaded}
+use Rattle.token_lines.proofs.nodes.NodeTurnLemmas.{WrittenInTurn}
 use Rattle.token_lines.proofs.run.nodes.write_nodes.Given as goal
 
 abbrev pub invariant-loop-writer : goal.invariant-loop-writer
@@ -12,10 +10,9 @@ invariant-loop-writer g l = record {
   between : between_documents l.parser ≡ true;
   bound : l.parser.max_entries ≡ l.initial.parser.max_entries;
   kept : has_failed l.initial.parser ≡ true → (l.parser ≡ l.initial.parser) × (l.writer ≡ l.initial.writer);
-  in_turn : (asked : List yaml_token_t) (given : List yaml_event_t) → History l.initial.parser asked given
-      → AllLoaded g.S.yaml_token_source_t.gives (magnitude l.initial.parser.max_entries) l.initial.parser l.parser
-      (g.W.Write.contents l.initial.writer)
-      (g.W.Write.contents l.writer) asked given;
+  in_turn : WrittenInTurn g.S.yaml_token_source_t.gives g.S.yaml_token_source_t.known
+      (magnitude l.initial.parser.max_entries) l.initial.parser l.parser (g.W.Write.contents l.initial.writer)
+      (g.W.Write.contents l.writer);
 }
 
 abbrev pub decreases-loop-writer : goal.decreases-loop-writer

@@ -1,0 +1,3 @@
+-- The theorems that crates above may name, and no others of these proofs.
+pub mod LoadsInTurn
+pub mod Loops
