@@ -18,22 +18,6 @@ ghost use Rattle.rust_original.specs.parser.Runs.{Runs, RunsThere, as_here, call
 ghost use Rattle.rust_original.specs.parser.Runs.{run_within};
 ghost use Rattle.rust_original.specs.parser.Texts.{NoneHoldsZero, as_held};
 
-use libyaml_events::laws::pushes::{each_step, of_pushed};
-use libyaml_events::laws::{one_run, run_nests};
-
-/// Over each list of tokens and fault of a source after it there is a run of a parser that does what the
-/// mended one does, but at the three places. Its events nest, to the end only where the run ends; and where
-/// it differs nowhere, the run is that of the grammar.
-fn some_run()
-    ensures { (m : Mends) (differs : Bool) → ((p : Parser) → (call m p ≡ call_here p)
-        ⊎ ((differs ≡ true) × Differs p (call m p) (call_here p)))
-        → (l : List Token) (f : Fault) → (e : List Event) × (x : Ending) × Runs m (new_parser l f) e x
-        × NestsSoFar e × (IsNested e → x ≡ Ends) × (differs ≡ false → IsRun l f e x) }
-{
-    each_step();
-    of_pushed();
-}
-
 /// The Rust crate has one run over each list of tokens and fault of a source after it. Its events nest, and
 /// to the end only where it ends. A run that is computed within so many calls is a run.
 pub fn runs_there()
@@ -46,9 +30,7 @@ pub fn runs_there()
         → IsNested e → x ≡ Ends }
     ensures computed { (m : Mends) (n : ℕ) (p : Parser) (e : List Event) (x : Ending)
         → run_within m n p ≡ (e, Some x) → Runs m p e x }
-{
-    some_run();
-}
+{}
 
 /// With its three mends, the run is that of the grammar, whose events too nest to the end only where it ends.
 pub fn runs_here()
@@ -56,10 +38,7 @@ pub fn runs_here()
         → Runs as_here (new_parser l f) e x }
     ensures whole { (l : List Token) (f : Fault) (e : List Event) (x : Ending) → IsRun l f e x
         → IsNested e → x ≡ Ends }
-{
-    one_run();
-    some_run();
-}
+{}
 
 /// A call of any parser does the same with the mends and without, but at three places; what it does there.
 /// After the stream's end, and after a fault, it returns the empty event and changes nothing.
@@ -77,9 +56,7 @@ pub fn compared()
     ensures runs { (l : List Token) (f : Fault) (e d : List Event) (x y : Ending) → RunsThere l f e x
         → IsRun (map as_held l) f d y → Compares (new_parser (map as_held l) f) e x d y }
     ensures texts { (l : List Token) → NoneHoldsZero l → map as_held l ≡ l }
-{
-    runs_here();
-}
+{}
 
 /// What the original's loader makes of events that nest, whole ones with the stream's end alone, and with any
 /// bound on its lists, are the loads of this repository within that bound. The events of a run nest so, here
@@ -91,11 +68,7 @@ pub fn loads_alike()
         → loads_there n e x ≡ bounded_loads n e x }
     ensures of_run_there { (n : ℕ) (l : List Token) (f : Fault) (e : List Event) (x : Ending)
         → RunsThere l f e x → loads_there n e x ≡ bounded_loads n e x }
-{
-    run_nests();
-    runs_here();
-    runs_there();
-}
+{}
 
 /// So what the original's parser and loader make of a list of tokens is what this repository's make; or it is
 /// up to a call at one of the three places, and both begin with the loads of the events before it. Texts are
@@ -103,7 +76,4 @@ pub fn loads_alike()
 pub fn documents_compared()
     ensures { (n : ℕ) (l : List Token) (f : Fault) (a b : List Load) → LoadsThere n l f a
         → IsBoundedLoads n (map as_held l) f b → LoadsCompare n (new_parser (map as_held l) f) a b }
-{
-    compared();
-    loads_alike();
-}
+{}

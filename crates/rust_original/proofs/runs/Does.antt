@@ -11,10 +11,11 @@ use Rattle.libyaml_events.specs.machine.Want.{AtState, Given, Want, Wants}
 use Rattle.libyaml_events.specs.sources.History.{is_stream_end}
 use Rattle.libyaml_events.specs.sources.Pushed.{Fed, standing}
 use Rattle.libyaml_events.specs.sources.Pushed as pushed
+use Rattle.libyaml_events.proofs.lent.Pushes.{fault_runs, fed_ended, fed_settled, gives_end, wants_runs}
+use Rattle.libyaml_events.proofs.lent.RunStops.{short_run}
 use Rattle.rust_original.proofs.parser.Relation.{HereCall, feed, given, led, stopped, tokens_of}
-use Rattle.rust_original.proofs.runs.Laws.{Laws}
 
-module _ (law : Laws) (f : Fault) where
+module _ (f : Fault) where
   -- From where it was handed l and gave g it takes some of the tokens and gives an event, or has the run's fault.
   pub data Does (l : List Token) (g : List Event) (rest : List Token) : HereCall → Type 0 where
     gives : {e : Event} {d : Config} {r : List Token} (more : List Token) → rest ≡ more ++ r
@@ -40,16 +41,16 @@ module _ (law : Laws) (f : Fault) where
   by_hand rest next w c u l g h = go (step w c u) refl
     where
       go : (o : Progressed) → step w c u ≡ o → Does l g rest (led o rest (λ v d. feed f v d rest))
-      go (Err x) i = fails (law.fails w c u l g x h i rest f)
-      go (Ok (Wants v, d)) i = next v d l g (pushed.wants w c u h i) (law.wants w v c d u l g h i)
+      go (Err x) i = fails (fault_runs h x i rest f)
+      go (Ok (Wants v, d)) i = next v d l g (pushed.wants w c u h i) (wants_runs h v d i)
       go (Ok (Given e, d)) i
           = gives [] refl (pushed.gives w c u g e d
           (subst (λ (y : List Token). Fed w c (Some u) y g) (sym (append-nil l)) h)
-          i refl refl refl) (law.gives w c d u l g e h i)
+          i refl refl refl) (gives_end h e d i)
 
   by_tokens : (rest : List Token) → DoesFrom rest
   by_tokens [] w c l g h n = fails (subst (λ (y : List Token). IsRun y f g (Fails f)) (sym (append-nil l))
-      (law.run_so_far (standing w c) l g h (sym (law.ended (standing w c) l g h) ∙ n) f))
+      (short_run l g f (fed_settled h (sym (fed_ended h) ∙ n))))
   by_tokens (t ∷ rest) w c l g h n
       = one_more t (by_hand rest (by_tokens rest) w c t (l ++ t ∷ []) g (pushed.takes w c l g t h n refl))
 

@@ -1,33 +1,52 @@
--- The laws of a machine that is handed its tokens (`each_step`, `of_pushed`), as the law of runs passes them on.
-use Rattle.std.proofs.Common.{◌≡◌, ◌≤◌, ◌*◌, ◌++◌, List, length, Option, Some, Ok, Err, true, false}
+-- That there is a run over each list, with the mends and without, and that of the grammar is the one with them.
+use Rattle.std.proofs.Common.{◌≡◌, ◌⊎◌, List, map, Bool, true, false, inl, refl, subst}
 use Rattle.libyaml_types.specs.Fault.{Fault}
-use Rattle.libyaml_grammar.specs.runs.Runs.{Ends, Fails, IsRun}
+use Rattle.libyaml_grammar.specs.runs.Runs.{Ending, Ends, IsRun}
 use Rattle.libyaml_grammar.specs.sentences.Events.{Event}
-use Rattle.libyaml_grammar.specs.sentences.Nesting.{NestsSoFar}
-use Rattle.libyaml_grammar.specs.sentences.Sentences.{has_end}
+use Rattle.libyaml_grammar.specs.sentences.Nesting.{IsNested, NestsSoFar}
 use Rattle.libyaml_grammar.specs.sentences.Tokens.{Token}
-use Rattle.libyaml_events.specs.machine.Config.{Config, ended_or_failed, is_fault}
-use Rattle.libyaml_events.specs.machine.Machine.{step}
-use Rattle.libyaml_events.specs.machine.Want.{Given, Want, Wants}
-use Rattle.libyaml_events.specs.sources.History.{is_stream_end}
-use Rattle.libyaml_events.specs.sources.Pushed.{Fed, ForPushed, PushParser, has_stopped}
+use Rattle.libyaml_grammar.proofs.lent.Running.{one_run_proof}
+use Rattle.rust_original.specs.parser.Differences.{Differs, call_here}
+use Rattle.rust_original.specs.parser.Parser.{Mends, Parser}
+use Rattle.rust_original.specs.parser.Runs.{Runs, RunsThere, as_here, as_there, call, new_parser}
+use Rattle.rust_original.specs.parser.Texts.{as_held}
+use Rattle.rust_original.proofs.runs.Apart.{may_differ, one_run}
+use Rattle.rust_original.proofs.runs.Ended.{ends_whole}
+use Rattle.rust_original.proofs.runs.Total.{has_run}
 
-abbrev pub ForFed : (Config → List Token → List Event → Type 0) → Type 0
-ForFed P = (w : Want) (c : Config) (o : Option Token) (l : List Token) (g : List Event) → Fed w c o l g → P c l g
+-- Over each list of tokens and fault of a source after it there is a run of a parser that does what the mended one does,
+-- but at the three places. Its events nest, to the end only where the run ends; and where it differs nowhere, the run is
+-- that of the grammar.
+pub some_run : (m : Mends) (differs : Bool) → ((p : Parser) → (call m p ≡ call_here p)
+    ⊎ ((differs ≡ true) × Differs p (call m p) (call_here p)))
+    → (l : List Token) (f : Fault) → (e : List Event) × (x : Ending) × Runs m (new_parser l f) e x
+    × NestsSoFar e × (IsNested e → x ≡ Ends) × (differs ≡ false → IsRun l f e x)
+some_run m differs places l f =
+    let r = has_run f m differs places l in
+    (r.events, r.ending, r.runs, r.nests, ends_whole r.events r.ending r.unended, r.run)
 
-pub record Laws : Type 0 where
-  pub nests : ForFed (λ _ _ g. NestsSoFar g)
-  pub at_most_four : ForFed (λ _ l g. length g ≤ 4 * length l)
-  pub faultless : ForFed (λ c _ _. is_fault c.fault.error ≡ false)
-  pub in_hand : (w : Want) (c : Config) (u : Token) (l : List Token) (g : List Event) → Fed w c (Some u) l g
-      → ended_or_failed c ≡ false
-  pub wants : (w v : Want) (c d : Config) (u : Token) (l : List Token) (g : List Event) → Fed w c (Some u) l g
-      → step w c u ≡ Ok (Wants v, d) → ended_or_failed d ≡ false
-  pub gives : (w : Want) (c d : Config) (u : Token) (l : List Token) (g : List Event) (e : Event) → Fed w c (Some u) l g
-      → step w c u ≡ Ok (Given e, d) → ended_or_failed d ≡ is_stream_end e
-  pub fails : (w : Want) (c : Config) (u : Token) (l : List Token) (g : List Event) (x : Fault) → Fed w c (Some u) l g
-      → step w c u ≡ Err x → (more : List Token) (f : Fault) → IsRun (l ++ more) f g (Fails x)
-  pub run_so_far : (p : PushParser) → ForPushed p (λ l g. has_end l ≡ false → (f : Fault) → IsRun l f g (Fails f))
-  pub run : (p : PushParser) → ForPushed p (λ l g. has_end l ≡ true → (more : List Token) (f : Fault)
-      → IsRun (l ++ more) f g Ends)
-  pub ended : (p : PushParser) → ForPushed p (λ l _. has_stopped p ≡ has_end l)
+pub run_here : (l : List Token) (f : Fault) (e : List Event) (x : Ending) → IsRun l f e x
+    → Runs as_here (new_parser l f) e x
+run_here l f e x run =
+    let r = some_run as_here false (λ p. inl refl) l f in
+    let same = one_run_proof l f r.0 e r.1 x (r.5 refl) run in
+    subst (λ (d : List Event). Runs as_here (new_parser l f) d x) same.0
+    (subst (λ (y : Ending). Runs as_here (new_parser l f) r.0 y) same.1 r.2)
+
+pub whole_here : (l : List Token) (f : Fault) (e : List Event) (x : Ending) → IsRun l f e x → IsNested e → x ≡ Ends
+whole_here l f e x run =
+    let r = some_run as_here false (λ p. inl refl) l f in
+    let same = one_run_proof l f r.0 e r.1 x (r.5 refl) run in
+    subst (λ (d : List Event). IsNested d → x ≡ Ends) same.0 (subst (λ (y : Ending). IsNested r.0 → y ≡ Ends) same.1 r.4)
+
+pub nests_there : (l : List Token) (f : Fault) (e : List Event) (x : Ending) → RunsThere l f e x → NestsSoFar e
+nests_there l f e x run =
+    let r = some_run as_there true may_differ (map as_held l) f in
+    subst NestsSoFar (one_run r.2 e x run).0 r.3
+
+pub whole_there : (l : List Token) (f : Fault) (e : List Event) (x : Ending) → RunsThere l f e x → IsNested e
+    → x ≡ Ends
+whole_there l f e x run =
+    let r = some_run as_there true may_differ (map as_held l) f in
+    let same = one_run r.2 e x run in
+    subst (λ (d : List Event). IsNested d → x ≡ Ends) same.0 (subst (λ (y : Ending). IsNested r.0 → y ≡ Ends) same.1 r.4)

@@ -20,6 +20,8 @@ use Rattle.libyaml_events.specs.machine.Want.{AtState, Given}
 use Rattle.libyaml_events.specs.sources.History.{is_stream_end}
 use Rattle.libyaml_events.specs.sources.Pushed.{Fed, standing as between_tokens}
 use Rattle.libyaml_events.specs.sources.Pushed as pushed
+use Rattle.libyaml_events.proofs.lent.Pushes.{fed_count, fed_ended, fed_nests, fed_whole, gives_end, hand_runs, none_kept}
+use Rattle.libyaml_events.proofs.lent.RunStops.{whole_run}
 use Rattle.rust_original.specs.parser.Differences.{Differs, bare_document, call_here, pair_key, value_first}
 use Rattle.rust_original.specs.parser.Parser.{FAIL, Mends, OK, Outcome, Parser, SKIP_TOKEN, is_one_of, scalar_event}
 use Rattle.rust_original.specs.parser.Parser.{set_state}
@@ -31,7 +33,6 @@ use Rattle.rust_original.proofs.parser.Relation.{root_end, there, tk, tokens_of}
 use Rattle.rust_original.proofs.runs.Does as does
 use Rattle.rust_original.proofs.runs.Does.{Does}
 use Rattle.rust_original.proofs.runs.Ended.{NoEnd}
-use Rattle.rust_original.proofs.runs.Laws.{Laws}
 
 -- where the key of a flow sequence's pair is due: an empty scalar that stands at the end of the token that the
 -- original skips
@@ -89,7 +90,7 @@ no_end StreamEnd m n e = absurd cc
 no_end k m n e = refl
 
 -- The parser with the mends m; it may differ from the one with all three where b is true.
-module _ (law : Laws) (f : Fault) (m : Mends) (b : Bool)
+module _ (f : Fault) (m : Mends) (b : Bool)
     (places : (p : Parser) → (call m p ≡ call_here p) ⊎ ((b ≡ true) × Differs p (call m p) (call_here p))) (most : ℕ) where
   -- it stands beside our machine, which was handed l and gave g, with no more tokens than there are
   record Along (q : Parser) (d : Config) (rest l : List Token) (g : List Event) : Type 0 where
@@ -112,7 +113,7 @@ module _ (law : Laws) (f : Fault) (m : Mends) (b : Bool)
   over_flag : (q : Parser) (d : Config) (rest l : List Token) (g : List Event) → Along q d rest l g
       → ended_or_failed d ≡ q.stream_end_produced
   over_flag q d rest l g a
-      = ap (λ (u : Bool). u || is_end_state d.state) (law.faultless AtState (taken d) d.lookahead l g a.fed)
+      = ap (λ (u : Bool). u || is_end_state d.state) (none_kept a.fed)
       ∙ (sym (flagged a.stands.fits) ∙ ap (λ (p : Parser). p.stream_end_produced) (sym a.stands.is))
 
   failed_here : (q : Parser) (d : Config) (rest l : List Token) (g : List Event) → Along q d rest l g → (x : Fault)
@@ -121,7 +122,7 @@ module _ (law : Laws) (f : Fault) (m : Mends) (b : Bool)
     events = [];
     ending = Fails x;
     runs = fails i;
-    nests = subst NestsSoFar (sym (append-nil g)) (law.nests AtState (taken d) d.lookahead l g a.fed);
+    nests = subst NestsSoFar (sym (append-nil g)) (fed_nests a.fed);
     unended = λ y j. tt;
     run = λ j. subst (λ (y : List Event). IsRun (l ++ rest) f y (Fails x)) (sym (append-nil g)) (run j);
   }
@@ -135,21 +136,20 @@ module _ (law : Laws) (f : Fault) (m : Mends) (b : Bool)
       none : (o : Option Token) → Fed AtState (taken d) o l (g ++ e ∷ []) → ended_or_failed d ≡ true
           → Fed AtState (taken d) None l (g ++ e ∷ [])
       none None h j = h
-      none (Some u) h j = absurd (not_both (law.in_hand AtState (taken d) u l (g ++ e ∷ []) h) j)
+      none (Some u) h j = absurd (not_both (hand_runs h) j)
 
       whole : p.stream_end_produced ≡ true → IsRun (l ++ rest) f (g ++ e ∷ []) Ends
       whole k =
           let j = over_flag p d rest l (g ++ e ∷ []) a ∙ k in
           let h = none d.lookahead a.fed j in
-          law.run (between_tokens AtState (taken d)) l (g ++ e ∷ []) h
-          (sym (law.ended (between_tokens AtState (taken d)) l (g ++ e ∷ []) h) ∙ j) rest f
+          whole_run l (g ++ e ∷ []) rest f (fed_whole h (sym (fed_ended h) ∙ j))
 
       go : (u : Bool) → p.stream_end_produced ≡ u → HasRun q all g
       go true k = record {
         events = e ∷ [];
         ending = Ends;
         runs = ends i k;
-        nests = law.nests AtState (taken d) d.lookahead l (g ++ e ∷ []) a.fed;
+        nests = fed_nests a.fed;
         unended = λ x j. absurd (never x j);
         run = λ j. subst (λ (y : List Token). IsRun y f (g ++ e ∷ []) Ends) (sym (same j)) (whole k);
       }
@@ -174,9 +174,9 @@ module _ (law : Laws) (f : Fault) (m : Mends) (b : Bool)
       → 4 * most < suc n + length g → ended_or_failed d ≡ false → Next n → call m q ≡ call_here q
       → HasRun q (l ++ rest) g
   alike n q d rest l g a less begun next same
-      = go (call_here q) refl (does.does law f d rest l g a.fed begun) (call_same f q d rest a.stands (not_over d begun))
+      = go (call_here q) refl (does.does f d rest l g a.fed begun) (call_same f q d rest a.stands (not_over d begun))
     where
-      go : (o : Outcome) → call_here q ≡ o → {z : HereCall} → Does law f l g rest z → Matches f o z
+      go : (o : Outcome) → call_here q ≡ o → {z : HereCall} → Does f l g rest z → Matches f o z
           → HasRun q (l ++ rest) g
       go (OK e p) i (does.gives {e = y} {d = x} {r} more j fed ends_so) w =
           let parts : l ++ rest ≡ (l ++ more) ++ r
@@ -237,15 +237,14 @@ module _ (law : Laws) (f : Fault) (m : Mends) (b : Bool)
             refl refl refl;
         few = omega arith;
       })
-      (law.gives AtState (taken d) (behind_pair_key d) (empty_token t.end_mark) (l ++ empty_token t.end_mark ∷ []) g
-      (empty_at t.end_mark) hand led) (λ j. absurd (not_both j may)) less next
+      (gives_end hand (empty_at t.end_mark) (behind_pair_key d) led) (λ j. absurd (not_both j may)) less next
     where
       goes : Parser → Parser
       goes p = set_state st.YAML_PARSE_FLOW_SEQUENCE_ENTRY_MAPPING_VALUE_STATE (SKIP_TOKEN p)
 
   total : (n : ℕ) → Next n
   total zero q d rest l g a less k =
-      let i = law.at_most_four AtState (taken d) d.lookahead l g a.fed in let few = a.few in absurd (omega arith)
+      let i = fed_count a.fed in let few = a.few in absurd (omega arith)
   total (suc n) q d rest l g a less k = go (places q) (λ p x r v h. total n p x r v h)
     where
       begun : ended_or_failed d ≡ false
@@ -255,8 +254,8 @@ module _ (law : Laws) (f : Fault) (m : Mends) (b : Bool)
       go (inl i) next = alike n q d rest l g a less begun next i
       go (inr (may, i)) next = parted n q d rest l g a less begun next may i refl
 
-pub has_run : (law : Laws) (f : Fault) (m : Mends) (b : Bool)
+pub has_run : (f : Fault) (m : Mends) (b : Bool)
     → (places : (p : Parser) → (call m p ≡ call_here p) ⊎ ((b ≡ true) × Differs p (call m p) (call_here p)))
-    → (l : List Token) → HasRun law f m b places (length l) (new_parser l f) l []
-has_run law f m b places l = total law f m b places (length l) (suc (4 * length l)) (new_parser l f) start l [] []
+    → (l : List Token) → HasRun f m b places (length l) (new_parser l f) l []
+has_run f m b places l = total f m b places (length l) (suc (4 * length l)) (new_parser l f) start l [] []
     (record { stands = standing refl before tt; fed = pushed.begins; few = omega arith }) (omega arith) refl
