@@ -8,9 +8,9 @@ use Rattle.libyaml_events.specs.machine.Want as parser_want
 use Rattle.libyaml_automaton.specs.Automaton as automaton
 use Rattle.libyaml_automaton.specs.Config.{Config}
 use Rattle.libyaml_automaton.specs.Want as want
-use Rattle.automaton_laws.specs.Alike.{StepsAreAlike}
 use Rattle.automaton_laws.specs.Texts.{config_with, fault_with, held_of, token_of, want_of, with_texts}
-use Rattle.token_steps.specs.RunLaws.{RunIsFed, ForFailed, FailsAs}
+use Rattle.automaton_laws.proofs.lent.Alike.{steps}
+use Rattle.token_steps.specs.RunLaws.{ForFailed, FailsAs}
 use Rattle.token_steps.specs.Records.{fault_of}
 use Rattle.libyaml_automaton.specs.Config.{config_of}
 use Rattle.token_steps.specs.declared.did.Did.{Did}
@@ -21,13 +21,14 @@ use Rattle.token_steps.specs.declared.records.step_fault_t.{step_fault_t}
 use Rattle.token_steps.specs.Numbers.{number}
 use Rattle.token_steps.specs.Tells.{Tells, want_in}
 use Rattle.token_steps.proofs.Follows.{no}
+use Rattle.token_steps.proofs.Running.{fed}
 
-fails_as : StepsAreAlike → (w : parser_want.Want) (v : want.Want) (k : Config) (hs : Handles) (t : Token)
+fails_as : (w : parser_want.Want) (v : want.Want) (k : Config) (hs : Handles) (t : Token)
     (f : want.Fault) → want_of hs w ≡ v
     → automaton.step v k (token_of hs t) ≡ Err f
     → parser.step w (config_with k hs no_fault None) t ≡ Err (fault_with f)
-fails_as law w v k hs t f a e =
-    law w (config_with k hs no_fault None) t
+fails_as w v k hs t f a e =
+    steps w (config_with k hs no_fault None) t
     ∙ (ap (λ (x : want.Want). with_texts (held_of w) (config_with k hs no_fault None) t t.content
     (automaton.step x k (token_of hs t))) a
     ∙ ap (with_texts (held_of w) (config_with k hs no_fault None) t t.content) e)
@@ -44,14 +45,14 @@ told did.FullStates p t d e f c q h = no (sym (ap (λ (x : ℕ). x == 5) q))
 told did.FullMarks p t d e f c q h = no (sym (ap (λ (x : ℕ). x == 5) q))
 told did.Bad p t d e f c q h = no (sym (ap (λ (x : ℕ). x == 5) q))
 
-pub fails : RunIsFed → StepsAreAlike → ForFailed FailsAs
-fails fed law d d' ss ss' ms ms' hs kept l g t e f r c =
+pub fails : ForFailed FailsAs
+fails d d' ss ss' ms ms' hs kept l g t e f r c =
     let at = fed d ss ms hs kept _ l g r in (
       at.0,
       config_of d.machine ss ms,
       hs,
       t,
       at.3,
-      fails_as law at.0 (want_in d)
+      fails_as at.0 (want_in d)
           (config_of d.machine ss ms) hs t (fault_of f) at.1 (told c.0 _ _ _ e _ _ c.1 c.2),
     )

@@ -5,12 +5,11 @@ use Rattle.libyaml_types.specs.Types.{token_type}
 use Rattle.libyaml_types.specs.declared.mark.yaml_mark_t.{yaml_mark_t}
 use Rattle.libyaml_types.specs.declared.token.unnamed_yaml_token_t_data.{unnamed_yaml_token_t_data}
 use Rattle.libyaml_types.specs.declared.event.unnamed_yaml_event_t_data.{unnamed_yaml_event_t_data}
-use Rattle.libyaml_types.specs.Fault.{no_fault}
 use Rattle.libyaml_grammar.specs.sentences.Sentences.{has_end}
 use Rattle.libyaml_grammar.specs.sentences.Tokens.{Token}
 use Rattle.libyaml_grammar.specs.sentences.Events.{Event, event}
 use Rattle.libyaml_events.specs.machine.Config.{Handles, no_handles, is_end_state}
-use Rattle.libyaml_events.specs.sources.Pushed.{ForPushed, PushParser, has_stopped, standing}
+use Rattle.libyaml_events.proofs.lent.Pushes.{fed_ended}
 use Rattle.libyaml_automaton.specs.Automaton.{Progressed, step, want}
 use Rattle.libyaml_automaton.specs.Config.{Config, config_of, start}
 use Rattle.libyaml_automaton.specs.Fits.{is_opening}
@@ -22,7 +21,8 @@ use Rattle.automaton_laws.specs.Histories as history
 use Rattle.automaton_laws.specs.Histories.{Stepped, StandsAs, SteppedIsFed}
 use Rattle.automaton_laws.specs.Texts.{Held, nothing_held, held_of, held_behind}
 use Rattle.automaton_laws.specs.Texts.{handles_after, declared_by, want_with}
-use Rattle.automaton_laws.specs.Texts.{config_with, content_with, event_with, lookahead_after, token_of}
+use Rattle.automaton_laws.specs.Texts.{content_with, event_with, lookahead_after, token_of}
+use Rattle.automaton_laws.proofs.lent.Alike.{stands}
 use Rattle.token_steps.specs.declared.did.Did.{Did}
 use Rattle.token_steps.specs.declared.did.Did.TheVariants as did
 use Rattle.token_steps.specs.declared.steps.steps_t.{steps_t}
@@ -211,43 +211,38 @@ before_token did.Failed v k k' hs h l g t d e f s q c = no (sym (ap (λ (x : ℕ
 before_token did.Bad v k k' hs h l g t d e f s q c = no (sym (ap (λ (x : ℕ). x == 2) q))
 
 -- before STREAM-END the parser has not ended
-
-abbrev pub Ended : Type 0
-Ended = (p : PushParser) → ForPushed p (λ l g. has_stopped p ≡ has_end l)
-
-alive : SteppedIsFed → Ended → (v : Want) (k : Config) (hs : Handles) (h : Held) (l : List Token)
+alive : (v : Want) (k : Config) (hs : Handles) (h : Held) (l : List Token)
     (g : List Event)
     → Stepped v k hs h None l g → has_end l ≡ false → is_end_state k.state ≡ false
-alive law ended v k hs h l g s e =
-    let at = law v k hs h None l g s in ended (standing at.0 (config_with k hs no_fault None)) l g at.3 ∙ e
+alive v k hs h l g s e = let at = stands v k hs h None l g s in fed_ended at.3 ∙ e
 
-stood : SteppedIsFed → Ended → (d : steps_t) (ss : List ℕ) (ms : List yaml_mark_t) (hs : Handles) (h : Held)
+stood : (d : steps_t) (ss : List ℕ) (ms : List yaml_mark_t) (hs : Handles) (h : Held)
     (o : Option Token)
     (l : List Token) (g : List Event) → Run d ss ms hs h o l g
     → Stood (want_in d) (config_of d.machine ss ms) hs h o l g
-stood law ended _ _ _ _ _ _ _ _ (begins d ss ms e f) =
+stood _ _ _ _ _ _ _ _ (begins d ss ms e f) =
     at_config (want_in d) start (config_of d.machine ss ms) no_handles nothing_held None [] [] (sym f)
     (at_want w.AtState (want_in d) start no_handles nothing_held None [] [] (sym e) stood_starts)
-stood law ended _ _ _ _ _ _ _ _ (moves d d' ss ss' ms ms' hs h o l g r v e) =
+stood _ _ _ _ _ _ _ _ (moves d d' ss ss' ms ms' hs h o l g r v e) =
     at_config (want_in d') (config_of d.machine ss ms) (config_of d'.machine ss' ms') hs h o l g (sym e)
     (at_want (want_in d) (want_in d') (config_of d.machine ss ms) hs h o l g (sym v)
-    (stood law ended d ss ms hs h o l g r))
-stood law ended _ _ _ _ _ _ _ _ (takes d ss ms hs h l g t r e) =
-    let s = stood law ended d ss ms hs h None l g r in
+    (stood d ss ms hs h o l g r))
+stood _ _ _ _ _ _ _ _ (takes d ss ms hs h l g t r e) =
+    let s = stood d ss ms hs h None l g r in
     stood_takes (want_in d) (config_of d.machine ss ms) hs h l g t
-    (alive law ended (want_in d) (config_of d.machine ss ms) hs h l g s.stepped e) s
-stood law ended _ _ _ _ _ _ _ _ (wants d d' ss ss' ms ms' hs h l g t e f r c) =
+    (alive (want_in d) (config_of d.machine ss ms) hs h l g s.stepped e) s
+stood _ _ _ _ _ _ _ _ (wants d d' ss ss' ms ms' hs h l g t e f r c) =
     after_wants c.0 (want_in d) (config_of d.machine ss ms) (config_of d'.machine ss' ms') hs h l g t d' e f
-    (stood law ended d ss ms hs h (Some t) l g r) c.1 c.2
-stood law ended _ _ _ _ _ _ _ _ (gave d d' ss ss' ms ms' hs h l g t e f r c) =
+    (stood d ss ms hs h (Some t) l g r) c.1 c.2
+stood _ _ _ _ _ _ _ _ (gave d d' ss ss' ms ms' hs h l g t e f r c) =
     after_event c.0 (want_in d) (config_of d.machine ss ms) (config_of d'.machine ss' ms') hs h l g t d' e f
-    (stood law ended d ss ms hs h (Some t) l g r) c.1 c.2
-stood law ended _ _ _ _ _ _ _ _ (stays d d' ss ss' ms ms' hs h l g t e f r c) =
+    (stood d ss ms hs h (Some t) l g r) c.1 c.2
+stood _ _ _ _ _ _ _ _ (stays d d' ss ss' ms ms' hs h l g t e f r c) =
     before_token c.0 (want_in d) (config_of d.machine ss ms) (config_of d'.machine ss' ms') hs h l g t d' e f
-    (stood law ended d ss ms hs h (Some t) l g r) c.1 c.2
+    (stood d ss ms hs h (Some t) l g r) c.1 c.2
 
-pub fed : SteppedIsFed → Ended → (d : steps_t) (ss : List ℕ) (ms : List yaml_mark_t) (hs : Handles)
+pub fed : (d : steps_t) (ss : List ℕ) (ms : List yaml_mark_t) (hs : Handles)
     (h : Held) (o : Option Token)
     (l : List Token) (g : List Event) → Run d ss ms hs h o l g
     → StandsAs (want_in d) (config_of d.machine ss ms) hs h o l g
-fed law ended d ss ms hs h o l g r = law _ _ hs h o l g (stood law ended d ss ms hs h o l g r).stepped
+fed d ss ms hs h o l g r = stands _ _ hs h o l g (stood d ss ms hs h o l g r).stepped

@@ -19,17 +19,11 @@ ghost use Rattle.token_steps.specs.declared.tags.handles.handle_t.{handle_t};
 ghost use Rattle.token_steps.specs.Handles.{AllWithin, bytes_at, handles_at};
 ghost use Rattle.token_steps.specs.RunLaws.{BetweenTokens, FailsAs, ForFailed, ForRuns, RunIsFed};
 
-use automaton_laws::{stepped_is_fed, steps_are_alike};
-use libyaml_events::laws::pushes::{each_step, of_pushed};
-
 /// Whatever a caller handed in and was given, with the texts that it kept by the kinds of tokens alone, a
 /// parser was handed and gave. So what is proved of pushes holds of a caller's calls.
 pub fn run_is_fed()
     ensures { RunIsFed }
-{
-    stepped_is_fed();
-    of_pushed();
-}
+{}
 
 /// Before STREAM-END the events are those that the tokens settle, each given as soon as its token came; with
 /// it they are those of the whole tree, and of the run of all lists that begin so. They nest, and are at most
@@ -44,11 +38,7 @@ pub fn run_is_right()
     ensures begins { BetweenTokens BeginsEach }
     ensures nests { ForRuns (λ _ events. NestsSoFar events) }
     ensures at_most_four { ForRuns (λ tokens events. length events ≤ 4 * length tokens) }
-{
-    run_is_fed();
-    of_pushed();
-    each_step();
-}
+{}
 
 /// A fault is that of a parser which was handed the same tokens, with its text and its marks, and so that of
 /// the run, whatever comes after.
@@ -56,11 +46,7 @@ pub fn run_fails()
     ensures parser { ForFailed FailsAs }
     ensures run { ForFailed (λ tokens events fault. (more : List Token) (source : Fault)
         → IsRun (tokens ++ more) source events (Fails fault)) }
-{
-    run_is_fed();
-    steps_are_alike();
-    each_step();
-}
+{}
 
 /// The functions over a table of handles return the facts of tokens, where the table stands for the
 /// document's handles. An empty one does at a document's start; and one entry more for each TAG-DIRECTIVE

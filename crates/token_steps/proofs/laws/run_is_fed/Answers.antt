@@ -2,4 +2,4 @@ use Rattle.token_steps.proofs.Running.{fed}
 use Rattle.token_steps.proofs.laws.run_is_fed.Goals as goal
 
 pub returns : goal.returns
-returns c = fed c.stepped_is_fed.ensures c.of_pushed.ensures.ended
+returns c = fed

@@ -1,29 +1,16 @@
 use Rattle.std.proofs.Common.{None}
-use Rattle.libyaml_types.specs.Fault.{no_fault}
-use Rattle.libyaml_events.specs.sources.Pushed.{standing}
-use Rattle.libyaml_automaton.specs.Config.{config_of}
-use Rattle.automaton_laws.specs.Texts.{config_with}
+use Rattle.libyaml_events.proofs.lent.Pushes.{fed_begins, fed_count, fed_nests, fed_settled, fed_whole}
+use Rattle.libyaml_events.proofs.lent.RunStops.{short_run, whole_run}
+use Rattle.token_steps.proofs.Running.{fed}
 use Rattle.token_steps.proofs.laws.run_is_right.Goals as goal
 
 pub returns : goal.returns
 returns c = record {
-  settled = λ d ss ms hs h l g r. let at = c.run_is_fed.ensures d ss ms hs h None l g r in
-      c.of_pushed.ensures.settled (standing at.0
-      (config_with (config_of d.machine ss ms) hs no_fault None)) l g at.3;
-  whole = λ d ss ms hs h l g r. let at = c.run_is_fed.ensures d ss ms hs h None l g r in
-      c.of_pushed.ensures.whole (standing at.0
-      (config_with (config_of d.machine ss ms) hs no_fault None)) l g at.3;
-  run_so_far = λ d ss ms hs h l g r. let at = c.run_is_fed.ensures d ss ms hs h None l g r in
-      c.of_pushed.ensures.run_so_far (standing at.0
-      (config_with (config_of d.machine ss ms) hs no_fault None)) l g at.3;
-  run = λ d ss ms hs h l g r. let at = c.run_is_fed.ensures d ss ms hs h None l g r in
-      c.of_pushed.ensures.run
-      (standing at.0 (config_with (config_of d.machine ss ms) hs no_fault None)) l g at.3;
-  begins = λ d ss ms hs h l g r. let at = c.run_is_fed.ensures d ss ms hs h None l g r in
-      c.of_pushed.ensures.begins (standing at.0
-      (config_with (config_of d.machine ss ms) hs no_fault None)) l g at.3;
-  nests = λ d ss ms hs h o l g r. let at
-      = c.run_is_fed.ensures d ss ms hs h o l g r in c.each_step.ensures.nests at.0 _ o l g at.3;
-  at_most_four = λ d ss ms hs h o l g r. let at = c.run_is_fed.ensures d ss ms hs h o l g r in
-      c.each_step.ensures.at_most_four at.0 _ o l g at.3;
+  settled = λ d ss ms hs h l g r. fed_settled (fed d ss ms hs h None l g r).3;
+  whole = λ d ss ms hs h l g r. fed_whole (fed d ss ms hs h None l g r).3;
+  run_so_far = λ d ss ms hs h l g r e f. short_run l g f (fed_settled (fed d ss ms hs h None l g r).3 e);
+  run = λ d ss ms hs h l g r e more f. whole_run l g more f (fed_whole (fed d ss ms hs h None l g r).3 e);
+  begins = λ d ss ms hs h l g r. fed_begins (fed d ss ms hs h None l g r).3;
+  nests = λ d ss ms hs h o l g r. fed_nests (fed d ss ms hs h o l g r).3;
+  at_most_four = λ d ss ms hs h o l g r. fed_count (fed d ss ms hs h o l g r).3;
 }
