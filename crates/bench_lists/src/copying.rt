@@ -2,7 +2,7 @@
 
 ghost use Rattle.std.specs.Prelude.{◌≡◌, None, length};
 ghost use Rattle.libyaml_types.specs.Fault.{memory_fault, source_fault};
-ghost use Rattle.bench_lists.specs.Copying.{Gives, gives_repeats};
+ghost use Rattle.bench_lists.specs.Copying.{CopiesGive, gives_repeats};
 
 use libyaml_events::{
     ZERO_MARK, unnamed_yaml_token_t_data, unnamed_yaml_token_t_data_alias,
@@ -83,7 +83,7 @@ impl<'a, C> Copying<'a, C> {
 impl<'a, C: Copier> yaml_token_source_t for Copying<'a, C> {
     ghost bound = { λ s. s.left };
 
-    ghost gives = { Gives };
+    ghost gives = { CopiesGive };
 
     ghost known = { λ _. None };
 

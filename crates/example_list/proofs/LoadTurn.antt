@@ -11,7 +11,7 @@ use Rattle.libyaml_grammar.specs.runs.Runs.{Ends}
 use Rattle.libyaml_grammar.specs.sentences.Sentences.{has_end}
 use Rattle.libyaml_events.specs.sources.Pushes.{Done, done_if}
 use Rattle.libyaml_graphs.specs.loads.Loads.{last_load}
-use Rattle.libyaml_loader.specs.pushes.Loaded.{ForLoaded, Loaded, PushLoader, fault_in, has_stopped, keeps_fault}
+use Rattle.libyaml_loader.specs.pushes.Loaded.{ForLoaded, Loaded, PushLoader, loader_fault, loader_has_stopped, loader_keeps_fault}
 use Rattle.libyaml_loader.specs.pushes.PushesLoads.{AreThen, PushesLoads, StopsLoading, TakesLoads, by_memory, by_tokens}
 use Rattle.example_list.specs.Answer.{GivesLoads, LoadsFail}
 
@@ -28,7 +28,7 @@ pub record LoadTurn (l : PushLoader) (all : Tokens) (documents : List Document) 
   pub parts : all ≡ taken ++ later
   pub loaded : Loaded l taken documents
   pub bound : l.max_entries ≡ most
-  pub none_or_end : (later ≡ []) ⊎ (has_stopped l ≡ true)
+  pub none_or_end : (later ≡ []) ⊎ (loader_has_stopped l ≡ true)
 
 pub first_load_turn : (l : PushLoader) → Loaded l [] [] → l.max_entries ≡ most → LoadTurn l [] []
 first_load_turn l h b = record { taken = []; later = []; parts = refl; loaded = h; bound = b; none_or_end = inl refl }
@@ -36,7 +36,7 @@ first_load_turn l h b = record { taken = []; later = []; parts = refl; loaded = 
 module _ (Full : Type 0) (old : PushLoader) (t : yaml_token_t) (all : Tokens) (documents : List Document)
     (turn : LoadTurn old all documents) (new : PushLoader)
     (after : List Document) where
-  ended_turn : has_stopped old ≡ true → new ≡ old → after ≡ documents → LoadTurn new (all ++ t ∷ []) after
+  ended_turn : loader_has_stopped old ≡ true → new ≡ old → after ≡ documents → LoadTurn new (all ++ t ∷ []) after
   ended_turn h e f = record {
     taken = turn.taken;
     later = turn.later ++ t ∷ [];
@@ -44,13 +44,13 @@ module _ (Full : Type 0) (old : PushLoader) (t : yaml_token_t) (all : Tokens) (d
     loaded = subst (λ (x : PushLoader). Loaded x turn.taken after) (sym e)
         (subst (Loaded old turn.taken) (sym f) turn.loaded);
     bound = ap (λ (x : PushLoader). x.max_entries) e ∙ turn.bound;
-    none_or_end = inr (ap has_stopped e ∙ h);
+    none_or_end = inr (ap loader_has_stopped e ∙ h);
   }
 
-  no_end : has_stopped old ≡ false → all ≡ turn.taken
+  no_end : loader_has_stopped old ≡ false → all ≡ turn.taken
   no_end h = go turn.none_or_end
     where
-      go : (turn.later ≡ []) ⊎ (has_stopped old ≡ true) → all ≡ turn.taken
+      go : (turn.later ≡ []) ⊎ (loader_has_stopped old ≡ true) → all ≡ turn.taken
       go (inl e) = turn.parts ∙ (ap (λ (x : Tokens). turn.taken ++ x) e ∙ append-nil turn.taken)
       go (inr e) = absurd (true≢false (sym e ∙ h))
 
@@ -58,9 +58,9 @@ module _ (Full : Type 0) (old : PushLoader) (t : yaml_token_t) (all : Tokens) (d
   pub next_load_turn : (r : Done) → is_err r ≡ false → PushesLoads Full old t documents r new after
       → LoadTurn new (all ++ t ∷ []) after
   next_load_turn (Err x) k p = absurd cc
-  next_load_turn (Ok u) k p = go (has_stopped old) refl
+  next_load_turn (Ok u) k p = go (loader_has_stopped old) refl
     where
-      go : (b : Bool) → has_stopped old ≡ b → LoadTurn new (all ++ t ∷ []) after
+      go : (b : Bool) → loader_has_stopped old ≡ b → LoadTurn new (all ++ t ∷ []) after
       go true h = let s = p.stopped h in ended_turn h s.0 s.1
       go false h =
           let f : TakesLoads Full old t documents (Ok u) new after = p.takes h in
@@ -75,40 +75,40 @@ module _ (Full : Type 0) (old : PushLoader) (t : yaml_token_t) (all : Tokens) (d
           }
 
   -- a push with an error
-  pub failed_load_turn : ((l : PushLoader) → ForLoaded l (λ _ _. keeps_fault l ≡ false)) → (r : Done) → is_err r ≡ true
+  pub failed_load_turn : ((l : PushLoader) → ForLoaded l (λ _ _. loader_keeps_fault l ≡ false)) → (r : Done) → is_err r ≡ true
       → PushesLoads Full old t documents r new after → (rest : Tokens) (source : Fault)
-      → LoadsFail (all ++ t ∷ rest) source (fault_in new)
+      → LoadsFail (all ++ t ∷ rest) source (loader_fault new)
   failed_load_turn faultless (Ok u) k p rest source = absurd cc
-  failed_load_turn faultless (Err x) k p rest source = go (has_stopped old) refl
+  failed_load_turn faultless (Err x) k p rest source = go (loader_has_stopped old) refl
     where
       no_error : (f : Fault) (b : Bool) → b ≡ false → ◌≡◌ {A = Done} (Err x) (done_if b f) → ⊥
       no_error f false e i = cc
       no_error f true e i = cc
 
-      so : StopsLoading Full most (turn.taken ++ t ∷ []) turn.loaded.events after (fault_in new) → all ≡ turn.taken
-          → LoadsFail (all ++ t ∷ rest) source (fault_in new)
+      so : StopsLoading Full most (turn.taken ++ t ∷ []) turn.loaded.events after (loader_fault new) → all ≡ turn.taken
+          → LoadsFail (all ++ t ∷ rest) source (loader_fault new)
       so (by_memory e more here begins leads m) i = inl e
       so (by_tokens loads) i = inr (
         after,
-        subst (λ (y : Tokens). AreThen most y source after (Err (fault_in new)))
+        subst (λ (y : Tokens). AreThen most y source after (Err (loader_fault new)))
             (append_assoc turn.taken (t ∷ []) rest ∙ ap (λ (y : Tokens). y ++ t ∷ rest) (sym i)) (loads rest source),
       )
 
-      go : (b : Bool) → has_stopped old ≡ b → LoadsFail (all ++ t ∷ rest) source (fault_in new)
-      go true h = absurd (no_error (fault_in old) (keeps_fault old) (faultless old turn.taken documents turn.loaded)
+      go : (b : Bool) → loader_has_stopped old ≡ b → LoadsFail (all ++ t ∷ rest) source (loader_fault new)
+      go true h = absurd (no_error (loader_fault old) (loader_keeps_fault old) (faultless old turn.taken documents turn.loaded)
           (p.stopped h).2)
       go false h =
           let f : TakesLoads Full old t documents (Err x) new after = p.takes h in
           let g = turn.loaded.events in
-          let s : StopsLoading Full new.max_entries (turn.taken ++ t ∷ []) g (documents ++ f.added) (fault_in new) =
+          let s : StopsLoading Full new.max_entries (turn.taken ++ t ∷ []) g (documents ++ f.added) (loader_fault new) =
           f.ends_so turn.taken documents turn.loaded in
-          so (subst (λ (n : ℕ). StopsLoading Full n (turn.taken ++ t ∷ []) g after (fault_in new)) (p.bound ∙ turn.bound)
-          (subst (λ (y : List Document). StopsLoading Full new.max_entries (turn.taken ++ t ∷ []) g y (fault_in new))
+          so (subst (λ (n : ℕ). StopsLoading Full n (turn.taken ++ t ∷ []) g after (loader_fault new)) (p.bound ∙ turn.bound)
+          (subst (λ (y : List Document). StopsLoading Full new.max_entries (turn.taken ++ t ∷ []) g y (loader_fault new))
           (sym f.appended) s)) (no_end h)
 
 -- after all tokens
 pub last_load_turn : (l : PushLoader) (all : Tokens) (documents : List Document) → LoadTurn l all documents
-    → ((k : PushLoader) → ForLoaded k (λ tokens _. has_stopped k ≡ has_end tokens))
+    → ((k : PushLoader) → ForLoaded k (λ tokens _. loader_has_stopped k ≡ has_end tokens))
     → ((k : PushLoader) → ForLoaded k (λ tokens ds. has_end tokens ≡ false → (source : Fault)
     → AreThen k.max_entries tokens source ds (Err source)))
     → ((k : PushLoader) → ForLoaded k (λ tokens ds. has_end tokens ≡ true → (more : Tokens) (source : Fault)
@@ -122,7 +122,7 @@ last_load_turn l all documents turn ended so_far whole source = go (has_end turn
         (whole l turn.taken documents turn.loaded h turn.later source)))
     go false h = inr (by turn.none_or_end)
       where
-        by : (turn.later ≡ []) ⊎ (has_stopped l ≡ true) → AreThen most all source documents (Err source)
+        by : (turn.later ≡ []) ⊎ (loader_has_stopped l ≡ true) → AreThen most all source documents (Err source)
         by (inl e) = subst (λ (n : ℕ). AreThen n all source documents (Err source)) turn.bound
             (subst (λ (y : Tokens). AreThen l.max_entries y source documents (Err source))
             (sym (turn.parts ∙ (ap (λ (x : Tokens). turn.taken ++ x) e ∙ append-nil turn.taken)))

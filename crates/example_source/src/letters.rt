@@ -4,7 +4,7 @@ ghost use Rattle.std.specs.Prelude.{◌≡◌, ◌≢◌, None, Some, Err, [], I
 ghost use Rattle.unsafe_libyaml.specs.Fault.{memory_fault, source_fault};
 ghost use Rattle.unsafe_libyaml.specs.RowNotation.{STREAM, place};
 ghost use Rattle.unsafe_libyaml.specs.Source.{coming};
-ghost use Rattle.example_source.specs.Letters.{Gives, all_tokens, content_of, token_at};
+ghost use Rattle.example_source.specs.Letters.{LettersGive, all_tokens, letter_content, letter_token_at};
 ghost use Rattle.example_source.specs.LettersLaws.{letters_fall, letters_follow, letters_repeat};
 
 use std::alloc::{AllocError, Global};
@@ -30,11 +30,11 @@ impl<'a> Model for Letters<'a> {
     ghost use Rattle.std.specs.Prelude.{option_map};
     ghost use Rattle.unsafe_libyaml.specs.Fault.{source_fault};
     ghost use Rattle.unsafe_libyaml.specs.Source.{Coming};
-    ghost use Rattle.example_source.specs.Letters.{coming_at};
+    ghost use Rattle.example_source.specs.Letters.{letters_coming};
 
     ghost Value = { Coming };
 
-    ghost view = { λ s. coming_at s.text.now s.next (option_map source_fault s.fault) };
+    ghost view = { λ s. letters_coming s.text.now s.next (option_map source_fault s.fault) };
 }
 
 impl<'a> Letters<'a> {
@@ -63,7 +63,7 @@ impl<'a> Letters<'a> {
 impl<'a> yaml_token_source_t for Letters<'a> {
     ghost bound = { λ s. length s.tokens };
 
-    ghost gives = { Gives };
+    ghost gives = { LettersGive };
 
     ghost known = { λ s. Some s };
 
@@ -104,8 +104,8 @@ impl<'a> yaml_token_source_t for Letters<'a> {
 ///
 /// Out of memory, for a character that is a token.
 fn content(alloc: Global, character: u8) -> Result<Option<unnamed_yaml_token_t_data>, AllocError>
-    ensures ok { IfOk result (λ content. content ≡ content_of character) }
-    ensures err { IfErr result (λ _. content_of character ≢ None) }
+    ensures ok { IfOk result (λ content. content ≡ letter_content character) }
+    ensures err { IfErr result (λ _. letter_content character ≢ None) }
 {
     use unnamed_yaml_token_t_data::{FlowEntry, FlowSequenceEnd, FlowSequenceStart, Scalar};
     Ok(match character {
@@ -144,7 +144,7 @@ fn mark(index: usize) -> yaml_mark_t
 
 /// Returns a token with both marks at its place.
 fn token(content: unnamed_yaml_token_t_data, place: usize) -> yaml_token_t
-    ensures { result ≡ token_at place content }
+    ensures { result ≡ letter_token_at place content }
 {
     yaml_token_t::new(content, mark(place), mark(place))
 }

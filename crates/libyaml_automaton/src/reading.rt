@@ -3,7 +3,7 @@ ghost use Rattle.std.specs.Prelude.{◌≡◌, ℕ};
 ghost use Rattle.libyaml_automaton.specs.Numbers.{next_of, state_of};
 ghost use Rattle.libyaml_automaton.specs.Want.{AtState};
 ghost use Rattle.libyaml_automaton.specs.Wanted.{wanted, IsAt, settled};
-ghost use Rattle.libyaml_automaton.specs.Growth.{is_first, part_of};
+ghost use Rattle.libyaml_automaton.specs.Growth.{is_first, stack_part_of};
 
 use crate::machine::Machine;
 use crate::next::Next;
@@ -98,7 +98,7 @@ impl Reading {
     /// Returns whether the next step enters a collection whose opening token stayed, and so pushes a mark.
     #[inline(always)]
     pub fn is_first(&self) -> bool
-        ensures { result ≡ is_first (part_of (next_of self.now.next)) }
+        ensures { result ≡ is_first (stack_part_of (next_of self.now.next)) }
     {
         match Next::of_number(self.next) {
             Next::AtBlockSequenceFirstEntry => true,

@@ -19,24 +19,24 @@ use Rattle.libyaml_documents.specs.contracts.node.Yaml_node_tEq.TheImpl.Laws as 
 use Rattle.libyaml_documents.specs.Documents.{Document}
 
 -- what `==` says of two nodes, two versions, two directives and two marks
-abbrev pub same_node : yaml_node_t → yaml_node_t → Bool
-same_node = (node_eq.ghosts).eq
+abbrev pub equal_nodes : yaml_node_t → yaml_node_t → Bool
+equal_nodes = (node_eq.ghosts).eq
 
-abbrev pub same_version : yaml_version_directive_t → yaml_version_directive_t → Bool
-same_version = (version_eq.ghosts).eq
+abbrev pub equal_versions : yaml_version_directive_t → yaml_version_directive_t → Bool
+equal_versions = (version_eq.ghosts).eq
 
-abbrev pub same_directive : yaml_tag_directive_t → yaml_tag_directive_t → Bool
-same_directive = (directive_eq.ghosts).eq
+abbrev pub equal_directives : yaml_tag_directive_t → yaml_tag_directive_t → Bool
+equal_directives = (directive_eq.ghosts).eq
 
-abbrev pub same_mark : yaml_mark_t → yaml_mark_t → Bool
-same_mark = (mark_eq.ghosts).eq
+abbrev pub equal_marks : yaml_mark_t → yaml_mark_t → Bool
+equal_marks = (mark_eq.ghosts).eq
 
 abbrev pub same_document : Document → Document → Bool
 same_document d e =
-    pointwise same_node d.nodes e.nodes && (option_eq same_version d.version_directive e.version_directive
-    && (pointwise same_directive d.tag_directives e.tag_directives
+    pointwise equal_nodes d.nodes e.nodes && (option_eq equal_versions d.version_directive e.version_directive
+    && (pointwise equal_directives d.tag_directives e.tag_directives
     && (beq d.start_implicit e.start_implicit && (beq d.end_implicit e.end_implicit
-    && (same_mark d.start_mark e.start_mark && same_mark d.end_mark e.end_mark)))))
+    && (equal_marks d.start_mark e.start_mark && equal_marks d.end_mark e.end_mark)))))
 
 pub same_document_equiv : IsEquivalence same_document
 same_document_equiv =

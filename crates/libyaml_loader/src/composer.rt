@@ -9,14 +9,8 @@ ghost use Rattle.libyaml_types.specs.Fault.{fault_of, no_fault};
 ghost use Rattle.libyaml_graphs.specs.graphs.GraphParts as parts;
 ghost use Rattle.libyaml_graphs.specs.machine.Loader.{between};
 ghost use Rattle.libyaml_loader.specs.document.Refusals.{fault_by};
-ghost use Rattle.libyaml_loader.specs.pushes.Composing.{
-  Composes,
-  ComposesEvent,
-  IsSound,
-  closing_by,
-  ended_by,
-};
-ghost use Rattle.libyaml_loader.specs.pushes.Composing.{opening_by, state_of};
+ghost use Rattle.libyaml_loader.specs.pushes.Composing.{Composes, ComposesEvent, IsSound, closing_by, ended_by};
+ghost use Rattle.libyaml_loader.specs.pushes.Composing.{opening_by, composer_state};
 ghost use Rattle.libyaml_loader.specs.pushes.Leads.{Leads};
 
 use crate::context::loader_ctx;
@@ -195,7 +189,7 @@ impl Composer {
     fn begin(&mut self, event: &mut yaml_event_t)
         requires none_open { self.old.is_open ≡ false }
         requires sound { IsSound self.old }
-        ensures leads { Leads self.old.max_entries between (event.old ∷ []) [] (state_of self.new) }
+        ensures leads { Leads self.old.max_entries between (event.old ∷ []) [] (composer_state self.new) }
         ensures sound { IsSound self.new }
         ensures bound { self.new.max_entries ≡ self.old.max_entries }
         ensures fault { self.new.fault ≡ self.old.fault }

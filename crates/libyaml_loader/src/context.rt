@@ -13,8 +13,8 @@ ghost use Rattle.libyaml_graphs.specs.machine.Loader.{no_anchors, parent_full, r
 ghost use Rattle.libyaml_graphs.specs.graphs.GraphParts.{alias_part, leaf_part, part_of, start_part};
 ghost use Rattle.libyaml_loader.specs.document.Context.{AllOpenIn, Composed, IdsAreIn, NodeLoaded, Refuses};
 ghost use Rattle.libyaml_loader.specs.document.Context.{ParentRefuses, RefusesAnchor};
-ghost use Rattle.libyaml_loader.specs.document.Context.{closed, handed_to, loader_of};
-ghost use Rattle.libyaml_loader.specs.document.Ids.{id_of};
+ghost use Rattle.libyaml_loader.specs.document.Context.{closed_innermost, handed_to, loader_of};
+ghost use Rattle.libyaml_loader.specs.document.Ids.{node_id_of};
 
 use crate::anchors::Anchors;
 use crate::ids::{Carrier, NodeId};
@@ -263,11 +263,11 @@ impl loader_ctx {
         node: NodeId,
         mark: &yaml_mark_t,
     ) -> Result<(), Refusal>
-        ensures ok { OnOk result (register (option_map string_bytes anchor) (id_of node) mark.now
+        ensures ok { OnOk result (register (option_map string_bytes anchor) (node_id_of node) mark.now
             self.old.anchors ≡ registered self.new.anchors) }
         ensures rest { OnOk result (self.new ≡ record self.old { anchors = self.new.anchors }) }
         ensures err { IfErr result (λ r. RefusesAnchor
-            (register (option_map string_bytes anchor) (id_of node) mark.now self.old.anchors)
+            (register (option_map string_bytes anchor) (node_id_of node) mark.now self.old.anchors)
             r self.new.first_mark) }
     {
         let Some(anchor) = anchor else {
@@ -290,7 +290,7 @@ impl loader_ctx {
     /// libyaml: `yaml_parser_load_sequence_end` and `yaml_parser_load_mapping_end`.
     fn load_end(&mut self, end_mark: yaml_mark_t)
         requires { AllOpenIn (length self.old.document.nodes) self.old.stack }
-        ensures { self.new ≡ closed end_mark self.old }
+        ensures { self.new ≡ closed_innermost end_mark self.old }
     {
         if let Some(closed) = self.stack.pop() {
             set_end_mark(&mut self.document, closed.node.number, end_mark);
@@ -303,8 +303,8 @@ impl loader_ctx {
     #[inline(always)]
     fn yaml_parser_load_node_add(&mut self, child: NodeId) -> Result<(), Refusal>
         requires stack { AllOpenIn (length self.old.document.nodes) self.old.stack }
-        requires child { IsIdUpTo (length self.old.document.nodes) (pos (id_of child)) }
-        ensures ok { OnOk result (self.new ≡ handed_to (pos (id_of child)) self.old) }
+        requires child { IsIdUpTo (length self.old.document.nodes) (pos (node_id_of child)) }
+        ensures ok { OnOk result (self.new ≡ handed_to (pos (node_id_of child)) self.old) }
         ensures room { OnOk result (parent_full self.old.max_entries self.old.stack self.old.document.nodes
             ≡ false) }
         ensures err { IfErr result (λ r. ParentRefuses self.old r) }

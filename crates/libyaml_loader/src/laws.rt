@@ -22,7 +22,7 @@ ghost use Rattle.libyaml_loader.specs.document.Ids.{magnitude};
 ghost use Rattle.libyaml_loader.specs.loads.Loading.{DocumentOrError, LoadsFrom};
 ghost use Rattle.libyaml_loader.specs.loads.LoadsInTurn.{AreLoadsOf, LoopYields};
 ghost use Rattle.libyaml_loader.specs.loads.NextLoad.{LoadOfRun};
-ghost use Rattle.libyaml_loader.specs.pushes.Loaded.{ForLoaded, PushLoader, has_stopped, keeps_fault};
+ghost use Rattle.libyaml_loader.specs.pushes.Loaded.{ForLoaded, PushLoader, loader_has_stopped, loader_keeps_fault};
 ghost use Rattle.libyaml_loader.specs.pushes.PushesLoads.{AreThen, BeginsEachLoads};
 
 use libyaml_events::yaml_token_source_t;
@@ -59,8 +59,8 @@ pub fn of_loaded()
     ensures whole { (l : PushLoader) → ForLoaded l (λ tokens documents. has_end tokens ≡ true
         → (more : List Token) (source : Fault)
         → AreThen l.max_entries (tokens ++ more) source documents (last_load Ends)) }
-    ensures ended { (l : PushLoader) → ForLoaded l (λ tokens _. has_stopped l ≡ has_end tokens) }
-    ensures faultless { (l : PushLoader) → ForLoaded l (λ _ _. keeps_fault l ≡ false) }
+    ensures ended { (l : PushLoader) → ForLoaded l (λ tokens _. loader_has_stopped l ≡ has_end tokens) }
+    ensures faultless { (l : PushLoader) → ForLoaded l (λ _ _. loader_keeps_fault l ≡ false) }
     ensures begins { (l : PushLoader) → ForLoaded l (BeginsEachLoads l.max_entries) }
     ensures linear { (l : PushLoader) → ForLoaded l (λ tokens documents. documents_size documents
         ≤ 8 * length tokens) }

@@ -3,7 +3,7 @@ ghost use Rattle.std.specs.Prelude.{◌≡◌, ◌≤◌, [], pos, ◌≤ℤ◌}
 ghost use Rattle.std.specs.Vec.{vec_capacity, vec_len};
 ghost use Rattle.libyaml_types.specs.Fault.{fault_of, no_fault};
 ghost use Rattle.libyaml_loader.specs.document.Ids.{magnitude};
-ghost use Rattle.libyaml_loader.specs.pushes.Loaded.{ForLoaded, Loaded, RemembersLoads, fault_in, made};
+ghost use Rattle.libyaml_loader.specs.pushes.Loaded.{ForLoaded, Loaded, RemembersLoads, loader_fault, made_loader};
 ghost use Rattle.libyaml_loader.specs.pushes.PushesLoads.{PushesLoads};
 
 use crate::composer::Composer;
@@ -28,18 +28,18 @@ impl Model for yaml_push_loader_t {
     ghost use Rattle.libyaml_events.specs.machine.Config.{handles_code};
     ghost use Rattle.libyaml_types.specs.Fault.{fault_of};
     ghost use Rattle.libyaml_loader.specs.document.Anchors.{anchors_code};
-    ghost use Rattle.libyaml_loader.specs.pushes.Composing.{IsSound, state_of};
-    ghost use Rattle.libyaml_loader.specs.pushes.Loaded.{PushLoader, RemembersLoads, standing};
+    ghost use Rattle.libyaml_loader.specs.pushes.Composing.{IsSound, composer_state};
+    ghost use Rattle.libyaml_loader.specs.pushes.Loaded.{PushLoader, RemembersLoads, standing_loader};
 
     ghost Value = { PushLoader };
 
     ghost coded = { Prim.hlevel (codes, handles_code, anchors_code) };
 
-    ghost view = { λ l. standing l.parser (state_of l.composer) (fault_of l.composer.fault)
+    ghost view = { λ l. standing_loader l.parser (composer_state l.composer) (fault_of l.composer.fault)
         l.composer.max_entries };
 
     ghost invariant = { λ l. (l.events.items ≡ []) × IsSound l.composer
-        × RemembersLoads (standing l.parser (state_of l.composer) (fault_of l.composer.fault)
+        × RemembersLoads (standing_loader l.parser (composer_state l.composer) (fault_of l.composer.fault)
         l.composer.max_entries) };
 }
 
@@ -47,7 +47,7 @@ impl yaml_push_loader_t {
     /// Returns a loader at a stream's start, without an allocation. Each list of a document may have
     /// 2147483647 entries.
     pub fn new(alloc: Global) -> Self
-        ensures value { result ≡ made 2147483647 }
+        ensures value { result ≡ made_loader 2147483647 }
         ensures begins { Loaded result [] [] }
     {
         Self::with_max_entries(alloc, i32::MAX)
@@ -57,7 +57,7 @@ impl yaml_push_loader_t {
     /// entries, and `n` must be at least 1.
     pub fn with_max_entries(alloc: Global, n: i32) -> Self
         requires at_least_one { pos 1 ≤ℤ n }
-        ensures value { result ≡ made (magnitude n) }
+        ensures value { result ≡ made_loader (magnitude n) }
         ensures begins { Loaded result [] [] }
     {
         yaml_push_loader_t {
@@ -106,7 +106,7 @@ impl yaml_push_loader_t {
 
     /// Returns the fault that the loader keeps, or `NO_FAULT` where it keeps none.
     pub fn prefix(&self) -> &yaml_parser_t_prefix
-        ensures kept { fault_of result.now ≡ fault_in self.now }
+        ensures kept { fault_of result.now ≡ loader_fault self.now }
         ensures before_fault { ForLoaded self.now (λ _ _. fault_of result.now ≡ no_fault) }
     {
         &self.composer.fault

@@ -3,8 +3,8 @@
 ghost use Rattle.std.specs.Prelude.{◌≡◌, [], ◌∷◌, OnOk};
 ghost use Rattle.std.specs.Option.{option_map};
 ghost use Rattle.libyaml_graphs.specs.machine.Loader.{outer};
-ghost use Rattle.libyaml_loader.specs.document.Ids.{number_of, open_of};
-ghost use Rattle.libyaml_loader.specs.document.Stack.{innermost, opened, with_key};
+ghost use Rattle.libyaml_loader.specs.document.Ids.{node_number_of, open_of};
+ghost use Rattle.libyaml_loader.specs.document.Stack.{innermost, opened_node, with_key};
 
 use crate::ids::{NodeId, Open};
 use std::alloc::{AllocError, Global};
@@ -22,11 +22,11 @@ impl Model for OpenCollections {
     ghost use Rattle.std.specs.Prelude.{List};
     ghost use Rattle.libyaml_graphs.specs.machine.Loader as machine;
 
-    ghost Value = { List machine.Open };
+    ghost Value = { List machine.OpenNode };
 
-    ghost use Rattle.libyaml_loader.specs.document.Stack.{stack_of};
+    ghost use Rattle.libyaml_loader.specs.document.Stack.{open_stack_of};
 
-    ghost view = { λ s. stack_of s.inner.items };
+    ghost view = { λ s. open_stack_of s.inner.items };
 }
 
 impl OpenCollections {
@@ -45,7 +45,7 @@ impl OpenCollections {
     ///
     /// An allocation failed.
     pub(crate) fn push(&mut self, node: NodeId) -> Result<(), AllocError>
-        ensures { OnOk result (self.new ≡ opened node ∷ self.old) }
+        ensures { OnOk result (self.new ≡ opened_node node ∷ self.old) }
     {
         self.inner.push(Open { node, key: None })?;
         Ok(())
@@ -68,7 +68,7 @@ impl OpenCollections {
 
     /// Sets or clears the pending key of the innermost collection.
     pub(crate) fn set_key(&mut self, key: Option<NodeId>)
-        ensures { self.new ≡ with_key (number_of key) self.old }
+        ensures { self.new ≡ with_key (node_number_of key) self.old }
     {
         let count = self.inner.len();
         if count > 0 {
@@ -81,7 +81,7 @@ impl Open {
     /// Returns the number of the key that waits.
     #[inline(always)]
     pub(crate) fn key_number(&self) -> Option<i32>
-        ensures { result ≡ number_of self.now.key }
+        ensures { result ≡ node_number_of self.now.key }
     {
         match self.key {
             Some(key) => Some(key.number),

@@ -1,13 +1,13 @@
--- What a fault says, for a reader: its problem and its context, each with its place (docs/DEFINITIONS.md, "Faults").
+-- What a fault says, for a reader: its problem and its context, each with its place_in_words (docs/DEFINITIONS.md, "Faults").
 use Rattle.std.specs.Prelude.{ℕ, ◌++◌, List, [], Option, Some, None, codes}
 use Rattle.libyaml_types.specs.declared.mark.yaml_mark_t.{yaml_mark_t}
 use Rattle.libyaml_types.specs.declared.enums.yaml_error_type_t.{yaml_error_type_t}
-use Rattle.libyaml_types.specs.Words.{error_words, place}
+use Rattle.libyaml_types.specs.Words.{error_words, place_in_words}
 use Rattle.libyaml_types.specs.Fault.{Fault}
 
 -- words and where they belong
 abbrev pub said_at : List ℕ → yaml_mark_t → List ℕ
-said_at words m = words ++ codes " at " ++ place m
+said_at words m = words ++ codes " at " ++ place_in_words m
 
 -- the problem at its place, or else the kind of the fault
 abbrev pub problem_said : yaml_error_type_t → Option (List ℕ) → yaml_mark_t → List ℕ

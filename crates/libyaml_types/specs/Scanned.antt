@@ -24,30 +24,30 @@ too_many_tokens given end = record no_fault {
 }
 
 -- how many tokens a result is, where the last token ends after it, and which fault it is
-abbrev pub tokens_in : Answer → ℕ
-tokens_in (Ok token) = 1
-tokens_in (Err fault) = 0
+abbrev pub tokens_in_answer : Answer → ℕ
+tokens_in_answer (Ok token) = 1
+tokens_in_answer (Err fault) = 0
 
 abbrev pub end_after : yaml_mark_t → Answer → yaml_mark_t
 end_after end (Ok token) = token.end_mark
 end_after end (Err fault) = end
 
-abbrev pub fault_in : Answer → Option Fault
-fault_in (Ok token) = None
-fault_in (Err fault) = Some fault
+abbrev pub fault_in_answer : Answer → Option Fault
+fault_in_answer (Ok token) = None
+fault_in_answer (Err fault) = Some fault
 
 -- a source that asks its scanner: it keeps no fault, and may give a token
 abbrev pub Asks : {S : Type 0} → Scanned S → Type 0
 Asks s = (s.fault ≡ None) × (s.given < s.max_tokens)
 
 -- what a call returns, and where that leaves the source
-pub record Gives {S : Type 0} (scans : S → Answer → S → Type 0) (s : Scanned S) (answer : Answer) (t : Scanned S)
+pub record ScannerGives {S : Type 0} (scans : S → Answer → S → Type 0) (s : Scanned S) (answer : Answer) (t : Scanned S)
     : Type 0 where
   pub asked : Asks s → scans s.scanner answer t.scanner
   pub not_asked : ¬ Asks s → t.scanner ≡ s.scanner
   pub kept : (fault : Fault) → s.fault ≡ Some fault → answer ≡ Err fault
   pub too_many : s.fault ≡ None → s.max_tokens ≤ s.given → answer ≡ Err (too_many_tokens s.given s.end)
-  pub given : t.given ≡ s.given + tokens_in answer
+  pub given : t.given ≡ s.given + tokens_in_answer answer
   pub max_tokens : t.max_tokens ≡ s.max_tokens
   pub end : t.end ≡ end_after s.end answer
-  pub fault : t.fault ≡ fault_in answer
+  pub fault : t.fault ≡ fault_in_answer answer

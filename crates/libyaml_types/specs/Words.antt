@@ -33,8 +33,8 @@ error_words YAML_WRITER_ERROR = codes "writer error"
 error_words YAML_EMITTER_ERROR = codes "emitter error"
 
 -- a mark's line and column, from 1
-abbrev pub place : yaml_mark_t → List ℕ
-place m = codes "line " ++ decimal (m.line + 1) ++ codes ", column " ++ decimal (m.column + 1)
+abbrev pub place_in_words : yaml_mark_t → List ℕ
+place_in_words m = codes "line " ++ decimal (m.line + 1) ++ codes ", column " ++ decimal (m.column + 1)
 
 -- the name of an event's type
 abbrev pub event_type_name : yaml_event_type_t → List ℕ

@@ -1,6 +1,6 @@
 //! Places in a text.
 ghost use Rattle.std.specs.Prelude.{◌≡◌, Some};
-ghost use Rattle.libyaml_types.specs.Words.{place};
+ghost use Rattle.libyaml_types.specs.Words.{place_in_words};
 
 use std::fmt;
 
@@ -28,7 +28,7 @@ pub const ZERO_MARK: yaml_mark_t = yaml_mark_t {
 
 /// The line and the column, from 1: `line L, column C`.
 impl fmt::Display for yaml_mark_t {
-    ghost output = { λ m. Some (place m) };
+    ghost output = { λ m. Some (place_in_words m) };
 
     fn fmt<W: fmt::Write>(&self, f: &mut fmt::Formatter<W>) -> fmt::Result {
         let line = self.line as u128 + 1;

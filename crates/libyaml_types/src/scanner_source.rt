@@ -2,7 +2,7 @@
 ghost use Rattle.std.specs.Prelude.{◌≡◌, ◌-◌, None, Some};
 ghost use Rattle.libyaml_types.specs.Fault.{source_fault};
 ghost use Rattle.libyaml_types.specs.Events.{zero_mark};
-ghost use Rattle.libyaml_types.specs.Scanned.{Gives, too_many_tokens};
+ghost use Rattle.libyaml_types.specs.Scanned.{ScannerGives, too_many_tokens};
 ghost use Rattle.libyaml_types.specs.ScannedLaws.{scanned_falls, scanned_repeats};
 
 use crate::scanner::yaml_scanner_t;
@@ -81,7 +81,7 @@ impl<S> yaml_scanner_source_t<S> {
 impl<S: yaml_scanner_t> yaml_token_source_t for yaml_scanner_source_t<S> {
     ghost bound = { λ s. s.max_tokens - s.given };
 
-    ghost gives = { Gives S.scans };
+    ghost gives = { ScannerGives S.scans };
 
     ghost known = { λ _. None };
 

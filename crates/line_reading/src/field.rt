@@ -1,6 +1,6 @@
 //! The fields of a token line.
 ghost use Rattle.std.specs.Prelude.{◌≡◌};
-ghost use Rattle.line_reading.specs.tokens.Field.{version_of, utf8_text, text_of};
+ghost use Rattle.line_reading.specs.tokens.Field.{version_in_field, utf8_text, text_of};
 ghost use Rattle.line_reading.specs.tokens.Field.{encoding_of, scalar_style_of};
 ghost use Rattle.percent_encoding.specs.Percent as percent;
 ghost use Rattle.line_reading.specs.tokens.Reading.{IsTextReadAs};
@@ -17,7 +17,7 @@ use std::alloc::Global;
 
 /// Reads two signed numbers with a point between them.
 pub(crate) fn read_version(field: &[u8]) -> Option<unnamed_yaml_token_t_data_version_directive>
-    ensures { result ≡ version_of field.now }
+    ensures { result ≡ version_in_field field.now }
 {
     let mut pieces = Pieces::new(field, b'.');
     let major = pieces.next()?;

@@ -1,6 +1,6 @@
 //! Token lines.
 ghost use Rattle.std.specs.Prelude.{◌≡◌, ◌≤◌, drop, length, option_copied};
-ghost use Rattle.line_reading.specs.tokens.Prefixes.{further, token_at};
+ghost use Rattle.line_reading.specs.tokens.Prefixes.{further, line_token_at};
 ghost use Rattle.line_reading.specs.tokens.TokenLine.{bare_content, content_of_one, content_of_two};
 ghost use Rattle.line_reading.specs.tokens.TokenLine.{content_of, token_of_line};
 ghost use Rattle.line_reading.specs.tokens.Reading.{IsReadInto};
@@ -37,7 +37,7 @@ pub(crate) fn read_token_line(
 
 /// Reads the token; this contract follows the code, prefix by prefix.
 fn take_token(alloc: Global, line: &[u8], token: &mut yaml_token_t) -> Result<(), LineProblem>
-    ensures { IsReadInto result token.new (token_at line.now) }
+    ensures { IsReadInto result token.new (line_token_at line.now) }
 {
     let name = len_before(line, b' ');
     if name == line.len() {

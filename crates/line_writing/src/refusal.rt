@@ -1,6 +1,6 @@
 //! Why a line was not written.
 ghost use Rattle.std.specs.Prelude.{◌≡◌, Some};
-ghost use Rattle.line_writing.specs.Refusal.{refusal_number, refusal_text};
+ghost use Rattle.line_writing.specs.Refusal.{line_refusal_number, refusal_text};
 
 use std::alloc::AllocError;
 use std::error::Error;
@@ -18,7 +18,7 @@ pub enum line_refusal_t {
 impl line_refusal_t {
     /// Returns 1 for `Memory`, 2 for `Output`.
     pub fn number(self) -> u32
-        ensures { result ≡ refusal_number self }
+        ensures { result ≡ line_refusal_number self }
     {
         match self {
             line_refusal_t::Memory => 1,

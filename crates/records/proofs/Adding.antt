@@ -10,22 +10,22 @@ use Rattle.records.specs.FieldRecords.{directive_records, directives_bytes}
 use Rattle.records.specs.Puts.{Puts}
 use Rattle.records.specs.declared.records.directive_record_t.{directive_record_t}
 use Rattle.records.proofs.Filling.{puts_then}
-use Rattle.records.specs.Buffers.{Adds, Held, Holds, Lists, lists}
+use Rattle.records.specs.Buffers.{Adds, HeldIn, Holds, Lists, lists}
 use Rattle.records.specs.DocumentRecords.{document_record, node_bytes, node_record, pair_record, with_document}
-use Rattle.records.specs.DocumentRecords.{with_documents, with_node, with_nodes, with_start}
+use Rattle.records.specs.DocumentRecords.{with_documents, with_node_record, with_nodes_records, with_start}
 use Rattle.records.specs.declared.records.document_counts_t.{document_counts_t}
 use Rattle.records.specs.declared.records.document_record_t.{document_record_t}
 use Rattle.records.specs.declared.records.node_record_t.{node_record_t}
 use Rattle.records.specs.declared.records.pair_record_t.{pair_record_t}
 
-pub held_more : {A : Type 0} (old out after all items : List A) (n m : ℕ) → Held old out all n
-    → Puts out n items after m → Held old after (all ++ items) m
+pub held_more : {A : Type 0} (old out after all items : List A) (n m : ℕ) → HeldIn old out all n
+    → Puts out n items after m → HeldIn old after (all ++ items) m
 held_more old out after all items n m h p = record {
   filled_so = p.fills old all h.filled_so h.counted;
   counted = let long = length-append all items in let c = p.counts in let k = h.counted in omega (arith, c, k, long);
 }
 
-held_same : {A : Type 0} (old out all : List A) (n m : ℕ) → m ≡ n → Held old out all n → Held old out all m
+held_same : {A : Type 0} (old out all : List A) (n m : ℕ) → m ≡ n → HeldIn old out all n → HeldIn old out all m
 held_same old out all n m e h = record { filled_so = h.filled_so; counted = e ∙ h.counted }
 
 module _ (D : List document_record_t) (N N' : List node_record_t) (I I' : List ℤ) (P P' : List pair_record_t)
@@ -37,7 +37,7 @@ module _ (D : List document_record_t) (N N' : List node_record_t) (I I' : List �
       → Puts N k (made ∷ []) N' m.nodes
       → Puts I n.items (items_of x.content) I' m.items → Puts P n.pairs (map pair_record (pairs_of x.content)) P' m.pairs
       → Puts T n.texts (node_bytes x) T' m.texts → m.documents ≡ n.documents → m.directives ≡ n.directives
-      → Adds (λ r. with_node r x) (lists D N I P V T) n (lists D N' I' P' V T') m
+      → Adds (λ r. with_node_record r x) (lists D N I P V T) n (lists D N' I' P' V T') m
   node_added x made k is at nodes items pairs texts documents directives old all h =
       let made_is : made ≡ node_record (length all.items) (length all.pairs) (length all.texts) x
       = is ∙ (λ i. node_record (h.items.counted i) (h.pairs.counted i) (h.texts.counted i) x) in
@@ -79,9 +79,9 @@ module _ (D D' : List document_record_t) (N : List node_record_t) (I : List ℤ)
         texts = held_more old.texts T T' all.texts _ n.texts m.texts h.texts texts;
       }
 
-pub nodes_append : (r : Lists) (xs ys : List yaml_node_t) → with_nodes r (xs ++ ys) ≡ with_nodes (with_nodes r xs) ys
+pub nodes_append : (r : Lists) (xs ys : List yaml_node_t) → with_nodes_records r (xs ++ ys) ≡ with_nodes_records (with_nodes_records r xs) ys
 nodes_append r [] ys = refl
-nodes_append r (x ∷ xs) ys = nodes_append (with_node r x) xs ys
+nodes_append r (x ∷ xs) ys = nodes_append (with_node_record r x) xs ys
 
 pub documents_append : (r : Lists) (xs ys : List Document)
     → with_documents r (xs ++ ys) ≡ with_documents (with_documents r xs) ys
@@ -91,13 +91,13 @@ documents_append r (x ∷ xs) ys = documents_append (with_document r x) xs ys
 module _ (a b c : Lists) (n k m : document_counts_t) where
   -- one node more
   pub nodes_more : (xs : List yaml_node_t) (i : ℕ) (x : yaml_node_t) → i < length xs → x ≡ get_or xs i x
-      → Adds (λ r. with_nodes r (take i xs)) a n b k
-      → Adds (λ r. with_node r x) b k c m → Adds (λ r. with_nodes r (take (i + 1) xs)) a n c m
+      → Adds (λ r. with_nodes_records r (take i xs)) a n b k
+      → Adds (λ r. with_node_record r x) b k c m → Adds (λ r. with_nodes_records r (take (i + 1) xs)) a n c m
   nodes_more xs i x within is before step old all h =
-      let more : with_nodes all (take (i + 1) xs) ≡ with_node (with_nodes all (take i xs)) x
-      = ap (with_nodes all) (take_more xs i x within) ∙ nodes_append all (take i xs) (get_or xs i x ∷ [])
-      ∙ ap (with_node (with_nodes all (take i xs))) (sym is) in
-      subst (λ (r : Lists). Holds old c m r) (sym more) (step old (with_nodes all (take i xs)) (before old all h))
+      let more : with_nodes_records all (take (i + 1) xs) ≡ with_node_record (with_nodes_records all (take i xs)) x
+      = ap (with_nodes_records all) (take_more xs i x within) ∙ nodes_append all (take i xs) (get_or xs i x ∷ [])
+      ∙ ap (with_node_record (with_nodes_records all (take i xs))) (sym is) in
+      subst (λ (r : Lists). Holds old c m r) (sym more) (step old (with_nodes_records all (take i xs)) (before old all h))
 
   -- one document more
   pub documents_more : (xs : List Document) (x : Document) → Adds (λ r. with_documents r xs) a n b k

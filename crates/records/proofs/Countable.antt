@@ -9,7 +9,7 @@ use Rattle.libyaml_graphs.proofs.lent.LoadLists.{same_loads}
 use Rattle.records.specs.FaultRecord.{fault_bytes}
 use Rattle.records.specs.declared.records.token_record_t.{token_record_t}
 use Rattle.records.specs.Buffers.{Lists, TooMany, many_directives, many_documents, many_items, many_nodes}
-use Rattle.records.specs.Buffers.{many_pairs, many_texts, nothing}
+use Rattle.records.specs.Buffers.{many_pairs, many_texts, no_records}
 use Rattle.records.specs.DocumentRecords.{recorded}
 use Rattle.records.specs.DocumentRun.{HandsOutLoads, LoadsEndBy, Uncountable, with_words}
 use Rattle.records.specs.OneDocumentRecords.{IsCounted}
@@ -20,7 +20,7 @@ use Rattle.records.proofs.LoadLists.{fault_one, first_of, last_one}
 
 grow_to : (first rest all : List Document) → all ≡ first ++ rest → Grows (recorded first) (recorded all)
 grow_to first rest all is = subst (Grows (recorded first))
-    (sym (ap recorded is ∙ documents_append nothing first rest)) (documents_grow (recorded first) rest)
+    (sym (ap recorded is ∙ documents_append no_records first rest)) (documents_grow (recorded first) rest)
 
 -- also with words, where the lesser have none
 wordless : (a b : Lists) (f g : Fault) → f ≡ memory_fault → Grows a b → Grows (with_words a f) (with_words b g)

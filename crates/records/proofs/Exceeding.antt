@@ -11,7 +11,7 @@ use Rattle.records.specs.FaultRecord.{fault_bytes}
 use Rattle.records.specs.Buffers.{Adds, Exceeds, Lists, TooMany, many_directives, many_documents}
 use Rattle.records.specs.Buffers.{many_items, many_nodes, many_pairs, many_texts}
 use Rattle.records.specs.DocumentRecords.{OverCounts, document_record, node_bytes, node_record, pair_record}
-use Rattle.records.specs.DocumentRecords.{with_document, with_documents, with_node, with_nodes, with_start}
+use Rattle.records.specs.DocumentRecords.{with_document, with_documents, with_node_record, with_nodes_records, with_start}
 use Rattle.records.specs.DocumentRun.{with_words}
 use Rattle.records.specs.declared.records.document_counts_t.{document_counts_t}
 use Rattle.records.proofs.Adding.{documents_append, nodes_append}
@@ -65,7 +65,7 @@ still_too_many a b g (many_directives h)
     = many_directives (longer (2 ^ 64) (length a.directives) (length b.directives) h g.directives)
 still_too_many a b g (many_texts h) = many_texts (longer (2 ^ 64) (length a.texts) (length b.texts) h g.texts)
 
-node_grows : (r : Lists) (x : yaml_node_t) → Grows r (with_node r x)
+node_grows : (r : Lists) (x : yaml_node_t) → Grows r (with_node_record r x)
 node_grows r x = record {
   documents = same (length r.documents);
   nodes = grown r.nodes (node_record (length r.items) (length r.pairs) (length r.texts) x ∷ []);
@@ -75,10 +75,10 @@ node_grows r x = record {
   texts = grown r.texts (node_bytes x);
 }
 
-nodes_grow : (r : Lists) (xs : List yaml_node_t) → Grows r (with_nodes r xs)
+nodes_grow : (r : Lists) (xs : List yaml_node_t) → Grows r (with_nodes_records r xs)
 nodes_grow r [] = grows_none r
-nodes_grow r (x ∷ xs) = grows_then r (with_node r x) (with_nodes (with_node r x) xs) (node_grows r x)
-    (nodes_grow (with_node r x) xs)
+nodes_grow r (x ∷ xs) = grows_then r (with_node_record r x) (with_nodes_records (with_node_record r x) xs) (node_grows r x)
+    (nodes_grow (with_node_record r x) xs)
 
 start_grows : (r : Lists) (x : Document) → Grows r (with_start r x)
 start_grows r x = record {
@@ -113,13 +113,13 @@ over all items n k c l h = let long = length-append all items in omega (arith, c
 
 module _ (before : Lists) (n : document_counts_t) where
   -- a node holds more than can be counted, or has no number
-  pub node_over : (x : yaml_node_t) → OverCounts n x → Exceeds (λ r. with_node r x) before n
+  pub node_over : (x : yaml_node_t) → OverCounts n x → Exceeds (λ r. with_node_record r x) before n
   node_over x (inl h) old all is = many_items (over all.items (items_of x.content) n.items _ is.items.counted refl h)
   node_over x (inr (inl h)) old all is = many_pairs (over all.pairs (map pair_record (pairs_of x.content)) n.pairs _
       is.pairs.counted (sym (length-map (pairs_of x.content) pair_record)) h)
   node_over x (inr (inr h)) old all is = many_texts (over all.texts (node_bytes x) n.texts _ is.texts.counted refl h)
 
-  pub nodes_over : (x : yaml_node_t) → 2 ^ 64 ≤ n.nodes + 1 → Exceeds (λ r. with_node r x) before n
+  pub nodes_over : (x : yaml_node_t) → 2 ^ 64 ≤ n.nodes + 1 → Exceeds (λ r. with_node_record r x) before n
   nodes_over x h old all is = many_nodes (over all.nodes
       (node_record (length all.items) (length all.pairs) (length all.texts) x ∷ []) n.nodes 1 is.nodes.counted refl h)
 
@@ -149,20 +149,20 @@ module _ (before : Lists) (n : document_counts_t) where
 module _ (a b : Lists) (n k : document_counts_t) where
   -- a node among nodes
   pub among_nodes : (xs : List yaml_node_t) (i : ℕ) (x : yaml_node_t) → i < length xs → x ≡ get_or xs i x
-      → Adds (λ r. with_nodes r (take i xs)) a n b k → Exceeds (λ r. with_node r x) b k
-      → Exceeds (λ r. with_nodes r xs) a n
+      → Adds (λ r. with_nodes_records r (take i xs)) a n b k → Exceeds (λ r. with_node_record r x) b k
+      → Exceeds (λ r. with_nodes_records r xs) a n
   among_nodes xs i x within is before step old all h =
-      let first : with_nodes all (take (i + 1) xs) ≡ with_node (with_nodes all (take i xs)) x
-      = ap (with_nodes all) (take_more xs i x within) ∙ nodes_append all (take i xs) (get_or xs i x ∷ [])
-      ∙ ap (with_node (with_nodes all (take i xs))) (sym is) in
-      let parts : with_nodes all xs ≡ with_nodes (with_nodes all (take (i + 1) xs)) (drop (i + 1) xs)
-      = ap (with_nodes all) (sym (take-append-drop (i + 1) xs))
+      let first : with_nodes_records all (take (i + 1) xs) ≡ with_node_record (with_nodes_records all (take i xs)) x
+      = ap (with_nodes_records all) (take_more xs i x within) ∙ nodes_append all (take i xs) (get_or xs i x ∷ [])
+      ∙ ap (with_node_record (with_nodes_records all (take i xs))) (sym is) in
+      let parts : with_nodes_records all xs ≡ with_nodes_records (with_nodes_records all (take (i + 1) xs)) (drop (i + 1) xs)
+      = ap (with_nodes_records all) (sym (take-append-drop (i + 1) xs))
       ∙ nodes_append all (take (i + 1) xs) (drop (i + 1) xs) in
       subst TooMany (sym parts)
-      (still_too_many (with_nodes all (take (i + 1) xs))
-      (with_nodes (with_nodes all (take (i + 1) xs)) (drop (i + 1) xs))
-      (nodes_grow (with_nodes all (take (i + 1) xs)) (drop (i + 1) xs))
-      (subst TooMany (sym first) (step old (with_nodes all (take i xs)) (before old all h))))
+      (still_too_many (with_nodes_records all (take (i + 1) xs))
+      (with_nodes_records (with_nodes_records all (take (i + 1) xs)) (drop (i + 1) xs))
+      (nodes_grow (with_nodes_records all (take (i + 1) xs)) (drop (i + 1) xs))
+      (subst TooMany (sym first) (step old (with_nodes_records all (take i xs)) (before old all h))))
 
   -- a document after others
   pub after_documents : (xs : List Document) (x : Document) → Adds (λ r. with_documents r xs) a n b k

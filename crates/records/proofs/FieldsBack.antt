@@ -19,7 +19,7 @@ use Rattle.libyaml_types.specs.declared.enums.yaml_mapping_style_t.{yaml_mapping
 use Rattle.libyaml_types.specs.declared.enums.yaml_mapping_style_t.TheVariants.{YAML_ANY_MAPPING_STYLE}
 use Rattle.libyaml_types.specs.declared.enums.yaml_mapping_style_t.TheVariants.{YAML_BLOCK_MAPPING_STYLE}
 use Rattle.libyaml_types.specs.declared.enums.yaml_mapping_style_t.TheVariants.{YAML_FLOW_MAPPING_STYLE}
-use Rattle.records.specs.FieldRecords.{directive_bytes, directive_record, directive_records, directives_bytes, flag}
+use Rattle.records.specs.FieldRecords.{directive_bytes, directive_record, directive_records, directives_bytes, flag_byte}
 use Rattle.records.specs.FieldsBack.{directive_by, mapping_style_by, scalar_style_by, sequence_style_by}
 
 cut : {A : Type 0} (all front text back : List A) (n : ℕ) → all ≡ front ++ (text ++ back) → n ≡ length front
@@ -58,7 +58,7 @@ as_many n [] = refl
 as_many n (d ∷ ds) = let rest = as_many (n + length (directive_bytes d)) ds in omega (arith, rest)
 
 -- numbers and flags
-pub flag_back : (b : Bool) → (flag b == 1) ≡ b
+pub flag_back : (b : Bool) → (flag_byte b == 1) ≡ b
 flag_back true = refl
 flag_back false = refl
 

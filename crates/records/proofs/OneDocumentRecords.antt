@@ -8,7 +8,7 @@ use Rattle.records.specs.declared.records.token_record_t.{token_record_t}
 use Rattle.records.proofs.HandedOut.{handed_once}
 use Rattle.records.specs.Buffers.{Lists, lists}
 use Rattle.records.specs.DocumentRecords.{recorded}
-use Rattle.records.specs.DocumentRun.{HandsOutLoads, LoadsEndBy, RunsOut, Uncountable, uncounted}
+use Rattle.records.specs.DocumentRun.{HandsOutLoads, LoadsEndBy, RecordsRunOut, Uncountable, uncounted}
 use Rattle.records.specs.OneDocumentRecords.{IsCounted, OneDocumentRecords, alike, both_uncounted}
 use Rattle.records.specs.OneDocumentRecords.{first_runs_out, second_runs_out}
 use Rattle.records.specs.declared.records.document_counts_t.{document_counts_t}
@@ -53,8 +53,8 @@ module _ (tokens : List token_record_t) (bytes : List ℕ) (old : Lists) (loads 
   both_handed_out : HandsOutLoads tokens bytes old p a loads → HandsOutLoads tokens bytes old q b loads → AreOne
   both_handed_out h k = go h.ends k.ends
     where
-      go : LoadsEndBy h.fault h.later ⊎ ((h.fault ≡ memory_fault) × RunsOut tokens bytes h.documents)
-          → LoadsEndBy k.fault k.later ⊎ ((k.fault ≡ memory_fault) × RunsOut tokens bytes k.documents) → AreOne
+      go : LoadsEndBy h.fault h.later ⊎ ((h.fault ≡ memory_fault) × RecordsRunOut tokens bytes h.documents)
+          → LoadsEndBy k.fault k.later ⊎ ((k.fault ≡ memory_fault) × RecordsRunOut tokens bytes k.documents) → AreOne
       go (inr e) y = first_runs_out h e.0
       go x (inr e) = second_runs_out k e.0
       go (inl x) (inl y) =
@@ -73,11 +73,11 @@ module _ (tokens : List token_record_t) (bytes : List ℕ) (old : Lists) (loads 
   one_document_records ca cb (inr x) (inr y) = both_uncounted x.0 y.0
   one_document_records ca cb (inl h) (inr y) = go h.ends
     where
-      go : LoadsEndBy h.fault h.later ⊎ ((h.fault ≡ memory_fault) × RunsOut tokens bytes h.documents) → AreOne
+      go : LoadsEndBy h.fault h.later ⊎ ((h.fault ≡ memory_fault) × RecordsRunOut tokens bytes h.documents) → AreOne
       go (inl e) = absurd (countable tokens bytes old p a loads h e ca y.1)
       go (inr e) = first_runs_out h e.0
   one_document_records ca cb (inr x) (inl k) = go k.ends
     where
-      go : LoadsEndBy k.fault k.later ⊎ ((k.fault ≡ memory_fault) × RunsOut tokens bytes k.documents) → AreOne
+      go : LoadsEndBy k.fault k.later ⊎ ((k.fault ≡ memory_fault) × RecordsRunOut tokens bytes k.documents) → AreOne
       go (inl e) = absurd (countable tokens bytes old q b loads k e cb x.1)
       go (inr e) = second_runs_out k e.0

@@ -14,9 +14,9 @@ use Rattle.records.specs.FieldRecords.{directive_records, directives_bytes}
 use Rattle.records.specs.FieldsBack.{directive_by}
 use Rattle.records.proofs.FieldsBack.{as_many, directives_back, flag_back, mapping_style_back}
 use Rattle.records.proofs.FieldsBack.{scalar_style_back, sequence_style_back}
-use Rattle.records.specs.Buffers.{Lists, nothing}
+use Rattle.records.specs.Buffers.{Lists, no_records}
 use Rattle.records.specs.DocumentRecords.{document_record, node_record, pair_record, recorded, with_document}
-use Rattle.records.specs.DocumentRecords.{with_documents, with_node, with_nodes, with_start}
+use Rattle.records.specs.DocumentRecords.{with_documents, with_node_record, with_nodes_records, with_start}
 use Rattle.records.specs.ReadsBack.{RecordsGiveDocuments, document_by, node_by, pair_by}
 use Rattle.records.specs.declared.records.document_record_t.{document_record_t}
 use Rattle.records.specs.declared.records.node_record_t.{node_record_t}
@@ -69,7 +69,7 @@ extends_further a b c h k = record {
   texts = begins_further c.texts b.texts a.texts k.texts h.texts;
 }
 
-node_extends : (r : Lists) (x : yaml_node_t) → Extends r (with_node r x)
+node_extends : (r : Lists) (x : yaml_node_t) → Extends r (with_node_record r x)
 node_extends r x = record {
   nodes = begins_front r.nodes _;
   items = begins_front r.items _;
@@ -78,10 +78,10 @@ node_extends r x = record {
   texts = begins_front r.texts _;
 }
 
-nodes_extend : (r : Lists) (xs : List yaml_node_t) → Extends r (with_nodes r xs)
+nodes_extend : (r : Lists) (xs : List yaml_node_t) → Extends r (with_nodes_records r xs)
 nodes_extend r [] = extends_itself r
-nodes_extend r (x ∷ xs) = extends_further r (with_node r x) (with_nodes (with_node r x) xs) (node_extends r x)
-    (nodes_extend (with_node r x) xs)
+nodes_extend r (x ∷ xs) = extends_further r (with_node_record r x) (with_nodes_records (with_node_record r x) xs) (node_extends r x)
+    (nodes_extend (with_node_record r x) xs)
 
 start_extends : (r : Lists) (d : Document) → Extends r (with_start r d)
 start_extends r d = record {
@@ -125,7 +125,7 @@ second_text all front a b h =
     ∙ cut all (front ++ a) b (h.0, h.1 ∙ ap (λ l. l ++ h.0) (sym (append_assoc front a b)))
 
 node_back : (r l : Lists) (tag : List ℕ) (c : unnamed_yaml_node_t_data) (s t : yaml_mark_t)
-    → Extends (with_node r (node_of tag c s t)) l
+    → Extends (with_node_record r (node_of tag c s t)) l
     → node_by l (node_record (length r.items) (length r.pairs) (length r.texts) (node_of tag c s t)) ≡ node_of tag c s t
 node_back r l tag (Scalar x) s t e =
     let first = cut l.texts r.texts tag (two_texts l.texts r.texts tag x.value e.texts) in
@@ -144,24 +144,24 @@ node_back r l tag (Mapping x) s t e =
 -- the records that are made of nodes, after what was there before
 abbrev nodes_from : Lists → List yaml_node_t → List node_record_t
 nodes_from r [] = []
-nodes_from r (x ∷ xs) = node_record (length r.items) (length r.pairs) (length r.texts) x ∷ nodes_from (with_node r x) xs
+nodes_from r (x ∷ xs) = node_record (length r.items) (length r.pairs) (length r.texts) x ∷ nodes_from (with_node_record r x) xs
 
-nodes_are : (r : Lists) (xs : List yaml_node_t) → (with_nodes r xs).nodes ≡ r.nodes ++ nodes_from r xs
+nodes_are : (r : Lists) (xs : List yaml_node_t) → (with_nodes_records r xs).nodes ≡ r.nodes ++ nodes_from r xs
 nodes_are r [] = sym (append-nil r.nodes)
-nodes_are r (x ∷ xs) = nodes_are (with_node r x) xs
+nodes_are r (x ∷ xs) = nodes_are (with_node_record r x) xs
     ∙ append_assoc r.nodes (node_record (length r.items) (length r.pairs) (length r.texts) x ∷ [])
-    (nodes_from (with_node r x) xs)
+    (nodes_from (with_node_record r x) xs)
 
 as_many_nodes : (r : Lists) (xs : List yaml_node_t) → length xs ≡ length (nodes_from r xs)
 as_many_nodes r [] = refl
-as_many_nodes r (x ∷ xs) = let rest = as_many_nodes (with_node r x) xs in omega (arith, rest)
+as_many_nodes r (x ∷ xs) = let rest = as_many_nodes (with_node_record r x) xs in omega (arith, rest)
 
-nodes_back : (r l : Lists) (xs : List yaml_node_t) → Extends (with_nodes r xs) l → map (node_by l) (nodes_from r xs) ≡ xs
+nodes_back : (r l : Lists) (xs : List yaml_node_t) → Extends (with_nodes_records r xs) l → map (node_by l) (nodes_from r xs) ≡ xs
 nodes_back r l [] e = refl
 nodes_back r l (x ∷ xs) e =
     let first = node_back r l x.tag x.content x.start_mark x.end_mark
-    (extends_further (with_node r x) (with_nodes (with_node r x) xs) l (nodes_extend (with_node r x) xs) e) in
-    let others = nodes_back (with_node r x) l xs e in
+    (extends_further (with_node_record r x) (with_nodes_records (with_node_record r x) xs) l (nodes_extend (with_node_record r x) xs) e) in
+    let others = nodes_back (with_node_record r x) l xs e in
     (λ z. first z ∷ others z)
 
 -- a document
@@ -208,9 +208,9 @@ abbrev documents_from : Lists → List Document → List document_record_t
 documents_from r [] = []
 documents_from r (d ∷ ds) = document_record (length r.directives) (length r.nodes) d ∷ documents_from (with_document r d) ds
 
-same_documents : (r : Lists) (xs : List yaml_node_t) → (with_nodes r xs).documents ≡ r.documents
+same_documents : (r : Lists) (xs : List yaml_node_t) → (with_nodes_records r xs).documents ≡ r.documents
 same_documents r [] = refl
-same_documents r (x ∷ xs) = same_documents (with_node r x) xs
+same_documents r (x ∷ xs) = same_documents (with_node_record r x) xs
 
 documents_are : (r : Lists) (ds : List Document) → (with_documents r ds).documents ≡ r.documents ++ documents_from r ds
 documents_are r [] = sym (append-nil r.documents)
@@ -232,5 +232,5 @@ documents_back r l (d ∷ ds) e =
 
 pub records_give_documents : RecordsGiveDocuments
 records_give_documents ds =
-    ap (map (document_by (recorded ds))) (documents_are nothing ds) ∙ documents_back nothing (recorded ds) ds
+    ap (map (document_by (recorded ds))) (documents_are no_records ds) ∙ documents_back no_records (recorded ds) ds
     (extends_itself (recorded ds))

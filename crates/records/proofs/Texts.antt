@@ -4,7 +4,7 @@ use Rattle.std.proofs.Common.{◌∙◌, take, drop}
 use Rattle.std.proofs.lemmas.Bool.{le-ltb}
 use Rattle.std.proofs.lemmas.Str.{is_utf8-from_IsUtf8, IsUtf8-from_is_utf8}
 use Rattle.std.specs.Str.{IsUtf8, is_utf8}
-use Rattle.records.specs.Records.{text_of, utf8_text}
+use Rattle.records.specs.Records.{text_of_range, text_of_bytes}
 use Rattle.records.specs.declared.record_problem.RecordProblem.TheVariants.{TextNotUtf8}
 use Rattle.records.specs.declared.records.range_record_t.{range_record_t}
 
@@ -13,22 +13,22 @@ pub slice_is : (texts : List ℕ) (place n : ℕ) → take (place + n - place) (
 slice_is texts place n = let same : place + n - place ≡ n = omega arith in ap (λ m. take m (drop place texts)) same
 
 inside : (texts : List ℕ) (r : range_record_t) → r.place + r.length ≤ length texts
-    → text_of texts r ≡ utf8_text (take r.length (drop r.place texts))
+    → text_of_range texts r ≡ text_of_bytes (take r.length (drop r.place texts))
 inside texts r h = rw (le-ltb (length texts) (r.place + r.length) h) refl
 
-is_text : (bytes : List ℕ) → IsUtf8 bytes → utf8_text bytes ≡ Ok bytes
+is_text : (bytes : List ℕ) → IsUtf8 bytes → text_of_bytes bytes ≡ Ok bytes
 is_text bytes u = rw (is_utf8-from_IsUtf8 bytes u) refl
 
 pub text_there : (texts : List ℕ) (r : range_record_t) (bytes t : List ℕ) → r.place + r.length ≤ length texts
     → bytes ≡ take r.length (drop r.place texts)
-    → IsUtf8 bytes → t ≡ bytes → text_of texts r ≡ Ok t
-text_there texts r bytes t h is u e = inside texts r h ∙ ap utf8_text (sym is) ∙ is_text bytes u ∙ ap Ok (sym e)
+    → IsUtf8 bytes → t ≡ bytes → text_of_range texts r ≡ Ok t
+text_there texts r bytes t h is u e = inside texts r h ∙ ap text_of_bytes (sym is) ∙ is_text bytes u ∙ ap Ok (sym e)
 
-no_text : (bytes : List ℕ) (b : Bool) → is_utf8 bytes ≡ b → (IsUtf8 bytes → ⊥) → utf8_text bytes ≡ Err TextNotUtf8
+no_text : (bytes : List ℕ) (b : Bool) → is_utf8 bytes ≡ b → (IsUtf8 bytes → ⊥) → text_of_bytes bytes ≡ Err TextNotUtf8
 no_text bytes true e u = absurd (u (IsUtf8-from_is_utf8 bytes e))
 no_text bytes false e u = rw e refl
 
 pub text_not_utf8 : (texts : List ℕ) (r : range_record_t) (bytes : List ℕ) → r.place + r.length ≤ length texts
     → bytes ≡ take r.length (drop r.place texts)
-    → (IsUtf8 bytes → ⊥) → text_of texts r ≡ Err TextNotUtf8
-text_not_utf8 texts r bytes h is u = inside texts r h ∙ ap utf8_text (sym is) ∙ no_text bytes (is_utf8 bytes) refl u
+    → (IsUtf8 bytes → ⊥) → text_of_range texts r ≡ Err TextNotUtf8
+text_not_utf8 texts r bytes h is u = inside texts r h ∙ ap text_of_bytes (sym is) ∙ no_text bytes (is_utf8 bytes) refl u

@@ -12,22 +12,22 @@ use Rattle.libyaml_graphs.specs.loads.Loads.{Load, last_load}
 use Rattle.libyaml_loader.specs.loads.LoadsInTurn.{AreLoadsOf, LoopYields, cut_short, whole}
 use Rattle.records.specs.Puts.{Puts}
 use Rattle.records.specs.FaultRecord.{EndsBy, HandsOut, fault_bytes, fault_record}
-use Rattle.records.specs.RecordSource.{Gives, read_records}
-use Rattle.records.specs.RecordSourceLaws.{BreaksOff}
+use Rattle.records.specs.RecordSource.{RecordsGive, read_records}
+use Rattle.records.specs.RecordSourceLaws.{RecordsBreakOff}
 use Rattle.records.specs.declared.records.token_record_t.{token_record_t}
-use Rattle.records.specs.Buffers.{Adds, Held, Holds, Lists, counts_of, many_texts, nothing}
+use Rattle.records.specs.Buffers.{Adds, HeldIn, Holds, Lists, counts_of, many_texts, no_records}
 use Rattle.records.specs.DocumentRecords.{recorded, with_documents}
-use Rattle.records.specs.DocumentRun.{HandsOutLoads, LoadsEndBy, PutsUncounted, RunsOut, Uncountable, WithinRoom}
+use Rattle.records.specs.DocumentRun.{HandsOutLoads, LoadsEndBy, PutsUncounted, RecordsRunOut, Uncountable, WithinRoom}
 use Rattle.records.specs.DocumentRun.{with_words}
 use Rattle.records.specs.declared.records.document_counts_t.{document_counts_t}
 use Rattle.records.specs.declared.records.documents_run_t.{documents_run_t}
 use Rattle.records.proofs.Adding.{held_more}
 use Rattle.records.proofs.Exceeding.{still_too_many, words_grow}
 
-untouched : {A : Type 0} (old : List A) → Held old old [] 0
+untouched : {A : Type 0} (old : List A) → HeldIn old old [] 0
 untouched old = record { filled_so = ap (λ l. l ++ old) (sym (take_all (length old) [] (omega arith))); counted = refl }
 
-holds_nothing : (old : Lists) → Holds old old (counts_of nothing) nothing
+holds_nothing : (old : Lists) → Holds old old (counts_of no_records) no_records
 holds_nothing old = record {
   documents = untouched old.documents;
   nodes = untouched old.nodes;
@@ -37,14 +37,14 @@ holds_nothing old = record {
   texts = untouched old.texts;
 }
 
-handed_out : {A : Type 0} (all old new : List A) (wanted written : ℕ) → Held old new all wanted
+handed_out : {A : Type 0} (all old new : List A) (wanted written : ℕ) → HeldIn old new all wanted
     → written ≡ min wanted (length old)
     → HandsOut all old new wanted written
 handed_out all old new wanted written h is
     = record { wanted_is = h.counted; written_is = is ∙ ap (λ k. min k (length old)) h.counted; filled_so = h.filled_so }
 
 -- documents that were put, of which the last is too many
-pub uncountable : (old : Lists) (loads : List Load) → PutsUncounted old (counts_of nothing) loads → Uncountable loads
+pub uncountable : (old : Lists) (loads : List Load) → PutsUncounted old (counts_of no_records) loads → Uncountable loads
 uncountable old loads u = record {
   documents = u.documents;
   later = u.later;
@@ -54,7 +54,7 @@ uncountable old loads u = record {
   ends = inr refl;
   too_many = still_too_many (recorded u.documents) (with_words (recorded u.documents) memory_fault)
       (words_grow (recorded u.documents) memory_fault)
-      (u.exceeds old nothing (holds_nothing old));
+      (u.exceeds old no_records (holds_nothing old));
 }
 
 -- what is left of the loads, where their documents were put
@@ -69,19 +69,19 @@ module _ (tokens : List token_record_t) (bytes : List ℕ) (f : Fault) (document
   no_memory e = let i = ap (λ (y : Fault). y.error) e in cc
 
   runs_out : (p : Parser Coming) (ending : Ending)
-      → LoopYields Gives (λ s. length s.tokens) Some BreaksOff (new_parser (read_records tokens bytes)) documents ending p
-      → EndsBy f ending → f ≡ memory_fault → RunsOut tokens bytes documents
+      → LoopYields RecordsGive (λ s. length s.tokens) Some RecordsBreakOff (new_parser (read_records tokens bytes)) documents ending p
+      → EndsBy f ending → f ≡ memory_fault → RecordsRunOut tokens bytes documents
   runs_out p ending y (inl (none, is)) memory = absurd (no_memory (sym none ∙ memory))
   runs_out p ending y (inr is) memory = record {
     last = p;
-    yields = subst (λ (x : Ending). LoopYields Gives (λ s. length s.tokens) Some BreaksOff
+    yields = subst (λ (x : Ending). LoopYields RecordsGive (λ s. length s.tokens) Some RecordsBreakOff
         (new_parser (read_records tokens bytes)) documents x p) (is ∙ ap Fails memory) y;
   }
 
   pub stops : (p : Parser Coming) (ending : Ending)
-      → LoopYields Gives (λ s. length s.tokens) Some BreaksOff (new_parser (read_records tokens bytes)) documents ending p
+      → LoopYields RecordsGive (λ s. length s.tokens) Some RecordsBreakOff (new_parser (read_records tokens bytes)) documents ending p
       → EndsBy f ending → (later : List Load) → LoadsEndBy f later ⊎ (f ≡ memory_fault)
-      → LoadsEndBy f later ⊎ ((f ≡ memory_fault) × RunsOut tokens bytes documents)
+      → LoadsEndBy f later ⊎ ((f ≡ memory_fault) × RecordsRunOut tokens bytes documents)
   stops p ending y by later (inl e) = inl e
   stops p ending y by later (inr memory) = inr (memory, runs_out p ending y by memory)
 
@@ -114,14 +114,14 @@ module _ {S : Type 0} (MayBreak : S → Fault → Type 0) (only : (s : S) (f : F
 
   -- documents that were put, and then the words of a fault, which are too many
   pub words_uncountable : (old mid : Lists) (n : document_counts_t) (ending : Ending) (loads : List Load)
-      → Adds (λ r. with_documents r documents) old (counts_of nothing) mid n → EndsBy f ending
+      → Adds (λ r. with_documents r documents) old (counts_of no_records) mid n → EndsBy f ending
       → AreLoadsOf MayBreak p documents ending loads
       → ((rest : List Load) → loads ≡ map (λ (d : Document). Ok d) documents ++ rest → rest ≢ [])
       → 2 ^ 64 ≤ n.texts + length (fault_bytes f) → Uncountable loads
   words_uncountable old mid n ending loads adds by are last_left over =
       let left = left_by ending loads by are in
       let long = length-append (recorded documents).texts (fault_bytes f) in
-      let count = (adds old nothing (holds_nothing old)).texts.counted in
+      let count = (adds old no_records (holds_nothing old)).texts.counted in
       record {
         documents = documents;
         later = left.later;
@@ -136,8 +136,8 @@ module _ {S : Type 0} (MayBreak : S → Fault → Type 0) (only : (s : S) (f : F
   pub hands_out : (tokens : List token_record_t) (bytes : List ℕ) (old mid new : Lists) (n : document_counts_t)
       (run : documents_run_t) (ending : Ending) (loads : List Load)
       → ((later : List Load) → LoadsEndBy f later ⊎ (f ≡ memory_fault)
-      → LoadsEndBy f later ⊎ ((f ≡ memory_fault) × RunsOut tokens bytes documents))
-      → Adds (λ r. with_documents r documents) old (counts_of nothing) mid n → EndsBy f ending
+      → LoadsEndBy f later ⊎ ((f ≡ memory_fault) × RecordsRunOut tokens bytes documents))
+      → Adds (λ r. with_documents r documents) old (counts_of no_records) mid n → EndsBy f ending
       → AreLoadsOf MayBreak p documents ending loads
       → new ≡ record mid { texts = new.texts } → run.wanted ≡ record n { texts = run.wanted.texts }
       → Puts mid.texts n.texts (fault_bytes f) new.texts run.wanted.texts → run.fault ≡ fault_record n.texts f
@@ -146,7 +146,7 @@ module _ {S : Type 0} (MayBreak : S → Fault → Type 0) (only : (s : S) (f : F
       → HandsOutLoads tokens bytes old new run loads
   hands_out tokens bytes old mid new n run ending loads stop adds by are same_lists same_counts words fault_is room last_left =
       let left = left_by ending loads by are in
-      let holds = adds old nothing (holds_nothing old) in
+      let holds = adds old no_records (holds_nothing old) in
       let all = recorded documents in
       let texts = held_more old.texts mid.texts new.texts all.texts (fault_bytes f) n.texts run.wanted.texts
       holds.texts words in
@@ -185,6 +185,6 @@ module _ {S : Type 0} (MayBreak : S → Fault → Type 0) (only : (s : S) (f : F
             (ap (λ (c : document_counts_t). c.texts) room);
       }
     where
-      moved : {A : Type 0} (old mid new all : List A) (n m : ℕ) → new ≡ mid → m ≡ n → Held old mid all n
-          → Held old new all m
+      moved : {A : Type 0} (old mid new all : List A) (n m : ℕ) → new ≡ mid → m ≡ n → HeldIn old mid all n
+          → HeldIn old new all m
       moved old mid new all n m same count h = record { filled_so = same ∙ h.filled_so; counted = count ∙ h.counted }

@@ -21,8 +21,8 @@ abbrev pub lists : List document_record_t → List node_record_t → List ℤ �
 lists documents nodes items pairs directives texts
     = record { documents = documents; nodes = nodes; items = items; pairs = pairs; directives = directives; texts = texts }
 
-abbrev pub nothing : Lists
-nothing = lists [] [] [] [] [] []
+abbrev pub no_records : Lists
+no_records = lists [] [] [] [] [] []
 
 -- how many each has
 abbrev pub counts_of : Lists → document_counts_t
@@ -47,17 +47,17 @@ least n m = record {
 }
 
 -- a buffer that began as `old` holds all of these, as far as there is room, and they were counted
-pub record Held {A : Type 0} (old now all : List A) (n : ℕ) : Type 0 where
+pub record HeldIn {A : Type 0} (old now all : List A) (n : ℕ) : Type 0 where
   pub filled_so : now ≡ filled old all
   pub counted : n ≡ length all
 
 pub record Holds (old now : Lists) (counts : document_counts_t) (all : Lists) : Type 0 where
-  pub documents : Held old.documents now.documents all.documents counts.documents
-  pub nodes : Held old.nodes now.nodes all.nodes counts.nodes
-  pub items : Held old.items now.items all.items counts.items
-  pub pairs : Held old.pairs now.pairs all.pairs counts.pairs
-  pub directives : Held old.directives now.directives all.directives counts.directives
-  pub texts : Held old.texts now.texts all.texts counts.texts
+  pub documents : HeldIn old.documents now.documents all.documents counts.documents
+  pub nodes : HeldIn old.nodes now.nodes all.nodes counts.nodes
+  pub items : HeldIn old.items now.items all.items counts.items
+  pub pairs : HeldIn old.pairs now.pairs all.pairs counts.pairs
+  pub directives : HeldIn old.directives now.directives all.directives counts.directives
+  pub texts : HeldIn old.texts now.texts all.texts counts.texts
 
 -- what buffers held, and n counted, they hold with this more, and m counts it
 abbrev pub Adds : (more : Lists → Lists) → (before : Lists) → (n : document_counts_t) → (after : Lists)

@@ -9,8 +9,8 @@ use Rattle.libyaml_documents.specs.declared.node.unnamed_yaml_node_t_data.{unnam
 use Rattle.libyaml_documents.specs.declared.node.unnamed_yaml_node_t_data.TheVariants.{Scalar, Sequence, Mapping}
 use Rattle.libyaml_documents.specs.declared.node.yaml_node_t.{yaml_node_t}
 use Rattle.libyaml_documents.specs.declared.pairs.yaml_node_pair_t.{yaml_node_pair_t}
-use Rattle.records.specs.FieldRecords.{directive_records, directives_bytes, flag, mark_record, no_range, range_of}
-use Rattle.records.specs.Buffers.{Lists, nothing}
+use Rattle.records.specs.FieldRecords.{directive_records, directives_bytes, flag_byte, mark_record, no_range, range_of}
+use Rattle.records.specs.Buffers.{Lists, no_records}
 use Rattle.records.specs.declared.records.document_counts_t.{document_counts_t}
 use Rattle.records.specs.declared.records.document_record_t.{document_record_t}
 use Rattle.records.specs.declared.records.node_record_t.{node_record_t}
@@ -73,17 +73,17 @@ OverCounts n x = (2 ^ 64 ≤ n.items + length (items_of x.content))
     ⊎ ((2 ^ 64 ≤ n.pairs + length (pairs_of x.content)) ⊎ (2 ^ 64 ≤ n.texts + length (node_bytes x)))
 
 -- one node more, and all of some
-abbrev pub with_node : Lists → yaml_node_t → Lists
-with_node r x = record r {
+abbrev pub with_node_record : Lists → yaml_node_t → Lists
+with_node_record r x = record r {
   nodes = r.nodes ++ node_record (length r.items) (length r.pairs) (length r.texts) x ∷ [];
   items = r.items ++ items_of x.content;
   pairs = r.pairs ++ map pair_record (pairs_of x.content);
   texts = r.texts ++ node_bytes x;
 }
 
-abbrev pub with_nodes : Lists → List yaml_node_t → Lists
-with_nodes r [] = r
-with_nodes r (x ∷ xs) = with_nodes (with_node r x) xs
+abbrev pub with_nodes_records : Lists → List yaml_node_t → Lists
+with_nodes_records r [] = r
+with_nodes_records r (x ∷ xs) = with_nodes_records (with_node_record r x) xs
 
 abbrev pub with_version : Option yaml_version_directive_t → document_record_t → document_record_t
 with_version None r = r
@@ -95,8 +95,8 @@ document_record d k x = with_version x.version_directive (record {
   has_version = 0;
   major = pos 0;
   minor = pos 0;
-  start_implicit = flag x.start_implicit;
-  end_implicit = flag x.end_implicit;
+  start_implicit = flag_byte x.start_implicit;
+  end_implicit = flag_byte x.end_implicit;
   start_mark = mark_record x.start_mark;
   end_mark = mark_record x.end_mark;
   directives = record { place = d; length = length x.tag_directives };
@@ -112,7 +112,7 @@ with_start r x = record r {
 }
 
 abbrev pub with_document : Lists → Document → Lists
-with_document r x = with_nodes (with_start r x) x.nodes
+with_document r x = with_nodes_records (with_start r x) x.nodes
 
 abbrev pub with_documents : Lists → List Document → Lists
 with_documents r [] = r
@@ -120,4 +120,4 @@ with_documents r (x ∷ xs) = with_documents (with_document r x) xs
 
 -- what is made of all these documents
 abbrev pub recorded : List Document → Lists
-recorded documents = with_documents nothing documents
+recorded documents = with_documents no_records documents

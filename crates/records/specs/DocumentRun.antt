@@ -10,10 +10,10 @@ use Rattle.libyaml_graphs.specs.loads.Bounds.{IsBoundedLoads}
 use Rattle.libyaml_graphs.specs.loads.Loads.{Load, last_load}
 use Rattle.libyaml_loader.specs.loads.LoadsInTurn.{LoopYields}
 use Rattle.records.specs.FaultRecord.{EndsBy, HandsOut, fault_bytes, fault_record, memory_record}
-use Rattle.records.specs.RecordSource.{Gives, read_records}
-use Rattle.records.specs.RecordSourceLaws.{BreaksOff}
+use Rattle.records.specs.RecordSource.{RecordsGive, read_records}
+use Rattle.records.specs.RecordSourceLaws.{RecordsBreakOff}
 use Rattle.records.specs.declared.records.token_record_t.{token_record_t}
-use Rattle.records.specs.Buffers.{Adds, Exceeds, Lists, TooMany, counts_of, least, nothing}
+use Rattle.records.specs.Buffers.{Adds, Exceeds, Lists, TooMany, counts_of, least, no_records}
 use Rattle.records.specs.DocumentRecords.{recorded, with_documents}
 use Rattle.records.specs.declared.records.document_counts_t.{document_counts_t}
 use Rattle.records.specs.declared.records.documents_run_t.{documents_run_t}
@@ -48,9 +48,9 @@ abbrev pub LoadsEndBy : Fault → (later : List Load) → Type 0
 LoadsEndBy f later = ((f ≡ no_fault) × (later ≡ last_load Ends ∷ [])) ⊎ (later ≡ Err f ∷ [])
 
 -- A parser of these records loaded these documents, and its last load failed for memory, where it may take some.
-pub record RunsOut (tokens : List token_record_t) (texts : List ℕ) (documents : List Document) : Type 0 where
+pub record RecordsRunOut (tokens : List token_record_t) (texts : List ℕ) (documents : List Document) : Type 0 where
   pub last : Parser Coming
-  pub yields : LoopYields Gives (λ s. length s.tokens) Some BreaksOff (new_parser (read_records tokens texts)) documents
+  pub yields : LoopYields RecordsGive (λ s. length s.tokens) Some RecordsBreakOff (new_parser (read_records tokens texts)) documents
       (Fails memory_fault) last
 
 -- The first documents of loads were handed out, of which the last load is none, and then the words of a fault: all of
@@ -62,7 +62,7 @@ pub record HandsOutLoads (tokens : List token_record_t) (bytes : List ℕ) (old 
   pub all : loads ≡ map Ok documents ++ later
   pub more : later ≢ []
   pub fault : Fault
-  pub ends : LoadsEndBy fault later ⊎ ((fault ≡ memory_fault) × RunsOut tokens bytes documents)
+  pub ends : LoadsEndBy fault later ⊎ ((fault ≡ memory_fault) × RecordsRunOut tokens bytes documents)
   pub fault_is : run.fault ≡ fault_record (length (recorded documents).texts) fault
   pub document_records : HandsOut (recorded documents).documents old.documents new.documents run.wanted.documents
       run.written.documents
@@ -91,7 +91,7 @@ pub record Uncountable (loads : List Load) : Type 0 where
 
 -- what is returned of a run with more of something than can be counted
 abbrev pub uncounted : documents_run_t
-uncounted = record { wanted = counts_of nothing; written = counts_of nothing; fault = memory_record }
+uncounted = record { wanted = counts_of no_records; written = counts_of no_records; fault = memory_record }
 
 -- The loads over the tokens of these records were handed out, or had more than can be counted.
 abbrev pub DocumentsOver : List token_record_t → List ℕ → (old new : Lists) → documents_run_t → Type 0

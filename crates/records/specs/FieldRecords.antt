@@ -24,9 +24,9 @@ bytes_of (Some text) = text
 abbrev pub mark_record : yaml_mark_t → mark_record_t
 mark_record m = record { index = m.index; line = m.line; column = m.column }
 
-abbrev pub flag : Bool → ℕ
-flag true = 1
-flag false = 0
+abbrev pub flag_byte : Bool → ℕ
+flag_byte true = 1
+flag_byte false = 0
 
 -- a directive's record, and its texts
 abbrev pub directive_record : ℕ → yaml_tag_directive_t → directive_record_t

@@ -7,7 +7,7 @@ use Rattle.libyaml_documents.specs.declared.node.unnamed_yaml_node_t_data.TheVar
 use Rattle.libyaml_documents.specs.declared.node.yaml_node_t.{yaml_node_t}
 use Rattle.libyaml_documents.specs.declared.pairs.yaml_node_pair_t.{yaml_node_pair_t}
 use Rattle.records.specs.FieldsBack.{cut_by, directive_by, mapping_style_by, scalar_style_by, sequence_style_by}
-use Rattle.records.specs.Records.{mark_of}
+use Rattle.records.specs.Records.{mark_of_record}
 use Rattle.records.specs.Buffers.{Lists}
 use Rattle.records.specs.DocumentRecords.{recorded}
 use Rattle.records.specs.declared.records.document_record_t.{document_record_t}
@@ -28,8 +28,8 @@ abbrev pub node_by : Lists → node_record_t → yaml_node_t
 node_by l r = record {
   tag = cut_by l.texts r.tag;
   content = content_by l r;
-  start_mark = mark_of r.start_mark;
-  end_mark = mark_of r.end_mark;
+  start_mark = mark_of_record r.start_mark;
+  end_mark = mark_of_record r.end_mark;
 }
 
 abbrev pub version_by : document_record_t → Option yaml_version_directive_t
@@ -42,8 +42,8 @@ document_by l r = record {
   tag_directives = map (directive_by l.texts) (cut_by l.directives r.directives);
   start_implicit = r.start_implicit == 1;
   end_implicit = r.end_implicit == 1;
-  start_mark = mark_of r.start_mark;
-  end_mark = mark_of r.end_mark;
+  start_mark = mark_of_record r.start_mark;
+  end_mark = mark_of_record r.end_mark;
 }
 
 -- the records of documents are read back as these documents

@@ -7,8 +7,8 @@ use Rattle.records.specs.declared.record_problem.RecordProblem.{RecordProblem}
 use Rattle.records.specs.declared.record_problem.RecordProblem.TheVariants.{Memory, BadTokenRecord, TextOutside}
 use Rattle.records.specs.declared.record_problem.RecordProblem.TheVariants.{TextNotUtf8, NoMoreTokens}
 
-abbrev pub problem_at : yaml_error_type_t → List ℕ → ℕ → Fault
-problem_at error words given = record no_fault {
+abbrev pub record_problem_at : yaml_error_type_t → List ℕ → ℕ → Fault
+record_problem_at error words given = record no_fault {
   error = error;
   problem = Some words;
   problem_offset = given;
@@ -18,7 +18,7 @@ problem_at error words given = record no_fault {
 
 abbrev pub record_fault : RecordProblem → ℕ → Fault
 record_fault Memory given = memory_fault
-record_fault BadTokenRecord given = problem_at YAML_SCANNER_ERROR (codes "bad token record") given
-record_fault TextOutside given = problem_at YAML_READER_ERROR (codes "text outside the buffer") given
-record_fault TextNotUtf8 given = problem_at YAML_READER_ERROR (codes "text is not UTF-8") given
-record_fault NoMoreTokens given = problem_at YAML_READER_ERROR (codes "no more tokens") given
+record_fault BadTokenRecord given = record_problem_at YAML_SCANNER_ERROR (codes "bad token record") given
+record_fault TextOutside given = record_problem_at YAML_READER_ERROR (codes "text outside the buffer") given
+record_fault TextNotUtf8 given = record_problem_at YAML_READER_ERROR (codes "text is not UTF-8") given
+record_fault NoMoreTokens given = record_problem_at YAML_READER_ERROR (codes "no more tokens") given

@@ -15,17 +15,17 @@ coming_after n (Ok token) later = coming (token ∷ later.tokens) later.fault
 coming_after n (Err problem) later = coming [] (record_fault problem n)
 
 -- the tokens of records, up to the first that has none, where n tokens were given
-abbrev pub coming_from : List ℕ → ℕ → List token_record_t → Coming
-coming_from texts n [] = coming [] (record_fault NoMoreTokens n)
-coming_from texts n (r ∷ rs) = coming_after n (token_of_record texts r) (coming_from texts (n + 1) rs)
+abbrev pub records_coming_from : List ℕ → ℕ → List token_record_t → Coming
+records_coming_from texts n [] = coming [] (record_fault NoMoreTokens n)
+records_coming_from texts n (r ∷ rs) = coming_after n (token_of_record texts r) (records_coming_from texts (n + 1) rs)
 
 -- the tokens of records, and the fault that ends them
 abbrev pub read_records : List token_record_t → List ℕ → Coming
-read_records records texts = coming_from texts 0 records
+read_records records texts = records_coming_from texts 0 records
 
 -- what a source has before it that has given n tokens: nothing where an allocation failed
-abbrev pub coming_at : Bool → List token_record_t → List ℕ → ℕ → Coming
-coming_at is_broken records texts n = if is_broken then coming [] memory_fault else coming_from texts n (drop n records)
+abbrev pub records_coming_at : Bool → List token_record_t → List ℕ → ℕ → Coming
+records_coming_at is_broken records texts n = if is_broken then coming [] memory_fault else records_coming_from texts n (drop n records)
 
 -- The next token; or the fault at the end, for good; or that of a failed allocation, for good.
 abbrev pub GivesOf : List yaml_token_t → Fault → Answer → Coming → Type 0
@@ -33,5 +33,5 @@ GivesOf [] fault answer t = (answer ≡ Err fault) × (t ≡ coming [] fault)
 GivesOf (first ∷ later) fault (Ok token) t = (token ≡ first) × (t ≡ coming later fault)
 GivesOf (first ∷ later) fault (Err f) t = (f ≡ memory_fault) × (t ≡ coming [] memory_fault)
 
-abbrev pub Gives : Coming → Answer → Coming → Type 0
-Gives s answer t = GivesOf s.tokens s.fault answer t
+abbrev pub RecordsGive : Coming → Answer → Coming → Type 0
+RecordsGive s answer t = GivesOf s.tokens s.fault answer t

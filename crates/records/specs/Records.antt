@@ -51,8 +51,8 @@ abbrev pub ◌>>=◌ : {A B : Type 0} → Result A RecordProblem → (A → Resu
 r >>= f = made_of f r
 
 -- the types by their numbers
-abbrev pub token_type_of : ℕ → Result yaml_token_type_t RecordProblem
-token_type_of n =
+abbrev pub token_type_of_number : ℕ → Result yaml_token_type_t RecordProblem
+token_type_of_number n =
     if n == 0 then Ok YAML_NO_TOKEN else (
     if n == 1 then Ok YAML_STREAM_START_TOKEN else (
     if n == 2 then Ok YAML_STREAM_END_TOKEN else (
@@ -77,16 +77,16 @@ token_type_of n =
     if n == 21 then Ok YAML_SCALAR_TOKEN else Err BadTokenRecord)))))))))))))))))))))
 
 -- the encodings by their numbers
-abbrev pub encoding_of : ℕ → Result yaml_encoding_t RecordProblem
-encoding_of n =
+abbrev pub encoding_of_number : ℕ → Result yaml_encoding_t RecordProblem
+encoding_of_number n =
     if n == 0 then Ok YAML_ANY_ENCODING else (
     if n == 1 then Ok YAML_UTF8_ENCODING else (
     if n == 2 then Ok YAML_UTF16LE_ENCODING else (
     if n == 3 then Ok YAML_UTF16BE_ENCODING else Err BadTokenRecord)))
 
 -- the scalar styles by their numbers
-abbrev pub scalar_style_of : ℕ → Result yaml_scalar_style_t RecordProblem
-scalar_style_of n =
+abbrev pub scalar_style_of_number : ℕ → Result yaml_scalar_style_t RecordProblem
+scalar_style_of_number n =
     if n == 0 then Ok YAML_ANY_SCALAR_STYLE else (
     if n == 1 then Ok YAML_PLAIN_SCALAR_STYLE else (
     if n == 2 then Ok YAML_SINGLE_QUOTED_SCALAR_STYLE else (
@@ -95,87 +95,87 @@ scalar_style_of n =
     if n == 5 then Ok YAML_FOLDED_SCALAR_STYLE else Err BadTokenRecord)))))
 
 -- bytes that are UTF-8
-abbrev pub utf8_text : List ℕ → Result (List ℕ) RecordProblem
-utf8_text bytes = if is_utf8 bytes then Ok bytes else Err TextNotUtf8
+abbrev pub text_of_bytes : List ℕ → Result (List ℕ) RecordProblem
+text_of_bytes bytes = if is_utf8 bytes then Ok bytes else Err TextNotUtf8
 
 -- the text of a range
-abbrev pub text_of : List ℕ → range_record_t → Result (List ℕ) RecordProblem
-text_of texts r = if nat_lt (length texts) (r.place + r.length) then Err TextOutside else utf8_text
+abbrev pub text_of_range : List ℕ → range_record_t → Result (List ℕ) RecordProblem
+text_of_range texts r = if nat_lt (length texts) (r.place + r.length) then Err TextOutside else text_of_bytes
     (take r.length (drop r.place texts))
 
-abbrev pub mark_of : mark_record_t → yaml_mark_t
-mark_of m = record { index = m.index; line = m.line; column = m.column }
+abbrev pub mark_of_record : mark_record_t → yaml_mark_t
+mark_of_record m = record { index = m.index; line = m.line; column = m.column }
 
 -- the contents with a payload
 abbrev pub stream_start_of : token_record_t → Result unnamed_yaml_token_t_data RecordProblem
 stream_start_of r = do
-  encoding ← encoding_of r.style
+  encoding ← encoding_of_number r.style
   Ok (tok.StreamStart (record { encoding = encoding }))
 
 abbrev pub tag_directive_of : List ℕ → token_record_t → Result unnamed_yaml_token_t_data RecordProblem
 tag_directive_of texts r = do
-  handle ← text_of texts r.first
-  prefix ← text_of texts r.second
+  handle ← text_of_range texts r.first
+  prefix ← text_of_range texts r.second
   Ok (tok.TagDirective (record { handle = handle; prefix = prefix }))
 
-abbrev pub alias_of : List ℕ → token_record_t → Result unnamed_yaml_token_t_data RecordProblem
-alias_of texts r = do
-  value ← text_of texts r.first
+abbrev pub alias_of_record : List ℕ → token_record_t → Result unnamed_yaml_token_t_data RecordProblem
+alias_of_record texts r = do
+  value ← text_of_range texts r.first
   Ok (tok.Alias (record { value = value }))
 
-abbrev pub anchor_of : List ℕ → token_record_t → Result unnamed_yaml_token_t_data RecordProblem
-anchor_of texts r = do
-  value ← text_of texts r.first
+abbrev pub anchor_of_record : List ℕ → token_record_t → Result unnamed_yaml_token_t_data RecordProblem
+anchor_of_record texts r = do
+  value ← text_of_range texts r.first
   Ok (tok.Anchor (record { value = value }))
 
-abbrev pub tag_of : List ℕ → token_record_t → Result unnamed_yaml_token_t_data RecordProblem
-tag_of texts r = do
-  handle ← text_of texts r.first
-  suffix ← text_of texts r.second
+abbrev pub tag_of_record : List ℕ → token_record_t → Result unnamed_yaml_token_t_data RecordProblem
+tag_of_record texts r = do
+  handle ← text_of_range texts r.first
+  suffix ← text_of_range texts r.second
   Ok (tok.Tag (record { handle = handle; suffix = suffix }))
 
-abbrev pub scalar_of : List ℕ → token_record_t → Result unnamed_yaml_token_t_data RecordProblem
-scalar_of texts r = do
-  style ← scalar_style_of r.style
-  value ← text_of texts r.first
+abbrev pub scalar_of_record : List ℕ → token_record_t → Result unnamed_yaml_token_t_data RecordProblem
+scalar_of_record texts r = do
+  style ← scalar_style_of_number r.style
+  value ← text_of_range texts r.first
   Ok (tok.Scalar (record { value = value; style = style }))
 
 -- the content of a token of this type
-abbrev pub content_of : yaml_token_type_t → List ℕ → token_record_t → Result unnamed_yaml_token_t_data RecordProblem
-content_of YAML_NO_TOKEN texts r = Ok tok.NoToken
-content_of YAML_STREAM_START_TOKEN texts r = stream_start_of r
-content_of YAML_STREAM_END_TOKEN texts r = Ok tok.StreamEnd
-content_of YAML_VERSION_DIRECTIVE_TOKEN texts r = Ok (tok.VersionDirective (record { major = r.major; minor = r.minor }))
-content_of YAML_TAG_DIRECTIVE_TOKEN texts r = tag_directive_of texts r
-content_of YAML_DOCUMENT_START_TOKEN texts r = Ok tok.DocumentStart
-content_of YAML_DOCUMENT_END_TOKEN texts r = Ok tok.DocumentEnd
-content_of YAML_BLOCK_SEQUENCE_START_TOKEN texts r = Ok tok.BlockSequenceStart
-content_of YAML_BLOCK_MAPPING_START_TOKEN texts r = Ok tok.BlockMappingStart
-content_of YAML_BLOCK_END_TOKEN texts r = Ok tok.BlockEnd
-content_of YAML_FLOW_SEQUENCE_START_TOKEN texts r = Ok tok.FlowSequenceStart
-content_of YAML_FLOW_SEQUENCE_END_TOKEN texts r = Ok tok.FlowSequenceEnd
-content_of YAML_FLOW_MAPPING_START_TOKEN texts r = Ok tok.FlowMappingStart
-content_of YAML_FLOW_MAPPING_END_TOKEN texts r = Ok tok.FlowMappingEnd
-content_of YAML_BLOCK_ENTRY_TOKEN texts r = Ok tok.BlockEntry
-content_of YAML_FLOW_ENTRY_TOKEN texts r = Ok tok.FlowEntry
-content_of YAML_KEY_TOKEN texts r = Ok tok.Key
-content_of YAML_VALUE_TOKEN texts r = Ok tok.Value
-content_of YAML_ALIAS_TOKEN texts r = alias_of texts r
-content_of YAML_ANCHOR_TOKEN texts r = anchor_of texts r
-content_of YAML_TAG_TOKEN texts r = tag_of texts r
-content_of YAML_SCALAR_TOKEN texts r = scalar_of texts r
+abbrev pub content_of_type : yaml_token_type_t → List ℕ → token_record_t → Result unnamed_yaml_token_t_data RecordProblem
+content_of_type YAML_NO_TOKEN texts r = Ok tok.NoToken
+content_of_type YAML_STREAM_START_TOKEN texts r = stream_start_of r
+content_of_type YAML_STREAM_END_TOKEN texts r = Ok tok.StreamEnd
+content_of_type YAML_VERSION_DIRECTIVE_TOKEN texts r = Ok (tok.VersionDirective (record { major = r.major; minor = r.minor }))
+content_of_type YAML_TAG_DIRECTIVE_TOKEN texts r = tag_directive_of texts r
+content_of_type YAML_DOCUMENT_START_TOKEN texts r = Ok tok.DocumentStart
+content_of_type YAML_DOCUMENT_END_TOKEN texts r = Ok tok.DocumentEnd
+content_of_type YAML_BLOCK_SEQUENCE_START_TOKEN texts r = Ok tok.BlockSequenceStart
+content_of_type YAML_BLOCK_MAPPING_START_TOKEN texts r = Ok tok.BlockMappingStart
+content_of_type YAML_BLOCK_END_TOKEN texts r = Ok tok.BlockEnd
+content_of_type YAML_FLOW_SEQUENCE_START_TOKEN texts r = Ok tok.FlowSequenceStart
+content_of_type YAML_FLOW_SEQUENCE_END_TOKEN texts r = Ok tok.FlowSequenceEnd
+content_of_type YAML_FLOW_MAPPING_START_TOKEN texts r = Ok tok.FlowMappingStart
+content_of_type YAML_FLOW_MAPPING_END_TOKEN texts r = Ok tok.FlowMappingEnd
+content_of_type YAML_BLOCK_ENTRY_TOKEN texts r = Ok tok.BlockEntry
+content_of_type YAML_FLOW_ENTRY_TOKEN texts r = Ok tok.FlowEntry
+content_of_type YAML_KEY_TOKEN texts r = Ok tok.Key
+content_of_type YAML_VALUE_TOKEN texts r = Ok tok.Value
+content_of_type YAML_ALIAS_TOKEN texts r = alias_of_record texts r
+content_of_type YAML_ANCHOR_TOKEN texts r = anchor_of_record texts r
+content_of_type YAML_TAG_TOKEN texts r = tag_of_record texts r
+content_of_type YAML_SCALAR_TOKEN texts r = scalar_of_record texts r
 
 -- the content of a record's token
 abbrev pub content_of_record : List ℕ → token_record_t → Result unnamed_yaml_token_t_data RecordProblem
 content_of_record texts r = do
-  type ← token_type_of r.kind
-  content_of type texts r
+  type ← token_type_of_number r.kind
+  content_of_type type texts r
 
 -- the token of a record
 abbrev pub token_of_record : List ℕ → token_record_t → Result yaml_token_t RecordProblem
 token_of_record texts r = do
   content ← content_of_record texts r
-  Ok (record { content = content; start_mark = mark_of r.start_mark; end_mark = mark_of r.end_mark })
+  Ok (record { content = content; start_mark = mark_of_record r.start_mark; end_mark = mark_of_record r.end_mark })
 
 -- it is there
 abbrev pub IsThere : {A : Type 0} → Result A RecordProblem → Type 0
@@ -189,7 +189,7 @@ IsRead (Err Memory) there = IsThere there
 IsRead (Err problem) there = there ≡ Err problem
 
 -- the same of what is read into a variable
-abbrev pub IsReadInto : {A : Type 0} → Result (Unit {0}) RecordProblem → A → Result A RecordProblem → Type 0
-IsReadInto (Ok u) value there = there ≡ Ok value
-IsReadInto (Err Memory) value there = IsThere there
-IsReadInto (Err problem) value there = there ≡ Err problem
+abbrev pub RecordReadInto : {A : Type 0} → Result (Unit {0}) RecordProblem → A → Result A RecordProblem → Type 0
+RecordReadInto (Ok u) value there = there ≡ Ok value
+RecordReadInto (Err Memory) value there = IsThere there
+RecordReadInto (Err problem) value there = there ≡ Err problem

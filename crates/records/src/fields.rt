@@ -88,7 +88,7 @@ pub(crate) fn mark_record(mark: &yaml_mark_t) -> mark_record_t
 
 /// Returns 1 where it is set.
 pub(crate) fn flag(is_set: bool) -> u8
-    ensures { result ≡ spec.flag is_set }
+    ensures { result ≡ spec.flag_byte is_set }
 {
     if is_set { 1 } else { 0 }
 }

@@ -33,11 +33,11 @@ pub(crate) fn put_nodes(
     wanted: &mut document_counts_t,
 ) -> Result<(), AllocError>
     ensures adds { OnOk result ((documents : List Document) (directives : List Directive)
-        → Adds (λ r. spec.with_nodes r members.now)
+        → Adds (λ r. spec.with_nodes_records r members.now)
         (lists documents nodes.old items.old pairs.old directives texts.old) wanted.old
         (lists documents nodes.new items.new pairs.new directives texts.new) wanted.new) }
     ensures too_many { OnErr result ((documents : List Document) (directives : List Directive)
-        → Exceeds (λ r. spec.with_nodes r members.now)
+        → Exceeds (λ r. spec.with_nodes_records r members.now)
         (lists documents nodes.old items.old pairs.old directives texts.old) wanted.old) }
 {
     for node in members {
@@ -55,11 +55,11 @@ fn put_node(
     wanted: &mut document_counts_t,
 ) -> Result<(), AllocError>
     ensures adds { OnOk result ((documents : List Document) (directives : List Directive)
-        → Adds (λ r. spec.with_node r node.now)
+        → Adds (λ r. spec.with_node_record r node.now)
         (lists documents nodes.old items.old pairs.old directives texts.old) wanted.old
         (lists documents nodes.new items.new pairs.new directives texts.new) wanted.new) }
     ensures too_many { OnErr result ((documents : List Document) (directives : List Directive)
-        → Exceeds (λ r. spec.with_node r node.now)
+        → Exceeds (λ r. spec.with_node_record r node.now)
         (lists documents nodes.old items.old pairs.old directives texts.old) wanted.old) }
 {
     let of_node = node_record(node, items, pairs, texts, wanted)?;

@@ -1,8 +1,8 @@
 //! Tokens of records.
 ghost use Rattle.std.specs.Prelude.{◌≡◌, ◌≢◌, IfOk, IfErr, Ok, Err};
-ghost use Rattle.records.specs.Records.{IsRead, IsReadInto, alias_of, anchor_of, content_of_record};
-ghost use Rattle.records.specs.Records.{encoding_of, mark_of, scalar_of, scalar_style_of};
-ghost use Rattle.records.specs.Records.{stream_start_of, tag_directive_of, tag_of, text_of};
+ghost use Rattle.records.specs.Records.{IsRead, RecordReadInto, alias_of_record, anchor_of_record, content_of_record};
+ghost use Rattle.records.specs.Records.{encoding_of_number, mark_of_record, scalar_of_record, scalar_style_of_number};
+ghost use Rattle.records.specs.Records.{stream_start_of, tag_directive_of, tag_of_record, text_of_range};
 ghost use Rattle.records.specs.Records.{token_of_record};
 
 use crate::record_problem::RecordProblem;
@@ -28,7 +28,7 @@ pub(crate) fn read_token_record(
     from: &token_record_t,
     token: &mut yaml_token_t,
 ) -> Result<(), RecordProblem>
-    ensures { IsReadInto result token.new (token_of_record texts.now from.now) }
+    ensures { RecordReadInto result token.new (token_of_record texts.now from.now) }
 {
     token.content = read_content(alloc, texts, from)?;
     token.start_mark = read_mark(&from.start_mark);
@@ -37,7 +37,7 @@ pub(crate) fn read_token_record(
 }
 
 fn read_mark(from: &mark_record_t) -> yaml_mark_t
-    ensures { result ≡ mark_of from.now }
+    ensures { result ≡ mark_of_record from.now }
 {
     yaml_mark_t {
         index: from.index,
@@ -48,7 +48,7 @@ fn read_mark(from: &mark_record_t) -> yaml_mark_t
 
 /// Returns an encoding by its number.
 fn read_encoding(number: u32) -> Result<yaml_encoding_t, RecordProblem>
-    ensures { result ≡ encoding_of number }
+    ensures { result ≡ encoding_of_number number }
 {
     match number {
         0 => Ok(yaml_encoding_t::YAML_ANY_ENCODING),
@@ -61,7 +61,7 @@ fn read_encoding(number: u32) -> Result<yaml_encoding_t, RecordProblem>
 
 /// Returns a scalar style by its number.
 fn read_scalar_style(number: u32) -> Result<yaml_scalar_style_t, RecordProblem>
-    ensures { result ≡ scalar_style_of number }
+    ensures { result ≡ scalar_style_of_number number }
 {
     match number {
         0 => Ok(yaml_scalar_style_t::YAML_ANY_SCALAR_STYLE),
@@ -80,8 +80,8 @@ fn read_scalar_style(number: u32) -> Result<yaml_scalar_style_t, RecordProblem>
 ///
 /// `TextOutside`, where the texts end before it does, and `TextNotUtf8`.
 fn text_at<'a>(texts: &'a [u8], range: &range_record_t) -> Result<&'a str, RecordProblem>
-    ensures ok { IfOk result (λ text. text_of texts.now range.now ≡ Ok text.now) }
-    ensures err { IfErr result (λ problem. text_of texts.now range.now ≡ Err problem) }
+    ensures ok { IfOk result (λ text. text_of_range texts.now range.now ≡ Ok text.now) }
+    ensures err { IfErr result (λ problem. text_of_range texts.now range.now ≡ Err problem) }
     ensures not_memory { IfErr result (λ problem. problem ≢ RecordProblem.Memory) }
 {
     if range.length > texts.len() || range.place > texts.len() - range.length {
@@ -164,7 +164,7 @@ fn read_alias(
     texts: &[u8],
     from: &token_record_t,
 ) -> Result<unnamed_yaml_token_t_data, RecordProblem>
-    ensures { IsRead result (alias_of texts.now from.now) }
+    ensures { IsRead result (alias_of_record texts.now from.now) }
 {
     let value = text_at(texts, &from.first)?;
     let alias = unnamed_yaml_token_t_data_alias {
@@ -178,7 +178,7 @@ fn read_anchor(
     texts: &[u8],
     from: &token_record_t,
 ) -> Result<unnamed_yaml_token_t_data, RecordProblem>
-    ensures { IsRead result (anchor_of texts.now from.now) }
+    ensures { IsRead result (anchor_of_record texts.now from.now) }
 {
     let value = text_at(texts, &from.first)?;
     let anchor = unnamed_yaml_token_t_data_anchor {
@@ -192,7 +192,7 @@ fn read_tag(
     texts: &[u8],
     from: &token_record_t,
 ) -> Result<unnamed_yaml_token_t_data, RecordProblem>
-    ensures { IsRead result (tag_of texts.now from.now) }
+    ensures { IsRead result (tag_of_record texts.now from.now) }
 {
     let handle = text_at(texts, &from.first)?;
     let suffix = text_at(texts, &from.second)?;
@@ -208,7 +208,7 @@ fn read_scalar(
     texts: &[u8],
     from: &token_record_t,
 ) -> Result<unnamed_yaml_token_t_data, RecordProblem>
-    ensures { IsRead result (scalar_of texts.now from.now) }
+    ensures { IsRead result (scalar_of_record texts.now from.now) }
 {
     let style = read_scalar_style(from.style)?;
     let value = text_at(texts, &from.first)?;

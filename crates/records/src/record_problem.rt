@@ -2,7 +2,7 @@
 ghost use Rattle.std.specs.Prelude.{◌≡◌};
 ghost use Rattle.libyaml_types.specs.Errors.{IsSourceError};
 ghost use Rattle.libyaml_types.specs.Fault.{source_fault};
-ghost use Rattle.records.specs.RecordFault.{problem_at, record_fault};
+ghost use Rattle.records.specs.RecordFault.{record_problem_at, record_fault};
 
 use libyaml_types::{ZERO_MARK, yaml_error_type_t, yaml_mark_t, yaml_source_fault_t};
 use std::alloc::AllocError;
@@ -55,7 +55,7 @@ impl RecordProblem {
 /// Returns the fault of the record that follows so many, without a context.
 fn fault_at(error: yaml_error_type_t, problem: &'static str, given: u64) -> yaml_source_fault_t
     requires { IsSourceError error }
-    ensures { source_fault result ≡ problem_at error problem.entry.now given }
+    ensures { source_fault result ≡ record_problem_at error problem.entry.now given }
 {
     let mark = yaml_mark_t {
         index: given,

@@ -1,7 +1,7 @@
 //! A source of tokens over records.
 ghost use Rattle.std.specs.Prelude.{◌≡◌, length, Some};
-ghost use Rattle.records.specs.RecordSource.{Gives, read_records};
-ghost use Rattle.records.specs.RecordSourceLaws.{BreaksOff, records_fall, records_follow};
+ghost use Rattle.records.specs.RecordSource.{RecordsGive, read_records};
+ghost use Rattle.records.specs.RecordSourceLaws.{RecordsBreakOff, records_fall, records_follow};
 ghost use Rattle.records.specs.RecordSourceLaws.{records_repeat};
 
 use crate::reading::read_token_record;
@@ -26,11 +26,11 @@ pub struct yaml_record_source_t<'a> {
 
 impl<'a> Model for yaml_record_source_t<'a> {
     ghost use Rattle.libyaml_types.specs.Source.{Coming};
-    ghost use Rattle.records.specs.RecordSource.{coming_at};
+    ghost use Rattle.records.specs.RecordSource.{records_coming_at};
 
     ghost Value = { Coming };
 
-    ghost view = { λ s. coming_at s.is_broken s.records.now s.texts.now s.given };
+    ghost view = { λ s. records_coming_at s.is_broken s.records.now s.texts.now s.given };
 }
 
 impl<'a> yaml_record_source_t<'a> {
@@ -52,11 +52,11 @@ impl<'a> yaml_record_source_t<'a> {
 impl<'a> yaml_token_source_t for yaml_record_source_t<'a> {
     ghost bound = { λ s. length s.tokens };
 
-    ghost gives = { Gives };
+    ghost gives = { RecordsGive };
 
     ghost known = { λ s. Some s };
 
-    ghost may_break = { BreaksOff };
+    ghost may_break = { RecordsBreakOff };
 
     ghost falls = { records_fall };
 

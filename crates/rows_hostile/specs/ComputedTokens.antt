@@ -20,6 +20,6 @@ length_of Aliases n = 2 * (n - 1) + 6
 length_of TagDirectives n = n + 2
 
 -- A token, and one fewer is left. Or a fault, with nothing left: the one after the tokens, or a failed allocation's before.
-abbrev pub Gives : Computed → Answer → Computed → Type 0
-Gives s (Ok token) t = (s.left ≡ t.left + 1) × (t.fault ≡ s.fault)
-Gives s (Err f) t = (t ≡ record { left = 0; fault = f }) × (s.left ≡ 0 → f ≡ s.fault) × (0 < s.left → f ≡ memory_fault)
+abbrev pub ComputedGives : Computed → Answer → Computed → Type 0
+ComputedGives s (Ok token) t = (s.left ≡ t.left + 1) × (t.fault ≡ s.fault)
+ComputedGives s (Err f) t = (t ≡ record { left = 0; fault = f }) × (s.left ≡ 0 → f ≡ s.fault) × (0 < s.left → f ≡ memory_fault)

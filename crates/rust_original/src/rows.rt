@@ -4,7 +4,7 @@ ghost use Rattle.rust_original.specs.rows.ExampleRows.{RowCompose, RowFault, Row
 ghost use Rattle.rust_original.specs.rows.ExampleRows.{RowLoadsOfFault};
 ghost use Rattle.rust_original.specs.rows.AlikeRows.{RowAtTheBound, RowBeyondTheBound};
 ghost use Rattle.rust_original.specs.rows.AlikeRows.{RowBlockSequenceAsAPairsKey};
-ghost use Rattle.rust_original.specs.rows.AlikeRows.{RowIndentlessSequence};
+ghost use Rattle.rust_original.specs.rows.AlikeRows.{RowIndentlessSequenceAlike};
 ghost use Rattle.rust_original.specs.rows.DifferenceRows.{RowNoNodeBehindADocumentEnd};
 ghost use Rattle.rust_original.specs.rows.DifferenceRows.{RowPairKeyThenEnd, RowPairKeyThenEntry};
 ghost use Rattle.rust_original.specs.rows.DifferenceRows.{RowPairKeyThenTwoEnds};
@@ -35,7 +35,7 @@ pub fn load_rows()
 
 /// Both parsers do the same, and a load within a bound, and beyond it.
 pub fn alike_rows()
-    ensures indentless_sequence { RowIndentlessSequence }
+    ensures indentless_sequence { RowIndentlessSequenceAlike }
     ensures block_sequence_as_a_pairs_key { RowBlockSequenceAsAPairsKey }
     ensures at_the_bound { RowAtTheBound }
     ensures beyond_the_bound { RowBeyondTheBound }

@@ -2,7 +2,7 @@
 ghost use Rattle.std.specs.Prelude.{◌≡◌, ℕ, min, true};
 ghost use Rattle.libyaml_types.specs.Fault.{fault_of};
 ghost use Rattle.line_reading.specs.sources.NextLine.{BreaksOffAt};
-ghost use Rattle.token_lines.specs.lines.InMemory.{EndsAs, HandsOut, bytes_of};
+ghost use Rattle.token_lines.specs.lines.InMemory.{EndsAs, HandsOutBytes, handed_bytes};
 
 mod events;
 mod nodes;
@@ -41,7 +41,7 @@ const MEMORY_TEXT: &[u8] = b"FAULT memory 0:0:0 -\n";
 /// Hands out what a run wrote: its bytes where it was whole, and else the text of a failed allocation.
 fn hand_out(end: &run_end_t, bytes: &[u8], out: &mut [u8]) -> memory_run_t
     ensures outcome { EndsAs end.now result.outcome }
-    ensures bytes { HandsOut (bytes_of result.outcome bytes.now) out.old out.new result }
+    ensures bytes { HandsOutBytes (handed_bytes result.outcome bytes.now) out.old out.new result }
 {
     let outcome = outcome_of(end);
     match outcome {
@@ -74,7 +74,7 @@ fn cuts_short(fault: &yaml_parser_t_prefix) -> bool
 /// Puts the prefix of these bytes that `out` has room for into it.
 fn put(outcome: memory_outcome_t, bytes: &[u8], out: &mut [u8]) -> memory_run_t
     ensures outcome { result.outcome ≡ outcome }
-    ensures bytes { HandsOut bytes.now out.old out.new result }
+    ensures bytes { HandsOutBytes bytes.now out.old out.new result }
 {
     let written = bytes.len().min(out.len());
     out[..written].copy_from_slice(&bytes[..written]);

@@ -10,8 +10,8 @@ use Rattle.libyaml_automaton.specs.Config.{Config}
 use Rattle.libyaml_automaton.specs.Want as want
 use Rattle.automaton_laws.specs.Texts.{config_with, fault_with, held_of, token_of, want_of, with_texts}
 use Rattle.automaton_laws.proofs.lent.Alike.{steps}
-use Rattle.token_steps.specs.RunLaws.{ForFailed, FailsAs}
-use Rattle.token_steps.specs.Records.{fault_of}
+use Rattle.token_steps.specs.RunLaws.{ForFailed, FailsInHand}
+use Rattle.token_steps.specs.Records.{step_fault}
 use Rattle.libyaml_automaton.specs.Config.{config_of}
 use Rattle.token_steps.specs.declared.did.Did.{Did}
 use Rattle.token_steps.specs.declared.did.Did.TheVariants as did
@@ -35,7 +35,7 @@ fails_as w v k hs t f a e =
 
 told : (a : Did) (p : automaton.Progressed) (t : want.Token) (d : steps_t) (e : step_event_t)
     (f : step_fault_t) (c : Config) → 5 ≡ number a
-    → Tells a p t d e f c → p ≡ Err (fault_of f)
+    → Tells a p t d e f c → p ≡ Err (step_fault f)
 told did.Failed p t d e f c q h = h
 told did.Wants p t d e f c q h = no (sym (ap (λ (x : ℕ). x == 5) q))
 told did.Gave p t d e f c q h = no (sym (ap (λ (x : ℕ). x == 5) q))
@@ -45,7 +45,7 @@ told did.FullStates p t d e f c q h = no (sym (ap (λ (x : ℕ). x == 5) q))
 told did.FullMarks p t d e f c q h = no (sym (ap (λ (x : ℕ). x == 5) q))
 told did.Bad p t d e f c q h = no (sym (ap (λ (x : ℕ). x == 5) q))
 
-pub fails : ForFailed FailsAs
+pub fails : ForFailed FailsInHand
 fails d d' ss ss' ms ms' hs kept l g t e f r c =
     let at = fed d ss ms hs kept _ l g r in (
       at.0,
@@ -54,5 +54,5 @@ fails d d' ss ss' ms ms' hs kept l g t e f r c =
       t,
       at.3,
       fails_as at.0 (want_in d)
-          (config_of d.machine ss ms) hs t (fault_of f) at.1 (told c.0 _ _ _ e _ _ c.1 c.2),
+          (config_of d.machine ss ms) hs t (step_fault f) at.1 (told c.0 _ _ _ e _ _ c.1 c.2),
     )

@@ -30,7 +30,7 @@ use Rattle.token_steps.specs.declared.records.step_event_t.{step_event_t}
 use Rattle.token_steps.specs.declared.records.step_fault_t.{step_fault_t}
 use Rattle.token_steps.specs.Records.{shape_of, event_of}
 use Rattle.token_steps.specs.Numbers.{number}
-use Rattle.token_steps.specs.Tells.{Tells, Enters, IsAfterEvent, is_start, want_in}
+use Rattle.token_steps.specs.Tells.{Tells, TellsEntry, IsAfterEvent, is_start, want_in}
 use Rattle.token_steps.specs.Runs.{Run, begins, moves, takes, wants, gave, stays}
 use Rattle.token_steps.proofs.Follows.{no, is_first, Calm, is_at_state, keeping, Keeping, nothing}
 use Rattle.token_steps.proofs.Follows.{Adds, follows}
@@ -113,7 +113,7 @@ stood_gives v k k' hs h l g t e s q =
 
 -- a collection's start and its entry
 
-enters : (p : Progressed) (t : w.Token) (e : step_event_t) (v : Want) (c : Config) → Enters p t e v c
+enters : (p : Progressed) (t : w.Token) (e : step_event_t) (v : Want) (c : Config) → TellsEntry p t e v c
     → (k : Config) × (p ≡ Ok (w.Given (event_of e true), k)) × (step w.AtState k t ≡ want v c)
 enters (Ok (w.Given g, k)) t e v c h = (k, ap (λ x. Ok (w.Given x, k)) h.0, h.1)
 enters (Ok (w.Wants u, k)) t e v c h = absurd h
@@ -132,7 +132,7 @@ keeps_nothing _ b = absurd b
 stood_enters : (v v' : Want) (k k' : Config) (hs : Handles) (h : Held) (l : List Token) (g : List Event)
     (t : Token) (e : step_event_t)
     → Stood v k hs h (Some t) l g → is_start (shape_of e) ≡ true → IsAfterEvent v'
-    → Enters (step v k (token_of hs t)) (token_of hs t) e v' k'
+    → TellsEntry (step v k (token_of hs t)) (token_of hs t) e v' k'
     → Stood v' k' hs nothing_held None l (g ++ event_with hs h t.content (event_of e true) ∷ [])
 stood_enters v v' k k' hs h l g t e s i b q =
     let m = enters _ _ _ _ _ q in

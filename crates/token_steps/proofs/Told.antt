@@ -15,20 +15,20 @@ use Rattle.libyaml_automaton.specs.Config.{Config}
 use Rattle.libyaml_automaton.specs.Fits.{FitsStep, FitsDocument, Part, Nodes}
 use Rattle.libyaml_automaton.specs.Fits.{First, Documents}
 use Rattle.libyaml_automaton.specs.Growth.{IsFull, Stack, States, Marks, stack_of_part, is_first}
-use Rattle.libyaml_automaton.specs.Growth.{part_of, pushes, pushes_in_documents, stack_in_step}
+use Rattle.libyaml_automaton.specs.Growth.{stack_part_of, pushes, pushes_in_documents, stack_in_step}
 use Rattle.libyaml_automaton.specs.declared.next.Next.{Next}
 use Rattle.libyaml_automaton.specs.Numbers.{flag}
 use Rattle.libyaml_automaton.specs.Problems as problem
 use Rattle.libyaml_automaton.specs.Want.{Token, Want, AtState, Wants, Properties, TagRead, NoTag, EmptyTag}
 use Rattle.libyaml_automaton.specs.Want.{Bang, OtherTag, Undefined}
 use Rattle.token_steps.specs.Growth.{stack_by, stack_at}
-use Rattle.token_steps.specs.Records.{is_undefined, fault_of}
+use Rattle.token_steps.specs.Records.{is_undefined, step_fault}
 use Rattle.token_steps.specs.declared.did.Did.{Did}
 use Rattle.token_steps.specs.declared.did.Did.TheVariants as did
 use Rattle.token_steps.specs.declared.steps.steps_t.{steps_t}
 use Rattle.token_steps.specs.declared.records.step_event_t.{step_event_t}
 use Rattle.token_steps.specs.declared.records.step_fault_t.{step_fault_t}
-use Rattle.token_steps.specs.Tells.{IsTold, IsDone, IsUndone, IsGiven, IsAfterEvent, Tells, want_in}
+use Rattle.token_steps.specs.Tells.{IsTold, IsDone, IsUntold, IsGiven, IsAfterEvent, Tells, want_in}
 
 pub told_in_step : (a : Answer) (k : yaml_token_type_t) → FitsStep a k → (a ≡ answer.Full → ⊥)
     → (a ≡ answer.Document → ⊥)
@@ -171,34 +171,34 @@ asks_not_document e = subst IsNotDocument e tt
 
 pub step_states : (n n' : Next) (b : Bool) (m : Machine) (k : yaml_token_type_t) (ss : List ℕ)
     (ms : List yaml_mark_t) → n ≡ n'
-    → (part_of n' ≡ Documents → ⊥) → (IsFull (stack_in_step n' k) m ss ms → ⊥)
+    → (stack_part_of n' ≡ Documents → ⊥) → (IsFull (stack_in_step n' k) m ss ms → ⊥)
     → (stack_at n b k ≡ States) × (length ss ≤ m.states_count) → ⊥
-step_states n n' b m k ss ms e d f h = f (full_states (part_of n') (pushes n' k)
+step_states n n' b m k ss ms e d f h = f (full_states (stack_part_of n') (pushes n' k)
     (pushes_in_documents n' b k) m ss ms d
     (ap (λ (x : Next). stack_at x b k) (sym e) ∙ h.0) h.1)
 
 pub step_marks : (n n' : Next) (b : Bool) (m : Machine) (k : yaml_token_type_t) (ss : List ℕ)
     (ms : List yaml_mark_t) → n ≡ n'
     → (IsFull (stack_in_step n' k) m ss ms → ⊥) → (stack_at n b k ≡ Marks) × (length ms ≤ m.marks_count) → ⊥
-step_marks n n' b m k ss ms e f h = f (full_marks (part_of n') (pushes n' k)
+step_marks n n' b m k ss ms e f h = f (full_marks (stack_part_of n') (pushes n' k)
     (pushes_in_documents n' b k) m ss ms
     (ap (λ (x : Next). stack_at x b k) (sym e) ∙ h.0) h.1)
 
 pub document_in : (n n' : Next) (m m' : Machine) (k : yaml_token_type_t) (ss ss' : List ℕ) → n ≡ n' → m ≡ m'
     → ss ≡ ss'
-    → part_of n' ≡ Documents → (stack_at n (flag m.behind_document_end) k ≡ States)
+    → stack_part_of n' ≡ Documents → (stack_at n (flag m.behind_document_end) k ≡ States)
     × (length ss ≤ m.states_count)
     → (pushes_in_documents n' (flag m'.behind_document_end) k ≡ true) × (length ss' ≤ m'.states_count)
 document_in n n' m m' k ss ss' e f g d = rw (e, f, g)
-    (λ h. (in_documents (part_of n') (pushes n' k) _ d h.0, h.1))
+    (λ h. (in_documents (stack_part_of n') (pushes n' k) _ d h.0, h.1))
 
 pub document_out : (n n' : Next) (m m' : Machine) (k : yaml_token_type_t) (ss ss' : List ℕ) → n ≡ n' → m ≡ m'
     → ss ≡ ss'
-    → part_of n' ≡ Documents → (pushes_in_documents n' (flag m'.behind_document_end) k ≡ true)
+    → stack_part_of n' ≡ Documents → (pushes_in_documents n' (flag m'.behind_document_end) k ≡ true)
     × (length ss' ≤ m'.states_count)
     → (stack_at n (flag m.behind_document_end) k ≡ States) × (length ss ≤ m.states_count)
 document_out n n' m m' k ss ss' e f g d = rw (e, f, g)
-    (λ h. (documents_in (part_of n') (pushes n' k) _ d h.0, h.1))
+    (λ h. (documents_in (stack_part_of n') (pushes n' k) _ d h.0, h.1))
 
 pub start_by_other : (k : yaml_token_type_t) (h : Properties) → (k ≡ tok.YAML_BLOCK_SEQUENCE_START_TOKEN → ⊥)
     → (k ≡ tok.YAML_FLOW_SEQUENCE_START_TOKEN → ⊥) → (k ≡ tok.YAML_FLOW_MAPPING_START_TOKEN → ⊥)
@@ -226,7 +226,7 @@ told_want did.FullMarks p t d e f c h g = absurd g
 told_want did.Failed p t d e f c h g = absurd g
 told_want did.Bad p t d e f c h g = absurd g
 
-pub not_undone : (d : Did) → IsDone d → IsUndone d → ⊥
+pub not_undone : (d : Did) → IsDone d → IsUntold d → ⊥
 not_undone did.FullStates h u = h
 not_undone did.FullMarks h u = h
 not_undone did.Bad h u = h
@@ -242,6 +242,6 @@ IsNotFailed _ = Unit {0}
 
 pub told_fault : (a : Did) (p : Progressed) (t : Token) (d : steps_t) (e : step_event_t) (f : step_fault_t)
     (c : Config)
-    → a ≡ did.Failed → Tells a p t d e f c → p ≡ Err (fault_of f)
+    → a ≡ did.Failed → Tells a p t d e f c → p ≡ Err (step_fault f)
 told_fault did.Failed p t d e f c q h = h
 told_fault _ p t d e f c q h = absurd (subst IsNotFailed q tt)

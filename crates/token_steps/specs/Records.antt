@@ -39,8 +39,8 @@ kind_of byte =
     if byte == 21 then tok.YAML_SCALAR_TOKEN else
     tok.YAML_NO_TOKEN
 
-abbrev pub token_at : yaml_token_type_t → ℕ → step_span_t → Token
-token_at kind fact at = record {
+abbrev pub span_token : yaml_token_type_t → ℕ → step_span_t → Token
+span_token kind fact at = record {
   kind = kind;
   fact = fact;
   start_mark = at.start_mark;
@@ -76,8 +76,8 @@ event_of e stays = record {
   end_mark = e.end_mark;
 }
 
-abbrev pub fault_of : step_fault_t → Fault
-fault_of f = record { problem = f.problem; context_mark = f.context_mark; mark = f.problem_mark }
+abbrev pub step_fault : step_fault_t → Fault
+step_fault f = record { problem = f.problem; context_mark = f.context_mark; mark = f.problem_mark }
 
 abbrev pub head_tag : Head → TagRead
 head_tag h = tag_if (flag h.has_tag) h.tag

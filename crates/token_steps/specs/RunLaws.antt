@@ -14,9 +14,9 @@ use Rattle.automaton_laws.specs.Histories.{StandsAs}
 use Rattle.token_steps.specs.declared.steps.steps_t.{steps_t}
 use Rattle.token_steps.specs.declared.records.step_event_t.{step_event_t}
 use Rattle.token_steps.specs.declared.records.step_fault_t.{step_fault_t}
-use Rattle.token_steps.specs.Records.{fault_of}
+use Rattle.token_steps.specs.Records.{step_fault}
 use Rattle.token_steps.specs.Tells.{want_in}
-use Rattle.token_steps.specs.Runs.{Run, Calls}
+use Rattle.token_steps.specs.Runs.{Run, StepCalls}
 
 -- a parser that was handed the same tokens gave the same events, with the same handles and texts
 abbrev pub RunIsFed : Type 0
@@ -39,10 +39,10 @@ BetweenTokens P = (d : steps_t) (ss : List ℕ) (ms : List yaml_mark_t) (hs : Ha
 abbrev pub ForFailed : (List Token → List Event → Fault → Type 0) → Type 0
 ForFailed P = (d d' : steps_t) (ss ss' : List ℕ) (ms ms' : List yaml_mark_t) (hs : Handles) (kept : Held)
     (l : List Token) (g : List Event) (t : Token) (e : step_event_t) (f : step_fault_t)
-    → Run d ss ms hs kept (Some t) l g → Calls 5 d ss ms hs t d' ss' ms' e f → P l g (fault_with (fault_of f))
+    → Run d ss ms hs kept (Some t) l g → StepCalls 5 d ss ms hs t d' ss' ms' e f → P l g (fault_with (step_fault f))
 
 -- a parser that was handed these tokens, and gave these events, has this fault with the token in hand
-abbrev pub FailsAs : List Token → List Event → Fault → Type 0
-FailsAs l g f = (w : Want) × (k : Config) × (hs : Handles) × (t : Token)
+abbrev pub FailsInHand : List Token → List Event → Fault → Type 0
+FailsInHand l g f = (w : Want) × (k : Config) × (hs : Handles) × (t : Token)
     × Fed w (config_with k hs no_fault None) (Some t) l g
     × (parser.step w (config_with k hs no_fault None) t ≡ Err f)

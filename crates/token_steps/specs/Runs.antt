@@ -18,10 +18,10 @@ use Rattle.token_steps.specs.Tells.{TellsNumber, want_in}
 
 -- A call with this record and these stacks at the token t, with its fact by the handles hs, returned the
 -- number n to C, and left that record, those stacks, the event e and the fault f.
-abbrev pub Calls : (n : ℕ) → (old : steps_t) → (states : List ℕ) → (marks : List yaml_mark_t) → (hs : Handles)
+abbrev pub StepCalls : (n : ℕ) → (old : steps_t) → (states : List ℕ) → (marks : List yaml_mark_t) → (hs : Handles)
     → (t : Token) → (new : steps_t) → (states' : List ℕ) → (marks' : List yaml_mark_t) → (e : step_event_t)
     → (f : step_fault_t) → Type 0
-Calls n d ss ms hs t d' ss' ms' e f = TellsNumber n
+StepCalls n d ss ms hs t d' ss' ms' e f = TellsNumber n
     (step (want_in d) (config_of d.machine ss ms) (token_of hs t)) (token_of hs t) d' e f
     (config_of d'.machine ss' ms')
 
@@ -44,17 +44,17 @@ pub data Run : steps_t → (states : List ℕ) → (marks : List yaml_mark_t) �
   -- 0: it is taken without an event
   wants : (d d' : steps_t) (ss ss' : List ℕ) (ms ms' : List yaml_mark_t) (hs : Handles) (h : Held)
       (l : List Token) (g : List Event) (t : Token) (e : step_event_t) (f : step_fault_t)
-      → Run d ss ms hs h (Some t) l g → Calls 0 d ss ms hs t d' ss' ms' e f
+      → Run d ss ms hs h (Some t) l g → StepCalls 0 d ss ms hs t d' ss' ms' e f
       → Run d' ss' ms' (declared_by hs t.content) (held_behind h t t.content) None l g
   -- 1: with one
   gave : (d d' : steps_t) (ss ss' : List ℕ) (ms ms' : List yaml_mark_t) (hs : Handles) (h : Held)
       (l : List Token) (g : List Event) (t : Token) (e : step_event_t) (f : step_fault_t)
-      → Run d ss ms hs h (Some t) l g → Calls 1 d ss ms hs t d' ss' ms' e f
+      → Run d ss ms hs h (Some t) l g → StepCalls 1 d ss ms hs t d' ss' ms' e f
       → Run d' ss' ms' (handles_after hs (shape_of e)) nothing_held None l
       (g ++ event_with hs h t.content (event_of e false) ∷ [])
   -- 2: it stays after one
   stays : (d d' : steps_t) (ss ss' : List ℕ) (ms ms' : List yaml_mark_t) (hs : Handles) (h : Held)
       (l : List Token) (g : List Event) (t : Token) (e : step_event_t) (f : step_fault_t)
-      → Run d ss ms hs h (Some t) l g → Calls 2 d ss ms hs t d' ss' ms' e f
+      → Run d ss ms hs h (Some t) l g → StepCalls 2 d ss ms hs t d' ss' ms' e f
       → Run d' ss' ms' (handles_after hs (shape_of e)) nothing_held (Some t) l
       (g ++ event_with hs h t.content (event_of e true) ∷ [])

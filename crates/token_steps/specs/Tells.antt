@@ -15,7 +15,7 @@ use Rattle.token_steps.specs.declared.steps.steps_t.{steps_t}
 use Rattle.token_steps.specs.declared.records.step_event_t.{step_event_t}
 use Rattle.token_steps.specs.declared.records.step_fault_t.{step_fault_t}
 use Rattle.token_steps.specs.Numbers.{number}
-use Rattle.token_steps.specs.Records.{event_of, fault_of, shape_of}
+use Rattle.token_steps.specs.Records.{event_of, step_fault, shape_of}
 
 -- what the next token is wanted for
 abbrev pub want_in : steps_t → Want
@@ -35,10 +35,10 @@ is_start (ev.MappingStart anchor tag implicit is_flow) = true
 is_start _ = false
 
 -- the start e of a collection, and then its entry at the same token
-abbrev pub Enters : Progressed → Token → step_event_t → Want → Config → Type 0
-Enters (Ok (Given g, k)) t e w c = (g ≡ event_of e true) × (step AtState k t ≡ want w c)
-Enters (Ok (Wants v, k)) t e w c = ⊥
-Enters (Err f) t e w c = ⊥
+abbrev pub TellsEntry : Progressed → Token → step_event_t → Want → Config → Type 0
+TellsEntry (Ok (Given g, k)) t e w c = (g ≡ event_of e true) × (step AtState k t ≡ want w c)
+TellsEntry (Ok (Wants v, k)) t e w c = ⊥
+TellsEntry (Err f) t e w c = ⊥
 
 -- p is what the automaton does at the token t; d, e, f and c are the record, the event, the fault and the
 -- configuration after it
@@ -47,11 +47,11 @@ abbrev pub Tells : Did → (p : Progressed) → (t : Token) → (d : steps_t) �
 Tells did.Wants p t d e f c = p ≡ want (want_in d) c
 Tells did.Gave p t d e f c = (p ≡ Ok (Given (event_of e false), c)) × (want_in d ≡ AtState)
 Tells did.Entered p t d e f c = (is_start (shape_of e) ≡ true)
-    × (IsAfterEvent (want_in d) × Enters p t e (want_in d) c)
+    × (IsAfterEvent (want_in d) × TellsEntry p t e (want_in d) c)
 Tells did.Stays p t d e f c = (p ≡ Ok (Given (event_of e true), c)) × (want_in d ≡ AtState)
 Tells did.FullStates p t d e f c = Unit {0}
 Tells did.FullMarks p t d e f c = Unit {0}
-Tells did.Failed p t d e f c = p ≡ Err (fault_of f)
+Tells did.Failed p t d e f c = p ≡ Err (step_fault f)
 Tells did.Bad p t d e f c = Unit {0}
 
 -- an event was put
@@ -62,11 +62,11 @@ IsGiven did.Stays = Unit {0}
 IsGiven _ = ⊥
 
 -- nothing was done
-abbrev pub IsUndone : Did → Type 0
-IsUndone did.FullStates = Unit {0}
-IsUndone did.FullMarks = Unit {0}
-IsUndone did.Bad = Unit {0}
-IsUndone _ = ⊥
+abbrev pub IsUntold : Did → Type 0
+IsUntold did.FullStates = Unit {0}
+IsUntold did.FullMarks = Unit {0}
+IsUntold did.Bad = Unit {0}
+IsUntold _ = ⊥
 
 -- something was done
 abbrev pub IsDone : Did → Type 0

@@ -17,7 +17,7 @@ ghost use Rattle.libyaml_events.specs.sources.Parsing.{IsWhole, StopsShort};
 ghost use Rattle.automaton_laws.specs.Texts.{bit, declared_by, fact_of, tag_fact};
 ghost use Rattle.token_steps.specs.declared.tags.handles.handle_t.{handle_t};
 ghost use Rattle.token_steps.specs.Handles.{AllWithin, bytes_at, handles_at};
-ghost use Rattle.token_steps.specs.RunLaws.{BetweenTokens, FailsAs, ForFailed, ForRuns, RunIsFed};
+ghost use Rattle.token_steps.specs.RunLaws.{BetweenTokens, FailsInHand, ForFailed, ForRuns, RunIsFed};
 
 /// Whatever a caller handed in and was given, with the texts that it kept by the kinds of tokens alone, a
 /// parser was handed and gave. So what is proved of pushes holds of a caller's calls.
@@ -43,7 +43,7 @@ pub fn run_is_right()
 /// A fault is that of a parser which was handed the same tokens, with its text and its marks, and so that of
 /// the run, whatever comes after.
 pub fn run_fails()
-    ensures parser { ForFailed FailsAs }
+    ensures parser { ForFailed FailsInHand }
     ensures run { ForFailed (λ tokens events fault. (more : List Token) (source : Fault)
         → IsRun (tokens ++ more) source events (Fails fault)) }
 {}

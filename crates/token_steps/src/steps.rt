@@ -6,12 +6,12 @@ ghost use Rattle.libyaml_automaton.specs.Config.{config_of, start, Within};
 ghost use Rattle.libyaml_automaton.specs.Numbers.{flag, next_of, state_of, place_of};
 ghost use Rattle.libyaml_automaton.specs.Want.{AtState, Token};
 ghost use Rattle.libyaml_automaton.specs.Wanted.{IsAt, wanted, properties};
-ghost use Rattle.libyaml_automaton.specs.Growth.{States, Marks, part_of, pushes_in_documents};
+ghost use Rattle.libyaml_automaton.specs.Growth.{States, Marks, stack_part_of, pushes_in_documents};
 ghost use Rattle.libyaml_automaton.specs.Fits.{Documents};
 ghost use Rattle.token_steps.specs.Growth.{grown};
-ghost use Rattle.token_steps.specs.Records.{AreFlags, kind_of, token_at};
+ghost use Rattle.token_steps.specs.Records.{AreFlags, kind_of, span_token};
 ghost use Rattle.token_steps.specs.Numbers.{IsEventNumber, IsFaultNumber};
-ghost use Rattle.token_steps.specs.Tells.{Tells, want_in, IsAfterEvent, IsDone, IsGiven, IsUndone};
+ghost use Rattle.token_steps.specs.Tells.{Tells, want_in, IsAfterEvent, IsDone, IsGiven, IsUntold};
 
 use crate::did::Did;
 use crate::head::{Head, NO_HEAD};
@@ -100,8 +100,8 @@ impl steps_t {
         fault: &mut step_fault_t,
     ) -> Did
         ensures tells { Tells result (automaton.step (want_in self.old)
-            (config_of self.old.machine states.old marks.old) (token_at kind fact at.now))
-            (token_at kind fact at.now) self.new event.new fault.new
+            (config_of self.old.machine states.old marks.old) (span_token kind fact at.now))
+            (span_token kind fact at.now) self.new event.new fault.new
             (config_of self.new.machine states.new marks.new) }
         ensures within { Within self.old.machine states.old marks.old
             → Within self.new.machine states.new marks.new }
@@ -110,7 +110,7 @@ impl steps_t {
             ↔ ((grown self.old kind ≡ States) × (length states.old ≤ self.old.machine.states_count)) }
         ensures full_marks { Within self.old.machine states.old marks.old → (result ≡ Did.FullMarks)
             ↔ ((grown self.old kind ≡ Marks) × (length marks.old ≤ self.old.machine.marks_count)) }
-        ensures undone { IsUndone result → (self.new.machine ≡ self.old.machine) × ((states.new ≡ states.old)
+        ensures undone { IsUntold result → (self.new.machine ≡ self.old.machine) × ((states.new ≡ states.old)
             × ((marks.new ≡ marks.old) × (want_in self.new ≡ want_in self.old))) }
         ensures holds_nothing { IsGiven result → IsAfterEvent (want_in self.new) }
         ensures event_number { IsGiven result → IsEventNumber event.new.kind }
@@ -167,10 +167,10 @@ impl steps_t {
     ) -> Did
         requires within { self.old.machine.states_count ≤ length states.old }
         requires at { IsAt (next_of self.old.read.next) (state_of self.old.machine.state) }
-        requires documents { part_of (next_of self.old.read.next) ≡ Documents }
+        requires documents { stack_part_of (next_of self.old.read.next) ≡ Documents }
         ensures tells { (marks : List yaml_mark_t) → Tells result (automaton.step (want_in self.old)
-            (config_of self.old.machine states.old marks) (token_at kind fact at.now))
-            (token_at kind fact at.now) self.new event.new fault.new
+            (config_of self.old.machine states.old marks) (span_token kind fact at.now))
+            (span_token kind fact at.now) self.new event.new fault.new
             (config_of self.new.machine states.new marks) }
         ensures within { self.new.machine.states_count ≤ length states.new }
         ensures marks { self.new.machine.marks_count ≡ self.old.machine.marks_count }
@@ -247,8 +247,8 @@ impl steps_t {
         requires within { Within self.old.machine states.now marks.old }
         ensures tells { Tells result (automaton.content_behind (properties self.old.tag self.old.read).tag
             (place_of self.old.read.place) (properties self.old.tag self.old.read)
-            (config_of self.old.machine states.now marks.old) (token_at kind fact at.now) kind)
-            (token_at kind fact at.now) self.new event.new fault.new
+            (config_of self.old.machine states.now marks.old) (span_token kind fact at.now) kind)
+            (span_token kind fact at.now) self.new event.new fault.new
             (config_of self.new.machine states.now marks.new) }
         ensures within { Within self.new.machine states.now marks.new }
         ensures done { IsDone result }

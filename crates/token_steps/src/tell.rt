@@ -8,7 +8,7 @@ ghost use Rattle.libyaml_automaton.specs.Numbers.{flag};
 ghost use Rattle.libyaml_automaton.specs.Openings.{start_by};
 ghost use Rattle.libyaml_automaton.specs.Want.{AtState};
 ghost use Rattle.libyaml_automaton.specs.Wanted.{wanted};
-ghost use Rattle.token_steps.specs.Records.{AreFlags, head_of, shape_of, token_at};
+ghost use Rattle.token_steps.specs.Records.{AreFlags, head_of, shape_of, span_token};
 ghost use Rattle.token_steps.specs.Numbers.{IsEventNumber};
 ghost use Rattle.token_steps.specs.Tells.{Tells, IsTold, IsDone, IsGiven};
 
@@ -162,9 +162,9 @@ impl steps_t {
     ) -> Did
         ensures tells { (p q : Progressed) (g : yaml_mark_t) (states : List ℕ) (marks : List yaml_mark_t)
             → p ≡ q
-            → Says q (token_at kind fact at.now) (outcome answer (head_of head.now start.now end.now g)
-            (token_at kind fact at.now) self.old.tag self.old.read (config_of self.old.machine states marks))
-            → Tells result p (token_at kind fact at.now) self.new event.new fault.new
+            → Says q (span_token kind fact at.now) (outcome answer (head_of head.now start.now end.now g)
+            (span_token kind fact at.now) self.old.tag self.old.read (config_of self.old.machine states marks))
+            → Tells result p (span_token kind fact at.now) self.new event.new fault.new
             (config_of self.new.machine states marks) }
         ensures machine { self.new.machine ≡ self.old.machine }
         ensures done { IsTold answer → IsDone result }

@@ -5,9 +5,9 @@ use Rattle.std.proofs.Common.{if◌then◌else◌}
 use Rattle.token_steps.specs.declared.did.Did.{Did}
 use Rattle.token_steps.specs.declared.did.Did.TheVariants as did
 use Rattle.token_steps.specs.Numbers.{number, is_undone, is_given}
-use Rattle.token_steps.specs.Tells.{IsUndone, IsGiven}
+use Rattle.token_steps.specs.Tells.{IsUntold, IsGiven}
 
-pub number_undone : (d : Did) → is_undone (number d) ≡ true → IsUndone d
+pub number_undone : (d : Did) → is_undone (number d) ≡ true → IsUntold d
 number_undone did.FullStates e = tt
 number_undone did.FullMarks e = tt
 number_undone did.Bad e = tt

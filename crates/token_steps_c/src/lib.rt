@@ -11,7 +11,7 @@ ghost use Rattle.libyaml_automaton.specs.Config.{config_of, start, Within};
 ghost use Rattle.libyaml_automaton.specs.Growth.{States, Marks};
 ghost use Rattle.libyaml_automaton.specs.Want.{AtState};
 ghost use Rattle.token_steps.specs.Growth.{grown};
-ghost use Rattle.token_steps.specs.Records.{AreFlags, kind_of, token_at};
+ghost use Rattle.token_steps.specs.Records.{AreFlags, kind_of, span_token};
 ghost use Rattle.token_steps.specs.Numbers.{is_given, is_undone, IsEventNumber, IsFaultNumber};
 ghost use Rattle.token_steps.specs.Tells.{TellsNumber, want_in, IsAfterEvent};
 
@@ -46,8 +46,8 @@ pub extern "C" fn pokhvizi_step(
     fault: &mut step_fault_t,
 ) -> u32
     ensures tells { TellsNumber result (automaton.step (want_in steps.old)
-        (config_of steps.old.machine states.old marks.old) (token_at (kind_of kind) fact at.now))
-        (token_at (kind_of kind) fact at.now) steps.new event.new fault.new
+        (config_of steps.old.machine states.old marks.old) (span_token (kind_of kind) fact at.now))
+        (span_token (kind_of kind) fact at.now) steps.new event.new fault.new
         (config_of steps.new.machine states.new marks.new) }
     ensures numbers { result ≤ 6 }
     ensures within { Within steps.old.machine states.old marks.old

@@ -13,12 +13,12 @@ use Rattle.libyaml_graphs.proofs.lent.LoadLists.{last_same, same_loads}
 use Rattle.libyaml_events.proofs.lent.RunStops.{RunStop, begins_stopped, ended_stop, one_run_by_answers, taken_comparable}
 use Rattle.libyaml_graphs.specs.loads.Loads.{last_load, loads}
 use Rattle.unsafe_libyaml.specs.OneWhole.{OneDocuments}
-use Rattle.unsafe_libyaml.specs.WholeLoads.{ComposerError, GathersLoads, as_loads}
+use Rattle.unsafe_libyaml.specs.WholeLoads.{ComposerError, GathersLoads, as_whole_loads}
 use Rattle.unsafe_libyaml.specs.WholeRun.{StoppedBy, ending_of}
 use Rattle.unsafe_libyaml.specs.declared.load_all.yaml_documents_t.{yaml_documents_t}
 use Rattle.unsafe_libyaml.proofs.OneRuns.{failed_stop}
 
-loads_same : (c d : List Document) (x y : Ending) → as_loads c x ≡ as_loads d y → (c ≡ d) × (x ≡ y)
+loads_same : (c d : List Document) (x y : Ending) → as_whole_loads c x ≡ as_whole_loads d y → (c ≡ d) × (x ≡ y)
 loads_same c d x y e = let s = same_loads c d (last_load x) (last_load y) e in (s.0, last_same x y s.1)
 
 -- what a list of loads says of itself: it stopped as a run does, or by a composer error

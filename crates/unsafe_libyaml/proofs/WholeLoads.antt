@@ -34,7 +34,7 @@ use Rattle.libyaml_loader.specs.loads.Loading.{at_end, by_loader}
 use Rattle.libyaml_loader.specs.loads.Loading.{by_memory, by_parser, whole}
 use Rattle.libyaml_loader.proofs.lent.LoadsInTurn.{LoadedInTurn, none_in_turn, one_more}
 use Rattle.unsafe_libyaml.specs.WholeRun.{ending_of}
-use Rattle.unsafe_libyaml.specs.WholeLoads.{GathersLoads, LoadsTo, as_loads}
+use Rattle.unsafe_libyaml.specs.WholeLoads.{GathersLoads, LoadsTo, as_whole_loads}
 use Rattle.unsafe_libyaml.specs.WholeLoads as told
 use Rattle.unsafe_libyaml.proofs.WholeRuns.{GaveSoFar, Tells, asked_all, asked_until, none_is_some, stopped_so}
 use Rattle.unsafe_libyaml.specs.declared.load_all.yaml_documents_t.{yaml_documents_t}
@@ -142,11 +142,11 @@ module _ {S : Type 0} (gives : S → Answer → S → Type 0) (known : S → Opt
   -- what all calls gathered
   module _ (all : yaml_documents_t) (items : all.documents.items ≡ loaded) where
     -- the loads within the bound are the loads, where none is out of memory
-    are_loads_so : (e : List Event) (x y : Ending) → bounded_loads most e x ≡ as_loads loaded y
+    are_loads_so : (e : List Event) (x y : Ending) → bounded_loads most e x ≡ as_whole_loads loaded y
         → NoneLacksMemory (last_load y ∷ []) → ending_of all.fault ≡ y
-        → as_loads all.documents.items (ending_of all.fault) ≡ loads e x
+        → as_whole_loads all.documents.items (ending_of all.fault) ≡ loads e x
     are_loads_so e x y list memory fault_is =
-        ap₂ as_loads items fault_is ∙ (sym list
+        ap₂ as_whole_loads items fault_is ∙ (sym list
         ∙ unmet_loads e x most (subst NoneLacksMemory (sym list) (none_lacks loaded (last_load y ∷ []) memory)))
 
     are_first : (taken rest : List Event) (x : Ending)
@@ -209,7 +209,7 @@ module _ {S : Type 0} (gives : S → Answer → S → Type 0) (known : S → Opt
 
       stands : (e : List Event) (x : Ending) → next_bounded most e x ≡ Err (kept_fault new) → (given : List Event)
           → bounded_loads most given x ≡ oks loaded ++ bounded_loads most e x
-          → as_loads all.documents.items (ending_of all.fault) ≡ loads given x
+          → as_whole_loads all.documents.items (ending_of all.fault) ≡ loads given x
       stands e x last given so_far = are_loads_so given x (Fails (kept_fault new))
           (so_far ∙ ap (λ (t : List Load). oks loaded ++ t) (fault_of e x most (kept_fault new) last))
           (has_memory, tt) ends_so
@@ -261,7 +261,7 @@ module _ {S : Type 0} (gives : S → Answer → S → Type 0) (known : S → Opt
           }
         where
           error : kept_fault new ≡ f → (rest : List Event) (x : Ending)
-              → loads ((given ++ taken) ++ rest) x ≡ as_loads all.documents.items (ending_of all.fault)
+              → loads ((given ++ taken) ++ rest) x ≡ as_whole_loads all.documents.items (ending_of all.fault)
           error is_kept rest x = sym (stands (taken ++ rest) x
               (fails rest x ∙ ap (λ (g : Fault). Err g) (sym is_kept)) ((given ++ taken) ++ rest)
               (so_far_behind taken rest x))

@@ -16,15 +16,15 @@ use Rattle.unsafe_libyaml.specs.declared.load_all.yaml_documents_t.{yaml_documen
 use Rattle.unsafe_libyaml.specs.WholeRun.{Asked, StoppedBy, ending_of}
 
 -- these documents, and after them the document without root or the fault
-abbrev pub as_loads : List Document → Ending → List Load
-as_loads documents ending = map (λ (d : Document). Ok d) documents ++ last_load ending ∷ []
+abbrev pub as_whole_loads : List Document → Ending → List Load
+as_whole_loads documents ending = map (λ (d : Document). Ok d) documents ++ last_load ending ∷ []
 
 -- These loads; or the source broke off after the results that it gave, by a fault that it names as possible where it then
 -- stood, and the documents are a prefix. A list never does.
 pub data LoadsTo {S : Type 0} (gives : S → Answer → S → Type 0) (MayBreak : S → Fault → Type 0) (source : S)
     (all : yaml_documents_t) (loads : List Load)
     : Type 0 where
-  whole : as_loads all.documents.items (ending_of all.fault) ≡ loads → LoadsTo gives MayBreak source all loads
+  whole : as_whole_loads all.documents.items (ending_of all.fault) ≡ loads → LoadsTo gives MayBreak source all loads
   broken_off : (given : List Answer) (s : S) (f : Fault) → Gave gives source given s → MayBreak s f
       → ending_of all.fault ≡ Fails f
       → (rest : List Load) → loads ≡ map (λ (d : Document). Ok d) all.documents.items ++ rest
@@ -33,7 +33,7 @@ pub data LoadsTo {S : Type 0} (gives : S → Answer → S → Type 0) (MayBreak 
 -- these events have a composer error, whatever follows them: their loads are these documents and the fault
 abbrev pub ComposerError : List Event → yaml_documents_t → Type 0
 ComposerError taken all = (rest : List Event) (x : Ending)
-    → loads (taken ++ rest) x ≡ as_loads all.documents.items (ending_of all.fault)
+    → loads (taken ++ rest) x ≡ as_whole_loads all.documents.items (ending_of all.fault)
 
 -- The loads over any source, which took these events of the parser: the documents and the fault are the loads of these
 -- events, and the documents are the first loads of them, whatever comes after. The events begin those of each sentence that
@@ -47,7 +47,7 @@ pub record GathersLoads {S : Type 0} (gives : S → Answer → S → Type 0) (so
   pub begins : BeginsEach asked taken
   pub begins_run : BeginsEachRun asked taken
   pub nests : NestsSoFar taken
-  pub are_loads : as_loads all.documents.items (ending_of all.fault) ≡ loads taken (ending_of all.fault)
+  pub are_loads : as_whole_loads all.documents.items (ending_of all.fault) ≡ loads taken (ending_of all.fault)
   pub are_first : (rest : List Event) (x : Ending)
       → (later : List Load) × (loads (taken ++ rest) x ≡ map (λ (d : Document). Ok d) all.documents.items ++ later)
   pub whole : all.fault ≡ None → IsWhole asked taken

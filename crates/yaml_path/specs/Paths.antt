@@ -11,18 +11,18 @@ use Rattle.libyaml_documents.specs.declared.node.unnamed_yaml_node_t_data.TheVar
 use Rattle.libyaml_documents.specs.Nodes.{items_of, node_at, pairs_of}
 
 -- the text of a scalar; a sequence and a mapping have none
-abbrev pub text_of : unnamed_yaml_node_t_data → Option (List ℕ)
-text_of (Scalar s) = Some s.value
-text_of (Sequence s) = None
-text_of (Mapping m) = None
+abbrev pub node_text_of : unnamed_yaml_node_t_data → Option (List ℕ)
+node_text_of (Scalar s) = Some s.value
+node_text_of (Sequence s) = None
+node_text_of (Mapping m) = None
 
 -- the item of this number, from 0, of the node of this id
 abbrev pub item_at : List yaml_node_t → ℤ → ℕ → Option ℤ
 item_at nodes id index = option_and_then (λ node. slice_get (items_of node.content) index) (node_at nodes id)
 
 -- the text of the node of this id, where that is a scalar
-abbrev pub scalar_at : List yaml_node_t → ℤ → Option (List ℕ)
-scalar_at nodes id = option_and_then (λ node. text_of node.content) (node_at nodes id)
+abbrev pub scalar_text_at : List yaml_node_t → ℤ → Option (List ℕ)
+scalar_text_at nodes id = option_and_then (λ node. node_text_of node.content) (node_at nodes id)
 
 -- whether these are the same text
 abbrev pub is_text : List ℕ → Option (List ℕ) → Bool
@@ -31,7 +31,7 @@ is_text text (Some other) = bytes_eq other text
 
 -- whether the node of this id is a scalar of exactly this text
 abbrev pub is_scalar_at : List yaml_node_t → List ℕ → ℤ → Bool
-is_scalar_at nodes text id = is_text text (scalar_at nodes id)
+is_scalar_at nodes text id = is_text text (scalar_text_at nodes id)
 
 -- the first pair whose key is a scalar of exactly this text
 abbrev pub pair_of : List yaml_node_t → List ℕ → List yaml_node_pair_t → Option yaml_node_pair_t
@@ -65,4 +65,4 @@ id_at (root ∷ nodes) words = id_behind (root ∷ nodes) (pos 1) words
 
 -- the text of the scalar at the end of a path
 abbrev pub text_at : List yaml_node_t → List (List ℕ) → Option (List ℕ)
-text_at nodes words = option_and_then (λ id. scalar_at nodes id) (id_at nodes words)
+text_at nodes words = option_and_then (λ id. scalar_text_at nodes id) (id_at nodes words)

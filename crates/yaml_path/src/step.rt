@@ -2,7 +2,7 @@
 ghost use Rattle.std.specs.Prelude.{◌≡◌, IsSome, IfSome, length, ◌↔◌};
 ghost use Rattle.std.specs.Option.{option_copied};
 ghost use Rattle.libyaml_documents.specs.Nodes.{EveryIdNamesANode, IsIdUpTo, node_at};
-ghost use Rattle.yaml_path.specs.Paths.{text_of, item_at, value_at, is_scalar_at};
+ghost use Rattle.yaml_path.specs.Paths.{node_text_of, item_at, value_at, is_scalar_at};
 
 use libyaml_documents::{
     unnamed_yaml_node_t_data, yaml_document_get_node, yaml_document_t, yaml_node_t,
@@ -21,7 +21,7 @@ pub fn node_of(document: &yaml_document_t, id: i32) -> Option<&yaml_node_t>
 
 /// Returns the text of a scalar, or `None` where the node is a sequence or a mapping.
 pub fn as_str(node: &yaml_node_t) -> Option<&str>
-    ensures text { option_copied result ≡ text_of node.now.content }
+    ensures text { option_copied result ≡ node_text_of node.now.content }
 {
     match &node.content {
         unnamed_yaml_node_t_data::Scalar(scalar) => Some(scalar.value.as_str()),

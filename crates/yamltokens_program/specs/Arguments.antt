@@ -17,10 +17,10 @@ abbrev pub asked_run : List (List ℕ) → Option Run
 asked_run (word ∷ []) = run_of word
 asked_run _ = None
 
-abbrev pub status_of : Outcome → ℕ
-status_of Ended = 0
-status_of Faulted = 1
-status_of OutputFailed = 3
+abbrev pub exit_status_of : Outcome → ℕ
+exit_status_of Ended = 0
+exit_status_of Faulted = 1
+exit_status_of OutputFailed = 3
 
 -- the run was over a reader's lines, and wrote what it writes
 abbrev pub WasOver : {R W : Type 0} → Run → (remaining : R → Option (List ℕ)) → (contents : W → Option (List ℕ)) → R
@@ -33,5 +33,5 @@ WasOver Nodes remaining contents reader outcome before after = NodesOver remaini
 pub record RunsWith {R W : Type 0} (run : Run) (remaining : R → Option (List ℕ)) (contents : W
     → Option (List ℕ)) (reader : R) (status : ℕ) (before after : Option (List ℕ)) : Type 0 where
   pub outcome : Outcome
-  pub status_is : status ≡ status_of outcome
+  pub status_is : status ≡ exit_status_of outcome
   pub over : WasOver run remaining contents reader outcome before after

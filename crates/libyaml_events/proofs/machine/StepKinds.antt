@@ -35,7 +35,7 @@ use Rattle.libyaml_events.specs.declared.node_head.TagRead.{TagRead}
 use Rattle.libyaml_events.specs.declared.node_place.NodePlace.{NodePlace}
 use Rattle.libyaml_events.specs.declared.node_place.NodePlace.TheVariants.{Block, BlockOrIndentlessSequence, Flow}
 use Rattle.libyaml_events.specs.declared.pending.DirectivesRead.{DirectivesRead}
-use Rattle.libyaml_events.specs.machine.Config.{Config, at, declared, keep, popped, pushed, pushed_mark, top_mark}
+use Rattle.libyaml_events.specs.machine.Config.{Config, at, with_handle, keep, popped, pushed, pushed_mark, top_mark}
 use Rattle.libyaml_events.specs.machine.Machine as mach
 use Rattle.libyaml_events.specs.machine.Machine.{Progressed, anchor_behind, at_state, begin_document, behind_properties}
 use Rattle.libyaml_events.specs.machine.Machine.{close_collection, content_behind}
@@ -156,8 +156,8 @@ module _ (ss : List yaml_parser_state_t) (ms : List Mark) (u : Token) where
     fails_in : (f : Mark → Fault) → StepKind c n t inner (Err (f (top_mark c.marks))) (Err (f (top_mark (c.marks ++ ms))))
     wants : {k : Kind} (w : Want) → kind_of w c ≡ k → 0 < n → StepKind c n t k (want w c) (want w (raised ss ms c))
     declares : (d : DirectivesRead) (h p : List ℕ) → 0 < n
-        → StepKind c n t between (want (BehindDirective d) (declared h p c))
-        (want (BehindDirective d) (declared h p (raised ss ms c)))
+        → StepKind c n t between (want (BehindDirective d) (with_handle h p c))
+        (want (BehindDirective d) (with_handle h p (raised ss ms c)))
     enters : {m : Mark} (w : Want) (s : yaml_parser_state_t) → kind s ≡ inner
         → kind_of w (at s (pushed_mark m c)) ≡ inner → 0 < n
         → StepKind c n t first_entry (want w (at s (pushed_mark m c))) (want w (at s (pushed_mark m (raised ss ms c))))

@@ -157,8 +157,8 @@ top_mark (m ∷ ms) = m
 abbrev pub popped_mark : Config → Config
 popped_mark c = record c { marks = below c.marks }
 
-abbrev pub declared : List ℕ → List ℕ → Config → Config
-declared handle prefix c = record c { handles = insert c.handles handle prefix }
+abbrev pub with_handle : List ℕ → List ℕ → Config → Config
+with_handle handle prefix c = record c { handles = insert c.handles handle prefix }
 
 abbrev pub without_handles : Config → Config
 without_handles c = record c { handles = no_handles }

@@ -30,7 +30,7 @@ use Rattle.libyaml_grammar.specs.cuts.FaultTexts.{mapping_fault}
 use Rattle.libyaml_grammar.specs.sentences.Events.{event, is_missing, plain_flag, quoted_flag}
 use Rattle.libyaml_grammar.specs.sentences.Order.{is_accepted}
 use Rattle.libyaml_events.specs.machine.Config.{Config, Handles, no_handles, at, keep, pushed, popped, pushed_mark}
-use Rattle.libyaml_events.specs.machine.Config.{top_mark, popped_mark, declared}
+use Rattle.libyaml_events.specs.machine.Config.{top_mark, popped_mark, with_handle}
 use Rattle.libyaml_events.specs.declared.pending.DirectivesRead.{DirectivesRead}
 use Rattle.libyaml_events.specs.declared.node_place.NodePlace.{NodePlace}
 use Rattle.libyaml_events.specs.declared.node_place.NodePlace.TheVariants.{Block, BlockOrIndentlessSequence, Flow}
@@ -137,7 +137,7 @@ abbrev pub tag_directive : (declared_prefix : Option (List ℕ)) → DirectivesR
     → yaml_tag_directive_t → Progressed
 tag_directive (Some earlier) d c m g = Err (duplicate_tag_fault m)
 tag_directive None d c m g = want (BehindDirective (record d { tag_directives = d.tag_directives ++ g ∷ [] }))
-    (declared g.handle g.prefix c)
+    (with_handle g.handle g.prefix c)
 
 -- a directive or DOCUMENT-START, after the directives d
 abbrev pub explicit_document : DirectivesRead → Config → yaml_token_t → unnamed_yaml_token_t_data → Progressed

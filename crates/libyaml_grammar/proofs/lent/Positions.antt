@@ -12,7 +12,7 @@ use Rattle.libyaml_grammar.specs.sentences.Trees.{flow_member_tokens, flow_slot_
 use Rattle.libyaml_grammar.specs.sentences.Trees.{no_directives, option_tokens}
 use Rattle.libyaml_grammar.specs.sentences.Trees.{parts_tokens, sequence, stream_tokens}
 use Rattle.libyaml_grammar.specs.sentences.Events.{Event, before_events, block_layout, block_slot_events}
-use Rattle.libyaml_grammar.specs.sentences.Events.{documents_events, first_directive, first_entry}
+use Rattle.libyaml_grammar.specs.sentences.Events.{documents_events, first_directive, first_block_entry}
 use Rattle.libyaml_grammar.specs.sentences.Events.{first_of, flow_member_events, flow_slot_events, free_events}
 use Rattle.libyaml_grammar.specs.sentences.Events.{items_events, opens_pair, parts_events}
 use Rattle.libyaml_grammar.specs.sentences.Events.{start_of, stream_events}
@@ -96,7 +96,7 @@ shown (in_mapping c o s ps) m r
     = shown_block c (first_of o s.start)
     (start_of (declared_block c) mapping block_layout o s ∷ parts_events (declared_block c) ps m r)
 shown (in_indentless c o is e n) m r
-    = shown_part c (start_of (declared_part c) sequence block_layout o (first_entry is e)
+    = shown_part c (start_of (declared_part c) sequence block_layout o (first_block_entry is e)
     ∷ items_events (declared_part c) is (block_slot_events (declared_part c) n e.end r))
 shown (flow_due c) m r = shown_open c r
 shown (flow_keyed c k x) m r = shown_open c (opens_pair (sort_of c) k (flow_slot_events (declared_open c) x m r))

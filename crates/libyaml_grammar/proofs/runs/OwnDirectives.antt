@@ -4,7 +4,7 @@ use Rattle.libyaml_grammar.specs.sentences.Events.{Event, Layout, alone_of, anch
 use Rattle.libyaml_grammar.specs.sentences.Events.{block_layout, block_node_events}
 use Rattle.libyaml_grammar.specs.sentences.Events.{block_slot_events, document_start_at, documents_events, end_at}
 use Rattle.libyaml_grammar.specs.sentences.Events.{end_of, first_block, first_directive}
-use Rattle.libyaml_grammar.specs.sentences.Events.{first_entry, first_of, first_of_properties, flow_items_events}
+use Rattle.libyaml_grammar.specs.sentences.Events.{first_block_entry, first_of, first_of_properties, flow_items_events}
 use Rattle.libyaml_grammar.specs.sentences.Events.{flow_last_events, flow_layout}
 use Rattle.libyaml_grammar.specs.sentences.Events.{flow_member_events, flow_node_events, flow_slot_events, free_events}
 use Rattle.libyaml_grammar.specs.sentences.Events.{is_missing, items_events}
@@ -130,7 +130,7 @@ module _ (ds es : Directives) (same : (h : List ℕ) → prefix_of ds h ≡ pref
     slot_alike : (x : Slot) (e m : Mark) (r : List Event) → slot_events ds x e m r ≡ slot_events es x e m r
     slot_alike (slot_of n) e m r = block_slot_alike n e r
     slot_alike (indentless o is s n) e m r
-        = behind_alike _ _ _ _ (starts_alike sequence block_layout o (first_entry is s)) (items_alike is _
+        = behind_alike _ _ _ _ (starts_alike sequence block_layout o (first_block_entry is s)) (items_alike is _
         ∙ ap (items_events es is) (block_slot_alike n s.end (end_at sequence m m ∷ r)))
 
     parts_alike : (ps : Parts) (m : Mark) (r : List Event) → parts_events ds ps m r ≡ parts_events es ps m r

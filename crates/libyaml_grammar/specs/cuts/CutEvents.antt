@@ -5,7 +5,7 @@ use Rattle.libyaml_grammar.specs.sentences.Tokens.{Mark, Token}
 use Rattle.libyaml_grammar.specs.sentences.Trees.{Sort, directive, mapping, no_directives, sequence}
 use Rattle.libyaml_grammar.specs.sentences.Events.{Event, before_events, before_part, block_layout, document_end_at}
 use Rattle.libyaml_grammar.specs.sentences.Events.{document_start_at, documents_events}
-use Rattle.libyaml_grammar.specs.sentences.Events.{first_directive, first_entry, first_of, flow_items_events}
+use Rattle.libyaml_grammar.specs.sentences.Events.{first_directive, first_block_entry, first_of, flow_items_events}
 use Rattle.libyaml_grammar.specs.sentences.Events.{flow_layout, flow_member_events}
 use Rattle.libyaml_grammar.specs.sentences.Events.{flow_slot_events, free_events, items_events, member_end}
 use Rattle.libyaml_grammar.specs.sentences.Events.{missing_value, opens_pair, parts_events, start_of}
@@ -34,7 +34,7 @@ abbrev mutual
       (start_of (declared_block c) sequence block_layout o s ∷ items_events (declared_block c) is r)
   shown_block (slot c) m r = shown_part c r
   shown_block (indentless_entry c o is e) m r
-      = shown_part c (start_of (declared_part c) sequence block_layout o (first_entry is e) ∷ items_events
+      = shown_part c (start_of (declared_part c) sequence block_layout o (first_block_entry is e) ∷ items_events
       (declared_part c) is r)
 
   pub shown_part : PartPlace → List Event → List Event

@@ -8,7 +8,7 @@ use Rattle.libyaml_grammar.specs.cuts.CutTrees.{declared_open, document_due, ent
 use Rattle.libyaml_grammar.specs.cuts.CutTrees.{separator_due, start_due}
 use Rattle.libyaml_grammar.specs.sentences.Events.{Event, before_events, before_part, block_layout, block_node_events}
 use Rattle.libyaml_grammar.specs.sentences.Events.{directive_start, document_start_at}
-use Rattle.libyaml_grammar.specs.sentences.Events.{events, first_block, first_directive, first_entry, first_of}
+use Rattle.libyaml_grammar.specs.sentences.Events.{events, first_block, first_directive, first_block_entry, first_of}
 use Rattle.libyaml_grammar.specs.sentences.Events.{flow_node_events, flow_slot_events}
 use Rattle.libyaml_grammar.specs.sentences.Events.{free_events, items_events, opens_pair, parts_events, start_of}
 use Rattle.libyaml_types.specs.Events.{zero_mark}
@@ -98,7 +98,7 @@ sure_items ds (item is e x) = items_events ds is (sure_block_slot ds x)
 
 abbrev pub sure_slot : Directives → Slot → List Event
 sure_slot ds (slot_of x) = sure_block_slot ds x
-sure_slot ds (indentless o is s x) = start_of ds sequence block_layout o (first_entry is s) ∷ items_events ds is
+sure_slot ds (indentless o is s x) = start_of ds sequence block_layout o (first_block_entry is s) ∷ items_events ds is
     (sure_block_slot ds x)
 
 abbrev pub sure_parts : Directives → Parts → List Event

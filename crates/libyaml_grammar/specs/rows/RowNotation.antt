@@ -73,8 +73,8 @@ abbrev pub stream_le : unnamed_yaml_event_t_data
 stream_le = ev.StreamStart (record { encoding = YAML_UTF16LE_ENCODING })
 
 -- documents, implicit and explicit
-abbrev pub document : unnamed_yaml_event_t_data
-document = ev.DocumentStart (record { version_directive = None; tag_directives = []; implicit = true })
+abbrev pub bare_document : unnamed_yaml_event_t_data
+bare_document = ev.DocumentStart (record { version_directive = None; tag_directives = []; implicit = true })
 
 abbrev pub headed_document : Option yaml_version_directive_t → List yaml_tag_directive_t → unnamed_yaml_event_t_data
 headed_document v l = ev.DocumentStart (record { version_directive = v; tag_directives = l; implicit = false })
@@ -82,14 +82,14 @@ headed_document v l = ev.DocumentStart (record { version_directive = v; tag_dire
 abbrev pub asks_version : (major minor : ℕ) → Option yaml_version_directive_t
 asks_version a b = Some (record { major = pos a; minor = pos b })
 
-abbrev pub declares : (handle prefix : List ℕ) → yaml_tag_directive_t
-declares h p = record { handle = h; prefix = p }
+abbrev pub declaring : (handle prefix : List ℕ) → yaml_tag_directive_t
+declaring h p = record { handle = h; prefix = p }
 
 abbrev pub no_document_end : unnamed_yaml_event_t_data
 no_document_end = ev.DocumentEnd (record { implicit = true })
 
-abbrev pub document_end : unnamed_yaml_event_t_data
-document_end = ev.DocumentEnd (record { implicit = false })
+abbrev pub explicit_end : unnamed_yaml_event_t_data
+explicit_end = ev.DocumentEnd (record { implicit = false })
 
 -- nodes, plain and with no properties
 abbrev pub alias : List ℕ → unnamed_yaml_event_t_data

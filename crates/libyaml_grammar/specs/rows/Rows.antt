@@ -14,8 +14,8 @@ use Rattle.libyaml_types.specs.declared.token.unnamed_yaml_token_t_data.TheVaria
 use Rattle.libyaml_types.specs.declared.token.unnamed_yaml_token_t_data.TheVariants.{FlowMappingStart, FlowMappingEnd}
 use Rattle.libyaml_types.specs.declared.token.unnamed_yaml_token_t_data.TheVariants.{BlockEntry, FlowEntry, Key, Value}
 use Rattle.libyaml_grammar.specs.rows.RowNotation.{ALIAS, ANCHOR, HANDLE, SCALAR, STREAM, STREAM_LE, STYLED, TAG}
-use Rattle.libyaml_grammar.specs.rows.RowNotation.{VERSION, alias, asks_version, at, declares}
-use Rattle.libyaml_grammar.specs.rows.RowNotation.{document, document_end, flow_mapping, flow_mapping_of, flow_sequence}
+use Rattle.libyaml_grammar.specs.rows.RowNotation.{VERSION, alias, asks_version, at, declaring}
+use Rattle.libyaml_grammar.specs.rows.RowNotation.{bare_document, explicit_end, flow_mapping, flow_mapping_of, flow_sequence}
 use Rattle.libyaml_grammar.specs.rows.RowNotation.{flow_sequence_of, headed_document}
 use Rattle.libyaml_grammar.specs.rows.RowNotation.{list, mapping, mapping_of, no_document_end, no_more, nothing, scalar}
 use Rattle.libyaml_grammar.specs.rows.RowNotation.{sequence, sequence_of, stream}
@@ -31,7 +31,7 @@ RowEmptyStream = IsRun (list (
 abbrev pub RowImplicitDocument : Type 0
 RowImplicitDocument = IsRun (list (
     STREAM ∷ SCALAR (codes "a") ∷ StreamEnd ∷ [])) no_more (
-    at 0 0 stream ∷ at 2 2 document ∷ at 2 3 (text (codes "a")) ∷ at 4 4 no_document_end ∷ at 4 5 ev.StreamEnd ∷ []) Ends
+    at 0 0 stream ∷ at 2 2 bare_document ∷ at 2 3 (text (codes "a")) ∷ at 4 4 no_document_end ∷ at 4 5 ev.StreamEnd ∷ []) Ends
 
 abbrev pub RowExplicitDocuments : Type 0
 RowExplicitDocuments = IsRun (list (
@@ -46,33 +46,33 @@ RowEmptyDocuments = IsRun (list (
     DocumentStart ∷ DocumentEnd ∷ DocumentStart ∷ StreamEnd ∷ [])) no_more (
     at 0 0 stream ∷ at 2 3 (headed_document None []) ∷ at 4 4 nothing ∷ at 4 4 no_document_end ∷
     at 4 7 (headed_document (asks_version 1 1) []) ∷ at 8 8 nothing ∷ at 8 8 no_document_end ∷
-    at 8 11 (headed_document None (declares (codes "!e!") (codes "p:") ∷ [])) ∷ at 12 12 nothing ∷
-    at 12 12 no_document_end ∷ at 12 13 (headed_document None []) ∷ at 14 14 nothing ∷ at 14 15 document_end ∷
+    at 8 11 (headed_document None (declaring (codes "!e!") (codes "p:") ∷ [])) ∷ at 12 12 nothing ∷
+    at 12 12 no_document_end ∷ at 12 13 (headed_document None []) ∷ at 14 14 nothing ∷ at 14 15 explicit_end ∷
     at 16 17 (headed_document None []) ∷ at 18 18 nothing ∷ at 18 18 no_document_end ∷ at 18 19 ev.StreamEnd ∷ []) Ends
 
 abbrev pub RowDocumentEnds : Type 0
 RowDocumentEnds = IsRun (list (
     STREAM ∷ DocumentStart ∷ DocumentEnd ∷ DocumentEnd ∷ StreamEnd ∷ [])) no_more (
-    at 0 0 stream ∷ at 2 3 (headed_document None []) ∷ at 4 4 nothing ∷ at 4 5 document_end ∷ at 8 9 ev.StreamEnd ∷ []) Ends
+    at 0 0 stream ∷ at 2 3 (headed_document None []) ∷ at 4 4 nothing ∷ at 4 5 explicit_end ∷ at 8 9 ev.StreamEnd ∷ []) Ends
 
 abbrev pub RowImplicitBehindDocumentEnd : Type 0
 RowImplicitBehindDocumentEnd = IsRun (list (
     STREAM ∷ DocumentStart ∷ DocumentEnd ∷ DocumentEnd ∷ SCALAR (codes "b") ∷ StreamEnd ∷ [])) no_more (
-    at 0 0 stream ∷ at 2 3 (headed_document None []) ∷ at 4 4 nothing ∷ at 4 5 document_end ∷ at 8 8 document ∷
+    at 0 0 stream ∷ at 2 3 (headed_document None []) ∷ at 4 4 nothing ∷ at 4 5 explicit_end ∷ at 8 8 bare_document ∷
     at 8 9 (text (codes "b")) ∷ at 10 10 no_document_end ∷ at 10 11 ev.StreamEnd ∷ []) Ends
 
 abbrev pub RowImplicitBehindImplicit : Type 0
 RowImplicitBehindImplicit = IsRun (list (
     STREAM ∷ SCALAR (codes "a") ∷ DocumentEnd ∷ SCALAR (codes "b") ∷ DocumentEnd ∷ StreamEnd ∷ [])) no_more (
-    at 0 0 stream ∷ at 2 2 document ∷ at 2 3 (text (codes "a")) ∷ at 4 5 document_end ∷ at 6 6 document ∷
-    at 6 7 (text (codes "b")) ∷ at 8 9 document_end ∷ at 10 11 ev.StreamEnd ∷ []) Ends
+    at 0 0 stream ∷ at 2 2 bare_document ∷ at 2 3 (text (codes "a")) ∷ at 4 5 explicit_end ∷ at 6 6 bare_document ∷
+    at 6 7 (text (codes "b")) ∷ at 8 9 explicit_end ∷ at 10 11 ev.StreamEnd ∷ []) Ends
 
 abbrev pub RowExplicitBehindDocumentEnd : Type 0
 RowExplicitBehindDocumentEnd = IsRun (list (
     STREAM ∷ SCALAR (codes "a") ∷ DocumentEnd ∷ HANDLE (codes "!e!") (codes "p:") ∷ DocumentStart ∷
     ANCHOR (codes "a") ∷ TAG (codes "!e!") (codes "x") ∷ StreamEnd ∷ [])) no_more (
-    at 0 0 stream ∷ at 2 2 document ∷ at 2 3 (text (codes "a")) ∷ at 4 5 document_end ∷
-    at 6 9 (headed_document None (declares (codes "!e!") (codes "p:") ∷ [])) ∷
+    at 0 0 stream ∷ at 2 2 bare_document ∷ at 2 3 (text (codes "a")) ∷ at 4 5 explicit_end ∷
+    at 6 9 (headed_document None (declaring (codes "!e!") (codes "p:") ∷ [])) ∷
     at 10 13 (scalar (Some (codes "a")) (Some (codes "p:x")) [] false false YAML_PLAIN_SCALAR_STYLE) ∷
     at 14 14 no_document_end ∷ at 14 15 ev.StreamEnd ∷ []) Ends
 
@@ -80,42 +80,42 @@ abbrev pub RowDirectives : Type 0
 RowDirectives = IsRun (list (
     STREAM ∷ VERSION 1 2 ∷ HANDLE (codes "!e!") (codes "p:") ∷ DocumentStart ∷ TAG (codes "!e!") (codes "x") ∷
     SCALAR (codes "a") ∷ StreamEnd ∷ [])) no_more (
-    at 0 0 stream ∷ at 2 7 (headed_document (asks_version 1 2) (declares (codes "!e!") (codes "p:") ∷ [])) ∷
+    at 0 0 stream ∷ at 2 7 (headed_document (asks_version 1 2) (declaring (codes "!e!") (codes "p:") ∷ [])) ∷
     at 8 11 (scalar None (Some (codes "p:x")) (codes "a") false false YAML_PLAIN_SCALAR_STYLE) ∷
     at 12 12 no_document_end ∷ at 12 13 ev.StreamEnd ∷ []) Ends
 
 abbrev pub RowBehindStreamEnd : Type 0
 RowBehindStreamEnd = IsRun (list (
     STREAM ∷ SCALAR (codes "a") ∷ StreamEnd ∷ BlockEnd ∷ STREAM ∷ StreamEnd ∷ [])) no_more (
-    at 0 0 stream ∷ at 2 2 document ∷ at 2 3 (text (codes "a")) ∷ at 4 4 no_document_end ∷ at 4 5 ev.StreamEnd ∷ []) Ends
+    at 0 0 stream ∷ at 2 2 bare_document ∷ at 2 3 (text (codes "a")) ∷ at 4 4 no_document_end ∷ at 4 5 ev.StreamEnd ∷ []) Ends
 
 -- Block sequences and mappings, and sequences without tokens of their own.
 abbrev pub RowBlockSequence : Type 0
 RowBlockSequence = IsRun (list (
     STREAM ∷ BlockSequenceStart ∷ BlockEntry ∷ SCALAR (codes "a") ∷ BlockEntry ∷ BlockSequenceStart ∷ BlockEntry ∷
     BlockEnd ∷ BlockEnd ∷ StreamEnd ∷ [])) no_more (
-    at 0 0 stream ∷ at 2 2 document ∷ at 2 3 sequence ∷ at 6 7 (text (codes "a")) ∷ at 10 11 sequence ∷
+    at 0 0 stream ∷ at 2 2 bare_document ∷ at 2 3 sequence ∷ at 6 7 (text (codes "a")) ∷ at 10 11 sequence ∷
     at 13 13 nothing ∷ at 14 15 ev.SequenceEnd ∷ at 16 17 ev.SequenceEnd ∷ at 18 18 no_document_end ∷
     at 18 19 ev.StreamEnd ∷ []) Ends
 
 abbrev pub RowEmptySequenceEntries : Type 0
 RowEmptySequenceEntries = IsRun (list (
     STREAM ∷ BlockSequenceStart ∷ BlockEntry ∷ BlockEntry ∷ BlockEnd ∷ StreamEnd ∷ [])) no_more (
-    at 0 0 stream ∷ at 2 2 document ∷ at 2 3 sequence ∷ at 5 5 nothing ∷ at 7 7 nothing ∷ at 8 9 ev.SequenceEnd ∷
+    at 0 0 stream ∷ at 2 2 bare_document ∷ at 2 3 sequence ∷ at 5 5 nothing ∷ at 7 7 nothing ∷ at 8 9 ev.SequenceEnd ∷
     at 10 10 no_document_end ∷ at 10 11 ev.StreamEnd ∷ []) Ends
 
 abbrev pub RowEmptyCollections : Type 0
 RowEmptyCollections = IsRun (list (
     STREAM ∷ BlockSequenceStart ∷ BlockEntry ∷ BlockSequenceStart ∷ BlockEnd ∷ BlockEntry ∷ BlockMappingStart ∷
     BlockEnd ∷ BlockEnd ∷ StreamEnd ∷ [])) no_more (
-    at 0 0 stream ∷ at 2 2 document ∷ at 2 3 sequence ∷ at 6 7 sequence ∷ at 8 9 ev.SequenceEnd ∷ at 12 13 mapping ∷
+    at 0 0 stream ∷ at 2 2 bare_document ∷ at 2 3 sequence ∷ at 6 7 sequence ∷ at 8 9 ev.SequenceEnd ∷ at 12 13 mapping ∷
     at 14 15 ev.MappingEnd ∷ at 16 17 ev.SequenceEnd ∷ at 18 18 no_document_end ∷ at 18 19 ev.StreamEnd ∷ []) Ends
 
 abbrev pub RowIndentlessSequence : Type 0
 RowIndentlessSequence = IsRun (list (
     STREAM ∷ BlockMappingStart ∷ Key ∷ SCALAR (codes "a") ∷ Value ∷ BlockEntry ∷ SCALAR (codes "b") ∷ BlockEntry ∷
     BlockEnd ∷ StreamEnd ∷ [])) no_more (
-    at 0 0 stream ∷ at 2 2 document ∷ at 2 3 mapping ∷ at 6 7 (text (codes "a")) ∷ at 10 11 sequence ∷
+    at 0 0 stream ∷ at 2 2 bare_document ∷ at 2 3 mapping ∷ at 6 7 (text (codes "a")) ∷ at 10 11 sequence ∷
     at 12 13 (text (codes "b")) ∷ at 15 15 nothing ∷ at 16 16 ev.SequenceEnd ∷ at 16 17 ev.MappingEnd ∷
     at 18 18 no_document_end ∷ at 18 19 ev.StreamEnd ∷ []) Ends
 
@@ -123,7 +123,7 @@ abbrev pub RowEmptyIndentlessEntries : Type 0
 RowEmptyIndentlessEntries = IsRun (list (
     STREAM ∷ BlockMappingStart ∷ Key ∷ BlockEntry ∷ BlockEntry ∷ Value ∷ BlockEntry ∷ Key ∷ BlockEntry ∷ Value ∷
     SCALAR (codes "a") ∷ Value ∷ BlockEntry ∷ BlockEnd ∷ StreamEnd ∷ [])) no_more (
-    at 0 0 stream ∷ at 2 2 document ∷ at 2 3 mapping ∷ at 6 7 sequence ∷ at 7 7 nothing ∷ at 9 9 nothing ∷
+    at 0 0 stream ∷ at 2 2 bare_document ∷ at 2 3 mapping ∷ at 6 7 sequence ∷ at 7 7 nothing ∷ at 9 9 nothing ∷
     at 10 10 ev.SequenceEnd ∷ at 12 13 sequence ∷ at 13 13 nothing ∷ at 14 14 ev.SequenceEnd ∷ at 16 17 sequence ∷
     at 17 17 nothing ∷ at 18 18 ev.SequenceEnd ∷ at 20 21 (text (codes "a")) ∷ at 22 22 nothing ∷ at 24 25 sequence ∷
     at 25 25 nothing ∷ at 26 26 ev.SequenceEnd ∷ at 26 27 ev.MappingEnd ∷ at 28 28 no_document_end ∷
@@ -133,14 +133,14 @@ abbrev pub RowAnchoredIndentless : Type 0
 RowAnchoredIndentless = IsRun (list (
     STREAM ∷ BlockMappingStart ∷ Key ∷ SCALAR (codes "k") ∷ Value ∷ ANCHOR (codes "a") ∷ BlockEntry ∷
     SCALAR (codes "x") ∷ BlockEnd ∷ StreamEnd ∷ [])) no_more (
-    at 0 0 stream ∷ at 2 2 document ∷ at 2 3 mapping ∷ at 6 7 (text (codes "k")) ∷
+    at 0 0 stream ∷ at 2 2 bare_document ∷ at 2 3 mapping ∷ at 6 7 (text (codes "k")) ∷
     at 10 13 (sequence_of (Some (codes "a")) None true) ∷ at 14 15 (text (codes "x")) ∷ at 16 16 ev.SequenceEnd ∷
     at 16 17 ev.MappingEnd ∷ at 18 18 no_document_end ∷ at 18 19 ev.StreamEnd ∷ []) Ends
 
 abbrev pub RowEmptyKeys : Type 0
 RowEmptyKeys = IsRun (list (
     STREAM ∷ BlockMappingStart ∷ Key ∷ Key ∷ Value ∷ Key ∷ BlockEnd ∷ StreamEnd ∷ [])) no_more (
-    at 0 0 stream ∷ at 2 2 document ∷ at 2 3 mapping ∷ at 5 5 nothing ∷ at 6 6 nothing ∷ at 7 7 nothing ∷
+    at 0 0 stream ∷ at 2 2 bare_document ∷ at 2 3 mapping ∷ at 5 5 nothing ∷ at 6 6 nothing ∷ at 7 7 nothing ∷
     at 9 9 nothing ∷ at 11 11 nothing ∷ at 12 12 nothing ∷ at 12 13 ev.MappingEnd ∷ at 14 14 no_document_end ∷
     at 14 15 ev.StreamEnd ∷ []) Ends
 
@@ -148,7 +148,7 @@ abbrev pub RowEmptyValues : Type 0
 RowEmptyValues = IsRun (list (
     STREAM ∷ BlockMappingStart ∷ Key ∷ SCALAR (codes "a") ∷ Value ∷ Key ∷ SCALAR (codes "b") ∷ Value ∷ Value ∷
     SCALAR (codes "c") ∷ Value ∷ BlockEnd ∷ StreamEnd ∷ [])) no_more (
-    at 0 0 stream ∷ at 2 2 document ∷ at 2 3 mapping ∷ at 6 7 (text (codes "a")) ∷ at 9 9 nothing ∷
+    at 0 0 stream ∷ at 2 2 bare_document ∷ at 2 3 mapping ∷ at 6 7 (text (codes "a")) ∷ at 9 9 nothing ∷
     at 12 13 (text (codes "b")) ∷ at 15 15 nothing ∷ at 16 16 nothing ∷ at 18 19 (text (codes "c")) ∷
     at 20 20 nothing ∷ at 21 21 nothing ∷ at 22 23 ev.MappingEnd ∷ at 24 24 no_document_end ∷ at 24 25
     ev.StreamEnd ∷ []) Ends
@@ -156,21 +156,21 @@ RowEmptyValues = IsRun (list (
 abbrev pub RowKeysWithoutValues : Type 0
 RowKeysWithoutValues = IsRun (list (
     STREAM ∷ BlockMappingStart ∷ Key ∷ SCALAR (codes "a") ∷ Key ∷ SCALAR (codes "b") ∷ BlockEnd ∷ StreamEnd ∷ [])) no_more (
-    at 0 0 stream ∷ at 2 2 document ∷ at 2 3 mapping ∷ at 6 7 (text (codes "a")) ∷ at 8 8 nothing ∷
+    at 0 0 stream ∷ at 2 2 bare_document ∷ at 2 3 mapping ∷ at 6 7 (text (codes "a")) ∷ at 8 8 nothing ∷
     at 10 11 (text (codes "b")) ∷ at 12 12 nothing ∷ at 12 13 ev.MappingEnd ∷ at 14 14 no_document_end ∷
     at 14 15 ev.StreamEnd ∷ []) Ends
 
 abbrev pub RowEntryThatBeginsWithValue : Type 0
 RowEntryThatBeginsWithValue = IsRun (list (
     STREAM ∷ BlockMappingStart ∷ Value ∷ SCALAR (codes "x") ∷ BlockEnd ∷ StreamEnd ∷ [])) no_more (
-    at 0 0 stream ∷ at 2 2 document ∷ at 2 3 mapping ∷ at 4 4 nothing ∷ at 6 7 (text (codes "x")) ∷
+    at 0 0 stream ∷ at 2 2 bare_document ∷ at 2 3 mapping ∷ at 4 4 nothing ∷ at 6 7 (text (codes "x")) ∷
     at 8 9 ev.MappingEnd ∷ at 10 10 no_document_end ∷ at 10 11 ev.StreamEnd ∷ []) Ends
 
 abbrev pub RowValueBehindValue : Type 0
 RowValueBehindValue = IsRun (list (
     STREAM ∷ BlockMappingStart ∷ Key ∷ SCALAR (codes "k") ∷ Value ∷ Value ∷ SCALAR (codes "x") ∷ Value ∷
     SCALAR (codes "y") ∷ BlockEnd ∷ StreamEnd ∷ [])) no_more (
-    at 0 0 stream ∷ at 2 2 document ∷ at 2 3 mapping ∷ at 6 7 (text (codes "k")) ∷ at 9 9 nothing ∷
+    at 0 0 stream ∷ at 2 2 bare_document ∷ at 2 3 mapping ∷ at 6 7 (text (codes "k")) ∷ at 9 9 nothing ∷
     at 10 10 nothing ∷ at 12 13 (text (codes "x")) ∷ at 14 14 nothing ∷ at 16 17 (text (codes "y")) ∷
     at 18 19 ev.MappingEnd ∷ at 20 20 no_document_end ∷ at 20 21 ev.StreamEnd ∷ []) Ends
 
@@ -179,7 +179,7 @@ RowCollectionsInMapping = IsRun (list (
     STREAM ∷ BlockMappingStart ∷ Key ∷ BlockMappingStart ∷ Value ∷ BlockEnd ∷ Value ∷ BlockSequenceStart ∷
     BlockEntry ∷ ALIAS (codes "a") ∷ BlockEnd ∷ Key ∷ FlowSequenceStart ∷ FlowSequenceEnd ∷ Value ∷
     FlowMappingStart ∷ FlowMappingEnd ∷ BlockEnd ∷ StreamEnd ∷ [])) no_more (
-    at 0 0 stream ∷ at 2 2 document ∷ at 2 3 mapping ∷ at 6 7 mapping ∷ at 8 8 nothing ∷ at 9 9 nothing ∷
+    at 0 0 stream ∷ at 2 2 bare_document ∷ at 2 3 mapping ∷ at 6 7 mapping ∷ at 8 8 nothing ∷ at 9 9 nothing ∷
     at 10 11 ev.MappingEnd ∷ at 14 15 sequence ∷ at 18 19 (alias (codes "a")) ∷ at 20 21 ev.SequenceEnd ∷
     at 24 25 flow_sequence ∷ at 26 27 ev.SequenceEnd ∷ at 30 31 flow_mapping ∷ at 32 33 ev.MappingEnd ∷
     at 34 35 ev.MappingEnd ∷ at 36 36 no_document_end ∷ at 36 37 ev.StreamEnd ∷ []) Ends
@@ -190,7 +190,7 @@ RowFlowSequence = IsRun (list (
     STREAM ∷ FlowSequenceStart ∷ SCALAR (codes "a") ∷ FlowEntry ∷ ALIAS (codes "b") ∷ FlowEntry ∷ FlowSequenceStart ∷
     FlowSequenceEnd ∷ FlowEntry ∷ FlowMappingStart ∷ FlowMappingEnd ∷ FlowEntry ∷ FlowSequenceEnd ∷ StreamEnd ∷ []))
     no_more (
-    at 0 0 stream ∷ at 2 2 document ∷ at 2 3 flow_sequence ∷ at 4 5 (text (codes "a")) ∷ at 8 9 (alias (codes "b")) ∷
+    at 0 0 stream ∷ at 2 2 bare_document ∷ at 2 3 flow_sequence ∷ at 4 5 (text (codes "a")) ∷ at 8 9 (alias (codes "b")) ∷
     at 12 13 flow_sequence ∷ at 14 15 ev.SequenceEnd ∷ at 18 19 flow_mapping ∷ at 20 21 ev.MappingEnd ∷
     at 24 25 ev.SequenceEnd ∷ at 26 26 no_document_end ∷ at 26 27 ev.StreamEnd ∷ []) Ends
 
@@ -198,7 +198,7 @@ abbrev pub RowFlowMapping : Type 0
 RowFlowMapping = IsRun (list (
     STREAM ∷ FlowMappingStart ∷ Key ∷ SCALAR (codes "a") ∷ Value ∷ SCALAR (codes "b") ∷ FlowEntry ∷
     SCALAR (codes "c") ∷ FlowMappingEnd ∷ StreamEnd ∷ [])) no_more (
-    at 0 0 stream ∷ at 2 2 document ∷ at 2 3 flow_mapping ∷ at 6 7 (text (codes "a")) ∷ at 10 11 (text (codes "b")) ∷
+    at 0 0 stream ∷ at 2 2 bare_document ∷ at 2 3 flow_mapping ∷ at 6 7 (text (codes "a")) ∷ at 10 11 (text (codes "b")) ∷
     at 14 15 (text (codes "c")) ∷ at 16 16 nothing ∷ at 16 17 ev.MappingEnd ∷ at 18 18 no_document_end ∷
     at 18 19 ev.StreamEnd ∷ []) Ends
 
@@ -206,7 +206,7 @@ abbrev pub RowNodesAloneInMapping : Type 0
 RowNodesAloneInMapping = IsRun (list (
     STREAM ∷ FlowMappingStart ∷ SCALAR (codes "a") ∷ FlowEntry ∷ FlowSequenceStart ∷ FlowSequenceEnd ∷ FlowEntry ∷
     FlowMappingEnd ∷ StreamEnd ∷ [])) no_more (
-    at 0 0 stream ∷ at 2 2 document ∷ at 2 3 flow_mapping ∷ at 4 5 (text (codes "a")) ∷ at 6 6 nothing ∷
+    at 0 0 stream ∷ at 2 2 bare_document ∷ at 2 3 flow_mapping ∷ at 4 5 (text (codes "a")) ∷ at 6 6 nothing ∷
     at 8 9 flow_sequence ∷ at 10 11 ev.SequenceEnd ∷ at 12 12 nothing ∷ at 14 15 ev.MappingEnd ∷
     at 16 16 no_document_end ∷ at 16 17 ev.StreamEnd ∷ []) Ends
 
@@ -215,7 +215,7 @@ RowPair = IsRun (list (
     STREAM ∷ FlowSequenceStart ∷ Key ∷ SCALAR (codes "a") ∷ Value ∷ SCALAR (codes "b") ∷ FlowEntry ∷ Key ∷
     FlowSequenceStart ∷ FlowSequenceEnd ∷ Value ∷ FlowMappingStart ∷ FlowMappingEnd ∷ FlowSequenceEnd ∷ StreamEnd ∷
     [])) no_more (
-    at 0 0 stream ∷ at 2 2 document ∷ at 2 3 flow_sequence ∷ at 4 5 flow_mapping ∷ at 6 7 (text (codes "a")) ∷
+    at 0 0 stream ∷ at 2 2 bare_document ∷ at 2 3 flow_sequence ∷ at 4 5 flow_mapping ∷ at 6 7 (text (codes "a")) ∷
     at 10 11 (text (codes "b")) ∷ at 12 12 ev.MappingEnd ∷ at 14 15 flow_mapping ∷ at 16 17 flow_sequence ∷
     at 18 19 ev.SequenceEnd ∷ at 22 23 flow_mapping ∷ at 24 25 ev.MappingEnd ∷ at 26 26 ev.MappingEnd ∷
     at 26 27 ev.SequenceEnd ∷ at 28 28 no_document_end ∷ at 28 29 ev.StreamEnd ∷ []) Ends
@@ -223,7 +223,7 @@ RowPair = IsRun (list (
 abbrev pub RowPairWithEmptyKey : Type 0
 RowPairWithEmptyKey = IsRun (list (
     STREAM ∷ FlowSequenceStart ∷ Key ∷ Value ∷ SCALAR (codes "x") ∷ FlowSequenceEnd ∷ StreamEnd ∷ [])) no_more (
-    at 0 0 stream ∷ at 2 2 document ∷ at 2 3 flow_sequence ∷ at 4 5 flow_mapping ∷ at 6 6 nothing ∷
+    at 0 0 stream ∷ at 2 2 bare_document ∷ at 2 3 flow_sequence ∷ at 4 5 flow_mapping ∷ at 6 6 nothing ∷
     at 8 9 (text (codes "x")) ∷ at 10 10 ev.MappingEnd ∷ at 10 11 ev.SequenceEnd ∷ at 12 12 no_document_end ∷
     at 12 13 ev.StreamEnd ∷ []) Ends
 
@@ -231,7 +231,7 @@ abbrev pub RowEmptyPairKeys : Type 0
 RowEmptyPairKeys = IsRun (list (
     STREAM ∷ FlowSequenceStart ∷ Key ∷ Value ∷ FlowEntry ∷ Key ∷ FlowEntry ∷ Key ∷ FlowSequenceEnd ∷ StreamEnd ∷
     [])) no_more (
-    at 0 0 stream ∷ at 2 2 document ∷ at 2 3 flow_sequence ∷ at 4 5 flow_mapping ∷ at 6 6 nothing ∷ at 8 8 nothing ∷
+    at 0 0 stream ∷ at 2 2 bare_document ∷ at 2 3 flow_sequence ∷ at 4 5 flow_mapping ∷ at 6 6 nothing ∷ at 8 8 nothing ∷
     at 8 8 ev.MappingEnd ∷ at 10 11 flow_mapping ∷ at 12 12 nothing ∷ at 12 12 nothing ∷ at 12 12 ev.MappingEnd ∷
     at 14 15 flow_mapping ∷ at 16 16 nothing ∷ at 16 16 nothing ∷ at 16 16 ev.MappingEnd ∷ at 16 17 ev.SequenceEnd ∷
     at 18 18 no_document_end ∷ at 18 19 ev.StreamEnd ∷ []) Ends
@@ -240,7 +240,7 @@ abbrev pub RowEmptyPairValues : Type 0
 RowEmptyPairValues = IsRun (list (
     STREAM ∷ FlowSequenceStart ∷ Key ∷ SCALAR (codes "a") ∷ Value ∷ FlowEntry ∷ Key ∷ SCALAR (codes "a") ∷ Value ∷
     FlowSequenceEnd ∷ StreamEnd ∷ [])) no_more (
-    at 0 0 stream ∷ at 2 2 document ∷ at 2 3 flow_sequence ∷ at 4 5 flow_mapping ∷ at 6 7 (text (codes "a")) ∷
+    at 0 0 stream ∷ at 2 2 bare_document ∷ at 2 3 flow_sequence ∷ at 4 5 flow_mapping ∷ at 6 7 (text (codes "a")) ∷
     at 10 10 nothing ∷ at 10 10 ev.MappingEnd ∷ at 12 13 flow_mapping ∷ at 14 15 (text (codes "a")) ∷
     at 18 18 nothing ∷ at 18 18 ev.MappingEnd ∷ at 18 19 ev.SequenceEnd ∷ at 20 20 no_document_end ∷
     at 20 21 ev.StreamEnd ∷ []) Ends
@@ -249,7 +249,7 @@ abbrev pub RowPairWithoutValue : Type 0
 RowPairWithoutValue = IsRun (list (
     STREAM ∷ FlowSequenceStart ∷ Key ∷ SCALAR (codes "a") ∷ FlowEntry ∷ Key ∷ SCALAR (codes "b") ∷ FlowSequenceEnd ∷
     StreamEnd ∷ [])) no_more (
-    at 0 0 stream ∷ at 2 2 document ∷ at 2 3 flow_sequence ∷ at 4 5 flow_mapping ∷ at 6 7 (text (codes "a")) ∷
+    at 0 0 stream ∷ at 2 2 bare_document ∷ at 2 3 flow_sequence ∷ at 4 5 flow_mapping ∷ at 6 7 (text (codes "a")) ∷
     at 8 8 nothing ∷ at 8 8 ev.MappingEnd ∷ at 10 11 flow_mapping ∷ at 12 13 (text (codes "b")) ∷ at 14 14 nothing ∷
     at 14 14 ev.MappingEnd ∷ at 14 15 ev.SequenceEnd ∷ at 16 16 no_document_end ∷ at 16 17 ev.StreamEnd ∷ []) Ends
 
@@ -257,7 +257,7 @@ abbrev pub RowNestedPairs : Type 0
 RowNestedPairs = IsRun (list (
     STREAM ∷ FlowSequenceStart ∷ Key ∷ FlowSequenceStart ∷ Key ∷ Value ∷ FlowSequenceEnd ∷ FlowSequenceEnd ∷
     StreamEnd ∷ [])) no_more (
-    at 0 0 stream ∷ at 2 2 document ∷ at 2 3 flow_sequence ∷ at 4 5 flow_mapping ∷ at 6 7 flow_sequence ∷
+    at 0 0 stream ∷ at 2 2 bare_document ∷ at 2 3 flow_sequence ∷ at 4 5 flow_mapping ∷ at 6 7 flow_sequence ∷
     at 8 9 flow_mapping ∷ at 10 10 nothing ∷ at 12 12 nothing ∷ at 12 12 ev.MappingEnd ∷ at 12 13 ev.SequenceEnd ∷
     at 14 14 nothing ∷ at 14 14 ev.MappingEnd ∷ at 14 15 ev.SequenceEnd ∷ at 16 16 no_document_end ∷
     at 16 17 ev.StreamEnd ∷ []) Ends
@@ -266,7 +266,7 @@ abbrev pub RowEmptyFlowKeys : Type 0
 RowEmptyFlowKeys = IsRun (list (
     STREAM ∷ FlowMappingStart ∷ Key ∷ Value ∷ FlowEntry ∷ Key ∷ FlowEntry ∷ Key ∷ FlowMappingEnd ∷ StreamEnd ∷ []))
     no_more (
-    at 0 0 stream ∷ at 2 2 document ∷ at 2 3 flow_mapping ∷ at 6 6 nothing ∷ at 8 8 nothing ∷ at 12 12 nothing ∷
+    at 0 0 stream ∷ at 2 2 bare_document ∷ at 2 3 flow_mapping ∷ at 6 6 nothing ∷ at 8 8 nothing ∷ at 12 12 nothing ∷
     at 12 12 nothing ∷ at 16 16 nothing ∷ at 16 16 nothing ∷ at 16 17 ev.MappingEnd ∷ at 18 18 no_document_end ∷
     at 18 19 ev.StreamEnd ∷ []) Ends
 
@@ -274,7 +274,7 @@ abbrev pub RowEmptyFlowValues : Type 0
 RowEmptyFlowValues = IsRun (list (
     STREAM ∷ FlowMappingStart ∷ Key ∷ SCALAR (codes "a") ∷ Value ∷ FlowEntry ∷ Key ∷ SCALAR (codes "a") ∷ Value ∷
     FlowMappingEnd ∷ StreamEnd ∷ [])) no_more (
-    at 0 0 stream ∷ at 2 2 document ∷ at 2 3 flow_mapping ∷ at 6 7 (text (codes "a")) ∷ at 10 10 nothing ∷
+    at 0 0 stream ∷ at 2 2 bare_document ∷ at 2 3 flow_mapping ∷ at 6 7 (text (codes "a")) ∷ at 10 10 nothing ∷
     at 14 15 (text (codes "a")) ∷ at 18 18 nothing ∷ at 18 19 ev.MappingEnd ∷ at 20 20 no_document_end ∷
     at 20 21 ev.StreamEnd ∷ []) Ends
 
@@ -282,7 +282,7 @@ abbrev pub RowFlowKeyWithoutValue : Type 0
 RowFlowKeyWithoutValue = IsRun (list (
     STREAM ∷ FlowMappingStart ∷ Key ∷ SCALAR (codes "a") ∷ FlowEntry ∷ Key ∷ SCALAR (codes "b") ∷ FlowMappingEnd ∷
     StreamEnd ∷ [])) no_more (
-    at 0 0 stream ∷ at 2 2 document ∷ at 2 3 flow_mapping ∷ at 6 7 (text (codes "a")) ∷ at 8 8 nothing ∷
+    at 0 0 stream ∷ at 2 2 bare_document ∷ at 2 3 flow_mapping ∷ at 6 7 (text (codes "a")) ∷ at 8 8 nothing ∷
     at 12 13 (text (codes "b")) ∷ at 14 14 nothing ∷ at 14 15 ev.MappingEnd ∷ at 16 16 no_document_end ∷
     at 16 17 ev.StreamEnd ∷ []) Ends
 
@@ -293,7 +293,7 @@ RowScalarStyles = IsRun (list (
     STYLED YAML_SINGLE_QUOTED_SCALAR_STYLE (codes "b") ∷ FlowEntry ∷
     STYLED YAML_DOUBLE_QUOTED_SCALAR_STYLE (codes "c") ∷ FlowEntry ∷ STYLED YAML_LITERAL_SCALAR_STYLE (codes "d") ∷
     FlowEntry ∷ STYLED YAML_FOLDED_SCALAR_STYLE (codes "e") ∷ FlowSequenceEnd ∷ StreamEnd ∷ [])) no_more (
-    at 0 0 stream ∷ at 2 2 document ∷ at 2 3 flow_sequence ∷ at 4 5 (text (codes "a")) ∷
+    at 0 0 stream ∷ at 2 2 bare_document ∷ at 2 3 flow_sequence ∷ at 4 5 (text (codes "a")) ∷
     at 8 9 (scalar None None (codes "b") false true YAML_SINGLE_QUOTED_SCALAR_STYLE) ∷
     at 12 13 (scalar None None (codes "c") false true YAML_DOUBLE_QUOTED_SCALAR_STYLE) ∷
     at 16 17 (scalar None None (codes "d") false true YAML_LITERAL_SCALAR_STYLE) ∷
@@ -304,7 +304,7 @@ abbrev pub RowTagThatIsAnExclamationMark : Type 0
 RowTagThatIsAnExclamationMark = IsRun (list (
     STREAM ∷ FlowSequenceStart ∷ TAG [] (codes "!") ∷ SCALAR (codes "a") ∷ FlowEntry ∷ TAG [] (codes "!") ∷
     STYLED YAML_DOUBLE_QUOTED_SCALAR_STYLE (codes "b") ∷ FlowSequenceEnd ∷ StreamEnd ∷ [])) no_more (
-    at 0 0 stream ∷ at 2 2 document ∷ at 2 3 flow_sequence ∷
+    at 0 0 stream ∷ at 2 2 bare_document ∷ at 2 3 flow_sequence ∷
     at 4 7 (scalar None (Some (codes "!")) (codes "a") true false YAML_PLAIN_SCALAR_STYLE) ∷
     at 10 13 (scalar None (Some (codes "!")) (codes "b") true false YAML_DOUBLE_QUOTED_SCALAR_STYLE) ∷
     at 14 15 ev.SequenceEnd ∷ at 16 16 no_document_end ∷ at 16 17 ev.StreamEnd ∷ []) Ends
@@ -313,7 +313,7 @@ abbrev pub RowEmptyTag : Type 0
 RowEmptyTag = IsRun (list (
     STREAM ∷ FlowSequenceStart ∷ TAG [] [] ∷ SCALAR (codes "a") ∷ FlowEntry ∷ TAG [] [] ∷
     STYLED YAML_DOUBLE_QUOTED_SCALAR_STYLE (codes "b") ∷ FlowSequenceEnd ∷ StreamEnd ∷ [])) no_more (
-    at 0 0 stream ∷ at 2 2 document ∷ at 2 3 flow_sequence ∷
+    at 0 0 stream ∷ at 2 2 bare_document ∷ at 2 3 flow_sequence ∷
     at 4 7 (scalar None (Some []) (codes "a") false false YAML_PLAIN_SCALAR_STYLE) ∷
     at 10 13 (scalar None (Some []) (codes "b") false false YAML_DOUBLE_QUOTED_SCALAR_STYLE) ∷
     at 14 15 ev.SequenceEnd ∷ at 16 16 no_document_end ∷ at 16 17 ev.StreamEnd ∷ []) Ends
@@ -322,7 +322,7 @@ abbrev pub RowOtherTag : Type 0
 RowOtherTag = IsRun (list (
     STREAM ∷ FlowSequenceStart ∷ TAG [] (codes "t") ∷ SCALAR (codes "a") ∷ FlowEntry ∷ TAG [] (codes "t") ∷
     STYLED YAML_DOUBLE_QUOTED_SCALAR_STYLE (codes "b") ∷ FlowSequenceEnd ∷ StreamEnd ∷ [])) no_more (
-    at 0 0 stream ∷ at 2 2 document ∷ at 2 3 flow_sequence ∷
+    at 0 0 stream ∷ at 2 2 bare_document ∷ at 2 3 flow_sequence ∷
     at 4 7 (scalar None (Some (codes "t")) (codes "a") false false YAML_PLAIN_SCALAR_STYLE) ∷
     at 10 13 (scalar None (Some (codes "t")) (codes "b") false false YAML_DOUBLE_QUOTED_SCALAR_STYLE) ∷
     at 14 15 ev.SequenceEnd ∷ at 16 16 no_document_end ∷ at 16 17 ev.StreamEnd ∷ []) Ends
@@ -332,7 +332,7 @@ RowPropertiesAlone = IsRun (list (
     STREAM ∷ FlowSequenceStart ∷ ANCHOR (codes "a") ∷ FlowEntry ∷ TAG [] (codes "!") ∷ FlowEntry ∷ TAG [] [] ∷
     FlowEntry ∷ TAG (codes "!!") (codes "int") ∷ FlowEntry ∷ ANCHOR (codes "a") ∷ TAG (codes "!") (codes "x") ∷
     FlowEntry ∷ TAG [] (codes "t") ∷ ANCHOR (codes "b") ∷ FlowSequenceEnd ∷ StreamEnd ∷ [])) no_more (
-    at 0 0 stream ∷ at 2 2 document ∷ at 2 3 flow_sequence ∷
+    at 0 0 stream ∷ at 2 2 bare_document ∷ at 2 3 flow_sequence ∷
     at 4 5 (scalar (Some (codes "a")) None [] true false YAML_PLAIN_SCALAR_STYLE) ∷
     at 8 9 (scalar None (Some (codes "!")) [] false false YAML_PLAIN_SCALAR_STYLE) ∷
     at 12 13 (scalar None (Some []) [] true false YAML_PLAIN_SCALAR_STYLE) ∷
@@ -349,7 +349,7 @@ RowPropertiesBeforeContent = IsRun (list (
     BlockMappingStart ∷ BlockEnd ∷ BlockEntry ∷ ANCHOR (codes "d") ∷ TAG [] (codes "u") ∷ FlowSequenceStart ∷
     FlowSequenceEnd ∷ BlockEntry ∷ TAG []
     (codes "v") ∷ FlowMappingStart ∷ FlowMappingEnd ∷ BlockEnd ∷ StreamEnd ∷ [])) no_more (
-    at 0 0 stream ∷ at 2 2 document ∷ at 2 3 sequence ∷
+    at 0 0 stream ∷ at 2 2 bare_document ∷ at 2 3 sequence ∷
     at 6 11 (scalar (Some (codes "a")) (Some (codes "t")) (codes "a") false false YAML_PLAIN_SCALAR_STYLE) ∷
     at 14 19 (scalar (Some (codes "b")) (Some (codes "t")) (codes "b") false false YAML_LITERAL_SCALAR_STYLE) ∷
     at 22 25 (sequence_of (Some (codes "c")) None true) ∷ at 26 27 ev.SequenceEnd ∷
@@ -364,14 +364,14 @@ RowRootsWithoutDocumentStart = IsRun (list (
     BlockMappingStart ∷ BlockEnd ∷ DocumentEnd ∷ ANCHOR (codes "b") ∷ BlockSequenceStart ∷ BlockEnd ∷ DocumentEnd ∷
     ANCHOR (codes "c") ∷ SCALAR (codes "x") ∷ DocumentEnd ∷ ALIAS (codes "d") ∷ DocumentEnd ∷ TAG [] (codes "u") ∷
     StreamEnd ∷ [])) no_more (
-    at 0 0 stream ∷ at 2 2 document ∷ at 2 5 (flow_sequence_of (Some (codes "a")) None true) ∷
-    at 6 7 ev.SequenceEnd ∷ at 8 9 document_end ∷ at 10 10 document ∷
-    at 10 13 (mapping_of None (Some (codes "t")) false) ∷ at 14 15 ev.MappingEnd ∷ at 16 17 document_end ∷
-    at 18 18 document ∷ at 18 21 (sequence_of (Some (codes "b")) None true) ∷ at 22 23 ev.SequenceEnd ∷
-    at 24 25 document_end ∷ at 26 26 document ∷
+    at 0 0 stream ∷ at 2 2 bare_document ∷ at 2 5 (flow_sequence_of (Some (codes "a")) None true) ∷
+    at 6 7 ev.SequenceEnd ∷ at 8 9 explicit_end ∷ at 10 10 bare_document ∷
+    at 10 13 (mapping_of None (Some (codes "t")) false) ∷ at 14 15 ev.MappingEnd ∷ at 16 17 explicit_end ∷
+    at 18 18 bare_document ∷ at 18 21 (sequence_of (Some (codes "b")) None true) ∷ at 22 23 ev.SequenceEnd ∷
+    at 24 25 explicit_end ∷ at 26 26 bare_document ∷
     at 26 29 (scalar (Some (codes "c")) None (codes "x") true false YAML_PLAIN_SCALAR_STYLE) ∷
-    at 30 31 document_end ∷ at 32 32 document ∷ at 32 33 (alias (codes "d")) ∷ at 34 35 document_end ∷
-    at 36 36 document ∷ at 36 37 (scalar None (Some (codes "u")) [] false false YAML_PLAIN_SCALAR_STYLE) ∷
+    at 30 31 explicit_end ∷ at 32 32 bare_document ∷ at 32 33 (alias (codes "d")) ∷ at 34 35 explicit_end ∷
+    at 36 36 bare_document ∷ at 36 37 (scalar None (Some (codes "u")) [] false false YAML_PLAIN_SCALAR_STYLE) ∷
     at 38 38 no_document_end ∷ at 38 39 ev.StreamEnd ∷ []) Ends
 
 abbrev pub RowCollectionFlags : Type 0
@@ -380,7 +380,7 @@ RowCollectionFlags = IsRun (list (
     FlowSequenceEnd ∷ FlowEntry ∷ TAG [] (codes "!") ∷ FlowSequenceStart ∷ FlowSequenceEnd ∷ FlowEntry ∷
     FlowMappingStart ∷ FlowMappingEnd ∷ FlowEntry ∷ TAG [] [] ∷ FlowMappingStart ∷ FlowMappingEnd ∷ FlowEntry ∷
     TAG (codes "!!") (codes "map") ∷ FlowMappingStart ∷ FlowMappingEnd ∷ FlowSequenceEnd ∷ StreamEnd ∷ [])) no_more (
-    at 0 0 stream ∷ at 2 2 document ∷ at 2 3 flow_sequence ∷ at 4 5 flow_sequence ∷ at 6 7 ev.SequenceEnd ∷
+    at 0 0 stream ∷ at 2 2 bare_document ∷ at 2 3 flow_sequence ∷ at 4 5 flow_sequence ∷ at 6 7 ev.SequenceEnd ∷
     at 10 13 (flow_sequence_of None (Some []) true) ∷ at 14 15 ev.SequenceEnd ∷
     at 18 21 (flow_sequence_of None (Some (codes "!")) false) ∷ at 22 23 ev.SequenceEnd ∷ at 26 27 flow_mapping ∷
     at 28 29 ev.MappingEnd ∷ at 32 35 (flow_mapping_of None (Some []) true) ∷ at 36 37 ev.MappingEnd ∷
@@ -391,7 +391,7 @@ abbrev pub RowDefaultHandles : Type 0
 RowDefaultHandles = IsRun (list (
     STREAM ∷ FlowSequenceStart ∷ TAG (codes "!") (codes "x") ∷ FlowEntry ∷ TAG (codes "!!") (codes "y") ∷ FlowEntry ∷
     TAG [] (codes "z") ∷ FlowSequenceEnd ∷ StreamEnd ∷ [])) no_more (
-    at 0 0 stream ∷ at 2 2 document ∷ at 2 3 flow_sequence ∷
+    at 0 0 stream ∷ at 2 2 bare_document ∷ at 2 3 flow_sequence ∷
     at 4 5 (scalar None (Some (codes "!x")) [] false false YAML_PLAIN_SCALAR_STYLE) ∷
     at 8 9 (scalar None (Some (codes "tag:yaml.org,2002:y")) [] false false YAML_PLAIN_SCALAR_STYLE) ∷
     at 12 13 (scalar None (Some (codes "z")) [] false false YAML_PLAIN_SCALAR_STYLE) ∷ at 14 15 ev.SequenceEnd ∷
@@ -405,7 +405,7 @@ RowRedeclaredHandles = IsRun (list (
     TAG (codes "!!") (codes "x") ∷ SCALAR (codes "a") ∷ BlockEntry ∷ TAG (codes "!") (codes "y") ∷
     SCALAR (codes "b") ∷ BlockEnd ∷ StreamEnd ∷ [])) no_more (
     at 0 0 stream ∷
-    at 2 7 (headed_document None (declares (codes "!") (codes "q:") ∷ declares (codes "!!") (codes "p:") ∷ [])) ∷
+    at 2 7 (headed_document None (declaring (codes "!") (codes "q:") ∷ declaring (codes "!!") (codes "p:") ∷ [])) ∷
     at 8 9 sequence ∷ at 12 15 (scalar None (Some (codes "p:x")) (codes "a") false false YAML_PLAIN_SCALAR_STYLE) ∷
     at 18 21 (scalar None (Some (codes "q:y")) (codes "b") false false YAML_PLAIN_SCALAR_STYLE) ∷
     at 22 23 ev.SequenceEnd ∷ at 24 24 no_document_end ∷ at 24 25 (headed_document None []) ∷ at 26 27 sequence ∷
@@ -420,7 +420,7 @@ RowHandlesWithZeroBytes = IsRun (list (
     TAG (33 ∷ 0 ∷ 97 ∷ 33 ∷ []) (codes "y") ∷ BlockEnd ∷ StreamEnd ∷ [])) no_more (
     at 0 0 stream ∷
     at 2 7 (headed_document None
-    (declares (33 ∷ 0 ∷ 97 ∷ 33 ∷ []) (codes "p:") ∷ declares (33 ∷ 0 ∷ 98 ∷ 33 ∷ []) (codes "q:") ∷ [])) ∷
+    (declaring (33 ∷ 0 ∷ 97 ∷ 33 ∷ []) (codes "p:") ∷ declaring (33 ∷ 0 ∷ 98 ∷ 33 ∷ []) (codes "q:") ∷ [])) ∷
     at 8 9 sequence ∷ at 12 13 (scalar None (Some (codes "q:x")) [] false false YAML_PLAIN_SCALAR_STYLE) ∷
     at 16 17 (scalar None (Some (codes "p:y")) [] false false YAML_PLAIN_SCALAR_STYLE) ∷ at 18 19 ev.SequenceEnd ∷
     at 20 20 no_document_end ∷ at 20 21 ev.StreamEnd ∷ []) Ends

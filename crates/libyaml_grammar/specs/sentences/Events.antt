@@ -276,9 +276,9 @@ before_part ps key m r = missing_value ps m r
 before_part ps value m r = missing_key ps m r
 
 -- the first BLOCK-ENTRY of a sequence without tokens of its own, where m is the last
-abbrev pub first_entry : BlockItems → Marks → Marks
-first_entry empty m = m
-first_entry (item is e n) m = first_entry is e
+abbrev pub first_block_entry : BlockItems → Marks → Marks
+first_block_entry empty m = m
+first_block_entry (item is e n) m = first_block_entry is e
 
 abbrev mutual
   pub block_node_events : Directives → BlockNode → List Event → List Event
@@ -298,7 +298,7 @@ abbrev mutual
 
   pub slot_events : Directives → Slot → Mark → Mark → List Event → List Event
   slot_events ds (slot_of n) e m r = block_slot_events ds n e r
-  slot_events ds (indentless o is s n) e m r = start_of ds sequence block_layout o (first_entry is s)
+  slot_events ds (indentless o is s n) e m r = start_of ds sequence block_layout o (first_block_entry is s)
       ∷ items_events ds is (block_slot_events ds n s.end (end_at sequence m m ∷ r))
 
   pub parts_events : Directives → Parts → Mark → List Event → List Event

@@ -18,13 +18,13 @@ use Rattle.libyaml_grammar.specs.sentences.Trees.{Sort, mapping, sequence}
 use Rattle.libyaml_documents.specs.Nodes.{EveryIdNamesANode, IsIdUpTo, ids_of, ids_of_pairs}
 use Rattle.libyaml_documents.specs.declared.node.yaml_node_t.{yaml_node_t}
 use Rattle.libyaml_graphs.specs.graphs.ComposerFaults.{alias_fault, anchor_fault, composer_fault, heads, or_else}
-use Rattle.libyaml_graphs.specs.graphs.ComposerFaults.{part_fault}
+use Rattle.libyaml_graphs.specs.graphs.ComposerFaults.{composer_part_fault}
 use Rattle.libyaml_graphs.specs.loads.GraphLaws.{AllHoldTheirChildren, AllLater, ChildrenAreLater, EachHoldsItsChildren}
 use Rattle.libyaml_graphs.specs.loads.GraphLaws.{EachIsLater, HoldsItsChildren, IsLater}
 use Rattle.libyaml_graphs.specs.graphs.Graphs.{Carrier, Start, carrier, carries, collection_loaded, id_of, id_or}
 use Rattle.libyaml_graphs.specs.graphs.Graphs.{ids_of_all, items, nodes_of, nodes_of_all, pairs}
 use Rattle.libyaml_graphs.specs.graphs.Graphs.{starts_behind, starts_behind_all}
-use Rattle.libyaml_graphs.specs.graphs.GraphParts.{Part, alias_part, end_part, leaf_part, parts, start_of, start_part}
+use Rattle.libyaml_graphs.specs.graphs.GraphParts.{Part, alias_part, end_part, leaf_part, parts, carrier_start, start_part}
 
 one_more : (n : ℕ) → n ≤ suc n
 one_more n = le_of_lt (lt-suc_self n)
@@ -261,8 +261,8 @@ texts_later (text_behind ts d m n v i p q) = (texts_later ts, children_later v [
 -- the ends of collections have no composer error
 pub fault_of_heads : (P : List Part) (es : List Start) → composer_fault es P ≡ composer_fault es (heads P)
 fault_of_heads [] es = refl
-fault_of_heads (alias_part a m ∷ P) es = ap (or_else (part_fault es (alias_part a m))) (fault_of_heads P es)
-fault_of_heads (leaf_part a x ∷ P) es = ap (or_else (part_fault es (leaf_part a x))) (fault_of_heads P (start_of a x ∷ es))
-fault_of_heads (start_part a x ∷ P) es = ap (or_else (part_fault es (start_part a x)))
-    (fault_of_heads P (start_of a x ∷ es))
+fault_of_heads (alias_part a m ∷ P) es = ap (or_else (composer_part_fault es (alias_part a m))) (fault_of_heads P es)
+fault_of_heads (leaf_part a x ∷ P) es = ap (or_else (composer_part_fault es (leaf_part a x))) (fault_of_heads P (carrier_start a x ∷ es))
+fault_of_heads (start_part a x ∷ P) es = ap (or_else (composer_part_fault es (start_part a x)))
+    (fault_of_heads P (carrier_start a x ∷ es))
 fault_of_heads (end_part n ∷ P) es = fault_of_heads P es

@@ -14,11 +14,11 @@ use Rattle.libyaml_documents.specs.declared.node.unnamed_yaml_node_t_data.TheVar
 use Rattle.libyaml_graphs.specs.graphs.Graphs.{Start, carrier, id_or, items, pairs}
 use Rattle.libyaml_graphs.specs.graphs.GraphParts.{Closing, Opening, Part, alias_part, children, closing_of, end_part}
 use Rattle.libyaml_graphs.specs.graphs.GraphParts.{graph, if_outer, leaf_part}
-use Rattle.libyaml_graphs.specs.graphs.GraphParts.{opening_of, part_in, part_of, parts, start_of, start_part}
+use Rattle.libyaml_graphs.specs.graphs.GraphParts.{opening_of, part_in, part_of, parts, carrier_start, start_part}
 use Rattle.libyaml_graphs.specs.graphs.GraphParts.{with_children, with_part}
 use Rattle.libyaml_graphs.specs.loads.Linear.{documents_size, size, total_size}
-use Rattle.libyaml_graphs.specs.loads.Loads.{Begun, Load, Stop, answer, behind_document, document, next_by, begun}
-use Rattle.libyaml_graphs.specs.loads.Loads.{begun_behind, document_end, last_load, load_then, loads_by}
+use Rattle.libyaml_graphs.specs.loads.Loads.{Begun, Load, Stop, load_answer, behind_document, document, next_by, begun}
+use Rattle.libyaml_graphs.specs.loads.Loads.{begun_behind, end_of_document, last_load, load_then, loads_by}
 
 -- a leaf has no children
 abbrev pub Bare : List Part → Type 0
@@ -80,14 +80,14 @@ linear k es (alias_part a m ∷ r) b =
     let h = outer_more k es (id_or (carrier a es)) es r (alias_part a m) (λ d. refl) in
     omega arith
 linear k es (leaf_part a x ∷ r) b =
-    let ih = linear k (start_of a x ∷ es) r b.1 in
-    let h = outer_more k es (suc (length es)) (start_of a x ∷ es) r (leaf_part a x) (λ d. refl) in
+    let ih = linear k (carrier_start a x ∷ es) r b.1 in
+    let h = outer_more k es (suc (length es)) (carrier_start a x ∷ es) r (leaf_part a x) (λ d. refl) in
     let z = b.0 in
     omega arith
 linear k es (start_part a x ∷ r) b =
-    let ih = linear (suc k) (start_of a x ∷ es) r b in
-    let h = outer_start k es (suc (length es)) (start_of a x ∷ es) r (start_part a x) (λ d. refl) in
-    let z = held (children 0 (start_of a x ∷ es) r) x.content in
+    let ih = linear (suc k) (carrier_start a x ∷ es) r b in
+    let h = outer_start k es (suc (length es)) (carrier_start a x ∷ es) r (start_part a x) (λ d. refl) in
+    let z = held (children 0 (carrier_start a x ∷ es) r) x.content in
     omega arith
 linear zero es (end_part n ∷ r) b = let ih = linear zero es r b in omega arith
 linear (suc k) es (end_part n ∷ r) b =
@@ -164,7 +164,7 @@ mutual
 loads_extent : (stop : Stop) (x : Ending) (bs : List Begun) → total_size (loads_by stop x bs) ≤ extent bs
 loads_extent stop Ends [] = omega arith
 loads_extent stop (Fails f) [] = omega arith
-loads_extent stop x (b ∷ bs) = go x (stop (parts b.rest)) (document_end b.rest) (loads_extent stop x bs)
+loads_extent stop x (b ∷ bs) = go x (stop (parts b.rest)) (end_of_document b.rest) (loads_extent stop x bs)
   where
     go : (y : Ending) (o : Option Fault) (c : Option Closing) → total_size (loads_by stop x bs) ≤ extent bs
         → total_size (load_then o c b.opening (graph [] (parts b.rest)) (last_load y) (loads_by stop x bs)) ≤ size
@@ -205,9 +205,9 @@ next_linear stop e x d h = let i = begun_extent e in let j = one (begun e) h in 
 
     one : (bs : List Begun) → next_by stop x bs ≡ Ok d → size d.nodes ≤ extent bs
     one [] k = ending x k
-    one (b ∷ bs) k = go (stop (parts b.rest)) (document_end b.rest) k
+    one (b ∷ bs) k = go (stop (parts b.rest)) (end_of_document b.rest) k
       where
-        go : (o : Option Fault) (c : Option Closing) → answer o c b.opening (graph [] (parts b.rest)) (last_load x) ≡ Ok d
+        go : (o : Option Fault) (c : Option Closing) → load_answer o c b.opening (graph [] (parts b.rest)) (last_load x) ≡ Ok d
             → size d.nodes ≤ size (graph [] (parts b.rest)) + extent bs
         go (Some f) c k = absurd cc
         go None (Some c) k = let i = same (document b.opening (graph [] (parts b.rest)) c) k in omega arith

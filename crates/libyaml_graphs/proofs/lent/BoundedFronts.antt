@@ -7,9 +7,9 @@ use Rattle.libyaml_grammar.specs.runs.Runs.{Ending}
 use Rattle.libyaml_grammar.specs.sentences.Events.{Event}
 use Rattle.libyaml_graphs.specs.loads.Bounds.{NoneLacksMemory, bounded_loads, first_stop, if_above, if_wrong}
 use Rattle.libyaml_graphs.specs.loads.Bounds.{list_sizes, one_above}
-use Rattle.libyaml_graphs.specs.graphs.ComposerFaults.{composer_fault, or_else, part_fault}
+use Rattle.libyaml_graphs.specs.graphs.ComposerFaults.{composer_fault, or_else, composer_part_fault}
 use Rattle.libyaml_graphs.specs.graphs.Graphs.{Start}
-use Rattle.libyaml_graphs.specs.loads.Loads.{Begun, Load, begun, document, document_end, last_load, load_then, loads}
+use Rattle.libyaml_graphs.specs.loads.Loads.{Begun, Load, begun, document, end_of_document, last_load, load_then, loads}
 use Rattle.libyaml_graphs.specs.loads.Loads.{loads_by}
 use Rattle.libyaml_graphs.specs.graphs.GraphParts.{Closing, Part, behind, graph, parts}
 use Rattle.libyaml_graphs.proofs.loads.Room.{bound_exact}
@@ -38,7 +38,7 @@ stops : (P : List Part) (es : List Start) (F : List Part) (n : ℕ) (f : Fault) 
     ⊎ (composer_fault es P ≡ Some f)
 stops [] es F n f e = absurd cc
 stops (p ∷ P) es F n f e =
-    stop_or (nat_lt n (length (behind p es))) (one_above n (list_sizes [] (F ++ p ∷ []))) (part_fault es p)
+    stop_or (nat_lt n (length (behind p es))) (one_above n (list_sizes [] (F ++ p ∷ []))) (composer_part_fault es p)
     (first_stop n (behind p es) (F ++ p ∷ []) P)
     (composer_fault (behind p es) P) f (stops P (behind p es) (F ++ p ∷ []) n f) e
 
@@ -76,7 +76,7 @@ text_front n b x c None e l m later
 front_of : (bs : List Begun) (x : Ending) (n : ℕ)
     → IsFront (loads_by (first_stop n [] []) x bs) (loads_by (composer_fault []) x bs)
 front_of [] x n = same refl
-front_of (b ∷ bs) x n = text_front n b x (document_end b.rest) (first_stop n [] [] (parts b.rest)) refl _ _
+front_of (b ∷ bs) x n = text_front n b x (end_of_document b.rest) (first_stop n [] [] (parts b.rest)) refl _ _
     (front_of bs x n)
 
 pub front_of_loads : (r : List Event) (x : Ending) (n : ℕ) → IsFront (bounded_loads n r x) (loads r x)

@@ -7,13 +7,13 @@ use Rattle.libyaml_types.specs.Fault.{Fault}
 use Rattle.libyaml_grammar.specs.runs.Runs.{Ending}
 use Rattle.libyaml_documents.specs.declared.node.yaml_node_t.{yaml_node_t}
 use Rattle.libyaml_graphs.specs.loads.Bounds.{first_stop, if_above, if_wrong, list_sizes, next_bounded, one_above, stop_at}
-use Rattle.libyaml_graphs.specs.graphs.ComposerFaults.{part_fault}
+use Rattle.libyaml_graphs.specs.graphs.ComposerFaults.{composer_part_fault}
 use Rattle.libyaml_graphs.specs.graphs.Graphs.{Start}
 use Rattle.libyaml_graphs.specs.machine.Loader.{Anchors, Loader, Loading, between, bounded_option, bounded_part, failed}
 use Rattle.libyaml_graphs.specs.machine.Loader.{fresh, going, if_child_fits}
 use Rattle.libyaml_graphs.specs.machine.Loader.{if_going, list_full, load_from, load_part, no_anchors, nodes_full}
 use Rattle.libyaml_graphs.specs.machine.Loader.{unless_full, within}
-use Rattle.libyaml_graphs.specs.loads.Loads.{Load, answer, begun, begun_behind, document, document_end, last_load, next_by}
+use Rattle.libyaml_graphs.specs.loads.Loads.{Load, load_answer, begun, begun_behind, document, end_of_document, last_load, next_by}
 use Rattle.libyaml_graphs.specs.graphs.GraphParts.{Closing, Opening, Part, alias_part, behind, closing_of, end_part}
 use Rattle.libyaml_graphs.specs.graphs.GraphParts.{graph, leaf_part, opening_of, part_of, parts}
 use Rattle.libyaml_graphs.specs.graphs.GraphParts.{start_part, with_part}
@@ -93,9 +93,9 @@ step n p es F b xs w N K X e s h ih =
         ∙ graph_sizes (F ++ p ∷ []) [] n (all_begin_more F p s.all_begin e)
 
     second : (u : Loading) → nat_lt n (length (behind p es)) ≡ false
-        → Follows u (part_fault es p) (behind p es) (build es p b)
+        → Follows u (composer_part_fault es p) (behind p es) (build es p b)
         → if_going w.of_fault (if_child_fits (list_full n (loader_of b xs) p) u) K
-        ≡ settled w (if_wrong (part_fault es p) (if_above (one_above n (list_sizes [] (F ++ p ∷ []))) X)) N
+        ≡ settled w (if_wrong (composer_part_fault es p) (if_above (one_above n (list_sizes [] (F ++ p ∷ []))) X)) N
     second (failed f) m y = ap (λ (x : Option Fault). settled w
         (if_wrong x (if_above (one_above n (list_sizes [] (F ++ p ∷ []))) X)) N) (sym y)
     second (going k) m y =
@@ -110,7 +110,7 @@ step n p es F b xs w N K X e s h ih =
     if_room : (c : Bool) → nat_lt n (length (behind p es)) ≡ c
         → if_going w.of_fault (unless_full c
         (if_child_fits (list_full n (loader_of b xs) p) (load_part (loader_of b xs) p))) K
-        ≡ settled w (if_above c (if_wrong (part_fault es p) (if_above (one_above n (list_sizes [] (F ++ p ∷ []))) X))) N
+        ≡ settled w (if_above c (if_wrong (composer_part_fault es p) (if_above (one_above n (list_sizes [] (F ++ p ∷ []))) X))) N
     if_room true q = refl
     if_room false q = second (load_part (loader_of b xs) p) q (part_follows p es b xs s.stands h)
 
@@ -119,7 +119,7 @@ abbrev one_answer : Option Closing → Opening → Ending → Answering Load
 one_answer c o x = record {
   of_fault = λ (f : Fault). Err f;
   of_nodes =
-      λ (nodes : List yaml_node_t). answer None c o nodes (last_load x);
+      λ (nodes : List yaml_node_t). load_answer None c o nodes (last_load x);
 }
 
 abbrev one_bounded : ℕ → Option Closing → Opening → Ending → List Start → List Part → List Part → Load
@@ -129,20 +129,20 @@ one_event : (n : ℕ) (e : Event) (r : List Event) (es : List Start) (F : List P
     (xs : Anchors) (x : Ending) → Within n es F b
     → Agrees es xs
     → ((fs : List Start) (G : List Part) (c : Built) (ys : Anchors) → Within n fs G c → Agrees fs ys
-    → load_from n (within o (loader_of c ys)) r x ≡ one_bounded n (document_end r) o x fs G (parts r))
-    → load_from n (within o (loader_of b xs)) (e ∷ r) x ≡ one_bounded n (document_end (e ∷ r)) o x es F (parts (e ∷ r))
+    → load_from n (within o (loader_of c ys)) r x ≡ one_bounded n (end_of_document r) o x fs G (parts r))
+    → load_from n (within o (loader_of b xs)) (e ∷ r) x ≡ one_bounded n (end_of_document (e ∷ r)) o x es F (parts (e ∷ r))
 one_event n e r es F o b xs x s h ih = go (closing_of e) (part_of e) (begins_empty e.content e.start_mark e.end_mark)
   where
     part_or : (q : Option Part) → IfBeginsEmpty q
         → if_going (λ (f : Fault). Err f) (bounded_option n (loader_of b xs) q)
         (λ (k : Loader). load_from n (within o k) r x)
-        ≡ one_bounded n (document_end r) o x es F (with_part q (parts r))
+        ≡ one_bounded n (end_of_document r) o x es F (with_part q (parts r))
     part_or None u = ih es F b xs s h
-    part_or (Some p) u = step n p es F b xs (one_answer (document_end r) o x) (graph [] (F ++ p ∷ parts r))
+    part_or (Some p) u = step n p es F b xs (one_answer (end_of_document r) o x) (graph [] (F ++ p ∷ parts r))
         (λ (k : Loader). load_from n (within o k) r x)
         (first_stop n (behind p es) (F ++ p ∷ []) (parts r)) u s h
         (λ ys t a. ih (behind p es) (F ++ p ∷ []) (build es p b) ys t a
-        ∙ ap (λ (Q : List Part). settled (one_answer (document_end r) o x)
+        ∙ ap (λ (Q : List Part). settled (one_answer (end_of_document r) o x)
         (first_stop n (behind p es) (F ++ p ∷ []) (parts r)) (graph [] Q))
         (append_assoc F (p ∷ []) (parts r)))
 
@@ -152,7 +152,7 @@ one_event n e r es F o b xs x s h ih = go (closing_of e) (part_of e) (begins_emp
           | None ↦ if_going (λ (f : Fault). Err f) (bounded_option n (loader_of b xs) q)
               (λ (k : Loader). load_from n (within o k) r x)
         ]
-        ≡ one_bounded n (elim c [ Some d ↦ Some d | None ↦ document_end r ]) o x es F
+        ≡ one_bounded n (elim c [ Some d ↦ Some d | None ↦ end_of_document r ]) o x es F
         (elim c [ Some d ↦ [] | None ↦ with_part q (parts r) ])
     go (Some d) q u = ap (λ (nodes : List yaml_node_t). Ok (document o nodes d))
         (nodes_so_far n es F b s ∙ ap (graph []) (sym (append-nil F)))
@@ -160,7 +160,7 @@ one_event n e r es F o b xs x s h ih = go (closing_of e) (part_of e) (begins_emp
 
 one_within : (r : List Event) (n : ℕ) (es : List Start) (F : List Part) (o : Opening) (b : Built) (xs : Anchors)
     (x : Ending) → Within n es F b → Agrees es xs
-    → load_from n (within o (loader_of b xs)) r x ≡ one_bounded n (document_end r) o x es F (parts r)
+    → load_from n (within o (loader_of b xs)) r x ≡ one_bounded n (end_of_document r) o x es F (parts r)
 one_within [] n es F o b xs x s h = refl
 one_within (e ∷ r) n es F o b xs x s h
     = one_event n e r es F o b xs x s h
@@ -168,7 +168,7 @@ one_within (e ∷ r) n es F o b xs x s h
     one_within r n fs G o c ys x t a)
 
 then_one : (f : Option Fault) (c : Option Closing) (o : Opening) (nodes : List yaml_node_t) (x : Ending)
-    → settled (one_answer c o x) f nodes ≡ answer f c o nodes (last_load x)
+    → settled (one_answer c o x) f nodes ≡ load_answer f c o nodes (last_load x)
 then_one (Some f) c o nodes x = refl
 then_one None c o nodes x = refl
 
@@ -182,4 +182,4 @@ one_load (e ∷ r) x n = go (opening_of e) (one_load r x n)
         (elim c [ None ↦ begun r | Some o ↦ record { opening = o; rest = r } ∷ begun_behind r ]))
     go None h = h
     go (Some o) h = one_within r n [] [] o unbuilt no_anchors x (within_unbuilt n) none_known
-        ∙ then_one (first_stop n [] [] (parts r)) (document_end r) o (graph [] (parts r)) x
+        ∙ then_one (first_stop n [] [] (parts r)) (end_of_document r) o (graph [] (parts r)) x

@@ -14,7 +14,7 @@ use Rattle.libyaml_documents.specs.Nodes.{with_changed, with_item, with_pair}
 use Rattle.libyaml_documents.specs.declared.node.unnamed_yaml_node_t_data.{unnamed_yaml_node_t_data}
 use Rattle.libyaml_documents.specs.declared.node.unnamed_yaml_node_t_data.TheVariants.{Scalar, Sequence, Mapping}
 use Rattle.libyaml_documents.specs.declared.node.yaml_node_t.{yaml_node_t}
-use Rattle.libyaml_graphs.specs.machine.Loader.{Loader, Open, State, between, bounded_option, content_full}
+use Rattle.libyaml_graphs.specs.machine.Loader.{Loader, OpenNode, State, between, bounded_option, content_full}
 use Rattle.libyaml_graphs.specs.machine.Loader.{content_with, fresh, hand, handed, if_going}
 use Rattle.libyaml_graphs.specs.machine.Loader.{key_after, key_behind, left_from, load_from, node_full, parent_full}
 use Rattle.libyaml_graphs.specs.machine.Loader.{with_child, within}
@@ -69,7 +69,7 @@ goes_on_left o l k e r h = ap (λ (d : Option Closing). elim d [ Some y ↦ r | 
 
 -- A child i handed to the innermost open collection: the nodes and the stack after it, and whether the parent's
 -- list was full.
-pub record Hands (n : ℕ) (i : ℤ) (s : List Open) (nodes new_nodes : List yaml_node_t) (new_stack : List Open)
+pub record Hands (n : ℕ) (i : ℤ) (s : List OpenNode) (nodes new_nodes : List yaml_node_t) (new_stack : List OpenNode)
     (full : Bool) : Type 0 where
   pub nodes_are : new_nodes ≡ hand i s nodes
   pub stack_is : new_stack ≡ handed i s nodes
@@ -100,7 +100,7 @@ changed_alike (pos zero) f g nodes e = refl
 changed_alike (pos (suc p)) f g nodes e = alike p f g nodes e
 
 -- what holds of the content of every node of the parent's type holds of the parent
-by_type : (n : ℕ) (i z : ℤ) (old new : Option ℤ) (s : List Open) (nodes : List yaml_node_t)
+by_type : (n : ℕ) (i z : ℤ) (old new : Option ℤ) (s : List OpenNode) (nodes : List yaml_node_t)
     (f : unnamed_yaml_node_t_data → unnamed_yaml_node_t_data)
     (full : ℕ → Bool) (t : yaml_node_type_t) → (YAML_NO_NODE ≡ t → ⊥)
     → ((c : unnamed_yaml_node_t_data) → node_type c ≡ t → Takes n old new i f full c)
@@ -133,12 +133,12 @@ unchanged (pos (suc p)) nodes = go p nodes
     go zero (x ∷ xs) = refl
     go (suc p) (x ∷ xs) = ap (λ (l : List yaml_node_t). x ∷ l) (go p xs)
 
-same_nodes : (n : ℕ) (i z : ℤ) (s t : List Open) (nodes : List yaml_node_t) (full : Bool)
+same_nodes : (n : ℕ) (i z : ℤ) (s t : List OpenNode) (nodes : List yaml_node_t) (full : Bool)
     → Hands n i s nodes (with_changed z (λ (x : yaml_node_t). x) nodes) t full → Hands n i s nodes nodes t full
 same_nodes n i z s t nodes full h = subst (λ (l : List yaml_node_t). Hands n i s nodes l t full) (unchanged z nodes) h
 
 -- by the parent's type: an item, a key that waits, the value of a key, or nothing
-pub hands_item : (n : ℕ) (i : ℤ) (o : Open) (s : List Open) (nodes : List yaml_node_t)
+pub hands_item : (n : ℕ) (i : ℤ) (o : OpenNode) (s : List OpenNode) (nodes : List yaml_node_t)
     → type_at nodes o.node ≡ YAML_SEQUENCE_NODE
     → Hands n i (o ∷ s) nodes (with_changed o.node (with_item i) nodes) (o ∷ s) (nat_lt n (suc (children_at nodes o.node)))
 hands_item n i o s nodes is = by_type n i o.node o.key o.key s nodes (item_behind i) (λ (m : ℕ). nat_lt n (suc m))
@@ -149,7 +149,7 @@ hands_item n i o s nodes is = by_type n i o.node o.key o.key s nodes (item_behin
     takes (Sequence s) h = (refl, refl, refl)
     takes _ h = absurd cc
 
-pub hands_key : (n : ℕ) (i : ℤ) (o : Open) (s : List Open) (nodes : List yaml_node_t) → o.key ≡ None
+pub hands_key : (n : ℕ) (i : ℤ) (o : OpenNode) (s : List OpenNode) (nodes : List yaml_node_t) → o.key ≡ None
     → type_at nodes o.node ≡ YAML_MAPPING_NODE
     → Hands n i (o ∷ s) nodes nodes (record { node = o.node; key = Some i } ∷ s) (nat_lt n (suc (children_at nodes o.node)))
 hands_key n i o s nodes none is =
@@ -165,7 +165,7 @@ hands_key n i o s nodes none is =
     takes (Mapping s) h = (refl, refl, refl)
     takes _ h = absurd cc
 
-pub hands_value : (n : ℕ) (i : ℤ) (o : Open) (k : ℤ) (s : List Open) (nodes : List yaml_node_t) → o.key ≡ Some k
+pub hands_value : (n : ℕ) (i : ℤ) (o : OpenNode) (k : ℤ) (s : List OpenNode) (nodes : List yaml_node_t) → o.key ≡ Some k
     → type_at nodes o.node ≡ YAML_MAPPING_NODE
     → Hands n i (o ∷ s) nodes (with_changed o.node (with_pair k i) nodes) (record { node = o.node; key = None } ∷ s) false
 hands_value n i o k s nodes waits is =
@@ -180,7 +180,7 @@ hands_value n i o k s nodes waits is =
     takes (Mapping s) h = (refl, refl, refl)
     takes _ h = absurd cc
 
-pub hands_nothing : (n : ℕ) (i : ℤ) (o : Open) (s : List Open) (nodes : List yaml_node_t)
+pub hands_nothing : (n : ℕ) (i : ℤ) (o : OpenNode) (s : List OpenNode) (nodes : List yaml_node_t)
     → type_at nodes o.node ≡ YAML_SCALAR_NODE
     → Hands n i (o ∷ s) nodes nodes (o ∷ s) false
 hands_nothing n i o s nodes is =

@@ -17,8 +17,8 @@ use Rattle.libyaml_grammar.proofs.lent.Same.{ok_same}
 use Rattle.libyaml_documents.specs.Documents.{Document}
 use Rattle.libyaml_graphs.specs.loads.Bounds.{bounded_loads, first_stop, if_above, next_bounded}
 use Rattle.libyaml_graphs.specs.loads.GraphLaws.{BeginsNode, RootFollows, RootsFollow}
-use Rattle.libyaml_graphs.specs.loads.Loads.{Begun, Load, answer, begun, begun_behind, behind_document, document}
-use Rattle.libyaml_graphs.specs.loads.Loads.{document_end, last_load, left_by, left_over}
+use Rattle.libyaml_graphs.specs.loads.Loads.{Begun, Load, load_answer, begun, begun_behind, behind_document, document}
+use Rattle.libyaml_graphs.specs.loads.Loads.{end_of_document, last_load, left_by, left_over}
 use Rattle.libyaml_graphs.specs.loads.Loads.{load_then, loads_by, next_by}
 use Rattle.libyaml_graphs.specs.graphs.GraphParts.{Closing, Opening, Part, alias_part, closing_in, closing_of}
 use Rattle.libyaml_graphs.specs.graphs.GraphParts.{end_part, graph, leaf_part, opening_of, part_in, part_of}
@@ -134,7 +134,7 @@ first_node (Some (start_part a x)) l n h s e = cc
 first_node (Some (end_part m)) l n h s e = h
 
 has_nodes : (r : List Event) (o : Opening) (c : Closing) (n : ℕ) → RootFollows (Some o) r
-    → first_stop n [] [] (parts r) ≡ None → document_end r ≡ Some c
+    → first_stop n [] [] (parts r) ≡ None → end_of_document r ≡ Some c
     → graph [] (parts r) ≢ []
 has_nodes [] o c n h s d e = cc
 has_nodes (f ∷ r) o c n h s d e =
@@ -170,10 +170,10 @@ last_of r x n d h a e = go (begun r) (first_root r h) a
     go : (bs : List Begun) → FirstRoot bs → next_by (first_stop n [] []) x bs ≡ Ok d
         → (loads_by (first_stop n [] []) x bs ≡ Ok d ∷ []) × (last_load x ≡ Ok d)
     go [] root b = (ap (λ (l : Load). l ∷ []) b, b)
-    go (t ∷ ts) root b = at (first_stop n [] [] (parts t.rest)) (document_end t.rest) refl refl b
+    go (t ∷ ts) root b = at (first_stop n [] [] (parts t.rest)) (end_of_document t.rest) refl refl b
       where
-        at : (f : Option Fault) (c : Option Closing) → first_stop n [] [] (parts t.rest) ≡ f → document_end t.rest ≡ c
-            → answer f c t.opening (graph [] (parts t.rest)) (last_load x) ≡ Ok d
+        at : (f : Option Fault) (c : Option Closing) → first_stop n [] [] (parts t.rest) ≡ f → end_of_document t.rest ≡ c
+            → load_answer f c t.opening (graph [] (parts t.rest)) (last_load x) ≡ Ok d
             → (load_then f c t.opening (graph [] (parts t.rest)) (last_load x) (loads_by (first_stop n [] []) x ts)
             ≡ Ok d ∷ []) × (last_load x ≡ Ok d)
         at (Some f) c s u b = absurd cc
@@ -190,12 +190,12 @@ earlier_of r x n d a e = go (begun r) (follow r) a
     go : (bs : List Begun) → Follow bs → next_by (first_stop n [] []) x bs ≡ Ok d
         → loads_by (first_stop n [] []) x bs ≡ Ok d ∷ loads_by (first_stop n [] []) x (begun (left_by bs))
     go [] f b = absurd (e (last_bare x d b))
-    go (t ∷ ts) f b = at (first_stop n [] [] (parts t.rest)) (document_end t.rest) b
+    go (t ∷ ts) f b = at (first_stop n [] [] (parts t.rest)) (end_of_document t.rest) b
       where
         later : List Begun → List Load
         later l = loads_by (first_stop n [] []) x l
 
-        at : (f : Option Fault) (c : Option Closing) → answer f c t.opening (graph [] (parts t.rest)) (last_load x) ≡ Ok d
+        at : (f : Option Fault) (c : Option Closing) → load_answer f c t.opening (graph [] (parts t.rest)) (last_load x) ≡ Ok d
             → load_then f c t.opening (graph [] (parts t.rest)) (last_load x) (later ts) ≡ Ok d ∷ later
             (begun (behind_document t.rest))
         at (Some f) c b = absurd cc
@@ -209,9 +209,9 @@ fault_of r x n f a = go (begun r) a
   where
     go : (bs : List Begun) → next_by (first_stop n [] []) x bs ≡ Err f → loads_by (first_stop n [] []) x bs ≡ Err f ∷ []
     go [] b = ap (λ (l : Load). l ∷ []) b
-    go (t ∷ ts) b = at (first_stop n [] [] (parts t.rest)) (document_end t.rest) b
+    go (t ∷ ts) b = at (first_stop n [] [] (parts t.rest)) (end_of_document t.rest) b
       where
-        at : (g : Option Fault) (c : Option Closing) → answer g c t.opening (graph [] (parts t.rest)) (last_load x) ≡ Err f
+        at : (g : Option Fault) (c : Option Closing) → load_answer g c t.opening (graph [] (parts t.rest)) (last_load x) ≡ Err f
             → load_then g c t.opening (graph [] (parts t.rest)) (last_load x) (loads_by (first_stop n [] []) x ts)
             ≡ Err f ∷ []
         at (Some g) c b = ap (λ (l : Load). l ∷ []) b

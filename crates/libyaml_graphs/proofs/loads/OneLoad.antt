@@ -4,8 +4,8 @@ use Rattle.libyaml_grammar.specs.sentences.Events.{Event}
 use Rattle.libyaml_types.specs.Fault.{Fault}
 use Rattle.libyaml_grammar.specs.runs.Runs.{Ending, Ends, Fails}
 use Rattle.libyaml_graphs.specs.loads.GraphLaws.{load_at, unless_fault}
-use Rattle.libyaml_graphs.specs.loads.Loads.{Begun, Load, Stop, answer, begun, begun_behind, behind_document}
-use Rattle.libyaml_graphs.specs.loads.Loads.{document_end, last_load, left_by, load_then, loads_by}
+use Rattle.libyaml_graphs.specs.loads.Loads.{Begun, Load, Stop, load_answer, begun, begun_behind, behind_document}
+use Rattle.libyaml_graphs.specs.loads.Loads.{end_of_document, last_load, left_by, load_then, loads_by}
 use Rattle.libyaml_graphs.specs.loads.Loads.{next_by}
 use Rattle.libyaml_graphs.specs.graphs.GraphParts.{Closing, Opening, closing_of, graph, opening_of, parts}
 
@@ -34,12 +34,12 @@ follow (e ∷ r) = go (opening_of e) (follow r)
     go (Some o) h = left_behind r
 
 -- where a document has no end nothing follows it
-none_behind : (r : List Event) → document_end r ≡ None → behind_document r ≡ []
+none_behind : (r : List Event) → end_of_document r ≡ None → behind_document r ≡ []
 none_behind [] h = refl
 none_behind (e ∷ r) h = go (closing_of e) h (none_behind r)
   where
-    go : (c : Option Closing) → ◌≡◌ {A = Option Closing} (elim c [ Some y ↦ Some y | None ↦ document_end r ]) None
-        → (document_end r ≡ None → behind_document r ≡ [])
+    go : (c : Option Closing) → ◌≡◌ {A = Option Closing} (elim c [ Some y ↦ Some y | None ↦ end_of_document r ]) None
+        → (end_of_document r ≡ None → behind_document r ≡ [])
         → ◌≡◌ {A = List Event} (elim c [ Some y ↦ r | None ↦ behind_document r ]) []
     go (Some y) h k = cc
     go None h k = k h
@@ -48,11 +48,11 @@ none_behind (e ∷ r) h = go (closing_of e) h (none_behind r)
 pub first_load : (stop : Stop) (bs : List Begun) (x : Ending) (z : Load)
     → load_at z 0 (loads_by stop x bs) ≡ next_by stop x bs
 first_load stop [] x z = refl
-first_load stop (b ∷ bs) x z = go (stop (parts b.rest)) (document_end b.rest)
+first_load stop (b ∷ bs) x z = go (stop (parts b.rest)) (end_of_document b.rest)
   where
     go : (f : Option Fault) (c : Option Closing)
         → load_at z 0 (load_then f c b.opening (graph [] (parts b.rest)) (last_load x) (loads_by stop x bs))
-        ≡ answer f c b.opening (graph [] (parts b.rest)) (last_load x)
+        ≡ load_answer f c b.opening (graph [] (parts b.rest)) (last_load x)
     go (Some f) c = refl
     go None (Some c) = refl
     go None None = refl
@@ -69,12 +69,12 @@ pub later_load : (stop : Stop) (bs : List Begun) (x : Ending) (z : Load) (n : �
     → load_at z (suc n) (loads_by stop x bs) ≡ unless_fault (next_by stop x bs)
     (load_at (next_by stop x bs) n (loads_by stop x (begun (left_by bs))))
 later_load stop [] x z n h = at_last n x
-later_load stop (b ∷ bs) x z n h = go (stop (parts b.rest)) (document_end b.rest) refl
+later_load stop (b ∷ bs) x z n h = go (stop (parts b.rest)) (end_of_document b.rest) refl
   where
     answered : Option Fault → Option Closing → Load
-    answered f c = answer f c b.opening (graph [] (parts b.rest)) (last_load x)
+    answered f c = load_answer f c b.opening (graph [] (parts b.rest)) (last_load x)
 
-    go : (f : Option Fault) (c : Option Closing) → document_end b.rest ≡ c
+    go : (f : Option Fault) (c : Option Closing) → end_of_document b.rest ≡ c
         → load_at z (suc n) (load_then f c b.opening (graph [] (parts b.rest)) (last_load x) (loads_by stop x bs))
         ≡ unless_fault (answered f c) (load_at (answered f c) n (loads_by stop x (begun (behind_document b.rest))))
     go (Some f) c e = refl

@@ -14,12 +14,12 @@ use Rattle.libyaml_documents.specs.declared.node.unnamed_yaml_node_t_data.TheVar
 use Rattle.libyaml_graphs.specs.loads.Bounds.{HasRoom, HaveRoom, StaysWithin, bounded_loads, entries, first_stop}
 use Rattle.libyaml_graphs.specs.loads.Bounds.{if_above, if_wrong}
 use Rattle.libyaml_graphs.specs.loads.Bounds.{list_sizes, next_bounded, one_above, pairs_begun}
-use Rattle.libyaml_graphs.specs.graphs.ComposerFaults.{composer_fault, or_else, part_fault}
+use Rattle.libyaml_graphs.specs.graphs.ComposerFaults.{composer_fault, or_else, composer_part_fault}
 use Rattle.libyaml_graphs.specs.graphs.Graphs.{Start, carrier, id_or}
-use Rattle.libyaml_graphs.specs.loads.Loads.{Begun, Load, answer, begun, document_end, last_load, load_then, loads}
+use Rattle.libyaml_graphs.specs.loads.Loads.{Begun, Load, load_answer, begun, end_of_document, last_load, load_then, loads}
 use Rattle.libyaml_graphs.specs.loads.Loads.{loads_by, next_by, next_load}
 use Rattle.libyaml_graphs.specs.graphs.GraphParts.{Closing, Part, alias_part, behind, children, end_part, graph}
-use Rattle.libyaml_graphs.specs.graphs.GraphParts.{if_outer, leaf_part, parts, start_of, start_part}
+use Rattle.libyaml_graphs.specs.graphs.GraphParts.{if_outer, leaf_part, parts, carrier_start, start_part}
 use Rattle.libyaml_graphs.proofs.machine.Sizes.{either_none}
 use Rattle.libyaml_graphs.proofs.graphs.Ids.{moved}
 
@@ -38,12 +38,12 @@ children_begin [] g d es = (children d es g, refl)
 children_begin (alias_part a m ∷ f) g d es = outer_begin d (id_or (carrier a es) ∷ []) (children d es f)
     (children d es (f ++ g)) (children_begin f g d es)
 children_begin (leaf_part a x ∷ f) g d es
-    = outer_begin d (suc (length es) ∷ []) (children d (start_of a x ∷ es) f) (children d (start_of a x ∷ es) (f ++ g))
-    (children_begin f g d (start_of a x ∷ es))
+    = outer_begin d (suc (length es) ∷ []) (children d (carrier_start a x ∷ es) f) (children d (carrier_start a x ∷ es) (f ++ g))
+    (children_begin f g d (carrier_start a x ∷ es))
 children_begin (start_part a x ∷ f) g d es
-    = outer_begin d (suc (length es) ∷ []) (children (suc d) (start_of a x ∷ es) f)
-    (children (suc d) (start_of a x ∷ es) (f ++ g))
-    (children_begin f g (suc d) (start_of a x ∷ es))
+    = outer_begin d (suc (length es) ∷ []) (children (suc d) (carrier_start a x ∷ es) f)
+    (children (suc d) (carrier_start a x ∷ es) (f ++ g))
+    (children_begin f g (suc d) (carrier_start a x ∷ es))
 children_begin (end_part n ∷ f) g zero es = ([], refl)
 children_begin (end_part n ∷ f) g (suc d) es = children_begin f g d es
 
@@ -70,9 +70,9 @@ front_shorter : (f g : List Part) (es : List Start) (n : ℕ) → one_above n (l
     → one_above n (list_sizes es f) ≡ false
 front_shorter [] g es n h = refl
 front_shorter (alias_part a m ∷ f) g es n h = front_shorter f g es n h
-front_shorter (leaf_part a x ∷ f) g es n h = front_shorter f g (start_of a x ∷ es) n h
+front_shorter (leaf_part a x ∷ f) g es n h = front_shorter f g (carrier_start a x ∷ es) n h
 front_shorter (start_part a x ∷ f) g es n h =
-    let fs : List Start = start_of a x ∷ es in
+    let fs : List Start = carrier_start a x ∷ es in
     let k : (nat_lt n (entries x.content (children 0 fs (f ++ g))) ≡ false)
     × (one_above n (list_sizes fs (f ++ g)) ≡ false) = or_parts _ _ h in
     either_none _ _ (lt_down n _ _
@@ -102,11 +102,11 @@ room (p ∷ r) es F n a b =
     let c : one_above n (list_sizes [] ((F ++ p ∷ []) ++ r)) ≡ false =
     ap (λ (l : List Part). one_above n (list_sizes [] l)) (append_assoc F (p ∷ []) r) ∙ b in
     let d : one_above n (list_sizes [] (F ++ p ∷ [])) ≡ false = front_shorter (F ++ p ∷ []) r [] n c in
-    ap (λ (x : Bool). if_above x (if_wrong (part_fault es p)
+    ap (λ (x : Bool). if_above x (if_wrong (composer_part_fault es p)
     (if_above (one_above n (list_sizes [] (F ++ p ∷ []))) (first_stop n (behind p es) (F ++ p ∷ []) r))))
     (lt_down n _ _ (starts_grow r (behind p es)) a)
-    ∙ (ap (λ (x : Bool). if_wrong (part_fault es p) (if_above x (first_stop n (behind p es) (F ++ p ∷ []) r))) d
-    ∙ (ap (if_wrong (part_fault es p)) (room r (behind p es) (F ++ p ∷ []) n a c) ∙ go (part_fault es p)))
+    ∙ (ap (λ (x : Bool). if_wrong (composer_part_fault es p) (if_above x (first_stop n (behind p es) (F ++ p ∷ []) r))) d
+    ∙ (ap (if_wrong (composer_part_fault es p)) (room r (behind p es) (F ++ p ∷ []) n a c) ∙ go (composer_part_fault es p)))
   where
     go : (w : Option Fault) → if_wrong w (composer_fault (behind p es) r) ≡ or_else w (composer_fault (behind p es) r)
     go None = refl
@@ -115,8 +115,8 @@ room (p ∷ r) es F n a b =
 graph_count : (r : List Part) (es : List Start) → length (all_behind es r) ≡ length es + length (graph es r)
 graph_count [] es = omega arith
 graph_count (alias_part a m ∷ r) es = graph_count r es
-graph_count (leaf_part a x ∷ r) es = graph_count r (start_of a x ∷ es) ∙ moved (length es) _
-graph_count (start_part a x ∷ r) es = graph_count r (start_of a x ∷ es) ∙ moved (length es) _
+graph_count (leaf_part a x ∷ r) es = graph_count r (carrier_start a x ∷ es) ∙ moved (length es) _
+graph_count (start_part a x ∷ r) es = graph_count r (carrier_start a x ∷ es) ∙ moved (length es) _
 graph_count (end_part n ∷ r) es = graph_count r es
 
 none_above : (n : ℕ) (ks : List ℕ) → All (λ k. k ≤ n) ks → one_above n ks ≡ false
@@ -135,10 +135,10 @@ have_room : (bs : List Begun) (x : Ending) (n : ℕ) → HaveRoom n bs
 have_room [] x n h = refl
 have_room (b ∷ bs) x n h =
     let as_is : Option Fault → List Load → List Load
-    = λ (g : Option Fault) (l : List Load). load_then g (document_end b.rest) b.opening (graph [] (parts b.rest))
+    = λ (g : Option Fault) (l : List Load). load_then g (end_of_document b.rest) b.opening (graph [] (parts b.rest))
     (last_load x) l in
     ap (λ (g : Option Fault). as_is g (loads_by (first_stop n [] []) x bs)) (fits_stop (parts b.rest) n h.0)
-    ∙ go (composer_fault [] (parts b.rest)) (document_end b.rest) (λ e. have_room bs x n (h.1 e))
+    ∙ go (composer_fault [] (parts b.rest)) (end_of_document b.rest) (λ e. have_room bs x n (h.1 e))
   where
     go : (g : Option Fault) (c : Option Closing)
         → (g ≡ None → loads_by (first_stop n [] []) x bs ≡ loads_by (composer_fault []) x bs)
@@ -157,7 +157,7 @@ room_next r x n h = go (begun r) h
   where
     go : (bs : List Begun) → HaveRoom n bs → next_by (first_stop n [] []) x bs ≡ next_by (composer_fault []) x bs
     go [] k = refl
-    go (b ∷ bs) k = ap (λ (g : Option Fault). answer g (document_end b.rest) b.opening (graph [] (parts b.rest))
+    go (b ∷ bs) k = ap (λ (g : Option Fault). load_answer g (end_of_document b.rest) b.opening (graph [] (parts b.rest))
         (last_load x)) (fits_stop (parts b.rest) n k.0)
 
 -- a document that nothing stops has no composer error, and its lists have room
@@ -177,7 +177,7 @@ unstopped : (P : List Part) (es : List Start) (F : List Part) (n : ℕ) → nat_
     → first_stop n es F P ≡ None → Unstopped n es F P
 unstopped [] es F n a b e = (refl, a, ap (λ (l : List Part). one_above n (list_sizes [] l)) (append-nil F) ∙ b)
 unstopped (p ∷ P) es F n a b e =
-    let h = passed n (nat_lt n (length (behind p es))) (one_above n (list_sizes [] (F ++ p ∷ []))) (part_fault es p)
+    let h = passed n (nat_lt n (length (behind p es))) (one_above n (list_sizes [] (F ++ p ∷ []))) (composer_part_fault es p)
     (first_stop n (behind p es) (F ++ p ∷ []) P) e in
     let k : Unstopped n (behind p es) (F ++ p ∷ []) P = unstopped P (behind p es) (F ++ p ∷ []) n h.0 h.2 h.3 in (
       ap (λ (w : Option Fault). or_else w (composer_fault (behind p es) P)) h.1 ∙ k.0,

@@ -7,12 +7,12 @@ use Rattle.libyaml_types.specs.Fault.{Fault, memory_fault}
 use Rattle.libyaml_grammar.specs.runs.Runs.{Ending, Ends}
 use Rattle.libyaml_grammar.specs.sentences.Events.{Event}
 use Rattle.libyaml_grammar.specs.sentences.Tokens.{Mark}
-use Rattle.libyaml_graphs.specs.graphs.ComposerFaults.{alias_fault, anchor_fault, known_fault, part_fault}
+use Rattle.libyaml_graphs.specs.graphs.ComposerFaults.{alias_fault, anchor_fault, known_fault, composer_part_fault}
 use Rattle.libyaml_graphs.specs.graphs.GraphParts.{Closing, Opening, Part, alias_part, behind, end_part, graph}
 use Rattle.libyaml_graphs.specs.graphs.GraphParts.{leaf_part, parts, start_part}
 use Rattle.libyaml_graphs.specs.graphs.Graphs.{Carrier, Start, carrier}
 use Rattle.libyaml_graphs.specs.loads.Bounds.{first_stop, if_above, if_wrong, next_bounded}
-use Rattle.libyaml_graphs.specs.loads.Loads.{Begun, Load, answer, begun, last_load, next_by}
+use Rattle.libyaml_graphs.specs.loads.Loads.{Begun, Load, load_answer, begun, last_load, next_by}
 
 abbrev OfLoader : Fault → Type 0
 OfLoader f = (f ≡ memory_fault) ⊎ (f.error ≡ YAML_COMPOSER_ERROR)
@@ -33,7 +33,7 @@ of_anchor : (es : List Start) (a : Option (List ℕ)) (m : Mark) → IfStops (an
 of_anchor es None m = tt
 of_anchor es (Some a) m = of_known (carrier a es) m
 
-of_part : (es : List Start) (p : Part) → IfStops (part_fault es p)
+of_part : (es : List Start) (p : Part) → IfStops (composer_part_fault es p)
 of_part es (alias_part a m) = of_alias (carrier a es) m
 of_part es (leaf_part a x) = of_anchor es a x.start_mark
 of_part es (start_part a x) = of_anchor es a x.start_mark
@@ -57,7 +57,7 @@ module _ (f : Fault) where
   same g h = cc
 
   of_answer : (o : Option Fault) (c : Option Closing) (b : Opening) (nodes : List yaml_node_t) → IfStops o
-      → answer o c b nodes (last_load Ends) ≡ Err f
+      → load_answer o c b nodes (last_load Ends) ≡ Err f
       → OfLoader f
   of_answer (Some g) c b nodes h is = subst OfLoader (same g is) h
   of_answer None (Some c) b nodes h is = absurd cc

@@ -16,16 +16,16 @@ use Rattle.libyaml_graphs.specs.graphs.ComposerFaults.{composer_fault}
 use Rattle.libyaml_graphs.specs.graphs.Graphs.{nodes_of}
 use Rattle.libyaml_graphs.specs.loads.GraphLaws.{NestedLoads, fault_or, open_load}
 use Rattle.libyaml_graphs.specs.graphs.GraphParts.{Closing, Opening, Part, closing_of, graph, part_of, parts, with_part}
-use Rattle.libyaml_graphs.specs.loads.Loads.{Begun, Load, begun, begun_behind, document_end, last_load, load_then}
+use Rattle.libyaml_graphs.specs.loads.Loads.{Begun, Load, begun, begun_behind, end_of_document, last_load, load_then}
 use Rattle.libyaml_graphs.specs.loads.Loads.{loads, loads_by, loads_of}
 use Rattle.libyaml_grammar.proofs.lent.Splits.{value_splits}
 use Rattle.libyaml_graphs.proofs.graphs.TreeGraphs.{value_graph}
 use Rattle.libyaml_graphs.proofs.lent.Roots.{value_keeps}
 
 -- a value ends no document
-pub value_closing : (v : Value) (r : List Event) → document_end (value_events v r) ≡ document_end r
-value_closing v r = value_keeps (λ (l : List Event). document_end l ≡ document_end r)
-    (λ e s i k. ap (λ (c : Option Closing). elim c [ Some y ↦ Some y | None ↦ document_end s ]) i.1 ∙ k) v r refl
+pub value_closing : (v : Value) (r : List Event) → end_of_document (value_events v r) ≡ end_of_document r
+value_closing v r = value_keeps (λ (l : List Event). end_of_document l ≡ end_of_document r)
+    (λ e s i k. ap (λ (c : Option Closing). elim c [ Some y ↦ Some y | None ↦ end_of_document s ]) i.1 ∙ k) v r refl
 
 pub value_behind : (v : Value) (r : List Event) → begun_behind (value_events v r) ≡ begun_behind r
 value_behind v r = value_keeps (λ (l : List Event). begun_behind l ≡ begun_behind r)
@@ -57,7 +57,7 @@ text_loads d m n v i p q r x =
     let o : Opening = record { start = d; mark = m } in
     let w : List Event = document_end_at i p q ∷ r in
     let c : Closing = record { is_implicit = i; mark = q } in
-    ap (λ (l : List Part). load_then (composer_fault [] l) (document_end (value_events v w)) o (graph [] l)
+    ap (λ (l : List Part). load_then (composer_fault [] l) (end_of_document (value_events v w)) o (graph [] l)
     (last_load x) (loads_by (composer_fault []) x (begun_behind (value_events v w))))
     (value_parts v w [] refl)
     ∙ (ap (λ (y : Option Closing). load_then (composer_fault [] (parts (value_events v []))) y o
@@ -82,22 +82,22 @@ pub whole_loads : (l : List Event) (n : IsNested l) (x : Ending) → loads l x �
 whole_loads l n x = ap (λ (k : List Event). loads k x) n.all ∙ texts_load n.texts (stream_end_at n.end n.end_end ∷ []) x
 
 -- the prefix of a list that ends no document ends none
-none_closes : (f r : List Event) → document_end (f ++ r) ≡ None → document_end f ≡ None
+none_closes : (f r : List Event) → end_of_document (f ++ r) ≡ None → end_of_document f ≡ None
 none_closes [] r h = refl
 none_closes (e ∷ f) r h = go (closing_of e) h (none_closes f r)
   where
-    go : (c : Option Closing) → ◌≡◌ {A = Option Closing} (elim c [ Some y ↦ Some y | None ↦ document_end (f ++ r) ]) None
-        → (document_end (f ++ r) ≡ None → document_end f ≡ None)
-        → ◌≡◌ {A = Option Closing} (elim c [ Some y ↦ Some y | None ↦ document_end f ]) None
+    go : (c : Option Closing) → ◌≡◌ {A = Option Closing} (elim c [ Some y ↦ Some y | None ↦ end_of_document (f ++ r) ]) None
+        → (end_of_document (f ++ r) ≡ None → end_of_document f ≡ None)
+        → ◌≡◌ {A = Option Closing} (elim c [ Some y ↦ Some y | None ↦ end_of_document f ]) None
     go (Some y) h k = cc
     go None h k = k h
 
-pub front_closes : (f : List Event) → BeginsValue f → document_end f ≡ None
-front_closes f b = none_closes f b.rest (ap document_end (sym b.all) ∙ value_closing b.val [])
+pub front_closes : (f : List Event) → BeginsValue f → end_of_document f ≡ None
+front_closes f b = none_closes f b.rest (ap end_of_document (sym b.all) ∙ value_closing b.val [])
 
 -- a document whose end is missing gives its composer error, if it has one, and else the run's ending
 open_loads : (d : unnamed_yaml_event_t_data_document_start) (m n : Mark) (f : List Event) (x : Ending)
-    → document_end f ≡ None
+    → end_of_document f ≡ None
     → loads (event (ev.DocumentStart d) m n ∷ f) x ≡ open_load (event (ev.DocumentStart d) m n ∷ f) x ∷ []
 open_loads d m n f x e =
     ap (λ (c : Option Closing). load_then (composer_fault [] (parts f)) c (record { start = d; mark = m })

@@ -13,13 +13,13 @@ use Rattle.libyaml_grammar.proofs.lent.TextMaps.{inserted}
 use Rattle.libyaml_documents.specs.LoadedNodes.{with_end}
 use Rattle.libyaml_documents.specs.Nodes.{changed_at}
 use Rattle.libyaml_documents.specs.declared.node.yaml_node_t.{yaml_node_t}
-use Rattle.libyaml_graphs.specs.graphs.ComposerFaults.{alias_fault, anchor_fault, known_fault, part_fault, repeated_anchor}
+use Rattle.libyaml_graphs.specs.graphs.ComposerFaults.{alias_fault, anchor_fault, known_fault, composer_part_fault, repeated_anchor}
 use Rattle.libyaml_graphs.specs.graphs.Graphs.{Carrier, Start, carrier, carries, id_or}
-use Rattle.libyaml_graphs.specs.machine.Loader.{Anchors, Loader, Loading, Open, Registered, closed_by, failed, going}
+use Rattle.libyaml_graphs.specs.machine.Loader.{Anchors, Loader, Loading, OpenNode, Registered, closed_by, failed, going}
 use Rattle.libyaml_graphs.specs.machine.Loader.{hand, handed, key_after, known}
 use Rattle.libyaml_graphs.specs.machine.Loader.{load_part, no_anchors, on_alias, on_node, outer, register, registered}
 use Rattle.libyaml_graphs.specs.machine.Loader.{with_child}
-use Rattle.libyaml_graphs.specs.graphs.GraphParts.{Part, alias_part, behind, end_part, leaf_part, start_of, start_part}
+use Rattle.libyaml_graphs.specs.graphs.GraphParts.{Part, alias_part, behind, end_part, leaf_part, carrier_start, start_part}
 use Rattle.libyaml_graphs.proofs.machine.Built.{AllHas, AllOf, Built, Has, Held, all_append, all_end, all_hold, all_of}
 use Rattle.libyaml_graphs.proofs.machine.Built.{bare, below, build, change, end_at}
 use Rattle.libyaml_graphs.proofs.machine.Built.{end_top, has_last, hold, hold_top, length_end, length_hold, length_more}
@@ -31,7 +31,7 @@ key_in p [] = None
 key_in zero (h ∷ hs) = h.key
 key_in (suc p) (h ∷ hs) = key_in p hs
 
-abbrev pub stack_of : List ℕ → List Held → List Open
+abbrev pub stack_of : List ℕ → List Held → List OpenNode
 stack_of [] hs = []
 stack_of (p ∷ s) hs = record { node = pos (suc p); key = key_in p hs } ∷ stack_of s hs
 
@@ -93,7 +93,7 @@ stack_alike : (s : List ℕ) (hs ks : List Held) → AllOf (λ q. key_in q hs �
 stack_alike [] hs ks h = refl
 stack_alike (q ∷ s) hs ks h =
     ap (λ (k : Option ℤ). record { node = pos (suc q); key = k } ∷ stack_of s hs) h.0
-    ∙ ap (λ (t : List Open). record { node = pos (suc q); key = key_in q ks } ∷ t) (stack_alike s hs ks h.1)
+    ∙ ap (λ (t : List OpenNode). record { node = pos (suc q); key = key_in q ks } ∷ t) (stack_alike s hs ks h.1)
 
 stack_below : (s : List ℕ) (p : ℕ) (f : Held → Held) (hs : List Held) → AllLess s p
     → stack_of s (change p f hs) ≡ stack_of s hs
@@ -139,7 +139,7 @@ handed_built : (i : ℕ) (s : List ℕ) (hs : List Held) → Falls s
 handed_built i [] hs h = refl
 handed_built i (p ∷ s) hs h =
     ap (λ (k : Option ℤ). record { node = pos (suc p); key = k } ∷ stack_of s hs) (hold_key p i hs)
-    ∙ ap (λ (t : List Open). record { node = pos (suc p); key = key_in p (change p (hold i) hs) } ∷ t)
+    ∙ ap (λ (t : List OpenNode). record { node = pos (suc p); key = key_in p (change p (hold i) hs) } ∷ t)
     (sym (stack_below s p (hold i) hs h.0))
 
 end_nodes : (p : ℕ) (m : Mark) (hs : List Held)
@@ -203,19 +203,19 @@ build_stands (end_part n) es b s
     }
 
 -- the loader after each part
-loader_same : (nodes ms : List yaml_node_t) (s t : List Open) (xs : Anchors) → nodes ≡ ms → s ≡ t
+loader_same : (nodes ms : List yaml_node_t) (s t : List OpenNode) (xs : Anchors) → nodes ≡ ms → s ≡ t
     → ◌≡◌ {A = Loader} (record { nodes = nodes; stack = s; anchors = xs }) (record { nodes = ms; stack = t; anchors = xs })
 loader_same nodes ms s t xs e h = ap (λ (l : List yaml_node_t). record { nodes = l; stack = s; anchors = xs }) e
-    ∙ ap (λ (l : List Open). record { nodes = ms; stack = l; anchors = xs }) h
+    ∙ ap (λ (l : List OpenNode). record { nodes = ms; stack = l; anchors = xs }) h
 
 -- a node that is put after the others and handed to its parent, with what the stack is then
-put_with : {A : Type 0} (f : ℤ → List Open → List yaml_node_t → A) (x : yaml_node_t) (es : List Start) (b : Built)
+put_with : {A : Type 0} (f : ℤ → List OpenNode → List yaml_node_t → A) (x : yaml_node_t) (es : List Start) (b : Built)
     → Stands es b
     → f (pos (suc (length (nodes_in b.held)))) (stack_of b.places b.held) (nodes_in b.held ++ x ∷ [])
     ≡ f (pos (suc (length es))) (stack_of b.places (b.held ++ bare x ∷ [])) (nodes_in (b.held ++ bare x ∷ []))
 put_with f x es b s =
     ap (λ (i : ℕ). f (pos (suc i)) (stack_of b.places b.held) (nodes_in b.held ++ x ∷ [])) (nodes_length b.held ∙ s.size)
-    ∙ (ap (λ (t : List Open). f (pos (suc (length es))) t (nodes_in b.held ++ x ∷ []))
+    ∙ (ap (λ (t : List OpenNode). f (pos (suc (length es))) t (nodes_in b.held ++ x ∷ []))
     (sym (stack_append b.places b.held (bare x ∷ []) s.there))
     ∙ ap (f (pos (suc (length es))) (stack_of b.places (b.held ++ bare x ∷ [])))
     (sym (nodes_append b.held (bare x ∷ []))))
@@ -236,12 +236,12 @@ new_key i [] hs x h = key_last hs (bare x)
 new_key i (p ∷ s) hs x h = key_above (length hs) p (hold i) (hs ++ bare x ∷ []) (has_less p hs h.0) ∙ key_last hs (bare x)
 
 opened_stack : (x : yaml_node_t) (es : List Start) (b : Built) → Stands es b
-    → ◌≡◌ {A = List Open} (record { node = pos (suc (length (nodes_in b.held))); key = None }
+    → ◌≡◌ {A = List OpenNode} (record { node = pos (suc (length (nodes_in b.held))); key = None }
     ∷ handed (pos (suc (length (nodes_in b.held)))) (stack_of b.places b.held) (nodes_in b.held ++ x ∷ []))
     (stack_of (length b.held ∷ b.places) (hold_top (suc (length es)) b.places (b.held ++ bare x ∷ [])))
 opened_stack x es b s =
     let hs : List Held = hold_top (suc (length es)) b.places (b.held ++ bare x ∷ []) in
-    ap (λ (t : List Open). record { node = pos (suc (length (nodes_in b.held))); key = None } ∷ t) (put_stack x es b s)
+    ap (λ (t : List OpenNode). record { node = pos (suc (length (nodes_in b.held))); key = None } ∷ t) (put_stack x es b s)
     ∙ (ap (λ (n : ℕ). record { node = pos (suc n); key = None } ∷ stack_of b.places hs) (nodes_length b.held)
     ∙ ap (λ (k : Option ℤ). record { node = pos (suc (length b.held)); key = k } ∷ stack_of b.places hs)
     (sym (new_key (suc (length es)) b.places b.held x s.there)))
@@ -306,21 +306,21 @@ alias_follows a m es b xs s h = go (get xs a) (h a)
       ),
     )
 
-node_follows : (b : Option (List ℕ)) (x : yaml_node_t) (opens : List Open) (es : List Start) (c d : Built)
+node_follows : (b : Option (List ℕ)) (x : yaml_node_t) (opens : List OpenNode) (es : List Start) (c d : Built)
     (xs : Anchors) → Stands es c → Agrees es xs
     → hand (pos (suc (length (nodes_in c.held)))) (stack_of c.places c.held) (nodes_in c.held ++ x ∷ []) ≡ nodes_in d.held
     → opens ++ handed (pos (suc (length (nodes_in c.held)))) (stack_of c.places c.held) (nodes_in c.held ++ x ∷ [])
     ≡ stack_of d.places d.held
     → Follows (on_node (register b (suc (length (nodes_in c.held))) x.start_mark xs) x opens (loader_of c xs))
     (anchor_fault es b x.start_mark)
-    (start_of b x ∷ es) d
+    (carrier_start b x ∷ es) d
 node_follows b x opens es c d xs s h nodes stack = go (register b (suc (length (nodes_in c.held))) x.start_mark xs)
     (registers b (suc (length (nodes_in c.held))) x.start_mark es xs h)
   where
     go : (g : Registered) → Meets g (λ (ys : Anchors). (a : List ℕ)
         → get ys a ≡ with_anchor b (suc (length (nodes_in c.held))) x.start_mark es a) x.start_mark
         (anchor_fault es b x.start_mark)
-        → Follows (on_node g x opens (loader_of c xs)) (anchor_fault es b x.start_mark) (start_of b x ∷ es) d
+        → Follows (on_node g x opens (loader_of c xs)) (anchor_fault es b x.start_mark) (carrier_start b x ∷ es) d
     go (known k) q = q
     go (registered ys) q = (
       q.0,
@@ -332,7 +332,7 @@ node_follows b x opens es c d xs s h nodes stack = go (register b (suc (length (
     )
 
 pub part_follows : (p : Part) (es : List Start) (b : Built) (xs : Anchors) → Stands es b → Agrees es xs
-    → Follows (load_part (loader_of b xs) p) (part_fault es p) (behind p es) (build es p b)
+    → Follows (load_part (loader_of b xs) p) (composer_part_fault es p) (behind p es) (build es p b)
 part_follows (alias_part a m) es b xs s h = alias_follows a m es b xs s h
 part_follows (leaf_part a x) es b xs s h = node_follows a x [] es b (build es (leaf_part a x) b) xs s h
     (put_nodes x es b s) (put_stack x es b s)

@@ -15,7 +15,7 @@ use Rattle.libyaml_graphs.specs.loads.Bounds.{entries, list_sizes, one_above, pa
 use Rattle.libyaml_graphs.specs.graphs.Graphs.{Start, carrier, id_or, items, pairs}
 use Rattle.libyaml_graphs.specs.machine.Loader.{Anchors, content_full, content_with, key_behind, list_full, node_full}
 use Rattle.libyaml_graphs.specs.machine.Loader.{parent_full}
-use Rattle.libyaml_graphs.specs.graphs.GraphParts.{Part, alias_part, children, end_part, leaf_part, start_of}
+use Rattle.libyaml_graphs.specs.graphs.GraphParts.{Part, alias_part, children, end_part, leaf_part, carrier_start}
 use Rattle.libyaml_graphs.specs.graphs.GraphParts.{start_part, with_children}
 use Rattle.libyaml_graphs.proofs.machine.Built.{AllHas, BeginsEmpty, Built, Has, Held, bare, build, change, end_at}
 use Rattle.libyaml_graphs.proofs.machine.Built.{end_top, grown_key, held_graph, hold, hold_top}
@@ -166,12 +166,12 @@ pub graph_sizes : (P : List Part) (es : List Start) (n : ℕ) → AllBegin P
 graph_sizes [] es n e = refl
 graph_sizes (alias_part a m ∷ P) es n e = graph_sizes P es n e.1
 graph_sizes (leaf_part a x ∷ P) es n e =
-    ap (λ (i : ℕ). (nat_lt n i || (one_above n (sizes (held_graph (start_of a x ∷ es) P)))))
+    ap (λ (i : ℕ). (nat_lt n i || (one_above n (sizes (held_graph (carrier_start a x ∷ es) P)))))
     (no_entries x.content e.0)
-    ∙ (either_none _ _ (none_below n) ∙ graph_sizes P (start_of a x ∷ es) n e.1)
+    ∙ (either_none _ _ (none_below n) ∙ graph_sizes P (carrier_start a x ∷ es) n e.1)
 graph_sizes (start_part a x ∷ P) es n e =
-    ap (λ (i : ℕ). (nat_lt n i || (one_above n (sizes (held_graph (start_of a x ∷ es) P)))))
-    (key_left (children 0 (start_of a x ∷ es) P) x.content e.0)
-    ∙ ap (λ (b : Bool). (nat_lt n (entries x.content (children 0 (start_of a x ∷ es) P)) || b))
-    (graph_sizes P (start_of a x ∷ es) n e.1)
+    ap (λ (i : ℕ). (nat_lt n i || (one_above n (sizes (held_graph (carrier_start a x ∷ es) P)))))
+    (key_left (children 0 (carrier_start a x ∷ es) P) x.content e.0)
+    ∙ ap (λ (b : Bool). (nat_lt n (entries x.content (children 0 (carrier_start a x ∷ es) P)) || b))
+    (graph_sizes P (carrier_start a x ∷ es) n e.1)
 graph_sizes (end_part m ∷ P) es n e = graph_sizes P es n e.1

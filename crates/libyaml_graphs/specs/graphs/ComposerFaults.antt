@@ -45,11 +45,11 @@ abbrev pub anchor_fault : List Start → Option (List ℕ) → Mark → Option F
 anchor_fault es None m = None
 anchor_fault es (Some a) m = known_fault (carrier a es) m
 
-abbrev pub part_fault : List Start → Part → Option Fault
-part_fault es (alias_part a m) = alias_fault (carrier a es) m
-part_fault es (leaf_part a x) = anchor_fault es a x.start_mark
-part_fault es (start_part a x) = anchor_fault es a x.start_mark
-part_fault es (end_part n) = None
+abbrev pub composer_part_fault : List Start → Part → Option Fault
+composer_part_fault es (alias_part a m) = alias_fault (carrier a es) m
+composer_part_fault es (leaf_part a x) = anchor_fault es a x.start_mark
+composer_part_fault es (start_part a x) = anchor_fault es a x.start_mark
+composer_part_fault es (end_part n) = None
 
 -- the composer error: that of the first part which has one
 abbrev pub or_else : Option Fault → Option Fault → Option Fault
@@ -58,4 +58,4 @@ or_else (Some f) g = Some f
 
 abbrev pub composer_fault : List Start → List Part → Option Fault
 composer_fault es [] = None
-composer_fault es (p ∷ r) = or_else (part_fault es p) (composer_fault (behind p es) r)
+composer_fault es (p ∷ r) = or_else (composer_part_fault es p) (composer_fault (behind p es) r)

@@ -64,14 +64,14 @@ abbrev pub parts : List Event → List Part
 parts [] = []
 parts (e ∷ r) = elim (closing_of e) [ Some c ↦ [] | None ↦ with_part (part_of e) (parts r) ]
 
-abbrev pub start_of : Option (List ℕ) → yaml_node_t → Start
-start_of a x = record { anchor = a; mark = x.start_mark }
+abbrev pub carrier_start : Option (List ℕ) → yaml_node_t → Start
+carrier_start a x = record { anchor = a; mark = x.start_mark }
 
 -- the starts after a part
 abbrev pub behind : Part → List Start → List Start
 behind (alias_part a m) es = es
-behind (leaf_part a x) es = start_of a x ∷ es
-behind (start_part a x) es = start_of a x ∷ es
+behind (leaf_part a x) es = carrier_start a x ∷ es
+behind (start_part a x) es = carrier_start a x ∷ es
 behind (end_part n) es = es
 
 -- The ids directly in a collection, up to its end, among the parts after its start; d collections are open in it.
@@ -82,8 +82,8 @@ if_outer (suc d) is r = r
 abbrev pub children : ℕ → List Start → List Part → List ℕ
 children d es [] = []
 children d es (alias_part a m ∷ r) = if_outer d (id_or (carrier a es) ∷ []) (children d es r)
-children d es (leaf_part a x ∷ r) = if_outer d (suc (length es) ∷ []) (children d (start_of a x ∷ es) r)
-children d es (start_part a x ∷ r) = if_outer d (suc (length es) ∷ []) (children (suc d) (start_of a x ∷ es) r)
+children d es (leaf_part a x ∷ r) = if_outer d (suc (length es) ∷ []) (children d (carrier_start a x ∷ es) r)
+children d es (start_part a x ∷ r) = if_outer d (suc (length es) ∷ []) (children (suc d) (carrier_start a x ∷ es) r)
 children zero es (end_part n ∷ r) = []
 children (suc d) es (end_part n ∷ r) = children d es r
 
@@ -109,7 +109,7 @@ ended is n x = record { tag = x.tag; content = with_children is x.content; start
 abbrev pub graph : List Start → List Part → List yaml_node_t
 graph es [] = []
 graph es (alias_part a m ∷ r) = graph es r
-graph es (leaf_part a x ∷ r) = x ∷ graph (start_of a x ∷ es) r
-graph es (start_part a x ∷ r) = ended (children 0 (start_of a x ∷ es) r) (end_in 0 x.end_mark r) x ∷ graph
-    (start_of a x ∷ es) r
+graph es (leaf_part a x ∷ r) = x ∷ graph (carrier_start a x ∷ es) r
+graph es (start_part a x ∷ r) = ended (children 0 (carrier_start a x ∷ es) r) (end_in 0 x.end_mark r) x ∷ graph
+    (carrier_start a x ∷ es) r
 graph es (end_part n ∷ r) = graph es r

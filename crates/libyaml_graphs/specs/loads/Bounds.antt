@@ -9,11 +9,11 @@ use Rattle.libyaml_grammar.specs.runs.Runs.{Ending}
 use Rattle.libyaml_grammar.specs.sentences.Tokens.{Token}
 use Rattle.libyaml_documents.specs.declared.node.unnamed_yaml_node_t_data.{unnamed_yaml_node_t_data}
 use Rattle.libyaml_documents.specs.declared.node.unnamed_yaml_node_t_data.TheVariants.{Scalar, Sequence, Mapping}
-use Rattle.libyaml_graphs.specs.graphs.ComposerFaults.{composer_fault, part_fault}
+use Rattle.libyaml_graphs.specs.graphs.ComposerFaults.{composer_fault, composer_part_fault}
 use Rattle.libyaml_graphs.specs.graphs.Graphs.{Start}
 use Rattle.libyaml_graphs.specs.loads.Loads.{AreLoads, Begun, Load, begun, loads_by, next_by}
 use Rattle.libyaml_graphs.specs.graphs.GraphParts.{Part, alias_part, behind, children, end_part, graph, leaf_part}
-use Rattle.libyaml_graphs.specs.graphs.GraphParts.{parts, start_of, start_part}
+use Rattle.libyaml_graphs.specs.graphs.GraphParts.{parts, carrier_start, start_part}
 
 -- the pairs that children begin: one at each key, also where its value is still to come
 abbrev pub pairs_begun : List ℕ → ℕ
@@ -31,8 +31,8 @@ entries (Mapping s) is = pairs_begun is
 abbrev pub list_sizes : List Start → List Part → List ℕ
 list_sizes es [] = []
 list_sizes es (alias_part a m ∷ r) = list_sizes es r
-list_sizes es (leaf_part a x ∷ r) = list_sizes (start_of a x ∷ es) r
-list_sizes es (start_part a x ∷ r) = entries x.content (children 0 (start_of a x ∷ es) r) ∷ list_sizes (start_of a x ∷ es) r
+list_sizes es (leaf_part a x ∷ r) = list_sizes (carrier_start a x ∷ es) r
+list_sizes es (start_part a x ∷ r) = entries x.content (children 0 (carrier_start a x ∷ es) r) ∷ list_sizes (carrier_start a x ∷ es) r
 list_sizes es (end_part n ∷ r) = list_sizes es r
 
 -- one of them is more than n
@@ -53,7 +53,7 @@ if_wrong None o = o
 
 abbrev pub stop_at : ℕ → List Start → (before : List Part) → Part → Option Fault → Option Fault
 stop_at n es before p o = if_above (nat_lt n (length (behind p es)))
-    (if_wrong (part_fault es p) (if_above (one_above n (list_sizes [] (before ++ p ∷ []))) o))
+    (if_wrong (composer_part_fault es p) (if_above (one_above n (list_sizes [] (before ++ p ∷ []))) o))
 
 abbrev pub first_stop : ℕ → List Start → (before : List Part) → List Part → Option Fault
 first_stop n es before [] = None

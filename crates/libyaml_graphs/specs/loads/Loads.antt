@@ -32,19 +32,19 @@ document o nodes c = record {
 }
 
 -- the end of the document that the events are in, if it comes, and the events after that end
-abbrev pub document_end : List Event → Option Closing
-document_end [] = None
-document_end (e ∷ r) = elim (closing_of e) [ Some c ↦ Some c | None ↦ document_end r ]
+abbrev pub end_of_document : List Event → Option Closing
+end_of_document [] = None
+end_of_document (e ∷ r) = elim (closing_of e) [ Some c ↦ Some c | None ↦ end_of_document r ]
 
 abbrev pub behind_document : List Event → List Event
 behind_document [] = []
 behind_document (e ∷ r) = elim (closing_of e) [ Some c ↦ r | None ↦ behind_document r ]
 
 -- What a document gives: its error f, if it has one, and else its nodes where its end c is there, and else `last`.
-abbrev pub answer : Option Fault → Option Closing → Opening → List yaml_node_t → (last : Load) → Load
-answer (Some f) c o nodes last = Err f
-answer None (Some c) o nodes last = Ok (document o nodes c)
-answer None None o nodes last = last
+abbrev pub load_answer : Option Fault → Option Closing → Opening → List yaml_node_t → (last : Load) → Load
+load_answer (Some f) c o nodes last = Err f
+load_answer None (Some c) o nodes last = Ok (document o nodes c)
+load_answer None None o nodes last = last
 
 -- and after it the loads l, where it is whole
 abbrev pub load_then : Option Fault → Option Closing → Opening → List yaml_node_t → (last : Load) → List Load → List Load
@@ -75,13 +75,13 @@ Stop = List Part → Option Fault
 -- The loads of documents, up to the first error or the document without root.
 abbrev pub loads_by : Stop → Ending → List Begun → List Load
 loads_by stop x [] = last_load x ∷ []
-loads_by stop x (b ∷ bs) = load_then (stop (parts b.rest)) (document_end b.rest) b.opening (graph [] (parts b.rest))
+loads_by stop x (b ∷ bs) = load_then (stop (parts b.rest)) (end_of_document b.rest) b.opening (graph [] (parts b.rest))
     (last_load x) (loads_by stop x bs)
 
 -- One load: what it returns, and the events that it leaves to the next.
 abbrev pub next_by : Stop → Ending → List Begun → Load
 next_by stop x [] = last_load x
-next_by stop x (b ∷ bs) = answer (stop (parts b.rest)) (document_end b.rest) b.opening (graph [] (parts b.rest))
+next_by stop x (b ∷ bs) = load_answer (stop (parts b.rest)) (end_of_document b.rest) b.opening (graph [] (parts b.rest))
     (last_load x)
 
 abbrev pub left_by : List Begun → List Event

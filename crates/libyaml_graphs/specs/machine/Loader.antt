@@ -29,14 +29,14 @@ abbrev pub no_anchors : Anchors
 no_anchors = from_entries []
 
 -- An open collection: the id of its node, and that of the key that waits for its value.
-pub record Open : Type 0 where
+pub record OpenNode : Type 0 where
   pub node : ℤ
   pub key : Option ℤ
 
 -- the innermost open collection stands first
 pub record Loader : Type 0 where
   pub nodes : List yaml_node_t
-  pub stack : List Open
+  pub stack : List OpenNode
   pub anchors : Anchors
 
 abbrev pub fresh : Loader
@@ -68,20 +68,20 @@ key_after k i None = k
 key_after k i (Some x) = key_behind k i x.content
 
 -- a child handed to the innermost open collection: the nodes and the stack after it
-abbrev pub hand : ℤ → List Open → List yaml_node_t → List yaml_node_t
+abbrev pub hand : ℤ → List OpenNode → List yaml_node_t → List yaml_node_t
 hand i [] nodes = nodes
 hand i (o ∷ s) nodes = with_changed o.node (with_child o.key i) nodes
 
-abbrev pub handed : ℤ → List Open → List yaml_node_t → List Open
+abbrev pub handed : ℤ → List OpenNode → List yaml_node_t → List OpenNode
 handed i [] nodes = []
 handed i (o ∷ s) nodes = record { node = o.node; key = key_after o.key i (node_at nodes o.node) } ∷ s
 
 -- the innermost open collection ends at m
-abbrev pub closed_by : Mark → List Open → List yaml_node_t → List yaml_node_t
+abbrev pub closed_by : Mark → List OpenNode → List yaml_node_t → List yaml_node_t
 closed_by m [] nodes = nodes
 closed_by m (o ∷ s) nodes = with_changed o.node (with_end m) nodes
 
-abbrev pub outer : List Open → List Open
+abbrev pub outer : List OpenNode → List OpenNode
 outer [] = []
 outer (o ∷ s) = s
 
@@ -106,7 +106,7 @@ on_alias (Some c) m l = going
     })
 
 -- a node is put after the others and then handed to its parent; `opens` are the collections that it opens
-abbrev pub on_node : Registered → yaml_node_t → (opens : List Open) → Loader → Loading
+abbrev pub on_node : Registered → yaml_node_t → (opens : List OpenNode) → Loader → Loading
 on_node (known m) x opens l = failed (repeated_anchor m x.start_mark)
 on_node (registered xs) x opens l
     = going (record {
@@ -138,7 +138,7 @@ abbrev pub node_full : ℕ → Option ℤ → Option yaml_node_t → Bool
 node_full n k None = false
 node_full n k (Some x) = content_full n k x.content
 
-abbrev pub parent_full : ℕ → List Open → List yaml_node_t → Bool
+abbrev pub parent_full : ℕ → List OpenNode → List yaml_node_t → Bool
 parent_full n [] nodes = false
 parent_full n (o ∷ s) nodes = node_full n o.key (node_at nodes o.node)
 

@@ -18,7 +18,7 @@ use Rattle.libyaml_types.specs.declared.token.unnamed_yaml_token_t_data.TheVaria
 use Rattle.libyaml_types.specs.declared.token.unnamed_yaml_token_t_data.TheVariants.{Value}
 use Rattle.libyaml_grammar.specs.sentences.Events.{document_end_at, document_start_at}
 use Rattle.libyaml_grammar.specs.rows.RowNotation.{ALIAS, ANCHOR, HANDLE, SCALAR, STREAM, TAG, VERSION, asks_version}
-use Rattle.libyaml_grammar.specs.rows.RowNotation.{declares, list, no_more, place}
+use Rattle.libyaml_grammar.specs.rows.RowNotation.{declaring, list, no_more, place}
 use Rattle.libyaml_grammar.specs.rows.RowNotation.{says_while}
 use Rattle.libyaml_grammar.specs.sentences.Trees.{no_directives}
 use Rattle.libyaml_documents.specs.declared.node.unnamed_yaml_node_t_data.TheVariants.{Scalar, Sequence, Mapping}
@@ -61,11 +61,11 @@ tagged t v m n = record {
   end_mark = place n;
 }
 
-abbrev pub text : (value : List ℕ) → ℕ → ℕ → yaml_node_t
-text v m n = tagged (codes "tag:yaml.org,2002:str") v m n
+abbrev pub text_node : (value : List ℕ) → ℕ → ℕ → yaml_node_t
+text_node v m n = tagged (codes "tag:yaml.org,2002:str") v m n
 
-abbrev pub flow_sequence : List ℤ → ℕ → ℕ → yaml_node_t
-flow_sequence is m n = record {
+abbrev pub flow_sequence_node : List ℤ → ℕ → ℕ → yaml_node_t
+flow_sequence_node is m n = record {
   tag = codes "tag:yaml.org,2002:seq";
   content = Sequence (record { items = is; style = YAML_FLOW_SEQUENCE_STYLE });
   start_mark
@@ -73,8 +73,8 @@ flow_sequence is m n = record {
   end_mark = place n;
 }
 
-abbrev pub flow_mapping : List yaml_node_pair_t → ℕ → ℕ → yaml_node_t
-flow_mapping ps m n = record {
+abbrev pub flow_mapping_node : List yaml_node_pair_t → ℕ → ℕ → yaml_node_t
+flow_mapping_node ps m n = record {
   tag = codes "tag:yaml.org,2002:map";
   content = Mapping (record { pairs = ps; style = YAML_FLOW_MAPPING_STYLE });
   start_mark
@@ -142,8 +142,8 @@ no_memory = Err (record {
 })
 
 -- Documents.
-abbrev pub RowEmptyStream : Type 0
-RowEmptyStream = IsLoads (list (
+abbrev pub RowEmptyStreamLoaded : Type 0
+RowEmptyStreamLoaded = IsLoads (list (
     STREAM ∷ StreamEnd ∷ [])) no_more (no_root ∷ [])
 
 -- no run has a document's end directly after its start: there its root would lack
@@ -151,56 +151,56 @@ abbrev pub RowStartWithoutRoot : Type 0
 RowStartWithoutRoot = RootsFollow
     (document_start_at no_directives true (place 2) (place 2) ∷ document_end_at true (place 2) (place 2) ∷ []) → ⊥
 
-abbrev pub RowDirectives : Type 0
-RowDirectives = IsLoads (list (
+abbrev pub RowDirectivesLoaded : Type 0
+RowDirectivesLoaded = IsLoads (list (
     STREAM ∷ HANDLE (codes "!!") (codes "p:") ∷ DocumentStart ∷ TAG (codes "!!") (codes "x") ∷ SCALAR (codes "a") ∷
     DocumentStart ∷ TAG (codes "!!") (codes "y") ∷ SCALAR (codes "b") ∷ StreamEnd ∷ [])) no_more (
-    loaded (declares (codes "!!") (codes "p:") ∷ []) false true 2 10 (tagged (codes "p:x") (codes "a") 6 9 ∷ []) ∷
+    loaded (declaring (codes "!!") (codes "p:") ∷ []) false true 2 10 (tagged (codes "p:x") (codes "a") 6 9 ∷ []) ∷
     loaded [] false true 10 16 (tagged (codes "tag:yaml.org,2002:y") (codes "b") 12 15 ∷ []) ∷ no_root ∷ [])
 
 abbrev pub RowExplicitEnd : Type 0
 RowExplicitEnd = IsLoads (list (
     STREAM ∷ VERSION 1 1 ∷ DocumentStart ∷ SCALAR (codes "a") ∷ DocumentEnd ∷ SCALAR (codes "b") ∷ StreamEnd ∷ []))
     no_more (
-    versioned (asks_version 1 1) [] false false 2 9 (text (codes "a") 6 7 ∷ []) ∷
-    loaded [] true true 10 12 (text (codes "b") 10 11 ∷ []) ∷ no_root ∷ [])
+    versioned (asks_version 1 1) [] false false 2 9 (text_node (codes "a") 6 7 ∷ []) ∷
+    loaded [] true true 10 12 (text_node (codes "b") 10 11 ∷ []) ∷ no_root ∷ [])
 
-abbrev pub RowEmptyDocuments : Type 0
-RowEmptyDocuments = IsLoads (list (
+abbrev pub RowEmptyDocumentsLoaded : Type 0
+RowEmptyDocumentsLoaded = IsLoads (list (
     STREAM ∷ DocumentStart ∷ DocumentStart ∷ DocumentStart ∷ StreamEnd ∷ [])) no_more (
-    loaded [] false true 2 4 (text [] 4 4 ∷ []) ∷ loaded [] false true 4 6 (text [] 6 6 ∷ []) ∷
-    loaded [] false true 6 8 (text [] 8 8 ∷ []) ∷ no_root ∷ [])
+    loaded [] false true 2 4 (text_node [] 4 4 ∷ []) ∷ loaded [] false true 4 6 (text_node [] 6 6 ∷ []) ∷
+    loaded [] false true 6 8 (text_node [] 8 8 ∷ []) ∷ no_root ∷ [])
 
 -- Collections.
 abbrev pub RowPairs : Type 0
 RowPairs = IsLoads (list (
     STREAM ∷ FlowMappingStart ∷ Key ∷ SCALAR (codes "a") ∷ Value ∷ SCALAR (codes "b") ∷ FlowEntry ∷ SCALAR (codes "c") ∷
     FlowMappingEnd ∷ StreamEnd ∷ [])) no_more (
-    implicit 18 (flow_mapping (pair 2 3 ∷ pair 4 5 ∷ []) 2 17 ∷ text (codes "a") 6 7 ∷ text (codes "b") 10 11 ∷
-    text (codes "c") 14 15 ∷ text [] 16 16 ∷ []) ∷ no_root ∷ [])
+    implicit 18 (flow_mapping_node (pair 2 3 ∷ pair 4 5 ∷ []) 2 17 ∷ text_node (codes "a") 6 7 ∷ text_node (codes "b") 10 11 ∷
+    text_node (codes "c") 14 15 ∷ text_node [] 16 16 ∷ []) ∷ no_root ∷ [])
 
 -- a sequence as a value, and a mapping as a key; each collection ends at its own end
 abbrev pub RowCollectionsInPairs : Type 0
 RowCollectionsInPairs = IsLoads (list (
     STREAM ∷ BlockMappingStart ∷ Key ∷ FlowMappingStart ∷ FlowMappingEnd ∷ Value ∷ BlockSequenceStart ∷ BlockEntry ∷
     SCALAR (codes "a") ∷ BlockEntry ∷ SCALAR (codes "b") ∷ BlockEnd ∷ BlockEnd ∷ StreamEnd ∷ [])) no_more (
-    implicit 26 (block_mapping (pair 2 3 ∷ []) 2 25 ∷ flow_mapping [] 6 9 ∷
-    block_sequence (pos 4 ∷ pos 5 ∷ []) 12 23 ∷ text (codes "a") 16 17 ∷ text (codes "b") 20 21 ∷ []) ∷ no_root ∷ [])
+    implicit 26 (block_mapping (pair 2 3 ∷ []) 2 25 ∷ flow_mapping_node [] 6 9 ∷
+    block_sequence (pos 4 ∷ pos 5 ∷ []) 12 23 ∷ text_node (codes "a") 16 17 ∷ text_node (codes "b") 20 21 ∷ []) ∷ no_root ∷ [])
 
 -- Tags: the tag `!`, also of collections, and an empty one.
-abbrev pub RowTagThatIsAnExclamationMark : Type 0
-RowTagThatIsAnExclamationMark = IsLoads (list (
+abbrev pub RowTagThatIsAnExclamationMarkLoaded : Type 0
+RowTagThatIsAnExclamationMarkLoaded = IsLoads (list (
     STREAM ∷ TAG [] (codes "!") ∷ SCALAR (codes "b") ∷ StreamEnd ∷ [])) no_more (
-    implicit 6 (text (codes "b") 2 5 ∷ []) ∷ no_root ∷ [])
+    implicit 6 (text_node (codes "b") 2 5 ∷ []) ∷ no_root ∷ [])
 
 abbrev pub RowExclamationMarksOfCollections : Type 0
 RowExclamationMarksOfCollections = IsLoads (list (
     STREAM ∷ TAG [] (codes "!") ∷ FlowSequenceStart ∷ TAG [] (codes "!") ∷ FlowMappingStart ∷ FlowMappingEnd ∷
     FlowSequenceEnd ∷ StreamEnd ∷ [])) no_more (
-    implicit 14 (flow_sequence (pos 2 ∷ []) 2 13 ∷ flow_mapping [] 6 11 ∷ []) ∷ no_root ∷ [])
+    implicit 14 (flow_sequence_node (pos 2 ∷ []) 2 13 ∷ flow_mapping_node [] 6 11 ∷ []) ∷ no_root ∷ [])
 
-abbrev pub RowEmptyTag : Type 0
-RowEmptyTag = IsLoads (list (
+abbrev pub RowEmptyTagLoaded : Type 0
+RowEmptyTagLoaded = IsLoads (list (
     STREAM ∷ TAG [] [] ∷ SCALAR (codes "b") ∷ StreamEnd ∷ [])) no_more (
     implicit 6 (tagged [] (codes "b") 2 5 ∷ []) ∷ no_root ∷ [])
 
@@ -208,20 +208,20 @@ RowEmptyTag = IsLoads (list (
 abbrev pub RowHoldsItself : Type 0
 RowHoldsItself = IsLoads (list (
     STREAM ∷ ANCHOR (codes "a") ∷ FlowSequenceStart ∷ ALIAS (codes "a") ∷ FlowSequenceEnd ∷ StreamEnd ∷ [])) no_more (
-    implicit 10 (flow_sequence (pos 1 ∷ []) 2 9 ∷ []) ∷ no_root ∷ [])
+    implicit 10 (flow_sequence_node (pos 1 ∷ []) 2 9 ∷ []) ∷ no_root ∷ [])
 
 abbrev pub RowItemTwice : Type 0
 RowItemTwice = IsLoads (list (
     STREAM ∷ ANCHOR (codes "a") ∷ FlowSequenceStart ∷ ALIAS (codes "a") ∷ FlowEntry ∷ ALIAS (codes "a") ∷
     FlowSequenceEnd ∷ StreamEnd ∷ [])) no_more (
-    implicit 14 (flow_sequence (pos 1 ∷ pos 1 ∷ []) 2 13 ∷ []) ∷ no_root ∷ [])
+    implicit 14 (flow_sequence_node (pos 1 ∷ pos 1 ∷ []) 2 13 ∷ []) ∷ no_root ∷ [])
 
 -- a nested collection that holds itself, and stands a second time after its end: `[ &a [ *a ], *a ]`
 abbrev pub RowNestedHoldsItself : Type 0
 RowNestedHoldsItself = IsLoads (list (
     STREAM ∷ FlowSequenceStart ∷ ANCHOR (codes "a") ∷ FlowSequenceStart ∷ ALIAS (codes "a") ∷ FlowSequenceEnd ∷ FlowEntry ∷
     ALIAS (codes "a") ∷ FlowSequenceEnd ∷ StreamEnd ∷ [])) no_more (
-    implicit 18 (flow_sequence (pos 2 ∷ pos 2 ∷ []) 2 17 ∷ flow_sequence (pos 2 ∷ []) 4 11 ∷ []) ∷ no_root ∷ [])
+    implicit 18 (flow_sequence_node (pos 2 ∷ pos 2 ∷ []) 2 17 ∷ flow_sequence_node (pos 2 ∷ []) 4 11 ∷ []) ∷ no_root ∷ [])
 
 -- Composer errors.
 abbrev pub RowUndefinedAlias : Type 0
@@ -237,7 +237,7 @@ abbrev pub RowAnchorOfDocumentBefore : Type 0
 RowAnchorOfDocumentBefore = IsLoads (list (
     STREAM ∷ DocumentStart ∷ ANCHOR (codes "a") ∷ SCALAR (codes "x") ∷ DocumentStart ∷ ALIAS (codes "a") ∷
     StreamEnd ∷ [])) no_more (
-    loaded [] false true 2 8 (text (codes "x") 4 7 ∷ []) ∷ no_carrier 10 ∷ [])
+    loaded [] false true 2 8 (text_node (codes "x") 4 7 ∷ []) ∷ no_carrier 10 ∷ [])
 
 -- the parser's own fault comes later, and is hidden
 abbrev pub RowSecondAnchor : Type 0
@@ -250,13 +250,13 @@ abbrev pub RowParserFault : Type 0
 RowParserFault = IsLoads (list (
     STREAM ∷ DocumentStart ∷ SCALAR (codes "x") ∷ DocumentStart ∷ FlowSequenceStart ∷ SCALAR (codes "a") ∷
     SCALAR (codes "b") ∷ FlowSequenceEnd ∷ StreamEnd ∷ [])) no_more (
-    loaded [] false true 2 6 (text (codes "x") 4 5 ∷ []) ∷
+    loaded [] false true 2 6 (text_node (codes "x") 4 5 ∷ []) ∷
     Err (says_while (codes "while parsing a flow sequence") 8 (codes "did not find expected ',' or ']'") 12) ∷ [])
 
 abbrev pub RowSourceEnds : Type 0
 RowSourceEnds = IsLoads (list (
     STREAM ∷ DocumentStart ∷ SCALAR (codes "a") ∷ DocumentStart ∷ SCALAR (codes "b") ∷ [])) no_more (
-    loaded [] false true 2 6 (text (codes "a") 4 5 ∷ []) ∷ Err no_more ∷ [])
+    loaded [] false true 2 6 (text_node (codes "a") 4 5 ∷ []) ∷ Err no_more ∷ [])
 
 abbrev pub RowUndefinedAliasBeforeSourceEnds : Type 0
 RowUndefinedAliasBeforeSourceEnds = IsLoads (list (
@@ -267,8 +267,8 @@ abbrev pub RowNodesInBound : Type 0
 RowNodesInBound = IsBoundedLoads 5 (list (
     STREAM ∷ FlowMappingStart ∷ Key ∷ SCALAR (codes "a") ∷ Value ∷ SCALAR (codes "b") ∷ FlowEntry ∷ SCALAR (codes "c") ∷
     FlowMappingEnd ∷ StreamEnd ∷ [])) no_more (
-    implicit 18 (flow_mapping (pair 2 3 ∷ pair 4 5 ∷ []) 2 17 ∷ text (codes "a") 6 7 ∷ text (codes "b") 10 11 ∷
-    text (codes "c") 14 15 ∷ text [] 16 16 ∷ []) ∷ no_root ∷ [])
+    implicit 18 (flow_mapping_node (pair 2 3 ∷ pair 4 5 ∷ []) 2 17 ∷ text_node (codes "a") 6 7 ∷ text_node (codes "b") 10 11 ∷
+    text_node (codes "c") 14 15 ∷ text_node [] 16 16 ∷ []) ∷ no_root ∷ [])
 
 abbrev pub RowNodesBeyondBound : Type 0
 RowNodesBeyondBound = IsBoundedLoads 4 (list (
@@ -284,8 +284,8 @@ RowItemsBeyondBound = IsBoundedLoads 1 (list (
 abbrev pub RowBoundOfEachDocument : Type 0
 RowBoundOfEachDocument = IsBoundedLoads 1 (list (
     STREAM ∷ DocumentStart ∷ SCALAR (codes "a") ∷ DocumentStart ∷ SCALAR (codes "b") ∷ StreamEnd ∷ [])) no_more (
-    loaded [] false true 2 6 (text (codes "a") 4 5 ∷ []) ∷ loaded [] false true 6 10
-    (text (codes "b") 8 9 ∷ []) ∷ no_root ∷ [])
+    loaded [] false true 2 6 (text_node (codes "a") 4 5 ∷ []) ∷ loaded [] false true 6 10
+    (text_node (codes "b") 8 9 ∷ []) ∷ no_root ∷ [])
 
 -- the third node is beyond the bound, and its anchor is one that the second carries
 abbrev pub RowBoundBeforeAnchor : Type 0
@@ -305,7 +305,7 @@ abbrev pub RowPairInBound : Type 0
 RowPairInBound = IsBoundedLoads 1 (list (
     STREAM ∷ ANCHOR (codes "a") ∷ FlowMappingStart ∷ Key ∷ ALIAS (codes "a") ∷ Value ∷ ALIAS (codes "a") ∷
     FlowMappingEnd ∷ StreamEnd ∷ [])) no_more (
-    implicit 16 (flow_mapping (pair 1 1 ∷ []) 2 15 ∷ []) ∷ no_root ∷ [])
+    implicit 16 (flow_mapping_node (pair 1 1 ∷ []) 2 15 ∷ []) ∷ no_root ∷ [])
 
 abbrev pub RowKeyBeyondBound : Type 0
 RowKeyBeyondBound = IsBoundedLoads 1 (list (

@@ -3,8 +3,8 @@
 
 ghost use Rattle.libyaml_graphs.specs.rows.LoadRows.{RowAliasBeforeBound, RowAnchorOfDocumentBefore};
 ghost use Rattle.libyaml_graphs.specs.rows.LoadRows.{RowBoundBeforeAnchor, RowBoundOfEachDocument};
-ghost use Rattle.libyaml_graphs.specs.rows.LoadRows.{RowCollectionsInPairs, RowDirectives};
-ghost use Rattle.libyaml_graphs.specs.rows.LoadRows.{RowEmptyDocuments, RowEmptyStream, RowEmptyTag};
+ghost use Rattle.libyaml_graphs.specs.rows.LoadRows.{RowCollectionsInPairs, RowDirectivesLoaded};
+ghost use Rattle.libyaml_graphs.specs.rows.LoadRows.{RowEmptyDocumentsLoaded, RowEmptyStreamLoaded, RowEmptyTagLoaded};
 ghost use Rattle.libyaml_graphs.specs.rows.LoadRows.{RowExclamationMarksOfCollections, RowExplicitEnd};
 ghost use Rattle.libyaml_graphs.specs.rows.LoadRows.{RowHoldsItself, RowItemTwice, RowItemsBeyondBound};
 ghost use Rattle.libyaml_graphs.specs.rows.LoadRows.{RowKeyBeyondBound, RowNestedHoldsItself};
@@ -12,17 +12,17 @@ ghost use Rattle.libyaml_graphs.specs.rows.LoadRows.{RowNodesBeyondBound, RowNod
 ghost use Rattle.libyaml_graphs.specs.rows.LoadRows.{RowPairInBound, RowPairs, RowParserFault};
 ghost use Rattle.libyaml_graphs.specs.rows.LoadRows.{RowSecondAliasUndefined, RowSecondAnchor};
 ghost use Rattle.libyaml_graphs.specs.rows.LoadRows.{RowSourceEnds, RowStartWithoutRoot};
-ghost use Rattle.libyaml_graphs.specs.rows.LoadRows.{RowTagThatIsAnExclamationMark, RowUndefinedAlias};
+ghost use Rattle.libyaml_graphs.specs.rows.LoadRows.{RowTagThatIsAnExclamationMarkLoaded, RowUndefinedAlias};
 ghost use Rattle.libyaml_graphs.specs.rows.LoadRows.{RowUndefinedAliasBeforeSourceEnds};
 ghost use Rattle.libyaml_graphs.specs.rows.LoadRows.{RowUndefinedAliasBehindKey};
 
 /// Shows a stream without documents, directives, an explicit end, documents without content, and a start that
 /// no root follows.
 pub fn documents()
-    ensures empty_stream { RowEmptyStream }
-    ensures directives { RowDirectives }
+    ensures empty_stream { RowEmptyStreamLoaded }
+    ensures directives { RowDirectivesLoaded }
     ensures explicit_end { RowExplicitEnd }
-    ensures empty_documents { RowEmptyDocuments }
+    ensures empty_documents { RowEmptyDocumentsLoaded }
     ensures start_without_root { RowStartWithoutRoot }
 {}
 
@@ -34,9 +34,9 @@ pub fn collections()
 
 /// Shows the tag `!`, and an empty one.
 pub fn tags()
-    ensures tag_that_is_an_exclamation_mark { RowTagThatIsAnExclamationMark }
+    ensures tag_that_is_an_exclamation_mark { RowTagThatIsAnExclamationMarkLoaded }
     ensures exclamation_marks_of_collections { RowExclamationMarksOfCollections }
-    ensures empty_tag { RowEmptyTag }
+    ensures empty_tag { RowEmptyTagLoaded }
 {}
 
 /// Shows nodes that hold themselves, and nodes that stand more than once.

@@ -24,33 +24,33 @@ use Rattle.libyaml_loader.specs.declared.refusal.Refusal.{Refusal}
 use Rattle.libyaml_loader.specs.declared.refusal.Refusal.TheVariants.{Memory}
 use Rattle.libyaml_loader.specs.document.Context.{AllOpenIn, handed_to, with_nodes}
 use Rattle.libyaml_loader.specs.loads.LoadGrowth.{content_grows, node_grows, parent_grows}
-use Rattle.libyaml_loader.specs.document.Ids.{id_of, magnitude, number_of, open_of}
+use Rattle.libyaml_loader.specs.document.Ids.{node_id_of, magnitude, node_number_of, open_of}
 use Rattle.libyaml_loader.specs.document.Stack.{innermost, with_key}
 
 magnitude_is : (z : ℤ) → pos 1 ≤ℤ z → z ≡ pos (magnitude z)
 magnitude_is (pos n) h = refl
 magnitude_is (negsuc n) h = absurd (omega (arith, ints))
 
-pub id_number : (i : NodeId) → i.number ≡ pos (id_of i)
+pub id_number : (i : NodeId) → i.number ≡ pos (node_id_of i)
 id_number i = magnitude_is i.number i.positive
 
 -- the stack by its innermost
-pub top_first : (s : List machine.Open) (o : machine.Open) → Some o ≡ innermost s → o ∷ outer s ≡ s
+pub top_first : (s : List machine.OpenNode) (o : machine.OpenNode) → Some o ≡ innermost s → o ∷ outer s ≡ s
 top_first [] o e = absurd cc
-top_first (p ∷ s) o e = ap (λ (q : machine.Open). q ∷ s) (same e)
+top_first (p ∷ s) o e = ap (λ (q : machine.OpenNode). q ∷ s) (same e)
   where
     same : Some o ≡ Some p → o ≡ p
     same h = cc
 
 -- the ids of an open collection and of its key are ids of nodes
-pub open_ids : (n : ℕ) (p : Open) (s : List machine.Open) → Some (open_of p) ≡ innermost s → AllOpenIn n s
-    → IsIdUpTo n p.node.number × IfSome (number_of p.key) (IsIdUpTo n)
+pub open_ids : (n : ℕ) (p : Open) (s : List machine.OpenNode) → Some (open_of p) ≡ innermost s → AllOpenIn n s
+    → IsIdUpTo n p.node.number × IfSome (node_number_of p.key) (IsIdUpTo n)
 open_ids n p s top h =
     let there : AllOpenIn n (open_of p ∷ outer s) = subst (AllOpenIn n) (sym (top_first s (open_of p) top)) h in
     (there.0, there.1)
 
-pub waiting_is_id : (n : ℕ) (p : Open) (s : List machine.Open) → Some (open_of p) ≡ innermost s → AllOpenIn n s
-    → (k : Option ℤ) → k ≡ number_of p.key
+pub waiting_is_id : (n : ℕ) (p : Open) (s : List machine.OpenNode) → Some (open_of p) ≡ innermost s → AllOpenIn n s
+    → (k : Option ℤ) → k ≡ node_number_of p.key
     → IfSome k (IsIdUpTo n)
 waiting_is_id n p s top h k is = subst (λ (o : Option ℤ). IfSome o (IsIdUpTo n)) (sym is) (open_ids n p s top h).1
 
@@ -79,7 +79,7 @@ pair_grows k (Some x) h = go x.content h
     go (Sequence s) h = absurd cc
     go (Mapping s) h = refl
 
-abbrev pub stack_behind : ChildRole → ℤ → List machine.Open → List machine.Open
+abbrev pub stack_behind : ChildRole → ℤ → List machine.OpenNode → List machine.OpenNode
 stack_behind role.Item i s = s
 stack_behind role.Key i s = with_key (Some i) s
 stack_behind role.Value i s = with_key None s
@@ -88,15 +88,15 @@ stack_behind role.Ignored i s = s
 module _ (c : loader_ctx) (p : Open) (child : NodeId) (top : Some (open_of p) ≡ innermost c.stack) where
   -- the context after a child, and that its parent's list had room
   pub record Handed (r : ChildRole) (new : Document) : Type 0 where
-    pub context : record c { document = new; stack = stack_behind r child.number c.stack } ≡ handed_to (pos (id_of child)) c
+    pub context : record c { document = new; stack = stack_behind r child.number c.stack } ≡ handed_to (pos (node_id_of child)) c
     pub room : parent_full c.max_entries c.stack c.document.nodes ≡ false
 
-  abbrev HandsAs : ChildRole → List machine.Open → List yaml_node_t → Bool → Type 0
+  abbrev HandsAs : ChildRole → List machine.OpenNode → List yaml_node_t → Bool → Type 0
   HandsAs r s nodes full = Hands c.max_entries child.number s c.document.nodes nodes (stack_behind r child.number s) full
 
   at_top : (r : ChildRole) (nodes : List yaml_node_t) (full : Bool)
       → HandsAs r (open_of p ∷ outer c.stack) nodes full → HandsAs r c.stack nodes full
-  at_top r nodes full h = subst (λ (s : List machine.Open). HandsAs r s nodes full) (top_first c.stack (open_of p) top) h
+  at_top r nodes full h = subst (λ (s : List machine.OpenNode). HandsAs r s nodes full) (top_first c.stack (open_of p) top) h
 
   handed_as : (r : ChildRole) (new : Document) (nodes : List yaml_node_t) (full : Bool) → new ≡ with_nodes nodes c.document
       → HandsAs r (open_of p ∷ outer c.stack) nodes full → full ≡ false → Handed r new
@@ -110,14 +110,14 @@ module _ (c : loader_ctx) (p : Open) (child : NodeId) (top : Some (open_of p) �
               stack =
                   stack_behind r z c.stack;
             }) h.nodes_are
-            ∙ ap (λ (s : List machine.Open). record c
+            ∙ ap (λ (s : List machine.OpenNode). record c
             { document = with_nodes (hand z c.stack c.document.nodes) c.document; stack = s }) h.stack_is
             ∙ ap (λ (i : ℤ). handed_to i c) (id_number child);
         room = h.full_is ∙ room;
       }
 
   pub hands : (r : ChildRole) (new : Document)
-      → AppendedAs r c.max_entries p.node.number (number_of p.key) child.number c.document new → Handed r new
+      → AppendedAs r c.max_entries p.node.number (node_number_of p.key) child.number c.document new → Handed r new
   hands role.Item new (sequence, made, room)
       = handed_as role.Item new _ _ made
       (hands_item c.max_entries child.number (open_of p) (outer c.stack) c.document.nodes sequence) room
@@ -131,28 +131,28 @@ module _ (c : loader_ctx) (p : Open) (child : NodeId) (top : Some (open_of p) �
       = handed_as role.Ignored new _ _ made
       (hands_nothing c.max_entries child.number (open_of p) (outer c.stack) c.document.nodes scalar) refl
 
-  pub hands_at : (r s : ChildRole) (k : Option ℤ) (new : Document) → r ≡ s → k ≡ number_of p.key
+  pub hands_at : (r s : ChildRole) (k : Option ℤ) (new : Document) → r ≡ s → k ≡ node_number_of p.key
       → AppendedAs r c.max_entries p.node.number k child.number c.document new → Handed s new
   hands_at r s k new is waits h =
-      hands s new (subst (λ (q : ChildRole). AppendedAs q c.max_entries p.node.number (number_of p.key) child.number
+      hands s new (subst (λ (q : ChildRole). AppendedAs q c.max_entries p.node.number (node_number_of p.key) child.number
       c.document new) is
       (subst (λ (y : Option ℤ). AppendedAs r c.max_entries p.node.number y child.number c.document new) waits h))
 
   -- why it may be refused
-  pub refuses : (k : Option ℤ) → k ≡ number_of p.key → MayRefuseAt c.max_entries p.node.number k c.document.nodes
+  pub refuses : (k : Option ℤ) → k ≡ node_number_of p.key → MayRefuseAt c.max_entries p.node.number k c.document.nodes
       → (parent_grows c.stack c.document.nodes ≡ true) ⊎ (parent_full c.max_entries c.stack c.document.nodes ≡ true)
   refuses k waits h = go k waits h
     where
       parent : Option yaml_node_t
       parent = node_at c.document.nodes p.node.number
 
-      grows : (q : Option ℤ) → number_of p.key ≡ q → node_grows q parent ≡ true
+      grows : (q : Option ℤ) → node_number_of p.key ≡ q → node_grows q parent ≡ true
           → parent_grows c.stack c.document.nodes ≡ true
-      grows q e h = ap (λ (s : List machine.Open). parent_grows s c.document.nodes)
+      grows q e h = ap (λ (s : List machine.OpenNode). parent_grows s c.document.nodes)
           (sym (top_first c.stack (open_of p) top))
           ∙ ap (λ (y : Option ℤ). node_grows y parent) e ∙ h
 
-      go : (q : Option ℤ) → q ≡ number_of p.key → MayRefuseAt c.max_entries p.node.number q c.document.nodes
+      go : (q : Option ℤ) → q ≡ node_number_of p.key → MayRefuseAt c.max_entries p.node.number q c.document.nodes
           → (parent_grows c.stack c.document.nodes ≡ true) ⊎ (parent_full c.max_entries c.stack c.document.nodes ≡ true)
       go None e (inl sequence) = inl (grows None (sym e) (sequence_grows None parent sequence))
       go None e (inr (mapping, full)) =

@@ -14,7 +14,7 @@ use Rattle.libyaml_documents.specs.declared.node.unnamed_yaml_node_t_data.{unnam
 use Rattle.libyaml_documents.specs.declared.node.unnamed_yaml_node_t_data.TheVariants.{Scalar, Sequence, Mapping}
 use Rattle.libyaml_documents.specs.declared.node.yaml_node_t.{yaml_node_t}
 use Rattle.libyaml_graphs.specs.graphs.Graphs as graphs
-use Rattle.libyaml_graphs.specs.machine.Loader.{Anchors, Loader, Open, Loading, Registered, bounded_option, closed_by}
+use Rattle.libyaml_graphs.specs.machine.Loader.{Anchors, Loader, OpenNode, Loading, Registered, bounded_option, closed_by}
 use Rattle.libyaml_graphs.specs.machine.Loader.{failed, fresh, going, hand, handed}
 use Rattle.libyaml_graphs.specs.machine.Loader.{if_child_fits, key_after, key_behind, known, list_full, load_part}
 use Rattle.libyaml_graphs.specs.machine.Loader.{nodes_full, on_alias, on_node, outer, register}
@@ -34,11 +34,11 @@ length_changed (pos (suc p)) f nodes = go p nodes
     go zero (x ∷ nodes) = refl
     go (suc p) (x ∷ nodes) = ap suc (go p nodes)
 
-length_hand : (i : ℤ) (s : List Open) (nodes : List yaml_node_t) → length (hand i s nodes) ≡ length nodes
+length_hand : (i : ℤ) (s : List OpenNode) (nodes : List yaml_node_t) → length (hand i s nodes) ≡ length nodes
 length_hand i [] nodes = refl
 length_hand i (o ∷ s) nodes = length_changed o.node (with_child o.key i) nodes
 
-length_close : (m : yaml_mark_t) (s : List Open) (nodes : List yaml_node_t) → length (closed_by m s nodes) ≡ length nodes
+length_close : (m : yaml_mark_t) (s : List OpenNode) (nodes : List yaml_node_t) → length (closed_by m s nodes) ≡ length nodes
 length_close m [] nodes = refl
 length_close m (o ∷ s) nodes = length_changed o.node (with_end m) nodes
 
@@ -53,12 +53,12 @@ key_in n k i (Some x) is h = go k x.content h
     go None (Mapping s) h = is
     go (Some k) (Mapping s) h = tt
 
-handed_in : (n : ℕ) (i : ℤ) (s : List Open) (nodes : List yaml_node_t) → IsIdUpTo n i → AllOpenIn n s
+handed_in : (n : ℕ) (i : ℤ) (s : List OpenNode) (nodes : List yaml_node_t) → IsIdUpTo n i → AllOpenIn n s
     → AllOpenIn n (handed i s nodes)
 handed_in n i [] nodes is h = tt
 handed_in n i (o ∷ s) nodes is h = (h.0, key_in n o.key i (node_at nodes o.node) is h.1, h.2)
 
-outer_in : (n : ℕ) (s : List Open) → AllOpenIn n s → AllOpenIn n (outer s)
+outer_in : (n : ℕ) (s : List OpenNode) → AllOpenIn n s → AllOpenIn n (outer s)
 outer_in n [] h = tt
 outer_in n (o ∷ s) h = h.2
 
@@ -98,7 +98,7 @@ register_in n (Some a) i m xs ys le h e q = go (get xs a) e
 same_loader : (k l : Loader) → going l ≡ going k → l ≡ k
 same_loader k l e = cc
 
-node_in : (l k : Loader) (a : Option (List ℕ)) (x : yaml_node_t) (opens : List Open)
+node_in : (l k : Loader) (a : Option (List ℕ)) (x : yaml_node_t) (opens : List OpenNode)
     → AllOpenIn (suc (length l.nodes)) opens → IdsAreIn l
     → on_node (register a (suc (length l.nodes)) x.start_mark l.anchors) x opens l ≡ going k → IdsAreIn k
 node_in l k a x opens new h e = go (register a (suc (length l.nodes)) x.start_mark l.anchors) refl e
@@ -112,7 +112,7 @@ node_in l k a x opens new h e = go (register a (suc (length l.nodes)) x.start_ma
     last : IsIdUpTo n (pos n)
     last = (omega (arith, ints), omega (arith, ints))
 
-    both : (s t : List Open) → AllOpenIn n s → AllOpenIn n t → AllOpenIn n (s ++ t)
+    both : (s t : List OpenNode) → AllOpenIn n s → AllOpenIn n t → AllOpenIn n (s ++ t)
     both [] t g h = h
     both (o ∷ s) t g h = (g.0, g.1, both s t g.2 h)
 

@@ -28,7 +28,7 @@ use Rattle.libyaml_loader.specs.loads.Loading.{DocumentOrError, LoadsFrom}
 use Rattle.libyaml_loader.specs.loads.Loading.{at_end, by_loader, by_memory, by_parser, whole}
 use Rattle.libyaml_loader.specs.loads.OneLoad.{LoadRunsOut, in_parser, in_loader, LoadsAlike, OneLoad, alike}
 use Rattle.libyaml_loader.specs.loads.OneLoad.{first_runs_out, second_runs_out, OneLoadByAnswers}
-use Rattle.libyaml_loader.specs.loads.OneLoad.{LoadOutcome, results_in, results_of}
+use Rattle.libyaml_loader.specs.loads.OneLoad.{LoadOutcome, results_in, load_results_of}
 
 -- both after the same tokens
 more_behind : (l : List Token) (x y : List Answer) → answers l (x ++ y) ≡ answers l x ++ y
@@ -346,14 +346,14 @@ module _ {S : Type 0} (gives : S → Answer → S → Type 0) (known : S → Opt
   Of r new = LoadOutcome gives known may_break load left old r new
 
   pub one_load_proof : (r s : DocumentOrError) (p q : Parser S) (a : Of r p) (b : Of s q)
-      → OneLoadByAnswers gives load old asked given (results_of history a) (results_of history b) r p s q
+      → OneLoadByAnswers gives load old asked given (load_results_of history a) (load_results_of history b) r p s q
   one_load_proof r s p q a b =
       let x = outcome r p a.error a.loads in
       let y = outcome s q b.error b.loads in
       record {
         first_gave = x.gave;
         second_gave = y.gave;
-        one = λ o. one_of (results_of history a) (results_of history b) r s p q (a.bound ∙ sym b.bound) o x.came y.came;
+        one = λ o. one_of (load_results_of history a) (load_results_of history b) r s p q (a.bound ∙ sym b.bound) o x.came y.came;
       }
 
   -- over a source that returns in one way
@@ -363,8 +363,8 @@ module _ {S : Type 0} (gives : S → Answer → S → Type 0) (known : S → Opt
         ⊎ (LoadsAlike r p s q × (p.source ≡ q.source))
     one_way_load r s p q a b =
         let x = one_load_proof r s p q a b in
-        let w = one_source_proof gives old.source p.source q.source (results_of history a) (results_of history b) way x.first_gave x.second_gave in
-        go (results_of history a) (results_of history b) w.1 (x.one w.0)
+        let w = one_source_proof gives old.source p.source q.source (load_results_of history a) (load_results_of history b) way x.first_gave x.second_gave in
+        go (load_results_of history a) (load_results_of history b) w.1 (x.one w.0)
       where
         go : (k l : List Answer) → (k ≡ l → p.source ≡ q.source) → OneLoad gives load old asked given k l r p s q
             → (LoadRunsOut gives load old r p asked given ⊎ LoadRunsOut gives load old s q asked given)

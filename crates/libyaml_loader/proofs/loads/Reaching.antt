@@ -7,7 +7,7 @@ use Rattle.libyaml_grammar.specs.runs.Runs.{Ending, Ends, Fails}
 use Rattle.libyaml_types.specs.Fault.{Fault, memory_fault}
 use Rattle.libyaml_graphs.specs.graphs.GraphParts.{Closing, Opening, closing_of, graph, opening_of, part_of, parts}
 use Rattle.libyaml_graphs.specs.loads.Bounds.{bounded_loads, first_stop}
-use Rattle.libyaml_graphs.specs.loads.Loads.{Begun, Load, Stop, answer, begun, behind_document, document_end, last_load}
+use Rattle.libyaml_graphs.specs.loads.Loads.{Begun, Load, Stop, load_answer, begun, behind_document, end_of_document, last_load}
 use Rattle.libyaml_graphs.specs.loads.Loads.{load_then, loads_by, next_by}
 use Rattle.libyaml_graphs.specs.machine.Loader.{Loading, State, between, bounded_option, failed, fresh, going, left_from}
 use Rattle.libyaml_graphs.specs.machine.Loader.{load_from, within}
@@ -22,14 +22,14 @@ first [] = last_load Ends
 first (a ∷ l) = a
 
 first_then : (f : Option Fault) (c : Option Closing) (o : Opening) (nodes : List yaml_node_t) (last : Load) (l : List Load)
-    → first (load_then f c o nodes last l) ≡ answer f c o nodes last
+    → first (load_then f c o nodes last l) ≡ load_answer f c o nodes last
 first_then (Some f) c o nodes last l = refl
 first_then None (Some c) o nodes last l = refl
 first_then None None o nodes last l = refl
 
 first_by : (stop : Stop) (x : Ending) (bs : List Begun) → first (loads_by stop x bs) ≡ next_by stop x bs
 first_by stop x [] = refl
-first_by stop x (b ∷ bs) = first_then (stop (parts b.rest)) (document_end b.rest) b.opening (graph [] (parts b.rest))
+first_by stop x (b ∷ bs) = first_then (stop (parts b.rest)) (end_of_document b.rest) b.opening (graph [] (parts b.rest))
     (last_load x) (loads_by stop x bs)
 
 first_whole : (c : Option Closing) (a : Load) (l : List Load) → first (whole_then c a l) ≡ a
@@ -39,7 +39,7 @@ first_whole (Some c) (Ok d) l = refl
 
 first_load : (n : ℕ) (s : State) (e : List Event) (x : Ending) → first (loads_from n s e x) ≡ load_from n s e x
 first_load n between e x = first_by (first_stop n [] []) x (begun e) ∙ sym (one_load e x n)
-first_load n (within o l) e x = first_whole (document_end e) (load_from n (within o l) e x)
+first_load n (within o l) e x = first_whole (end_of_document e) (load_from n (within o l) e x)
     (bounded_loads n (behind_document e) x)
 
 -- the first of the loads from a state is the load from there

@@ -7,7 +7,7 @@ use Rattle.libyaml_graphs.specs.machine.Loader.{State}
 use Rattle.libyaml_types.specs.Fault.{Fault, fault_of}
 use Rattle.libyaml_loader.specs.declared.composer.Composer.{Composer}
 use Rattle.libyaml_loader.specs.pushes.Composing.{Composes, IsSound, RefusesEvent, RefusesOneOf, by_loads, by_memory}
-use Rattle.libyaml_loader.specs.pushes.Composing.{state_of}
+use Rattle.libyaml_loader.specs.pushes.Composing.{composer_state}
 use Rattle.libyaml_loader.specs.pushes.Leads.{Leads, NeedsMemoryAt, for_document, for_node}
 use Rattle.libyaml_loader.proofs.pushes.Leading.{leads_both}
 
@@ -18,7 +18,7 @@ pub record InTurn (old : Composer) (events : List Event) (before : List Document
   pub all : events ≡ composed ++ left
   pub added : List Document
   pub appended : after ≡ before ++ added
-  pub leads : Leads old.max_entries (state_of old) composed added (state_of now)
+  pub leads : Leads old.max_entries (composer_state old) composed added (composer_state now)
   pub sound : IsSound now
   pub bound : now.max_entries ≡ old.max_entries
   pub fault : now.fault ≡ old.fault
@@ -56,9 +56,9 @@ module _ (old now new : Composer) (events : List Event) (before docs after : Lis
         all = turn.all ∙ sym (append_assoc turn.composed (e ∷ []) left);
         added = turn.added ++ k.added;
         appended = all_added k.added k.appended;
-        leads = leads_both old.max_entries (state_of old) (state_of now) (state_of new) turn.composed
+        leads = leads_both old.max_entries (composer_state old) (composer_state now) (composer_state new) turn.composed
             (e ∷ []) turn.added k.added turn.leads
-            (subst (λ (n : ℕ). Leads n (state_of now) (e ∷ []) k.added (state_of new)) turn.bound k.ends_so);
+            (subst (λ (n : ℕ). Leads n (composer_state now) (e ∷ []) k.added (composer_state new)) turn.bound k.ends_so);
         sound = sound;
         bound = bound ∙ turn.bound;
         fault = fault ∙ turn.fault;
@@ -74,8 +74,8 @@ module _ (old now new : Composer) (events : List Event) (before docs after : Lis
     where
       by : Composes Full now (e ∷ []) docs (Err x) new after → Composes More old events before (Err y) new after
       by k =
-          let i : RefusesOneOf Full old.max_entries (state_of now) (e ∷ []) k.added (fault_of new.fault)
-          = subst (λ (n : ℕ). RefusesOneOf Full n (state_of now) (e ∷ []) k.added (fault_of new.fault))
+          let i : RefusesOneOf Full old.max_entries (composer_state now) (e ∷ []) k.added (fault_of new.fault)
+          = subst (λ (n : ℕ). RefusesOneOf Full n (composer_state now) (e ∷ []) k.added (fault_of new.fault))
           turn.bound k.ends_so in
           record {
             added = turn.added ++ k.added;
@@ -88,7 +88,7 @@ module _ (old now new : Composer) (events : List Event) (before docs after : Lis
                   ∙ (ap (λ (l : List Event). turn.composed ++ l) (append_assoc i.composed (i.event ∷ i.later) left)
                   ∙ sym (append_assoc turn.composed i.composed (i.event ∷ (i.later ++ left)))));
               here = i.here;
-              leads = leads_both old.max_entries (state_of old) (state_of now) i.here turn.composed
+              leads = leads_both old.max_entries (composer_state old) (composer_state now) i.here turn.composed
                   i.composed turn.added k.added turn.leads i.leads;
               refuses = refuses_more Full More old.max_entries i.here i.event (fault_of new.fault) f i.refuses;
             };

@@ -7,8 +7,8 @@ use Rattle.libyaml_grammar.specs.runs.Runs.{Ending}
 use Rattle.libyaml_types.specs.Fault.{Fault}
 use Rattle.libyaml_graphs.specs.graphs.GraphParts.{Closing, Opening, closing_of, graph, opening_of, part_of, parts}
 use Rattle.libyaml_graphs.specs.loads.Bounds.{bounded_loads, first_stop}
-use Rattle.libyaml_graphs.specs.loads.Loads.{Begun, Load, answer, begun, begun_behind, behind_document, document}
-use Rattle.libyaml_graphs.specs.loads.Loads.{document_end, last_load, load_then, loads_by, next_by}
+use Rattle.libyaml_graphs.specs.loads.Loads.{Begun, Load, load_answer, begun, begun_behind, behind_document, document}
+use Rattle.libyaml_graphs.specs.loads.Loads.{end_of_document, last_load, load_then, loads_by, next_by}
 use Rattle.libyaml_graphs.specs.machine.Loader.{Loader, Loading, State, between, bounded_option, failed, fresh, going}
 use Rattle.libyaml_graphs.specs.machine.Loader.{if_going, load_from, within}
 use Rattle.libyaml_graphs.proofs.lent.BoundedLoader.{one_load}
@@ -57,7 +57,7 @@ passes_by n e h = record {
 }
 
 first_whole : (f : Option Fault) (c : Option Closing) (o : Opening) (nodes : List yaml_node_t) (x : Ending) (l : List Load)
-    → load_then f c o nodes (last_load x) l ≡ whole_then c (answer f c o nodes (last_load x)) l
+    → load_then f c o nodes (last_load x) l ≡ whole_then c (load_answer f c o nodes (last_load x)) l
 first_whole (Some f) c o nodes x l = refl
 first_whole None (Some c) o nodes x l = refl
 first_whole None None o nodes x l = go (last_load x)
@@ -70,16 +70,16 @@ opens_loads : (n : ℕ) (e : Event) (o : Opening) → opening_of e ≡ Some o �
     → loads_from n between (e ∷ rest) x ≡ loads_from n (within o fresh) rest x
 opens_loads n e o h rest x
     = ap (λ (c : Option Opening). loads_by (first_stop n [] []) x (at c)) h
-    ∙ (first_whole (first_stop n [] [] (parts rest)) (document_end rest) o (graph [] (parts rest)) x
+    ∙ (first_whole (first_stop n [] [] (parts rest)) (end_of_document rest) o (graph [] (parts rest)) x
     (loads_by (first_stop n [] []) x (begun_behind rest))
-    ∙ (ap (λ (a : Load). whole_then (document_end rest) a (loads_by (first_stop n [] []) x (begun_behind rest))) first
-    ∙ ap (λ (l : List Begun). whole_then (document_end rest) (load_from n (within o fresh) rest x)
+    ∙ (ap (λ (a : Load). whole_then (end_of_document rest) a (loads_by (first_stop n [] []) x (begun_behind rest))) first
+    ∙ ap (λ (l : List Begun). whole_then (end_of_document rest) (load_from n (within o fresh) rest x)
     (loads_by (first_stop n [] []) x l)) (left_behind rest)))
   where
     at : Option Opening → List Begun
     at c = elim c [ None ↦ begun rest | Some p ↦ record { opening = p; rest = rest } ∷ begun_behind rest ]
 
-    first : answer (first_stop n [] [] (parts rest)) (document_end rest) o (graph [] (parts rest)) (last_load x)
+    first : load_answer (first_stop n [] [] (parts rest)) (end_of_document rest) o (graph [] (parts rest)) (last_load x)
         ≡ load_from n (within o fresh) rest x
     first = sym (ap (λ (c : Option Opening). next_by (first_stop n [] []) x (at c)) h)
         ∙ (sym (one_load (e ∷ rest) x n) ∙ opens n e rest x o h)
@@ -92,7 +92,7 @@ opens_there n e o h = record {
 
 -- within a document, by whether the event is its end
 abbrev by_end : ℕ → Opening → Loader → Event → List Event → Ending → Option Closing → List Load
-by_end n o l e rest x c = whole_then (elim c [ Some y ↦ Some y | None ↦ document_end rest ])
+by_end n o l e rest x c = whole_then (elim c [ Some y ↦ Some y | None ↦ end_of_document rest ])
     (within_event n o l rest x c (part_of e))
     (bounded_loads n (elim c [ Some y ↦ rest | None ↦ behind_document rest ]) x)
 
@@ -113,10 +113,10 @@ closes_there n o l e c h = record {
 goes : (n : ℕ) (o : Opening) (l : Loader) (e : Event) (r : Loading) → closing_of e ≡ None
     → bounded_option n l (part_of e) ≡ r
     → (rest : List Event) (x : Ending) → loads_from n (within o l) (e ∷ rest) x
-    ≡ whole_then (document_end rest) (if_going (λ (f : Fault). Err f) r (λ (k : Loader). load_from n (within o k) rest x))
+    ≡ whole_then (end_of_document rest) (if_going (λ (f : Fault). Err f) r (λ (k : Loader). load_from n (within o k) rest x))
     (bounded_loads n (behind_document rest) x)
 goes n o l e r h g rest x = ap (by_end n o l e rest x) h
-    ∙ ap (λ (u : Loading). whole_then (document_end rest)
+    ∙ ap (λ (u : Loading). whole_then (end_of_document rest)
     (if_going (λ (f : Fault). Err f) u (λ (k : Loader). load_from n (within o k) rest x))
     (bounded_loads n (behind_document rest) x)) g
 

@@ -19,7 +19,7 @@ use Rattle.libyaml_graphs.specs.loads.Loads.{Load, last_load}
 use Rattle.libyaml_graphs.specs.machine.Loader.{State, between}
 use Rattle.libyaml_graphs.proofs.lent.LoadLists.{same_loads}
 use Rattle.libyaml_loader.specs.pushes.Leads.{Leads, as_loads, loads_from}
-use Rattle.libyaml_loader.specs.pushes.Loaded.{Loaded, PushLoader, fault_in, has_stopped, standing}
+use Rattle.libyaml_loader.specs.pushes.Loaded.{Loaded, PushLoader, loader_fault, loader_has_stopped, standing_loader}
 use Rattle.libyaml_loader.specs.pushes.OnePushLoads.{OnePushLoads, PushLoadsAlike, PushLoadsRunOut, alike}
 use Rattle.libyaml_loader.specs.pushes.OnePushLoads.{first_runs_out, second_runs_out}
 use Rattle.libyaml_loader.specs.pushes.PushesLoads.{AreThen, PushesLoads, StopsLoading, TakesLoads, by_memory, by_tokens}
@@ -51,10 +51,10 @@ one_loaded_proof p q tokens a b bound h k =
     in
     let here : p.state ≡ q.state = h.leads.state ∙ sym led.state in
     let f : p.fault ≡ q.fault = h.none_kept ∙ sym k.none_kept in (
-      ap (λ (x : PushParser). standing x p.state p.fault p.max_entries) s.0
-          ∙ (ap (λ (x : State). standing q.parser x p.fault p.max_entries) here
-          ∙ (ap (λ (x : Fault). standing q.parser q.state x p.max_entries) f
-          ∙ ap (standing q.parser q.state q.fault) bound)),
+      ap (λ (x : PushParser). standing_loader x p.state p.fault p.max_entries) s.0
+          ∙ (ap (λ (x : State). standing_loader q.parser x p.fault p.max_entries) here
+          ∙ (ap (λ (x : Fault). standing_loader q.parser q.state x p.max_entries) f
+          ∙ ap (standing_loader q.parser q.state q.fault) bound)),
       (same_loads a b (last_load Ends) (last_load Ends)
           (sym (ends_there p.max_entries h.events a p.state h.leads) ∙ ends_there p.max_entries h.events b q.state led)).0,
     )
@@ -88,7 +88,7 @@ no_failure n l g k x (so_far r) s = apart (each no_fault) (each memory_fault)
 
 module _ (old : PushLoader) (t : Token)
     (before : List Document) (tokens : List Token) (documents : List Document) (h : Loaded old tokens documents)
-    (running : has_stopped old ≡ false) where
+    (running : loader_has_stopped old ≡ false) where
   abbrev now : List Token
   now = tokens ++ t ∷ []
 
@@ -96,8 +96,8 @@ module _ (old : PushLoader) (t : Token)
   data Ended (Full : Type 0) (r : Done) (new : PushLoader) (after : List Document) : Type 0 where
     went : (added : List Document) → r ≡ Ok tt → after ≡ before ++ added → Loaded new now (documents ++ added)
         → LoadsSo old.max_entries now (documents ++ added) → Ended Full r new after
-    failed : (added : List Document) → r ≡ Err (fault_in new).error → after ≡ before ++ added
-        → ((f : Fault) → AreThen old.max_entries (now ++ []) f (documents ++ added) (Err (fault_in new)))
+    failed : (added : List Document) → r ≡ Err (loader_fault new).error → after ≡ before ++ added
+        → ((f : Fault) → AreThen old.max_entries (now ++ []) f (documents ++ added) (Err (loader_fault new)))
         → Ended Full r new after
     ran_out : PushLoadsRunOut Full now h.events documents before r new after → Ended Full r new after
 
@@ -117,10 +117,10 @@ module _ (old : PushLoader) (t : Token)
       k : TakesLoads Full old t before (Err x) new after
       k = p.takes running
 
-      by : StopsLoading Full new.max_entries now h.events (documents ++ k.added) (fault_in new)
+      by : StopsLoading Full new.max_entries now h.events (documents ++ k.added) (loader_fault new)
           → Ended Full (Err x) new after
       by (by_tokens loads) = failed k.added (ap Err p.kept.0) k.appended
-          (λ f. subst (λ (n : ℕ). AreThen n (now ++ []) f (documents ++ k.added) (Err (fault_in new))) p.bound (loads [] f))
+          (λ f. subst (λ (n : ℕ). AreThen n (now ++ []) f (documents ++ k.added) (Err (loader_fault new))) p.bound (loads [] f))
       by (by_memory i more here begins leads needs) = ran_out (record {
         error = ap Err (p.kept.0 ∙ ap (λ (f : Fault). f.error) i);
         fault = i;
@@ -143,9 +143,9 @@ module _ (old : PushLoader) (t : Token)
       no : (x : yaml_error_type_t) → ◌≡◌ {A = Done} (Err x) (Ok tt) → ⊥
       no x k = cc
 
-  alike_err : (r s : Done) (p q : PushLoader) (after later : List Document) → r ≡ Err (fault_in p).error
-      → s ≡ Err (fault_in q).error → after ≡ later
-      → p.max_entries ≡ q.max_entries → fault_in p ≡ fault_in q → PushLoadsAlike r p after s q later
+  alike_err : (r s : Done) (p q : PushLoader) (after later : List Document) → r ≡ Err (loader_fault p).error
+      → s ≡ Err (loader_fault q).error → after ≡ later
+      → p.max_entries ≡ q.max_entries → loader_fault p ≡ loader_fault q → PushLoadsAlike r p after s q later
   alike_err (Err x) s p q after later i j e b f
       = record {
         result = i ∙ (ap (λ (y : Fault). Err y.error) f ∙ sym j);
@@ -155,7 +155,7 @@ module _ (old : PushLoader) (t : Token)
             tt;
         behind_error = f;
       }
-  alike_err (Ok u) s p q after later i j e b f = absurd (no u (fault_in p).error i)
+  alike_err (Ok u) s p q after later i j e b f = absurd (no u (loader_fault p).error i)
     where
       no : (u : Unit {0}) (x : yaml_error_type_t) → ◌≡◌ {A = Done} (Ok u) (Err x) → ⊥
       no u x k = cc
@@ -184,17 +184,17 @@ module _ (old : PushLoader) (t : Token)
           let o = one_loaded_proof p q now (documents ++ a) (documents ++ b) bound k k' in
           alike (alike_ok r s p q after later i i' (both_added a b after later j j' o.1) bound o.0)
       go (went a i j k l) (failed b i' j' loads) =
-          absurd (no_failure n now (documents ++ a) (documents ++ b) (fault_in q) l loads)
+          absurd (no_failure n now (documents ++ a) (documents ++ b) (loader_fault q) l loads)
       go (failed a i j loads) (went b i' j' k l) =
-          absurd (no_failure n now (documents ++ b) (documents ++ a) (fault_in p) l loads)
+          absurd (no_failure n now (documents ++ b) (documents ++ a) (loader_fault p) l loads)
       go (failed a i j loads) (failed b i' j' more) =
-          let o = same_are n (now ++ []) no_fault (documents ++ a) (documents ++ b) (Err (fault_in p))
-          (Err (fault_in q)) (loads no_fault) (more no_fault) in
+          let o = same_are n (now ++ []) no_fault (documents ++ a) (documents ++ b) (Err (loader_fault p))
+          (Err (loader_fault q)) (loads no_fault) (more no_fault) in
           alike (alike_err r s p q after later i i' (both_added a b after later j j' o.0) bound
-          (err_same (fault_in p) (fault_in q) o.1))
+          (err_same (loader_fault p) (loader_fault q) o.1))
 
 pub stopped_push_loads : (Full More : Type 0) (old p q : PushLoader) (t : Token)
-    (before after later : List Document) (r s : Done) → has_stopped old ≡ true
+    (before after later : List Document) (r s : Done) → loader_has_stopped old ≡ true
     → PushesLoads Full old t before r p after → PushesLoads More old t before s q later
     → (r ≡ s) × (p ≡ q) × (after ≡ later)
 stopped_push_loads Full More old p q t before after later r s h x y =

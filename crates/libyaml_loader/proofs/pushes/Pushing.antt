@@ -30,10 +30,10 @@ use Rattle.libyaml_events.proofs.lent.Pushes.{fed_begins_run, fed_count, fed_end
 use Rattle.libyaml_events.proofs.lent.RunStops.{short_run, whole_run}
 use Rattle.libyaml_loader.specs.pushes.Composing as comp
 use Rattle.libyaml_loader.specs.pushes.Composing.{Composes, RefusesEvent, RefusesOneOf, by_loads}
-use Rattle.libyaml_loader.specs.pushes.Composing.{by_memory as no_memory, state_by, state_of}
+use Rattle.libyaml_loader.specs.pushes.Composing.{by_memory as no_memory, state_by, composer_state}
 use Rattle.libyaml_loader.specs.pushes.Leads.{Leads, as_loads, loads_from}
-use Rattle.libyaml_loader.specs.pushes.Loaded.{ForLoaded, Loaded, PushLoader, RemembersLoads, has_stopped}
-use Rattle.libyaml_loader.specs.pushes.Loaded.{keeps_fault, standing}
+use Rattle.libyaml_loader.specs.pushes.Loaded.{ForLoaded, Loaded, PushLoader, RemembersLoads, loader_has_stopped}
+use Rattle.libyaml_loader.specs.pushes.Loaded.{loader_keeps_fault, standing_loader}
 use Rattle.libyaml_loader.specs.pushes.PushesLoads.{AreThen, BeginsEachLoads, PushesLoads, StopsLoading, by_memory}
 use Rattle.libyaml_loader.specs.pushes.PushesLoads.{by_tokens}
 use Rattle.libyaml_loader.specs.pushes.PushesLoads.{in_loader, in_parser}
@@ -82,10 +82,10 @@ module _ (l : PushLoader) where
   whole_loads tokens documents h is more source = are_then l.max_entries (tokens ++ more) source h.events Ends
       documents l.state (whole_run tokens h.events more source (fed_whole h.pushed is)) h.leads
 
-  pub none_kept : ForLoaded l (λ _ _. keeps_fault l ≡ false)
+  pub none_kept : ForLoaded l (λ _ _. loader_keeps_fault l ≡ false)
   none_kept tokens documents h = ap (λ (f : Fault). is_fault f.error) h.none_kept
 
-  pub stopped_at : ForLoaded l (λ tokens _. has_stopped l ≡ has_end tokens)
+  pub stopped_at : ForLoaded l (λ tokens _. loader_has_stopped l ≡ has_end tokens)
   stopped_at tokens documents h = ap (λ (b : Bool). b || pushed.has_stopped l.parser)
       (none_kept tokens documents h) ∙ fed_ended h.pushed
 
@@ -166,9 +166,9 @@ module _ (Full Room : Type 0) (p q : PushParser) (t : Token) (given : List Event
     (same : s ≡ Ok tt → new.fault ≡ old.fault)
     (faultless : done_by (fault_of old.fault) ≡ Ok tt) where
   abbrev pub first : PushLoader
-  first = standing p (state_of old) (fault_of old.fault) old.max_entries
+  first = standing_loader p (composer_state old) (fault_of old.fault) old.max_entries
 
-  not_kept : keeps_fault first ≡ false
+  not_kept : loader_keeps_fault first ≡ false
   not_kept = go (is_fault old.fault.error) refl
     where
       error : (f : Fault) (b : Bool) → b ≡ true → pushes.done_if b f ≡ Ok tt → ⊥
@@ -179,17 +179,17 @@ module _ (Full Room : Type 0) (p q : PushParser) (t : Token) (given : List Event
       go true h = absurd (error (fault_of old.fault) (is_fault old.fault.error) h faultless)
       go false h = h
 
-  running : has_stopped first ≡ false → pushed.has_stopped p ≡ false
-  running h = (or_parts (keeps_fault first) (pushed.has_stopped p) h).1
+  running : loader_has_stopped first ≡ false → pushed.has_stopped p ≡ false
+  running h = (or_parts (loader_keeps_fault first) (pushed.has_stopped p) h).1
 
-  ended : has_stopped first ≡ true → pushed.has_stopped p ≡ true
+  ended : loader_has_stopped first ≡ true → pushed.has_stopped p ≡ true
   ended h = sym (ap (λ (b : Bool). b || pushed.has_stopped p) not_kept) ∙ h
 
-  taken : has_stopped first ≡ false → Takes Room p t [] r q given
+  taken : loader_has_stopped first ≡ false → Takes Room p t [] r q given
   taken h = pushes_so.takes (running h)
 
   -- all events of the tokens
-  all_begin : (h : has_stopped first ≡ false) (tokens : List Token) (l : List Document)
+  all_begin : (h : loader_has_stopped first ≡ false) (tokens : List Token) (l : List Document)
       (k : Loaded first tokens l) → pushes.EndsSo Room (tokens ++ t ∷ []) (k.events ++ given) r q
   all_begin h tokens l k = subst (λ (e : List Event). pushes.EndsSo Room (tokens ++ t ∷ []) (k.events ++ e) r q)
       (sym (taken h).appended)
@@ -197,17 +197,17 @@ module _ (Full Room : Type 0) (p q : PushParser) (t : Token) (given : List Event
 
   from_start : (tokens : List Token) (l : List Document) (k : Loaded first tokens l) (composed : List Event)
       (here : State)
-      → Leads old.max_entries (state_of old) composed composes.added here
+      → Leads old.max_entries (composer_state old) composed composes.added here
       → Leads old.max_entries between (k.events ++ composed) (l ++ composes.added) here
-  from_start tokens l k composed here leads = leads_both old.max_entries between (state_of old) here k.events
+  from_start tokens l k composed here leads = leads_both old.max_entries between (composer_state old) here k.events
       composed l composes.added k.leads leads
 
   -- and the push goes on
   abbrev pub second : PushLoader
-  second = standing q (state_of new) (fault_of new.fault) new.max_entries
+  second = standing_loader q (composer_state new) (fault_of new.fault) new.max_entries
 
-  all_led : (u : Unit {0}) → s ≡ Ok u → Leads old.max_entries (state_of old) given composes.added (state_of new)
-  all_led u is = subst (λ (z : Done). comp.EndsSo Full old.max_entries (state_of old) given composes.added z
+  all_led : (u : Unit {0}) → s ≡ Ok u → Leads old.max_entries (composer_state old) given composes.added (composer_state new)
+  all_led u is = subst (λ (z : Done). comp.ComposedSo Full old.max_entries (composer_state old) given composes.added z
       new) is composes.ends_so
 
   pub pushes_ok : (u v : Unit {0}) → s ≡ Ok u → r ≡ Ok v → PushesLoads Full first t before (Ok tt) second after
@@ -215,8 +215,8 @@ module _ (Full Room : Type 0) (p q : PushParser) (t : Token) (given : List Event
     stopped = λ h.
         let k = pushes_so.stopped (ended h) in
         let n = none_given k.1 in (
-          ap (λ (x : PushParser). standing x (state_of new) (fault_of new.fault) new.max_entries) k.0
-              ∙ ap (λ (x : Composer). standing p (state_of x) (fault_of x.fault) x.max_entries) n.0,
+          ap (λ (x : PushParser). standing_loader x (composer_state new) (fault_of new.fault) new.max_entries) k.0
+              ∙ ap (λ (x : Composer). standing_loader p (composer_state x) (fault_of x.fault) x.max_entries) n.0,
           n.1,
           sym faultless,
         );
@@ -227,9 +227,9 @@ module _ (Full Room : Type 0) (p q : PushParser) (t : Token) (given : List Event
         events = k.events ++ given;
         pushed = subst (λ (z : Done). pushes.EndsSo Room (tokens ++ t ∷ []) (k.events ++ given) z q) so
             (all_begin h tokens l k);
-        leads = subst (λ (n : ℕ). Leads n between (k.events ++ given) (l ++ composes.added) (state_of new))
+        leads = subst (λ (n : ℕ). Leads n between (k.events ++ given) (l ++ composes.added) (composer_state new))
             (sym bound)
-            (from_start tokens l k given (state_of new) (all_led u is));
+            (from_start tokens l k given (composer_state new) (all_led u is));
         none_kept = ap fault_of (same is) ∙ k.none_kept;
       };
     };
@@ -269,11 +269,11 @@ module _ (Full Room : Type 0) (p q : PushParser) (t : Token) (given : List Event
     linear = linear_loads second;
   }
     where
-      one : RefusesOneOf Full old.max_entries (state_of old) given composes.added (fault_of new.fault)
-      one = subst (λ (z : Done). comp.EndsSo Full old.max_entries (state_of old) given composes.added z new)
+      one : RefusesOneOf Full old.max_entries (composer_state old) given composes.added (fault_of new.fault)
+      one = subst (λ (z : Done). comp.ComposedSo Full old.max_entries (composer_state old) given composes.added z new)
           is composes.ends_so
 
-      stops : has_stopped first ≡ false → (tokens : List Token) (l : List Document) (k : Loaded first tokens l)
+      stops : loader_has_stopped first ≡ false → (tokens : List Token) (l : List Document) (k : Loaded first tokens l)
           → StopsLoading Full new.max_entries (tokens ++ t ∷ []) k.events (l ++ composes.added) (fault_of new.fault)
       stops h tokens l k = subst (λ (n : ℕ). StopsLoading Full n (tokens ++ t ∷ []) k.events
           (l ++ composes.added) (fault_of new.fault)) (sym bound)
@@ -287,7 +287,7 @@ module _ (Full Room : Type 0) (p q : PushParser) (t : Token) (given : List Event
 
   -- or the parser stops
   abbrev pub third : PushLoader
-  third = standing q between (pushed.fault_in q) new.max_entries
+  third = standing_loader q between (pushed.fault_in q) new.max_entries
 
   pub pushes_failed : RemembersLoads first → (u : Unit {0}) (y : yaml_error_type_t) → s ≡ Ok u → r ≡ Err y
       → PushesLoads Full first t before (Err y) third after
@@ -319,13 +319,13 @@ module _ (Full Room : Type 0) (p q : PushParser) (t : Token) (given : List Event
       never (inr (tokens, l, k)) h = differ (pushed.fault_in p) (pushed.keeps_fault p)
           (fed_faultless k.pushed) h
 
-      stops : has_stopped first ≡ false → (tokens : List Token) (l : List Document) (k : Loaded first tokens l)
+      stops : loader_has_stopped first ≡ false → (tokens : List Token) (l : List Document) (k : Loaded first tokens l)
           → StopsLoading Full new.max_entries (tokens ++ t ∷ []) k.events (l ++ composes.added) (pushed.fault_in q)
       stops h tokens l k = subst (λ (n : ℕ). StopsLoading Full n (tokens ++ t ∷ []) k.events
           (l ++ composes.added) (pushed.fault_in q)) (sym bound)
           (parser_stops Full Room old.max_entries (tokens ++ t ∷ []) k.events given (l ++ composes.added)
-          (state_of new) (pushed.fault_in q)
-          (from_start tokens l k given (state_of new) (all_led u is))
+          (composer_state new) (pushed.fault_in q)
+          (from_start tokens l k given (composer_state new) (all_led u is))
           (subst (λ (z : Done). pushes.EndsSo Room (tokens ++ t ∷ []) (k.events ++ given) z q) so
           (all_begin h tokens l k)))
 
@@ -334,14 +334,14 @@ pub push_remembers : (Full : Type 0) (old new : PushLoader) (t : Token) (before 
     → PushesLoads Full old t before r new after
     → RemembersLoads old → RemembersLoads new
 push_remembers Full old new t before after (Err x) h k = inl h.kept.1
-push_remembers Full old new t before after (Ok u) h k = go (has_stopped old) refl
+push_remembers Full old new t before after (Ok u) h k = go (loader_has_stopped old) refl
   where
-    go : (b : Bool) → has_stopped old ≡ b → RemembersLoads new
+    go : (b : Bool) → loader_has_stopped old ≡ b → RemembersLoads new
     go true i = subst RemembersLoads (sym (h.stopped i).0) k
     go false i = by k
       where
         by : RemembersLoads old → RemembersLoads new
-        by (inl kept) = absurd (true≢false (sym kept ∙ (or_parts (keeps_fault old) (pushed.has_stopped old.parser) i).0))
+        by (inl kept) = absurd (true≢false (sym kept ∙ (or_parts (loader_keeps_fault old) (pushed.has_stopped old.parser) i).0))
         by (inr (tokens, l, m)) = inr (tokens ++ t ∷ [], l ++ (h.takes i).added, (h.takes i).ends_so tokens l m)
 
 -- what holds where a call returned without an error
@@ -352,7 +352,7 @@ on_ok P (Err x) h is = absurd cc
 -- the parser's fault is kept
 pub kept_fault : (q : PushParser) (k : Composer) (n : ℕ) (f : Fault) → k.is_open ≡ false → fault_of k.fault ≡ f
     → k.max_entries ≡ n
-    → standing q between f n ≡ standing q (state_of k) (fault_of k.fault) k.max_entries
+    → standing_loader q between f n ≡ standing_loader q (composer_state k) (fault_of k.fault) k.max_entries
 kept_fault q k n f none fault bound = sym
-    (ap (λ (b : Bool). standing q (state_by b k.ctx) (fault_of k.fault) k.max_entries) none
-    ∙ (ap (λ (g : Fault). standing q between g k.max_entries) fault ∙ ap (λ (m : ℕ). standing q between f m) bound))
+    (ap (λ (b : Bool). standing_loader q (state_by b k.ctx) (fault_of k.fault) k.max_entries) none
+    ∙ (ap (λ (g : Fault). standing_loader q between g k.max_entries) fault ∙ ap (λ (m : ℕ). standing_loader q between f m) bound))

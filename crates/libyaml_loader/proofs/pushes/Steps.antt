@@ -10,7 +10,7 @@ use Rattle.libyaml_types.specs.Fault.{Fault, fault_of, memory_fault}
 use Rattle.libyaml_graphs.specs.graphs.GraphParts as parts
 use Rattle.libyaml_graphs.specs.graphs.GraphParts.{closing_of, opening_of, part_of}
 use Rattle.libyaml_graphs.specs.machine.Loader as machine
-use Rattle.libyaml_graphs.specs.machine.Loader.{Loader, Open, State, between, bounded_option, failed, fresh, no_anchors}
+use Rattle.libyaml_graphs.specs.machine.Loader.{Loader, OpenNode, State, between, bounded_option, failed, fresh, no_anchors}
 use Rattle.libyaml_graphs.specs.machine.Loader.{within}
 use Rattle.libyaml_loader.specs.declared.composer.Composer.{Composer}
 use Rattle.libyaml_loader.specs.declared.context.loader_ctx.{loader_ctx}
@@ -18,10 +18,10 @@ use Rattle.libyaml_loader.specs.declared.refusal.Refusal.{Refusal}
 use Rattle.libyaml_loader.specs.declared.refusal.Refusal.TheVariants.{Memory}
 use Rattle.libyaml_loader.specs.document.Context.{Composed, IdsAreIn, Refuses, loader_of}
 use Rattle.libyaml_loader.specs.document.Refusals.{fault_by}
-use Rattle.libyaml_loader.specs.loads.LoadGrowth.{may_grow}
+use Rattle.libyaml_loader.specs.loads.LoadGrowth.{load_may_grow}
 use Rattle.libyaml_loader.specs.declared.composer.Closing.{Closing}
 use Rattle.libyaml_loader.specs.pushes.Composing.{Composes, ComposesEvent, IsSound, RefusesEvent, RefusesOneOf, by_loads}
-use Rattle.libyaml_loader.specs.pushes.Composing.{by_memory, closing_by, opening_in, state_by, state_of}
+use Rattle.libyaml_loader.specs.pushes.Composing.{by_memory, closing_by, opening_of_document, state_by, composer_state}
 use Rattle.libyaml_loader.specs.pushes.Leads.{Leads, for_document, for_node}
 use Rattle.libyaml_loader.proofs.document.IdsKept.{ids_fresh, ids_kept}
 use Rattle.libyaml_loader.proofs.pushes.InTurn.{refuses_more}
@@ -33,7 +33,7 @@ context_is_fresh : (c : loader_ctx) (o : parts.Opening) → c.document ≡ begun
     → loader_of c ≡ fresh
 context_is_fresh c o document stack anchors =
     ap (λ (d : Document). record { nodes = d.nodes; stack = c.stack; anchors = c.anchors }) document
-    ∙ ap (λ (s : List Open). record { nodes = []; stack = s; anchors = c.anchors }) stack
+    ∙ ap (λ (s : List OpenNode). record { nodes = []; stack = s; anchors = c.anchors }) stack
     ∙ ap (λ (a : machine.Anchors). record { nodes = []; stack = []; anchors = a }) anchors
 
 -- it begins
@@ -42,7 +42,7 @@ module _ (c : loader_ctx) (o : parts.Opening) (is : c.document ≡ begun_documen
   pub begun_leads : (n : ℕ) (e : Event) → opening_of e ≡ Some o → Leads n between (e ∷ []) [] (state_by true c)
   begun_leads n e h = subst (λ (s : State). Leads n between (e ∷ []) [] s)
       (ap (λ (l : Loader). within o l) (sym (context_is_fresh c o is stack anchors))
-      ∙ ap (λ (d : Document). within (opening_in d) (loader_of c)) (sym is))
+      ∙ ap (λ (d : Document). within (opening_of_document d) (loader_of c)) (sym is))
       (opens_there n e o h)
 
   pub begun_ids : IdsAreIn (loader_of c)
@@ -54,31 +54,31 @@ module _ (old : Composer) (new : loader_ctx) (e : Event) (sound : IsSound old) (
   added_ids h = ids_kept old.ctx.max_entries (loader_of old.ctx) (loader_of new) (part_of e) (sound.ids is_open) h.goes
 
   pub refused : (r : Refusal) (f : Fault) → closing_of e ≡ None → Refuses old.ctx new (part_of e) e.start_mark r
-      → f ≡ fault_by r new.first_mark e.start_mark → RefusesEvent ⊥ old.max_entries (state_of old) e f
+      → f ≡ fault_by r new.first_mark e.start_mark → RefusesEvent ⊥ old.max_entries (composer_state old) e f
   refused r f no_end h fault =
       subst (λ (b : Bool). RefusesEvent ⊥ old.max_entries (state_by b old.ctx) e f) (sym is_open) (go h)
     where
-      go : ((r ≡ Memory) × (may_grow (loader_of old.ctx) (part_of e) ≡ true))
+      go : ((r ≡ Memory) × (load_may_grow (loader_of old.ctx) (part_of e) ≡ true))
           ⊎ (bounded_option old.ctx.max_entries (loader_of old.ctx) (part_of e)
           ≡ failed (fault_by r new.first_mark e.start_mark))
           → RefusesEvent ⊥ old.max_entries (state_by true old.ctx) e f
       go (inl m) = by_memory (fault ∙ ap (λ (q : Refusal). fault_by q new.first_mark e.start_mark) m.0)
-          (for_node (opening_in old.ctx.document) (loader_of old.ctx) refl m.1)
-      go (inr w) = by_loads (refused_there old.max_entries (opening_in old.ctx.document) (loader_of old.ctx) e f no_end
+          (for_node (opening_of_document old.ctx.document) (loader_of old.ctx) refl m.1)
+      go (inr w) = by_loads (refused_there old.max_entries (opening_of_document old.ctx.document) (loader_of old.ctx) e f no_end
           (ap (λ (n : ℕ). bounded_option n (loader_of old.ctx) (part_of e)) (sym sound.bound) ∙ (w ∙ ap failed (sym fault))))
 
 -- What an event did, where a list takes the documents that end.
 module _ (Full : Type 0) (old mid : Composer) (e : Event) (before : List Document)
     (r : Result (Option Closing) yaml_error_type_t) (h : ComposesEvent old e r mid) where
-  refused_first : (f : Fault) → RefusesEvent Full old.max_entries (state_of old) e f
-      → RefusesOneOf Full old.max_entries (state_of old) (e ∷ []) [] f
+  refused_first : (f : Fault) → RefusesEvent Full old.max_entries (composer_state old) e f
+      → RefusesOneOf Full old.max_entries (composer_state old) (e ∷ []) [] f
   refused_first f k = record {
     composed = [];
     event = e;
     later = [];
     all = refl;
-    here = state_of old;
-    leads = leads_none old.max_entries (state_of old);
+    here = composer_state old;
+    leads = leads_none old.max_entries (composer_state old);
     refuses = k;
   }
 
@@ -99,6 +99,6 @@ module _ (Full : Type 0) (old mid : Composer) (e : Event) (before : List Documen
     added = [];
     appended = sym (append-nil before);
     ends_so = refused_first (fault_of mid.fault)
-        (refuses_more ⊥ Full old.max_entries (state_of old) e (fault_of mid.fault) (λ none. absurd none)
+        (refuses_more ⊥ Full old.max_entries (composer_state old) e (fault_of mid.fault) (λ none. absurd none)
         (rw is at h));
   }

@@ -8,7 +8,7 @@ use Rattle.libyaml_documents.specs.declared.node.yaml_node_t.{yaml_node_t}
 use Rattle.libyaml_documents.specs.Documents.{Document}
 use Rattle.libyaml_documents.specs.Nodes.{IsIdUpTo}
 use Rattle.libyaml_graphs.specs.graphs.Graphs as graphs
-use Rattle.libyaml_graphs.specs.machine.Loader.{Loader, Open, Loading, Registered, bounded_option, closed_by, failed}
+use Rattle.libyaml_graphs.specs.machine.Loader.{Loader, OpenNode, Loading, Registered, bounded_option, closed_by, failed}
 use Rattle.libyaml_graphs.specs.machine.Loader.{going, hand, handed, known, outer, parent_full}
 use Rattle.libyaml_graphs.specs.machine.Loader.{register, registered}
 use Rattle.libyaml_graphs.specs.graphs.GraphParts.{Part}
@@ -16,7 +16,7 @@ use Rattle.libyaml_loader.specs.declared.context.loader_ctx.{loader_ctx}
 use Rattle.libyaml_loader.specs.declared.ids.NodeId.{NodeId}
 use Rattle.libyaml_loader.specs.declared.refusal.Refusal.{Refusal}
 use Rattle.libyaml_loader.specs.declared.refusal.Refusal.TheVariants.{Memory, RepeatedAnchor}
-use Rattle.libyaml_loader.specs.loads.LoadGrowth.{may_grow, parent_grows}
+use Rattle.libyaml_loader.specs.loads.LoadGrowth.{load_may_grow, parent_grows}
 use Rattle.libyaml_loader.specs.document.Refusals.{fault_by}
 
 -- what the loader's machine sees
@@ -31,7 +31,7 @@ abbrev pub CarrierIn : ℕ → Option graphs.Carrier → Type 0
 CarrierIn n None = Unit {0}
 CarrierIn n (Some c) = IsIdUpTo n (pos c.id)
 
-abbrev pub AllOpenIn : ℕ → List Open → Type 0
+abbrev pub AllOpenIn : ℕ → List OpenNode → Type 0
 AllOpenIn n [] = Unit {0}
 AllOpenIn n (o ∷ s) = IsIdUpTo n o.node × IfSome o.key (IsIdUpTo n) × AllOpenIn n s
 
@@ -48,8 +48,8 @@ handed_to i c = record c {
 }
 
 -- the innermost open collection ended
-abbrev pub closed : yaml_mark_t → loader_ctx → loader_ctx
-closed m c = record c { document = with_nodes (closed_by m c.stack c.document.nodes) c.document; stack = outer c.stack }
+abbrev pub closed_innermost : yaml_mark_t → loader_ctx → loader_ctx
+closed_innermost m c = record c { document = with_nodes (closed_by m c.stack c.document.nodes) c.document; stack = outer c.stack }
 
 -- why an anchor is not registered, and where its first node starts
 abbrev pub RefusesAnchor : Registered → Refusal → (first_mark : yaml_mark_t) → Type 0
@@ -81,5 +81,5 @@ RefusedBy grows o r f = ((r ≡ Memory) × (grows ≡ true)) ⊎ (o ≡ failed f
 
 -- of an event that starts at this mark
 abbrev pub Refuses : (old new : loader_ctx) → Option Part → yaml_mark_t → Refusal → Type 0
-Refuses old new p mark r = RefusedBy (may_grow (loader_of old) p) (bounded_option old.max_entries (loader_of old) p)
+Refuses old new p mark r = RefusedBy (load_may_grow (loader_of old) p) (bounded_option old.max_entries (loader_of old) p)
     r (fault_by r new.first_mark mark)

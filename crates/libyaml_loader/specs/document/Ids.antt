@@ -10,15 +10,15 @@ abbrev pub magnitude : ℤ → ℕ
 magnitude (pos n) = n
 magnitude (negsuc n) = zero
 
-abbrev pub id_of : NodeId → ℕ
-id_of i = magnitude i.number
+abbrev pub node_id_of : NodeId → ℕ
+node_id_of i = magnitude i.number
 
-abbrev pub number_of : Option NodeId → Option ℤ
-number_of None = None
-number_of (Some i) = Some i.number
+abbrev pub node_number_of : Option NodeId → Option ℤ
+node_number_of None = None
+node_number_of (Some i) = Some i.number
 
-abbrev pub open_of : Open → machine.Open
-open_of o = record { node = o.node.number; key = number_of o.key }
+abbrev pub open_of : Open → machine.OpenNode
+open_of o = record { node = o.node.number; key = node_number_of o.key }
 
 abbrev pub carrier_of : Carrier → graphs.Carrier
-carrier_of c = record { id = id_of c.node; mark = c.mark }
+carrier_of c = record { id = node_id_of c.node; mark = c.mark }

@@ -10,7 +10,7 @@ use Rattle.libyaml_documents.specs.Nodes.{node_at}
 use Rattle.libyaml_grammar.specs.sentences.Events.{Event}
 use Rattle.libyaml_grammar.specs.runs.Runs.{Ending}
 use Rattle.libyaml_graphs.specs.graphs.Graphs.{Carrier}
-use Rattle.libyaml_graphs.specs.machine.Loader.{Loader, Open, load_from, within}
+use Rattle.libyaml_graphs.specs.machine.Loader.{Loader, OpenNode, load_from, within}
 use Rattle.libyaml_graphs.specs.loads.Loads.{Load}
 use Rattle.libyaml_graphs.specs.graphs.GraphParts.{Opening, Part, alias_part, end_part, leaf_part, part_of, start_part}
 
@@ -26,7 +26,7 @@ node_grows k None = false
 node_grows k (Some x) = content_grows k x.content
 
 -- whether a child's parent takes memory for it
-abbrev pub parent_grows : List Open → List yaml_node_t → Bool
+abbrev pub parent_grows : List OpenNode → List yaml_node_t → Bool
 parent_grows [] nodes = false
 parent_grows (o ∷ s) nodes = node_grows o.key (node_at nodes o.node)
 
@@ -40,9 +40,9 @@ part_grows l (leaf_part a x) = true
 part_grows l (start_part a x) = true
 part_grows l (end_part m) = false
 
-abbrev pub may_grow : Loader → Option Part → Bool
-may_grow l None = false
-may_grow l (Some p) = part_grows l p
+abbrev pub load_may_grow : Loader → Option Part → Bool
+load_may_grow l None = false
+load_may_grow l (Some p) = part_grows l p
 
 -- After these events the load stands within a document, where this one may take memory.
 pub record GrowsAt (load : List Event → Ending → Load) (before : List Event) (e : Event) : Type 0 where
@@ -50,4 +50,4 @@ pub record GrowsAt (load : List Event → Ending → Load) (before : List Event)
   pub opening : Opening
   pub loader : Loader
   pub stands : (rest : List Event) (x : Ending) → load (before ++ rest) x ≡ load_from most (within opening loader) rest x
-  pub grows : may_grow loader (part_of e) ≡ true
+  pub grows : load_may_grow loader (part_of e) ≡ true

@@ -43,12 +43,12 @@ results_in gives known MayBreak load left old new asked given h (Err x) (by_load
 results_in gives known MayBreak load left old new asked given h (Err x) (by_memory before e parser took kept grows)
     = answers (took.history asked given h).more []
 
-abbrev pub results_of : {S : Type 0} {gives : S → Answer → S → Type 0} {known : S → Option Coming} {MayBreak : S
+abbrev pub load_results_of : {S : Type 0} {gives : S → Answer → S → Type 0} {known : S → Option Coming} {MayBreak : S
     → Fault → Type 0} {load : List Event
     → Ending → Load} {left : List Event → List Event} {old new : Parser S} {asked : List Token} {given : List Event}
     {r : DocumentOrError}
     → History old asked given → LoadOutcome gives known MayBreak load left old r new → List Answer
-results_of {S} {gives} {known} {MayBreak} {load} {left} {old} {new} {asked} {given} {r} h o
+load_results_of {S} {gives} {known} {MayBreak} {load} {left} {old} {new} {asked} {given} {r} h o
     = results_in gives known MayBreak load left old new asked given h r o.loads
 
 -- Memory ran out: in the parser, after the events that were taken; or in the loader, at an event where a load may take it.

@@ -24,8 +24,8 @@ abbrev pub closing_by : Closing → parts.Closing
 closing_by c = record { is_implicit = c.implicit; mark = c.mark }
 
 -- how a document on the way began
-abbrev pub opening_in : Document → parts.Opening
-opening_in d = record {
+abbrev pub opening_of_document : Document → parts.Opening
+opening_of_document d = record {
   start = record {
     version_directive = d.version_directive;
     tag_directives = d.tag_directives;
@@ -37,14 +37,14 @@ opening_in d = record {
 
 abbrev pub state_by : (is_open : Bool) → loader_ctx → State
 state_by false c = between
-state_by true c = within (opening_in c.document) (loader_of c)
+state_by true c = within (opening_of_document c.document) (loader_of c)
 
-abbrev pub state_of : Composer → State
-state_of c = state_by c.is_open c.ctx
+abbrev pub composer_state : Composer → State
+composer_state c = state_by c.is_open c.ctx
 
 -- the document that was open, ended so
 abbrev pub ended_by : parts.Closing → loader_ctx → Document
-ended_by c x = document (opening_in x.document) x.document.nodes c
+ended_by c x = document (opening_of_document x.document) x.document.nodes c
 
 -- the document that is open is sound, or nothing is left of the one before; the bound is the composer's
 pub record IsSound (c : Composer) : Type 0 where
@@ -60,9 +60,9 @@ pub data RefusesEvent (Full : Type 0) (n : ℕ) (here : State) (e : Event) (f : 
 -- What one event did: it ended no document; or it ends the one that is open, and nothing is done yet; or it was
 -- refused, and the fault is kept.
 abbrev pub ComposesEvent : (old : Composer) → Event → Result (Option Closing) yaml_error_type_t → (new : Composer) → Type 0
-ComposesEvent old e (Ok None) new = Leads old.max_entries (state_of old) (e ∷ []) [] (state_of new)
+ComposesEvent old e (Ok None) new = Leads old.max_entries (composer_state old) (e ∷ []) [] (composer_state new)
 ComposesEvent old e (Ok (Some c)) new = (old.is_open ≡ true) × (closing_of e ≡ Some (closing_by c)) × (new ≡ old)
-ComposesEvent old e (Err x) new = RefusesEvent ⊥ old.max_entries (state_of old) e (fault_of new.fault)
+ComposesEvent old e (Err x) new = RefusesEvent ⊥ old.max_entries (composer_state old) e (fault_of new.fault)
 
 -- Some of these events were composed, and the next was refused.
 pub record RefusesOneOf (Full : Type 0) (n : ℕ) (old : State) (events : List Event) (added : List Document)
@@ -76,10 +76,10 @@ pub record RefusesOneOf (Full : Type 0) (n : ℕ) (old : State) (events : List E
   pub refuses : RefusesEvent Full n here event f
 
 -- what became of events, where these documents were added
-abbrev pub EndsSo : (Full : Type 0) → ℕ → State → List Event → List Document → Result (Unit {0}) yaml_error_type_t
+abbrev pub ComposedSo : (Full : Type 0) → ℕ → State → List Event → List Document → Result (Unit {0}) yaml_error_type_t
     → Composer → Type 0
-EndsSo Full n old events added (Ok u) new = Leads n old events added (state_of new)
-EndsSo Full n old events added (Err x) new = RefusesOneOf Full n old events added (fault_of new.fault)
+ComposedSo Full n old events added (Ok u) new = Leads n old events added (composer_state new)
+ComposedSo Full n old events added (Err x) new = RefusesOneOf Full n old events added (fault_of new.fault)
 
 -- Events were composed, and the documents that ended were appended.
 pub record Composes (Full : Type 0) (old : Composer) (events : List Event) (before : List Document)
@@ -87,4 +87,4 @@ pub record Composes (Full : Type 0) (old : Composer) (events : List Event) (befo
     (after : List Document) : Type 0 where
   pub added : List Document
   pub appended : after ≡ before ++ added
-  pub ends_so : EndsSo Full old.max_entries (state_of old) events added r new
+  pub ends_so : ComposedSo Full old.max_entries (composer_state old) events added r new

@@ -6,9 +6,9 @@ use Rattle.libyaml_grammar.specs.sentences.Events.{Event}
 use Rattle.libyaml_grammar.specs.runs.Runs.{Ending}
 use Rattle.libyaml_graphs.specs.graphs.GraphParts.{Closing, Opening, closing_of, opening_of, part_of}
 use Rattle.libyaml_graphs.specs.loads.Bounds.{bounded_loads}
-use Rattle.libyaml_graphs.specs.loads.Loads.{Load, behind_document, document_end}
+use Rattle.libyaml_graphs.specs.loads.Loads.{Load, behind_document, end_of_document}
 use Rattle.libyaml_graphs.specs.machine.Loader.{Loader, State, between, bounded_option, fresh, if_going, load_from, within}
-use Rattle.libyaml_loader.specs.loads.LoadGrowth.{may_grow}
+use Rattle.libyaml_loader.specs.loads.LoadGrowth.{load_may_grow}
 
 -- a load, and after a document that is whole these
 abbrev pub whole_then : Option Closing → Load → List Load → List Load
@@ -19,7 +19,7 @@ whole_then (Some c) (Ok d) l = Ok d ∷ l
 -- The loads of the events to come, where no document is open, or one is: within the bound n.
 abbrev pub loads_from : ℕ → State → List Event → Ending → List Load
 loads_from n between e x = bounded_loads n e x
-loads_from n (within o l) e x = whole_then (document_end e) (load_from n (within o l) e x)
+loads_from n (within o l) e x = whole_then (end_of_document e) (load_from n (within o l) e x)
     (bounded_loads n (behind_document e) x)
 
 -- documents as loads
@@ -49,5 +49,5 @@ pub record Leads (n : ℕ) (old : State) (events : List Event) (documents : List
 -- At this event memory is needed: for a node, an item or a pair of the document that is open; or it ends a
 -- document, for which the list of documents has no room.
 pub data NeedsMemoryAt (Full : Type 0) (here : State) (e : Event) : Type 0 where
-  for_node : (o : Opening) (l : Loader) → here ≡ within o l → may_grow l (part_of e) ≡ true → NeedsMemoryAt Full here e
+  for_node : (o : Opening) (l : Loader) → here ≡ within o l → load_may_grow l (part_of e) ≡ true → NeedsMemoryAt Full here e
   for_document : (c : Closing) → closing_of e ≡ Some c → Full → NeedsMemoryAt Full here e

@@ -1,4 +1,4 @@
--- What a loader was handed since it was made, and the documents that it gave (docs/DEFINITIONS.md, "Documents pushed").
+-- What a loader was handed since it was made_loader, and the documents that it gave (docs/DEFINITIONS.md, "Documents pushed").
 use Rattle.std.specs.Prelude.{◌≡◌, ◌⊎◌, ◌||◌, ℕ, List, Bool, true}
 use Rattle.libyaml_types.specs.Fault.{Fault, no_fault}
 use Rattle.libyaml_grammar.specs.sentences.Tokens.{Token}
@@ -18,12 +18,12 @@ pub record PushLoader : Type 0 where
   pub fault : Fault
   pub max_entries : ℕ
 
-abbrev pub standing : PushParser → State → Fault → ℕ → PushLoader
-standing p s f n = record { parser = p; state = s; fault = f; max_entries = n }
+abbrev pub standing_loader : PushParser → State → Fault → ℕ → PushLoader
+standing_loader p s f n = record { parser = p; state = s; fault = f; max_entries = n }
 
 -- a loader that no token was handed to
-abbrev pub made : ℕ → PushLoader
-made n = standing pushed.made between no_fault n
+abbrev pub made_loader : ℕ → PushLoader
+made_loader n = standing_loader pushed.made between no_fault n
 
 -- Since the loader was made it was handed these tokens and gave these documents, without a fault: its parser gave
 -- some events, and the loads of all that begin so are these documents and then those from where it stands.
@@ -37,17 +37,17 @@ pub record Loaded (l : PushLoader) (tokens : List Token) (documents : List Docum
 abbrev pub ForLoaded : PushLoader → (List Token → List Document → Type 0) → Type 0
 ForLoaded l P = (tokens : List Token) (documents : List Document) → Loaded l tokens documents → P tokens documents
 
-abbrev pub fault_in : PushLoader → Fault
-fault_in l = l.fault
+abbrev pub loader_fault : PushLoader → Fault
+loader_fault l = l.fault
 
-abbrev pub keeps_fault : PushLoader → Bool
-keeps_fault l = is_fault l.fault.error
+abbrev pub loader_keeps_fault : PushLoader → Bool
+loader_keeps_fault l = is_fault l.fault.error
 
 -- the stream's end was handed to the loader, or it keeps a fault
-abbrev pub has_stopped : PushLoader → Bool
-has_stopped l = keeps_fault l || pushed.has_stopped l.parser
+abbrev pub loader_has_stopped : PushLoader → Bool
+loader_has_stopped l = loader_keeps_fault l || pushed.has_stopped l.parser
 
 -- a fault is kept, or some pushes lead to a loader that stands so
 abbrev pub RemembersLoads : PushLoader → Type 0
-RemembersLoads l = (keeps_fault l ≡ true)
+RemembersLoads l = (loader_keeps_fault l ≡ true)
     ⊎ ((tokens : List Token) × (documents : List Document) × Loaded l tokens documents)

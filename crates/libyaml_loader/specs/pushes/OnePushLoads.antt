@@ -10,7 +10,7 @@ use Rattle.libyaml_events.specs.sources.Determined.{BeginsEachRun}
 use Rattle.libyaml_events.specs.sources.Pushes.{Done}
 use Rattle.libyaml_graphs.specs.machine.Loader.{State, between}
 use Rattle.libyaml_loader.specs.pushes.Leads.{Leads}
-use Rattle.libyaml_loader.specs.pushes.Loaded.{PushLoader, fault_in}
+use Rattle.libyaml_loader.specs.pushes.Loaded.{PushLoader, loader_fault}
 use Rattle.libyaml_loader.specs.pushes.PushesLoads.{LoadNeedsMemory}
 
 -- An allocation failed: after the events that were given before, some more that the tokens settle gave the documents
@@ -19,7 +19,7 @@ pub record PushLoadsRunOut (Full : Type 0) (tokens : List Token) (given : List E
     (r : Done) (new : PushLoader) (after : List Document)
     : Type 0 where
   pub error : r ≡ Err YAML_MEMORY_ERROR
-  pub fault : fault_in new ≡ memory_fault
+  pub fault : loader_fault new ≡ memory_fault
   pub added : List Document
   pub appended : after ≡ before ++ added
   pub more : List Event
@@ -35,7 +35,7 @@ pub record PushLoadsAlike (r : Done) (p : PushLoader) (after : List Document) (s
   pub appended : after ≡ later
   pub bound : p.max_entries ≡ q.max_entries
   pub behind_push : IfOk r (λ _. p ≡ q)
-  pub behind_error : IfErr r (λ _. fault_in p ≡ fault_in q)
+  pub behind_error : IfErr r (λ _. loader_fault p ≡ loader_fault q)
 
 pub data OnePushLoads (Full More : Type 0) (tokens : List Token) (given : List Event) (documents before : List Document)
     (r : Done) (p : PushLoader) (after : List Document)

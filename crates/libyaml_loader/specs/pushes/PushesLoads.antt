@@ -16,7 +16,7 @@ use Rattle.libyaml_graphs.specs.loads.Linear.{documents_size}
 use Rattle.libyaml_graphs.specs.loads.Loads.{Load, last_load}
 use Rattle.libyaml_graphs.specs.machine.Loader.{State, between}
 use Rattle.libyaml_loader.specs.pushes.Leads.{Leads, NeedsMemoryAt, as_loads}
-use Rattle.libyaml_loader.specs.pushes.Loaded.{ForLoaded, Loaded, PushLoader, fault_in, has_stopped, keeps_fault}
+use Rattle.libyaml_loader.specs.pushes.Loaded.{ForLoaded, Loaded, PushLoader, loader_fault, loader_has_stopped, loader_keeps_fault}
 
 -- The loads over these tokens, after which the source fails so, are these documents and then this load: within the bound n.
 abbrev pub AreThen : ℕ → List Token → Fault → List Document → Load → Type 0
@@ -51,7 +51,7 @@ pub data StopsLoading (Full : Type 0) (n : ℕ) (tokens : List Token) (given : L
 -- after these tokens, the events given before the last of them, and these documents a push ended so, and left this
 abbrev pub LoadEndsSo : (Full : Type 0) → List Token → (given : List Event) → List Document → Done → PushLoader → Type 0
 LoadEndsSo Full tokens given documents (Ok u) new = Loaded new tokens documents
-LoadEndsSo Full tokens given documents (Err x) new = StopsLoading Full new.max_entries tokens given documents (fault_in new)
+LoadEndsSo Full tokens given documents (Err x) new = StopsLoading Full new.max_entries tokens given documents (loader_fault new)
 
 -- The token was taken: the documents that ended with it were added to those before, and the push ended so. Full
 -- says that the list of documents had no room for one.
@@ -68,11 +68,11 @@ pub record PushesLoads (Full : Type 0) (old : PushLoader) (t : Token) (before : 
     (new : PushLoader) (after : List Document)
     : Type 0 where
   -- after the stream's end or a fault nothing is taken
-  pub stopped : has_stopped old ≡ true → (new ≡ old) × (after ≡ before) × (r ≡ done_by (fault_in old))
+  pub stopped : loader_has_stopped old ≡ true → (new ≡ old) × (after ≡ before) × (r ≡ done_by (loader_fault old))
   -- else the token is taken, and documents are appended
-  pub takes : has_stopped old ≡ false → TakesLoads Full old t before r new after
+  pub takes : loader_has_stopped old ≡ false → TakesLoads Full old t before r new after
   -- a fault is kept for good
-  pub kept : IfErr r (λ x. (x ≡ (fault_in new).error) × (keeps_fault new ≡ true))
+  pub kept : IfErr r (λ x. (x ≡ (loader_fault new).error) × (loader_keeps_fault new ≡ true))
   pub bound : new.max_entries ≡ old.max_entries
   -- what was handed and given since the loader was made: before STREAM-END the documents are all that the tokens
   -- have, whatever the source's fault; and with it those of the whole stream
@@ -80,8 +80,8 @@ pub record PushesLoads (Full : Type 0) (old : PushLoader) (t : Token) (before : 
       → AreThen new.max_entries tokens source documents (Err source))
   pub whole : ForLoaded new (λ tokens documents. has_end tokens ≡ true → (more : List Token) (source : Fault)
       → AreThen new.max_entries (tokens ++ more) source documents (last_load Ends))
-  pub ended : ForLoaded new (λ tokens _. has_stopped new ≡ has_end tokens)
-  pub faultless : ForLoaded new (λ _ _. keeps_fault new ≡ false)
+  pub ended : ForLoaded new (λ tokens _. loader_has_stopped new ≡ has_end tokens)
+  pub faultless : ForLoaded new (λ _ _. loader_keeps_fault new ≡ false)
   pub begins : ForLoaded new (BeginsEachLoads new.max_entries)
   -- nodes and the entries of their lists are together at most eight times the tokens
   pub linear : ForLoaded new (λ tokens documents. documents_size documents ≤ 8 * length tokens)

@@ -13,8 +13,8 @@ ghost use Rattle.libyaml_graphs.specs.loads.Bounds.{next_bounded};
 ghost use Rattle.libyaml_graphs.specs.loads.Loads.{left_over};
 ghost use Rattle.libyaml_loader.specs.loads.Loading.{DocumentOrError};
 ghost use Rattle.libyaml_loader.specs.loads.OneLoad.{LoadOutcome, LoadRunsOut, LoadsAlike};
-ghost use Rattle.libyaml_loader.specs.loads.OneLoad.{OneLoadByAnswers, results_of};
-ghost use Rattle.libyaml_loader.specs.pushes.Loaded.{Loaded, PushLoader, has_stopped};
+ghost use Rattle.libyaml_loader.specs.loads.OneLoad.{OneLoadByAnswers, load_results_of};
+ghost use Rattle.libyaml_loader.specs.pushes.Loaded.{Loaded, PushLoader, loader_has_stopped};
 ghost use Rattle.libyaml_loader.specs.pushes.OnePushLoads.{OnePushLoads};
 ghost use Rattle.libyaml_loader.specs.pushes.PushesLoads.{PushesLoads};
 
@@ -28,7 +28,7 @@ pub fn one_load<S: yaml_token_source_t>()
         (given : List Event) → (h : History old asked given)
         → (a : LoadOutcome S.gives S.known S.may_break (next_bounded n) left_over old r p)
         → (b : LoadOutcome S.gives S.known S.may_break (next_bounded n) left_over old s q)
-        → OneLoadByAnswers S.gives (next_bounded n) old asked given (results_of h a) (results_of h b)
+        → OneLoadByAnswers S.gives (next_bounded n) old asked given (load_results_of h a) (load_results_of h b)
         r p s q }
     // so over a source that returns in one way there is one outcome, but for memory
     ensures one_way { (old p q : Parser S) (r s : DocumentOrError) (n : ℕ) (asked : List Token)
@@ -54,11 +54,11 @@ pub fn one_loaded()
 pub fn one_push()
     ensures running { (room m n : ℕ) (old p q : PushLoader) (t : Token) (before after later : List Document)
         (r s : Done) (tokens : List Token) (documents : List Document) → (l : Loaded old tokens documents)
-        → has_stopped old ≡ false → PushesLoads (room ≤ m) old t before r p after
+        → loader_has_stopped old ≡ false → PushesLoads (room ≤ m) old t before r p after
         → PushesLoads (room ≤ n) old t before s q later
         → OnePushLoads (room ≤ m) (room ≤ n) (tokens ++ t ∷ []) l.events documents
         before r p after s q later }
     ensures stopped { (room m n : ℕ) (old p q : PushLoader) (t : Token) (before after later : List Document)
-        (r s : Done) → has_stopped old ≡ true → PushesLoads (room ≤ m) old t before r p after
+        (r s : Done) → loader_has_stopped old ≡ true → PushesLoads (room ≤ m) old t before r p after
         → PushesLoads (room ≤ n) old t before s q later → (r ≡ s) × (p ≡ q) × (after ≡ later) }
 {}

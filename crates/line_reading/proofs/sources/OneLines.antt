@@ -11,7 +11,7 @@ use Rattle.line_reading.specs.declared.line_problem.LineProblem.TheVariants.{Bad
 use Rattle.line_reading.specs.declared.line_problem.LineProblem.TheVariants.{TooManyTokens}
 use Rattle.line_reading.specs.sources.LineFault.{line_fault}
 use Rattle.line_reading.specs.sources.LineLaws.{HasPieces, has_pieces, lines_of_more}
-use Rattle.line_reading.specs.sources.LineSource.{Gives, GivesBy, GivesNext, LineSource, fault_in, tokens_in}
+use Rattle.line_reading.specs.sources.LineSource.{Gives, GivesBy, GivesNext, LineSource, answer_fault, answer_tokens}
 use Rattle.line_reading.specs.sources.NextLine.{BreaksOffAt, IsBehindLine, IsWithinLine, KnownAnswer, LineAnswer}
 use Rattle.line_reading.specs.sources.NextLine.{TakesAtMost, first_answer}
 use Rattle.line_reading.specs.sources.OneLine.{LineBreaksOff, LineOutcome, OneLine, SourcesAlike, alike, first_breaks}
@@ -133,10 +133,10 @@ module _ {R : Type 0} (remaining : R → Option (List ℕ)) where
     left_alike : a ≡ b → remaining t.reader ≡ remaining v.reader → GivesNext remaining s a t
         → GivesNext remaining u b v → SourcesAlike remaining t v
     left_alike e r h k = record {
-      given = h.given ∙ (ap (λ (n : ℕ). n + tokens_in a) same.given
-          ∙ (ap (λ (x : Answer). u.given + tokens_in x) e ∙ sym k.given));
+      given = h.given ∙ (ap (λ (n : ℕ). n + answer_tokens a) same.given
+          ∙ (ap (λ (x : Answer). u.given + answer_tokens x) e ∙ sym k.given));
       max_tokens = h.max_tokens ∙ (same.max_tokens ∙ sym k.max_tokens);
-      fault = h.fault ∙ (ap fault_in e ∙ sym k.fault);
+      fault = h.fault ∙ (ap answer_fault e ∙ sym k.fault);
       bytes = r;
     }
 

@@ -13,7 +13,7 @@ use Rattle.line_reading.specs.tokens.Reading.{IsReadInto}
 use Rattle.line_reading.specs.tokens.Pieces.{pieces_of}
 use Rattle.line_reading.specs.tokens.TokenName.{token_type_of}
 use Rattle.line_reading.specs.tokens.TokenLine.{content_of}
-use Rattle.line_reading.specs.tokens.Prefixes.{behind_byte, before_byte, further, mark_at, token_at}
+use Rattle.line_reading.specs.tokens.Prefixes.{behind_byte, before_byte, further, mark_at, line_token_at}
 use Rattle.line_reading.proofs.tokens.Split.{cut_here, cut_nowhere}
 
 -- the fields after one that ends at an index
@@ -34,32 +34,32 @@ named line n small clean found =
     let both = cut_here 32 line n small clean (found small) in
     record { name = sym both.0; marks = sym both.1 }
 
-pub no_marks : (line : List ℕ) (n : ℕ) → length line ≤ n → All (λ x. x ≢ 32) (take n line) → token_at line ≡ None
+pub no_marks : (line : List ℕ) (n : ℕ) → length line ≤ n → All (λ x. x ≢ 32) (take n line) → line_token_at line ≡ None
 no_marks line n all clean = rw (sym (cut_nowhere 32 line n all clean).1) refl
 
-pub no_type : (line : List ℕ) (n : ℕ) → IsNamed line n → token_type_of (take n line) ≡ None → token_at line ≡ None
+pub no_type : (line : List ℕ) (n : ℕ) → IsNamed line n → token_type_of (take n line) ≡ None → line_token_at line ≡ None
 no_type line n h t = rw (h.marks, h.name, t) refl
 
 pub no_start : (line : List ℕ) (n : ℕ) (type : yaml_token_type_t) → IsNamed line n → token_type_of (take n line) ≡ Some type
-    → mark_at (drop (n + 1) line) ≡ None → token_at line ≡ None
+    → mark_at (drop (n + 1) line) ≡ None → line_token_at line ≡ None
 no_start line n type h t s = rw (h.marks, h.name, t, s) refl
 
 pub no_end : (line : List ℕ) (n a : ℕ) (type : yaml_token_type_t) (start : yaml_mark_t) → IsNamed line n
     → token_type_of (take n line) ≡ Some type
-    → mark_at (drop (n + 1) line) ≡ Some (start, further (drop a line)) → length line ≤ a → token_at line ≡ None
+    → mark_at (drop (n + 1) line) ≡ Some (start, further (drop a line)) → length line ≤ a → line_token_at line ≡ None
 no_end line n a type start h t s e = rw (h.marks, h.name, t, s, none_further line a e) refl
 
 pub bad_end : (line : List ℕ) (n a : ℕ) (type : yaml_token_type_t) (start : yaml_mark_t) → IsNamed line n
     → token_type_of (take n line) ≡ Some type
     → mark_at (drop (n + 1) line) ≡ Some (start, further (drop a line)) → a < length line
-    → mark_at (drop (a + 1) line) ≡ None → token_at line ≡ None
+    → mark_at (drop (a + 1) line) ≡ None → line_token_at line ≡ None
 bad_end line n a type start h t s more e = rw (h.marks, h.name, t, s, some_further line a more, e) refl
 
 pub with_content : (line : List ℕ) (n a z : ℕ) (type : yaml_token_type_t) (start end : yaml_mark_t) → IsNamed line n
     → token_type_of (take n line) ≡ Some type
     → mark_at (drop (n + 1) line) ≡ Some (start, further (drop a line)) → a < length line
     → mark_at (drop (a + 1) line) ≡ Some (end, further (drop z line))
-    → token_at line ≡ (content_of type (pieces_of 32 (further (drop z line)))
+    → line_token_at line ≡ (content_of type (pieces_of 32 (further (drop z line)))
     >>= (λ content. Some (record { content = content; start_mark = start; end_mark = end })))
 with_content line n a z type start end h t s more e = rw (h.marks, h.name, t, s, some_further line a more, e) refl
 

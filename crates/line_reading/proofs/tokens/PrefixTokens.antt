@@ -18,7 +18,7 @@ use Rattle.line_reading.specs.tokens.Pieces.{pieces_of}
 use Rattle.line_reading.specs.tokens.TokenName.{token_type_of}
 use Rattle.line_reading.specs.tokens.TokenLine.{content_of, token_of_fields, token_of_line}
 use Rattle.line_reading.specs.tokens.Prefixes.{digits_of, behind_digits, before_byte, behind_byte, behind_first}
-use Rattle.line_reading.specs.tokens.Prefixes.{behind_field, number_at, mark_at, token_at}
+use Rattle.line_reading.specs.tokens.Prefixes.{behind_field, number_at, mark_at, line_token_at}
 use Rattle.line_reading.proofs.tokens.Digits.{no_value}
 use Rattle.line_reading.proofs.tokens.Split.{no_separator, split_first, before-append, behind-append}
 
@@ -348,5 +348,5 @@ fields_is : (name : List ℕ) (f : Option (List ℕ))
 fields_is name None = refl
 fields_is name (Some marks) = rw (split_first 32 marks, mark_at-is marks) (marks_is name marks (behind_byte 32 marks) refl)
 
-pub token_at-is : (line : List ℕ) → token_of_line line ≡ token_at line
+pub token_at-is : (line : List ℕ) → token_of_line line ≡ line_token_at line
 token_at-is line = ap token_of_fields (split_first 32 line) ∙ fields_is (before_byte 32 line) (behind_byte 32 line)

@@ -26,23 +26,23 @@ lines_of_more l pieces h = rw h.1.1 refl
 abbrev Ends : List (List ℕ) → List ℕ → Type 0
 Ends pieces behind = (f : List ℕ) × ((pieces ≡ f ∷ []) × (behind ≡ []))
 
-abbrev GoesOn : List (List ℕ) → List ℕ → Type 0
-GoesOn pieces behind = (f : List ℕ) × (pieces ≡ f ∷ slice_split (λ b. b == 10) behind)
+abbrev LineGoesOn : List (List ℕ) → List ℕ → Type 0
+LineGoesOn pieces behind = (f : List ℕ) × (pieces ≡ f ∷ slice_split (λ b. b == 10) behind)
 
-abbrev Shape : List (List ℕ) → List ℕ → Type 0
-Shape pieces behind = Ends pieces behind ⊎ GoesOn pieces behind
+abbrev LineShape : List (List ℕ) → List ℕ → Type 0
+LineShape pieces behind = Ends pieces behind ⊎ LineGoesOn pieces behind
 
-shape_onto : (b : ℕ) (pieces : List (List ℕ)) (behind : List ℕ) → Shape pieces behind → Shape (onto_first b pieces) behind
+shape_onto : (b : ℕ) (pieces : List (List ℕ)) (behind : List ℕ) → LineShape pieces behind → LineShape (onto_first b pieces) behind
 shape_onto b pieces behind (inl h) = inl (b ∷ h.0, (ap (onto_first b) h.1.0, h.1.1))
 shape_onto b pieces behind (inr h) = inr (b ∷ h.0, ap (onto_first b) h.1)
 
-shape_cond : (t : Bool) (b : ℕ) (bs : List ℕ) → Shape (slice_split (λ b. b == 10) bs) (behind_line bs)
-    → Shape (cond t ([] ∷ slice_split (λ b. b == 10) bs) (onto_first b (slice_split (λ b. b == 10) bs)))
+shape_cond : (t : Bool) (b : ℕ) (bs : List ℕ) → LineShape (slice_split (λ b. b == 10) bs) (behind_line bs)
+    → LineShape (cond t ([] ∷ slice_split (λ b. b == 10) bs) (onto_first b (slice_split (λ b. b == 10) bs)))
     (cond t bs (behind_line bs))
 shape_cond true b bs h = inr ([], refl)
 shape_cond false b bs h = shape_onto b _ _ h
 
-shape : (bs : List ℕ) → Shape (slice_split (λ b. b == 10) bs) (behind_line bs)
+shape : (bs : List ℕ) → LineShape (slice_split (λ b. b == 10) bs) (behind_line bs)
 shape [] = inl ([], (refl, refl))
 shape (b ∷ bs) = shape_cond (b == 10) b bs (shape bs)
 
@@ -53,7 +53,7 @@ begins_last : (f behind : List ℕ) → behind ≡ [] → BeginsWithLine (last_l
 begins_last [] behind e = inl refl
 begins_last (b ∷ f) behind e = inr (b ∷ f, ap (λ r. (b ∷ f) ∷ lines r) (sym e))
 
-begins : (pieces : List (List ℕ)) (behind : List ℕ) → Shape pieces behind → BeginsWithLine (lines_of_pieces pieces) behind
+begins : (pieces : List (List ℕ)) (behind : List ℕ) → LineShape pieces behind → BeginsWithLine (lines_of_pieces pieces) behind
 begins pieces behind (inl h) = rw h.1.0 (begins_last h.0 behind h.1.1)
 begins pieces behind (inr h) = rw h.1 (inr (h.0, lines_of_more h.0 _ (has_pieces behind)))
 

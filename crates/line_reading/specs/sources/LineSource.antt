@@ -25,13 +25,13 @@ source_at reader given max_tokens problem = record {
 }
 
 -- how many tokens, and which fault, a result is
-abbrev pub tokens_in : Answer → ℕ
-tokens_in (Ok token) = 1
-tokens_in (Err fault) = 0
+abbrev pub answer_tokens : Answer → ℕ
+answer_tokens (Ok token) = 1
+answer_tokens (Err fault) = 0
 
-abbrev pub fault_in : Answer → Option Fault
-fault_in (Ok token) = None
-fault_in (Err fault) = Some fault
+abbrev pub answer_fault : Answer → Option Fault
+answer_fault (Ok token) = None
+answer_fault (Err fault) = Some fault
 
 -- what a source that keeps no fault returns, and where that leaves it
 pub record GivesNext {R : Type 0} (remaining : R → Option (List ℕ)) (s : LineSource R) (answer : Answer)
@@ -39,9 +39,9 @@ pub record GivesNext {R : Type 0} (remaining : R → Option (List ℕ)) (s : Lin
   pub below : s.given < s.max_tokens → LineAnswer (remaining s.reader) s.given answer (remaining t.reader)
   pub at_bound : s.max_tokens ≤ s.given → answer ≡ Err (line_fault TooManyTokens s.given)
   pub unread : s.max_tokens ≤ s.given → t.reader ≡ s.reader
-  pub given : t.given ≡ s.given + tokens_in answer
+  pub given : t.given ≡ s.given + answer_tokens answer
   pub max_tokens : t.max_tokens ≡ s.max_tokens
-  pub fault : t.fault ≡ fault_in answer
+  pub fault : t.fault ≡ answer_fault answer
 
 -- a kept fault is given again, and nothing changes
 abbrev pub GivesBy : {R : Type 0} → Option Fault → (R → Option (List ℕ)) → LineSource R → Answer → LineSource R → Type 0

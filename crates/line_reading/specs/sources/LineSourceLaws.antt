@@ -11,7 +11,7 @@ use Rattle.line_reading.specs.sources.LineLaws.{lines_behind}
 use Rattle.line_reading.specs.sources.ReadLines.{lines, behind_line, line_answer, coming_behind, coming_from}
 use Rattle.line_reading.specs.sources.NextLine.{first_answer, LineAnswer, BreaksOffAt}
 use Rattle.line_reading.specs.sources.LineSource.{LineSource, GivesBy, Gives, coming_of, known_by, known_of, BreaksOff}
-use Rattle.line_reading.specs.sources.LineSource.{tokens_in, fault_in}
+use Rattle.line_reading.specs.sources.LineSource.{answer_tokens, answer_fault}
 
 no_token : (token : yaml_token_t) (fault : Fault) → Ok token ≡ Err fault → ⊥
 no_token token fault e = cc
@@ -21,7 +21,7 @@ falls_by : {R : Type 0} (remaining : R → Option (List ℕ)) (s t : LineSource 
 falls_by remaining s t token (Some fault) h = cc (h.0)
 falls_by remaining s t token None h
     = elim (cases_lt s.given s.max_tokens)
-    [ inl below ↦ omega (arith, h.given, h.max_tokens) | inr bound ↦ absurd (no_token _ _ (h.at_bound bound)) ]
+    [ inl below_most ↦ omega (arith, h.given, h.max_tokens) | inr bound ↦ absurd (no_token _ _ (h.at_bound bound)) ]
 
 pub source_falls : {R : Type 0} (remaining : R → Option (List ℕ)) (s t : LineSource R) (token : yaml_token_t)
     → Gives remaining s (Ok token) t
@@ -63,9 +63,9 @@ at_bound : (n max : ℕ) (ls : List (List ℕ)) → max ≤ n → coming_from n 
 at_bound n max [] h = rw (le-ltb n max h) refl
 at_bound n max (l ∷ ls) h = rw (le-ltb n max h) refl
 
-below : (n max : ℕ) (l : List ℕ) (ls : List (List ℕ)) → n < max
+below_most : (n max : ℕ) (l : List ℕ) (ls : List (List ℕ)) → n < max
     → coming_from n max (l ∷ ls) ≡ coming_behind (line_answer n l) (coming_from (n + 1) max ls)
-below n max l ls h = rw (lt-ltb n max h) refl
+below_most n max l ls h = rw (lt-ltb n max h) refl
 
 follows_fault : (MayBreak : Fault → Type 0) (n max : ℕ) (ls : List (List ℕ)) (fault : Fault) (after : Option Coming)
     → n < max → first_answer n ls ≡ Err fault
@@ -74,7 +74,7 @@ follows_fault MayBreak n max [] fault after h a e =
     let same : line_fault NoMoreTokens n ≡ fault = cc in
     end_fault MayBreak (coming_from n max []) fault after (rw (lt-ltb n max h) (ap (coming []) same)) e
 follows_fault MayBreak n max (l ∷ ls) fault after h a e
-    = end_fault MayBreak _ fault after (below n max l ls h ∙ ap (λ x. coming_behind x (coming_from (n + 1) max ls)) a) e
+    = end_fault MayBreak _ fault after (below_most n max l ls h ∙ ap (λ x. coming_behind x (coming_from (n + 1) max ls)) a) e
 
 follows_token : (MayBreak : Fault → Type 0) (n max : ℕ) (ls : List (List ℕ)) (token : yaml_token_t) (bytes : List ℕ)
     (after : Option Coming) → n < max
@@ -82,7 +82,7 @@ follows_token : (MayBreak : Fault → Type 0) (n max : ℕ) (ls : List (List ℕ
     → Follows MayBreak (Some (coming_from n max ls)) (Ok token) after
 follows_token MayBreak n max [] token bytes after h is a e = cc
 follows_token MayBreak n max (l ∷ ls) token bytes after h is a e =
-    rw (below n max l ls h, a) (refl, e ∙ ap (λ x. Some (coming_from (n + 1) max x)) (sym (lines_behind bytes l ls is)))
+    rw (below_most n max l ls h, a) (refl, e ∙ ap (λ x. Some (coming_from (n + 1) max x)) (sym (lines_behind bytes l ls is)))
 
 known_kept : {R : Type 0} (remaining : R → Option (List ℕ)) (t : LineSource R) (fault : Fault) → t.fault ≡ Some fault
     → known_of remaining t ≡ Some (coming [] fault)
@@ -101,16 +101,16 @@ follows_kept MayBreak remaining t fault answer a e = rw a (inl refl, known_kept 
 follows_bound : {R : Type 0} (MayBreak : Fault → Type 0) (remaining : R
     → Option (List ℕ)) (t : LineSource R) (n max : ℕ) (before : Option (List ℕ)) (answer : Answer) → max ≤ n
     → answer ≡ Err (line_fault TooManyTokens n)
-    → t.fault ≡ fault_in answer → Follows MayBreak (coming_of before n max) answer (known_of remaining t)
+    → t.fault ≡ answer_fault answer → Follows MayBreak (coming_of before n max) answer (known_of remaining t)
 follows_bound MayBreak remaining t n max None answer h a f = tt
 follows_bound MayBreak remaining t n max (Some bytes) answer h a f =
     rw (at_bound n max (lines bytes) h)
-    (follows_kept MayBreak remaining t (line_fault TooManyTokens n) answer a (f ∙ ap fault_in a))
+    (follows_kept MayBreak remaining t (line_fault TooManyTokens n) answer a (f ∙ ap answer_fault a))
 
 follows_below : {R : Type 0} (remaining : R → Option (List ℕ)) (t : LineSource R) (n max : ℕ)
     (before : Option (List ℕ)) (answer : Answer) → n < max
-    → LineAnswer before n answer (remaining t.reader) → t.given ≡ n + tokens_in answer → t.max_tokens ≡ max
-    → t.fault ≡ fault_in answer
+    → LineAnswer before n answer (remaining t.reader) → t.given ≡ n + answer_tokens answer → t.max_tokens ≡ max
+    → t.fault ≡ answer_fault answer
     → Follows (BreaksOff t) (coming_of before n max) answer (known_of remaining t)
 follows_below remaining t n max None answer h a g m f = tt
 follows_below remaining t n max (Some bytes) (Ok token) h a g m f =
@@ -130,8 +130,8 @@ follows_by remaining s t answer (Some fault) e h = follows_kept (BreaksOff t) re
     (ap (λ x. x.fault) h.1 ∙ sym e)
 follows_by remaining s t answer None e h =
     elim (cases_lt s.given s.max_tokens) [
-      | inl below ↦ follows_below remaining t s.given s.max_tokens (remaining s.reader) answer below
-          (h.below below) h.given h.max_tokens h.fault
+      | inl below_most ↦ follows_below remaining t s.given s.max_tokens (remaining s.reader) answer below_most
+          (h.below below_most) h.given h.max_tokens h.fault
       | inr bound ↦ follows_bound (BreaksOff t) remaining t s.given s.max_tokens (remaining s.reader) answer bound
           (h.at_bound bound) h.fault
     ]

@@ -41,8 +41,8 @@ version_of_numbers (m ∷ n ∷ []) = do
   Some (record { major = major; minor = minor })
 version_of_numbers _ = None
 
-abbrev pub version_of : List ℕ → Option unnamed_yaml_token_t_data_version_directive
-version_of field = version_of_numbers (slice_split (λ b. b == 46) field)
+abbrev pub version_in_field : List ℕ → Option unnamed_yaml_token_t_data_version_directive
+version_in_field field = version_of_numbers (slice_split (λ b. b == 46) field)
 
 -- bytes that are UTF-8
 abbrev pub utf8_text : List ℕ → Option (List ℕ)

@@ -84,8 +84,8 @@ mark_at bytes = do
   Some (record { index = index.0; line = line.0; column = column.0 }, further)
 
 -- the token of a line
-abbrev pub token_at : List ℕ → Option yaml_token_t
-token_at line = do
+abbrev pub line_token_at : List ℕ → Option yaml_token_t
+line_token_at line = do
   marks ← behind_byte 32 line
   type ← token_type_of (before_byte 32 line)
   start ← mark_at marks

@@ -23,7 +23,7 @@ use Rattle.libyaml_types.specs.declared.enums.yaml_token_type_t.TheVariants.{YAM
 use Rattle.libyaml_types.specs.declared.token.unnamed_yaml_token_t_data.{unnamed_yaml_token_t_data}
 use Rattle.libyaml_types.specs.declared.token.unnamed_yaml_token_t_data.TheVariants as tok
 use Rattle.libyaml_types.specs.declared.token.yaml_token_t.{yaml_token_t}
-use Rattle.line_reading.specs.tokens.Field.{◌>>=◌, mark_of, version_of, text_of, encoding_of, scalar_style_of}
+use Rattle.line_reading.specs.tokens.Field.{◌>>=◌, mark_of, version_in_field, text_of, encoding_of, scalar_style_of}
 use Rattle.line_reading.specs.tokens.TokenName.{token_type_of}
 
 -- the content of a token without payload
@@ -51,7 +51,7 @@ content_of_one YAML_STREAM_START_TOKEN field = do
   encoding ← encoding_of field
   Some (tok.StreamStart (record { encoding = encoding }))
 content_of_one YAML_VERSION_DIRECTIVE_TOKEN field = do
-  version ← version_of field
+  version ← version_in_field field
   Some (tok.VersionDirective version)
 content_of_one YAML_ALIAS_TOKEN field = do
   value ← text_of field

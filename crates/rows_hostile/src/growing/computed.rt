@@ -2,7 +2,7 @@
 
 ghost use Rattle.std.specs.Prelude.{◌≡◌, None};
 ghost use Rattle.unsafe_libyaml.specs.Fault.{memory_fault, source_fault};
-ghost use Rattle.rows_hostile.specs.ComputedTokens.{Gives, length_of};
+ghost use Rattle.rows_hostile.specs.ComputedTokens.{ComputedGives, length_of};
 ghost use Rattle.rows_hostile.specs.ComputedTokensLaws.{computed_repeats};
 
 use crate::growing::GrowingList;
@@ -62,7 +62,7 @@ impl yaml_token_source_t for ComputedTokens {
     ghost bound = { λ s. s.left };
 
     // What one call may return, and what it makes of the source.
-    ghost gives = { Gives };
+    ghost gives = { ComputedGives };
 
     // The tokens to come are not told, so a parser over it has what is known over every source.
     ghost known = { λ _. None };

@@ -19,12 +19,12 @@ use Rattle.libyaml_graphs.specs.machine.Loader as machine
 use Rattle.libyaml_graphs.proofs.lent.Building.{AllLess, Falls, Less, key_in, loader_of, stack_of, AllHas, Built, Has}
 use Rattle.libyaml_graphs.proofs.lent.Building.{Held, nodes_in}
 use Rattle.rust_original.specs.loader.Loader as orig
-use Rattle.rust_original.specs.loader.Loader.{FAIL, Loaded, OK, alias_of, yaml_alias_data_t}
+use Rattle.rust_original.specs.loader.Loader.{FAIL, LoaderResult, OK, alias_of, yaml_alias_data_t}
 use Rattle.rust_original.proofs.loads.Halves.{AllSound, Sound, halves, last_waits, none_waits, with_half}
 use Rattle.rust_original.proofs.loads.Steps.{finish_there, ids, load_alias, load_event, pushed, there}
 
 -- the bound
-abbrev pub guarded : (over full : Bool) → Loaded → Loaded
+abbrev pub guarded : (over full : Bool) → LoaderResult → LoaderResult
 guarded true c o = FAIL memory_fault
 guarded false c (FAIL f) = FAIL f
 guarded false true (OK m) = FAIL memory_fault
@@ -40,7 +40,7 @@ abbrev pub full_there : ℕ → Part → Built → Bool
 full_there n (end_part m) b = false
 full_there n p b = orig.parent_full n (ids b.places) (halves b.held)
 
-abbrev pub guard_part : ℕ → Option Part → Built → Loaded → Loaded
+abbrev pub guard_part : ℕ → Option Part → Built → LoaderResult → LoaderResult
 guard_part n None b o = o
 guard_part n (Some p) b o = guarded (over_there n p b) (full_there n p b) o
 
@@ -162,7 +162,7 @@ module _ (n : ℕ) (x : yaml_node_t) (opens : Bool) (b : Built) (has : AllHas b.
         (pushed (there xs b) a x opens)
     node_limited a xs = go (nat_lt (length (halves b.held)) n) refl
       where
-        after : List yaml_alias_data_t → Loaded
+        after : List yaml_alias_data_t → LoaderResult
         after ys = orig.if_ok (orig.yaml_parser_load_node_add n (pushed_node ys) index)
             (λ s. if opens then orig.STACK_LIMIT n (length s.ctx) (OK (record s { ctx = index ∷ s.ctx })) else OK s)
 

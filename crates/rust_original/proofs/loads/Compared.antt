@@ -11,7 +11,7 @@ use Rattle.libyaml_graphs.specs.loads.Bounds.{IsBoundedLoads, bounded_loads}
 use Rattle.libyaml_documents.specs.Documents.{Document}
 use Rattle.libyaml_graphs.specs.loads.Loads.{Load, last_load}
 use Rattle.rust_original.specs.loader.Loader as orig
-use Rattle.rust_original.specs.loader.Loader.{FAIL, Loaded, OK, State, between, loads_from, loads_there, new_loader}
+use Rattle.rust_original.specs.loader.Loader.{FAIL, LoaderResult, OK, State, between, loads_from, loads_there, new_loader}
 use Rattle.rust_original.specs.loader.Loader.{within}
 use Rattle.rust_original.specs.loader.LoadsThere.{LoadsCompare, LoadsThere, loads_part, same_loads}
 use Rattle.rust_original.specs.parser.Differences.{Compares, parts, same}
@@ -40,7 +40,7 @@ module _ (n : ℕ) (r t : List Event) (x y : Ending) where
   event_shared (ev.DocumentEnd d) m m' b ih (within o l) = more _ (ih between)
   event_shared k m m' b ih (within o l) = loaded k
     where
-      go : (v : Loaded) → Shares (elim v [ FAIL f ↦ Err f ∷ [] | OK q ↦ loads_from n (within o q) b Ends ])
+      go : (v : LoaderResult) → Shares (elim v [ FAIL f ↦ Err f ∷ [] | OK q ↦ loads_from n (within o q) b Ends ])
           (elim v [ FAIL f ↦ Err f ∷ [] | OK q ↦ loads_from n (within o q) (b ++ r) x ])
           (elim v [ FAIL f ↦ Err f ∷ [] | OK q ↦ loads_from n (within o q) (b ++ t) y ])
       go (FAIL f) = equal refl

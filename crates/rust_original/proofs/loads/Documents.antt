@@ -7,20 +7,20 @@ use Rattle.libyaml_types.specs.Fault.{Fault}
 use Rattle.libyaml_grammar.specs.runs.Runs.{Ending, Ends, Fails}
 use Rattle.libyaml_grammar.specs.sentences.Events.{Event, event}
 use Rattle.libyaml_grammar.specs.sentences.Tokens.{Mark}
-use Rattle.libyaml_graphs.specs.graphs.ComposerFaults.{part_fault}
+use Rattle.libyaml_graphs.specs.graphs.ComposerFaults.{composer_part_fault}
 use Rattle.libyaml_documents.specs.LoadedNodes.{mapping_loaded, scalar_loaded, sequence_loaded}
 use Rattle.libyaml_graphs.specs.graphs.GraphParts.{Opening, Part, alias_part, behind, end_part, leaf_part, part_in}
 use Rattle.libyaml_graphs.specs.graphs.GraphParts.{parts, start_part}
 use Rattle.libyaml_graphs.specs.graphs.Graphs.{Start}
 use Rattle.libyaml_graphs.specs.machine.Loader.{no_anchors}
-use Rattle.libyaml_graphs.specs.loads.Loads.{Load, behind_document, document, document_end, last_load, load_then}
+use Rattle.libyaml_graphs.specs.loads.Loads.{Load, behind_document, document, end_of_document, last_load, load_then}
 use Rattle.libyaml_graphs.specs.loads.Bounds.{first_stop, if_above, if_wrong, list_sizes, one_above}
 use Rattle.libyaml_graphs.proofs.lent.BoundedLoader.{Within, all_begin_more, held_so_far, reaches}
 use Rattle.libyaml_graphs.proofs.lent.Building.{graph_sizes, list_grows, sizes, build_stands, BeginsEmpty, Built, Held}
 use Rattle.libyaml_graphs.proofs.lent.Building.{build}
 use Rattle.libyaml_graphs.proofs.lent.Building as built
 use Rattle.rust_original.specs.loader.Loader as orig
-use Rattle.rust_original.specs.loader.Loader.{FAIL, Loaded, OK, yaml_alias_data_t}
+use Rattle.rust_original.specs.loader.Loader.{FAIL, LoaderResult, OK, yaml_alias_data_t}
 use Rattle.rust_original.proofs.loads.Halves.{AllSound, halves}
 use Rattle.rust_original.proofs.loads.Steps.{Agrees, Follows, event_follows, halves_length, load_event, there}
 use Rattle.rust_original.proofs.loads.Bound.{event_limited, full_there, guard_part, guarded, not_less, over_there}
@@ -33,7 +33,7 @@ module _ (n : ℕ) (o : Opening) (x : Ending) where
 
   abbrev Same : List Event → Type 0
   Same r = (es : List Start) (F : List Part) (b : Built) (xs : List yaml_alias_data_t) → Within n es F b → Agrees es xs
-      → AllSound b.held → loaded_there r (there xs b) ≡ load_then (first_stop n es F (parts r)) (document_end r) o
+      → AllSound b.held → loaded_there r (there xs b) ≡ load_then (first_stop n es F (parts r)) (end_of_document r) o
       (halves (built.finished es (parts r) b)) (last_load x)
       (orig.loads_from n orig.between (behind_document r) x)
 
@@ -42,7 +42,7 @@ module _ (n : ℕ) (o : Opening) (x : Ending) where
     abbrev ends_as : Bool → Option Fault → Bool → List Load
     ends_as c w d
         = load_then (if_above c (if_wrong w (if_above d (first_stop n (behind p es) (F ++ p ∷ []) (parts r)))))
-        (document_end r) o
+        (end_of_document r) o
         (halves (built.finished es (p ∷ parts r) b)) (last_load x)
         (orig.loads_from n orig.between (behind_document r) x)
 
@@ -62,10 +62,10 @@ module _ (n : ℕ) (o : Opening) (x : Ending) where
         (held_so_far (behind p es) (F ++ p ∷ []) (build es p b) (reaches p es F b e s.stands s.reached))
         ∙ graph_sizes (F ++ p ∷ []) [] n (all_begin_more F p s.all_begin e))
 
-    part_same : (c : Bool) → c ≡ nat_lt n (length (behind p es)) → (d : Bool) → full_there n p b ≡ d → (y : Loaded)
-        → Follows y (part_fault es p) (behind p es) (build es p b)
+    part_same : (c : Bool) → c ≡ nat_lt n (length (behind p es)) → (d : Bool) → full_there n p b ≡ d → (y : LoaderResult)
+        → Follows y (composer_part_fault es p) (behind p es) (build es p b)
         → ◌≡◌ {A = List Load} (elim (guarded c d y) [ FAIL f ↦ Err f ∷ [] | OK m ↦ loaded_there r m ])
-        (ends_as c (part_fault es p) d)
+        (ends_as c (composer_part_fault es p) d)
     part_same true i d j y w = refl
     part_same false i d j (FAIL f) w = ap (λ (v : Option Fault). ends_as false v d) (sym w)
     part_same false i true j (OK m) w = ap (λ (v : Option Fault). ends_as false v true) (sym w.0)
@@ -78,31 +78,31 @@ module _ (n : ℕ) (o : Opening) (x : Ending) where
           reached = reaches p es F b e s.stands s.reached;
           all_begin = all_begin_more F p s.all_begin e;
         }) g t
-        ∙ (ap (λ (hs : List Held). load_then (first_stop n (behind p es) (F ++ p ∷ []) (parts r)) (document_end r) o
+        ∙ (ap (λ (hs : List Held). load_then (first_stop n (behind p es) (F ++ p ∷ []) (parts r)) (end_of_document r) o
         (halves hs) (last_load x)
         (orig.loads_from n orig.between (behind_document r) x)) (built.build_finished p es (parts r) b e s.stands.there)
         ∙ ap (λ (v : Option Fault). ends_as false v false) (sym w)))
 
-    event_ends : (y : Loaded) → Follows y (part_fault es p) (behind p es) (build es p b)
+    event_ends : (y : LoaderResult) → Follows y (composer_part_fault es p) (behind p es) (build es p b)
         → ◌≡◌ {A = List Load}
         (elim (guarded (over_there n p b) (full_there n p b) y) [ FAIL f ↦ Err f ∷ [] | OK m ↦ loaded_there r m ])
-        (ends_as (nat_lt n (length (behind p es))) (part_fault es p) (one_above n (list_sizes [] (F ++ p ∷ []))))
+        (ends_as (nat_lt n (length (behind p es))) (composer_part_fault es p) (one_above n (list_sizes [] (F ++ p ∷ []))))
     event_ends y w = part_same (over_there n p b) (over_is p) (full_there n p b) refl y w
-        ∙ (ap (λ (c : Bool). ends_as c (part_fault es p) (full_there n p b)) (over_is p)
-        ∙ ap (ends_as (nat_lt n (length (behind p es))) (part_fault es p)) full_is)
+        ∙ (ap (λ (c : Bool). ends_as c (composer_part_fault es p) (full_there n p b)) (over_is p)
+        ∙ ap (ends_as (nat_lt n (length (behind p es))) (composer_part_fault es p)) full_is)
 
   limited_same : (k : unnamed_yaml_event_t_data) (m m' : Mark) (r : List Event) → Same r → (p : Part)
       → part_in k m m' ≡ Some p → BeginsEmpty p
       → (es : List Start) (F : List Part) (b : Built) (xs : List yaml_alias_data_t) → (s : Within n es F b)
       → AllSound b.held
-      → Follows (load_event (there xs b) (event k m m')) (part_fault es p) (behind p es) (build es p b)
+      → Follows (load_event (there xs b) (event k m m')) (composer_part_fault es p) (behind p es) (build es p b)
       → ◌≡◌ {A = List Load}
       (elim (orig.load_event n (there xs b) (event k m m')) [ FAIL f ↦ Err f ∷ [] | OK l ↦ loaded_there r l ])
-      (load_then (first_stop n es F (p ∷ parts r)) (document_end r) o (halves (built.finished es (p ∷ parts r) b))
+      (load_then (first_stop n es F (p ∷ parts r)) (end_of_document r) o (halves (built.finished es (p ∷ parts r) b))
       (last_load x)
       (orig.loads_from n orig.between (behind_document r) x))
   limited_same k m m' r ih p i e es F b xs s h w =
-      ap (λ (y : Loaded). elim y [ FAIL f ↦ Err f ∷ [] | OK l ↦ loaded_there r l ])
+      ap (λ (y : LoaderResult). elim y [ FAIL f ↦ Err f ∷ [] | OK l ↦ loaded_there r l ])
       (event_limited n k m m' b xs s.stands.there s.stands.falls
       ∙ ap (λ (q : Option Part). guard_part n q b (load_event (there xs b) (event k m m'))) i)
       ∙ event_ends r ih p e es F b s h (load_event (there xs b) (event k m m')) w

@@ -13,7 +13,7 @@ use Rattle.libyaml_grammar.specs.sentences.Nesting.{values_events}
 use Rattle.libyaml_grammar.specs.sentences.Tokens.{Mark}
 use Rattle.libyaml_grammar.specs.sentences.Trees.{mapping, sequence}
 use Rattle.libyaml_graphs.specs.graphs.GraphParts.{Closing, Opening, graph, parts}
-use Rattle.libyaml_graphs.specs.loads.Loads.{Load, begun_behind, behind_document, document_end, last_load, load_then}
+use Rattle.libyaml_graphs.specs.loads.Loads.{Load, begun_behind, behind_document, end_of_document, last_load, load_then}
 use Rattle.libyaml_graphs.specs.loads.Loads.{loads_by}
 use Rattle.libyaml_graphs.specs.loads.Bounds.{bounded_loads, first_stop}
 use Rattle.libyaml_graphs.proofs.lent.BoundedLoader.{within_unbuilt}
@@ -44,7 +44,7 @@ module _ (limit : ℕ) where
 
   begun_same : (x : Ending) (o : Opening) (r : List Event)
       → orig.loads_from limit (orig.within o orig.new_loader) r x
-      ≡ load_then (first_stop limit [] [] (parts r)) (document_end r) o (halves (built.held_graph [] (parts r)))
+      ≡ load_then (first_stop limit [] [] (parts r)) (end_of_document r) o (halves (built.held_graph [] (parts r)))
       (last_load x) (orig.loads_from limit orig.between (behind_document r) x)
   begun_same x o r = document_same limit o x r [] [] unbuilt [] (within_unbuilt limit) (λ a. refl) tt
 
@@ -55,11 +55,11 @@ module _ (limit : ℕ) where
       let o : Opening = record { start = d; mark = m } in
       let V : List Event = value_events v (document_end_at i p q ∷ r) in
       begun_same x o V
-      ∙ (ap (λ (ns : List yaml_node_t). load_then (first_stop limit [] [] (parts V)) (document_end V) o ns (last_load x)
+      ∙ (ap (λ (ns : List yaml_node_t). load_then (first_stop limit [] [] (parts V)) (end_of_document V) o ns (last_load x)
       (orig.loads_from limit orig.between (behind_document V) x))
       (none_half (built.held_graph [] (parts V)) (value_keys v [] (document_end_at i p q ∷ r) h tt) ∙ built.graph_nodes
       (parts V) [])
-      ∙ ap (λ (l : List Load). load_then (first_stop limit [] [] (parts V)) (document_end V) o (graph [] (parts V))
+      ∙ ap (λ (l : List Load). load_then (first_stop limit [] [] (parts V)) (end_of_document V) o (graph [] (parts V))
       (last_load x) l)
       (ap (λ (l : List Event). orig.loads_from limit orig.between l x) (value_left v (document_end_at i p q ∷ r)) ∙
       (g ∙ sym (ap (loads_by (first_stop limit [] []) x) (value_behind v (document_end_at i p q ∷ r))))))

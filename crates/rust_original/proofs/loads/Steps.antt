@@ -9,13 +9,13 @@ use Rattle.libyaml_documents.specs.declared.node.yaml_node_t.{yaml_node_t}
 use Rattle.libyaml_types.specs.Fault.{Fault}
 use Rattle.libyaml_grammar.specs.sentences.Events.{Event, event}
 use Rattle.libyaml_grammar.specs.sentences.Tokens.{Mark}
-use Rattle.libyaml_graphs.specs.graphs.ComposerFaults.{alias_fault, anchor_fault, known_fault, part_fault}
+use Rattle.libyaml_graphs.specs.graphs.ComposerFaults.{alias_fault, anchor_fault, known_fault, composer_part_fault}
 use Rattle.libyaml_documents.specs.LoadedNodes.{mapping_loaded, scalar_loaded, sequence_loaded}
-use Rattle.libyaml_graphs.specs.graphs.GraphParts.{Part, alias_part, behind, end_part, part_in, start_of}
+use Rattle.libyaml_graphs.specs.graphs.GraphParts.{Part, alias_part, behind, end_part, part_in, carrier_start}
 use Rattle.libyaml_graphs.specs.graphs.Graphs.{Carrier, Start, carrier, carries, id_or}
 use Rattle.libyaml_graphs.proofs.lent.Building.{Built, Held, bare, build, hold_top}
 use Rattle.rust_original.specs.loader.Loader as orig
-use Rattle.rust_original.specs.loader.Loader.{FAIL, Loaded, OK, alias_of, yaml_alias_data_t}
+use Rattle.rust_original.specs.loader.Loader.{FAIL, LoaderResult, OK, alias_of, yaml_alias_data_t}
 use Rattle.rust_original.proofs.loads.Halves.{AllSound, Sound, end_sound, ended_there, half, halves, held_there}
 use Rattle.rust_original.proofs.loads.Halves.{hold_sound}
 
@@ -30,7 +30,7 @@ there xs b = record { aliases = xs; nodes = halves b.held; ctx = ids b.places }
 abbrev pub Agrees : List Start → List yaml_alias_data_t → Type 0
 Agrees es xs = (a : List ℕ) → alias_of xs a ≡ carrier a es
 
-abbrev pub Follows : Loaded → Option Fault → List Start → Built → Type 0
+abbrev pub Follows : LoaderResult → Option Fault → List Start → Built → Type 0
 Follows (FAIL f) w es b = w ≡ Some f
 Follows (OK m) w es b = (w ≡ None) × ((xs : List yaml_alias_data_t) × (m ≡ there xs b) × Agrees es xs × AllSound b.held)
 
@@ -67,14 +67,14 @@ top_sound i [] hs h = h
 top_sound i (p ∷ s) hs h = hold_sound p i hs h
 
 -- the original's functions without the bound
-abbrev pub pushed : orig.Loader → Option (List ℕ) → yaml_node_t → Bool → Loaded
+abbrev pub pushed : orig.Loader → Option (List ℕ) → yaml_node_t → Bool → LoaderResult
 pushed l anchor x opens
     = orig.yaml_parser_register_anchor (record l { nodes = l.nodes ++ x ∷ [] }) (suc (length l.nodes)) x.start_mark
     anchor λ r.
     OK (if opens then record (orig.child_added r (suc (length l.nodes))) { ctx = suc (length l.nodes) ∷ r.ctx } else
     orig.child_added r (suc (length l.nodes)))
 
-abbrev pub load_alias : orig.Loader → List ℕ → Mark → Loaded
+abbrev pub load_alias : orig.Loader → List ℕ → Mark → LoaderResult
 load_alias l anchor mark = elim (alias_of l.aliases anchor) [
   | Some found ↦ OK (orig.child_added l found.id)
   | None ↦ orig.yaml_parser_set_composer_error (codes "found undefined alias") mark
@@ -205,7 +205,7 @@ module _ (x : yaml_node_t) (opens : Bool) (es : List Start) (b : Built) (size : 
       go false = top_sound (length es) b.places (b.held ++ bare x ∷ []) (sound_append b.held x h i)
 
   node_follows : (a : Option (List ℕ)) (xs : List yaml_alias_data_t) → Agrees es xs
-      → Follows (pushed (there xs b) a x opens) (anchor_fault es a x.start_mark) (start_of a x ∷ es)
+      → Follows (pushed (there xs b) a x opens) (anchor_fault es a x.start_mark) (carrier_start a x ∷ es)
       (put opens x (length es) b)
   node_follows None xs g = (refl, (xs, finished xs, g, put_sound))
   node_follows (Some a) xs g = go (alias_of xs a) refl (carrier a es) (g a)
@@ -221,21 +221,21 @@ module _ (x : yaml_node_t) (opens : Bool) (es : List Start) (b : Built) (size : 
               nodes = halves b.held ++ x ∷ [];
               ctx = ids b.places;
             }) (suc (length (halves b.held))))
-          ]) (known_fault c x.start_mark) (start_of (Some a) x ∷ es) (put opens x (length es) b)
+          ]) (known_fault c x.start_mark) (carrier_start (Some a) x ∷ es) (put opens x (length es) b)
       go (Some y) e c k = ap (λ (d : Option Carrier). known_fault d x.start_mark) (sym k ∙ e)
       go None e c k = (
         ap (λ (d : Option Carrier). known_fault d x.start_mark) (sym k ∙ e),
         (
           xs ++ record { anchor = a; carrier = record { id = suc (length (halves b.held)); mark = x.start_mark } } ∷ [],
           finished _,
-          subst (λ (n : ℕ). Agrees (start_of (Some a) x ∷ es)
+          subst (λ (n : ℕ). Agrees (carrier_start (Some a) x ∷ es)
               (xs ++ record { anchor = a; carrier = record { id = suc n; mark = x.start_mark } } ∷ []))
               (sym index_is) (agrees_more xs es a x.start_mark g e),
           put_sound,
         ),
       )
 
-abbrev pub load_event : orig.Loader → Event → Loaded
+abbrev pub load_event : orig.Loader → Event → LoaderResult
 load_event l e = elim e.content [
   | ev.Alias a ↦ load_alias l a.anchor e.start_mark
   | ev.Scalar s ↦ pushed l s.anchor (scalar_loaded s e.start_mark e.end_mark) false
@@ -247,9 +247,9 @@ load_event l e = elim e.content [
 ]
 
 -- an event of a document
-abbrev Moves : Loaded → Option Part → List Start → Built → List yaml_alias_data_t → Type 0
+abbrev Moves : LoaderResult → Option Part → List Start → Built → List yaml_alias_data_t → Type 0
 Moves o None es b xs = o ≡ OK (there xs b)
-Moves o (Some p) es b xs = Follows o (part_fault es p) (behind p es) (build es p b)
+Moves o (Some p) es b xs = Follows o (composer_part_fault es p) (behind p es) (build es p b)
 
 end_follows : (n : Mark) (xs : List yaml_alias_data_t) (es : List Start) (s : List ℕ) (hs : List Held)
     (k : unnamed_yaml_event_t_data) (m : Mark) → Agrees es xs → AllSound hs

@@ -39,29 +39,29 @@ abbrev pub new_loader : Loader
 new_loader = record { aliases = []; nodes = []; ctx = [] }
 
 -- What a function returns: the loader after it, or the fault that is set.
-pub data Loaded : Type 0 where
-  OK : Loader → Loaded
-  FAIL : Fault → Loaded
+pub data LoaderResult : Type 0 where
+  OK : Loader → LoaderResult
+  FAIL : Fault → LoaderResult
 
-abbrev pub if_ok : Loaded → (Loader → Loaded) → Loaded
+abbrev pub if_ok : LoaderResult → (Loader → LoaderResult) → LoaderResult
 if_ok (FAIL f) next = FAIL f
 if_ok (OK l) next = next l
 
 -- A list of this length has room for one entry more, or memory is short.
-abbrev pub STACK_LIMIT : (limit length : ℕ) → Loaded → Loaded
+abbrev pub STACK_LIMIT : (limit length : ℕ) → LoaderResult → LoaderResult
 STACK_LIMIT limit length next = if nat_lt length limit then next else FAIL memory_fault
 
 -- faults
 
 -- A fault of kind YAML_COMPOSER_ERROR with its problem.
-abbrev pub yaml_parser_set_composer_error : (problem : List ℕ) → (problem_mark : Mark) → Loaded
+abbrev pub yaml_parser_set_composer_error : (problem : List ℕ) → (problem_mark : Mark) → LoaderResult
 yaml_parser_set_composer_error problem problem_mark
     = FAIL (record
     no_fault { error = YAML_COMPOSER_ERROR; problem = Some problem; problem_mark = problem_mark })
 
 -- The same with a context.
 abbrev pub yaml_parser_set_composer_error_context : (context : List ℕ) → (context_mark : Mark)
-    → (problem : List ℕ) → (problem_mark : Mark) → Loaded
+    → (problem : List ℕ) → (problem_mark : Mark) → LoaderResult
 yaml_parser_set_composer_error_context context context_mark problem problem_mark = FAIL (record no_fault {
   error = YAML_COMPOSER_ERROR;
   problem = Some problem;
@@ -79,7 +79,7 @@ alias_of (d ∷ ds) anchor = if bytes_eq d.anchor anchor then Some d.carrier els
 
 -- A node's anchor comes after the others; one that is there already is a fault. `mark` is the node's start.
 abbrev pub yaml_parser_register_anchor : Loader → (index : ℕ) → (mark : Mark) → (anchor : Option (List ℕ))
-    → (Loader → Loaded) → Loaded
+    → (Loader → LoaderResult) → LoaderResult
 yaml_parser_register_anchor l index mark None next = next l
 yaml_parser_register_anchor l index mark (Some anchor) next = elim (alias_of l.aliases anchor) [
   | Some first ↦
@@ -149,14 +149,14 @@ child_added l index = elim l.ctx [
 ]
 
 -- The same, where there is room.
-abbrev pub yaml_parser_load_node_add : (limit : ℕ) → Loader → (index : ℕ) → Loaded
+abbrev pub yaml_parser_load_node_add : (limit : ℕ) → Loader → (index : ℕ) → LoaderResult
 yaml_parser_load_node_add limit l index
     = if parent_full limit l.ctx l.nodes then FAIL memory_fault else OK (child_added l index)
 
 -- events
 
 -- An alias: the id of its carrier is handed to the parent.
-abbrev pub yaml_parser_load_alias : (limit : ℕ) → Loader → (anchor : List ℕ) → Mark → Loaded
+abbrev pub yaml_parser_load_alias : (limit : ℕ) → Loader → (anchor : List ℕ) → Mark → LoaderResult
 yaml_parser_load_alias limit l anchor mark = elim (alias_of l.aliases anchor) [
   | Some found ↦ yaml_parser_load_node_add limit l found.id
   | None ↦ yaml_parser_set_composer_error (codes "found undefined alias") mark
@@ -169,7 +169,7 @@ tag_or default (Some tag) = elim (bytes_eq tag (codes "!")) [ true ↦ default |
 
 -- What yaml_parser_load_scalar, .._sequence and .._mapping have in common: a node comes after the others, its
 -- anchor is registered, and its parent gets its id; a collection is then open.
-abbrev pub pushed : (limit : ℕ) → Loader → (anchor : Option (List ℕ)) → yaml_node_t → (opens : Bool) → Loaded
+abbrev pub pushed : (limit : ℕ) → Loader → (anchor : Option (List ℕ)) → yaml_node_t → (opens : Bool) → LoaderResult
 pushed limit l anchor x opens =
     let index : ℕ = suc (length l.nodes) in
     STACK_LIMIT limit (length l.nodes)
@@ -193,7 +193,7 @@ ended l e = elim l.ctx [
 ]
 
 -- The match of yaml_parser_load_nodes.
-abbrev pub load_event : (limit : ℕ) → Loader → Event → Loaded
+abbrev pub load_event : (limit : ℕ) → Loader → Event → LoaderResult
 load_event limit l e = elim e.content [
   | ev.Alias a ↦ yaml_parser_load_alias limit l a.anchor e.start_mark
   | ev.Scalar s ↦

@@ -14,17 +14,17 @@ use Rattle.libyaml_grammar.specs.rows.RowNotation.{nothing, sequence, text}
 use Rattle.libyaml_grammar.specs.sentences.Tokens.{Token}
 use Rattle.libyaml_graphs.specs.rows.LoadRows.{implicit, no_memory, no_root, pair}
 use Rattle.rust_original.specs.rows.Notation.{alike, block_map, block_seq, broken_run, flow_seq}
-use Rattle.rust_original.specs.rows.Notation.{loads_within, no_flow_content, node_at, parse, plain, run_to, str}
+use Rattle.rust_original.specs.rows.Notation.{loads_within, no_flow_content, row_node, parse, plain, run_to, str}
 
 -- A sequence without indentation ends where the next token begins.
-abbrev pub RowIndentlessSequence : Type 0
-RowIndentlessSequence = parse (list (STREAM ∷ BlockMappingStart ∷ Key ∷ BlockEntry ∷ SCALAR (codes "x") ∷ Key ∷
+abbrev pub RowIndentlessSequenceAlike : Type 0
+RowIndentlessSequenceAlike = parse (list (STREAM ∷ BlockMappingStart ∷ Key ∷ BlockEntry ∷ SCALAR (codes "x") ∷ Key ∷
     SCALAR (codes "y") ∷ BlockEnd ∷ StreamEnd ∷ [])) ≡ alike
     (run_to 16 (at 2 3 mapping ∷ at 6 7 sequence ∷ at 8 9 (text (codes "x")) ∷ at 10 10 ev.SequenceEnd ∷
     at 10 10 nothing ∷ at 12 13 (text (codes "y")) ∷ at 14 14 nothing ∷ at 14 15 ev.MappingEnd ∷ []))
-    (implicit 16 (node_at 2 15 (block_map (pair 2 4 ∷ pair 5 6 ∷ [])) ∷ node_at 6 10 (block_seq (3 ∷ [])) ∷
-    node_at 8 9 (str plain (codes "x")) ∷ node_at 10 10 (str plain []) ∷ node_at 12 13 (str plain (codes "y")) ∷
-    node_at 14 14 (str plain []) ∷ []) ∷ no_root ∷ [])
+    (implicit 16 (row_node 2 15 (block_map (pair 2 4 ∷ pair 5 6 ∷ [])) ∷ row_node 6 10 (block_seq (3 ∷ [])) ∷
+    row_node 8 9 (str plain (codes "x")) ∷ row_node 10 10 (str plain []) ∷ row_node 12 13 (str plain (codes "y")) ∷
+    row_node 14 14 (str plain []) ∷ []) ∷ no_root ∷ [])
 
 -- A pair's key is no block collection.
 abbrev pub RowBlockSequenceAsAPairsKey : Type 0
@@ -38,8 +38,8 @@ two_entries = list (STREAM ∷ FlowSequenceStart ∷ SCALAR (codes "a") ∷ Flow
     FlowSequenceEnd ∷ StreamEnd ∷ [])
 
 abbrev pub RowAtTheBound : Type 0
-RowAtTheBound = loads_within 3 two_entries ≡ implicit 12 (node_at 2 11 (flow_seq (2 ∷ 3 ∷ [])) ∷
-    node_at 4 5 (str plain (codes "a")) ∷ node_at 8 9 (str plain (codes "b")) ∷ []) ∷ no_root ∷ []
+RowAtTheBound = loads_within 3 two_entries ≡ implicit 12 (row_node 2 11 (flow_seq (2 ∷ 3 ∷ [])) ∷
+    row_node 4 5 (str plain (codes "a")) ∷ row_node 8 9 (str plain (codes "b")) ∷ []) ∷ no_root ∷ []
 
 abbrev pub RowBeyondTheBound : Type 0
 RowBeyondTheBound = loads_within 2 two_entries ≡ no_memory ∷ []

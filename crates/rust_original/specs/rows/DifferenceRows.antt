@@ -9,13 +9,13 @@ use Rattle.libyaml_types.specs.declared.token.unnamed_yaml_token_t_data.TheVaria
 use Rattle.libyaml_types.specs.declared.token.unnamed_yaml_token_t_data.TheVariants.{FlowSequenceEnd}
 use Rattle.libyaml_types.specs.declared.token.unnamed_yaml_token_t_data.TheVariants.{FlowSequenceStart, Key}
 use Rattle.libyaml_types.specs.declared.token.unnamed_yaml_token_t_data.TheVariants.{StreamEnd, Value}
-use Rattle.libyaml_grammar.specs.rows.RowNotation.{SCALAR, STREAM, TAG, at, document, document_end}
+use Rattle.libyaml_grammar.specs.rows.RowNotation.{SCALAR, STREAM, TAG, at, bare_document, explicit_end}
 use Rattle.libyaml_grammar.specs.rows.RowNotation.{flow_mapping, flow_sequence, headed_document, list}
 use Rattle.libyaml_grammar.specs.rows.RowNotation.{mapping, no_document_end, nothing, stream, text}
 use Rattle.libyaml_graphs.specs.rows.LoadRows.{implicit, loaded, no_root, pair}
 use Rattle.rust_original.specs.rows.Notation.{broken_run, fails, flow_map, flow_seq, no_block_content}
 use Rattle.rust_original.specs.rows.Notation.{no_document_start, no_flow_content, no_key, no_separator}
-use Rattle.rust_original.specs.rows.Notation.{node_at, parse, plain, run_to, str, undefined_handle}
+use Rattle.rust_original.specs.rows.Notation.{row_node, parse, plain, run_to, str, undefined_handle}
 
 -- the KEY of a flow sequence's pair, and after it a token that begins no node
 
@@ -36,8 +36,8 @@ RowPairKeyThenValueAlone = parse (list (STREAM ∷ FlowSequenceStart ∷ Key ∷
           at 8 8 ev.MappingEnd ∷ at 8 9 ev.SequenceEnd ∷ []);
       here = run_to 10 (at 2 3 flow_sequence ∷ at 4 5 flow_mapping ∷ at 6 6 nothing ∷ at 8 8 nothing ∷
           at 8 8 ev.MappingEnd ∷ at 8 9 ev.SequenceEnd ∷ []);
-      loads = implicit 10 (node_at 2 9 (flow_seq (2 ∷ [])) ∷ node_at 4 8 (flow_map (pair 3 4 ∷ [])) ∷
-          node_at 7 7 (str plain []) ∷ node_at 8 8 (str plain []) ∷ []) ∷ no_root ∷ [];
+      loads = implicit 10 (row_node 2 9 (flow_seq (2 ∷ [])) ∷ row_node 4 8 (flow_map (pair 3 4 ∷ [])) ∷
+          row_node 7 7 (str plain []) ∷ row_node 8 8 (str plain []) ∷ []) ∷ no_root ∷ [];
     }
 
 abbrev pub RowPairKeyThenTwoValues : Type 0
@@ -46,8 +46,8 @@ RowPairKeyThenTwoValues = parse (list (STREAM ∷ FlowSequenceStart ∷ Key ∷ 
       there = run_to 14 (at 2 3 flow_sequence ∷ at 4 5 flow_mapping ∷ at 7 7 nothing ∷ at 10 11 (text (codes "x")) ∷
           at 12 12 ev.MappingEnd ∷ at 12 13 ev.SequenceEnd ∷ []);
       here = broken_run (no_flow_content 8) (at 2 3 flow_sequence ∷ at 4 5 flow_mapping ∷ at 6 6 nothing ∷ []);
-      loads = implicit 14 (node_at 2 13 (flow_seq (2 ∷ [])) ∷ node_at 4 12 (flow_map (pair 3 4 ∷ [])) ∷
-          node_at 7 7 (str plain []) ∷ node_at 10 11 (str plain (codes "x")) ∷ []) ∷ no_root ∷ [];
+      loads = implicit 14 (row_node 2 13 (flow_seq (2 ∷ [])) ∷ row_node 4 12 (flow_map (pair 3 4 ∷ [])) ∷
+          row_node 7 7 (str plain []) ∷ row_node 10 11 (str plain (codes "x")) ∷ []) ∷ no_root ∷ [];
     }
 
 abbrev pub RowPairKeyThenEntry : Type 0
@@ -67,8 +67,8 @@ RowPairKeyThenTwoEntries = parse (list (STREAM ∷ FlowSequenceStart ∷ Key ∷
           at 8 8 ev.MappingEnd ∷ at 10 11 (text (codes "x")) ∷ at 12 13 ev.SequenceEnd ∷ []);
       here = broken_run (no_flow_content 8) (at 2 3 flow_sequence ∷ at 4 5 flow_mapping ∷ at 6 6 nothing ∷
           at 6 6 nothing ∷ at 6 6 ev.MappingEnd ∷ []);
-      loads = implicit 14 (node_at 2 13 (flow_seq (2 ∷ 5 ∷ [])) ∷ node_at 4 8 (flow_map (pair 3 4 ∷ [])) ∷
-          node_at 7 7 (str plain []) ∷ node_at 8 8 (str plain []) ∷ node_at 10 11 (str plain (codes "x")) ∷ []) ∷
+      loads = implicit 14 (row_node 2 13 (flow_seq (2 ∷ 5 ∷ [])) ∷ row_node 4 8 (flow_map (pair 3 4 ∷ [])) ∷
+          row_node 7 7 (str plain []) ∷ row_node 8 8 (str plain []) ∷ row_node 10 11 (str plain (codes "x")) ∷ []) ∷
           no_root ∷ [];
     }
 
@@ -88,8 +88,8 @@ RowPairKeyThenTwoEnds = parse (list (STREAM ∷ FlowSequenceStart ∷ Key ∷ Fl
           at 8 8 ev.MappingEnd ∷ at 8 9 ev.SequenceEnd ∷ []);
       here = broken_run (no_document_start 8) (at 2 3 flow_sequence ∷ at 4 5 flow_mapping ∷ at 6 6 nothing ∷
           at 6 6 nothing ∷ at 6 6 ev.MappingEnd ∷ at 6 7 ev.SequenceEnd ∷ at 8 8 no_document_end ∷ []);
-      loads = implicit 10 (node_at 2 9 (flow_seq (2 ∷ [])) ∷ node_at 4 8 (flow_map (pair 3 4 ∷ [])) ∷
-          node_at 7 7 (str plain []) ∷ node_at 8 8 (str plain []) ∷ []) ∷ no_root ∷ [];
+      loads = implicit 10 (row_node 2 9 (flow_seq (2 ∷ [])) ∷ row_node 4 8 (flow_map (pair 3 4 ∷ [])) ∷
+          row_node 7 7 (str plain []) ∷ row_node 8 8 (str plain []) ∷ []) ∷ no_root ∷ [];
     }
 
 -- a VALUE where the KEY of a block mapping is due
@@ -116,26 +116,26 @@ RowValueBehindAnEntry = parse (list (STREAM ∷ BlockMappingStart ∷ Key ∷ SC
 abbrev pub RowScalarBehindADocumentEnd : Type 0
 RowScalarBehindADocumentEnd = parse (list (STREAM ∷ SCALAR (codes "a") ∷ DocumentEnd ∷ SCALAR (codes "b") ∷
     StreamEnd ∷ [])) ≡ record {
-      there = broken_run (no_document_start 6) (at 2 3 (text (codes "a")) ∷ at 4 5 document_end ∷ []);
-      here = run_to 8 (at 2 3 (text (codes "a")) ∷ at 4 5 document_end ∷ at 6 6 document ∷ at 6 7 (text (codes "b")) ∷
+      there = broken_run (no_document_start 6) (at 2 3 (text (codes "a")) ∷ at 4 5 explicit_end ∷ []);
+      here = run_to 8 (at 2 3 (text (codes "a")) ∷ at 4 5 explicit_end ∷ at 6 6 bare_document ∷ at 6 7 (text (codes "b")) ∷
           []);
-      loads = loaded [] true false 2 5 (node_at 2 3 (str plain (codes "a")) ∷ []) ∷ Err (no_document_start 6) ∷ [];
+      loads = loaded [] true false 2 5 (row_node 2 3 (str plain (codes "a")) ∷ []) ∷ Err (no_document_start 6) ∷ [];
     }
 
 abbrev pub RowTagBehindADocumentEnd : Type 0
 RowTagBehindADocumentEnd = parse (list (STREAM ∷ DocumentStart ∷ DocumentEnd ∷ TAG (codes "!e!") (codes "x") ∷
     SCALAR (codes "b") ∷ StreamEnd ∷ [])) ≡ record {
       there = fails (no_document_start 6) (at 0 0 stream ∷ at 2 3 (headed_document None []) ∷ at 4 4 nothing ∷
-          at 4 5 document_end ∷ []);
+          at 4 5 explicit_end ∷ []);
       here = fails (undefined_handle 6) (at 0 0 stream ∷ at 2 3 (headed_document None []) ∷ at 4 4 nothing ∷
-          at 4 5 document_end ∷ at 6 6 document ∷ []);
-      loads = loaded [] false false 2 5 (node_at 4 4 (str plain []) ∷ []) ∷ Err (no_document_start 6) ∷ [];
+          at 4 5 explicit_end ∷ at 6 6 bare_document ∷ []);
+      loads = loaded [] false false 2 5 (row_node 4 4 (str plain []) ∷ []) ∷ Err (no_document_start 6) ∷ [];
     }
 
 abbrev pub RowNoNodeBehindADocumentEnd : Type 0
 RowNoNodeBehindADocumentEnd = parse (list (STREAM ∷ SCALAR (codes "a") ∷ DocumentEnd ∷ BlockEnd ∷ StreamEnd ∷
     [])) ≡ record {
-      there = broken_run (no_document_start 6) (at 2 3 (text (codes "a")) ∷ at 4 5 document_end ∷ []);
-      here = broken_run (no_block_content 6) (at 2 3 (text (codes "a")) ∷ at 4 5 document_end ∷ at 6 6 document ∷ []);
-      loads = loaded [] true false 2 5 (node_at 2 3 (str plain (codes "a")) ∷ []) ∷ Err (no_document_start 6) ∷ [];
+      there = broken_run (no_document_start 6) (at 2 3 (text (codes "a")) ∷ at 4 5 explicit_end ∷ []);
+      here = broken_run (no_block_content 6) (at 2 3 (text (codes "a")) ∷ at 4 5 explicit_end ∷ at 6 6 bare_document ∷ []);
+      loads = loaded [] true false 2 5 (row_node 2 3 (str plain (codes "a")) ∷ []) ∷ Err (no_document_start 6) ∷ [];
     }

@@ -12,7 +12,7 @@ use Rattle.libyaml_types.specs.declared.token.unnamed_yaml_token_t_data.TheVaria
 use Rattle.libyaml_types.specs.declared.token.unnamed_yaml_token_t_data.TheVariants.{FlowSequenceStart, Key}
 use Rattle.libyaml_types.specs.declared.token.unnamed_yaml_token_t_data.TheVariants.{StreamEnd, Value}
 use Rattle.libyaml_documents.specs.declared.node.yaml_node_t.{yaml_node_t}
-use Rattle.libyaml_grammar.specs.rows.RowNotation.{ALIAS, ANCHOR, SCALAR, STREAM, STYLED, alias, document}
+use Rattle.libyaml_grammar.specs.rows.RowNotation.{ALIAS, ANCHOR, SCALAR, STREAM, STYLED, alias, bare_document}
 use Rattle.libyaml_grammar.specs.rows.RowNotation.{flow_mapping, flow_sequence, mapping, mapping_of}
 use Rattle.libyaml_grammar.specs.rows.RowNotation.{no_document_end, no_more, nothing, sequence, stream, text}
 use Rattle.libyaml_grammar.specs.sentences.Events.{Event}
@@ -43,7 +43,7 @@ list_tokens =
 abbrev pub list_events : List Event
 list_events =
     line 0 0 (e 0 0 stream ∷ []) ++
-    line 1 21 (e 0 0 document ∷ e 0 0 sequence ∷ e 2 31 (text (codes "https://eu.example.org/debian")) ∷ []) ++
+    line 1 21 (e 0 0 bare_document ∷ e 0 0 sequence ∷ e 2 31 (text (codes "https://eu.example.org/debian")) ∷ []) ++
     line 2 53 (e 2 33 (styled double (codes "https://us.example.org/debian")) ∷ []) ++
     line 3 87 (e 1 1 nothing ∷ []) ++
     line 4 89 (e 2 2 sequence ∷ e 4 7 (text (codes "cdn")) ∷ []) ++
@@ -115,7 +115,7 @@ compose_tokens =
 abbrev pub compose_events : List Event
 compose_events =
     line 0 0 (e 0 0 stream ∷ []) ++
-    line 1 17 (e 0 0 document ∷ e 0 0 mapping ∷ e 0 7 (text (codes "version")) ∷
+    line 1 17 (e 0 0 bare_document ∷ e 0 0 mapping ∷ e 0 7 (text (codes "version")) ∷
     e 9 14 (styled double (codes "3.9")) ∷ []) ++
     line 2 32 (e 0 9 (text (codes "x-logging")) ∷
     e_to 11 (mark 54 3 2) (mapping_of (Some (codes "logging")) None true) ∷ []) ++
@@ -204,7 +204,7 @@ fault_tokens =
 
 abbrev pub fault_events : List Event
 fault_events =
-    line 0 0 (e 0 0 stream ∷ e 0 0 document ∷ e 0 0 mapping ∷ e 0 5 (text (codes "ports")) ∷ e 7 8 flow_sequence ∷
+    line 0 0 (e 0 0 stream ∷ e 0 0 bare_document ∷ e 0 0 mapping ∷ e 0 5 (text (codes "ports")) ∷ e 7 8 flow_sequence ∷
     e 8 10 (text (codes "80")) ∷ e 12 15 (text (codes "443")) ∷ [])
 
 -- A list that breaks off: the events of its tokens so far, and then the source's fault.

@@ -14,7 +14,7 @@ use Rattle.libyaml_documents.specs.declared.node.yaml_node_t.{yaml_node_t}
 use Rattle.libyaml_documents.specs.declared.node.unnamed_yaml_node_t_data.{unnamed_yaml_node_t_data}
 use Rattle.libyaml_documents.specs.declared.pairs.yaml_node_pair_t.{yaml_node_pair_t}
 use Rattle.libyaml_types.specs.Fault.{Fault}
-use Rattle.libyaml_grammar.specs.rows.RowNotation.{at, document, no_document_end, no_more, place, says, says_while}
+use Rattle.libyaml_grammar.specs.rows.RowNotation.{at, bare_document, no_document_end, no_more, place, says, says_while}
 use Rattle.libyaml_grammar.specs.rows.RowNotation.{scalar, stream}
 use Rattle.libyaml_grammar.specs.runs.Runs.{Ending, Ends, Fails}
 use Rattle.libyaml_grammar.specs.sentences.Events.{Event, event}
@@ -30,12 +30,12 @@ pub record Parsed : Type 0 where
   pub here : List Event × Option Ending
   pub loads : List Load
 
-abbrev pub loads_of : (limit : ℕ) → List Event × Option Ending → List Load
-loads_of limit (e, None) = []
-loads_of limit (e, Some x) = loads_there limit e x
+abbrev pub row_loads : (limit : ℕ) → List Event × Option Ending → List Load
+row_loads limit (e, None) = []
+row_loads limit (e, Some x) = loads_there limit e x
 
 abbrev pub loads_within : (limit : ℕ) → List Token → List Load
-loads_within limit l = loads_of limit (run_there l no_more)
+loads_within limit l = row_loads limit (run_there l no_more)
 
 abbrev pub parse : List Token → Parsed
 parse l = record { there = run_there l no_more; here = run_here l no_more; loads = loads_within 2147483646 l }
@@ -52,10 +52,10 @@ alike r loads = record { there = r; here = r; loads = loads }
 
 -- the runs of one implicit document, which begins at 2: with these events in it up to its end, or to a fault
 abbrev pub run_to : ℕ → List Event → List Event × Option Ending
-run_to n e = ends (at 0 0 stream ∷ at 2 2 document ∷ e ++ at n n no_document_end ∷ at n (n + 1) ev.StreamEnd ∷ [])
+run_to n e = ends (at 0 0 stream ∷ at 2 2 bare_document ∷ e ++ at n n no_document_end ∷ at n (n + 1) ev.StreamEnd ∷ [])
 
 abbrev pub broken_run : Fault → List Event → List Event × Option Ending
-broken_run f e = fails f (at 0 0 stream ∷ at 2 2 document ∷ e)
+broken_run f e = fails f (at 0 0 stream ∷ at 2 2 bare_document ∷ e)
 
 -- faults: where the collection begins and where the problem is, or where the problem alone is
 abbrev pub no_separator : ℕ → ℕ → Fault
@@ -110,11 +110,11 @@ pub record NodePart : Type 0 where
   pub tag : List ℕ
   pub content : unnamed_yaml_node_t_data
 
-abbrev pub tagged : (tag : List ℕ) → yaml_scalar_style_t → List ℕ → NodePart
-tagged t s v = record { tag = t; content = Scalar (record { value = v; style = s }) }
+abbrev pub row_tagged : (tag : List ℕ) → yaml_scalar_style_t → List ℕ → NodePart
+row_tagged t s v = record { tag = t; content = Scalar (record { value = v; style = s }) }
 
 abbrev pub str : yaml_scalar_style_t → List ℕ → NodePart
-str s v = tagged (codes "tag:yaml.org,2002:str") s v
+str s v = row_tagged (codes "tag:yaml.org,2002:str") s v
 
 abbrev pub block_seq : List ℕ → NodePart
 block_seq is = record {
@@ -144,8 +144,8 @@ abbrev pub node_from : Mark → Mark → NodePart → yaml_node_t
 node_from m n p = record { tag = p.tag; content = p.content; start_mark = m; end_mark = n }
 
 -- on line 0, from an index to another
-abbrev pub node_at : ℕ → ℕ → NodePart → yaml_node_t
-node_at i j p = node_from (place i) (place j) p
+abbrev pub row_node : ℕ → ℕ → NodePart → yaml_node_t
+row_node i j p = node_from (place i) (place j) p
 
 -- a document whose start and end are implicit
 abbrev pub whole : Mark → Mark → List yaml_node_t → Load

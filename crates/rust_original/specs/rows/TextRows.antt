@@ -6,11 +6,11 @@ use Rattle.libyaml_types.specs.declared.token.unnamed_yaml_token_t_data.TheVaria
 use Rattle.libyaml_types.specs.declared.token.unnamed_yaml_token_t_data.TheVariants.{FlowSequenceStart}
 use Rattle.libyaml_types.specs.declared.token.unnamed_yaml_token_t_data.TheVariants.{StreamEnd}
 use Rattle.libyaml_grammar.specs.rows.RowNotation.{ALIAS, ANCHOR, HANDLE, SCALAR, STREAM, TAG, alias, at}
-use Rattle.libyaml_grammar.specs.rows.RowNotation.{declares, flow_sequence, headed_document, list}
+use Rattle.libyaml_grammar.specs.rows.RowNotation.{declaring, flow_sequence, headed_document, list}
 use Rattle.libyaml_grammar.specs.rows.RowNotation.{no_document_end, nothing, scalar, stream}
 use Rattle.libyaml_graphs.specs.rows.LoadRows.{implicit, loaded, no_carrier, no_root, second_carrier}
-use Rattle.rust_original.specs.rows.Notation.{broken_run, ends, fails, flow_seq, node_at, parse, plain}
-use Rattle.rust_original.specs.rows.Notation.{run_to, second_handle, str, tagged, undefined_handle}
+use Rattle.rust_original.specs.rows.Notation.{broken_run, ends, fails, flow_seq, row_node, parse, plain}
+use Rattle.rust_original.specs.rows.Notation.{run_to, second_handle, str, row_tagged, undefined_handle}
 use Rattle.rust_original.specs.rows.Notation.{zero_between}
 
 abbrev pub RowAliasWithAZeroByte : Type 0
@@ -29,7 +29,7 @@ RowAnchorWithAZeroByte = parse (list (STREAM ∷ FlowSequenceStart ∷ ANCHOR (z
       here = run_to 14 (at 2 3 flow_sequence ∷
           at 4 7 (scalar (Some (zero_between (codes "a") (codes "b"))) None (codes "x") true false plain) ∷
           at 10 11 (alias (codes "a")) ∷ at 12 13 ev.SequenceEnd ∷ []);
-      loads = implicit 14 (node_at 2 13 (flow_seq (2 ∷ 2 ∷ [])) ∷ node_at 4 7 (str plain (codes "x")) ∷ []) ∷ no_root ∷
+      loads = implicit 14 (row_node 2 13 (flow_seq (2 ∷ 2 ∷ [])) ∷ row_node 4 7 (str plain (codes "x")) ∷ []) ∷ no_root ∷
           [];
     }
 
@@ -49,8 +49,8 @@ abbrev pub RowTwoHandlesWithZeroBytes : Type 0
 RowTwoHandlesWithZeroBytes = parse (list (STREAM ∷ HANDLE (zero_between (codes "!a") []) (codes "p") ∷
     HANDLE (zero_between (codes "!a") (codes "b")) (codes "q") ∷ DocumentStart ∷ StreamEnd ∷ [])) ≡ record {
       there = fails (second_handle 4) (at 0 0 stream ∷ []);
-      here = ends (at 0 0 stream ∷ at 2 7 (headed_document None (declares (zero_between (codes "!a") []) (codes "p") ∷
-          declares (zero_between (codes "!a") (codes "b")) (codes "q") ∷ [])) ∷ at 8 8 nothing ∷ at 8 8 no_document_end ∷
+      here = ends (at 0 0 stream ∷ at 2 7 (headed_document None (declaring (zero_between (codes "!a") []) (codes "p") ∷
+          declaring (zero_between (codes "!a") (codes "b")) (codes "q") ∷ [])) ∷ at 8 8 nothing ∷ at 8 8 no_document_end ∷
           at 8 9 ev.StreamEnd ∷ []);
       loads = Err (second_handle 4) ∷ [];
     }
@@ -60,7 +60,7 @@ RowHandleOfAZeroByte = parse (list (STREAM ∷ TAG (zero_between [] []) (codes "
     [])) ≡ record {
       there = run_to 6 (at 2 5 (scalar None (Some (codes "x")) (codes "a") false false plain) ∷ []);
       here = broken_run (undefined_handle 2) [];
-      loads = implicit 6 (node_at 2 5 (tagged (codes "x") plain (codes "a")) ∷ []) ∷ no_root ∷ [];
+      loads = implicit 6 (row_node 2 5 (row_tagged (codes "x") plain (codes "a")) ∷ []) ∷ no_root ∷ [];
     }
 
 abbrev pub RowTagWithAZeroByte : Type 0
@@ -68,20 +68,20 @@ RowTagWithAZeroByte = parse (list (STREAM ∷ TAG [] (zero_between (codes "!") [
     [])) ≡ record {
       there = run_to 6 (at 2 5 (scalar None (Some (codes "!")) (codes "a") true false plain) ∷ []);
       here = run_to 6 (at 2 5 (scalar None (Some (zero_between (codes "!") [])) (codes "a") false false plain) ∷ []);
-      loads = implicit 6 (node_at 2 5 (str plain (codes "a")) ∷ []) ∷ no_root ∷ [];
+      loads = implicit 6 (row_node 2 5 (str plain (codes "a")) ∷ []) ∷ no_root ∷ [];
     }
 
 abbrev pub RowPrefixAndSuffixWithZeroBytes : Type 0
 RowPrefixAndSuffixWithZeroBytes = parse (list (STREAM ∷ HANDLE (codes "!a!") (zero_between (codes "p") (codes "q")) ∷
     DocumentStart ∷ TAG (codes "!a!") (zero_between (codes "x") (codes "y")) ∷ SCALAR (codes "a") ∷ StreamEnd ∷
     [])) ≡ record {
-      there = ends (at 0 0 stream ∷ at 2 5 (headed_document None (declares (codes "!a!") (codes "p") ∷ [])) ∷
+      there = ends (at 0 0 stream ∷ at 2 5 (headed_document None (declaring (codes "!a!") (codes "p") ∷ [])) ∷
           at 6 9 (scalar None (Some (codes "px")) (codes "a") false false plain) ∷ at 10 10 no_document_end ∷
           at 10 11 ev.StreamEnd ∷ []);
       here = ends (at 0 0 stream ∷
-          at 2 5 (headed_document None (declares (codes "!a!") (zero_between (codes "p") (codes "q")) ∷ [])) ∷
+          at 2 5 (headed_document None (declaring (codes "!a!") (zero_between (codes "p") (codes "q")) ∷ [])) ∷
           at 6 9 (scalar None (Some (codes "p" ++ 0 ∷ codes "qx" ++ 0 ∷ codes "y")) (codes "a") false false plain) ∷
           at 10 10 no_document_end ∷ at 10 11 ev.StreamEnd ∷ []);
-      loads = loaded (declares (codes "!a!") (codes "p") ∷
-          []) false true 2 10 (node_at 6 9 (tagged (codes "px") plain (codes "a")) ∷ []) ∷ no_root ∷ [];
+      loads = loaded (declaring (codes "!a!") (codes "p") ∷
+          []) false true 2 10 (row_node 6 9 (row_tagged (codes "px") plain (codes "a")) ∷ []) ∷ no_root ∷ [];
     }

@@ -11,7 +11,7 @@ use Rattle.libyaml_events.specs.machine.Config.{Parser}
 use Rattle.libyaml_events.specs.sources.History.{History, is_over, is_stream_end}
 use Rattle.libyaml_types.specs.Fault.{Answer, Fault}
 use Rattle.libyaml_events.proofs.lent.CallsInTurn.{gave_both}
-use Rattle.token_lines.specs.events.InTurn.{AllWritten, Call, WrittenInTurn, gave_event, failed}
+use Rattle.token_lines.specs.events.InTurn.{AllWritten, CallSays, WrittenInTurn, gave_event, failed}
 
 module _ {S : Type 0} (p : Parser S) where
   pub history_none : (asked : List yaml_token_t) (given : List yaml_event_t) → History p asked given
@@ -49,11 +49,11 @@ module _ {S : Type 0} (text : yaml_event_t → List ℕ) (gives : S → Answer �
   pub one_more : (first p q : Parser S) (a b c : Option (List ℕ)) (asked : List yaml_token_t) (given : List yaml_event_t)
       → AllWritten text gives first p a b asked given
       → (is_over p ≡ false → (asked' : List yaml_token_t) (given' : List yaml_event_t) → History p asked' given'
-      → Call gives (λ e. (is_stream_end e ≡ false) × Appends b c (text e)) (λ f. ⊥) p q asked' given')
+      → CallSays gives (λ e. (is_stream_end e ≡ false) × Appends b c (text e)) (λ f. ⊥) p q asked' given')
       → AllWritten text gives first q a c asked given
   one_more first p q a b c asked given w calls = go (calls w.running (asked ++ w.more) (given ++ w.events) w.history)
     where
-      go : Call gives (λ e. (is_stream_end e ≡ false) × Appends b c (text e)) (λ f. ⊥) p q (asked ++ w.more)
+      go : CallSays gives (λ e. (is_stream_end e ≡ false) × Appends b c (text e)) (λ f. ⊥) p q (asked ++ w.more)
           (given ++ w.events)
           → AllWritten text gives first q a c asked given
       go (gave_event e on wrote) = record {
@@ -73,7 +73,7 @@ module _ {S : Type 0} (text : yaml_event_t → List ℕ) (gives : S → Answer �
       (asked : List yaml_token_t)
       (given : List yaml_event_t) → AllWritten text gives first p a (contents writer) asked given
       → (is_over p ≡ false → (asked' : List yaml_token_t) (given' : List yaml_event_t) → History p asked' given'
-      → Call gives (λ e. ForEvent e (contents writer) d) (λ f. ForFault f (contents writer) d) p q asked' given')
+      → CallSays gives (λ e. ForEvent e (contents writer) d) (λ f. ForFault f (contents writer) d) p q asked' given')
       → WrittenInTurn text ForEvent ForFault gives contents first q a d asked given
   last_call ForEvent ForFault contents first p q writer a d asked given w closes
       = record {

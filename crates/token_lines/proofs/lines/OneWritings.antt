@@ -27,11 +27,11 @@ use Rattle.token_lines.specs.declared.run.Outcome.TheVariants as outcome
 use Rattle.token_lines.specs.declared.run.run_end_t.{run_end_t}
 use Rattle.token_lines.specs.declared.run.run_end_t.TheVariants.{Ended, Faulted, OutputFailed}
 use Rattle.token_lines.specs.events.EventRun.{event_lines}
-use Rattle.token_lines.specs.events.InTurn.{Call, failed, gave_event}
+use Rattle.token_lines.specs.events.InTurn.{CallSays, failed, gave_event}
 use Rattle.token_lines.specs.events.LastCall.{LastCall, NothingLeft, WroteForEvent}
 use Rattle.token_lines.specs.lines.LineRun.{WroteFault, outcome_of}
 use Rattle.token_lines.specs.lines.OneOutput.{BrokeOff, OneOutput, alike, first_breaks, output_failed, second_breaks}
-use Rattle.token_lines.specs.lines.OneWriting.{BreaksOffByNone, results_in_call, results_of}
+use Rattle.token_lines.specs.lines.OneWriting.{BreaksOffByNone, results_in_call, writing_results_of}
 use Rattle.token_lines.proofs.lines.OneOutputs.{same_bytes}
 
 -- results that begin one another, after the same tokens
@@ -139,10 +139,10 @@ module _ {S W : Type 0} (gives : S → Answer → S → Type 0) (contents : W �
         )
 
     came : (end : run_end_t) (o : LastCall gives contents end old last before after asked given)
-        → Came (outcome_of end) after (results_of end o)
+        → Came (outcome_of end) after (writing_results_of end o)
     came Ended o = go o.call
       where
-        go : (k : Call gives (λ e. WroteForEvent Ended e (contents o.writer) after)
+        go : (k : CallSays gives (λ e. WroteForEvent Ended e (contents o.writer) after)
             (λ f. WroteFault Ended f (contents o.writer) after) o.parser last
             (asked ++ o.earlier.more) (given ++ o.earlier.events))
             → Came outcome.Ended after (answers o.earlier.more (results_in_call k))
@@ -150,7 +150,7 @@ module _ {S W : Type 0} (gives : S → Answer → S → Type 0) (contents : W �
         go (failed h w) = absurd w
     came (Faulted told) o = go o.call
       where
-        go : (k : Call gives (λ e. WroteForEvent (Faulted told) e (contents o.writer) after)
+        go : (k : CallSays gives (λ e. WroteForEvent (Faulted told) e (contents o.writer) after)
             (λ f. WroteFault (Faulted told) f (contents o.writer) after) o.parser last
             (asked ++ o.earlier.more) (given ++ o.earlier.events))
             → Came outcome.Faulted after (answers o.earlier.more (results_in_call k))
@@ -190,10 +190,10 @@ pub one_writing_proof : {S W : Type 0} (gives : S → Answer → S → Type 0) (
     (written : List ℕ) (after later : Option (List ℕ)) (asked : List yaml_token_t) (given : List yaml_event_t)
     → (a : LastCall gives contents first old p (Some written) after asked given)
     → (b : LastCall gives contents second old q (Some written) later asked given)
-    → OneBegins (results_of first a) (results_of second b)
+    → OneBegins (writing_results_of first a) (writing_results_of second b)
     → OneOutput BreaksOffByNone BreaksOffByNone (outcome_of first) (outcome_of second) (Some written) after later
 one_writing_proof {S} gives contents old p q first second written after later asked given a b one
-    = go (results_of first a) (results_of second b) one
+    = go (writing_results_of first a) (writing_results_of second b) one
     (came gives contents old (Some written) asked given p after first a)
     (came gives contents old (Some written) asked given q later second b)
   where

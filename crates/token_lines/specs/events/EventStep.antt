@@ -9,7 +9,7 @@ use Rattle.libyaml_types.specs.Fault.{Fault, Answer, fault_of, memory_fault}
 use Rattle.line_writing.specs.EventText.{event_line}
 use Rattle.token_lines.specs.declared.run.RunStep.{RunStep}
 use Rattle.token_lines.specs.declared.run.RunStep.TheVariants.{Written, Ended, Failed, OutputFailed}
-use Rattle.token_lines.specs.events.InTurn.{Call}
+use Rattle.token_lines.specs.events.InTurn.{CallSays}
 
 -- what a step wrote after a call that returned this event
 abbrev pub StepForEvent : RunStep → yaml_event_t → (before after : Option (List ℕ)) → Type 0
@@ -28,4 +28,4 @@ abbrev pub Turn : {S : Type 0} → (gives : S → Answer → S → Type 0) → R
     → (before after : Option (List ℕ)) → List yaml_token_t
     → List yaml_event_t → Type 0
 Turn gives step old new before after asked given
-    = Call gives (λ e. StepForEvent step e before after) (λ f. StepForFault step f before after) old new asked given
+    = CallSays gives (λ e. StepForEvent step e before after) (λ f. StepForFault step f before after) old new asked given

@@ -12,11 +12,11 @@ use Rattle.libyaml_events.specs.sources.Parsing.{CarriesOn, FailsBy}
 use Rattle.libyaml_types.specs.Fault.{Answer, Fault}
 
 -- a call of the parser, which returned an event or failed, and what is said of that event or fault
-pub data Call {S : Type 0} (gives : S → Answer → S → Type 0) (ForEvent : yaml_event_t → Type 0) (ForFault : Fault
+pub data CallSays {S : Type 0} (gives : S → Answer → S → Type 0) (ForEvent : yaml_event_t → Type 0) (ForFault : Fault
     → Type 0) (old new : Parser S) (asked : List yaml_token_t) (given : List yaml_event_t) : Type 0 where
   gave_event : (e : yaml_event_t) → CarriesOn gives old e new asked given → ForEvent e
-      → Call gives ForEvent ForFault old new asked given
-  failed : FailsBy gives old new asked given → ForFault (kept_fault new) → Call gives ForEvent ForFault old new asked given
+      → CallSays gives ForEvent ForFault old new asked given
+  failed : FailsBy gives old new asked given → ForFault (kept_fault new) → CallSays gives ForEvent ForFault old new asked given
 
 -- From the first parser to this one, which has not ended, the source gave these tokens more and the parser these events,
 -- and the text of each event was written.
@@ -40,6 +40,6 @@ pub record WrittenInTurn {S W : Type 0} (text : yaml_event_t → List ℕ)
   pub parser : Parser S
   pub writer : W
   pub earlier : AllWritten text gives first parser before (contents writer) asked given
-  pub call : Call gives (λ e. ForEvent e (contents writer) after) (λ f. ForFault f (contents writer) after) parser
+  pub call : CallSays gives (λ e. ForEvent e (contents writer) after) (λ f. ForFault f (contents writer) after) parser
       last (asked ++ earlier.more)
       (given ++ earlier.events)

@@ -10,7 +10,7 @@ use Rattle.token_lines.specs.declared.run.Outcome.{Outcome}
 use Rattle.token_lines.specs.declared.run.run_end_t.{run_end_t}
 use Rattle.token_lines.specs.declared.run.run_end_t.TheVariants.{Ended, Faulted, OutputFailed}
 use Rattle.token_lines.specs.events.EventRun.{most_tokens, WritesRunOf}
-use Rattle.token_lines.specs.events.InTurn.{Call, WrittenInTurn}
+use Rattle.token_lines.specs.events.InTurn.{CallSays, WrittenInTurn}
 use Rattle.token_lines.specs.lines.LineRun.{WroteFault, outcome_of}
 use Rattle.line_writing.specs.EventText.{event_line}
 use Rattle.line_writing.specs.FaultText.{fault_text}
@@ -28,7 +28,7 @@ abbrev pub Closes : {S : Type 0} → (gives : S → Answer → S → Type 0) →
     → (before after : Option (List ℕ)) → List yaml_token_t
     → List yaml_event_t → Type 0
 Closes gives end old new before after asked given
-    = Call gives (λ e. WroteForEvent end e before after) (λ f. WroteFault end f before after) old new asked given
+    = CallSays gives (λ e. WroteForEvent end e before after) (λ f. WroteFault end f before after) old new asked given
 
 -- At the last call of the parser the writer held the line of each event that was given before, and what was written since
 -- is of this call.

@@ -49,19 +49,19 @@ has_nodes tokens max outcome bytes = (loads : List Load)
 
 -- These bytes were put into a buffer: `wanted` is how many they are, and `written` how many of them had room. These are the
 -- buffer's first, and the bytes that follow them are as they were.
-pub record HandsOut (bytes old new : List ℕ) (run : memory_run_t) : Type 0 where
+pub record HandsOutBytes (bytes old new : List ℕ) (run : memory_run_t) : Type 0 where
   pub wanted : run.wanted ≡ length bytes
   pub written : run.written ≡ min (length bytes) (length old)
   pub filled : new ≡ take run.written bytes ++ drop run.written old
 
 -- what is handed out of these bytes: all, or the text of a failed allocation
-abbrev pub bytes_of : memory_outcome_t → List ℕ → List ℕ
-bytes_of Ended bytes = bytes
-bytes_of Faulted bytes = bytes
-bytes_of OutOfMemory bytes = memory_text
+abbrev pub handed_bytes : memory_outcome_t → List ℕ → List ℕ
+handed_bytes Ended bytes = bytes
+handed_bytes Faulted bytes = bytes
+handed_bytes OutOfMemory bytes = memory_text
 
 -- the bytes of a run were put into the buffer
 pub record InMemory (HasBytes : memory_outcome_t → List ℕ → Type 0) (old new : List ℕ) (run : memory_run_t) : Type 0 where
   pub bytes : List ℕ
   pub has : HasBytes run.outcome bytes
-  pub handed_out : HandsOut bytes old new run
+  pub handed_out : HandsOutBytes bytes old new run

@@ -10,7 +10,7 @@ use Rattle.libyaml_graphs.specs.loads.Bounds.{next_bounded}
 use Rattle.libyaml_graphs.specs.loads.Loads.{left_over}
 use Rattle.libyaml_loader.specs.loads.OneLoad.{results_in}
 use Rattle.token_lines.specs.declared.run.run_end_t.{run_end_t}
-use Rattle.token_lines.specs.events.InTurn.{Call, failed, gave_event}
+use Rattle.token_lines.specs.events.InTurn.{CallSays, failed, gave_event}
 use Rattle.token_lines.specs.events.LastCall.{LastCall}
 use Rattle.token_lines.specs.nodes.LastLoad.{LastLoad}
 
@@ -18,16 +18,16 @@ use Rattle.token_lines.specs.nodes.LastLoad.{LastLoad}
 abbrev pub results_in_call : {S : Type 0} {gives : S → Answer → S → Type 0} {ForEvent : yaml_event_t → Type 0}
     {ForFault : Fault → Type 0} {old new
     : Parser S} {asked : List yaml_token_t} {given : List yaml_event_t}
-    → Call gives ForEvent ForFault old new asked given → List Answer
+    → CallSays gives ForEvent ForFault old new asked given → List Answer
 results_in_call (gave_event e c w) = answers c.more []
 results_in_call (failed f w) = f.more
 
 -- and all: the tokens by which the events before the last call came, and then what that call asked for
-abbrev pub results_of : {S W : Type 0} {gives : S → Answer → S → Type 0} {contents : W → Option (List ℕ)}
+abbrev pub writing_results_of : {S W : Type 0} {gives : S → Answer → S → Type 0} {contents : W → Option (List ℕ)}
     {first last : Parser S}
     {before after : Option (List ℕ)} {asked : List yaml_token_t} {given : List yaml_event_t}
     → (end : run_end_t) → LastCall gives contents end first last before after asked given → List Answer
-results_of end o = answers o.earlier.more (results_in_call o.call)
+writing_results_of end o = answers o.earlier.more (results_in_call o.call)
 
 -- likewise of documents, whose last load names what it asked for
 abbrev pub results_of_nodes : {S W : Type 0} {gives : S → Answer → S → Type 0} {known : S → Option Coming}

@@ -34,11 +34,11 @@ abbrev pub WritesLoads : (MayBreak : Fault → Type 0) → run_end_t → (old ne
 WritesLoads MayBreak end old new loads = Writes MayBreak end old new (loads_lines loads) (loads_ending loads)
 
 -- the loads of the token lines of an input
-abbrev pub AreLoadsOf : List ℕ → List Load → Type 0
-AreLoadsOf bytes loads = IsLoads (read_lines bytes most_tokens).tokens (read_lines bytes most_tokens).fault loads
+abbrev pub AreLoadsOfLines : List ℕ → List Load → Type 0
+AreLoadsOfLines bytes loads = IsLoads (read_lines bytes most_tokens).tokens (read_lines bytes most_tokens).fault loads
 
 -- what a run writes of an input, where its bytes are known
 abbrev pub WritesNodesOf : (bytes : Option (List ℕ)) → (MayBreak : Fault → Type 0) → run_end_t
     → (old new : Option (List ℕ)) → Type 0
-WritesNodesOf bytes MayBreak end old new = IfSome bytes (λ known. (loads : List Load) → AreLoadsOf known loads
+WritesNodesOf bytes MayBreak end old new = IfSome bytes (λ known. (loads : List Load) → AreLoadsOfLines known loads
     → WritesLoads MayBreak end old new loads)

@@ -14,7 +14,7 @@ ghost use Rattle.token_lines.specs.lines.InMemory.{InMemory, has_events, has_nod
 ghost use Rattle.token_lines.specs.lines.LineRun.{outcome_of};
 ghost use Rattle.token_lines.specs.lines.OneInMemory.{OneInMemory};
 ghost use Rattle.token_lines.specs.lines.OneOutput.{OneOutput};
-ghost use Rattle.token_lines.specs.lines.OneWriting.{BreaksOffByNone, results_of, results_of_nodes};
+ghost use Rattle.token_lines.specs.lines.OneWriting.{BreaksOffByNone, writing_results_of, results_of_nodes};
 ghost use Rattle.token_lines.specs.nodes.LastLoad.{LastLoad, NodesOver};
 
 use libyaml_events::yaml_token_source_t;
@@ -47,7 +47,7 @@ pub fn one_writing_of_events<S: yaml_token_source_t, W: Write>()
         (after later : Option (List ℕ)) (asked : List yaml_token_t) (given : List yaml_event_t)
         → (a : LastCall S.gives W.contents first old p (Some written) after asked given)
         → (b : LastCall S.gives W.contents second old q (Some written) later asked given)
-        → OneBegins (results_of first a) (results_of second b)
+        → OneBegins (writing_results_of first a) (writing_results_of second b)
         → OneOutput BreaksOffByNone BreaksOffByNone (outcome_of first) (outcome_of second)
         (Some written) after later }
     ensures nothing_left { (old p q : Parser S) (first second : run_end_t) (written : List ℕ)

@@ -13,8 +13,8 @@ use Rattle.libyaml_graphs.specs.loads.Loads.{left_over}
 use Rattle.libyaml_loader.specs.declared.composer.Composer.{Composer}
 use Rattle.libyaml_loader.specs.document.Context.{loader_of}
 use Rattle.libyaml_loader.specs.loads.Loading.{DocumentOrError, LoadsFrom, Took}
-use Rattle.libyaml_loader.specs.pushes.Composing.{RefusesEvent, closing_by, ended_by, opening_in, state_by}
-use Rattle.libyaml_loader.specs.pushes.Composing.{state_of}
+use Rattle.libyaml_loader.specs.pushes.Composing.{RefusesEvent, closing_by, ended_by, opening_of_document, state_by}
+use Rattle.libyaml_loader.specs.pushes.Composing.{composer_state}
 use Rattle.libyaml_loader.specs.pushes.Leads.{Leads}
 use Rattle.libyaml_loader.proofs.loads.Ended.{has_not_ended, no_error, still_ended}
 use Rattle.libyaml_loader.proofs.loads.OnTheWay.{OnTheWay, way_ends, way_fails, way_finds_end, way_more, way_none}
@@ -75,10 +75,10 @@ loop-composer-preserved g c =
     c.in_ok-yaml_parser_parse_into.was (sym c.is_event.ensures ∙ c.if-not-is_event.false) in
     let i = c.loop-composer.invariant in (
       way_more t.gives t.known t.may_break c.args.composer.max_entries c.args.parser.now c.loop-composer.parser
-          (state_of c.loop-composer.composer) i.0 call.new.parser (state_of c.compose.new.self) call.new.event
+          (composer_state c.loop-composer.composer) i.0 call.new.parser (composer_state c.compose.new.self) call.new.event
           k.took
-          (subst (λ (n : ℕ). Leads n (state_of c.loop-composer.composer) (call.new.event ∷ []) []
-          (state_of c.compose.new.self)) i.2 (rw c.in-Ok-None.field-0-is at c.in-Ok-None.ensures.composes))
+          (subst (λ (n : ℕ). Leads n (composer_state c.loop-composer.composer) (call.new.event ∷ []) []
+          (composer_state c.compose.new.self)) i.2 (rw c.in-Ok-None.field-0-is at c.in-Ok-None.ensures.composes))
           call.ensures.bound,
       c.compose.ensures.sound,
       c.compose.ensures.bound ∙ i.2,
@@ -95,7 +95,7 @@ returns-in_err-yaml_parser_parse_into-clause-loads g c =
     subst (λ (r : DocumentOrError). LoadsFrom t.gives t.known t.may_break (next_bounded n) left_over c.args.parser.now r
     call.new.parser) (sym e)
     (way_fails t.gives t.known t.may_break n c.args.parser.now c.loop-composer.parser
-    (state_of c.loop-composer.composer) c.loop-composer.invariant.0 call.new.parser
+    (composer_state c.loop-composer.composer) c.loop-composer.invariant.0 call.new.parser
     (parser_fails t.gives t.known t.may_break g.met.S.yaml_token_source_t.follows c.loop-composer.parser call.new.parser
     (answered call.result call.new.event) (t.bound, call.ensures) c.in_err-yaml_parser_parse_into.field-0.0
     (ap (λ r. answered r call.new.event) c.in_err-yaml_parser_parse_into.was)))
@@ -113,7 +113,7 @@ returns-then-not-is_event-clause-loads g c =
     let call = c.yaml_parser_parse_into in
     let empty : is_event call.new.event.content ≡ false = sym c.is_event.ensures ∙ c.if-not-is_event.true in
     way_finds_end t.gives t.known t.may_break c.args.composer.max_entries c.args.parser.now c.loop-composer.parser
-    (state_of c.loop-composer.composer) c.loop-composer.invariant.0 call.new.parser c.empty_document.result
+    (composer_state c.loop-composer.composer) c.loop-composer.invariant.0 call.new.parser c.empty_document.result
     (finds_end t.gives t.known t.may_break g.met.S.yaml_token_source_t.follows c.loop-composer.parser call.new.parser (answered call.result call.new.event)
     (t.bound, call.ensures) call.new.event (ap (λ r. answered r call.new.event) c.in_ok-yaml_parser_parse_into.was) empty)
     c.empty_document.ensures
@@ -136,7 +136,7 @@ returns-in-Ok-Some-clause-loads g c =
     let ends : (x.is_open ≡ true) × (closing_of call.new.event ≡ Some (closing_by c.in-Ok-Some.closing))
     × (c.compose.new.self ≡ x) = rw c.in-Ok-Some.field-0-is at c.in-Ok-Some.ensures.composes in
     way_ends t.gives t.known t.may_break c.args.composer.max_entries c.args.parser.now c.loop-composer.parser
-    (state_of x) c.loop-composer.invariant.0 call.new.parser call.new.event (opening_in x.ctx.document) (loader_of x.ctx)
+    (composer_state x) c.loop-composer.invariant.0 call.new.parser call.new.event (opening_of_document x.ctx.document) (loader_of x.ctx)
     (closing_by c.in-Ok-Some.closing) c.into_document.result k.took (ap (λ (b : Bool). state_by b x.ctx) ends.0) ends.1
     (c.into_document.ensures ∙ ap (λ (y : Composer). ended_by (closing_by c.in-Ok-Some.closing) y.ctx) ends.2)
     (behind_close t.gives t.known t.may_break g.met.S.yaml_token_source_t.follows c.loop-composer.parser call.new.parser
@@ -165,9 +165,9 @@ returns-in-Err-clause-loads g c =
     c.in_ok-yaml_parser_parse_into.was (sym c.is_event.ensures ∙ c.if-not-is_event.false) in
     let n = c.args.composer.max_entries in
     way_refused t.gives t.known t.may_break n c.args.parser.now c.loop-composer.parser
-    (state_of c.loop-composer.composer) c.loop-composer.invariant.0 call.new.parser c.keep_fault.new.parser
+    (composer_state c.loop-composer.composer) c.loop-composer.invariant.0 call.new.parser c.keep_fault.new.parser
     call.new.event (fault_of c.compose.new.self.fault) k.took
-    (subst (λ (m : ℕ). RefusesEvent ⊥ m (state_of c.loop-composer.composer) call.new.event
+    (subst (λ (m : ℕ). RefusesEvent ⊥ m (composer_state c.loop-composer.composer) call.new.event
     (fault_of c.compose.new.self.fault))
     c.loop-composer.invariant.2 c.in-Err.ensures.composes) c.keep_fault.ensures.kept
 

@@ -1,13 +1,13 @@
 use Rattle.std.specs.Prelude.{◌≡◌, ◌≤◌, true}
 use Rattle.libyaml_events.specs.parsers.EventsLeft.{events_left}
 use Rattle.libyaml_events.specs.sources.History.{is_over}
-use Rattle.libyaml_loader.specs.pushes.Composing.{IsSound, state_of}
+use Rattle.libyaml_loader.specs.pushes.Composing.{IsSound, composer_state}
 use Rattle.libyaml_loader.proofs.loads.OnTheWay.{OnTheWay}
 use Rattle.libyaml_loader.proofs.load.next_document.Given as goal
 
 abbrev pub invariant-loop-composer : goal.invariant-loop-composer
 invariant-loop-composer g l = OnTheWay g.S.yaml_token_source_t.gives g.S.yaml_token_source_t.known
-    g.S.yaml_token_source_t.may_break l.initial.composer.max_entries l.initial.parser l.parser (state_of l.composer)
+    g.S.yaml_token_source_t.may_break l.initial.composer.max_entries l.initial.parser l.parser (composer_state l.composer)
     × IsSound l.composer × (l.composer.max_entries ≡ l.initial.composer.max_entries)
     × (events_left g.S.yaml_token_source_t.bound l.parser ≤ events_left g.S.yaml_token_source_t.bound l.initial.parser)
     × (is_over l.initial.parser ≡ true → l.parser ≡ l.initial.parser)

@@ -1,5 +1,5 @@
 use Rattle.std.proofs.Common.{rules, inl, inr, ◌≡◌, take, Some, None, arith}
-use Rattle.line_reading.specs.tokens.Prefixes.{token_at}
+use Rattle.line_reading.specs.tokens.Prefixes.{line_token_at}
 use Rattle.line_reading.specs.tokens.TokenName.{token_type_of}
 use Rattle.line_reading.proofs.tokens.Marks.{named, no_marks, no_type, no_start, no_end, bad_end, with_content, with_marks}
 use Rattle.line_reading.proofs.token_line.take_token.Goals as goal
@@ -15,7 +15,7 @@ returns-in_err-type_ c =
     c.len_before-name.ensures.before
     c.len_before-name.ensures.found in
     let none : token_type_of (take c.len_before-name.result line) ≡ None = search rules in
-    let all : token_at line ≡ None = no_type line _ here none in
+    let all : line_token_at line ≡ None = no_type line _ here none in
     rw all (search rules)
 
 pub returns-then-start-eq0 : goal.returns-then-start-eq0

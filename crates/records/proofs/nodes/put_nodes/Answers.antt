@@ -3,7 +3,7 @@ use Rattle.std.proofs.lemmas.List.{take_all}
 use Rattle.libyaml_documents.specs.declared.node.yaml_node_t.{yaml_node_t}
 use Rattle.records.proofs.Filling.{on_err}
 use Rattle.records.specs.Buffers.{Adds, lists}
-use Rattle.records.specs.DocumentRecords.{with_nodes}
+use Rattle.records.specs.DocumentRecords.{with_nodes_records}
 use Rattle.records.proofs.Adding.{nodes_more}
 use Rattle.records.proofs.Exceeding.{among_nodes}
 use Rattle.records.proofs.nodes.put_nodes.Goals as goal
@@ -22,7 +22,7 @@ loop-node-preserved c documents directives =
 pub returns-clause-adds : goal.returns-clause-adds
 returns-clause-adds c documents directives =
     let l = c.loop-node in
-    subst (λ (xs : List yaml_node_t). Adds (λ r. with_nodes r xs)
+    subst (λ (xs : List yaml_node_t). Adds (λ r. with_nodes_records r xs)
     (lists documents c.args.nodes.now c.args.items.now c.args.pairs.now directives c.args.texts.now) c.args.wanted.now
     (lists documents l.nodes l.items l.pairs directives l.texts) l.wanted)
     (take_all l.node-index c.args.members.now (omega (arith, c.loop-node-test.false))) (l.invariant documents directives)

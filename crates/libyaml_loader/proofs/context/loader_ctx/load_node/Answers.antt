@@ -3,7 +3,7 @@ use Rattle.std.proofs.lemmas.Int.{ints, to_z-of_z}
 use mir.Val.{SFits}
 use Rattle.libyaml_types.specs.declared.mark.yaml_mark_t.{yaml_mark_t}
 use Rattle.libyaml_graphs.specs.machine.Loader.{register}
-use Rattle.libyaml_loader.specs.document.Ids.{id_of}
+use Rattle.libyaml_loader.specs.document.Ids.{node_id_of}
 use Rattle.libyaml_loader.proofs.document.Loading.{node_loaded, stack_behind}
 use Rattle.libyaml_loader.proofs.context.loader_ctx.load_node.Goals as goal
 
@@ -18,7 +18,7 @@ returns-clause-ok c =
     let fits : SFits w32 c.in_ok-append_node.field-0
     = first_of (search rules, grind (arith, ints, c.in_ok-append_node.ensures.id, c.in_ok-append_node.ensures.room)) in
     let anchor = option_map string_bytes c.args.anchor in
-    let same = ap (λ (m : yaml_mark_t). register anchor (id_of c.new-id.result) m c.args.self.now.anchors)
+    let same = ap (λ (m : yaml_mark_t). register anchor (node_id_of c.new-id.result) m c.args.self.now.anchors)
     c.requires.mark in
     node_loaded c.args.self.now c.yaml_parser_register_anchor.new.self c.append_node.new.document c.args.node
     c.in_ok-append_node.ensures.added

@@ -2,7 +2,7 @@ use Rattle.std.proofs.Common.{◌≡◌, ◌∙◌, ap, rules, length}
 use Rattle.libyaml_documents.specs.Children.{AppendedAs, MayRefuseAt}
 use Rattle.libyaml_documents.specs.declared.node.ChildRole.{ChildRole}
 use Rattle.libyaml_documents.specs.declared.node.ChildRole.TheVariants as role
-use Rattle.libyaml_graphs.specs.machine.Loader.{Open}
+use Rattle.libyaml_graphs.specs.machine.Loader.{OpenNode}
 use Rattle.libyaml_loader.proofs.document.Appending.{Handed, hands_at, on_memory, refuses, waiting_is_id}
 use Rattle.libyaml_loader.proofs.context.loader_ctx.yaml_parser_load_node_add.Goals as goal
 use Rattle.libyaml_loader.proofs.context.loader_ctx.yaml_parser_load_node_add.Goals.{In_ok-append_child}
@@ -43,7 +43,7 @@ returns-in-Ignored-clause-room c =
 
 pub returns-in-Key-clause-ok : goal.returns-in-Key-clause-ok
 returns-in-Key-clause-ok c =
-    ap (λ (s : List Open). record c.args.self.now { document = c.append_child.new.document; stack = s }) c.set_key.ensures
+    ap (λ (s : List OpenNode). record c.args.self.now { document = c.append_child.new.document; stack = s }) c.set_key.ensures
     ∙ (handed (goal.at.returns-in-Key-clause-ok c).In_ok-append_child role.Key c.in-Key.is).context
 
 pub returns-in-Key-clause-room : goal.returns-in-Key-clause-room
@@ -51,7 +51,7 @@ returns-in-Key-clause-room c = (handed (goal.at.returns-in-Key-clause-room c).In
 
 pub returns-in-Value-clause-ok : goal.returns-in-Value-clause-ok
 returns-in-Value-clause-ok c =
-    ap (λ (s : List Open). record c.args.self.now { document = c.append_child.new.document; stack = s })
+    ap (λ (s : List OpenNode). record c.args.self.now { document = c.append_child.new.document; stack = s })
     c.set_key-in-Value.ensures
     ∙ (handed (goal.at.returns-in-Value-clause-ok c).In_ok-append_child role.Value c.in-Value.is).context
 

@@ -2,8 +2,8 @@ use Rattle.std.proofs.Common.{◌≡◌, ◌≤◌, Err, Ok, ap, rules, subst, s
 use Rattle.std.specs.Vec.{vec_capacity, vec_len}
 use Rattle.libyaml_events.specs.sources.Pushes.{Pushes, done_by}
 use Rattle.libyaml_types.specs.Fault.{fault_of}
-use Rattle.libyaml_loader.specs.pushes.Composing.{state_of}
-use Rattle.libyaml_loader.specs.pushes.Loaded.{standing}
+use Rattle.libyaml_loader.specs.pushes.Composing.{composer_state}
+use Rattle.libyaml_loader.specs.pushes.Loaded.{standing_loader}
 use Rattle.libyaml_loader.specs.pushes.PushesLoads.{PushesLoads}
 use Rattle.libyaml_loader.proofs.pushes.Pushing.{kept_fault, on_ok, push_remembers, pushes_failed, pushes_ok}
 use Rattle.libyaml_loader.proofs.pushes.Pushing.{pushes_refused}
@@ -22,12 +22,12 @@ returns-in_err-composed c =
     let err : c.from_residual-in_err-composed.result ≡ Err c.in_err-composed.field-0.0 = search rules in
     subst (λ y. PushesLoads (vec_capacity c.args.documents.now ≤ vec_len composed.new.documents) y c.args.token
     c.args.documents.now.items c.from_residual-in_err-composed.result
-    (standing pushed.new.self (state_of composed.new.self) (fault_of composed.new.self.fault)
+    (standing_loader pushed.new.self (composer_state composed.new.self) (fault_of composed.new.self.fault)
     composed.new.self.max_entries) composed.new.documents.items) c.self.view_is
     (subst (λ z. PushesLoads (vec_capacity c.args.documents.now ≤ vec_len composed.new.documents)
-    (standing c.self.inside.parser (state_of first) (fault_of first.fault) first.max_entries) c.args.token
+    (standing_loader c.self.inside.parser (composer_state first) (fault_of first.fault) first.max_entries) c.args.token
     c.args.documents.now.items z
-    (standing pushed.new.self (state_of composed.new.self) (fault_of composed.new.self.fault)
+    (standing_loader pushed.new.self (composer_state composed.new.self) (fault_of composed.new.self.fault)
     composed.new.self.max_entries) composed.new.documents.items) (sym err)
     (pushes_refused _ _ c.self.inside.parser pushed.new.self c.args.token pushed.new.events.items pushed.result
     so first composed.new.self c.args.documents.now.items composed.new.documents.items
@@ -49,10 +49,10 @@ returns-in-Err c =
     (ap fault_of c.keep.ensures.fault ∙ c.prefix.ensures.kept) c.keep.ensures.bound in
     subst (λ y. PushesLoads (vec_capacity c.args.documents.now ≤ vec_len composed.new.documents) y c.args.token
     c.args.documents.now.items (Err c.in-Err.error)
-    (standing pushed.new.self (state_of now) (fault_of now.fault) now.max_entries)
+    (standing_loader pushed.new.self (composer_state now) (fault_of now.fault) now.max_entries)
     composed.new.documents.items) c.self.view_is
     (subst (λ z. PushesLoads (vec_capacity c.args.documents.now ≤ vec_len composed.new.documents)
-    (standing c.self.inside.parser (state_of first) (fault_of first.fault) first.max_entries) c.args.token
+    (standing_loader c.self.inside.parser (composer_state first) (fault_of first.fault) first.max_entries) c.args.token
     c.args.documents.now.items (Err c.in-Err.error) z composed.new.documents.items) is
     (pushes_failed _ _ c.self.inside.parser pushed.new.self c.args.token pushed.new.events.items pushed.result
     so first composed.new.self c.args.documents.now.items composed.new.documents.items
@@ -72,7 +72,7 @@ returns c =
     let same = on_ok (composed.new.self.fault ≡ first.fault) composed.result composed.ensures.fault in
     subst (λ y. PushesLoads (vec_capacity c.args.documents.now ≤ vec_len composed.new.documents) y c.args.token
     c.args.documents.now.items (Ok tt)
-    (standing pushed.new.self (state_of composed.new.self) (fault_of composed.new.self.fault)
+    (standing_loader pushed.new.self (composer_state composed.new.self) (fault_of composed.new.self.fault)
     composed.new.self.max_entries) composed.new.documents.items) c.self.view_is
     (pushes_ok _ _ c.self.inside.parser pushed.new.self c.args.token pushed.new.events.items pushed.result so
     first composed.new.self c.args.documents.now.items composed.new.documents.items

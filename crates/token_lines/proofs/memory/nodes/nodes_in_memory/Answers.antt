@@ -4,7 +4,7 @@ use Rattle.libyaml_graphs.specs.loads.Bounds.{bounded_loads}
 use Rattle.libyaml_graphs.specs.loads.Loads.{Load}
 use Rattle.libyaml_loader.specs.document.Ids.{magnitude}
 use Rattle.line_reading.specs.sources.LineSource.{BreaksOff, known_of}
-use Rattle.token_lines.specs.lines.InMemory.{bytes_of}
+use Rattle.token_lines.specs.lines.InMemory.{handed_bytes}
 use Rattle.token_lines.proofs.lines.WholeRuns.{has_bytes}
 use Rattle.token_lines.specs.nodes.LastLoad.{most_entries}
 use Rattle.token_lines.specs.nodes.NodeRun.{WritesLoads}
@@ -20,7 +20,7 @@ returns c =
     let new = Some run.new.writer.items in
     let Wrote = WritesLoads (BreaksOff run.new.parser.source) run.result old new in
     record {
-      bytes = bytes_of c.hand_out.result.outcome c.as_slice.result.now;
+      bytes = handed_bytes c.hand_out.result.outcome c.as_slice.result.now;
       has = λ loads is. has_bytes run.new.parser.source.given run.result c.hand_out.result.outcome
           c.new-bytes.result.items run.new.writer.items
           c.as_slice.result.now _ _ c.new-bytes.ensures.items c.as_slice.ensures.value c.hand_out.ensures.outcome

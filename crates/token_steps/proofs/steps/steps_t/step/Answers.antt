@@ -2,10 +2,10 @@ use Rattle.std.proofs.Common.{◌∙◌, sym, ap, refl, subst, rules}
 use Rattle.libyaml_automaton.specs.Automaton.{Progressed, step}
 use Rattle.libyaml_types.specs.Events.{zero_mark}
 use Rattle.libyaml_automaton.specs.Config.{config_of}
-use Rattle.libyaml_automaton.specs.Growth.{part_of}
+use Rattle.libyaml_automaton.specs.Growth.{stack_part_of}
 use Rattle.libyaml_automaton.specs.Numbers.{next_of}
 use Rattle.libyaml_automaton.specs.Want.{Want}
-use Rattle.token_steps.specs.Records.{token_at, fault_of}
+use Rattle.token_steps.specs.Records.{span_token, step_fault}
 use Rattle.token_steps.specs.Tells.{Tells, want_in}
 use Rattle.token_steps.proofs.Problems.{fault_number}
 use Rattle.token_steps.proofs.Told.{told_in_step, not_states, not_marks, not_bad, not_undone, never_marks}
@@ -17,7 +17,7 @@ pub returns-in-Document-clause-full_states : goal.returns-in-Document-clause-ful
 returns-in-Document-clause-full_states c = λ w.
     let same = c.in-Document.ensures.undone tt in
     let next = sym c.settle.ensures.next ∙ ap next_of (sym same.1.1.1.0) in
-    let part = ap (λ n. part_of (next_of n)) same.1.1.1.0 ∙ c.in-Document.ensures.documents.0 refl in (
+    let part = ap (λ n. stack_part_of (next_of n)) same.1.1.1.0 ∙ c.in-Document.ensures.documents.0 refl in (
       λ e. document_out _ _ _ _ _ _ _ next (sym same.0) (sym same.1.0) part (c.document.ensures.full.0 e),
       λ h. c.document.ensures.full.1 (document_in _ _ _ _ _ _ _ next (sym same.0) (sym same.1.0) part h),
     )
@@ -25,7 +25,7 @@ returns-in-Document-clause-full_states c = λ w.
 pub returns-in-Document-clause-full_marks : goal.returns-in-Document-clause-full_marks
 returns-in-Document-clause-full_marks c = λ w. (
   λ e. absurd (never_marks _ c.document.ensures.done e),
-  λ h. absurd (no_marks _ _ _ (ap part_of (sym c.settle.ensures.next)
+  λ h. absurd (no_marks _ _ _ (ap stack_part_of (sym c.settle.ensures.next)
       ∙ c.in-Document.ensures.documents.0 refl) h.0),
 )
 
@@ -45,10 +45,10 @@ returns-in-Document-clause-undone c = λ u.
 
 pub returns-in-AsksContent-clause-tells : goal.returns-in-AsksContent-clause-tells
 returns-in-AsksContent-clause-tells c = subst (λ (p : Progressed). Tells c.content.result p
-    (token_at c.args.kind c.args.fact c.args.at.now) c.content.new.self c.content.new.event c.content.new.fault
+    (span_token c.args.kind c.args.fact c.args.at.now) c.content.new.self c.content.new.event c.content.new.fault
     (config_of c.content.new.self.machine c.step.new.states c.content.new.marks))
     (sym (ap (λ (w : Want). step w (config_of c.args.self.now.machine c.args.states.now c.args.marks.now)
-    (token_at c.args.kind c.args.fact c.args.at.now)) (sym (c.settle.ensures.wanted c.args.self.now.tag))
+    (span_token c.args.kind c.args.fact c.args.at.now)) (sym (c.settle.ensures.wanted c.args.self.now.tag))
     ∙ c.in-AsksContent.ensures.steps (record { token = c.args.fact; tag = c.args.self.now.tag })))
     c.content.ensures.tells
 
@@ -70,8 +70,8 @@ returns-in-AsksContent-clause-full_marks c = λ w. (
 pub returns-in-AsksContent-clause-fault_number : goal.returns-in-AsksContent-clause-fault_number
 returns-in-AsksContent-clause-fault_number c = λ e. fault_number (want_in c.args.self.now)
     (config_of c.args.self.now.machine c.args.states.now c.args.marks.now)
-    (token_at c.args.kind c.args.fact c.args.at.now)
-    (fault_of c.content.new.fault) (told_fault _ _ _ _ _ _ _ e (returns-in-AsksContent-clause-tells c))
+    (span_token c.args.kind c.args.fact c.args.at.now)
+    (step_fault c.content.new.fault) (told_fault _ _ _ _ _ _ _ e (returns-in-AsksContent-clause-tells c))
 
 pub returns-in-Document-clause-holds_nothing : goal.returns-in-Document-clause-holds_nothing
 returns-in-Document-clause-holds_nothing c = told_want _ _ _ _ _ _ _
@@ -81,8 +81,8 @@ pub returns-in-Document-clause-fault_number : goal.returns-in-Document-clause-fa
 returns-in-Document-clause-fault_number c = λ e. fault_number
     (want_in (record { machine = c.step.new.self; read = c.step.new.read; tag = c.args.self.now.tag }))
     (config_of c.step.new.self c.step.new.states c.step.new.marks)
-    (token_at c.args.kind c.args.fact c.args.at.now)
-    (fault_of c.document.new.fault) (told_fault _ _ _ _ _ _ _ e (c.document.ensures.tells c.step.new.marks))
+    (span_token c.args.kind c.args.fact c.args.at.now)
+    (step_fault c.document.new.fault) (told_fault _ _ _ _ _ _ _ e (c.document.ensures.tells c.step.new.marks))
 
 pub returns-in_default : goal.returns-in_default
 returns-in_default c =
@@ -90,12 +90,12 @@ returns-in_default c =
     (told_in_step _ _ c.step.ensures.fits c.in_default.not-Full c.in_default.not-Document c.in_default.not-AsksContent) in
     let tells : Tells c.tell.result (step (want_in c.args.self.now)
     (config_of c.args.self.now.machine c.args.states.now c.args.marks.now)
-    (token_at c.args.kind c.args.fact c.args.at.now))
-    (token_at c.args.kind c.args.fact c.args.at.now) c.tell.new.self
+    (span_token c.args.kind c.args.fact c.args.at.now))
+    (span_token c.args.kind c.args.fact c.args.at.now) c.tell.new.self
     c.tell.new.event c.tell.new.fault (config_of c.tell.new.self.machine c.step.new.states c.step.new.marks)
     = c.tell.ensures.tells _ _ zero_mark c.step.new.states c.step.new.marks
     (ap (λ (w : Want). step w (config_of c.args.self.now.machine c.args.states.now c.args.marks.now)
-    (token_at c.args.kind c.args.fact c.args.at.now)) (sym (c.settle.ensures.wanted c.args.self.now.tag)))
+    (span_token c.args.kind c.args.fact c.args.at.now)) (sym (c.settle.ensures.wanted c.args.self.now.tag)))
     (c.step.ensures.steps (record { token = c.args.fact; tag = c.args.self.now.tag })) in
     record {
       tells = tells;
@@ -118,7 +118,7 @@ returns-in_default c =
       event_flags = c.tell.ensures.event_flags;
       fault_number = λ e. fault_number (want_in c.args.self.now)
           (config_of c.args.self.now.machine c.args.states.now c.args.marks.now)
-          (token_at c.args.kind c.args.fact c.args.at.now) (fault_of c.tell.new.fault)
+          (span_token c.args.kind c.args.fact c.args.at.now) (step_fault c.tell.new.fault)
           (told_fault _ _ _ _ _ _ _ e tells);
       event_kept = c.tell.ensures.event_kept;
       fault_kept = c.tell.ensures.fault_kept;
