@@ -1,5 +1,4 @@
 -- The theorems that crates above may name, and no others of these proofs.
-pub mod Lists
 pub mod Same
 pub mod TextMaps
 pub mod Given

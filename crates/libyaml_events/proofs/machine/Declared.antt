@@ -2,6 +2,7 @@
 use Rattle.std.specs.Prelude.{◌||◌, not, bytes_eq}
 use Rattle.std.proofs.Common.{◌≡◌, ℕ, ◌++◌, List, [], ◌∷◌, Option, Some, None, refl, sym, ap, ◌∙◌, Bool, true, false}
 use Rattle.std.proofs.Common.{cond, codes}
+use Rattle.std.proofs.Common.{append_assoc}
 use Rattle.std.specs.Cmp.Lexicographic.{nat_list_eq_equiv, nat_list_cmp_total}
 use Rattle.std.specs.FinMap.{get, insert, get-from_entries}
 use Rattle.libyaml_events.specs.machine.Machine as mach
@@ -17,7 +18,6 @@ use Rattle.libyaml_grammar.proofs.lent.Reading.{keeps_order}
 use Rattle.libyaml_events.specs.machine.Config.{Config, Handles}
 use Rattle.libyaml_events.specs.machine.Machine.{explicit_document, or_default, resolve, with_prefix}
 use Rattle.libyaml_events.proofs.machine.Link.{End, after, directive_ends, handles_of, waits}
-use Rattle.libyaml_grammar.proofs.lent.Lists.{assoc}
 use Rattle.libyaml_grammar.proofs.lent.TextMaps.{inserted}
 use Rattle.libyaml_events.specs.declared.pending.DirectivesRead.{DirectivesRead}
 use Rattle.libyaml_events.specs.machine.Want.{BehindDirective}
@@ -165,7 +165,7 @@ directives_then : (ds : Directives) (r : List yaml_tag_directive_t)
 directives_then no_directives r = refl
 directives_then (directive ds (version v m)) r = directives_then ds r
 directives_then (directive ds (tag_directive d m)) r = directives_then ds (declaration d ∷ r)
-    ∙ (sym (assoc (tag_directives_then ds []) (declaration d ∷ []) r)
+    ∙ (sym (append_assoc (tag_directives_then ds []) (declaration d ∷ []) r)
     ∙ ap (λ (x : List yaml_tag_directive_t). x ++ r) (sym (directives_then ds (declaration d ∷ []))))
 
 pub tag_after : (s : Mark) (ds : Directives) (c : Config) (d : HandleDeclared) (m : Marks)

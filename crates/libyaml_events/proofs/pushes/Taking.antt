@@ -1,6 +1,7 @@
 -- How the steps of a push take the token.
 use Rattle.std.proofs.Common.{◌≡◌, ◌≤◌, ◌<◌, ◌+◌, arith, ◌++◌, ◌∷◌, List, [], length, Option, Some, None, Ok, Err, Bool}
 use Rattle.std.proofs.Common.{true, false, refl, sym, ap, ◌∙◌, subst}
+use Rattle.std.proofs.Common.{append_assoc, append-nil}
 use Rattle.std.proofs.lemmas.Bool.{both_ways}
 use Rattle.libyaml_types.specs.declared.enums.yaml_error_type_t.{yaml_error_type_t}
 use Rattle.libyaml_types.specs.declared.enums.yaml_error_type_t.TheVariants.{YAML_MEMORY_ERROR, YAML_PARSER_ERROR}
@@ -8,7 +9,6 @@ use Rattle.libyaml_types.specs.declared.enums.yaml_parser_state_t.TheVariants.{Y
 use Rattle.libyaml_types.specs.Fault.{Fault, memory_fault}
 use Rattle.libyaml_grammar.specs.sentences.Tokens.{Token}
 use Rattle.libyaml_grammar.specs.sentences.Events.{Event}
-use Rattle.libyaml_grammar.proofs.lent.Lists.{assoc, nil_right}
 use Rattle.libyaml_events.specs.machine.Config.{Config, Parser, is_fault, taken, token_if, ended_or_failed}
 use Rattle.libyaml_events.specs.machine.Growth.{may_grow}
 use Rattle.libyaml_events.specs.machine.Machine.{Progressed, step}
@@ -65,8 +65,8 @@ taking_begins w c t before h n = record {
   none = n;
   added = [];
   few = λ l g f. omega arith;
-  appended = sym (nil_right before);
-  fed = λ l g f. takes w c l (g ++ []) t (subst (λ (x : List Event). Fed w c None l x) (sym (nil_right g)) f) h refl;
+  appended = sym (append-nil before);
+  fed = λ l g f. takes w c l (g ++ []) t (subst (λ (x : List Event). Fed w c None l x) (sym (append-nil g)) f) h refl;
 }
 
 module _ {S : Type 0} (Full : Type 0) (w0 : Want) (c0 : Config) (t : Token) (before : List Event) (w : Want)
@@ -155,18 +155,18 @@ module _ {S : Type 0} (Full : Type 0) (w0 : Want) (c0 : Config) (t : Token) (bef
   module _ (e : Event) (mid : Parser S) (h : Steps (step w old.config u) old (Ok (Given e)) mid) (more : List Event)
       (m : more ≡ now ++ e ∷ []) where
     pub all_added : more ≡ before ++ (k.added ++ e ∷ [])
-    all_added = m ∙ (ap (λ (x : List Event). x ++ e ∷ []) k.appended ∙ assoc before k.added (e ∷ []))
+    all_added = m ∙ (ap (λ (x : List Event). x ++ e ∷ []) k.appended ∙ append_assoc before k.added (e ∷ []))
 
     pub given_fed : (o : Option Token) → mid.config.lookahead ≡ o → (l : List Token) (g : List Event) → Fed w0 c0 None l g
         → Fed AtState (taken mid.config) o (l ++ t ∷ []) (g ++ (k.added ++ e ∷ []))
     given_fed o i l g f = gives w old.config u (g ++ k.added) e mid.config (k.fed l g f) h.0 refl (sym i)
-        (sym (assoc g k.added (e ∷ [])))
+        (sym (append_assoc g k.added (e ∷ [])))
 
     given_few : (l : List Token) (g : List Event) → Fed w0 c0 None l g → length (k.added ++ e ∷ []) ≤ 4
     given_few l g f = by (fed_to f).running
       where
         links : Links mid.config (l ++ t ∷ []) (g ++ (k.added ++ e ∷ []))
-        links = subst (Links mid.config (l ++ t ∷ [])) (assoc g k.added (e ∷ []))
+        links = subst (Links mid.config (l ++ t ∷ [])) (append_assoc g k.added (e ∷ []))
             (subst (λ (o : Progressed). Leads o (l ++ t ∷ []) (g ++ k.added)) h.0 (fed_to (k.fed l g f)).leads)
 
         by : Running w0 c0 l g → length (k.added ++ e ∷ []) ≤ 4

@@ -1,5 +1,6 @@
 -- A list whose only STREAM-END is its last token runs to its tree's events, or to its cut tree's events and fault.
 use Rattle.std.proofs.Common.{◌≡◌, List, [], ◌∷◌, ◌++◌, refl, sym, ap, ◌∙◌, subst, Bool, true, false, inl, inr}
+use Rattle.std.proofs.Common.{append-nil}
 use Rattle.libyaml_types.specs.Fault.{Fault}
 use Rattle.libyaml_grammar.specs.sentences.Tokens.{Anchor, Content, Marks, StreamEnd, Tag, Token, tok}
 use Rattle.libyaml_grammar.specs.sentences.Trees.{Directives, tokens}
@@ -11,7 +12,6 @@ use Rattle.libyaml_grammar.specs.cuts.Fits.{Fits, IsUnknown}
 use Rattle.libyaml_grammar.specs.sentences.Sentences.{is_end, has_end}
 use Rattle.libyaml_grammar.specs.runs.Runs.{Ends, Fails, IsRun, has_token, is_behind, is_behind_properties, RunsWhole}
 use Rattle.libyaml_grammar.specs.runs.Runs.{to_its_end, to_its_fault}
-use Rattle.libyaml_grammar.proofs.lent.Lists.{nil_right}
 use Rattle.libyaml_grammar.proofs.lent.Running.{sentence_run, cut_run}
 use Rattle.libyaml_grammar.proofs.trees.TreeOrCut.{sentence_or_cut}
 
@@ -55,7 +55,7 @@ behind_ends _ before b after h e = refl
 pub runs_whole : (l : List Token) (m : Marks) (f : Fault) → has_end l ≡ false → RunsWhole (l ++ tok StreamEnd m ∷ []) f
 runs_whole l m f h = elim (sentence_or_cut l m h).0 [
   | inl s ↦ to_its_end s.tree s.order s.all
-      (subst (λ (x : List Token). IsRun x f (events s.tree) Ends) (nil_right (tokens s.tree) ∙ sym s.all)
+      (subst (λ (x : List Token). IsRun x f (events s.tree) Ends) (append-nil (tokens s.tree) ∙ sym s.all)
       (sentence_run s.tree [] f s.order))
   | inr k ↦ to_its_fault k.before k.token k.after k.cut k.all k.fits
       (subst (λ (x : List Token). IsRun x f (cut_events k.cut k.token)

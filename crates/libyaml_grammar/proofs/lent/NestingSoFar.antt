@@ -1,5 +1,6 @@
 -- The events of each run begin events that nest, so they nest as far as they go.
 use Rattle.std.proofs.Common.{◌≡◌, ◌⊎◌, inl, inr, List, [], ◌∷◌, ◌++◌, refl, sym, ap, ◌∙◌, subst, append_assoc}
+use Rattle.std.proofs.Common.{append-nil}
 use Rattle.libyaml_types.specs.declared.event.unnamed_yaml_event_t_data.TheVariants as ev
 use Rattle.libyaml_grammar.specs.cuts.CutEvents.{cut_events, shown_cut, sort_of}
 use Rattle.libyaml_grammar.specs.cuts.CutTrees.{Cut, at_directive, document_due, open_collection, part_due, separator_due}
@@ -16,7 +17,6 @@ use Rattle.libyaml_grammar.specs.runs.Runs.{Ending, Ends, IsRun, amid_properties
 use Rattle.libyaml_grammar.specs.sentences.Tokens.{Mark, Marks, Token, marks_of}
 use Rattle.libyaml_grammar.specs.sentences.Trees.{Stream, behind, free, no_directives, sequence}
 use Rattle.libyaml_grammar.proofs.lent.Completion.{position_ends}
-use Rattle.libyaml_grammar.proofs.lent.Lists.{nil_right}
 use Rattle.libyaml_grammar.proofs.lent.Nesting.{events_nest_proof}
 use Rattle.libyaml_grammar.proofs.lent.Run.{first_mark, given_shown}
 use Rattle.libyaml_grammar.proofs.lent.Running.{ended_run}
@@ -63,7 +63,7 @@ cut_begins c b
     ∙ (cut_splits c b.start_mark).splits g.1)
 
 pub run_begins : (l : List Token) (f : Fault) (e : List Event) (x : Ending) → IsRun l f e x → BeginsNested e
-run_begins l f e x (of_sentence t a o g h) = tree_begins t e [] (sym g ∙ sym (nil_right e))
+run_begins l f e x (of_sentence t a o g h) = tree_begins t e [] (sym g ∙ sym (append-nil e))
 run_begins l f e x (of_cut_tree before token after c a i o g h) = subst BeginsNested (sym g) (cut_begins c token)
 run_begins l f e x (amid_properties before token after c a i o g h) = subst BeginsNested (sym g) (cut_begins c token)
 run_begins l f e x (of_beginning b n s h) =
@@ -125,8 +125,8 @@ ends_in (text_behind ts d m n v i p q) l rest r h e =
             opens (record {
               val = v;
               rest = [];
-              all = sym (nil_right (value_events v []))
-                  ∙ (sym c ∙ sym (nil_right k));
+              all = sym (append-nil (value_events v []))
+                  ∙ (sym c ∙ sym (append-nil k));
               pairs = h.1;
             })
         further (inr (y ∷ ys, c, f)) = past ys (a

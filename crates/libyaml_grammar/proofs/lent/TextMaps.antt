@@ -1,5 +1,5 @@
 -- Maps whose keys are texts.
-use Rattle.std.proofs.Common.{◌≡◌, ℕ, List, Option, Some, Bool, cond, nat_cmp, sym, ap, ◌∙◌}
+use Rattle.std.proofs.Common.{◌≡◌, ℕ, List, Some, Bool, cond, nat_cmp, sym, ap, ◌∙◌}
 use Rattle.std.specs.Prelude.{bytes_eq}
 use Rattle.std.specs.Ordering.{eq_by_cmp}
 use Rattle.std.specs.Cmp.Lexicographic.{slice_cmp, texts_ties, nat_list_eq_equiv, nat_list_cmp_total}

@@ -1,6 +1,7 @@
 -- Two outcomes that the contract of a load allows are one.
 use Rattle.std.proofs.Common.{◌≡◌, ◌⊎◌, inl, inr, List, [], ◌∷◌, ◌++◌, Option, None, Ok, Err, IfOk, IfErr, false, refl}
 use Rattle.std.proofs.Common.{sym, ap, ◌∙◌, subst}
+use Rattle.std.proofs.Common.{append_assoc, append-nil}
 use Rattle.libyaml_documents.specs.Documents.{empty_document}
 use Rattle.libyaml_types.specs.Fault.{Answer, Fault, no_fault}
 use Rattle.libyaml_types.specs.Source.{Coming}
@@ -8,7 +9,6 @@ use Rattle.libyaml_grammar.specs.sentences.Tokens.{Token}
 use Rattle.libyaml_grammar.specs.sentences.Events.{Event}
 use Rattle.libyaml_grammar.specs.cuts.Settled.{Begins}
 use Rattle.libyaml_grammar.specs.runs.Runs.{Ending, Ends, Fails}
-use Rattle.libyaml_grammar.proofs.lent.Lists.{nil_right, assoc}
 use Rattle.libyaml_events.specs.machine.Config.{Parser}
 use Rattle.libyaml_events.specs.sources.Calls.{Gave, MeetsRefusal}
 use Rattle.libyaml_events.specs.sources.CallsInTurn.{CarriedOn}
@@ -61,14 +61,14 @@ absolute asked m n x y o
     (both_behind asked (answers m x) (answers n y) o))
 
 behind_given : (given a b : List Event) → Begins (given ++ a) (given ++ b) → Begins a b
-behind_given given a b h = (h.0, front_same given b (a ++ h.0) (h.1 ∙ assoc given a h.0))
+behind_given given a b h = (h.0, front_same given b (a ++ h.0) (h.1 ∙ append_assoc given a h.0))
 
 -- no load is the last one of every ending
 not_last : (z : Load) → ((x : Ending) → z ≡ last_load x) → ⊥
 not_last z h = ok_not_err (empty_document None [] false false) no_fault (sym (h Ends) ∙ h (Fails no_fault))
 
 empty_front : (t : List Event) → t ++ [] ≡ [] → t ≡ []
-empty_front t e = sym (nil_right t) ∙ e
+empty_front t e = sym (append-nil t) ∙ e
 
 module _ {S : Type 0} (gives : S → Answer → S → Type 0) (known : S → Option Coming) (may_break : S → Fault → Type 0)
     (load : List Event → Ending → Load)
@@ -184,16 +184,16 @@ module _ {S : Type 0} (gives : S → Answer → S → Type 0) (known : S → Opt
       go : ((rest : List Token) × (asked ++ n ≡ (asked ++ m) ++ rest))
           ⊎ ((rest : List Token) × (asked ++ m ≡ (asked ++ n) ++ rest))
           → (p.config ≡ q.config) × (asked ++ m ≡ asked ++ n)
-      go (inl k) = ran_once i j k.0 [] (sym k.1 ∙ sym (nil_right (asked ++ n))) e
-      go (inr k) = ran_once i j [] k.0 (nil_right (asked ++ m) ∙ k.1) e
+      go (inl k) = ran_once i j k.0 [] (sym k.1 ∙ sym (append-nil (asked ++ n))) e
+      go (inr k) = ran_once i j [] k.0 (append-nil (asked ++ m) ∙ k.1) e
 
   -- where one of two lists begins the other, and both leave what follows them, they are one
   both_leave : (a b : List Event) → ((rest : List Event) → left (a ++ rest) ≡ rest)
       → ((rest : List Event) → left (b ++ rest) ≡ rest) → Begins a b → a ≡ b
   both_leave a b g h (t, i) =
       let j : t ++ [] ≡ [] = sym (g (t ++ []))
-      ∙ (ap left (sym (assoc a t []) ∙ ap (λ (v : List Event). v ++ []) (sym i)) ∙ h []) in
-      sym (nil_right a) ∙ (ap (λ (v : List Event). a ++ v) (sym (empty_front t j)) ∙ sym i)
+      ∙ (ap left (sym (append_assoc a t []) ∙ ap (λ (v : List Event). v ++ []) (sym i)) ∙ h []) in
+      sym (append-nil a) ∙ (ap (λ (v : List Event). a ++ v) (sym (empty_front t j)) ∙ sym i)
 
   -- and where the one decides the load and the other does so by its last event alone
   both_last : (a b : List Event) (z : Load) → ((rest : List Event) (x : Ending) → load (a ++ rest) x ≡ z)
@@ -201,10 +201,10 @@ module _ {S : Type 0} (gives : S → Answer → S → Type 0) (known : S → Opt
   both_last a b z l h (t, i) = go (last_of t)
     where
       go : (t ≡ []) ⊎ ((u : List Event) × (e : Event) × (t ≡ u ++ e ∷ [])) → a ≡ b
-      go (inl e) = sym (nil_right a) ∙ (ap (λ (v : List Event). a ++ v) (sym e) ∙ sym i)
+      go (inl e) = sym (append-nil a) ∙ (ap (λ (v : List Event). a ++ v) (sym e) ∙ sym i)
       go (inr (u, x, e)) =
           let n : h.before ≡ a ++ u = before_last h.before (a ++ u) h.event x
-          (sym h.all ∙ (i ∙ (ap (λ (v : List Event). a ++ v) e ∙ sym (assoc a u (x ∷ []))))) in
+          (sym h.all ∙ (i ∙ (ap (λ (v : List Event). a ++ v) e ∙ sym (append_assoc a u (x ∷ []))))) in
           absurd (not_last z (λ y. sym (l u y) ∙ (ap (λ (v : List Event). load v y) (sym n) ∙ h.waits y)))
 
   same_taken : (r s : DocumentOrError) (p q mid other : Parser S) (a b : List Event) (z y : Load) → z ≡ y
@@ -308,10 +308,10 @@ module _ {S : Type 0} (gives : S → Answer → S → Type 0) (known : S → Opt
       same_load : Begins t u ⊎ Begins u t → z ≡ y
       same_load (inl (x, v))
           = sym (l (x ++ []) Ends) ∙ (ap (λ (w : List Event). load w Ends)
-          (sym (assoc t x []) ∙ ap (λ (w : List Event). w ++ []) (sym v)) ∙ k [] Ends)
+          (sym (append_assoc t x []) ∙ ap (λ (w : List Event). w ++ []) (sym v)) ∙ k [] Ends)
       same_load (inr (x, v))
           = sym (l [] Ends) ∙ (ap (λ (w : List Event). load w Ends)
-          (ap (λ (w : List Event). w ++ []) v ∙ assoc u x []) ∙ k (x ++ []) Ends)
+          (ap (λ (w : List Event). w ++ []) v ∙ append_assoc u x []) ∙ k (x ++ []) Ends)
   one_of a b r s p q same o (decided m t mid z e i l g) (stopped n v u other y f j needed stop last h)
       = absurd (not_both m n t u mid [] v z y i l stop last (behind_asked a b m n [] v e f o))
   one_of a b r s p q same o (stopped n v u other y f j needed stop last h) (decided m t mid z e i l g)

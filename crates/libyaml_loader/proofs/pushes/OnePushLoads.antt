@@ -1,5 +1,6 @@
 -- A loader that is handed its tokens stands in one way after them, and so two outcomes of one push are one.
 use Rattle.std.proofs.Common.{◌≡◌, ◌++◌, ◌∷◌, ℕ, List, [], Ok, Err, Bool, true, false, refl, sym, ap, ◌∙◌, subst}
+use Rattle.std.proofs.Common.{append-nil}
 use Rattle.std.proofs.lemmas.List.{append_cancel_left}
 use Rattle.libyaml_types.specs.declared.enums.yaml_error_type_t.{yaml_error_type_t}
 use Rattle.libyaml_types.specs.Fault.{Fault, memory_fault, no_fault}
@@ -7,7 +8,6 @@ use Rattle.libyaml_grammar.specs.runs.Runs.{Ends}
 use Rattle.libyaml_grammar.specs.sentences.Events.{Event}
 use Rattle.libyaml_grammar.specs.sentences.Sentences.{has_end}
 use Rattle.libyaml_grammar.specs.sentences.Tokens.{Token}
-use Rattle.libyaml_grammar.proofs.lent.Lists.{nil_right}
 use Rattle.libyaml_grammar.proofs.lent.Running.{one_run_proof}
 use Rattle.libyaml_grammar.proofs.lent.Same.{err_same, ok_not_err}
 use Rattle.libyaml_documents.specs.Documents.{Document}
@@ -81,7 +81,7 @@ no_failure n l g k x (so_far r) s = apart (each no_fault) (each memory_fault)
     each : (f : Fault) → f ≡ x
     each f = err_same f x
         (same_are n (l ++ []) f g k (Err f) (Err x)
-        (subst (λ (y : List Token). AreThen n y f g (Err f)) (sym (nil_right l)) (r f)) (s f)).1
+        (subst (λ (y : List Token). AreThen n y f g (Err f)) (sym (append-nil l)) (r f)) (s f)).1
 
     apart : no_fault ≡ x → memory_fault ≡ x → ⊥
     apart e f = let i = ap (λ (y : Fault). y.error) (e ∙ sym f) in cc
