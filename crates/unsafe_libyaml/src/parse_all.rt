@@ -11,11 +11,12 @@ ghost use Rattle.libyaml_grammar.specs.runs.Runs.{Ending, Ends, Fails, IsRun, is
 ghost use Rattle.libyaml_types.specs.Source.{coming};
 ghost use Rattle.libyaml_grammar.specs.sentences.Tokens.{Token};
 ghost use Rattle.libyaml_grammar.specs.sentences.Trees.{Stream, tokens};
+ghost use Rattle.unsafe_libyaml.specs.ParsesOnto.{ParsesOnto};
 ghost use Rattle.unsafe_libyaml.specs.WholeRun.{Gathers, RunsTo};
 
 use libyaml_events::{
-    is_stream_end, yaml_parser_initialize, yaml_parser_parse, yaml_parser_t_prefix,
-    yaml_token_source_t,
+    is_stream_end, no_event, yaml_parser_initialize, yaml_parser_parse_into, yaml_parser_t,
+    yaml_parser_t_prefix, yaml_token_source_t,
 };
 use libyaml_types::{yaml_error_type_t, yaml_event_t};
 use std::alloc::{AllocError, Global};
@@ -61,10 +62,8 @@ pub fn yaml_parser_parse_all<S: yaml_token_source_t + Drop>(
     let mut parser = yaml_parser_initialize(alloc, source);
     let mut events = Vec::new(alloc);
     loop {
-        match yaml_parser_parse(&mut parser) {
-            Ok(event) => {
-                let is_last = is_stream_end(&event);
-                events.push(event)?;
+        match parse_onto(&mut parser, &mut events)? {
+            Ok(is_last) => {
                 if is_last {
                     return Ok(yaml_run_t {
                         events,
@@ -73,6 +72,26 @@ pub fn yaml_parser_parse_all<S: yaml_token_source_t + Drop>(
                 }
             }
             Err(_) => return failed_run(events, *parser.prefix()),
+        }
+    }
+}
+
+/// Parses the next event into a place at the list's end, and returns whether it is the stream's end. After a
+/// fault the place is gone.
+fn parse_onto<S: yaml_token_source_t>(
+    parser: &mut yaml_parser_t<S>,
+    events: &mut Vec<yaml_event_t>,
+) -> Result<Result<bool, yaml_error_type_t>, AllocError>
+    ensures { IfOk result (λ is_last. ParsesOnto S.gives S.bound S.known S.may_break parser.old
+        events.old.items is_last parser.new events.new.items) }
+{
+    let place = events.len();
+    events.push(no_event())?;
+    match yaml_parser_parse_into(parser, &mut events[place]) {
+        Ok(()) => Ok(Ok(is_stream_end(&events[place]))),
+        Err(error) => {
+            let _ = events.pop();
+            Ok(Err(error))
         }
     }
 }

@@ -4,29 +4,33 @@ use Rattle.unsafe_libyaml.proofs.WholeRuns.{tells, tree_runs}
 use Rattle.unsafe_libyaml.proofs.parse_all.yaml_parser_parse_all.Goals as goal
 use Rattle.libyaml_grammar.proofs.lent.Running.{cut_run}
 
-pub loop-event-init : goal.loop-event-init
-loop-event-init g c =
+pub loop-events-init : goal.loop-events-init
+loop-events-init g c =
     let parser = c.yaml_parser_initialize-parser in
     (rw c.new-events.ensures.items (gave_none _ _ _ parser.ensures.value parser.ensures.begins), parser.ensures.running)
 
-pub loop-event-smaller : goal.loop-event-smaller
-loop-event-smaller g c = c.in-Ok.ensures.falls c.loop-event.invariant.1
+pub loop-events-smaller : goal.loop-events-smaller
+loop-events-smaller g c =
+    let onto = rw c.in-Ok.is at c.in_ok-is_last.ensures in
+    onto.1.falls c.loop-events.invariant.1
 
-pub loop-event-preserved : goal.loop-event-preserved
-loop-event-preserved g c =
-    let old = c.loop-event.invariant in
-    let on = c.in-Ok.ensures.carries_on old.1 old.0.more _ old.0.history in
-    (rw c.in_ok-push-in-Ok.ensures.items (gave_more _ _ _ _ _ _ old.0 on), on.ends ∙ sym c.if-is_last.ensures)
+pub loop-events-preserved : goal.loop-events-preserved
+loop-events-preserved g c =
+    let onto = rw c.in-Ok.is at c.in_ok-is_last.ensures in
+    let old = c.loop-events.invariant in
+    let on = onto.1.carries_on old.1 old.0.more _ old.0.history in
+    (rw onto.2 (gave_more _ _ _ _ _ _ old.0 on), on.ends ∙ sym onto.3 ∙ c.if-is_last.false)
 
 pub returns-then-is_last-clause-gathers : goal.returns-then-is_last-clause-gathers
 returns-then-is_last-clause-gathers g c =
     let t = g.S.yaml_token_source_t in
-    let new = c.yaml_parser_parse.new.parser in
-    let old = c.loop-event.invariant in
-    let on = c.in-Ok.ensures.carries_on old.1 old.0.more _ old.0.history in
-    let all : GaveSoFar t.gives c.args.source new c.push.new.self.items = rw c.in_ok-push-in-Ok.ensures.items
+    let new = c.parse_onto.new.parser in
+    let onto = rw c.in-Ok.is at c.in_ok-is_last.ensures in
+    let old = c.loop-events.invariant in
+    let on = onto.1.carries_on old.1 old.0.more _ old.0.history in
+    let all : GaveSoFar t.gives c.args.source new c.parse_onto.new.events.items = rw onto.2
     (gave_more _ _ _ _ _ _ old.0 on) in
-    gathers_all t.gives c.args.source new _ all (on.ends ∙ sym c.if-is_last.ensures) refl
+    gathers_all t.gives c.args.source new _ all (on.ends ∙ sym onto.3 ∙ c.if-is_last.true) refl
 
 pub returns-then-is_last-clause-of_list : goal.returns-then-is_last-clause-of_list
 returns-then-is_last-clause-of_list g c l f e x run k =
@@ -47,11 +51,13 @@ returns-then-is_last-clause-of_cut_tree g c before token behind cut f fits waite
 pub returns-in-Err-clause-gathers : goal.returns-in-Err-clause-gathers
 returns-in-Err-clause-gathers g c =
     let t = g.S.yaml_token_source_t in
-    let old = c.loop-event.parser in
+    let old = c.loop-events.parser in
+    let onto = rw c.in-Err.is at c.in_ok-is_last.ensures in
+    let gave = subst (λ l. GaveSoFar t.gives c.args.source old l) (sym onto.1) c.loop-events.invariant.0 in
     if_ok c.failed_run.result _ _ c.failed_run.ensures.ok
     (λ r h. gathers_some t.gives c.args.source old r
-    (subst (λ v. GaveSoFar t.gives c.args.source old v.items) (sym h.0) c.loop-event.invariant.0)
-    c.yaml_parser_parse.new.parser c.in-Err.ensures.fails _
+    (subst (λ v. GaveSoFar t.gives c.args.source old v.items) (sym h.0) gave)
+    c.parse_onto.new.parser onto.0.fails _
     c.prefix.ensures.kept h.1 h.2)
 
 pub returns-in-Err-clause-of_list : goal.returns-in-Err-clause-of_list
