@@ -92,6 +92,7 @@ fn read_content(
 }
 
 /// Reads the content of a token that has no further field.
+#[inline(always)]
 fn read_bare_content(
     type_: yaml_token_type_t,
     content: &mut unnamed_yaml_token_t_data,
@@ -158,6 +159,7 @@ fn read_content_of_one(
 }
 
 /// Reads the content of a token that has two further fields.
+#[inline(always)]
 fn read_content_of_two(
     alloc: Global,
     type_: yaml_token_type_t,
