@@ -1,5 +1,5 @@
 pub mod HandleLemmas
 pub mod SourceErrors
 pub mod PropertyLemmas
-pub mod KeptLemmas
+pub mod LookaheadLemmas
 pub mod TextLemmas

@@ -4,7 +4,7 @@
 mod entries;
 mod event_kinds;
 mod iterate;
-mod kept;
+mod lookahead;
 pub mod laws;
 mod next;
 mod node_head;

@@ -20,7 +20,7 @@ mod stacks;
 mod tokens;
 
 use crate::entries::MaxEntries;
-use crate::kept::Kept;
+use crate::lookahead::Lookahead;
 use crate::parser::tokens::no_token;
 use crate::pending::Pending;
 use libyaml_types::{
@@ -62,9 +62,9 @@ impl<S> Model for yaml_parser_t<S> {
 #[derive(Drop)]
 pub(crate) struct Machine<S> {
     source: S,
-    /// Which token stays in `held`, to be looked at again. Where none does, its value has no meaning.
-    kept: Kept,
-    held: yaml_token_t,
+    /// Which token of lookahead is in `lookahead_token`. Where there is none, its value has no meaning.
+    lookahead: Lookahead,
+    lookahead_token: yaml_token_t,
     state: yaml_parser_state_t,
     states: Vec<u8>,
     marks: Vec<yaml_mark_t>,
@@ -83,7 +83,7 @@ impl<S> Model for Machine<S> {
     ghost use Rattle.std.specs.Coded.{codes};
     ghost use Rattle.libyaml_types.specs.Fault.{fault_of};
     ghost use Rattle.libyaml_events.specs.machine.State.{stack_of, IsBackByte};
-    ghost use Rattle.libyaml_events.specs.machine.Config.{Parser, handles_code, handles_of, kept_token};
+    ghost use Rattle.libyaml_events.specs.machine.Config.{Parser, handles_code, handles_of, token_ahead};
 
     ghost Value = { Parser S };
 
@@ -92,7 +92,7 @@ impl<S> Model for Machine<S> {
     ghost view = { λ p. record {
       source = p.source;
       config = record {
-        lookahead = kept_token p.kept p.held;
+        lookahead = token_ahead p.lookahead p.lookahead_token;
         state = p.state;
         states = stack_of p.states.items;
         marks = reverse p.marks.items;
@@ -238,8 +238,8 @@ impl<S> Machine<S> {
     {
         Machine {
             source,
-            kept: Kept::Nothing,
-            held: no_token(),
+            lookahead: Lookahead::Nothing,
+            lookahead_token: no_token(),
             state: yaml_parser_state_t::YAML_PARSE_STREAM_START_STATE,
             states: Vec::new(alloc),
             marks: Vec::new(alloc),

@@ -113,7 +113,7 @@ impl yaml_push_parser_t {
 }
 
 impl<S> Machine<S> {
-    /// Takes the token in its slot, and then the one that stays, until a further one is wanted.
+    /// Takes the token in its slot, and then the lookahead, until a further one is wanted.
     fn feed(
         &mut self,
         token: &mut yaml_token_t,
@@ -121,10 +121,10 @@ impl<S> Machine<S> {
         events: &mut Vec<yaml_event_t>,
     ) -> Result<(), yaml_error_type_t>
         requires running { ended_or_failed self.old.config ≡ false }
-        requires none_held { self.old.config.lookahead ≡ None }
+        requires no_lookahead { self.old.config.lookahead ≡ None }
         ensures kept { IfErr result (λ e. (e ≡ self.new.config.fault.error)
             × (is_fault self.new.config.fault.error ≡ true)) }
-        ensures none_held { self.new.config.lookahead ≡ None }
+        ensures no_lookahead { self.new.config.lookahead ≡ None }
         ensures takes { Takes (vec_capacity events.old ≤ vec_len events.new)
             (standing (wanted pending.old) self.old.config) token.old events.old.items result
             (standing (wanted pending.new) self.new.config) events.new.items }
@@ -139,7 +139,7 @@ impl<S> Machine<S> {
                 }
             }
             pending.next = Next::AtState;
-            if !self.take_held(token) || self.is_over() {
+            if !self.take_lookahead(token) || self.is_over() {
                 return Ok(());
             }
         }

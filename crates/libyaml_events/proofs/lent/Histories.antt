@@ -6,15 +6,15 @@ use Rattle.libyaml_grammar.specs.sentences.Nesting.{NestsSoFar}
 use Rattle.libyaml_grammar.proofs.lent.NestingSoFar.{run_front_nests}
 use Rattle.libyaml_grammar.proofs.lent.Running.{some_run_proof}
 use Rattle.libyaml_events.specs.machine.Config.{Parser, is_fault}
-use Rattle.libyaml_events.specs.parsers.Lookahead.{HoldsLast}
+use Rattle.libyaml_events.specs.parsers.Lookahead.{LookaheadIsLast}
 use Rattle.libyaml_events.specs.parsers.Stages.{open_collections, stage_of}
 use Rattle.libyaml_events.specs.sources.Determined.{BeginsEachRun}
 use Rattle.libyaml_events.specs.sources.History.{ForHistory, has_failed, is_over, stack_depth}
 use Rattle.libyaml_events.specs.sources.Needs.{EachWasNeeded}
 use Rattle.libyaml_events.specs.sources.Parsing.{IsWhole}
 use Rattle.libyaml_events.proofs.calls.Calling.{ran_links}
-use Rattle.libyaml_events.proofs.calls.Counting.{linked_begins_each, linked_count}
-use Rattle.libyaml_events.proofs.calls.Held.{ran_holds}
+use Rattle.libyaml_events.proofs.calls.FourEvents.{linked_begins_each, linked_count}
+use Rattle.libyaml_events.proofs.calls.OneTokenAhead.{ran_holds}
 use Rattle.libyaml_events.proofs.calls.KnownRuns.{linked_begins, run_given}
 use Rattle.libyaml_events.proofs.calls.Parsed.{ran_needed}
 use Rattle.libyaml_events.proofs.calls.Staged.{ran_staged, staged_depth, staged_over, staged_whole}
@@ -43,7 +43,7 @@ module _ {S : Type 0} (p : Parser S) where
   pub depth : ForHistory p (λ _ given. stack_depth p ≤ open_collections (stage_of given) + 1)
   depth asked given h = let d = staged_depth _ given (ran_staged h) in omega arith
 
-  pub one_ahead : ForHistory p (λ asked _. HoldsLast p asked)
+  pub one_ahead : ForHistory p (λ asked _. LookaheadIsLast p asked)
   one_ahead asked given h = ran_holds _ asked given h
 
   pub needed : ForHistory p (λ asked given. EachWasNeeded [] asked [] given)

@@ -20,7 +20,7 @@ use Rattle.libyaml_events.specs.parsers.Left.{let_go}
 use Rattle.libyaml_events.specs.sources.Pushed.{Fed, takes, wants, gives, standing}
 use Rattle.libyaml_events.specs.sources.Pushes.{Stops, Takes, by_grammar, by_memory, for_event, for_step}
 use Rattle.libyaml_events.proofs.calls.CallLemmas.{begun_alive}
-use Rattle.libyaml_events.proofs.calls.Falling.{FallsBelow, falls_on, weight}
+use Rattle.libyaml_events.proofs.calls.Measure.{FallsBelow, falls_on, weight}
 use Rattle.libyaml_events.proofs.calls.Parsed.{has_failed}
 use Rattle.libyaml_events.proofs.machine.StepKinds.{room}
 use Rattle.libyaml_events.proofs.machine.Stand.{Leads, Links}
@@ -83,9 +83,9 @@ module _ {S : Type 0} (Full : Type 0) (w0 : Want) (c0 : Config) (t : Token) (bef
         λ l g f. wants w old.config u (k.fed l g f) h.0;
   }
 
-  pub none_held : (w' : Want) (new : Parser S) → Steps (step w old.config u) old (Ok (Wants w')) new
+  pub no_lookahead : (w' : Want) (new : Parser S) → Steps (step w old.config u) old (Ok (Wants w')) new
       → new.config.lookahead ≡ None
-  none_held w' new h = h.3 ∙ k.none
+  no_lookahead w' new h = h.3 ∙ k.none
 
   -- the step failed
   pub fails : (x : yaml_error_type_t) (w' : Want) (new : Parser S) → Steps (step w old.config u) old (Err x) new

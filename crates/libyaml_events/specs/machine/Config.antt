@@ -15,8 +15,8 @@ use Rattle.libyaml_types.specs.declared.enums.yaml_parser_state_t.{yaml_parser_s
 use Rattle.libyaml_types.specs.declared.enums.yaml_parser_state_t.TheVariants as st
 use Rattle.libyaml_types.specs.declared.token.unnamed_yaml_token_t_data.{unnamed_yaml_token_t_data}
 use Rattle.libyaml_types.specs.declared.token.unnamed_yaml_token_t_data.TheVariants as content_of
-use Rattle.libyaml_events.specs.declared.kept.Kept.{Kept}
-use Rattle.libyaml_events.specs.declared.kept.Kept.TheVariants as kept
+use Rattle.libyaml_events.specs.declared.lookahead.Lookahead.{Lookahead}
+use Rattle.libyaml_events.specs.declared.lookahead.Lookahead.TheVariants as ahead
 use Rattle.libyaml_types.specs.Fault.{Fault, no_fault}
 use Rattle.libyaml_types.specs.Events.{zero_mark}
 
@@ -87,48 +87,48 @@ token_if false t = None
 abbrev pub token_at : unnamed_yaml_token_t_data → yaml_token_t → yaml_token_t
 token_at content t = record t { content = content }
 
--- The token that stays, where one does. Of a token without fields the marks alone are kept.
-abbrev pub kept_token : Kept → yaml_token_t → Option yaml_token_t
-kept_token kept.Nothing t = None
-kept_token kept.Token t = Some t
-kept_token kept.BlockSequence t = Some (token_at content_of.BlockSequenceStart t)
-kept_token kept.BlockMapping t = Some (token_at content_of.BlockMappingStart t)
-kept_token kept.FlowSequence t = Some (token_at content_of.FlowSequenceStart t)
-kept_token kept.FlowMapping t = Some (token_at content_of.FlowMappingStart t)
-kept_token kept.StreamEnd t = Some (token_at content_of.StreamEnd t)
-kept_token kept.DocumentStart t = Some (token_at content_of.DocumentStart t)
-kept_token kept.DocumentEnd t = Some (token_at content_of.DocumentEnd t)
-kept_token kept.BlockEnd t = Some (token_at content_of.BlockEnd t)
-kept_token kept.FlowSequenceEnd t = Some (token_at content_of.FlowSequenceEnd t)
-kept_token kept.FlowMappingEnd t = Some (token_at content_of.FlowMappingEnd t)
-kept_token kept.BlockEntry t = Some (token_at content_of.BlockEntry t)
-kept_token kept.FlowEntry t = Some (token_at content_of.FlowEntry t)
-kept_token kept.Key t = Some (token_at content_of.Key t)
-kept_token kept.Value t = Some (token_at content_of.Value t)
+-- The token of lookahead, where there is one. Of a token without fields the parser keeps the marks alone.
+abbrev pub token_ahead : Lookahead → yaml_token_t → Option yaml_token_t
+token_ahead ahead.Nothing t = None
+token_ahead ahead.Token t = Some t
+token_ahead ahead.BlockSequence t = Some (token_at content_of.BlockSequenceStart t)
+token_ahead ahead.BlockMapping t = Some (token_at content_of.BlockMappingStart t)
+token_ahead ahead.FlowSequence t = Some (token_at content_of.FlowSequenceStart t)
+token_ahead ahead.FlowMapping t = Some (token_at content_of.FlowMappingStart t)
+token_ahead ahead.StreamEnd t = Some (token_at content_of.StreamEnd t)
+token_ahead ahead.DocumentStart t = Some (token_at content_of.DocumentStart t)
+token_ahead ahead.DocumentEnd t = Some (token_at content_of.DocumentEnd t)
+token_ahead ahead.BlockEnd t = Some (token_at content_of.BlockEnd t)
+token_ahead ahead.FlowSequenceEnd t = Some (token_at content_of.FlowSequenceEnd t)
+token_ahead ahead.FlowMappingEnd t = Some (token_at content_of.FlowMappingEnd t)
+token_ahead ahead.BlockEntry t = Some (token_at content_of.BlockEntry t)
+token_ahead ahead.FlowEntry t = Some (token_at content_of.FlowEntry t)
+token_ahead ahead.Key t = Some (token_at content_of.Key t)
+token_ahead ahead.Value t = Some (token_at content_of.Value t)
 
 -- which token without fields stays, where one does
-abbrev pub kept_content : Kept → Option unnamed_yaml_token_t_data
-kept_content kept.Nothing = None
-kept_content kept.Token = None
-kept_content kept.BlockSequence = Some content_of.BlockSequenceStart
-kept_content kept.BlockMapping = Some content_of.BlockMappingStart
-kept_content kept.FlowSequence = Some content_of.FlowSequenceStart
-kept_content kept.FlowMapping = Some content_of.FlowMappingStart
-kept_content kept.StreamEnd = Some content_of.StreamEnd
-kept_content kept.DocumentStart = Some content_of.DocumentStart
-kept_content kept.DocumentEnd = Some content_of.DocumentEnd
-kept_content kept.BlockEnd = Some content_of.BlockEnd
-kept_content kept.FlowSequenceEnd = Some content_of.FlowSequenceEnd
-kept_content kept.FlowMappingEnd = Some content_of.FlowMappingEnd
-kept_content kept.BlockEntry = Some content_of.BlockEntry
-kept_content kept.FlowEntry = Some content_of.FlowEntry
-kept_content kept.Key = Some content_of.Key
-kept_content kept.Value = Some content_of.Value
+abbrev pub lookahead_content : Lookahead → Option unnamed_yaml_token_t_data
+lookahead_content ahead.Nothing = None
+lookahead_content ahead.Token = None
+lookahead_content ahead.BlockSequence = Some content_of.BlockSequenceStart
+lookahead_content ahead.BlockMapping = Some content_of.BlockMappingStart
+lookahead_content ahead.FlowSequence = Some content_of.FlowSequenceStart
+lookahead_content ahead.FlowMapping = Some content_of.FlowMappingStart
+lookahead_content ahead.StreamEnd = Some content_of.StreamEnd
+lookahead_content ahead.DocumentStart = Some content_of.DocumentStart
+lookahead_content ahead.DocumentEnd = Some content_of.DocumentEnd
+lookahead_content ahead.BlockEnd = Some content_of.BlockEnd
+lookahead_content ahead.FlowSequenceEnd = Some content_of.FlowSequenceEnd
+lookahead_content ahead.FlowMappingEnd = Some content_of.FlowMappingEnd
+lookahead_content ahead.BlockEntry = Some content_of.BlockEntry
+lookahead_content ahead.FlowEntry = Some content_of.FlowEntry
+lookahead_content ahead.Key = Some content_of.Key
+lookahead_content ahead.Value = Some content_of.Value
 
 -- where the token that stays begins
-abbrev pub kept_start : Option yaml_token_t → yaml_mark_t
-kept_start None = zero_mark
-kept_start (Some t) = t.start_mark
+abbrev pub lookahead_start : Option yaml_token_t → yaml_mark_t
+lookahead_start None = zero_mark
+lookahead_start (Some t) = t.start_mark
 
 abbrev pub taken : Config → Config
 taken c = record c { lookahead = None }

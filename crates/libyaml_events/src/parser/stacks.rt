@@ -7,7 +7,7 @@ ghost use Rattle.libyaml_events.specs.machine.Config.{with_config, with_fault, a
 ghost use Rattle.libyaml_events.specs.machine.Config.{pushed_mark, popped_mark, top_mark};
 ghost use Rattle.libyaml_events.specs.parsers.Left.{let_go};
 
-use crate::kept::Kept;
+use crate::lookahead::Lookahead;
 use crate::parser::Machine;
 use libyaml_types::{ZERO_MARK, yaml_error_type_t, yaml_mark_t, yaml_parser_state_t};
 
@@ -89,12 +89,12 @@ impl<S> Machine<S> {
         self.marks.pop().unwrap_or(ZERO_MARK)
     }
 
-    /// Lets go of the stacks and of the token that is held: after a fault nothing asks for them.
+    /// Drops the stacks and the lookahead: after a fault nothing asks for them.
     #[cold]
     pub(crate) fn let_go(&mut self)
         ensures { self.new ≡ with_config self.old (let_go self.old.config) }
     {
-        self.kept = Kept::Nothing;
+        self.lookahead = Lookahead::Nothing;
         self.states.clear();
         self.marks.clear();
     }

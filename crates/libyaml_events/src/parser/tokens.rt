@@ -1,11 +1,11 @@
-//! The next token: one that stayed, or else the source's.
+//! The next token: that of lookahead, or else the source's.
 ghost use Rattle.std.specs.Prelude.{◌≡◌, Ok, Err, Some, MatchResult, IfErr, is_some, true};
 ghost use Rattle.libyaml_events.specs.machine.Config.{with_config, with_fault, keep, is_fault, taken};
-ghost use Rattle.libyaml_events.specs.machine.Config.{kept_content, token_if};
+ghost use Rattle.libyaml_events.specs.machine.Config.{lookahead_content, token_if};
 ghost use Rattle.libyaml_types.specs.Errors.{IsSourceError};
 ghost use Rattle.libyaml_events.specs.sources.Calls.{Fetches};
 
-use crate::kept::{Kept, kept_of, put_kept};
+use crate::lookahead::{Lookahead, lookahead_of, put_lookahead};
 use crate::parser::Machine;
 use libyaml_types::{
     ZERO_MARK, unnamed_yaml_token_t_data, yaml_error_type_t, yaml_token_source_t, yaml_token_t,
@@ -23,73 +23,73 @@ pub(super) fn no_token() -> yaml_token_t {
 }
 
 impl<S> Machine<S> {
-    /// The token stays, to be looked at again: it is swapped out of its slot.
+    /// The token becomes the lookahead: it is swapped out of its slot.
     #[inline(always)]
     pub(crate) fn keep(&mut self, token: &mut yaml_token_t)
         ensures { self.new ≡ with_config self.old (keep token.old self.old.config) }
     {
-        match kept_of(&token.content) {
-            Some(kept) => self.keep_marks(kept, token),
+        match lookahead_of(&token.content) {
+            Some(lookahead) => self.keep_marks(lookahead, token),
             None => {
-                mem::swap(&mut self.held, token);
-                self.kept = Kept::Token;
+                mem::swap(&mut self.lookahead_token, token);
+                self.lookahead = Lookahead::Token;
             }
         }
     }
 
-    /// A token without fields stays, to be looked at again: its marks are kept.
+    /// A token without fields becomes the lookahead: its marks are kept.
     #[inline(always)]
-    #[tactic(auto, using(crate::proofs::code::KeptLemmas::kept_marks))]
-    pub(crate) fn keep_marks(&mut self, kept: Kept, token: &yaml_token_t)
-        requires { kept_content kept ≡ Some token.now.content }
+    #[tactic(auto, using(crate::proofs::code::LookaheadLemmas::kept_marks))]
+    pub(crate) fn keep_marks(&mut self, lookahead: Lookahead, token: &yaml_token_t)
+        requires { lookahead_content lookahead ≡ Some token.now.content }
         ensures { self.new ≡ with_config self.old (keep token.now self.old.config) }
     {
-        self.held.start_mark = token.start_mark;
-        self.held.end_mark = token.end_mark;
-        self.kept = kept;
+        self.lookahead_token.start_mark = token.start_mark;
+        self.lookahead_token.end_mark = token.end_mark;
+        self.lookahead = lookahead;
     }
 
-    /// Puts the token that stayed into `token`.
+    /// Puts the lookahead into `token`.
     #[inline(never)]
-    #[tactic(auto, using(crate::proofs::code::KeptLemmas::kept_marks))]
-    fn take_kept(&mut self, token: &mut yaml_token_t)
+    #[tactic(auto, using(crate::proofs::code::LookaheadLemmas::kept_marks))]
+    fn move_lookahead(&mut self, token: &mut yaml_token_t)
         requires { is_some self.old.config.lookahead ≡ true }
         ensures token { self.old.config.lookahead ≡ Some token.new }
         ensures taken { self.new ≡ with_config self.old (taken self.old.config) }
     {
-        token.start_mark = self.held.start_mark;
-        token.end_mark = self.held.end_mark;
-        match self.kept {
-            Kept::Nothing => unreachable!(),
-            Kept::Token => mem::swap(&mut token.content, &mut self.held.content),
-            Kept::StreamEnd
-            | Kept::DocumentStart
-            | Kept::DocumentEnd
-            | Kept::BlockSequence
-            | Kept::BlockMapping
-            | Kept::BlockEnd
-            | Kept::FlowSequence
-            | Kept::FlowSequenceEnd
-            | Kept::FlowMapping
-            | Kept::FlowMappingEnd
-            | Kept::BlockEntry
-            | Kept::FlowEntry
-            | Kept::Key
-            | Kept::Value => put_kept(self.kept, &mut token.content),
+        token.start_mark = self.lookahead_token.start_mark;
+        token.end_mark = self.lookahead_token.end_mark;
+        match self.lookahead {
+            Lookahead::Nothing => unreachable!(),
+            Lookahead::Token => mem::swap(&mut token.content, &mut self.lookahead_token.content),
+            Lookahead::StreamEnd
+            | Lookahead::DocumentStart
+            | Lookahead::DocumentEnd
+            | Lookahead::BlockSequence
+            | Lookahead::BlockMapping
+            | Lookahead::BlockEnd
+            | Lookahead::FlowSequence
+            | Lookahead::FlowSequenceEnd
+            | Lookahead::FlowMapping
+            | Lookahead::FlowMappingEnd
+            | Lookahead::BlockEntry
+            | Lookahead::FlowEntry
+            | Lookahead::Key
+            | Lookahead::Value => put_lookahead(self.lookahead, &mut token.content),
         }
-        self.kept = Kept::Nothing;
+        self.lookahead = Lookahead::Nothing;
     }
 
-    /// Puts the token that stayed into `token`, and returns whether one did.
+    /// Puts the lookahead into `token`, and returns whether there was one.
     #[inline(always)]
-    pub(crate) fn take_held(&mut self, token: &mut yaml_token_t) -> bool
+    pub(crate) fn take_lookahead(&mut self, token: &mut yaml_token_t) -> bool
         ensures taken { self.new ≡ with_config self.old (taken self.old.config) }
         ensures token { self.old.config.lookahead ≡ token_if result token.new }
     {
-        match self.kept {
-            Kept::Nothing => false,
+        match self.lookahead {
+            Lookahead::Nothing => false,
             _ => {
-                self.take_kept(token);
+                self.move_lookahead(token);
                 true
             }
         }
@@ -117,7 +117,7 @@ impl<S: yaml_token_source_t> Machine<S> {
         }
     }
 
-    /// Puts the token that stayed, or else the source's next one, into `token`. A fault of the source is kept
+    /// Puts the lookahead, or else the source's next one, into `token`. A fault of the source is kept
     /// for good.
     #[tactic(auto, using(crate::proofs::code::SourceErrors::source_error_is_fault))]
     pub(crate) fn next_token(&mut self, token: &mut yaml_token_t) -> Result<(), yaml_error_type_t>
@@ -125,10 +125,10 @@ impl<S: yaml_token_source_t> Machine<S> {
             (λ e. Fetches S.gives self.old (Err e) self.new) }
         ensures error { IfErr result (λ e. is_fault e ≡ true) }
     {
-        match self.kept {
-            Kept::Nothing => self.ask(token),
+        match self.lookahead {
+            Lookahead::Nothing => self.ask(token),
             _ => {
-                self.take_kept(token);
+                self.move_lookahead(token);
                 Ok(())
             }
         }

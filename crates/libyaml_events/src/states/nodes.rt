@@ -37,10 +37,10 @@ ghost use Rattle.libyaml_grammar.specs.sentences.Events.{event};
 ghost use Rattle.libyaml_types.specs.Numbers.{parser_state_number};
 ghost use Rattle.libyaml_events.specs.machine.State.{IsBackByte};
 ghost use Rattle.libyaml_events.specs.machine.Config.{pushed};
-ghost use Rattle.libyaml_events.specs.machine.Config.{kept_content, popped, with_config, with_fault};
+ghost use Rattle.libyaml_events.specs.machine.Config.{lookahead_content, popped, with_config, with_fault};
 ghost use Rattle.libyaml_grammar.specs.cuts.FaultTexts.{content_fault};
 
-use crate::kept::Kept;
+use crate::lookahead::Lookahead;
 use crate::next::{Next, Step};
 use crate::node_head::{NodeHead, PropertiesRead, TagRead};
 use crate::node_place::NodePlace;
@@ -436,26 +436,26 @@ impl<S> Machine<S> {
                     yaml_sequence_style_t::YAML_FLOW_SEQUENCE_STYLE,
                 );
                 let state = yaml_parser_state_t::YAML_PARSE_FLOW_SEQUENCE_FIRST_ENTRY_STATE;
-                self.open_bare(style, state, Kept::FlowSequence, token, out)
+                self.open_bare(style, state, Lookahead::FlowSequence, token, out)
             }
             unnamed_yaml_token_t_data::FlowMappingStart => {
                 let style = CollectionStyle::Mapping(yaml_mapping_style_t::YAML_FLOW_MAPPING_STYLE);
                 let state = yaml_parser_state_t::YAML_PARSE_FLOW_MAPPING_FIRST_KEY_STATE;
-                self.open_bare(style, state, Kept::FlowMapping, token, out)
+                self.open_bare(style, state, Lookahead::FlowMapping, token, out)
             }
             unnamed_yaml_token_t_data::BlockSequenceStart if place.is_block() => {
                 let style = CollectionStyle::Sequence(
                     yaml_sequence_style_t::YAML_BLOCK_SEQUENCE_STYLE,
                 );
                 let state = yaml_parser_state_t::YAML_PARSE_BLOCK_SEQUENCE_FIRST_ENTRY_STATE;
-                self.open_bare(style, state, Kept::BlockSequence, token, out)
+                self.open_bare(style, state, Lookahead::BlockSequence, token, out)
             }
             unnamed_yaml_token_t_data::BlockMappingStart if place.is_block() => {
                 let style = CollectionStyle::Mapping(
                     yaml_mapping_style_t::YAML_BLOCK_MAPPING_STYLE,
                 );
                 let state = yaml_parser_state_t::YAML_PARSE_BLOCK_MAPPING_FIRST_KEY_STATE;
-                self.open_bare(style, state, Kept::BlockMapping, token, out)
+                self.open_bare(style, state, Lookahead::BlockMapping, token, out)
             }
             _ => return self.parse_other_content(place, token, out),
         }
@@ -489,11 +489,11 @@ impl<S> Machine<S> {
         &mut self,
         style: CollectionStyle,
         state: yaml_parser_state_t,
-        kept: Kept,
+        kept: Lookahead,
         token: &yaml_token_t,
         out: &mut yaml_event_t,
     )
-        requires { kept_content kept ≡ Some token.now.content }
+        requires { lookahead_content kept ≡ Some token.now.content }
         ensures { Steps (open_collection (collection_start None None style) state token.now.start_mark
             self.old.config token.now) self.old (Ok (Given out.new)) self.new }
     {

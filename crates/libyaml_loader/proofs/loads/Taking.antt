@@ -141,7 +141,7 @@ module _ {S : Type 0} (gives : S → Answer → S → Type 0) (known : S → Opt
     pub parser_fails : Called → (x : yaml_error_type_t) → r ≡ Err x → ParserFails gives known MayBreak old new
     parser_fails c x is = record {
       history = rw is at c.1.fails;
-      none_held = rw is at c.1.none_held;
+      no_lookahead = rw is at c.1.no_lookahead;
       depth_left = rw is at c.1.depth_left;
       runs = λ events ending run. fails_here gives known MayBreak follows old new events ending run
           ((rw is at c.1.fails) run.asked run.given run.history);

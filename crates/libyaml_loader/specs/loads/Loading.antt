@@ -8,7 +8,7 @@ use Rattle.libyaml_grammar.specs.sentences.Events.{Event}
 use Rattle.libyaml_types.specs.Fault.{Answer, Fault, memory_fault}
 use Rattle.libyaml_events.specs.sources.History.{ForHistory, History, between_documents, has_failed, is_over}
 use Rattle.libyaml_events.specs.sources.History.{kept_fault, keeping, stack_depth}
-use Rattle.libyaml_events.specs.parsers.Lookahead.{tokens_held}
+use Rattle.libyaml_events.specs.parsers.Lookahead.{lookahead_tokens}
 use Rattle.libyaml_events.specs.parsers.Stages.{open_collections, stage_of}
 use Rattle.libyaml_events.specs.sources.Parsing.{FailsBy, IsWhole}
 use Rattle.libyaml_grammar.specs.runs.Runs.{Ending, Ends}
@@ -37,7 +37,7 @@ pub record ParserFails {S : Type 0} (gives : S → Answer → S → Type 0) (kno
   pub history : (asked : List Token) (given : List Event) → History old asked given → FailsBy gives old new asked given
   pub runs : (events : List Event) (ending : Ending) → RunToCome known old events ending
       → FailsHere (MayBreak new.source) (kept_fault new) events ending
-  pub none_held : tokens_held new ≡ []
+  pub no_lookahead : lookahead_tokens new ≡ []
   pub depth_left : ForHistory old (λ _ given. stack_depth new ≤ open_collections (stage_of given) + 1)
 
 -- the parser keeps a fault of the loader
