@@ -4,8 +4,8 @@
 mod entries;
 mod event_kinds;
 mod iterate;
-mod lookahead;
 pub mod laws;
+mod lookahead;
 mod next;
 mod node_head;
 mod node_place;

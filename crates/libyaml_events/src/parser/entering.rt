@@ -23,7 +23,10 @@ impl<S> Machine<S> {
             × Enters self.old (Err e) self.new) }
     {
         match self.lookahead {
-            Lookahead::BlockSequence | Lookahead::BlockMapping | Lookahead::FlowSequence | Lookahead::FlowMapping => {}
+            Lookahead::BlockSequence
+            | Lookahead::BlockMapping
+            | Lookahead::FlowSequence
+            | Lookahead::FlowMapping => {}
             _ => return Ok(false),
         }
         match self.state {
