@@ -57,7 +57,7 @@ FIRST = [
         "Documents, and `text_at` of `yaml_path`",
         """
         yaml_parser_documents yaml_parser_documents_t::iterator yaml_parser_load yaml_parser_load_all
-        yaml_parser_set_max_entries yaml_document_t::root yaml_document_t::items yaml_document_t::pairs
+        yaml_parser_set_max_entries yaml_document_t yaml_document_t::root yaml_document_t::items yaml_document_t::pairs
         yaml_document_get_node yaml_node_t unnamed_yaml_node_t_data unnamed_yaml_node_t_data_scalar text_at
         """,
     ),

@@ -29,9 +29,9 @@
  *     }
  *     // `written` bytes at `out` are the run; `outcome` says how it ended
  *
- * Limits. A token line has at most 1,048,576 bytes, or else the fault `line too long` comes: a byte of a text above
- * ASCII is three in a line, so a text of such bytes alone has some 349,000. At most `max_tokens` tokens are read, or else
- * the fault `too many tokens` comes.
+ * Limits. A token line has at most 1,048,576 bytes, or else the fault `line too long` comes: a byte of a text that is a
+ * space, a control character, a `%` or above ASCII is three in a line, so a text of any bytes has room up to some
+ * 349,000. At most `max_tokens` tokens are read, or else the fault `too many tokens` comes.
  *
  * All buffers are the caller's, before, during and after the call; the library keeps nothing of them, and frees what it
  * allocates before it returns. Several threads may call at once, each with an `out`, `written` and `wanted` of its own.
