@@ -30,14 +30,14 @@ tree() {
     shift
     chroot "$root" sh -c 'apt-get -q update && apt-get -q -y --no-install-recommends install "$@"' sh "$@" > "$root.log" 2>&1 ||
         { tail -n 5 "$root.log"; exit 1; }
-    rm -rf "$root/root/use" "$root/usr/local/include/pokhvizi"
-    mkdir -p "$root/root/use"
-    cp "$out"/* "$root/root/use"
+    rm -rf "$root/srv/use" "$root/usr/local/include/pokhvizi"
+    mkdir -p "$root/srv/use"
+    cp "$out"/* "$root/srv/use"
 }
 
 # want WHAT WANTED WORDS: what the words of a shell print in the tree, with a path of the system's alone.
 want() {
-    said=$(chroot "$root" env -i PATH=/usr/local/bin:/usr/bin:/bin:/usr/sbin:/sbin LC_ALL=C.UTF-8 HOME=/root sh -c "cd /root/use && $3" 2>&1)
+    said=$(chroot "$root" env -i PATH=/usr/local/bin:/usr/bin:/bin:/usr/sbin:/sbin LC_ALL=C.UTF-8 HOME=/srv sh -c "cd /srv/use && $3" 2>&1)
     if [ "$said" = "$2" ]; then
         right=$((right + 1))
         echo "as wanted: $1"
@@ -59,7 +59,7 @@ has() {
 tree bookworm gcc g++ clang make pkg-config libyaml-dev python3-venv python3-yaml ruby libc6-dev xz-utils clang-22 \
     gcc-aarch64-linux-gnu libc6-dev-arm64-cross qemu-user
 want 'no kit' '' 'command -v rt rattle; ls -d /opt/rattle 2> /dev/null; true'
-cat > "$root/root/use/kinds.c" << 'C'
+cat > "$root/srv/use/kinds.c" << 'C'
 #include <pokhvizi/steps.h>
 #include <stdio.h>
 
@@ -107,7 +107,7 @@ want 'the wheel' "{'a': [1, {'b': 'c'}]} ['a', 'b']" "python3 -m venv --system-s
 print(yaml.load(\"a: [1, {b: c}]\", Loader=SafeLoader), list(yaml.load_all(\"a\\n...\\nb\\n\", Loader=SafeLoader)))'"
 if has "pokhvizi-$version-aarch64-linux.tar.gz" aarch64; then
     arm=pokhvizi-$version-aarch64-linux
-    for words in '-static' "-Wl,-rpath,/root/use/$arm/lib -L$arm/lib -lpokhvizi"; do
+    for words in '-static' "-Wl,-rpath,/srv/use/$arm/lib -L$arm/lib -lpokhvizi"; do
         case $words in -static) how="$words $arm/lib/libpokhvizi.a" ;; *) how=$words ;; esac
         want "aarch64, by qemu: ${words%% *}" "$kinds" "tar xzf $arm.tar.gz && aarch64-linux-gnu-gcc -O2 -Wall -Werror \
             kinds.c -o kinds -I$arm/include $how && qemu-aarch64 -L /usr/aarch64-linux-gnu ./kinds"
@@ -128,27 +128,27 @@ if has "pokhvizi-unsafe-libyaml-$version.tar.gz" 'the crate'; then
     tree trixie cargo rustc gcc libc6-dev librust-serde-yaml-dev librust-unsafe-libyaml-dev librust-serde-derive-dev \
         librust-anyhow-dev librust-indoc-dev
     want 'no kit' '' 'command -v rt rattle; ls -d /opt/rattle 2> /dev/null; true'
-    mkdir -p "$root/root/use/app/src" "$root/root/use/home"
+    mkdir -p "$root/srv/use/app/src" "$root/srv/use/home"
     printf '[source.crates-io]\nreplace-with = "debian"\n[source.debian]\ndirectory = "/usr/share/cargo/registry"\n[net]\noffline = true\n' \
-        > "$root/root/use/home/config.toml"
-    patch="[patch.crates-io]\nunsafe-libyaml = { path = \"/root/use/pokhvizi-unsafe-libyaml-$version\" }\n"
+        > "$root/srv/use/home/config.toml"
+    patch="[patch.crates-io]\nunsafe-libyaml = { path = \"/srv/use/pokhvizi-unsafe-libyaml-$version\" }\n"
     printf "[package]\nname = \"app\"\nversion = \"0.1.0\"\nedition = \"2021\"\n[dependencies]\nserde_yaml = \"0.9\"\n$patch" \
-        > "$root/root/use/app/Cargo.toml"
-    printf 'fn main() { println!("{}", serde_yaml::Deserializer::from_str("a\\n...\\nb\\n").take(9).count()); }\n' > "$root/root/use/app/src/main.rs"
+        > "$root/srv/use/app/Cargo.toml"
+    printf 'fn main() { println!("{}", serde_yaml::Deserializer::from_str("a\\n...\\nb\\n").take(9).count()); }\n' > "$root/srv/use/app/src/main.rs"
     want 'serde_yaml over the crate' 2 "tar xzf pokhvizi-unsafe-libyaml-$version.tar.gz && cd app &&
-        CARGO_HOME=/root/use/home timeout 900 cargo run -q --offline"
+        CARGO_HOME=/srv/use/home timeout 900 cargo run -q --offline"
     want 'what stands on the crate' 'serde_yaml' \
-        "cd app && CARGO_HOME=/root/use/home cargo tree -q --offline -i unsafe-libyaml@0.2.12 | sed -n 's/^.── \\(serde_yaml\\) .*/\\1/p'"
+        "cd app && CARGO_HOME=/srv/use/home cargo tree -q --offline -i unsafe-libyaml@0.2.12 | sed -n 's/^.── \\(serde_yaml\\) .*/\\1/p'"
     want "serde_yaml's own tests, with and without the crate" 'the same' "
         for how in plain proved; do
             rm -rf \$how && cp -RL /usr/share/cargo/registry/serde_yaml-* \$how && rm -f \$how/.cargo-checksum.json \$how/Cargo.lock
             [ \$how = plain ] || printf '$patch' >> \$how/Cargo.toml
-            (cd \$how && CARGO_HOME=/root/use/home RUSTFLAGS='--cap-lints allow' cargo test -q --offline --no-fail-fast > ../\$how.said 2>&1)
+            (cd \$how && CARGO_HOME=/srv/use/home RUSTFLAGS='--cap-lints allow' cargo test -q --offline --no-fail-fast > ../\$how.said 2>&1)
             sed -n 's/^test result: .* \\([0-9]*\\) passed; \\([0-9]*\\) failed.*/\\1 \\2/p' \$how.said | awk '{ n += \$1; m += \$2 } END { print n + 0, m + 0 }' > \$how.count
         done
         grep -q 0.2.12 proved/Cargo.lock || echo 'without the patch'
         [ \"\$(cut -d' ' -f1 plain.count)\" -gt 100 ] && cmp plain.count proved.count && echo the same"
-    echo "serde_yaml's tests (passed, failed): $(cat "$root/root/use/plain.count") without, $(cat "$root/root/use/proved.count") with the crate"
+    echo "serde_yaml's tests (passed, failed): $(cat "$root/srv/use/plain.count") without, $(cat "$root/srv/use/proved.count") with the crate"
 fi
 
 echo "$right as wanted, $wrong wrong, $skipped skipped"

@@ -1,4 +1,5 @@
-//! `example_outline`: the events of a list of tokens that this program makes, one a line, indented by their depth.
+//! `example_outline`: the events of a list of tokens that this program makes, one a line, indented by their
+//! depth.
 //!
 //! docs/CALLING.md, "A whole program", shows it.
 #![tactic(auto)]

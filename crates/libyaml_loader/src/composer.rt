@@ -9,7 +9,8 @@ ghost use Rattle.libyaml_types.specs.Fault.{fault_of, no_fault};
 ghost use Rattle.libyaml_graphs.specs.graphs.GraphParts as parts;
 ghost use Rattle.libyaml_graphs.specs.machine.Loader.{between};
 ghost use Rattle.libyaml_loader.specs.document.Refusals.{fault_by};
-ghost use Rattle.libyaml_loader.specs.pushes.Composing.{Composes, ComposesEvent, IsSound, closing_by, ended_by};
+ghost use Rattle.libyaml_loader.specs.pushes.Composing.{Composes, ComposesEvent, IsSound, closing_by};
+ghost use Rattle.libyaml_loader.specs.pushes.Composing.{ended_by};
 ghost use Rattle.libyaml_loader.specs.pushes.Composing.{opening_by, composer_state};
 ghost use Rattle.libyaml_loader.specs.pushes.Leads.{Leads};
 

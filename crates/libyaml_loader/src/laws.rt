@@ -22,7 +22,8 @@ ghost use Rattle.libyaml_loader.specs.document.Ids.{magnitude};
 ghost use Rattle.libyaml_loader.specs.loads.Loading.{DocumentOrError, LoadsFrom};
 ghost use Rattle.libyaml_loader.specs.loads.LoadsInTurn.{AreLoadsOf, LoopYields};
 ghost use Rattle.libyaml_loader.specs.loads.NextLoad.{LoadOfRun};
-ghost use Rattle.libyaml_loader.specs.pushes.Loaded.{ForLoaded, PushLoader, loader_has_stopped, loader_keeps_fault};
+ghost use Rattle.libyaml_loader.specs.pushes.Loaded.{ForLoaded, PushLoader, loader_has_stopped};
+ghost use Rattle.libyaml_loader.specs.pushes.Loaded.{loader_keeps_fault};
 ghost use Rattle.libyaml_loader.specs.pushes.PushesLoads.{AreThen, BeginsEachLoads};
 
 use libyaml_events::yaml_token_source_t;

@@ -1,7 +1,9 @@
 //! Tokens of records.
 ghost use Rattle.std.specs.Prelude.{◌≡◌, ◌≢◌, IfOk, IfErr, Ok, Err};
-ghost use Rattle.records.specs.Records.{IsRead, RecordReadInto, alias_of_record, anchor_of_record, content_of_record};
-ghost use Rattle.records.specs.Records.{encoding_of_number, mark_of_record, scalar_of_record, scalar_style_of_number};
+ghost use Rattle.records.specs.Records.{IsRead, RecordReadInto, alias_of_record, anchor_of_record};
+ghost use Rattle.records.specs.Records.{content_of_record};
+ghost use Rattle.records.specs.Records.{encoding_of_number, mark_of_record, scalar_of_record};
+ghost use Rattle.records.specs.Records.{scalar_style_of_number};
 ghost use Rattle.records.specs.Records.{stream_start_of, tag_directive_of, tag_of_record, text_of_range};
 ghost use Rattle.records.specs.Records.{token_of_record};
 
