@@ -23,11 +23,14 @@ ghost use Rattle.libyaml_events.specs.machine.Answers.{answer, wanted};
 ghost use Rattle.libyaml_events.specs.machine.Want.{Given};
 ghost use Rattle.libyaml_events.specs.machine.Growth.{enters, may_grow, may_grow_at};
 
+mod behind_properties;
 mod block;
 mod contents;
 mod documents;
 mod flow;
+mod node_events;
 mod nodes;
+mod properties;
 
 use crate::next::{Next, Step};
 use crate::node_place::NodePlace;

@@ -18,6 +18,7 @@ mod loaded;
 mod one_by_one;
 mod parsers;
 mod reading;
+mod scanners;
 mod tables;
 mod tokens;
 
@@ -59,6 +60,7 @@ fn show_all(rt: &(impl Files + Print + AllocGlobal), words: &[String]) -> Result
         show_table(rt, &mut tables, table)?;
     }
     show_calls(rt, &mut tables)?;
+    scanners::show(rt, &mut tables)?;
     failing::show(rt, &mut tables)?;
     tables.end()
 }

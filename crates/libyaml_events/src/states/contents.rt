@@ -11,7 +11,7 @@ ghost use Rattle.libyaml_grammar.specs.sentences.Events.{plain_flag, quoted_flag
 ghost use Rattle.libyaml_events.specs.machine.Machine.{empty_scalar, mapping_start, scalar};
 ghost use Rattle.libyaml_events.specs.machine.Machine.{sequence_start};
 
-use crate::states::nodes::{
+use crate::states::node_events::{
     is_plain, is_plain_implicit, is_quoted_implicit, mapping_start, plain_scalar, sequence_start,
 };
 use libyaml_types::{

@@ -1,6 +1,10 @@
-//! Calls of a source over a scanner, with what they must give.
+//! Calls of a source over a scanner that counts its own calls, with what they must give.
 
-use crate::counted::{Counted, mark};
+mod counted;
+
+use anyhow::Result;
+use counted::{Counted, mark};
+use rows_common::Tables;
 use unsafe_libyaml::{
     NO_FAULT, YAML_READER_ERROR, YAML_SCANNER_ERROR, ZERO_MARK, yaml_mark_t, yaml_parser_t_prefix,
     yaml_scanner_source_t, yaml_token_source_t,
@@ -8,7 +12,7 @@ use unsafe_libyaml::{
 
 /// What the calls of a source gave.
 #[derive(Copy, Clone, PartialEq, Eq)]
-pub struct Given {
+struct Given {
     pub tokens: u64,
     /// The end of the last token.
     pub end: yaml_mark_t,
@@ -20,7 +24,7 @@ pub struct Given {
 
 /// So many calls of a source with this bound, over a scanner of so many tokens.
 #[derive(Copy, Clone)]
-pub struct Row {
+struct Row {
     pub name: &'static str,
     tokens: u64,
     max_tokens: u64,
@@ -30,7 +34,7 @@ pub struct Row {
 
 impl Row {
     /// Whether the calls give what they must, and the source may wait exactly where its scanner may.
-    pub fn is_right(&self) -> bool {
+    fn is_right(&self) -> bool {
         [
             self.given(false) == Some(self.wanted),
             self.given(true) == Some(self.wanted),
@@ -117,7 +121,7 @@ fn row_of(
 }
 
 /// Returns all rows: tokens of the scanner, bound, calls; tokens given, calls of the scanner; the fault.
-pub fn rows() -> [Row; 6] {
+fn rows() -> [Row; 6] {
     [
         row_of("a token for each call", [3, 5, 2], [2, 2], NO_FAULT),
         row_of("the scanner's fault", [2, 5, 3], [2, 3], no_token(2)),
@@ -131,4 +135,17 @@ pub fn rows() -> [Row; 6] {
         row_of("too many tokens again", [2, 2, 5], [2, 2], too_many(2)),
         row_of("no token allowed", [5, 0, 1], [0, 0], too_many(0)),
     ]
+}
+
+/// Shows the table `scanners`.
+pub fn show(rt: &(impl Print + AllocGlobal), tables: &mut Tables<'_>) -> Result<()> {
+    let Some(mut table) = tables.begin("scanners") else {
+        return Ok(());
+    };
+    for row in rows() {
+        if table.has(row.name) {
+            table.count(rt, row.name, row.is_right())?;
+        }
+    }
+    Ok(tables.show(rt, table)?)
 }
