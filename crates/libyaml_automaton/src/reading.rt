@@ -8,7 +8,7 @@ ghost use Rattle.libyaml_automaton.specs.Growth.{is_first, stack_part_of};
 use crate::machine::Machine;
 use crate::next::Next;
 use crate::stacks::{state_number, state_of_number};
-use libyaml_types::{ZERO_MARK, yaml_mark_t};
+use libyaml_types::{ZERO_MARK, yaml_mark_t, yaml_parser_state_t};
 
 /// What was read since the last event, and which function takes the next token. Each number may be
 /// any.
@@ -43,7 +43,8 @@ impl Reading {
     /// Returns what was read before the first token: nothing, at the stream's start.
     #[inline(always)]
     pub fn new() -> Self
-        ensures { (tag : ℕ) → wanted tag result ≡ AtState }
+        ensures wanted { (tag : ℕ) → wanted tag result ≡ AtState }
+        ensures at { IsAt (next_of result.next) yaml_parser_state_t.YAML_PARSE_STREAM_START_STATE }
     {
         Reading {
             next: 0,

@@ -5,13 +5,16 @@ use Rattle.std.proofs.Common.{length}
 use Rattle.libyaml_types.specs.declared.mark.yaml_mark_t.{yaml_mark_t}
 use Rattle.libyaml_types.specs.declared.enums.yaml_token_type_t.{yaml_token_type_t}
 use Rattle.libyaml_types.specs.declared.enums.yaml_token_type_t.TheVariants as tok
+use Rattle.libyaml_types.specs.declared.enums.yaml_parser_state_t.{yaml_parser_state_t}
 use Rattle.libyaml_automaton.specs.Openings.{start_by}
 use Rattle.libyaml_automaton.specs.declared.answer.Answer.{Answer}
 use Rattle.libyaml_automaton.specs.declared.answer.Answer.TheVariants as answer
 use Rattle.libyaml_automaton.specs.declared.machine.Machine.{Machine}
 use Rattle.libyaml_automaton.specs.declared.node_place.NodePlace.{NodePlace}
+use Rattle.libyaml_automaton.specs.declared.reading.Reading.{Reading}
 use Rattle.libyaml_automaton.specs.Automaton.{Progressed, content_behind, node_content, fail, mapping_start}
-use Rattle.libyaml_automaton.specs.Config.{Config}
+use Rattle.libyaml_automaton.specs.Automaton.{step}
+use Rattle.libyaml_automaton.specs.Config.{Config, config_of}
 use Rattle.libyaml_automaton.specs.Fits.{FitsStep, FitsDocument, Part, Nodes}
 use Rattle.libyaml_automaton.specs.Fits.{First, Documents}
 use Rattle.libyaml_automaton.specs.Growth.{IsFull, Stack, States, Marks, stack_of_part, is_first}
@@ -30,30 +33,31 @@ use Rattle.token_steps.specs.declared.records.step_event_t.{step_event_t}
 use Rattle.token_steps.specs.declared.records.step_fault_t.{step_fault_t}
 use Rattle.token_steps.specs.Tells.{IsTold, IsDone, IsUntold, IsGiven, IsAfterEvent, Tells, want_in}
 
-pub told_in_step : (a : Answer) (k : yaml_token_type_t) → FitsStep a k → (a ≡ answer.Full → ⊥)
-    → (a ≡ answer.Document → ⊥)
+pub told_in_step : (a : Answer) (k : yaml_token_type_t) (r : Reading) (s : yaml_parser_state_t)
+    → FitsStep a k r s → (a ≡ answer.Full → ⊥) → (a ≡ answer.Document → ⊥)
     → (a ≡ answer.AsksContent → ⊥) → IsTold a
-told_in_step answer.Full k f n d c = n refl
-told_in_step answer.Document k f n d c = d refl
-told_in_step answer.AsksContent k f n d c = c refl
-told_in_step answer.AsksVersion k f n d c = f
-told_in_step answer.AsksHandle k f n d c = f
-told_in_step answer.First k f n d c = f
-told_in_step answer.Enter k f n d c = f
-told_in_step answer.Node k f n d c = f
-told_in_step _ k f n d c = tt
+told_in_step answer.Full k r s f n d c = n refl
+told_in_step answer.Document k r s f n d c = d refl
+told_in_step answer.AsksContent k r s f n d c = c refl
+told_in_step answer.AsksVersion k r s f n d c = f
+told_in_step answer.AsksHandle k r s f n d c = f
+told_in_step answer.First k r s f n d c = f
+told_in_step answer.Enter k r s f n d c = f
+told_in_step answer.Node k r s f n d c = f
+told_in_step _ k r s f n d c = tt
 
-pub told_in_document : (a : Answer) (k : yaml_token_type_t) → FitsDocument a k → (a ≡ answer.Full → ⊥)
+pub told_in_document : (a : Answer) (k : yaml_token_type_t) (r : Reading) (s : yaml_parser_state_t)
+    → FitsDocument a k r s → (a ≡ answer.Full → ⊥)
     → (a ≡ answer.AsksVersion → ⊥) → (a ≡ answer.AsksHandle → ⊥) → IsTold a
-told_in_document answer.Full k f n d c = n refl
-told_in_document answer.AsksVersion k f n d c = d refl
-told_in_document answer.AsksHandle k f n d c = c refl
-told_in_document answer.Document k f n d c = f
-told_in_document answer.AsksContent k f n d c = f
-told_in_document answer.First k f n d c = f
-told_in_document answer.Enter k f n d c = f
-told_in_document answer.Node k f n d c = f
-told_in_document _ k f n d c = tt
+told_in_document answer.Full k r s f n d c = n refl
+told_in_document answer.AsksVersion k r s f n d c = d refl
+told_in_document answer.AsksHandle k r s f n d c = c refl
+told_in_document answer.Document k r s f n d c = f
+told_in_document answer.AsksContent k r s f n d c = f
+told_in_document answer.First k r s f n d c = f
+told_in_document answer.Enter k r s f n d c = f
+told_in_document answer.Node k r s f n d c = f
+told_in_document _ k r s f n d c = tt
 
 pub defined : (g : TagRead) (p : NodePlace) (r : Properties) (c : Config) (t : Token) (k : yaml_token_type_t)
     → is_undefined g ≡ false → content_behind g p r c t k ≡ node_content p r c t k
@@ -99,6 +103,15 @@ full_states Nodes true q m ss ms n e f = f
 full_states Documents p q m ss ms n e f = absurd (n refl)
 full_states Nodes false q m ss ms n e f = absurd (true≢false (sym (ap is_states e)))
 full_states First p q m ss ms n e f = absurd (true≢false (sym (ap is_states e)))
+
+pub states_full : (d : Part) (p q : Bool) (m : Machine) (ss : List ℕ) (ms : List yaml_mark_t)
+    → is_first d ≡ false → IsFull (stack_of_part d p) m ss ms
+    → (stack_by d p q ≡ States) × (length ss ≤ m.states_count)
+states_full Nodes true q m ss ms n f = (refl, f)
+states_full Nodes false q m ss ms n f = absurd f
+states_full First p q m ss ms n f = absurd (true≢false n)
+states_full Documents true q m ss ms n f = absurd f
+states_full Documents false q m ss ms n f = absurd f
 
 pub full_marks : (d : Part) (p q : Bool) (m : Machine) (ss : List ℕ) (ms : List yaml_mark_t)
     → stack_by d p q ≡ Marks → length ms ≤ m.marks_count → IsFull (stack_of_part d p) m ss ms
@@ -183,6 +196,19 @@ pub step_marks : (n n' : Next) (b : Bool) (m : Machine) (k : yaml_token_type_t) 
 step_marks n n' b m k ss ms e f h = f (full_marks (stack_part_of n') (pushes n' k)
     (pushes_in_documents n' b k) m ss ms
     (ap (λ (x : Next). stack_at x b k) (sym e) ∙ h.0) h.1)
+
+-- no room, where the next step enters no collection whose opening token stayed
+pub full_in_step : (n n' : Next) (b : Bool) (m : Machine) (k : yaml_token_type_t) (ss : List ℕ)
+    (ms : List yaml_mark_t) → n ≡ n' → is_first (stack_part_of n') ≡ false
+    → IsFull (stack_in_step n' k) m ss ms → (stack_at n b k ≡ States) × (length ss ≤ m.states_count)
+full_in_step n n' b m k ss ms e f h =
+    let s = states_full (stack_part_of n') (pushes n' k) (pushes_in_documents n' b k) m ss ms f h in
+    (ap (λ (x : Next). stack_at x b k) e ∙ s.0, s.1)
+
+pub same_step : (v v' : Want) (m m' : Machine) (ss ss' : List ℕ) (ms ms' : List yaml_mark_t) (t : Token)
+    → v' ≡ v → m' ≡ m → ss' ≡ ss → ms' ≡ ms
+    → step v' (config_of m' ss' ms') t ≡ step v (config_of m ss ms) t
+same_step v v' m m' ss ss' ms ms' t a b d e = rw (a, b, d, e) refl
 
 pub document_in : (n n' : Next) (m m' : Machine) (k : yaml_token_type_t) (ss ss' : List ℕ) → n ≡ n' → m ≡ m'
     → ss ≡ ss'

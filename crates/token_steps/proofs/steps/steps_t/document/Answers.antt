@@ -24,7 +24,7 @@ returns-in-AsksHandle-clause-tells c
 
 pub returns-in_default : goal.returns-in_default
 returns-in_default c =
-    let told = told_in_document _ _ c.document_step.ensures.fits c.in_default.not-Full c.in_default.not-AsksVersion c.in_default.not-AsksHandle in
+    let told = told_in_document _ _ _ _ c.document_step.ensures.fits c.in_default.not-Full c.in_default.not-AsksVersion c.in_default.not-AsksHandle in
     let done = c.tell-in_default.ensures.done told in
     record {
       tells = λ marks. c.tell-in_default.ensures.tells _ _ zero_mark c.document_step.new.states marks refl

@@ -2,7 +2,7 @@ use Rattle.std.proofs.Common.{◌∙◌, sym, ap, refl, subst, rules}
 use Rattle.libyaml_automaton.specs.Automaton.{Progressed, step}
 use Rattle.libyaml_types.specs.Events.{zero_mark}
 use Rattle.libyaml_automaton.specs.Config.{config_of}
-use Rattle.libyaml_automaton.specs.Growth.{stack_part_of}
+use Rattle.libyaml_automaton.specs.Growth.{is_first, stack_part_of}
 use Rattle.libyaml_automaton.specs.Numbers.{next_of}
 use Rattle.libyaml_automaton.specs.Want.{Want}
 use Rattle.token_steps.specs.Records.{span_token, step_fault}
@@ -11,7 +11,40 @@ use Rattle.token_steps.proofs.Problems.{fault_number}
 use Rattle.token_steps.proofs.Told.{told_in_step, not_states, not_marks, not_bad, not_undone, never_marks}
 use Rattle.token_steps.proofs.Told.{undone_states, asks_not_full, asks_not_document, told_want, told_fault}
 use Rattle.token_steps.proofs.Told.{step_states, step_marks, document_in, document_out, no_marks}
+use Rattle.token_steps.proofs.Told.{full_in_step, same_step}
 use Rattle.token_steps.proofs.steps.steps_t.step.Goals as goal
+
+pub returns-else-is_first-clause-full_states : goal.returns-else-is_first-clause-full_states
+returns-else-is_first-clause-full_states c = λ w. (
+  λ e. full_in_step _ _ _ _ _ _ _ (sym c.settle.ensures.next)
+      (ap (λ n. is_first (stack_part_of (next_of n))) (sym (c.in-Full.ensures.undone tt).1.1.1.0)
+      ∙ (sym c.is_first.ensures ∙ c.if-is_first.false))
+      (c.in-Full.ensures.full.0 refl),
+  λ h. refl,
+)
+
+pub returns-else-is_first-clause-undone : goal.returns-else-is_first-clause-undone
+returns-else-is_first-clause-undone c = λ u.
+    let same = c.in-Full.ensures.undone tt in (
+      same.0,
+      (
+        same.1.0,
+        (
+          same.1.1.0,
+          same.1.1.1.1 c.args.self.now.tag ∙ c.settle.ensures.wanted c.args.self.now.tag,
+        ),
+      ),
+    )
+
+pub returns-in-Document-clause-tells : goal.returns-in-Document-clause-tells
+returns-in-Document-clause-tells c =
+    let same = c.in-Document.ensures.undone tt in
+    subst (λ (p : Progressed). Tells c.document.result p
+    (span_token c.args.kind c.args.fact c.args.at.now) c.document.new.self c.document.new.event c.document.new.fault
+    (config_of c.document.new.self.machine c.document.new.states c.step.new.marks))
+    (same_step _ _ _ _ _ _ _ _ _
+    (same.1.1.1.1 c.args.self.now.tag ∙ c.settle.ensures.wanted c.args.self.now.tag) same.0 same.1.0 same.1.1.0)
+    (c.document.ensures.tells c.step.new.marks)
 
 pub returns-in-Document-clause-full_states : goal.returns-in-Document-clause-full_states
 returns-in-Document-clause-full_states c = λ w.
@@ -87,7 +120,7 @@ returns-in-Document-clause-fault_number c = λ e. fault_number
 pub returns-in_default : goal.returns-in_default
 returns-in_default c =
     let done = c.tell.ensures.done
-    (told_in_step _ _ c.step.ensures.fits c.in_default.not-Full c.in_default.not-Document c.in_default.not-AsksContent) in
+    (told_in_step _ _ _ _ c.step.ensures.fits c.in_default.not-Full c.in_default.not-Document c.in_default.not-AsksContent) in
     let tells : Tells c.tell.result (step (want_in c.args.self.now)
     (config_of c.args.self.now.machine c.args.states.now c.args.marks.now)
     (span_token c.args.kind c.args.fact c.args.at.now))
