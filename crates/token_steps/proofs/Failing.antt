@@ -8,8 +8,8 @@ use Rattle.libyaml_events.specs.machine.Want as parser_want
 use Rattle.libyaml_automaton.specs.Automaton as automaton
 use Rattle.libyaml_automaton.specs.Config.{Config}
 use Rattle.libyaml_automaton.specs.Want as want
-use Rattle.automaton_laws.specs.Texts.{config_with, fault_with, held_of, token_of, want_of, with_texts}
-use Rattle.automaton_laws.proofs.lent.Alike.{steps}
+use Rattle.libyaml_events.specs.automaton.Texts.{config_with, fault_with, held_of, token_of, want_of, with_texts}
+use Rattle.libyaml_events.proofs.lent.Alike.{steps}
 use Rattle.token_steps.specs.RunLaws.{ForFailed, FailsInHand}
 use Rattle.token_steps.specs.Records.{step_fault}
 use Rattle.libyaml_automaton.specs.Config.{config_of}

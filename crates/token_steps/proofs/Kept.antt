@@ -12,8 +12,8 @@ use Rattle.libyaml_events.specs.machine.Config.{Handles}
 use Rattle.libyaml_automaton.specs.declared.node_place.NodePlace.{NodePlace}
 use Rattle.libyaml_automaton.specs.Want as w
 use Rattle.libyaml_automaton.specs.Want.{Want}
-use Rattle.automaton_laws.specs.Texts.{Held, nothing_held, held_of, held_behind, handles_behind, declared_by}
-use Rattle.automaton_laws.specs.Texts.{want_with}
+use Rattle.libyaml_events.specs.automaton.Texts.{Held, nothing_held, held_of, held_behind, handles_behind, declared_by}
+use Rattle.libyaml_events.specs.automaton.Texts.{want_with}
 use Rattle.token_steps.proofs.Follows.{no, Keeping, nothing, directives, properties, keeping, Adds}
 use Rattle.token_steps.proofs.Follows.{is_directive, is_property}
 

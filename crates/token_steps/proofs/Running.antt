@@ -17,12 +17,12 @@ use Rattle.libyaml_automaton.specs.Shape.{Shape}
 use Rattle.libyaml_automaton.specs.Shape as ev
 use Rattle.libyaml_automaton.specs.Want as w
 use Rattle.libyaml_automaton.specs.Want.{Want}
-use Rattle.automaton_laws.specs.Histories as history
-use Rattle.automaton_laws.specs.Histories.{Stepped, StandsAs, SteppedIsFed}
-use Rattle.automaton_laws.specs.Texts.{Held, nothing_held, held_of, held_behind}
-use Rattle.automaton_laws.specs.Texts.{handles_after, declared_by, want_with}
-use Rattle.automaton_laws.specs.Texts.{content_with, event_with, lookahead_after, token_of}
-use Rattle.automaton_laws.proofs.lent.Alike.{stands}
+use Rattle.libyaml_events.specs.automaton.Histories as history
+use Rattle.libyaml_events.specs.automaton.Histories.{Stepped, StandsAs, SteppedIsFed}
+use Rattle.libyaml_events.specs.automaton.Texts.{Held, nothing_held, held_of, held_behind}
+use Rattle.libyaml_events.specs.automaton.Texts.{handles_after, declared_by, want_with}
+use Rattle.libyaml_events.specs.automaton.Texts.{content_with, event_with, lookahead_after, token_of}
+use Rattle.libyaml_events.proofs.lent.Alike.{stands}
 use Rattle.token_steps.specs.declared.did.Did.{Did}
 use Rattle.token_steps.specs.declared.did.Did.TheVariants as did
 use Rattle.token_steps.specs.declared.steps.steps_t.{steps_t}

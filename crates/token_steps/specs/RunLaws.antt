@@ -9,8 +9,8 @@ use Rattle.libyaml_events.specs.machine.Machine as parser
 use Rattle.libyaml_events.specs.machine.Want.{Want}
 use Rattle.libyaml_events.specs.sources.Pushed.{Fed}
 use Rattle.libyaml_automaton.specs.Config.{Config, config_of}
-use Rattle.automaton_laws.specs.Texts.{Held, config_with, fault_with}
-use Rattle.automaton_laws.specs.Histories.{StandsAs}
+use Rattle.libyaml_events.specs.automaton.Texts.{Held, config_with, fault_with}
+use Rattle.libyaml_events.specs.automaton.Histories.{StandsAs}
 use Rattle.token_steps.specs.declared.steps.steps_t.{steps_t}
 use Rattle.token_steps.specs.declared.records.step_event_t.{step_event_t}
 use Rattle.token_steps.specs.declared.records.step_fault_t.{step_fault_t}

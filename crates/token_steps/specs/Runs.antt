@@ -8,8 +8,8 @@ use Rattle.libyaml_events.specs.machine.Config.{Handles, no_handles}
 use Rattle.libyaml_automaton.specs.Config.{config_of, start}
 use Rattle.libyaml_automaton.specs.Want as want
 use Rattle.libyaml_automaton.specs.Automaton.{step}
-use Rattle.automaton_laws.specs.Texts.{Held, nothing_held, held_behind, declared_by, handles_after}
-use Rattle.automaton_laws.specs.Texts.{event_with, token_of}
+use Rattle.libyaml_events.specs.automaton.Texts.{Held, nothing_held, held_behind, declared_by, handles_after}
+use Rattle.libyaml_events.specs.automaton.Texts.{event_with, token_of}
 use Rattle.token_steps.specs.declared.steps.steps_t.{steps_t}
 use Rattle.token_steps.specs.declared.records.step_event_t.{step_event_t}
 use Rattle.token_steps.specs.declared.records.step_fault_t.{step_fault_t}

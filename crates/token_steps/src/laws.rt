@@ -14,7 +14,7 @@ ghost use Rattle.libyaml_grammar.specs.sentences.Tokens.{Token};
 ghost use Rattle.libyaml_events.specs.machine.Config.{Handles, no_handles};
 ghost use Rattle.libyaml_events.specs.machine.Machine.{resolve};
 ghost use Rattle.libyaml_events.specs.sources.Parsing.{IsWhole, StopsShort};
-ghost use Rattle.automaton_laws.specs.Texts.{bit, declared_by, fact_of, tag_fact};
+ghost use Rattle.libyaml_events.specs.automaton.Texts.{bit, declared_by, fact_of, tag_fact};
 ghost use Rattle.token_steps.specs.declared.tags.handles.handle_t.{handle_t};
 ghost use Rattle.token_steps.specs.Handles.{AllWithin, bytes_at, handles_at};
 ghost use Rattle.token_steps.specs.RunLaws.{BetweenTokens, FailsInHand, ForFailed, ForRuns, RunIsFed};
